@@ -1,21 +1,18 @@
 -- Lemmas about the pending timers: a tick removes the front, a start keeps the order, and a stop removes one.
-use Rattle.std.proofs.Common.{◌≡◌, ◌≢◌, ◌<◌, ◌≤◌, ◌+◌, ℕ, Bool, true, false, ◌⊎◌, List, [], ◌∷◌, ◌++◌, length, refl, sym, ◌∙◌, ap, inl, inr, arith}
-use Rattle.std.specs.Prelude.{Option, Some, None}
+use Rattle.std.proofs.Common.{◌≡◌, ◌≢◌, ◌<◌, ◌≤◌, ◌+◌, ℕ, Bool, true, false, ◌⊎◌, List, [], ◌∷◌, ◌++◌, length, refl, sym, ◌∙◌, ap, inl, inr, arith, Option, Some, None}
 use Rattle.std.specs.List.{AllByRecursion}
 use Rattle.std.proofs.lemmas.Bool.Decides.{nat_tests}
+use Rattle.timer_base.specs.Basics.{some_same, none_some, later_if_not_due, either}
 use Rattle.timer_base.specs.declared.timer.Timer.{Timer}
 use Rattle.timer_base.specs.declared.timer.Handle.{Handle}
 use Rattle.timer_base.specs.Order.{is_before, in_order, insert_in_order, IsFirst, IsOrdered, IsNotAmong, AreDistinct, AreBelow}
-use Rattle.timer_base.specs.HeldLaws.{without_handle-found, without_handle-none}
-use Rattle.timer_base.specs.OrderLaws.{either, insert_newest, AreDistinct-rising}
+use Rattle.timer_base.specs.HeldLaws.{without_handle-found, without_handle-none, no_serial}
+use Rattle.timer_base.specs.OrderLaws.{insert_newest, AreDistinct-rising}
 use Rattle.timer_base.specs.OneOrder.{in_order-ordered}
 use Rattle.timer_base.specs.Pending.{Entry, timer_of, timers_of, put, has_serial, has_handle, is_due_at, first_timer, first_found, entries_due, entries_left, without_serial, without_found, without_handle}
 use Rattle.timer_base.specs.WheelState.{WheelState, IsWellFormed, IsPending, NamesOne, timer_at, due_at, held_at, held_count, after_start, after_stop, after_removal}
 
 -- A tick.
-
-is_later : (tick : ℕ) (t : Timer) → tick ≤ t.deadline → is_due_at tick t ≡ false → tick < t.deadline
-is_later tick t h k = grind (arith, nat_tests)
 
 not_due_behind : (tick : ℕ) (t u : Timer) → tick < t.deadline → is_before u t ≡ false → is_due_at tick u ≡ false
 not_due_behind tick t u h k = grind (arith, nat_tests)
@@ -33,7 +30,7 @@ front_is_due : (tick : ℕ) (es : List Entry) → IsOrdered (timers_of es) → A
 front_is_due tick [] o a = refl
 front_is_due tick (e ∷ es) o a = elim (either (is_due_at tick e.timer)) [
   | inl h ↦ rw h (ap (λ r. e ∷ r) (front_is_due tick es o.1 a.1))
-  | inr h ↦ let later : tick < e.timer.deadline = is_later tick e.timer a.0 h in
+  | inr h ↦ let later : tick < e.timer.deadline = later_if_not_due tick e.timer a.0 h in
       rw (h, none_due tick e.timer es later o.0, all_left tick e.timer es later o.0) refl
 ]
 
@@ -74,23 +71,16 @@ start_keeps_order w place t k h =
 
 -- A stop.
 
-same_some : (t u : Timer) → Some t ≡ Some u → t ≡ u
-same_some t u h = cc
-
 other_serial : (n : ℕ) (t : Timer) → t.serial ≢ n → has_serial n t ≡ false
 other_serial n t h = grind (arith, nat_tests)
 
 own_serial : (n : ℕ) (t : Timer) → t.serial ≡ n → has_serial n t ≡ true
 own_serial n t h = grind (arith, nat_tests)
 
-none_goes : (n : ℕ) (es : List Entry) → IsNotAmong n (timers_of es) → without_serial n es ≡ es
-none_goes n [] a = refl
-none_goes n (e ∷ es) a = rw (other_serial n e.timer a.0) (ap (λ r. e ∷ r) (none_goes n es a.1))
-
 found_serial_step : (test : Entry → Bool) (n : ℕ) (e : Entry) (t : Timer) (es : List Entry)
     → (first_timer test es ≡ Some t → IsNotAmong n (timers_of es) → t.serial ≢ n) → (test e ≡ true) ⊎ (test e ≡ false)
     → first_timer test (e ∷ es) ≡ Some t → IsNotAmong n (timers_of (e ∷ es)) → t.serial ≢ n
-found_serial_step test n e t es ih (inl h) f a = let same : e.timer ≡ t = same_some e.timer t (rw h at f) in rw (← same) a.0
+found_serial_step test n e t es ih (inl h) f a = let same : e.timer ≡ t = some_same e.timer t (rw h at f) in rw (← same) a.0
 found_serial_step test n e t es ih (inr h) f a = ih (rw h at f) a.1
 
 -- what is found in a list has a serial different from that of any timer that is not in it
@@ -104,9 +94,9 @@ one_goes_step : (test : Entry → Bool) (e : Entry) (t : Timer) (es : List Entry
     → AreDistinct (timers_of (e ∷ es)) → first_timer test (e ∷ es) ≡ Some t
     → length (without_serial t.serial (e ∷ es)) + 1 ≡ length (e ∷ es)
 one_goes_step test e t es ih (inl h) d f =
-    let same : e.timer ≡ t = same_some e.timer t (rw h at f) in
+    let same : e.timer ≡ t = some_same e.timer t (rw h at f) in
     let serial : e.timer.serial ≡ t.serial = ap (λ (u : Timer). u.serial) same in
-    let others : without_serial t.serial es ≡ es = none_goes t.serial es (rw (← serial) d.0) in
+    let others : without_serial t.serial es ≡ es = no_serial t.serial es (rw (← serial) d.0) in
     rw (own_serial t.serial e.timer serial, others) (omega arith)
 one_goes_step test e t es ih (inr h) d f =
     let rest : first_timer test es ≡ Some t = rw h at f in
@@ -132,9 +122,6 @@ goes handle t es d f =
     without_handle-found handle es d ∙ ap (λ (o : Option Timer). without_found o es) f in
     rw e (one_goes (has_handle handle) t es d f)
 
-no_timer : (t : Timer) → None ≡ Some t → ⊥
-no_timer t e = cc
-
 one_held_goes : (w : WheelState) (handle : Handle) (t : Timer) (p d : Option Timer) → IsWellFormed w → timer_at handle w ≡ p
     → due_at handle w ≡ d → ((u : Timer) → p ≡ Some u → d ≡ None) → first_found p d ≡ Some t
     → held_count (after_removal handle w) + 1 ≡ held_count w
@@ -147,7 +134,7 @@ one_held_goes w handle t None (Some u) k e f one found =
     goes handle u w.due (AreDistinct-rising 0 (timers_of w.due) k.due_rising) f in
     let same : without_handle handle w.pending ≡ w.pending = without_handle-none handle w.pending e in
     rw same (omega arith)
-one_held_goes w handle t None None k e f one found = absurd (no_timer t found)
+one_held_goes w handle t None None k e f one found = absurd (none_some t found)
 
 pub held_stop_takes_one : (w : WheelState) (handle : Handle) (t : Timer) → IsWellFormed w → NamesOne handle w
     → held_at handle w ≡ Some t → held_count (after_removal handle w) + 1 ≡ held_count w

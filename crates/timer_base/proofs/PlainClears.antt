@@ -1,9 +1,8 @@
 -- Lemmas for `clear` of a `PlainWheel`: what it leaves is what is due.
-use Rattle.std.proofs.Common.{◌≡◌, ℕ, Bool, List, [], ◌∷◌, length, refl, ap, inl, inr}
-use Rattle.std.specs.Prelude.{map, filter}
+use Rattle.std.proofs.Common.{◌≡◌, ℕ, Bool, List, [], ◌∷◌, length, refl, ap, inl, inr, map, filter}
+use Rattle.timer_base.specs.Basics.{either}
 use Rattle.timer_base.specs.declared.timer.Timer.{Timer}
 use Rattle.timer_base.specs.Order.{in_order, itself}
-use Rattle.timer_base.specs.OrderLaws.{either}
 use Rattle.timer_base.specs.Pending.{is_due_at}
 use Rattle.timer_base.specs.PlainState.{is_after, due_count, at_first_place, plain_state}
 use Rattle.timer_base.specs.WheelState.{after_clear}

@@ -1,10 +1,9 @@
 -- Lemmas for `expire` of a `PlainWheel`: removing the first due timer.
-use Rattle.std.proofs.Common.{◌≡◌, ◌≢◌, ◌<◌, ◌≤◌, ◌-◌, ℕ, Bool, true, false, not, ◌⊎◌, List, [], ◌∷◌, length, refl, sym, ◌∙◌, ap, inl, inr, arith, drop}
-use Rattle.std.specs.Prelude.{map, filter, find, if◌then◌else◌, Some, None, slice_get}
+use Rattle.std.proofs.Common.{◌≡◌, ◌≢◌, ◌<◌, ◌≤◌, ◌-◌, ℕ, Bool, true, false, not, ◌⊎◌, List, [], ◌∷◌, length, refl, sym, ◌∙◌, ap, inl, inr, arith, drop, map, filter, find, if◌then◌else◌, Some, None, slice_get}
 use Rattle.std.proofs.lemmas.Bool.Decides.{nat_tests}
+use Rattle.timer_base.specs.Basics.{some_same, either}
 use Rattle.timer_base.specs.declared.timer.Timer.{Timer}
 use Rattle.timer_base.specs.Order.{in_order, itself, AreRising}
-use Rattle.timer_base.specs.OrderLaws.{either}
 use Rattle.timer_base.specs.Pending.{is_due_at, has_serial}
 use Rattle.timer_base.specs.WheelState.{first_due, after_expiry}
 use Rattle.timer_base.specs.PlainState.{is_after, due_count, at_first_place, plain_state, timers_of-at_first_place}
@@ -35,13 +34,10 @@ find_some : (p : Timer → Bool) (f : Timer) (ts : List Timer) → find p ts ≡
 find_some p f [] h = absurd (cc)
 find_some p f (t ∷ ts) h = some_step p t f ts (find_some p f ts) (either (p t)) h
 
-pub same_some : (t f : Timer) → Some t ≡ Some f → t ≡ f
-same_some t f h = cc
-
 found_above_step : (p : Timer → Bool) (low : ℕ) (t f : Timer) (ts : List Timer)
     → (find p ts ≡ Some f → AreRising t.serial ts → t.serial < f.serial) → (p t ≡ true) ⊎ (p t ≡ false) → find p (t ∷ ts) ≡ Some f
     → AreRising low (t ∷ ts) → low < f.serial
-found_above_step p low t f ts ih (inl h) e r = let same : t ≡ f = same_some t f (rw h at e) in rw (← same) r.0
+found_above_step p low t f ts ih (inl h) e r = let same : t ≡ f = some_same t f (rw h at e) in rw (← same) r.0
 found_above_step p low t f ts ih (inr h) e r = let above : t.serial < f.serial = ih (rw h at e) r.1 in let r0 : low < t.serial = r.0
     in omega arith
 
@@ -67,7 +63,7 @@ taken_step : (p : Timer → Bool) (low : ℕ) (t f : Timer) (ts : List Timer)
     → (p t ≡ true) ⊎ (p t ≡ false) → find p (t ∷ ts) ≡ Some f → AreRising low (t ∷ ts)
     → filter p (filter (λ t. not (has_serial f.serial t)) (t ∷ ts)) ≡ drop 1 (filter p (t ∷ ts))
 taken_step p low t f ts ih (inl h) e r =
-    let same : t ≡ f = same_some t f (rw h at e) in
+    let same : t ≡ f = some_same t f (rw h at e) in
     let serial : t.serial ≡ f.serial = ap (λ (x : Timer). x.serial) same in
     rw (own_serial t f.serial serial, h) (ap (filter p) (none_left_out f.serial t.serial ts (omega arith) r.1))
 taken_step p low t f ts ih (inr h) e r =
@@ -81,7 +77,7 @@ stay_step : (p q : Timer → Bool) (low : ℕ) (t f : Timer) (ts : List Timer) �
     ⊎ (p t ≡ false) → find p (t ∷ ts) ≡ Some f → AreRising low (t ∷ ts)
     → filter q (filter (λ t. not (has_serial f.serial t)) (t ∷ ts)) ≡ filter q (t ∷ ts)
 stay_step p q low t f ts x ih (inl h) e r =
-    let same : t ≡ f = same_some t f (rw h at e) in
+    let same : t ≡ f = some_same t f (rw h at e) in
     let serial : t.serial ≡ f.serial = ap (λ (x : Timer). x.serial) same in
     rw (own_serial t f.serial serial, x t h) (ap (filter q) (none_left_out f.serial t.serial ts (omega arith) r.1))
 stay_step p q low t f ts x ih (inr h) e r =

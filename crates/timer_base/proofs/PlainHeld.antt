@@ -1,18 +1,18 @@
 -- Lemmas for `look`, `stop` and `restart` of a `PlainWheel`: a timer is found by its serial, and removed.
-use Rattle.std.proofs.Common.{◌≡◌, ◌≢◌, ◌<◌, ◌≤◌, ℕ, Bool, true, false, not, ◌==◌, List, [], ◌∷◌, length, refl, sym, ◌∙◌, ap, inl, inr, arith}
-use Rattle.std.specs.Prelude.{slice_get, map, filter, find, if◌then◌else◌, Option, Some, None}
+use Rattle.std.proofs.Common.{◌≡◌, ◌≢◌, ◌<◌, ◌≤◌, ℕ, Bool, true, false, not, ◌==◌, List, [], ◌∷◌, length, refl, sym, ◌∙◌, ap, inl, inr, arith, slice_get, map, filter, find, if◌then◌else◌, Option, Some, None}
 use Rattle.std.specs.List.{AllByRecursion}
 use Rattle.std.proofs.lemmas.Bool.{cases_eq}
 use Rattle.std.proofs.lemmas.Bool.Decides.{nat_tests}
+use Rattle.timer_base.specs.Basics.{some_same, none_some, later_if_not_due, either}
 use Rattle.timer_base.specs.declared.timer.Timer.{Timer}
 use Rattle.timer_base.specs.declared.timer.Handle.{Handle}
 use Rattle.timer_base.specs.Order.{in_order, itself, AreRising}
-use Rattle.timer_base.specs.OrderLaws.{either, filter-in_order, AreRising-filter, All-filter}
+use Rattle.timer_base.specs.OrderLaws.{filter-in_order, AreRising-filter, All-filter}
 use Rattle.timer_base.specs.Pending.{Entry, is_due_at, has_serial, has_handle, first_timer, first_found, without_handle}
 use Rattle.timer_base.specs.WheelState.{WheelState, NamesOne, timer_at, due_at, held_at, after_removal}
 use Rattle.timer_base.specs.PlainState.{IsKept, is_after, at_first_place, plain_state}
-use Rattle.timer_base.proofs.PlainSteps.{state_is, after_is, after_one, due_not_after}
-use Rattle.timer_base.proofs.PlainExpiries.{find-filter, same_some}
+use Rattle.timer_base.proofs.PlainSteps.{state_is, after_is, due_not_after}
+use Rattle.timer_base.proofs.PlainExpiries.{find-filter}
 
 not_zero : (n : ℕ) → n ≢ 0 → (0 == n) ≡ false
 not_zero n h = grind (arith, nat_tests)
@@ -85,12 +85,9 @@ record AreSides (found pending due : Option Timer) : Type 0 where
   held : found ≡ first_found pending due
   one : (t : Timer) → pending ≡ Some t → due ≡ None
 
-no_timer : (t : Timer) → None ≡ Some t → ⊥
-no_timer t e = cc
-
 only_due : (t : Timer) (pending : Option Timer) → pending ≡ None → AreSides (Some t) pending (Some t)
-only_due t None e = record { held = refl; one = λ u f. absurd (no_timer u f) }
-only_due t (Some u) e = absurd (no_timer u (sym e))
+only_due t None e = record { held = refl; one = λ u f. absurd (none_some u f) }
+only_due t (Some u) e = absurd (none_some u (sym e))
 
 only_pending : (t : Timer) (due : Option Timer) → due ≡ None → AreSides (Some t) (Some t) due
 only_pending t due e = record { held = refl; one = λ u f. e }
@@ -107,7 +104,7 @@ sides_step now last k t ts kept r rest = elim (either (is_due_at now t)) [
     | inr h ↦ simp (d, due_not_after now t d, h) rest
   ]
   | inr d ↦
-      let after : is_after now t ≡ true = after_is now t (after_one now t kept.not_before d) in
+      let after : is_after now t ≡ true = after_is now t (later_if_not_due now t kept.not_before d) in
       elim (either (has_serial k t)) [
         | inl h ↦
             let same : t.serial ≡ k = eq_is t.serial k h in
@@ -162,7 +159,7 @@ module _ (now last : ℕ) (ts : List Timer) (h : Handle) where
 passes : (p : Timer → Bool) (f : Timer) (ts : List Timer) → find p ts ≡ Some f → p f ≡ true
 passes p f [] e = absurd (cc)
 passes p f (t ∷ ts) e = elim (either (p t)) [
-  | inl h ↦ let g = rw h at e in ap p (sym (same_some t f g)) ∙ h
+  | inl h ↦ let g = rw h at e in ap p (sym (some_same t f g)) ∙ h
   | inr h ↦ passes p f ts (rw h at e)
 ]
 
@@ -202,7 +199,7 @@ module _ (now last : ℕ) (ts : List Timer) (h : Handle) (a : AllByRecursion (Is
   place_is : h.place ≡ 0
   place_is = elim (cases_eq h.place 0) [
     | inl z ↦ z
-    | inr n ↦ absurd (no_timer t (sym (held_nowhere now last ts h n) ∙ f))
+    | inr n ↦ absurd (none_some t (sym (held_nowhere now last ts h n) ∙ f))
   ]
 
   found : find (has_serial h.serial) ts ≡ Some t

@@ -1,21 +1,18 @@
 -- Lemmas for `advance` of a `PlainWheel`: nothing is due before the first pending deadline, and something is due at it.
-use Rattle.std.proofs.Common.{◌≡◌, ◌<◌, ◌≤◌, ◌+◌, ◌-◌, ℕ, suc, true, false, List, [], ◌∷◌, length, refl, sym, ◌∙◌, ap, subst, inl, inr, arith}
-use Rattle.std.specs.Prelude.{filter, map, min, Option, Some, None}
+use Rattle.std.proofs.Common.{◌≡◌, ◌<◌, ◌≤◌, ◌+◌, ◌-◌, ℕ, suc, true, false, List, [], ◌∷◌, length, refl, sym, ◌∙◌, ap, subst, inl, inr, arith, filter, map, min, Option, Some, None}
 use Rattle.std.specs.List.{AllByRecursion}
 use Rattle.std.proofs.lemmas.Bool.{cases_lt}
 use Rattle.std.proofs.lemmas.Bool.Decides.{nat_tests}
+use Rattle.timer_base.specs.Basics.{some_same, not_due_before, is_due, either}
 use Rattle.timer_base.specs.declared.timer.Timer.{Timer}
 use Rattle.std.proofs.lemmas.List.{length-map}
 use Rattle.timer_base.specs.Order.{in_order, itself, AreRising}
-use Rattle.timer_base.specs.OrderLaws.{either, All-weaken, All-in_order, All-filter}
+use Rattle.timer_base.specs.OrderLaws.{All-weaken, All-in_order, All-filter}
 use Rattle.timer_base.specs.Pending.{is_due_at}
 use Rattle.timer_base.specs.PlainState.{IsKept, AreDueAfter, IsJump, is_after, earliest, first_after, at_first_place, plain_state}
 use Rattle.timer_base.specs.TickLaws.{AreAfter, IsPassing, passing_quiet}
 use Rattle.timer_base.proofs.PlainSteps.{filter_after, state_is, plain_state-after_tick}
 use Rattle.timer_base.specs.WheelState.{WheelState, after_tick, after_ticks, Advances}
-
-same_tick : (a b : ℕ) → Some a ≡ Some b → a ≡ b
-same_tick a b e = cc
 
 not_none : (a : ℕ) (r : Option ℕ) → earliest (Some a) r ≡ None → ⊥
 not_none a None e = cc
@@ -23,9 +20,6 @@ not_none a (Some b) e = cc
 
 after_is : (tick : ℕ) (t : Timer) → tick < t.deadline → is_after tick t ≡ true
 after_is tick t h = grind (arith, nat_tests)
-
-due_is : (tick : ℕ) (t : Timer) → t.deadline ≡ tick → is_due_at tick t ≡ true
-due_is tick t h = grind (arith, nat_tests)
 
 -- without a first deadline there is no timer
 pub no_timers : (tick : ℕ) (ts : List Timer) → AreDueAfter tick ts → first_after tick ts ≡ None → ts ≡ []
@@ -39,10 +33,10 @@ AreFrom tick ts = AllByRecursion (λ t. tick ≤ t.deadline) ts
 from_step : (d : ℕ) (t : Timer) (ts : List Timer) (rest : Option ℕ) → (rest ≡ None → ts ≡ []) → ((m : ℕ) → rest ≡ Some m → AreFrom m ts)
     → earliest (Some t.deadline) rest ≡ Some d → (d ≤ t.deadline) × AreFrom d ts
 from_step d t ts None none some e =
-    let same : t.deadline ≡ d = same_tick t.deadline d e in
+    let same : t.deadline ≡ d = some_same t.deadline d e in
     (omega arith, rw (none refl) tt)
 from_step d t ts (Some m) none some e =
-    let same : min t.deadline m ≡ d = same_tick (min t.deadline m) d e in
+    let same : min t.deadline m ≡ d = some_same (min t.deadline m) d e in
     (omega arith, All-weaken (λ u. m ≤ u.deadline) (λ u. d ≤ u.deadline) ts (λ u h. omega arith) (some m refl))
 
 pub first_from : (tick d : ℕ) (ts : List Timer) → AreDueAfter tick ts → first_after tick ts ≡ Some d → AreFrom d ts
@@ -53,17 +47,17 @@ first_from tick d (t ∷ ts) a e =
 -- some timer has the first deadline
 there_step : (d : ℕ) (t : Timer) (ts : List Timer) (rest : Option ℕ) → ((m : ℕ) → rest ≡ Some m → 0 < length (filter (is_due_at m) ts))
     → earliest (Some t.deadline) rest ≡ Some d → 0 < length (filter (is_due_at d) (t ∷ ts))
-there_step d t ts None some e = rw (due_is d t (same_tick t.deadline d e)) (omega arith)
+there_step d t ts None some e = rw (is_due d t (some_same t.deadline d e)) (omega arith)
 there_step d t ts (Some m) some e = elim (either (is_due_at d t)) [
   | inl h ↦ rw h (omega arith)
   | inr h ↦
-      let same : min t.deadline m ≡ d = same_tick (min t.deadline m) d e in
+      let same : min t.deadline m ≡ d = some_same (min t.deadline m) d e in
       let at : m ≡ d = other d m t h same in
       rw h (let P : ℕ → Type 0 = λ k. 0 < length (filter (is_due_at k) ts) in subst P at (some m refl))
 ] where
   other : (d m : ℕ) (t : Timer) → is_due_at d t ≡ false → min t.deadline m ≡ d → m ≡ d
   other d m t h e = elim (cases_lt t.deadline m) [
-    | inl k ↦ absurd (let f : t.deadline ≡ d = omega arith in let g = due_is d t f in cc)
+    | inl k ↦ absurd (let f : t.deadline ≡ d = omega arith in let g = is_due d t f in cc)
     | inr k ↦ omega arith
   ]
 
@@ -95,9 +89,7 @@ kept-skipped now last ticks (t ∷ ts) a k = (
 
 pub none_due_after : (tick : ℕ) (ts : List Timer) → AreDueAfter tick ts → filter (is_due_at tick) ts ≡ []
 none_due_after tick [] a = refl
-none_due_after tick (t ∷ ts) a = rw (not_due tick t a.0) (none_due_after tick ts a.1) where
-  not_due : (tick : ℕ) (t : Timer) → tick < t.deadline → is_due_at tick t ≡ false
-  not_due tick t h = grind (arith, nat_tests)
+none_due_after tick (t ∷ ts) a = rw (not_due_before tick t a.0) (none_due_after tick ts a.1)
 
 pub plain_state-skipped : (now last ticks : ℕ) (ts : List Timer) → AreDueAfter (now + ticks) ts → filter (is_due_at now) ts ≡ []
     → plain_state (now + ticks) last ts ≡ record (plain_state now last ts) { now = now + ticks }

@@ -1,28 +1,25 @@
 -- Lemmas for `start` and `per_tick` of a `PlainWheel`: the state, and the count of due timers.
-use Rattle.std.proofs.Common.{◌≡◌, ◌≢◌, ◌<◌, ◌≤◌, ◌+◌, ◌-◌, ℕ, suc, Bool, true, false, not, List, [], ◌∷◌, ◌++◌, length, refl, sym, ◌∙◌, ap, inl, inr, arith, append-nil, length-append}
-use Rattle.std.specs.Prelude.{map, filter, nat_lt, if◌then◌else◌}
+use Rattle.std.proofs.Common.{◌≡◌, ◌≢◌, ◌<◌, ◌≤◌, ◌+◌, ◌-◌, ℕ, suc, Bool, true, false, not, List, [], ◌∷◌, ◌++◌, length, refl, sym, ◌∙◌, ap, inl, inr, arith, append-nil, length-append, map, filter, nat_lt, if◌then◌else◌, get_or, drop, zero}
 use Rattle.std.specs.List.{AllByRecursion}
 use Rattle.std.proofs.lemmas.Bool.{cases_lt, cases_eq}
 use Rattle.std.proofs.lemmas.Bool.Decides.{nat_tests}
+use Rattle.timer_base.specs.Basics.{not_due_before, is_due, later_if_not_due, is_not_due, either}
 use Rattle.timer_base.specs.declared.timer.Timer.{Timer}
 use Rattle.timer_base.specs.declared.limits.TheConstants.{LAST}
 use Rattle.timer_base.specs.Order.{in_order, itself, insert_by_deadline, AreRising, AreBelow}
-use Rattle.timer_base.specs.OrderLaws.{either, in_order-newest, filter-in_order, in_order-same, AllAt-filter, AreRising-filter, length-in_order}
+use Rattle.timer_base.specs.OrderLaws.{in_order-newest, filter-in_order, in_order-same, AllAt-filter, AreRising-filter, length-in_order}
 use Rattle.timer_base.specs.OneOrder.{map-itself}
 use Rattle.timer_base.specs.Pending.{Entry, put, is_due_at}
 use Rattle.timer_base.specs.WheelState.{WheelState, after_start, after_due_start, after_held_start, after_tick, with_room, held_count}
 use Rattle.timer_base.specs.HeldLaws.{start_when_later, start_when_now}
 use Rattle.timer_base.specs.PlainState.{IsKept, AreDueAfter, is_after, due_count, at_first_place, plain_state}
 
-pub after_one : (now : ℕ) (t : Timer) → now ≤ t.deadline → is_due_at now t ≡ false → now < t.deadline
-after_one now t h k = grind (arith, nat_tests)
-
 -- with nothing due, each is after the tick
 pub all_after : (now last : ℕ) (ts : List Timer) → AllByRecursion (IsKept now last) ts → filter (is_due_at now) ts ≡ [] → AreDueAfter now ts
 all_after now last [] k d = tt
 all_after now last (t ∷ ts) k d = elim (either (is_due_at now t)) [
   | inl h ↦ let e = rw h at d in absurd (cc)
-  | inr h ↦ (after_one now t k.0.not_before h, all_after now last ts k.1 (rw h at d))
+  | inr h ↦ (later_if_not_due now t k.0.not_before h, all_after now last ts k.1 (rw h at d))
 ]
 
 pub after_is : (now : ℕ) (t : Timer) → now < t.deadline → is_after now t ≡ true
@@ -141,9 +138,6 @@ map-insert_by_deadline t (x ∷ xs) = elim (either (nat_lt t.deadline x.deadline
   | inr k ↦ rw k (ap (λ r. at_first_place x ∷ r) (map-insert_by_deadline t xs))
 ]
 
-not_due_yet : (now : ℕ) (t : Timer) → now < t.deadline → is_due_at now t ≡ false
-not_due_yet now t h = grind (arith, nat_tests)
-
 newest_last : (t : Timer) (ts : List Timer) → AreBelow t.serial ts
     → in_order itself (ts ++ t ∷ []) ≡ insert_by_deadline itself t (in_order itself ts)
 newest_last t ts b =
@@ -160,19 +154,16 @@ plain_state-after_start now last ts t k h l =
     (ap (λ r. map at_first_place (in_order itself r)) (filter-append_yes (is_after now) ts t (after_is now t l))
     ∙ ap (map at_first_place) (newest_last t (filter (is_after now) ts) b)
     ∙ map-insert_by_deadline t (in_order itself (filter (is_after now) ts)))
-    (ap (map at_first_place) (filter-append_no (is_due_at now) ts t (not_due_yet now t l)))
+    (ap (map at_first_place) (filter-append_no (is_due_at now) ts t (not_due_before now t l)))
 
 map-append : (ts us : List Timer) → map at_first_place (ts ++ us) ≡ map at_first_place ts ++ map at_first_place us
 map-append [] us = refl
 map-append (t ∷ ts) us = ap (λ (r : List Entry). at_first_place t ∷ r) (map-append ts us)
 
-due_now : (now : ℕ) (t : Timer) → t.deadline ≡ now → is_due_at now t ≡ true
-due_now now t h = grind (arith, nat_tests)
-
 plain_state-after_due_start : (now last : ℕ) (ts : List Timer) (t : Timer) → t.deadline ≡ now
     → plain_state now t.serial (ts ++ t ∷ []) ≡ after_due_start 0 t (plain_state now last ts)
 plain_state-after_due_start now last ts t h =
-    let due : is_due_at now t ≡ true = due_now now t h in
+    let due : is_due_at now t ≡ true = is_due now t h in
     state_is now t.serial
     (ap (λ us. map at_first_place (in_order itself us)) (filter-append_no (is_after now) ts t (due_not_after now t due)))
     (ap (map at_first_place) (filter-append_yes (is_due_at now) ts t due) ∙ map-append (filter (is_due_at now) ts) (t ∷ []))
@@ -215,9 +206,6 @@ pub rising-after_start : (now last : ℕ) (ts : List Timer) (t : Timer) → AllB
     → last < t.serial → AreRising 0 (ts ++ t ∷ [])
 rising-after_start now last ts t k r l = rising_on 0 now last ts t k r (omega arith) l
 
-not_now : (now : ℕ) (t : Timer) → t.deadline ≢ now → is_due_at now t ≡ false
-not_now now t h = grind (arith, nat_tests)
-
 -- one more is due if the new timer is
 pub due_count-after_start : (now due more : ℕ) (ts : List Timer) (t : Timer) → due ≡ due_count now ts
     → (t.deadline ≡ now → more ≡ 1) → (t.deadline ≢ now → more ≡ 0) → due + more ≡ due_count now (ts ++ t ∷ [])
@@ -225,12 +213,12 @@ due_count-after_start now due more ts t e one none = elim (cases_eq t.deadline n
   | inl h ↦
       let m : more ≡ 1 = one h in
       let d : due_count now (ts ++ t ∷ []) ≡ due_count now ts + 1 =
-      ap length (filter-append_yes (is_due_at now) ts t (due_now now t h)) ∙ length-append (filter (is_due_at now) ts) (t ∷ []) in
+      ap length (filter-append_yes (is_due_at now) ts t (is_due now t h)) ∙ length-append (filter (is_due_at now) ts) (t ∷ []) in
       omega arith
   | inr n ↦
       let m : more ≡ 0 = none n in
       let d : due_count now (ts ++ t ∷ []) ≡ due_count now ts =
-      ap length (filter-append_no (is_due_at now) ts t (not_now now t n)) in
+      ap length (filter-append_no (is_due_at now) ts t (is_not_due now t n)) in
       omega arith
 ]
 
@@ -240,7 +228,7 @@ length-map : (ts : List Timer) → length (map at_first_place ts) ≡ length ts
 length-map [] = refl
 length-map (t ∷ ts) = ap suc (length-map ts)
 
-length-pending : (now last : ℕ) (ts : List Timer) → length (plain_state now last ts).pending ≡ length (filter (is_after now) ts)
+pub length-pending : (now last : ℕ) (ts : List Timer) → length (plain_state now last ts).pending ≡ length (filter (is_after now) ts)
 length-pending now last ts = length-map (in_order itself (filter (is_after now) ts)) ∙ length-in_order itself (filter (is_after now) ts)
 
 all_counted : (now last : ℕ) (ts : List Timer) → AllByRecursion (IsKept now last) ts
@@ -248,7 +236,7 @@ all_counted : (now last : ℕ) (ts : List Timer) → AllByRecursion (IsKept now 
 all_counted now last [] k = refl
 all_counted now last (t ∷ ts) k = elim (either (is_due_at now t)) [
   | inl h ↦ let rest = all_counted now last ts k.1 in rw (due_not_after now t h, h) (omega arith)
-  | inr h ↦ let rest = all_counted now last ts k.1 in rw (after_is now t (after_one now t k.0.not_before h), h) (omega arith)
+  | inr h ↦ let rest = all_counted now last ts k.1 in rw (after_is now t (later_if_not_due now t k.0.not_before h), h) (omega arith)
 ]
 
 pub due_count_is : (now last : ℕ) (ts : List Timer) → length (plain_state now last ts).due ≡ due_count now ts
@@ -266,3 +254,10 @@ held_count-all now last room ts k = let all = all_counted now last ts k in
 pub pending_count : (now last : ℕ) (ts : List Timer) → AllByRecursion (IsKept now last) ts
     → length ts - due_count now ts ≡ length (plain_state now last ts).pending
 pending_count now last ts k = let all = all_counted now last ts k in omega (arith, length-pending now last ts)
+
+-- a timer after the tick that comes next is among those that are left
+pub some_left : (tick i : ℕ) (ts : List Timer) (d : Timer) → i < length ts → tick < (get_or ts i d).deadline
+    → 0 < length (filter (is_after tick) (drop i ts))
+some_left tick i [] d h k = absurd (omega arith)
+some_left tick zero (t ∷ ts) d h k = let after : is_after tick t ≡ true = grind (arith, nat_tests) in rw after (omega arith)
+some_left tick (suc i) (t ∷ ts) d h k = some_left tick i ts d (omega arith) k

@@ -1,11 +1,10 @@
 -- Lemmas for `quiet_until` of a `PlainWheel`: its first pending deadline.
-use Rattle.std.proofs.Common.{◌≡◌, ◌≤◌, ℕ, true, false, List, [], ◌∷◌, refl, sym, ◌∙◌, ap, inl, inr, arith}
-use Rattle.std.specs.Prelude.{map, filter, min, Option, Some, None}
+use Rattle.std.proofs.Common.{◌≡◌, ◌≤◌, ℕ, false, List, [], ◌∷◌, refl, sym, ◌∙◌, ap, inl, inr, arith, map, filter, Option, Some, None}
 use Rattle.std.specs.List.{AllByRecursion}
 use Rattle.std.proofs.lemmas.Bool.Decides.{nat_tests}
+use Rattle.timer_base.specs.Basics.{least_if_before, least_if_after, either}
 use Rattle.timer_base.specs.declared.timer.Timer.{Timer}
 use Rattle.timer_base.specs.Order.{in_order, insert_in_order, is_before, itself, IsFirst, IsOrdered}
-use Rattle.timer_base.specs.OrderLaws.{either}
 use Rattle.timer_base.specs.Pending.{Entry, timers_of}
 use Rattle.timer_base.specs.PlainState.{is_after, at_first_place, earliest, first_after, plain_state}
 use Rattle.timer_base.specs.WakeUps.{IsQuietUntil, next_deadline}
@@ -16,17 +15,11 @@ abbrev pub head_deadline : List Timer → Option ℕ
 head_deadline [] = None
 head_deadline (t ∷ ts) = Some t.deadline
 
-least_before : (t u : Timer) → is_before t u ≡ true → t.deadline ≡ min t.deadline u.deadline
-least_before t u h = grind (arith, nat_tests)
-
-least_after : (t u : Timer) → is_before t u ≡ false → u.deadline ≡ min t.deadline u.deadline
-least_after t u h = grind (arith, nat_tests)
-
 head-insert : (t : Timer) (ts : List Timer) → head_deadline (insert_in_order itself t ts) ≡ earliest (Some t.deadline) (head_deadline ts)
 head-insert t [] = refl
 head-insert t (u ∷ us) = elim (either (is_before t u)) [
-  | inl h ↦ rw h (ap Some (least_before t u h))
-  | inr h ↦ rw h (ap Some (least_after t u h))
+  | inl h ↦ rw h (ap Some (least_if_before t u h))
+  | inr h ↦ rw h (ap Some (least_if_after t u h))
 ]
 
 head-in_order : (now : ℕ) (ts : List Timer) → head_deadline (in_order itself (filter (is_after now) ts)) ≡ first_after now ts

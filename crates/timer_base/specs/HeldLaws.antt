@@ -1,19 +1,18 @@
 -- Held timers: what a call on pending and due timers says when nothing is due, and of a deadline after now. They are
 -- in specs/ since crates above cite them.
-use Rattle.std.specs.Prelude.{◌≡◌, ◌≢◌, ℕ, ◌<◌, Bool, true, false, nat_lt, List, [], ◌∷◌, Option, Some, None, refl}
-use Rattle.std.proofs.Common.{◌∙◌, ap, sym, subst, inl, inr, arith, ◌==◌, ◌&&◌}
+use Rattle.std.proofs.Common.{◌∙◌, ap, sym, subst, inl, inr, arith, ◌==◌, ◌&&◌, ◌≡◌, ◌≢◌, ℕ, ◌<◌, Bool, true, false, nat_lt, List, [], ◌∷◌, Option, Some, None, refl}
 use Rattle.std.proofs.lemmas.Bool.{ne_eqb, eq-eqb, eqb-true}
 use Rattle.std.proofs.lemmas.Bool.Decides.{nat_tests}
+use Rattle.timer_base.specs.Basics.{some_same, none_some, either}
 use Rattle.timer_base.specs.declared.timer.Timer.{Timer}
 use Rattle.timer_base.specs.declared.timer.Handle.{Handle}
 use Rattle.timer_base.specs.Order.{AreDistinct, IsNotAmong}
-use Rattle.timer_base.specs.OrderLaws.{either}
 use Rattle.timer_base.specs.Pending.{Entry, timers_of, has_handle, first_timer, first_found, without_serial, without_found, without_handle}
 use Rattle.timer_base.specs.WheelState.{WheelState, timer_at, due_at, held_at, after_start, after_due_start, after_held_start, after_stop, after_removal, after_restart, after_replacement, with_room}
 
 -- A look.
 
-found_or_none : (o : Option Timer) → first_found o None ≡ o
+pub found_or_none : (o : Option Timer) → first_found o None ≡ o
 found_or_none None = refl
 found_or_none (Some t) = refl
 
@@ -32,7 +31,7 @@ has_serial_of : (handle : Handle) (x : Entry) → has_handle handle x ≡ true �
 has_serial_of handle x h = eqb-true x.timer.serial handle.serial
     (second_of (x.place == handle.place) (x.timer.serial == handle.serial) h)
 
-other_serial : (handle : Handle) (x : Entry) → x.timer.serial ≢ handle.serial → has_handle handle x ≡ false
+pub other_serial : (handle : Handle) (x : Entry) → x.timer.serial ≢ handle.serial → has_handle handle x ≡ false
 other_serial handle x n = elim (either (x.place == handle.place)) [
   | inl k ↦ rw (k, ne_eqb x.timer.serial handle.serial n) refl
   | inr k ↦ rw k refl
@@ -43,25 +42,19 @@ no_handle : (handle : Handle) (es : List Entry) → IsNotAmong handle.serial (ti
 no_handle handle [] n = refl
 no_handle handle (x ∷ xs) n = rw (other_serial handle x n.0) (ap (λ (r : List Entry). x ∷ r) (no_handle handle xs n.1))
 
-no_serial : (serial : ℕ) (es : List Entry) → IsNotAmong serial (timers_of es) → without_serial serial es ≡ es
+pub no_serial : (serial : ℕ) (es : List Entry) → IsNotAmong serial (timers_of es) → without_serial serial es ≡ es
 no_serial serial [] n = refl
 no_serial serial (x ∷ xs) n =
     rw (ne_eqb x.timer.serial serial n.0) (ap (λ (r : List Entry). x ∷ r) (no_serial serial xs n.1))
 
-same_timer : (a b : Timer) → Some a ≡ Some b → a ≡ b
-same_timer a b e = cc
-
-no_timer : (t : Timer) → None ≡ Some t → ⊥
-no_timer t e = cc
-
 -- the timer that is found is one of them
 found_among : (handle : Handle) (t : Timer) (serial : ℕ) (es : List Entry) → first_timer (has_handle handle) es ≡ Some t
     → IsNotAmong serial (timers_of es) → t.serial ≢ serial
-found_among handle t serial [] e n = absurd (no_timer t e)
+found_among handle t serial [] e n = absurd (none_some t e)
 found_among handle t serial (x ∷ xs) e n = elim (either (has_handle handle x)) [
   | inl h ↦
       let f : Some x.timer ≡ Some t = rw h at e in
-      λ (q : t.serial ≡ serial). n.0 (ap (λ (u : Timer). u.serial) (same_timer x.timer t f) ∙ q)
+      λ (q : t.serial ≡ serial). n.0 (ap (λ (u : Timer). u.serial) (some_same x.timer t f) ∙ q)
   | inr h ↦ found_among handle t serial xs (rw h at e) n.1
 ]
 

@@ -1,6 +1,7 @@
 -- The definitions of this crate, and the lemmas that clauses or crates above cite.
 pub mod OneOrder
 pub mod Order
+pub mod Basics
 pub mod OrderLaws
 pub mod Pending
 pub mod PlainState

@@ -1,15 +1,15 @@
 -- Lemmas: the order of distinct timers is unique. They are in specs/ since crates above cite them.
-use Rattle.std.specs.Prelude.{◌≡◌, ◌≢◌, ◌≤◌, ◌+◌, ℕ, true, false, ◌==◌, ◌⊎◌, if◌then◌else◌, List, [], ◌∷◌, map, refl}
-use Rattle.std.proofs.Common.{sym, ◌∙◌, ap, subst, inl, inr, arith}
+use Rattle.std.proofs.Common.{sym, ◌∙◌, ap, subst, inl, inr, arith, ◌≡◌, ◌≢◌, ◌≤◌, ◌+◌, ℕ, true, false, ◌==◌, ◌⊎◌, if◌then◌else◌, List, [], ◌∷◌, map, refl}
 use Rattle.std.specs.List.{AllByRecursion, sum_by}
 use Rattle.std.specs.List.Sorted.{IsPermutation}
 use Rattle.std.proofs.lemmas.Bool.Decides.{nat_tests}
 use Rattle.std.proofs.lemmas.List.Elements.{All-from_recursion, recursion_from_All}
 use Rattle.std.proofs.lemmas.List.Sorted.{IsPermutation-refl, IsPermutation-sym, All-permutation, sum_by-IsPermutation}
 use Rattle.std.proofs.lemmas.List.Sums.{sum_by-cons}
+use Rattle.timer_base.specs.Basics.{either}
 use Rattle.timer_base.specs.declared.timer.Timer.{Timer}
 use Rattle.timer_base.specs.Order.{is_before, insert_in_order, in_order, itself, IsFirst, IsOrdered, IsNotAmong, AreDistinct}
-use Rattle.timer_base.specs.OrderLaws.{either, All-weaken, All-in_order, IsOrdered-in_order, AreDistinct-in_order}
+use Rattle.timer_base.specs.OrderLaws.{All-weaken, All-in_order, IsOrdered-in_order, AreDistinct-in_order}
 
 -- z is a member of the list
 abbrev pub IsMember : {X : Type 0} → X → List X → Type 0

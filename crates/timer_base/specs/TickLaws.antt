@@ -1,11 +1,9 @@
 -- Lemmas about ticks one after another. They are in specs/ since crates above cite them.
-use Rattle.std.proofs.Common.{◌≡◌, ◌<◌, ◌≤◌, ◌+◌, ◌-◌, ℕ, zero, suc, ◌⊎◌, List, [], ◌∷◌, length, refl, sym, ◌∙◌, ap, subst, inl, inr, arith}
-use Rattle.std.specs.Prelude.{Bool, true, false}
+use Rattle.std.proofs.Common.{◌≡◌, ◌<◌, ◌≤◌, ◌+◌, ◌-◌, ℕ, zero, suc, ◌⊎◌, List, [], ◌∷◌, length, refl, sym, ◌∙◌, ap, subst, inl, inr, arith, Bool, true, false}
 use Rattle.std.specs.List.{AllByRecursion}
-use Rattle.std.proofs.lemmas.Bool.{cases_lt, ne_eqb}
-use Rattle.timer_base.specs.OrderLaws.{either}
+use Rattle.std.proofs.lemmas.Bool.{cases_lt}
+use Rattle.timer_base.specs.Basics.{not_due_before, either}
 use Rattle.timer_base.specs.Pending.{Entry, is_due_at, entries_due, entries_left}
-use Rattle.timer_base.specs.declared.timer.Timer.{Timer}
 use Rattle.timer_base.specs.WakeUps.{IsWakeUp}
 use Rattle.timer_base.specs.WheelState.{WheelState, after_tick, after_ticks, with_room, Advances}
 
@@ -109,17 +107,14 @@ sooner_too : (a b : ℕ) (entries : List Entry) → a ≤ b → AreAfter b entri
 sooner_too a b [] h f = tt
 sooner_too a b (e ∷ es) h f = (let g : b < e.timer.deadline = f.0 in omega arith, sooner_too a b es h f.1)
 
-not_at : (tick : ℕ) (t : Timer) → tick < t.deadline → is_due_at tick t ≡ false
-not_at tick t h = ne_eqb t.deadline tick (λ (e : t.deadline ≡ tick). omega arith)
-
 pub left_all : (tick : ℕ) (entries : List Entry) → AreAfter tick entries → entries_left tick entries ≡ entries
 left_all tick [] f = refl
-left_all tick (e ∷ es) f = rw (not_at tick e.timer f.0)
+left_all tick (e ∷ es) f = rw (not_due_before tick e.timer f.0)
     (ap (λ (r : List Entry). e ∷ r) (left_all tick es f.1))
 
 pub due_none : (tick : ℕ) (entries : List Entry) → AreAfter tick entries → entries_due tick entries ≡ []
 due_none tick [] f = refl
-due_none tick (e ∷ es) f = rw (not_at tick e.timer f.0) (due_none tick es f.1)
+due_none tick (e ∷ es) f = rw (not_due_before tick e.timer f.0) (due_none tick es f.1)
 
 abbrev at_tick : WheelState → ℕ → WheelState
 at_tick w tick = record w { now = tick }
@@ -194,7 +189,7 @@ quiet_before_wake_up w tick n z u h = quiet_until n w z (later_than tick (w.now 
 
 -- Room changes nothing of ticks.
 
-after_ticks-with_room : (n room : ℕ) (w : WheelState) → after_ticks n (with_room room w) ≡ with_room room (after_ticks n w)
+pub after_ticks-with_room : (n room : ℕ) (w : WheelState) → after_ticks n (with_room room w) ≡ with_room room (after_ticks n w)
 after_ticks-with_room zero room w = refl
 after_ticks-with_room (suc n) room w = ap after_tick (after_ticks-with_room n room w)
 

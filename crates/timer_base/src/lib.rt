@@ -7,6 +7,7 @@
 //! `laws` has the lemmas that hold for every wheel.
 #![tactic(auto)]
 
+mod deadline;
 mod fault;
 pub mod laws;
 mod limits;
@@ -15,6 +16,7 @@ mod sort;
 mod timer;
 mod wheel;
 
+pub use deadline::earlier;
 pub use fault::{MakeFault, OutOfMemory};
 pub use limits::LAST;
 pub use plain::PlainWheel;

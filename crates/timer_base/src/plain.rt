@@ -21,10 +21,11 @@ ghost use Rattle.timer_base.specs.declared.limits.TheConstants.{LAST};
 ghost use Rattle.timer_base.specs.Order.{AreRising};
 ghost use Rattle.timer_base.specs.OrderLaws.{AreRising-prop};
 ghost use Rattle.timer_base.specs.Pending.{has_serial, is_due_at};
-ghost use Rattle.timer_base.specs.PlainState.{IsKept, IsKept-prop, AreDueAfter, IsJump, is_after, due_count, earliest, first_after, plain_state, plain_state-well_formed};
+ghost use Rattle.timer_base.specs.PlainState.{IsKept, IsKept-prop, AreDueAfter, IsJump, is_after, due_count, first_after, plain_state, plain_state-well_formed};
 ghost use Rattle.timer_base.specs.WakeUps.{IsQuietUntil, next_deadline};
 ghost use Rattle.timer_base.specs.WheelState.{empty_wheel, with_room, with_room-well_formed};
 
+use crate::deadline::earlier;
 use crate::fault::{MakeFault, OutOfMemory};
 use crate::limits::LAST;
 use crate::sort::sort_timers;
@@ -213,10 +214,18 @@ impl Wheel for PlainWheel {
     }
 
     fn list(&self) -> Result<Vec<Timer>, OutOfMemory> {
-        let mut timers = Vec::from_slice(*self.timers.allocator(), self.timers.as_slice())?;
-        keep_pending(&mut timers, self.now);
-        sort_timers(&mut timers);
+        let mut timers = Vec::new(*self.timers.allocator());
+        self.list_into(&mut timers)?;
         Ok(timers)
+    }
+
+    fn list_into(&self, timers: &mut Vec<Timer>) -> Result<(), OutOfMemory> {
+        let pending = self.len();
+        timers.reserve_exact(pending.saturating_sub(timers.len()))?;
+        timers.clear();
+        copy_pending(self.timers.as_slice(), self.now, timers);
+        sort_timers(timers);
+        Ok(())
     }
 
     fn clear(&mut self) {
@@ -245,20 +254,10 @@ fn first_deadline(timers: &[Timer], tick: u64) -> Option<u64>
     let mut first = None;
     for timer in timers {
         if timer.deadline > tick {
-            first = Some(earlier(first, timer.deadline));
+            first = earlier(first, Some(timer.deadline));
         }
     }
     first
-}
-
-/// The earlier one of two deadlines, of which the first may be missing.
-fn earlier(first: Option<u64>, deadline: u64) -> u64
-    ensures { Some result ≡ earliest first (Some deadline) }
-{
-    match first {
-        Some(first) => first.min(deadline),
-        None => deadline,
-    }
 }
 
 /// The first of the timers with the serial.
@@ -278,11 +277,17 @@ fn drop_serial(timers: &mut Vec<Timer>, serial: u64)
     timers.retain(|t| t.serial != serial);
 }
 
-/// Keeps the timers that are due after the tick, in their order.
-fn keep_pending(timers: &mut Vec<Timer>, tick: u64)
-    ensures { timers.new.items ≡ filter (is_after tick) timers.old.items }
+/// Appends the timers that are due after the tick, in their order. Room for them was reserved.
+fn copy_pending(timers: &[Timer], tick: u64, pending: &mut Vec<Timer>)
+    requires { length pending.old.items + length (filter (is_after tick) timers.now) ≤ vec_capacity pending.old }
+    ensures items { pending.new.items ≡ pending.old.items ++ filter (is_after tick) timers.now }
+    ensures capacity { vec_capacity pending.new ≡ vec_capacity pending.old }
 {
-    timers.retain(|t| t.deadline > tick);
+    for timer in timers {
+        if timer.deadline > tick {
+            pending.push_reserved(*timer);
+        }
+    }
 }
 
 /// Keeps the timers that are due at the tick, in their order.

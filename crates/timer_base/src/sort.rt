@@ -2,7 +2,7 @@
 //!
 //! A wheel copies its timers bucket by bucket and then sorts them. Serials are distinct, so the order
 //! is unique, and it doesn't matter in which order the buckets were copied.
-ghost use Rattle.std.specs.Prelude.{◌≡◌};
+ghost use Rattle.std.specs.Prelude.{◌≡◌, vec_capacity};
 ghost use Rattle.timer_base.specs.Order.{AreDistinct, in_order, itself};
 
 use crate::timer::Timer;
@@ -10,7 +10,8 @@ use crate::timer::Timer;
 /// Sorts timers by deadline and then serial. Does not allocate.
 pub fn sort_timers(timers: &mut Vec<Timer>)
     requires distinct { AreDistinct timers.old.items }
-    ensures { timers.new.items ≡ in_order itself timers.old.items }
+    ensures order { timers.new.items ≡ in_order itself timers.old.items }
+    ensures capacity { vec_capacity timers.new ≡ vec_capacity timers.old }
 {
     timers.sort_unstable_by_key(|t| (t.deadline, t.serial));
 }

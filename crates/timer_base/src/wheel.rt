@@ -16,7 +16,7 @@
 //! equation on this record. The four routines of G. Varghese and T. Lauck, "Hashed and Hierarchical Timing
 //! Wheels" (SOSP 1987), are `start` (START_TIMER), `stop` (STOP_TIMER), `per_tick` (PER_TICK_BOOKKEEPING) and
 //! `expire` (the timers that their EXPIRY_PROCESSING is for).
-ghost use Rattle.std.specs.Prelude.{◌≡◌, ◌<◌, ◌≤◌, ◌-◌, ◌↔◌, ℕ, List, [], Option, length, IsTrue, IfOk, OnOk, OnErr, MatchOption, MatchResult};
+ghost use Rattle.std.specs.Prelude.{◌≡◌, ◌<◌, ◌≤◌, ◌-◌, ◌↔◌, ℕ, List, [], Option, length, IsTrue, IfOk, OnOk, OnErr, IfSome, MatchOption, MatchResult, vec_capacity};
 ghost use Rattle.timer_base.specs.declared.limits.TheConstants.{LAST};
 ghost use Rattle.timer_base.specs.Counts.{WheelCounts, no_counts};
 ghost use Rattle.timer_base.specs.Pending.{Entry, timers_of};
@@ -77,7 +77,8 @@ pub trait Wheel {
     /// The only error is out of memory, and then nothing changes. A wheel with a limited number of places
     /// returns it at its limit too, though no allocation failed. While fewer timers are held than `reserve`
     /// made room for, there is no error. The place is a free choice of the wheel. Due timers may be waiting,
-    /// here and in `look`, `stop`, `restart`, `list` and `clear`.
+    /// here and in `look`, `stop`, `restart`, `list`, `list_into`
+    /// and `clear`.
     fn start(&mut self, timer: Timer) -> Result<Handle, OutOfMemory>
         requires not_past { (state self.old).now ≤ timer.deadline }
         requires deadline { timer.deadline ≤ (state self.old).last_tick }
@@ -132,7 +133,7 @@ pub trait Wheel {
         requires fresh { (state self.old).last_serial < timer.serial }
         requires serial { timer.serial ≤ LAST }
         ensures old { old_timer result ≡ held_at handle (state self.old) }
-        ensures named { MatchOption result (Unit {0}) (λ r. r.0.serial ≡ timer.serial) }
+        ensures named { IfSome result (λ r. r.0.serial ≡ timer.serial) }
         ensures restarted { state self.new ≡ after_replacement result handle timer (state self.old) }
         ensures counts { MatchOption result (counts self.new ≡ counts self.old)
             (λ _. counts self.new ≡ count_start (counts self.old)) };
@@ -195,6 +196,16 @@ pub trait Wheel {
     /// The pending timers, by deadline and then serial. The only error is out of memory.
     fn list(&self) -> Result<Vec<Timer>, OutOfMemory>
         ensures { IfOk result (λ timers. timers.items ≡ timers_of (state self.now).pending) };
+
+    /// Fills a vector with the pending timers, by deadline and then serial. What it held before is dropped.
+    ///
+    /// The only error is out of memory, and then the vector is as it was. If its capacity is at least the number of
+    /// pending timers, there is no error: a wheel of this project doesn't allocate then.
+    fn list_into(&self, timers: &mut Vec<Timer>) -> Result<(), OutOfMemory>
+        ensures listed { OnOk result (timers.new.items ≡ timers_of (state self.now).pending) }
+        ensures full { OnErr result (vec_capacity timers.old < length (state self.now).pending) }
+        ensures err { OnErr result (timers.new.items ≡ timers.old.items) }
+        ensures capacity { vec_capacity timers.old ≤ vec_capacity timers.new };
 
     /// Drops every pending timer. The tick and the last serial stay. Does not allocate.
     fn clear(&mut self)

@@ -8,11 +8,11 @@ use Rattle.timer_base.specs.declared.timer.Handle as base
 use Rattle.timer_base.specs.WakeUps.{IsWakeUp, next_deadline}
 use Rattle.timer_base.specs.WheelState.{WheelState, empty_wheel, held_at, after_start, after_removal, after_tick}
 use Rattle.timer_wheels.specs.declared.table.Table.TheVariants.{Wide, Clock}
-use Rattle.timer_wheels.specs.Tables.{slots_of_table}
+use Rattle.timer_wheels.specs.Tables.{slots_of_table, radices_by_slots}
 use Rattle.timer_wheels.specs.HeldPlaces.{AreBefore, AreElsewhere}
 use Rattle.timer_wheels.specs.HierWheel.{counts_of_tick, counts_of_advance}
 use Rattle.timer_wheels.specs.HierWheel as hier
-use Rattle.timer_wheels.specs.WakeUps.{next_visit, radices_by_slots}
+use Rattle.timer_wheels.specs.WakeUps.{next_visit}
 use Rattle.timer_wheels.specs.declared.table.TheConstants.{LAST_OF_CLOCK}
 use Rattle.timer_total.specs.Deadlines.{interval_until, after_start_at}
 use Rattle.timer_total.specs.Refusals.{next_timer, left_until, IsStartable, IsRoomUsed, IsAt}

@@ -84,6 +84,10 @@ impl<W: Wheel> Wheel for RefusingWheel<W> {
         self.wheel.list()
     }
 
+    fn list_into(&self, timers: &mut Vec<Timer>) -> Result<(), OutOfMemory> {
+        self.wheel.list_into(timers)
+    }
+
     fn clear(&mut self) {
         self.wheel.clear();
     }

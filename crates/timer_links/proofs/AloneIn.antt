@@ -1,23 +1,24 @@
--- Lemmas for `alone_in` and `take`: whether a node is alone in its list.
+-- Lemmas for `take` and `move_back`: whether a node is alone in its list.
 use Rattle.std.proofs.Common.{◌≡◌, ◌<◌, ◌+◌, ℕ, List, [], ◌∷◌, refl, ◌∙◌, ap, subst, inl, inr, arith}
 use Rattle.std.proofs.lemmas.Bool.{eq-eqb, ne_eqb}
 use Rattle.slab.specs.Slab.{Slab}
+use Rattle.timer_base.specs.OneOrder.{IsMember}
 use Rattle.timer_links.specs.declared.node.Node.{Node}
 use Rattle.timer_links.specs.declared.ring.Neighbours.{Neighbours}
-use Rattle.timer_links.specs.Lists.{list_if_alone, IsAloneIn, KeyedLists}
+use Rattle.timer_links.specs.Lists.{list_if_alone, IsAloneIn, KeyedLists, Rows}
 use Rattle.timer_links.specs.Ring.{neighbours_at, neighbour_on_both_sides}
 use Rattle.timer_links.specs.Links.{indexes, IsLinked}
-use Rattle.timer_links.proofs.Chains.{In, last, last_in}
+use Rattle.timer_links.proofs.Chains.{last, last_in}
 use Rattle.timer_links.proofs.Rows.{Has, distinct_parts}
 use Rattle.timer_links.proofs.Rings.{has_index, root_not, distinct_here}
 use Rattle.timer_links.proofs.RingJoins.{first, before_is, after_is}
 use Rattle.timer_links.proofs.LinksCalls.{low}
 
-last_as : (n k y : ℕ) (rows : List (ℕ × Node)) → last (n + y) (indexes n rows) ≡ k → In k ((n + y) ∷ indexes n rows)
-last_as n k y rows e = let P : ℕ → Type 0 = λ x. In x ((n + y) ∷ indexes n rows) in subst P e (last_in (n + y) (indexes n rows))
+last_as : (n k y : ℕ) (rows : Rows) → last (n + y) (indexes n rows) ≡ k → IsMember k ((n + y) ∷ indexes n rows)
+last_as n k y rows e = let P : ℕ → Type 0 = λ x. IsMember x ((n + y) ∷ indexes n rows) in subst P e (last_in (n + y) (indexes n rows))
 
 -- the indexes on both sides of a row are the same only if they are the root's
-neighbours_of : (n l : ℕ) (s : Neighbours) (front rest : List (ℕ × Node)) → l < n → s.before ≡ last l (indexes n front) → s.after ≡
+neighbours_of : (n l : ℕ) (s : Neighbours) (front rest : Rows) → l < n → s.before ≡ last l (indexes n front) → s.after ≡
     first n rest l
     → ((k : ℕ) → Has k front → Has k rest → ⊥) → neighbour_on_both_sides s ≡ list_if_alone l front rest
 neighbours_of n l s [] [] b e f o = rw (e, f, eq-eqb l l refl) refl

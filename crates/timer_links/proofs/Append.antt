@@ -1,16 +1,16 @@
 -- Lemmas for `append`: a whole list moves to the back of another.
-use Rattle.std.proofs.Common.{◌≡◌, ◌≢◌, ◌<◌, ◌+◌, ℕ, List, [], ◌∷◌, ◌++◌, length, refl, sym, ◌∙◌, ap, subst, inl, inr, arith, length-set, length-append, get_or-set_same, get_or-set_other}
-use Rattle.std.specs.Prelude.{Option, Some, None, slice_set}
+use Rattle.std.proofs.Common.{◌≡◌, ◌≢◌, ◌<◌, ◌+◌, ℕ, List, [], ◌∷◌, ◌++◌, length, refl, sym, ◌∙◌, ap, subst, inl, inr, arith, length-set, length-append, get_or-set_same, get_or-set_other, Option, Some, None, slice_set}
 use Rattle.std.proofs.lemmas.Bool.{cases_eq}
 use Rattle.std.proofs.lemmas.List.{append_assoc}
 use Rattle.slab.specs.Slab.{Slab}
+use Rattle.timer_base.specs.Basics.{some_none}
 use Rattle.timer_links.specs.declared.node.Node.{Node}
 use Rattle.timer_links.specs.declared.ring.Neighbours.{Neighbours}
-use Rattle.timer_links.specs.Lists.{first_key, node_at, list_at, row_count, appended, KeyedLists}
+use Rattle.timer_links.specs.Lists.{first_key, node_at, list_at, row_count, appended, KeyedLists, Rows}
 use Rattle.timer_links.specs.Ring.{neighbours_at, Joins}
 use Rattle.timer_links.specs.Links.{indexes, AreRings, IsLinked}
 use Rattle.timer_links.proofs.Chains.{last}
-use Rattle.timer_links.proofs.Rows.{Has, has_either, Found, found, some_none, split_at, node_in-absent, node_at-none, row_count-set}
+use Rattle.timer_links.proofs.Rows.{Has, has_either, StandsIn, stands_in, split_at, node_in-absent, node_at-none, row_count-set}
 use Rattle.timer_links.proofs.Rings.{node_at-here}
 use Rattle.timer_links.proofs.RingJoins.{joins_as, ends_are, rings_appended}
 use Rattle.timer_links.proofs.LinksCalls.{low}
@@ -33,29 +33,29 @@ module _ (v : KeyedLists) (from to : ℕ) (o : to ≢ from) (bf : from < length 
   at_other : (m : ℕ) → m ≢ to → m ≢ from → list_at m (appended from to v) ≡ list_at m v
   at_other m n p = get_or-set_other (slice_set v from []) to m (list_at to v ++ list_at from v) [] n ∙ get_or-set_other v from m [] [] p
 
-  at_l : (l m : ℕ) (rows : List (ℕ × Node)) → l ≡ m → list_at l v ≡ rows → list_at m v ≡ rows
+  at_l : (l m : ℕ) (rows : Rows) → l ≡ m → list_at l v ≡ rows → list_at m v ≡ rows
   at_l l m rows q e = let P : ℕ → Type 0 = λ x. list_at x v ≡ rows in subst P q e
 
-  found_now : (k : ℕ) (node : Node) → Found k node v → Found k node (appended from to v)
+  found_now : (k : ℕ) (node : Node) → StandsIn k node v → StandsIn k node (appended from to v)
   found_now k node f = elim (cases_eq f.l from) [
     | inl q ↦ record {
       l = to;
-      below = rw many_now bt;
+      in_range = rw many_now bt;
       front = list_at to v ++ f.front;
       rest = f.rest;
-      is = at_to ∙ (ap (λ (x : List (ℕ × Node)). list_at to v ++ x) (at_l f.l from (f.front ++ (k, node) ∷ f.rest) q f.is)
+      at = at_to ∙ (ap (λ (x : Rows). list_at to v ++ x) (at_l f.l from (f.front ++ (k, node) ∷ f.rest) q f.at)
           ∙ sym (append_assoc (list_at to v) f.front ((k, node) ∷ f.rest)));
     }
     | inr p ↦ elim (cases_eq f.l to) [
       | inl q ↦ record {
         l = to;
-        below = rw many_now bt;
+        in_range = rw many_now bt;
         front = f.front;
         rest = f.rest ++ list_at from v;
-        is = at_to ∙ (ap (λ (x : List (ℕ × Node)). x ++ list_at from v) (at_l f.l to (f.front ++ (k, node) ∷ f.rest) q f.is)
+        at = at_to ∙ (ap (λ (x : Rows). x ++ list_at from v) (at_l f.l to (f.front ++ (k, node) ∷ f.rest) q f.at)
             ∙ append_assoc f.front ((k, node) ∷ f.rest) (list_at from v));
       }
-      | inr n ↦ record { l = f.l; below = rw many_now f.below; front = f.front; rest = f.rest; is = at_other f.l n p ∙ f.is }
+      | inr n ↦ record { l = f.l; in_range = rw many_now f.in_range; front = f.front; rest = f.rest; at = at_other f.l n p ∙ f.at }
     ]
   ]
 
@@ -77,7 +77,7 @@ module _ (v : KeyedLists) (from to : ℕ) (o : to ≢ from) (bf : from < length 
       ≡ row_count (slice_set v from []) + length (list_at to v ++ list_at from v) =
       row_count-set (slice_set v from []) to (list_at to v ++ list_at from v) bt2 in
       let c3 : length (list_at to (slice_set v from [])) ≡ length (list_at to v) =
-      ap (λ (z : List (ℕ × Node)). length z) (get_or-set_other v from to [] [] o) in
+      ap (λ (z : Rows). length z) (get_or-set_other v from to [] [] o) in
       let c4 : length (list_at to v ++ list_at from v) ≡ length (list_at to v) + length (list_at from v) =
       length-append (list_at to v) (list_at from v) in
       omega arith
@@ -86,9 +86,9 @@ module _ (v : KeyedLists) (from to : ℕ) (o : to ≢ from) (bf : from < length 
   module _ (n : ℕ) (s u : List Neighbours) (h : AreRings n s v) (g : AreRings n u (appended from to v)) (many : length v ≡ n) where
     by_old : (k : ℕ) (a : Option Node) → node_at k v ≡ a → node_at k (appended from to v) ≡ a
     by_old k (Some node) e =
-        let f = found_now k node (found k node v e) in
-        let b : f.l < n = let d : f.l < length (appended from to v) = f.below in rw (sym many, sym many_now) d in
-        node_at-here n u (appended from to v) g k f.l f.front node f.rest b f.is (many_now ∙ many)
+        let f = found_now k node (stands_in k node v e) in
+        let b : f.l < n = let d : f.l < length (appended from to v) = f.in_range in rw (sym many, sym many_now) d in
+        node_at-here n u (appended from to v) g k f.l f.front node f.rest b f.at (many_now ∙ many)
     by_old k None e = node_at-none k (appended from to v) (λ m d. node_in-absent k (list_at m (appended from to v)) (λ x.
         let b : m < length v = rw (sym many_now) d in
         let z = stood m k b x in

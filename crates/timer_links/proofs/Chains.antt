@@ -1,17 +1,13 @@
 -- Lemmas about chains of indexes, and what a join does to them. Nothing here knows of keys or nodes.
 use Rattle.std.proofs.Common.{◌≡◌, ℕ, ◌⊎◌, List, [], ◌∷◌, ◌++◌, refl, sym, ◌∙◌, ap, subst, inl, inr}
+use Rattle.timer_base.specs.OneOrder.{IsMember}
 use Rattle.timer_links.specs.declared.ring.Neighbours.{Neighbours}
 use Rattle.timer_links.specs.Ring.{neighbours_at, AreJoined, IsChain, Joins}
-
--- the index is one of these
-abbrev pub In : ℕ → List ℕ → Type 0
-In p [] = ⊥
-In p (q ∷ qs) = (q ≡ p) ⊎ In p qs
 
 -- no index occurs twice
 abbrev pub IsApart : List ℕ → Type 0
 IsApart [] = Unit {0}
-IsApart (p ∷ ps) = (In p ps → ⊥) × IsApart ps
+IsApart (p ∷ ps) = (IsMember p ps → ⊥) × IsApart ps
 
 -- the last index of a chain
 abbrev pub last : ℕ → List ℕ → ℕ
@@ -23,34 +19,34 @@ abbrev pub starts : ℕ → List ℕ → List ℕ
 starts p [] = []
 starts p (q ∷ qs) = p ∷ starts q qs
 
-pub last_in : (p : ℕ) (ps : List ℕ) → In (last p ps) (p ∷ ps)
+pub last_in : (p : ℕ) (ps : List ℕ) → IsMember (last p ps) (p ∷ ps)
 last_in p [] = inl refl
 last_in p (q ∷ qs) = inr (last_in q qs)
 
-pub last_not_start : (p : ℕ) (ps : List ℕ) → IsApart (p ∷ ps) → In (last p ps) (starts p ps) → ⊥
+pub last_not_start : (p : ℕ) (ps : List ℕ) → IsApart (p ∷ ps) → IsMember (last p ps) (starts p ps) → ⊥
 last_not_start p [] a i = i
-last_not_start p (q ∷ qs) a (inl e) = let P : ℕ → Type 0 = λ x. In x (q ∷ qs) in a.0 (subst P (sym e) (last_in q qs))
+last_not_start p (q ∷ qs) a (inl e) = let P : ℕ → Type 0 = λ x. IsMember x (q ∷ qs) in a.0 (subst P (sym e) (last_in q qs))
 last_not_start p (q ∷ qs) a (inr i) = last_not_start q qs a.1 i
 
-pub starts_in : (x p : ℕ) (ps : List ℕ) → In x (starts p ps) → In x (p ∷ ps)
+pub starts_in : (x p : ℕ) (ps : List ℕ) → IsMember x (starts p ps) → IsMember x (p ∷ ps)
 starts_in x p [] i = absurd i
 starts_in x p (q ∷ qs) (inl e) = inl e
 starts_in x p (q ∷ qs) (inr i) = inr (starts_in x q qs i)
 
 -- of a ring, that is the root and the nodes
-pub starts_ring : (x p l : ℕ) (ps : List ℕ) → In x (starts p (ps ++ l ∷ [])) → In x (p ∷ ps)
+pub starts_ring : (x p l : ℕ) (ps : List ℕ) → IsMember x (starts p (ps ++ l ∷ [])) → IsMember x (p ∷ ps)
 starts_ring x p l [] (inl e) = inl e
 starts_ring x p l [] (inr i) = absurd i
 starts_ring x p l (q ∷ qs) (inl e) = inl e
 starts_ring x p l (q ∷ qs) (inr i) = inr (starts_ring x q l qs i)
 
-pub in_either : (x : ℕ) (ps qs : List ℕ) → In x (ps ++ qs) → In x ps ⊎ In x qs
+pub in_either : (x : ℕ) (ps qs : List ℕ) → IsMember x (ps ++ qs) → IsMember x ps ⊎ IsMember x qs
 in_either x [] qs i = inr i
 in_either x (p ∷ ps) qs (inl e) = inl (inl e)
 in_either x (p ∷ ps) qs (inr i) = elim (in_either x ps qs i) [ inl a ↦ inl (inr a) | inr b ↦ inr b ]
 
 -- and facts of each of its indexes
-pub in_ring : (x l : ℕ) (ps : List ℕ) → In x (ps ++ l ∷ []) → In x (l ∷ ps)
+pub in_ring : (x l : ℕ) (ps : List ℕ) → IsMember x (ps ++ l ∷ []) → IsMember x (l ∷ ps)
 in_ring x l ps i = elim (in_either x ps (l ∷ []) i) [
   | inl a ↦ inr a
   | inr b ↦ elim b [ inl e ↦ inl e | inr z ↦ absurd z ]
@@ -64,14 +60,14 @@ pub last_on : (p q : ℕ) (ps qs : List ℕ) → last p (ps ++ q ∷ qs) ≡ las
 last_on p q [] qs = refl
 last_on p q (r ∷ rs) qs = last_on r q rs qs
 
-pub apart_push : (p : ℕ) (ps : List ℕ) → IsApart ps → (In p ps → ⊥) → IsApart (ps ++ p ∷ [])
+pub apart_push : (p : ℕ) (ps : List ℕ) → IsApart ps → (IsMember p ps → ⊥) → IsApart (ps ++ p ∷ [])
 apart_push p [] a n = ((λ i. i), tt)
 apart_push p (q ∷ qs) a n = (
   (λ i. elim (in_either q qs (p ∷ []) i) [ inl b ↦ a.0 b | inr b ↦ elim b [ inl e ↦ n (inl (sym e)) | inr z ↦ absurd z ] ]),
   apart_push p qs a.1 (λ i. n (inr i)),
 )
 
-pub apart_both : (ps qs : List ℕ) → IsApart ps → IsApart qs → ((x : ℕ) → In x ps → In x qs → ⊥) → IsApart (ps ++ qs)
+pub apart_both : (ps qs : List ℕ) → IsApart ps → IsApart qs → ((x : ℕ) → IsMember x ps → IsMember x qs → ⊥) → IsApart (ps ++ qs)
 apart_both [] qs a b n = b
 apart_both (p ∷ ps) qs a b n = (
   (λ i. elim (in_either p ps qs i) [ inl c ↦ a.0 c | inr d ↦ n p (inl refl) d ]),
@@ -103,7 +99,7 @@ chain_same s u p (q ∷ qs) h c = (
 )
 
 -- a join keeps each chain that contains neither a step from its front nor one to its back
-pub kept : (s u : List Neighbours) (f b p : ℕ) (ps : List ℕ) → Joins f b s u → (In f (starts p ps) → ⊥) → (In b ps → ⊥) → IsChain s p ps
+pub kept : (s u : List Neighbours) (f b p : ℕ) (ps : List ℕ) → Joins f b s u → (IsMember f (starts p ps) → ⊥) → (IsMember b ps → ⊥) → IsChain s p ps
     → IsChain u p ps
 kept s u f b p [] j nf nb c = tt
 kept s u f b p (q ∷ qs) j nf nb c = (
@@ -112,12 +108,12 @@ kept s u f b p (q ∷ qs) j nf nb c = (
 )
 
 -- so it keeps a ring with neither index
-pub ring_kept : (s u : List Neighbours) (f b l : ℕ) (ps : List ℕ) → Joins f b s u → (In f (l ∷ ps) → ⊥) → (In b (l ∷ ps) → ⊥)
+pub ring_kept : (s u : List Neighbours) (f b l : ℕ) (ps : List ℕ) → Joins f b s u → (IsMember f (l ∷ ps) → ⊥) → (IsMember b (l ∷ ps) → ⊥)
     → IsChain s l (ps ++ l ∷ []) → IsChain u l (ps ++ l ∷ [])
 ring_kept s u f b l ps j nf nb c = kept s u f b l (ps ++ l ∷ []) j (λ i. nf (starts_ring f l l ps i)) (λ i. nb (in_ring b l ps i)) c
 
 -- a join at the end of a chain goes on from it
-pub extended : (s u : List Neighbours) (q p : ℕ) (ps : List ℕ) → Joins (last p ps) q s u → IsApart (p ∷ ps) → (In q ps → ⊥) → IsChain s p ps
+pub extended : (s u : List Neighbours) (q p : ℕ) (ps : List ℕ) → Joins (last p ps) q s u → IsApart (p ∷ ps) → (IsMember q ps → ⊥) → IsChain s p ps
     → IsChain u p (ps ++ q ∷ [])
 extended s u q p ps j a n c = glue u p ps q [] (kept s u (last p ps) q p ps j (last_not_start p ps a) n c) (record {
   forth = j.forth;

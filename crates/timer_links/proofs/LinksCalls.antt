@@ -1,17 +1,18 @@
 -- Lemmas shared by the calls of `Links`: the representation after a node is added, removed or moved.
-use Rattle.std.proofs.Common.{◌≡◌, ◌<◌, ◌≤◌, ◌+◌, ℕ, List, [], ◌∷◌, ◌++◌, length, refl, sym, ◌∙◌, ap, subst, inl, inr, arith, length-set, length-append}
-use Rattle.std.specs.Prelude.{false, IsTrue, map, Option, Some, None, IsSome, slice_set, slice_index_or}
+use Rattle.std.proofs.Common.{◌≡◌, ◌<◌, ◌≤◌, ◌+◌, ℕ, List, [], ◌∷◌, ◌++◌, length, refl, sym, ◌∙◌, ap, subst, inl, inr, arith, length-set, length-append, false, IsTrue, map, Option, Some, None, IsSome, slice_set, slice_index_or}
 use Rattle.std.proofs.lemmas.Bool.{cases_eq}
 use Rattle.std.proofs.lemmas.List.{get_or_read}
 use Rattle.slab.specs.Slab.{Slab, get, slab_len, ContainsKey, Updates}
+use Rattle.timer_base.specs.OneOrder.{IsMember}
+use Rattle.timer_base.specs.Basics.{some_none}
 use Rattle.timer_links.specs.declared.node.Node.{Node}
 use Rattle.timer_links.specs.declared.ring.Neighbours.{Neighbours}
 use Rattle.timer_links.specs.declared.ring.TheConstants.{INDEXES}
-use Rattle.timer_links.specs.Lists.{node_at, first_key, list_at, row_count, without_key, with_row, moved_back, KeyedLists}
+use Rattle.timer_links.specs.Lists.{node_at, first_key, list_at, row_count, without_key, with_row, moved_back, KeyedLists, Row, Rows}
 use Rattle.timer_links.specs.Ring.{neighbours_at, key_of, Joins, JoinsLast, IsGrown}
 use Rattle.timer_links.specs.Links.{indexes, AreRings, IsLinked}
-use Rattle.timer_links.proofs.Chains.{In, last, last_in, chain_same}
-use Rattle.timer_links.proofs.Rows.{Has, split_at, length_split, none_is, some_none, Found, found, map_each, without_absent, row_count-set}
+use Rattle.timer_links.proofs.Chains.{last, last_in, chain_same}
+use Rattle.timer_links.proofs.Rows.{Has, split_at, length_split, none_is, StandsIn, stands_in, map_each, without_absent, row_count-set}
 use Rattle.timer_links.proofs.NodeAt.{without_this, without_other, push_this, push_other}
 use Rattle.timer_links.proofs.Rings.{key_at, node_at-here, without_is}
 use Rattle.timer_links.proofs.RingJoins.{joins_as, first, first_is, before_is, after_is, last_here, first_here, detached, back_is, attached}
@@ -26,7 +27,7 @@ pub held : (o : Option Node) → IsSome o → Held o
 held None i = absurd (none_is i)
 held (Some x) i = record { node = x; is = refl }
 
-first_in_ring : (n l : ℕ) (rows : List (ℕ × Node)) → In (first n rows l) (l ∷ indexes n rows)
+first_in_ring : (n l : ℕ) (rows : Rows) → IsMember (first n rows l) (l ∷ indexes n rows)
 first_in_ring n l [] = inl refl
 first_in_ring n l (r ∷ rs) = inr (inl refl)
 
@@ -38,13 +39,13 @@ module _ (n : ℕ) (nodes : Slab Node) (s : List Neighbours) (v : KeyedLists) (h
   pub used : (key : ℕ) → IsSome (node_at key v) → ContainsKey nodes key
   used key i = rw (h.held key) i
 
-  pub seat : (key : ℕ) (node : Node) → get nodes key ≡ Some node → Found key node v
-  seat key node g = found key node v (sym (h.held key) ∙ g)
+  pub seat : (key : ℕ) (node : Node) → get nodes key ≡ Some node → StandsIn key node v
+  seat key node g = stands_in key node v (sym (h.held key) ∙ g)
 
   root_in : (l : ℕ) → l < n → l < length s
   root_in l b = let r : n ≤ length s = h.roots in omega arith
 
-  index_in_range : (l p : ℕ) → l < n → In p (l ∷ indexes n (list_at l v)) → p < length s
+  index_in_range : (l p : ℕ) → l < n → IsMember p (l ∷ indexes n (list_at l v)) → p < length s
   index_in_range l p b (inl e) = rw (sym e) (root_in l b)
   index_in_range l p b (inr i) =
       let k = key_at n p (list_at l v) i in
@@ -60,17 +61,17 @@ module _ (n : ℕ) (nodes : Slab Node) (s : List Neighbours) (v : KeyedLists) (h
     before_in =
         let x = held (get nodes key) c in
         let f = seat key x.node x.is in
-        let b : f.l < n = low f.l f.below in
-        rw (before_is n s v h.rings key f.l f.front x.node f.rest b f.is)
-        (index_in_range f.l (last f.l (indexes n f.front)) b (last_here n s v h.rings key f.l f.front x.node f.rest b f.is))
+        let b : f.l < n = low f.l f.in_range in
+        rw (before_is n s v h.rings key f.l f.front x.node f.rest b f.at)
+        (index_in_range f.l (last f.l (indexes n f.front)) b (last_here n s v h.rings key f.l f.front x.node f.rest b f.at))
 
     pub after_in : (neighbours_at s (n + key)).after < length s
     after_in =
         let x = held (get nodes key) c in
         let f = seat key x.node x.is in
-        let b : f.l < n = low f.l f.below in
-        rw (after_is n s v h.rings key f.l f.front x.node f.rest b f.is)
-        (index_in_range f.l (first n f.rest f.l) b (first_here n s v h.rings key f.l f.front x.node f.rest b f.is))
+        let b : f.l < n = low f.l f.in_range in
+        rw (after_is n s v h.rings key f.l f.front x.node f.rest b f.at)
+        (index_in_range f.l (first n f.rest f.l) b (first_here n s v h.rings key f.l f.front x.node f.rest b f.at))
 
   pub back_in : (l : ℕ) → l < n → (neighbours_at s l).before < length s
   back_in l b = rw (back_is n s v h.rings l b) (index_in_range l (last l (indexes n (list_at l v))) b (last_in l (indexes n (list_at l v))))
@@ -80,11 +81,11 @@ module _ (n : ℕ) (nodes : Slab Node) (s : List Neighbours) (v : KeyedLists) (h
       (index_in_range l (first n (list_at l v) l) b (first_in_ring n l (list_at l v)))
 
   -- what is read off an index's next index
-  key_first : (l : ℕ) (rows : List (ℕ × Node)) → l < n → key_of n (first n rows l) ≡ first_key rows
+  key_first : (l : ℕ) (rows : Rows) → l < n → key_of n (first n rows l) ≡ first_key rows
   key_first l [] b = root_low n l b
   key_first l (r ∷ rs) b = key_high n r.0
 
-  pub next_key : (key l : ℕ) (front : List (ℕ × Node)) (node : Node) (rest : List (ℕ × Node)) → l < length v
+  pub next_key : (key l : ℕ) (front : Rows) (node : Node) (rest : Rows) → l < length v
       → list_at l v ≡ front ++ (key, node) ∷ rest → key_of n (neighbours_at s (n + key)).after ≡ first_key rest
   next_key key l front node rest d e = let b : l < n = low l d in rw (after_is n s v h.rings key l front node rest b e) (key_first l rest b)
 
@@ -104,21 +105,21 @@ out : (n : ℕ) (nodes : Slab Node) (s u : List Neighbours) (v : KeyedLists) (ke
 out n nodes s u v key h c j =
     let x = held (get nodes key) c in
     let f = seat n nodes s v h key x.node x.is in
-    let b : f.l < n = low n nodes s v h f.l f.below in
+    let b : f.l < n = low n nodes s v h f.l f.in_range in
     let e : map (without_key key) v ≡ slice_set v f.l (f.front ++ f.rest) =
-    without_is n s v h.rings key f.l f.front x.node f.rest b f.is h.many in
+    without_is n s v h.rings key f.l f.front x.node f.rest b f.at h.many in
     let j2 : Joins (last f.l (indexes n f.front)) (first n f.rest f.l) s u =
     joins_as s u (neighbours_at s (n + key)).before (neighbours_at s (n + key)).after (last f.l (indexes n f.front)) (first n f.rest f.l)
-    (before_is n s v h.rings key f.l f.front x.node f.rest b f.is) (after_is n s v h.rings key f.l f.front x.node f.rest b f.is) j in
+    (before_is n s v h.rings key f.l f.front x.node f.rest b f.at) (after_is n s v h.rings key f.l f.front x.node f.rest b f.at) j in
     let c1 : row_count (slice_set v f.l (f.front ++ f.rest)) + length (list_at f.l v) ≡ row_count v + length (f.front ++ f.rest) =
-    row_count-set v f.l (f.front ++ f.rest) f.below in
+    row_count-set v f.l (f.front ++ f.rest) f.in_range in
     let c2 : length (list_at f.l v) ≡ length (f.front ++ f.rest) + 1 =
-    ap (λ (y : List (ℕ × Node)). length y) f.is ∙ length_split key x.node f.rest f.front in
+    ap (λ (y : Rows). length y) f.at ∙ length_split key x.node f.rest f.front in
     let P : KeyedLists → Type 0 = λ y. (length y ≡ n) × AreRings n u y × (row_count y + 1 ≡ row_count v) in
     let p = subst P (sym e) (
       length-set v f.l (f.front ++ f.rest)
           ∙ h.many,
-      detached n s v h.rings key f.l f.front x.node f.rest b f.is u h.many j2,
+      detached n s v h.rings key f.l f.front x.node f.rest b f.at u h.many j2,
       omega arith,
     ) in
     record { many = p.0; rings = p.1; total = p.2 }
@@ -154,7 +155,7 @@ absent n s v h many key e m b x =
     let i = split_at key (list_at m v) x in
     some_none i.node (sym (node_at-here n s v h key m i.front i.node i.rest b i.is many) ∙ e)
 
-row_pushed : (v : KeyedLists) (l : ℕ) (row : ℕ × Node) → l < length v → row_count (with_row l row v) ≡ row_count v + 1
+row_pushed : (v : KeyedLists) (l : ℕ) (row : Row) → l < length v → row_count (with_row l row v) ≡ row_count v + 1
 row_pushed v l row b =
     let c1 : row_count (slice_set v l (list_at l v ++ row ∷ [])) + length (list_at l v) ≡ row_count v + length (list_at l v ++ row ∷ []) =
     row_count-set v l (list_at l v ++ row ∷ []) b in
@@ -306,7 +307,7 @@ pub unused : (n : ℕ) (nodes : Slab Node) (s : List Neighbours) (v : KeyedLists
     → (ContainsKey nodes key → IsTrue false) → node_at key v ≡ None
 unused n nodes s v key h f = sym (h.held key) ∙ no_value (get nodes key) f
 
-rows_none : (n l : ℕ) (rows : List (ℕ × Node)) → l < n → first n rows l ≡ l → rows ≡ []
+rows_none : (n l : ℕ) (rows : Rows) → l < n → first n rows l ≡ l → rows ≡ []
 rows_none n l [] b e = refl
 rows_none n l (r ∷ rs) b e = let q : n + r.0 ≡ l = e in absurd (omega arith)
 
@@ -317,4 +318,4 @@ root_alone n nodes s v l x h d f =
     let b : l < n = low n nodes s v h l d in
     let r = read_root n nodes s v l s x h d refl f in
     let a : x.after ≡ first n (list_at l v) l = ap (λ (y : Neighbours). y.after) r.is ∙ first_is s n l l (list_at l v) (h.rings l b) in
-    ((λ e. rows_none n l (list_at l v) b (sym a ∙ e)), (λ e. a ∙ ap (λ (y : List (ℕ × Node)). first n y l) e))
+    ((λ e. rows_none n l (list_at l v) b (sym a ∙ e)), (λ e. a ∙ ap (λ (y : Rows). first n y l) e))

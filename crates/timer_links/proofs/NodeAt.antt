@@ -1,19 +1,18 @@
 -- Lemmas about `node_at`: which node is under a key, once one list has changed.
-use Rattle.std.proofs.Common.{◌≡◌, ◌≢◌, ◌<◌, ℕ, zero, suc, List, [], ◌∷◌, ◌++◌, length, refl, sym, ◌∙◌, inl, inr, arith}
-use Rattle.std.specs.Prelude.{map, Option, Some, None}
+use Rattle.std.proofs.Common.{◌≡◌, ◌≢◌, ◌<◌, ℕ, zero, suc, [], ◌∷◌, ◌++◌, length, refl, sym, ◌∙◌, inl, inr, arith, map, Option, Some, None}
 use Rattle.std.proofs.lemmas.Bool.{cases_eq, eq-eqb, ne_eqb}
+use Rattle.timer_base.specs.Basics.{some_none}
 use Rattle.timer_links.specs.declared.node.Node.{Node}
-use Rattle.timer_links.specs.Lists.{node_in, node_at, first_of, without_key, with_row, KeyedLists}
-use Rattle.timer_links.proofs.Rows.{some_none}
+use Rattle.timer_links.specs.Lists.{node_in, node_at, first_of, without_key, with_row, KeyedLists, Rows}
 
-in_without_this : (key : ℕ) (rows : List (ℕ × Node)) → node_in key (without_key key rows) ≡ None
+in_without_this : (key : ℕ) (rows : Rows) → node_in key (without_key key rows) ≡ None
 in_without_this key [] = refl
 in_without_this key (r ∷ rs) = elim (cases_eq r.0 key) [
   | inl e ↦ rw (eq-eqb r.0 key e) (in_without_this key rs)
   | inr n ↦ rw (ne_eqb r.0 key n, ne_eqb r.0 key n) (in_without_this key rs)
 ]
 
-in_without_other : (key k : ℕ) (rows : List (ℕ × Node)) → k ≢ key → node_in k (without_key key rows) ≡ node_in k rows
+in_without_other : (key k : ℕ) (rows : Rows) → k ≢ key → node_in k (without_key key rows) ≡ node_in k rows
 in_without_other key k [] n = refl
 in_without_other key k (r ∷ rs) n = elim (cases_eq r.0 key) [
   | inl e ↦ rw (eq-eqb r.0 key e, ne_eqb r.0 k (λ (q : r.0 ≡ k). n (sym q ∙ e))) (in_without_other key k rs n)
@@ -32,7 +31,7 @@ none_both : (a b : Option Node) → first_of a b ≡ None → (a ≡ None) × (b
 none_both None b h = (refl, h)
 none_both (Some x) b h = absurd (some_none x h)
 
-in_push_this : (key : ℕ) (node : Node) (rows : List (ℕ × Node)) → node_in key rows ≡ None
+in_push_this : (key : ℕ) (node : Node) (rows : Rows) → node_in key rows ≡ None
     → node_in key (rows ++ (key, node) ∷ []) ≡ Some node
 in_push_this key node [] h = rw (eq-eqb key key refl) refl
 in_push_this key node (r ∷ rs) h = elim (cases_eq r.0 key) [
@@ -40,7 +39,7 @@ in_push_this key node (r ∷ rs) h = elim (cases_eq r.0 key) [
   | inr n ↦ rw (ne_eqb r.0 key n) (in_push_this key node rs (rw (ne_eqb r.0 key n) at h))
 ]
 
-in_push_other : (key k : ℕ) (node : Node) (rows : List (ℕ × Node)) → k ≢ key → node_in k (rows ++ (key, node) ∷ []) ≡ node_in k rows
+in_push_other : (key k : ℕ) (node : Node) (rows : Rows) → k ≢ key → node_in k (rows ++ (key, node) ∷ []) ≡ node_in k rows
 in_push_other key k node [] n = rw (ne_eqb key k (λ (q : key ≡ k). n (sym q))) refl
 in_push_other key k node (r ∷ rs) n = rw (in_push_other key k node rs n) refl
 

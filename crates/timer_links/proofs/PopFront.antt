@@ -1,36 +1,29 @@
 -- Lemmas for `pop_front` and `move_front`: the first row of a list is removed, or moves.
-use Rattle.std.proofs.Common.{◌≡◌, ◌<◌, ◌+◌, ℕ, List, [], ◌∷◌, length, sym, ◌∙◌, ap, subst}
-use Rattle.std.specs.Prelude.{map, Option, Some, None, IfSome, IsSome, slice_set}
+use Rattle.std.proofs.Common.{◌≡◌, ◌<◌, ◌+◌, ℕ, List, [], ◌∷◌, length, sym, ◌∙◌, ap, subst, map, Option, Some, None, IfSome, IsSome, slice_set}
 use Rattle.slab.specs.Slab.{Slab, get, ContainsKey}
+use Rattle.timer_base.specs.Basics.{some_same, some_none}
 use Rattle.timer_links.specs.declared.node.Node.{Node}
 use Rattle.timer_links.specs.declared.ring.Neighbours.{Neighbours}
-use Rattle.timer_links.specs.Lists.{node_at, first_key, list_at, without_key, with_row, moved_back, front_moved, first_row_moved, KeyedLists}
+use Rattle.timer_links.specs.Lists.{node_at, first_key, list_at, without_key, with_row, moved_back, front_moved, first_row_moved, KeyedLists, Rows}
 use Rattle.timer_links.specs.Ring.{neighbours_at, Joins}
 use Rattle.timer_links.specs.Links.{IsLinked}
-use Rattle.timer_links.proofs.Rows.{same_node}
 use Rattle.timer_links.proofs.Rings.{node_at-here, without_is}
 use Rattle.timer_links.proofs.RingJoins.{joins_as, before_is}
 use Rattle.timer_links.proofs.LinksCalls.{low, some_is}
 
-same_key : (a b : ℕ) → Some a ≡ Some b → a ≡ b
-same_key a b h = cc
-
-no_key : (a : ℕ) → Some a ≡ None → ⊥
-no_key a h = cc
-
-record IsFront (key : ℕ) (rows : List (ℕ × Node)) : Type 0 where
+record IsFront (key : ℕ) (rows : Rows) : Type 0 where
   pub node : Node
-  pub rest : List (ℕ × Node)
+  pub rest : Rows
   pub is : rows ≡ (key, node) ∷ rest
 
-front_row : (key : ℕ) (rows : List (ℕ × Node)) → first_key rows ≡ Some key → IsFront key rows
-front_row key [] e = absurd (no_key key (sym e))
-front_row key (r ∷ rs) e = record { node = r.1; rest = rs; is = ap (λ (x : ℕ). (x, r.1) ∷ rs) (same_key r.0 key e) }
+front_row : (key : ℕ) (rows : Rows) → first_key rows ≡ Some key → IsFront key rows
+front_row key [] e = absurd (some_none key (sym e))
+front_row key (r ∷ rs) e = record { node = r.1; rest = rs; is = ap (λ (x : ℕ). (x, r.1) ∷ rs) (some_same r.0 key e) }
 
 -- the first row of a list, the lists without it, and its index's neighbour
 pub record Front (n : ℕ) (nodes : Slab Node) (s : List Neighbours) (v : KeyedLists) (l key : ℕ) : Type 0 where
   pub node : Node
-  pub rest : List (ℕ × Node)
+  pub rest : Rows
   pub is : list_at l v ≡ (key, node) ∷ rest
   pub held : get nodes key ≡ Some node
   pub used : ContainsKey nodes key
@@ -67,10 +60,10 @@ joins_front s t u p l x e f b j =
 
 pub node_popped : (n : ℕ) (nodes : Slab Node) (s : List Neighbours) (v : KeyedLists) (l key : ℕ) (node : Node)
     (f : Front n nodes s v l key) → get nodes key ≡ Some node → list_at l v ≡ (key, node) ∷ f.rest
-node_popped n nodes s v l key node f g = f.is ∙ ap (λ (x : Node). (key, x) ∷ f.rest) (same_node f.node node (sym f.held ∙ g))
+node_popped n nodes s v l key node f g = f.is ∙ ap (λ (x : Node). (key, x) ∷ f.rest) (some_same f.node node (sym f.held ∙ g))
 
 pub moves_front : (n : ℕ) (nodes : Slab Node) (s : List Neighbours) (v : KeyedLists) (from to key : ℕ)
     (f : Front n nodes s v from key) → moved_back key to f.node v ≡ front_moved from to v
 moves_front n nodes s v from to key f =
     ap (λ (x : KeyedLists). with_row to (key, f.node) x) f.without
-    ∙ sym (ap (λ (x : List (ℕ × Node)). first_row_moved from to v x) f.is)
+    ∙ sym (ap (λ (x : Rows). first_row_moved from to v x) f.is)

@@ -1,13 +1,13 @@
 -- The rings after `join` and `join_last`: an index is removed from a ring, added at its back, or a ring is appended.
-use Rattle.std.proofs.Common.{◌≡◌, ◌≢◌, ◌<◌, ◌+◌, ℕ, List, [], ◌∷◌, ◌++◌, length, refl, sym, ◌∙◌, ap, subst, inl, inr, arith, length-set, get_or-set_same, get_or-set_other}
-use Rattle.std.specs.Prelude.{slice_set}
+use Rattle.std.proofs.Common.{◌≡◌, ◌≢◌, ◌<◌, ◌+◌, ℕ, List, [], ◌∷◌, ◌++◌, length, refl, sym, ◌∙◌, ap, subst, inl, inr, arith, length-set, get_or-set_same, get_or-set_other, slice_set}
 use Rattle.std.proofs.lemmas.Bool.{cases_eq}
+use Rattle.timer_base.specs.OneOrder.{IsMember}
 use Rattle.timer_links.specs.declared.node.Node.{Node}
 use Rattle.timer_links.specs.declared.ring.Neighbours.{Neighbours}
-use Rattle.timer_links.specs.Lists.{list_at, with_row, appended, KeyedLists}
+use Rattle.timer_links.specs.Lists.{list_at, with_row, appended, KeyedLists, Row, Rows}
 use Rattle.timer_links.specs.Ring.{neighbours_at, AreJoined, IsChain, Joins, JoinsLast}
 use Rattle.timer_links.specs.Links.{indexes, AreRings}
-use Rattle.timer_links.proofs.Chains.{In, IsApart, last, last_in, last_not_start, last_push, last_on, starts_in, starts_ring, in_either, in_ring, apart_push, apart_both, glue, Halves, halves, kept, ring_kept, extended}
+use Rattle.timer_links.proofs.Chains.{IsApart, last, last_in, last_not_start, last_push, last_on, starts_in, starts_ring, in_either, in_ring, apart_push, apart_both, glue, Halves, halves, kept, ring_kept, extended}
 use Rattle.timer_links.proofs.Rows.{Has, IsDistinct, has_left, has_right, has_in, distinct_parts}
 use Rattle.timer_links.proofs.Rings.{has_index, index_in, root_not, key_at, indexes_apart, indexes_both, ring_both, chain_as, distinct, elsewhere, ring_apart, ring_here, distinct_here, rings_set}
 
@@ -21,19 +21,19 @@ met : (s u : List Neighbours) (f b : ℕ) → Joins f b s u → AreJoined u f b
 met s u f b j = record { forth = j.forth; back_to = j.back_to }
 
 -- the index of the first row, or the root
-abbrev pub first : ℕ → List (ℕ × Node) → ℕ → ℕ
+abbrev pub first : ℕ → Rows → ℕ → ℕ
 first n [] l = l
 first n (row ∷ rest) l = n + row.0
 
-pub first_is : (s : List Neighbours) (n l p : ℕ) (rows : List (ℕ × Node)) → IsChain s p (indexes n rows ++ l ∷ [])
+pub first_is : (s : List Neighbours) (n l p : ℕ) (rows : Rows) → IsChain s p (indexes n rows ++ l ∷ [])
     → (neighbours_at s p).after ≡ first n rows l
 first_is s n l p [] c = c.0.forth
 first_is s n l p (r ∷ rs) c = c.0.forth
 
 -- an index is cut out from between its neighbours
-detached_at : (n l key : ℕ) (s u : List Neighbours) (front rest : List (ℕ × Node)) → l < n
+detached_at : (n l key : ℕ) (s u : List Neighbours) (front rest : Rows) → l < n
     → Halves s l (indexes n front) (n + key) (indexes n rest ++ l ∷ []) → IsApart (l ∷ indexes n front) → IsDistinct rest
-    → ((x : ℕ) → In x (l ∷ indexes n front) → In x (indexes n rest) → ⊥) → Joins (last l (indexes n front)) (first n rest l) s u
+    → ((x : ℕ) → IsMember x (l ∷ indexes n front) → IsMember x (indexes n rest) → ⊥) → Joins (last l (indexes n front)) (first n rest l) s u
     → IsChain u l (indexes n front ++ (indexes n rest ++ l ∷ []))
 detached_at n l key s u front [] b h a d o j =
     glue u l (indexes n front) l [] (kept s u (last l (indexes n front)) l l (indexes n front) j
@@ -53,8 +53,8 @@ detached_at n l key s u front (y ∷ ys) b h a d o j =
     ])
     h.back.1)
 
-module _ (n : ℕ) (s : List Neighbours) (v : KeyedLists) (h : AreRings n s v) (key l : ℕ) (front : List (ℕ × Node)) (node : Node)
-    (rest : List (ℕ × Node)) (b : l < n) (e : list_at l v ≡ front ++ (key, node) ∷ rest) where
+module _ (n : ℕ) (s : List Neighbours) (v : KeyedLists) (h : AreRings n s v) (key l : ℕ) (front : Rows) (node : Node)
+    (rest : Rows) (b : l < n) (e : list_at l v ≡ front ++ (key, node) ∷ rest) where
   here : Halves s l (indexes n front) (n + key) (indexes n rest ++ l ∷ [])
   here = halves s l (indexes n front) (n + key) (indexes n rest ++ l ∷ []) (ring_here n s v h key l front node rest b e)
 
@@ -65,29 +65,29 @@ module _ (n : ℕ) (s : List Neighbours) (v : KeyedLists) (h : AreRings n s v) (
   after_is = first_is s n l (n + key) rest here.back
 
   -- both stand in the ring
-  pub last_here : In (last l (indexes n front)) (l ∷ indexes n (list_at l v))
+  pub last_here : IsMember (last l (indexes n front)) (l ∷ indexes n (list_at l v))
   last_here = elim (last_in l (indexes n front)) [
     | inl q ↦ inl q
     | inr i ↦
         let k = key_at n (last l (indexes n front)) front i in
-        let P : ℕ → Type 0 = λ x. In x (indexes n (list_at l v)) in
+        let P : ℕ → Type 0 = λ x. IsMember x (indexes n (list_at l v)) in
         inr (subst P k.is (index_in n k.key (list_at l v) (has_in k.key (front ++ (key, node) ∷ rest) (list_at l v) (sym e)
         (has_left k.key front ((key, node) ∷ rest) k.has))))
   ]
 
-  first_in : (rows : List (ℕ × Node)) → ((k : ℕ) → Has k rows → Has k (list_at l v)) → In (first n rows l) (l ∷ indexes n (list_at l v))
+  first_in : (rows : Rows) → ((k : ℕ) → Has k rows → Has k (list_at l v)) → IsMember (first n rows l) (l ∷ indexes n (list_at l v))
   first_in [] q = inl refl
   first_in (r ∷ rs) q = inr (index_in n r.0 (list_at l v) (q r.0 (inl refl)))
 
-  pub first_here : In (first n rest l) (l ∷ indexes n (list_at l v))
+  pub first_here : IsMember (first n rest l) (l ∷ indexes n (list_at l v))
   first_here = first_in rest (λ k x. has_in k (front ++ (key, node) ∷ rest) (list_at l v) (sym e)
       (has_right k front ((key, node) ∷ rest) (inr x)))
 
-  apart_here : (x : ℕ) → In x (l ∷ indexes n front) → In x (indexes n rest) → ⊥
-  apart_here x (inl q) j = let P : ℕ → Type 0 = λ y. In y (indexes n rest) in root_not n l rest b (subst P (sym q) j)
+  apart_here : (x : ℕ) → IsMember x (l ∷ indexes n front) → IsMember x (indexes n rest) → ⊥
+  apart_here x (inl q) j = let P : ℕ → Type 0 = λ y. IsMember y (indexes n rest) in root_not n l rest b (subst P (sym q) j)
   apart_here x (inr i) j =
       let k = key_at n x front i in
-      let P : ℕ → Type 0 = λ y. In y (indexes n rest) in
+      let P : ℕ → Type 0 = λ y. IsMember y (indexes n rest) in
       (distinct_parts front ((key, node) ∷ rest) (distinct_here n s v h key l front node rest b e)).between k.key k.has
       (inr (has_index n k.key rest (subst P (sym k.is) j)))
 
@@ -110,7 +110,7 @@ back_is n s v h l b = (halves s l (indexes n (list_at l v)) l [] (h l b)).seam.b
 -- an index that is in no ring is put at the back of one
 module _ (n : ℕ) (s : List Neighbours) (v : KeyedLists) (h : AreRings n s v) (key l : ℕ) (node : Node) (b : l < n) (loose : (m : ℕ)
     → m < n → Has key (list_at m v) → ⊥) where
-  off : (m : ℕ) → m < n → In (n + key) (m ∷ indexes n (list_at m v)) → ⊥
+  off : (m : ℕ) → m < n → IsMember (n + key) (m ∷ indexes n (list_at m v)) → ⊥
   off m c (inl q) = let z : m ≡ n + key = q in absurd (omega arith)
   off m c (inr i) = loose m c (has_index n key (list_at m v) i)
 
@@ -145,11 +145,10 @@ module _ (n : ℕ) (s : List Neighbours) (v : KeyedLists) (h : AreRings n s v) (
       (h m c)))
 
 -- all rows of one list move to the back of another
-module _ (n : ℕ) (s : List Neighbours) (v : KeyedLists) (h : AreRings n s v) (from to : ℕ) (y : ℕ
-    × Node) (ys : List (ℕ × Node)) (bf : from < n) (bt : to < n) (o : to ≢ from) (e : list_at from v ≡ y ∷ ys) where
+module _ (n : ℕ) (s : List Neighbours) (v : KeyedLists) (h : AreRings n s v) (from to : ℕ) (y : Row) (ys : Rows) (bf : from < n) (bt : to < n) (o : to ≢ from) (e : list_at from v ≡ y ∷ ys) where
   source : IsChain s from ((n + y.0) ∷ (indexes n ys ++ from ∷ []))
   source = chain_as s from (indexes n (list_at from v) ++ from ∷ []) ((n + y.0) ∷ (indexes n ys ++ from ∷ []))
-      (ap (λ (x : List (ℕ × Node)). indexes n x ++ from ∷ []) e) (h from bf)
+      (ap (λ (x : Rows). indexes n x ++ from ∷ []) e) (h from bf)
 
   source_parts : Halves s (n + y.0) (indexes n ys) from []
   source_parts = halves s (n + y.0) (indexes n ys) from [] source.1
@@ -161,15 +160,15 @@ module _ (n : ℕ) (s : List Neighbours) (v : KeyedLists) (h : AreRings n s v) (
       × ((neighbours_at s to).before ≡ last to (indexes n (list_at to v)))
   ends_are = (source.0.forth, source_parts.seam.back_to, target.seam.back_to)
 
-  moved_in : (x : ℕ) → In x ((n + y.0) ∷ indexes n ys) → In x (indexes n (list_at from v))
-  moved_in x i = let P : List (ℕ × Node) → Type 0 = λ z. In x (indexes n z) in subst P (sym e) i
+  moved_in : (x : ℕ) → IsMember x ((n + y.0) ∷ indexes n ys) → IsMember x (indexes n (list_at from v))
+  moved_in x i = let P : Rows → Type 0 = λ z. IsMember x (indexes n z) in subst P (sym e) i
 
   -- of the indexes that move none stands in another ring
-  alone : (m x : ℕ) → m < n → m ≢ from → In x (m ∷ indexes n (list_at m v)) → In x ((n + y.0) ∷ indexes n ys) → ⊥
+  alone : (m x : ℕ) → m < n → m ≢ from → IsMember x (m ∷ indexes n (list_at m v)) → IsMember x ((n + y.0) ∷ indexes n ys) → ⊥
   alone m x c q i k = elsewhere n s v h from m x bf c q (inr (moved_in x k)) i
 
   source_distinct : IsDistinct (y ∷ ys)
-  source_distinct = let P : List (ℕ × Node) → Type 0 = λ x. IsDistinct x in subst P e (distinct n s v h from bf)
+  source_distinct = let P : Rows → Type 0 = λ x. IsDistinct x in subst P e (distinct n s v h from bf)
 
   pub rings_appended : (t a u : List Neighbours) → length v ≡ n → Joins (last to (indexes n (list_at to v))) (n + y.0) s t
       → Joins (last (n + y.0) (indexes n ys)) to t a → Joins from from a u → AreRings n u (appended from to v)
@@ -185,7 +184,7 @@ module _ (n : ℕ) (s : List Neighbours) (v : KeyedLists) (h : AreRings n s v) (
       (λ x. source_distinct.0 (has_index n y.0 ys x)) source_parts.front in
       let c3 : IsChain t to (indexes n (list_at to v) ++ (n + y.0) ∷ indexes n ys) =
       glue t to (indexes n (list_at to v)) (n + y.0) (indexes n ys) c1 (met s t (last to (indexes n (list_at to v))) (n + y.0) i) c2 in
-      let not_to : In to (indexes n (list_at to v) ++ (n + y.0) ∷ indexes n ys)
+      let not_to : IsMember to (indexes n (list_at to v) ++ (n + y.0) ∷ indexes n ys)
       → ⊥ = λ x. elim (in_either to (indexes n (list_at to v)) ((n + y.0) ∷ indexes n ys) x) [
         | inl z ↦ root_not n to (list_at to v) bt z
         | inr z ↦ alone to to bt o (inl refl) z
@@ -200,7 +199,7 @@ module _ (n : ℕ) (s : List Neighbours) (v : KeyedLists) (h : AreRings n s v) (
       ) in
       let c4 : IsChain a to ((indexes n (list_at to v) ++ (n + y.0) ∷ indexes n ys) ++ to ∷ []) =
       extended t a to to (indexes n (list_at to v) ++ (n + y.0) ∷ indexes n ys) j2 a3 not_to c3 in
-      let not_from : In from (to ∷ (indexes n (list_at to v) ++ (n + y.0) ∷ indexes n ys)) → ⊥ = λ x. elim x [
+      let not_from : IsMember from (to ∷ (indexes n (list_at to v) ++ (n + y.0) ∷ indexes n ys)) → ⊥ = λ x. elim x [
         | inl q ↦ o q
         | inr z ↦ elim (in_either from (indexes n (list_at to v)) ((n + y.0) ∷ indexes n ys) z) [
           | inl w ↦ root_not n from (list_at to v) bf w
@@ -210,7 +209,7 @@ module _ (n : ℕ) (s : List Neighbours) (v : KeyedLists) (h : AreRings n s v) (
       let c5 : IsChain u to ((indexes n (list_at to v) ++ (n + y.0) ∷ indexes n ys) ++ to ∷ []) =
       ring_kept a u from from to (indexes n (list_at to v) ++ (n + y.0) ∷ indexes n ys) k not_from not_from c4 in
       let same : indexes n (list_at to v ++ list_at from v) ≡ indexes n (list_at to v) ++ (n + y.0) ∷ indexes n ys =
-      indexes_both n (list_at to v) (list_at from v) ∙ ap (λ (x : List (ℕ × Node)). indexes n (list_at to v) ++ indexes n x) e in
+      indexes_both n (list_at to v) (list_at from v) ∙ ap (λ (x : Rows). indexes n (list_at to v) ++ indexes n x) e in
       let emptied : length (slice_set v from []) ≡ n = length-set v from [] ∙ many in
       let gone : (m : ℕ) → m ≢ from → list_at m (slice_set v from []) ≡ list_at m v = λ m q. get_or-set_other v from m [] [] q in
       rings_set n u (slice_set v from []) to (list_at to v ++ list_at from v) emptied

@@ -1,15 +1,14 @@
 -- Lemmas about the room that was made: for nodes, and for the index of each key that they can get.
-use Rattle.std.proofs.Common.{◌≡◌, ◌<◌, ◌≤◌, ◌+◌, ℕ, zero, suc, List, [], ◌∷◌, length, inl, inr, arith}
-use Rattle.std.specs.Prelude.{Option, Some, None, is_some, count_by, slice_index_or}
+use Rattle.std.proofs.Common.{◌≡◌, ◌<◌, ◌≤◌, ◌+◌, ℕ, zero, suc, List, [], ◌∷◌, length, inl, inr, arith, Option, Some, None, is_some, count_by, slice_index_or}
 use Rattle.std.proofs.Common.{cond}
 use Rattle.std.proofs.lemmas.Bool.{cases_lt}
 use Rattle.std.proofs.lemmas.List.Sums.{count_by-le-length, sum_by-cons}
 use Rattle.slab.specs.Slab.{Slab, get, HasRoomFor}
+use Rattle.timer_base.specs.Basics.{some_none}
 use Rattle.timer_links.specs.declared.node.Node.{Node}
 use Rattle.timer_links.specs.declared.ring.Neighbours.{Neighbours}
 use Rattle.timer_links.specs.declared.ring.TheConstants.{INDEXES}
 use Rattle.timer_links.specs.Links.{HasRoom, HasIndex, IsReady}
-use Rattle.timer_links.proofs.Rows.{some_none}
 
 -- room that was made stays: the nodes' memory is as large, and so is that of the indexes
 pub room_stays : (room n more reserved : ℕ) (old new : Slab Node) → HasRoom room n old reserved → new.capacity ≡ old.capacity

@@ -1,6 +1,5 @@
 -- The nodes and links represent one value alone: whatever lists satisfy `IsLinked` are `lists_of`.
-use Rattle.std.proofs.Common.{◌≡◌, ◌<◌, ◌≤◌, ◌+◌, ℕ, zero, suc, true, false, List, [], ◌∷◌, ◌++◌, length, refl, sym, ◌∙◌, ap, subst, arith, Vec}
-use Rattle.std.specs.Prelude.{Some, None, nat_lt, ◌-◌}
+use Rattle.std.proofs.Common.{◌≡◌, ◌<◌, ◌≤◌, ◌+◌, ℕ, zero, suc, true, false, List, [], ◌∷◌, ◌++◌, length, refl, sym, ◌∙◌, ap, subst, arith, Vec, Some, None, nat_lt, ◌-◌}
 use Rattle.std.proofs.lemmas.Bool.Decides.{nat_tests}
 use Rattle.std.proofs.lemmas.List.{ext_get_or, append_assoc, with_items_is}
 use Rattle.std.specs.Vec.{with_items, vec_len, vec_capacity}
@@ -9,7 +8,7 @@ use Rattle.slab.specs.Slab.{Slab, get, slab_len}
 use Rattle.timer_links.specs.declared.node.Node.{Node}
 use Rattle.timer_links.specs.declared.ring.Neighbours.{Neighbours}
 use Rattle.timer_links.specs.declared.links.Links.TheInside.{Inside}
-use Rattle.timer_links.specs.Lists.{LinksState, list_at, row_count, KeyedLists}
+use Rattle.timer_links.specs.Lists.{LinksState, list_at, row_count, KeyedLists, Rows}
 use Rattle.timer_links.specs.Ring.{neighbours_at, key_of, IsChain}
 use Rattle.timer_links.specs.Links.{indexes, walk, lists_of, IsLinked, HasRoom, IsReady}
 use Rattle.timer_links.proofs.Rows.{length_list_at}
@@ -25,22 +24,22 @@ key_high n k =
     rw (h, e) refl
 
 -- each row's node stands under its key
-abbrev pub AreHeld : Slab Node → List (ℕ × Node) → Type 0
+abbrev pub AreHeld : Slab Node → Rows → Type 0
 AreHeld nodes [] = Unit {0}
 AreHeld nodes (row ∷ rest) = (get nodes row.0 ≡ Some row.1) × AreHeld nodes rest
 
 -- the walk goes along the chain
-walk_is : (m n : ℕ) (nodes : Slab Node) (s : List Neighbours) (l p : ℕ) (rows : List (ℕ × Node)) → l < n → length rows ≤ m → AreHeld
+walk_is : (m n : ℕ) (nodes : Slab Node) (s : List Neighbours) (l p : ℕ) (rows : Rows) → l < n → length rows ≤ m → AreHeld
     nodes rows
     → IsChain s p (indexes n rows ++ l ∷ []) → walk m n nodes s (neighbours_at s p).after ≡ rows
 walk_is zero n nodes s l p [] b f a c = refl
 walk_is zero n nodes s l p (r ∷ rs) b f a c = absurd (omega arith)
 walk_is (suc m) n nodes s l p [] b f a c = rw (c.0.forth, root_low n l b) refl
 walk_is (suc m) n nodes s l p (r ∷ rs) b f a c = rw (c.0.forth, key_high n r.0, a.0)
-    (ap (λ (x : List (ℕ × Node)). r ∷ x) (walk_is m n nodes s l (n + r.0) rs b (omega arith) a.1 c.1))
+    (ap (λ (x : Rows). r ∷ x) (walk_is m n nodes s l (n + r.0) rs b (omega arith) a.1 c.1))
 
 module _ (n : ℕ) (nodes : Slab Node) (s : List Neighbours) (v : KeyedLists) (h : IsLinked n nodes s v) where
-  held_from : (l : ℕ) (rows front : List (ℕ × Node)) → l < n → list_at l v ≡ front ++ rows → AreHeld nodes rows
+  held_from : (l : ℕ) (rows front : Rows) → l < n → list_at l v ≡ front ++ rows → AreHeld nodes rows
   held_from l [] front b e = tt
   held_from l (r ∷ rs) front b e = (
     h.held r.0 ∙ node_at-here n s v h.rings r.0 l front r.1 rs b e h.many,
@@ -49,7 +48,7 @@ module _ (n : ℕ) (nodes : Slab Node) (s : List Neighbours) (v : KeyedLists) (h
 
   pub lists_are : lists_of n nodes s ≡ v
   lists_are =
-      let f : ℕ → List (ℕ × Node) = λ root. walk (slab_len nodes) n nodes s (neighbours_at s root).after in
+      let f : ℕ → Rows = λ root. walk (slab_len nodes) n nodes s (neighbours_at s root).after in
       let many : length v ≡ n = h.many in
       let same : length (lists_of n nodes s) ≡ n = length-map-range_with_len f 0 n in
       let total : slab_len nodes ≡ row_count v = h.total in

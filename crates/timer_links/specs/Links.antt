@@ -5,20 +5,20 @@ use Rattle.slab.specs.Slab.{Slab, get, slab_len, ContainsKey}
 use Rattle.timer_links.specs.declared.node.Node.{Node}
 use Rattle.timer_links.specs.declared.ring.Neighbours.{Neighbours}
 use Rattle.timer_links.specs.declared.ring.TheConstants.{INDEXES}
-use Rattle.timer_links.specs.Lists.{list_at, node_at, row_count, KeyedLists}
+use Rattle.timer_links.specs.Lists.{list_at, node_at, row_count, KeyedLists, Rows}
 use Rattle.timer_links.specs.Ring.{neighbours_at, key_of, IsChain}
 
 -- the row of a key and its node, before these rows
-abbrev pub row_of : ℕ → Option Node → List (ℕ × Node) → List (ℕ × Node)
+abbrev pub row_of : ℕ → Option Node → Rows → Rows
 row_of key None rest = []
 row_of key (Some node) rest = (key, node) ∷ rest
 
-abbrev pub rows_of : Slab Node → Option ℕ → List (ℕ × Node) → List (ℕ × Node)
+abbrev pub rows_of : Slab Node → Option ℕ → Rows → Rows
 rows_of nodes None rest = []
 rows_of nodes (Some key) rest = row_of key (get nodes key) rest
 
 -- the rows from an index on to the root, at most that many
-abbrev pub walk : ℕ → ℕ → Slab Node → List Neighbours → ℕ → List (ℕ × Node)
+abbrev pub walk : ℕ → ℕ → Slab Node → List Neighbours → ℕ → Rows
 walk zero lists nodes neighbours index = []
 walk (suc n) lists nodes neighbours index = rows_of nodes (key_of lists index)
     (walk n lists nodes neighbours (neighbours_at neighbours index).after)
@@ -30,7 +30,7 @@ lists_of lists nodes neighbours =
     (range_with_len 0 lists)
 
 -- the indexes of these rows
-abbrev pub indexes : ℕ → List (ℕ × Node) → List ℕ
+abbrev pub indexes : ℕ → Rows → List ℕ
 indexes lists [] = []
 indexes lists (row ∷ rest) = (lists + row.0) ∷ indexes lists rest
 

@@ -303,16 +303,6 @@ impl Links {
         }
     }
 
-    /// The list in which the node under a key that is in use stands alone, or None if another stands
-    /// beside it. Does not allocate.
-    #[inline]
-    pub fn alone_in(&self, key: usize) -> Option<usize>
-        requires { IsSome (node_at key self.now.lists) }
-        ensures { IsAloneIn key self.now.lists result }
-    {
-        only_neighbour(self.neighbours[self.lists + key])
-    }
-
     /// Removes the first node of a list, with its key, or returns None if the list is empty.
     /// Does not allocate.
     pub fn pop_front(&mut self, list: usize) -> Option<(usize, Node)>

@@ -1,15 +1,15 @@
 -- Lemmas for `Buckets`: the lists after each call but a tick, and so the state of the wheel.
-use Rattle.std.proofs.Common.{◌≡◌, ◌≢◌, ◌<◌, ◌≤◌, ◌+◌, ℕ, zero, suc, ◌==◌, List, [], ◌∷◌, ◌++◌, length, refl, sym, ◌∙◌, ap, subst, inl, inr, arith, append_assoc, length-append, get_or-set_same, get_or-set_other}
-use Rattle.std.specs.Prelude.{Bool, map, filter, not, replicate, Option, Some, None}
+use Rattle.std.proofs.Common.{◌≡◌, ◌≢◌, ◌<◌, ◌≤◌, ◌+◌, ℕ, zero, suc, ◌==◌, List, [], ◌∷◌, ◌++◌, length, refl, sym, ◌∙◌, ap, subst, inl, inr, arith, append_assoc, length-append, get_or-set_same, get_or-set_other, Bool, map, filter, not, replicate, Option, Some, None}
 use Rattle.std.specs.List.{AllByRecursion}
 use Rattle.std.proofs.lemmas.Bool.{cases_eq, eqb-true}
+use Rattle.timer_base.specs.Basics.{either}
 use Rattle.timer_base.specs.declared.timer.Timer.{Timer}
 use Rattle.timer_base.specs.Order.{in_order, AreBelow, AreDistinct, AreRising, IsNotAmong}
-use Rattle.timer_base.specs.OrderLaws.{either, in_order-newest, filter-in_order, length-in_order, All-filter, All-weaken, AreRising-append, AreRising-weaken}
+use Rattle.timer_base.specs.OrderLaws.{in_order-newest, filter-in_order, length-in_order, All-filter, All-weaken, AreRising-append, AreRising-weaken}
 use Rattle.timer_base.specs.Pending.{Entry, timer_of, timers_of, is_due_at, entries_due, put}
 use Rattle.timer_base.specs.WheelState.{IsPending, IsDue, after_start}
 use Rattle.timer_links.specs.declared.node.Node.{Node}
-use Rattle.timer_links.specs.Lists.{list_at, node_in, node_at, first_of, with_row, without_key, row_count, AreApart, KeyedLists}
+use Rattle.timer_links.specs.Lists.{list_at, node_in, node_at, first_of, with_row, without_key, row_count, AreApart, KeyedLists, Row, Rows}
 use Rattle.timer_wheels.specs.BucketLaws.{timers_of-entries}
 use Rattle.timer_wheels.specs.Buckets.{IsListOf}
 use Rattle.timer_wheels.specs.BucketLists.{timer_in, timers_in, entry_of, entries_of, rows_below, pending_in, wheel_state, ArePending, AreDue, AreInOrder, EachRow}
@@ -17,7 +17,7 @@ use Rattle.timer_wheels.proofs.RowLemmas.{all-append, all-front, all-rest, all-r
 
 -- A row is inserted.
 
-module _ (row : ℕ × Node) (old new : List (ℕ × Node)) (i : IsInserted row old new) where
+module _ (row : Row) (old new : Rows) (i : IsInserted row old new) where
   entries_old : entries_of old ≡ entries_of i.front ++ entries_of i.rest
   entries_old = ap entries_of i.old_is ∙ entries-append i.front i.rest
 
@@ -38,7 +38,7 @@ module _ (row : ℕ × Node) (old new : List (ℕ × Node)) (i : IsInserted row 
       ap (in_order timer_of) entries_new ∙ (in_order-newest timer_of (entry_of row) (entries_of i.front) (entries_of i.rest) below
       ∙ ap (λ (y : List Entry). put (entry_of row) (in_order timer_of y)) (sym entries_old))
 
-  pub all-inserted : (P : ℕ × Node → Type 0) → P row → AllByRecursion P old → AllByRecursion P new
+  pub all-inserted : (P : Row → Type 0) → P row → AllByRecursion P old → AllByRecursion P new
   all-inserted P p a =
       let b : AllByRecursion P (i.front ++ i.rest) = subst (AllByRecursion P) i.old_is a in
       subst (AllByRecursion P) (sym i.new_is) (all-append P i.front (row ∷ i.rest) (all-front P i.front i.rest b) (
@@ -53,11 +53,11 @@ module _ (row : ℕ × Node) (old new : List (ℕ × Node)) (i : IsInserted row 
 -- A part of the rows.
 
 -- the pending timers that satisfy a test are those of the rows that satisfy it
-pub filter-pending_in : (p : Entry → Bool) (rows : List (ℕ × Node))
+pub filter-pending_in : (p : Entry → Bool) (rows : Rows)
     → filter p (pending_in rows) ≡ pending_in (filter (λ r. p (entry_of r)) rows)
 filter-pending_in p rows = filter-in_order timer_of p (entries_of rows) ∙ ap (in_order timer_of) (filter-entries p rows)
 
-IsNotAmong-part : (serial : ℕ) (p : ℕ × Node → Bool) (rows : List (ℕ × Node)) → IsNotAmong serial (timers_in rows)
+IsNotAmong-part : (serial : ℕ) (p : Row → Bool) (rows : Rows) → IsNotAmong serial (timers_in rows)
     → IsNotAmong serial (timers_in (filter p rows))
 IsNotAmong-part serial p [] n = tt
 IsNotAmong-part serial p (x ∷ xs) n = elim (either (p x)) [
@@ -65,7 +65,7 @@ IsNotAmong-part serial p (x ∷ xs) n = elim (either (p x)) [
   | inr k ↦ rw k (IsNotAmong-part serial p xs n.1)
 ]
 
-pub AreDistinct-part : (p : ℕ × Node → Bool) (rows : List (ℕ × Node)) → AreDistinct (timers_in rows)
+pub AreDistinct-part : (p : Row → Bool) (rows : Rows) → AreDistinct (timers_in rows)
     → AreDistinct (timers_in (filter p rows))
 AreDistinct-part p [] d = tt
 AreDistinct-part p (x ∷ xs) d = elim (either (p x)) [
@@ -73,7 +73,7 @@ AreDistinct-part p (x ∷ xs) d = elim (either (p x)) [
   | inr k ↦ rw k (AreDistinct-part p xs d.1)
 ]
 
-pub AreRising-part : (p : ℕ × Node → Bool) (low : ℕ) (rows : List (ℕ × Node)) → AreRising low (timers_in rows)
+pub AreRising-part : (p : Row → Bool) (low : ℕ) (rows : Rows) → AreRising low (timers_in rows)
     → AreRising low (timers_in (filter p rows))
 AreRising-part p low [] r = tt
 AreRising-part p low (x ∷ xs) r = elim (either (p x)) [
@@ -87,7 +87,7 @@ AreRising-part p low (x ∷ xs) r = elim (either (p x)) [
 newer : (last_tick now last high : ℕ) (t : Timer) → last < high → IsPending last_tick now last t → t.serial < high
 newer last_tick now last high t h p = let q : t.serial ≤ last = p.serial in omega arith
 
-pub AreBelow-pending : (last_tick now last high : ℕ) (rows : List (ℕ × Node)) → last < high → ArePending last_tick now last rows
+pub AreBelow-pending : (last_tick now last high : ℕ) (rows : Rows) → last < high → ArePending last_tick now last rows
     → AreBelow high (timers_in rows)
 AreBelow-pending last_tick now last high rows h a = AreBelow-timers high rows
     (All-weaken (λ row. IsPending last_tick now last (timer_in row)) (λ row. (timer_in row).serial < high) rows
@@ -129,7 +129,7 @@ module _ (n last_tick now last bucket place : ℕ) (node : Node) (lists : KeyedL
       (IsNotAmong-below node.timer.serial (timers_in (rows_below n lists)) older) d
 
 -- A newest row is pushed to the back of one list: each list stays in order.
-pub in_order-with_row : (m l : ℕ) (row : ℕ × Node) (lists : KeyedLists) → l < length lists → 0 < (timer_in row).serial
+pub in_order-with_row : (m l : ℕ) (row : Row) (lists : KeyedLists) → l < length lists → 0 < (timer_in row).serial
     → AreBelow (timer_in row).serial (timers_in (list_at l lists)) → AreInOrder m lists → AreInOrder m (with_row l row lists)
 in_order-with_row m l row lists b z older o s h = elim (cases_eq s l) [
   | inl e ↦ rw (e, get_or-set_same lists l (list_at l lists ++ row ∷ []) [] b, timers-append (list_at l lists) (row ∷ []))
@@ -139,7 +139,7 @@ in_order-with_row m l row lists b z older o s h = elim (cases_eq s l) [
 
 -- A wheel's own invariant, for each row.
 
-pub each-with_row : (fact : ℕ → ℕ × Node → Type 0) (n l : ℕ) (row : ℕ × Node) (lists : KeyedLists) → l < length lists
+pub each-with_row : (fact : ℕ → Row → Type 0) (n l : ℕ) (row : Row) (lists : KeyedLists) → l < length lists
     → fact l row → EachRow fact n lists → EachRow fact n (with_row l row lists)
 each-with_row fact n l row lists b f a s h = elim (cases_eq s l) [
   | inl e ↦ rw (e, get_or-set_same lists l (list_at l lists ++ row ∷ []) [] b)
@@ -147,21 +147,21 @@ each-with_row fact n l row lists b f a s h = elim (cases_eq s l) [
   | inr x ↦ rw (get_or-set_other lists l s (list_at l lists ++ row ∷ []) [] x) (a s h)
 ]
 
-pub each-without_key : (fact : ℕ → ℕ × Node → Type 0) (n key : ℕ) (lists : KeyedLists) → EachRow fact n lists
+pub each-without_key : (fact : ℕ → Row → Type 0) (n key : ℕ) (lists : KeyedLists) → EachRow fact n lists
     → EachRow fact n (map (without_key key) lists)
 each-without_key fact n key lists a s h = rw (list_at-without_key s key lists)
     (All-filter (fact s) (fact s) (λ r. not (r.0 == key)) (list_at s lists) (λ r e f. f) (a s h))
 
-pub each-same : (fact : ℕ → ℕ × Node → Type 0) (n : ℕ) (old new : KeyedLists)
+pub each-same : (fact : ℕ → Row → Type 0) (n : ℕ) (old new : KeyedLists)
     → ((s : ℕ) → s < n → list_at s new ≡ list_at s old) → EachRow fact n old → EachRow fact n new
 each-same fact n old new e a s h = rw (e s h) (a s h)
 
-pub each-none : (fact : ℕ → ℕ × Node → Type 0) (n : ℕ) (lists : KeyedLists) → ((s : ℕ) → s < n → list_at s lists ≡ [])
+pub each-none : (fact : ℕ → Row → Type 0) (n : ℕ) (lists : KeyedLists) → ((s : ℕ) → s < n → list_at s lists ≡ [])
     → EachRow fact n lists
 each-none fact n lists e s h = rw (e s h) tt
 
 -- each row satisfies the wheel's own invariant, also after a row came to its list
-pub each_come : (fact : ℕ → ℕ × Node → Type 0) (n now d list : ℕ) (row : ℕ × Node) (lists : KeyedLists) → length lists ≡ n + 1
+pub each_come : (fact : ℕ → Row → Type 0) (n now d list : ℕ) (row : Row) (lists : KeyedLists) → length lists ≡ n + 1
     → IsListOf list n now d → (now < d → fact list row) → EachRow fact n lists → EachRow fact n (with_row list row lists)
 each_come fact n now d list row lists e (inl h) f a =
     each-with_row fact n list row lists (let k : list < n = h.0 in omega arith) (f h.1) a
@@ -171,7 +171,7 @@ each_come fact n now d list row lists e (inr h) f a =
     (let m : s ≢ list = omega arith in m)) a
 
 -- No timers, no rows.
-pub no_rows : (rows : List (ℕ × Node)) → entries_of rows ≡ [] → rows ≡ []
+pub no_rows : (rows : Rows) → entries_of rows ≡ [] → rows ≡ []
 no_rows [] e = refl
 no_rows (x ∷ xs) e = absurd (cc)
 
@@ -189,14 +189,14 @@ row_count-parts (suc n) (x ∷ xs) e =
     let a : length (x ++ rows_below n xs) ≡ length x + length (rows_below n xs) = length-append x (rows_below n xs) in
     omega arith
 
-length-entries : (rows : List (ℕ × Node)) → length (entries_of rows) ≡ length rows
+length-entries : (rows : Rows) → length (entries_of rows) ≡ length rows
 length-entries [] = refl
 length-entries (x ∷ xs) = ap (λ (k : ℕ). suc k) (length-entries xs)
 
-pub length-pending_in : (rows : List (ℕ × Node)) → length (pending_in rows) ≡ length rows
+pub length-pending_in : (rows : Rows) → length (pending_in rows) ≡ length rows
 length-pending_in rows = length-in_order timer_of (entries_of rows) ∙ length-entries rows
 
-pub node_in-append : (key : ℕ) (xs ys : List (ℕ × Node)) → node_in key (xs ++ ys) ≡ first_of (node_in key xs) (node_in key ys)
+pub node_in-append : (key : ℕ) (xs ys : Rows) → node_in key (xs ++ ys) ≡ first_of (node_in key xs) (node_in key ys)
 node_in-append key [] ys = refl
 node_in-append key (x ∷ xs) ys = elim (either (x.0 == key)) [
   | inl k ↦ rw k refl
@@ -225,10 +225,10 @@ node_at-parts (suc n) key (x ∷ xs) l =
     ∙ ap (λ (o : Option Node). first_of o last) (sym (node_in-append key x (rows_below n xs))))
 
 -- each row under the key has the key's node
-abbrev pub HasNode : ℕ → Option Node → ℕ × Node → Type 0
+abbrev pub HasNode : ℕ → Option Node → Row → Type 0
 HasNode key found row = row.0 ≡ key → Some row.1 ≡ found
 
-pub apart_from : (lists : KeyedLists) (l key : ℕ) (front rows : List (ℕ × Node)) → AreApart lists → l < length lists
+pub apart_from : (lists : KeyedLists) (l key : ℕ) (front rows : Rows) → AreApart lists → l < length lists
     → list_at l lists ≡ front ++ rows → AllByRecursion (HasNode key (node_at key lists)) rows
 apart_from lists l key front [] a b e = tt
 apart_from lists l key front (x ∷ xs) a b e = (
@@ -261,16 +261,16 @@ timers_past last_tick before now last (e ∷ es) a = elim (either (is_due_at now
   | inr k ↦ rw k (timers_past last_tick before now last es a.1)
 ]
 
-rows_past : (now last : ℕ) (rows : List (ℕ × Node)) → AllByRecursion (IsDue now last) (timers_in rows) → AreDue now last rows
+rows_past : (now last : ℕ) (rows : Rows) → AllByRecursion (IsDue now last) (timers_in rows) → AreDue now last rows
 rows_past now last [] a = tt
 rows_past now last (x ∷ xs) a = (a.0, rows_past now last xs a.1)
 
 -- what became due at a tick was pending before it
-pub due_past : (last_tick before now last : ℕ) (es : List Entry) (rows : List (ℕ × Node))
+pub due_past : (last_tick before now last : ℕ) (es : List Entry) (rows : Rows)
     → AllByRecursion (IsPending last_tick before last) (timers_of es) → entries_of rows ≡ entries_due now es → AreDue now last rows
 due_past last_tick before now last es rows a e = rows_past now last rows (let P : List Timer → Type 0 = AllByRecursion (IsDue now last)
     in subst P (sym (ap timers_of e) ∙ timers_of-entries rows) (timers_past last_tick before now last es a))
 
-pub none_past : (now last : ℕ) (rows : List (ℕ × Node)) → entries_of rows ≡ [] → AreDue now last rows
+pub none_past : (now last : ℕ) (rows : Rows) → entries_of rows ≡ [] → AreDue now last rows
 none_past now last [] e = tt
 none_past now last (x ∷ xs) e = absurd (cc)

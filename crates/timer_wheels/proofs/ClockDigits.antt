@@ -1,64 +1,38 @@
 -- The buckets and visits of `Table::Clock`, by quotients: seconds, minutes, hours and days.
-use Rattle.std.proofs.Common.{◌≡◌, ◌≢◌, ◌<◌, ◌≤◌, ◌+◌, ◌-◌, ◌*◌, ◌/◌, ◌%◌, ℕ, List, [], ◌∷◌, length, refl, sym, ◌∙◌, ap, inl, inr, arith}
-use Rattle.std.specs.Prelude.{nat_lt}
-use Rattle.std.proofs.lemmas.Bool.Decides.{nat_tests}
-use Rattle.timer_base.specs.OrderLaws.{either}
-use Rattle.timer_wheels.specs.Digits.{wide, clock, IsTable, HasDigits, digit, slots, list_of_slot, bucket, emptied, last_of}
-use Rattle.timer_wheels.proofs.DigitLaws.{level_near, level_far, lowest_here, lowest_above}
+use Rattle.std.proofs.Common.{◌≡◌, ◌≢◌, ◌<◌, ◌≤◌, ◌+◌, ◌-◌, ◌*◌, ◌/◌, ◌%◌, ℕ, [], ◌∷◌, refl, sym, ◌∙◌, ap, arith, le_refl}
+use Rattle.timer_base.specs.declared.limits.TheConstants.{LAST}
+use Rattle.timer_wheels.specs.declared.table.TheConstants.{MOST_BUCKETS}
+use Rattle.timer_wheels.specs.Digits.{IsTable, HasDigits, bucket, emptied, last_of}
+use Rattle.timer_wheels.specs.Tables.{clock}
+use Rattle.timer_wheels.proofs.DigitLaws.{bucket_near, bucket_far, emptied_here, emptied_above, visit_here, visit_above, IsHierTable}
 use Rattle.timer_wheels.specs.Leap.{list_visit}
 
-pub clock_is : clock ≡ 60 ∷ 60 ∷ 24 ∷ 100 ∷ []
+clock_is : clock ≡ 60 ∷ 60 ∷ 24 ∷ 100 ∷ []
 unfolding clock
 clock_is = refl
 
-pub clock_is_table : IsTable clock
+clock_is_table : IsTable clock
 unfolding clock
 clock_is_table = (omega arith, (omega arith, (omega arith, (omega arith, tt))))
-
-pub slots-clock : slots clock ≡ 244
-unfolding clock
-slots-clock = refl
-
-pub last-clock : last_of clock ≡ 8639999
-unfolding clock
-last-clock = refl
-
-pub length-clock : length clock ≡ 4
-unfolding clock
-length-clock = refl
 
 days_end : (t : ℕ) → t ≤ 8639999 → t / 60 / 60 / 24 / 100 ≡ 0
 days_end t h = omega arith
 
-pub in_clock : (t : ℕ) → t ≤ 8639999 → HasDigits clock t
+in_clock : (t : ℕ) → t ≤ 8639999 → HasDigits clock t
 unfolding clock
 in_clock t h = days_end t h
 
--- Buckets of a table with one more wheel.
-
--- if the quotients are equal, the bucket is in the lowest wheel, else in a wheel above
-pub bucket_near : (r : ℕ) (rs : List ℕ) (a d : ℕ) → a / r ≡ d / r → bucket (r ∷ rs) a d ≡ d % r
-bucket_near r rs a d e = ap (λ (v : ℕ). list_of_slot (r ∷ rs) v (digit (r ∷ rs) v d)) (level_near r rs a d e) ∙ omega arith
-
-pub bucket_far : (r : ℕ) (rs : List ℕ) (a d : ℕ) → a / r ≢ d / r → bucket (r ∷ rs) a d ≡ r + bucket rs (a / r) (d / r)
-bucket_far r rs a d e = ap (λ (v : ℕ). list_of_slot (r ∷ rs) v (digit (r ∷ rs) v d)) (level_far r rs a d e) ∙ omega arith
-
-pub emptied_here : (r : ℕ) (rs : List ℕ) (t : ℕ) → t % r ≢ 0 → emptied (r ∷ rs) t ≡ t % r
-emptied_here r rs t e = ap (λ (v : ℕ). list_of_slot (r ∷ rs) v (digit (r ∷ rs) v t)) (lowest_here r rs t e) ∙ omega arith
-
--- a tick whose lowest digit isn't zero, in the wide table
-pub emptied_low : (t : ℕ) → t % 64 ≢ 0 → t % 64 ≡ emptied wide t
-unfolding wide
-emptied_low t n = sym (emptied_here 64 (64 ∷ 64 ∷ 64 ∷ 64 ∷ 64 ∷ 64 ∷ 64 ∷ 64 ∷ 64 ∷ []) t n)
-
-pub emptied_above : (r : ℕ) (rs : List ℕ) (t : ℕ) → t % r ≡ 0 → emptied (r ∷ rs) t ≡ r + emptied rs (t / r)
-emptied_above r rs t e = ap (λ (v : ℕ). list_of_slot (r ∷ rs) v (digit (r ∷ rs) v t)) (lowest_above r rs t e) ∙ omega arith
-
-pub visit_here : (r : ℕ) (rs : List ℕ) (l now : ℕ) → l < r → list_visit (r ∷ rs) l now ≡ r * (now / r) + l
-visit_here r rs l now h = elim (either (nat_lt l r)) [ inl k ↦ rw k refl | inr k ↦ absurd (grind (arith, nat_tests)) ]
-
-pub visit_above : (r : ℕ) (rs : List ℕ) (l now : ℕ) → r ≤ l → list_visit (r ∷ rs) l now ≡ r * list_visit rs (l - r) (now / r)
-visit_above r rs l now h = elim (either (nat_lt l r)) [ inl k ↦ absurd (grind (arith, nat_tests)) | inr k ↦ rw k refl ]
+pub clock_fits : IsHierTable clock
+unfolding clock
+clock_fits = record {
+  is_table = clock_is_table;
+  digits = in_clock (last_of clock) (le_refl 8639999);
+  few_slots = (let h : 244 ≤ MOST_BUCKETS = omega arith in h);
+  in_range = (let h : 8639999 ≤ LAST = omega arith in h);
+  some_slots = (let h : 0 < 60 = omega arith in h);
+  few_wheels = (let h : 3 ≤ 9 = omega arith in h);
+  more_wheels = (let h : 0 < 4 = omega arith in h);
+}
 
 -- The four wheels.
 

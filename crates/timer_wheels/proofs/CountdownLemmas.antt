@@ -1,21 +1,22 @@
 -- Lemmas for `revolutions`: the loop invariants of its walks, which measure rounds and take them away.
-use Rattle.std.proofs.Common.{◌≡◌, ◌≢◌, ◌<◌, ◌≤◌, ◌+◌, ◌-◌, ℕ, List, [], ◌∷◌, ◌++◌, length, refl, sym, ◌∙◌, ap, subst, inl, inr, arith, append_assoc, length-append, length-set, get_or-set_same, get_or-set_other}
-use Rattle.std.specs.Prelude.{IsSome, Option, Some, min, map, slice_set}
+use Rattle.std.proofs.Common.{◌≡◌, ◌≢◌, ◌<◌, ◌≤◌, ◌+◌, ◌-◌, ℕ, [], ◌∷◌, ◌++◌, length, refl, sym, ◌∙◌, ap, subst, inl, inr, arith, append_assoc, length-append, length-set, get_or-set_same, get_or-set_other, IsSome, Option, Some, min, map, slice_set}
 use Rattle.std.specs.List.{AllByRecursion}
 use Rattle.std.proofs.lemmas.Bool.{cases_eq}
 use Rattle.std.proofs.lemmas.List.{map-append, set-get_or}
+use Rattle.timer_links.proofs.Rows.{length_list_at}
+use Rattle.timer_base.specs.Basics.{some_same, some_none, empty_when}
 use Rattle.timer_base.specs.OrderLaws.{All-weaken}
 use Rattle.timer_links.specs.declared.node.Node.{Node}
-use Rattle.timer_links.specs.Lists.{node_at, first_key, list_at, row_count, AreApart, IsNext, HasRounds, SetsRounds, KeyedLists}
+use Rattle.timer_links.specs.Lists.{node_at, first_key, list_at, row_count, AreApart, IsNext, HasRounds, SetsRounds, KeyedLists, Row, Rows}
 use Rattle.timer_wheels.specs.Revolutions.{HasRoundsLeft, with_fewer_rounds}
 use Rattle.timer_wheels.proofs.RowLemmas.{all-append, all-rest, append-nil, set_twice}
-use Rattle.timer_wheels.proofs.WalkLemmas.{IsWalking, IsNextRow, begun, next_row, found, in_use, walked, ended_count, length-list_at, some_none, same_key, empty_when}
+use Rattle.timer_wheels.proofs.WalkLemmas.{IsWalking, IsNextRow, begun, next_row, found, in_use, walked, ended_count}
 
 -- The fewest rounds.
 
 -- the rows so far have at least this many rounds
 pub record IsMeasuring (l step : ℕ) (lists : KeyedLists) (at : Option ℕ) (most fewest : ℕ) : Type 0 where
-  pub past : List (ℕ × Node)
+  pub past : Rows
   pub walk : IsWalking l step lists at past
   pub at_most : fewest ≤ most
   pub each : AllByRecursion (HasRoundsLeft fewest) past
@@ -24,7 +25,7 @@ pub measured-none : (l : ℕ) (lists : KeyedLists) (at : Option ℕ) (most : ℕ
     → IsMeasuring l 0 lists at most most
 measured-none l lists at most e = record { past = []; walk = begun l lists at e; at_most = omega arith; each = tt }
 
-fewer_left : (a b : ℕ) (rows : List (ℕ × Node)) → b ≤ a → AllByRecursion (HasRoundsLeft a) rows → AllByRecursion (HasRoundsLeft b) rows
+fewer_left : (a b : ℕ) (rows : Rows) → b ≤ a → AllByRecursion (HasRoundsLeft a) rows → AllByRecursion (HasRoundsLeft b) rows
 fewer_left a b rows h f = All-weaken (HasRoundsLeft a) (HasRoundsLeft b) rows (λ row k. omega arith) f
 
 pub measured-in_use : (l step : ℕ) (lists : KeyedLists) (b : l < length lists) (a : AreApart lists) (key : ℕ) (at : Option ℕ)
@@ -55,7 +56,7 @@ pub measured-end : (l step : ℕ) (lists : KeyedLists) (at : Option ℕ) (most f
     → (m : IsMeasuring l step lists at most fewest)
     → list_at l lists ≡ m.past → AllByRecursion (HasRoundsLeft fewest) (list_at l lists)
 measured-end l step lists at most fewest m e =
-    let P : List (ℕ × Node) → Type 0 = AllByRecursion (HasRoundsLeft fewest) in subst P (sym e) m.each
+    let P : Rows → Type 0 = AllByRecursion (HasRoundsLeft fewest) in subst P (sym e) m.each
 
 pub measured-enough : (l step : ℕ) (lists : KeyedLists) (at : Option ℕ) (most fewest : ℕ)
     → IsMeasuring l step lists at most fewest → row_count lists ≤ step
@@ -82,13 +83,13 @@ one-measured l lists most fewest less m h f = record {
 
 -- Rounds are taken from one list.
 
-abbrev fewer : ℕ → List (ℕ × Node) → List (ℕ × Node)
+abbrev fewer : ℕ → Rows → Rows
 fewer k rows = map (with_fewer_rounds k) rows
 
 -- these rows have lost their rounds, and those are left
 pub record IsCounting (l step k : ℕ) (old lists : KeyedLists) (at : Option ℕ) : Type 0 where
-  pub past : List (ℕ × Node)
-  pub left : List (ℕ × Node)
+  pub past : Rows
+  pub left : Rows
   pub rows : list_at l old ≡ past ++ left
   pub is : lists ≡ slice_set old l (fewer k past ++ left)
   pub next : at ≡ first_key left
@@ -106,25 +107,25 @@ counting-begun l k old at e = record {
 
 -- the next row
 pub record IsNextLeft (l step k : ℕ) (old lists : KeyedLists) (key : ℕ) : Type 0 where
-  pub past : List (ℕ × Node)
+  pub past : Rows
   pub node : Node
-  pub rest : List (ℕ × Node)
+  pub rest : Rows
   pub rows : list_at l old ≡ past ++ (key, node) ∷ rest
   pub is : lists ≡ slice_set old l (fewer k past ++ (key, node) ∷ rest)
   pub steps : length past ≡ step
 
-left_of : (l step k : ℕ) (old lists : KeyedLists) (key : ℕ) (past left : List (ℕ × Node)) → list_at l old ≡ past ++ left
+left_of : (l step k : ℕ) (old lists : KeyedLists) (key : ℕ) (past left : Rows) → list_at l old ≡ past ++ left
     → lists ≡ slice_set old l (fewer k past ++ left) → Some key ≡ first_key left → length past ≡ step → IsNextLeft l step k old lists key
 left_of l step k old lists key past [] r i e c = absurd (some_none key e)
 left_of l step k old lists key past (x ∷ xs) r i e c =
-    let same : x.0 ≡ key = same_key x.0 key (sym e) in
+    let same : x.0 ≡ key = some_same x.0 key (sym e) in
     let q : x ∷ xs ≡ (key, x.1) ∷ xs = ap (λ (y : ℕ). (y, x.1) ∷ xs) same in
     record {
       past = past;
       node = x.1;
       rest = xs;
-      rows = r ∙ ap (λ (y : List (ℕ × Node)). past ++ y) q;
-      is = i ∙ ap (λ (y : List (ℕ × Node)). slice_set old l (fewer k past ++ y)) q;
+      rows = r ∙ ap (λ (y : Rows). past ++ y) q;
+      is = i ∙ ap (λ (y : Rows). slice_set old l (fewer k past ++ y)) q;
       steps = c;
     }
 
@@ -133,21 +134,21 @@ pub next_left : (l step k : ℕ) (old lists : KeyedLists) (at : Option ℕ) (key
     → IsNextLeft l step k old lists key
 next_left l step k old lists at key s e = left_of l step k old lists key s.past s.left s.rows s.is (sym e ∙ s.next) s.steps
 
-counting-end : (l k : ℕ) (old lists : KeyedLists) (past left : List (ℕ × Node)) → list_at l old ≡ past ++ left
+counting-end : (l k : ℕ) (old lists : KeyedLists) (past left : Rows) → list_at l old ≡ past ++ left
     → lists ≡ slice_set old l (fewer k past ++ left)
     → left ≡ [] → lists ≡ slice_set old l (fewer k (list_at l old))
 counting-end l k old lists past left r i e =
-    let all : list_at l old ≡ past = r ∙ (ap (λ (y : List (ℕ × Node)). past ++ y) e ∙ append-nil past) in
-    i ∙ (ap (λ (y : List (ℕ × Node)). slice_set old l (fewer k past ++ y)) e
-    ∙ (ap (slice_set old l) (append-nil (fewer k past)) ∙ ap (λ (y : List (ℕ × Node)). slice_set old l (fewer k y)) (sym all)))
+    let all : list_at l old ≡ past = r ∙ (ap (λ (y : Rows). past ++ y) e ∙ append-nil past) in
+    i ∙ (ap (λ (y : Rows). slice_set old l (fewer k past ++ y)) e
+    ∙ (ap (slice_set old l) (append-nil (fewer k past)) ∙ ap (λ (y : Rows). slice_set old l (fewer k y)) (sym all)))
 
 pub counting-enough : (l step k : ℕ) (old lists : KeyedLists) (at : Option ℕ) → IsCounting l step k old lists at
     → row_count old ≤ step
     → lists ≡ slice_set old l (fewer k (list_at l old))
 counting-enough l step k old lists at s h =
-    let a : length (list_at l old) ≤ row_count old = length-list_at old l in
+    let a : length (list_at l old) ≤ row_count old = length_list_at old l in
     let b : length (list_at l old) ≡ length s.past + length s.left =
-    ap (λ (y : List (ℕ × Node)). length y) s.rows ∙ length-append s.past s.left in
+    ap (λ (y : Rows). length y) s.rows ∙ length-append s.past s.left in
     let c : length s.past ≡ step = s.steps in
     counting-end l k old lists s.past s.left s.rows s.is (empty_when s.left (omega arith))
 
@@ -168,7 +169,7 @@ module _ (l step k : ℕ) (old lists : KeyedLists) (b : l < length old) (key : �
       → k ≤ rounds
   counting-enough_left rounds a r f =
       let same : rounds ≡ w.node.rounds = r w.node (counting-found a) in
-      let P : List (ℕ × Node) → Type 0 = AllByRecursion (HasRoundsLeft k) in
+      let P : Rows → Type 0 = AllByRecursion (HasRoundsLeft k) in
       let here : k ≤ w.node.rounds = (all-rest (HasRoundsLeft k) w.past ((key, w.node) ∷ w.rest) (subst P w.rows f)).0 in
       omega arith
 
@@ -192,9 +193,9 @@ module _ (l step k : ℕ) (old lists : KeyedLists) (b : l < length old) (key : �
             ∙ (set_twice old l (fewer k w.past ++ (key, w.node) ∷ w.rest) (fewer k w.past
             ++ (key, record w.node { rounds = less }) ∷ w.rest)
             ∙ ap (slice_set old l)
-            (ap (λ (y : ℕ × Node). fewer k w.past ++ y ∷ w.rest) row
+            (ap (λ (y : Row). fewer k w.past ++ y ∷ w.rest) row
             ∙ (sym (append_assoc (fewer k w.past) (with_fewer_rounds k (key, w.node) ∷ []) w.rest)
-            ∙ ap (λ (y : List (ℕ × Node)). y ++ w.rest) (sym more)))));
+            ∙ ap (λ (y : Rows). y ++ w.rest) (sym more)))));
         next = n l (fewer k w.past) w.node w.rest counting-in_range counting-standing;
         steps = (let c : length w.past ≡ step = w.steps in let d : length (w.past ++ (key, w.node) ∷ []) ≡ length w.past + 1 =
             length-append w.past ((key, w.node) ∷ []) in omega arith);
@@ -229,4 +230,4 @@ one-counted l k old new more b a e = record {
 pub still_enough : (l count k : ℕ) (old new : KeyedLists) → l < count → AreCounted l k old new
     → ((s : ℕ) → s < count → AllByRecursion (HasRoundsLeft k) (list_at s old)) → AllByRecursion (HasRoundsLeft k) (list_at l new)
 still_enough l count k old new h a f =
-    let P : List (ℕ × Node) → Type 0 = AllByRecursion (HasRoundsLeft k) in subst P (sym (a.others l (omega arith))) (f l h)
+    let P : Rows → Type 0 = AllByRecursion (HasRoundsLeft k) in subst P (sym (a.others l (omega arith))) (f l h)

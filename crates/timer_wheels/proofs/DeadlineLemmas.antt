@@ -1,19 +1,19 @@
 -- Lemmas for `deadlines`: the least deadline of lists, and in which bucket of a hierarchy it is.
-use Rattle.std.proofs.Common.{◌≡◌, ◌<◌, ◌≤◌, ◌+◌, ◌*◌, ◌/◌, ◌%◌, ℕ, suc, List, [], ◌∷◌, ◌++◌, length, refl, sym, ◌∙◌, ap, subst, inl, inr, true, false, arith}
-use Rattle.std.specs.Prelude.{Option, Some, None, min}
+use Rattle.std.proofs.Common.{◌≡◌, ◌<◌, ◌≤◌, ◌+◌, ◌*◌, ◌/◌, ◌%◌, ℕ, suc, List, [], ◌∷◌, ◌++◌, length, refl, sym, ◌∙◌, ap, subst, inl, inr, arith, Option, Some, None, min}
 use Rattle.std.specs.List.{AllByRecursion}
 use Rattle.std.proofs.lemmas.Bool.{cases_eq, cases_lt}
-use Rattle.std.proofs.lemmas.Bool.Decides.{nat_tests}
 use Rattle.std.proofs.lemmas.Nat.{le-div}
+use Rattle.timer_base.specs.Basics.{some_same, least_if_before, least_if_after, either}
 use Rattle.timer_base.specs.declared.timer.Timer.{Timer}
 use Rattle.timer_base.specs.Order.{insert_in_order, is_before}
-use Rattle.timer_base.specs.OrderLaws.{either, All-weaken}
+use Rattle.timer_base.specs.OrderLaws.{All-weaken}
 use Rattle.timer_base.specs.Pending.{Entry, timer_of, timers_of}
 use Rattle.timer_base.specs.PlainState.{earliest}
 use Rattle.timer_base.specs.WakeUps.{next_deadline}
 use Rattle.timer_base.specs.WheelState.{IsPending}
 use Rattle.timer_links.specs.declared.node.Node.{Node}
-use Rattle.timer_links.specs.Lists.{first_key, list_at, node_at, AreApart, KeyedLists}
+use Rattle.timer_links.specs.Lists.{first_key, list_at, node_at, AreApart, KeyedLists, Row, Rows}
+use Rattle.timer_wheels.specs.declared.table.TheConstants.{MOST_BUCKETS}
 use Rattle.timer_wheels.specs.BucketLists.{timer_in, timers_in, entry_of, pending_in, rows_below}
 use Rattle.timer_wheels.specs.Buckets.{state_of, state_of-well_formed}
 use Rattle.timer_wheels.specs.Deadlines.{HasDeadline, IsLeast, IsLeastDeadline}
@@ -30,14 +30,14 @@ use Rattle.timer_wheels.specs.Tables.{radices}
 use Rattle.timer_wheels.specs.WakeUps.{next_visit}
 use Rattle.timer_wheels.proofs.FirstLemmas.{count-few, enter_known, not_before-both, not_before-less}
 use Rattle.timer_wheels.proofs.FirstsLemmas.{length-timers}
-use Rattle.timer_wheels.proofs.ClockDigits.{bucket_near, bucket_far, visit_here}
+use Rattle.timer_wheels.proofs.DigitLaws.{bucket_near, bucket_far, visit_here}
 use Rattle.timer_wheels.proofs.DigitLaws.{digits_down}
 use Rattle.timer_wheels.proofs.HierLeaps.{first_in, filled_some, last_digits}
 use Rattle.timer_wheels.proofs.OccupiedLemmas.{no_rows_there}
 use Rattle.timer_wheels.proofs.RowLemmas.{all-list_at, all-rows_below, append-nil, timers-append, around, rows_below-more, rows_below-none}
 use Rattle.timer_wheels.proofs.TableLaws.{of_table}
 use Rattle.timer_wheels.proofs.VisitLaws.{less_quotient, list_is}
-use Rattle.timer_wheels.proofs.WalkLemmas.{IsWalking, IsNextRow, begun, next_row, found, walked, same_node}
+use Rattle.timer_wheels.proofs.WalkLemmas.{IsWalking, IsNextRow, begun, next_row, found, walked}
 
 -- The least deadline of two lists together.
 
@@ -77,7 +77,7 @@ least-one t = record { has = inl refl; none_earlier = (omega arith, tt) }
 -- The walk along one list.
 
 pub record IsSeeking (l step : ℕ) (lists : KeyedLists) (at : Option ℕ) (first : First) : Type 0 where
-  pub past : List (ℕ × Node)
+  pub past : Rows
   pub walk : IsWalking l step lists at past
   pub first_of : IsFirstOf first (timers_in past)
   -- the first timer is at most the bound
@@ -105,7 +105,7 @@ pub seeking-one : (l step : ℕ) (lists : KeyedLists) (b : l < length lists) (a 
     → ((w : IsNextRow l step lists key s.past) → next ≡ first_key w.rest) → IsSeeking l (step + 1) lists next more
 seeking-one l step lists b a key at next first more node s e f m k r n =
     let w : IsNextRow l step lists key s.past = next_row l step lists at key s.past s.walk e in
-    let same : node ≡ w.node = same_node node w.node (f ∙ found l step lists b a key s.past w) in
+    let same : node ≡ w.node = some_same node w.node (f ∙ found l step lists b a key s.past w) in
     let some : 0 < more.count = enter_known first more (timers_in s.past) node.timer (m (timers_in s.past) node.timer refl s.first_of)
     s.first_of k (λ c. (let u : first.bound ≡ 18446744073709551615 = (s.begun_at c).1 in omega arith)) in
     record {
@@ -118,9 +118,9 @@ seeking-one l step lists b a key at next first more node s e f m k r n =
 
 pub sought : (l step : ℕ) (lists : KeyedLists) (at : Option ℕ) (first : First) → (s : IsSeeking l step lists at first)
     → list_at l lists ≡ s.past → IsKnownOf first (timers_in (list_at l lists))
-sought l step lists at first s e = subst (λ (rows : List (ℕ × Node)). IsKnownOf first (timers_in rows)) (sym e) (record {
+sought l step lists at first s e = subst (λ (rows : Rows). IsKnownOf first (timers_in rows)) (sym e) (record {
   first_of = s.first_of;
-  some = λ z. ap (λ (rows : List (ℕ × Node)). timers_in rows) (s.begun_at z).0;
+  some = λ z. ap (λ (rows : Rows). timers_in rows) (s.begun_at z).0;
 })
 
 -- Several lists.
@@ -133,28 +133,22 @@ least-more n lists least one more b l m e =
     let rows : rows_below (n + 1) lists ≡ rows_below n lists ++ list_at n lists =
     ap (λ (k : ℕ). rows_below k lists) s ∙ rows_below-more n lists b in
     let ts : timers_in (rows_below (n + 1) lists) ≡ timers_in (rows_below n lists) ++ timers_in (list_at n lists) =
-    ap (λ (y : List (ℕ × Node)). timers_in y) rows ∙ timers-append (rows_below n lists) (list_at n lists) in
+    ap (λ (y : Rows). timers_in y) rows ∙ timers-append (rows_below n lists) (list_at n lists) in
     subst (λ (o : Option ℕ). IsLeastDeadline o (timers_in (rows_below (n + 1) lists))) (sym e)
     (subst (λ (y : List Timer). IsLeastDeadline (earliest least one) y) (sym ts)
     (least-append least one (timers_in (rows_below n lists)) (timers_in (list_at n lists)) l m))
 
 -- The least deadline is that of the first pending timer.
 
-least_before : (t u : Timer) → is_before t u ≡ true → t.deadline ≡ min t.deadline u.deadline
-least_before t u h = grind (arith, nat_tests)
-
-least_after : (t u : Timer) → is_before t u ≡ false → u.deadline ≡ min t.deadline u.deadline
-least_after t u h = grind (arith, nat_tests)
-
 next-insert : (e : Entry) (es : List Entry) → next_deadline (insert_in_order timer_of e es)
     ≡ earliest (Some e.timer.deadline) (next_deadline es)
 next-insert e [] = refl
 next-insert e (f ∷ es) = elim (either (is_before e.timer f.timer)) [
-  | inl h ↦ rw h (ap Some (least_before e.timer f.timer h))
-  | inr h ↦ rw h (ap Some (least_after e.timer f.timer h))
+  | inl h ↦ rw h (ap Some (least_if_before e.timer f.timer h))
+  | inr h ↦ rw h (ap Some (least_if_after e.timer f.timer h))
 ]
 
-next_is_least : (rows : List (ℕ × Node)) → IsLeastDeadline (next_deadline (pending_in rows)) (timers_in rows)
+next_is_least : (rows : Rows) → IsLeastDeadline (next_deadline (pending_in rows)) (timers_in rows)
 next_is_least [] = refl
 next_is_least (r ∷ rs) =
     let both : IsLeastDeadline (earliest (Some (timer_in r).deadline) (next_deadline (pending_in rs))) (timer_in r ∷ timers_in rs) =
@@ -183,7 +177,7 @@ one_least (Some a) (Some b) ts l m =
     let e : a ≡ b = omega arith in
     ap Some e
 
-pub least_is_next : (o : Option ℕ) (rows : List (ℕ × Node)) → IsLeastDeadline o (timers_in rows) → o ≡ next_deadline (pending_in rows)
+pub least_is_next : (o : Option ℕ) (rows : Rows) → IsLeastDeadline o (timers_in rows) → o ≡ next_deadline (pending_in rows)
 least_is_next o rows l = one_least o (next_deadline (pending_in rows)) (timers_in rows) l (next_is_least rows)
 
 -- Deadlines of buckets, for every table.
@@ -246,7 +240,7 @@ lowest_visit (r ∷ rs) a d l t n h e b = elim (cases_eq (a / r) (d / r)) [
 -- The first bucket with a timer.
 
 -- a row of a bucket as the invariant knows it
-record IsStanding (table : List ℕ) (now s : ℕ) (row : ℕ × Node) : Type 0 where
+record IsStanding (table : List ℕ) (now s : ℕ) (row : Row) : Type 0 where
   later : now < (timer_in row).deadline
   placed : bucket table now (timer_in row).deadline ≡ s
 
@@ -255,17 +249,17 @@ deadline_in d P [] a h = absurd h
 deadline_in d P (t ∷ ts) a (inl e) = (t, a.0, e)
 deadline_in d P (t ∷ ts) a (inr h) = deadline_in d P ts a.1 h
 
-timers_standing : (table : List ℕ) (now l : ℕ) (rows : List (ℕ × Node)) → AllByRecursion (IsStanding table now l) rows
+timers_standing : (table : List ℕ) (now l : ℕ) (rows : Rows) → AllByRecursion (IsStanding table now l) rows
     → AllByRecursion (λ (u : Timer). (now < u.deadline) × (bucket table now u.deadline ≡ l)) (timers_in rows)
 timers_standing table now l [] a = tt
 timers_standing table now l (r ∷ rs) a = ((a.0.later, a.0.placed), timers_standing table now l rs a.1)
 
-of_rows : (d : ℕ) (rows : List (ℕ × Node)) → AllByRecursion (λ t. d ≤ t.deadline) (timers_in rows)
+of_rows : (d : ℕ) (rows : Rows) → AllByRecursion (λ t. d ≤ t.deadline) (timers_in rows)
     → AllByRecursion (λ row. d ≤ (timer_in row).deadline) rows
 of_rows d [] a = tt
 of_rows d (r ∷ rs) a = (a.0, of_rows d rs a.1)
 
-of_timers : (d : ℕ) (rows : List (ℕ × Node)) → AllByRecursion (λ row. d ≤ (timer_in row).deadline) rows
+of_timers : (d : ℕ) (rows : Rows) → AllByRecursion (λ row. d ≤ (timer_in row).deadline) rows
     → AllByRecursion (λ t. d ≤ t.deadline) (timers_in rows)
 of_timers d [] a = tt
 of_timers d (r ∷ rs) a = (a.0, of_timers d rs a.1)
@@ -282,9 +276,9 @@ has_below d n l lists k m h =
     let all : HasDeadline d (timers_in (w.front ++ (list_at l lists ++ w.rest))) =
     subst (HasDeadline d) (sym (timers-append w.front (list_at l lists ++ w.rest)))
     (has-rest d (timers_in w.front) (timers_in (list_at l lists ++ w.rest)) back) in
-    subst (λ (rows : List (ℕ × Node)). HasDeadline d (timers_in rows)) (sym w.rows) all
+    subst (λ (rows : Rows). HasDeadline d (timers_in rows)) (sym w.rows) all
 
-all_at : (d : ℕ) (rows : List (ℕ × Node)) → 0 < length rows → AllByRecursion (λ row. (timer_in row).deadline ≡ d) rows
+all_at : (d : ℕ) (rows : Rows) → 0 < length rows → AllByRecursion (λ row. (timer_in row).deadline ≡ d) rows
     → IsLeast d (timers_in rows)
 all_at d [] k a = absurd (omega arith)
 all_at d (r ∷ rs) k a = record {
@@ -295,11 +289,11 @@ all_at d (r ∷ rs) k a = record {
       ≡ d = e in omega arith) a);
 }
 
-some_rows : (rows : List (ℕ × Node)) → 0 < length rows → timers_in rows ≡ [] → ⊥
+some_rows : (rows : Rows) → 0 < length rows → timers_in rows ≡ [] → ⊥
 some_rows [] k e = absurd (omega arith)
 some_rows (r ∷ rs) k e = absurd (cc)
 
-standing-rows : (table : List ℕ) (last_tick now last_serial s : ℕ) (rows : List (ℕ × Node))
+standing-rows : (table : List ℕ) (last_tick now last_serial s : ℕ) (rows : Rows)
     → AllByRecursion (λ row. IsPending last_tick now last_serial (timer_in row)) rows → AllByRecursion (IsPlaced table now s) rows
     → AllByRecursion (IsStanding table now s) rows
 standing-rows table last_tick now last_serial s [] p q = tt
@@ -316,10 +310,10 @@ pub none_is_next : (t : Table) (b : Buckets) (words : List ℕ) → IsHier t b w
     → None ≡ next_deadline (state_of b).pending
 none_is_next t b words h f =
     let e : b.slots ≡ slots (radices t) = h.has_slots in
-    let k : slots (radices t) ≤ 640 = (of_table t).few_slots in
+    let k : slots (radices t) ≤ MOST_BUCKETS = (of_table t).few_slots in
     let rows : rows_below b.slots b.links.lists ≡ [] = rows_below-none b.slots b.links.lists
     (λ s c. no_rows_there (list_at s b.links.lists) (sym (h.marked.0 s c) ∙ f s (omega arith))) in
-    sym (ap (λ (y : List (ℕ × Node)). next_deadline (pending_in y)) rows)
+    sym (ap (λ (y : Rows). next_deadline (pending_in y)) rows)
 
 module _ (t : Table) (b : Buckets) (words : List ℕ) (h : IsHier t b words) (l : ℕ) (f : IsFirstSet words (Some l)) where
   pub first_below : l < b.slots
@@ -333,7 +327,7 @@ module _ (t : Table) (b : Buckets) (words : List ℕ) (h : IsHier t b words) (l 
   some_there = filled_some t b words h (list_at l b.links.lists) (sym (h.marked.0 l first_below) ∙ f.1)
 
   -- a deadline of the first bucket with a timer is before those of the later buckets
-  not_later : (d s : ℕ) (row : ℕ × Node) → IsLeast d (timers_in (list_at l b.links.lists)) → l < s → IsStanding (radices t) b.tick s row
+  not_later : (d s : ℕ) (row : Row) → IsLeast d (timers_in (list_at l b.links.lists)) → l < s → IsStanding (radices t) b.tick s row
       → d ≤ (timer_in row).deadline
   not_later d s row m c w =
       let u = deadline_in d (λ (u : Timer). (b.tick < u.deadline)
@@ -349,7 +343,7 @@ module _ (t : Table) (b : Buckets) (words : List ℕ) (h : IsHier t b words) (l 
   not_sooner : (d s : ℕ) → IsLeast d (timers_in (list_at l b.links.lists)) → s < b.slots
       → AllByRecursion (λ row. d ≤ (timer_in row).deadline) (list_at s b.links.lists)
   not_sooner d s m k = elim (cases_lt s l) [
-    | inl c ↦ let P : List (ℕ × Node) → Type 0 = AllByRecursion (λ row. d ≤ (timer_in row).deadline)
+    | inl c ↦ let P : Rows → Type 0 = AllByRecursion (λ row. d ≤ (timer_in row).deadline)
         in subst P (sym (no_rows_there (list_at s b.links.lists) (sym (h.marked.0 s k) ∙ f.2 s c))) tt
     | inr c ↦ elim (cases_eq s l) [
       | inl e ↦ let P : ℕ → Type 0 = λ n. AllByRecursion (λ row. d ≤ (timer_in row).deadline) (list_at n b.links.lists)

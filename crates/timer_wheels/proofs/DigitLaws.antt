@@ -1,9 +1,14 @@
 -- Lemmas about digits, levels and buckets, for every table of radices.
-use Rattle.std.specs.Prelude.{◌≡◌, ◌≢◌, ◌⊎◌, ℕ, ◌+◌, ◌*◌, ◌/◌, ◌%◌, ◌<◌, ◌≤◌, zero, suc, List, [], ◌∷◌, length, refl}
-use Rattle.std.proofs.Common.{sym, ◌∙◌, ap, inl, inr, arith}
+use Rattle.std.proofs.Common.{sym, ◌∙◌, ap, inl, inr, arith, ◌≡◌, ◌≢◌, ◌⊎◌, ℕ, ◌+◌, ◌-◌, ◌*◌, ◌/◌, ◌%◌, ◌<◌, ◌≤◌, zero, suc, List, [], ◌∷◌, length, refl, nat_lt}
 use Rattle.std.proofs.lemmas.Bool.{cases_eq, cases_lt, eq-eqb, ne_eqb}
 use Rattle.std.proofs.lemmas.Nat.{div-mul-add, mod-mul-add, le-div}
-use Rattle.timer_wheels.specs.Digits.{IsTable, HasDigits, digit, level, lowest, slots_below, slots, list_of_slot, bucket, emptied, IsHighest, IsLowest, LeavesBucket, StaysInBucket, BucketAtTick}
+use Rattle.timer_base.specs.Basics.{either}
+use Rattle.timer_wheels.specs.Digits.{IsTable, HasDigits, digit, level, lowest, slots_below, slots, list_of_slot, bucket, emptied, IsHighest, IsLowest, LeavesBucket, StaysInBucket, BucketAtTick, last_of, lowest_radix}
+use Rattle.timer_wheels.specs.Leap.{list_visit}
+use Rattle.timer_wheels.specs.Placement.{most_moves}
+use Rattle.timer_base.specs.declared.limits.TheConstants.{LAST}
+use Rattle.timer_wheels.specs.declared.table.TheConstants.{MOST_BUCKETS}
+use Rattle.std.proofs.lemmas.Bool.Decides.{nat_tests}
 
 -- Quotients by a radix.
 
@@ -346,3 +351,35 @@ bucket_at_tick table a d i h l =
       falls = p.1;
       is = p.0;
     }
+
+-- Buckets of a table with one more wheel.
+
+-- if the quotients are equal, the bucket is in the lowest wheel, else in a wheel above
+pub bucket_near : (r : ℕ) (rs : List ℕ) (a d : ℕ) → a / r ≡ d / r → bucket (r ∷ rs) a d ≡ d % r
+bucket_near r rs a d e = ap (λ (v : ℕ). list_of_slot (r ∷ rs) v (digit (r ∷ rs) v d)) (level_near r rs a d e) ∙ omega arith
+
+pub bucket_far : (r : ℕ) (rs : List ℕ) (a d : ℕ) → a / r ≢ d / r → bucket (r ∷ rs) a d ≡ r + bucket rs (a / r) (d / r)
+bucket_far r rs a d e = ap (λ (v : ℕ). list_of_slot (r ∷ rs) v (digit (r ∷ rs) v d)) (level_far r rs a d e) ∙ omega arith
+
+pub emptied_here : (r : ℕ) (rs : List ℕ) (t : ℕ) → t % r ≢ 0 → emptied (r ∷ rs) t ≡ t % r
+emptied_here r rs t e = ap (λ (v : ℕ). list_of_slot (r ∷ rs) v (digit (r ∷ rs) v t)) (lowest_here r rs t e) ∙ omega arith
+
+pub emptied_above : (r : ℕ) (rs : List ℕ) (t : ℕ) → t % r ≡ 0 → emptied (r ∷ rs) t ≡ r + emptied rs (t / r)
+emptied_above r rs t e = ap (λ (v : ℕ). list_of_slot (r ∷ rs) v (digit (r ∷ rs) v t)) (lowest_above r rs t e) ∙ omega arith
+
+pub visit_here : (r : ℕ) (rs : List ℕ) (l now : ℕ) → l < r → list_visit (r ∷ rs) l now ≡ r * (now / r) + l
+visit_here r rs l now h = elim (either (nat_lt l r)) [ inl k ↦ rw k refl | inr k ↦ absurd (grind (arith, nat_tests)) ]
+
+pub visit_above : (r : ℕ) (rs : List ℕ) (l now : ℕ) → r ≤ l → list_visit (r ∷ rs) l now ≡ r * list_visit rs (l - r) (now / r)
+visit_above r rs l now h = elim (either (nat_lt l r)) [ inl k ↦ absurd (grind (arith, nat_tests)) | inr k ↦ rw k refl ]
+
+-- What a hierarchy of wheels requires of its table.
+
+pub record IsHierTable (table : List ℕ) : Type 0 where
+  pub is_table : IsTable table
+  pub digits : HasDigits table (last_of table)
+  pub few_slots : slots table ≤ MOST_BUCKETS
+  pub in_range : last_of table ≤ LAST
+  pub some_slots : 0 < lowest_radix table
+  pub few_wheels : most_moves table ≤ 9
+  pub more_wheels : 0 < length table

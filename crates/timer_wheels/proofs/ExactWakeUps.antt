@@ -1,21 +1,19 @@
 -- Lemmas for the exact wake-ups: a hashed wheel's next sweep is the earliest of its timers, and a table is known by its
 -- number of slots.
-use Rattle.std.proofs.Common.{◌≡◌, ◌<◌, ◌≤◌, ◌+◌, ◌-◌, ◌/◌, ◌%◌, ◌==◌, ℕ, List, [], ◌∷◌, length, refl, sym, ◌∙◌, ap, inl, inr, arith}
-use Rattle.std.specs.Prelude.{Bool, true, Option, Some, None, IfSome, filter, min}
+use Rattle.std.proofs.Common.{◌≡◌, ◌<◌, ◌≤◌, ◌+◌, ◌-◌, ◌/◌, ◌%◌, ◌==◌, ℕ, List, [], ◌∷◌, length, sym, ◌∙◌, ap, inl, inr, arith, Bool, true, Option, Some, None, IfSome, filter, min}
 use Rattle.std.specs.List.{AllByRecursion}
 use Rattle.std.proofs.lemmas.Bool.{cases_lt, cases_eq, eq-eqb, ne_eqb}
-use Rattle.timer_base.specs.OrderLaws.{either}
+use Rattle.timer_base.specs.TickLaws.{AreAfter}
+use Rattle.timer_base.specs.Basics.{either}
 use Rattle.timer_base.specs.Pending.{Entry, timers_of}
 use Rattle.timer_base.specs.PlainState.{earliest}
 use Rattle.timer_base.specs.WakeUps.{IsQuietUntil}
 use Rattle.timer_base.specs.WheelState.{WheelState, IsPending}
 use Rattle.timer_wheels.specs.declared.table.Table.{Table}
-use Rattle.timer_wheels.specs.declared.table.Table.TheVariants.{Wide, Clock}
-use Rattle.timer_wheels.specs.Digits.{wide, clock}
 use Rattle.timer_wheels.specs.Hashed.{slot_of, IsNextSweep}
 use Rattle.timer_wheels.specs.Shown.{entries_at}
-use Rattle.timer_wheels.specs.Tables.{radices, slots_of_table}
-use Rattle.timer_wheels.specs.WakeUps.{sweep_of, earliest_sweep, radices_by_slots, next_visit}
+use Rattle.timer_wheels.specs.Tables.{radices, radices_by_slots, slots_of_table, table_by_slots, by_its_slots}
+use Rattle.timer_wheels.specs.WakeUps.{sweep_of, earliest_sweep, next_visit}
 use Rattle.timer_wheels.proofs.HashedTicks.{distance, same_slot, no_step}
 
 -- The sweep of one deadline's slot.
@@ -44,9 +42,6 @@ one_sweep n now d tick z h k b e =
     ]
 
 -- The earliest of them.
-
-abbrev AreLater : ℕ → List Entry → Type 0
-AreLater now es = AllByRecursion (λ entry. now < entry.timer.deadline) es
 
 -- no timer has the slot of a tick before this one
 abbrev NoneBefore : ℕ → ℕ → ℕ → List Entry → Type 0
@@ -81,7 +76,7 @@ module _ (n now tick : ℕ) (z : 0 < n) where
   from_both a None h k = h
   from_both a (Some b) h k = let x : tick ≤ b = k in omega arith
 
-  all_from : (es : List Entry) → AreLater now es → NoneBefore n now tick es → IsFrom tick (earliest_sweep n now es)
+  all_from : (es : List Entry) → AreAfter now es → NoneBefore n now tick es → IsFrom tick (earliest_sweep n now es)
   all_from [] a f = tt
   all_from (e ∷ es) a f =
       from_both (sweep_of n now e.timer.deadline) (earliest_sweep n now es) (not_sooner e es a.0 f)
@@ -94,7 +89,7 @@ module _ (n now tick : ℕ) (z : 0 < n) where
   first_there : (a : ℕ) (o : Option ℕ) → tick ≤ a → o ≡ Some tick → earliest (Some a) o ≡ Some tick
   first_there a o h e = ap (earliest (Some a)) e ∙ ap Some (let m : min a tick ≡ tick = omega arith in m)
 
-  earliest_is : (es : List Entry) → now < tick → tick ≤ now + n → AreLater now es → NoneBefore n now tick es
+  earliest_is : (es : List Entry) → now < tick → tick ≤ now + n → AreAfter now es → NoneBefore n now tick es
       → 0 < length (entries_at (slot_of n) (tick % n) es) → earliest_sweep n now es ≡ Some tick
   earliest_is [] k b a f h = absurd (omega arith)
   earliest_is (e ∷ es) k b a f h = elim (cases_eq (e.timer.deadline % n) (tick % n)) [
@@ -106,7 +101,7 @@ module _ (n now tick : ℕ) (z : 0 < n) where
         (earliest_is es k b a.1 (rest_before e es f) i)
   ]
 
-later_than_now : (last now serial : ℕ) (es : List Entry) → AllByRecursion (IsPending last now serial) (timers_of es) → AreLater now es
+later_than_now : (last now serial : ℕ) (es : List Entry) → AllByRecursion (IsPending last now serial) (timers_of es) → AreAfter now es
 later_than_now last now serial [] a = tt
 later_than_now last now serial (e ∷ es) a = (a.0.later, later_than_now last now serial es a.1)
 
@@ -121,14 +116,9 @@ earliest_sweep_is n w (Some tick) z a q s =
 
 -- The table of a hierarchy.
 
-by_slots : (table : Table) → radices_by_slots (slots_of_table table) ≡ radices table
-unfolding wide clock
-by_slots Wide = refl
-by_slots Clock = refl
-
 -- the radices of a wheel with the slots of its table
 pub radices_are : (table : Table) (slots : ℕ) → slots ≡ slots_of_table table → radices table ≡ radices_by_slots slots
-radices_are table slots e = sym (ap radices_by_slots e ∙ by_slots table)
+radices_are table slots e = sym (ap radices (ap table_by_slots e ∙ by_its_slots table))
 
 pub visit_by_slots : (table : Table) (slots now : ℕ) (es : List Entry) (o : Option ℕ) → slots ≡ slots_of_table table
     → o ≡ next_visit (radices table) now es → o ≡ next_visit (radices_by_slots slots) now es

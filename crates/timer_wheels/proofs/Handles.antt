@@ -1,47 +1,36 @@
 -- What a handle names: a timer that is held, pending or due, or nothing. And the state once it is removed.
-use Rattle.std.proofs.Common.{◌≡◌, ◌≢◌, ◌<◌, ◌+◌, ℕ, ◌==◌, Bool, false, List, [], ◌∷◌, length, refl, sym, ◌∙◌, ap, subst, inl, inr, arith}
-use Rattle.std.specs.Prelude.{map, filter, not, if◌then◌else◌, Option, Some, None, IsSome}
+use Rattle.std.proofs.Common.{◌≡◌, ◌≢◌, ◌<◌, ◌+◌, ℕ, ◌==◌, Bool, false, List, [], ◌∷◌, length, refl, sym, ◌∙◌, ap, subst, inl, inr, arith, map, filter, not, if◌then◌else◌, Option, Some, None, IsSome}
 use Rattle.std.specs.List.{AllByRecursion}
 use Rattle.std.proofs.lemmas.Bool.{cases_eq, eq-eqb, eqb-true, ne_eqb}
+use Rattle.timer_base.specs.HeldLaws.{found_or_none, other_serial}
+use Rattle.timer_base.specs.Basics.{some_same, none_some, some_none, either}
 use Rattle.timer_base.specs.declared.timer.Timer.{Timer}
 use Rattle.timer_base.specs.declared.timer.Handle.{Handle}
 use Rattle.timer_base.specs.Order.{in_order, AreDistinct, IsNotAmong}
-use Rattle.timer_base.specs.OrderLaws.{either, filter-in_order, AreDistinct-rising}
+use Rattle.timer_base.specs.OrderLaws.{filter-in_order, AreDistinct-rising}
 use Rattle.timer_base.specs.Pending.{Entry, timer_of, has_handle, first_timer, first_found, without_handle}
 use Rattle.timer_base.specs.WheelState.{WheelState, IsPending, IsDue, NamesOne, timer_at, due_at, held_at, after_removal}
 use Rattle.timer_links.specs.declared.node.Node.{Node}
-use Rattle.timer_links.specs.Lists.{list_at, node_in, node_at, first_of, without_key, AreApart, KeyedLists}
+use Rattle.timer_links.specs.Lists.{list_at, node_in, node_at, first_of, without_key, AreApart, KeyedLists, Row, Rows}
 use Rattle.timer_wheels.specs.BucketLists.{timer_in, timers_in, entry_of, entries_of, rows_below, pending_in, wheel_state, AreBuckets}
 use Rattle.timer_wheels.proofs.RowLemmas.{rows_below-without_key, list_at-without_key}
 use Rattle.timer_wheels.proofs.BucketLemmas.{HasNode, node_at-parts, apart_from, apart_rows}
 
-some_is : (a b : Node) → Some a ≡ Some b → a ≡ b
-some_is a b e = cc
-
-some_none : (a : Node) → Some a ≡ None → ⊥
-some_none a e = cc
-
-same_timer : (a b : Timer) → Some a ≡ Some b → a ≡ b
-same_timer a b e = cc
-
-no_timer : (t : Timer) → None ≡ Some t → ⊥
-no_timer t e = cc
-
 -- A node under a key.
 
-node_in-here : (key : ℕ) (x : ℕ × Node) (xs : List (ℕ × Node)) → x.0 ≡ key → node_in key (x ∷ xs) ≡ Some x.1
+node_in-here : (key : ℕ) (x : Row) (xs : Rows) → x.0 ≡ key → node_in key (x ∷ xs) ≡ Some x.1
 node_in-here key x xs k = rw (eq-eqb x.0 key k) refl
 
-node_in-there : (key : ℕ) (x : ℕ × Node) (xs : List (ℕ × Node)) → x.0 ≢ key → node_in key (x ∷ xs) ≡ node_in key xs
+node_in-there : (key : ℕ) (x : Row) (xs : Rows) → x.0 ≢ key → node_in key (x ∷ xs) ≡ node_in key xs
 node_in-there key x xs k = rw (ne_eqb x.0 key k) refl
 
 -- what holds of each row holds of the one under the key
-in_all : (P : ℕ × Node → Type 0) (key : ℕ) (node : Node) (rows : List (ℕ × Node)) → AllByRecursion P rows
+in_all : (P : Row → Type 0) (key : ℕ) (node : Node) (rows : Rows) → AllByRecursion P rows
     → node_in key rows ≡ Some node → P (key, node)
 in_all P key node [] a e = absurd (some_none node (sym e))
 in_all P key node (x ∷ xs) a e = elim (cases_eq x.0 key) [
   | inl k ↦
-      let q : x.1 ≡ node = some_is x.1 node (sym (node_in-here key x xs k) ∙ e) in
+      let q : x.1 ≡ node = some_same x.1 node (sym (node_in-here key x xs k) ∙ e) in
       let p : P (x.0, x.1) = a.0 in
       subst (λ (i : ℕ). P (i, node)) k (subst (λ (m : Node). P (x.0, m)) q p)
   | inr k ↦ in_all P key node xs a.1 (sym (node_in-there key x xs k) ∙ e)
@@ -62,29 +51,23 @@ entries_named handle (Some node) =
 other_place : (handle : Handle) (e : Entry) → e.place ≢ handle.place → has_handle handle e ≡ false
 other_place handle e n = rw (ne_eqb e.place handle.place n) refl
 
-other_serial : (handle : Handle) (e : Entry) → e.timer.serial ≢ handle.serial → has_handle handle e ≡ false
-other_serial handle e n = elim (either (e.place == handle.place)) [
-  | inl k ↦ rw (k, ne_eqb e.timer.serial handle.serial n) refl
-  | inr k ↦ rw k refl
-]
-
-none_with : (handle : Handle) (rows : List (ℕ × Node)) → IsNotAmong handle.serial (timers_in rows)
+none_with : (handle : Handle) (rows : Rows) → IsNotAmong handle.serial (timers_in rows)
     → filter (has_handle handle) (entries_of rows) ≡ []
 none_with handle [] n = refl
 none_with handle (x ∷ xs) n = rw (other_serial handle (entry_of x) n.0) (none_with handle xs n.1)
 
-none_other : (handle : Handle) (node : Node) (rows : List (ℕ × Node)) → node.timer.serial ≢ handle.serial
+none_other : (handle : Handle) (node : Node) (rows : Rows) → node.timer.serial ≢ handle.serial
     → AllByRecursion (HasNode handle.place (Some node)) rows → filter (has_handle handle) (entries_of rows) ≡ []
 none_other handle node [] n a = refl
 none_other handle node (x ∷ xs) n a =
     let no : has_handle handle (entry_of x) ≡ false = elim (cases_eq x.0 handle.place) [
       | inl k ↦ other_serial handle (entry_of x) (λ (s : x.1.timer.serial ≡ handle.serial). n (ap (λ (y : Node). y.timer.serial)
-          (sym (some_is x.1 node (a.0 k))) ∙ s))
+          (sym (some_same x.1 node (a.0 k))) ∙ s))
       | inr k ↦ other_place handle (entry_of x) k
     ] in
     rw no (none_other handle node xs n a.1)
 
-named_in : (handle : Handle) (found : Option Node) (rows : List (ℕ × Node)) → AllByRecursion (HasNode handle.place found) rows
+named_in : (handle : Handle) (found : Option Node) (rows : Rows) → AllByRecursion (HasNode handle.place found) rows
     → AreDistinct (timers_in rows) → filter (has_handle handle) (entries_of rows) ≡ entries_named handle (node_in handle.place rows)
 named_in handle found [] a d = refl
 named_in handle found (x ∷ xs) a d = elim (cases_eq x.0 handle.place) [
@@ -128,32 +111,28 @@ pub record IsNamed (handle : Handle) (t : Timer) (found : Option Node) : Type 0 
   pub serial : node.timer.serial ≡ handle.serial
 
 named_node : (handle : Handle) (t : Timer) (found : Option Node) → timer_named handle found ≡ Some t → IsNamed handle t found
-named_node handle t None e = absurd (no_timer t e)
+named_node handle t None e = absurd (none_some t e)
 named_node handle t (Some node) e = elim (either (node.timer.serial == handle.serial)) [
   | inl s ↦
       let f : Some node.timer ≡ Some t = rw s at e in
-      record { node = node; at = refl; timer = same_timer node.timer t f; serial = eqb-true node.timer.serial handle.serial s }
-  | inr s ↦ absurd (no_timer t (rw s at e))
+      record { node = node; at = refl; timer = some_same node.timer t f; serial = eqb-true node.timer.serial handle.serial s }
+  | inr s ↦ absurd (none_some t (rw s at e))
 ]
 
-pending_named : (handle : Handle) (found : Option Node) (rows : List (ℕ × Node)) → AllByRecursion (HasNode handle.place found) rows
+pending_named : (handle : Handle) (found : Option Node) (rows : Rows) → AllByRecursion (HasNode handle.place found) rows
     → AreDistinct (timers_in rows) → first_timer (has_handle handle) (pending_in rows) ≡ timer_named handle (node_in handle.place rows)
 pending_named handle found rows a d =
     first_timer-filter (has_handle handle) (pending_in rows)
     ∙ (ap first_of_entries (filter-in_order timer_of (has_handle handle) (entries_of rows)
     ∙ ap (in_order timer_of) (named_in handle found rows a d)) ∙ one_in_order handle (node_in handle.place rows))
 
-due_named : (handle : Handle) (found : Option Node) (rows : List (ℕ × Node)) → AllByRecursion (HasNode handle.place found) rows
+due_named : (handle : Handle) (found : Option Node) (rows : Rows) → AllByRecursion (HasNode handle.place found) rows
     → AreDistinct (timers_in rows) → first_timer (has_handle handle) (entries_of rows) ≡ timer_named handle (node_in handle.place rows)
 due_named handle found rows a d =
     first_timer-filter (has_handle handle) (entries_of rows)
     ∙ (ap first_of_entries (named_in handle found rows a d) ∙ one_first handle (node_in handle.place rows))
 
 -- A place has one node, which is pending or due.
-
-found_or_none : (o : Option Timer) → first_found o None ≡ o
-found_or_none None = refl
-found_or_none (Some t) = refl
 
 -- the timers that are named on the two sides, and by the node wherever it is
 record AreSides (handle : Handle) (pending due found : Option Node) : Type 0 where
@@ -164,24 +143,24 @@ sides : (handle : Handle) (now : ℕ) (p d found : Option Node) → found ≡ fi
     → ((m : Node) → p ≡ Some m → now < m.timer.deadline)
     → ((m : Node) → d ≡ Some m → (m.timer.deadline ≡ now) × (Some m ≡ found)) → AreSides handle p d found
 sides handle now None d found e a b =
-    record { held = sym (ap (timer_named handle) e); one = λ t f. absurd (no_timer t f) }
+    record { held = sym (ap (timer_named handle) e); one = λ t f. absurd (none_some t f) }
 sides handle now (Some m) None found e a b = record {
   held = found_or_none (timer_named handle (Some m)) ∙ sym (ap (timer_named handle) e);
   one = λ t f. refl;
 }
 sides handle now (Some m) (Some k) found e a b =
-    let q : k.timer.deadline ≡ m.timer.deadline = ap (λ (y : Node). y.timer.deadline) (some_is k m ((b k refl).1 ∙ e)) in
+    let q : k.timer.deadline ≡ m.timer.deadline = ap (λ (y : Node). y.timer.deadline) (some_same k m ((b k refl).1 ∙ e)) in
     let past : k.timer.deadline ≡ now = (b k refl).0 in
     let later : now < m.timer.deadline = a m refl in
     absurd (omega arith)
 
 -- a key's rows are those of the handle
-same_rows : (handle : Handle) (node : Node) (rows : List (ℕ × Node)) → AllByRecursion (HasNode handle.place (Some node)) rows
+same_rows : (handle : Handle) (node : Node) (rows : Rows) → AllByRecursion (HasNode handle.place (Some node)) rows
     → node.timer.serial ≡ handle.serial → entries_of (without_key handle.place rows) ≡ without_handle handle (entries_of rows)
 same_rows handle node [] a s = refl
 same_rows handle node (x ∷ xs) a s = elim (cases_eq x.0 handle.place) [
   | inl k ↦
-      let q : x.1.timer.serial ≡ handle.serial = ap (λ (y : Node). y.timer.serial) (some_is x.1 node (a.0 k)) ∙ s in
+      let q : x.1.timer.serial ≡ handle.serial = ap (λ (y : Node). y.timer.serial) (some_same x.1 node (a.0 k)) ∙ s in
       rw (eq-eqb x.0 handle.place k, eq-eqb x.1.timer.serial handle.serial q) (same_rows handle node xs a.1 s)
   | inr k ↦ rw (ne_eqb x.0 handle.place k) (ap (λ (r : List Entry). entry_of x ∷ r) (same_rows handle node xs a.1 s))
 ]
@@ -191,10 +170,10 @@ module _ {n last_tick now last : ℕ} {lists : KeyedLists} (b : AreBuckets n las
   abbrev w : WheelState
   w = wheel_state n last_tick now last lists
 
-  abbrev rows : List (ℕ × Node)
+  abbrev rows : Rows
   rows = rows_below n lists
 
-  abbrev past : List (ℕ × Node)
+  abbrev past : Rows
   past = list_at n lists
 
   abbrev found : Option Node
@@ -244,7 +223,7 @@ module _ {n last_tick now last : ℕ} {lists : KeyedLists} (b : AreBuckets n las
     pub removed_state : wheel_state n last_tick now last (map (without_key handle.place) lists) ≡ after_removal handle w
     removed_state =
         let h = held_node in
-        let P : List (ℕ × Node) → Option Node → Type 0 = λ r o. AllByRecursion (HasNode handle.place o) r in
+        let P : Rows → Option Node → Type 0 = λ r o. AllByRecursion (HasNode handle.place o) r in
         let a : pending_in (rows_below n (map (without_key handle.place) lists)) ≡ without_handle handle w.pending =
         ap pending_in (rows_below-without_key n handle.place lists)
         ∙ (ap (in_order timer_of) (same_rows handle h.node rows (subst (P rows) h.at rows_have) h.serial)

@@ -1,22 +1,21 @@
 -- One tick of a hashed wheel: rounds, the invariant and the state after `swept`.
-use Rattle.std.proofs.Common.{◌≡◌, ◌≢◌, ◌<◌, ◌+◌, ◌-◌, ◌*◌, ◌/◌, ◌%◌, ℕ, zero, suc, List, [], ◌∷◌, ◌++◌, length, refl, sym, ◌∙◌, ap, subst, inl, inr, arith, length-set, get_or-set_same, get_or-set_other}
-use Rattle.std.specs.Prelude.{Bool, false, not, map, filter, slice_set}
+use Rattle.std.proofs.Common.{◌≡◌, ◌≢◌, ◌<◌, ◌+◌, ◌-◌, ◌*◌, ◌/◌, ◌%◌, ℕ, zero, suc, List, [], ◌∷◌, ◌++◌, length, refl, sym, ◌∙◌, ap, subst, inl, inr, arith, length-set, get_or-set_same, get_or-set_other, Bool, false, not, map, filter, slice_set}
 use Rattle.std.specs.List.{AllByRecursion}
 use Rattle.std.proofs.lemmas.Bool.{cases_eq, cases_lt, eq-eqb, ne_eqb}
 use Rattle.std.proofs.lemmas.Nat.{div-mul-add, mod-mul-add}
 use Rattle.std.proofs.Math.Nat.{add-mul-mod_self_left, mod-add-mod}
+use Rattle.timer_base.specs.Basics.{not_due_before, is_due}
 use Rattle.timer_base.specs.declared.timer.Timer.{Timer}
 use Rattle.timer_base.specs.Order.{in_order, AreDistinct, AreRising}
 use Rattle.timer_base.specs.OrderLaws.{filter-in_order, in_order-same, AllAt, AreRising-weaken, All-weaken}
 use Rattle.timer_base.specs.Pending.{Entry, timer_of, is_due_at, entries_due, entries_left}
 use Rattle.timer_base.specs.WheelState.{WheelState, IsPending, after_tick}
-use Rattle.timer_links.specs.declared.node.Node.{Node}
-use Rattle.timer_links.specs.Lists.{list_at, KeyedLists}
+use Rattle.timer_links.specs.Lists.{list_at, KeyedLists, Row, Rows}
 use Rattle.timer_wheels.specs.BucketLaws.{timers_of-entries, wheel_state-well_formed}
 use Rattle.timer_wheels.specs.BucketLists.{timer_in, timers_in, entry_of, entries_of, rows_below, pending_in, wheel_state, ArePending, AreInOrder, AreBuckets}
 use Rattle.timer_wheels.specs.Hashed.{IsInBucket, AreInBuckets, rounds_of}
 use Rattle.timer_wheels.specs.Sweep.{due_now, due_later, swept}
-use Rattle.timer_wheels.proofs.RowLemmas.{all-rows_below, all-list_at, append-nil, entries-append, filter-entries, filter-append, is_due}
+use Rattle.timer_wheels.proofs.RowLemmas.{all-rows_below, all-list_at, append-nil, entries-append, filter-entries, filter-append}
 use Rattle.timer_wheels.proofs.BucketLemmas.{filter-pending_in, AreDistinct-part, due_past}
 use Rattle.timer_wheels.proofs.ShownLemmas.{filter-one_list}
 
@@ -89,11 +88,11 @@ pred_of k h = omega arith
 -- Rows.
 
 -- a row of the tick's bucket after the tick
-pub record IsSweptRow (n now : ℕ) (row : ℕ × Node) : Type 0 where
+pub record IsSweptRow (n now : ℕ) (row : Row) : Type 0 where
   pub due : row.1.rounds ≡ 0 → (timer_in row).deadline ≡ now + 1
   pub later : row.1.rounds ≢ 0 → (now + 1 < (timer_in row).deadline) × (row.1.rounds - 1 ≡ rounds_of n (now + 1) (timer_in row))
 
-at_slot : (n now s : ℕ) (row : ℕ × Node) → 0 < n → s ≡ (now + 1) % n → now < (timer_in row).deadline → IsInBucket n now s row
+at_slot : (n now s : ℕ) (row : Row) → 0 < n → s ≡ (now + 1) % n → now < (timer_in row).deadline → IsInBucket n now s row
     → IsSweptRow n now row
 at_slot n now s row z e h b =
     let d : ℕ = (timer_in row).deadline in
@@ -109,7 +108,7 @@ at_slot n now s row z e h b =
     }
 
 -- a row of another bucket after it
-off_slot : (n now s : ℕ) (row : ℕ × Node) → 0 < n → s ≢ (now + 1) % n → now < (timer_in row).deadline → IsInBucket n now s row
+off_slot : (n now s : ℕ) (row : Row) → 0 < n → s ≢ (now + 1) % n → now < (timer_in row).deadline → IsInBucket n now s row
     → (now + 1 < (timer_in row).deadline) × IsInBucket n (now + 1) s row
 off_slot n now s row z e h b =
     let d : ℕ = (timer_in row).deadline in
@@ -120,30 +119,27 @@ off_slot n now s row z e h b =
     let f = same_round n now d q r (r - 1) far (pred_of r some) in
     (f.0, (b.0, b.1 ∙ sym f.1))
 
-is_not_due : (tick : ℕ) (t : Timer) → tick < t.deadline → is_due_at tick t ≡ false
-is_not_due tick t h = ne_eqb t.deadline tick (omega arith)
-
 -- the rows that stay are those of the timers that are not due
-entries-later : (n now : ℕ) (rows : List (ℕ × Node)) → AllByRecursion (IsSweptRow n now) rows
+entries-later : (n now : ℕ) (rows : Rows) → AllByRecursion (IsSweptRow n now) rows
     → entries_of (due_later rows) ≡ entries_left (now + 1) (entries_of rows)
 entries-later n now [] a = refl
 entries-later n now (x ∷ xs) a = elim (cases_eq x.1.rounds 0) [
   | inl e ↦ rw (eq-eqb x.1.rounds 0 e, is_due (now + 1) (timer_in x) (a.0.due e)) (entries-later n now xs a.1)
-  | inr e ↦ rw (ne_eqb x.1.rounds 0 e, is_not_due (now + 1) (timer_in x) (a.0.later e).0)
+  | inr e ↦ rw (ne_eqb x.1.rounds 0 e, not_due_before (now + 1) (timer_in x) (a.0.later e).0)
       (ap (λ (r : List Entry). entry_of x ∷ r) (entries-later n now xs a.1))
 ]
 
 -- and the others those that are
-entries-now : (n now : ℕ) (rows : List (ℕ × Node)) → AllByRecursion (IsSweptRow n now) rows
+entries-now : (n now : ℕ) (rows : Rows) → AllByRecursion (IsSweptRow n now) rows
     → entries_of (due_now rows) ≡ entries_due (now + 1) (entries_of rows)
 entries-now n now [] a = refl
 entries-now n now (x ∷ xs) a = elim (cases_eq x.1.rounds 0) [
   | inl e ↦ rw (eq-eqb x.1.rounds 0 e, is_due (now + 1) (timer_in x) (a.0.due e))
       (ap (λ (r : List Entry). entry_of x ∷ r) (entries-now n now xs a.1))
-  | inr e ↦ rw (ne_eqb x.1.rounds 0 e, is_not_due (now + 1) (timer_in x) (a.0.later e).0) (entries-now n now xs a.1)
+  | inr e ↦ rw (ne_eqb x.1.rounds 0 e, not_due_before (now + 1) (timer_in x) (a.0.later e).0) (entries-now n now xs a.1)
 ]
 
-rising-later : (low : ℕ) (rows : List (ℕ × Node)) → AreRising low (timers_in rows) → AreRising low (timers_in (due_later rows))
+rising-later : (low : ℕ) (rows : Rows) → AreRising low (timers_in rows) → AreRising low (timers_in (due_later rows))
 rising-later low [] r = tt
 rising-later low (x ∷ xs) r = elim (cases_eq x.1.rounds 0) [
   | inl e ↦ rw (eq-eqb x.1.rounds 0 e) (rising-later low xs (AreRising-weaken (timer_in x).serial low (timers_in xs) (let r0 : low
@@ -151,7 +147,7 @@ rising-later low (x ∷ xs) r = elim (cases_eq x.1.rounds 0) [
   | inr e ↦ rw (ne_eqb x.1.rounds 0 e) (r.0, rising-later (timer_in x).serial xs r.1)
 ]
 
-rising-now : (low : ℕ) (rows : List (ℕ × Node)) → AreRising low (timers_in rows) → AreRising low (timers_in (due_now rows))
+rising-now : (low : ℕ) (rows : Rows) → AreRising low (timers_in rows) → AreRising low (timers_in (due_now rows))
 rising-now low [] r = tt
 rising-now low (x ∷ xs) r = elim (cases_eq x.1.rounds 0) [
   | inl e ↦ rw (eq-eqb x.1.rounds 0 e) (r.0, rising-now (timer_in x).serial xs r.1)
@@ -160,13 +156,13 @@ rising-now low (x ∷ xs) r = elim (cases_eq x.1.rounds 0) [
 ]
 
 -- a pending row after the tick
-abbrev pub StaysIn : ℕ → ℕ → ℕ → ℕ → ℕ → ℕ × Node → Type 0
+abbrev pub StaysIn : ℕ → ℕ → ℕ → ℕ → ℕ → Row → Type 0
 StaysIn n last_tick now last s row = IsPending last_tick now last (timer_in row) × IsInBucket n now s row
 
 still : (last_tick now last : ℕ) (t : Timer) → IsPending last_tick now last t → now + 1 < t.deadline → IsPending last_tick (now + 1) last t
 still last_tick now last t p h = record { later = h; in_range = p.in_range; serial = p.serial }
 
-stays-later : (n last_tick now last s : ℕ) (rows : List (ℕ × Node)) → AllByRecursion (IsSweptRow n now) rows
+stays-later : (n last_tick now last s : ℕ) (rows : Rows) → AllByRecursion (IsSweptRow n now) rows
     → AllByRecursion (StaysIn n last_tick now last s) rows → AllByRecursion (StaysIn n last_tick (now + 1) last s) (due_later rows)
 stays-later n last_tick now last s [] a b = tt
 stays-later n last_tick now last s (x ∷ xs) a b = elim (cases_eq x.1.rounds 0) [
@@ -177,7 +173,7 @@ stays-later n last_tick now last s (x ∷ xs) a b = elim (cases_eq x.1.rounds 0)
   )
 ]
 
-all-due : (n now : ℕ) (rows : List (ℕ × Node)) → AllByRecursion (IsSweptRow n now) rows
+all-due : (n now : ℕ) (rows : Rows) → AllByRecursion (IsSweptRow n now) rows
     → AllAt (now + 1) (map timer_of (entries_of (due_now rows)))
 all-due n now [] a = tt
 all-due n now (x ∷ xs) a = elim (cases_eq x.1.rounds 0) [
@@ -200,16 +196,16 @@ entries_below p (suc n) (x ∷ xs) (y ∷ ys) e h =
     ∙ (ap (λ (r : List Entry). filter p (entries_of x) ++ r) (entries_below p n xs ys (omega arith) (λ t b. h (suc t) (omega arith)))
     ∙ sym (ap (filter p) (entries-append x (rows_below n xs)) ∙ filter-append p (entries_of x) (entries_of (rows_below n xs)))))
 
-append-none : (rows more : List (ℕ × Node)) → rows ≡ [] → rows ++ more ≡ more
-append-none rows more e = ap (λ (y : List (ℕ × Node)). y ++ more) e
+append-none : (rows more : Rows) → rows ≡ [] → rows ++ more ≡ more
+append-none rows more e = ap (λ (y : Rows). y ++ more) e
 
-all_left : (n last_tick now last s : ℕ) (rows : List (ℕ × Node)) → AllByRecursion (StaysIn n last_tick (now + 1) last s) rows
+all_left : (n last_tick now last s : ℕ) (rows : Rows) → AllByRecursion (StaysIn n last_tick (now + 1) last s) rows
     → entries_left (now + 1) (entries_of rows) ≡ entries_of rows
 all_left n last_tick now last s [] a = refl
-all_left n last_tick now last s (x ∷ xs) a = rw (is_not_due (now + 1) (timer_in x) a.0.0.later)
+all_left n last_tick now last s (x ∷ xs) a = rw (not_due_before (now + 1) (timer_in x) a.0.0.later)
     (ap (λ (r : List Entry). entry_of x ∷ r) (all_left n last_tick now last s xs a.1))
 
-pub both : (P Q : ℕ × Node → Type 0) (rows : List (ℕ × Node)) → AllByRecursion P rows → AllByRecursion Q rows
+pub both : (P Q : Row → Type 0) (rows : Rows) → AllByRecursion P rows → AllByRecursion Q rows
     → AllByRecursion (λ row. P row × Q row) rows
 both P Q [] a b = tt
 both P Q (x ∷ xs) a b = ((a.0, b.0), both P Q xs a.1 b.1)
@@ -271,7 +267,7 @@ module _ (n last_tick now last : ℕ) (lists : KeyedLists) (z : 0 < n) (len : le
 
   none_other : (t : ℕ) → t < n → t ≢ (now + 1) % n → AllByRecursion (λ row. is_due_at (now + 1) (timer_in row) ≡ false) (list_at t lists)
   none_other t h e = All-weaken (StaysIn n last_tick (now + 1) last t) (λ row. is_due_at (now + 1) (timer_in row)
-      ≡ false) (list_at t lists) (λ row q. is_not_due (now + 1) (timer_in row) q.0.later) (staying_rows t h e)
+      ≡ false) (list_at t lists) (λ row q. not_due_before (now + 1) (timer_in row) q.0.later) (staying_rows t h e)
 
   -- the rows that are left are those of the timers that are not due
   rows_left : entries_of (rows_below n (swept ((now + 1) % n) n lists)) ≡ entries_left (now + 1) (entries_of (rows_below n lists))
@@ -299,19 +295,19 @@ module _ (n last_tick now last : ℕ) (lists : KeyedLists) (z : 0 < n) (len : le
   ticked-distinct : AreDistinct (timers_in (rows_below n lists))
       → AreDistinct (timers_in (rows_below n (swept ((now + 1) % n) n lists)))
   ticked-distinct d =
-      let left : List (ℕ × Node) = filter (λ (row : ℕ × Node). not (is_due_at (now + 1) (timer_in row))) (rows_below n lists) in
+      let left : Rows = filter (λ (row : Row). not (is_due_at (now + 1) (timer_in row))) (rows_below n lists) in
       subst AreDistinct
       (sym (timers_of-entries left) ∙ (sym (ap (map timer_of) (rows_left
       ∙ filter-entries (λ (entry : Entry). not (is_due_at (now + 1) entry.timer)) (rows_below n lists)))
       ∙ timers_of-entries (rows_below n (swept ((now + 1) % n) n lists))))
-      (AreDistinct-part (λ (row : ℕ × Node). not (is_due_at (now + 1) (timer_in row))) (rows_below n lists) d)
+      (AreDistinct-part (λ (row : Row). not (is_due_at (now + 1) (timer_in row))) (rows_below n lists) d)
 
   -- what became due
   due_rows : AreInOrder (n + 1) lists → entries_due (now + 1) (pending_in (rows_below n lists))
       ≡ entries_of (due_now (list_at ((now + 1) % n) lists))
   due_rows o =
       filter-pending_in (λ (entry : Entry). is_due_at (now + 1) entry.timer) (rows_below n lists)
-      ∙ (ap pending_in (filter-one_list (λ (row : ℕ × Node). is_due_at (now + 1) (timer_in row)) n ((now + 1) % n) lists below
+      ∙ (ap pending_in (filter-one_list (λ (row : Row). is_due_at (now + 1) (timer_in row)) n ((now + 1) % n) lists below
       (omega (arith, below)) none_other)
       ∙ (ap (in_order timer_of) (sym (filter-entries (λ (entry : Entry). is_due_at (now + 1) entry.timer) (list_at ((now + 1) % n) lists))
       ∙ sym (entries-now n now (list_at ((now + 1) % n) lists) swept_rows))

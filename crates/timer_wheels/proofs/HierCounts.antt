@@ -1,6 +1,5 @@
 -- The counts of a hierarchy of wheels after `advance`.
-use Rattle.std.proofs.Common.{◌≡◌, ◌<◌, ◌≤◌, ◌+◌, ◌-◌, ◌*◌, ℕ, List, [], ◌∷◌, length, refl, ◌∙◌, ap, arith}
-use Rattle.std.specs.Prelude.{Bool, true, false}
+use Rattle.std.proofs.Common.{◌≡◌, ◌<◌, ◌≤◌, ◌+◌, ◌-◌, ◌*◌, ℕ, List, [], ◌∷◌, length, refl, ◌∙◌, ap, arith, Bool, true, false}
 use Rattle.timer_base.specs.Pending.{Entry}
 use Rattle.timer_base.specs.TickLaws.{after_ticks-serial}
 use Rattle.timer_base.specs.WheelState.{WheelState, Advances}

@@ -1,15 +1,14 @@
 -- Lemmas for `leap`: the first visit ahead, the clock set forward to it, and the loop of `advance_until_due`.
+use Rattle.timer_wheels.specs.declared.table.TheConstants.{MOST_BUCKETS}
 use Rattle.timer_wheels.proofs.RoomLemmas.{leaps-with_room, wake_up-with_room}
-use Rattle.std.proofs.Common.{◌≡◌, ◌<◌, ◌≤◌, ◌+◌, ◌-◌, ◌*◌, ℕ, List, [], ◌∷◌, length, refl, sym, ◌∙◌, ap, subst, inl, inr, arith}
-use Rattle.std.specs.Prelude.{Some}
+use Rattle.std.proofs.Common.{◌≡◌, ◌<◌, ◌≤◌, ◌+◌, ◌-◌, ◌*◌, ℕ, List, [], ◌∷◌, length, refl, sym, ◌∙◌, ap, subst, inl, inr, arith, Some}
 use Rattle.std.specs.List.{AllByRecursion}
 use Rattle.std.proofs.lemmas.Bool.{cases_lt}
 use Rattle.timer_base.specs.declared.limits.TheConstants.{LAST}
 use Rattle.timer_base.specs.OrderLaws.{All-weaken}
 use Rattle.timer_base.specs.WakeUps.{IsWakeUp}
 use Rattle.timer_base.specs.WheelState.{with_room, WheelState, IsPending, after_tick, after_ticks, Advances}
-use Rattle.timer_links.specs.declared.node.Node.{Node}
-use Rattle.timer_links.specs.Lists.{list_at}
+use Rattle.timer_links.specs.Lists.{list_at, Row, Rows}
 use Rattle.timer_wheels.specs.declared.buckets.Buckets.{Buckets}
 use Rattle.timer_wheels.specs.Buckets.{state_of}
 use Rattle.timer_wheels.specs.declared.table.Table.{Table}
@@ -32,7 +31,7 @@ use Rattle.timer_wheels.proofs.WakeUpLemmas.{wakes, sleeps}
 -- The next tick that empties a bucket with a timer.
 
 -- a row as the invariant knows it
-record IsKnown (table : List ℕ) (now s : ℕ) (row : ℕ × Node) : Type 0 where
+record IsKnown (table : List ℕ) (now s : ℕ) (row : Row) : Type 0 where
   later : now < (timer_in row).deadline
   digits : HasDigits table (timer_in row).deadline
   placed : bucket table now (timer_in row).deadline ≡ s
@@ -41,10 +40,10 @@ module _ (t : Table) (b : Buckets) (words : List ℕ) (h : IsHier t b words) whe
   pub last_digits : HasDigits (radices t) b.last_tick
   last_digits = let P : ℕ → Type 0 = HasDigits (radices t) in subst P (sym h.clock) (of_table t).digits
 
-  slots_fit : b.slots ≤ 640
-  slots_fit = let e : b.slots ≡ slots (radices t) = h.has_slots in let f : slots (radices t) ≤ 640 = (of_table t).few_slots in omega arith
+  slots_fit : b.slots ≤ MOST_BUCKETS
+  slots_fit = let e : b.slots ≡ slots (radices t) = h.has_slots in let f : slots (radices t) ≤ MOST_BUCKETS = (of_table t).few_slots in omega arith
 
-  known_row : (s : ℕ) (row : ℕ × Node) → IsPending b.last_tick b.tick b.last_serial (timer_in row) → IsPlaced (radices t) b.tick s row
+  known_row : (s : ℕ) (row : Row) → IsPending b.last_tick b.tick b.last_serial (timer_in row) → IsPlaced (radices t) b.tick s row
       → IsKnown (radices t) b.tick s row
   known_row s row p q = record {
     later = p.later;
@@ -53,7 +52,7 @@ module _ (t : Table) (b : Buckets) (words : List ℕ) (h : IsHier t b words) whe
     placed = q.0;
   }
 
-  known_rows : (s : ℕ) (rows : List (ℕ × Node)) → AllByRecursion (λ row. IsPending b.last_tick b.tick b.last_serial (timer_in row)) rows
+  known_rows : (s : ℕ) (rows : Rows) → AllByRecursion (λ row. IsPending b.last_tick b.tick b.last_serial (timer_in row)) rows
       → AllByRecursion (IsPlaced (radices t) b.tick s) rows → AllByRecursion (IsKnown (radices t) b.tick s) rows
   known_rows s [] p q = tt
   known_rows s (r ∷ rs) p q = (known_row s r p.0 q.0, known_rows s rs p.1 q.1)
@@ -65,14 +64,14 @@ module _ (t : Table) (b : Buckets) (words : List ℕ) (h : IsHier t b words) whe
   none_where : (s : ℕ) → s < b.slots → bit_of words s ≡ 0 → list_at s b.links.lists ≡ []
   none_where s k z = no_rows_there (list_at s b.links.lists) (sym (h.marked.0 s k) ∙ z)
 
-  pub none_ahead : (visit : ℕ) → ((s : ℕ) → s < 640 → bit_of words s ≡ 0) → AreNotVisitedBefore (radices t) b.slots b.tick visit
+  pub none_ahead : (visit : ℕ) → ((s : ℕ) → s < MOST_BUCKETS → bit_of words s ≡ 0) → AreNotVisitedBefore (radices t) b.slots b.tick visit
       b.links.lists
-  none_ahead visit f s k = let P : List (ℕ × Node) → Type 0 = AllByRecursion (λ row. visit
-      ≤ timer_visit (radices t) b.tick (timer_in row).deadline) in let r : b.slots ≤ 640 = slots_fit
+  none_ahead visit f s k = let P : Rows → Type 0 = AllByRecursion (λ row. visit
+      ≤ timer_visit (radices t) b.tick (timer_in row).deadline) in let r : b.slots ≤ MOST_BUCKETS = slots_fit
       in subst P (sym (none_where s k (f s (omega arith)))) tt
 
   -- a bit that is set is that of a bucket
-  pub first_in : (l : ℕ) → l < 640 → bit_of words l ≡ 1 → l < b.slots
+  pub first_in : (l : ℕ) → l < MOST_BUCKETS → bit_of words l ≡ 1 → l < b.slots
   first_in l f e = elim (cases_lt l b.slots) [
     | inl c ↦ c
     | inr c ↦ absurd (let z : bit_of words l ≡ 0 = h.marked.1 l c f in omega arith)
@@ -84,7 +83,7 @@ module _ (t : Table) (b : Buckets) (words : List ℕ) (h : IsHier t b words) whe
   pub first_ahead : (l visit : ℕ) → visit ≡ list_visit (radices t) l b.tick → IsFirstSet words (Some l)
       → AreNotVisitedBefore (radices t) b.slots b.tick visit b.links.lists
   first_ahead l visit e f s k = elim (cases_lt s l) [
-    | inl c ↦ let P : List (ℕ × Node) → Type 0 = AllByRecursion (λ row. visit ≤ timer_visit (radices t) b.tick (timer_in row).deadline)
+    | inl c ↦ let P : Rows → Type 0 = AllByRecursion (λ row. visit ≤ timer_visit (radices t) b.tick (timer_in row).deadline)
         in subst P (sym (none_where s k (f.2 s c))) tt
     | inr c ↦ All-weaken (IsKnown (radices t) b.tick s) (λ row. visit ≤ timer_visit (radices t) b.tick (timer_in row).deadline)
         (list_at s b.links.lists)
@@ -96,7 +95,7 @@ module _ (t : Table) (b : Buckets) (words : List ℕ) (h : IsHier t b words) whe
         (known s k)
   ]
 
-  later_by : (l : ℕ) (rows : List (ℕ × Node)) → filled rows ≡ 1 → AllByRecursion (IsKnown (radices t) b.tick l) rows
+  later_by : (l : ℕ) (rows : Rows) → filled rows ≡ 1 → AllByRecursion (IsKnown (radices t) b.tick l) rows
       → b.tick < list_visit (radices t) l b.tick
   later_by l [] e a = absurd (omega arith)
   later_by l (r ∷ rs) e a =
@@ -113,7 +112,7 @@ module _ (t : Table) (b : Buckets) (words : List ℕ) (h : IsHier t b words) whe
       let x : b.tick < list_visit (radices t) l b.tick = later_by l (list_at l b.links.lists) (sym (h.marked.0 l c) ∙ f.1) (known l c) in
       omega arith
 
-  pub filled_some : (rows : List (ℕ × Node)) → filled rows ≡ 1 → 0 < length rows
+  pub filled_some : (rows : Rows) → filled rows ≡ 1 → 0 < length rows
   filled_some [] e = absurd (omega arith)
   filled_some (r ∷ rs) e = omega arith
 
@@ -133,9 +132,9 @@ module _ (t : Table) (b : Buckets) (words : List ℕ) (h : IsHier t b words) whe
       omega arith)
       (first_ahead l visit e f s k)))
 
-  pub none_wakes : ((s : ℕ) → s < 640 → bit_of words s ≡ 0) → (state_of b).pending ≡ []
+  pub none_wakes : ((s : ℕ) → s < MOST_BUCKETS → bit_of words s ≡ 0) → (state_of b).pending ≡ []
   none_wakes f = sleeps b.slots b.last_tick b.tick b.last_serial b.links.lists
-      (λ s k. none_where s k (f s (let r : b.slots ≤ 640 = slots_fit in omega arith)))
+      (λ s k. none_where s k (f s (let r : b.slots ≤ MOST_BUCKETS = slots_fit in omega arith)))
 
 -- The clock alone advances.
 

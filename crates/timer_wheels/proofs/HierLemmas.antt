@@ -1,12 +1,11 @@
 -- The invariant of a hierarchy of wheels when it is made, after a start and a restart, and what `links` shows.
+use Rattle.timer_base.specs.Basics.{either}
 use Rattle.timer_wheels.proofs.RoomLemmas.{shows-with_room}
-use Rattle.std.proofs.Common.{◌≡◌, ◌<◌, ◌≤◌, ◌+◌, ◌*◌, ℕ, zero, suc, List, [], ◌∷◌, length, refl, sym, ◌∙◌, ap, subst, inl, inr, arith}
-use Rattle.std.specs.Prelude.{Bool, filter, not, nat_lt, replicate}
+use Rattle.std.proofs.Common.{◌≡◌, ◌<◌, ◌≤◌, ◌+◌, ◌*◌, ℕ, zero, suc, List, [], ◌∷◌, length, refl, sym, ◌∙◌, ap, subst, inl, inr, arith, Bool, filter, not, nat_lt, replicate}
 use Rattle.std.proofs.lemmas.Bool.{cases_lt}
 use Rattle.timer_base.specs.declared.timer.Timer.{Timer}
 use Rattle.timer_base.specs.declared.timer.Handle.{Handle}
 use Rattle.timer_base.specs.declared.limits.TheConstants.{LAST}
-use Rattle.timer_base.specs.OrderLaws.{either}
 use Rattle.timer_base.specs.Pending.{Entry, put, has_handle, without_handle}
 use Rattle.timer_base.specs.WheelState.{WheelState, empty_wheel, after_start, after_due_start, after_held_start}
 use Rattle.timer_base.specs.HeldLaws.{start_when_later, start_when_now, held_start-last_serial}
@@ -16,13 +15,12 @@ use Rattle.timer_wheels.specs.Buckets.{state_of}
 use Rattle.timer_wheels.specs.declared.table.Table.{Table}
 use Rattle.timer_wheels.specs.Tables.{radices}
 use Rattle.timer_wheels.specs.Digits.{slots, level, last_of}
-use Rattle.timer_wheels.proofs.DigitLaws.{level_in_table, digits_down}
+use Rattle.timer_wheels.proofs.DigitLaws.{level_in_table, digits_down, IsHierTable}
 use Rattle.timer_wheels.specs.BucketLists.{EachRow}
 use Rattle.timer_wheels.specs.Placement.{IsPlaced, bucket_at, no_rounds, levels_of, IsPaid, most_moves}
 use Rattle.timer_wheels.proofs.BucketLemmas.{each-none}
 use Rattle.timer_wheels.specs.Shown.{ShowsBuckets}
 use Rattle.timer_wheels.proofs.ShownLemmas.{shows}
-use Rattle.timer_wheels.proofs.TableLaws.{IsClock}
 use Rattle.std.proofs.lemmas.Nat.{mul-le}
 
 -- The levels of the timers that are pending.
@@ -105,7 +103,7 @@ module _ (table : List ℕ) (old new : Buckets) (starts moves : ℕ) (p : IsPaid
     left = paid_less moves (levels_of table old.tick rest.pending) (levels_of table old.tick (state_of old).pending)
         (most_moves table * starts) y p
 
-    pending_start : IsClock table → old.tick < t.deadline → t.deadline ≤ last_of table → state_of new ≡ after_start place t rest
+    pending_start : IsHierTable table → old.tick < t.deadline → t.deadline ≤ last_of table → state_of new ≡ after_start place t rest
         → IsPaid table (starts + 1) moves new.tick (state_of new).pending
     pending_start k later range e =
         let x : levels_of table new.tick (state_of new).pending ≡ level table old.tick t.deadline + levels_of table old.tick rest.pending =
@@ -126,7 +124,7 @@ module _ (table : List ℕ) (old new : Buckets) (starts moves : ℕ) (p : IsPaid
         paid_more moves (levels_of table new.tick (state_of new).pending) 0 (levels_of table old.tick rest.pending)
         (most_moves table) starts (omega arith) (omega arith) left
 
-    pub paid_start : IsClock table → old.tick ≤ t.deadline → t.deadline ≤ last_of table → state_of new ≡ after_held_start place t rest
+    pub paid_start : IsHierTable table → old.tick ≤ t.deadline → t.deadline ≤ last_of table → state_of new ≡ after_held_start place t rest
         → IsPaid table (starts + 1) moves new.tick (state_of new).pending
     paid_start k not_past range e = elim (cases_lt old.tick t.deadline) [
       | inl later ↦ pending_start k later range (e ∙ start_when_later place t rest (omega arith))
@@ -156,7 +154,7 @@ paid_at starts moves b old new e p = let P : Table → Type 0 = λ t. IsPaid (ra
 
 -- Counts that do not overflow.
 
-pub paid_bound : (table : List ℕ) (starts moves last_serial now : ℕ) (es : List Entry) → IsClock table → starts ≤ last_serial
+pub paid_bound : (table : List ℕ) (starts moves last_serial now : ℕ) (es : List Entry) → IsHierTable table → starts ≤ last_serial
     → last_serial ≤ LAST → IsPaid table starts moves now es → moves + levels_of table now es ≤ 9 * LAST
 paid_bound table starts moves last_serial now es k f r p =
     let t : most_moves table ≤ 9 = k.few_wheels in

@@ -1,23 +1,22 @@
 -- One tick of a hierarchy of wheels: the invariant, the state and the moves after `migrated`.
-use Rattle.std.proofs.Common.{◌≡◌, ◌≢◌, ◌<◌, ◌≤◌, ◌+◌, ℕ, suc, ◌==◌, ◌⊎◌, List, [], ◌∷◌, ◌++◌, length, refl, sym, ◌∙◌, ap, subst, inl, inr, arith, length-set, get_or-set_same, get_or-set_other}
-use Rattle.std.specs.Prelude.{Bool, true, false, filter, not, if◌then◌else◌, slice_set}
+use Rattle.std.proofs.Common.{◌≡◌, ◌≢◌, ◌<◌, ◌≤◌, ◌+◌, ℕ, suc, ◌==◌, ◌⊎◌, List, [], ◌∷◌, ◌++◌, length, refl, sym, ◌∙◌, ap, subst, inl, inr, arith, length-set, get_or-set_same, get_or-set_other, Bool, true, false, filter, not, if◌then◌else◌, slice_set}
 use Rattle.std.specs.List.{AllByRecursion}
 use Rattle.std.proofs.lemmas.Bool.{cases_eq, cases_lt, eq-eqb, ne_eqb, eqb-true, eqb-false}
 use Rattle.std.proofs.lemmas.Bool.Decides.{nat_tests}
+use Rattle.timer_base.specs.Basics.{is_not_due, is_due, either}
 use Rattle.timer_base.specs.declared.timer.Timer.{Timer}
 use Rattle.timer_base.specs.Order.{AreDistinct, AreRising, in_order, insert_in_order, is_before}
-use Rattle.timer_base.specs.OrderLaws.{either, map-in_order, in_order-same, AllAt, All-filter, All-weaken, All-in_order}
+use Rattle.timer_base.specs.OrderLaws.{map-in_order, in_order-same, AllAt, All-filter, All-weaken, All-in_order}
 use Rattle.timer_base.specs.Pending.{Entry, timer_of, is_due_at, entries_due, entries_left}
 use Rattle.timer_base.specs.WheelState.{WheelState, IsPending, after_tick}
-use Rattle.timer_links.specs.declared.node.Node.{Node}
-use Rattle.timer_links.specs.Lists.{list_at, KeyedLists}
+use Rattle.timer_links.specs.Lists.{list_at, KeyedLists, Row, Rows}
 use Rattle.timer_wheels.specs.Digits.{IsTable, HasDigits, level, lowest, slots_below, slots, bucket, emptied, hops, last_of, BucketAtTick}
 use Rattle.timer_wheels.proofs.DigitLaws.{bucket_at_tick, digits_down, emptied_in_range}
 use Rattle.timer_wheels.specs.BucketLaws.{wheel_state-well_formed}
 use Rattle.timer_wheels.specs.BucketLists.{timer_in, timers_in, entry_of, entries_of, rows_below, pending_in, ArePending, AreInOrder, AreBuckets, EachRow, wheel_state}
 use Rattle.timer_wheels.specs.Placement.{IsPlaced, hops_of, levels_of}
 use Rattle.timer_wheels.specs.Migration.{target, migrated, due_rows, left_rows, MayMigrate, IsOfTick}
-use Rattle.timer_wheels.proofs.RowLemmas.{all-append, all-front, all-rest, all-rows_below, all-list_at, IsAround, around, append-nil, all-entries, is_due}
+use Rattle.timer_wheels.proofs.RowLemmas.{all-append, all-front, all-rest, all-rows_below, all-list_at, IsAround, around, append-nil, all-entries}
 use Rattle.std.proofs.lemmas.List.Elements.{filter-append}
 use Rattle.timer_wheels.proofs.BucketLemmas.{filter-pending_in, AreRising-part, no_rows, due_past}
 use Rattle.timer_wheels.proofs.MigrationLemmas.{target_due, target_left, migrate_rows-length, to_list, list_at-migrate_rows, Distinct, distinct-filter, in_order-pulled, distinct-pulled, GoesDown, AreMigrated, migrate_rows_keeps}
@@ -32,18 +31,18 @@ pub record IsBefore (table : List ℕ) (last_tick a last_serial : ℕ) (lists : 
   pub none_due : list_at (slots table) lists ≡ []
 
 -- the invariant of each row of a bucket before the tick
-record KnownRow (table : List ℕ) (last_tick a last_serial s : ℕ) (row : ℕ × Node) : Type 0 where
+record KnownRow (table : List ℕ) (last_tick a last_serial s : ℕ) (row : Row) : Type 0 where
   placed : IsPlaced table a s row
   pending : IsPending last_tick a last_serial (timer_in row)
   bucket_at_tick : BucketAtTick table a (timer_in row).deadline
 
-all-both : (P Q R : ℕ × Node → Type 0) (xs : List (ℕ × Node)) → ((x : ℕ × Node) → P x → Q x → R x) → AllByRecursion P xs
+all-both : (P Q R : Row → Type 0) (xs : Rows) → ((x : Row) → P x → Q x → R x) → AllByRecursion P xs
     → AllByRecursion Q xs → AllByRecursion R xs
 all-both P Q R [] f a b = tt
 all-both P Q R (x ∷ xs) f a b = (f x a.0 b.0, all-both P Q R xs f a.1 b.1)
 
 -- a list that can have no row is empty
-none_known : (P : ℕ × Node → Type 0) (xs : List (ℕ × Node)) → AllByRecursion P xs → ((x : ℕ × Node) → P x → ⊥) → xs ≡ []
+none_known : (P : Row → Type 0) (xs : Rows) → AllByRecursion P xs → ((x : Row) → P x → ⊥) → xs ≡ []
 none_known P [] a f = refl
 none_known P (x ∷ xs) a f = absurd (f x a.0)
 
@@ -55,21 +54,18 @@ due_means tick t h = eqb-true t.deadline tick h
 left_means : (tick : ℕ) (t : Timer) → is_due_at tick t ≡ false → t.deadline ≢ tick
 left_means tick t h = eqb-false t.deadline tick h
 
-is_left : (tick : ℕ) (t : Timer) → t.deadline ≢ tick → is_due_at tick t ≡ false
-is_left tick t h = ne_eqb t.deadline tick h
-
 -- a row of the list that is emptied: it is due, or moves below the wheels that have timers
-abbrev RowLeaves : List ℕ → ℕ → ℕ → ℕ × Node → Type 0
+abbrev RowLeaves : List ℕ → ℕ → ℕ → Row → Type 0
 RowLeaves table a m row = ((timer_in row).deadline ≡ a + 1) ⊎ (((timer_in row).deadline ≢ a + 1)
     × ((level table (a + 1) (timer_in row).deadline < level table a (timer_in row).deadline)
     × (bucket table (a + 1) (timer_in row).deadline < m)))
 
 -- a row of another list: it stays
-abbrev RowStays : List ℕ → ℕ → ℕ → ℕ × Node → Type 0
+abbrev RowStays : List ℕ → ℕ → ℕ → Row → Type 0
 RowStays table a s row = ((timer_in row).deadline ≢ a + 1) × ((level table (a + 1) (timer_in row).deadline
     ≡ level table a (timer_in row).deadline) × (bucket table (a + 1) (timer_in row).deadline ≡ s))
 
-row_leaves : (table : List ℕ) (last_tick a last_serial : ℕ) (row : ℕ × Node)
+row_leaves : (table : List ℕ) (last_tick a last_serial : ℕ) (row : Row)
     → KnownRow table last_tick a last_serial (emptied table (a + 1)) row → RowLeaves table a (slots_below (lowest table (a + 1)) table) row
 row_leaves table last_tick a last_serial row h = elim (cases_eq (timer_in row).deadline (a + 1)) [
   | inl e ↦ inl e
@@ -79,7 +75,7 @@ row_leaves table last_tick a last_serial row h = elim (cases_eq (timer_in row).d
   ]
 ]
 
-row_stays : (table : List ℕ) (last_tick a last_serial s : ℕ) (row : ℕ × Node) → s ≢ emptied table (a + 1)
+row_stays : (table : List ℕ) (last_tick a last_serial s : ℕ) (row : Row) → s ≢ emptied table (a + 1)
     → KnownRow table last_tick a last_serial s row → RowStays table a s row
 row_stays table last_tick a last_serial s row n h = elim h.bucket_at_tick.is [
   | inl y ↦ absurd (n (sym h.placed.0 ∙ y.0))
@@ -87,55 +83,55 @@ row_stays table last_tick a last_serial s row n h = elim h.bucket_at_tick.is [
 ]
 
 -- where a row that moves can't go
-not_above : (table : List ℕ) (a m s : ℕ) (row : ℕ × Node) → RowLeaves table a m row → m ≤ s → s < slots table
+not_above : (table : List ℕ) (a m s : ℕ) (row : Row) → RowLeaves table a m row → m ≤ s → s < slots table
     → (target table (a + 1) row == s) ≡ false
 not_above table a m s row (inl e) h b = rw (target_due table (a + 1) row (is_due (a + 1) (timer_in row) e))
     (ne_eqb (slots table) s (λ (x : slots table ≡ s). omega arith))
 not_above table a m s row (inr y) h b =
     let z : bucket table (a + 1) (timer_in row).deadline < m = y.1.1 in
-    rw (target_left table (a + 1) row (is_left (a + 1) (timer_in row) y.0))
+    rw (target_left table (a + 1) row (is_not_due (a + 1) (timer_in row) y.0))
     (ne_eqb (bucket table (a + 1) (timer_in row).deadline) s (λ (x : bucket table (a + 1) (timer_in row).deadline ≡ s). omega arith))
 
-none_to : (table : List ℕ) (a m s : ℕ) (rows : List (ℕ × Node)) → AllByRecursion (RowLeaves table a m) rows → m ≤ s → s < slots table
+none_to : (table : List ℕ) (a m s : ℕ) (rows : Rows) → AllByRecursion (RowLeaves table a m) rows → m ≤ s → s < slots table
     → to_list table (a + 1) s rows ≡ []
 none_to table a m s [] g h b = refl
 none_to table a m s (x ∷ xs) g h b = rw (not_above table a m s x g.0 h b) (none_to table a m s xs g.1 h b)
 
 -- the due rows are those that move to the last list
-last_test : (table : List ℕ) (a m : ℕ) (row : ℕ × Node) → RowLeaves table a m row → m ≤ slots table
+last_test : (table : List ℕ) (a m : ℕ) (row : Row) → RowLeaves table a m row → m ≤ slots table
     → (target table (a + 1) row == slots table) ≡ is_due_at (a + 1) (timer_in row)
 last_test table a m row (inl e) h = rw (target_due table (a + 1) row (is_due (a + 1) (timer_in row) e))
     (eq-eqb (slots table) (slots table) refl ∙ sym (is_due (a + 1) (timer_in row) e))
 last_test table a m row (inr y) h =
     let z : bucket table (a + 1) (timer_in row).deadline < m = y.1.1 in
-    rw (target_left table (a + 1) row (is_left (a + 1) (timer_in row) y.0))
+    rw (target_left table (a + 1) row (is_not_due (a + 1) (timer_in row) y.0))
     (ne_eqb (bucket table (a + 1) (timer_in row).deadline) (slots table)
-    (λ (x : bucket table (a + 1) (timer_in row).deadline ≡ slots table). omega arith) ∙ sym (is_left (a + 1) (timer_in row) y.0))
+    (λ (x : bucket table (a + 1) (timer_in row).deadline ≡ slots table). omega arith) ∙ sym (is_not_due (a + 1) (timer_in row) y.0))
 
-filter_alike : (p q : ℕ × Node → Bool) (xs : List (ℕ × Node)) → AllByRecursion (λ x. p x ≡ q x) xs → filter p xs ≡ filter q xs
+filter_alike : (p q : Row → Bool) (xs : Rows) → AllByRecursion (λ x. p x ≡ q x) xs → filter p xs ≡ filter q xs
 filter_alike p q [] e = refl
 filter_alike p q (x ∷ xs) e = elim (either (q x)) [
-  | inl k ↦ rw (e.0, k) (ap (λ (r : List (ℕ × Node)). x ∷ r) (filter_alike p q xs e.1))
+  | inl k ↦ rw (e.0, k) (ap (λ (r : Rows). x ∷ r) (filter_alike p q xs e.1))
   | inr k ↦ rw (e.0, k) (filter_alike p q xs e.1)
 ]
 
 -- if none is due
-none_due_rows : (tick : ℕ) (xs : List (ℕ × Node)) → AllByRecursion (λ row. (timer_in row).deadline ≢ tick) xs → due_rows tick xs ≡ []
+none_due_rows : (tick : ℕ) (xs : Rows) → AllByRecursion (λ row. (timer_in row).deadline ≢ tick) xs → due_rows tick xs ≡ []
 none_due_rows tick [] h = refl
-none_due_rows tick (x ∷ xs) h = rw (is_left tick (timer_in x) h.0) (none_due_rows tick xs h.1)
+none_due_rows tick (x ∷ xs) h = rw (is_not_due tick (timer_in x) h.0) (none_due_rows tick xs h.1)
 
-all_left_rows : (tick : ℕ) (xs : List (ℕ × Node)) → AllByRecursion (λ row. (timer_in row).deadline ≢ tick) xs → left_rows tick xs ≡ xs
+all_left_rows : (tick : ℕ) (xs : Rows) → AllByRecursion (λ row. (timer_in row).deadline ≢ tick) xs → left_rows tick xs ≡ xs
 all_left_rows tick [] h = refl
-all_left_rows tick (x ∷ xs) h = rw (is_left tick (timer_in x) h.0) (ap (λ (r : List (ℕ × Node)). x ∷ r) (all_left_rows tick xs h.1))
+all_left_rows tick (x ∷ xs) h = rw (is_not_due tick (timer_in x) h.0) (ap (λ (r : Rows). x ∷ r) (all_left_rows tick xs h.1))
 
-all_due_at : (tick : ℕ) (xs : List (ℕ × Node)) → AllAt tick (timers_in (due_rows tick xs))
+all_due_at : (tick : ℕ) (xs : Rows) → AllAt tick (timers_in (due_rows tick xs))
 all_due_at tick [] = tt
 all_due_at tick (x ∷ xs) = elim (either (is_due_at tick (timer_in x))) [
   | inl k ↦ rw k (due_means tick (timer_in x) k, all_due_at tick xs)
   | inr k ↦ rw k (all_due_at tick xs)
 ]
 
-pub pending_in-rows : (rows : List (ℕ × Node)) → pending_in rows ≡ entries_of (in_order timer_in rows)
+pub pending_in-rows : (rows : Rows) → pending_in rows ≡ entries_of (in_order timer_in rows)
 pending_in-rows rows = sym (map-in_order timer_in timer_of entry_of (λ x. refl) rows)
 
 -- Hops.
@@ -169,10 +165,10 @@ hop_pays : (table : List ℕ) (a d : ℕ) → level table (a + 1) d ≤ level ta
 hop_pays table a d h = grind (arith, nat_tests)
 
 -- how many of the rows move
-abbrev row_hops : List ℕ → ℕ → List (ℕ × Node) → ℕ
+abbrev row_hops : List ℕ → ℕ → Rows → ℕ
 row_hops table a rows = hops_of table a 1 (entries_of rows)
 
-hops-append : (table : List ℕ) (a : ℕ) (xs ys : List (ℕ × Node)) → row_hops table a (xs ++ ys) ≡ row_hops table a xs + row_hops table a ys
+hops-append : (table : List ℕ) (a : ℕ) (xs ys : Rows) → row_hops table a (xs ++ ys) ≡ row_hops table a xs + row_hops table a ys
 hops-append table a [] ys = omega arith
 hops-append table a (x ∷ xs) ys = let h : row_hops table a (xs ++ ys) ≡ row_hops table a xs + row_hops table a ys =
     hops-append table a xs ys in omega (arith, h)
@@ -193,14 +189,14 @@ hops_of-in_order table a k [] = refl
 hops_of-in_order table a k (x ∷ xs) = hops-insert table a k x (in_order timer_of xs)
     ∙ ap (λ (v : ℕ). hops table a k x.timer.deadline + v) (hops_of-in_order table a k xs)
 
-no_row_hops : (table : List ℕ) (a : ℕ) (xs : List (ℕ × Node)) → AllByRecursion (λ row. hops table a 1 (timer_in row).deadline ≡ 0) xs
+no_row_hops : (table : List ℕ) (a : ℕ) (xs : Rows) → AllByRecursion (λ row. hops table a 1 (timer_in row).deadline ≡ 0) xs
     → row_hops table a xs ≡ 0
 no_row_hops table a [] h = refl
 no_row_hops table a (x ∷ xs) h = let ih : row_hops table a xs ≡ 0 = no_row_hops table a xs h.1
     in let e : hops table a 1 (timer_in x).deadline ≡ 0 = h.0 in
     none_and_none (hops table a 1 (timer_in x).deadline) (row_hops table a xs) e ih
 
-all_row_hops : (table : List ℕ) (a : ℕ) (xs : List (ℕ × Node)) → AllByRecursion (λ row. hops table a 1 (timer_in row).deadline
+all_row_hops : (table : List ℕ) (a : ℕ) (xs : Rows) → AllByRecursion (λ row. hops table a 1 (timer_in row).deadline
     ≡ (if is_due_at (a + 1) (timer_in row) then 0 else 1)) xs → row_hops table a xs ≡ length (left_rows (a + 1) xs)
 all_row_hops table a [] h = refl
 all_row_hops table a (x ∷ xs) h = elim (either (is_due_at (a + 1) (timer_in x))) [
@@ -218,7 +214,7 @@ module _ (table : List ℕ) (last_tick a last_serial : ℕ) (lists : KeyedLists)
   abbrev l : ℕ
   l = emptied table (a + 1)
 
-  abbrev rows_l : List (ℕ × Node)
+  abbrev rows_l : Rows
   rows_l = list_at (emptied table (a + 1)) lists
 
   abbrev m : ℕ
@@ -286,11 +282,11 @@ module _ (table : List ℕ) (last_tick a last_serial : ℕ) (lists : KeyedLists)
       let z : list_at s lists ≡ [] = none_known (KnownRow table last_tick a last_serial s) (list_at s lists) (known_rows s (omega arith))
       (λ row w. let x : m ≤ bucket table a (timer_in row).deadline = w.bucket_at_tick.not_below
       in let y : bucket table a (timer_in row).deadline ≡ s = w.placed.0 in omega arith) in
-      list_at-after s (omega arith) ∙ ap (λ (r : List (ℕ × Node)). r ++ to_list table (a + 1) s rows_l) (list_at-base s n ∙ z)
+      list_at-after s (omega arith) ∙ ap (λ (r : Rows). r ++ to_list table (a + 1) s rows_l) (list_at-base s n ∙ z)
 
   -- every other list is unchanged, and the emptied one is empty
   above : (s : ℕ) → m ≤ s → s < slots table → list_at s after ≡ list_at s base
-  above s h k = list_at-after s (omega arith) ∙ (ap (λ (r : List (ℕ × Node)). list_at s base ++ r)
+  above s h k = list_at-after s (omega arith) ∙ (ap (λ (r : Rows). list_at s base ++ r)
       (none_to table a m s rows_l all_going h k) ∙ append-nil (list_at s base))
 
   pub due_list : list_at (slots table) after ≡ due_rows (a + 1) rows_l
@@ -299,20 +295,17 @@ module _ (table : List ℕ) (last_tick a last_serial : ℕ) (lists : KeyedLists)
       let q : m ≤ l = not_below_m in
       let n : slots table ≢ l = λ (e : slots table ≡ l). omega arith in
       list_at-after (slots table) (omega arith)
-      ∙ (ap (λ (r : List (ℕ × Node)). r ++ to_list table (a + 1) (slots table) rows_l) (list_at-base (slots table) n ∙ b.none_due)
+      ∙ (ap (λ (r : Rows). r ++ to_list table (a + 1) (slots table) rows_l) (list_at-base (slots table) n ∙ b.none_due)
       ∙ filter_alike (λ row. target table (a + 1) row == slots table) (λ row. is_due_at (a + 1) (timer_in row)) rows_l
       (All-weaken (RowLeaves table a m) (λ row. (target table (a + 1) row == slots table)
       ≡ is_due_at (a + 1) (timer_in row)) rows_l (λ row g. last_test table a m row g (omega arith)) all_going))
 
   -- Each list is in order of starting.
 
-  order_of : (s : ℕ) → s < slots table + 1 → AreRising 0 (timers_in (list_at s lists))
-  order_of s h = b.sound.in_order s h
-
   rising_l : AreRising 0 (timers_in rows_l)
   rising_l = b.sound.in_order l (let k : l < slots table = l_in_range in omega arith)
 
-  abbrev Rising : List (ℕ × Node) → Type 0
+  abbrev Rising : Rows → Type 0
   Rising rows = AreRising 0 (timers_in rows)
 
   pub after-in_order : AreInOrder (slots table + 1) after
@@ -332,10 +325,10 @@ module _ (table : List ℕ) (last_tick a last_serial : ℕ) (lists : KeyedLists)
 
   -- Each row stands where it belongs.
 
-  abbrev Fits : ℕ → ℕ × Node → Type 0
+  abbrev Fits : ℕ → Row → Type 0
   Fits s row = IsPlaced table (a + 1) s row × IsPending last_tick (a + 1) last_serial (timer_in row)
 
-  later : (row : ℕ × Node) → IsPending last_tick a last_serial (timer_in row) → (timer_in row).deadline ≢ a + 1
+  later : (row : Row) → IsPending last_tick a last_serial (timer_in row) → (timer_in row).deadline ≢ a + 1
       → IsPending last_tick (a + 1) last_serial (timer_in row)
   later row p n = record {
     later = (let h : a < (timer_in row).deadline = p.later in omega arith);
@@ -343,19 +336,19 @@ module _ (table : List ℕ) (last_tick a last_serial : ℕ) (lists : KeyedLists)
     serial = p.serial;
   }
 
-  fits_staying : (s : ℕ) → s ≢ l → (row : ℕ × Node) → KnownRow table last_tick a last_serial s row → Fits s row
+  fits_staying : (s : ℕ) → s ≢ l → (row : Row) → KnownRow table last_tick a last_serial s row → Fits s row
   fits_staying s n row h =
       let k = row_stays table last_tick a last_serial s row n h in
       ((k.1.1, h.placed.1), later row h.pending k.0)
 
-  fits_going : (s : ℕ) → s < slots table → (row : ℕ × Node) → (target table (a + 1) row == s) ≡ true
+  fits_going : (s : ℕ) → s < slots table → (row : Row) → (target table (a + 1) row == s) ≡ true
       → KnownRow table last_tick a last_serial l row → Fits s row
   fits_going s h row e k =
       let f : target table (a + 1) row ≡ s = eqb-true (target table (a + 1) row) s e in
       elim (cases_eq (timer_in row).deadline (a + 1)) [
         | inl d ↦ absurd (let g : target table (a + 1) row ≡ slots table = target_due table (a + 1) row (is_due (a + 1) (timer_in row) d)
             in omega arith)
-        | inr n ↦ ((sym (target_left table (a + 1) row (is_left (a + 1) (timer_in row) n)) ∙ f, k.placed.1), later row k.pending n)
+        | inr n ↦ ((sym (target_left table (a + 1) row (is_not_due (a + 1) (timer_in row) n)) ∙ f, k.placed.1), later row k.pending n)
       ]
 
   base_fits : (s : ℕ) → s < slots table → AllByRecursion (Fits s) (list_at s base)
@@ -406,7 +399,7 @@ module _ (table : List ℕ) (last_tick a last_serial : ℕ) (lists : KeyedLists)
   distinct_around : Distinct (around_l.front ++ (rows_l ++ around_l.rest))
   distinct_around = subst Distinct around_l.rows b.sound.distinct
 
-  goes_down : (row : ℕ × Node) → RowLeaves table a m row → GoesDown table (a + 1) row
+  goes_down : (row : Row) → RowLeaves table a m row → GoesDown table (a + 1) row
   goes_down row (inl e) f = absurd (left_means (a + 1) (timer_in row) f e)
   goes_down row (inr y) f =
       let z : bucket table (a + 1) (timer_in row).deadline < m = y.1.1 in
@@ -417,34 +410,34 @@ module _ (table : List ℕ) (last_tick a last_serial : ℕ) (lists : KeyedLists)
   keeps : AreMigrated table (a + 1) rows_l base
   keeps = migrate_rows_keeps table (a + 1) rows_l base base-length
       (All-weaken (RowLeaves table a m) (GoesDown table (a + 1)) rows_l goes_down all_going)
-      (let P : List (ℕ × Node) → Type 0 = λ rows. Distinct (rows_l ++ rows)
+      (let P : Rows → Type 0 = λ rows. Distinct (rows_l ++ rows)
       in subst P (sym base_rows) (distinct-pulled around_l.front rows_l around_l.rest distinct_around))
 
   pub after-distinct : AreDistinct (timers_in (rows_below (slots table) after))
   after-distinct = keeps.distinct
 
-  parts : (p : ℕ × Node → Bool) → filter p (rows_below (slots table) lists)
+  parts : (p : Row → Bool) → filter p (rows_below (slots table) lists)
       ≡ filter p around_l.front ++ (filter p rows_l ++ filter p around_l.rest)
   parts p = ap (filter p) around_l.rows ∙ (filter-append p around_l.front (rows_l ++ around_l.rest)
-      ∙ ap (λ (r : List (ℕ × Node)). filter p around_l.front ++ r) (filter-append p rows_l around_l.rest))
+      ∙ ap (λ (r : Rows). filter p around_l.front ++ r) (filter-append p rows_l around_l.rest))
 
   left_parts : left_rows (a + 1) (rows_below (slots table) lists) ≡ around_l.front ++ (left_rows (a + 1) rows_l ++ around_l.rest)
   left_parts = parts (λ row. not (is_due_at (a + 1) (timer_in row)))
-      ∙ (ap (λ (r : List (ℕ × Node)). r ++ (left_rows (a + 1) rows_l ++ left_rows (a + 1) around_l.rest))
+      ∙ (ap (λ (r : Rows). r ++ (left_rows (a + 1) rows_l ++ left_rows (a + 1) around_l.rest))
       (all_left_rows (a + 1) around_l.front not_due_front)
-      ∙ ap (λ (r : List (ℕ × Node)). around_l.front ++ (left_rows (a + 1) rows_l ++ r)) (all_left_rows (a + 1) around_l.rest not_due_rest))
+      ∙ ap (λ (r : Rows). around_l.front ++ (left_rows (a + 1) rows_l ++ r)) (all_left_rows (a + 1) around_l.rest not_due_rest))
 
   due_parts : due_rows (a + 1) (rows_below (slots table) lists) ≡ due_rows (a + 1) rows_l
   due_parts = parts (λ row. is_due_at (a + 1) (timer_in row))
-      ∙ (ap (λ (r : List (ℕ × Node)). r ++ (due_rows (a + 1) rows_l ++ due_rows (a + 1) around_l.rest))
+      ∙ (ap (λ (r : Rows). r ++ (due_rows (a + 1) rows_l ++ due_rows (a + 1) around_l.rest))
       (none_due_rows (a + 1) around_l.front not_due_front)
-      ∙ (ap (λ (r : List (ℕ × Node)). due_rows (a + 1) rows_l ++ r) (none_due_rows (a + 1) around_l.rest not_due_rest)
+      ∙ (ap (λ (r : Rows). due_rows (a + 1) rows_l ++ r) (none_due_rows (a + 1) around_l.rest not_due_rest)
       ∙ append-nil (due_rows (a + 1) rows_l)))
 
   left_ordered : in_order timer_in (rows_below (slots table) after) ≡ in_order timer_in (left_rows (a + 1) (rows_below (slots table) lists))
   left_ordered =
       keeps.pending
-      ∙ (ap (λ (r : List (ℕ × Node)). in_order timer_in (left_rows (a + 1) rows_l ++ r)) base_rows
+      ∙ (ap (λ (r : Rows). in_order timer_in (left_rows (a + 1) rows_l ++ r)) base_rows
       ∙ (sym (in_order-pulled around_l.front (left_rows (a + 1) rows_l) around_l.rest
       (subst Distinct left_parts (distinct-filter (λ row. not (is_due_at (a + 1) (timer_in row)))
       (rows_below (slots table) lists) b.sound.distinct)))
@@ -470,11 +463,11 @@ module _ (table : List ℕ) (last_tick a last_serial : ℕ) (lists : KeyedLists)
 
   -- How many timers move.
 
-  going_hop : (row : ℕ × Node) → KnownRow table last_tick a last_serial l row
+  going_hop : (row : Row) → KnownRow table last_tick a last_serial l row
       → hops table a 1 (timer_in row).deadline ≡ (if is_due_at (a + 1) (timer_in row) then 0 else 1)
   going_hop row h = elim (row_leaves table last_tick a last_serial row h) [
     | inl e ↦ rw (is_due (a + 1) (timer_in row) e) (no_hop_due table a (timer_in row).deadline e)
-    | inr y ↦ rw (is_left (a + 1) (timer_in row) y.0) (hop_when table a (timer_in row).deadline (let n : (timer_in row).deadline ≢ a + 1 =
+    | inr y ↦ rw (is_not_due (a + 1) (timer_in row) y.0) (hop_when table a (timer_in row).deadline (let n : (timer_in row).deadline ≢ a + 1 =
         y.0 in let p : a < (timer_in row).deadline = h.pending.later in omega arith) y.1.0)
   ]
 
@@ -511,7 +504,7 @@ module _ (table : List ℕ) (last_tick a last_serial : ℕ) (lists : KeyedLists)
 
   -- The preconditions of the emptying.
 
-  may_migrate : last_tick ≤ last_of table → (row : ℕ × Node) → KnownRow table last_tick a last_serial l row → MayMigrate table (a + 1) l row
+  may_migrate : last_tick ≤ last_of table → (row : Row) → KnownRow table last_tick a last_serial l row → MayMigrate table (a + 1) l row
   may_migrate range row h = record {
     elsewhere = elsewhere (row_leaves table last_tick a last_serial row h);
     not_past = (let p : a < (timer_in row).deadline = h.pending.later in omega arith);
@@ -521,7 +514,7 @@ module _ (table : List ℕ) (last_tick a last_serial : ℕ) (lists : KeyedLists)
     elsewhere (inl e) = λ (x : target table (a + 1) row ≡ l). let g : target table (a + 1) row ≡ slots table =
         target_due table (a + 1) row (is_due (a + 1) (timer_in row) e) in let k : l < slots table = l_in_range in omega arith
     elsewhere (inr y) = λ (x : target table (a + 1) row ≡ l). let g : target table (a + 1) row
-        ≡ bucket table (a + 1) (timer_in row).deadline = target_left table (a + 1) row (is_left (a + 1) (timer_in row) y.0)
+        ≡ bucket table (a + 1) (timer_in row).deadline = target_left table (a + 1) row (is_not_due (a + 1) (timer_in row) y.0)
         in let z : bucket table (a + 1) (timer_in row).deadline < m = y.1.1 in let q : m ≤ l = not_below_m in omega arith
 
   pub all_may_migrate : last_tick ≤ last_of table → AllByRecursion (MayMigrate table (a + 1) l) rows_l
@@ -532,7 +525,7 @@ module _ (table : List ℕ) (last_tick a last_serial : ℕ) (lists : KeyedLists)
 
   pub all_of_tick : m ≡ 0 → AllByRecursion (IsOfTick (a + 1)) rows_l
   all_of_tick z = All-weaken (RowLeaves table a m) (IsOfTick (a + 1)) rows_l of_tick all_going where
-    of_tick : (row : ℕ × Node) → RowLeaves table a m row → IsOfTick (a + 1) row
+    of_tick : (row : Row) → RowLeaves table a m row → IsOfTick (a + 1) row
     of_tick row (inl e) = e
     of_tick row (inr y) = absurd (let k : bucket table (a + 1) (timer_in row).deadline < m = y.1.1 in omega arith)
 
@@ -562,12 +555,12 @@ levels_pay table a (e ∷ es) h =
           (levels_of table (a + 1) (entries_left (a + 1) es)) (levels_of table a es) p ih)
     ]
 
-falls_at : (table : List ℕ) (last_tick a last_serial : ℕ) (row : ℕ × Node) → IsTable table → HasDigits table last_tick
+falls_at : (table : List ℕ) (last_tick a last_serial : ℕ) (row : Row) → IsTable table → HasDigits table last_tick
     → IsPending last_tick a last_serial (timer_in row) → FallsAt table a (entry_of row)
 falls_at table last_tick a last_serial row i h p = (bucket_at_tick table a (timer_in row).deadline i
     (digits_down table (timer_in row).deadline last_tick i p.in_range h) p.later).falls
 
-all_fall : (table : List ℕ) (last_tick a last_serial : ℕ) (rows : List (ℕ × Node)) → IsTable table → HasDigits table last_tick
+all_fall : (table : List ℕ) (last_tick a last_serial : ℕ) (rows : Rows) → IsTable table → HasDigits table last_tick
     → ArePending last_tick a last_serial rows → AllByRecursion (FallsAt table a) (pending_in rows)
 all_fall table last_tick a last_serial rows i h p =
     All-in_order timer_of (FallsAt table a) (entries_of rows) (all-entries (FallsAt table a) rows

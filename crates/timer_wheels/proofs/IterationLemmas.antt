@@ -1,8 +1,8 @@
 -- Lemmas for `iteration`: the places of the timers are the keys in use.
-use Rattle.std.proofs.Common.{◌≡◌, ◌<◌, ◌≤◌, ◌+◌, ◌⊎◌, ℕ, List, [], ◌∷◌, ◌++◌, length, refl, sym, ◌∙◌, subst, inl, inr, arith, append_assoc}
-use Rattle.std.specs.Prelude.{Option, Some, None, IsSome}
+use Rattle.std.proofs.Common.{◌≡◌, ◌<◌, ◌≤◌, ◌+◌, ◌⊎◌, ℕ, [], ◌∷◌, ◌++◌, length, refl, sym, ◌∙◌, subst, inl, inr, arith, append_assoc, Option, Some, None, IsSome}
 use Rattle.std.specs.List.{AllByRecursion}
 use Rattle.std.proofs.lemmas.Bool.{cases_lt, eq-eqb}
+use Rattle.timer_base.specs.Basics.{none_some}
 use Rattle.timer_base.specs.declared.timer.Timer.{Timer}
 use Rattle.timer_base.specs.declared.timer.Handle.{Handle}
 use Rattle.timer_base.specs.OrderLaws.{All-in_order, All-weaken}
@@ -10,7 +10,7 @@ use Rattle.timer_base.specs.Pending.{Entry, timer_of}
 use Rattle.timer_base.specs.WheelState.{held_at}
 use Rattle.timer_links.specs.declared.node.Node.{Node}
 use Rattle.timer_links.specs.Keys.{AreUnused, IsFirstUsed}
-use Rattle.timer_links.specs.Lists.{list_at, node_at, AreApart, KeyedLists}
+use Rattle.timer_links.specs.Lists.{list_at, node_at, AreApart, KeyedLists, Row, Rows}
 use Rattle.timer_wheels.specs.BucketLists.{entry_of, entries_of, rows_below}
 use Rattle.timer_wheels.specs.Buckets.{state_of}
 use Rattle.timer_wheels.specs.HeldPlaces.{IsHeld, IsFirstHeld}
@@ -19,7 +19,7 @@ use Rattle.timer_wheels.proofs.Handles.{timer_named, held_is}
 use Rattle.timer_wheels.proofs.RowLemmas.{all-rows_below, all-entries}
 
 -- each row stands under its key
-under_from : (lists : KeyedLists) (l : ℕ) (front rows : List (ℕ × Node)) → AreApart lists → l < length lists
+under_from : (lists : KeyedLists) (l : ℕ) (front rows : Rows) → AreApart lists → l < length lists
     → list_at l lists ≡ front ++ rows → AllByRecursion (λ row. node_at row.0 lists ≡ Some row.1) rows
 under_from lists l front [] a b e = tt
 under_from lists l front (x ∷ xs) a b e = (
@@ -27,10 +27,7 @@ under_from lists l front (x ∷ xs) a b e = (
   under_from lists l (front ++ x ∷ []) xs a b (e ∙ sym (append_assoc front (x ∷ []) xs)),
 )
 
-none_some : (node : Node) → None ≡ Some node → ⊥
-none_some node e = absurd (cc)
-
-elsewhere : (from to : ℕ) (lists : KeyedLists) → AreUnused from to lists → (row : ℕ × Node) → node_at row.0 lists ≡ Some row.1
+elsewhere : (from to : ℕ) (lists : KeyedLists) → AreUnused from to lists → (row : Row) → node_at row.0 lists ≡ Some row.1
     → (row.0 < from) ⊎ (to ≤ row.0)
 elsewhere from to lists u row e = elim (cases_lt row.0 from) [
   | inl h ↦ inl h
@@ -40,7 +37,7 @@ elsewhere from to lists u row e = elim (cases_lt row.0 from) [
   ]
 ]
 
-before : (from : ℕ) (lists : KeyedLists) → ((key : ℕ) → from ≤ key → node_at key lists ≡ None) → (row : ℕ × Node)
+before : (from : ℕ) (lists : KeyedLists) → ((key : ℕ) → from ≤ key → node_at key lists ≡ None) → (row : Row)
     → node_at row.0 lists ≡ Some row.1 → row.0 < from
 before from lists u row e = elim (cases_lt row.0 from) [
   | inl h ↦ h
@@ -59,14 +56,14 @@ module _ (b : Buckets) (apart : AreApart b.links.lists) where
   under_below = all-rows_below (λ row. node_at row.0 b.links.lists ≡ Some row.1) b.slots b.links.lists (λ s h. under s (omega arith))
 
   -- what holds of the places of all rows, holds of those of the pending timers
-  of_pending : (P : Entry → Type 0) → ((row : ℕ × Node) → node_at row.0 b.links.lists ≡ Some row.1 → P (entry_of row))
+  of_pending : (P : Entry → Type 0) → ((row : Row) → node_at row.0 b.links.lists ≡ Some row.1 → P (entry_of row))
       → AllByRecursion P (state_of b).pending
   of_pending P f = All-in_order timer_of P (entries_of (rows_below b.slots b.links.lists))
       (all-entries P (rows_below b.slots b.links.lists) (All-weaken (λ row. node_at row.0 b.links.lists
       ≡ Some row.1) (λ row. P (entry_of row)) (rows_below b.slots b.links.lists) f under_below))
 
   -- and of those of the due timers
-  of_due : (P : Entry → Type 0) → ((row : ℕ × Node) → node_at row.0 b.links.lists ≡ Some row.1 → P (entry_of row))
+  of_due : (P : Entry → Type 0) → ((row : Row) → node_at row.0 b.links.lists ≡ Some row.1 → P (entry_of row))
       → AllByRecursion P (state_of b).due
   of_due P f = all-entries P (list_at b.slots b.links.lists) (All-weaken (λ row. node_at row.0 b.links.lists
       ≡ Some row.1) (λ row. P (entry_of row)) (list_at b.slots b.links.lists) f (under b.slots (omega arith)))

@@ -1,14 +1,13 @@
 -- Lemmas about `Leaps`: ticks at which no bucket with a timer is visited change the clock alone, and leaps compose.
-use Rattle.std.proofs.Common.{◌≡◌, ℕ, ◌+◌, ◌-◌, ◌<◌, ◌≤◌, ◌==◌, zero, suc, List, [], ◌∷◌, refl, sym, ◌∙◌, ap, inl, inr, arith}
-use Rattle.std.specs.Prelude.{not, nat_lt, ◌&&◌, if◌then◌else◌}
+use Rattle.std.proofs.Common.{◌≡◌, ℕ, ◌+◌, ◌-◌, ◌<◌, ◌≤◌, ◌==◌, zero, suc, List, [], ◌∷◌, refl, sym, ◌∙◌, ap, inl, inr, arith, not, nat_lt, ◌&&◌, if◌then◌else◌}
 use Rattle.std.specs.List.{AllByRecursion}
 use Rattle.std.proofs.lemmas.Bool.{cases_lt, eq-eqb}
-use Rattle.timer_base.specs.OrderLaws.{either, All-in_order}
+use Rattle.timer_base.specs.Basics.{either}
+use Rattle.timer_base.specs.OrderLaws.{All-in_order}
 use Rattle.timer_base.specs.Pending.{Entry, timer_of}
 use Rattle.timer_base.specs.TickLaws.{AreAfter, passing_quiet, after_ticks-add, none_left_out}
 use Rattle.timer_base.specs.WheelState.{WheelState, IsPending, after_tick, after_ticks}
-use Rattle.timer_links.specs.declared.node.Node.{Node}
-use Rattle.timer_links.specs.Lists.{list_at, KeyedLists}
+use Rattle.timer_links.specs.Lists.{list_at, KeyedLists, Row, Rows}
 use Rattle.timer_wheels.specs.Digits.{IsTable, HasDigits, level, hops}
 use Rattle.timer_wheels.proofs.DigitLaws.{digits_down}
 use Rattle.timer_wheels.specs.Leap.{timer_visit, AreNotVisitedBefore, Leaps}
@@ -95,7 +94,7 @@ module _ (table : List ℕ) (last a visit n : ℕ) (i : IsTable table) (h : HasD
   all_after [] f = tt
   all_after (e ∷ es) f = (still_later e.timer.deadline f.0, all_after es f.1)
 
-  waiting_row : (last_serial : ℕ) (row : ℕ × Node) → IsPending last a last_serial (timer_in row)
+  waiting_row : (last_serial : ℕ) (row : Row) → IsPending last a last_serial (timer_in row)
       → visit ≤ timer_visit table a (timer_in row).deadline → Waits table last a visit (timer_in row).deadline
   waiting_row last_serial row p q = record { later = p.later; in_range = p.in_range; not_before = q }
 
@@ -104,13 +103,13 @@ module _ (table : List ℕ) (last a visit n : ℕ) (i : IsTable table) (h : HasD
       → AllByRecursion (λ row. Waits table last a visit (timer_in row).deadline) (list_at s lists)
   all_waiting k last_serial lists p q s b = both (list_at s lists)
       (all-list_at (λ row. IsPending last a last_serial (timer_in row)) k lists p s b) (q s b) where
-        both : (rows : List (ℕ × Node)) → AllByRecursion (λ row. IsPending last a last_serial (timer_in row)) rows
+        both : (rows : Rows) → AllByRecursion (λ row. IsPending last a last_serial (timer_in row)) rows
             → AllByRecursion (λ row. visit ≤ timer_visit table a (timer_in row).deadline) rows
             → AllByRecursion (λ row. Waits table last a visit (timer_in row).deadline) rows
         both [] x y = tt
         both (r ∷ rs) x y = (waiting_row last_serial r x.0 y.0, both rs x.1 y.1)
 
-  entries_wait : (rows : List (ℕ × Node)) → AllByRecursion (λ row. Waits table last a visit (timer_in row).deadline) rows
+  entries_wait : (rows : Rows) → AllByRecursion (λ row. Waits table last a visit (timer_in row).deadline) rows
       → AllByRecursion (λ e. Waits table last a visit e.timer.deadline) (entries_of rows)
   entries_wait [] f = tt
   entries_wait (r ∷ rs) f = (f.0, entries_wait rs f.1)
@@ -128,7 +127,7 @@ module _ (table : List ℕ) (last a visit n : ℕ) (i : IsTable table) (h : HasD
 
     pub leapt_placed : EachRow (IsPlaced table a) k lists → EachRow (IsPlaced table (a + n)) k lists
     leapt_placed f s b = over (list_at s lists) (all_waiting k last_serial lists p q s b) (f s b) where
-      over : (rows : List (ℕ × Node)) → AllByRecursion (λ row. Waits table last a visit (timer_in row).deadline) rows
+      over : (rows : Rows) → AllByRecursion (λ row. Waits table last a visit (timer_in row).deadline) rows
           → AllByRecursion (IsPlaced table a s) rows → AllByRecursion (IsPlaced table (a + n) s) rows
       over [] x y = tt
       over (r ∷ rs) x y = (
@@ -143,7 +142,7 @@ module _ (table : List ℕ) (last a visit n : ℕ) (i : IsTable table) (h : HasD
     pub leapt_pending : ArePending last (a + n) last_serial (rows_below k lists)
     leapt_pending = over (rows_below k lists) (all-rows_below (λ row. Waits table last a visit (timer_in row).deadline) k lists
         (all_waiting k last_serial lists p q)) p where
-          over : (rows : List (ℕ × Node)) → AllByRecursion (λ row. Waits table last a visit (timer_in row).deadline) rows
+          over : (rows : Rows) → AllByRecursion (λ row. Waits table last a visit (timer_in row).deadline) rows
               → ArePending last a last_serial rows → ArePending last (a + n) last_serial rows
           over [] x y = tt
           over (r ∷ rs) x y = (

@@ -1,14 +1,13 @@
 -- Where the rows of an emptied bucket go: each list after `migrated`, and the order of what is pending then.
-use Rattle.std.proofs.Common.{◌≡◌, ◌<◌, ◌+◌, ℕ, ◌==◌, List, [], ◌∷◌, ◌++◌, length, refl, sym, ◌∙◌, ap, subst, inl, inr, arith, append_assoc, length-set, get_or-set_same, get_or-set_other}
-use Rattle.std.specs.Prelude.{Bool, true, false, filter, not}
+use Rattle.std.proofs.Common.{◌≡◌, ◌<◌, ◌+◌, ℕ, ◌==◌, List, [], ◌∷◌, ◌++◌, length, refl, sym, ◌∙◌, ap, subst, inl, inr, arith, append_assoc, length-set, get_or-set_same, get_or-set_other, Bool, true, false, filter, not}
 use Rattle.std.specs.List.{AllByRecursion}
 use Rattle.std.proofs.lemmas.Bool.{cases_eq, eq-eqb, ne_eqb}
+use Rattle.timer_base.specs.Basics.{either}
 use Rattle.timer_base.specs.declared.timer.Timer.{Timer}
 use Rattle.timer_base.specs.Order.{AreDistinct, IsNotAmong, in_order, insert_in_order}
-use Rattle.timer_base.specs.OrderLaws.{either, in_order-anywhere}
+use Rattle.timer_base.specs.OrderLaws.{in_order-anywhere}
 use Rattle.timer_base.specs.Pending.{is_due_at}
-use Rattle.timer_links.specs.declared.node.Node.{Node}
-use Rattle.timer_links.specs.Lists.{list_at, with_row, KeyedLists}
+use Rattle.timer_links.specs.Lists.{list_at, with_row, KeyedLists, Row, Rows}
 use Rattle.timer_wheels.specs.Digits.{slots, bucket}
 use Rattle.timer_wheels.specs.BucketLists.{timer_in, timers_in, rows_below}
 use Rattle.timer_wheels.specs.Migration.{target, migrate_rows, left_rows}
@@ -16,25 +15,25 @@ use Rattle.timer_wheels.proofs.RowLemmas.{rows_below-above, rows_below-with_row,
 
 -- Where the rows of the emptied list go.
 
-pub target_due : (table : List ℕ) (tick : ℕ) (row : ℕ × Node) → is_due_at tick (timer_in row) ≡ true → target table tick row ≡ slots table
+pub target_due : (table : List ℕ) (tick : ℕ) (row : Row) → is_due_at tick (timer_in row) ≡ true → target table tick row ≡ slots table
 target_due table tick row h = rw h refl
 
-pub target_left : (table : List ℕ) (tick : ℕ) (row : ℕ × Node) → is_due_at tick (timer_in row) ≡ false
+pub target_left : (table : List ℕ) (tick : ℕ) (row : Row) → is_due_at tick (timer_in row) ≡ false
     → target table tick row ≡ bucket table tick (timer_in row).deadline
 target_left table tick row h = rw h refl
 
-pub migrate_rows-length : (table : List ℕ) (tick : ℕ) (rows : List (ℕ × Node)) (lists : KeyedLists)
+pub migrate_rows-length : (table : List ℕ) (tick : ℕ) (rows : Rows) (lists : KeyedLists)
     → length (migrate_rows table tick rows lists) ≡ length lists
 migrate_rows-length table tick [] lists = refl
 migrate_rows-length table tick (x ∷ xs) lists = migrate_rows-length table tick xs (with_row (target table tick x) x lists)
     ∙ length-set lists (target table tick x) (list_at (target table tick x) lists ++ x ∷ [])
 
 -- the rows that go to one list
-abbrev pub to_list : List ℕ → ℕ → ℕ → List (ℕ × Node) → List (ℕ × Node)
+abbrev pub to_list : List ℕ → ℕ → ℕ → Rows → Rows
 to_list table tick s rows = filter (λ row. target table tick row == s) rows
 
 -- each list afterwards
-pub list_at-migrate_rows : (table : List ℕ) (tick s : ℕ) (rows : List (ℕ × Node)) (lists : KeyedLists) → s < length lists
+pub list_at-migrate_rows : (table : List ℕ) (tick s : ℕ) (rows : Rows) (lists : KeyedLists) → s < length lists
     → list_at s (migrate_rows table tick rows lists) ≡ list_at s lists ++ to_list table tick s rows
 list_at-migrate_rows table tick s [] lists b = sym (append-nil (list_at s lists))
 list_at-migrate_rows table tick s (x ∷ xs) lists b =
@@ -46,31 +45,31 @@ list_at-migrate_rows table tick s (x ∷ xs) lists b =
       | inl e ↦
           let here : list_at s lists2 ≡ list_at s lists ++ x ∷ [] =
           ap (λ (v : ℕ). list_at s (with_row v x lists)) e ∙ get_or-set_same lists s (list_at s lists ++ x ∷ []) [] b in
-          ih ∙ (ap (λ (v : List (ℕ × Node)). v ++ to_list table tick s xs) here
+          ih ∙ (ap (λ (v : Rows). v ++ to_list table tick s xs) here
           ∙ (append_assoc (list_at s lists) (x ∷ []) (to_list table tick s xs) ∙ rw (eq-eqb (target table tick x) s e) refl))
       | inr n ↦
           let other : list_at s lists2 ≡ list_at s lists = get_or-set_other lists (target table tick x) s
           (list_at (target table tick x) lists ++ x ∷ []) [] (λ (e : s ≡ target table tick x). n (sym e)) in
-          ih ∙ (ap (λ (v : List (ℕ × Node)). v ++ to_list table tick s xs) other ∙ rw (ne_eqb (target table tick x) s n) refl)
+          ih ∙ (ap (λ (v : Rows). v ++ to_list table tick s xs) other ∙ rw (ne_eqb (target table tick x) s n) refl)
     ]
 
 -- The order of the rows does not matter.
 
 module _ (serial : ℕ) where
-  among-append : (xs ys : List (ℕ × Node)) → IsNotAmong serial (timers_in xs) → IsNotAmong serial (timers_in ys)
+  among-append : (xs ys : Rows) → IsNotAmong serial (timers_in xs) → IsNotAmong serial (timers_in ys)
       → IsNotAmong serial (timers_in (xs ++ ys))
   among-append [] ys a b = b
   among-append (x ∷ xs) ys a b = (a.0, among-append xs ys a.1 b)
 
-  among-front : (xs ys : List (ℕ × Node)) → IsNotAmong serial (timers_in (xs ++ ys)) → IsNotAmong serial (timers_in xs)
+  among-front : (xs ys : Rows) → IsNotAmong serial (timers_in (xs ++ ys)) → IsNotAmong serial (timers_in xs)
   among-front [] ys a = tt
   among-front (x ∷ xs) ys a = (a.0, among-front xs ys a.1)
 
-  among-rest : (xs ys : List (ℕ × Node)) → IsNotAmong serial (timers_in (xs ++ ys)) → IsNotAmong serial (timers_in ys)
+  among-rest : (xs ys : Rows) → IsNotAmong serial (timers_in (xs ++ ys)) → IsNotAmong serial (timers_in ys)
   among-rest [] ys a = a
   among-rest (x ∷ xs) ys a = among-rest xs ys a.1
 
-  among-filter : (p : ℕ × Node → Bool) (xs : List (ℕ × Node)) → IsNotAmong serial (timers_in xs)
+  among-filter : (p : Row → Bool) (xs : Rows) → IsNotAmong serial (timers_in xs)
       → IsNotAmong serial (timers_in (filter p xs))
   among-filter p [] a = tt
   among-filter p (x ∷ xs) a = elim (either (p x)) [
@@ -78,17 +77,17 @@ module _ (serial : ℕ) where
     | inr k ↦ rw k (among-filter p xs a.1)
   ]
 
-  among-pulled : (front xs rest : List (ℕ × Node)) → IsNotAmong serial (timers_in (front ++ (xs ++ rest)))
+  among-pulled : (front xs rest : Rows) → IsNotAmong serial (timers_in (front ++ (xs ++ rest)))
       → IsNotAmong serial (timers_in (xs ++ (front ++ rest)))
   among-pulled front xs rest a =
       let b = among-rest front (xs ++ rest) a in
       among-append xs (front ++ rest) (among-front xs rest b) (among-append front rest (among-front front (xs ++ rest) a)
       (among-rest xs rest b))
 
-abbrev pub Distinct : List (ℕ × Node) → Type 0
+abbrev pub Distinct : Rows → Type 0
 Distinct rows = AreDistinct (timers_in rows)
 
-pub distinct-filter : (p : ℕ × Node → Bool) (xs : List (ℕ × Node)) → Distinct xs → Distinct (filter p xs)
+pub distinct-filter : (p : Row → Bool) (xs : Rows) → Distinct xs → Distinct (filter p xs)
 distinct-filter p [] d = tt
 distinct-filter p (x ∷ xs) d = elim (either (p x)) [
   | inl k ↦ rw k (among-filter (timer_in x).serial p xs d.0, distinct-filter p xs d.1)
@@ -96,7 +95,7 @@ distinct-filter p (x ∷ xs) d = elim (either (p x)) [
 ]
 
 -- removing a row
-distinct-taken : (xs : List (ℕ × Node)) (x : ℕ × Node) (ys : List (ℕ × Node)) → Distinct (xs ++ x ∷ ys)
+distinct-taken : (xs : Rows) (x : Row) (ys : Rows) → Distinct (xs ++ x ∷ ys)
     → IsNotAmong (timer_in x).serial (timers_in (xs ++ ys)) × Distinct (xs ++ ys)
 distinct-taken xs x ys d =
     let e : timers_in (xs ++ ys) ≡ timers_in xs ++ timers_in ys = timers-append xs ys in
@@ -108,7 +107,7 @@ distinct-taken xs x ys d =
     )
 
 -- inserting a row anywhere
-distinct-inserted : (xs : List (ℕ × Node)) (x : ℕ × Node) (ys : List (ℕ × Node)) → Distinct (x ∷ (xs ++ ys)) → Distinct (xs ++ x ∷ ys)
+distinct-inserted : (xs : Rows) (x : Row) (ys : Rows) → Distinct (x ∷ (xs ++ ys)) → Distinct (xs ++ x ∷ ys)
 distinct-inserted [] x ys d = d
 distinct-inserted (z ∷ zs) x ys d =
     let a = among-front (timer_in z).serial zs ys d.1.0 in
@@ -116,7 +115,7 @@ distinct-inserted (z ∷ zs) x ys d =
     (among-append (timer_in z).serial zs (x ∷ ys) a ((λ e. d.0.0 (sym e)), b), distinct-inserted zs x ys (d.0.1, d.1.1))
 
 -- moving rows to the front
-pub in_order-pulled : (front xs rest : List (ℕ × Node)) → Distinct (front ++ (xs ++ rest))
+pub in_order-pulled : (front xs rest : Rows) → Distinct (front ++ (xs ++ rest))
     → in_order timer_in (front ++ (xs ++ rest)) ≡ in_order timer_in (xs ++ (front ++ rest))
 in_order-pulled front [] rest d = refl
 in_order-pulled front (x ∷ xs) rest d =
@@ -124,7 +123,7 @@ in_order-pulled front (x ∷ xs) rest d =
     in_order-anywhere timer_in x front (xs ++ rest) (among-front (timer_in x).serial front (xs ++ rest) t.0)
     ∙ ap (insert_in_order timer_in x) (in_order-pulled front xs rest t.1)
 
-pub distinct-pulled : (front xs rest : List (ℕ × Node)) → Distinct (front ++ (xs ++ rest)) → Distinct (xs ++ (front ++ rest))
+pub distinct-pulled : (front xs rest : Rows) → Distinct (front ++ (xs ++ rest)) → Distinct (xs ++ (front ++ rest))
 distinct-pulled front [] rest d = d
 distinct-pulled front (x ∷ xs) rest d =
     let t = distinct-taken front x (xs ++ rest) d in
@@ -132,50 +131,50 @@ distinct-pulled front (x ∷ xs) rest d =
 
 -- What is pending afterwards, in order.
 
-pub record AreMigrated (table : List ℕ) (tick : ℕ) (rows : List (ℕ × Node)) (lists : KeyedLists) : Type 0 where
+pub record AreMigrated (table : List ℕ) (tick : ℕ) (rows : Rows) (lists : KeyedLists) : Type 0 where
   pub distinct : AreDistinct (timers_in (rows_below (slots table) (migrate_rows table tick rows lists)))
   pub pending : in_order timer_in (rows_below (slots table) (migrate_rows table tick rows lists))
       ≡ in_order timer_in (left_rows tick rows ++ rows_below (slots table) lists)
 
 -- where a row that is not due goes to
-abbrev pub GoesDown : List ℕ → ℕ → ℕ × Node → Type 0
+abbrev pub GoesDown : List ℕ → ℕ → Row → Type 0
 GoesDown table tick row = is_due_at tick (timer_in row) ≡ false → bucket table tick (timer_in row).deadline < slots table
 
-migrate_rows_due : (table : List ℕ) (tick : ℕ) (x : ℕ × Node) (xs : List (ℕ × Node)) (lists : KeyedLists)
+migrate_rows_due : (table : List ℕ) (tick : ℕ) (x : Row) (xs : Rows) (lists : KeyedLists)
     → is_due_at tick (timer_in x) ≡ true → Distinct ((x ∷ xs) ++ rows_below (slots table) lists)
     → (Distinct (xs ++ rows_below (slots table) (with_row (slots table) x lists))
     → AreMigrated table tick xs (with_row (slots table) x lists)) → AreMigrated table tick (x ∷ xs) lists
 migrate_rows_due table tick x xs lists k d ih =
     let e : rows_below (slots table) (with_row (slots table) x lists) ≡ rows_below (slots table) lists =
     rows_below-above (slots table) (slots table) lists (list_at (slots table) lists ++ x ∷ []) (omega arith) in
-    let P : List (ℕ × Node) → Type 0 = λ rows. Distinct (xs ++ rows) in
+    let P : Rows → Type 0 = λ rows. Distinct (xs ++ rows) in
     let s = ih (subst P (sym e) d.1) in
     record {
       distinct = rw k s.distinct;
-      pending = rw k (s.pending ∙ ap (λ (rows : List (ℕ × Node)). in_order timer_in (left_rows tick xs ++ rows)) e);
+      pending = rw k (s.pending ∙ ap (λ (rows : Rows). in_order timer_in (left_rows tick xs ++ rows)) e);
     }
 
-kept_left : (tick : ℕ) (x : ℕ × Node) (xs rows : List (ℕ × Node)) → is_due_at tick (timer_in x) ≡ false
+kept_left : (tick : ℕ) (x : Row) (xs rows : Rows) → is_due_at tick (timer_in x) ≡ false
     → in_order timer_in (left_rows tick (x ∷ xs) ++ rows) ≡ insert_in_order timer_in x (in_order timer_in (left_rows tick xs ++ rows))
 kept_left tick x xs rows k = rw k refl
 
-migrate_rows_left : (table : List ℕ) (tick : ℕ) (x : ℕ × Node) (xs : List (ℕ × Node)) (lists : KeyedLists) (l : ℕ)
+migrate_rows_left : (table : List ℕ) (tick : ℕ) (x : Row) (xs : Rows) (lists : KeyedLists) (l : ℕ)
     → l ≡ bucket table tick (timer_in x).deadline → l < slots table → length lists ≡ slots table + 1 → is_due_at tick (timer_in x) ≡ false
     → Distinct ((x ∷ xs) ++ rows_below (slots table) lists)
     → (Distinct (xs ++ rows_below (slots table) (with_row l x lists)) → AreMigrated table tick xs (with_row l x lists))
     → AreMigrated table tick (x ∷ xs) lists
 migrate_rows_left table tick x xs lists l le b len k d ih =
     let i = rows_below-with_row (slots table) l x lists b (omega arith) in
-    let P : List (ℕ × Node) → Type 0 = Distinct in
-    let Q : List (ℕ × Node) → Type 0 = λ rows. Distinct (x ∷ (xs ++ rows)) in
+    let P : Rows → Type 0 = Distinct in
+    let Q : Rows → Type 0 = λ rows. Distinct (x ∷ (xs ++ rows)) in
     let d1 : Distinct (x ∷ (xs ++ (i.front ++ i.rest))) = subst Q i.old_is d in
-    let R : List (ℕ × Node) → Type 0 = λ rows. Distinct (x ∷ rows) in
+    let R : Rows → Type 0 = λ rows. Distinct (x ∷ rows) in
     let d2 : Distinct (x ∷ ((xs ++ i.front) ++ i.rest)) = subst R (sym (append_assoc xs i.front i.rest)) d1 in
     let d3 : Distinct ((xs ++ i.front) ++ x ∷ i.rest) = distinct-inserted (xs ++ i.front) x i.rest d2 in
     let e3 : (xs ++ i.front) ++ x ∷ i.rest ≡ xs ++ rows_below (slots table) (with_row l x lists) =
-    append_assoc xs i.front (x ∷ i.rest) ∙ ap (λ (rows : List (ℕ × Node)). xs ++ rows) (sym i.new_is) in
+    append_assoc xs i.front (x ∷ i.rest) ∙ ap (λ (rows : Rows). xs ++ rows) (sym i.new_is) in
     let s = ih (subst P e3 d3) in
-    let ls : List (ℕ × Node) = left_rows tick xs in
+    let ls : Rows = left_rows tick xs in
     let n1 = among-filter (timer_in x).serial (λ row. not (is_due_at tick (timer_in row))) xs
     (among-front (timer_in x).serial xs (i.front ++ i.rest) d1.0) in
     let n2 = among-front (timer_in x).serial i.front i.rest (among-rest (timer_in x).serial xs (i.front ++ i.rest) d1.0) in
@@ -188,15 +187,15 @@ migrate_rows_left table tick x xs lists l le b len k d ih =
       distinct = subst S (sym w) s.distinct;
       pending =
           subst T (sym w) s.pending
-          ∙ (ap (λ (rows : List (ℕ × Node)). in_order timer_in (ls ++ rows)) i.new_is
+          ∙ (ap (λ (rows : Rows). in_order timer_in (ls ++ rows)) i.new_is
           ∙ (ap (in_order timer_in) (sym (append_assoc ls i.front (x ∷ i.rest)))
           ∙ (in_order-anywhere timer_in x (ls ++ i.front) i.rest (among-append (timer_in x).serial ls i.front n1 n2)
-          ∙ (ap (λ (rows : List (ℕ × Node)). insert_in_order timer_in x (in_order timer_in rows)) (append_assoc ls i.front i.rest)
-          ∙ (ap (λ (rows : List (ℕ × Node)). insert_in_order timer_in x (in_order timer_in (ls ++ rows))) (sym i.old_is)
+          ∙ (ap (λ (rows : Rows). insert_in_order timer_in x (in_order timer_in rows)) (append_assoc ls i.front i.rest)
+          ∙ (ap (λ (rows : Rows). insert_in_order timer_in x (in_order timer_in (ls ++ rows))) (sym i.old_is)
           ∙ sym (kept_left tick x xs (rows_below (slots table) lists) k))))));
     }
 
-pub migrate_rows_keeps : (table : List ℕ) (tick : ℕ) (rows : List (ℕ × Node)) (lists : KeyedLists)
+pub migrate_rows_keeps : (table : List ℕ) (tick : ℕ) (rows : Rows) (lists : KeyedLists)
     → length lists ≡ slots table + 1 → AllByRecursion (GoesDown table tick) rows → Distinct (rows ++ rows_below (slots table) lists)
     → AreMigrated table tick rows lists
 migrate_rows_keeps table tick [] lists len g d = record { distinct = d; pending = refl }

@@ -1,24 +1,20 @@
 -- Lemmas for `empty_bucket`: the loop invariant of migrating one by one, and a bucket that is due as a whole.
-use Rattle.std.proofs.Common.{◌≡◌, ◌≢◌, ◌<◌, ◌≤◌, ◌+◌, ℕ, zero, suc, List, [], ◌∷◌, ◌++◌, length, refl, sym, ◌∙◌, ap, subst, arith, append_assoc, length-set, get_or-set_same, get_or-set_other}
-use Rattle.std.specs.Prelude.{true, false, slice_set, Option, Some, None, IsSome}
+use Rattle.std.proofs.Common.{◌≡◌, ◌≢◌, ◌<◌, ◌≤◌, ◌+◌, ℕ, suc, List, [], ◌∷◌, ◌++◌, length, refl, sym, ◌∙◌, ap, subst, arith, append_assoc, length-set, get_or-set_same, get_or-set_other, true, false, slice_set, Option, Some, None, IsSome}
 use Rattle.std.specs.List.{AllByRecursion}
 use Rattle.std.proofs.lemmas.List.{set-get_or}
 use Rattle.std.proofs.lemmas.Bool.{eq-eqb, ne_eqb}
+use Rattle.timer_links.proofs.Rows.{length_list_at}
+use Rattle.timer_base.specs.Basics.{some_same, none_some, empty_when, some_none}
 use Rattle.timer_base.specs.Pending.{is_due_at}
 use Rattle.timer_links.specs.declared.node.Node.{Node}
-use Rattle.timer_links.specs.Lists.{list_at, with_row, row_count, front_moved, first_row_moved, appended, node_at, first_key, AreApart, IsNext, KeyedLists}
-use Rattle.timer_wheels.specs.Digits.{slots, bucket, last_of}
+use Rattle.timer_links.specs.Lists.{list_at, with_row, row_count, front_moved, first_row_moved, appended, node_at, first_key, AreApart, IsNext, KeyedLists, Row, Rows}
+use Rattle.timer_wheels.specs.Digits.{slots, bucket}
 use Rattle.timer_wheels.specs.BucketLists.{timer_in}
 use Rattle.timer_wheels.specs.Migration.{target, migrate_rows, migrated, left_rows, first_deadline, second_deadline, MayMigrate, IsOfTick}
 use Rattle.timer_wheels.proofs.MigrationLemmas.{target_due, target_left}
 use Rattle.timer_wheels.proofs.RowLemmas.{append-nil, set_twice, set_swapped}
 
 -- Lists that are updated twice.
-
-pub length_list_at : (lists : KeyedLists) (l : ℕ) → length (list_at l lists) ≤ row_count lists
-length_list_at [] l = omega arith
-length_list_at (x ∷ xs) zero = omega arith
-length_list_at (x ∷ xs) (suc l) = let h : length (list_at l xs) ≤ row_count xs = length_list_at xs l in omega arith
 
 -- some rows of the list have moved, and moving the rest leads to the same lists
 pub record IsEmptying (table : List ℕ) (l tick step moves : ℕ) (old lists : KeyedLists) : Type 0 where
@@ -29,8 +25,7 @@ pub record IsEmptying (table : List ℕ) (l tick step moves : ℕ) (old lists : 
   pub few : moves ≤ step
   pub count : step + length (list_at l lists) ≡ length (list_at l old)
 
-module _ (table : List ℕ) (l tick : ℕ) (lists : KeyedLists) (row : ℕ
-    × Node) (rest : List (ℕ × Node)) (b : l < length lists) (at : list_at l lists ≡ row ∷ rest) (n : target table tick row ≢ l) where
+module _ (table : List ℕ) (l tick : ℕ) (lists : KeyedLists) (row : Row) (rest : Rows) (b : l < length lists) (at : list_at l lists ≡ row ∷ rest) (n : target table tick row ≢ l) where
   abbrev to : ℕ
   to = target table tick row
 
@@ -52,41 +47,35 @@ module _ (table : List ℕ) (l tick : ℕ) (lists : KeyedLists) (row : ℕ
   emptied_is =
       set_swapped (slice_set lists l rest) to l (list_at to (slice_set lists l rest) ++ row ∷ []) [] n
       ∙ (ap (λ (y : KeyedLists). slice_set y to (list_at to (slice_set lists l rest) ++ row ∷ [])) (set_twice lists l rest [])
-      ∙ ap (λ (y : List (ℕ × Node)). slice_set (slice_set lists l []) to (y ++ row ∷ [])) to_same)
+      ∙ ap (λ (y : Rows). slice_set (slice_set lists l []) to (y ++ row ∷ [])) to_same)
 
   leads_same : migrated table tick l after ≡ migrated table tick l lists
   leads_same =
-      ap (λ (y : List (ℕ × Node)). migrate_rows table tick y (slice_set after l [])) left_at
+      ap (λ (y : Rows). migrate_rows table tick y (slice_set after l [])) left_at
       ∙ (ap (migrate_rows table tick rest) emptied_is
-      ∙ ap (λ (y : List (ℕ × Node)). migrate_rows table tick y (slice_set lists l [])) (sym at))
+      ∙ ap (λ (y : Rows). migrate_rows table tick y (slice_set lists l [])) (sym at))
 
   length_same : length after ≡ length lists
   length_same = length-set (slice_set lists l rest) to (list_at to (slice_set lists l rest) ++ row ∷ []) ∙ length-set lists l rest
 
-due_more : (tick : ℕ) (row : ℕ × Node) (rest : List (ℕ × Node)) → is_due_at tick (timer_in row) ≡ true
+due_more : (tick : ℕ) (row : Row) (rest : Rows) → is_due_at tick (timer_in row) ≡ true
     → length (left_rows tick (row ∷ rest)) ≡ length (left_rows tick rest)
 due_more tick row rest k = rw k refl
 
-left_more : (tick : ℕ) (row : ℕ × Node) (rest : List (ℕ × Node)) → is_due_at tick (timer_in row) ≡ false
+left_more : (tick : ℕ) (row : Row) (rest : Rows) → is_due_at tick (timer_in row) ≡ false
     → length (left_rows tick (row ∷ rest)) ≡ suc (length (left_rows tick rest))
 left_more tick row rest k = rw k refl
 
 -- the first row, if there is one
 pub record IsFirstRow (table : List ℕ) (l tick d : ℕ) (lists : KeyedLists) : Type 0 where
-  pub row : ℕ × Node
-  pub rest : List (ℕ × Node)
+  pub row : Row
+  pub rest : Rows
   pub at : list_at l lists ≡ row ∷ rest
   pub deadline : (timer_in row).deadline ≡ d
   pub first : MayMigrate table tick l row
   pub others : AllByRecursion (MayMigrate table tick l) rest
 
-some_same : (a b : ℕ) → Some a ≡ Some b → a ≡ b
-some_same a b e = cc
-
-some_none : (a : ℕ) → Some a ≡ None → ⊥
-some_none a e = cc
-
-first_in : (table : List ℕ) (l tick d : ℕ) (lists : KeyedLists) (rows : List (ℕ × Node)) → list_at l lists ≡ rows
+first_in : (table : List ℕ) (l tick d : ℕ) (lists : KeyedLists) (rows : Rows) → list_at l lists ≡ rows
     → AllByRecursion (MayMigrate table tick l) rows → first_deadline rows ≡ Some d → IsFirstRow table l tick d lists
 first_in table l tick d lists [] at a e = absurd (some_none d (sym e))
 first_in table l tick d lists (row ∷ rest) at a e = record {
@@ -102,13 +91,9 @@ pub first_row : (table : List ℕ) (l tick step moves d : ℕ) (old lists : Keye
     → IsEmptying table l tick step moves old lists → Some d ≡ first_deadline (list_at l lists) → IsFirstRow table l tick d lists
 first_row table l tick step moves d old lists s e = first_in table l tick d lists (list_at l lists) refl s.rows (sym e)
 
-none_first : (rows : List (ℕ × Node)) → first_deadline rows ≡ None → rows ≡ []
+none_first : (rows : Rows) → first_deadline rows ≡ None → rows ≡ []
 none_first [] e = refl
 none_first (x ∷ xs) e = absurd (some_none (timer_in x).deadline e)
-
-none_long : (rows : List (ℕ × Node)) → length rows ≤ 0 → rows ≡ []
-none_long [] h = refl
-none_long (x ∷ xs) h = absurd (omega arith)
 
 pub record IsEmptied (table : List ℕ) (l tick moves : ℕ) (old lists : KeyedLists) : Type 0 where
   pub lists_are : lists ≡ migrated table tick l old
@@ -118,10 +103,10 @@ pub record IsEmptied (table : List ℕ) (l tick moves : ℕ) (old lists : KeyedL
 at_end : (table : List ℕ) (l tick step moves : ℕ) (old lists : KeyedLists) → IsEmptying table l tick step moves old lists
     → list_at l lists ≡ [] → IsEmptied table l tick moves old lists
 at_end table l tick step moves old lists s e =
-    let y : length (left_rows tick (list_at l lists)) ≡ 0 = ap (λ (y : List (ℕ × Node)). length (left_rows tick y)) e in
+    let y : length (left_rows tick (list_at l lists)) ≡ 0 = ap (λ (y : Rows). length (left_rows tick y)) e in
     let q : moves + length (left_rows tick (list_at l lists)) ≡ length (left_rows tick (list_at l old)) = s.moves_are in
     record {
-      lists_are = sym (ap (λ (y : List (ℕ × Node)). migrate_rows table tick y (slice_set lists l [])) e
+      lists_are = sym (ap (λ (y : Rows). migrate_rows table tick y (slice_set lists l [])) e
           ∙ (ap (slice_set lists l) (sym e) ∙ set-get_or lists l [])) ∙ s.leads;
       moves_are = omega arith;
       emptied = e;
@@ -136,7 +121,7 @@ pub ended_count : (table : List ℕ) (l tick step moves : ℕ) (old lists : Keye
 ended_count table l tick step moves old lists s h =
     let a : length (list_at l old) ≤ row_count old = length_list_at old l in
     let c : step + length (list_at l lists) ≡ length (list_at l old) = s.count in
-    at_end table l tick step moves old lists s (none_long (list_at l lists) (omega arith))
+    at_end table l tick step moves old lists s (empty_when (list_at l lists) (omega arith))
 
 module _ (table : List ℕ) (l tick step moves d : ℕ) (old lists new : KeyedLists) (b : l < length old)
     (s : IsEmptying table l tick step moves old lists) (f : IsFirstRow table l tick d lists) where
@@ -144,7 +129,7 @@ module _ (table : List ℕ) (l tick step moves d : ℕ) (old lists new : KeyedLi
   b2 = let e : length lists ≡ length old = s.has_lists in omega arith
 
   count_is : length (list_at l lists) ≡ suc (length f.rest)
-  count_is = ap (λ (y : List (ℕ × Node)). length y) f.at
+  count_is = ap (λ (y : Rows). length y) f.at
 
   new_is : (to : ℕ) → to ≡ target table tick f.row → new ≡ front_moved l to lists
       → new ≡ with_row (target table tick f.row) f.row (slice_set lists l f.rest)
@@ -167,10 +152,10 @@ module _ (table : List ℕ) (l tick step moves d : ℕ) (old lists new : KeyedLi
         has_lists = ap (λ (y : KeyedLists). length y) (new_is to q e)
             ∙ (length_same table l tick lists f.row f.rest b2 f.at f.first.elsewhere ∙ s.has_lists);
         rows = subst (AllByRecursion (MayMigrate table tick l)) (sym r) f.others;
-        moves_are = ap (λ (y : List (ℕ × Node)). moves2 + length (left_rows tick y)) r
-            ∙ (h ∙ (ap (λ (y : List (ℕ × Node)). moves + length (left_rows tick y)) (sym f.at) ∙ s.moves_are));
+        moves_are = ap (λ (y : Rows). moves2 + length (left_rows tick y)) r
+            ∙ (h ∙ (ap (λ (y : Rows). moves + length (left_rows tick y)) (sym f.at) ∙ s.moves_are));
         few = w;
-        count = ap (λ (y : List (ℕ × Node)). step + 1 + length y) r ∙ omega arith;
+        count = ap (λ (y : Rows). step + 1 + length y) r ∙ omega arith;
       }
 
   pub next_due : (to moves2 : ℕ) → to ≡ slots table → d ≡ tick → new ≡ front_moved l to lists → moves2 ≡ moves
@@ -218,25 +203,21 @@ module _ (table : List ℕ) (l tick step moves d : ℕ) (old lists new : KeyedLi
   later_than n = let a : tick ≤ (timer_in f.row).deadline = f.first.not_past in let e : (timer_in f.row).deadline ≡ d = f.deadline
       in omega arith
 
-  pub not_beyond : d ≤ last_of table
-  not_beyond = let a : (timer_in f.row).deadline ≤ last_of table = f.first.in_range in let e : (timer_in f.row).deadline ≡ d = f.deadline
-      in omega arith
-
 -- A bucket whose rows are all due moves as a whole.
 
-migrate_rows_whole : (table : List ℕ) (tick : ℕ) (rows : List (ℕ × Node)) (lists : KeyedLists) → slots table < length lists
+migrate_rows_whole : (table : List ℕ) (tick : ℕ) (rows : Rows) (lists : KeyedLists) → slots table < length lists
     → AllByRecursion (IsOfTick tick) rows → migrate_rows table tick rows lists
     ≡ slice_set lists (slots table) (list_at (slots table) lists ++ rows)
 migrate_rows_whole table tick [] lists b a = sym (ap (slice_set lists (slots table)) (append-nil (list_at (slots table) lists))
     ∙ set-get_or lists (slots table) [])
 migrate_rows_whole table tick (x ∷ xs) lists b a =
     let to : target table tick x ≡ slots table = target_due table tick x (eq-eqb (timer_in x).deadline tick a.0) in
-    let had : List (ℕ × Node) = list_at (slots table) lists in
+    let had : Rows = list_at (slots table) lists in
     let more : KeyedLists = with_row (slots table) x lists in
     let b2 : slots table < length more = rw (length-set lists (slots table) (list_at (slots table) lists ++ x ∷ [])) b in
     ap (λ (k : ℕ). migrate_rows table tick xs (with_row k x lists)) to
     ∙ (migrate_rows_whole table tick xs more b2 a.1
-    ∙ (ap (λ (y : List (ℕ × Node)). slice_set more (slots table) (y ++ xs)) (get_or-set_same lists (slots table) (had ++ x ∷ []) [] b)
+    ∙ (ap (λ (y : Rows). slice_set more (slots table) (y ++ xs)) (get_or-set_same lists (slots table) (had ++ x ∷ []) [] b)
     ∙ (set_twice lists (slots table) (had ++ x ∷ []) ((had ++ x ∷ []) ++ xs)
     ∙ ap (slice_set lists (slots table)) (append_assoc had (x ∷ []) xs))))
 
@@ -244,7 +225,7 @@ migrated_whole : (table : List ℕ) (tick l : ℕ) (lists : KeyedLists) → slot
     → AllByRecursion (IsOfTick tick) (list_at l lists) → migrated table tick l lists ≡ appended l (slots table) lists
 migrated_whole table tick l lists b n a =
     migrate_rows_whole table tick (list_at l lists) (slice_set lists l []) (rw (length-set lists l []) b) a
-    ∙ ap (λ (y : List (ℕ × Node)). slice_set (slice_set lists l []) (slots table) (y ++ list_at l lists))
+    ∙ ap (λ (y : Rows). slice_set (slice_set lists l []) (slots table) (y ++ list_at l lists))
     (get_or-set_other lists l (slots table) [] [] n)
 
 pub append_whole : (table : List ℕ) (k tick l : ℕ) (lists : KeyedLists) → k ≡ slots table → length lists ≡ slots table + 1
@@ -253,7 +234,7 @@ append_whole table k tick l lists e b h a =
     let n : slots table ≢ l = λ (x : slots table ≡ l). omega arith in
     ap (λ (y : ℕ). appended l y lists) e ∙ sym (migrated_whole table tick l lists (omega arith) n a)
 
-pub none_left_over : (tick : ℕ) (rows : List (ℕ × Node)) → AllByRecursion (IsOfTick tick) rows → left_rows tick rows ≡ []
+pub none_left_over : (tick : ℕ) (rows : Rows) → AllByRecursion (IsOfTick tick) rows → left_rows tick rows ≡ []
 none_left_over tick [] a = refl
 none_left_over tick (x ∷ xs) a = rw (eq-eqb (timer_in x).deadline tick a.0) (none_left_over tick xs a.1)
 
@@ -264,7 +245,7 @@ pub record IsFront (l key : ℕ) (lists : KeyedLists) : Type 0 where
   pub found : node_at key lists ≡ Some node
   pub first : first_deadline (list_at l lists) ≡ Some node.timer.deadline
 
-front_in : (l key : ℕ) (lists : KeyedLists) (rows : List (ℕ × Node)) → list_at l lists ≡ rows → AreApart lists
+front_in : (l key : ℕ) (lists : KeyedLists) (rows : Rows) → list_at l lists ≡ rows → AreApart lists
     → l < length lists → first_key rows ≡ Some key → IsFront l key lists
 front_in l key lists [] at a b e = absurd (some_none key (sym e))
 front_in l key lists (row ∷ rest) at a b e =
@@ -279,18 +260,12 @@ pub front_of : (l key : ℕ) (lists : KeyedLists) → AreApart lists → l < len
     → IsFront l key lists
 front_of l key lists a b e = front_in l key lists (list_at l lists) refl a b (sym e)
 
-none_some_node : (n : Node) → None ≡ Some n → ⊥
-none_some_node n e = cc
-
-some_node : (m n : Node) → Some m ≡ Some n → m ≡ n
-some_node m n e = cc
-
 pub never_none : (l key : ℕ) (lists : KeyedLists) → IsFront l key lists → None ≡ node_at key lists → ⊥
-never_none l key lists f e = none_some_node f.node (e ∙ f.found)
+never_none l key lists f e = none_some f.node (e ∙ f.found)
 
 pub front_deadline_is : (l key : ℕ) (node : Node) (lists : KeyedLists) → IsFront l key lists → Some node ≡ node_at key lists
     → Some node.timer.deadline ≡ first_deadline (list_at l lists)
-front_deadline_is l key node lists f e = ap (λ (n : Node). Some n.timer.deadline) (some_node node f.node (e ∙ f.found)) ∙ sym f.first
+front_deadline_is l key node lists f e = ap (λ (n : Node). Some n.timer.deadline) (some_same node f.node (e ∙ f.found)) ∙ sym f.first
 
 pub front_in_use : (l key : ℕ) (lists : KeyedLists) → IsFront l key lists → IsSome (node_at key lists)
 front_in_use l key lists f = rw f.found refl
@@ -303,7 +278,7 @@ pub record IsSecond (l key : ℕ) (lists : KeyedLists) : Type 0 where
   pub second : second_deadline (list_at l lists) ≡ Some node.timer.deadline
 
 -- the row behind the first one, under this key
-second_in : (l first : ℕ) (next : Option ℕ) (lists : KeyedLists) (rows : List (ℕ × Node)) → list_at l lists ≡ rows
+second_in : (l first : ℕ) (next : Option ℕ) (lists : KeyedLists) (rows : Rows) → list_at l lists ≡ rows
     → AreApart lists → l < length lists → first_key rows ≡ Some first → IsNext first lists next
     → (key : ℕ) → next ≡ Some key → IsSecond l key lists
 second_in l first next lists [] at a b e n key w = absurd (some_none first (sym e))
@@ -325,7 +300,7 @@ pub second_of : (l first key : ℕ) (next : Option ℕ) (lists : KeyedLists) →
 second_of l first key next lists a b e n w = second_in l first next lists (list_at l lists) refl a b (sym e) n key w
 
 -- no row is behind the first one
-none_second : (l first : ℕ) (next : Option ℕ) (lists : KeyedLists) (rows : List (ℕ × Node)) → list_at l lists ≡ rows
+none_second : (l first : ℕ) (next : Option ℕ) (lists : KeyedLists) (rows : Rows) → list_at l lists ≡ rows
     → l < length lists → first_key rows ≡ Some first → IsNext first lists next → next ≡ None → None ≡ second_deadline rows
 none_second l first next lists [] at b e n w = refl
 none_second l first next lists (row ∷ []) at b e n w = refl
@@ -338,8 +313,8 @@ pub no_second : (l first : ℕ) (next : Option ℕ) (lists : KeyedLists) → l <
 no_second l first next lists b e n w = none_second l first next lists (list_at l lists) refl b (sym e) n w
 
 pub second_there : (l key : ℕ) (lists : KeyedLists) → IsSecond l key lists → None ≡ node_at key lists → ⊥
-second_there l key lists f e = none_some_node f.node (e ∙ f.found)
+second_there l key lists f e = none_some f.node (e ∙ f.found)
 
 pub next_deadline_is : (l key : ℕ) (node : Node) (lists : KeyedLists) → IsSecond l key lists → Some node ≡ node_at key lists
     → Some node.timer.deadline ≡ second_deadline (list_at l lists)
-next_deadline_is l key node lists f e = ap (λ (n : Node). Some n.timer.deadline) (some_node node f.node (e ∙ f.found)) ∙ sym f.second
+next_deadline_is l key node lists f e = ap (λ (n : Node). Some n.timer.deadline) (some_same node f.node (e ∙ f.found)) ∙ sym f.second

@@ -1,11 +1,11 @@
 -- Lemmas for `IsNextVisit`: at the visit of a bucket with a timer that timer is due or moves to a lower wheel.
-use Rattle.std.proofs.Common.{◌≡◌, ◌≢◌, ◌⊎◌, ◌<◌, ◌≤◌, ◌+◌, ◌-◌, ◌*◌, ◌/◌, ◌==◌, ℕ, zero, suc, List, [], ◌∷◌, length, refl, sym, ◌∙◌, ap, subst, inl, inr, arith}
-use Rattle.std.specs.Prelude.{Some, true, nat_lt, filter}
+use Rattle.std.proofs.Common.{◌≡◌, ◌≢◌, ◌⊎◌, ◌<◌, ◌≤◌, ◌+◌, ◌-◌, ◌*◌, ◌/◌, ◌==◌, ℕ, zero, suc, List, [], ◌∷◌, length, refl, sym, ◌∙◌, ap, subst, inl, inr, arith, Some, true, nat_lt, filter}
 use Rattle.std.specs.List.{AllByRecursion}
 use Rattle.std.proofs.lemmas.Bool.{cases_eq, eq-eqb, ne_eqb}
 use Rattle.std.proofs.lemmas.Bool.Decides.{nat_tests}
 use Rattle.std.proofs.lemmas.Nat.{div-mul-add}
-use Rattle.timer_base.specs.OrderLaws.{either, All-weaken}
+use Rattle.timer_base.specs.Basics.{either}
+use Rattle.timer_base.specs.OrderLaws.{All-weaken}
 use Rattle.timer_base.specs.Pending.{Entry, timers_of, entries_due, entries_left}
 use Rattle.timer_base.specs.TickLaws.{AreAfter, left_all, after_ticks-now}
 use Rattle.timer_base.specs.WheelState.{WheelState, IsPending, after_ticks}

@@ -1,21 +1,21 @@
 -- Lemmas about the bits of the buckets, and for `Occupied::first`.
-use Rattle.std.proofs.Common.{◌≡◌, ◌≢◌, ◌<◌, ◌≤◌, ◌+◌, ◌-◌, ◌*◌, ◌/◌, ◌%◌, ◌^◌, ℕ, List, [], ◌∷◌, ◌++◌, length, refl, sym, ◌∙◌, ap, inl, inr, arith, length-set, get_or-set_same, get_or-set_other, slice_index_or, slice_set, bit_and, bit_or}
-use Rattle.std.specs.Prelude.{Some}
+use Rattle.std.proofs.Common.{◌≡◌, ◌≢◌, ◌<◌, ◌≤◌, ◌+◌, ◌-◌, ◌*◌, ◌/◌, ◌%◌, ◌^◌, ℕ, List, [], ◌∷◌, ◌++◌, length, refl, sym, ◌∙◌, ap, inl, inr, arith, length-set, get_or-set_same, get_or-set_other, slice_index_or, slice_set, bit_and, bit_or, Some}
 use Rattle.std.specs.Int.{bit_at, w64, trailing_zeros}
 use Rattle.std.proofs.lemmas.Bool.{cases_eq, cases_lt}
 use Rattle.std.proofs.lemmas.Nat.Bits.{bit_at_set_same, bit_at_set_other, bit_at_clear_same, bit_at_clear_other, bit_at-trailing_zeros, bit_at-zero}
-use Rattle.timer_links.specs.declared.node.Node.{Node}
-use Rattle.timer_links.specs.Lists.{list_at, with_row, front_moved, first_row_moved, KeyedLists}
+use Rattle.timer_links.specs.Lists.{list_at, with_row, front_moved, first_row_moved, KeyedLists, Row, Rows}
+use Rattle.timer_wheels.specs.declared.table.TheConstants.{MOST_BUCKETS}
+use Rattle.timer_wheels.specs.declared.occupied.TheConstants.{WORDS}
 use Rattle.timer_wheels.specs.Occupied.{bit_of, filled, AreMarked, AreMarkedBut, IsClearFrom, IsFirstSet, IsLowestSet}
 
 -- One word is written.
 
-module _ (words : List ℕ) (l v : ℕ) (len : length words ≡ 10) (h : l < 640) where
+module _ (words : List ℕ) (l v : ℕ) (len : length words ≡ WORDS) (h : l < MOST_BUCKETS) where
   abbrev written : List ℕ
   written = slice_set words (l / 64) v
 
   word_here : slice_index_or written (l / 64) 0 ≡ v
-  word_here = get_or-set_same words (l / 64) v 0 (let e : length words ≡ 10 = len in let b : l < 640 = h in omega arith)
+  word_here = get_or-set_same words (l / 64) v 0 (let e : length words ≡ WORDS = len in let b : l < MOST_BUCKETS = h in omega arith)
 
   pub written_here : bit_of written l ≡ bit_at v (l % 64)
   written_here = ap (λ (x : ℕ). bit_at x (l % 64)) word_here
@@ -35,25 +35,25 @@ module _ (words : List ℕ) (l v : ℕ) (len : length words ≡ 10) (h : l < 640
 in_word : (l : ℕ) → l % 64 < 64
 in_word l = omega arith
 
-pub set_here : (words : List ℕ) (l : ℕ) → length words ≡ 10 → l < 640
+pub set_here : (words : List ℕ) (l : ℕ) → length words ≡ WORDS → l < MOST_BUCKETS
     → bit_of (slice_set words (l / 64) (bit_or (slice_index_or words (l / 64) 0) (1 * 2 ^ (l % 64) % 18446744073709551616))) l ≡ 1
 set_here words l len h = written_here words l (bit_or (slice_index_or words (l / 64) 0) (1 * 2 ^ (l % 64) % 18446744073709551616)) len h
     ∙ bit_at_set_same w64 (slice_index_or words (l / 64) 0) (l % 64) (in_word l)
 
-pub set_others : (words : List ℕ) (l : ℕ) → length words ≡ 10 → l < 640 → (s : ℕ) → s ≢ l
+pub set_others : (words : List ℕ) (l : ℕ) → length words ≡ WORDS → l < MOST_BUCKETS → (s : ℕ) → s ≢ l
     → bit_of (slice_set words (l / 64) (bit_or (slice_index_or words (l / 64) 0) (1 * 2 ^ (l % 64) % 18446744073709551616))) s
     ≡ bit_of words s
 set_others words l len h s n = written_others words l (bit_or (slice_index_or words (l / 64) 0) (1 * 2 ^ (l % 64) % 18446744073709551616))
     len h s n (λ i b m. bit_at_set_other w64 (slice_index_or words (l / 64) 0) (l % 64) (in_word l) i m)
 
-pub clear_here : (words : List ℕ) (l : ℕ) → length words ≡ 10 → l < 640
+pub clear_here : (words : List ℕ) (l : ℕ) → length words ≡ WORDS → l < MOST_BUCKETS
     → bit_of (slice_set words (l / 64) (bit_and (slice_index_or words (l / 64) 0)
     (18446744073709551615 - 1 * 2 ^ (l % 64) % 18446744073709551616))) l ≡ 0
 clear_here words l len h = written_here words l (bit_and (slice_index_or words (l / 64) 0)
     (18446744073709551615 - 1 * 2 ^ (l % 64) % 18446744073709551616)) len h
     ∙ bit_at_clear_same w64 (slice_index_or words (l / 64) 0) (l % 64) (in_word l)
 
-pub clear_others : (words : List ℕ) (l : ℕ) → length words ≡ 10 → l < 640 → (s : ℕ) → s ≢ l
+pub clear_others : (words : List ℕ) (l : ℕ) → length words ≡ WORDS → l < MOST_BUCKETS → (s : ℕ) → s ≢ l
     → bit_of (slice_set words (l / 64) (bit_and (slice_index_or words (l / 64) 0)
     (18446744073709551615 - 1 * 2 ^ (l % 64) % 18446744073709551616))) s ≡ bit_of words s
 clear_others words l len h s n = written_others words l (bit_and (slice_index_or words (l / 64) 0)
@@ -89,7 +89,7 @@ before_bit k words s a b = let e : s ≡ 64 * k + (s - 64 * k) = omega arith
 pub lowest_set : (word : ℕ) → word ≢ 0 → word < 2 ^ 64 → IsLowestSet word (trailing_zeros w64 word)
 lowest_set word n r = let t = bit_at-trailing_zeros w64 word (omega arith) r in record { in_range = t.0; is_set = t.1; below = t.2 }
 
-pub first_bit : (k j : ℕ) (words : List ℕ) → k < 10 → IsLowestSet (slice_index_or words k 0) j → AreClear k words
+pub first_bit : (k j : ℕ) (words : List ℕ) → k < WORDS → IsLowestSet (slice_index_or words k 0) j → AreClear k words
     → IsFirstSet words (Some (64 * k + j))
 first_bit k j words h t c =
     let b : j < 64 = t.in_range in (
@@ -107,11 +107,11 @@ pub marked_none : (n : ℕ) (words : List ℕ) (lists : KeyedLists) → ((s : �
     → AreMarked n words lists
 marked_none n words lists w e = ((λ s h. w s ∙ sym (ap filled (e s h))), (λ s a b. w s))
 
-pub no_rows_there : (rows : List (ℕ × Node)) → filled rows ≡ 0 → rows ≡ []
+pub no_rows_there : (rows : Rows) → filled rows ≡ 0 → rows ≡ []
 no_rows_there [] e = refl
 no_rows_there (x ∷ xs) e = absurd (omega arith)
 
-pub filled_behind : (rows : List (ℕ × Node)) (row : ℕ × Node) → filled (rows ++ row ∷ []) ≡ 1
+pub filled_behind : (rows : Rows) (row : Row) → filled (rows ++ row ∷ []) ≡ 1
 filled_behind [] row = refl
 filled_behind (x ∷ xs) row = refl
 
@@ -126,7 +126,7 @@ clear_too : (n l : ℕ) (words words2 : List ℕ) → l < n → ((s : ℕ) → s
 clear_too n l words words2 h o c s a b = o s (λ (e : s ≡ l). omega arith) ∙ c s a b
 
 -- one bit is set, and one row inserted
-pub marked_with_row : (n : ℕ) (words words2 : List ℕ) (l : ℕ) (row : ℕ × Node) (lists : KeyedLists) → l < n → l < length lists
+pub marked_with_row : (n : ℕ) (words words2 : List ℕ) (l : ℕ) (row : Row) (lists : KeyedLists) → l < n → l < length lists
     → bit_of words2 l ≡ 1 → ((s : ℕ) → s ≢ l → bit_of words2 s ≡ bit_of words s) → AreMarked n words lists
     → AreMarked n words2 (with_row l row lists)
 marked_with_row n words words2 l row lists f b h o t = (
@@ -149,13 +149,13 @@ marked_all n words l lists e t = (
 )
 
 -- the first row of a list moves to another
-pub moved_same : (l to s : ℕ) (lists : KeyedLists) (rows : List (ℕ × Node)) → s ≢ l → s ≢ to
+pub moved_same : (l to s : ℕ) (lists : KeyedLists) (rows : Rows) → s ≢ l → s ≢ to
     → list_at s (first_row_moved l to lists rows) ≡ list_at s lists
 moved_same l to s lists [] n m = refl
 moved_same l to s lists (row ∷ rest) n m = get_or-set_other (slice_set lists l rest) to s (list_at to (slice_set lists l rest)
     ++ row ∷ []) [] m ∙ get_or-set_other lists l s rest [] n
 
-moved_there : (l to : ℕ) (lists : KeyedLists) (row : ℕ × Node) (rest : List (ℕ × Node)) → to < length lists
+moved_there : (l to : ℕ) (lists : KeyedLists) (row : Row) (rest : Rows) → to < length lists
     → filled (list_at to (first_row_moved l to lists (row ∷ rest))) ≡ 1
 moved_there l to lists row rest b =
     ap filled (get_or-set_same (slice_set lists l rest) to (list_at to (slice_set lists l rest) ++ row ∷ []) []
@@ -171,7 +171,7 @@ marked_due n words l to lists new q e t = (
   t.1,
 )
 
-pub marked_left : (n : ℕ) (words words2 : List ℕ) (l to : ℕ) (row : ℕ × Node) (rest : List (ℕ × Node)) (lists new : KeyedLists) → to < n
+pub marked_left : (n : ℕ) (words words2 : List ℕ) (l to : ℕ) (row : Row) (rest : Rows) (lists new : KeyedLists) → to < n
     → to < length lists → bit_of words2 to ≡ 1 → ((s : ℕ) → s ≢ to → bit_of words2 s ≡ bit_of words s)
     → list_at l lists ≡ row ∷ rest → new ≡ front_moved l to lists → AreMarkedBut n l words lists → AreMarkedBut n l words2 new
 marked_left n words words2 l to row rest lists new f b z o at e t =

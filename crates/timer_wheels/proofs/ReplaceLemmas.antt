@@ -1,62 +1,9 @@
--- Lemmas for `replace_node`: which list a node is in, and the lists once another node is under its key.
-use Rattle.std.proofs.Common.{◌≡◌, ◌⊎◌, ◌<◌, ◌==◌, ℕ, suc, List, [], ◌∷◌, ◌++◌, length, refl, sym, ◌∙◌, ap, inl, inr, arith, length-set, get_or-set_same}
-use Rattle.std.specs.Prelude.{Option, Some, None, IsSome, map, slice_set}
-use Rattle.std.proofs.lemmas.Bool.{eqb-true}
-use Rattle.timer_base.specs.OrderLaws.{either}
+-- Lemmas for `replace_node`: the lists once another node is under the key of one.
+use Rattle.std.proofs.Common.{◌≡◌, ◌<◌, ℕ, [], ◌∷◌, ◌++◌, length, refl, sym, ◌∙◌, ap, arith, length-set, get_or-set_same, Option, Some, None, IsSome, map, slice_set}
+use Rattle.timer_links.proofs.Rows.{StandsIn, stands_in}
 use Rattle.timer_links.specs.declared.node.Node.{Node}
-use Rattle.timer_links.specs.Lists.{list_at, node_in, node_at, first_of, with_row, without_key, AreApart, IsAloneIn, SetsNode, MovesBack, KeyedLists}
+use Rattle.timer_links.specs.Lists.{list_at, node_at, with_row, without_key, AreApart, IsAloneIn, SetsNode, MovesBack, KeyedLists}
 use Rattle.timer_wheels.proofs.RowLemmas.{set_twice}
-
--- Where a node stands.
-
--- the node stands in a list
-pub record StandsIn (key : ℕ) (node : Node) (lists : KeyedLists) : Type 0 where
-  pub l : ℕ
-  pub in_range : l < length lists
-  pub front : List (ℕ × Node)
-  pub rest : List (ℕ × Node)
-  pub at : list_at l lists ≡ front ++ (key, node) ∷ rest
-
-record StandsAmong (key : ℕ) (node : Node) (rows : List (ℕ × Node)) : Type 0 where
-  front : List (ℕ × Node)
-  rest : List (ℕ × Node)
-  at : rows ≡ front ++ (key, node) ∷ rest
-
-some_is : (a b : Node) → Some a ≡ Some b → a ≡ b
-some_is a b e = cc
-
-some_none : (a : Node) → None ≡ Some a → ⊥
-some_none a e = cc
-
-among_here : (key : ℕ) (node : Node) (x : ℕ × Node) (xs : List (ℕ × Node)) → x.0 ≡ key → x.1 ≡ node → StandsAmong key node (x ∷ xs)
-among_here key node x xs k e = record { front = []; rest = xs; at = ap (λ (v : ℕ). (v, x.1) ∷ xs) k ∙ ap (λ (v : Node). (key, v) ∷ xs) e }
-
-among : (key : ℕ) (node : Node) (rows : List (ℕ × Node)) → node_in key rows ≡ Some node → StandsAmong key node rows
-among key node [] e = absurd (some_none node e)
-among key node (x ∷ xs) e = elim (either (x.0 == key)) [
-  | inl k ↦ let f = rw k at e in among_here key node x xs (eqb-true x.0 key k) (some_is x.1 node f)
-  | inr k ↦
-      let f = rw k at e in
-      let s = among key node xs f in
-      record { front = x ∷ s.front; rest = s.rest; at = ap (λ (v : List (ℕ × Node)). x ∷ v) s.at }
-]
-
-first_is : (a b : Option Node) (node : Node) → first_of a b ≡ Some node → (a ≡ Some node) ⊎ (b ≡ Some node)
-first_is None b node e = inr e
-first_is (Some n) b node e = inl e
-
-pub stands_in : (key : ℕ) (node : Node) (lists : KeyedLists) → node_at key lists ≡ Some node → StandsIn key node lists
-stands_in key node [] e = absurd (some_none node e)
-stands_in key node (rows ∷ lists) e = elim (first_is (node_in key rows) (node_at key lists) node e) [
-  | inl f ↦ let s = among key node rows f in record { l = 0; in_range = omega arith; front = s.front; rest = s.rest; at = s.at }
-  | inr f ↦ let s = stands_in key node lists f in record {
-    l = suc s.l;
-    in_range = (let h : s.l < length lists = s.in_range in omega arith);
-    front = s.front;
-    rest = s.rest;
-    at = s.at;
-  }
-]
 
 -- Another node under the key, at the back of a list.
 

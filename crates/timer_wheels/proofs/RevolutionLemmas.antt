@@ -1,7 +1,6 @@
 -- Lemmas for `skip_revolutions` and `advance` of a hashed wheel: after whole revolutions each timer stands where it
 -- stood, with fewer rounds, and stretches of ticks in which nothing is due compose.
-use Rattle.std.proofs.Common.{◌≡◌, ◌⊎◌, ◌<◌, ◌≤◌, ◌+◌, ◌-◌, ◌*◌, ◌/◌, ◌%◌, ℕ, zero, suc, List, [], ◌∷◌, ◌++◌, length, refl, sym, ◌∙◌, ap, subst, inl, inr, arith}
-use Rattle.std.specs.Prelude.{map, min}
+use Rattle.std.proofs.Common.{◌≡◌, ◌⊎◌, ◌<◌, ◌≤◌, ◌+◌, ◌-◌, ◌*◌, ◌/◌, ◌%◌, ℕ, zero, suc, List, [], ◌∷◌, ◌++◌, length, refl, sym, ◌∙◌, ap, subst, inl, inr, arith, map, min}
 use Rattle.std.specs.List.{AllByRecursion}
 use Rattle.std.proofs.lemmas.Bool.{cases_eq, cases_lt}
 use Rattle.std.proofs.Math.Nat.{mul-add, add-mul-mod_self_right}
@@ -11,8 +10,7 @@ use Rattle.timer_base.specs.OrderLaws.{All-in_order, All-weaken}
 use Rattle.timer_base.specs.Pending.{Entry, timer_of}
 use Rattle.timer_base.specs.TickLaws.{AreAfter, IsPassing, after_ticks-now, after_ticks-last, after_ticks-add, passing_quiet}
 use Rattle.timer_base.specs.WheelState.{WheelState, IsPending, Advances, after_ticks}
-use Rattle.timer_links.specs.declared.node.Node.{Node}
-use Rattle.timer_links.specs.Lists.{list_at, KeyedLists}
+use Rattle.timer_links.specs.Lists.{list_at, KeyedLists, Row, Rows}
 use Rattle.timer_wheels.specs.BucketLaws.{timers_of-entries}
 use Rattle.timer_wheels.specs.BucketLists.{timer_in, timers_in, entries_of, rows_below, pending_in, wheel_state, ArePending, AreDue, AreInOrder, AreBuckets}
 use Rattle.timer_wheels.specs.Hashed.{IsInBucket, AreInBuckets}
@@ -37,11 +35,11 @@ same_slot_after n now k tick e = ap (λ (y : ℕ). y % n) e ∙ add-mul-mod_self
 
 -- Rows.
 
-pub entries-fewer : (k : ℕ) (rows : List (ℕ × Node)) → entries_of (map (with_fewer_rounds k) rows) ≡ entries_of rows
+pub entries-fewer : (k : ℕ) (rows : Rows) → entries_of (map (with_fewer_rounds k) rows) ≡ entries_of rows
 entries-fewer k [] = refl
 entries-fewer k (x ∷ xs) = ap (λ (r : List Entry). record { place = x.0; timer = x.1.timer } ∷ r) (entries-fewer k xs)
 
-pub timers-fewer : (k : ℕ) (rows : List (ℕ × Node)) → timers_in (map (with_fewer_rounds k) rows) ≡ timers_in rows
+pub timers-fewer : (k : ℕ) (rows : Rows) → timers_in (map (with_fewer_rounds k) rows) ≡ timers_in rows
 timers-fewer k [] = refl
 timers-fewer k (x ∷ xs) = ap (λ (r : List Timer). timer_in x ∷ r) (timers-fewer k xs)
 
@@ -59,10 +57,10 @@ entries_below-same (suc n) (x ∷ xs) (y ∷ ys) e h =
     ∙ sym (entries-append x (rows_below n xs))))
 
 -- a pending row with enough rounds
-abbrev pub CanWait : ℕ → ℕ → ℕ → ℕ → ℕ → ℕ → ℕ × Node → Type 0
+abbrev pub CanWait : ℕ → ℕ → ℕ → ℕ → ℕ → ℕ → Row → Type 0
 CanWait n last_tick now last k s row = StaysIn n last_tick now last s row × HasRoundsLeft k row
 
-after_row : (n last_tick now last k s tick : ℕ) (row : ℕ × Node) → 0 < n → tick ≡ now + k * n → CanWait n last_tick now last k s row
+after_row : (n last_tick now last k s tick : ℕ) (row : Row) → 0 < n → tick ≡ now + k * n → CanWait n last_tick now last k s row
     → StaysIn n last_tick tick last s (with_fewer_rounds k row)
 after_row n last_tick now last k s tick row z e c =
     let d : ℕ = (timer_in row).deadline in
@@ -74,7 +72,7 @@ after_row n last_tick now last k s tick row z e c =
     let less : row.1.rounds - k ≡ q - k = ap (λ (y : ℕ). y - k) rounds in
     (record { later = f.0; in_range = c.0.0.in_range; serial = c.0.0.serial }, (c.0.1.0, less ∙ sym f.1))
 
-after_rows : (n last_tick now last k s tick : ℕ) (rows : List (ℕ × Node)) → 0 < n → tick ≡ now + k * n
+after_rows : (n last_tick now last k s tick : ℕ) (rows : Rows) → 0 < n → tick ≡ now + k * n
     → AllByRecursion (CanWait n last_tick now last k s) rows → AllByRecursion (StaysIn n last_tick tick last s)
     (map (with_fewer_rounds k) rows)
 after_rows n last_tick now last k s tick [] z e a = tt
@@ -83,7 +81,7 @@ after_rows n last_tick now last k s tick (x ∷ xs) z e a = (
   after_rows n last_tick now last k s tick xs z e a.1,
 )
 
-later_entries : (tick : ℕ) (rows : List (ℕ × Node)) → AllByRecursion (λ row. tick < (timer_in row).deadline) rows
+later_entries : (tick : ℕ) (rows : Rows) → AllByRecursion (λ row. tick < (timer_in row).deadline) rows
     → AreAfter tick (entries_of rows)
 later_entries tick [] a = tt
 later_entries tick (x ∷ xs) a = (a.0, later_entries tick xs a.1)
@@ -95,8 +93,8 @@ quiet_now n last_tick now last lists p =
     (later_entries (now + 0) (rows_below n lists) (All-weaken (λ row. IsPending last_tick now last (timer_in row)) (λ row. now + 0
     < (timer_in row).deadline) (rows_below n lists) (λ row q. let l : now < (timer_in row).deadline = q.later in omega arith) p))
 
-none_due : (tick last : ℕ) (rows : List (ℕ × Node)) → rows ≡ [] → AreDue tick last rows
-none_due tick last rows e = let P : List (ℕ × Node) → Type 0 = AreDue tick last in subst P (sym e) tt
+none_due : (tick last : ℕ) (rows : Rows) → rows ≡ [] → AreDue tick last rows
+none_due tick last rows e = let P : Rows → Type 0 = AreDue tick last in subst P (sym e) tt
 
 -- All lists.
 

@@ -1,8 +1,9 @@
 -- Room changes nothing of what a wheel says of its timers.
-use Rattle.std.proofs.Common.{◌≡◌, ℕ, zero, suc, List, refl, sym, ◌∙◌, ap}
+use Rattle.std.proofs.Common.{ℕ, List, sym, ◌∙◌, ap}
+use Rattle.timer_base.specs.TickLaws.{after_ticks-with_room}
 use Rattle.timer_base.specs.declared.timer.Timer.{Timer}
 use Rattle.timer_base.specs.WakeUps.{IsWakeUp}
-use Rattle.timer_base.specs.WheelState.{WheelState, after_tick, after_ticks, with_room}
+use Rattle.timer_base.specs.WheelState.{WheelState, with_room}
 use Rattle.timer_links.specs.Lists.{KeyedLists}
 use Rattle.timer_wheels.specs.Hashed.{IsNextSweep}
 use Rattle.timer_wheels.specs.Leap.{Leaps}
@@ -29,10 +30,6 @@ shows-with_room room n bucket_of rounds_of w lists h = record {
   buckets = h.buckets;
   due = h.due;
 }
-
-pub after_ticks-with_room : (n room : ℕ) (w : WheelState) → after_ticks n (with_room room w) ≡ with_room room (after_ticks n w)
-after_ticks-with_room zero room w = refl
-after_ticks-with_room (suc n) room w = ap after_tick (after_ticks-with_room n room w)
 
 pub leaps-with_room : (room : ℕ) (table : List ℕ) (moves : ℕ) (old new : WheelState) → Leaps table moves old new
     → Leaps table moves (with_room room old) (with_room room new)

@@ -1,14 +1,11 @@
 -- Rows and lists of rows, and the rows of the first n lists after a change.
-use Rattle.std.proofs.Common.{◌≡◌, ◌≢◌, ◌<◌, ◌≤◌, ◌+◌, ℕ, zero, suc, true, ◌==◌, List, [], ◌∷◌, ◌++◌, length, refl, sym, ◌∙◌, ap, inl, inr, arith, append_assoc}
-use Rattle.std.specs.Prelude.{Bool, map, filter, not, slice_set}
+use Rattle.std.proofs.Common.{◌≡◌, ◌≢◌, ◌<◌, ◌≤◌, ◌+◌, ℕ, zero, suc, ◌==◌, List, [], ◌∷◌, ◌++◌, length, refl, sym, ◌∙◌, ap, inl, inr, arith, append_assoc, Bool, map, filter, not, slice_set, length-append}
 use Rattle.std.specs.List.{AllByRecursion}
-use Rattle.std.proofs.lemmas.Bool.{eq-eqb}
+use Rattle.timer_base.specs.Basics.{either}
 use Rattle.timer_base.specs.declared.timer.Timer.{Timer}
 use Rattle.timer_base.specs.Order.{AreBelow, AreDistinct, IsNotAmong}
-use Rattle.timer_base.specs.OrderLaws.{either}
-use Rattle.timer_base.specs.Pending.{Entry, is_due_at}
-use Rattle.timer_links.specs.declared.node.Node.{Node}
-use Rattle.timer_links.specs.Lists.{list_at, with_row, without_key, KeyedLists}
+use Rattle.timer_base.specs.Pending.{Entry}
+use Rattle.timer_links.specs.Lists.{list_at, with_row, without_key, KeyedLists, Row, Rows}
 use Rattle.timer_wheels.specs.BucketLists.{timer_in, timers_in, entry_of, entries_of, rows_below}
 
 -- Facts of every row.
@@ -26,7 +23,7 @@ all-rest P [] ys a = a
 all-rest P (x ∷ xs) ys a = all-rest P xs ys a.1
 
 -- what holds of each row of each list, holds of all rows
-pub all-rows_below : (P : ℕ × Node → Type 0) (n : ℕ) (lists : KeyedLists)
+pub all-rows_below : (P : Row → Type 0) (n : ℕ) (lists : KeyedLists)
     → ((s : ℕ) → s < n → AllByRecursion P (list_at s lists)) → AllByRecursion P (rows_below n lists)
 all-rows_below P zero lists h = tt
 all-rows_below P (suc n) [] h = tt
@@ -34,7 +31,7 @@ all-rows_below P (suc n) (x ∷ xs) h = all-append P x (rows_below n xs) (h 0 (o
     (all-rows_below P n xs (λ s b. h (suc s) (omega arith)))
 
 -- and back
-pub all-list_at : (P : ℕ × Node → Type 0) (n : ℕ) (lists : KeyedLists) → AllByRecursion P (rows_below n lists) → (s : ℕ) → s < n
+pub all-list_at : (P : Row → Type 0) (n : ℕ) (lists : KeyedLists) → AllByRecursion P (rows_below n lists) → (s : ℕ) → s < n
     → AllByRecursion P (list_at s lists)
 all-list_at P zero lists a s b = absurd (omega arith)
 all-list_at P (suc n) [] a s b = tt
@@ -45,10 +42,10 @@ all-list_at P (suc n) (x ∷ xs) a (suc s) b = all-list_at P n xs (all-rest P x 
 
 -- the rows before and behind those of one list
 pub record IsAround (n l : ℕ) (lists : KeyedLists) : Type 0 where
-  pub front : List (ℕ × Node)
-  pub rest : List (ℕ × Node)
+  pub front : Rows
+  pub rest : Rows
   pub rows : rows_below n lists ≡ front ++ (list_at l lists ++ rest)
-  pub with_rows : (rows : List (ℕ × Node)) → rows_below n (slice_set lists l rows) ≡ front ++ (rows ++ rest)
+  pub with_rows : (rows : Rows) → rows_below n (slice_set lists l rows) ≡ front ++ (rows ++ rest)
 
 pub around : (n l : ℕ) (lists : KeyedLists) → l < n → l < length lists → IsAround n l lists
 around zero l lists h b = absurd (omega arith)
@@ -59,17 +56,17 @@ around (suc n) (suc l) (x ∷ xs) h b =
     record {
       front = x ++ ih.front;
       rest = ih.rest;
-      rows = ap (λ (y : List (ℕ × Node)). x ++ y) ih.rows ∙ sym (append_assoc x ih.front (list_at l xs ++ ih.rest));
-      with_rows = λ rows. ap (λ (y : List (ℕ × Node)). x ++ y) (ih.with_rows rows) ∙ sym (append_assoc x ih.front (rows ++ ih.rest));
+      rows = ap (λ (y : Rows). x ++ y) ih.rows ∙ sym (append_assoc x ih.front (list_at l xs ++ ih.rest));
+      with_rows = λ rows. ap (λ (y : Rows). x ++ y) (ih.with_rows rows) ∙ sym (append_assoc x ih.front (rows ++ ih.rest));
     }
 
 -- a list after the first n is none of them
-pub rows_below-above : (n l : ℕ) (lists : KeyedLists) (rows : List (ℕ × Node)) → n ≤ l
+pub rows_below-above : (n l : ℕ) (lists : KeyedLists) (rows : Rows) → n ≤ l
     → rows_below n (slice_set lists l rows) ≡ rows_below n lists
 rows_below-above zero l lists rows h = refl
 rows_below-above (suc n) l [] rows h = refl
 rows_below-above (suc n) zero (x ∷ xs) rows h = absurd (omega arith)
-rows_below-above (suc n) (suc l) (x ∷ xs) rows h = ap (λ (y : List (ℕ × Node)). x ++ y) (rows_below-above n l xs rows (omega arith))
+rows_below-above (suc n) (suc l) (x ∷ xs) rows h = ap (λ (y : Rows). x ++ y) (rows_below-above n l xs rows (omega arith))
 
 -- empty lists have no rows
 pub rows_below-none : (n : ℕ) (lists : KeyedLists) → ((s : ℕ) → s < n → list_at s lists ≡ []) → rows_below n lists ≡ []
@@ -82,14 +79,14 @@ rows_below-none (suc n) (x ∷ xs) h =
 -- A row is inserted.
 
 -- the new rows are the old ones with one more inserted
-pub record IsInserted (row : ℕ × Node) (old new : List (ℕ × Node)) : Type 0 where
-  pub front : List (ℕ × Node)
-  pub rest : List (ℕ × Node)
+pub record IsInserted (row : Row) (old new : Rows) : Type 0 where
+  pub front : Rows
+  pub rest : Rows
   pub old_is : old ≡ front ++ rest
   pub new_is : new ≡ front ++ row ∷ rest
 
 -- a row is inserted into one list, anywhere
-pub rows_below-inserted : (n l : ℕ) (row : ℕ × Node) (before after : List (ℕ × Node)) (lists : KeyedLists) → l < n
+pub rows_below-inserted : (n l : ℕ) (row : Row) (before after : Rows) (lists : KeyedLists) → l < n
     → l < length lists → list_at l lists ≡ before ++ after
     → IsInserted row (rows_below n lists) (rows_below n (slice_set lists l (before ++ row ∷ after)))
 rows_below-inserted n l row before after lists h b e =
@@ -97,10 +94,10 @@ rows_below-inserted n l row before after lists h b e =
     record {
       front = a.front ++ before;
       rest = after ++ a.rest;
-      old_is = a.rows ∙ (ap (λ (y : List (ℕ × Node)). a.front ++ (y ++ a.rest)) e
-          ∙ (ap (λ (y : List (ℕ × Node)). a.front ++ y) (append_assoc before after a.rest)
+      old_is = a.rows ∙ (ap (λ (y : Rows). a.front ++ (y ++ a.rest)) e
+          ∙ (ap (λ (y : Rows). a.front ++ y) (append_assoc before after a.rest)
           ∙ sym (append_assoc a.front before (after ++ a.rest))));
-      new_is = a.with_rows (before ++ row ∷ after) ∙ (ap (λ (y : List (ℕ × Node)). a.front ++ y) (append_assoc before (row ∷ after) a.rest)
+      new_is = a.with_rows (before ++ row ∷ after) ∙ (ap (λ (y : Rows). a.front ++ y) (append_assoc before (row ∷ after) a.rest)
           ∙ sym (append_assoc a.front before (row ∷ (after ++ a.rest))));
     }
 
@@ -109,7 +106,7 @@ append-nil [] = refl
 append-nil (x ∷ xs) = ap (λ r. x ∷ r) (append-nil xs)
 
 -- a row is pushed to the back of one list
-pub rows_below-with_row : (n l : ℕ) (row : ℕ × Node) (lists : KeyedLists) → l < n → l < length lists
+pub rows_below-with_row : (n l : ℕ) (row : Row) (lists : KeyedLists) → l < n → l < length lists
     → IsInserted row (rows_below n lists) (rows_below n (with_row l row lists))
 rows_below-with_row n l row lists h b = rows_below-inserted n l row (list_at l lists) [] lists h b (sym (append-nil (list_at l lists)))
 
@@ -126,7 +123,7 @@ pub rows_below-without_key : (n key : ℕ) (lists : KeyedLists)
     → rows_below n (map (without_key key) lists) ≡ without_key key (rows_below n lists)
 rows_below-without_key zero key lists = refl
 rows_below-without_key (suc n) key [] = refl
-rows_below-without_key (suc n) key (x ∷ xs) = ap (λ (y : List (ℕ × Node)). without_key key x ++ y) (rows_below-without_key n key xs)
+rows_below-without_key (suc n) key (x ∷ xs) = ap (λ (y : Rows). without_key key x ++ y) (rows_below-without_key n key xs)
     ∙ sym (filter-append (λ r. not (r.0 == key)) x (rows_below n xs))
 
 pub list_at-without_key : (s key : ℕ) (lists : KeyedLists) → list_at s (map (without_key key) lists) ≡ without_key key (list_at s lists)
@@ -136,15 +133,15 @@ list_at-without_key (suc s) key (x ∷ xs) = list_at-without_key s key xs
 
 -- Rows, entries and timers.
 
-pub timers-append : (xs ys : List (ℕ × Node)) → timers_in (xs ++ ys) ≡ timers_in xs ++ timers_in ys
+pub timers-append : (xs ys : Rows) → timers_in (xs ++ ys) ≡ timers_in xs ++ timers_in ys
 timers-append [] ys = refl
 timers-append (x ∷ xs) ys = ap (λ r. timer_in x ∷ r) (timers-append xs ys)
 
-pub entries-append : (xs ys : List (ℕ × Node)) → entries_of (xs ++ ys) ≡ entries_of xs ++ entries_of ys
+pub entries-append : (xs ys : Rows) → entries_of (xs ++ ys) ≡ entries_of xs ++ entries_of ys
 entries-append [] ys = refl
 entries-append (x ∷ xs) ys = ap (λ r. entry_of x ∷ r) (entries-append xs ys)
 
-pub filter-entries : (p : Entry → Bool) (rows : List (ℕ × Node))
+pub filter-entries : (p : Entry → Bool) (rows : Rows)
     → filter p (entries_of rows) ≡ entries_of (filter (λ r. p (entry_of r)) rows)
 filter-entries p [] = refl
 filter-entries p (x ∷ xs) = elim (either (p (entry_of x))) [
@@ -154,7 +151,7 @@ filter-entries p (x ∷ xs) = elim (either (p (entry_of x))) [
 
 -- Serials.
 
-pub AreBelow-timers : (high : ℕ) (rows : List (ℕ × Node)) → AllByRecursion (λ row. (timer_in row).serial < high) rows
+pub AreBelow-timers : (high : ℕ) (rows : Rows) → AllByRecursion (λ row. (timer_in row).serial < high) rows
     → AreBelow high (timers_in rows)
 AreBelow-timers high [] a = tt
 AreBelow-timers high (x ∷ xs) a = (a.0, AreBelow-timers high xs a.1)
@@ -206,7 +203,7 @@ pub rows_below-more : (n : ℕ) (lists : KeyedLists) → n < length lists → ro
 rows_below-more zero [] h = absurd (omega arith)
 rows_below-more zero (x ∷ xs) h = append-nil x
 rows_below-more (suc n) [] h = absurd (omega arith)
-rows_below-more (suc n) (x ∷ xs) h = ap (λ (y : List (ℕ × Node)). x ++ y) (rows_below-more n xs (omega arith))
+rows_below-more (suc n) (x ∷ xs) h = ap (λ (y : Rows). x ++ y) (rows_below-more n xs (omega arith))
     ∙ sym (append_assoc x (rows_below n xs) (list_at n xs))
 
 -- the timers copied from one more list
@@ -218,12 +215,12 @@ timers_below-more n lists old new h a b =
     ∙ (sym (timers-append (rows_below n lists) (list_at n lists))
     ∙ ap timers_in (sym (ap (λ (y : ℕ). rows_below y lists) e ∙ rows_below-more n lists h))))
 
-pub set_twice : (v : KeyedLists) (i : ℕ) (a b : List (ℕ × Node)) → slice_set (slice_set v i a) i b ≡ slice_set v i b
+pub set_twice : (v : KeyedLists) (i : ℕ) (a b : Rows) → slice_set (slice_set v i a) i b ≡ slice_set v i b
 set_twice [] i a b = refl
 set_twice (x ∷ xs) zero a b = refl
 set_twice (x ∷ xs) (suc i) a b = ap (λ (y : KeyedLists). x ∷ y) (set_twice xs i a b)
 
-pub set_swapped : (v : KeyedLists) (i j : ℕ) (a b : List (ℕ × Node)) → i ≢ j
+pub set_swapped : (v : KeyedLists) (i j : ℕ) (a b : Rows) → i ≢ j
     → slice_set (slice_set v i a) j b ≡ slice_set (slice_set v j b) i a
 set_swapped [] i j a b n = refl
 set_swapped (x ∷ xs) zero zero a b n = absurd (n refl)
@@ -232,10 +229,25 @@ set_swapped (x ∷ xs) (suc i) zero a b n = refl
 set_swapped (x ∷ xs) (suc i) (suc j) a b n = ap (λ (y : KeyedLists). x ∷ y)
     (set_swapped xs i j a b (λ (e : i ≡ j). n (ap (λ (k : ℕ). suc k) e)))
 
-pub all-entries : (P : Entry → Type 0) (rows : List (ℕ × Node)) → AllByRecursion (λ row. P (entry_of row)) rows
+pub all-entries : (P : Entry → Type 0) (rows : Rows) → AllByRecursion (λ row. P (entry_of row)) rows
     → AllByRecursion P (entries_of rows)
 all-entries P [] a = tt
 all-entries P (x ∷ xs) a = (a.0, all-entries P xs a.1)
 
-pub is_due : (tick : ℕ) (t : Timer) → t.deadline ≡ tick → is_due_at tick t ≡ true
-is_due tick t h = eq-eqb t.deadline tick h
+-- more lists have as many rows at least
+pub length-rows_below : (n m : ℕ) (lists : KeyedLists) → n ≤ m → length (rows_below n lists) ≤ length (rows_below m lists)
+length-rows_below zero m lists h = omega arith
+length-rows_below (suc n) zero lists h = absurd (omega arith)
+length-rows_below (suc n) (suc m) [] h = omega arith
+length-rows_below (suc n) (suc m) (x ∷ xs) h =
+    let rest = length-rows_below n m xs (omega arith) in
+    omega (arith, length-append x (rows_below n xs), length-append x (rows_below m xs))
+
+-- the rows of the first lists, and those of the next one
+pub length-rows_below-next : (n m : ℕ) (lists : KeyedLists) → n < m → n < length lists
+    → length (rows_below n lists) + length (list_at n lists) ≤ length (rows_below m lists)
+length-rows_below-next n m lists h b =
+    let more : length (rows_below (suc n) lists) ≡ length (rows_below n lists) + length (list_at n lists) =
+    ap (λ (y : Rows). length y) (rows_below-more n lists b) ∙ length-append (rows_below n lists) (list_at n lists) in
+    let fits = length-rows_below (suc n) m lists (omega arith) in
+    omega arith

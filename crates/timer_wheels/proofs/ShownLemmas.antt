@@ -1,16 +1,15 @@
 -- Lemmas about `ShowsBuckets`: it holds if each row is in its timer's bucket.
-use Rattle.std.proofs.Common.{◌≡◌, ◌≢◌, ◌<◌, ◌+◌, ℕ, zero, suc, ◌==◌, List, [], ◌∷◌, ◌++◌, length, refl, sym, ◌∙◌, ap, inl, inr, arith}
-use Rattle.std.specs.Prelude.{Bool, true, false, map, filter}
+use Rattle.std.proofs.Common.{◌≡◌, ◌≢◌, ◌<◌, ◌+◌, ℕ, zero, suc, ◌==◌, List, [], ◌∷◌, ◌++◌, length, refl, sym, ◌∙◌, ap, inl, inr, arith, Bool, true, false, map, filter}
 use Rattle.std.specs.List.{AllByRecursion}
 use Rattle.std.proofs.lemmas.Bool.{eq-eqb, ne_eqb}
 use Rattle.std.proofs.lemmas.List.{length-map}
+use Rattle.timer_base.specs.Basics.{either}
 use Rattle.timer_base.specs.declared.timer.Timer.{Timer}
 use Rattle.timer_base.specs.Order.{is_before, insert_in_order, in_order, AreDistinct, AreRising, IsNotAmong}
-use Rattle.timer_base.specs.OrderLaws.{either, insert_in_order-commutes, in_order-same, AllAt, All-weaken, length-in_order, AreDistinct-rising, IsNotAmong-in_order}
+use Rattle.timer_base.specs.OrderLaws.{insert_in_order-commutes, in_order-same, AllAt, All-weaken, length-in_order, AreDistinct-rising, IsNotAmong-in_order}
 use Rattle.timer_base.specs.Pending.{Entry, timer_of}
 use Rattle.timer_base.specs.WheelState.{WheelState}
-use Rattle.timer_links.specs.declared.node.Node.{Node}
-use Rattle.timer_links.specs.Lists.{list_at, KeyedLists}
+use Rattle.timer_links.specs.Lists.{list_at, KeyedLists, Row, Rows}
 use Rattle.timer_wheels.specs.BucketLists.{timer_in, timers_in, entries_of, rows_below, pending_in, wheel_state, AreInOrder, EachRow}
 use Rattle.timer_wheels.specs.BucketLaws.{timers_of-entries}
 use Rattle.timer_wheels.specs.Shown.{without_deadline, by_serial, row_of, entries_at, ShowsBuckets}
@@ -28,7 +27,7 @@ filter-each p [] a = refl
 filter-each p (x ∷ xs) a = rw a.0 (ap (λ r. x ∷ r) (filter-each p xs a.1))
 
 -- no row of the lists satisfies the test
-pub filter-no_list : (p : ℕ × Node → Bool) (n : ℕ) (lists : KeyedLists)
+pub filter-no_list : (p : Row → Bool) (n : ℕ) (lists : KeyedLists)
     → ((t : ℕ) → t < n → AllByRecursion (λ row. p row ≡ false) (list_at t lists)) → filter p (rows_below n lists) ≡ []
 filter-no_list p zero lists h = refl
 filter-no_list p (suc n) [] h = refl
@@ -36,18 +35,18 @@ filter-no_list p (suc n) (x ∷ xs) h = filter-append p x (rows_below n xs)
     ∙ rw (filter-none p x (h 0 (omega arith)), filter-no_list p n xs (λ t b. h (suc t) (omega arith))) refl
 
 -- only rows of one list do
-pub filter-one_list : (p : ℕ × Node → Bool) (n s : ℕ) (lists : KeyedLists) → s < n → s < length lists
+pub filter-one_list : (p : Row → Bool) (n s : ℕ) (lists : KeyedLists) → s < n → s < length lists
     → ((t : ℕ) → t < n → t ≢ s → AllByRecursion (λ row. p row ≡ false) (list_at t lists))
     → filter p (rows_below n lists) ≡ filter p (list_at s lists)
 filter-one_list p zero s lists h b o = absurd (omega arith)
 filter-one_list p (suc n) s [] h b o = absurd (omega arith)
 filter-one_list p (suc n) zero (x ∷ xs) h b o =
     filter-append p x (rows_below n xs)
-    ∙ (ap (λ (y : List (ℕ × Node)). filter p x ++ y) (filter-no_list p n xs (λ t c. o (suc t) (omega arith) (omega arith)))
+    ∙ (ap (λ (y : Rows). filter p x ++ y) (filter-no_list p n xs (λ t c. o (suc t) (omega arith) (omega arith)))
     ∙ append-nil (filter p x))
 filter-one_list p (suc n) (suc s) (x ∷ xs) h b o =
     filter-append p x (rows_below n xs)
-    ∙ (ap (λ (y : List (ℕ × Node)). y ++ filter p (rows_below n xs)) (filter-none p x (o 0 (omega arith) (omega arith)))
+    ∙ (ap (λ (y : Rows). y ++ filter p (rows_below n xs)) (filter-none p x (o 0 (omega arith) (omega arith)))
     ∙ filter-one_list p n s xs (omega arith) (omega arith) (λ t c e. o (suc t) (omega arith) (omega arith)))
 
 -- By serial.
@@ -77,16 +76,16 @@ by_serial-in_order (e ∷ es) d =
     (among-without_deadline e.timer.serial (in_order timer_of es) (IsNotAmong-in_order timer_of e.timer.serial es d.0))
     ∙ ap (insert_in_order without_deadline e) (by_serial-in_order es d.1)
 
-at_zero : (rows : List (ℕ × Node)) → AllAt 0 (map without_deadline (entries_of rows))
+at_zero : (rows : Rows) → AllAt 0 (map without_deadline (entries_of rows))
 at_zero [] = tt
 at_zero (x ∷ xs) = (refl, at_zero xs)
 
-rising_too : (low : ℕ) (rows : List (ℕ × Node)) → AreRising low (timers_in rows) → AreRising low (map without_deadline (entries_of rows))
+rising_too : (low : ℕ) (rows : Rows) → AreRising low (timers_in rows) → AreRising low (map without_deadline (entries_of rows))
 rising_too low [] r = tt
 rising_too low (x ∷ xs) r = (r.0, rising_too (timer_in x).serial xs r.1)
 
 -- rows in order of starting are by serial
-pub by_serial-pending_in : (rows : List (ℕ × Node)) → AreRising 0 (timers_in rows) → by_serial (pending_in rows) ≡ entries_of rows
+pub by_serial-pending_in : (rows : Rows) → AreRising 0 (timers_in rows) → by_serial (pending_in rows) ≡ entries_of rows
 by_serial-pending_in rows r =
     by_serial-in_order (entries_of rows) (rw (timers_of-entries rows) (AreDistinct-rising 0 (timers_in rows) r))
     ∙ in_order-same without_deadline 0 0 (entries_of rows) (at_zero rows) (rising_too 0 rows r)
@@ -94,15 +93,15 @@ by_serial-pending_in rows r =
 -- Each row stands in its timer's bucket.
 
 -- the invariant of a row of bucket s
-abbrev pub IsAt : (Timer → ℕ) → (Timer → ℕ) → ℕ → ℕ × Node → Type 0
+abbrev pub IsAt : (Timer → ℕ) → (Timer → ℕ) → ℕ → Row → Type 0
 IsAt bucket_of rounds_of s row = (bucket_of (timer_in row) ≡ s) × (row.1.rounds ≡ rounds_of (timer_in row))
 
-rows_again : (bucket_of rounds_of : Timer → ℕ) (s : ℕ) (rows : List (ℕ × Node)) → AllByRecursion (IsAt bucket_of rounds_of s) rows
+rows_again : (bucket_of rounds_of : Timer → ℕ) (s : ℕ) (rows : Rows) → AllByRecursion (IsAt bucket_of rounds_of s) rows
     → map (row_of rounds_of) (entries_of rows) ≡ rows
 rows_again bucket_of rounds_of s [] a = refl
 rows_again bucket_of rounds_of s (x ∷ xs) a =
     ap (λ (k : ℕ). (x.0, record x.1 { rounds = k }) ∷ map (row_of rounds_of) (entries_of xs)) (sym a.0.1)
-    ∙ ap (λ (r : List (ℕ × Node)). x ∷ r) (rows_again bucket_of rounds_of s xs a.1)
+    ∙ ap (λ (r : Rows). x ∷ r) (rows_again bucket_of rounds_of s xs a.1)
 
 module _ (n : ℕ) (bucket_of rounds_of : Timer → ℕ) (lists : KeyedLists) (len : length lists
     ≡ n + 1) (each : EachRow (IsAt bucket_of rounds_of) n lists) where
@@ -119,8 +118,8 @@ module _ (n : ℕ) (bucket_of rounds_of : Timer → ℕ) (lists : KeyedLists) (l
   pub entries_at-pending : (s : ℕ) → s < n → entries_at bucket_of s (pending_in (rows_below n lists)) ≡ pending_in (list_at s lists)
   entries_at-pending s h =
       filter-pending_in (λ (entry : Entry). bucket_of entry.timer == s) (rows_below n lists)
-      ∙ ap pending_in (filter-one_list (λ (row : ℕ × Node). bucket_of (timer_in row) == s) n s lists h (omega arith) (other_rows s)
-      ∙ filter-each (λ (row : ℕ × Node). bucket_of (timer_in row) == s) (list_at s lists) (these_rows s h))
+      ∙ ap pending_in (filter-one_list (λ (row : Row). bucket_of (timer_in row) == s) n s lists h (omega arith) (other_rows s)
+      ∙ filter-each (λ (row : Row). bucket_of (timer_in row) == s) (list_at s lists) (these_rows s h))
 
   pub shows : (last_tick now last : ℕ) → AreInOrder (n + 1) lists
       → ShowsBuckets n bucket_of rounds_of (wheel_state n last_tick now last lists) lists

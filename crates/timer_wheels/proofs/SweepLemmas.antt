@@ -1,66 +1,66 @@
 -- Lemmas for `sweep_bucket`: its loop invariant.
-use Rattle.std.proofs.Common.{◌≡◌, ◌≢◌, ◌<◌, ◌≤◌, ◌+◌, ◌-◌, ℕ, List, [], ◌∷◌, ◌++◌, length, refl, sym, ◌∙◌, ap, subst, inl, inr, arith, length-set, length-append, append_assoc, get_or-set_same, get_or-set_other}
-use Rattle.std.specs.Prelude.{map, IsSome, Option, Some, slice_set}
+use Rattle.std.proofs.Common.{◌≡◌, ◌≢◌, ◌<◌, ◌≤◌, ◌+◌, ◌-◌, ℕ, [], ◌∷◌, ◌++◌, length, refl, sym, ◌∙◌, ap, subst, inl, inr, arith, length-set, length-append, append_assoc, get_or-set_same, get_or-set_other, map, IsSome, Option, Some, slice_set}
 use Rattle.std.proofs.lemmas.List.{set-get_or}
 use Rattle.std.proofs.lemmas.Bool.{cases_eq, eq-eqb, ne_eqb}
+use Rattle.timer_links.proofs.Rows.{length_list_at}
+use Rattle.timer_base.specs.Basics.{some_same, some_none, empty_when}
 use Rattle.timer_links.specs.declared.node.Node.{Node}
-use Rattle.timer_links.specs.Lists.{node_at, first_key, list_at, row_count, without_key, with_row, moved_back, AreApart, SetsRounds, KeyedLists}
+use Rattle.timer_links.specs.Lists.{node_at, first_key, list_at, row_count, without_key, with_row, moved_back, AreApart, SetsRounds, KeyedLists, Row, Rows}
 use Rattle.timer_wheels.specs.Sweep.{due_now, due_later, half_swept, swept}
 use Rattle.timer_wheels.proofs.RowLemmas.{append-nil, set_twice, set_swapped}
-use Rattle.timer_wheels.proofs.WalkLemmas.{some_none, same_key, length-list_at, empty_when}
 
 -- both lists are replaced
-rewritten : (v : KeyedLists) (i j : ℕ) (a b c : List (ℕ × Node)) → i ≢ j
+rewritten : (v : KeyedLists) (i j : ℕ) (a b c : Rows) → i ≢ j
     → slice_set (slice_set (slice_set v i a) j b) i c ≡ slice_set (slice_set v i c) j b
 rewritten v i j a b c n =
     set_swapped (slice_set v i a) j i b c (λ (e : j ≡ i). n (sym e))
     ∙ ap (λ (y : KeyedLists). slice_set y j b) (set_twice v i a c)
 
-now-append : (rows : List (ℕ × Node)) (r : ℕ × Node) → r.1.rounds ≡ 0 → due_now (rows ++ r ∷ []) ≡ due_now rows ++ r ∷ []
+now-append : (rows : Rows) (r : Row) → r.1.rounds ≡ 0 → due_now (rows ++ r ∷ []) ≡ due_now rows ++ r ∷ []
 now-append [] r h = rw (eq-eqb r.1.rounds 0 h) refl
 now-append (x ∷ xs) r h = elim (cases_eq x.1.rounds 0) [
-  | inl e ↦ rw (eq-eqb x.1.rounds 0 e) (ap (λ (y : List (ℕ × Node)). x ∷ y) (now-append xs r h))
+  | inl e ↦ rw (eq-eqb x.1.rounds 0 e) (ap (λ (y : Rows). x ∷ y) (now-append xs r h))
   | inr e ↦ rw (ne_eqb x.1.rounds 0 e) (now-append xs r h)
 ]
 
-now-later : (rows : List (ℕ × Node)) (r : ℕ × Node) → r.1.rounds ≢ 0 → due_now (rows ++ r ∷ []) ≡ due_now rows
+now-later : (rows : Rows) (r : Row) → r.1.rounds ≢ 0 → due_now (rows ++ r ∷ []) ≡ due_now rows
 now-later [] r h = rw (ne_eqb r.1.rounds 0 h) refl
 now-later (x ∷ xs) r h = elim (cases_eq x.1.rounds 0) [
-  | inl e ↦ rw (eq-eqb x.1.rounds 0 e) (ap (λ (y : List (ℕ × Node)). x ∷ y) (now-later xs r h))
+  | inl e ↦ rw (eq-eqb x.1.rounds 0 e) (ap (λ (y : Rows). x ∷ y) (now-later xs r h))
   | inr e ↦ rw (ne_eqb x.1.rounds 0 e) (now-later xs r h)
 ]
 
-later-now : (rows : List (ℕ × Node)) (r : ℕ × Node) → r.1.rounds ≡ 0 → due_later (rows ++ r ∷ []) ≡ due_later rows
+later-now : (rows : Rows) (r : Row) → r.1.rounds ≡ 0 → due_later (rows ++ r ∷ []) ≡ due_later rows
 later-now [] r h = rw (eq-eqb r.1.rounds 0 h) refl
 later-now (x ∷ xs) r h = elim (cases_eq x.1.rounds 0) [
   | inl e ↦ rw (eq-eqb x.1.rounds 0 e) (later-now xs r h)
-  | inr e ↦ rw (ne_eqb x.1.rounds 0 e) (ap (λ (y : List (ℕ × Node)). (x.0, record x.1 { rounds = x.1.rounds - 1 }) ∷ y) (later-now xs r h))
+  | inr e ↦ rw (ne_eqb x.1.rounds 0 e) (ap (λ (y : Rows). (x.0, record x.1 { rounds = x.1.rounds - 1 }) ∷ y) (later-now xs r h))
 ]
 
-later-append : (rows : List (ℕ × Node)) (r : ℕ × Node) → r.1.rounds ≢ 0
+later-append : (rows : Rows) (r : Row) → r.1.rounds ≢ 0
     → due_later (rows ++ r ∷ []) ≡ due_later rows ++ (r.0, record r.1 { rounds = r.1.rounds - 1 }) ∷ []
 later-append [] r h = rw (ne_eqb r.1.rounds 0 h) refl
 later-append (x ∷ xs) r h = elim (cases_eq x.1.rounds 0) [
   | inl e ↦ rw (eq-eqb x.1.rounds 0 e) (later-append xs r h)
-  | inr e ↦ rw (ne_eqb x.1.rounds 0 e) (ap (λ (y : List (ℕ × Node)). (x.0, record x.1 { rounds = x.1.rounds - 1 }) ∷ y)
+  | inr e ↦ rw (ne_eqb x.1.rounds 0 e) (ap (λ (y : Rows). (x.0, record x.1 { rounds = x.1.rounds - 1 }) ∷ y)
       (later-append xs r h))
 ]
 
 module _ (l due : ℕ) (old : KeyedLists) (n : l ≢ due) (lb : l < length old) (db : due < length old) where
-  pub at_list : (past left : List (ℕ × Node)) → list_at l (half_swept l due past left old) ≡ due_later past ++ left
+  pub at_list : (past left : Rows) → list_at l (half_swept l due past left old) ≡ due_later past ++ left
   at_list past left = get_or-set_other (slice_set old l (due_later past ++ left)) due l (list_at due old ++ due_now past) [] n
       ∙ get_or-set_same old l (due_later past ++ left) [] lb
 
-  pub same_length : (past left : List (ℕ × Node)) → length (half_swept l due past left old) ≡ length old
+  pub same_length : (past left : Rows) → length (half_swept l due past left old) ≡ length old
   same_length past left = length-set (slice_set old l (due_later past ++ left)) due (list_at due old ++ due_now past)
       ∙ length-set old l (due_later past ++ left)
 
-  at_due : (past left : List (ℕ × Node)) → list_at due (half_swept l due past left old) ≡ list_at due old ++ due_now past
+  at_due : (past left : Rows) → list_at due (half_swept l due past left old) ≡ list_at due old ++ due_now past
   at_due past left = get_or-set_same (slice_set old l (due_later past ++ left)) due (list_at due old ++ due_now past) []
       (rw (length-set old l (due_later past ++ left)) db)
 
   -- a row that is due
-  pub due_step : (past rest : List (ℕ × Node)) (r : ℕ × Node) → r.1.rounds ≡ 0 → AreApart (half_swept l due past (r ∷ rest) old)
+  pub due_step : (past rest : Rows) (r : Row) → r.1.rounds ≡ 0 → AreApart (half_swept l due past (r ∷ rest) old)
       → moved_back r.0 due r.1 (half_swept l due past (r ∷ rest) old) ≡ half_swept l due (past ++ r ∷ []) rest old
   due_step past rest r z a =
       let w : KeyedLists = half_swept l due past (r ∷ rest) old in
@@ -68,13 +68,13 @@ module _ (l due : ℕ) (old : KeyedLists) (n : l ≢ due) (lb : l < length old) 
       (a l (due_later past) r rest (rw (same_length past (r ∷ rest)) lb) (at_list past (r ∷ rest))).1
       ∙ rewritten old l due (due_later past ++ r ∷ rest) (list_at due old ++ due_now past) (due_later past ++ rest) n in
       ap (with_row due r) m
-      ∙ (ap (λ (y : List (ℕ × Node)). slice_set (half_swept l due past rest old) due (y ++ r ∷ [])) (at_due past rest)
+      ∙ (ap (λ (y : Rows). slice_set (half_swept l due past rest old) due (y ++ r ∷ [])) (at_due past rest)
       ∙ (set_twice (slice_set old l (due_later past ++ rest)) due (list_at due old ++ due_now past) ((list_at due old ++ due_now past)
       ++ r ∷ [])
       ∙ rw (now-append past r z, later-now past r z, append_assoc (list_at due old) (due_now past) (r ∷ [])) refl))
 
   -- a row that stays
-  pub later_step : (past rest : List (ℕ × Node)) (r : ℕ × Node) → r.1.rounds ≢ 0
+  pub later_step : (past rest : Rows) (r : Row) → r.1.rounds ≢ 0
       → slice_set (half_swept l due past (r ∷ rest) old) l (due_later past ++ (r.0, record r.1 { rounds = r.1.rounds - 1 }) ∷ rest)
       ≡ half_swept l due (past ++ r ∷ []) rest old
   later_step past rest r z =
@@ -89,8 +89,8 @@ module _ (l due : ℕ) (old : KeyedLists) (n : l ≢ due) (lb : l < length old) 
 
 -- some rows of the list were swept, and the key is that of the next one
 pub record IsSweeping (l due step : ℕ) (old lists : KeyedLists) (at : Option ℕ) : Type 0 where
-  pub past : List (ℕ × Node)
-  pub left : List (ℕ × Node)
+  pub past : Rows
+  pub left : Rows
   pub rows : list_at l old ≡ past ++ left
   pub is : lists ≡ half_swept l due past left old
   pub next : at ≡ first_key left
@@ -109,25 +109,25 @@ begun l due old at e = record {
 
 -- the next row
 pub record IsNext (l due step : ℕ) (old lists : KeyedLists) (key : ℕ) : Type 0 where
-  pub past : List (ℕ × Node)
+  pub past : Rows
   pub node : Node
-  pub rest : List (ℕ × Node)
+  pub rest : Rows
   pub rows : list_at l old ≡ past ++ (key, node) ∷ rest
   pub is : lists ≡ half_swept l due past ((key, node) ∷ rest) old
   pub steps : length past ≡ step
 
-next_of : (l due step : ℕ) (old lists : KeyedLists) (key : ℕ) (past left : List (ℕ × Node)) → list_at l old ≡ past ++ left
+next_of : (l due step : ℕ) (old lists : KeyedLists) (key : ℕ) (past left : Rows) → list_at l old ≡ past ++ left
     → lists ≡ half_swept l due past left old → Some key ≡ first_key left → length past ≡ step → IsNext l due step old lists key
 next_of l due step old lists key past [] r i e c = absurd (some_none key e)
 next_of l due step old lists key past (x ∷ xs) r i e c =
-    let k : x.0 ≡ key = same_key x.0 key (sym e) in
+    let k : x.0 ≡ key = some_same x.0 key (sym e) in
     let q : x ∷ xs ≡ (key, x.1) ∷ xs = ap (λ (y : ℕ). (y, x.1) ∷ xs) k in
     record {
       past = past;
       node = x.1;
       rest = xs;
-      rows = r ∙ ap (λ (y : List (ℕ × Node)). past ++ y) q;
-      is = i ∙ ap (λ (y : List (ℕ × Node)). half_swept l due past y old) q;
+      rows = r ∙ ap (λ (y : Rows). past ++ y) q;
+      is = i ∙ ap (λ (y : Rows). half_swept l due past y old) q;
       steps = c;
     }
 
@@ -139,21 +139,21 @@ next_row l due step old lists at key s e = next_of l due step old lists key s.pa
 pub record IsSwept (l due : ℕ) (old lists : KeyedLists) : Type 0 where
   pub is : lists ≡ swept l due old
 
-ended : (l due : ℕ) (old lists : KeyedLists) (past left : List (ℕ × Node)) → list_at l old ≡ past ++ left
+ended : (l due : ℕ) (old lists : KeyedLists) (past left : Rows) → list_at l old ≡ past ++ left
     → lists ≡ half_swept l due past left old → left ≡ [] → IsSwept l due old lists
 ended l due old lists past left r i e =
-    let q : list_at l old ≡ past = r ∙ (ap (λ (y : List (ℕ × Node)). past ++ y) e ∙ append-nil past) in
+    let q : list_at l old ≡ past = r ∙ (ap (λ (y : Rows). past ++ y) e ∙ append-nil past) in
     record {
-      is = i ∙ (ap (λ (y : List (ℕ × Node)). half_swept l due past y old) e
-          ∙ ap (λ (y : List (ℕ × Node)). half_swept l due y [] old) (sym q));
+      is = i ∙ (ap (λ (y : Rows). half_swept l due past y old) e
+          ∙ ap (λ (y : Rows). half_swept l due y [] old) (sym q));
     }
 
 pub ended_count : (l due step : ℕ) (old lists : KeyedLists) (at : Option ℕ) → IsSweeping l due step old lists at
     → row_count old ≤ step → IsSwept l due old lists
 ended_count l due step old lists at s h =
-    let a : length (list_at l old) ≤ row_count old = length-list_at old l in
+    let a : length (list_at l old) ≤ row_count old = length_list_at old l in
     let b : length (list_at l old) ≡ length s.past + length s.left =
-    ap (λ (y : List (ℕ × Node)). length y) s.rows ∙ length-append s.past s.left in
+    ap (λ (y : Rows). length y) s.rows ∙ length-append s.past s.left in
     let c : length s.past ≡ step = s.steps in
     ended l due old lists s.past s.left s.rows s.is (empty_when s.left (omega arith))
 
@@ -161,9 +161,6 @@ module _ (l due step : ℕ) (old lists : KeyedLists) (n : l ≢ due) (lb : l < l
     (w : IsNext l due step old lists key) where
   pub in_range : l < length lists
   in_range = rw (w.is, same_length l due old n lb db w.past ((key, w.node) ∷ w.rest)) lb
-
-  pub due_in_range : due < length lists
-  due_in_range = rw (w.is, same_length l due old n lb db w.past ((key, w.node) ∷ w.rest)) db
 
   pub standing : list_at l lists ≡ due_later w.past ++ (key, w.node) ∷ w.rest
   standing = ap (list_at l) w.is ∙ at_list l due old n lb db w.past ((key, w.node) ∷ w.rest)

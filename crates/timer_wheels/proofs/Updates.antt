@@ -1,6 +1,5 @@
 -- The two changes that every call but a tick composes: a row is removed, and a row is pushed to the back of a list.
-use Rattle.std.proofs.Common.{◌≡◌, ◌≢◌, ◌<◌, ◌≤◌, ◌+◌, ◌==◌, ℕ, List, [], ◌∷◌, ◌++◌, length, refl, sym, ◌∙◌, ap, subst, inl, inr, arith, length-set, get_or-set_same, get_or-set_other}
-use Rattle.std.specs.Prelude.{Option, Some, None, map, not, slice_set}
+use Rattle.std.proofs.Common.{◌≡◌, ◌≢◌, ◌<◌, ◌≤◌, ◌+◌, ◌==◌, ℕ, [], ◌∷◌, ◌++◌, length, refl, sym, ◌∙◌, ap, subst, inl, inr, arith, length-set, get_or-set_same, get_or-set_other, Option, Some, None, map, not, slice_set}
 use Rattle.std.specs.List.{AllByRecursion}
 use Rattle.std.proofs.lemmas.Bool.{cases_eq}
 use Rattle.std.proofs.lemmas.List.{length-map}
@@ -10,7 +9,7 @@ use Rattle.timer_base.specs.Order.{AreBelow, AreRising}
 use Rattle.timer_base.specs.OrderLaws.{All-filter, All-weaken, AreRising-weaken}
 use Rattle.timer_base.specs.WheelState.{IsPending, IsDue, after_start, after_due_start, after_held_start, after_expiry, after_clear}
 use Rattle.timer_links.specs.declared.node.Node.{Node}
-use Rattle.timer_links.specs.Lists.{list_at, with_row, without_key, PopsFront, KeyedLists}
+use Rattle.timer_links.specs.Lists.{list_at, with_row, without_key, PopsFront, KeyedLists, Row, Rows}
 use Rattle.timer_wheels.specs.Buckets.{IsListOf}
 use Rattle.timer_wheels.specs.BucketLists.{timer_in, timers_in, rows_below, wheel_state, AreDue, AreBuckets}
 use Rattle.timer_wheels.proofs.RowLemmas.{AreBelow-timers, all-append, all-list_at, entries-append, rows_below-above, rows_below-none, rows_below-without_key, list_at-without_key}
@@ -20,8 +19,8 @@ module _ {n last_tick now last : ℕ} {lists : KeyedLists} (b : AreBuckets n las
   -- the row under a key is removed, if there is one
   pub removed : (key : ℕ) → AreBuckets n last_tick now last (map (without_key key) lists)
   removed key =
-      let pending : ℕ × Node → Type 0 = λ row. IsPending last_tick now last (timer_in row) in
-      let due : ℕ × Node → Type 0 = λ row. IsDue now last (timer_in row) in
+      let pending : Row → Type 0 = λ row. IsPending last_tick now last (timer_in row) in
+      let due : Row → Type 0 = λ row. IsDue now last (timer_in row) in
       record {
         last_in_range = b.last_in_range;
         tick_in_range = b.tick_in_range;
@@ -139,7 +138,7 @@ module _ {n last_tick now last : ℕ} {lists : KeyedLists} (b : AreBuckets n las
   in_lists list deadline (inr h) = let k : list ≡ n = h.0 in let e : length lists ≡ n + 1 = b.has_lists in omega arith
 
   -- the first of the due timers is removed
-  module _ (row : ℕ × Node) (rest : List (ℕ × Node)) (e : list_at n lists ≡ row ∷ rest) where
+  module _ (row : Row) (rest : Rows) (e : list_at n lists ≡ row ∷ rest) where
     less_due : list_at n (slice_set lists n rest) ≡ rest
     less_due = get_or-set_same lists n rest [] (let h : length lists ≡ n + 1 = b.has_lists in omega arith)
 
@@ -157,7 +156,7 @@ module _ {n last_tick now last : ℕ} {lists : KeyedLists} (b : AreBuckets n las
       due = subst (AreDue now last) (sym less_due) (subst (AreDue now last) e b.due).1;
       in_order = λ s h. elim (cases_eq s n) [
         | inl q ↦ rw (q, less_due) (AreRising-weaken (timer_in row).serial 0 (timers_in rest) (omega arith)
-            (subst (λ (y : List (ℕ × Node)). AreRising 0 (timers_in y)) e (b.in_order n (omega arith))).1)
+            (subst (λ (y : Rows). AreRising 0 (timers_in y)) e (b.in_order n (omega arith))).1)
         | inr x ↦ rw (get_or-set_other lists n s rest [] x) (b.in_order s h)
       ];
     }
@@ -165,7 +164,7 @@ module _ {n last_tick now last : ℕ} {lists : KeyedLists} (b : AreBuckets n las
     pub expired : wheel_state n last_tick now last (slice_set lists n rest) ≡ after_expiry (wheel_state n last_tick now last lists)
     expired = rw (same_rows, less_due, e) refl
 
-  pub popped : (found : Option (ℕ × Node)) (new : KeyedLists) → PopsFront n lists found new → AreBuckets n last_tick now last new
+  pub popped : (found : Option Row) (new : KeyedLists) → PopsFront n lists found new → AreBuckets n last_tick now last new
   popped None new p = subst (AreBuckets n last_tick now last) (sym p.1) b
   popped (Some row) new p = subst (AreBuckets n last_tick now last) (sym p.2) (taken_due row p.0 p.1)
 

@@ -3,7 +3,7 @@ use Rattle.std.proofs.Common.{◌≡◌, ◌≢◌, ℕ, ◌+◌, ◌-◌, ◌*�
 use Rattle.std.proofs.lemmas.Bool.{cases_eq, cases_lt, eq-eqb, ne_eqb}
 use Rattle.std.proofs.lemmas.Nat.{le-div}
 use Rattle.timer_wheels.specs.Digits.{IsTable, HasDigits, digit, level, lowest, slots_below, list_of_slot, bucket, emptied, lowest_radix}
-use Rattle.timer_wheels.proofs.ClockDigits.{bucket_near, bucket_far, emptied_above, visit_here, visit_above}
+use Rattle.timer_wheels.proofs.DigitLaws.{bucket_near, bucket_far, emptied_above, visit_here, visit_above}
 use Rattle.timer_wheels.proofs.DigitLaws.{level_near, level_far, lowest_here, quotient_mono}
 use Rattle.timer_wheels.specs.Leap.{list_visit, timer_visit}
 

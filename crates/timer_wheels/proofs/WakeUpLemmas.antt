@@ -1,6 +1,5 @@
 -- Lemmas for `quiet_until`: a first visit is a tick to wake up at, and the slots ahead of a hashed wheel.
-use Rattle.std.proofs.Common.{◌≡◌, ◌⊎◌, ◌<◌, ◌≤◌, ◌+◌, ◌-◌, ◌%◌, ℕ, List, [], ◌∷◌, length, refl, sym, ◌∙◌, ap, subst, inl, inr, arith}
-use Rattle.std.specs.Prelude.{◌↔◌, Bool, true, false, IsTrue}
+use Rattle.std.proofs.Common.{◌≡◌, ◌⊎◌, ◌<◌, ◌≤◌, ◌+◌, ◌-◌, ◌%◌, ℕ, List, [], ◌∷◌, length, refl, sym, ◌∙◌, ap, subst, inl, inr, arith, ◌↔◌, Bool, true, false, IsTrue}
 use Rattle.std.specs.List.{AllByRecursion}
 use Rattle.std.proofs.lemmas.Bool.{cases_lt}
 use Rattle.std.proofs.Math.Nat.{mod-add-mod}
@@ -8,8 +7,7 @@ use Rattle.timer_base.specs.OrderLaws.{All-in_order}
 use Rattle.timer_base.specs.Pending.{timer_of}
 use Rattle.timer_base.specs.WakeUps.{IsWakeUp}
 use Rattle.timer_base.specs.WheelState.{IsPending}
-use Rattle.timer_links.specs.declared.node.Node.{Node}
-use Rattle.timer_links.specs.Lists.{list_at, row_count, KeyedLists}
+use Rattle.timer_links.specs.Lists.{list_at, row_count, KeyedLists, Rows}
 use Rattle.timer_wheels.specs.Hashed.{slot_of, rounds_of, IsInBucket, AreInBuckets, IsNextSweep}
 use Rattle.timer_wheels.specs.Shown.{entries_at}
 use Rattle.timer_wheels.specs.BucketLists.{timer_in, entries_of, rows_below, pending_in, wheel_state, ArePending, AreInOrder, EachRow}
@@ -20,24 +18,24 @@ use Rattle.timer_wheels.proofs.BucketLemmas.{row_count-parts, length-pending_in}
 
 -- Some timer is pending, or none is.
 
-some_or_none : (rows : List (ℕ × Node)) → (rows ≡ []) ⊎ (0 < length rows)
+some_or_none : (rows : Rows) → (rows ≡ []) ⊎ (0 < length rows)
 some_or_none [] = inl refl
 some_or_none (r ∷ rs) = inr (omega arith)
 
-none_left : (rows : List (ℕ × Node)) → AllByRecursion (λ row. ⊥) rows → 0 < length rows → ⊥
+none_left : (rows : Rows) → AllByRecursion (λ row. ⊥) rows → 0 < length rows → ⊥
 none_left [] a h = omega arith
 none_left (r ∷ rs) a h = a.0
 
 some_pending : (n l : ℕ) (lists : KeyedLists) → l < n → 0 < length (list_at l lists) → 0 < length (pending_in (rows_below n lists))
 some_pending n l lists b h = elim (some_or_none (rows_below n lists)) [
   | inl e ↦ absurd (
-      let P : List (ℕ × Node) → Type 0 = AllByRecursion (λ row. ⊥) in
+      let P : Rows → Type 0 = AllByRecursion (λ row. ⊥) in
       none_left (list_at l lists) (all-list_at (λ row. ⊥) n lists (subst P (sym e) tt) l b) h)
   | inr k ↦ (let e : length (pending_in (rows_below n lists)) ≡ length (rows_below n lists) = length-pending_in (rows_below n lists)
       in omega arith)
 ]
 
-entries_each : (visit : ℕ) (rows : List (ℕ × Node)) → AllByRecursion (λ row. visit ≤ (timer_in row).deadline) rows
+entries_each : (visit : ℕ) (rows : Rows) → AllByRecursion (λ row. visit ≤ (timer_in row).deadline) rows
     → AllByRecursion (λ entry. visit ≤ entry.timer.deadline) (entries_of rows)
 entries_each visit [] a = tt
 entries_each visit (r ∷ rs) a = (a.0, entries_each visit rs a.1)
@@ -59,7 +57,7 @@ module _ (n last now last_serial : ℕ) (lists : KeyedLists) where
 
 -- Slot by slot.
 
-pub seen_filled : (rows : List (ℕ × Node)) (empty : Bool) → IsTrue empty ↔ (rows ≡ []) → empty ≡ false → 0 < length rows
+pub seen_filled : (rows : Rows) (empty : Bool) → IsTrue empty ↔ (rows ≡ []) → empty ≡ false → 0 < length rows
 seen_filled [] empty f e = absurd (let x : empty ≡ true = f.1 refl in cc)
 seen_filled (r ∷ rs) empty f e = omega arith
 
@@ -118,7 +116,7 @@ row_in_time n now slot step s d lists a f m k h = elim (cases_lt d (now + (step 
 
 module _ (n last now last_serial slot step : ℕ) (lists : KeyedLists) (a : slot
     ≡ now % n) (f : AreEmptyAhead n slot step lists) where
-  rows_in_time : (s : ℕ) (rows : List (ℕ × Node)) → 0 < length (list_at s lists)
+  rows_in_time : (s : ℕ) (rows : Rows) → 0 < length (list_at s lists)
       → AllByRecursion (λ row. IsPending last now last_serial (timer_in row)) rows → AllByRecursion (IsInBucket n now s) rows
       → AllByRecursion (λ row. now + (step + 1) ≤ (timer_in row).deadline) rows
   rows_in_time s [] h p q = tt
@@ -130,7 +128,7 @@ module _ (n last now last_serial slot step : ℕ) (lists : KeyedLists) (a : slot
   lists_in_time : ArePending last now last_serial (rows_below n lists) → AreInBuckets n now lists
       → EachRow (λ s row. now + (step + 1) ≤ (timer_in row).deadline) n lists
   lists_in_time p q s b = elim (some_or_none (list_at s lists)) [
-    | inl e ↦ (let P : List (ℕ × Node) → Type 0 = AllByRecursion (λ row. now + (step + 1) ≤ (timer_in row).deadline) in subst P (sym e) tt)
+    | inl e ↦ (let P : Rows → Type 0 = AllByRecursion (λ row. now + (step + 1) ≤ (timer_in row).deadline) in subst P (sym e) tt)
     | inr h ↦ rows_in_time s (list_at s lists) h (all-list_at (λ row. IsPending last now last_serial (timer_in row)) n lists p s b) (q s b)
   ]
 

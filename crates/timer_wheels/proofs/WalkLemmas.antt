@@ -1,77 +1,56 @@
 -- Lemmas for `walks`: the loop invariants of copying, counting and emptying one list.
-use Rattle.std.proofs.Common.{◌≡◌, ◌<◌, ◌≤◌, ◌+◌, ℕ, zero, suc, List, [], ◌∷◌, ◌++◌, length, refl, sym, ◌∙◌, ap, arith, append_assoc, length-append, get_or-set_same}
-use Rattle.std.specs.Prelude.{true, IsSome, Option, Some, None, slice_set}
-use Rattle.std.specs.Option.{is_some}
-use Rattle.std.proofs.lemmas.List.{set-get_or}
+use Rattle.std.proofs.Common.{◌≡◌, ◌<◌, ◌≤◌, ◌+◌, ℕ, suc, List, [], ◌∷◌, ◌++◌, length, refl, sym, ◌∙◌, ap, arith, append_assoc, length-append, get_or-set_same, true, IsSome, Option, Some, None, slice_set, is_some}
+use Rattle.std.proofs.lemmas.List.{set-get_or, length-map}
+use Rattle.timer_links.proofs.Rows.{length_list_at}
+use Rattle.timer_base.specs.Basics.{some_same, some_none, empty_when}
 use Rattle.timer_base.specs.declared.timer.Timer.{Timer}
 use Rattle.timer_links.specs.declared.node.Node.{Node}
-use Rattle.timer_links.specs.Lists.{node_at, first_key, list_at, row_count, AreApart, IsNext, PopsFront, KeyedLists}
-use Rattle.timer_wheels.specs.BucketLists.{timers_in}
+use Rattle.timer_links.specs.Lists.{node_at, first_key, list_at, row_count, AreApart, IsNext, PopsFront, KeyedLists, Row, Rows}
+use Rattle.timer_wheels.specs.BucketLists.{timers_in, timer_in}
 use Rattle.timer_wheels.proofs.RowLemmas.{append-nil, timers-append, set_twice}
 
 -- after some steps these rows of the list are behind, those are left, and the key is that of the next one
-pub record IsWalking (l step : ℕ) (lists : KeyedLists) (at : Option ℕ) (past : List (ℕ × Node)) : Type 0 where
-  pub left : List (ℕ × Node)
+pub record IsWalking (l step : ℕ) (lists : KeyedLists) (at : Option ℕ) (past : Rows) : Type 0 where
+  pub left : Rows
   pub rows : list_at l lists ≡ past ++ left
   pub next : at ≡ first_key left
   pub count : length past ≡ step
-
-pub some_none : (x : ℕ) → Some x ≡ None → ⊥
-some_none x e = cc
-
-pub same_key : (a b : ℕ) → Some a ≡ Some b → a ≡ b
-same_key a b e = cc
-
-pub node_none : (x : Node) → Some x ≡ None → ⊥
-node_none x e = cc
-
-pub same_node : (a b : Node) → Some a ≡ Some b → a ≡ b
-same_node a b e = cc
-
-pub length-list_at : (lists : KeyedLists) (l : ℕ) → length (list_at l lists) ≤ row_count lists
-length-list_at [] l = omega arith
-length-list_at (x ∷ xs) zero = omega arith
-length-list_at (x ∷ xs) (suc l) = let h : length (list_at l xs) ≤ row_count xs = length-list_at xs l in omega arith
 
 pub begun : (l : ℕ) (lists : KeyedLists) (at : Option ℕ) → at ≡ first_key (list_at l lists) → IsWalking l 0 lists at []
 begun l lists at e = record { left = list_at l lists; rows = refl; next = e; count = refl }
 
 -- the next row, if there is one
-pub record IsNextRow (l step : ℕ) (lists : KeyedLists) (key : ℕ) (past : List (ℕ × Node)) : Type 0 where
+pub record IsNextRow (l step : ℕ) (lists : KeyedLists) (key : ℕ) (past : Rows) : Type 0 where
   pub node : Node
-  pub rest : List (ℕ × Node)
+  pub rest : Rows
   pub rows : list_at l lists ≡ past ++ (key, node) ∷ rest
   pub count : length past ≡ step
 
-next_of : (l step : ℕ) (lists : KeyedLists) (key : ℕ) (past left : List (ℕ × Node)) → list_at l lists ≡ past ++ left
+next_of : (l step : ℕ) (lists : KeyedLists) (key : ℕ) (past left : Rows) → list_at l lists ≡ past ++ left
     → Some key ≡ first_key left → length past ≡ step → IsNextRow l step lists key past
 next_of l step lists key past [] r e c = absurd (some_none key e)
 next_of l step lists key past (x ∷ xs) r e c =
-    let k : x.0 ≡ key = same_key x.0 key (sym e) in
+    let k : x.0 ≡ key = some_same x.0 key (sym e) in
     record { node = x.1; rest = xs; rows = r ∙ ap (λ (y : ℕ). past ++ (y, x.1) ∷ xs) k; count = c }
 
-pub next_row : (l step : ℕ) (lists : KeyedLists) (at : Option ℕ) (key : ℕ) (past : List (ℕ × Node))
+pub next_row : (l step : ℕ) (lists : KeyedLists) (at : Option ℕ) (key : ℕ) (past : Rows)
     → IsWalking l step lists at past → at ≡ Some key → IsNextRow l step lists key past
 next_row l step lists at key past w e = next_of l step lists key past w.left w.rows (sym e ∙ w.next) w.count
 
-pub empty_when : (left : List (ℕ × Node)) → length left ≤ 0 → left ≡ []
-empty_when [] h = refl
-empty_when (x ∷ xs) h = absurd (omega arith)
-
-all_past : (l : ℕ) (lists : KeyedLists) (past left : List (ℕ × Node)) → list_at l lists ≡ past ++ left → left ≡ [] → list_at l lists ≡ past
-all_past l lists past left r e = r ∙ (ap (λ (y : List (ℕ × Node)). past ++ y) e ∙ append-nil past)
+all_past : (l : ℕ) (lists : KeyedLists) (past left : Rows) → list_at l lists ≡ past ++ left → left ≡ [] → list_at l lists ≡ past
+all_past l lists past left r e = r ∙ (ap (λ (y : Rows). past ++ y) e ∙ append-nil past)
 
 -- and after as many steps as there are rows
-pub ended_count : (l step : ℕ) (lists : KeyedLists) (at : Option ℕ) (past : List (ℕ × Node)) → IsWalking l step lists at past
+pub ended_count : (l step : ℕ) (lists : KeyedLists) (at : Option ℕ) (past : Rows) → IsWalking l step lists at past
     → row_count lists ≤ step → list_at l lists ≡ past
 ended_count l step lists at past w h =
-    let a : length (list_at l lists) ≤ row_count lists = length-list_at lists l in
+    let a : length (list_at l lists) ≤ row_count lists = length_list_at lists l in
     let b : length (list_at l lists) ≡ length past + length w.left =
-    ap (λ (y : List (ℕ × Node)). length y) w.rows ∙ length-append past w.left in
+    ap (λ (y : Rows). length y) w.rows ∙ length-append past w.left in
     let c : length past ≡ step = w.count in
     all_past l lists past w.left w.rows (empty_when w.left (omega arith))
 
-module _ (l step : ℕ) (lists : KeyedLists) (b : l < length lists) (a : AreApart lists) (key : ℕ) (past : List (ℕ × Node))
+module _ (l step : ℕ) (lists : KeyedLists) (b : l < length lists) (a : AreApart lists) (key : ℕ) (past : Rows)
     (w : IsNextRow l step lists key past) where
   pub found : node_at key lists ≡ Some w.node
   found = (a l past (key, w.node) w.rest b w.rows).0
@@ -90,7 +69,7 @@ module _ (l step : ℕ) (lists : KeyedLists) (b : l < length lists) (a : AreApar
 
 -- the rows so far are counted
 pub record IsCounting (l step : ℕ) (lists : KeyedLists) (at : Option ℕ) : Type 0 where
-  pub past : List (ℕ × Node)
+  pub past : Rows
   pub walk : IsWalking l step lists at past
 
 pub counted-none : (l : ℕ) (lists : KeyedLists) (at : Option ℕ) → at ≡ first_key (list_at l lists) → IsCounting l 0 lists at
@@ -108,12 +87,12 @@ counted-in_use l step lists b a key at c e = in_use l step lists b a key c.past 
 
 pub counted-enough : (l step : ℕ) (lists : KeyedLists) (at : Option ℕ) → IsCounting l step lists at → row_count lists ≤ step
     → step ≡ length (list_at l lists)
-counted-enough l step lists at c h = sym c.walk.count ∙ ap (λ (y : List (ℕ × Node)). length y)
+counted-enough l step lists at c h = sym c.walk.count ∙ ap (λ (y : Rows). length y)
     (sym (ended_count l step lists at c.past c.walk h))
 
 -- the rows copied so far
 pub record IsCopying (l step : ℕ) (lists : KeyedLists) (at : Option ℕ) (old new : List Timer) : Type 0 where
-  pub past : List (ℕ × Node)
+  pub past : Rows
   pub walk : IsWalking l step lists at past
   pub timers : new ≡ old ++ timers_in past
 
@@ -123,7 +102,7 @@ pub copied : (l step : ℕ) (lists : KeyedLists) (b : l < length lists) (a : Are
     → ((w : IsNextRow l step lists key c.past) → next ≡ first_key w.rest) → IsCopying l (step + 1) lists next old more
 copied l step lists b a key at next node old new more c e f m n =
     let w : IsNextRow l step lists key c.past = next_row l step lists at key c.past c.walk e in
-    let same : node ≡ w.node = same_node node w.node (f ∙ found l step lists b a key c.past w) in
+    let same : node ≡ w.node = some_same node w.node (f ∙ found l step lists b a key c.past w) in
     record {
       past = c.past ++ (key, w.node) ∷ [];
       walk = walked l step lists b a key c.past w next (n w);
@@ -136,23 +115,35 @@ copied l step lists b a key at next node old new more c e f m n =
 
 pub copied-all : (l step : ℕ) (lists : KeyedLists) (at : Option ℕ) (old new : List Timer)
     → (c : IsCopying l step lists at old new) → list_at l lists ≡ c.past → new ≡ old ++ timers_in (list_at l lists)
-copied-all l step lists at old new c e = c.timers ∙ ap (λ (y : List (ℕ × Node)). old ++ timers_in y) (sym e)
+copied-all l step lists at old new c e = c.timers ∙ ap (λ (y : Rows). old ++ timers_in y) (sym e)
+
+-- while a row is left, fewer timers were copied than the list has
+pub copied-fits : (l step : ℕ) (lists : KeyedLists) (key : ℕ) (at : Option ℕ) (old new : List Timer)
+    → IsCopying l step lists at old new → at ≡ Some key → length new < length old + length (list_at l lists)
+copied-fits l step lists key at old new c e =
+    let w : IsNextRow l step lists key c.past = next_row l step lists at key c.past c.walk e in
+    let rows : length (list_at l lists) ≡ length c.past + suc (length w.rest) =
+    ap (λ (y : Rows). length y) w.rows ∙ length-append c.past ((key, w.node) ∷ w.rest) in
+    let here : length new ≡ length old + length (timers_in c.past) =
+    ap (λ (y : List Timer). length y) c.timers ∙ length-append old (timers_in c.past) in
+    let same : length (timers_in c.past) ≡ length c.past = length-map c.past timer_in in
+    omega arith
 
 -- One list is emptied.
 
 -- after some steps these rows of the list are left
 pub record IsEmptying (l step : ℕ) (old new : KeyedLists) : Type 0 where
-  pub left : List (ℕ × Node)
+  pub left : Rows
   pub is : new ≡ slice_set old l left
   pub count : length left + step ≡ length (list_at l old)
 
 pub emptying-begun : (l : ℕ) (lists : KeyedLists) → IsEmptying l 0 lists lists
 emptying-begun l lists = record { left = list_at l lists; is = sym (set-get_or lists l []); count = omega arith }
 
-left_there : (l : ℕ) (old new : KeyedLists) (left : List (ℕ × Node)) → l < length old → new ≡ slice_set old l left → list_at l new ≡ left
+left_there : (l : ℕ) (old new : KeyedLists) (left : Rows) → l < length old → new ≡ slice_set old l left → list_at l new ≡ left
 left_there l old new left b e = ap (list_at l) e ∙ get_or-set_same old l left [] b
 
-pub emptied-one : (l step : ℕ) (old new more : KeyedLists) (row : ℕ × Node) → l < length old → IsEmptying l step old new
+pub emptied-one : (l step : ℕ) (old new more : KeyedLists) (row : Row) → l < length old → IsEmptying l step old new
     → PopsFront l new (Some row) more → IsEmptying l (step + 1) old more
 emptied-one l step old new more row b s p =
     let e : s.left ≡ row ∷ p.0 = sym (left_there l old new s.left b s.is) ∙ p.1 in
@@ -160,12 +151,12 @@ emptied-one l step old new more row b s p =
       left = p.0;
       is = p.2 ∙ (ap (λ (y : KeyedLists). slice_set y l p.0) s.is ∙ set_twice old l s.left p.0);
       count = (let c : length s.left + step ≡ length (list_at l old) = s.count
-          in let d : length s.left ≡ suc (length p.0) = ap (λ (y : List (ℕ × Node)). length y) e in omega arith);
+          in let d : length s.left ≡ suc (length p.0) = ap (λ (y : Rows). length y) e in omega arith);
     }
 
 pub emptied-count : (l step : ℕ) (old new : KeyedLists) → IsEmptying l step old new → row_count old ≤ step → new ≡ slice_set old l []
 emptied-count l step old new s h =
-    let a : length (list_at l old) ≤ row_count old = length-list_at old l in
+    let a : length (list_at l old) ≤ row_count old = length_list_at old l in
     let c : length s.left + step ≡ length (list_at l old) = s.count in
     s.is ∙ ap (slice_set old l) (empty_when s.left (omega arith))
 
@@ -175,7 +166,7 @@ pub record AreEmptied (count : ℕ) (old new : KeyedLists) : Type 0 where
   pub emptied : (s : ℕ) → s < count → list_at s new ≡ []
   pub others : (s : ℕ) → count ≤ s → list_at s new ≡ list_at s old
 
-pub emptied-some : (l step : ℕ) (old new more : KeyedLists) (popped : Option (ℕ × Node)) → l < length old
+pub emptied-some : (l step : ℕ) (old new more : KeyedLists) (popped : Option Row) → l < length old
     → IsEmptying l step old new → is_some popped ≡ true → PopsFront l new popped more → IsEmptying l (step + 1) old more
 emptied-some l step old new more None b s e p = absurd (cc)
 emptied-some l step old new more (Some row) b s e p = emptied-one l step old new more row b s p

@@ -1,14 +1,15 @@
 -- The two changes of a hierarchy of wheels: a row is removed, and a row is pushed to the back of its list. If the last
 -- row leaves a bucket, its bit is cleared; if one comes to a bucket, it is set. What is due has no bit.
-use Rattle.std.proofs.Common.{◌≡◌, ◌≢◌, ◌<◌, ◌≤◌, ◌+◌, ◌⊎◌, ℕ, List, [], ◌∷◌, ◌++◌, length, refl, sym, ◌∙◌, ap, subst, inl, inr, arith, get_or-set_same, get_or-set_other}
-use Rattle.std.specs.Prelude.{Option, Some, MatchOption, map, slice_set}
+use Rattle.std.proofs.Common.{◌≡◌, ◌≢◌, ◌<◌, ◌≤◌, ◌+◌, ◌⊎◌, ℕ, List, [], ◌∷◌, ◌++◌, length, refl, sym, ◌∙◌, ap, subst, inl, inr, arith, get_or-set_same, get_or-set_other, Option, Some, IfSome, map, slice_set}
 use Rattle.std.specs.List.{AllByRecursion}
 use Rattle.std.proofs.lemmas.Bool.{cases_eq, cases_lt}
+use Rattle.timer_links.proofs.Rows.{StandsIn, stands_in}
 use Rattle.timer_base.specs.declared.timer.Timer.{Timer}
 use Rattle.timer_base.specs.declared.timer.Handle.{Handle}
 use Rattle.timer_base.specs.WheelState.{IsPending, IsDue, held_at}
 use Rattle.timer_links.specs.declared.node.Node.{Node}
-use Rattle.timer_links.specs.Lists.{list_at, with_row, without_key, list_if_alone, row_count, AreApart, IsAloneIn, KeyedLists}
+use Rattle.timer_links.specs.Lists.{list_at, with_row, without_key, list_if_alone, row_count, AreApart, IsAloneIn, KeyedLists, Row, Rows}
+use Rattle.timer_wheels.specs.declared.table.TheConstants.{MOST_BUCKETS}
 use Rattle.timer_wheels.specs.declared.buckets.Buckets.{Buckets}
 use Rattle.timer_wheels.specs.declared.table.Table.{Table}
 use Rattle.timer_wheels.specs.Buckets.{IsSameFrame, IsListOf}
@@ -24,12 +25,11 @@ use Rattle.timer_wheels.proofs.BucketLemmas.{each-with_row, each-without_key, ea
 use Rattle.timer_wheels.proofs.FirstsLemmas.{same_firsts, entered_firsts, entered_fits, left_firsts, left_counted}
 use Rattle.timer_wheels.proofs.Handles.{held_node}
 use Rattle.timer_wheels.proofs.OccupiedLemmas.{marked_same, marked_with_row}
-use Rattle.timer_wheels.proofs.ReplaceLemmas.{StandsIn, stands_in}
 use Rattle.timer_wheels.proofs.RowLemmas.{all-rest, all-list_at}
 use Rattle.timer_wheels.proofs.TableLaws.{of_table}
 
 -- one row is removed from a bucket, and its bit is cleared if no other row is left in it
-kept_filled : (n : ℕ) (words words2 : List ℕ) (l : ℕ) (rows : List (ℕ × Node)) (lists new : KeyedLists) → l < n
+kept_filled : (n : ℕ) (words words2 : List ℕ) (l : ℕ) (rows : Rows) (lists new : KeyedLists) → l < n
     → l < length lists → filled (list_at l lists) ≡ 1 → filled rows ≡ 1 → new ≡ slice_set lists l rows → words2 ≡ words
     → AreMarked n words lists → AreMarked n words2 new
 kept_filled n words words2 l rows lists new h b was now e c t = (
@@ -42,7 +42,7 @@ kept_filled n words words2 l rows lists new h b was now e c t = (
   (λ s a d. ap (λ (w : List ℕ). bit_of w s) c ∙ t.1 s a d),
 )
 
-taken_out : (n : ℕ) (words words2 : List ℕ) (key l : ℕ) (node : Node) (front rest : List (ℕ × Node)) (lists new : KeyedLists)
+taken_out : (n : ℕ) (words words2 : List ℕ) (key l : ℕ) (node : Node) (front rest : Rows) (lists new : KeyedLists)
     → l < n → l < length lists → list_at l lists ≡ front ++ (key, node) ∷ rest → new ≡ slice_set lists l (front ++ rest)
     → Clears (list_if_alone l front rest) words words2 → AreMarked n words lists → AreMarked n words2 new
 taken_out n words words2 key l node [] [] lists new h b at e c t = (
@@ -59,8 +59,8 @@ taken_out n words words2 key l node [] (x ∷ xs) lists new h b at e c t =
 taken_out n words words2 key l node (x ∷ xs) rest lists new h b at e c t =
     kept_filled n words words2 l (x ∷ (xs ++ rest)) lists new h b (ap filled at) refl e c t
 
-list_if_alone_in_range : (n l : ℕ) (front rest : List (ℕ × Node)) → l < n
-    → MatchOption (list_if_alone l front rest) (Unit {0}) (λ l. l < n)
+list_if_alone_in_range : (n l : ℕ) (front rest : Rows) → l < n
+    → IfSome (list_if_alone l front rest) (λ l. l < n)
 list_if_alone_in_range n l [] [] h = h
 list_if_alone_in_range n l [] (x ∷ xs) h = tt
 list_if_alone_in_range n l (x ∷ xs) rest h = tt
@@ -81,7 +81,7 @@ module _ {table : List ℕ} {now n : ℕ} {words : List ℕ} {firsts : List Firs
     foretold = same_firsts w.foretold new e;
   }
 
-  module _ (list : ℕ) (row : ℕ × Node) (len : length lists ≡ n + 1) (z : row.1.rounds ≡ 0) (words2 : List ℕ) (firsts2 : List First) where
+  module _ (list : ℕ) (row : Row) (len : length lists ≡ n + 1) (z : row.1.rounds ≡ 0) (words2 : List ℕ) (firsts2 : List First) where
     abbrev d : ℕ
     d = (timer_in row).deadline
 
@@ -133,7 +133,7 @@ module _ {table : List ℕ} {now n : ℕ} {words : List ℕ} {firsts : List Firs
     node_deadline = ap (λ (u : Timer). u.deadline) (held_node b apart handle t e).timer
 
     -- what holds of each row of its list holds of it
-    row_has : (P : ℕ × Node → Type 0) → AllByRecursion P (list_at there.l lists) → P (handle.place, node)
+    row_has : (P : Row → Type 0) → AllByRecursion P (list_at there.l lists) → P (handle.place, node)
     row_has P a = (all-rest P there.front ((handle.place, node) ∷ there.rest) (subst (AllByRecursion P) there.at a)).0
 
     is_pending : there.l < n → IsPending last_tick now last node.timer
@@ -186,8 +186,8 @@ module _ {table : List ℕ} {now n : ℕ} {words : List ℕ} {firsts : List Firs
       emptied_is : emptied ≡ list_if_alone there.l there.front there.rest
       emptied_is = alone there.l there.front node there.rest there.in_range there.at
 
-      pub emptied_in_range : now < t.deadline → MatchOption emptied (Unit {0}) (λ l. l < n)
-      emptied_in_range later = subst (λ (o : Option ℕ). MatchOption o (Unit {0}) (λ l. l < n)) (sym emptied_is)
+      pub emptied_in_range : now < t.deadline → IfSome emptied (λ l. l < n)
+      emptied_in_range later = subst (λ (o : Option ℕ). IfSome o (λ l. l < n)) (sym emptied_is)
           (list_if_alone_in_range n there.l there.front there.rest (in_bucket later))
 
       module _ (words2 : List ℕ) (firsts2 : List First) where
@@ -228,8 +228,8 @@ later_list list n now d (inl h) later = h.0
 later_list list n now d (inr h) later = absurd (let k : d ≡ now = h.1 in omega arith)
 
 -- a bucket has a bit
-pub in_word : (t : Table) (l : ℕ) → l < slots (radices t) → l < 640
-in_word t l k = let y : slots (radices t) ≤ 640 = (of_table t).few_slots in omega arith
+pub in_word : (t : Table) (l : ℕ) → l < slots (radices t) → l < MOST_BUCKETS
+in_word t l k = let y : slots (radices t) ≤ MOST_BUCKETS = (of_table t).few_slots in omega arith
 
 -- the invariant of `Wheels`
 pub record AreKept (t : Table) (b : Buckets) (words : List ℕ) (firsts : List First) : Type 0 where
@@ -241,9 +241,9 @@ pub wheels_of : {t : Table} {b : Buckets} {words : List ℕ} {firsts : List Firs
 wheels_of h f = record { placed = h.placed; marked = h.marked; foretold = f }
 
 module _ {t : Table} {b : Buckets} {words : List ℕ} (h : IsHier t b words) where
-  pub in_table : (emptied : Option ℕ) → MatchOption emptied (Unit {0}) (λ l. l < b.slots)
-      → MatchOption emptied (Unit {0}) (λ l. l < slots (radices t))
-  in_table emptied m = subst (λ (n : ℕ). MatchOption emptied (Unit {0}) (λ l. l < n)) h.has_slots m
+  pub in_table : (emptied : Option ℕ) → IfSome emptied (λ l. l < b.slots)
+      → IfSome emptied (λ l. l < slots (radices t))
+  in_table emptied m = subst (λ (n : ℕ). IfSome emptied (λ l. l < n)) h.has_slots m
 
   pub up_to_last_of : (d : ℕ) → d ≤ b.last_tick → d ≤ last_of (radices t)
   up_to_last_of d k = let x : b.last_tick ≡ last_of (radices t) = h.clock in omega arith

@@ -1,6 +1,5 @@
 -- The digits and levels of `Table::Wide`, by shifts and bit positions.
-use Rattle.std.specs.Prelude.{◌↔◌}
-use Rattle.std.proofs.Common.{◌≡◌, ◌≢◌, ◌<◌, ◌≤◌, ◌+◌, ◌-◌, ◌*◌, ◌/◌, ◌%◌, ◌^◌, ℕ, zero, suc, List, [], ◌∷◌, length, refl, sym, ◌∙◌, ap, inl, inr, arith}
+use Rattle.std.proofs.Common.{◌≡◌, ◌≢◌, ◌<◌, ◌≤◌, ◌+◌, ◌-◌, ◌*◌, ◌/◌, ◌%◌, ◌^◌, ℕ, zero, suc, List, [], ◌∷◌, length, refl, sym, ◌∙◌, ap, inl, inr, arith, le_refl, ◌↔◌}
 use Rattle.std.proofs.lemmas.Bool.{cases_eq, cases_lt}
 use Rattle.std.proofs.lemmas.Nat.{xor_shr, xor_lt, pow-add, pow_below, and_mask, leading_top, mod-pow-add, pow_pos, shr_split, shr_le, div-mul-add, mod-mul-add}
 use Rattle.std.proofs.lemmas.Nat.Bits.{bit_at-trailing_zeros}
@@ -8,8 +7,11 @@ use Rattle.std.specs.Int.Bits.{bit_xor, bit_and, xor_self, xor_assoc, xor_zero_l
 use Rattle.std.proofs.Math.Nat.{div-div-eq-div-mul}
 use Rattle.std.specs.Int.{w64, trailing_zeros, bit_at}
 use Rattle.std.specs.Int.Count.{count_leading_zeros}
-use Rattle.timer_wheels.specs.Digits.{wide, IsTable, HasDigits, digit, level, lowest, slots_below, slots, list_of_slot, bucket}
-use Rattle.timer_wheels.proofs.DigitLaws.{level_near, level_far, lowest_here, lowest_above, level_in_table, lowest-bound}
+use Rattle.timer_base.specs.declared.limits.TheConstants.{LAST}
+use Rattle.timer_wheels.specs.declared.table.TheConstants.{MOST_BUCKETS}
+use Rattle.timer_wheels.specs.Digits.{IsTable, HasDigits, digit, level, lowest, slots_below, list_of_slot, bucket, emptied, last_of}
+use Rattle.timer_wheels.specs.Tables.{wide}
+use Rattle.timer_wheels.proofs.DigitLaws.{level_near, level_far, lowest_here, lowest_above, emptied_here, level_in_table, lowest-bound, IsHierTable}
 
 -- a table of n digits in base 64
 abbrev pub wides : ℕ → List ℕ
@@ -20,7 +22,7 @@ pub wide_is : wide ≡ wides 10
 unfolding wide
 wide_is = refl
 
-pub wide_is_table : IsTable wide
+wide_is_table : IsTable wide
 unfolding wide
 wide_is_table = (
   omega arith,
@@ -36,13 +38,9 @@ wide_is_table = (
   ),
 )
 
-pub length-wide : length wide ≡ 10
+length-wide : length wide ≡ 10
 unfolding wide
 length-wide = refl
-
-pub slots-wide : slots wide ≡ 640
-unfolding wide
-slots-wide = refl
 
 small_top : (j x : ℕ) → 2 ^ j ≤ x → x < 64 → j < 6
 small_top j x h b = elim (cases_lt j 6) [
@@ -120,8 +118,20 @@ has_digits : (n t : ℕ) → t < 2 ^ (6 * n) → HasDigits (wides n) t
 has_digits zero t h = omega arith
 has_digits (suc n) t h = has_digits n (t / 64) (above_div (2 ^ (6 * n)) (2 ^ (6 * suc n)) t (six_more n) h)
 
-pub in_wide : (t : ℕ) → t ≤ 1152921504606846975 → HasDigits wide t
+in_wide : (t : ℕ) → t ≤ 1152921504606846975 → HasDigits wide t
 in_wide t h = rw wide_is (has_digits 10 t (omega arith))
+
+pub wide_fits : IsHierTable wide
+unfolding wide
+wide_fits = record {
+  is_table = wide_is_table;
+  digits = in_wide (last_of wide) (le_refl 1152921504606846975);
+  few_slots = (let h : 640 ≤ MOST_BUCKETS = omega arith in h);
+  in_range = (let h : 1152921504606846975 ≤ LAST = omega arith in h);
+  some_slots = (let h : 0 < 64 = omega arith in h);
+  few_wheels = (let h : 9 ≤ 9 = omega arith in h);
+  more_wheels = (let h : 0 < 10 = omega arith in h);
+}
 
 record HasTop (a b : ℕ) : Type 0 where
   top : ℕ
@@ -241,6 +251,11 @@ pub lowest_by_zeros : (t : ℕ) → 0 < t → t ≤ 1152921504606846975 → lowe
 lowest_by_zeros t h r =
     let b = bit_at-trailing_zeros w64 t h (omega arith) in
     rw wide_is (lowest_by_bit 10 t (trailing_zeros w64 t) (has_digits 10 t (omega arith)) (low_zeros (trailing_zeros w64 t) t b.2) b.1)
+
+-- a tick whose lowest digit isn't zero, in the wide table
+pub emptied_low : (t : ℕ) → t % 64 ≢ 0 → t % 64 ≡ emptied wide t
+unfolding wide
+emptied_low t n = sym (emptied_here 64 (64 ∷ 64 ∷ 64 ∷ 64 ∷ 64 ∷ 64 ∷ 64 ∷ 64 ∷ 64 ∷ []) t n)
 
 not_zero : (t : ℕ) → 0 < t → t ≢ 0
 not_zero t h = λ (e : t ≡ 0). omega arith

@@ -3,9 +3,9 @@ use Rattle.std.proofs.Common.{◌≡◌, ◌<◌, ◌≤◌, ◌+◌, ◌-◌, �
 use Rattle.std.proofs.Math.Nat.{div-div-eq-div-mul, mul-le-mul_right, div-mul-le_self}
 use Rattle.std.proofs.lemmas.Nat.{pow-add, pow_below}
 use Rattle.std.proofs.lemmas.Bool.{cases_eq, cases_lt}
-use Rattle.timer_wheels.specs.Digits.{wide}
+use Rattle.timer_wheels.specs.Tables.{wide}
 use Rattle.timer_wheels.specs.Leap.{slot_visit, list_visit}
-use Rattle.timer_wheels.proofs.ClockDigits.{visit_here, visit_above}
+use Rattle.timer_wheels.proofs.DigitLaws.{visit_here, visit_above}
 use Rattle.timer_wheels.proofs.WideDigits.{wides, wide_is}
 
 six_and : (k : ℕ) → 2 ^ (6 * suc k) ≡ 64 * 2 ^ (6 * k)

@@ -10,32 +10,31 @@ use Rattle.timer_base.specs.Order.{in_order, AreDistinct, AreRising, IsNotAmong}
 use Rattle.timer_base.specs.OrderLaws.{AreRising-prop}
 use Rattle.timer_base.specs.Pending.{Entry, timer_of}
 use Rattle.timer_base.specs.WheelState.{WheelState, IsPending, IsDue}
-use Rattle.timer_links.specs.declared.node.Node.{Node}
-use Rattle.timer_links.specs.Lists.{list_at, KeyedLists}
+use Rattle.timer_links.specs.Lists.{list_at, KeyedLists, Row, Rows}
 
 -- the timer of a row
-abbrev pub timer_in : ℕ × Node → Timer
+abbrev pub timer_in : Row → Timer
 timer_in row = row.1.timer
 
 -- the timers of the rows, in their order
-abbrev pub timers_in : List (ℕ × Node) → List Timer
+abbrev pub timers_in : Rows → List Timer
 timers_in rows = map timer_in rows
 
 -- a row as an entry: a timer's place is the key of its row
-abbrev pub entry_of : ℕ × Node → Entry
+abbrev pub entry_of : Row → Entry
 entry_of row = record { place = row.0; timer = row.1.timer }
 
-abbrev pub entries_of : List (ℕ × Node) → List Entry
+abbrev pub entries_of : Rows → List Entry
 entries_of rows = map entry_of rows
 
 -- the rows of the first n lists, list by list
-abbrev pub rows_below : ℕ → KeyedLists → List (ℕ × Node)
+abbrev pub rows_below : ℕ → KeyedLists → Rows
 rows_below zero lists = []
 rows_below (suc n) [] = []
 rows_below (suc n) (rows ∷ lists) = rows ++ rows_below n lists
 
 -- the rows' timers by deadline, and then by serial, each at its place
-abbrev pub pending_in : List (ℕ × Node) → List Entry
+abbrev pub pending_in : Rows → List Entry
 pending_in rows = in_order timer_of (entries_of rows)
 
 -- the state of a wheel with n buckets and no room
@@ -51,7 +50,7 @@ wheel_state n last_tick now last_serial lists = record {
 }
 
 -- each row is of a pending timer
-abbrev pub ArePending : ℕ → ℕ → ℕ → List (ℕ × Node) → Type 0
+abbrev pub ArePending : ℕ → ℕ → ℕ → Rows → Type 0
 ArePending last_tick now last_serial rows = AllByRecursion
     (λ row. IsPending last_tick now last_serial (timer_in row)) rows
 
@@ -64,7 +63,7 @@ abbrev pub AreInOrder : ℕ → KeyedLists → Type 0
 AreInOrder n lists = (s : ℕ) → s < n → AreRising 0 (timers_in (list_at s lists))
 
 -- each row is of a due timer
-abbrev pub AreDue : ℕ → ℕ → List (ℕ × Node) → Type 0
+abbrev pub AreDue : ℕ → ℕ → Rows → Type 0
 AreDue now last_serial rows = AllByRecursion (λ row. IsDue now last_serial (timer_in row)) rows
 
 -- what always holds of n buckets, the list of due timers after them, and their clock
@@ -79,7 +78,7 @@ pub record AreBuckets (n last_tick now last_serial : ℕ) (lists : KeyedLists) :
   pub in_order : AreInOrder (n + 1) lists
 
 -- each row of the first n lists is as the fact says of its list
-abbrev pub EachRow : (ℕ → ℕ × Node → Type 0) → ℕ → KeyedLists → Type 0
+abbrev pub EachRow : (ℕ → Row → Type 0) → ℕ → KeyedLists → Type 0
 EachRow fact n lists = (s : ℕ) → s < n → AllByRecursion (fact s) (list_at s lists)
 
 IsPending-prop : (last_tick now last_serial : ℕ) (t : Timer) → IsProp (IsPending last_tick now last_serial t)
@@ -94,14 +93,14 @@ ArePendingBelow-prop n last_tick now last_serial lists =
 IsDue-prop : (now last_serial : ℕ) (t : Timer) → IsProp (IsDue now last_serial t)
 IsDue-prop now last_serial t = hlevel props
 
-pub AreDue-prop : (now last_serial : ℕ) (rows : List (ℕ × Node)) → IsProp (AreDue now last_serial rows)
+pub AreDue-prop : (now last_serial : ℕ) (rows : Rows) → IsProp (AreDue now last_serial rows)
 AreDue-prop now last_serial rows = AllByRecursion-prop (λ row. IsDue now last_serial (timer_in row))
     (λ row. IsDue-prop now last_serial (timer_in row)) rows
 
 pub AreInOrder-prop : (n : ℕ) (lists : KeyedLists) → IsProp (AreInOrder n lists)
 AreInOrder-prop n lists = Π_prop (λ s. Π_prop (λ b. AreRising-prop 0 (timers_in (list_at s lists))))
 
-pub EachRow-prop : (fact : ℕ → ℕ × Node → Type 0) → ((s : ℕ) (row : ℕ × Node) → IsProp (fact s row))
+pub EachRow-prop : (fact : ℕ → Row → Type 0) → ((s : ℕ) (row : Row) → IsProp (fact s row))
     → (n : ℕ) (lists : KeyedLists) → IsProp (EachRow fact n lists)
 EachRow-prop fact prop n lists = Π_prop (λ s. Π_prop
     (λ b. AllByRecursion-prop (fact s) (prop s) (list_at s lists)))

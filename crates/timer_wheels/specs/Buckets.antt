@@ -3,8 +3,7 @@ use Rattle.std.specs.Prelude.{◌≡◌, ◌<◌, ◌⊎◌, ℕ, map, Option, S
 use Rattle.timer_base.specs.declared.timer.Handle.{Handle}
 use Rattle.timer_base.specs.declared.timer.Timer.{Timer}
 use Rattle.timer_base.specs.WheelState.{WheelState, IsWellFormed, with_room, with_room-well_formed}
-use Rattle.timer_links.specs.declared.node.Node.{Node}
-use Rattle.timer_links.specs.Lists.{with_row, without_key, KeyedLists}
+use Rattle.timer_links.specs.Lists.{with_row, without_key, KeyedLists, Row}
 use Rattle.timer_wheels.specs.declared.buckets.Buckets.{Buckets}
 use Rattle.timer_wheels.specs.BucketLists.{wheel_state}
 use Rattle.timer_wheels.specs.BucketLaws.{wheel_state-well_formed}
@@ -39,7 +38,7 @@ replaced None = None
 replaced (Some r) = Some r.0
 
 -- a timer at its place, as a row
-abbrev pub row_at : ℕ → Timer → ℕ → ℕ × Node
+abbrev pub row_at : ℕ → Timer → ℕ → Row
 row_at place timer rounds = (place, record { timer = timer; rounds = rounds })
 
 -- where a timer was found, the row under its key is removed; else the lists are unchanged
@@ -48,7 +47,7 @@ RemovesRow found key old new = MatchOption found (new ≡ old) (λ r. new ≡ ma
 
 -- where a timer was found, the row under its key is removed, and this row is pushed to the back of a list;
 -- else the lists are unchanged
-abbrev pub ReplacesRow : {X : Type 0} → Option X → ℕ → ℕ × Node → KeyedLists → KeyedLists → Type 0
+abbrev pub ReplacesRow : {X : Type 0} → Option X → ℕ → Row → KeyedLists → KeyedLists → Type 0
 ReplacesRow found l row old new = MatchOption found (new ≡ old) (λ r. new
     ≡ with_row l row (map (without_key row.0) old))
 

@@ -1,12 +1,12 @@
 -- The least deadline of timers, in whatever order they stand.
-use Rattle.std.specs.Prelude.{◌≡◌, ◌≤◌, ◌⊎◌, ℕ, List, [], ◌∷◌, Option, Some, None}
+use Rattle.std.specs.Prelude.{◌≡◌, ◌≤◌, ℕ, List, [], map, Option, Some, None}
 use Rattle.std.specs.List.{AllByRecursion}
 use Rattle.timer_base.specs.declared.timer.Timer.{Timer}
+use Rattle.timer_base.specs.OneOrder.{IsMember}
 
 -- one of the timers has this deadline
 abbrev pub HasDeadline : ℕ → List Timer → Type 0
-HasDeadline deadline [] = ⊥
-HasDeadline deadline (t ∷ ts) = (t.deadline ≡ deadline) ⊎ HasDeadline deadline ts
+HasDeadline deadline timers = IsMember deadline (map (λ (t : Timer). t.deadline) timers)
 
 -- one of the timers has this deadline, and none an earlier one
 pub record IsLeast (deadline : ℕ) (timers : List Timer) : Type 0 where

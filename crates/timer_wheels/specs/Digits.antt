@@ -2,14 +2,6 @@
 -- first.
 use Rattle.std.specs.Prelude.{◌≡◌, ◌≢◌, ◌⊎◌, ℕ, ◌+◌, ◌-◌, ◌*◌, ◌/◌, ◌%◌, ◌<◌, ◌≤◌, zero, suc, ◌==◌, ◌&&◌, nat_lt, not, if◌then◌else◌, List, [], ◌∷◌, length}
 
--- ten digits in base 64
-unfoldable pub wide : List ℕ
-wide = 64 ∷ 64 ∷ 64 ∷ 64 ∷ 64 ∷ 64 ∷ 64 ∷ 64 ∷ 64 ∷ 64 ∷ []
-
--- seconds, minutes, hours and days
-unfoldable pub clock : List ℕ
-clock = 60 ∷ 60 ∷ 24 ∷ 100 ∷ []
-
 -- the product of the radices
 abbrev pub span : List ℕ → ℕ
 span [] = 1

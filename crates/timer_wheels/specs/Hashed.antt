@@ -5,8 +5,7 @@ use Rattle.std.specs.Coded.{×_prop}
 use Rattle.std.proofs.Props.{props}
 use Rattle.timer_base.specs.declared.timer.Timer.{Timer}
 use Rattle.timer_base.specs.WheelState.{WheelState}
-use Rattle.timer_links.specs.declared.node.Node.{Node}
-use Rattle.timer_links.specs.Lists.{KeyedLists}
+use Rattle.timer_links.specs.Lists.{KeyedLists, Row}
 use Rattle.timer_wheels.specs.BucketLists.{timer_in, EachRow, EachRow-prop}
 use Rattle.timer_wheels.specs.Shown.{entries_at, ShowsBuckets}
 
@@ -33,14 +32,14 @@ pub record IsNextSweep (n tick : ℕ) (w : WheelState) : Type 0 where
   pub none_before : (t : ℕ) → w.now < t → t < tick → entries_at (slot_of n) (t % n) w.pending ≡ []
 
 -- a row of bucket s
-abbrev pub IsInBucket : ℕ → ℕ → ℕ → ℕ × Node → Type 0
+abbrev pub IsInBucket : ℕ → ℕ → ℕ → Row → Type 0
 IsInBucket n now s row = (slot_of n (timer_in row) ≡ s) × (row.1.rounds ≡ rounds_of n now (timer_in row))
 
 -- each row stands in its bucket, with its rounds
 abbrev pub AreInBuckets : ℕ → ℕ → KeyedLists → Type 0
 AreInBuckets n now lists = EachRow (IsInBucket n now) n lists
 
-IsInBucket-prop : (n now s : ℕ) (row : ℕ × Node) → IsProp (IsInBucket n now s row)
+IsInBucket-prop : (n now s : ℕ) (row : Row) → IsProp (IsInBucket n now s row)
 IsInBucket-prop n now s row = ×_prop (hlevel props) (hlevel props)
 
 pub AreInBuckets-prop : (n now : ℕ) (lists : KeyedLists) → IsProp (AreInBuckets n now lists)

@@ -3,8 +3,8 @@ use Rattle.std.specs.Prelude.{◌≡◌, ◌≢◌, ℕ, ◌<◌, ◌≤◌, ◌
 use Rattle.std.specs.Int.{bit_at}
 use Rattle.std.specs.Coded.{Π_prop, ×_prop}
 use Rattle.std.proofs.Math.Nat.{ℕ_set}
-use Rattle.timer_links.specs.declared.node.Node.{Node}
-use Rattle.timer_links.specs.Lists.{list_at, KeyedLists}
+use Rattle.timer_links.specs.Lists.{list_at, KeyedLists, Rows}
+use Rattle.timer_wheels.specs.declared.table.TheConstants.{MOST_BUCKETS}
 
 -- the bit of list s
 abbrev pub bit_of : List ℕ → ℕ → ℕ
@@ -12,8 +12,8 @@ bit_of words s = bit_at (slice_index_or words (s / 64) 0) (s % 64)
 
 -- the first list whose bit is set, if one is
 abbrev pub IsFirstSet : List ℕ → Option ℕ → Type 0
-IsFirstSet words None = (s : ℕ) → s < 640 → bit_of words s ≡ 0
-IsFirstSet words (Some l) = (l < 640) × (bit_of words l ≡ 1) × ((s : ℕ) → s < l → bit_of words s ≡ 0)
+IsFirstSet words None = (s : ℕ) → s < MOST_BUCKETS → bit_of words s ≡ 0
+IsFirstSet words (Some l) = (l < MOST_BUCKETS) × (bit_of words l ≡ 1) × ((s : ℕ) → s < l → bit_of words s ≡ 0)
 
 -- the lowest bit of a word that is set
 pub record IsLowestSet (word bit : ℕ) : Type 0 where
@@ -22,13 +22,13 @@ pub record IsLowestSet (word bit : ℕ) : Type 0 where
   pub below : (i : ℕ) → i < bit → bit_at word i ≡ 0
 
 -- 1 if there are rows
-abbrev pub filled : List (ℕ × Node) → ℕ
+abbrev pub filled : Rows → ℕ
 filled [] = 0
 filled (row ∷ rows) = 1
 
 -- no bit is set from this number on
 abbrev pub IsClearFrom : ℕ → List ℕ → Type 0
-IsClearFrom n words = (s : ℕ) → n ≤ s → s < 640 → bit_of words s ≡ 0
+IsClearFrom n words = (s : ℕ) → n ≤ s → s < MOST_BUCKETS → bit_of words s ≡ 0
 
 -- each bit of the first n lists is set exactly if its list has rows, and no other is set
 abbrev pub AreMarked : ℕ → List ℕ → KeyedLists → Type 0

@@ -6,8 +6,7 @@ use Rattle.std.proofs.Props.{props}
 use Rattle.timer_base.specs.declared.timer.Timer.{Timer}
 use Rattle.timer_base.specs.Pending.{Entry}
 use Rattle.timer_base.specs.WheelState.{WheelState}
-use Rattle.timer_links.specs.declared.node.Node.{Node}
-use Rattle.timer_links.specs.Lists.{KeyedLists}
+use Rattle.timer_links.specs.Lists.{KeyedLists, Row}
 use Rattle.timer_wheels.specs.Digits.{level, bucket, slots, hops}
 use Rattle.timer_wheels.specs.Shown.{ShowsBuckets}
 use Rattle.timer_wheels.specs.BucketLists.{timer_in}
@@ -21,7 +20,7 @@ abbrev pub no_rounds : Timer → ℕ
 no_rounds t = 0
 
 -- a row of list s: the list is the timer's bucket, and it has no rounds
-abbrev pub IsPlaced : List ℕ → ℕ → ℕ → ℕ × Node → Type 0
+abbrev pub IsPlaced : List ℕ → ℕ → ℕ → Row → Type 0
 IsPlaced table now s row = (bucket table now (timer_in row).deadline ≡ s) × (row.1.rounds ≡ 0)
 
 -- list s, for s below the number of slots, has the pending timers whose bucket it is, by serial, each under
@@ -29,7 +28,7 @@ IsPlaced table now s row = (bucket table now (timer_in row).deadline ≡ s) × (
 abbrev pub ShowsWheels : List ℕ → WheelState → KeyedLists → Type 0
 ShowsWheels table w lists = ShowsBuckets (slots table) (bucket_at table w.now) no_rounds w lists
 
-pub IsPlaced-prop : (table : List ℕ) (now s : ℕ) (row : ℕ × Node) → IsProp (IsPlaced table now s row)
+pub IsPlaced-prop : (table : List ℕ) (now s : ℕ) (row : Row) → IsProp (IsPlaced table now s row)
 IsPlaced-prop table now s row = ×_prop (hlevel props) (hlevel props)
 
 -- how often the next ticks move these timers to a lower wheel, in sum

@@ -4,8 +4,7 @@ use Rattle.timer_base.specs.declared.timer.Timer.{Timer}
 use Rattle.timer_base.specs.Order.{in_order}
 use Rattle.timer_base.specs.Pending.{Entry}
 use Rattle.timer_base.specs.WheelState.{WheelState}
-use Rattle.timer_links.specs.declared.node.Node.{Node}
-use Rattle.timer_links.specs.Lists.{list_at, KeyedLists}
+use Rattle.timer_links.specs.Lists.{list_at, KeyedLists, Row}
 use Rattle.timer_wheels.specs.BucketLists.{entries_of}
 
 -- the timer, were its deadline 0
@@ -17,7 +16,7 @@ abbrev pub by_serial : List Entry → List Entry
 by_serial entries = in_order without_deadline entries
 
 -- the entry as a row: under its place, with its timer's rounds
-abbrev pub row_of : (Timer → ℕ) → Entry → ℕ × Node
+abbrev pub row_of : (Timer → ℕ) → Entry → Row
 row_of rounds_of entry = (entry.place, record { timer = entry.timer; rounds = rounds_of entry.timer })
 
 -- the pending timers of one bucket

@@ -1,11 +1,18 @@
--- The tables that a hierarchy of wheels may have.
-use Rattle.std.specs.Prelude.{◌≡◌, ℕ, List, refl}
-use Rattle.std.proofs.Common.{arith}
+-- The tables that a hierarchy of wheels may have: a row of each definition for each of them.
+use Rattle.std.proofs.Common.{sym, ap, ◌∙◌, ◌≡◌, ℕ, ◌==◌, if◌then◌else◌, List, [], ◌∷◌, refl}
 use Rattle.timer_base.specs.declared.limits.TheConstants.{LAST}
 use Rattle.timer_wheels.specs.declared.table.TheConstants.{LAST_OF_CLOCK}
 use Rattle.timer_wheels.specs.declared.table.Table.{Table}
 use Rattle.timer_wheels.specs.declared.table.Table.TheVariants.{Wide, Clock}
-use Rattle.timer_wheels.specs.Digits.{wide, clock, slots}
+use Rattle.timer_wheels.specs.Digits.{slots}
+
+-- ten digits in base 64
+unfoldable pub wide : List ℕ
+wide = 64 ∷ 64 ∷ 64 ∷ 64 ∷ 64 ∷ 64 ∷ 64 ∷ 64 ∷ 64 ∷ 64 ∷ []
+
+-- seconds, minutes, hours and days
+unfoldable pub clock : List ℕ
+clock = 60 ∷ 60 ∷ 24 ∷ 100 ∷ []
 
 abbrev pub radices : Table → List ℕ
 radices Wide = wide
@@ -20,10 +27,19 @@ last_of_table Clock = LAST_OF_CLOCK
 abbrev pub slots_of_table : Table → ℕ
 slots_of_table table = slots (radices table)
 
--- a table is known by its number of slots
-pub table_by_slots : (t u : Table) → slots_of_table t ≡ slots_of_table u → t ≡ u
+-- the table with this many slots
+abbrev pub table_by_slots : ℕ → Table
+table_by_slots n = if n == slots_of_table Wide then Wide else Clock
+
+pub by_its_slots : (table : Table) → table_by_slots (slots_of_table table) ≡ table
 unfolding wide clock
-table_by_slots Wide Wide e = refl
-table_by_slots Wide Clock e = absurd (let h : 640 ≡ 244 = e in omega arith)
-table_by_slots Clock Wide e = absurd (let h : 244 ≡ 640 = e in omega arith)
-table_by_slots Clock Clock e = refl
+by_its_slots Wide = refl
+by_its_slots Clock = refl
+
+-- the radices of the table with this many slots
+abbrev pub radices_by_slots : ℕ → List ℕ
+radices_by_slots n = radices (table_by_slots n)
+
+-- tables with the same number of slots are the same
+pub same_by_slots : (t u : Table) → slots_of_table t ≡ slots_of_table u → t ≡ u
+same_by_slots t u e = sym (by_its_slots t) ∙ (ap table_by_slots e ∙ by_its_slots u)

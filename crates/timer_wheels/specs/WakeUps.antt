@@ -1,14 +1,8 @@
 -- Exactly when the owner of a wheel wakes up: at the next tick that visits or sweeps a slot with a pending timer.
-use Rattle.std.specs.Prelude.{ℕ, ◌+◌, ◌-◌, ◌%◌, ◌==◌, if◌then◌else◌, List, [], ◌∷◌, Option, Some, None}
+use Rattle.std.specs.Prelude.{ℕ, ◌+◌, ◌-◌, ◌%◌, List, [], ◌∷◌, Option, Some, None}
 use Rattle.timer_base.specs.Pending.{Entry}
 use Rattle.timer_base.specs.PlainState.{earliest}
-use Rattle.timer_wheels.specs.declared.table.Table.TheVariants.{Wide, Clock}
 use Rattle.timer_wheels.specs.Leap.{timer_visit}
-use Rattle.timer_wheels.specs.Tables.{radices, slots_of_table}
-
--- the radices of the table with this many slots
-abbrev pub radices_by_slots : ℕ → List ℕ
-radices_by_slots slots = if slots == slots_of_table Wide then radices Wide else radices Clock
 
 -- the next tick at which a hierarchy visits a bucket with a pending timer: that of the first timer's bucket, since
 -- no later deadline has an earlier visit

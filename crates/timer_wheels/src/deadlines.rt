@@ -4,7 +4,6 @@
 //! In a hierarchy every deadline of a bucket comes before those of the buckets after it: the first one with a
 //! timer is enough.
 ghost use Rattle.std.specs.Prelude.{◌≡◌, ◌<◌, length};
-ghost use Rattle.timer_base.specs.PlainState.{earliest};
 ghost use Rattle.timer_base.specs.WakeUps.{next_deadline};
 ghost use Rattle.timer_links.specs.Lists.{list_at};
 ghost use Rattle.timer_wheels.specs.BucketLists.{rows_below, timers_in};
@@ -14,6 +13,7 @@ ghost use Rattle.timer_wheels.specs.FirstDeadline.{IsKnownOf};
 
 use crate::buckets::Buckets;
 use crate::first::First;
+use timer_base::earlier;
 use timer_links::Links;
 
 /// The first pending deadline, found by a walk along every bucket. Does not allocate.
@@ -54,15 +54,4 @@ pub fn first_in(links: &Links, list: usize) -> First
         at = links.next(key);
     }
     first
-}
-
-/// The earlier one of two deadlines, each of which may be missing.
-fn earlier(first: Option<u64>, second: Option<u64>) -> Option<u64>
-    ensures { result ≡ earliest first second }
-{
-    match (first, second) {
-        (Some(first), Some(second)) => Some(first.min(second)),
-        (Some(_), None) => first,
-        (None, _) => second,
-    }
 }

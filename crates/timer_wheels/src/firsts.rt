@@ -12,9 +12,8 @@ ghost use Rattle.timer_wheels.specs.FirstDeadline.{IsFirstOf};
 ghost use Rattle.timer_wheels.specs.Firsts.{first_at, ChangesOne, Enters, Leaves, Empties};
 ghost use Rattle.timer_wheels.specs.Tables.{radices};
 
-use crate::digits::{bucket_of, lowest_slots};
 use crate::first::First;
-use crate::table::Table;
+use crate::table::{Table, bucket_of, lowest_slots};
 use std::alloc::Global;
 use std::marker::Model;
 use timer_base::OutOfMemory;

@@ -236,6 +236,10 @@ impl Wheel for HashedWheel {
         self.buckets.list()
     }
 
+    fn list_into(&self, timers: &mut Vec<Timer>) -> Result<(), OutOfMemory> {
+        self.buckets.list_into(timers)
+    }
+
     fn clear(&mut self) {
         self.buckets.clear()
     }

@@ -54,16 +54,15 @@ ghost use Rattle.timer_base.specs.WakeUps.{IsQuietUntil, next_deadline};
 ghost use Rattle.timer_base.specs.WheelState.{empty_wheel, NamesOne, held_at, held_count, old_timer, first_due, after_reserve, after_held_start, after_removal, after_replacement, after_tick, after_expiry, after_clear, Advances};
 ghost use Rattle.timer_wheels.specs.Buckets.{state_of, state_of-well_formed};
 ghost use Rattle.timer_wheels.specs.Leap.{IsNextVisit};
-ghost use Rattle.timer_wheels.specs.Tables.{radices, last_of_table, slots_of_table};
+ghost use Rattle.timer_wheels.specs.Tables.{radices, radices_by_slots, last_of_table, slots_of_table};
 ghost use Rattle.timer_wheels.specs.declared.table.Table.TheVariants.{Wide};
 ghost use Rattle.timer_wheels.specs.HeldPlaces.{IsFirstHeld};
 ghost use Rattle.timer_wheels.specs.Placement.{ShowsWheels, IsPaid, most_moves};
-ghost use Rattle.timer_wheels.specs.WakeUps.{next_visit, radices_by_slots};
+ghost use Rattle.timer_wheels.specs.WakeUps.{next_visit};
 
-use crate::digits::last_tick_of;
 use crate::iteration::held_from;
 use crate::leap::visits_between;
-use crate::table::Table;
+use crate::table::{Table, last_tick_of};
 use crate::wheels::Wheels;
 use std::alloc::Global;
 use timer_base::{Handle, LAST, MakeFault, OutOfMemory, Timer, Wheel};
@@ -333,6 +332,10 @@ impl Wheel for HierWheel {
 
     fn list(&self) -> Result<Vec<Timer>, OutOfMemory> {
         self.wheels.buckets.list()
+    }
+
+    fn list_into(&self, timers: &mut Vec<Timer>) -> Result<(), OutOfMemory> {
+        self.wheels.buckets.list_into(timers)
     }
 
     fn clear(&mut self) {

@@ -17,8 +17,7 @@ ghost use Rattle.timer_wheels.specs.Hier.{potential};
 ghost use Rattle.timer_wheels.specs.Leap.{AreNotVisitedBefore, IsVisitBound, IsNextVisit, Leaps};
 ghost use Rattle.timer_wheels.specs.WakeUps.{next_visit};
 
-use crate::digits::{is_rollover, revolutions, visit_of};
-use crate::table::Table;
+use crate::table::{Table, is_rollover, revolutions, visit_of};
 use crate::wheels::Wheels;
 
 impl Wheels {

@@ -9,10 +9,9 @@ ghost use Rattle.timer_wheels.specs.Migration.{MayMigrate, IsOfTick, migrated, l
 ghost use Rattle.timer_wheels.specs.Occupied.{bit_of, AreMarked, AreMarkedBut};
 ghost use Rattle.timer_wheels.specs.Tables.{radices};
 
-use crate::digits::{bucket_of, buckets_of, lowest_slots};
 use crate::firsts::Firsts;
 use crate::occupied::Occupied;
-use crate::table::Table;
+use crate::table::{Table, bucket_of, buckets_of, lowest_slots, with_constant_table};
 use timer_links::Links;
 
 /// Empties a bucket: a timer whose deadline is this tick goes to the back of the list of due timers, and
@@ -83,10 +82,7 @@ fn migrate(
     ensures marked { AreMarked (slots (radices table)) occupied.new links.new.lists }
     ensures foretold { AreFirsts (lowest_radix (radices table)) (slots (radices table)) firsts.new links.new.lists }
 {
-    match table {
-        Table::Wide => migrate_one_by_one(Table::Wide, links, occupied, firsts, list, tick),
-        Table::Clock => migrate_one_by_one(Table::Clock, links, occupied, firsts, list, tick),
-    }
+    with_constant_table!(migrate_one_by_one(table, links, occupied, firsts, list, tick))
 }
 
 /// Empties a bucket from its front, timer by timer, and returns how many went to a lower wheel.

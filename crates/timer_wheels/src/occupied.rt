@@ -7,19 +7,18 @@
 //! The lowest bit that is set is that of the bucket that the clock empties next, of those with a timer:
 //! a lower wheel comes before a higher one, and in a wheel the slots come in turn.
 ghost use Rattle.std.specs.Prelude.{◌≡◌, ◌≢◌, ◌<◌, ℕ, List, length, true, false};
-ghost use Rattle.timer_wheels.specs.declared.occupied.TheConstants.{BUCKETS, WORDS};
+ghost use Rattle.timer_wheels.specs.declared.occupied.TheConstants.{WORDS};
+ghost use Rattle.timer_wheels.specs.declared.table.TheConstants.{MOST_BUCKETS};
 ghost use Rattle.timer_wheels.specs.Occupied.{bit_of, IsFirstSet, IsLowestSet};
 
+use crate::table::MOST_BUCKETS;
 use std::marker::Model;
-
-/// The most buckets that a table has.
-const BUCKETS: usize = 640;
-
-/// How many words hold a bit for each of them.
-const WORDS: usize = 10;
 
 /// The bits of a word.
 const WORD_BITS: usize = 64;
+
+/// How many words hold a bit for each bucket of the largest table.
+const WORDS: usize = MOST_BUCKETS / WORD_BITS;
 
 /// A bit for each bucket.
 #[derive(Drop)]
@@ -47,7 +46,7 @@ impl Occupied {
     /// Whether a bucket's bit is set.
     #[inline]
     pub fn has(&self, list: usize) -> bool
-        requires { list < BUCKETS }
+        requires { list < MOST_BUCKETS }
         ensures yes { result ≡ true → bit_of self.now list ≡ 1 }
         ensures no { result ≡ false → bit_of self.now list ≡ 0 }
     {
@@ -58,7 +57,7 @@ impl Occupied {
     // Where it is set already nothing is stored: a store would hold back the next start's load of the word.
     #[inline]
     pub fn insert(&mut self, list: usize)
-        requires { list < BUCKETS }
+        requires { list < MOST_BUCKETS }
         ensures here { bit_of self.new list ≡ 1 }
         ensures others { (s : ℕ) → s ≢ list → bit_of self.new s ≡ bit_of self.old s }
     {
@@ -72,7 +71,7 @@ impl Occupied {
     /// Clears a bucket's bit.
     #[inline]
     pub fn remove(&mut self, list: usize)
-        requires { list < BUCKETS }
+        requires { list < MOST_BUCKETS }
         ensures here { bit_of self.new list ≡ 0 }
         ensures others { (s : ℕ) → s ≢ list → bit_of self.new s ≡ bit_of self.old s }
     {

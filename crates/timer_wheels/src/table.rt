@@ -1,4 +1,23 @@
-//! The table of radices that a hierarchy of wheels reads its digits by.
+//! The tables of radices that a hierarchy of wheels may have, and the digits and lists of a tick by each.
+//!
+//! Digit k of a tick t is t divided by the product of the lower radices, modulo radix k. Wheel k has a
+//! slot for each value of digit k, and slot s of wheel k is the list whose number is s more than the
+//! lower wheels have slots.
+//!
+//!     Wide    4161 = 1 * 64^2 + 1 * 64 + 1                     digits  0 0 0 0 0 0 0 1 1 1
+//!     Clock   990915 = 11 days 11:15:15                        digits  11 11 15 15
+//!
+//! How a digit is found is each table's own matter. All that depends on it is in the table's file (`wide`, `clock`),
+//! whose functions have the names of those here, and in its row of the two macros.
+ghost use Rattle.std.specs.Prelude.{◌≡◌, ◌==◌, ◌<◌, ◌≤◌, ◌/◌, ◌%◌};
+ghost use Rattle.timer_base.specs.declared.limits.TheConstants.{LAST};
+ghost use Rattle.timer_wheels.specs.declared.table.TheConstants.{MOST_BUCKETS};
+ghost use Rattle.timer_wheels.specs.Leap.{list_visit};
+ghost use Rattle.timer_wheels.specs.Tables.{radices, last_of_table};
+ghost use Rattle.timer_wheels.specs.Digits.{bucket, emptied, slots, last_of, lowest_radix};
+
+mod clock;
+mod wide;
 
 /// How many slots each wheel has.
 #[derive(Clone, Copy, Debug, PartialEq, Eq)]
@@ -11,3 +30,105 @@ pub enum Table {
 
 /// The last tick of the clock of `Table::Clock`: day 99, 23:59:59.
 pub const LAST_OF_CLOCK: u64 = 8639999;
+
+/// The most buckets that a table has.
+pub const MOST_BUCKETS: usize = 640;
+
+/// A call of a function in the table's own file.
+macro_rules! of_table {
+    ($table:expr, $function:ident($($argument:expr),*)) => {
+        match $table {
+            Table::Wide => wide::$function($($argument),*),
+            Table::Clock => clock::$function($($argument),*),
+        }
+    };
+}
+
+/// A call with the table as a constant: an inlined function is made once for each table.
+macro_rules! with_constant_table {
+    ($function:ident($table:expr, $($argument:expr),*)) => {
+        match $table {
+            Table::Wide => $function(Table::Wide, $($argument),*),
+            Table::Clock => $function(Table::Clock, $($argument),*),
+        }
+    };
+}
+
+pub(crate) use with_constant_table;
+
+/// How many buckets all wheels have.
+#[inline]
+pub fn buckets_of(table: Table) -> usize
+    ensures value { result ≡ slots (radices table) }
+    ensures in_range { result ≤ MOST_BUCKETS }
+{
+    of_table!(table, buckets())
+}
+
+/// The last tick that has its digits in the table.
+#[inline]
+pub fn last_tick_of(table: Table) -> u64
+    ensures value { result ≡ last_of (radices table) }
+    ensures named { result ≡ last_of_table table }
+    ensures in_range { result ≤ LAST }
+{
+    of_table!(table, last_tick())
+}
+
+/// How many slots the lowest wheel has.
+#[inline]
+pub fn lowest_slots(table: Table) -> usize
+    ensures value { result ≡ lowest_radix (radices table) }
+    ensures some { 0 < result }
+{
+    of_table!(table, lowest_slots())
+}
+
+/// How many multiples of the lowest wheel's slots are after 0 and at most the tick.
+#[inline]
+pub fn revolutions(table: Table, tick: u64) -> u64
+    ensures { result ≡ tick / lowest_radix (radices table) }
+{
+    of_table!(table, revolutions(tick))
+}
+
+/// Whether the tick is a multiple of the lowest wheel's slots.
+#[inline]
+pub fn is_rollover(table: Table, tick: u64) -> bool
+    ensures { result ≡ (tick % lowest_radix (radices table) == 0) }
+{
+    of_table!(table, is_rollover(tick))
+}
+
+/// The list of a timer that is pending now.
+#[inline]
+pub fn bucket_of(table: Table, now: u64, deadline: u64) -> usize
+    requires later { now < deadline }
+    requires deadline { deadline ≤ last_of (radices table) }
+    ensures value { result ≡ bucket (radices table) now deadline }
+    ensures in_range { result < slots (radices table) }
+{
+    of_table!(table, bucket_of(now, deadline))
+}
+
+/// The list that a tick empties.
+#[inline]
+pub fn emptied_at(table: Table, tick: u64) -> usize
+    requires later { 0 < tick }
+    requires in_range { tick ≤ last_of (radices table) }
+    ensures value { result ≡ emptied (radices table) tick }
+    ensures in_range { result < slots (radices table) }
+{
+    of_table!(table, emptied_at(tick))
+}
+
+/// Now with the list's slot as its digit, and zeros below. Of a list that holds a pending timer this is the
+/// next visit, the tick that empties it.
+#[inline]
+pub fn visit_of(table: Table, list: usize, now: u64) -> u64
+    requires list { list < slots (radices table) }
+    requires now { now ≤ last_of (radices table) }
+    ensures { result ≡ list_visit (radices table) list now }
+{
+    of_table!(table, visit_of(list, now))
+}

@@ -6,7 +6,7 @@
 //! So the clock finds the next bucket with a timer among the bits, and looks at no other (`leap`). One tick is in
 //! `migration`. The first deadline of that bucket is the first of all: once `find_next` asked for it, it is known until
 //! the last timer that has it leaves its bucket (`firsts`).
-ghost use Rattle.std.specs.Prelude.{◌≡◌, ◌<◌, ◌≤◌, ◌+◌, [], IfOk, OnErr, MatchOption, length};
+ghost use Rattle.std.specs.Prelude.{◌≡◌, ◌<◌, ◌≤◌, ◌+◌, [], IfOk, OnErr, IfSome, length};
 ghost use Rattle.timer_base.specs.declared.limits.TheConstants.{LAST};
 ghost use Rattle.timer_base.specs.WakeUps.{next_deadline};
 ghost use Rattle.timer_base.specs.WheelState.{empty_wheel, held_at, held_count, old_timer, after_held_start, after_removal, after_replacement, after_tick, after_clear};
@@ -18,12 +18,13 @@ ghost use Rattle.timer_wheels.specs.Hier.{IsHier, IsHier-prop, HasFirsts, HasFir
 
 use crate::buckets::Buckets;
 use crate::deadlines::first_in;
-use crate::digits::{bucket_of, buckets_of, emptied_at, last_tick_of, lowest_slots, visit_of};
 use crate::first::First;
 use crate::firsts::Firsts;
 use crate::migration::empty_bucket;
 use crate::occupied::Occupied;
-use crate::table::Table;
+use crate::table::{
+    Table, bucket_of, buckets_of, emptied_at, last_tick_of, lowest_slots, visit_of,
+};
 use std::alloc::Global;
 use timer_base::{Handle, OutOfMemory, Timer};
 
@@ -142,7 +143,7 @@ impl Wheels {
         requires fresh { self.old.buckets.last_serial < timer.serial }
         requires serial { timer.serial ≤ LAST }
         ensures old { old_timer result ≡ held_at handle (state_of self.old.buckets) }
-        ensures named { MatchOption result (Unit {0}) (λ r. r.0.serial ≡ timer.serial) }
+        ensures named { IfSome result (λ r. r.0.serial ≡ timer.serial) }
         ensures restarted { state_of self.new.buckets
             ≡ after_replacement result handle timer (state_of self.old.buckets) }
         ensures table { self.new.table ≡ self.old.table }
@@ -298,7 +299,7 @@ fn leave_list(
 )
     requires deadline { deadline ≤ last_of (radices table) }
     requires size { length firsts.old ≡ slots (radices table) }
-    requires emptied { tick < deadline → MatchOption emptied (Unit {0}) (λ list. list < slots (radices table)) }
+    requires emptied { tick < deadline → IfSome emptied (λ list. list < slots (radices table)) }
     requires counted { tick < deadline → lowest_radix (radices table) ≤ bucket (radices table) tick deadline
         → (first_at (bucket (radices table) tick deadline) firsts.old).bound ≡ deadline
         → 0 < (first_at (bucket (radices table) tick deadline) firsts.old).count }

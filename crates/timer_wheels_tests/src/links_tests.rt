@@ -20,8 +20,6 @@ enum Call {
     Unlink(u64),
     /// Nothing is under the node's key.
     Gone(u64),
-    /// The node is the only one in this list.
-    Alone(u64, Option<usize>),
     /// The node waits for this many rounds.
     SetRounds(u64, u64),
     /// The node waits for this many rounds, and this node comes after it.
@@ -97,12 +95,9 @@ const ROWS: [Row; 6] = [
             Call::Put(2),
             Call::Put(2),
             Call::Put(0),
-            Call::Alone(2, None),
-            Call::Alone(4, Some(0)),
             Call::Take(2, None),
             Call::Holds(2, 13),
             Call::Take(3, None),
-            Call::Alone(1, Some(2)),
             Call::Take(1, Some(2)),
             Call::Gone(1),
             Call::Holds(2, 0),
@@ -247,7 +242,6 @@ fn call_on(rt: &impl Abort, name: &str, links: &mut Links, keys: &[usize], key: 
             );
         }
         Call::Unlink(_) => same(rt, name, links.unlink(key), Some(found)),
-        Call::Alone(_, list) => same(rt, name, links.alone_in(key), list),
         Call::SetRounds(_, rounds) => links.set_rounds(key, rounds),
         Call::Step(_, rounds, after) => {
             let next = match after {
@@ -293,7 +287,6 @@ fn play(rt: &impl Abort, alloc: Global, row: Row) -> Result<(), OutOfMemory> {
             Call::Count(nodes) => same(rt, name, links.len(), nodes),
             Call::Take(number, _)
             | Call::Unlink(number)
-            | Call::Alone(number, _)
             | Call::SetRounds(number, _)
             | Call::Step(number, _, _)
             | Call::SetNode(number, _)

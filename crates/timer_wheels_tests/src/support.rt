@@ -162,6 +162,8 @@ pub fn play<W: Wheel>(
     pace: Pace,
 ) -> Result<(), OutOfMemory> {
     let mut handles = Vec::new(alloc);
+    // What the last list was: the next one takes its place.
+    let mut listed = Vec::new(alloc);
     for call in calls {
         match *call {
             Call::Start(deadline) => handles.push(start(rt, wheel, deadline)?)?,
@@ -175,6 +177,8 @@ pub fn play<W: Wheel>(
             }
             Call::List(serials) => {
                 lists(rt, wheel.list()?.as_slice(), serials);
+                wheel.list_into(&mut listed)?;
+                lists(rt, listed.as_slice(), serials);
                 assert_eq!(rt; wheel.len(), serials.len());
             }
             Call::Clear => wheel.clear(),

@@ -1,6 +1,7 @@
 use Rattle.std.proofs.Common.{◌≡◌, ◌≤◌, ◌<◌, sym, ◌∙◌, arith, rules}
+use Rattle.timer_base.specs.Basics.{some_none}
 use Rattle.timer_links.specs.Lists.{row_count}
-use Rattle.timer_wheels.proofs.WalkLemmas.{next_row, found, ended_count, node_none}
+use Rattle.timer_wheels.proofs.WalkLemmas.{next_row, found, ended_count}
 use Rattle.timer_wheels.proofs.DeadlineLemmas.{seeking-begun, seeking-few, seeking-one, sought}
 use Rattle.timer_wheels.proofs.deadlines.first_in.Goals as goal
 
@@ -37,5 +38,5 @@ returns-in_default-get c =
     let links = c.args.links.now.lists in
     let i = c.loop-step.invariant in
     let w = next_row c.args.list c.loop-step.step links c.loop-step.at c.in-Some.key i.past i.walk c.in-Some.is in
-    absurd (node_none w.node (sym (found c.args.list c.loop-step.step links c.requires c.lemma_keys_unique.ensures c.in-Some.key i.past w)
+    absurd (some_none w.node (sym (found c.args.list c.loop-step.step links c.requires c.lemma_keys_unique.ensures c.in-Some.key i.past w)
     ∙ sym c.in_default-get.ensures))

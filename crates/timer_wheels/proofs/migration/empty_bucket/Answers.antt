@@ -1,13 +1,13 @@
-use Rattle.std.proofs.Common.{◌+◌, ◌≡◌, ◌<◌, ◌≤◌, ℕ, List, length, sym, ◌∙◌, ap, arith}
-use Rattle.timer_links.specs.declared.node.Node.{Node}
-use Rattle.timer_links.specs.Lists.{list_at}
+use Rattle.std.proofs.Common.{◌+◌, ◌≡◌, ◌<◌, ◌≤◌, ℕ, length, sym, ◌∙◌, ap, arith}
+use Rattle.timer_links.specs.Lists.{list_at, Rows}
+use Rattle.timer_wheels.specs.declared.table.TheConstants.{MOST_BUCKETS}
 use Rattle.timer_wheels.specs.Digits.{slots, lowest_radix}
 use Rattle.timer_wheels.specs.Tables.{radices}
 use Rattle.timer_wheels.proofs.MigrationLoop.{append_whole, none_left_over}
 use Rattle.timer_wheels.proofs.TableLaws.{of_table, below}
 use Rattle.timer_wheels.proofs.migration.empty_bucket.Goals as goal
 
-in_word : (l n : ℕ) → l < n → n ≤ 640 → l < 640
+in_word : (l n : ℕ) → l < n → n ≤ MOST_BUCKETS → l < MOST_BUCKETS
 in_word l n a b = omega arith
 
 in_lists : (l n k : ℕ) → l < n → k ≡ n + 1 → l < k
@@ -28,6 +28,6 @@ returns-then-list-lowest_slots-clause-migrated c =
 
 pub returns-then-list-lowest_slots-clause-moves : goal.returns-then-list-lowest_slots-clause-moves
 returns-then-list-lowest_slots-clause-moves c =
-    ap (λ (y : List (ℕ × Node)). length y) (sym (none_left_over c.args.tick (list_at c.args.list c.args.links.now.lists)
+    ap (λ (y : Rows). length y) (sym (none_left_over c.args.tick (list_at c.args.list c.args.links.now.lists)
     (c.requires.lowest (below c.args.list c.lowest_slots.result
     (lowest_radix (radices c.args.table)) c.lowest_slots.ensures.value c.if-list-lowest_slots.true))))

@@ -1,5 +1,4 @@
-use Rattle.std.proofs.Common.{refl, ◌≡◌, ◌≤◌, ap, ◌∙◌, arith}
-use Rattle.std.specs.Prelude.{not}
+use Rattle.std.proofs.Common.{refl, ◌≡◌, ◌≤◌, ap, ◌∙◌, arith, not}
 use Rattle.timer_links.specs.Lists.{row_count}
 use Rattle.timer_wheels.proofs.WalkLemmas.{emptying-begun, emptied-some, emptied-count}
 use Rattle.timer_wheels.proofs.walks.empty_list.Goals as goal

@@ -1,5 +1,4 @@
-use Rattle.std.proofs.Common.{◌≡◌, sym, ◌∙◌}
-use Rattle.std.specs.Prelude.{Some, None}
+use Rattle.std.proofs.Common.{◌≡◌, sym, ◌∙◌, Some, None}
 use Rattle.timer_base.specs.PlainState.{first_after}
 use Rattle.timer_base.proofs.PlainJumps.{jump-none, jump-some}
 use Rattle.timer_base.proofs.PlainSteps.{all_after, none_of_them}

@@ -1,6 +1,5 @@
 use Rattle.timer_base.specs.WheelState.{with_room}
-use Rattle.std.proofs.Common.{◌≡◌, ◌<◌, sym, ◌∙◌, ap, arith}
-use Rattle.std.specs.Prelude.{find}
+use Rattle.std.proofs.Common.{◌≡◌, ◌<◌, sym, ◌∙◌, ap, arith, find}
 use Rattle.timer_base.specs.OrderLaws.{AreRising-filter, All-filter}
 use Rattle.timer_base.specs.Pending.{is_due_at}
 use Rattle.timer_base.specs.PlainState.{IsKept, due_count}

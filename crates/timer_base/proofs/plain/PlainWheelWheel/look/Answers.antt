@@ -1,5 +1,4 @@
-use Rattle.std.proofs.Common.{sym, ◌∙◌, ap}
-use Rattle.std.specs.Prelude.{find}
+use Rattle.std.proofs.Common.{sym, ◌∙◌, ap, find}
 use Rattle.timer_base.specs.Pending.{has_serial}
 use Rattle.timer_base.proofs.PlainHeld.{held_here, held_nowhere, names_one}
 use Rattle.timer_base.proofs.plain.PlainWheelWheel.look.Goals as goal

@@ -1,5 +1,4 @@
-use Rattle.std.proofs.Common.{◌≡◌, ℕ, sym, ◌∙◌, ap, subst}
-use Rattle.std.specs.Prelude.{Option}
+use Rattle.std.proofs.Common.{◌≡◌, ℕ, sym, ◌∙◌, ap, subst, Option}
 use Rattle.timer_base.specs.PlainState.{first_after, plain_state, plain_state-well_formed}
 use Rattle.timer_base.specs.WakeUps.{IsQuietUntil, next_deadline}
 use Rattle.timer_base.proofs.PlainWakeUps.{first_is_next, quiet_until_next}

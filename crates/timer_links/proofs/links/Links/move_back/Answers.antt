@@ -1,5 +1,4 @@
-use Rattle.std.proofs.Common.{ℕ, ◌∙◌, refl, sym, subst, arith}
-use Rattle.std.specs.Prelude.{Option}
+use Rattle.std.proofs.Common.{ℕ, ◌∙◌, refl, sym, subst, arith, Option}
 use Rattle.timer_links.specs.Lists.{IsAloneIn}
 use Rattle.timer_links.proofs.AloneIn.{is_alone_in}
 use Rattle.timer_links.proofs.UniqueLists.{opened, closed, written, lists_are}

@@ -9,7 +9,7 @@ pub invariant_of-self : goal.invariant_of-self
 invariant_of-self c =
     let h = opened c.self.inside c.args.self.now c.self.view_is c.self.invariant in
     let f = seat _ _ _ _ h c.args.key _ c.index_mut.ensures.value in (
-      closed _ _ _ _ (node_set _ _ _ _ c.args.key f.l f.front _ c.args.node f.rest h f.below f.is),
+      closed _ _ _ _ (node_set _ _ _ _ c.args.key f.l f.front _ c.args.node f.rest h f.in_range f.at),
       room_stays _ _ _ _ _ _ c.self.invariant.1 refl refl,
       ready_stays _ _ _ _ _ _ c.self.invariant.2 refl (omega arith),
     )

@@ -1,5 +1,4 @@
-use Rattle.std.proofs.Common.{◌∙◌, ◌++◌, ◌∷◌, ap, refl, arith}
-use Rattle.std.specs.Prelude.{slice_set}
+use Rattle.std.proofs.Common.{◌∙◌, ◌++◌, ◌∷◌, ap, refl, arith, slice_set}
 use Rattle.timer_links.specs.declared.node.Node.{Node}
 use Rattle.timer_links.proofs.UniqueLists.{opened, closed, lists_are}
 use Rattle.timer_links.proofs.Room.{room_stays, ready_stays}
@@ -14,7 +13,7 @@ invariant_of-self c =
       closed _ _ _ _ (node_set _ _ _ _ c.args.key f.l f.front _ (record c.index_mut.result.now {
         rounds =
             c.args.rounds;
-      }) f.rest h f.below f.is),
+      }) f.rest h f.in_range f.at),
       room_stays _ _ _ _ _ _ c.self.invariant.1 refl refl,
       ready_stays _ _ _ _ _ _ c.self.invariant.2 refl (omega arith),
     )

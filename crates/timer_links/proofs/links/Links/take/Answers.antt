@@ -1,5 +1,4 @@
-use Rattle.std.proofs.Common.{ℕ, ◌∙◌, sym, refl, subst, arith}
-use Rattle.std.specs.Prelude.{Option}
+use Rattle.std.proofs.Common.{ℕ, ◌∙◌, sym, refl, subst, arith, Option}
 use Rattle.timer_links.specs.Lists.{IsAloneIn}
 use Rattle.timer_links.proofs.UniqueLists.{opened, closed, written, lists_are}
 use Rattle.timer_links.proofs.Room.{room_stays, ready_stays}

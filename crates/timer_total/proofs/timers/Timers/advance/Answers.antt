@@ -1,5 +1,4 @@
-use Rattle.std.proofs.Common.{◌≡◌, ◌-◌, ◌<◌, [], refl, ap, ◌∙◌, subst, arith}
-use Rattle.std.specs.Prelude.{min}
+use Rattle.std.proofs.Common.{◌≡◌, ◌-◌, ◌<◌, [], refl, ap, ◌∙◌, subst, arith, min}
 use Rattle.timer_base.specs.TickLaws.{not_due, after_ticks-serial}
 use Rattle.timer_base.specs.WheelState.{WheelState}
 use Rattle.timer_total.specs.Ticks.{IsAdvanced, advanced, counted_as}

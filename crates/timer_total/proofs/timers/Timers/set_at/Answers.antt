@@ -1,5 +1,4 @@
-use Rattle.std.proofs.Common.{◌≡◌, ℕ, inl, inr, subst}
-use Rattle.std.specs.Prelude.{IfOk, None}
+use Rattle.std.proofs.Common.{◌≡◌, ℕ, inl, inr, subst, IfOk, None}
 use Rattle.timer_base.specs.declared.timer.Handle.{Handle}
 use Rattle.timer_base.specs.HeldLaws.{none_removed}
 use Rattle.timer_base.specs.WheelState.{WheelState, held_at}

@@ -1,7 +1,6 @@
-use Rattle.std.proofs.Common.{subst, sym}
+use Rattle.std.proofs.Common.{subst, sym, ◌≡◌, None}
 use Rattle.timer_base.specs.HeldLaws.{held_at-removed}
 use Rattle.timer_base.specs.WheelState.{WheelState, held_at}
-use Rattle.std.specs.Prelude.{◌≡◌, None}
 use Rattle.timer_total.proofs.timers.Timers.stop.Goals as goal
 
 pub returns-clause-dead : goal.returns-clause-dead

@@ -1,5 +1,4 @@
-use Rattle.std.proofs.Common.{◌≡◌, ◌+◌, ℕ, [], length, refl, ◌∙◌, ap}
-use Rattle.std.specs.Prelude.{replicate}
+use Rattle.std.proofs.Common.{◌≡◌, ◌+◌, ℕ, [], length, refl, ◌∙◌, ap, replicate}
 use Rattle.std.proofs.lemmas.List.{length-replicate}
 use Rattle.timer_links.specs.Lists.{LinksState, list_at}
 use Rattle.timer_wheels.proofs.RowLemmas.{rows_below-none}

@@ -1,5 +1,4 @@
-use Rattle.std.proofs.Common.{◌≡◌, ◌≤◌, ◌+◌, ◌-◌, arith}
-use Rattle.std.specs.Prelude.{[], min}
+use Rattle.std.proofs.Common.{◌≡◌, ◌≤◌, ◌+◌, ◌-◌, arith, [], min}
 use Rattle.timer_base.specs.TickLaws.{IsPassing, not_due}
 use Rattle.timer_wheels.specs.Buckets.{state_of}
 use Rattle.timer_wheels.proofs.RevolutionLemmas.{passing_on, passing_from, passing_skip, advances_on, room_left, turn_fits}

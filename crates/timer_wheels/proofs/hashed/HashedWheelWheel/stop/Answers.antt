@@ -1,5 +1,4 @@
-use Rattle.std.proofs.Common.{◌≡◌, ℕ}
-use Rattle.std.specs.Prelude.{map, Option, Some, None, MatchOption}
+use Rattle.std.proofs.Common.{◌≡◌, ℕ, map, Option, Some, None, MatchOption}
 use Rattle.timer_base.specs.declared.timer.Timer.{Timer}
 use Rattle.timer_links.specs.Lists.{without_key, KeyedLists}
 use Rattle.timer_wheels.specs.Hashed.{AreInBuckets, IsInBucket}

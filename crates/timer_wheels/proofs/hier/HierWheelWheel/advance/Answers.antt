@@ -59,7 +59,7 @@ least : (moves levels n : ℕ) → moves + levels ≤ n → levels ≤ n
 least moves levels n h = omega arith
 
 pub advance_until_due-moves-requires-clause-few : goal.advance_until_due-moves-requires-clause-few
-unfolding Rattle.timer_wheels.specs.Digits.wide
+unfolding Rattle.timer_wheels.specs.Tables.wide
 advance_until_due-moves-requires-clause-few c =
     let w = c.args.self.now in
     let t = radices w.wheels.table in

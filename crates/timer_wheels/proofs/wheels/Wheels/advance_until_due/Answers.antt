@@ -9,7 +9,7 @@ pub loop-self-init : goal.loop-self-init
 loop-self-init c = advancing_none c.args.most c.args.self.now c.requires.nothing_due
 
 pub overflow_add-moves : goal.overflow_add-moves
-unfolding Rattle.timer_wheels.specs.Digits.wide
+unfolding Rattle.timer_wheels.specs.Tables.wide
 overflow_add-moves c =
     let w = c.loop-self.invariant in
     let l = leap_from w c.leap_to_visit-moves.result c.leap_to_visit-moves.new.self c.leap_to_visit-moves.ensures.leaps in

@@ -1,5 +1,4 @@
-use Rattle.std.proofs.Common.{◌≡◌, ◌<◌, refl, subst, sym, ap, ◌∙◌}
-use Rattle.std.specs.Prelude.{Some, map}
+use Rattle.std.proofs.Common.{◌≡◌, ◌<◌, refl, subst, sym, ap, ◌∙◌, Some, map}
 use Rattle.timer_base.specs.WheelState.{held_at, old_timer}
 use Rattle.timer_links.specs.Lists.{with_row, without_key, row_count, KeyedLists}
 use Rattle.timer_wheels.specs.Buckets.{state_of, row_at, replaced}

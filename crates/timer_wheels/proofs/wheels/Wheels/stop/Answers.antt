@@ -1,5 +1,4 @@
-use Rattle.std.proofs.Common.{◌≡◌, sym, ap, ◌∙◌}
-use Rattle.std.specs.Prelude.{Some, map}
+use Rattle.std.proofs.Common.{◌≡◌, sym, ap, ◌∙◌, Some, map}
 use Rattle.timer_base.specs.WheelState.{held_at}
 use Rattle.timer_links.specs.Lists.{without_key}
 use Rattle.timer_wheels.specs.Buckets.{state_of, taken_timer}
