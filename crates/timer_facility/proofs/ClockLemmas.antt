@@ -1,20 +1,19 @@
 -- The clock after events, and the clients that there are not.
-use Rattle.std.proofs.Common.{◌≡◌, ◌≤◌, ◌+◌, ℕ, Bool, true, false, ◌==◌, List, [], ◌∷◌, length, refl, sym, ◌∙◌, ap, subst, arith}
+use Rattle.std.proofs.Common.{◌≡◌, ◌≤◌, ◌+◌, ℕ, Bool, true, false, ◌==◌, List, [], ◌∷◌, length, refl, sym, ap, subst, arith}
 use Rattle.std.specs.Prelude.{if◌then◌else◌, Option, Some, None}
 use Rattle.std.proofs.lemmas.Bool.Decides.{nat_tests}
 use Rattle.std.proofs.lemmas.List.{length-set}
 use Rattle.timer_base.specs.declared.timer.Timer.{Timer}
-use Rattle.timer_facility.specs.declared.request.NotTaken.{NotTaken}
 use Rattle.timer_facility.specs.declared.request.NotTaken.TheVariants as NotTakens
-use Rattle.timer_facility.specs.declared.request.Reason.{Reason}
 use Rattle.timer_facility.specs.declared.request.TickFault.{TickFault}
 use Rattle.timer_facility.specs.declared.request.Notice.TheVariants.{Expired}
-use Rattle.timer_facility.specs.State.{FacilityState, pending_of, SingleEvent, Asked, Tick, Close, Wanted, Start, Stop, StopSerial, Restart, RestartSerial, StartAt, RestartAt, ticks_until}
-use Rattle.timer_facility.specs.Verdict.{not_taken, start_refusal, interval_refusal, tick_refusal, named}
-use Rattle.timer_facility.specs.Step.{step, step_of_request, step_of_tick, step_of_close, new_timer, with_number, after_start, after_stop, after_restart, after_taken, expired_next}
+use Rattle.timer_facility.specs.State.{FacilityState, pending_of, ModelRequest, SingleEvent, Asked, Tick, Close}
+use Rattle.timer_facility.specs.Verdict.{tick_refusal}
+use Rattle.timer_facility.specs.Step.{StepResult, with_number, timer_stopped, timer_started, after_request, expired_next, step, step_of_tick, step_of_close}
 use Rattle.timer_facility.specs.Run.{PlacedEvent, history, state_after}
 use Rattle.timer_facility.specs.Owed.{accepted_ticks, ticks_by}
 use Rattle.timer_facility.proofs.VerdictLemmas.{not_taken-closed, not_taken-no_client}
+use Rattle.timer_facility.proofs.StepLemmas.{by_verdict, step-not_taken}
 use Rattle.timer_facility.proofs.HandedOverLemmas.{adds_at_most_one, hands_over_tick, hands_over_close}
 use Rattle.timer_facility.proofs.OwedLemmas.{refusal-map}
 
@@ -23,56 +22,23 @@ record IsSameClock (s t : FacilityState) : Type 0 where
   now_is : t.now ≡ s.now
   clients_are : length t.numbers ≡ length s.numbers
 
-numbered : (s u : FacilityState) (client number : ℕ) → u.now ≡ s.now → u.numbers ≡ s.numbers → IsSameClock s (with_number client number u)
-numbered s u client number e n = record {
-  now_is = e;
-  clients_are = length-set u.numbers client (number + 1) ∙ ap (λ ns. length ns) n;
-}
+clock_accepted : (s : FacilityState) (client number place : ℕ) (old new : Option Timer)
+    → IsSameClock s (with_number client number (after_request old new place s))
+clock_accepted s client number place old None = record { now_is = refl; clients_are = length-set s.numbers client (number + 1) }
+clock_accepted s client number place old (Some new) = record { now_is = refl; clients_are = length-set s.numbers client (number + 1) }
 
-clock_started : (s : FacilityState) (o : Option Reason) (place client number : ℕ) (t : Timer)
-    → IsSameClock s (with_number client number (after_start o place t s))
-clock_started s (Some reason) place client number t = numbered s (after_start (Some reason) place t s) client number refl refl
-clock_started s None place client number t = numbered s (after_start None place t s) client number refl refl
-
-clock_stopped : (s : FacilityState) (found : Option Timer) (client number : ℕ)
-    → IsSameClock s (with_number client number (after_stop found s))
-clock_stopped s found client number = numbered s (after_stop found s) client number refl refl
-
-clock_restarted : (s : FacilityState) (found : Option Timer) (o : Option Reason) (place client number : ℕ) (t : Timer)
-    → IsSameClock s (with_number client number (after_restart found o place t s))
-clock_restarted s None o place client number t = numbered s (after_restart None o place t s) client number refl refl
-clock_restarted s (Some old) (Some reason) place client number t =
-    numbered s (after_restart (Some old) (Some reason) place t s) client number refl refl
-clock_restarted s (Some old) None place client number t = numbered s (after_restart (Some old) None place t s) client number refl refl
-
-clock_taken : (s : FacilityState) (client number : ℕ) (wanted : Wanted) (place : ℕ)
-    → IsSameClock s (after_taken s client number wanted place)
-clock_taken s client number (Start interval action) place = clock_started s (start_refusal s interval) place client number
-    (new_timer s client number interval action)
-clock_taken s client number (StartAt deadline action) place =
-    clock_started s (start_refusal s (ticks_until s deadline)) place client number
-    (new_timer s client number (ticks_until s deadline) action)
-clock_taken s client number (Stop handle) place = clock_stopped s (named s client (Stop handle)) client number
-clock_taken s client number (StopSerial serial) place = clock_stopped s (named s client (StopSerial serial)) client number
-clock_taken s client number (Restart handle interval action) place =
-    clock_restarted s (named s client (Restart handle interval action)) (interval_refusal s interval) place client number
-    (new_timer s client number interval action)
-clock_taken s client number (RestartAt handle deadline action) place =
-    clock_restarted s (named s client (RestartAt handle deadline action)) (interval_refusal s (ticks_until s deadline)) place client number
-    (new_timer s client number (ticks_until s deadline) action)
-clock_taken s client number (RestartSerial serial interval action) place =
-    clock_restarted s (named s client (RestartSerial serial interval action)) (interval_refusal s interval) place client number
-    (new_timer s client number interval action)
-
-clock_asked : (s : FacilityState) (client number : ℕ) (wanted : Wanted) (place : ℕ) (o : Option NotTaken)
-    → IsSameClock s (step_of_request s client number wanted place o).state
-clock_asked s client number wanted place (Some reason) = record { now_is = refl; clients_are = refl }
-clock_asked s client number wanted place None = clock_taken s client number wanted place
+clock_asked : (s : FacilityState) (client number : ℕ) (request : ModelRequest) (place : ℕ)
+    → IsSameClock s (step s (Asked client number request) place).state
+clock_asked s client number request place =
+    by_verdict (λ st. IsSameClock s st.state) s client number request place
+    (λ reason. record { now_is = refl; clients_are = refl })
+    (λ reason taken. record { now_is = refl; clients_are = length-set s.numbers client (number + 1) })
+    (λ taken ok. clock_accepted s client number place (timer_stopped s client request) (timer_started s client number request))
 
 -- a request adds no client
-pub clients-asked : (s : FacilityState) (client number : ℕ) (wanted : Wanted) (place : ℕ)
-    → length (step s (Asked client number wanted) place).state.numbers ≡ length s.numbers
-clients-asked s client number wanted place = (clock_asked s client number wanted place (not_taken s client number)).clients_are
+pub clients-asked : (s : FacilityState) (client number : ℕ) (request : ModelRequest) (place : ℕ)
+    → length (step s (Asked client number request) place).state.numbers ≡ length s.numbers
+clients-asked s client number request place = (clock_asked s client number request place).clients_are
 
 -- The clock.
 
@@ -86,7 +52,7 @@ now_closed s false = refl
 
 now_step : (s : FacilityState) (event : SingleEvent) (place : ℕ)
     → (step s event place).state.now ≡ s.now + ticks_by event (step s event place).outs
-now_step s (Asked client number wanted) place = let h = (clock_asked s client number wanted place (not_taken s client number)).now_is
+now_step s (Asked client number request) place = let h = (clock_asked s client number request place).now_is
     in omega arith
 now_step s Tick place = now_ticked s (tick_refusal s)
 now_step s Close place = let h = now_closed s s.is_closed in omega arith
@@ -101,12 +67,13 @@ now-run s (p ∷ ps) =
 
 -- The clients that there are not.
 
-not_among : (s : FacilityState) (client number : ℕ) (wanted : Wanted) (place : ℕ) → length s.numbers ≤ client → (b : Bool) → s.is_closed ≡ b
-    → (step s (Asked client number wanted) place).state ≡ s
-not_among s client number wanted place l true h = ap (λ o. (step_of_request s client number wanted place o).state)
-    (not_taken-closed s client number h)
-not_among s client number wanted place l false h = ap (λ o. (step_of_request s client number wanted place o).state)
-    (not_taken-no_client s client number h l)
+not_among : (s : FacilityState) (client number : ℕ) (request : ModelRequest) (place : ℕ) → length s.numbers ≤ client → (b : Bool)
+    → s.is_closed ≡ b → (step s (Asked client number request) place).state ≡ s
+not_among s client number request place l true h =
+    ap (λ (st : StepResult). st.state) (step-not_taken s client number request place NotTakens.Closed (not_taken-closed s client number h))
+not_among s client number request place l false h =
+    ap (λ (st : StepResult). st.state)
+    (step-not_taken s client number request place NotTakens.NoClient (not_taken-no_client s client number h l))
 
 -- no timer of this client, which there is not
 record HasNone (client : ℕ) (s : FacilityState) : Type 0 where
@@ -121,23 +88,23 @@ clients_closed : (s : FacilityState) (b : Bool) → length (step_of_close s b).s
 clients_closed s true = refl
 clients_closed s false = refl
 
-none_asked : (s : FacilityState) (client c number : ℕ) (wanted : Wanted) (place : ℕ) → HasNone c s → (b : Bool) → (client == c) ≡ b
-    → HasNone c (step s (Asked client number wanted) place).state
-none_asked s client c number wanted place h true e =
+none_asked : (s : FacilityState) (client c number : ℕ) (request : ModelRequest) (place : ℕ) → HasNone c s → (b : Bool) → (client == c) ≡ b
+    → HasNone c (step s (Asked client number request) place).state
+none_asked s client c number request place h true e =
     let same : client ≡ c = grind (arith, nat_tests) in
     let less : length s.numbers ≤ client = subst (λ k. length s.numbers ≤ k) (sym same) h.no_client in
-    subst (λ t. HasNone c t) (sym (not_among s client number wanted place less s.is_closed refl)) h
-none_asked s client c number wanted place h false e =
-    let after : FacilityState = (step s (Asked client number wanted) place).state in
+    subst (λ t. HasNone c t) (sym (not_among s client number request place less s.is_closed refl)) h
+none_asked s client c number request place h false e =
+    let after : FacilityState = (step s (Asked client number request) place).state in
     let n : pending_of after c ≤ pending_of s c + 0 = subst (λ b. pending_of after c ≤ pending_of s c + (if b then 1 else 0)) e
-    ((adds_at_most_one s client number wanted place).of_client c) in
+    ((adds_at_most_one s client number request place).of_client c) in
     let z = h.none in
     let l = h.no_client in
-    let m = (clock_asked s client number wanted place (not_taken s client number)).clients_are in
+    let m = (clock_asked s client number request place).clients_are in
     record { no_client = omega arith; none = omega arith }
 
 none_step : (s : FacilityState) (c : ℕ) (event : SingleEvent) (place : ℕ) → HasNone c s → HasNone c (step s event place).state
-none_step s c (Asked client number wanted) place h = none_asked s client c number wanted place h (client == c) refl
+none_step s c (Asked client number request) place h = none_asked s client c number request place h (client == c) refl
 none_step s c Tick place h =
     let n = (hands_over_tick s place).of_client c in
     let z = h.none in

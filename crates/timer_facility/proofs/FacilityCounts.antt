@@ -3,23 +3,25 @@ use Rattle.std.proofs.Common.{◌≡◌, ◌≢◌, ◌<◌, ◌≤◌, ◌+◌,
 use Rattle.std.specs.Prelude.{if◌then◌else◌, nat_lt, drop, Some, slice_get, slice_index, slice_set, replicate}
 use Rattle.std.proofs.lemmas.Bool.Decides.{nat_tests}
 use Rattle.std.proofs.lemmas.List.{get_or-set_same, get_or-set_other, get_or_past, get_or-replicate, length-set}
+use Rattle.timer_base.specs.OrderLaws.{either}
+use Rattle.timer_base.specs.OneOrder.{IsMember}
 use Rattle.timer_base.specs.declared.timer.Timer.{Timer}
 use Rattle.timer_base.specs.Order.{IsNotAmong, AreDistinct}
 use Rattle.timer_base.specs.Pending.{Entry, timers_of, put, has_serial, is_due_at, without_serial, entries_due, entries_left}
+use Rattle.timer_base.specs.WheelState.{WheelState}
 use Rattle.timer_facility.specs.State.{one_of, count_of}
-use Rattle.timer_facility.specs.Facility.{Parts, kept, AreCounted}
-use Rattle.timer_facility.proofs.TimerLists.{either, Among, not_among, is_equal, is_same}
+use Rattle.timer_facility.specs.Facility.{kept_in, AreCounted}
+use Rattle.timer_facility.proofs.TimerLists.{not_among, is_equal, is_same}
 
 pub count-append : (client : ℕ) (xs ys : List Timer) → count_of client (xs ++ ys) ≡ count_of client xs + count_of client ys
 count-append client [] ys = omega arith
 count-append client (x ∷ xs) ys = let n = count-append client xs ys in omega arith
 
-pub count-kept : (client : ℕ) (p : Parts) → count_of client (kept p)
-    ≡ count_of client (timers_of p.wheel.pending) + (count_of client (timers_of p.wheel.due) + count_of client (drop p.handed p.returned))
-count-kept client p =
-    let outer = count-append client (timers_of p.wheel.pending) (timers_of p.wheel.due ++ drop p.handed p.returned) in
-    let inner = count-append client (timers_of p.wheel.due) (drop p.handed p.returned) in
-    outer ∙ ap (λ n. count_of client (timers_of p.wheel.pending) + n) inner
+pub count-kept : (client : ℕ) (w : WheelState) (returned : List Timer) → count_of client (kept_in w returned)
+    ≡ count_of client (timers_of w.pending) + (count_of client (timers_of w.due) + count_of client returned)
+count-kept client w returned =
+    count-append client (timers_of w.pending) (timers_of w.due ++ returned)
+    ∙ ap (λ n. count_of client (timers_of w.pending) + n) (count-append client (timers_of w.due) returned)
 
 -- Pending timers.
 
@@ -79,11 +81,11 @@ count_without_first client t x xs n h =
     subst (λ (u : Timer). one_of client u + count_of client (timers_of (without_serial u.serial (x ∷ xs)))
     ≡ count_of client (timers_of (x ∷ xs))) (sym h) here
 
-pub count-without : (client : ℕ) (t : Timer) (es : List Entry) → AreDistinct (timers_of es) → Among t (timers_of es)
+pub count-without : (client : ℕ) (t : Timer) (es : List Entry) → AreDistinct (timers_of es) → IsMember t (timers_of es)
     → one_of client t + count_of client (timers_of (without_serial t.serial es)) ≡ count_of client (timers_of es)
 count-without client t [] d a = absurd a
 count-without client t (x ∷ xs) d a = elim a [
-  | inl h ↦ count_without_first client t x xs d.0 h
+  | inl h ↦ count_without_first client t x xs d.0 (sym h)
   | inr h ↦
       let other : x.timer.serial ≢ t.serial = λ e. not_among x.timer.serial t (timers_of xs) d.0 h (sym e) in
       let rest : without_serial t.serial (x ∷ xs) ≡ x ∷ without_serial t.serial xs = rw (serial_is_not t.serial x.timer other) refl in

@@ -1,25 +1,30 @@
 -- How many timers of a client are pending after an event, and what the event hands out.
 use Rattle.std.proofs.Common.{◌≡◌, ◌≤◌, ◌+◌, ℕ, Bool, true, false, not, ◌==◌, List, [], ◌∷◌, length, refl, ◌∙◌, ap, inl, inr, arith}
 use Rattle.std.specs.Prelude.{map, filter, if◌then◌else◌, Option, Some, None}
+use Rattle.timer_base.specs.OrderLaws.{either}
 use Rattle.timer_base.specs.declared.timer.Timer.{Timer}
-use Rattle.timer_base.specs.Pending.{Entry, timers_of, put, is_due_at, has_serial, entries_due, entries_left}
-use Rattle.timer_facility.specs.declared.request.Reason.{Reason}
-use Rattle.timer_facility.specs.declared.request.NotTaken.{NotTaken}
+use Rattle.timer_base.specs.Pending.{Entry, timers_of, put, is_due_at, has_serial, without_found, entries_due, entries_left}
 use Rattle.timer_facility.specs.declared.request.TickFault.{TickFault}
 use Rattle.timer_facility.specs.declared.request.Notice.{Notice}
 use Rattle.timer_facility.specs.declared.request.Notice.TheVariants.{Expired, Returned}
 use Rattle.timer_facility.specs.declared.event.Out.TheVariants as Outs
-use Rattle.timer_facility.specs.State.{FacilityState, one_of, count_of, Wanted, Start, Stop, StopSerial, Restart, RestartSerial, Asked, Tick, Close, StartAt, RestartAt, ticks_until}
-use Rattle.timer_facility.specs.Verdict.{not_taken, start_refusal, interval_refusal, tick_refusal, named}
-use Rattle.timer_facility.specs.Step.{step, step_of_request, step_of_tick, step_of_close, new_timer, after_start, after_stop, after_restart, expired_next, with_number}
+use Rattle.timer_facility.specs.State.{FacilityState, one_of, count_of, pending_of, ModelRequest, Asked, Tick, Close}
+use Rattle.timer_facility.specs.Verdict.{tick_refusal}
+use Rattle.timer_facility.specs.Step.{with_number, timer_stopped, timer_started, without_timer, after_request, expired_next, step, step_of_tick, step_of_close}
 use Rattle.timer_facility.specs.Run.{notices_in}
 use Rattle.timer_facility.specs.Owed.{timer_handed}
 use Rattle.timer_facility.specs.HandedOver.{timers_handed, AddsAtMostOne, HandsOver}
 use Rattle.timer_facility.proofs.FacilityCounts.{count-put, count-tick}
-use Rattle.timer_facility.proofs.TimerLists.{either, timers_of-filter, length-put, length_timers}
+use Rattle.timer_facility.proofs.TimerLists.{length-filter, timers_of-filter, length-put, length_timers}
 use Rattle.timer_facility.proofs.OwedLemmas.{notices_in-map}
+use Rattle.timer_facility.proofs.StepLemmas.{by_verdict, started-new}
 
 -- Requests.
+
+-- no client has more pending timers
+record AddsNone (s t : FacilityState) : Type 0 where
+  of_client : (c : ℕ) → pending_of t c ≤ pending_of s c
+  all : length t.pending ≤ length s.pending
 
 filter_fewer : (c : ℕ) (p : Entry → Bool) (es : List Entry) → count_of c (timers_of (filter p es)) ≤ count_of c (timers_of es)
 filter_fewer c p [] = omega arith
@@ -28,73 +33,39 @@ filter_fewer c p (e ∷ es) = elim (either (p e)) [
   | inr h ↦ rw h (let n = filter_fewer c p es in omega arith)
 ]
 
-filter_shorter : (p : Entry → Bool) (es : List Entry) → length (filter p es) ≤ length es
-filter_shorter p [] = omega arith
-filter_shorter p (e ∷ es) = elim (either (p e)) [
-  | inl h ↦ rw h (let n = filter_shorter p es in omega arith)
-  | inr h ↦ rw h (let n = filter_shorter p es in omega arith)
-]
-
-adds_start : (s : FacilityState) (o : Option Reason) (place client number : ℕ) (t : Timer) → t.client ≡ client
-    → AddsAtMostOne client s (with_number client number (after_start o place t s))
-adds_start s (Some reason) place client number t h = record { of_client = λ c. omega arith; all = omega arith }
-adds_start s None place client number t h = record {
-  of_client = λ c.
-      let n : count_of c (timers_of (put (record { place = place; timer = t }) s.pending)) ≡ one_of c t + count_of c (timers_of s.pending) =
-      count-put c (record { place = place; timer = t }) s.pending in
-      let m : one_of c t ≡ (if client == c then 1 else 0) = ap (λ k. if k == c then 1 else 0) h in
-      omega arith;
-  all = let n = length-put (record { place = place; timer = t }) s.pending in omega arith;
+adds_stop : (s : FacilityState) (old : Option Timer) → AddsNone s (without_timer old s)
+adds_stop s None = record { of_client = λ c. omega arith; all = omega arith }
+adds_stop s (Some t) = record {
+  of_client = λ c. filter_fewer c (λ e. not (has_serial t.serial e.timer)) s.pending;
+  all = length-filter (λ e. not (has_serial t.serial e.timer)) s.pending;
 }
 
-adds_stop : (s : FacilityState) (found : Option Timer) (client number : ℕ)
-    → AddsAtMostOne client s (with_number client number (after_stop found s))
-adds_stop s None client number = record { of_client = λ c. omega arith; all = omega arith }
-adds_stop s (Some t) client number = record {
-  of_client = λ c. let n = filter_fewer c (λ e. not (has_serial t.serial e.timer)) s.pending in omega arith;
-  all = let n = filter_shorter (λ e. not (has_serial t.serial e.timer)) s.pending in omega arith;
-}
-
--- at most one more than after the stop, after which there are no more than before
-adds_restart : (s : FacilityState) (found : Option Timer) (o : Option Reason) (place client number : ℕ) (t : Timer) → t.client ≡ client
-    → AddsAtMostOne client s (with_number client number (after_restart found o place t s))
-adds_restart s None o place client number t h = record { of_client = λ c. omega arith; all = omega arith }
-adds_restart s (Some old) (Some reason) place client number t h = record { of_client = λ c. omega arith; all = omega arith }
-adds_restart s (Some old) None place client number t h =
-    let left : FacilityState = after_stop (Some old) s in record {
+-- at most one more than after the stop
+adds_request : (s : FacilityState) (client number place : ℕ) (old new : Option Timer) → ((t : Timer) → new ≡ Some t → t.client ≡ client)
+    → AddsAtMostOne client s (with_number client number (after_request old new place s))
+adds_request s client number place old None h =
+    let less = adds_stop s old in
+    record { of_client = λ c. let n = less.of_client c in omega arith; all = let n = less.all in omega arith }
+adds_request s client number place old (Some t) h =
+    let left : List Entry = without_found old s.pending in
+    let less = adds_stop s old in record {
       of_client = λ c.
-          let n = filter_fewer c (λ e. not (has_serial old.serial e.timer)) s.pending in
-          let m = (adds_start left None place client number t h).of_client c in
+          let n : count_of c (timers_of (put (record { place = place; timer = t }) left)) ≡ one_of c t + count_of c (timers_of left) =
+          count-put c (record { place = place; timer = t }) left in
+          let m : one_of c t ≡ (if client == c then 1 else 0) = ap (λ k. if k == c then 1 else 0) (h t refl) in
+          let k = less.of_client c in
           omega arith;
-      all =
-          let n = filter_shorter (λ e. not (has_serial old.serial e.timer)) s.pending in
-          let m = (adds_start left None place client number t h).all in
-          omega arith;
+      all = let n = length-put (record { place = place; timer = t }) left in let k = less.all in omega arith;
     }
 
-adds : (s : FacilityState) (client number : ℕ) (wanted : Wanted) (place : ℕ) (o : Option NotTaken)
-    → AddsAtMostOne client s (step_of_request s client number wanted place o).state
-adds s client number wanted place (Some reason) = record { of_client = λ c. omega arith; all = omega arith }
-adds s client number (Start interval action) place None = adds_start s (start_refusal s interval) place client number
-    (new_timer s client number interval action) refl
-adds s client number (StartAt deadline action) place None =
-    adds_start s (start_refusal s (ticks_until s deadline)) place client number
-    (new_timer s client number (ticks_until s deadline) action) refl
-adds s client number (Stop handle) place None = adds_stop s (named s client (Stop handle)) client number
-adds s client number (StopSerial serial) place None = adds_stop s (named s client (StopSerial serial)) client number
-adds s client number (Restart handle interval action) place None =
-    adds_restart s (named s client (Restart handle interval action)) (interval_refusal s interval) place client number
-    (new_timer s client number interval action) refl
-adds s client number (RestartAt handle deadline action) place None =
-    adds_restart s (named s client (RestartAt handle deadline action)) (interval_refusal s (ticks_until s deadline)) place client number
-    (new_timer s client number (ticks_until s deadline) action) refl
-adds s client number (RestartSerial serial interval action) place None =
-    adds_restart s (named s client (RestartSerial serial interval action)) (interval_refusal s interval) place client number
-    (new_timer s client number interval action) refl
-
-pub adds_at_most_one : (s : FacilityState) (client number : ℕ) (wanted : Wanted) (place : ℕ)
-    → AddsAtMostOne client s (step s (Asked client number wanted) place).state
-adds_at_most_one s client number wanted place = adds s client number wanted place (not_taken s client number)
+pub adds_at_most_one : (s : FacilityState) (client number : ℕ) (request : ModelRequest) (place : ℕ)
+    → AddsAtMostOne client s (step s (Asked client number request) place).state
+adds_at_most_one s client number request place =
+    by_verdict (λ st. AddsAtMostOne client s st.state) s client number request place
+    (λ reason. record { of_client = λ c. omega arith; all = omega arith })
+    (λ reason taken. record { of_client = λ c. omega arith; all = omega arith })
+    (λ taken ok. adds_request s client number place (timer_stopped s client request) (timer_started s client number request)
+    (λ t e. (started-new s client number request t e).client_is))
 
 -- Ticks and closes.
 

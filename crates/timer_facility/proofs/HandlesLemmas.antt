@@ -7,21 +7,20 @@ use Rattle.timer_base.specs.declared.timer.Timer.{Timer}
 use Rattle.timer_base.specs.declared.timer.Handle.{Handle}
 use Rattle.timer_base.specs.OrderLaws.{either, All-filter, All-weaken}
 use Rattle.timer_base.specs.Pending.{Entry, put, has_handle, has_serial, first_timer}
-use Rattle.timer_facility.specs.declared.request.Reason.{Reason}
-use Rattle.timer_facility.specs.declared.request.NotTaken.{NotTaken}
 use Rattle.timer_facility.specs.declared.request.TickFault.{TickFault}
 use Rattle.timer_facility.specs.declared.request.Request.{Request}
-use Rattle.timer_facility.specs.declared.request.Request.TheVariants as Requests
 use Rattle.timer_facility.specs.declared.request.Answer.{Answer}
+use Rattle.timer_facility.specs.declared.request.Answer.TheVariants.{Refused}
 use Rattle.timer_facility.specs.declared.event.Out.TheVariants as Outs
-use Rattle.timer_facility.specs.State.{FacilityState, Asked, Tick, Start, Stop, StopSerial, Restart, RestartSerial}
-use Rattle.timer_facility.specs.Verdict.{not_taken, start_refusal, interval_refusal, tick_refusal, of_client, named}
-use Rattle.timer_facility.specs.Step.{StepResult, step, step_of_request, step_of_tick, after_start, after_stop, after_restart, answer_to_start, answer_to_stop, answer_to_restart, with_number, new_timer}
+use Rattle.timer_facility.specs.State.{FacilityState, ByHandle, BySerial, ModelRequest, Asked, Tick}
+use Rattle.timer_facility.specs.Verdict.{tick_refusal, of_client, timer_named}
+use Rattle.timer_facility.specs.Step.{StepResult, with_number, timer_stopped, timer_started, handle_of, answer_to, without_timer, with_timer, after_request, step, step_of_tick}
 use Rattle.timer_facility.specs.Run.{notices_in, state_after}
 use Rattle.timer_facility.specs.Ticked.{ticks, AreTicked}
-use Rattle.timer_facility.specs.Facility.{FacilityView, place_in, IsTaken}
+use Rattle.timer_facility.specs.Facility.{FacilityView, model_of, place_in, IsTaken}
 use Rattle.timer_facility.specs.Handles.{HandleList, place_at, AreSorted, IsRecorded, with_answer, AreRecorded}
 use Rattle.timer_facility.proofs.TimerLists.{is_equal, is_same}
+use Rattle.timer_facility.proofs.StepLemmas.{by_verdict, started-new}
 
 recorded_tick : (handles : HandleList) (s : FacilityState) (refusal : Option TickFault) → AreRecorded handles s
     → AreRecorded handles (step_of_tick s refusal).state
@@ -79,11 +78,19 @@ AreSorted-last : (hs : HandleList) (h : Handle) → AreSorted hs → AllByRecurs
 AreSorted-last [] h a b = (tt, tt)
 AreSorted-last (x ∷ xs) h a b = (All-last (λ k. x.serial < k.serial) xs h a.0 b.0, AreSorted-last xs h a.1 b.1)
 
-AreRecorded-put : (handles : HandleList) (s : FacilityState) (client number place : ℕ) (t : Timer) → t.serial ≡ s.next_serial
-    → AreRecorded handles s
-    → AreRecorded (handles ++ record { place = place; serial = t.serial } ∷ []) (with_number client number (after_start None place t s))
-AreRecorded-put handles s client number place t n a =
-    let h : Handle = record { place = place; serial = t.serial } in
+AreRecorded-stop : (handles : HandleList) (s : FacilityState) (old : Option Timer) → AreRecorded handles s
+    → AreRecorded handles (without_timer old s)
+AreRecorded-stop handles s None a = a
+AreRecorded-stop handles s (Some t) a = record {
+  sorted = a.sorted;
+  used = a.used;
+  each = All-filter (IsRecorded handles) (IsRecorded handles) _ s.pending (λ e _ r. r) a.each;
+}
+
+AreRecorded-start : (handles : HandleList) (s : FacilityState) (place : ℕ) (t : Timer) → t.serial ≡ s.next_serial
+    → AreRecorded handles s → AreRecorded (handles ++ handle_of place t ∷ []) (with_timer (Some t) place s)
+AreRecorded-start handles s place t n a =
+    let h : Handle = handle_of place t in
     let below : AllByRecursion (λ k. k.serial < t.serial) handles = subst (λ m. AllByRecursion (λ k. k.serial < m) handles) (sym n) a.used
     in
     record {
@@ -99,67 +106,43 @@ AreRecorded-put handles s client number place t n a =
           (λ e r. place_at-more handles h e.timer.serial e.place r) a.each);
     }
 
-recorded_answer : (handles : HandleList) (s : FacilityState) (client number place : ℕ) (t : Timer) (refusal : Option Reason)
-    → t.serial ≡ s.next_serial → AreRecorded handles s
-    → AreRecorded (with_answer (answer_to_start refusal place t) handles) (with_number client number (after_start refusal place t s))
-recorded_answer handles s client number place t (Some reason) n a = record { sorted = a.sorted; used = a.used; each = a.each }
-recorded_answer handles s client number place t None n a = AreRecorded-put handles s client number place t n a
+recorded_numbered : (handles : HandleList) (s : FacilityState) (client number : ℕ) → AreRecorded handles s
+    → AreRecorded handles (with_number client number s)
+recorded_numbered handles s client number a = record { sorted = a.sorted; used = a.used; each = a.each }
+
+-- an accepted request
+recorded_request : (handles : HandleList) (s : FacilityState) (place : ℕ) (old new : Option Timer)
+    → ((t : Timer) → new ≡ Some t → t.serial ≡ s.next_serial) → AreRecorded handles s
+    → AreRecorded (with_answer (answer_to old new place) handles) (after_request old new place s)
+recorded_request handles s place None None n a = a
+recorded_request handles s place (Some old) None n a = AreRecorded-stop handles s (Some old) a
+recorded_request handles s place None (Some t) n a = AreRecorded-start handles s place t (n t refl) a
+recorded_request handles s place (Some old) (Some t) n a =
+    AreRecorded-start handles (without_timer (Some old) s) place t (n t refl) (AreRecorded-stop handles s (Some old) a)
+
+-- the handles with that of the answer, if the step has this answer
+abbrev WithAnswer : HandleList → ℕ → ℕ → Answer → StepResult → Type 0
+WithAnswer handles client number answer st =
+    st.outs ≡ Outs.Answered client number answer ∷ [] → AreRecorded (with_answer answer handles) st.state
 
 -- the answer in the one out of a request
 answer_is : (c n c' n' : ℕ) (x y : Answer) → Outs.Answered c n x ∷ [] ≡ Outs.Answered c' n' y ∷ [] → x ≡ y
 answer_is c n c' n' x y h = cc
 
-recorded_start : (handles : HandleList) (s : FacilityState) (client number interval action place : ℕ) (answer : Answer)
-    (refusal : Option NotTaken) → AreRecorded handles s
-    → (step_of_request s client number (Start interval action) place refusal).outs ≡ Outs.Answered client number answer ∷ []
-    → AreRecorded (with_answer answer handles) (step_of_request s client number (Start interval action) place refusal).state
-recorded_start handles s client number interval action place answer (Some reason) a h = absurd (cc)
-recorded_start handles s client number interval action place answer None a h =
-    let t : Timer = new_timer s client number interval action in
-    let is : answer_to_start (start_refusal s interval) place t ≡ answer = answer_is client number client number _ answer h in
-    subst (λ x. AreRecorded (with_answer x handles) (with_number client number (after_start (start_refusal s interval) place t s))) is
-    (recorded_answer handles s client number place t (start_refusal s interval) refl a)
-
-recorded_without : (handles : HandleList) (s : FacilityState) (client number : ℕ) (found : Option Timer) → AreRecorded handles s
-    → AreRecorded handles (with_number client number (after_stop found s))
-recorded_without handles s client number None a = record { sorted = a.sorted; used = a.used; each = a.each }
-recorded_without handles s client number (Some t) a = record {
-  sorted = a.sorted;
-  used = a.used;
-  each = All-filter (IsRecorded handles) (IsRecorded handles) _ s.pending (λ e _ r. r) a.each;
-}
-
-recorded_stop : (handles : HandleList) (s : FacilityState) (client number place : ℕ) (handle : Handle) (refusal : Option NotTaken)
-    → AreRecorded handles s
-    → AreRecorded handles (step_of_request s client number (Stop handle) place refusal).state
-recorded_stop handles s client number place handle (Some reason) a = a
-recorded_stop handles s client number place handle None a = recorded_without handles s client number (named s client (Stop handle)) a
-
-recorded_restart : (handles : HandleList) (s : FacilityState) (client number place : ℕ) (t : Timer) (found : Option Timer)
-    (v : Option Reason) → t.serial ≡ s.next_serial → AreRecorded handles s
-    → AreRecorded (with_answer (answer_to_restart found v place t) handles) (with_number client number (after_restart found v place t s))
-recorded_restart handles s client number place t None v n a = record { sorted = a.sorted; used = a.used; each = a.each }
-recorded_restart handles s client number place t (Some old) (Some reason) n a = record { sorted = a.sorted; used = a.used; each = a.each }
-recorded_restart handles s client number place t (Some old) None n a =
-    let left : AreRecorded handles (after_stop (Some old) s) = record {
-      sorted = a.sorted;
-      used = a.used;
-      each = All-filter (IsRecorded handles) (IsRecorded handles) _ s.pending (λ e _ r. r) a.each;
-    } in
-    AreRecorded-put handles (after_stop (Some old) s) client number place t n left
-
-recorded_renewal : (handles : HandleList) (s : FacilityState) (client number place : ℕ) (handle : Handle) (interval action : ℕ)
-    (answer : Answer) (refusal : Option NotTaken) → AreRecorded handles s
-    → (step_of_request s client number (Restart handle interval action) place refusal).outs ≡ Outs.Answered client number answer ∷ []
-    → AreRecorded (with_answer answer handles) (step_of_request s client number (Restart handle interval action) place refusal).state
-recorded_renewal handles s client number place handle interval action answer (Some reason) a h = absurd (cc)
-recorded_renewal handles s client number place handle interval action answer None a h =
-    let t : Timer = new_timer s client number interval action in
-    let found : Option Timer = named s client (Restart handle interval action) in
-    let v : Option Reason = interval_refusal s interval in
-    let is : answer_to_restart found v place t ≡ answer = answer_is client number client number _ answer h in
-    subst (λ x. AreRecorded (with_answer x handles) (with_number client number (after_restart found v place t s))) is
-    (recorded_restart handles s client number place t found v refl a)
+recorded_asked : (handles : HandleList) (s : FacilityState) (client number : ℕ) (request : ModelRequest) (place : ℕ) (answer : Answer)
+    → AreRecorded handles s → WithAnswer handles client number answer (step s (Asked client number request) place)
+recorded_asked handles s client number request place answer a =
+    by_verdict (WithAnswer handles client number answer) s client number request place
+    (λ reason h. absurd (cc))
+    (λ reason taken h. subst (λ x. AreRecorded (with_answer x handles) (with_number client number s))
+    (answer_is client number client number (Refused reason) answer h) (recorded_numbered handles s client number a))
+    (λ taken ok h.
+    let old : Option Timer = timer_stopped s client request in
+    let new : Option Timer = timer_started s client number request in
+    subst (λ x. AreRecorded (with_answer x handles) (with_number client number (after_request old new place s)))
+    (answer_is client number client number (answer_to old new place) answer h)
+    (recorded_numbered (with_answer (answer_to old new place) handles) (after_request old new place s) client number
+    (recorded_request handles s place old new (λ t e. (started-new s client number request t e).serial_is) a)))
 
 -- after a request that is taken nothing waits, and the handles with that of its answer are still those of the pending
 -- timers
@@ -171,31 +154,13 @@ waiting-taken : (s : FacilityState) (client number : ℕ) (request : Request) (a
     → IsTaken s client number request answer new → new.waiting ≡ []
 waiting-taken s client number request answer new h = ap (λ (v : FacilityView). v.waiting) h.left ∙ ap notices_in h.answered
 
-pub recorded-start : (s : FacilityState) (new : FacilityView) (handles : HandleList) (client number interval action : ℕ) (answer : Answer)
-    → AreRecorded handles s
-    → IsTaken s client number (Requests.Start interval action) answer new → StaysRecorded new (with_answer answer handles)
-recorded-start s new handles client number interval action answer a h = record {
-  waiting = waiting-taken s client number (Requests.Start interval action) answer new h;
+pub recorded-taken : (s : FacilityState) (new : FacilityView) (handles : HandleList) (client number : ℕ) (request : Request)
+    (answer : Answer) → AreRecorded handles s → IsTaken s client number request answer new
+    → StaysRecorded new (with_answer answer handles)
+recorded-taken s new handles client number request answer a h = record {
+  waiting = waiting-taken s client number request answer new h;
   recorded = subst (λ (v : FacilityView). AreRecorded (with_answer answer handles) v.state) (sym h.left)
-      (recorded_start handles s client number interval action (place_in answer) answer (not_taken s client number) a h.answered);
-}
-
-pub recorded-stop : (s : FacilityState) (new : FacilityView) (handles : HandleList) (client number : ℕ) (handle : Handle) (answer : Answer)
-    → AreRecorded handles s
-    → IsTaken s client number (Requests.Stop handle) answer new → StaysRecorded new handles
-recorded-stop s new handles client number handle answer a h = record {
-  waiting = waiting-taken s client number (Requests.Stop handle) answer new h;
-  recorded = subst (λ (v : FacilityView). AreRecorded handles v.state) (sym h.left)
-      (recorded_stop handles s client number (place_in answer) handle (not_taken s client number) a);
-}
-
-pub recorded-restart : (s : FacilityState) (new : FacilityView) (handles : HandleList) (client number : ℕ) (handle : Handle)
-    (interval action : ℕ) (answer : Answer) → AreRecorded handles s
-    → IsTaken s client number (Requests.Restart handle interval action) answer new → StaysRecorded new (with_answer answer handles)
-recorded-restart s new handles client number handle interval action answer a h = record {
-  waiting = waiting-taken s client number (Requests.Restart handle interval action) answer new h;
-  recorded = subst (λ (v : FacilityView). AreRecorded (with_answer answer handles) v.state) (sym h.left)
-      (recorded_renewal handles s client number (place_in answer) handle interval action answer (not_taken s client number) a h.answered);
+      (recorded_asked handles s client number (model_of request) (place_in answer) answer a h.answered);
 }
 
 -- the handle is the recorded one of this serial, if there is one
@@ -227,50 +192,11 @@ first_timer_same p q [] a = refl
 first_timer_same p q (e ∷ es) a = ap (λ b. if b then Some e.timer else first_timer p es) a.0
     ∙ ap (λ o. if q e then Some e.timer else o) (first_timer_same p q es a.1)
 
--- so a stop by the recorded handle is the stop by the serial
+-- so the recorded handle names the timer that its serial names
 pub named-recorded : (handles : HandleList) (s : FacilityState) (client serial : ℕ) (handle : Handle) → AreRecorded handles s
     → IsHandleOf handles serial handle
-    → named s client (Stop handle) ≡ named s client (StopSerial serial)
+    → timer_named s client (ByHandle handle) ≡ timer_named s client (BySerial serial)
 named-recorded handles s client serial handle a h =
     ap (of_client client) (first_timer_same (has_handle handle) (λ e. has_serial serial e.timer) s.pending
     (All-weaken (IsRecorded handles) (λ e. has_handle handle e ≡ has_serial serial e.timer) s.pending
     (λ e r. same_test handles serial handle e h r) a.each))
-
-step_by_serial : (s : FacilityState) (client number serial place : ℕ) (handle : Handle) (refusal : Option NotTaken)
-    → named s client (Stop handle) ≡ named s client (StopSerial serial)
-    → step_of_request s client number (Stop handle) place refusal ≡ step_of_request s client number (StopSerial serial) place refusal
-step_by_serial s client number serial place handle (Some reason) h = refl
-step_by_serial s client number serial place handle None h =
-    let of_found : Option Timer → StepResult = λ found. record {
-      outs = Outs.Answered client number (answer_to_stop found) ∷ [];
-      state = with_number client number (after_stop found s);
-    } in
-    ap of_found h
-
-pub step-recorded : (handles : HandleList) (s : FacilityState) (client number serial place : ℕ) (handle : Handle) → AreRecorded handles s
-    → IsHandleOf handles serial handle
-    → step s (Asked client number (Stop handle)) place ≡ step s (Asked client number (StopSerial serial)) place
-step-recorded handles s client number serial place handle a h =
-    step_by_serial s client number serial place handle (not_taken s client number) (named-recorded handles s client serial handle a h)
-
-restart_by_serial : (s : FacilityState) (client number serial interval action place : ℕ) (handle : Handle) (refusal : Option NotTaken)
-    → named s client (Stop handle) ≡ named s client (StopSerial serial)
-    → step_of_request s client number (Restart handle interval action) place refusal
-    ≡ step_of_request s client number (RestartSerial serial interval action) place refusal
-restart_by_serial s client number serial interval action place handle (Some reason) h = refl
-restart_by_serial s client number serial interval action place handle None h =
-    let t : Timer = new_timer s client number interval action in
-    let v : Option Reason = interval_refusal s interval in
-    let of_found : Option Timer → StepResult = λ found. record {
-      outs = Outs.Answered client number (answer_to_restart found v place t) ∷ [];
-      state = with_number client number (after_restart found v place t s);
-    } in
-    ap of_found h
-
-pub restart-recorded : (handles : HandleList) (s : FacilityState) (client number serial interval action place : ℕ) (handle : Handle)
-    → AreRecorded handles s → IsHandleOf handles serial handle
-    → step s (Asked client number (Restart handle interval action)) place
-    ≡ step s (Asked client number (RestartSerial serial interval action)) place
-restart-recorded handles s client number serial interval action place handle a h =
-    restart_by_serial s client number serial interval action place handle (not_taken s client number)
-    (named-recorded handles s client serial handle a h)

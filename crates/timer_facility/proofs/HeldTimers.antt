@@ -3,11 +3,11 @@ use Rattle.std.proofs.Common.{◌≡◌, ◌<◌, ℕ, Bool, List, [], ◌∷◌
 use Rattle.std.specs.Prelude.{nat_lt, Option, Some, None, is_some}
 use Rattle.std.specs.List.{AllByRecursion}
 use Rattle.std.proofs.lemmas.Bool.Decides.{nat_tests}
+use Rattle.timer_base.specs.OrderLaws.{either}
 use Rattle.timer_base.specs.declared.timer.Timer.{Timer}
 use Rattle.timer_base.specs.declared.timer.Handle.{Handle}
 use Rattle.timer_base.specs.Pending.{Entry, timers_of, has_handle, first_timer, first_found}
 use Rattle.timer_base.specs.WheelState.{WheelState, IsPending, IsDue, IsWellFormed, timer_at, due_at, held_at}
-use Rattle.timer_facility.proofs.TimerLists.{either}
 
 the_timer : (x t : Timer) → Some x ≡ Some t → x ≡ t
 the_timer x t e = cc

@@ -18,8 +18,8 @@ pub mod RunClosed
 pub mod OwedOnce
 pub mod OwedAtLeastOnce
 pub mod RefusedLemmas
-pub mod StepRefusals
-pub mod FacilityParts
+pub mod StepLemmas
+pub mod FacilityFields
 pub mod TickedLemmas
 pub mod WakeUpLemmas
 pub mod HeldTimers

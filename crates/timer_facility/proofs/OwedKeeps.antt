@@ -3,6 +3,8 @@ use Rattle.std.proofs.Common.{◌≡◌, ◌<◌, ◌≤◌, ◌+◌, ℕ, zero,
 use Rattle.std.specs.Prelude.{map, filter, nat_lt}
 use Rattle.std.specs.List.{AllByRecursion}
 use Rattle.std.proofs.lemmas.Bool.Decides.{nat_tests}
+use Rattle.timer_base.specs.OrderLaws.{either}
+use Rattle.timer_base.specs.OneOrder.{IsMember}
 use Rattle.timer_base.specs.declared.timer.Timer.{Timer}
 use Rattle.timer_base.specs.Order.{AreDistinct, AreBelow}
 use Rattle.timer_base.specs.Pending.{Entry, timers_of, put, is_due_at}
@@ -10,7 +12,7 @@ use Rattle.timer_facility.specs.declared.request.Notice.{Notice}
 use Rattle.timer_facility.specs.declared.request.Notice.TheVariants.{Expired, Returned}
 use Rattle.timer_facility.specs.State.{FacilityState}
 use Rattle.timer_facility.specs.Owed.{timers_in_order, is_among}
-use Rattle.timer_facility.proofs.TimerLists.{either, or_false, insert_newest, timers_in_order-append, filter-timers_in_order, filter-append, filter_same, filter_ext, filter-filter, timers_of-put, timers_of-filter, Among, Among-in_order, Among-filter, AreBelow-among, IsOnly, AreDistinct-only, AreDistinct-append, AreBelow-append, AreBelow-filter, is_among-append, is_among_below, All-append, All_numbers-weaken, All_timers-weaken, All_timers-append, is_equal, lt_is}
+use Rattle.timer_facility.proofs.TimerLists.{or_false, insert_newest, timers_in_order-append, filter-timers_in_order, filter-append, filter_same, filter_ext, filter-filter, timers_of-put, timers_of-filter, IsMember-in_order, IsMember-filter, AreBelow-among, IsOnly, AreDistinct-only, AreDistinct-append, AreBelow-append, AreBelow-filter, is_among-append, is_among_below, All-append, All_numbers-weaken, All_timers-weaken, All_timers-append, is_equal, lt_is}
 use Rattle.timer_facility.proofs.OwedFold.{Reading, all_started, is_owed_at, is_left_at, due_at, owed_at_ticks, owed_at_close, owed_for}
 
 -- between two events: from s the answers read are r and the notices are ns, and c is the state now
@@ -166,14 +168,14 @@ closing_same_stopped : (s : FacilityState) (r : Reading) (serial : ℕ) (b : Boo
 closing_same_stopped s r serial b h = rw h refl
 
 pub keeps-stop : (s : FacilityState) (r : Reading) (ns : List Notice) (c c' : FacilityState) (t : Timer)
-    → Keeps s r ns c → r.is_closed ≡ false → Among t (timers_of c.pending)
+    → Keeps s r ns c → r.is_closed ≡ false → IsMember t (timers_of c.pending)
     → c'.now ≡ c.now → c'.next_serial ≡ c.next_serial → c'.pending ≡ filter (λ e. not (e.timer.serial == t.serial)) c.pending
     → Keeps s (with_stopped r t.serial) ns c'
 keeps-stop s r ns c c' t k h among same_now next pending =
     let n : c.now ≡ s.now + r.ticks = k.now_is in
-    let kept : Among t (timers_in_order (filter (is_left_at r c.now) (all_started s r))) = subst (λ xs. Among t xs) (k.left h) among in
-    let passed : Among t (all_started s r) × (is_left_at r c.now t ≡ true) =
-    Among-filter (is_left_at r c.now) t (all_started s r) (Among-in_order t (filter (is_left_at r c.now) (all_started s r)) kept) in
+    let kept : IsMember t (timers_in_order (filter (is_left_at r c.now) (all_started s r))) = subst (λ xs. IsMember t xs) (k.left h) among in
+    let passed : IsMember t (all_started s r) × (is_left_at r c.now t ≡ true) =
+    IsMember-filter (is_left_at r c.now) t (all_started s r) (IsMember-in_order t (filter (is_left_at r c.now) (all_started s r)) kept) in
     let later : c.now < t.deadline = lt_is c.now t.deadline (and_left (nat_lt c.now t.deadline)
     (not (is_among t.serial r.stopped)) passed.1) in
     let only : AllByRecursion (IsOnly t) (all_started s r) = AreDistinct-only t (all_started s r) k.distinct passed.0 in

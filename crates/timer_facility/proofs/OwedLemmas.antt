@@ -1,25 +1,25 @@
 -- The notices of every run are what is owed for it.
-use Rattle.std.proofs.Common.{◌≡◌, ◌<◌, ◌+◌, ℕ, zero, suc, Bool, true, false, ◌||◌, List, [], ◌∷◌, ◌++◌, refl, sym, ◌∙◌, ap, arith, append-nil, append_assoc}
+use Rattle.std.proofs.Common.{subst, ◌≡◌, ◌<◌, ◌+◌, ℕ, zero, suc, Bool, true, false, ◌||◌, List, [], ◌∷◌, ◌++◌, refl, sym, ◌∙◌, ap, arith, append-nil, append_assoc}
 use Rattle.std.specs.Prelude.{take, map, filter, if◌then◌else◌, Option, Some, None}
 use Rattle.std.specs.List.{AllByRecursion}
 use Rattle.std.proofs.lemmas.Bool.Decides.{nat_tests}
+use Rattle.timer_base.specs.OneOrder.{IsMember}
 use Rattle.timer_base.specs.declared.timer.Timer.{Timer}
 use Rattle.timer_base.specs.Order.{AreDistinct}
-use Rattle.timer_base.specs.Pending.{Entry, timers_of, is_due_at, first_timer, has_handle, has_serial}
+use Rattle.timer_base.specs.Pending.{timers_of, is_due_at}
 use Rattle.timer_facility.specs.declared.request.Notice.{Notice}
 use Rattle.timer_facility.specs.declared.request.Notice.TheVariants.{Expired, Returned}
-use Rattle.timer_facility.specs.declared.request.NotTaken.{NotTaken}
-use Rattle.timer_facility.specs.declared.request.Reason.{Reason}
 use Rattle.timer_facility.specs.declared.request.TickFault.{TickFault}
 use Rattle.timer_facility.specs.declared.event.Out.{Out}
 use Rattle.timer_facility.specs.declared.event.Out.TheVariants as Outs
-use Rattle.timer_facility.specs.State.{FacilityState, IsSound, SingleEvent, Asked, Tick, Close, Wanted, Start, Stop, StopSerial, Restart, RestartSerial, StartAt, RestartAt, ticks_until}
-use Rattle.timer_facility.specs.Verdict.{not_taken, start_refusal, interval_refusal, named, of_client, tick_refusal}
-use Rattle.timer_facility.specs.Step.{StepResult, step, step_of_request, step_of_tick, step_of_close, new_timer, with_number, after_start, after_stop, after_restart, answer_to_start, answer_to_stop, answer_to_restart}
+use Rattle.timer_facility.specs.State.{FacilityState, IsSound, ModelRequest, action_of, SingleEvent, Asked, Tick, Close}
+use Rattle.timer_facility.specs.Verdict.{tick_refusal}
+use Rattle.timer_facility.specs.Step.{StepResult, with_number, timer_stopped, timer_started, handle_of, answer_to, without_timer, with_timer, after_request, step, step_of_tick, step_of_close}
 use Rattle.timer_facility.specs.Run.{PlacedEvent, history, state_after, notices, notice_in, notices_in, outs_of}
-use Rattle.timer_facility.specs.Owed.{owed, started, timers_in_order, serials_told, timers_restarted, any_out, is_closing, is_tick_refusal}
-use Rattle.timer_facility.proofs.TimerLists.{or_false, filter_all, Among, All_timers-weaken, timers_in_order-ordered, first_timer-among, of_client_some}
-use Rattle.timer_facility.proofs.VerdictLemmas.{open_when, open_at_tick, startable, timely}
+use Rattle.timer_facility.specs.Owed.{owed, started, timers_in_order, serials_told, timer_answered, timers_in, any_out, is_closing, is_tick_refusal}
+use Rattle.timer_facility.proofs.TimerLists.{or_false, filter_all, All_timers-weaken, timers_in_order-ordered}
+use Rattle.timer_facility.proofs.VerdictLemmas.{open_when, ticking}
+use Rattle.timer_facility.proofs.StepLemmas.{by_verdict, stopped-among, IsNew, started-new, started-later}
 use Rattle.timer_facility.proofs.OwedFold.{Reading, nothing_read, read_more, read_on, reading_is, all_started, is_left_at, owed_is, started_is}
 use Rattle.timer_facility.proofs.OwedKeeps.{Keeps, not_closed, keeps-start, keeps-stop, keeps-tick, keeps-close, keeps-same}
 
@@ -40,127 +40,74 @@ read_none : (r : Reading) → let x : Reading = record {
 read_none r = reading_is (r.started ++ []) r.started (r.stopped ++ []) r.stopped (r.ticks + 0) r.ticks (r.is_closed || false) r.is_closed
     (append-nil r.started) (append-nil r.stopped) (omega arith) (or_false r.is_closed)
 
-later_start : (c : FacilityState) (interval : ℕ) → start_refusal c interval ≡ None → c.now < c.now + interval
-later_start c interval h =
-    let p : 0 < interval = (startable c interval h).timely.positive in omega arith
+-- the timer in an answer
+timer_is : (t : Timer) (client number action place : ℕ) → t.client ≡ client → t.number ≡ number → t.action ≡ action
+    → timer_answered client number action (handle_of place t) t.deadline ≡ t
+timer_is t client number action place e f g =
+    subst (λ k. timer_answered k number action (handle_of place t) t.deadline ≡ t) e
+    (subst (λ k. timer_answered t.client k action (handle_of place t) t.deadline ≡ t) f
+    (subst (λ k. timer_answered t.client t.number k (handle_of place t) t.deadline ≡ t) g refl))
 
-keeps_asked_start : (s : FacilityState) (r : Reading) (ns : List Notice) (c : FacilityState) (client number interval action place : ℕ)
-    (v : Option Reason)
-    → start_refusal c interval ≡ v → Keeps s r ns c → c.is_closed ≡ false
-    → KeepsStep s r ns (Asked client number (Start interval action)) (record {
-      outs = Outs.Answered client number (answer_to_start v place (new_timer c client number interval action)) ∷ [];
-      state = with_number client number (after_start v place (new_timer c client number interval action) c);
-    })
-keeps_asked_start s r ns c client number interval action place (Some reason) e k o =
-    keeps_read s r _ ns (ns ++ []) (with_number client number c) (read_none r) (append-nil ns)
-    (keeps-same s r ns c (with_number client number c) k refl refl refl refl)
-keeps_asked_start s r ns c client number interval action place None e k o =
-    let t : Timer = new_timer c client number interval action in
-    let c' : FacilityState = with_number client number (after_start None place t c) in
-    let r' : Reading = record r { started = r.started ++ t ∷ [] } in
-    keeps_read s r' _ ns (ns ++ []) c'
-    (reading_is (r.started ++ t ∷ []) (r.started ++ t ∷ []) (r.stopped ++ []) r.stopped (r.ticks + 0) r.ticks
-    (r.is_closed || false) r.is_closed refl (append-nil r.stopped) (omega arith) (or_false r.is_closed))
-    (append-nil ns)
-    (keeps-start s r ns c c' place t k (not_closed s r ns c k o) (later_start c interval e) refl refl refl refl)
-
-named_among : (c : FacilityState) (client : ℕ) (test : Entry → Bool) (t : Timer) → of_client client (first_timer test c.pending) ≡ Some t
-    → Among t (timers_of c.pending)
-named_among c client test t h = first_timer-among test t c.pending (of_client_some client (first_timer test c.pending) t h)
-
-keeps_asked_stop : (s : FacilityState) (r : Reading) (ns : List Notice) (c : FacilityState) (client number : ℕ) (v : Option Timer)
-    → ((t : Timer) → v ≡ Some t → Among t (timers_of c.pending)) → Keeps s r ns c → c.is_closed ≡ false
-    → Keeps s (record {
-      started = r.started ++ [];
-      stopped = r.stopped
-          ++ serials_told (Outs.Answered client number (answer_to_stop v) ∷ []);
-      ticks = r.ticks + 0;
-      is_closed = r.is_closed || false;
-    })
-    (ns ++ []) (with_number client number (after_stop v c))
-keeps_asked_stop s r ns c client number None e k o =
-    keeps_read s r _ ns (ns ++ []) (with_number client number c) (read_none r) (append-nil ns)
-    (keeps-same s r ns c (with_number client number c) k refl refl refl refl)
-keeps_asked_stop s r ns c client number (Some t) e k o =
-    let c' : FacilityState = with_number client number (after_stop (Some t) c) in
-    let r' : Reading = record r { stopped = r.stopped ++ t.serial ∷ [] } in
-    keeps_read s r' _ ns (ns ++ []) c'
-    (reading_is (r.started ++ []) r.started (r.stopped ++ t.serial ∷ []) (r.stopped ++ t.serial ∷ []) (r.ticks + 0) r.ticks
-    (r.is_closed || false) r.is_closed (append-nil r.started) refl (omega arith) (or_false r.is_closed))
-    (append-nil ns)
-    (keeps-stop s r ns c c' t k (not_closed s r ns c k o) (e t refl) refl refl refl)
-
-keeps_asked_restart : (s : FacilityState) (r : Reading) (ns : List Notice) (c : FacilityState) (client number interval action place : ℕ)
-    (found : Option Timer) (v : Option Reason)
-    → ((t : Timer) → found ≡ Some t → Among t (timers_of c.pending)) → interval_refusal c interval ≡ v → Keeps s r ns c
-    → c.is_closed ≡ false
-    → let outs : List Out = Outs.Answered client number (answer_to_restart found v place (new_timer c client number interval action)) ∷ []
-    in
+-- an accepted request, by the timer that it stops and the one that it starts
+keeps_request : (s : FacilityState) (r : Reading) (ns : List Notice) (c : FacilityState) (client number action : ℕ)
+    (old new : Option Timer) (place : ℕ)
+    → ((t : Timer) → old ≡ Some t → IsMember t (timers_of c.pending))
+    → ((t : Timer) → new ≡ Some t → IsNew c client number action t)
+    → ((t : Timer) → new ≡ Some t → c.now < t.deadline)
+    → Keeps s r ns c → r.is_closed ≡ false
+    → let outs : List Out = Outs.Answered client number (answer_to old new place) ∷ [] in
     Keeps s (record {
-      started = r.started ++ timers_restarted client number action outs;
+      started = r.started ++ timers_in client number action outs;
       stopped = r.stopped ++ serials_told outs;
       ticks = r.ticks + 0;
       is_closed = r.is_closed || false;
     })
-    (ns ++ []) (with_number client number (after_restart found v place (new_timer c client number interval action) c))
-keeps_asked_restart s r ns c client number interval action place None v e i k o =
+    (ns ++ []) (with_number client number (after_request old new place c))
+keeps_request s r ns c client number action None None place among is later k o =
     keeps_read s r _ ns (ns ++ []) (with_number client number c) (read_none r) (append-nil ns)
     (keeps-same s r ns c (with_number client number c) k refl refl refl refl)
-keeps_asked_restart s r ns c client number interval action place (Some old) (Some reason) e i k o =
-    keeps_read s r _ ns (ns ++ []) (with_number client number c) (read_none r) (append-nil ns)
-    (keeps-same s r ns c (with_number client number c) k refl refl refl refl)
-keeps_asked_restart s r ns c client number interval action place (Some old) None e i k o =
-    let t : Timer = new_timer c client number interval action in
-    let between : FacilityState = after_stop (Some old) c in
-    let c' : FacilityState = with_number client number (after_start None place t between) in
-    let stopped : Reading = record r { stopped = r.stopped ++ old.serial ∷ [] } in
-    let r' : Reading = record stopped { started = r.started ++ t ∷ [] } in
-    let without : Keeps s stopped ns between = keeps-stop s r ns c between old k (not_closed s r ns c k o) (e old refl) refl refl refl in
-    let p : 0 < interval = (timely c interval i).positive in
-    let later : c.now < c.now + interval = omega arith in
-    keeps_read s r' _ ns (ns ++ []) c'
-    (reading_is (r.started ++ t ∷ []) (r.started ++ t ∷ []) (r.stopped ++ old.serial ∷ []) (r.stopped ++ old.serial ∷ [])
-    (r.ticks + 0) r.ticks (r.is_closed || false) r.is_closed refl refl (omega arith) (or_false r.is_closed))
+keeps_request s r ns c client number action (Some old) None place among is later k o =
+    let c' : FacilityState = with_number client number (without_timer (Some old) c) in
+    keeps_read s (record r { stopped = r.stopped ++ old.serial ∷ [] }) _ ns (ns ++ []) c'
+    (reading_is (r.started ++ []) r.started (r.stopped ++ old.serial ∷ []) (r.stopped ++ old.serial ∷ []) (r.ticks + 0) r.ticks
+    (r.is_closed || false) r.is_closed (append-nil r.started) refl (omega arith) (or_false r.is_closed))
     (append-nil ns)
-    (keeps-start s stopped ns between c' place t without (not_closed s r ns c k o) later refl refl refl refl)
+    (keeps-stop s r ns c c' old k o (among old refl) refl refl refl)
+keeps_request s r ns c client number action None (Some t) place among is later k o =
+    let c' : FacilityState = with_number client number (with_timer (Some t) place c) in
+    let i : IsNew c client number action t = is t refl in
+    keeps_read s (record r { started = r.started ++ t ∷ [] }) _ ns (ns ++ []) c'
+    (reading_is (r.started ++ timer_answered client number action (handle_of place t) t.deadline ∷ []) (r.started ++ t ∷ [])
+    (r.stopped ++ []) r.stopped (r.ticks + 0) r.ticks (r.is_closed || false) r.is_closed
+    (ap (λ u. r.started ++ u ∷ []) (timer_is t client number action place i.client_is i.number_is i.action_is))
+    (append-nil r.stopped) (omega arith) (or_false r.is_closed))
+    (append-nil ns)
+    (keeps-start s r ns c c' place t k o (later t refl) i.serial_is refl refl refl)
+keeps_request s r ns c client number action (Some old) (Some t) place among is later k o =
+    let between : FacilityState = without_timer (Some old) c in
+    let c' : FacilityState = with_number client number (with_timer (Some t) place between) in
+    let stopped : Reading = record r { stopped = r.stopped ++ old.serial ∷ [] } in
+    let i : IsNew c client number action t = is t refl in
+    keeps_read s (record stopped { started = r.started ++ t ∷ [] }) _ ns (ns ++ []) c'
+    (reading_is (r.started ++ timer_answered client number action (handle_of place t) t.deadline ∷ []) (r.started ++ t ∷ [])
+    (r.stopped ++ old.serial ∷ []) (r.stopped ++ old.serial ∷ []) (r.ticks + 0) r.ticks (r.is_closed || false) r.is_closed
+    (ap (λ u. r.started ++ u ∷ []) (timer_is t client number action place i.client_is i.number_is i.action_is))
+    refl (omega arith) (or_false r.is_closed))
+    (append-nil ns)
+    (keeps-start s stopped ns between c' place t (keeps-stop s r ns c between old k o (among old refl) refl refl refl) o
+    (later t refl) i.serial_is refl refl refl)
 
-keeps_asked : (s : FacilityState) (r : Reading) (ns : List Notice) (c : FacilityState) (client number : ℕ) (wanted : Wanted) (place : ℕ)
-    (v : Option NotTaken)
-    → not_taken c client number ≡ v → Keeps s r ns c → KeepsStep s r ns (Asked client number wanted)
-    (step_of_request c client number wanted place v)
-keeps_asked s r ns c client number (Start interval action) place (Some reason) e k =
-    keeps_read s r _ ns (ns ++ []) c (read_none r) (append-nil ns) k
-keeps_asked s r ns c client number (StartAt deadline action) place (Some reason) e k =
-    keeps_read s r _ ns (ns ++ []) c (read_none r) (append-nil ns) k
-keeps_asked s r ns c client number (Stop handle) place (Some reason) e k = keeps_read s r _ ns (ns ++ []) c (read_none r) (append-nil ns) k
-keeps_asked s r ns c client number (StopSerial serial) place (Some reason) e k =
-    keeps_read s r _ ns (ns ++ []) c (read_none r) (append-nil ns) k
-keeps_asked s r ns c client number (Restart handle interval action) place (Some reason) e k =
-    keeps_read s r _ ns (ns ++ []) c (read_none r) (append-nil ns) k
-keeps_asked s r ns c client number (RestartAt handle deadline action) place (Some reason) e k =
-    keeps_read s r _ ns (ns ++ []) c (read_none r) (append-nil ns) k
-keeps_asked s r ns c client number (RestartSerial serial interval action) place (Some reason) e k =
-    keeps_read s r _ ns (ns ++ []) c (read_none r) (append-nil ns) k
-keeps_asked s r ns c client number (Start interval action) place None e k =
-    keeps_asked_start s r ns c client number interval action place (start_refusal c interval) refl k (open_when c client number e)
-keeps_asked s r ns c client number (StartAt deadline action) place None e k =
-    keeps_asked_start s r ns c client number (ticks_until c deadline) action place (start_refusal c (ticks_until c deadline)) refl k
-    (open_when c client number e)
-keeps_asked s r ns c client number (Stop handle) place None e k =
-    keeps_asked_stop s r ns c client number (named c client (Stop handle)) (named_among c client (has_handle handle)) k
-    (open_when c client number e)
-keeps_asked s r ns c client number (StopSerial serial) place None e k =
-    keeps_asked_stop s r ns c client number (named c client (StopSerial serial)) (named_among c client (λ e. has_serial serial e.timer)) k
-    (open_when c client number e)
-keeps_asked s r ns c client number (Restart handle interval action) place None e k =
-    keeps_asked_restart s r ns c client number interval action place (named c client (Restart handle interval action))
-    (interval_refusal c interval) (named_among c client (has_handle handle)) refl k (open_when c client number e)
-keeps_asked s r ns c client number (RestartAt handle deadline action) place None e k =
-    keeps_asked_restart s r ns c client number (ticks_until c deadline) action place (named c client (RestartAt handle deadline action))
-    (interval_refusal c (ticks_until c deadline)) (named_among c client (has_handle handle)) refl k (open_when c client number e)
-keeps_asked s r ns c client number (RestartSerial serial interval action) place None e k =
-    keeps_asked_restart s r ns c client number interval action place (named c client (RestartSerial serial interval action))
-    (interval_refusal c interval) (named_among c client (λ e. has_serial serial e.timer)) refl k (open_when c client number e)
+keeps_asked : (s : FacilityState) (r : Reading) (ns : List Notice) (c : FacilityState) (client number : ℕ) (request : ModelRequest)
+    (place : ℕ) → Keeps s r ns c
+    → KeepsStep s r ns (Asked client number request) (step c (Asked client number request) place)
+keeps_asked s r ns c client number request place k =
+    by_verdict (KeepsStep s r ns (Asked client number request)) c client number request place
+    (λ reason. keeps_read s r _ ns (ns ++ []) c (read_none r) (append-nil ns) k)
+    (λ reason taken. keeps_read s r _ ns (ns ++ []) (with_number client number c) (read_none r) (append-nil ns)
+    (keeps-same s r ns c (with_number client number c) k refl refl refl refl))
+    (λ taken ok. keeps_request s r ns c client number (action_of request) (timer_stopped c client request)
+    (timer_started c client number request) place (stopped-among c client request) (started-new c client number request)
+    (λ t e. started-later c client number request t ok e) k (not_closed s r ns c k (open_when c client number taken)))
 
 -- the outs of an accepted tick or close, read
 pub notices_in-map : (f : Timer → Notice) (ts : List Timer) → notices_in (map (λ t. Outs.Notice (f t)) ts) ≡ map f ts
@@ -199,7 +146,7 @@ keeps_ticked s r ns c None e k =
     (ap (λ b. r.ticks + (if b then 0 else 1)) (refusal-map (λ t. Expired t) ts))
     (ap (λ b. r.is_closed || b) (closing-map (λ t. Expired t) ts) ∙ or_false r.is_closed))
     (ap (λ xs. ns ++ xs) (notices_in-map (λ t. Expired t) ts))
-    (keeps-tick s r ns c c' k (not_closed s r ns c k (open_at_tick c e)) refl refl refl)
+    (keeps-tick s r ns c c' k (not_closed s r ns c k (ticking c e).is_open) refl refl refl)
 
 keeps_closed : (s : FacilityState) (r : Reading) (ns : List Notice) (c : FacilityState) (v : Bool) → c.is_closed ≡ v → Keeps s r ns c
     → KeepsStep s r ns Close (step_of_close c v)
@@ -220,8 +167,7 @@ keeps_closed s r ns c false e k =
 
 keeps_step : (s : FacilityState) (r : Reading) (ns : List Notice) (c : FacilityState) (event : SingleEvent) (place : ℕ) → Keeps s r ns c
     → KeepsStep s r ns event (step c event place)
-keeps_step s r ns c (Asked client number wanted) place k = keeps_asked s r ns c client number wanted place
-    (not_taken c client number) refl k
+keeps_step s r ns c (Asked client number request) place k = keeps_asked s r ns c client number request place k
 keeps_step s r ns c Tick place k = keeps_ticked s r ns c (tick_refusal c) refl k
 keeps_step s r ns c Close place k = keeps_closed s r ns c c.is_closed refl k
 
@@ -274,9 +220,9 @@ pub started-distinct : (s : FacilityState) (ps : List PlacedEvent) → IsSound s
 started-distinct s ps i = rw (started_is s (history s ps)) (keeps_run s nothing_read [] s ps (keeps_first s i)).distinct
 
 -- each of them has its deadline after the beginning
-pub started-later : (s : FacilityState) (ps : List PlacedEvent) → IsSound s
+pub started-after : (s : FacilityState) (ps : List PlacedEvent) → IsSound s
     → AllByRecursion (λ t. s.now < t.deadline) (started s (history s ps))
-started-later s ps i = rw (started_is s (history s ps)) (keeps_run s nothing_read [] s ps (keeps_first s i)).later
+started-after s ps i = rw (started_is s (history s ps)) (keeps_run s nothing_read [] s ps (keeps_first s i)).later
 
 -- a prefix of a history is a history
 pub take-history : (k : ℕ) (s : FacilityState) (ps : List PlacedEvent) → take k (history s ps) ≡ history s (take k ps)

@@ -3,16 +3,17 @@ use Rattle.std.proofs.Common.{◌≡◌, ◌≢◌, ◌<◌, ◌≤◌, ◌+◌,
 use Rattle.std.specs.Prelude.{map, filter, nat_lt}
 use Rattle.std.specs.List.{AllByRecursion}
 use Rattle.std.proofs.lemmas.List.{map-append}
+use Rattle.timer_base.specs.OneOrder.{IsMember}
 use Rattle.timer_base.specs.declared.timer.Timer.{Timer}
 use Rattle.timer_base.specs.Order.{itself, IsNotAmong, AreDistinct}
-use Rattle.timer_base.specs.OrderLaws.{All-filter, All-weaken, All-in_order, AreDistinct-in_order}
+use Rattle.timer_base.specs.OrderLaws.{either, All-filter, All-weaken, All-in_order, AreDistinct-in_order}
 use Rattle.timer_base.specs.OneOrder.{map-itself}
 use Rattle.timer_facility.specs.declared.request.Notice.{Notice}
 use Rattle.timer_facility.specs.declared.request.Notice.TheVariants.{Expired, Returned}
 use Rattle.timer_facility.specs.State.{FacilityState, IsSound}
 use Rattle.timer_facility.specs.Run.{PlacedEvent, HistoryEntry, history}
 use Rattle.timer_facility.specs.Owed.{started, stopped, accepted_ticks, has_closed, is_among, timers_in_order, due, left_after, owed_by_ticks, owed_by_close, owed, timer_handed, handed_out, AreHandedOutOnce}
-use Rattle.timer_facility.proofs.TimerLists.{either, Among, IsOnly, AreDistinct-only, is_equal, lt_is}
+use Rattle.timer_facility.proofs.TimerLists.{at_member, IsOnly, AreDistinct-only, is_equal, lt_is}
 use Rattle.timer_facility.proofs.OwedLemmas.{notices-history, started-distinct}
 
 -- Lists of distinct timers.
@@ -49,26 +50,22 @@ All-join : (P : Timer → Type 0) (xs ys : List Timer) → AllByRecursion P xs �
 All-join P [] ys a b = b
 All-join P (x ∷ xs) ys a b = (a.0, All-join P xs ys a.1 b)
 
-all_among : (ts : List Timer) → AllByRecursion (λ t. Among t ts) ts
+all_among : (ts : List Timer) → AllByRecursion (λ t. IsMember t ts) ts
 all_among [] = tt
-all_among (x ∷ xs) = (inl refl, All-weaken (λ t. Among t xs) (λ t. Among t (x ∷ xs)) xs (λ t a. inr a) (all_among xs))
-
-at_one : (P : Timer → Type 0) (t : Timer) (xs : List Timer) → AllByRecursion P xs → Among t xs → P t
-at_one P t [] a m = absurd m
-at_one P t (x ∷ xs) a m = elim m [ inl h ↦ subst P (sym h) a.0 | inr h ↦ at_one P t xs a.1 h ]
+all_among (x ∷ xs) = (inl refl, All-weaken (λ t. IsMember t xs) (λ t. IsMember t (x ∷ xs)) xs (λ t a. inr a) (all_among xs))
 
 -- What a tick hands out, and what is handed out later.
 
 -- one of the started timers that was not stopped, with a deadline after one tick and up to another
 record IsBetween (all : List Timer) (ks : List ℕ) (after last : ℕ) (t : Timer) : Type 0 where
-  among : Among t all
+  among : IsMember t all
   later : after < t.deadline
   up_to : t.deadline ≤ last
   unstopped : is_among t.serial ks ≡ false
 
 -- the same, with a deadline after a tick
 record IsLater (all : List Timer) (ks : List ℕ) (after : ℕ) (t : Timer) : Type 0 where
-  among : Among t all
+  among : IsMember t all
   later : after < t.deadline
   unstopped : is_among t.serial ks ≡ false
 
@@ -81,15 +78,15 @@ not_true true h = absurd (cc)
 not_true false h = refl
 
 -- of two timers that were started, one with a later deadline has another serial
-other_serial : (all : List Timer) (tick : ℕ) (x y : Timer) → AreDistinct all → Among x all → Among y all → x.deadline ≤ tick
+other_serial : (all : List Timer) (tick : ℕ) (x y : Timer) → AreDistinct all → IsMember x all → IsMember y all → x.deadline ≤ tick
     → tick < y.deadline → y.serial ≢ x.serial
 other_serial all tick x y d a b h k e =
     let only : AllByRecursion (IsOnly x) all = AreDistinct-only x all d a in
-    let same : y ≡ x = at_one (IsOnly x) y all only b e in
+    let same : y ≡ x = at_member (IsOnly x) y all only b e in
     let deadline : y.deadline ≡ x.deadline = ap (λ (t : Timer). t.deadline) same in
     absurd (omega arith)
 
-not_later : (all : List Timer) (ks : List ℕ) (tick : ℕ) (x : Timer) (ys : List Timer) → AreDistinct all → Among x all → x.deadline ≤ tick
+not_later : (all : List Timer) (ks : List ℕ) (tick : ℕ) (x : Timer) (ys : List Timer) → AreDistinct all → IsMember x all → x.deadline ≤ tick
     → AllByRecursion (IsLater all ks tick) ys → IsNotAmong x.serial ys
 not_later all ks tick x [] d a h l = tt
 not_later all ks tick x (y ∷ ys) d a h l = (other_serial all tick x y d a l.0.among h l.0.later, not_later all ks tick x ys d a h l.1)
@@ -113,7 +110,7 @@ due-members s hs tick =
     let all : List Timer = started s hs in
     let test : Timer → Bool = λ t. t.deadline == tick + 1 && not (is_among t.serial (stopped hs)) in
     All-in_order itself (IsBetween all (stopped hs) tick (tick + 1)) (filter test all)
-    (All-filter (λ t. Among t all) (IsBetween all (stopped hs) tick (tick + 1)) test all
+    (All-filter (λ t. IsMember t all) (IsBetween all (stopped hs) tick (tick + 1)) test all
     (λ t h a. let parts = both_true (t.deadline == tick + 1) (not (is_among t.serial (stopped hs))) h in
     let at : t.deadline ≡ tick + 1 = is_equal t.deadline (tick + 1) parts.0 in
     record { among = a; later = omega arith; up_to = omega arith; unstopped = not_true (is_among t.serial (stopped hs)) parts.1 })
@@ -125,7 +122,7 @@ left-members s hs tick =
     let all : List Timer = started s hs in
     let test : Timer → Bool = λ t. nat_lt tick t.deadline && not (is_among t.serial (stopped hs)) in
     All-in_order itself (IsLater all (stopped hs) tick) (filter test all)
-    (All-filter (λ t. Among t all) (IsLater all (stopped hs) tick) test all
+    (All-filter (λ t. IsMember t all) (IsLater all (stopped hs) tick) test all
     (λ t h a. let parts = both_true (nat_lt tick t.deadline) (not (is_among t.serial (stopped hs))) h in
     record { among = a; later = lt_is tick t.deadline parts.0; unstopped = not_true (is_among t.serial (stopped hs)) parts.1 })
     (all_among all))

@@ -1,25 +1,26 @@
 -- Runs that go on.
 use Rattle.std.proofs.Common.{◌≡◌, ℕ, List, [], ◌∷◌, ◌++◌, refl, sym, ◌∙◌, ap, subst, append-nil, append_assoc, inl, inr}
-use Rattle.std.specs.Prelude.{Some}
+use Rattle.std.specs.Prelude.{Some, Result, Ok, Err, OnOk}
+use Rattle.timer_base.specs.declared.timer.Handle.{Handle}
 use Rattle.timer_facility.specs.declared.request.Request.{Request}
 use Rattle.timer_facility.specs.declared.request.Answer.{Answer}
 use Rattle.timer_facility.specs.declared.request.NotTaken.{NotTaken}
 use Rattle.timer_facility.specs.declared.request.NotTaken.TheVariants as NotTakens
-use Rattle.timer_facility.specs.declared.request.Request.TheVariants as Requests
-use Rattle.timer_base.specs.declared.timer.Handle.{Handle}
 use Rattle.timer_facility.specs.declared.event.Event.{Event}
 use Rattle.timer_facility.specs.declared.event.Event.TheVariants as Events
+use Rattle.timer_facility.specs.declared.request.Request.TheVariants as Requests
 use Rattle.timer_facility.specs.Handles.{HandleList, AreRecorded}
-use Rattle.timer_facility.proofs.HandlesLemmas.{IsHandleOf, step-recorded, restart-recorded}
+use Rattle.timer_facility.proofs.HandlesLemmas.{IsHandleOf, named-recorded}
+use Rattle.timer_facility.proofs.StepLemmas.{step-not_taken, step-stop, step-restart}
 use Rattle.timer_facility.proofs.OwedLemmas.{notices-take}
 use Rattle.timer_facility.specs.declared.event.Out.{Out}
 use Rattle.timer_facility.specs.declared.event.Out.TheVariants as Outs
-use Rattle.timer_facility.specs.State.{FacilityState, IsSound, SingleEvent, Wanted, Asked, Stop, StopSerial, Restart, RestartSerial}
+use Rattle.timer_facility.specs.State.{FacilityState, IsSound, After, ByHandle, BySerial, Start, Stop, Restart, SingleEvent, Asked}
 use Rattle.timer_facility.specs.Verdict.{not_taken}
-use Rattle.timer_facility.specs.Step.{StepResult, step, step_of_request}
+use Rattle.timer_facility.specs.Step.{StepResult, step}
 use Rattle.timer_facility.specs.Run.{PlacedEvent, HistoryEntry, history, state_after, outs_of}
-use Rattle.timer_facility.specs.Facility.{FacilityView, place_in, event_of_request, IsTaken, IsNotTaken}
-use Rattle.timer_facility.specs.Played.{singles_of, ArePlaced, IsRun, IsPlayed, AddsRun}
+use Rattle.timer_facility.specs.Facility.{FacilityView, model_of, place_in, event_of_request, IsTaken, IsNotTaken}
+use Rattle.timer_facility.specs.Played.{singles_of, ArePlaced, IsRun, IsPlayed, MakesStep, AddsRun}
 
 state_after-append : (s : FacilityState) (xs ys : List PlacedEvent) → state_after s (xs ++ ys) ≡ state_after (state_after s xs) ys
 state_after-append s [] ys = refl
@@ -107,27 +108,76 @@ AddsRun-one s event single place before outs after h o e =
       };
     }
 
+pub AddsRun-step : (s : FacilityState) (event : Event) (single : SingleEvent) (before outs : List Out) (after : FacilityState)
+    → singles_of s event ≡ single ∷ [] → MakesStep s single before outs after → AddsRun s event before outs after
+AddsRun-step s event single before outs after h m = AddsRun-one s event single m.place before outs after h m.appended m.left
+
+-- the step of another event that is the same
+pub MakesStep-alike : (s : FacilityState) (a b : SingleEvent) (before outs : List Out) (after : FacilityState)
+    → ((place : ℕ) → step s a place ≡ step s b place) → MakesStep s a before outs after → MakesStep s b before outs after
+MakesStep-alike s a b before outs after same m = record {
+  place = m.place;
+  appended = m.appended ∙ ap (λ (st : StepResult). before ++ st.outs) (same m.place);
+  left = m.left ∙ ap (λ (st : StepResult). st.state) (same m.place);
+}
+
+-- a start that is played
+pub AddsRun-start : (s : FacilityState) (client number interval action : ℕ) (before outs : List Out) (after : FacilityState)
+    → MakesStep s (event_of_request client number (Requests.Start interval action)) before outs after
+    → AddsRun s (Events.Start client number interval action) before outs after
+AddsRun-start s client number interval action before outs after m = AddsRun-step s (Events.Start client number interval action)
+    (Asked client number (Start (After interval) action)) before outs after refl m
+
+-- a stop, with the recorded handle of its serial
+pub AddsRun-stop : (s : FacilityState) (client number serial : ℕ) (before outs : List Out) (after : FacilityState)
+    (handles : HandleList) (handle : Handle) → AreRecorded handles s → IsHandleOf handles serial handle
+    → MakesStep s (event_of_request client number (Requests.Stop handle)) before outs after
+    → AddsRun s (Events.Stop client number serial) before outs after
+AddsRun-stop s client number serial before outs after handles handle a h m =
+    AddsRun-step s (Events.Stop client number serial) (Asked client number (Stop (BySerial serial))) before outs after refl
+    (MakesStep-alike s (Asked client number (Stop (ByHandle handle))) (Asked client number (Stop (BySerial serial))) before outs after
+    (λ place. step-stop s client number place (ByHandle handle) (BySerial serial) (named-recorded handles s client serial handle a h)) m)
+
+-- and a restart
+pub AddsRun-restart : (s : FacilityState) (client number serial interval action : ℕ) (before outs : List Out) (after : FacilityState)
+    (handles : HandleList) (handle : Handle) → AreRecorded handles s → IsHandleOf handles serial handle
+    → MakesStep s (event_of_request client number (Requests.Restart handle interval action)) before outs after
+    → AddsRun s (Events.Restart client number serial interval action) before outs after
+AddsRun-restart s client number serial interval action before outs after handles handle a h m =
+    AddsRun-step s (Events.Restart client number serial interval action)
+    (Asked client number (Restart (BySerial serial) (After interval) action)) before outs after refl
+    (MakesStep-alike s (Asked client number (Restart (ByHandle handle) (After interval) action))
+    (Asked client number (Restart (BySerial serial) (After interval) action)) before outs after
+    (λ place. step-restart s client number place (ByHandle handle) (BySerial serial) (After interval) action
+    (named-recorded handles s client serial handle a h)) m)
+
+-- if a call returned Ok
+pub on_ok : {T E : Type 0} (r : Result T E) (A B : Type 0) → (A → B) → OnOk r A → OnOk r B
+on_ok (Ok x) A B f h = f h
+on_ok (Err e) A B f h = tt
+
 -- a request that is taken
-pub AddsRun-taken : (s : FacilityState) (event : Event) (client number : ℕ) (request : Request) (answer : Answer) (before outs : List Out)
-    (new : FacilityView)
-    → singles_of s event ≡ event_of_request client number request ∷ [] → IsTaken s client number request answer new
+pub MakesStep-taken : (s : FacilityState) (client number : ℕ) (request : Request) (answer : Answer) (before outs : List Out)
+    (new : FacilityView) → IsTaken s client number request answer new
     → outs ≡ before ++ Outs.Answered client number answer ∷ []
-    → AddsRun s event before outs new.state
-AddsRun-taken s event client number request answer before outs new h t o =
-    AddsRun-one s event (event_of_request client number request) (place_in answer) before outs new.state h
-    (o ∙ ap (λ os. before ++ os) (sym t.answered)) (ap (λ (v : FacilityView). v.state) t.left)
+    → MakesStep s (event_of_request client number request) before outs new.state
+MakesStep-taken s client number request answer before outs new t o = record {
+  place = place_in answer;
+  appended = o ∙ ap (λ os. before ++ os) (sym t.answered);
+  left = ap (λ (v : FacilityView). v.state) t.left;
+}
 
 -- a request that is not taken
-pub AddsRun-not_taken : (s : FacilityState) (event : Event) (client number : ℕ) (wanted : Wanted) (reason : NotTaken)
-    (before outs : List Out) (after : FacilityState)
-    → singles_of s event ≡ Asked client number wanted ∷ [] → not_taken s client number ≡ Some reason
+pub MakesStep-not_taken : (s : FacilityState) (client number : ℕ) (request : Request) (reason : NotTaken)
+    (before outs : List Out) (after : FacilityState) → not_taken s client number ≡ Some reason
     → outs ≡ before ++ Outs.NotTaken client number reason ∷ [] → after ≡ s
-    → AddsRun s event before outs after
-AddsRun-not_taken s event client number wanted reason before outs after h r o e =
-    let refused : step s (Asked client number wanted) 0 ≡ step_of_request s client number wanted 0 (Some reason) =
-    ap (step_of_request s client number wanted 0) r in
-    AddsRun-one s event (Asked client number wanted) 0 before outs after h
-    (o ∙ ap (λ (st : StepResult). before ++ st.outs) (sym refused)) (e ∙ ap (λ (st : StepResult). st.state) (sym refused))
+    → MakesStep s (event_of_request client number request) before outs after
+MakesStep-not_taken s client number request reason before outs after r o e =
+    let refused = step-not_taken s client number (model_of request) 0 reason r in record {
+      place = 0;
+      appended = o ∙ ap (λ (st : StepResult). before ++ st.outs) (sym refused);
+      left = e ∙ ap (λ (st : StepResult). st.state) (sym refused);
+    }
 
 -- a request that is not taken for another reason than memory is not taken for the reason of the verdict
 pub reason-verdict : (s : FacilityState) (client number : ℕ) (request : Request) (reason : NotTaken)
@@ -135,48 +185,6 @@ pub reason-verdict : (s : FacilityState) (client number : ℕ) (request : Reques
     → not_taken s client number ≡ Some reason
 reason-verdict s client number request reason (inl h) n = h
 reason-verdict s client number request reason (inr h) n = absurd (n h.0)
-
--- a stop doesn't allocate
-pub reason-stop : (s : FacilityState) (client number : ℕ) (handle : Handle) (reason : NotTaken)
-    → IsNotTaken s client number (Requests.Stop handle) reason → not_taken s client number ≡ Some reason
-reason-stop s client number handle reason (inl h) = h
-reason-stop s client number handle reason (inr h) = absurd h.1
-
--- a stop that is taken with the recorded handle of its serial
-pub AddsRun-stopped : (handles : HandleList) (s : FacilityState) (client number serial : ℕ) (handle : Handle) (answer : Answer)
-    (before outs : List Out) (new : FacilityView)
-    → AreRecorded handles s → IsHandleOf handles serial handle → IsTaken s client number (Requests.Stop handle) answer new
-    → outs ≡ before ++ Outs.Answered client number answer ∷ []
-    → AddsRun s (Events.Stop client number serial) before outs new.state
-AddsRun-stopped handles s client number serial handle answer before outs new a h t o =
-    let same : step s (Asked client number (Stop handle)) (place_in answer)
-    ≡ step s (Asked client number (StopSerial serial)) (place_in answer) =
-    step-recorded handles s client number serial (place_in answer) handle a h in
-    AddsRun-one s (Events.Stop client number serial) (Asked client number (StopSerial serial)) (place_in answer) before outs new.state refl
-    (o ∙ ap (λ os. before ++ os) (sym t.answered ∙ ap (λ (st : StepResult). st.outs) same))
-    (ap (λ (v : FacilityView). v.state) t.left ∙ ap (λ (st : StepResult). st.state) same)
-
--- a restart doesn't allocate
-pub reason-restart : (s : FacilityState) (client number : ℕ) (handle : Handle) (interval action : ℕ) (reason : NotTaken)
-    → IsNotTaken s client number (Requests.Restart handle interval action) reason
-    → not_taken s client number ≡ Some reason
-reason-restart s client number handle interval action reason (inl h) = h
-reason-restart s client number handle interval action reason (inr h) = absurd h.1
-
--- a restart that is taken with the recorded handle of its serial
-pub AddsRun-restarted : (handles : HandleList) (s : FacilityState) (client number serial interval action : ℕ) (handle : Handle)
-    (answer : Answer) (before outs : List Out) (new : FacilityView)
-    → AreRecorded handles s → IsHandleOf handles serial handle → IsTaken s client number
-    (Requests.Restart handle interval action) answer new → outs ≡ before ++ Outs.Answered client number answer ∷ []
-    → AddsRun s (Events.Restart client number serial interval action) before outs new.state
-AddsRun-restarted handles s client number serial interval action handle answer before outs new a h t o =
-    let same : step s (Asked client number (Restart handle interval action)) (place_in answer)
-    ≡ step s (Asked client number (RestartSerial serial interval action)) (place_in answer) =
-    restart-recorded handles s client number serial interval action (place_in answer) handle a h in
-    AddsRun-one s (Events.Restart client number serial interval action) (Asked client number (RestartSerial serial interval action))
-    (place_in answer) before outs new.state refl
-    (o ∙ ap (λ os. before ++ os) (sym t.answered ∙ ap (λ (st : StepResult). st.outs) same))
-    (ap (λ (v : FacilityView). v.state) t.left ∙ ap (λ (st : StepResult). st.state) same)
 
 -- the notices of every run are what is owed
 pub IsPlayed-run : (s : FacilityState) (es : List Event) (outs : List Out) (c : FacilityState) → IsSound s → IsRun s es outs c

@@ -14,11 +14,12 @@ use Rattle.timer_facility.specs.declared.event.Out.{Out}
 use Rattle.timer_facility.specs.declared.event.Out.TheVariants as Outs
 use Rattle.timer_facility.specs.State.{FacilityState, Tick}
 use Rattle.timer_facility.specs.Verdict.{tick_refusal}
-use Rattle.timer_facility.specs.Step.{StepResult, step, step_of_tick, after_tick, expired_next}
+use Rattle.timer_facility.specs.Step.{StepResult, step, step_of_tick, accepted, expired_next}
 use Rattle.timer_facility.specs.Run.{PlacedEvent, history, state_after, outs_of, notices, notices_in}
 use Rattle.timer_facility.specs.Facility.{FacilityView}
 use Rattle.timer_facility.proofs.PlayedNotices.{outs-notices, length-notices}
 use Rattle.timer_facility.proofs.OwedLemmas.{notices_in-append}
+use Rattle.timer_facility.proofs.VerdictLemmas.{IsTicking, ticking}
 use Rattle.timer_facility.specs.Played.{ticks_left, AddsRun}
 use Rattle.timer_facility.specs.Ticked.{a_tick, ticks, AreTicked}
 
@@ -28,21 +29,6 @@ pub record HasTicked (s : FacilityState) (n : ℕ) (before outs : List Out) (aft
   pub added : outs ≡ before ++ outs_of (history s (replicate n a_tick))
   pub left : n + ticks_left after ≡ ticks_left s
   pub in_range : after.now ≤ after.last
-
--- the clock after an accepted tick
-pub record IsTicking (s : FacilityState) : Type 0 where
-  pub is_open : s.is_closed ≡ false
-  pub before_last : (s.now == s.last) ≡ false
-
-ticking_of : (closed at_end : Bool) → (if closed then Some TickFaults.Closed else if at_end then Some TickFaults.ClockEnd else None) ≡ None
-    → (closed ≡ false) × (at_end ≡ false)
-ticking_of true b h = absurd (cc)
-ticking_of false true h = absurd (cc)
-ticking_of false false h = (refl, refl)
-
-pub IsTicking-accepted : (s : FacilityState) → tick_refusal s ≡ None → IsTicking s
-unfolding tick_refusal
-IsTicking-accepted s h = let t = ticking_of s.is_closed (s.now == s.last) h in record { is_open = t.0; before_last = t.1 }
 
 left_refused : (now last : ℕ) (closed : Bool) (fault : TickFault) → now ≤ last
     → (if closed then Some TickFaults.Closed else if now == last then Some TickFaults.ClockEnd else None) ≡ Some fault
@@ -66,11 +52,11 @@ ticks_left-open s h = rw h refl
 
 -- an accepted tick leaves one fewer
 pub ticks_left-accepted : (s : FacilityState) → s.now ≤ s.last → tick_refusal s ≡ None
-    → (ticks_left s ≡ 1 + ticks_left (after_tick s)) × (s.now + 1 ≤ s.last)
+    → (ticks_left s ≡ 1 + ticks_left (accepted s Tick 0).state) × (s.now + 1 ≤ s.last)
 ticks_left-accepted s i h =
-    let t : IsTicking s = IsTicking-accepted s h in
+    let t : IsTicking s = ticking s h in
     let l = left_less s.now s.last i t.before_last in
-    (ticks_left-open s t.is_open ∙ l.0 ∙ ap (λ n. 1 + n) (sym (ticks_left-open (after_tick s) t.is_open)), l.1)
+    (ticks_left-open s t.is_open ∙ l.0 ∙ ap (λ n. 1 + n) (sym (ticks_left-open (accepted s Tick 0).state t.is_open)), l.1)
 
 -- one more tick at the end
 pub state_after-ticks : (n : ℕ) (s : FacilityState) → state_after s (replicate (suc n) a_tick)
@@ -104,14 +90,11 @@ ticked_outs s n before outs outs' after h e =
     ∙ ap (λ os. before ++ os) (sym (outs_of-ticks n s))
     ∙ ap (λ m. before ++ outs_of (history s (replicate m a_tick))) (sym (add-one n))
 
-step-accepted : (s : FacilityState) → tick_refusal s ≡ None → step s Tick 0 ≡ step_of_tick s None
-step-accepted s h = ap (step_of_tick s) h
-
 pub HasTicked-more : (s : FacilityState) (n : ℕ) (before outs outs' : List Out) (after after' : FacilityState)
     → HasTicked s n before outs after → tick_refusal after ≡ None
     → after' ≡ (step after Tick 0).state → outs' ≡ outs ++ (step after Tick 0).outs → HasTicked s (n + 1) before outs' after'
 HasTicked-more s n before outs outs' after after' h a e o =
-    let there : after' ≡ after_tick after = e ∙ ap (λ (st : StepResult). st.state) (step-accepted after a) in
+    let there : after' ≡ (accepted after Tick 0).state = e ∙ ap (λ (st : StepResult). st.state) (ap (step_of_tick after) a) in
     let l = ticks_left-accepted after h.in_range a in
     let one : ticks_left after ≡ 1 + ticks_left after' = l.0 ∙ ap (λ c. 1 + ticks_left c) (sym there) in
     let all : n + ticks_left after ≡ ticks_left s = h.left in
@@ -162,7 +145,7 @@ AddsRun-cut s count n before outs outs' after after' fault h lt r e o =
 pub outs-accepted : (s : FacilityState) → tick_refusal s ≡ None
     → map (λ notice. Outs.Notice notice) (notices_in (step s Tick 0).outs) ≡ (step s Tick 0).outs
 outs-accepted s h = subst (λ (st : StepResult). map (λ notice. Outs.Notice notice) (notices_in st.outs)
-    ≡ st.outs) (sym (step-accepted s h)) (outs-notices (λ t. Expired t) (expired_next s))
+    ≡ st.outs) (sym (ap (step_of_tick s) h)) (outs-notices (λ t. Expired t) (expired_next s))
 
 count_step : (p : Timer → Bool) (e : Entry) (es : List Entry) → length (filter p (timers_of es)) + length (filter (λ e. not (p e.timer)) es)
     ≡ length es
@@ -181,7 +164,7 @@ length-parts p (e ∷ es) = count_step p e es (length-parts p es) (either (p e.t
 pub length-accepted : (s : FacilityState) → tick_refusal s ≡ None
     → length (notices_in (step s Tick 0).outs) + length (step s Tick 0).state.pending ≡ length s.pending
 length-accepted s h =
-    subst (λ (st : StepResult). length (notices_in st.outs) + length st.state.pending ≡ length s.pending) (sym (step-accepted s h))
+    subst (λ (st : StepResult). length (notices_in st.outs) + length st.state.pending ≡ length s.pending) (sym (ap (step_of_tick s) h))
     (ap (λ n. n + length (entries_left (s.now + 1) s.pending)) (length-notices (λ t. Expired t) (expired_next s))
     ∙ length-parts (is_due_at (s.now + 1)) s.pending)
 

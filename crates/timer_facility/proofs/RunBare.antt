@@ -2,6 +2,7 @@
 use Rattle.std.proofs.Common.{◌≡◌, ℕ, ◌+◌, Bool, true, false, not, inl, inr, List, [], ◌∷◌, ◌++◌, length, refl, sym, ◌∙◌, ap, subst}
 use Rattle.std.specs.Prelude.{map, filter, min, replicate, zero, suc, nat_lt, if◌then◌else◌, Option, Some, None}
 use Rattle.std.specs.List.{AllByRecursion}
+use Rattle.timer_base.specs.OrderLaws.{either}
 use Rattle.timer_base.specs.declared.timer.Timer.{Timer}
 use Rattle.timer_base.specs.Pending.{Entry, timers_of, put, is_due_at, has_serial, first_timer, without_found}
 use Rattle.timer_facility.specs.declared.request.NotTaken.{NotTaken}
@@ -13,12 +14,11 @@ use Rattle.timer_facility.specs.declared.event.Event.{Event}
 use Rattle.timer_facility.specs.declared.event.Event.TheVariants as Events
 use Rattle.timer_facility.specs.declared.event.Out.{Out}
 use Rattle.timer_facility.specs.declared.event.Out.TheVariants as Outs
-use Rattle.timer_facility.specs.State.{FacilityState, Wanted, Start, Stop, StopSerial, Restart, RestartSerial, SingleEvent, Asked, Tick, Close, StartAt, RestartAt, ticks_until}
-use Rattle.timer_facility.specs.Verdict.{not_taken, named, of_client, start_refusal, interval_refusal, tick_refusal}
-use Rattle.timer_facility.specs.Step.{StepResult, step, step_of_request, step_of_tick, step_of_close, with_number, new_timer, after_start, after_stop, after_restart, answer_to_start, answer_to_stop, answer_to_restart}
+use Rattle.timer_facility.specs.State.{FacilityState, After, At, ticks_until, ByHandle, BySerial, ModelRequest, Start, Stop, Restart, SingleEvent, Asked, Tick, Close}
+use Rattle.timer_facility.specs.Verdict.{not_taken, of_client, timer_named, first_refusal, interval_refusal, room_refusal, start_refusal, name_refusal, refusal, tick_refusal, verdict_on_request}
+use Rattle.timer_facility.specs.Step.{StepResult, with_number, answered, timer_stopped, timer_started, answer_to, without_timer, with_timer, after_request, step_by, step, step_of_tick, step_of_close}
 use Rattle.timer_facility.specs.Run.{PlacedEvent, state_after, run, bare_answer, bare, bare_outs, bare_entry, bare_state, NamesBySerial, AreSameButForPlaces}
 use Rattle.timer_facility.specs.Played.{ticks_left, singles_of, ArePlaced, IsRun}
-use Rattle.timer_facility.proofs.TimerLists.{either}
 
 -- Lists of entries.
 
@@ -61,20 +61,51 @@ not_taken-bare : (s : FacilityState) (client number : ℕ) → not_taken (bare_s
 unfolding not_taken
 not_taken-bare s client number = refl
 
-start_refusal-bare : (s : FacilityState) (interval : ℕ) → start_refusal (bare_state s) interval ≡ start_refusal s interval
-unfolding start_refusal
-start_refusal-bare s interval = rw (length-bare s.pending) refl
-
 interval_refusal-bare : (s : FacilityState) (interval : ℕ) → interval_refusal (bare_state s) interval ≡ interval_refusal s interval
 unfolding interval_refusal
 interval_refusal-bare s interval = refl
+
+room_refusal-bare : (s : FacilityState) → room_refusal (bare_state s) ≡ room_refusal s
+unfolding room_refusal
+room_refusal-bare s = rw (length-bare s.pending) refl
+
+start_refusal-bare : (s : FacilityState) (interval : ℕ) → start_refusal (bare_state s) interval ≡ start_refusal s interval
+start_refusal-bare s interval = ap (λ o. first_refusal o (room_refusal (bare_state s))) (interval_refusal-bare s interval)
+    ∙ ap (first_refusal (interval_refusal s interval)) (room_refusal-bare s)
 
 tick_refusal-bare : (s : FacilityState) → tick_refusal (bare_state s) ≡ tick_refusal s
 unfolding tick_refusal
 tick_refusal-bare s = refl
 
-named-bare : (s : FacilityState) (client serial : ℕ) → named (bare_state s) client (StopSerial serial) ≡ named s client (StopSerial serial)
+named-bare : (s : FacilityState) (client serial : ℕ)
+    → timer_named (bare_state s) client (BySerial serial) ≡ timer_named s client (BySerial serial)
 named-bare s client serial = ap (of_client client) (first_timer-bare (has_serial serial) s.pending)
+
+refusal-bare : (s : FacilityState) (client number : ℕ) (request : ModelRequest) → NamesBySerial (Asked client number request)
+    → refusal (bare_state s) client request ≡ refusal s client request
+refusal-bare s client number (Start deadline action) n = start_refusal-bare s (ticks_until s deadline)
+refusal-bare s client number (Stop (ByHandle handle)) n = absurd n
+refusal-bare s client number (Stop (BySerial serial)) n = ap name_refusal (named-bare s client serial)
+refusal-bare s client number (Restart (ByHandle handle) deadline action) n = absurd n
+refusal-bare s client number (Restart (BySerial serial) deadline action) n =
+    ap (λ o. first_refusal (name_refusal o) (interval_refusal (bare_state s) (ticks_until s deadline))) (named-bare s client serial)
+    ∙ ap (first_refusal (name_refusal (timer_named s client (BySerial serial)))) (interval_refusal-bare s (ticks_until s deadline))
+
+stopped-bare : (s : FacilityState) (client number : ℕ) (request : ModelRequest) → NamesBySerial (Asked client number request)
+    → timer_stopped (bare_state s) client request ≡ timer_stopped s client request
+stopped-bare s client number (Start deadline action) n = refl
+stopped-bare s client number (Stop (ByHandle handle)) n = absurd n
+stopped-bare s client number (Stop (BySerial serial)) n = named-bare s client serial
+stopped-bare s client number (Restart (ByHandle handle) deadline action) n = absurd n
+stopped-bare s client number (Restart (BySerial serial) deadline action) n = named-bare s client serial
+
+started-bare : (s : FacilityState) (client number : ℕ) (request : ModelRequest)
+    → timer_started (bare_state s) client number request ≡ timer_started s client number request
+started-bare s client number (Start (After interval) action) = refl
+started-bare s client number (Start (At tick) action) = refl
+started-bare s client number (Stop name) = refl
+started-bare s client number (Restart name (After interval) action) = refl
+started-bare s client number (Restart name (At tick) action) = refl
 
 -- Nor does a step, except for the place in its answer.
 
@@ -82,79 +113,57 @@ named-bare s client serial = ap (of_client client) (first_timer-bare (has_serial
 abbrev IsBareStep : StepResult → StepResult → Type 0
 IsBareStep st bare_st = (bare_outs st.outs ≡ bare_st.outs) × (bare_state st.state ≡ bare_st.state)
 
-answer_to_start-bare : (v : Option Reason) (place : ℕ) (t : Timer) → bare_answer (answer_to_start v place t) ≡ answer_to_start v 0 t
-answer_to_start-bare None place t = refl
-answer_to_start-bare (Some reason) place t = refl
+answer_to-bare : (old new : Option Timer) (place : ℕ) → bare_answer (answer_to old new place) ≡ answer_to old new 0
+answer_to-bare None None place = refl
+answer_to-bare (Some old) None place = refl
+answer_to-bare None (Some new) place = refl
+answer_to-bare (Some old) (Some new) place = refl
 
-after_start-bare : (v : Option Reason) (place : ℕ) (t : Timer) (s : FacilityState)
-    → bare_state (after_start v place t s) ≡ after_start v 0 t (bare_state s)
-after_start-bare None place t s = ap (λ es. record s {
+without_timer-bare : (old : Option Timer) (s : FacilityState) → bare_state (without_timer old s) ≡ without_timer old (bare_state s)
+without_timer-bare old s = ap (λ es. record s { slots = 0; pending = es; has_room = false }) (without_found-bare old s.pending)
+
+with_timer-bare : (new : Option Timer) (place : ℕ) (s : FacilityState)
+    → bare_state (with_timer new place s) ≡ with_timer new 0 (bare_state s)
+with_timer-bare None place s = refl
+with_timer-bare (Some t) place s = ap (λ es. record s {
   pending = es;
   next_serial = s.next_serial + 1;
   slots = 0;
   has_room = false;
 }) (put-bare (record { place = place; timer = t }) s.pending)
-after_start-bare (Some reason) place t s = refl
 
-answer_to_stop-bare : (found : Option Timer) → bare_answer (answer_to_stop found) ≡ answer_to_stop found
-answer_to_stop-bare None = refl
-answer_to_stop-bare (Some t) = refl
+request-bare : (s : FacilityState) (client number : ℕ) (request : ModelRequest) (place : ℕ) (old new : Option Timer)
+    (v : Option NotTaken) (w : Option Reason)
+    → IsBareStep (step_by s (Asked client number request)
+    (answered client number (answer_to old new place) (after_request old new place s)) (verdict_on_request v w))
+    (step_by (bare_state s) (Asked client number request)
+    (answered client number (answer_to old new 0) (after_request old new 0 (bare_state s))) (verdict_on_request v w))
+request-bare s client number request place old new (Some reason) w = (refl, refl)
+request-bare s client number request place old new None (Some reason) = (refl, refl)
+request-bare s client number request place old new None None = (
+  ap (λ a. Outs.Answered client number a ∷ []) (answer_to-bare old new place),
+  ap (with_number client number) (with_timer-bare new place (without_timer old s) ∙ ap (with_timer new 0) (without_timer-bare old s)),
+)
 
-after_stop-bare : (found : Option Timer) (s : FacilityState) → bare_state (after_stop found s) ≡ after_stop found (bare_state s)
-after_stop-bare found s = ap (λ es. record s { slots = 0; pending = es; has_room = false }) (without_found-bare found s.pending)
+-- the step from the parts of its verdict and of what it stops and starts
+abbrev bare_step : FacilityState → ℕ → ℕ → ModelRequest → Option NotTaken → Option Reason → Option Timer → Option Timer → StepResult
+bare_step s client number request v w old new = step_by s (Asked client number request)
+    (answered client number (answer_to old new 0) (after_request old new 0 s)) (verdict_on_request v w)
 
-answer_to_restart-bare : (found : Option Timer) (v : Option Reason) (place : ℕ) (t : Timer)
-    → bare_answer (answer_to_restart found v place t) ≡ answer_to_restart found v 0 t
-answer_to_restart-bare None v place t = refl
-answer_to_restart-bare (Some old) (Some reason) place t = refl
-answer_to_restart-bare (Some old) None place t = refl
-
-after_restart-bare : (found : Option Timer) (v : Option Reason) (place : ℕ) (t : Timer) (s : FacilityState)
-    → bare_state (after_restart found v place t s) ≡ after_restart found v 0 t (bare_state s)
-after_restart-bare None v place t s = refl
-after_restart-bare (Some old) (Some reason) place t s = refl
-after_restart-bare (Some old) None place t s = after_start-bare None place t (after_stop (Some old) s)
-    ∙ ap (after_start None 0 t) (after_stop-bare (Some old) s)
-
-request-bare : (s : FacilityState) (client number : ℕ) (wanted : Wanted) (place : ℕ) (v : Option NotTaken)
-    → NamesBySerial (Asked client number wanted)
-    → IsBareStep (step_of_request s client number wanted place v) (step_of_request (bare_state s) client number wanted 0 v)
-request-bare s client number wanted place (Some reason) n = (refl, refl)
-request-bare s client number (Start interval action) place None n =
-    let t : Timer = new_timer s client number interval action in (
-      ap (λ a. Outs.Answered client number a ∷ []) (answer_to_start-bare (start_refusal s interval) place t
-          ∙ ap (λ v. answer_to_start v 0 t) (sym (start_refusal-bare s interval))),
-      ap (with_number client number) (after_start-bare (start_refusal s interval) place t s
-          ∙ ap (λ v. after_start v 0 t (bare_state s)) (sym (start_refusal-bare s interval))),
-    )
-request-bare s client number (StartAt deadline action) place None n =
-    let interval : ℕ = ticks_until s deadline in
-    let t : Timer = new_timer s client number interval action in (
-      ap (λ a. Outs.Answered client number a ∷ []) (answer_to_start-bare (start_refusal s interval) place t
-          ∙ ap (λ v. answer_to_start v 0 t) (sym (start_refusal-bare s interval))),
-      ap (with_number client number) (after_start-bare (start_refusal s interval) place t s
-          ∙ ap (λ v. after_start v 0 t (bare_state s)) (sym (start_refusal-bare s interval))),
-    )
-request-bare s client number (Stop handle) place None n = absurd n
-request-bare s client number (StopSerial serial) place None n =
-    let found : Option Timer = named s client (StopSerial serial) in (
-      ap (λ a. Outs.Answered client number a ∷ []) (answer_to_stop-bare found ∙ ap answer_to_stop (sym (named-bare s client serial))),
-      ap (with_number client number) (after_stop-bare found s ∙ ap (λ o. after_stop o (bare_state s)) (sym (named-bare s client serial))),
-    )
-request-bare s client number (Restart handle interval action) place None n = absurd n
-request-bare s client number (RestartAt handle deadline action) place None n = absurd n
-request-bare s client number (RestartSerial serial interval action) place None n =
-    let t : Timer = new_timer s client number interval action in
-    let found : Option Timer = named s client (RestartSerial serial interval action) in
-    let v : Option Reason = interval_refusal s interval in (
-      ap (λ a. Outs.Answered client number a ∷ []) (answer_to_restart-bare found v place t
-          ∙ ap (λ o. answer_to_restart o v 0 t) (sym (named-bare s client serial))
-          ∙ ap (λ w. answer_to_restart (named (bare_state s) client (StopSerial serial)) w 0 t) (sym (interval_refusal-bare s interval))),
-      ap (with_number client number) (after_restart-bare found v place t s
-          ∙ ap (λ o. after_restart o v 0 t (bare_state s)) (sym (named-bare s client serial))
-          ∙ ap (λ w. after_restart (named (bare_state s) client (StopSerial serial)) w 0 t (bare_state s))
-          (sym (interval_refusal-bare s interval))),
-    )
+asked-bare : (s : FacilityState) (client number : ℕ) (request : ModelRequest) → NamesBySerial (Asked client number request)
+    → bare_step (bare_state s) client number request (not_taken s client number) (refusal s client request)
+    (timer_stopped s client request) (timer_started s client number request)
+    ≡ step (bare_state s) (Asked client number request) 0
+asked-bare s client number request n =
+    let b : FacilityState = bare_state s in
+    ap (λ v. bare_step b client number request v (refusal s client request) (timer_stopped s client request)
+    (timer_started s client number request)) (sym (not_taken-bare s client number))
+    ∙ ap (λ w. bare_step b client number request (not_taken b client number) w (timer_stopped s client request)
+    (timer_started s client number request)) (sym (refusal-bare s client number request n))
+    ∙ ap (λ old. bare_step b client number request (not_taken b client number) (refusal b client request) old
+    (timer_started s client number request)) (sym (stopped-bare s client number request n))
+    ∙ ap (bare_step b client number request (not_taken b client number) (refusal b client request) (timer_stopped b client request))
+    (sym (started-bare s client number request))
 
 notices-bare : (f : Timer → Notice) (ts : List Timer) → bare_outs (map (λ t. Outs.Notice (f t)) ts) ≡ map (λ t. Outs.Notice (f t)) ts
 notices-bare f [] = refl
@@ -180,10 +189,10 @@ close-bare s false = (
 
 step-bare : (s : FacilityState) (event : SingleEvent) (place : ℕ) → NamesBySerial event
     → IsBareStep (step s event place) (step (bare_state s) event 0)
-step-bare s (Asked client number wanted) place n =
-    subst (λ v. IsBareStep (step s (Asked client number wanted) place) (step_of_request (bare_state s) client number wanted 0 v))
-    (sym (not_taken-bare s client number))
-    (request-bare s client number wanted place (not_taken s client number) n)
+step-bare s (Asked client number request) place n =
+    subst (IsBareStep (step s (Asked client number request) place)) (asked-bare s client number request n)
+    (request-bare s client number request place (timer_stopped s client request) (timer_started s client number request)
+    (not_taken s client number) (refusal s client request))
 step-bare s Tick place n =
     subst (λ v. IsBareStep (step s Tick place) (step_of_tick (bare_state s) v)) (sym (tick_refusal-bare s)) (tick-bare s (tick_refusal s))
 step-bare s Close place n = close-bare s s.is_closed

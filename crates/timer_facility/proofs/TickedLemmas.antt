@@ -10,10 +10,10 @@ use Rattle.timer_facility.specs.State.{FacilityState, Tick}
 use Rattle.timer_facility.specs.Verdict.{tick_refusal}
 use Rattle.timer_facility.specs.Step.{StepResult, step}
 use Rattle.timer_facility.specs.Run.{history, state_after, run, notices, notices_in, outs_of}
-use Rattle.timer_facility.specs.Facility.{FacilityView, Parts, view_of, AreParts, view_after}
+use Rattle.timer_facility.specs.Facility.{FacilityView, Fields, view_of, IsFacility, view_after}
 use Rattle.timer_facility.specs.Ticked.{ticks, AreTicked}
 use Rattle.timer_facility.proofs.OwedLemmas.{notices_in-append}
-use Rattle.timer_facility.proofs.FacilityParts.{nothing_returned, view_by_waiting, view-tick, parts-tick}
+use Rattle.timer_facility.proofs.FacilityFields.{nothing_returned, view_by_waiting, view-tick, facility-tick}
 use Rattle.timer_facility.proofs.PlayedTicks.{state_after-ticks, outs_of-ticks}
 use Rattle.timer_facility.proofs.VerdictLemmas.{tick_refusal-none}
 
@@ -32,27 +32,27 @@ view-more s n h =
     both_are last.state (state_after s (ticks (suc n))) (notices_in last.outs) (notices (history s (ticks (suc n))))
     (sym (state_after-ticks n s)) (sym outs)
 
--- the parts after `n` ticks of the wheel
-abbrev after : ℕ → Parts → Parts
+-- the fields after `n` ticks of the wheel
+abbrev after : ℕ → Fields → Fields
 after n p = record p { wheel = Wheels.after_ticks n p.wheel }
 
 -- `n` ticks of the wheel are `n` single ticks
-record IsStretch (p : Parts) (n : ℕ) : Type 0 where
-  parts : AreParts (after n p)
+record IsStretch (p : Fields) (n : ℕ) : Type 0 where
+  parts : IsFacility (after n p)
   same_view : view_of (after n p) ≡ view_after (run (view_of p).state (ticks n))
 
 -- a moment at which nothing waits and the next tick is accepted
-record IsBetween (p : Parts) (n : ℕ) : Type 0 where
+record IsBetween (p : Fields) (n : ℕ) : Type 0 where
   waiting : (view_of (after n p)).waiting ≡ []
   quiet : notices (history (view_of p).state (ticks n)) ≡ []
-  before_last : (after n p).wheel.now ≢ (after n p).wheel.last_tick
+  unrefused : tick_refusal (view_of (after n p)).state ≡ None
   accepted : tick_refusal (state_after (view_of p).state (ticks n)) ≡ None
 
-between : (p : Parts) (n : ℕ) → IsStretch p n → map (λ t. Returned t) (drop p.handed p.returned) ≡ [] → p.is_closed ≡ false
+between : (p : Fields) (n : ℕ) → IsStretch p n → map (λ t. Returned t) (drop p.handed p.returned) ≡ [] → p.is_closed ≡ false
     → p.wheel.now + n < p.wheel.last_tick
     → (Wheels.after_ticks n p.wheel).due ≡ [] → IsBetween p n
 between p n i r c l d =
-    let q : Parts = after n p in
+    let q : Fields = after n p in
     let none : (view_of q).waiting ≡ [] = ap (λ ds. map (λ t. Expired t) (timers_of ds)
     ++ map (λ t. Returned t) (drop p.handed p.returned)) d ∙ r in
     let now : q.wheel.now ≡ p.wheel.now + n = after_ticks-now n p.wheel in
@@ -61,21 +61,21 @@ between p n i r c l d =
     record {
       waiting = none;
       quiet = sym (ap (λ (v : FacilityView). v.waiting) i.same_view) ∙ none;
-      before_last = differ;
+      unrefused = tick_refusal-none (view_of q).state c differ;
       accepted = sym (ap (λ (v : FacilityView). tick_refusal v.state) i.same_view) ∙ tick_refusal-none (view_of q).state c differ;
     }
 
-stretch : (p : Parts) (n : ℕ) → AreParts p → (view_of p).waiting ≡ [] → map (λ t. Returned t) (drop p.handed p.returned) ≡ []
+stretch : (p : Fields) (n : ℕ) → IsFacility p → (view_of p).waiting ≡ [] → map (λ t. Returned t) (drop p.handed p.returned) ≡ []
     → p.is_closed ≡ false
     → p.wheel.now + n ≤ p.wheel.last_tick → ((k : ℕ) → k < n → (Wheels.after_ticks k p.wheel).due ≡ []) → IsStretch p n
 stretch p zero a w r c l d = record { parts = a; same_view = view_by_waiting (view_of p).state (view_of p).waiting [] w }
 stretch p (suc n) a w r c l d =
-    let q : Parts = after n p in
+    let q : Fields = after n p in
     let i : IsStretch p n = stretch p n a w r c (omega arith) (λ k h. d k (omega arith)) in
     let b : IsBetween p n = between p n i r c (omega arith) (d n (omega arith)) in
     record {
-      parts = parts-tick i.parts (d n (omega arith)) (Wheels.after_tick q.wheel) refl;
-      same_view = view-tick {p = q} {v = view_of q} i.parts refl b.waiting c b.before_last (Wheels.after_tick q.wheel) refl
+      parts = facility-tick i.parts (d n (omega arith)) (Wheels.after_tick q.wheel) refl;
+      same_view = view-tick {p = q} {v = view_of q} i.parts refl b.waiting b.unrefused (Wheels.after_tick q.wheel) refl
           ∙ ap (λ (v : FacilityView). view_after (step v.state Tick 0)) i.same_view
           ∙ view-more (view_of p).state n b.quiet;
     }
@@ -85,11 +85,11 @@ some_wait [] ys h = absurd (omega arith)
 some_wait (x ∷ xs) ys h = omega arith
 
 -- the facility after its wheel has passed ticks
-record IsPassed (limit passed : ℕ) (p p' : Parts) : Type 0 where
-  parts : AreParts p'
+record IsPassed (limit passed : ℕ) (p p' : Fields) : Type 0 where
+  parts : IsFacility p'
   ticked : AreTicked limit passed (view_of p).state (view_of p')
 
-advanced : (p : Parts) (limit most passed : ℕ) (w' : Wheels.WheelState) → AreParts p → (view_of p).waiting ≡ [] → p.is_closed ≡ false
+advanced : (p : Fields) (limit most passed : ℕ) (w' : Wheels.WheelState) → IsFacility p → (view_of p).waiting ≡ [] → p.is_closed ≡ false
     → most ≡ min limit (p.wheel.last_tick - p.wheel.now) → Wheels.Advances most passed p.wheel w'
     → IsPassed limit passed p (record p { wheel = w' })
 advanced p limit most passed w' a w c m v =
@@ -114,14 +114,14 @@ advanced p limit most passed w' a w c m v =
     } in
     subst (λ (u : Wheels.WheelState). IsPassed limit passed p (record p { wheel = u })) (sym v.ticked) here
 
-pub parts-advanced : {p : Parts} {v : FacilityView} → AreParts p → view_of p ≡ v → v.waiting ≡ [] → p.is_closed ≡ false
+pub facility-advanced : {p : Fields} {v : FacilityView} → IsFacility p → view_of p ≡ v → v.waiting ≡ [] → p.is_closed ≡ false
     → (limit most passed : ℕ)
     → most ≡ min limit (p.wheel.last_tick - p.wheel.now) → (w' : Wheels.WheelState) → Wheels.Advances most passed p.wheel w'
-    → AreParts (record p { wheel = w' })
-parts-advanced {p} {v} a e h c limit most passed m w' t = (advanced p limit most passed w' a (ap (λ (u : FacilityView). u.waiting) e
+    → IsFacility (record p { wheel = w' })
+facility-advanced {p} {v} a e h c limit most passed m w' t = (advanced p limit most passed w' a (ap (λ (u : FacilityView). u.waiting) e
     ∙ h) c m t).parts
 
-pub view-advanced : {p : Parts} {v : FacilityView} → AreParts p → view_of p ≡ v → v.waiting ≡ [] → p.is_closed ≡ false
+pub view-advanced : {p : Fields} {v : FacilityView} → IsFacility p → view_of p ≡ v → v.waiting ≡ [] → p.is_closed ≡ false
     → (limit most passed : ℕ)
     → most ≡ min limit (p.wheel.last_tick - p.wheel.now) → (w' : Wheels.WheelState) → Wheels.Advances most passed p.wheel w'
     → AreTicked limit passed v.state (view_of (record p { wheel = w' }))

@@ -1,12 +1,13 @@
 -- Lists of timers, for what is owed.
-use Rattle.std.proofs.Common.{◌≡◌, ◌≢◌, ◌<◌, ◌+◌, ℕ, suc, Bool, true, false, ◌==◌, ◌&&◌, ◌||◌, ◌⊎◌, List, [], ◌∷◌, ◌++◌, length, refl, sym, ◌∙◌, ap, subst, inl, inr, arith, append-nil}
+use Rattle.std.proofs.Common.{◌≡◌, ◌≢◌, ◌<◌, ◌≤◌, ◌+◌, ℕ, suc, Bool, true, false, ◌==◌, ◌&&◌, ◌||◌, ◌⊎◌, List, [], ◌∷◌, ◌++◌, length, refl, sym, ◌∙◌, ap, subst, inl, inr, arith, append-nil}
 use Rattle.std.specs.Prelude.{map, filter, nat_lt, if◌then◌else◌, Option, Some, None}
 use Rattle.std.specs.List.{AllByRecursion}
 use Rattle.std.proofs.lemmas.Bool.Decides.{nat_tests}
 use Rattle.std.proofs.lemmas.List.{map-id}
 use Rattle.timer_base.specs.declared.timer.Timer.{Timer}
 use Rattle.timer_base.specs.Order.{is_before, insert_in_order, insert_by_deadline, IsOrdered, IsNotAmong, AreDistinct, AreBelow}
-use Rattle.timer_base.specs.OrderLaws.{in_order-newest, filter-in_order}
+use Rattle.timer_base.specs.OneOrder.{IsMember}
+use Rattle.timer_base.specs.OrderLaws.{either, in_order-newest, filter-in_order}
 use Rattle.timer_base.specs.Pending.{Entry, timers_of, put, first_timer}
 use Rattle.timer_facility.specs.Verdict.{of_client}
 use Rattle.timer_facility.specs.Owed.{timers_in_order, is_among}
@@ -28,9 +29,6 @@ timers_in_order-append t ts b =
 
 pub filter-timers_in_order : (p : Timer → Bool) (ts : List Timer) → filter p (timers_in_order ts) ≡ timers_in_order (filter p ts)
 filter-timers_in_order p ts = filter-in_order (λ x. x) p ts
-
-pub either : (b : Bool) → (b ≡ true) ⊎ (b ≡ false)
-either b = elim b as (λ v. (v ≡ true) ⊎ (v ≡ false)) [ true ↦ inl refl | false ↦ inr refl ]
 
 pub or_false : (b : Bool) → (b || false) ≡ b
 or_false true = refl
@@ -76,47 +74,47 @@ timers_of-filter p (x ∷ xs) = elim (either (p x.timer)) [
   | inr h ↦ rw h (timers_of-filter p xs)
 ]
 
--- one of the list
-abbrev pub Among : Timer → List Timer → Type 0
-Among t [] = ⊥
-Among t (x ∷ xs) = (t ≡ x) ⊎ Among t xs
-
-among_step : (t x y : Timer) (ys : List Timer) → (Among t (insert_timer x ys) → (t ≡ x) ⊎ Among t ys) → (is_before x y ≡ true)
-    ⊎ (is_before x y ≡ false) → Among t (insert_timer x (y ∷ ys)) → (t ≡ x) ⊎ Among t (y ∷ ys)
+among_step : (t x y : Timer) (ys : List Timer) → (IsMember t (insert_timer x ys) → (x ≡ t) ⊎ IsMember t ys) → (is_before x y ≡ true)
+    ⊎ (is_before x y ≡ false) → IsMember t (insert_timer x (y ∷ ys)) → (x ≡ t) ⊎ IsMember t (y ∷ ys)
 among_step t x y ys ih (inl h) a = elim (rw h at a) [ inl k ↦ inl k | inr k ↦ inr k ]
 among_step t x y ys ih (inr h) a = elim (rw h at a) [ inl k ↦ inr (inl k) | inr k ↦ elim (ih k) [ inl m ↦ inl m | inr m ↦ inr (inr m) ] ]
 
-Among-insert_in_order : (t x : Timer) (ys : List Timer) → Among t (insert_timer x ys) → (t ≡ x) ⊎ Among t ys
-Among-insert_in_order t x [] a = elim a [ inl h ↦ inl h | inr h ↦ absurd h ]
-Among-insert_in_order t x (y ∷ ys) a = among_step t x y ys (Among-insert_in_order t x ys) (either (is_before x y)) a
+IsMember-insert_in_order : (t x : Timer) (ys : List Timer) → IsMember t (insert_timer x ys) → (x ≡ t) ⊎ IsMember t ys
+IsMember-insert_in_order t x [] a = elim a [ inl h ↦ inl h | inr h ↦ absurd h ]
+IsMember-insert_in_order t x (y ∷ ys) a = among_step t x y ys (IsMember-insert_in_order t x ys) (either (is_before x y)) a
 
-pub Among-in_order : (t : Timer) (xs : List Timer) → Among t (timers_in_order xs) → Among t xs
-Among-in_order t [] a = a
-Among-in_order t (x ∷ xs) a = elim (Among-insert_in_order t x (timers_in_order xs) a) [
+pub IsMember-in_order : (t : Timer) (xs : List Timer) → IsMember t (timers_in_order xs) → IsMember t xs
+IsMember-in_order t [] a = a
+IsMember-in_order t (x ∷ xs) a = elim (IsMember-insert_in_order t x (timers_in_order xs) a) [
   | inl h ↦ inl h
-  | inr h ↦ inr (Among-in_order t xs h)
+  | inr h ↦ inr (IsMember-in_order t xs h)
 ]
 
-among_filter_step : (p : Timer → Bool) (t x : Timer) (xs : List Timer) → (Among t (filter p xs) → Among t xs × (p t ≡ true)) → (p x ≡ true)
-    ⊎ (p x ≡ false) → Among t (filter p (x ∷ xs)) → Among t (x ∷ xs) × (p t ≡ true)
+among_filter_step : (p : Timer → Bool) (t x : Timer) (xs : List Timer) → (IsMember t (filter p xs) → IsMember t xs × (p t ≡ true)) → (p x ≡ true)
+    ⊎ (p x ≡ false) → IsMember t (filter p (x ∷ xs)) → IsMember t (x ∷ xs) × (p t ≡ true)
 among_filter_step p t x xs ih (inl h) a = elim (rw h at a) [
-  | inl k ↦ (inl k, ap p k ∙ h)
+  | inl k ↦ (inl k, sym (ap p k) ∙ h)
   | inr k ↦ let m = ih k in (inr m.0, m.1)
 ]
 among_filter_step p t x xs ih (inr h) a = let m = ih (rw h at a) in (inr m.0, m.1)
 
 -- what a filter keeps is one of the list, and satisfies its test
-pub Among-filter : (p : Timer → Bool) (t : Timer) (xs : List Timer) → Among t (filter p xs) → Among t xs × (p t ≡ true)
-Among-filter p t [] a = absurd a
-Among-filter p t (x ∷ xs) a = among_filter_step p t x xs (Among-filter p t xs) (either (p x)) a
+pub IsMember-filter : (p : Timer → Bool) (t : Timer) (xs : List Timer) → IsMember t (filter p xs) → IsMember t xs × (p t ≡ true)
+IsMember-filter p t [] a = absurd a
+IsMember-filter p t (x ∷ xs) a = among_filter_step p t x xs (IsMember-filter p t xs) (either (p x)) a
 
-pub AreBelow-among : (high : ℕ) (t : Timer) (xs : List Timer) → AreBelow high xs → Among t xs → t.serial < high
+pub AreBelow-among : (high : ℕ) (t : Timer) (xs : List Timer) → AreBelow high xs → IsMember t xs → t.serial < high
 AreBelow-among high t [] b a = absurd a
-AreBelow-among high t (x ∷ xs) b a = elim a [ inl h ↦ rw h b.0 | inr h ↦ AreBelow-among high t xs b.1 h ]
+AreBelow-among high t (x ∷ xs) b a = elim a [ inl h ↦ subst (λ (u : Timer). u.serial < high) h b.0 | inr h ↦ AreBelow-among high t xs b.1 h ]
 
-pub not_among : (s : ℕ) (t : Timer) (xs : List Timer) → IsNotAmong s xs → Among t xs → t.serial ≢ s
+pub not_among : (s : ℕ) (t : Timer) (xs : List Timer) → IsNotAmong s xs → IsMember t xs → t.serial ≢ s
 not_among s t [] n a = absurd a
-not_among s t (x ∷ xs) n a = elim a [ inl h ↦ rw h n.0 | inr h ↦ not_among s t xs n.1 h ]
+not_among s t (x ∷ xs) n a = elim a [ inl h ↦ subst (λ (u : Timer). u.serial ≢ s) h n.0 | inr h ↦ not_among s t xs n.1 h ]
+
+-- what holds of all holds of one of them
+pub at_member : (P : Timer → Type 0) (t : Timer) (xs : List Timer) → AllByRecursion P xs → IsMember t xs → P t
+at_member P t [] a m = absurd m
+at_member P t (x ∷ xs) a m = elim m [ inl h ↦ subst P h a.0 | inr h ↦ at_member P t xs a.1 h ]
 
 -- if serials are distinct, whoever has the serial of t is t
 abbrev pub IsOnly : Timer → Timer → Type 0
@@ -126,10 +124,10 @@ all_other : (t : Timer) (xs : List Timer) → IsNotAmong t.serial xs → AllByRe
 all_other t [] n = tt
 all_other t (x ∷ xs) n = ((λ e. absurd (n.0 e)), all_other t xs n.1)
 
-pub AreDistinct-only : (t : Timer) (xs : List Timer) → AreDistinct xs → Among t xs → AllByRecursion (IsOnly t) xs
+pub AreDistinct-only : (t : Timer) (xs : List Timer) → AreDistinct xs → IsMember t xs → AllByRecursion (IsOnly t) xs
 AreDistinct-only t [] d a = absurd a
 AreDistinct-only t (x ∷ xs) d a = elim a [
-  | inl h ↦ ((λ e. sym h), all_other t xs (rw h d.0))
+  | inl h ↦ ((λ e. h), all_other t xs (subst (λ (u : Timer). IsNotAmong u.serial xs) h d.0))
   | inr h ↦ ((λ e. absurd (not_among x.serial t xs d.0 h (sym e))), AreDistinct-only t xs d.1 h)
 ]
 
@@ -196,16 +194,16 @@ timers_in_order-ordered (x ∷ []) o d = refl
 timers_in_order-ordered (x ∷ y ∷ ys) o d = ap (insert_timer x) (timers_in_order-ordered (y ∷ ys) o.1 d.1)
     ∙ rw (strictly_first x y o.0.0 d.0.0) refl
 
-some_same : (t u : Timer) → Some u ≡ Some t → t ≡ u
+some_same : (t u : Timer) → Some u ≡ Some t → u ≡ t
 some_same t u h = cc
 
-found_step : (test : Entry → Bool) (t : Timer) (e : Entry) (es : List Entry) → (first_timer test es ≡ Some t → Among t (timers_of es))
-    → (test e ≡ true) ⊎ (test e ≡ false) → first_timer test (e ∷ es) ≡ Some t → Among t (timers_of (e ∷ es))
+found_step : (test : Entry → Bool) (t : Timer) (e : Entry) (es : List Entry) → (first_timer test es ≡ Some t → IsMember t (timers_of es))
+    → (test e ≡ true) ⊎ (test e ≡ false) → first_timer test (e ∷ es) ≡ Some t → IsMember t (timers_of (e ∷ es))
 found_step test t e es ih (inl k) h = inl (some_same t e.timer (rw k at h))
 found_step test t e es ih (inr k) h = inr (ih (rw k at h))
 
 -- what is found is one of the timers
-pub first_timer-among : (test : Entry → Bool) (t : Timer) (es : List Entry) → first_timer test es ≡ Some t → Among t (timers_of es)
+pub first_timer-among : (test : Entry → Bool) (t : Timer) (es : List Entry) → first_timer test es ≡ Some t → IsMember t (timers_of es)
 first_timer-among test t [] h = absurd (cc)
 first_timer-among test t (e ∷ es) h = found_step test t e es (first_timer-among test t es) (either (test e)) h
 
@@ -224,6 +222,13 @@ is_equal m n h = grind (arith, nat_tests)
 
 pub is_same : (n : ℕ) → (n == n) ≡ true
 is_same n = grind (arith, nat_tests)
+
+pub length-filter : {X : Type 0} (p : X → Bool) (xs : List X) → length (filter p xs) ≤ length xs
+length-filter p [] = omega arith
+length-filter p (x ∷ xs) = elim (either (p x)) [
+  | inl h ↦ rw h (let n = length-filter p xs in omega arith)
+  | inr h ↦ rw h (let n = length-filter p xs in omega arith)
+]
 
 pub length-put : (e : Entry) (es : List Entry) → length (put e es) ≡ length es + 1
 length-put e [] = refl

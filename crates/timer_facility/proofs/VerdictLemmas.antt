@@ -1,5 +1,5 @@
 -- The verdict, from the tests.
-use Rattle.std.proofs.Common.{◌≡◌, ◌≢◌, ◌<◌, ◌≤◌, ◌-◌, ℕ, Bool, true, false, not, ◌==◌, length, refl, ◌∙◌, arith}
+use Rattle.std.proofs.Common.{◌≡◌, ◌≢◌, ◌<◌, ◌≤◌, ◌-◌, ℕ, Bool, true, false, not, ◌==◌, length, refl, arith}
 use Rattle.std.specs.Prelude.{nat_lt, if◌then◌else◌, Option, Some, None}
 use Rattle.std.proofs.lemmas.Bool.Decides.{nat_tests}
 use Rattle.timer_base.specs.declared.limits.TheConstants.{LAST}
@@ -8,7 +8,7 @@ use Rattle.timer_facility.specs.declared.request.Reason.{Reason}
 use Rattle.timer_facility.specs.declared.request.Reason.TheVariants as Reasons
 use Rattle.timer_facility.specs.declared.request.TickFault.TheVariants as TickFaults
 use Rattle.timer_facility.specs.State.{FacilityState, number_of}
-use Rattle.timer_facility.specs.Verdict.{not_taken, start_refusal, interval_refusal, tick_refusal}
+use Rattle.timer_facility.specs.Verdict.{not_taken, first_refusal, interval_refusal, room_refusal, start_refusal, tick_refusal}
 
 lt_true : (a b : ℕ) → a < b → nat_lt a b ≡ true
 lt_true a b h = grind (arith, nat_tests)
@@ -59,40 +59,6 @@ pub record IsKnown (s : FacilityState) (client next : ℕ) : Type 0 where
   pub is_client : client < length s.numbers
   pub next_is : number_of s client ≡ next
 
-pub not_taken-repeated : (s : FacilityState) (client number next : ℕ) → IsKnown s client next → number < next
-    → not_taken s client number ≡ Some (NotTakens.Repeated next)
-unfolding not_taken
-not_taken-repeated s client number next k h = rw (
-  k.is_open,
-  k.next_is,
-  lt_true client (length s.numbers) k.is_client,
-  lt_true number next h,
-) refl
-
-pub not_taken-spent : (s : FacilityState) (client number next : ℕ) → IsKnown s client next → next ≤ number → LAST < next
-    → not_taken s client number ≡ Some NotTakens.NumbersSpent
-unfolding not_taken
-not_taken-spent s client number next k h l = rw (
-  k.is_open,
-  k.next_is,
-  lt_true client (length s.numbers) k.is_client,
-  lt_false number next h,
-  lt_true LAST next l,
-) refl
-
-pub not_taken-ahead : (s : FacilityState) (client number next : ℕ) → IsKnown s client next → next ≤ LAST → next < number
-    → not_taken s client number ≡ Some (NotTakens.Ahead next)
-unfolding not_taken
-not_taken-ahead s client number next k l h =
-    rw (
-      k.is_open,
-      k.next_is,
-      lt_true client (length s.numbers) k.is_client,
-      lt_false number next (omega arith),
-      lt_false LAST next l,
-      lt_true next number h,
-    ) refl
-
 pub not_taken-none : (s : FacilityState) (client number next : ℕ) → IsKnown s client next → next ≤ number → next ≤ LAST → number ≤ next
     → not_taken s client number ≡ None
 unfolding not_taken
@@ -135,25 +101,6 @@ open_when s client number h = (takable s client number h).is_open
 
 -- Starts, and restarts.
 
-pub interval_refusal-zero : (s : FacilityState) (interval : ℕ) → interval ≡ 0 → interval_refusal s interval ≡ Some Reasons.ZeroInterval
-unfolding interval_refusal
-interval_refusal-zero s interval h = rw (same interval 0 h) refl
-
-pub interval_refusal-late : (s : FacilityState) (interval : ℕ) → interval ≢ 0 → s.last - s.now < interval
-    → interval_refusal s interval ≡ Some Reasons.TooLate
-unfolding interval_refusal
-interval_refusal-late s interval h k = rw (differ interval 0 h, lt_true (s.last - s.now) interval k) refl
-
-pub interval_refusal-spent : (s : FacilityState) (interval : ℕ) → interval ≢ 0 → interval ≤ s.last - s.now → LAST < s.next_serial
-    → interval_refusal s interval ≡ Some Reasons.SerialsSpent
-unfolding interval_refusal
-interval_refusal-spent s interval h k l = rw (differ interval 0 h, lt_false (s.last - s.now) interval k, lt_true LAST s.next_serial l) refl
-
-pub interval_refusal-none : (s : FacilityState) (interval : ℕ) → interval ≢ 0 → interval ≤ s.last - s.now → s.next_serial ≤ LAST
-    → interval_refusal s interval ≡ None
-unfolding interval_refusal
-interval_refusal-none s interval h k l = rw (differ interval 0 h, lt_false (s.last - s.now) interval k, lt_false LAST s.next_serial l) refl
-
 -- what is true of an interval with which a timer can be started
 pub record IsTimely (s : FacilityState) (interval : ℕ) : Type 0 where
   pub positive : 0 < interval
@@ -172,62 +119,26 @@ timely s interval h =
       unspent = at_most LAST s.next_serial c.0;
     }
 
--- three tests, and the case in which none of them holds
-three_tests : {X : Type 0} (x y z r : X) (rest : Option X) (a b c : Bool)
-    → (if a then Some x else if b then Some y else if c then Some z else None) ≡ Some r
-    → (if a then Some x else if b then Some y else if c then Some z else rest) ≡ Some r
-three_tests x y z r rest true b c h = h
-three_tests x y z r rest false true c h = h
-three_tests x y z r rest false false true h = h
-three_tests x y z r rest false false false h = absurd (cc)
-
-pub start_refusal-interval : (s : FacilityState) (interval : ℕ) (reason : Reason) → interval_refusal s interval ≡ Some reason
-    → start_refusal s interval ≡ Some reason
-unfolding start_refusal interval_refusal
-start_refusal-interval s interval reason h =
-    three_tests Reasons.ZeroInterval Reasons.TooLate Reasons.SerialsSpent reason _ (interval == 0) (nat_lt (s.last - s.now) interval)
-    (nat_lt LAST s.next_serial) h
-
-start_refusal-room : (s : FacilityState) (interval : ℕ) → interval_refusal s interval ≡ None
-    → start_refusal s interval ≡ (if length s.pending == s.capacity then Some Reasons.Full else None)
-unfolding start_refusal
-start_refusal-room s interval h =
-    let t : IsTimely s interval = timely s interval h in
-    let positive : 0 < interval = t.positive in
-    rw (
-      differ interval 0 (λ e. absurd (omega arith)),
-      lt_false (s.last - s.now) interval t.in_time,
-      lt_false LAST s.next_serial t.unspent,
-    ) refl
-
-pub start_refusal-full : (s : FacilityState) (interval : ℕ) → interval_refusal s interval ≡ None → length s.pending ≡ s.capacity
-    → start_refusal s interval ≡ Some Reasons.Full
-start_refusal-full s interval h m = start_refusal-room s interval h ∙ rw (same (length s.pending) s.capacity m) refl
-
-pub start_refusal-none : (s : FacilityState) (interval : ℕ) → interval_refusal s interval ≡ None → length s.pending ≢ s.capacity
-    → start_refusal s interval ≡ None
-start_refusal-none s interval h m = start_refusal-room s interval h ∙ rw (differ (length s.pending) s.capacity m) refl
-
 -- what is true of a start that is accepted
 pub record IsStartable (s : FacilityState) (interval : ℕ) : Type 0 where
   pub timely : IsTimely s interval
   pub room : length s.pending ≢ s.capacity
 
+neither : (a b : Option Reason) → first_refusal a b ≡ None → (a ≡ None) × (b ≡ None)
+neither None b h = (refl, h)
+neither (Some reason) b h = absurd (cc)
+
+pub unrefused_interval : (s : FacilityState) (interval : ℕ) → start_refusal s interval ≡ None → interval_refusal s interval ≡ None
+unrefused_interval s interval h = (neither (interval_refusal s interval) (room_refusal s) h).0
+
+some_room : (s : FacilityState) → room_refusal s ≡ None → length s.pending ≢ s.capacity
+unfolding room_refusal
+some_room s h = differs (length s.pending) s.capacity (none_then Reasons.Full _ (length s.pending == s.capacity) h).0
+
 pub startable : (s : FacilityState) (interval : ℕ) → start_refusal s interval ≡ None → IsStartable s interval
-unfolding start_refusal
 startable s interval h =
-    let a = none_then Reasons.ZeroInterval _ (interval == 0) h in
-    let b = none_then Reasons.TooLate _ (nat_lt (s.last - s.now) interval) a.1 in
-    let c = none_then Reasons.SerialsSpent _ (nat_lt LAST s.next_serial) b.1 in
-    let d = none_then Reasons.Full _ (length s.pending == s.capacity) c.1 in
-    record {
-      timely = record {
-        positive = above_zero interval a.0;
-        in_time = at_most (s.last - s.now) interval b.0;
-        unspent = at_most LAST s.next_serial c.0;
-      };
-      room = differs (length s.pending) s.capacity d.0;
-    }
+    let n = neither (interval_refusal s interval) (room_refusal s) h in
+    record { timely = timely s interval n.0; room = some_room s n.1 }
 
 -- Ticks.
 
@@ -235,14 +146,18 @@ pub tick_refusal-closed : (s : FacilityState) → s.is_closed ≡ true → tick_
 unfolding tick_refusal
 tick_refusal-closed s h = rw h refl
 
-pub tick_refusal-clock_end : (s : FacilityState) → s.is_closed ≡ false → s.now ≡ s.last → tick_refusal s ≡ Some TickFaults.ClockEnd
-unfolding tick_refusal
-tick_refusal-clock_end s h k = rw (h, same s.now s.last k) refl
-
 pub tick_refusal-none : (s : FacilityState) → s.is_closed ≡ false → s.now ≢ s.last → tick_refusal s ≡ None
 unfolding tick_refusal
 tick_refusal-none s h k = rw (h, differ s.now s.last k) refl
 
-pub open_at_tick : (s : FacilityState) → tick_refusal s ≡ None → s.is_closed ≡ false
+-- what is true of a tick that is accepted
+pub record IsTicking (s : FacilityState) : Type 0 where
+  pub is_open : s.is_closed ≡ false
+  pub before_last : (s.now == s.last) ≡ false
+
+pub ticking : (s : FacilityState) → tick_refusal s ≡ None → IsTicking s
 unfolding tick_refusal
-open_at_tick s h = (none_then TickFaults.Closed _ s.is_closed h).0
+ticking s h =
+    let a = none_then TickFaults.Closed _ s.is_closed h in
+    let b = none_then TickFaults.ClockEnd _ (s.now == s.last) a.1 in
+    record { is_open = a.0; before_last = b.0 }

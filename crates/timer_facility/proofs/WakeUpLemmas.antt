@@ -3,6 +3,7 @@ use Rattle.std.proofs.Common.{◌≡◌, ◌<◌, ◌≤◌, ◌+◌, ℕ, zero,
 use Rattle.std.specs.Prelude.{map, filter, Option, Some, None}
 use Rattle.std.specs.List.{AllByRecursion}
 use Rattle.std.proofs.lemmas.Bool.Decides.{nat_tests}
+use Rattle.timer_base.specs.OrderLaws.{either}
 use Rattle.timer_base.specs.Pending.{Entry, timers_of, is_due_at}
 use Rattle.timer_base.specs.WakeUps as Wheels
 use Rattle.timer_facility.specs.declared.request.Notice.TheVariants.{Expired}
@@ -12,10 +13,9 @@ use Rattle.timer_facility.specs.State.{FacilityState}
 use Rattle.timer_facility.specs.Verdict.{tick_refusal}
 use Rattle.timer_facility.specs.Step.{StepResult, step_of_tick}
 use Rattle.timer_facility.specs.Run.{history, notices, notices_in, outs_of}
-use Rattle.timer_facility.specs.Facility.{FacilityView, Parts, view_of, AreParts}
+use Rattle.timer_facility.specs.Facility.{FacilityView, Fields, view_of, IsFacility}
 use Rattle.timer_facility.specs.Ticked.{ticks}
 use Rattle.timer_facility.specs.WakeUps.{IsWakeUp, IsQuietUntil}
-use Rattle.timer_facility.proofs.TimerLists.{either}
 use Rattle.timer_facility.proofs.OwedLemmas.{notices_in-append}
 
 -- each of these timers has its deadline at the tick or after it
@@ -61,12 +61,12 @@ quiet_ticks tick (suc n) s a h =
     notices_in-append st.outs (outs_of (history st.state (ticks n))) ∙ ap (λ ns. ns ++ notices (history st.state (ticks n))) q.none ∙ rest
 
 -- the exact wake-up of a wheel, over the state of its facility
-pub exact_until : {p : Parts} {v : FacilityView} → AreParts p → view_of p ≡ v → (wake_up : ℕ → ℕ → List Entry → Option ℕ) (result : Option ℕ)
+pub exact_until : {p : Fields} {v : FacilityView} → IsFacility p → view_of p ≡ v → (wake_up : ℕ → ℕ → List Entry → Option ℕ) (result : Option ℕ)
     → result ≡ wake_up p.wheel.slots p.wheel.now p.wheel.pending → result ≡ wake_up v.state.slots v.state.now v.state.pending
 exact_until {p} {v} a e wake_up result h = h ∙ ap (λ (u : FacilityView). wake_up u.state.slots u.state.now u.state.pending) e
 
 -- a wheel's wake-up is its facility's
-pub quiet_until_is : {p : Parts} {v : FacilityView} → AreParts p → view_of p ≡ v → (result : Option ℕ) → Wheels.IsQuietUntil result p.wheel
+pub quiet_until_is : {p : Fields} {v : FacilityView} → IsFacility p → view_of p ≡ v → (result : Option ℕ) → Wheels.IsQuietUntil result p.wheel
     → IsQuietUntil result v.state
 quiet_until_is {p} {v} a e None h = subst (λ (u : FacilityView). IsQuietUntil None u.state) e h
 quiet_until_is {p} {v} a e (Some tick) h =

@@ -1,6 +1,5 @@
--- What a caller sees of a facility: its state, and the notices that wait to be handed out. And its fields,
--- the parts.
-use Rattle.std.specs.Prelude.{◌≡◌, ◌<◌, ◌≤◌, ◌⊎◌, ℕ, ◌+◌, Bool, true, false, List, [], ◌∷◌, ◌++◌, map, take, drop, length, slice_index, Some, None}
+-- What a caller sees of a facility: its state, and the notices that wait to be handed out. And its fields.
+use Rattle.std.specs.Prelude.{◌≡◌, ◌<◌, ◌≤◌, ◌⊎◌, ℕ, ◌+◌, Bool, true, false, List, [], ◌∷◌, ◌++◌, map, take, drop, length, slice_index, Option, Some, None}
 use Rattle.std.specs.List.{AllByRecursion}
 use Rattle.timer_base.specs.declared.limits.TheConstants.{LAST}
 use Rattle.timer_base.specs.declared.timer.Timer.{Timer}
@@ -9,16 +8,19 @@ use Rattle.timer_base.specs.WheelState.{WheelState}
 use Rattle.timer_facility.specs.declared.limits.TheConstants.{MAX_CLIENTS, MAX_PENDING}
 use Rattle.timer_facility.specs.declared.request.Request.{Request}
 use Rattle.timer_facility.specs.declared.request.Request.TheVariants as Requests
+use Rattle.timer_facility.specs.declared.request.Reason.{Reason}
 use Rattle.timer_facility.specs.declared.request.Answer.{Answer}
 use Rattle.timer_facility.specs.declared.request.Answer.TheVariants.{Started, Stopped, Restarted, Refused}
 use Rattle.timer_facility.specs.declared.request.NotTaken.{NotTaken}
 use Rattle.timer_facility.specs.declared.request.NotTaken.TheVariants as NotTakens
+use Rattle.timer_facility.specs.declared.request.CloseFault.{CloseFault}
+use Rattle.timer_facility.specs.declared.request.CloseFault.TheVariants as CloseFaults
 use Rattle.timer_facility.specs.declared.request.Notice.{Notice}
 use Rattle.timer_facility.specs.declared.request.Notice.TheVariants.{Expired, Returned}
 use Rattle.timer_facility.specs.declared.event.Out.TheVariants as Outs
-use Rattle.timer_facility.specs.State.{FacilityState, with_room, count_of, Wanted, Start, StartAt, Stop, Restart, RestartAt, SingleEvent, Asked}
+use Rattle.timer_facility.specs.State.{FacilityState, with_room, count_of, After, At, ByHandle, ModelRequest, Start, Stop, Restart, SingleEvent, Asked}
 use Rattle.timer_facility.specs.Verdict.{not_taken, refusal}
-use Rattle.timer_facility.specs.Step.{StepResult, step}
+use Rattle.timer_facility.specs.Step.{StepResult, timer_stopped, timer_started, answer_to, after_request, step}
 use Rattle.timer_facility.specs.Run.{notices_in}
 
 pub record FacilityView : Type 0 where
@@ -39,16 +41,16 @@ abbrev pub view_with_room : FacilityView → FacilityView
 view_with_room v = record v { state = with_room v.state }
 
 -- a request as the model has it
-abbrev pub wanted_of : Request → Wanted
-wanted_of (Requests.Start interval action) = Start interval action
-wanted_of (Requests.StartAt deadline action) = StartAt deadline action
-wanted_of (Requests.Stop handle) = Stop handle
-wanted_of (Requests.Restart handle interval action) = Restart handle interval action
-wanted_of (Requests.RestartAt handle deadline action) = RestartAt handle deadline action
+abbrev pub model_of : Request → ModelRequest
+model_of (Requests.Start interval action) = Start (After interval) action
+model_of (Requests.StartAt deadline action) = Start (At deadline) action
+model_of (Requests.Stop handle) = Stop (ByHandle handle)
+model_of (Requests.Restart handle interval action) = Restart (ByHandle handle) (After interval) action
+model_of (Requests.RestartAt handle deadline action) = Restart (ByHandle handle) (At deadline) action
 
 -- a client's request under a number
 abbrev pub event_of_request : ℕ → ℕ → Request → SingleEvent
-event_of_request client number request = Asked client number (wanted_of request)
+event_of_request client number request = Asked client number (model_of request)
 
 -- the place in an answer
 abbrev pub place_in : Answer → ℕ
@@ -64,15 +66,15 @@ pub record IsTaken (s : FacilityState) (client number : ℕ) (request : Request)
       ≡ Outs.Answered client number answer ∷ []
   pub left : new ≡ view_after (step s (event_of_request client number request) (place_in answer))
 
+-- the request is a start
+abbrev pub IsStart : ModelRequest → Type 0
+IsStart (Start deadline action) = Unit {0}
+IsStart _ = ⊥
+
 -- the request would be taken, and is a start that would be accepted
 abbrev pub NeedsMemory : FacilityState → ℕ → ℕ → Request → Type 0
-NeedsMemory s client number (Requests.Start interval action) =
-    (not_taken s client number ≡ None) × (refusal s client (Start interval action) ≡ None)
-NeedsMemory s client number (Requests.StartAt deadline action) =
-    (not_taken s client number ≡ None) × (refusal s client (StartAt deadline action) ≡ None)
-NeedsMemory s client number (Requests.Stop handle) = ⊥
-NeedsMemory s client number (Requests.Restart handle interval action) = ⊥
-NeedsMemory s client number (Requests.RestartAt handle deadline action) = ⊥
+NeedsMemory s client number request =
+    (not_taken s client number ≡ None) × (refusal s client (model_of request) ≡ None) × IsStart (model_of request)
 
 -- the request is not taken, for the reason of the verdict; or it allocates, and the allocation failed
 abbrev pub IsNotTaken : FacilityState → ℕ → ℕ → Request → NotTaken → Type 0
@@ -81,12 +83,30 @@ IsNotTaken s client number request reason =
     × NeedsMemory s client number request)
 
 -- a request for which memory ran out was made of a facility without room
-abbrev pub IsShort : FacilityState → NotTaken → Type 0
-IsShort s NotTakens.OutOfMemory = s.has_room ≡ false
-IsShort s _ = Unit {0}
+abbrev pub NoRoomWasMade : FacilityState → NotTaken → Type 0
+NoRoomWasMade s NotTakens.OutOfMemory = s.has_room ≡ false
+NoRoomWasMade s _ = Unit {0}
+
+-- a request that is taken, by why it is refused: its answer and the view after it, but for its number
+abbrev pub IsAnswered : Option Reason → Option Timer → Option Timer → FacilityState → Answer → FacilityView → Type 0
+IsAnswered (Some reason) old new s answer v = (answer ≡ Refused reason) × (v ≡ with_nothing_waiting s)
+IsAnswered None old new s answer v =
+    (answer ≡ answer_to old new (place_in answer))
+    × (v ≡ with_nothing_waiting (after_request old new (place_in answer) s))
+
+-- the same of a request of the model
+abbrev pub HasAnswered : FacilityState → ℕ → ℕ → ModelRequest → Answer → FacilityView → Type 0
+HasAnswered s client number request answer v =
+    IsAnswered (refusal s client request) (timer_stopped s client request) (timer_started s client number request) s
+    answer v
+
+-- a close for which memory ran out was made of a facility without room
+abbrev pub NoRoomToClose : FacilityState → CloseFault → Type 0
+NoRoomToClose s CloseFaults.OutOfMemory = s.has_room ≡ false
+NoRoomToClose s CloseFaults.Closed = Unit {0}
 
 -- the fields of a facility, as their values
-pub record Parts : Type 0 where
+pub record Fields : Type 0 where
   pub wheel : WheelState
   pub clients : ℕ
   pub capacity : ℕ
@@ -97,12 +117,13 @@ pub record Parts : Type 0 where
   pub counts : List ℕ
   pub is_closed : Bool
   pub has_room : Bool
-  -- the timers that a close returns, and how many of them were handed out
+  -- the timers that a close returns, how many of them were handed out, and for how many there is room
   pub returned : List Timer
   pub handed : ℕ
+  pub list_room : ℕ
 
--- the view of these parts
-abbrev pub view_of : Parts → FacilityView
+-- the view of these fields
+abbrev pub view_of : Fields → FacilityView
 view_of p = record {
   state = record {
     capacity = p.capacity;
@@ -118,9 +139,10 @@ view_of p = record {
   waiting = map (λ t. Expired t) (timers_of p.wheel.due) ++ map (λ t. Returned t) (drop p.handed p.returned);
 }
 
--- the timers that a facility keeps: those that are pending, and those that wait to be handed out
-abbrev pub kept : Parts → List Timer
-kept p = timers_of p.wheel.pending ++ (timers_of p.wheel.due ++ drop p.handed p.returned)
+-- the timers that a facility keeps: those that are pending, and those that wait to be handed out, of its wheel
+-- and of what a close returned
+abbrev pub kept_in : WheelState → List Timer → List Timer
+kept_in wheel returned = timers_of wheel.pending ++ (timers_of wheel.due ++ returned)
 
 -- the counts are those of these timers, all of clients below `clients`
 pub record AreCounted (clients : ℕ) (counts : List ℕ) (ts : List Timer) : Type 0 where
@@ -128,15 +150,28 @@ pub record AreCounted (clients : ℕ) (counts : List ℕ) (ts : List Timer) : Ty
   pub each : (client : ℕ) → slice_index counts client ≡ count_of client ts
   pub no_others : (client : ℕ) → clients ≤ client → slice_index counts client ≡ 0
 
--- the invariant of the parts
-pub record AreParts (p : Parts) : Type 0 where
-  pub all_numbers : length p.numbers ≡ MAX_CLIENTS
-  pub few_clients : p.clients ≤ MAX_CLIENTS
-  pub capacity_in_range : p.capacity ≤ MAX_PENDING
-  pub few_pending : length p.wheel.pending ≤ p.capacity
-  pub serial_unused : p.wheel.last_serial < p.next_serial
-  pub serial_in_range : p.next_serial ≤ LAST + 1
-  pub numbers_in_range : AllByRecursion (λ n. n ≤ LAST + 1) p.numbers
+-- the numbers that `open` sets for good
+pub record AreWithinLimits (clients capacity : ℕ) : Type 0 where
+  pub few_clients : clients ≤ MAX_CLIENTS
+  pub capacity_in_range : capacity ≤ MAX_PENDING
+
+-- the next request numbers, which `take` alone changes
+pub record AreNumbers (numbers : List ℕ) : Type 0 where
+  pub all_numbers : length numbers ≡ MAX_CLIENTS
+  pub numbers_in_range : AllByRecursion (λ n. n ≤ LAST + 1) numbers
+
+-- the timers of the wheel and those that a close returned, and how many there are of each client
+pub record AreTimers (clients capacity next_serial : ℕ) (wheel : WheelState) (counts : List ℕ) (returned : List Timer)
+    : Type 0 where
+  pub few_pending : length wheel.pending ≤ capacity
+  pub serial_unused : wheel.last_serial < next_serial
+  pub serial_in_range : next_serial ≤ LAST + 1
+  pub counted : AreCounted clients counts (kept_in wheel returned)
+
+-- the invariant of the fields
+pub record IsFacility (p : Fields) : Type 0 where
+  pub limits : AreWithinLimits p.clients p.capacity
+  pub numbered : AreNumbers p.numbers
+  pub timers : AreTimers p.clients p.capacity p.next_serial p.wheel p.counts (drop p.handed p.returned)
   pub handed_in_range : p.handed ≤ length p.returned
-  pub roomy : p.has_room ≡ true → p.capacity ≤ p.wheel.room
-  pub counted : AreCounted p.clients p.counts (kept p)
+  pub roomy : p.has_room ≡ true → (p.capacity ≤ p.wheel.room) × (p.capacity ≤ p.list_room)

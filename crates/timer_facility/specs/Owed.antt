@@ -6,65 +6,48 @@
 -- other timers that were started and not stopped, by deadline and then serial, as `Returned`. It keeps no
 -- list of pending timers: it filters the timers started by the serials stopped. The lemma `notices_are_owed`
 -- states that the notices of every run are what is owed for it.
-use Rattle.std.specs.Prelude.{◌≡◌, ◌<◌, ◌≤◌, ◌⊎◌, ℕ, zero, suc, ◌+◌, Bool, true, false, ◌&&◌, ◌||◌, ◌==◌, not, nat_lt, if◌then◌else◌, List, [], ◌∷◌, ◌++◌, map, filter}
+use Rattle.std.specs.Prelude.{◌≡◌, ◌<◌, ◌≤◌, ℕ, zero, suc, ◌+◌, Bool, true, false, ◌&&◌, ◌||◌, ◌==◌, not, nat_lt, if◌then◌else◌, List, [], ◌∷◌, ◌++◌, map, filter}
 use Rattle.std.specs.List.{AllByRecursion}
 use Rattle.timer_base.specs.declared.timer.Timer.{Timer}
+use Rattle.timer_base.specs.declared.timer.Handle.{Handle}
 use Rattle.timer_base.specs.Order.{in_order, AreDistinct}
+use Rattle.timer_base.specs.OneOrder.{IsMember}
 use Rattle.timer_base.specs.Pending.{timers_of}
 use Rattle.timer_facility.specs.declared.request.Answer.TheVariants.{Started, Stopped, Restarted}
 use Rattle.timer_facility.specs.declared.request.Notice.{Notice}
 use Rattle.timer_facility.specs.declared.request.Notice.TheVariants.{Expired, Returned}
 use Rattle.timer_facility.specs.declared.event.Out.{Out}
 use Rattle.timer_facility.specs.declared.event.Out.TheVariants as Outs
-use Rattle.timer_facility.specs.State.{FacilityState, SingleEvent, Asked, Tick, Start, StartAt, Restart, RestartAt, RestartSerial}
+use Rattle.timer_facility.specs.State.{FacilityState, action_of, SingleEvent, Asked, Tick}
 use Rattle.timer_facility.specs.Run.{HistoryEntry, notices}
 
--- the timer of a start and its answer, if it was accepted
-abbrev pub timer_started : ℕ → ℕ → ℕ → Out → List Timer
-timer_started client number action (Outs.Answered c n (Started handle deadline)) =
-    record {
-      serial = handle.serial;
-      client = client;
-      number = number;
-      deadline = deadline;
-      action = action;
-    } ∷ []
-timer_started client number action _ = []
+-- the timer with this handle, for this client, number, deadline and action
+abbrev pub timer_answered : ℕ → ℕ → ℕ → Handle → ℕ → Timer
+timer_answered client number action handle deadline = record {
+  serial = handle.serial;
+  client = client;
+  number = number;
+  deadline = deadline;
+  action = action;
+}
 
--- the timers of a start and its outs
-abbrev pub timers_started : ℕ → ℕ → ℕ → List Out → List Timer
-timers_started client number action [] = []
-timers_started client number action (out ∷ outs) =
-    timer_started client number action out ++ timers_started client number action outs
+-- the timer of a start or a restart and its answer, if it was accepted
+abbrev pub timer_in : ℕ → ℕ → ℕ → Out → List Timer
+timer_in client number action (Outs.Answered c n (Started handle deadline)) =
+    timer_answered client number action handle deadline ∷ []
+timer_in client number action (Outs.Answered c n (Restarted handle deadline old)) =
+    timer_answered client number action handle deadline ∷ []
+timer_in client number action _ = []
 
--- the new timer of a restart and its answer, if it was accepted
-abbrev pub timer_restarted : ℕ → ℕ → ℕ → Out → List Timer
-timer_restarted client number action (Outs.Answered c n (Restarted handle deadline old)) =
-    record {
-      serial = handle.serial;
-      client = client;
-      number = number;
-      deadline = deadline;
-      action = action;
-    } ∷ []
-timer_restarted client number action _ = []
-
--- the new timers of a restart and its outs
-abbrev pub timers_restarted : ℕ → ℕ → ℕ → List Out → List Timer
-timers_restarted client number action [] = []
-timers_restarted client number action (out ∷ outs) =
-    timer_restarted client number action out ++ timers_restarted client number action outs
+-- the timers of a request and its outs
+abbrev pub timers_in : ℕ → ℕ → ℕ → List Out → List Timer
+timers_in client number action [] = []
+timers_in client number action (out ∷ outs) =
+    timer_in client number action out ++ timers_in client number action outs
 
 -- the timers that an event started
 abbrev pub started_by : SingleEvent → List Out → List Timer
-started_by (Asked client number (Start interval action)) outs = timers_started client number action outs
-started_by (Asked client number (StartAt deadline action)) outs = timers_started client number action outs
-started_by (Asked client number (Restart handle interval action)) outs =
-    timers_restarted client number action outs
-started_by (Asked client number (RestartAt handle deadline action)) outs =
-    timers_restarted client number action outs
-started_by (Asked client number (RestartSerial serial interval action)) outs =
-    timers_restarted client number action outs
+started_by (Asked client number request) outs = timers_in client number (action_of request) outs
 started_by _ outs = []
 
 -- the timers of the accepted starts and restarts
@@ -165,18 +148,13 @@ timer_handed (Returned t) = t
 abbrev pub handed_out : List HistoryEntry → List Timer
 handed_out hs = map timer_handed (notices hs)
 
--- one of the list
-abbrev pub IsIn : {X : Type 0} → X → List X → Type 0
-IsIn x [] = ⊥
-IsIn x (y ∷ ys) = (x ≡ y) ⊎ IsIn x ys
-
 -- each timer that was started and not stopped is handed out: if its deadline was reached it expired, and
 -- if a close came before that it was returned
 pub record AreAllHandedOut (s : FacilityState) (hs : List HistoryEntry) : Type 0 where
-  pub expired : (t : Timer) → IsIn t (started s hs) → is_among t.serial (stopped hs) ≡ false
-      → t.deadline ≤ s.now + accepted_ticks hs → IsIn (Expired t) (notices hs)
-  pub returned : (t : Timer) → IsIn t (started s hs) → is_among t.serial (stopped hs) ≡ false
-      → s.now + accepted_ticks hs < t.deadline → has_closed hs ≡ true → IsIn (Returned t) (notices hs)
+  pub expired : (t : Timer) → IsMember t (started s hs) → is_among t.serial (stopped hs) ≡ false
+      → t.deadline ≤ s.now + accepted_ticks hs → IsMember (Expired t) (notices hs)
+  pub returned : (t : Timer) → IsMember t (started s hs) → is_among t.serial (stopped hs) ≡ false
+      → s.now + accepted_ticks hs < t.deadline → has_closed hs ≡ true → IsMember (Returned t) (notices hs)
 
 -- the deadline is one of the first n ticks after now
 abbrev pub is_due_within : ℕ → ℕ → Timer → Bool

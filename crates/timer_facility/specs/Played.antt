@@ -3,7 +3,8 @@ use Rattle.std.specs.Prelude.{◌≡◌, ℕ, ◌+◌, ◌-◌, min, if◌then�
 use Rattle.timer_facility.specs.declared.event.Event.{Event}
 use Rattle.timer_facility.specs.declared.event.Event.TheVariants as Events
 use Rattle.timer_facility.specs.declared.event.Out.{Out}
-use Rattle.timer_facility.specs.State.{FacilityState, SingleEvent, Asked, Tick, Close, Start, StopSerial, RestartSerial}
+use Rattle.timer_facility.specs.State.{FacilityState, After, BySerial, Start, Stop, Restart, SingleEvent, Asked, Tick, Close}
+use Rattle.timer_facility.specs.Step.{step}
 use Rattle.timer_facility.specs.Run.{PlacedEvent, history, state_after, run, notices}
 use Rattle.timer_facility.specs.Owed.{owed}
 
@@ -13,10 +14,11 @@ ticks_left s = if s.is_closed then 0 else s.last - s.now
 
 -- the single events that an event stands for: ticks are cut after the first refused one
 abbrev pub singles_of : FacilityState → Event → List SingleEvent
-singles_of s (Events.Start client number interval action) = Asked client number (Start interval action) ∷ []
-singles_of s (Events.Stop client number serial) = Asked client number (StopSerial serial) ∷ []
+singles_of s (Events.Start client number interval action) =
+    Asked client number (Start (After interval) action) ∷ []
+singles_of s (Events.Stop client number serial) = Asked client number (Stop (BySerial serial)) ∷ []
 singles_of s (Events.Restart client number serial interval action) =
-    Asked client number (RestartSerial serial interval action) ∷ []
+    Asked client number (Restart (BySerial serial) (After interval) action) ∷ []
 singles_of s (Events.Ticks count) = replicate (min count (ticks_left s + 1)) Tick
 singles_of s Events.Close = Close ∷ []
 
@@ -42,6 +44,13 @@ pub record IsPlayed (s : FacilityState) (events : List Event) (outs : List Out)
   pub runs : IsRun s events outs after
   pub notices_owed : (k : ℕ) → notices (take k (history s runs.placed))
       ≡ owed s (take k (history s runs.placed))
+
+-- one step was made at some place, and its outs appended
+pub record MakesStep (s : FacilityState) (event : SingleEvent) (before outs : List Out)
+    (after : FacilityState) : Type 0 where
+  pub place : ℕ
+  pub appended : outs ≡ before ++ (step s event place).outs
+  pub left : after ≡ (step s event place).state
 
 -- one more event was played, and its outs appended
 pub record AddsRun (s : FacilityState) (event : Event) (before outs : List Out)

@@ -6,7 +6,7 @@ use Rattle.timer_facility.specs.declared.request.Answer.TheVariants.{Started, Re
 use Rattle.timer_facility.specs.declared.request.Notice.{Notice}
 use Rattle.timer_facility.specs.declared.event.Out.{Out}
 use Rattle.timer_facility.specs.declared.event.Out.TheVariants as Outs
-use Rattle.timer_facility.specs.State.{FacilityState, SingleEvent, Asked, Stop, Restart, RestartAt}
+use Rattle.timer_facility.specs.State.{FacilityState, SingleEvent, Asked, ByHandle, Stop, Restart}
 use Rattle.timer_facility.specs.Step.{StepResult, step}
 
 -- an event, and the place that the wheel gives if it is an accepted start or restart
@@ -81,9 +81,8 @@ bare_state s = record s { slots = 0; pending = map bare_entry s.pending; has_roo
 
 -- the event names no place: a stop or restart names its timer by serial
 abbrev pub NamesBySerial : SingleEvent → Type 0
-NamesBySerial (Asked client number (Stop handle)) = ⊥
-NamesBySerial (Asked client number (Restart handle interval action)) = ⊥
-NamesBySerial (Asked client number (RestartAt handle deadline action)) = ⊥
+NamesBySerial (Asked client number (Stop (ByHandle handle))) = ⊥
+NamesBySerial (Asked client number (Restart (ByHandle handle) deadline action)) = ⊥
 NamesBySerial _ = Unit {0}
 
 -- two runs have the same outs and the same final state, except for places

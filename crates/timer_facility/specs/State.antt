@@ -48,24 +48,37 @@ count_of client (t ∷ ts) = one_of client t + count_of client ts
 abbrev pub pending_of : FacilityState → ℕ → ℕ
 pending_of s client = count_of client (timers_of s.pending)
 
--- a request: a start with its interval or its deadline, and its action; a stop of the timer with a handle or with a
--- serial; or a restart of one with the interval or the deadline, and the action, of the new timer
-pub data Wanted : Type 0 where
-  Start : ℕ → ℕ → Wanted
-  StartAt : ℕ → ℕ → Wanted
-  Stop : Handle → Wanted
-  StopSerial : ℕ → Wanted
-  Restart : Handle → ℕ → ℕ → Wanted
-  RestartAt : Handle → ℕ → ℕ → Wanted
-  RestartSerial : ℕ → ℕ → ℕ → Wanted
+-- when a timer is to expire: so many ticks from now, or at a tick
+pub data Deadline : Type 0 where
+  After : ℕ → Deadline
+  At : ℕ → Deadline
 
 -- how many ticks are left until a deadline: 0 if it is not after the present tick
-abbrev pub ticks_until : FacilityState → ℕ → ℕ
-ticks_until s deadline = deadline - s.now
+abbrev pub ticks_until : FacilityState → Deadline → ℕ
+ticks_until s (After interval) = interval
+ticks_until s (At tick) = tick - s.now
+
+-- how a request names a timer
+pub data Name : Type 0 where
+  ByHandle : Handle → Name
+  BySerial : ℕ → Name
+
+-- a request: a start with its deadline and its action; a stop of the timer with a name; or a restart of one with the
+-- deadline and the action of the new timer
+pub data ModelRequest : Type 0 where
+  Start : Deadline → ℕ → ModelRequest
+  Stop : Name → ModelRequest
+  Restart : Name → Deadline → ℕ → ModelRequest
+
+-- the action of the timer that a request starts, 0 if it starts none
+abbrev pub action_of : ModelRequest → ℕ
+action_of (Start deadline action) = action
+action_of (Stop name) = 0
+action_of (Restart name deadline action) = action
 
 -- one event: a client's request under a number, one tick, or the close
 pub data SingleEvent : Type 0 where
-  Asked : ℕ → ℕ → Wanted → SingleEvent
+  Asked : ℕ → ℕ → ModelRequest → SingleEvent
   Tick : SingleEvent
   Close : SingleEvent
 

@@ -1,18 +1,17 @@
--- One event: its outs, and the state after it.
-use Rattle.std.specs.Prelude.{ℕ, ◌+◌, Bool, true, false, List, [], ◌∷◌, Option, Some, None, map, filter, length, slice_set}
+-- One event: its outs, and the state after it. An event that the verdict refuses changes at most a number.
+use Rattle.std.specs.Prelude.{ℕ, ◌+◌, Bool, true, List, [], ◌∷◌, Option, Some, None, if◌then◌else◌, map, filter, length, slice_set}
 use Rattle.timer_base.specs.declared.timer.Timer.{Timer}
+use Rattle.timer_base.specs.declared.timer.Handle.{Handle}
 use Rattle.timer_base.specs.Pending.{timers_of, put, is_due_at, without_found, entries_left}
-use Rattle.timer_facility.specs.declared.request.Reason.{Reason}
 use Rattle.timer_facility.specs.declared.request.Reason.TheVariants.{NoSuch}
 use Rattle.timer_facility.specs.declared.request.Answer.{Answer}
 use Rattle.timer_facility.specs.declared.request.Answer.TheVariants.{Started, Stopped, Restarted, Refused}
-use Rattle.timer_facility.specs.declared.request.NotTaken.{NotTaken}
 use Rattle.timer_facility.specs.declared.request.Notice.TheVariants.{Expired, Returned}
 use Rattle.timer_facility.specs.declared.request.TickFault.{TickFault}
 use Rattle.timer_facility.specs.declared.event.Out.{Out}
 use Rattle.timer_facility.specs.declared.event.Out.TheVariants as Outs
-use Rattle.timer_facility.specs.State.{FacilityState, Wanted, Start, StartAt, Stop, StopSerial, Restart, RestartAt, RestartSerial, ticks_until, SingleEvent, Asked, Tick, Close}
-use Rattle.timer_facility.specs.Verdict.{not_taken, named, start_refusal, interval_refusal, tick_refusal, Refusal, RequestNotTaken, RequestRefused, TickRefused}
+use Rattle.timer_facility.specs.State.{FacilityState, ModelRequest, Start, Stop, Restart, ticks_until, SingleEvent, Asked, Tick, Close}
+use Rattle.timer_facility.specs.Verdict.{timer_named, Refusal, RequestNotTaken, RequestRefused, TickRefused, CloseRefused, verdict_on_tick, verdict}
 
 -- the outs of an event, and the state after it
 pub record StepResult : Type 0 where
@@ -22,6 +21,22 @@ pub record StepResult : Type 0 where
 -- the number is used up
 abbrev pub with_number : ℕ → ℕ → FacilityState → FacilityState
 with_number client number s = record s { numbers = slice_set s.numbers client (number + 1) }
+
+-- a request that is taken: its answer, and its number used up
+abbrev pub answered : ℕ → ℕ → Answer → FacilityState → StepResult
+answered client number answer s = record {
+  outs = Outs.Answered client number answer ∷ [];
+  state = with_number client number s;
+}
+
+-- a refused event: its only out is the refusal, and it changes nothing but the number of a request that was
+-- taken
+abbrev pub refused : FacilityState → SingleEvent → Refusal → StepResult
+refused s (Asked client number request) (RequestNotTaken reason) =
+    record { outs = Outs.NotTaken client number reason ∷ []; state = s }
+refused s (Asked client number request) (RequestRefused reason) = answered client number (Refused reason) s
+refused s event (TickRefused fault) = record { outs = Outs.TickRefused fault ∷ []; state = s }
+refused s event _ = record { outs = Outs.CloseRefused ∷ []; state = s }
 
 -- the timer that an accepted start or restart makes
 abbrev pub new_timer : FacilityState → ℕ → ℕ → ℕ → ℕ → Timer
@@ -33,142 +48,81 @@ new_timer s client number interval action = record {
   action = action;
 }
 
--- a start is answered with the refusal, or with the place and the timer
-abbrev pub answer_to_start : Option Reason → ℕ → Timer → Answer
-answer_to_start (Some reason) place t = Refused reason
-answer_to_start None place t = Started (record { place = place; serial = t.serial }) t.deadline
+-- the timer that an accepted request stops, if it stops one
+abbrev pub timer_stopped : FacilityState → ℕ → ModelRequest → Option Timer
+timer_stopped s client (Start deadline action) = None
+timer_stopped s client (Stop name) = timer_named s client name
+timer_stopped s client (Restart name deadline action) = timer_named s client name
 
--- an accepted start inserts its timer into the pending ones, and uses up the serial
-abbrev pub after_start : Option Reason → ℕ → Timer → FacilityState → FacilityState
-after_start (Some reason) place t s = s
-after_start None place t s = record s {
-  pending = put (record { place = place; timer = t }) s.pending;
+-- the timer that an accepted request starts, if it starts one
+abbrev pub timer_started : FacilityState → ℕ → ℕ → ModelRequest → Option Timer
+timer_started s client number (Start deadline action) =
+    Some (new_timer s client number (ticks_until s deadline) action)
+timer_started s client number (Stop name) = None
+timer_started s client number (Restart name deadline action) =
+    Some (new_timer s client number (ticks_until s deadline) action)
+
+-- the handle of a timer at a place
+abbrev pub handle_of : ℕ → Timer → Handle
+handle_of place t = record { place = place; serial = t.serial }
+
+-- the answer to an accepted request, from the timer that it stops and the one that it starts: it does one of
+-- the two, or both
+abbrev pub answer_to : Option Timer → Option Timer → ℕ → Answer
+answer_to None (Some new) place = Started (handle_of place new) new.deadline
+answer_to (Some old) None place = Stopped old.serial
+answer_to (Some old) (Some new) place = Restarted (handle_of place new) new.deadline old.serial
+answer_to None None place = Refused NoSuch
+
+-- the timer is no longer pending, if there is one
+abbrev pub without_timer : Option Timer → FacilityState → FacilityState
+without_timer old s = record s { pending = without_found old s.pending }
+
+-- the timer is pending at the place, and its serial is used up, if there is one
+abbrev pub with_timer : Option Timer → ℕ → FacilityState → FacilityState
+with_timer None place s = s
+with_timer (Some new) place s = record s {
+  pending = put (record { place = place; timer = new }) s.pending;
   next_serial = s.next_serial + 1;
 }
 
--- a stop is answered with the timer that was found, if one was
-abbrev pub answer_to_stop : Option Timer → Answer
-answer_to_stop None = Refused NoSuch
-answer_to_stop (Some t) = Stopped t.serial
-
--- the timer that was found is removed
-abbrev pub after_stop : Option Timer → FacilityState → FacilityState
-after_stop found s = record s { pending = without_found found s.pending }
-
--- a restart is answered with the timer that was found, and the refusal or the place and the new timer
-abbrev pub answer_to_restart : Option Timer → Option Reason → ℕ → Timer → Answer
-answer_to_restart None reason place t = Refused NoSuch
-answer_to_restart (Some old) (Some reason) place t = Refused reason
-answer_to_restart (Some old) None place t = Restarted (record {
-  place = place;
-  serial = t.serial;
-}) t.deadline old.serial
-
--- an accepted restart is a stop of the old timer and then a start; a refused one leaves the old timer as it
--- is
-abbrev pub after_restart : Option Timer → Option Reason → ℕ → Timer → FacilityState → FacilityState
-after_restart None reason place t s = s
-after_restart (Some old) (Some reason) place t s = s
-after_restart (Some old) None place t s = after_start None place t (after_stop (Some old) s)
-
--- the answer to a request that is taken; an accepted start or restart gets the place
-abbrev pub answer_to : FacilityState → ℕ → ℕ → Wanted → ℕ → Answer
-answer_to s client number (Start interval action) place =
-    answer_to_start (start_refusal s interval) place (new_timer s client number interval action)
-answer_to s client number (StartAt deadline action) place =
-    answer_to_start (start_refusal s (ticks_until s deadline)) place
-    (new_timer s client number (ticks_until s deadline) action)
-answer_to s client number (Stop handle) place = answer_to_stop (named s client (Stop handle))
-answer_to s client number (StopSerial serial) place = answer_to_stop (named s client (StopSerial serial))
-answer_to s client number (Restart handle interval action) place =
-    answer_to_restart (named s client (Restart handle interval action)) (interval_refusal s interval) place
-    (new_timer s client number interval action)
-answer_to s client number (RestartAt handle deadline action) place =
-    answer_to_restart (named s client (RestartAt handle deadline action))
-    (interval_refusal s (ticks_until s deadline)) place
-    (new_timer s client number (ticks_until s deadline) action)
-answer_to s client number (RestartSerial serial interval action) place =
-    answer_to_restart (named s client (RestartSerial serial interval action))
-    (interval_refusal s interval) place
-    (new_timer s client number interval action)
-
--- the state after a request that is taken: its number is used up, whatever the answer is
-abbrev pub after_taken : FacilityState → ℕ → ℕ → Wanted → ℕ → FacilityState
-after_taken s client number (Start interval action) place =
-    with_number client number (after_start (start_refusal s interval) place
-    (new_timer s client number interval action) s)
-after_taken s client number (StartAt deadline action) place =
-    with_number client number (after_start (start_refusal s (ticks_until s deadline)) place
-    (new_timer s client number (ticks_until s deadline) action) s)
-after_taken s client number (Stop handle) place = with_number client number
-    (after_stop (named s client (Stop handle)) s)
-after_taken s client number (StopSerial serial) place =
-    with_number client number (after_stop (named s client (StopSerial serial)) s)
-after_taken s client number (Restart handle interval action) place =
-    with_number client number
-    (after_restart (named s client (Restart handle interval action)) (interval_refusal s interval) place
-    (new_timer s client number interval action) s)
-after_taken s client number (RestartAt handle deadline action) place =
-    with_number client number
-    (after_restart (named s client (RestartAt handle deadline action))
-    (interval_refusal s (ticks_until s deadline)) place
-    (new_timer s client number (ticks_until s deadline) action) s)
-after_taken s client number (RestartSerial serial interval action) place =
-    with_number client number
-    (after_restart (named s client (RestartSerial serial interval action)) (interval_refusal s interval) place
-    (new_timer s client number interval action) s)
+-- the state after an accepted request, but for its number: a stop of the one timer, and then a start of the other
+abbrev pub after_request : Option Timer → Option Timer → ℕ → FacilityState → FacilityState
+after_request old new place s = with_timer new place (without_timer old s)
 
 -- the timers that expire at the next tick: the front of the list
 abbrev pub expired_next : FacilityState → List Timer
 expired_next s = filter (is_due_at (s.now + 1)) (timers_of s.pending)
 
--- an accepted tick: what is due at it is no longer pending
-abbrev pub after_tick : FacilityState → FacilityState
-after_tick s = record s { now = s.now + 1; pending = entries_left (s.now + 1) s.pending }
-
--- an accepted close: nothing is pending
-abbrev pub after_close : FacilityState → FacilityState
-after_close s = record s { pending = []; is_closed = true }
-
--- a request, by why it is not taken
-abbrev pub step_of_request : FacilityState → ℕ → ℕ → Wanted → ℕ → Option NotTaken → StepResult
-step_of_request s client number wanted place (Some reason) =
-    record { outs = Outs.NotTaken client number reason ∷ []; state = s }
-step_of_request s client number wanted place None = record {
-  outs = Outs.Answered client number (answer_to s client number wanted place) ∷ [];
-  state = after_taken s client number wanted place;
-}
-
--- a tick, by why it is refused
-abbrev pub step_of_tick : FacilityState → Option TickFault → StepResult
-step_of_tick s (Some fault) = record { outs = Outs.TickRefused fault ∷ []; state = s }
-step_of_tick s None = record {
+-- an accepted event; the timer that it starts gets the place, which is a free choice of the wheel
+abbrev pub accepted : FacilityState → SingleEvent → ℕ → StepResult
+accepted s (Asked client number request) place =
+    answered client number
+    (answer_to (timer_stopped s client request) (timer_started s client number request) place)
+    (after_request (timer_stopped s client request) (timer_started s client number request) place s)
+accepted s Tick place = record {
   outs = map (λ t. Outs.Notice (Expired t)) (expired_next s);
-  state = after_tick s;
+  -- what is due at it is no longer pending
+  state = record s { now = s.now + 1; pending = entries_left (s.now + 1) s.pending };
 }
-
--- a close, by whether the facility was closed already
-abbrev pub step_of_close : FacilityState → Bool → StepResult
-step_of_close s true = record { outs = Outs.CloseRefused ∷ []; state = s }
-step_of_close s false = record {
+accepted s Close place = record {
   outs = Outs.Closed (length s.pending) ∷ map (λ t. Outs.Notice (Returned t)) (timers_of s.pending);
-  state = after_close s;
+  state = record s { pending = []; is_closed = true };
 }
 
--- one event, by the verdict on it; an accepted start or restart gets the place, which is a free choice of the
--- wheel
-abbrev pub step : FacilityState → SingleEvent → ℕ → StepResult
-step s (Asked client number wanted) place = step_of_request s client number wanted place
-    (not_taken s client number)
-step s Tick place = step_of_tick s (tick_refusal s)
-step s Close place = step_of_close s s.is_closed
+-- the step of an event by the verdict on it: what comes of it if it is accepted, or a refusal
+abbrev pub step_by : FacilityState → SingleEvent → StepResult → Option Refusal → StepResult
+step_by s event result None = result
+step_by s event result (Some refusal) = refused s event refusal
 
--- a refused event: its only out is the refusal, and it changes nothing but the number of a request that was
--- taken
-abbrev pub refused : FacilityState → SingleEvent → Refusal → StepResult
-refused s (Asked client number wanted) (RequestNotTaken reason) =
-    record { outs = Outs.NotTaken client number reason ∷ []; state = s }
-refused s (Asked client number wanted) (RequestRefused reason) =
-    record { outs = Outs.Answered client number (Refused reason) ∷ []; state = with_number client number s }
-refused s event (TickRefused fault) = record { outs = Outs.TickRefused fault ∷ []; state = s }
-refused s event _ = record { outs = Outs.CloseRefused ∷ []; state = s }
+-- one event
+abbrev pub step : FacilityState → SingleEvent → ℕ → StepResult
+step s event place = step_by s event (accepted s event place) (verdict s event)
+
+-- the step of a tick, by why it is refused
+abbrev pub step_of_tick : FacilityState → Option TickFault → StepResult
+step_of_tick s fault = step_by s Tick (accepted s Tick 0) (verdict_on_tick fault)
+
+-- the step of a close, by whether the facility was closed already
+abbrev pub step_of_close : FacilityState → Bool → StepResult
+step_of_close s closed = step_by s Close (accepted s Close 0) (if closed then Some CloseRefused else None)

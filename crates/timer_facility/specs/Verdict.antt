@@ -1,15 +1,15 @@
 -- The verdict on an event: accepted, or the first rule that refuses it.
-use Rattle.std.specs.Prelude.{ℕ, ◌-◌, ◌==◌, not, nat_lt, if◌then◌else◌, Option, Some, None, length}
+use Rattle.std.specs.Prelude.{ℕ, Bool, ◌-◌, ◌==◌, not, nat_lt, if◌then◌else◌, Option, Some, None, length}
 use Rattle.timer_base.specs.declared.limits.TheConstants.{LAST}
 use Rattle.timer_base.specs.declared.timer.Timer.{Timer}
-use Rattle.timer_base.specs.Pending.{has_handle, has_serial, first_timer}
+use Rattle.timer_base.specs.Pending.{Entry, has_handle, has_serial, first_timer}
 use Rattle.timer_facility.specs.declared.request.NotTaken.{NotTaken}
 use Rattle.timer_facility.specs.declared.request.NotTaken.TheVariants.{Closed, NoClient, Repeated, NumbersSpent, Ahead}
 use Rattle.timer_facility.specs.declared.request.Reason.{Reason}
 use Rattle.timer_facility.specs.declared.request.Reason.TheVariants.{ZeroInterval, TooLate, SerialsSpent, Full, NoSuch}
 use Rattle.timer_facility.specs.declared.request.TickFault.{TickFault}
 use Rattle.timer_facility.specs.declared.request.TickFault.TheVariants as TickFaults
-use Rattle.timer_facility.specs.State.{FacilityState, number_of, Wanted, Start, StartAt, Stop, StopSerial, Restart, RestartAt, RestartSerial, ticks_until, SingleEvent, Asked, Tick, Close}
+use Rattle.timer_facility.specs.State.{FacilityState, number_of, ticks_until, Name, ByHandle, BySerial, ModelRequest, Start, Stop, Restart, SingleEvent, Asked, Tick, Close}
 
 -- why a request is not taken, if it is not taken: the first test that holds
 unfoldable pub not_taken : FacilityState → ℕ → ℕ → Option NotTaken
@@ -26,25 +26,19 @@ abbrev pub of_client : ℕ → Option Timer → Option Timer
 of_client client None = None
 of_client client (Some t) = if t.client == client then Some t else None
 
--- the pending timer of this client that a stop or a restart names
-abbrev pub named : FacilityState → ℕ → Wanted → Option Timer
-named s client (Start interval action) = None
-named s client (StartAt deadline action) = None
-named s client (Stop handle) = of_client client (first_timer (has_handle handle) s.pending)
-named s client (StopSerial serial) = of_client client (first_timer (λ e. has_serial serial e.timer) s.pending)
-named s client (Restart handle interval action) = of_client client (first_timer (has_handle handle) s.pending)
-named s client (RestartAt handle deadline action) = of_client client (first_timer (has_handle handle) s.pending)
-named s client (RestartSerial serial interval action) =
-    of_client client (first_timer (λ e. has_serial serial e.timer) s.pending)
+-- the entry has this name
+abbrev pub has_name : Name → Entry → Bool
+has_name (ByHandle handle) = has_handle handle
+has_name (BySerial serial) = λ entry. has_serial serial entry.timer
 
--- why a start with this interval is refused, if it is refused: the first test that holds
-unfoldable pub start_refusal : FacilityState → ℕ → Option Reason
-start_refusal s interval =
-    if interval == 0 then Some ZeroInterval
-    else if nat_lt (s.last - s.now) interval then Some TooLate
-    else if nat_lt LAST s.next_serial then Some SerialsSpent
-    else if length s.pending == s.capacity then Some Full
-    else None
+-- the pending timer of this client that has the name
+abbrev pub timer_named : FacilityState → ℕ → Name → Option Timer
+timer_named s client name = of_client client (first_timer (has_name name) s.pending)
+
+-- one refusal, and then another: the first that is one
+abbrev pub first_refusal : Option Reason → Option Reason → Option Reason
+first_refusal (Some reason) later = Some reason
+first_refusal None later = later
 
 -- why no timer can be started now with this interval, whether or not there is room for one: the first test
 -- that holds
@@ -55,28 +49,25 @@ interval_refusal s interval =
     else if nat_lt LAST s.next_serial then Some SerialsSpent
     else None
 
--- a stop is refused if it names no timer
-abbrev pub stop_refusal : Option Timer → Option Reason
-stop_refusal None = Some NoSuch
-stop_refusal (Some t) = None
+-- there is no room for one more timer
+unfoldable pub room_refusal : FacilityState → Option Reason
+room_refusal s = if length s.pending == s.capacity then Some Full else None
 
--- a restart is refused if it names no timer, and then if the new one can't be started; it needs no room
-abbrev pub restart_refusal : Option Timer → Option Reason → Option Reason
-restart_refusal None reason = Some NoSuch
-restart_refusal (Some t) reason = reason
+-- why a start with this interval is refused, if it is refused
+abbrev pub start_refusal : FacilityState → ℕ → Option Reason
+start_refusal s interval = first_refusal (interval_refusal s interval) (room_refusal s)
 
--- why a request that is taken is refused, if it is refused
-abbrev pub refusal : FacilityState → ℕ → Wanted → Option Reason
-refusal s client (Start interval action) = start_refusal s interval
-refusal s client (StartAt deadline action) = start_refusal s (ticks_until s deadline)
-refusal s client (Stop handle) = stop_refusal (named s client (Stop handle))
-refusal s client (StopSerial serial) = stop_refusal (named s client (StopSerial serial))
-refusal s client (Restart handle interval action) =
-    restart_refusal (named s client (Restart handle interval action)) (interval_refusal s interval)
-refusal s client (RestartAt handle deadline action) =
-    restart_refusal (named s client (RestartAt handle deadline action)) (interval_refusal s (ticks_until s deadline))
-refusal s client (RestartSerial serial interval action) =
-    restart_refusal (named s client (RestartSerial serial interval action)) (interval_refusal s interval)
+-- the name must be that of a timer
+abbrev pub name_refusal : Option Timer → Option Reason
+name_refusal None = Some NoSuch
+name_refusal (Some t) = None
+
+-- why a request that is taken is refused, if it is refused; a restart needs no room
+abbrev pub refusal : FacilityState → ℕ → ModelRequest → Option Reason
+refusal s client (Start deadline action) = start_refusal s (ticks_until s deadline)
+refusal s client (Stop name) = name_refusal (timer_named s client name)
+refusal s client (Restart name deadline action) =
+    first_refusal (name_refusal (timer_named s client name)) (interval_refusal s (ticks_until s deadline))
 
 -- why a tick is refused, if it is refused: the first test that holds
 unfoldable pub tick_refusal : FacilityState → Option TickFault
@@ -103,13 +94,13 @@ verdict_on_tick None = None
 
 -- the verdict on an event: None if it is accepted, or else the first rule that refuses it
 abbrev pub verdict : FacilityState → SingleEvent → Option Refusal
-verdict s (Asked client number wanted) = verdict_on_request (not_taken s client number)
-    (refusal s client wanted)
+verdict s (Asked client number request) = verdict_on_request (not_taken s client number)
+    (refusal s client request)
 verdict s Tick = verdict_on_tick (tick_refusal s)
 verdict s Close = if s.is_closed then Some CloseRefused else None
 
 -- how a closed facility refuses an event, whatever it is
 abbrev pub closed_refusal : SingleEvent → Refusal
-closed_refusal (Asked client number wanted) = RequestNotTaken Closed
+closed_refusal (Asked client number request) = RequestNotTaken Closed
 closed_refusal Tick = TickRefused TickFaults.Closed
 closed_refusal Close = CloseRefused

@@ -58,6 +58,7 @@ impl Model for Checked {
 
 impl Config {
     /// Checks that each number is in its range, in the order of `ConfigFault`. Does not allocate.
+    #[tactic(auto, unfolding(crate::specs::Config::config_fault))]
     pub fn check(self) -> Result<Checked, ConfigFault>
         ensures { MatchResult result (λ checked. (checked ≡ self)
             × (config_fault self ≡ None)) (λ fault. config_fault self ≡ Some fault) }

@@ -3,20 +3,21 @@
 //! A tick or a close leaves timers that wait to be handed out; the owner takes them by `next_out` until
 //! none waits, and only then makes the next call. Expired timers stay in the wheel, which hands them out
 //! by serial. A close moves the timers to a list of their own, and the wheel is empty then.
-ghost use Rattle.std.specs.Prelude.{◌≡◌, false, ℕ, ◌+◌, ◌<◌, ◌≤◌, ◌↔◌, [], length, drop, slice_get, slice_index, IsTrue, IfSome, IfOk, IfErr, OnErr, OnOk, MatchResult, if◌then◌else◌, nat_lt};
+ghost use Rattle.std.specs.Prelude.{◌≡◌, false, ℕ, ◌+◌, ◌<◌, ◌≤◌, ◌↔◌, [], length, drop, slice_get, slice_index, IsTrue, IfSome, IfOk, IfErr, OnErr, OnOk, MatchResult, if◌then◌else◌, nat_lt, vec_capacity};
 ghost use Rattle.timer_base.specs.Pending.{timers_of};
 ghost use Rattle.timer_base.specs.WheelState.{after_clear};
 ghost use Rattle.timer_base.specs.WakeUps.{next_deadline};
-ghost use Rattle.timer_facility.specs.State.{FacilityState, IsSound, Tick, Close, Start, Stop, Restart, number_of, pending_of, ticks_until};
-ghost use Rattle.timer_facility.specs.Verdict.{not_taken, named, start_refusal, interval_refusal, tick_refusal, TickRefused, verdict};
+ghost use Rattle.timer_facility.specs.declared.limits.TheConstants.{MAX_CLIENTS};
+ghost use Rattle.timer_facility.specs.State.{FacilityState, IsSound, After, At, ByHandle, Start, Stop, Restart, Tick, Close, number_of, pending_of, ticks_until};
+ghost use Rattle.timer_facility.specs.Verdict.{not_taken, timer_named, start_refusal, interval_refusal, refusal, tick_refusal, TickRefused, verdict};
 ghost use Rattle.timer_facility.specs.Refused.{verdict_in, verdict_on_not_taken, verdict_on_close};
-ghost use Rattle.timer_facility.specs.Step.{step, answer_to, after_taken};
+ghost use Rattle.timer_facility.specs.Step.{step, new_timer};
 ghost use Rattle.timer_facility.specs.Owed.{timer_handed};
 ghost use Rattle.timer_facility.specs.Opened.{opened};
 ghost use Rattle.timer_facility.specs.Handles.{is_pending};
 ghost use Rattle.timer_facility.specs.Ticked.{AreTicked};
 ghost use Rattle.timer_facility.specs.WakeUps.{IsQuietUntil};
-ghost use Rattle.timer_facility.specs.Facility.{FacilityView, Parts, view_of, AreParts, view_after, view_with_room, with_nothing_waiting, IsShort, event_of_request, place_in, IsTaken, IsNotTaken};
+ghost use Rattle.timer_facility.specs.Facility.{FacilityView, view_of, view_after, view_with_room, with_nothing_waiting, NoRoomToClose, event_of_request, IsTaken, IsNotTaken, Fields, IsFacility, NoRoomWasMade, model_of, IsStart, HasAnswered};
 
 use crate::config::Checked;
 use crate::limits::CLIENTS;
@@ -37,7 +38,7 @@ pub struct Facility<W: Wheel + Drop> {
     // How many timers of each client are pending or wait to be handed out.
     counts: [usize; CLIENTS],
     is_closed: bool,
-    // Whether `reserve` made room in the wheel for as many timers as the capacity.
+    // Whether `reserve` made room for as many timers as the capacity, in the wheel and in `returned`.
     has_room: bool,
     // The timers that the close returns, in their order.
     returned: Vec<Timer>,
@@ -59,9 +60,10 @@ impl<W: Wheel + Drop> Model for Facility<W> {
       has_room = f.has_room;
       returned = f.returned.items;
       handed = f.handed;
+      list_room = vec_capacity f.returned;
     }) };
 
-    ghost invariant = { λ f. AreParts (record {
+    ghost invariant = { λ f. IsFacility (record {
       wheel = W.state f.wheel;
       clients = f.clients;
       capacity = f.capacity;
@@ -72,13 +74,14 @@ impl<W: Wheel + Drop> Model for Facility<W> {
       has_room = f.has_room;
       returned = f.returned.items;
       handed = f.handed;
+      list_room = vec_capacity f.returned;
     }) };
 }
 
 impl<W: Wheel + Drop> Facility<W> {
     /// A facility with this configuration, over an empty wheel whose clock is at the first tick.
     ///
-    /// Does not allocate; the list that a close returns will be allocated from `alloc`.
+    /// Does not allocate; the list that a close returns will be allocated from `alloc`, by `reserve` or by the close.
     pub fn open(alloc: Global, checked: Checked, wheel: W) -> Facility<W>
         requires pending { (W.state wheel).pending ≡ [] }
         requires due { (W.state wheel).due ≡ [] }
@@ -102,18 +105,20 @@ impl<W: Wheel + Drop> Facility<W> {
         }
     }
 
-    /// Makes room for as many timers as the facility may hold.
+    /// Makes room for as many timers as the facility may hold, in the wheel and in the list that a close returns.
     ///
-    /// The only error is out of memory, and then nothing changes. After it returned Ok, no `take` returns
-    /// `OutOfMemory`: only an accepted start allocates, in the wheel alone, and one beyond the capacity is
-    /// refused. `close` still allocates the list that it returns. Over a wheel of this project no start
-    /// allocates or copies a table later. So an owner who calls this right after `open` pays for memory
-    /// there.
+    /// The only error is out of memory, and then nothing changes. After it returned Ok, no `take` and no `close`
+    /// returns `OutOfMemory`: only an accepted start and a close allocate, and a start beyond the capacity is
+    /// refused. Over a wheel of this project no start or close allocates or copies a table later. So an owner
+    /// who calls this right after `open` pays for memory there. A second call changes nothing.
     pub fn reserve(&mut self) -> Result<(), OutOfMemory>
         ensures ok { OnOk result (self.new ≡ view_with_room self.old) }
         ensures err { OnErr result (self.new ≡ self.old) }
     {
-        self.wheel.reserve(self.capacity as usize)?;
+        let most = self.capacity as usize;
+        self.returned
+            .reserve_exact(most.saturating_sub(self.returned.len()))?;
+        self.wheel.reserve(most)?;
         self.has_room = true;
         Ok(())
     }
@@ -224,35 +229,17 @@ impl<W: Wheel + Drop> Facility<W> {
             (λ answer. verdict self.old.state (event_of_request client number request) ≡ verdict_in answer)
             (λ reason. verdict self.old.state (event_of_request client number request)
             ≡ verdict_on_not_taken reason) }
-        ensures room { IfErr result (IsShort self.old.state) }
+        ensures room { IfErr result (NoRoomWasMade self.old.state) }
         ensures err { OnErr result (self.new ≡ self.old) }
     {
         if let Err(reason) = self.admit(client, number) {
             return Err(reason);
         }
-        match request {
-            Request::Start { interval, action } => self.take_start(
-                client, number, interval, action,
-            ),
-            Request::StartAt { deadline, action } => {
-                let interval = self.ticks_until(deadline);
-                self.take_start(client, number, interval, action)
-            }
-            Request::Stop(handle) => Ok(self.take_stop(client, number, handle)),
-            Request::Restart {
-                handle,
-                interval,
-                action,
-            } => Ok(self.take_restart(client, number, handle, interval, action)),
-            Request::RestartAt {
-                handle,
-                deadline,
-                action,
-            } => {
-                let interval = self.ticks_until(deadline);
-                Ok(self.take_restart(client, number, handle, interval, action))
-            }
-        }
+        let Ok(answer) = self.answer(client, number, request) else {
+            return Err(NotTaken::OutOfMemory);
+        };
+        self.numbers[client as usize] = number + 1;
+        Ok(answer)
     }
 
     /// Advances the clock by one tick. The timers that expire wait to be handed out.
@@ -268,11 +255,8 @@ impl<W: Wheel + Drop> Facility<W> {
             (λ fault. verdict self.old.state Tick ≡ Some (TickRefused fault)) }
         ensures err { OnErr result (self.new ≡ self.old) }
     {
-        if self.is_closed {
-            return Err(TickFault::Closed);
-        }
-        if self.wheel.now() == self.wheel.last_tick() {
-            return Err(TickFault::ClockEnd);
+        if let Some(fault) = self.tick_refusal() {
+            return Err(fault);
         }
         self.wheel.per_tick();
         Ok(())
@@ -292,13 +276,10 @@ impl<W: Wheel + Drop> Facility<W> {
             ≡ None) (λ fault. tick_refusal self.old.state ≡ Some fault) }
         ensures err { OnErr result (self.new ≡ self.old) }
     {
-        if self.is_closed {
-            return Err(TickFault::Closed);
+        if let Some(fault) = self.tick_refusal() {
+            return Err(fault);
         }
         let left = self.wheel.last_tick() - self.wheel.now();
-        if left == 0 {
-            return Err(TickFault::ClockEnd);
-        }
         Ok(self.wheel.advance(limit.min(left)))
     }
 
@@ -326,8 +307,8 @@ impl<W: Wheel + Drop> Facility<W> {
 
     /// Closes the facility, and returns how many timers were pending. They wait to be handed out.
     ///
-    /// A refusal changes nothing: after `OutOfMemory` the facility is still open. No timer may wait to be
-    /// handed out.
+    /// A refusal changes nothing: after `OutOfMemory` the facility is still open. After a `reserve` that returned
+    /// Ok, a close is never out of memory. No timer may wait to be handed out.
     pub fn close(&mut self) -> Result<u64, CloseFault>
         requires { self.old.waiting ≡ [] }
         ensures count { IfOk result (λ count. count ≡ length self.old.state.pending) }
@@ -337,19 +318,18 @@ impl<W: Wheel + Drop> Facility<W> {
         ensures verdict { MatchResult result
             (λ _. verdict self.old.state Close ≡ None)
             (λ fault. verdict self.old.state Close ≡ verdict_on_close fault) }
+        ensures room { IfErr result (NoRoomToClose self.old.state) }
         ensures err { OnErr result (self.new ≡ self.old) }
     {
         if self.is_closed {
             return Err(CloseFault::Closed);
         }
-        let Ok(returned) = take_all(&mut self.wheel) else {
+        let Ok(()) = take_all(&mut self.wheel, &mut self.returned) else {
             return Err(CloseFault::OutOfMemory);
         };
-        let count = returned.len() as u64;
-        self.returned = returned;
         self.handed = 0;
         self.is_closed = true;
-        Ok(count)
+        Ok(self.returned.len() as u64)
     }
 
     /// Hands out the next timer that waits, or returns None if none waits. Does not allocate.
@@ -373,10 +353,12 @@ impl<W: Wheel + Drop> Facility<W> {
     }
 
     /// Whether a request under this number is taken.
+    #[tactic(auto, using(crate::proofs::FacilityFields::clients_are), unfolding(crate::specs::Verdict::not_taken))]
     fn admit(&self, client: u64, number: u64) -> Result<(), NotTaken>
-        ensures { MatchResult result
+        ensures verdict { MatchResult result
             (λ _. not_taken self.now.state client number ≡ None)
             (λ reason. not_taken self.now.state client number ≡ Some reason) }
+        ensures client { OnOk result (client < MAX_CLIENTS) }
     {
         if self.is_closed {
             return Err(NotTaken::Closed);
@@ -397,6 +379,44 @@ impl<W: Wheel + Drop> Facility<W> {
         Ok(())
     }
 
+    /// Answers a request that is taken, and does what is accepted of it. Its number is not used up yet.
+    ///
+    /// The only error is out of memory, and then nothing changes.
+    fn answer(&mut self, client: u64, number: u64, request: Request) -> Result<Answer, OutOfMemory>
+        requires waiting { self.old.waiting ≡ [] }
+        requires client { client < length self.old.state.numbers }
+        ensures answered { IfOk result (λ answer.
+            HasAnswered self.old.state client number (model_of request) answer self.new) }
+        ensures start { OnErr result (IsStart (model_of request)) }
+        ensures accepted { OnErr result (refusal self.old.state client (model_of request) ≡ None) }
+        ensures room { OnErr result (self.old.state.has_room ≡ false) }
+        ensures err { OnErr result (self.new ≡ self.old) }
+    {
+        match request {
+            Request::Start { interval, action } => self.take_start(
+                client, number, interval, action,
+            ),
+            Request::StartAt { deadline, action } => {
+                let interval = self.ticks_until(deadline);
+                self.take_start(client, number, interval, action)
+            }
+            Request::Stop(handle) => Ok(self.take_stop(client, handle)),
+            Request::Restart {
+                handle,
+                interval,
+                action,
+            } => Ok(self.take_restart(client, number, handle, interval, action)),
+            Request::RestartAt {
+                handle,
+                deadline,
+                action,
+            } => {
+                let interval = self.ticks_until(deadline);
+                Ok(self.take_restart(client, number, handle, interval, action))
+            }
+        }
+    }
+
     /// A start that is taken.
     fn take_start(
         &mut self,
@@ -404,50 +424,53 @@ impl<W: Wheel + Drop> Facility<W> {
         number: u64,
         interval: u64,
         action: u64,
-    ) -> Result<Answer, NotTaken>
+    ) -> Result<Answer, OutOfMemory>
         requires waiting { self.old.waiting ≡ [] }
-        requires taken { not_taken self.old.state client number ≡ None }
-        ensures answer { IfOk result (λ answer. answer
-            ≡ answer_to self.old.state client number (Start interval action) (place_in answer)) }
-        ensures left { IfOk result (λ answer.
-            self.new ≡ with_nothing_waiting
-            (after_taken self.old.state client number (Start interval action) (place_in answer))) }
-        ensures memory { IfErr result (λ reason. (reason ≡ NotTaken.OutOfMemory)
-            × (start_refusal self.old.state interval ≡ None)) }
+        requires client { client < length self.old.state.numbers }
+        ensures answered { IfOk result (λ answer.
+            HasAnswered self.old.state client number (Start (After interval) action) answer self.new) }
+        ensures accepted { OnErr result (start_refusal self.old.state interval ≡ None) }
         ensures room { OnErr result (self.old.state.has_room ≡ false) }
         ensures err { OnErr result (self.new ≡ self.old) }
     {
         if let Some(reason) = self.start_refusal(interval) {
-            self.numbers[client as usize] = number + 1;
             return Ok(Answer::Refused(reason));
         }
-        let deadline = self.wheel.now() + interval;
-        let timer = Timer {
+        let timer = self.new_timer(client, number, interval, action);
+        let Ok(handle) = self.wheel.start(timer) else {
+            return Err(OutOfMemory);
+        };
+        self.next_serial += 1;
+        self.counts[client as usize] += 1;
+        Ok(Answer::Started {
+            handle,
+            deadline: timer.deadline,
+        })
+    }
+
+    /// The timer that a start with this interval makes, if the interval is not refused.
+    fn new_timer(&self, client: u64, number: u64, interval: u64, action: u64) -> Timer
+        requires { interval_refusal self.now.state interval ≡ None }
+        ensures { result ≡ new_timer self.now.state client number interval action }
+    {
+        Timer {
             serial: self.next_serial,
             client,
             number,
-            deadline,
+            deadline: self.wheel.now() + interval,
             action,
-        };
-        match self.wheel.start(timer) {
-            Err(_) => Err(NotTaken::OutOfMemory),
-            Ok(handle) => {
-                self.next_serial += 1;
-                self.numbers[client as usize] = number + 1;
-                self.counts[client as usize] += 1;
-                Ok(Answer::Started { handle, deadline })
-            }
         }
     }
 
     /// How many ticks are left until a deadline.
     fn ticks_until(&self, deadline: u64) -> u64
-        ensures { result ≡ ticks_until self.now.state deadline }
+        ensures { result ≡ ticks_until self.now.state (At deadline) }
     {
         deadline.saturating_sub(self.wheel.now())
     }
 
     /// Why a start with this interval is refused, if it is refused.
+    #[tactic(auto, using(crate::proofs::FacilityFields::agrees), unfolding(crate::specs::Verdict::room_refusal))]
     fn start_refusal(&self, interval: u64) -> Option<Reason>
         ensures { result ≡ start_refusal self.now.state interval }
     {
@@ -461,6 +484,7 @@ impl<W: Wheel + Drop> Facility<W> {
     }
 
     /// Why no timer can be started now with this interval, whether or not there is room for one.
+    #[tactic(auto, using(crate::proofs::FacilityFields::agrees), unfolding(crate::specs::Verdict::interval_refusal))]
     fn interval_refusal(&self, interval: u64) -> Option<Reason>
         ensures { result ≡ interval_refusal self.now.state interval }
     {
@@ -476,22 +500,30 @@ impl<W: Wheel + Drop> Facility<W> {
         None
     }
 
+    /// Why a tick is refused now, if it is refused.
+    #[tactic(auto, using(crate::proofs::FacilityFields::agrees), unfolding(crate::specs::Verdict::tick_refusal))]
+    fn tick_refusal(&self) -> Option<TickFault>
+        ensures { result ≡ tick_refusal self.now.state }
+    {
+        if self.is_closed {
+            return Some(TickFault::Closed);
+        }
+        if self.wheel.now() == self.wheel.last_tick() {
+            return Some(TickFault::ClockEnd);
+        }
+        None
+    }
+
     /// A stop that is taken.
-    fn take_stop(&mut self, client: u64, number: u64, handle: Handle) -> Answer
-        requires waiting { self.old.waiting ≡ [] }
-        requires taken { not_taken self.old.state client number ≡ None }
-        ensures answer { result ≡ answer_to self.old.state client number (Stop handle) 0 }
-        ensures left { self.new ≡ with_nothing_waiting
-            (after_taken self.old.state client number (Stop handle) 0) }
+    fn take_stop(&mut self, client: u64, handle: Handle) -> Answer
+        requires { self.old.waiting ≡ [] }
+        ensures { (number : ℕ)
+            → HasAnswered self.old.state client number (Stop (ByHandle handle)) result self.new }
     {
         match self.find_named(client, handle) {
-            None => {
-                self.numbers[client as usize] = number + 1;
-                Answer::Refused(Reason::NoSuch)
-            }
+            None => Answer::Refused(Reason::NoSuch),
             Some(timer) => {
                 let _ = self.wheel.stop(handle);
-                self.numbers[client as usize] = number + 1;
                 self.counts[client as usize] -= 1;
                 Answer::Stopped {
                     serial: timer.serial,
@@ -509,37 +541,24 @@ impl<W: Wheel + Drop> Facility<W> {
         interval: u64,
         action: u64,
     ) -> Answer
-        requires waiting { self.old.waiting ≡ [] }
-        requires taken { not_taken self.old.state client number ≡ None }
-        ensures answer { result ≡ answer_to self.old.state client number (Restart handle interval action)
-            (place_in result) }
-        ensures left { self.new ≡ with_nothing_waiting
-            (after_taken self.old.state client number (Restart handle interval action) (place_in result)) }
+        requires { self.old.waiting ≡ [] }
+        ensures { HasAnswered self.old.state client number (Restart (ByHandle handle) (After interval) action)
+            result self.new }
     {
         let Some(old) = self.find_named(client, handle) else {
-            self.numbers[client as usize] = number + 1;
             return Answer::Refused(Reason::NoSuch);
         };
         if let Some(reason) = self.interval_refusal(interval) {
-            self.numbers[client as usize] = number + 1;
             return Answer::Refused(reason);
         }
-        let deadline = self.wheel.now() + interval;
-        let timer = Timer {
-            serial: self.next_serial,
-            client,
-            number,
-            deadline,
-            action,
-        };
+        let timer = self.new_timer(client, number, interval, action);
         let Some((handle, _)) = self.wheel.restart(handle, timer) else {
             unreachable!()
         };
         self.next_serial += 1;
-        self.numbers[client as usize] = number + 1;
         Answer::Restarted {
             handle,
-            deadline,
+            deadline: timer.deadline,
             old: old.serial,
         }
     }
@@ -548,7 +567,7 @@ impl<W: Wheel + Drop> Facility<W> {
     /// out. Does not allocate.
     pub fn find_named(&self, client: u64, handle: Handle) -> Option<Timer>
         requires { self.now.waiting ≡ [] }
-        ensures { result ≡ named self.now.state client (Stop handle) }
+        ensures { result ≡ timer_named self.now.state client (ByHandle handle) }
     {
         let timer = self.wheel.look(handle)?;
         if timer.client == client {
@@ -559,15 +578,17 @@ impl<W: Wheel + Drop> Facility<W> {
     }
 }
 
-/// Removes all pending timers from the wheel, in the order in which they are returned.
+/// Moves all pending timers from the wheel into a list, in the order in which they are returned.
 ///
 /// The only error is out of memory, and then nothing changes.
-fn take_all<W: Wheel>(wheel: &mut W) -> Result<Vec<Timer>, OutOfMemory>
-    ensures timers { IfOk result (λ timers. timers.items ≡ timers_of (W.state wheel.old).pending) }
+fn take_all<W: Wheel>(wheel: &mut W, timers: &mut Vec<Timer>) -> Result<(), OutOfMemory>
+    ensures timers { OnOk result (timers.new.items ≡ timers_of (W.state wheel.old).pending) }
     ensures cleared { OnOk result (W.state wheel.new ≡ after_clear (W.state wheel.old)) }
-    ensures err { OnErr result (wheel.new ≡ wheel.old) }
+    ensures capacity { vec_capacity timers.old ≤ vec_capacity timers.new }
+    ensures full { OnErr result (vec_capacity timers.old < length (W.state wheel.old).pending) }
+    ensures err { OnErr result ((wheel.new ≡ wheel.old) × (timers.new.items ≡ timers.old.items)) }
 {
-    let timers = wheel.list()?;
+    wheel.list_into(timers)?;
     wheel.clear();
-    Ok(timers)
+    Ok(())
 }

@@ -4,7 +4,7 @@ ghost use Rattle.std.specs.Prelude.{◌≡◌, ◌≤◌, List, [], ℕ, ◌+◌
 ghost use Rattle.std.specs.List.{AllByRecursion};
 ghost use Rattle.timer_facility.specs.declared.limits.TheConstants.{MAX_CLIENTS, MAX_PENDING};
 ghost use Rattle.timer_facility.specs.declared.handles.TheConstants.{SPARE};
-ghost use Rattle.timer_facility.specs.State.{FacilityState, IsSound, SingleEvent, Asked, Tick, Close, Wanted, pending_of};
+ghost use Rattle.timer_facility.specs.State.{FacilityState, IsSound, SingleEvent, Asked, Tick, Close, ModelRequest, pending_of};
 ghost use Rattle.timer_facility.specs.Verdict.{Refusal, verdict, closed_refusal};
 ghost use Rattle.timer_facility.specs.Refused.{refusals_in, refusals_of};
 ghost use Rattle.timer_facility.specs.Step.{step, refused};
@@ -87,8 +87,8 @@ pub fn nothing_comes_after_the_close()
 
 /// A request adds at most one pending timer to those of its client, and none to those of another.
 pub fn a_request_adds_at_most_one()
-    ensures { (s : FacilityState) (client number : ℕ) (wanted : Wanted) (place : ℕ)
-        → AddsAtMostOne client s (step s (Asked client number wanted) place).state }
+    ensures { (s : FacilityState) (client number : ℕ) (request : ModelRequest) (place : ℕ)
+        → AddsAtMostOne client s (step s (Asked client number request) place).state }
 {}
 
 /// What a tick or a close hands out was pending, and is no longer pending.

@@ -1,14 +1,14 @@
 //! Plays lists of events.
 //!
-//! Memory for all that an event can produce is reserved before the event: one out, one handle for a start
-//! or a restart, and one notice for each pending timer. After that only the facility's own call can fail,
+//! Memory for all that an event can produce is reserved before the event: one out and one handle for a
+//! request, and one notice for each pending timer. After that only the facility's own call can fail,
 //! which then has changed nothing. So an event is played whole or not at all.
 ghost use Rattle.std.specs.Prelude.{◌≡◌, ◌<◌, ◌≤◌, ◌+◌, ◌*◌, ◌++◌, ◌∷◌, ◌↔◌, ℕ, List, [], None, length, map, take, IsTrue, IfOk, IfErr, OnErr, OnOk, vec_len, vec_capacity};
 ghost use Rattle.timer_facility.specs.State.{FacilityState, IsSound, Tick, Close};
 ghost use Rattle.timer_facility.specs.Verdict.{tick_refusal};
 ghost use Rattle.timer_facility.specs.Step.{step};
-ghost use Rattle.timer_facility.specs.Facility.{with_nothing_waiting};
-ghost use Rattle.timer_facility.specs.Played.{IsPlayed, AddsRun};
+ghost use Rattle.timer_facility.specs.Facility.{with_nothing_waiting, event_of_request};
+ghost use Rattle.timer_facility.specs.Played.{IsPlayed, MakesStep, AddsRun};
 ghost use Rattle.timer_facility.specs.Handles.{HandleList, AreRecorded};
 ghost use Rattle.timer_facility.specs.declared.handles.TheConstants.{SPARE};
 
@@ -118,44 +118,51 @@ impl<W: Wheel + Drop> Player<W> {
                 number,
                 interval,
                 action,
-            } => self.play_start(client, number, interval, action, outs),
+            } => self.play_request(client, number, Request::Start { interval, action }, outs),
             Event::Stop {
                 client,
                 number,
                 serial,
-            } => self.play_stop(client, number, serial, outs),
+            } => {
+                let handle = self.handles.handle_of(serial);
+                self.play_request(client, number, Request::Stop(handle), outs)
+            }
             Event::Restart {
                 client,
                 number,
                 serial,
                 interval,
                 action,
-            } => self.play_restart(client, number, serial, interval, action, outs),
+            } => {
+                let handle = self.handles.handle_of(serial);
+                let request = Request::Restart {
+                    handle,
+                    interval,
+                    action,
+                };
+                self.play_request(client, number, request, outs)
+            }
             Event::Ticks { count } => self.play_ticks(count, outs),
             Event::Close => self.play_close(outs),
         }
     }
 
-    /// Plays a start, and keeps the handle of the timer that it started.
-    fn play_start(
+    /// Plays a request, and keeps the handle of the timer that it started.
+    fn play_request(
         &mut self,
         client: u64,
         number: u64,
-        interval: u64,
-        action: u64,
+        request: Request,
         outs: &mut Vec<Out>,
     ) -> Result<(), OutOfMemory>
-        ensures ok { OnOk result (AddsRun self.old
-            (Event.Start client number interval action) outs.old.items outs.new.items self.new) }
+        ensures ok { OnOk result (MakesStep self.old (event_of_request client number request)
+            outs.old.items outs.new.items self.new) }
         ensures state { OnErr result (self.new ≡ self.old) }
         ensures outs { OnErr result (outs.new.items ≡ outs.old.items) }
     {
         outs.reserve(1)?;
         self.handles.make_room()?;
-        match self
-            .facility
-            .take(client, number, Request::Start { interval, action })
-        {
+        match self.facility.take(client, number, request) {
             Ok(answer) => {
                 self.handles.record(answer);
                 self.handles.forget(&self.facility);
@@ -166,70 +173,6 @@ impl<W: Wheel + Drop> Player<W> {
                 if let NotTaken::OutOfMemory = reason {
                     return Err(OutOfMemory);
                 }
-                push_reason(outs, client, number, reason);
-                Ok(())
-            }
-        }
-    }
-
-    /// Plays a stop, which names its timer by serial.
-    fn play_stop(
-        &mut self,
-        client: u64,
-        number: u64,
-        serial: u64,
-        outs: &mut Vec<Out>,
-    ) -> Result<(), OutOfMemory>
-        ensures ok { OnOk result (AddsRun self.old
-            (Event.Stop client number serial) outs.old.items outs.new.items self.new) }
-        ensures state { OnErr result (self.new ≡ self.old) }
-        ensures outs { OnErr result (outs.new.items ≡ outs.old.items) }
-    {
-        outs.reserve(1)?;
-        let handle = self.handles.handle_of(serial);
-        match self.facility.take(client, number, Request::Stop(handle)) {
-            Ok(answer) => {
-                self.handles.forget(&self.facility);
-                push_answer(outs, client, number, answer);
-                Ok(())
-            }
-            Err(reason) => {
-                push_reason(outs, client, number, reason);
-                Ok(())
-            }
-        }
-    }
-
-    /// Plays a restart, which names its timer by serial, and keeps the handle of the new timer.
-    fn play_restart(
-        &mut self,
-        client: u64,
-        number: u64,
-        serial: u64,
-        interval: u64,
-        action: u64,
-        outs: &mut Vec<Out>,
-    ) -> Result<(), OutOfMemory>
-        ensures ok { OnOk result (AddsRun self.old
-            (Event.Restart client number serial interval action) outs.old.items outs.new.items self.new) }
-        ensures state { OnErr result (self.new ≡ self.old) }
-        ensures outs { OnErr result (outs.new.items ≡ outs.old.items) }
-    {
-        outs.reserve(1)?;
-        self.handles.make_room()?;
-        let request = Request::Restart {
-            handle: self.handles.handle_of(serial),
-            interval,
-            action,
-        };
-        match self.facility.take(client, number, request) {
-            Ok(answer) => {
-                self.handles.record(answer);
-                self.handles.forget(&self.facility);
-                push_answer(outs, client, number, answer);
-                Ok(())
-            }
-            Err(reason) => {
                 push_reason(outs, client, number, reason);
                 Ok(())
             }

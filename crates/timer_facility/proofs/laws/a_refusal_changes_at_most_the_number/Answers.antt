@@ -1,4 +1,4 @@
-use Rattle.timer_facility.proofs.StepRefusals.{step-refused}
+use Rattle.timer_facility.proofs.StepLemmas.{step-refused}
 use Rattle.timer_facility.proofs.laws.a_refusal_changes_at_most_the_number.Goals as goal
 
 pub returns : goal.returns

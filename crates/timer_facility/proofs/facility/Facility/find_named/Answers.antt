@@ -1,7 +1,7 @@
 use Rattle.std.proofs.Common.{refl}
 use Rattle.std.proofs.lemmas.Bool.{eq-eqb}
 use Rattle.std.specs.Prelude.{Some}
-use Rattle.timer_facility.proofs.FacilityParts.{found_pending}
+use Rattle.timer_facility.proofs.FacilityFields.{found_pending}
 use Rattle.timer_facility.proofs.facility.Facility.find_named.Goals as goal
 
 pub returns-then-timer-client : goal.returns-then-timer-client

@@ -1,6 +1,6 @@
 use Rattle.std.proofs.Common.{◌≡◌, ℕ, Vec, length, vec_len, sym, arith}
 use Rattle.timer_base.specs.declared.timer.Timer.{Timer}
-use Rattle.timer_facility.proofs.FacilityParts.{due_counted, next_counted, returned_next, parts-expiry, parts-nothing_due, parts-returned, clients_are}
+use Rattle.timer_facility.proofs.FacilityFields.{due_counted, next_counted, returned_next, facility-expiry, facility-nothing_due, facility-returned, clients_are}
 use Rattle.timer_facility.proofs.facility.Facility.next_out.Goals as goal
 
 length_is : {Z : Type 0} (list : Vec Timer Z) (n : ℕ) → n ≡ vec_len list → n ≡ length list.items
@@ -29,7 +29,7 @@ bounds-self-inside-timer-in-Some g c =
     omega (arith, counted.within)
 
 pub invariant_of-self : goal.invariant_of-self
-invariant_of-self g c = parts-expiry c.self.invariant c.in-Some.timer (sym c.in-Some.ensures.first)
+invariant_of-self g c = facility-expiry c.self.invariant c.in-Some.timer (sym c.in-Some.ensures.first)
     (g.W.Wheel.state c.expire.new.self) c.in-Some.ensures.rest
 
 pub returns-in-Some-clause-client : goal.returns-in-Some-clause-client
@@ -67,7 +67,7 @@ pub invariant_of-self-2 : goal.invariant_of-self-2
 invariant_of-self-2 g c =
     let next = returned_next c.self.invariant c.len.result (length_is c.self.inside.returned c.len.result c.len.ensures) c.if-self-len.false
     c.index-timer.result.now c.index-timer.ensures in
-    parts-returned (parts-nothing_due c.self.invariant (sym c.in_default.ensures.first)
+    facility-returned (facility-nothing_due c.self.invariant (sym c.in_default.ensures.first)
     (g.W.Wheel.state c.expire.new.self) c.in_default.ensures.rest) c.index-timer.result.now next
 
 pub returns-clause-client : goal.returns-clause-client

@@ -1,4 +1,4 @@
-use Rattle.timer_facility.proofs.FacilityParts.{sound}
+use Rattle.timer_facility.proofs.FacilityFields.{sound}
 use Rattle.timer_facility.proofs.facility.Facility.now.Goals as goal
 
 pub returns-clause-sound : goal.returns-clause-sound

@@ -1,5 +1,5 @@
 use Rattle.std.proofs.Common.{sym, arith}
-use Rattle.timer_facility.proofs.FacilityParts.{clients_are, pending_is, pending_of_none}
+use Rattle.timer_facility.proofs.FacilityFields.{clients_are, pending_is, pending_of_none}
 use Rattle.timer_facility.proofs.facility.Facility.pending_of.Goals as goal
 
 pub returns-then-client-self-clause-value : goal.returns-then-client-self-clause-value

@@ -1,4 +1,4 @@
-use Rattle.timer_facility.proofs.FacilityParts.{nothing_due}
+use Rattle.timer_facility.proofs.FacilityFields.{nothing_due}
 use Rattle.timer_facility.proofs.facility.Facility.wheel.Goals as goal
 
 pub returns-clause-due : goal.returns-clause-due

@@ -1,22 +1,20 @@
-use Rattle.std.proofs.Common.{◌≡◌, ◌∷◌, ◌++◌, [], ◌∙◌, ap, sym, refl, subst, Some}
-use Rattle.timer_facility.specs.declared.event.Event.TheVariants as Events
+use Rattle.std.proofs.Common.{◌≡◌, ◌∷◌, ◌++◌, [], ◌∙◌, ap, sym, subst, Some}
 use Rattle.timer_facility.specs.declared.event.Out.TheVariants as Outs
-use Rattle.timer_facility.specs.declared.request.Request.TheVariants as Requests
-use Rattle.timer_facility.specs.State.{FacilityState, Start}
+use Rattle.timer_facility.specs.State.{FacilityState, SingleEvent}
 use Rattle.timer_facility.specs.Verdict.{not_taken}
-use Rattle.timer_facility.specs.Facility.{FacilityView}
-use Rattle.timer_facility.specs.Played.{AddsRun}
+use Rattle.timer_facility.specs.Facility.{FacilityView, event_of_request}
+use Rattle.timer_facility.specs.Played.{MakesStep}
 use Rattle.timer_facility.specs.Handles.{HandleList, AreRecorded, with_answer}
-use Rattle.timer_facility.proofs.HandlesLemmas.{StaysRecorded, recorded-start}
-use Rattle.timer_facility.proofs.PlayedLemmas.{AddsRun-taken, AddsRun-not_taken, reason-verdict}
-use Rattle.timer_facility.proofs.player.Player.play_start.Goals as goal
+use Rattle.timer_facility.proofs.HandlesLemmas.{StaysRecorded, recorded-taken}
+use Rattle.timer_facility.proofs.PlayedLemmas.{MakesStep-taken, MakesStep-not_taken, reason-verdict}
+use Rattle.timer_facility.proofs.player.Player.play_request.Goals as goal
 
 pub forget-requires : goal.forget-requires
 forget-requires g c =
     let s : FacilityState = c.self.inside.facility.state in
     let before : HandleList = c.self.inside.handles.list.items in
     let kept : StaysRecorded c.take.new.self (with_answer c.in-Ok.answer before) =
-    recorded-start s c.take.new.self before c.args.client c.args.number c.args.interval c.args.action c.in-Ok.answer
+    recorded-taken s c.take.new.self before c.args.client c.args.number c.args.request c.in-Ok.answer
     c.self.invariant.recorded c.in-Ok.ensures.taken in
     subst (λ (handles : HandleList). AreRecorded handles c.take.new.self.state)
     (sym (c.record.ensures ∙ ap (with_answer c.in-Ok.answer) c.make_room.ensures.list)) kept.recorded
@@ -26,7 +24,7 @@ invariant_of-self-in-Ok g c =
     let s : FacilityState = c.self.inside.facility.state in
     let before : HandleList = c.self.inside.handles.list.items in
     let kept : StaysRecorded c.take.new.self (with_answer c.in-Ok.answer before) =
-    recorded-start s c.take.new.self before c.args.client c.args.number c.args.interval c.args.action c.in-Ok.answer
+    recorded-taken s c.take.new.self before c.args.client c.args.number c.args.request c.in-Ok.answer
     c.self.invariant.recorded c.in-Ok.ensures.taken in
     record { waiting = kept.waiting; recorded = c.forget.ensures.recorded; few = c.forget.ensures.few }
 
@@ -34,29 +32,27 @@ pub returns-in-Ok-clause-ok : goal.returns-in-Ok-clause-ok
 returns-in-Ok-clause-ok g c =
     let s : FacilityState = c.self.inside.facility.state in
     let before = c.args.outs.now.items in
-    let event = Events.Start c.args.client c.args.number c.args.interval c.args.action in
+    let event : SingleEvent = event_of_request c.args.client c.args.number c.args.request in
     let outs : c.push_answer.new.outs.items ≡ before ++ Outs.Answered c.args.client c.args.number c.in-Ok.answer ∷ [] =
     c.push_answer.ensures ∙ ap (λ os. os ++ Outs.Answered c.args.client c.args.number c.in-Ok.answer ∷ []) c.reserve.ensures.items in
-    subst (λ a. AddsRun a event before c.push_answer.new.outs.items c.take.new.self.state) c.self.view_is
-    (AddsRun-taken s event c.args.client c.args.number (Requests.Start c.args.interval c.args.action) c.in-Ok.answer before
-    c.push_answer.new.outs.items c.take.new.self refl c.in-Ok.ensures.taken outs)
+    subst (λ a. MakesStep a event before c.push_answer.new.outs.items c.take.new.self.state) c.self.view_is
+    (MakesStep-taken s c.args.client c.args.number c.args.request c.in-Ok.answer before c.push_answer.new.outs.items c.take.new.self
+    c.in-Ok.ensures.taken outs)
 
 pub returns-in_default : goal.returns-in_default
 returns-in_default g c =
     let s : FacilityState = c.self.inside.facility.state in
     let before = c.args.outs.now.items in
-    let event = Events.Start c.args.client c.args.number c.args.interval c.args.action in
-    let wanted = Start c.args.interval c.args.action in
+    let event : SingleEvent = event_of_request c.args.client c.args.number c.args.request in
     let reason : not_taken s c.args.client c.args.number ≡ Some c.in-Err.reason =
-    reason-verdict s c.args.client c.args.number (Requests.Start c.args.interval c.args.action) c.in-Err.reason c.in-Err.ensures.not_taken
+    reason-verdict s c.args.client c.args.number c.args.request c.in-Err.reason c.in-Err.ensures.not_taken
     c.in_default.not-OutOfMemory in
     let outs : c.push_reason.new.outs.items ≡ before ++ Outs.NotTaken c.args.client c.args.number c.in-Err.reason ∷ [] =
     c.push_reason.ensures ∙ ap (λ os. os ++ Outs.NotTaken c.args.client c.args.number c.in-Err.reason ∷ []) c.reserve.ensures.items in
-    let left : c.take.new.self.state ≡ s = ap (λ (v : FacilityView). v.state) c.in-Err.ensures.err in
     record {
-      ok = subst (λ a. AddsRun a event before c.push_reason.new.outs.items c.take.new.self.state) c.self.view_is
-          (AddsRun-not_taken s event c.args.client c.args.number wanted c.in-Err.reason before c.push_reason.new.outs.items
-          c.take.new.self.state refl reason outs left);
+      ok = subst (λ a. MakesStep a event before c.push_reason.new.outs.items c.take.new.self.state) c.self.view_is
+          (MakesStep-not_taken s c.args.client c.args.number c.args.request c.in-Err.reason before c.push_reason.new.outs.items
+          c.take.new.self.state reason outs (ap (λ (v : FacilityView). v.state) c.in-Err.ensures.err));
       state = tt;
       outs = tt;
     }

@@ -1,0 +1,203 @@
+-- Steps by their verdict, and what an accepted request stops and starts.
+use Rattle.std.proofs.Common.{◌≡◌, ◌<◌, ℕ, [], length, refl, sym, ◌∙◌, ap, subst, arith}
+use Rattle.std.specs.Prelude.{Option, Some, None}
+use Rattle.timer_base.specs.OneOrder.{IsMember}
+use Rattle.timer_base.specs.declared.timer.Timer.{Timer}
+use Rattle.timer_base.specs.Pending.{timers_of, first_timer}
+use Rattle.timer_facility.specs.declared.request.Answer.{Answer}
+use Rattle.timer_facility.specs.declared.request.Answer.TheVariants.{Refused}
+use Rattle.timer_facility.specs.declared.request.NotTaken.{NotTaken}
+use Rattle.timer_facility.specs.declared.request.Reason.{Reason}
+use Rattle.timer_facility.specs.declared.request.Request.{Request}
+use Rattle.timer_facility.specs.State.{FacilityState, Deadline, ticks_until, Name, ModelRequest, Start, Stop, Restart, action_of, SingleEvent, Asked}
+use Rattle.timer_facility.specs.Verdict.{not_taken, has_name, timer_named, first_refusal, interval_refusal, name_refusal, refusal, Refusal, RequestNotTaken, verdict_on_request, verdict}
+use Rattle.timer_facility.specs.Step.{StepResult, answered, refused, new_timer, timer_stopped, timer_started, answer_to, after_request, accepted, step_by, step}
+use Rattle.timer_facility.specs.Facility.{FacilityView, view_after, model_of, event_of_request, place_in, IsAnswered, HasAnswered, IsTaken}
+use Rattle.timer_facility.proofs.TimerLists.{first_timer-among, of_client_some}
+use Rattle.timer_facility.proofs.VerdictLemmas.{IsTimely, timely, startable}
+
+-- By the verdict.
+
+-- a refused event
+pub step-refused : (s : FacilityState) (event : SingleEvent) (place : ℕ) (r : Refusal) → verdict s event ≡ Some r
+    → step s event place ≡ refused s event r
+step-refused s event place r h = ap (step_by s event (accepted s event place)) h
+
+-- an accepted one
+pub step-accepted : (s : FacilityState) (event : SingleEvent) (place : ℕ) → verdict s event ≡ None
+    → step s event place ≡ accepted s event place
+step-accepted s event place h = ap (step_by s event (accepted s event place)) h
+
+pub verdict-not_taken : (s : FacilityState) (client number : ℕ) (request : ModelRequest) (reason : NotTaken)
+    → not_taken s client number ≡ Some reason → verdict s (Asked client number request) ≡ Some (RequestNotTaken reason)
+verdict-not_taken s client number request reason h = ap (λ v. verdict_on_request v (refusal s client request)) h
+
+-- a request that is not taken changes nothing
+pub step-not_taken : (s : FacilityState) (client number : ℕ) (request : ModelRequest) (place : ℕ) (reason : NotTaken)
+    → not_taken s client number ≡ Some reason
+    → step s (Asked client number request) place ≡ refused s (Asked client number request) (RequestNotTaken reason)
+step-not_taken s client number request place reason h =
+    step-refused s (Asked client number request) place (RequestNotTaken reason) (verdict-not_taken s client number request reason h)
+
+-- what holds of a request's step, from what holds when it is not taken, refused or accepted
+pub by_verdict : (P : StepResult → Type 0) (s : FacilityState) (client number : ℕ) (request : ModelRequest) (place : ℕ)
+    → ((reason : NotTaken) → P (refused s (Asked client number request) (RequestNotTaken reason)))
+    → ((reason : Reason) → not_taken s client number ≡ None → P (answered client number (Refused reason) s))
+    → (not_taken s client number ≡ None → refusal s client request ≡ None → P (accepted s (Asked client number request) place))
+    → P (step s (Asked client number request) place)
+by_verdict P s client number request place f g h = cases (not_taken s client number) (refusal s client request) g h
+  where
+    cases : (v : Option NotTaken) (w : Option Reason)
+        → ((reason : Reason) → v ≡ None → P (answered client number (Refused reason) s))
+        → (v ≡ None → w ≡ None → P (accepted s (Asked client number request) place))
+        → P (step_by s (Asked client number request) (accepted s (Asked client number request) place) (verdict_on_request v w))
+    cases (Some reason) w g h = f reason
+    cases None (Some reason) g h = g reason refl
+    cases None None g h = h refl refl
+
+-- two requests that are refused alike, and stop and start the same, have one step
+pub step-alike : (s : FacilityState) (client number : ℕ) (a b : ModelRequest) (place : ℕ)
+    → refusal s client a ≡ refusal s client b → timer_stopped s client a ≡ timer_stopped s client b
+    → timer_started s client number a ≡ timer_started s client number b
+    → step s (Asked client number a) place ≡ step s (Asked client number b) place
+step-alike s client number a b place e f g =
+    alike (not_taken s client number) (refusal s client a)
+    ∙ ap (λ w. step_by s (Asked client number b) (accepted s (Asked client number a) place)
+    (verdict_on_request (not_taken s client number) w)) e
+    ∙ ap (λ old. of_timers old (timer_started s client number a)) f
+    ∙ ap (λ new. of_timers (timer_stopped s client b) new) g
+  where
+    alike : (v : Option NotTaken) (w : Option Reason)
+        → step_by s (Asked client number a) (accepted s (Asked client number a) place) (verdict_on_request v w)
+        ≡ step_by s (Asked client number b) (accepted s (Asked client number a) place) (verdict_on_request v w)
+    alike (Some reason) w = refl
+    alike None (Some reason) = refl
+    alike None None = refl
+
+    of_timers : Option Timer → Option Timer → StepResult
+    of_timers old new = step_by s (Asked client number b)
+        (answered client number (answer_to old new place) (after_request old new place s))
+        (verdict s (Asked client number b))
+
+-- so it is one whether a timer is named by its handle or by its serial
+pub step-stop : (s : FacilityState) (client number place : ℕ) (a b : Name) → timer_named s client a ≡ timer_named s client b
+    → step s (Asked client number (Stop a)) place ≡ step s (Asked client number (Stop b)) place
+step-stop s client number place a b e = step-alike s client number (Stop a) (Stop b) place (ap name_refusal e) e refl
+
+pub step-restart : (s : FacilityState) (client number place : ℕ) (a b : Name) (deadline : Deadline) (action : ℕ)
+    → timer_named s client a ≡ timer_named s client b
+    → step s (Asked client number (Restart a deadline action)) place ≡ step s (Asked client number (Restart b deadline action)) place
+step-restart s client number place a b deadline action e =
+    step-alike s client number (Restart a deadline action) (Restart b deadline action) place
+    (ap (λ o. first_refusal (name_refusal o) (interval_refusal s (ticks_until s deadline))) e) e refl
+
+-- What it stops and starts.
+
+named_among : (s : FacilityState) (client : ℕ) (name : Name) (t : Timer) → timer_named s client name ≡ Some t
+    → IsMember t (timers_of s.pending)
+named_among s client name t h = first_timer-among (has_name name) t s.pending
+    (of_client_some client (first_timer (has_name name) s.pending) t h)
+
+-- a timer that is stopped is pending
+pub stopped-among : (s : FacilityState) (client : ℕ) (request : ModelRequest) (t : Timer)
+    → timer_stopped s client request ≡ Some t → IsMember t (timers_of s.pending)
+stopped-among s client (Start deadline action) t h = absurd (cc)
+stopped-among s client (Stop name) t h = named_among s client name t h
+stopped-among s client (Restart name deadline action) t h = named_among s client name t h
+
+-- a timer that is started now for a client and under a number
+pub record IsNew (s : FacilityState) (client number action : ℕ) (t : Timer) : Type 0 where
+  pub serial_is : t.serial ≡ s.next_serial
+  pub client_is : t.client ≡ client
+  pub number_is : t.number ≡ number
+  pub action_is : t.action ≡ action
+
+new_is : (s : FacilityState) (client number interval action : ℕ) (t : Timer)
+    → Some (new_timer s client number interval action) ≡ Some t → IsNew s client number action t
+new_is s client number interval action t h =
+    let e : new_timer s client number interval action ≡ t = cc in
+    subst (IsNew s client number action) e (record { serial_is = refl; client_is = refl; number_is = refl; action_is = refl })
+
+pub started-new : (s : FacilityState) (client number : ℕ) (request : ModelRequest) (t : Timer)
+    → timer_started s client number request ≡ Some t → IsNew s client number (action_of request) t
+started-new s client number (Start deadline action) t h = new_is s client number (ticks_until s deadline) action t h
+started-new s client number (Stop name) t h = absurd (cc)
+started-new s client number (Restart name deadline action) t h = new_is s client number (ticks_until s deadline) action t h
+
+later_is : (s : FacilityState) (client number interval action : ℕ) (t : Timer) → IsTimely s interval
+    → Some (new_timer s client number interval action) ≡ Some t → s.now < t.deadline
+later_is s client number interval action t timely h =
+    let e : new_timer s client number interval action ≡ t = cc in
+    let positive = timely.positive in
+    subst (λ (u : Timer). s.now < u.deadline) e (omega arith)
+
+-- a restart that is not refused has found its timer, and its interval is not refused either
+restartable : (found : Option Timer) (o : Option Reason)
+    → first_refusal (name_refusal found) o ≡ None → o ≡ None
+restartable None o h = absurd (cc)
+restartable (Some t) o h = h
+
+-- and its deadline is after now, if it is accepted
+pub started-later : (s : FacilityState) (client number : ℕ) (request : ModelRequest) (t : Timer) → refusal s client request ≡ None
+    → timer_started s client number request ≡ Some t → s.now < t.deadline
+started-later s client number (Start deadline action) t r h =
+    later_is s client number (ticks_until s deadline) action t (startable s (ticks_until s deadline) r).timely h
+started-later s client number (Stop name) t r h = absurd (cc)
+started-later s client number (Restart name deadline action) t r h =
+    later_is s client number (ticks_until s deadline) action t
+    (timely s (ticks_until s deadline) (restartable (timer_named s client name) (interval_refusal s (ticks_until s deadline)) r)) h
+
+-- an accepted request stops a timer or starts one
+pub accepted-some : (s : FacilityState) (client number : ℕ) (request : ModelRequest) → refusal s client request ≡ None
+    → timer_stopped s client request ≡ None → timer_started s client number request ≡ None → ⊥
+accepted-some s client number (Start deadline action) r old new = absurd (cc)
+accepted-some s client number (Stop name) r old new = absurd (let e : Some _ ≡ None = ap name_refusal (sym old) ∙ r in cc)
+accepted-some s client number (Restart name deadline action) r old new = absurd (cc)
+
+-- From a request that was answered.
+
+-- nothing waits, and there are as many clients
+pub record LeavesClients (s : FacilityState) (v : FacilityView) : Type 0 where
+  pub waiting : v.waiting ≡ []
+  pub as_many : length v.state.numbers ≡ length s.numbers
+
+leaves : (s : FacilityState) (old new : Option Timer) (answer : Answer) (v : FacilityView) (w : Option Reason)
+    → IsAnswered w old new s answer v → LeavesClients s v
+leaves s old new answer v (Some reason) a = subst (LeavesClients s) (sym a.1) (record { waiting = refl; as_many = refl })
+leaves s old None answer v None a = subst (LeavesClients s) (sym a.1) (record { waiting = refl; as_many = refl })
+leaves s old (Some new) answer v None a = subst (LeavesClients s) (sym a.1) (record { waiting = refl; as_many = refl })
+
+pub answered-leaves : (s : FacilityState) (client number : ℕ) (request : ModelRequest) (answer : Answer) (v : FacilityView)
+    → HasAnswered s client number request answer v → LeavesClients s v
+answered-leaves s client number request answer v a =
+    leaves s (timer_stopped s client request) (timer_started s client number request) answer v (refusal s client request) a
+
+-- the answer, and the state once the number is used up
+step_answered : (s : FacilityState) (client number : ℕ) (request : ModelRequest) (answer : Answer) (v : FacilityView)
+    → (w : Option Reason) → IsAnswered w (timer_stopped s client request) (timer_started s client number request) s answer v
+    → step_by s (Asked client number request) (accepted s (Asked client number request) (place_in answer)) (verdict_on_request None w)
+    ≡ answered client number answer v.state
+step_answered s client number request answer v (Some reason) a =
+    ap (λ (x : Answer). answered client number x s) (sym a.0) ∙ ap (λ (u : FacilityView). answered client number answer u.state) (sym a.1)
+step_answered s client number request answer v None a =
+    let after : FacilityState =
+    after_request (timer_stopped s client request) (timer_started s client number request) (place_in answer) s in
+    ap (λ (x : Answer). answered client number x after) (sym a.0)
+    ∙ ap (λ (u : FacilityView). answered client number answer u.state) (sym a.1)
+
+pub step-answered : (s : FacilityState) (client number : ℕ) (request : ModelRequest) (answer : Answer) (v : FacilityView)
+    → not_taken s client number ≡ None → HasAnswered s client number request answer v
+    → step s (Asked client number request) (place_in answer) ≡ answered client number answer v.state
+step-answered s client number request answer v n a =
+    ap (λ o. step_by s (Asked client number request) (accepted s (Asked client number request) (place_in answer))
+    (verdict_on_request o (refusal s client request))) n
+    ∙ step_answered s client number request answer v (refusal s client request) a
+
+-- the request is taken once its number is used up
+pub taken-answered : (s : FacilityState) (client number : ℕ) (request : Request) (answer : Answer) (v new : FacilityView)
+    → not_taken s client number ≡ None → HasAnswered s client number (model_of request) answer v
+    → new ≡ view_after (answered client number answer v.state) → IsTaken s client number request answer new
+taken-answered s client number request answer v new n a e =
+    let is : step s (event_of_request client number request) (place_in answer) ≡ answered client number answer v.state =
+    step-answered s client number (model_of request) answer v n a in
+    record { answered = ap (λ (st : StepResult). st.outs) is; left = e ∙ sym (ap view_after is) }
