@@ -1,16 +1,30 @@
--- The invariant of a desk, when the account of one client changes.
-use Rattle.std.proofs.Common.{◌≡◌, ◌≢◌, ℕ, ◌+◌, ◌<◌, ◌≤◌, ◌==◌, Bool, true, false, ◌⊎◌, List, [], ◌++◌, length, get_or, refl, sym, ◌∙◌, ap, subst, inl, inr, arith}
-use Rattle.std.specs.Prelude.{slice_set, if◌then◌else◌}
+-- The members of one call, and the invariant of the desk after it.
+use Rattle.std.proofs.Common.{◌≡◌, ◌≢◌, ℕ, ◌+◌, ◌<◌, ◌≤◌, ◌==◌, Bool, true, false, ◌⊎◌, List, [], ◌∷◌, ◌++◌, length, get_or, map, refl, sym, ◌∙◌, ap, subst, inl, inr, arith, append-nil, append_assoc, length-append}
+use Rattle.std.specs.Prelude.{zero, suc, take, drop, slice_set, if◌then◌else◌}
 use Rattle.std.proofs.lemmas.Bool.Decides.{nat_tests}
-use Rattle.std.proofs.lemmas.List.{get_or-set_same, get_or-set_other, length-set}
-use Rattle.timer_facility.specs.State.{pending_of}
-use Rattle.timer_facility.specs.Facility.{FacilityView}
+use Rattle.std.proofs.lemmas.List.{get_or-set_same, get_or-set_other, get_or_default, length-set, take-append-drop, length-take-le}
+use Rattle.timer_facility.specs.declared.request.Notice.{Notice}
+use Rattle.timer_facility.specs.declared.event.Out.TheVariants as Outs
+use Rattle.timer_facility.specs.State.{FacilityState, pending_of}
+use Rattle.timer_facility.specs.Run.{run}
+use Rattle.timer_facility.specs.Facility.{FacilityView, with_nothing_waiting}
+use Rattle.timer_facility.specs.HandedOver.{AddsAtMostOne}
+use Rattle.timer_desk.specs.declared.word.Word.{Word}
+use Rattle.timer_desk.specs.declared.word.Word.TheVariants as Words
+use Rattle.timer_desk.specs.declared.report.Served.{Served}
 use Rattle.timer_desk.specs.declared.report.Done.{Done}
-use Rattle.timer_desk.specs.Inlet.{LineKind}
-use Rattle.timer_desk.specs.Backlog.{BacklogState, notices_for}
-use Rattle.timer_desk.specs.Report.{Account, account_of, got_but_held, HeldIsLast, ClientAccount, asked}
-use Rattle.timer_desk.specs.Desk.{IsDesk}
+use Rattle.timer_desk.specs.declared.report.Done.TheVariants as Dones
+use Rattle.timer_desk.specs.Inlet.{LineState, LineKind}
+use Rattle.timer_desk.specs.Flush.{IsGiven, without_words}
+use Rattle.timer_desk.specs.Extends.{Extends-refl}
+use Rattle.timer_desk.specs.Backlog.{BacklogState, empty_backlog, with_word, with_words, client_of, with_notice, with_notices, notices_for}
+use Rattle.timer_desk.specs.Report.{Account, account_of, got_but_held, held_list, HeldIsLast, IsAccount, Runs, request_in, word_in, asked_in, words_in, flushed_in, events_in, step_in, steps_of}
+use Rattle.timer_desk.specs.Member.{Moment, IsServe, ClientMember, FacilityMember, IsKept, Members}
+use Rattle.timer_desk.specs.Event.{IsSilent, IsEvent}
+use Rattle.timer_desk.specs.declared.report.Step.{Step}
+use Rattle.timer_desk.specs.Desk.{DeskState, IsDesk, ReportHolds, AddsStep}
 use Rattle.timer_desk.proofs.ReportHeld.{held_last}
+use Rattle.timer_desk.proofs.Members.{kept_at_end, members_clients, members_lines, IsAccount-nothing}
 
 either : (b : Bool) → (b ≡ true) ⊎ (b ≡ false)
 either b = elim b as (λ v. (v ≡ true) ⊎ (v ≡ false)) [ true ↦ inl refl | false ↦ inr refl ]
@@ -21,73 +35,416 @@ is_equal m n h = grind (arith, nat_tests)
 is_other : (m n : ℕ) → (m == n) ≡ false → n ≢ m
 is_other m n h = grind (arith, nat_tests)
 
--- the account after a report ends in the held request
-pub ClientAccount-held : (c : ℕ) (report : List Done) (a b : Account) → ClientAccount c report a b → HeldIsLast b
-ClientAccount-held c report a b t = held_last b (got_but_held a ++ asked c report) t.asked_are
+not_same : (m n : ℕ) → n ≢ m → (m == n) ≡ false
+not_same m n h = grind (arith, nat_tests)
 
--- no notice waits, so nothing but the pending timers needs room
-none_for : (f : FacilityView) (c : ℕ) → f.waiting ≡ [] → notices_for c f.waiting ≡ 0
-none_for f c h = ap (notices_for c) h
+same_is : (n : ℕ) → (n == n) ≡ true
+same_is n = grind (arith, nat_tests)
+
+pub take_over : {X : Type 0} (n : ℕ) (xs : List X) → length xs ≤ n → take n xs ≡ xs
+take_over zero [] h = refl
+take_over zero (x ∷ xs) h = absurd (omega arith)
+take_over (suc n) [] h = refl
+take_over (suc n) (x ∷ xs) h = ap (λ ys. x ∷ ys) (take_over n xs (omega arith))
+
+-- the desk state and the moment of these parts
+abbrev pub desk_of : {I : Type 0} → FacilityView → List I → List BacklogState → DeskState I
+desk_of f inlets bs = record { facility = f.state; inlets = inlets; backlogs = bs }
+
+abbrev moment : {I : Type 0} → FacilityView → List I → List BacklogState → Moment I
+moment f inlets bs = record { facility = f; inlets = inlets; backlogs = bs }
+
+pub still : (f : FacilityView) → f.waiting ≡ [] → f ≡ with_nothing_waiting f.state
+still f quiet = ap (λ (ns : List Notice). let v : FacilityView = record { state = f.state; waiting = ns } in v) quiet
 
 module _ {I : Type 0} (kind : LineKind I) where
-  pub IsDesk-one : (f f' : FacilityView) (inlets : List I) (backlogs : List BacklogState) (c : ℕ) (i' : I) (b' : BacklogState)
-      → IsDesk kind f inlets backlogs → c < length inlets
-      → f'.waiting ≡ [] → length f'.state.numbers ≡ length f.state.numbers
-      → length b'.outbox + pending_of f'.state c ≤ b'.room
-      → ((k : ℕ) → pending_of f'.state k ≤ pending_of f.state k + (if c == k then 1 else 0))
-      → HeldIsLast (account_of kind i' b')
-      → IsDesk kind f' (slice_set inlets c i') (slice_set backlogs c b')
-  IsDesk-one f f' inlets backlogs c i' b' d low quiet numbers room adds held = record {
-    nothing_waits = quiet;
-    as_many = length-set backlogs c b' ∙ d.as_many ∙ sym (length-set inlets c i');
-    clients = length-set inlets c i' ∙ d.clients ∙ sym numbers;
-    room = λ k e l. by_client_room k e l (either (c == k));
-    held = λ k i e l. by_client_held k i e l (either (c == k));
+  -- members between two moments at which nothing waits are a report
+  report_of : (report : List Done) (f f' : FacilityView) (inlets inlets' : List I) (bs bs' : List BacklogState) → f.waiting ≡ []
+      → f'.waiting ≡ [] → Members kind (moment f inlets bs) report (moment f' inlets' bs')
+      → ReportHolds kind report (desk_of f inlets bs) (desk_of f' inlets' bs')
+  report_of report f f' inlets inlets' bs bs' quiet quiet' members = record {
+    members = subst (λ (v : FacilityView). Members kind (moment v inlets bs) report (moment (with_nothing_waiting f'.state) inlets' bs'))
+        (still f quiet)
+        (subst (λ (v : FacilityView). Members kind (moment f inlets bs) report (moment v inlets' bs')) (still f' quiet') members);
+    same_clients = members_clients kind report (moment f inlets bs) (moment f' inlets' bs') members;
+    lines = members_lines kind report (moment f inlets bs) (moment f' inlets' bs') members;
+  }
+
+-- A client that a member says nothing of.
+
+ClientMember-silent : (refuses : Bool) (c : ℕ) (s : FacilityState) (a : Account) (done : Done) → IsSilent c done → HeldIsLast a
+    → ClientMember refuses c s a done a
+ClientMember-silent refuses c s a done o last = record {
+  account = subst (λ rs. IsAccount rs (words_in c done) (flushed_in c done) a a) (sym o.no_request)
+      (subst (λ ws. IsAccount [] ws (flushed_in c done) a a) (sym o.no_word)
+      (subst (λ n. IsAccount [] [] n a a) (sym o.none_flushed) (IsAccount-nothing a last)));
+  serve = λ served is. absurd (o.no_serve served is);
+  no_serve = λ none. record { same_got = refl; same_standing = refl; same_held = refl };
+}
+
+-- A member of one client.
+
+-- a serve of client c says nothing of another one
+pub silent_serve : (c : ℕ) (served : Served) (k : ℕ) → k ≢ c → IsSilent k (Dones.Served c served)
+silent_serve c served k other = record {
+  no_request = if_other (request_in served) [];
+  no_word = if_other (word_in served) [];
+  none_flushed = refl;
+  no_serve = λ result is. other (sym (same_client result is));
+}
+  where
+    if_other : {X : Type 0} (x y : X) → (if c == k then x else y) ≡ y
+    if_other x y = ap (λ b. if b then x else y) (not_same c k other)
+
+    same_client : (result : Served) → Dones.Served c served ≡ Dones.Served k result → c ≡ k
+    same_client result is = cc
+
+-- nor does a flush
+pub silent_flush : (c count : ℕ) (k : ℕ) → k ≢ c → IsSilent k (Dones.Flushed c count)
+silent_flush c count k other = record {
+  no_request = refl;
+  no_word = refl;
+  none_flushed = ap (λ b. if b then count else 0) (not_same c k other);
+  no_serve = λ result is. absurd (cc);
+}
+
+pub ClientMember-served : (refuses : Bool) (c : ℕ) (s : FacilityState) (a : Account) (served : Served) (b : Account)
+    → IsAccount (request_in served) (word_in served) 0 a b → IsServe refuses c s a served b
+    → ClientMember refuses c s a (Dones.Served c served) b
+ClientMember-served refuses c s a served b account serve = record {
+  account = subst (λ v. IsAccount (if v then request_in served else []) (if v then word_in served else []) 0 a b) (sym (same_is c)) account;
+  serve = λ result is. subst (λ r. IsServe refuses c s a r b) (same_served result is) serve;
+  no_serve = λ none. absurd (none served refl);
+}
+  where
+    same_served : (result : Served) → Dones.Served c served ≡ Dones.Served c result → served ≡ result
+    same_served result is = cc
+
+pub FacilityMember-served : (c : ℕ) (served : Served) (f g : FacilityView) → f.waiting ≡ [] → g.waiting ≡ []
+    → Runs (Dones.Served c served ∷ []) f.state g.state → FacilityMember (Dones.Served c served) f g
+FacilityMember-served c served f g quiet left runs =
+    subst (λ (v : FacilityView). FacilityMember (Dones.Served c served) v g) (sym (still f quiet))
+    (subst (λ (v : FacilityView). FacilityMember (Dones.Served c served) (with_nothing_waiting f.state) v) (sym (still g left)) (record {
+      outs_are = ap (λ ps. (run f.state ps).outs) (sym (append-nil (events_in (Dones.Served c served)))) ∙ sym runs.outs_are;
+      state_is = runs.state_is ∙ ap (λ ps. (run f.state ps).state) (append-nil (events_in (Dones.Served c served)));
+      in_turn = refl;
+      none_left = λ e. refl;
+      right = tt;
+    }))
+
+pub FacilityMember-flushed : (c count : ℕ) (f : FacilityView) → f.waiting ≡ [] → FacilityMember (Dones.Flushed c count) f f
+FacilityMember-flushed c count f quiet =
+    subst (λ (v : FacilityView). FacilityMember (Dones.Flushed c count) v v) (sym (still f quiet))
+    (record { outs_are = refl; state_is = refl; in_turn = refl; none_left = λ e. refl; right = tt })
+
+module _ {I : Type 0} (kind : LineKind I) (c : ℕ) (inlets : List I) (bs : List BacklogState) (i i' : I) (b b' : BacklogState)
+    (as_many : length bs ≡ length inlets) (low : c < length inlets) (is_i : i ≡ get_or inlets c i) (is_b : b ≡ get_or bs c b) where
+  -- a fact of each client, if client c has another line and another backlog
+  at_each : (fact : ℕ → I → BacklogState → I → BacklogState → Type 0) → fact c i b i' b'
+      → ((k : ℕ) (j : I) (e : BacklogState) → k < length inlets → k ≢ c
+      → fact k (get_or inlets k j) (get_or bs k e) (get_or inlets k j) (get_or bs k e))
+      → (k : ℕ) (j : I) (e : BacklogState) → k < length inlets
+      → fact k (get_or inlets k j) (get_or bs k e) (get_or (slice_set inlets c i') k j) (get_or (slice_set bs c b') k e)
+  at_each fact here other k j e l = by_case (either (c == k))
+    where
+      by_case : (c == k) ≡ true ⊎ (c == k) ≡ false
+          → fact k (get_or inlets k j) (get_or bs k e) (get_or (slice_set inlets c i') k j) (get_or (slice_set bs c b') k e)
+      by_case (inl h) =
+          let within : c < length bs = let m = as_many in omega arith in
+          subst (λ n. fact n (get_or inlets n j) (get_or bs n e) (get_or (slice_set inlets c i') n j) (get_or (slice_set bs c b') n e))
+          (sym (is_equal c k h))
+          (subst (λ x. fact c x (get_or bs c e) (get_or (slice_set inlets c i') c j) (get_or (slice_set bs c b') c e))
+          (is_i ∙ get_or_default inlets c i j low)
+          (subst (λ x. fact c i x (get_or (slice_set inlets c i') c j) (get_or (slice_set bs c b') c e))
+          (is_b ∙ get_or_default bs c b e within)
+          (subst (λ x. fact c i b x (get_or (slice_set bs c b') c e)) (sym (get_or-set_same inlets c i' j low))
+          (subst (λ x. fact c i b i' x) (sym (get_or-set_same bs c b' e within)) here))))
+      by_case (inr h) =
+          subst (λ x. fact k (get_or inlets k j) (get_or bs k e) x (get_or (slice_set bs c b') k e))
+          (sym (get_or-set_other inlets c k i' j (is_other c k h)))
+          (subst (λ x. fact k (get_or inlets k j) (get_or bs k e) (get_or inlets k j) x)
+          (sym (get_or-set_other bs c k b' e (is_other c k h))) (other k j e l (is_other c k h)))
+
+-- no notice waits, so nothing but the pending timers needs room
+pub none_for : (c : ℕ) (f : FacilityView) → f.waiting ≡ [] → notices_for c f.waiting ≡ 0
+none_for c f quiet = ap (notices_for c) quiet
+
+-- what a call for client c gives: its line and backlog, and the facility, before and after its member of a report
+pub record IsClientCall {I : Type 0} (kind : LineKind I) (c : ℕ) (done : Done) (f f' : FacilityView) (i i' : I)
+    (b b' : BacklogState) : Type 0 where
+  pub others : (k : ℕ) → k ≢ c → IsSilent k done
+  pub line : kind.same i i'
+  pub facility : FacilityMember done f f'
+  pub client : ClientMember kind.take_may_refuse c f.state (account_of kind i b) done (account_of kind i' b')
+  pub quiet : f'.waiting ≡ []
+  pub same_numbers : length f'.state.numbers ≡ length f.state.numbers
+  pub room : length b'.outbox + pending_of f'.state c ≤ b'.room
+  pub adds : (k : ℕ) → pending_of f'.state k ≤ pending_of f.state k + (if c == k then 1 else 0)
+
+module _ {I : Type 0} (kind : LineKind I) (c : ℕ) (done : Done) (f f' : FacilityView) (inlets : List I) (bs : List BacklogState)
+    (i i' : I) (b b' : BacklogState) (call : IsClientCall kind c done f f' i i' b b') (d : IsDesk kind f inlets bs) (low : c < length inlets)
+    (is_i : i ≡ get_or inlets c i) (is_b : b ≡ get_or bs c b) where
+  kept_client : IsKept kind (moment f' (slice_set inlets c i') (slice_set bs c b'))
+  kept_client = record {
+    as_many = length-set bs c b' ∙ d.kept.as_many ∙ sym (length-set inlets c i');
+    room = λ k e l. at_each kind c inlets bs i i' b b' d.kept.as_many low is_i is_b
+        (λ n x y x' y'. length y'.outbox + pending_of f'.state n + notices_for n f'.waiting ≤ y'.room)
+        (let n = none_for c f' call.quiet in let r = call.room in omega arith)
+        (λ n j e' l' other.
+        let n0 = none_for n f' call.quiet in
+        let more : pending_of f'.state n ≤ pending_of f.state n + 0 =
+        subst (λ (v : Bool). pending_of f'.state n ≤ pending_of f.state n + (if v then 1 else 0)) (not_same c n other) (call.adds n) in
+        let m = d.kept.as_many in
+        let was : length (get_or bs n e').outbox + pending_of f.state n + notices_for n f.waiting ≤ (get_or bs n e').room =
+        d.kept.room n e' (omega arith) in
+        omega arith)
+        k i e (let m = length-set bs c b' in let m' = d.kept.as_many in omega arith);
+    held = λ k j e l. at_each kind c inlets bs i i' b b' d.kept.as_many low is_i is_b
+        (λ n x y x' y'. HeldIsLast (account_of kind x' y'))
+        (held_last (account_of kind i' b') (got_but_held (account_of kind i b) ++ asked_in c done) call.client.account.asked_are)
+        (λ n j' e' l' other. d.kept.held n j' e' l')
+        k j e (let m = length-set inlets c i' in omega arith);
+  }
+
+  pub desk_client : IsDesk kind f' (slice_set inlets c i') (slice_set bs c b')
+  desk_client = record {
+    nothing_waits = call.quiet;
+    clients = length-set inlets c i' ∙ d.clients ∙ sym call.same_numbers;
+    kept = kept_client;
+  }
+
+  pub report_client : ReportHolds kind (done ∷ []) (desk_of f inlets bs) (desk_of f' (slice_set inlets c i') (slice_set bs c b'))
+  report_client = report_of kind (done ∷ []) f f' inlets (slice_set inlets c i') bs (slice_set bs c b') d.nothing_waits call.quiet (
+    moment f' (slice_set inlets c i') (slice_set bs c b'),
+    d.kept,
+    record {
+      same_clients = length-set inlets c i';
+      lines = λ k j l. at_each kind c inlets bs i i' b b' d.kept.as_many low is_i is_b (λ n x y x' y'. kind.same x x') call.line
+          (λ n j' e' l' other. kind.reflexive (get_or inlets n j')) k j b l;
+      facility = call.facility;
+      clients = λ k j e l. at_each kind c inlets bs i i' b b' d.kept.as_many low is_i is_b
+          (λ n x y x' y'. ClientMember kind.take_may_refuse n f.state (account_of kind x y) done (account_of kind x' y')) call.client
+          (λ n j' e' l' other. ClientMember-silent kind.take_may_refuse n f.state (account_of kind (get_or inlets n j') (get_or bs n e'))
+          done (call.others n other) (d.kept.held n j' e' l')) k j e l;
+    },
+    (refl, kept_client),
+  )
+
+-- The two calls for one client.
+
+-- a serve, by what the contract of the backlog's call gives
+pub serve_call : {I : Type 0} (kind : LineKind I) (c : ℕ) (served : Served) (f f' : FacilityView) (i i' : I) (b b' : BacklogState)
+    → f.waiting ≡ [] → kind.same i i' → IsAccount (request_in served) (word_in served) 0 (account_of kind i b) (account_of kind i' b')
+    → IsServe kind.take_may_refuse c f.state (account_of kind i b) served (account_of kind i' b')
+    → Runs (Dones.Served c served ∷ []) f.state f'.state → f'.waiting ≡ [] → length f'.state.numbers ≡ length f.state.numbers
+    → length b'.outbox + pending_of f'.state c ≤ b'.room → AddsAtMostOne c f.state f'.state
+    → IsClientCall kind c (Dones.Served c served) f f' i i' b b'
+serve_call kind c served f f' i i' b b' quiet line account serve runs left numbers room adds = record {
+  others = silent_serve c served;
+  line = line;
+  facility = FacilityMember-served c served f f' quiet left runs;
+  client = ClientMember-served kind.take_may_refuse c f.state (account_of kind i b) served (account_of kind i' b') account serve;
+  quiet = left;
+  same_numbers = numbers;
+  room = room;
+  adds = adds.of_client;
+}
+
+-- a flush, by what the contract of the backlog's call gives
+pub flush_call : {I : Type 0} (kind : LineKind I) (c count : ℕ) (f : FacilityView) (i i' : I) (b b' : BacklogState)
+    → f.waiting ≡ [] → IsGiven kind count b.outbox i i' → b' ≡ without_words count b → HeldIsLast (account_of kind i b)
+    → length b.outbox + pending_of f.state c ≤ b.room → IsClientCall kind c (Dones.Flushed c count) f f i i' b b'
+flush_call kind c count f i i' b b' quiet given left last room =
+    let put : List Word = take count b.outbox in
+    let rest : List Word = drop count b.outbox in
+    let split : put ++ rest ≡ b.outbox = take-append-drop count b.outbox in
+    let long : length put ≡ count = length-take-le count b.outbox given.at_most in
+    let before : List Word = (kind.state i).given in
+    subst (λ (x : BacklogState). IsClientCall kind c (Dones.Flushed c count) f f i i' b x) (sym left) (record {
+      others = silent_flush c count;
+      line = given.same_line;
+      facility = FacilityMember-flushed c count f quiet;
+      client = subst
+          (λ (l : LineState). let a : Account = record { got = l.got; standing = l.standing; given = l.given; backlog = without_words count b } in
+          ClientMember kind.take_may_refuse c f.state (account_of kind i b) (Dones.Flushed c count) a) (sym given.state) (record {
+            account = record {
+              held_first = Extends-refl (held_list b.held);
+              asked_are = ap (λ xs. xs ++ held_list b.held) (append-nil (got_but_held (account_of kind i b))) ∙ last;
+              words_are = append_assoc before put rest ∙ ap (λ xs. before ++ xs) split ∙ sym (append-nil (before ++ b.outbox));
+              flushed_are = length-append before put ∙ ap (λ n. length before + n) long
+                  ∙ ap (λ v. length before + (if v then count else 0)) (sym (same_is c));
+              fewer_left = omega arith;
+              same_room = refl;
+            };
+            serve = λ served is. absurd (cc);
+            no_serve = λ none. record { same_got = refl; same_standing = refl; same_held = refl };
+          });
+      quiet = quiet;
+      same_numbers = refl;
+      room = let few = ap (λ xs. length xs) split in let all = length-append put rest in omega arith;
+      adds = λ k. omega arith;
+    })
+
+-- Notices.
+
+at_notice : (n : Notice) (bs : List BacklogState) (c : ℕ) (d : BacklogState) → c < length bs → (client_of n == c) ≡ true
+    ⊎ (client_of n == c) ≡ false
+    → get_or (with_notice n bs) c d ≡ with_words (words_in c (Dones.Noticed n)) (get_or bs c d)
+at_notice n bs c d l (inl h) =
+    let k : ℕ = client_of n in
+    let is : c ≡ k = is_equal k c h in
+    let there : get_or (with_notice n bs) c d ≡ with_word (Words.Notice n) (get_or bs k (empty_backlog 0)) =
+    ap (λ m. get_or (with_notice n bs) m d) is ∙ get_or-set_same bs k (with_word (Words.Notice n) (get_or bs k (empty_backlog 0))) d
+    (let m : k ≡ c = sym is in omega arith) in
+    let same : get_or bs k (empty_backlog 0) ≡ get_or bs c d = ap (λ m. get_or bs m (empty_backlog 0)) (sym is)
+    ∙ get_or_default bs c (empty_backlog 0) d l in
+    let word : words_in c (Dones.Noticed n) ≡ Words.Notice n ∷ [] = ap (λ b. if b then Words.Notice n ∷ [] else []) h in
+    there ∙ ap (with_word (Words.Notice n)) same ∙ ap (λ ws. with_words ws (get_or bs c d)) (sym word)
+at_notice n bs c d l (inr h) =
+    let k : ℕ = client_of n in
+    let word : words_in c (Dones.Noticed n) ≡ [] = ap (λ b. if b then Words.Notice n ∷ [] else []) h in
+    let b : BacklogState = get_or bs c d in
+    get_or-set_other bs k c (with_word (Words.Notice n) (get_or bs k (empty_backlog 0))) d (is_other k c h)
+    ∙ ap (λ ws. let e : BacklogState = record b { outbox = ws } in e) (sym (append-nil b.outbox))
+    ∙ ap (λ ws. with_words ws b) (sym word)
+
+-- a notice for the client takes one place in its outbox
+notices_more : (c : ℕ) (n : Notice) (ns : List Notice) → (client_of n == c) ≡ true ⊎ (client_of n == c) ≡ false
+    → notices_for c (n ∷ ns) ≡ length (words_in c (Dones.Noticed n)) + notices_for c ns
+notices_more c n ns (inl h) =
+    ap (λ b. (if b then 1 else 0) + notices_for c ns) h
+    ∙ ap (λ b. length (if b then Words.Notice n ∷ [] else []) + notices_for c ns) (sym h)
+notices_more c n ns (inr h) =
+    ap (λ b. (if b then 1 else 0) + notices_for c ns) h
+    ∙ ap (λ b. length (if b then Words.Notice n ∷ [] else []) + notices_for c ns) (sym h)
+
+IsAccount-noted : (ws : List Word) (a : Account) → HeldIsLast a → IsAccount [] ws 0 a (record a { backlog = with_words ws a.backlog })
+IsAccount-noted ws a last = record {
+  held_first = Extends-refl (held_list a.backlog.held);
+  asked_are = ap (λ xs. xs ++ held_list a.backlog.held) (append-nil (got_but_held a)) ∙ last;
+  words_are = sym (append_assoc a.given a.backlog.outbox ws);
+  flushed_are = omega arith;
+  fewer_left = omega arith;
+  same_room = refl;
+}
+
+module _ {I : Type 0} (kind : LineKind I) where
+  kept_noted : (n : Notice) (ns : List Notice) (s : FacilityState) (inlets : List I) (bs : List BacklogState)
+      → IsKept kind (moment (record { state = s; waiting = n ∷ ns }) inlets bs)
+      → IsKept kind (moment (record { state = s; waiting = ns }) inlets (with_notice n bs))
+  kept_noted n ns s inlets bs k =
+      let long : length (with_notice n bs) ≡ length bs =
+      length-set bs (client_of n) (with_word (Words.Notice n) (get_or bs (client_of n) (empty_backlog 0))) in record {
+        as_many = long ∙ k.as_many;
+        room = λ c b l.
+            let low : c < length bs = omega (arith, l, long) in
+            let is = at_notice n bs c b low (either (client_of n == c)) in
+            let len : length (get_or (with_notice n bs) c b).outbox ≡ length (get_or bs c b).outbox
+            + length (words_in c (Dones.Noticed n)) =
+            ap (λ (x : BacklogState). length x.outbox) is ∙ length-append (get_or bs c b).outbox (words_in c (Dones.Noticed n)) in
+            let room : (get_or (with_notice n bs) c b).room ≡ (get_or bs c b).room = ap (λ (x : BacklogState). x.room) is in
+            let was : length (get_or bs c b).outbox + pending_of s c + notices_for c (n ∷ ns) ≤ (get_or bs c b).room = k.room c b low in
+            let more = notices_more c n ns (either (client_of n == c)) in
+            omega (arith, len, room, was, more);
+        held = λ c i b l.
+            let low : c < length bs = let m = k.as_many in omega arith in
+            subst (λ (x : BacklogState). HeldIsLast (account_of kind (get_or inlets c i) x))
+            (sym (at_notice n bs c b low (either (client_of n == c)))) (k.held c i b l);
+      }
+
+  -- what waits is handed out, notice after notice
+  handed_out : (ns : List Notice) (s : FacilityState) (inlets : List I) (bs : List BacklogState)
+      → IsKept kind (moment (record { state = s; waiting = ns }) inlets bs)
+      → Members kind (moment (record { state = s; waiting = ns }) inlets bs) (map Dones.Noticed ns)
+      (moment (with_nothing_waiting s) inlets (with_notices ns bs))
+  handed_out [] s inlets bs k = (refl, k)
+  handed_out (n ∷ ns) s inlets bs k = (
+    moment (record { state = s; waiting = ns }) inlets (with_notice n bs),
+    k,
+    record {
+      same_clients = refl;
+      lines = λ c i l. kind.reflexive (get_or inlets c i);
+      facility = record {
+        outs_are = append-nil (Outs.Notice n ∷ map (λ (m : Notice). Outs.Notice m) ns);
+        state_is = refl;
+        in_turn = refl;
+        none_left = λ e. absurd (cc);
+        right = tt;
+      };
+      clients = λ c i b l.
+          let low : c < length bs = let m = k.as_many in omega arith in
+          subst (λ (x : BacklogState). ClientMember kind.take_may_refuse c s (account_of kind (get_or inlets c i) (get_or bs c b))
+          (Dones.Noticed n) (account_of kind (get_or inlets c i) x)) (sym (at_notice n bs c b low (either (client_of n == c)))) (record {
+            account = IsAccount-noted (words_in c (Dones.Noticed n)) (account_of kind (get_or inlets c i) (get_or bs c b)) (k.held c i b l);
+            serve = λ served is. absurd (cc);
+            no_serve = λ none. record { same_got = refl; same_standing = refl; same_held = refl };
+          });
+    },
+    handed_out ns s inlets (with_notice n bs) (kept_noted n ns s inlets bs k),
+  )
+
+  -- An event of the owner, and its notices.
+
+  pub kept_event : (first : Done) (f g : FacilityView) (inlets : List I) (bs : List BacklogState) → IsEvent first f g → IsDesk kind f inlets bs
+      → IsKept kind (moment g inlets bs)
+  kept_event first f g inlets bs event d = record {
+    as_many = d.kept.as_many;
+    room = λ c b l.
+        let was : length (get_or bs c b).outbox + pending_of f.state c + notices_for c f.waiting ≤ (get_or bs c b).room =
+        d.kept.room c b l in
+        let hands = event.of_client c in
+        omega (arith, was, hands);
+    held = d.kept.held;
+  }
+
+  members_event : (first : Done) (f g f' : FacilityView) (inlets : List I) (bs bs' : List BacklogState)
+      → IsEvent first f g → IsDesk kind f inlets bs → f' ≡ with_nothing_waiting g.state → bs' ≡ with_notices g.waiting bs
+      → Members kind (moment f inlets bs) (first ∷ map Dones.Noticed g.waiting) (moment f' inlets bs')
+  members_event first f g f' inlets bs bs' event d left noted = (
+    moment g inlets bs,
+    d.kept,
+    record {
+      same_clients = refl;
+      lines = λ c i l. kind.reflexive (get_or inlets c i);
+      facility = event.member;
+      clients = λ c i b l. ClientMember-silent kind.take_may_refuse c f.state (account_of kind (get_or inlets c i) (get_or bs c b)) first
+          (event.silent c) (d.kept.held c i b l);
+    },
+    subst (λ (v : FacilityView). Members kind (moment g inlets bs) (map Dones.Noticed g.waiting) (moment v inlets bs')) (sym left)
+        (subst (λ (xs : List BacklogState). Members kind (moment g inlets bs) (map Dones.Noticed g.waiting)
+        (moment (with_nothing_waiting g.state) inlets xs)) (sym noted)
+        (handed_out g.waiting g.state inlets bs (kept_event first f g inlets bs event d))),
+  )
+
+  pub report_event : (first : Done) (ns : List Notice) (f g f' : FacilityView) (inlets : List I) (bs bs' : List BacklogState)
+      → IsEvent first f g → IsDesk kind f inlets bs → f' ≡ with_nothing_waiting g.state → bs' ≡ with_notices g.waiting bs → g.waiting ≡ ns
+      → ReportHolds kind (first ∷ map Dones.Noticed ns) (desk_of f inlets bs) (desk_of f' inlets bs')
+  report_event first ns f g f' inlets bs bs' event d left noted is =
+      subst (λ (xs : List Notice). ReportHolds kind (first ∷ map Dones.Noticed xs) (desk_of f inlets bs) (desk_of f' inlets bs')) is
+      (report_of kind (first ∷ map Dones.Noticed g.waiting) f f' inlets inlets bs bs' d.nothing_waits
+      (ap (λ (v : FacilityView). v.waiting) left) (members_event first f g f' inlets bs bs' event d left noted))
+
+  pub desk_event : (first : Done) (f g f' : FacilityView) (inlets : List I) (bs bs' : List BacklogState)
+      → IsEvent first f g → IsDesk kind f inlets bs → f' ≡ with_nothing_waiting g.state → bs' ≡ with_notices g.waiting bs
+      → IsDesk kind f' inlets bs'
+  desk_event first f g f' inlets bs bs' event d left noted = record {
+    nothing_waits = ap (λ (v : FacilityView). v.waiting) left;
+    clients = d.clients ∙ sym (ap (λ (v : FacilityView). length v.state.numbers) left ∙ event.same_numbers);
+    kept = kept_at_end kind (first ∷ map Dones.Noticed g.waiting) (moment f inlets bs) (moment f' inlets bs')
+        (members_event first f g f' inlets bs bs' event d left noted);
+  }
+
+  pub adds_event : (taken : Step) (before after : List Done) (first : Done) (f g f' : FacilityView) (inlets : List I)
+      (bs bs' : List BacklogState) → IsEvent first f g → step_in first ≡ taken ∷ [] → IsDesk kind f inlets bs
+      → f' ≡ with_nothing_waiting g.state → bs' ≡ with_notices g.waiting bs → after ≡ (before ++ first ∷ []) ++ map Dones.Noticed g.waiting
+      → AddsStep kind taken before after (desk_of f inlets bs) (desk_of f' inlets bs')
+  adds_event taken before after first f g f' inlets bs bs' event is d left noted added = record {
+    more = first ∷ map Dones.Noticed g.waiting;
+    added = added ∙ append_assoc before (first ∷ []) (map Dones.Noticed g.waiting);
+    step = ap (λ xs. step_in first ++ xs) (no_steps g.waiting) ∙ ap (λ xs. xs ++ []) is;
+    holds = report_event first g.waiting f g f' inlets bs bs' event d left noted refl;
   }
     where
-      as_many : length backlogs ≡ length inlets
-      as_many = d.as_many
-
-      by_client_room : (k : ℕ) (e : BacklogState) → k < length (slice_set backlogs c b') → (c == k) ≡ true ⊎ (c == k) ≡ false
-          → length (get_or (slice_set backlogs c b') k e).outbox + pending_of f'.state k + notices_for k f'.waiting
-          ≤ (get_or (slice_set backlogs c b') k e).room
-      by_client_room k e l (inl h) =
-          let is : k ≡ c = is_equal c k h in
-          let there : get_or (slice_set backlogs c b') k e ≡ b' =
-          ap (λ n. get_or (slice_set backlogs c b') n e) is ∙ get_or-set_same backlogs c b' e (let m = as_many in omega arith) in
-          let none : notices_for k f'.waiting ≡ 0 = none_for f' k quiet in
-          let fits : length b'.outbox + pending_of f'.state k ≤ b'.room =
-          subst (λ n. length b'.outbox + pending_of f'.state n ≤ b'.room) (sym is) room in
-          subst (λ (b : BacklogState). length b.outbox + pending_of f'.state k + notices_for k f'.waiting ≤ b.room) (sym there)
-          (omega arith)
-      by_client_room k e l (inr h) =
-          let there : get_or (slice_set backlogs c b') k e ≡ get_or backlogs k e = get_or-set_other backlogs c k b' e (is_other c k h) in
-          let none : notices_for k f'.waiting ≡ 0 = none_for f' k quiet in
-          let within : k < length backlogs = let m : length (slice_set backlogs c b') ≡ length backlogs = length-set backlogs c b'
-          in omega arith in
-          let was : length (get_or backlogs k e).outbox + pending_of f.state k + notices_for k f.waiting ≤ (get_or backlogs k e).room =
-          d.room k e within in
-          let more : pending_of f'.state k ≤ pending_of f.state k + 0 = ap_le (adds k) h in
-          subst (λ (b : BacklogState). length b.outbox + pending_of f'.state k + notices_for k f'.waiting ≤ b.room) (sym there)
-          (omega arith)
-        where
-          ap_le : pending_of f'.state k ≤ pending_of f.state k + (if c == k then 1 else 0) → (c == k) ≡ false
-              → pending_of f'.state k ≤ pending_of f.state k + 0
-          ap_le p q = subst (λ (b : Bool). pending_of f'.state k ≤ pending_of f.state k + (if b then 1 else 0)) q p
-
-      by_client_held : (k : ℕ) (i : I) (e : BacklogState) → k < length (slice_set inlets c i') → (c == k) ≡ true ⊎ (c == k) ≡ false
-          → HeldIsLast (account_of kind (get_or (slice_set inlets c i') k i) (get_or (slice_set backlogs c b') k e))
-      by_client_held k i e l (inl h) =
-          let is : k ≡ c = is_equal c k h in
-          let inlet : get_or (slice_set inlets c i') k i ≡ i' =
-          ap (λ n. get_or (slice_set inlets c i') n i) is ∙ get_or-set_same inlets c i' i low in
-          let backlog : get_or (slice_set backlogs c b') k e ≡ b' =
-          ap (λ n. get_or (slice_set backlogs c b') n e) is ∙ get_or-set_same backlogs c b' e (let m = as_many in omega arith) in
-          subst (λ j. HeldIsLast (account_of kind j (get_or (slice_set backlogs c b') k e))) (sym inlet)
-          (subst (λ b. HeldIsLast (account_of kind i' b)) (sym backlog) held)
-      by_client_held k i e l (inr h) =
-          let inlet : get_or (slice_set inlets c i') k i ≡ get_or inlets k i = get_or-set_other inlets c k i' i (is_other c k h) in
-          let backlog : get_or (slice_set backlogs c b') k e ≡ get_or backlogs k e = get_or-set_other backlogs c k b' e (is_other c k h) in
-          let within : k < length inlets = let m : length (slice_set inlets c i') ≡ length inlets = length-set inlets c i' in omega arith in
-          subst (λ j. HeldIsLast (account_of kind j (get_or (slice_set backlogs c b') k e))) (sym inlet)
-          (subst (λ b. HeldIsLast (account_of kind (get_or inlets k i) b)) (sym backlog) (d.held k i e within))
+      no_steps : (ns : List Notice) → steps_of (map Dones.Noticed ns) ≡ []
+      no_steps [] = refl
+      no_steps (n ∷ ns) = no_steps ns

@@ -15,17 +15,10 @@ use Rattle.timer_desk.specs.declared.report.Done.{Done}
 use Rattle.timer_desk.specs.declared.report.Done.TheVariants as Dones
 use Rattle.timer_desk.specs.declared.report.Step.{Step}
 use Rattle.timer_desk.specs.declared.report.Step.TheVariants as Steps
-use Rattle.timer_desk.specs.Report.{asked, asked_in, request_in, flushed}
-use Rattle.timer_desk.specs.Desk.{steps_of, step_in, InRange}
-use Rattle.timer_desk.specs.Driver.{IsShort, steps_with, is_flush_of, joined, EndsIdle, AreTurns}
-use Rattle.timer_desk.proofs.DriverLemmas.{joined-push, asked_sum, same_at}
-
-abbrev is_serve_of : ℕ → Step → Bool
-is_serve_of c (Steps.Serve client) = client == c
-is_serve_of c Steps.Tick = false
-is_serve_of c (Steps.Ticks limit) = false
-is_serve_of c Steps.Close = false
-is_serve_of c (Steps.Flush client) = false
+use Rattle.timer_desk.specs.Report.{asked, asked_in, request_in, flushed, steps_of, step_in}
+use Rattle.timer_desk.specs.Desk.{InRange}
+use Rattle.timer_desk.specs.Driver.{HasUnfinishedClient, steps_with, is_flush_of, joined, EndsIdle, AreTurns}
+use Rattle.timer_desk.proofs.DriverLemmas.{is_serve_of, is_last, joined-push, asked_sum, same_at}
 
 -- Counts.
 
@@ -97,13 +90,6 @@ module _ (p : ℕ → Bool) (c : ℕ) where
             omega arith
       ]
 
-last_is_no_serve : (c : ℕ) (last : Step) → InRange 0 last → count_by (is_serve_of c) (last ∷ []) ≡ 0
-last_is_no_serve c (Steps.Serve k) h = absurd (omega arith)
-last_is_no_serve c Steps.Tick h = refl
-last_is_no_serve c (Steps.Ticks limit) h = refl
-last_is_no_serve c Steps.Close h = refl
-last_is_no_serve c (Steps.Flush k) h = absurd (omega arith)
-
 serves_in_turn : (p : ℕ → Bool) (c n : ℕ) (last : Step) → InRange 0 last → count_by (is_serve_of c) (steps_with p n last) ≤ one_if (p c)
 serves_in_turn p c n last h =
     let serves : List Step = map Steps.Serve (filter p (range_with_len 0 n)) in
@@ -112,7 +98,7 @@ serves_in_turn p c n last h =
     let b = count_sum (is_serve_of c) serves flushes in
     let few = serves_most p c 0 n in
     let none = none_of (is_serve_of c) Steps.Flush (λ k. refl) (range_with_len 0 n) in
-    let end = last_is_no_serve c last h in
+    let end = (is_last last h).no_serve c in
     omega arith
 
 few_requests : (b : Bool) (served : Served) → length (if b then request_in served else []) ≤ one_if b
@@ -192,13 +178,6 @@ flushes_from c a (suc n) =
     above : (a c : ℕ) → (a == c) ≡ false → a ≤ c → a + 1 ≤ c
     above a c e h = grind (arith, nat_tests)
 
-last_is_no_flush : (c : ℕ) (last : Step) → InRange 0 last → count_by (is_flush_of c) (last ∷ []) ≡ 0
-last_is_no_flush c (Steps.Serve k) h = absurd (omega arith)
-last_is_no_flush c Steps.Tick h = refl
-last_is_no_flush c (Steps.Ticks limit) h = refl
-last_is_no_flush c Steps.Close h = refl
-last_is_no_flush c (Steps.Flush k) h = absurd (omega arith)
-
 -- each client is flushed once a turn
 pub flushed_once : (goal limit clients : ℕ) (last : Step) → InRange 0 last → (turns : List (List Done)) → AreTurns goal limit clients last turns
     → (k c : ℕ) → k < length turns → c < clients → count_by (is_flush_of c) (steps_of (get_or turns k [])) ≡ 1
@@ -211,14 +190,14 @@ flushed_once goal limit clients last h turns each k c l low =
     let b = count_sum (is_flush_of c) serves flushes in
     let none = none_of (is_flush_of c) Steps.Serve (λ i. refl) (filter served (range_with_len 0 clients)) in
     let one = (flushes_from c 0 clients).1 (omega arith) (omega arith) in
-    let end = last_is_no_flush c last h in
+    let end = (is_last last h).no_flush c in
     omega arith
 
 -- The limit.
 
 -- after `limit` turns without progress a client is short of the goal
 pub short_at_limit : (goal limit clients : ℕ) (last : Step) (turns : List (List Done)) → AreTurns goal limit clients last turns
-    → EndsIdle goal clients limit turns → 0 < limit → IsShort goal clients (joined turns)
+    → EndsIdle goal clients limit turns → 0 < limit → HasUnfinishedClient goal clients (joined turns)
 short_at_limit goal limit clients last turns each idle some =
     let k : ℕ = length turns - limit in
     let many = idle.0 in

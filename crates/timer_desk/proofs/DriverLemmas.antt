@@ -1,6 +1,6 @@
 -- The turns of a drive, one more turn, and what was counted.
 use Rattle.std.proofs.Common.{◌≡◌, ◌≢◌, ◌<◌, ◌≤◌, ◌+◌, ◌-◌, ◌*◌, ◌++◌, nat_lt, ℕ, zero, suc, Bool, true, false, cond, List, map, [], ◌∷◌, length, get_or, take, drop, refl, sym, subst, ◌∙◌, ap, arith, inl, inr, ⊎_elim, append-nil, append_assoc, length-append}
-use Rattle.std.specs.Prelude.{min, All, replicate}
+use Rattle.std.specs.Prelude.{◌==◌, min, All, replicate, count_by}
 use Rattle.std.specs.List.{filter, range_with_len}
 use Rattle.std.proofs.lemmas.Bool.{cases_lt}
 use Rattle.std.proofs.lemmas.Bool.Decides.{nat_tests}
@@ -18,11 +18,11 @@ use Rattle.timer_desk.specs.declared.report.Step.TheVariants as Steps
 use Rattle.timer_desk.specs.declared.driver.DriveEnd.{DriveEnd}
 use Rattle.timer_desk.specs.declared.driver.DriveEnd.TheVariants as DriveEnds
 use Rattle.timer_desk.specs.Inlet.{LineKind}
-use Rattle.timer_desk.specs.Backlog.{BacklogState}
-use Rattle.timer_desk.specs.Report.{HeldIsLast, asked, asked_in, flushed}
-use Rattle.timer_desk.specs.Desk.{DeskState, clients_of, account_at, steps_of, InRange, AreBehind, ReportHolds}
-use Rattle.timer_desk.specs.Driver.{progress_in, progress_of, left_for, all_left, IsDone, IsShort, HasCounted, NoneRanOut, is_served, steps_with, turn_steps, joined, EndsIdle, IsTurn, AreTurns, TakesTurn, Drives}
-use Rattle.timer_desk.proofs.ReportConcatenation.{ReportHolds-joined, ReportHolds-nothing, IsLaw, AreOwed-in_time}
+use Rattle.timer_desk.specs.Report.{asked, asked_in, flushed, steps_of}
+use Rattle.timer_desk.specs.Desk.{DeskState, at_rest, clients_of, InRange, ReportHolds}
+use Rattle.timer_desk.specs.Driver.{is_flush_of, progress_in, progress_of, left_for, all_left, IsDone, HasUnfinishedClient, HasCounted, NoneRanOut, is_served, steps_with, turn_steps, joined, EndsIdle, IsTurn, AreTurns, TakesTurn, Drives}
+use Rattle.timer_desk.specs.Member.{IsKept}
+use Rattle.timer_desk.proofs.Members.{ReportHolds-joined, ReportHolds-nothing, follow, are_owed, IsLaw}
 
 -- Reports, joined.
 
@@ -64,12 +64,22 @@ steps_same p q n last h = ap (λ cs. map Steps.Serve cs ++ map Steps.Flush (rang
 range_below : (n : ℕ) → All (λ c. c < n) (range_with_len 0 n)
 range_below n k d l = omega (arith, length-range_with_len 0 n, get_or-range_with_len 0 n k d (omega (arith, length-range_with_len 0 n)))
 
-last_in_range : (n : ℕ) (last : Step) → InRange 0 last → InRange n last
-last_in_range n (Steps.Serve c) h = absurd (omega arith)
-last_in_range n Steps.Tick h = tt
-last_in_range n (Steps.Ticks limit) h = h
-last_in_range n Steps.Close h = tt
-last_in_range n (Steps.Flush c) h = absurd (omega arith)
+abbrev pub is_serve_of : ℕ → Step → Bool
+is_serve_of c (Steps.Serve client) = client == c
+is_serve_of c step = false
+
+-- the last step of a turn serves and flushes nobody, and is in range however many clients there are
+pub record IsLast (last : Step) : Type 0 where
+  pub no_serve : (c : ℕ) → count_by (is_serve_of c) (last ∷ []) ≡ 0
+  pub no_flush : (c : ℕ) → count_by (is_flush_of c) (last ∷ []) ≡ 0
+  pub in_range : (n : ℕ) → InRange n last
+
+pub is_last : (last : Step) → InRange 0 last → IsLast last
+is_last (Steps.Serve c) h = absurd (omega arith)
+is_last Steps.Tick h = record { no_serve = λ c. refl; no_flush = λ c. refl; in_range = λ n. tt }
+is_last (Steps.Ticks limit) h = record { no_serve = λ c. refl; no_flush = λ c. refl; in_range = λ n. h }
+is_last Steps.Close h = record { no_serve = λ c. refl; no_flush = λ c. refl; in_range = λ n. tt }
+is_last (Steps.Flush c) h = absurd (omega arith)
 
 -- each step of a turn is of one of the clients, or the last
 steps_in_range : (p : ℕ → Bool) (n : ℕ) (last : Step) → InRange 0 last → All (InRange n) (steps_with p n last)
@@ -78,7 +88,7 @@ steps_in_range p n last h =
     (All-append (InRange n) (map Steps.Serve (filter p (range_with_len 0 n))) (map Steps.Flush (range_with_len 0 n))
     (All-map (InRange n) Steps.Serve (filter p (range_with_len 0 n)) (All-filter p (λ c. c < n) (range_with_len 0 n) (range_below n)))
     (All-map (InRange n) Steps.Flush (range_with_len 0 n) (range_below n)))
-    (All-cons (InRange n) last [] (last_in_range n last h) (All-nil (InRange n)))
+    (All-cons (InRange n) last [] ((is_last last h).in_range n) (All-nil (InRange n)))
 
 pub turn_in_range : (p : ℕ → Bool) (n m : ℕ) (last : Step) (steps : List Step) → InRange 0 last → n ≡ m → steps ≡ steps_with p n last
     → All (InRange m) steps
@@ -242,7 +252,7 @@ some_left goal ps h = ⊎_elim (λ a. a) (λ a. absurd (h (nothing_left goal ps 
 
 -- if not each client is done, one is short
 is_short : (goal n : ℕ) (report : List Done) (ps : List Progress) → ps ≡ progress_of goal n report
-    → ¬ ((c : ℕ) (d : Progress) → c < length ps → IsDone goal (get_or ps c d)) → IsShort goal n report
+    → ¬ ((c : ℕ) (d : Progress) → c < length ps → IsDone goal (get_or ps c d)) → HasUnfinishedClient goal n report
 is_short goal n report ps is h =
     let none : Progress = record { served = 0; flushed = 0 } in
     let one = one_left goal ps none (some_left goal ps h) in
@@ -293,15 +303,14 @@ module _ {I : Type 0} (kind : LineKind I) (last : Step) (goal : ℕ) where
   -- a turn with the steps that the counts ask for
   pub TakesTurn-one : (out_of_memory : Bool) (x y : DeskState I) (all ps qs : List Progress) (report : List Done) (steps : List Step)
       → ReportHolds kind report x y → steps_of report ≡ steps → steps ≡ steps_with (is_served goal all) (length all) last → all ≡ ps
-      → AreBehind false report → (out_of_memory ≡ false → NoneRanOut report)
+      → (out_of_memory ≡ false → NoneRanOut report)
       → ((c : ℕ) (p : Progress) → c < length ps → HasCounted goal (length (asked c report)) (flushed c report) (get_or ps c p)
       (get_or qs c p))
       → TakesTurn kind last goal out_of_memory x y ps qs
-  TakesTurn-one out_of_memory x y all ps qs report steps told is are same behind memory counted = record {
+  TakesTurn-one out_of_memory x y all ps qs report steps holds is are same memory counted = record {
     turn = report;
-    told = told;
+    holds = holds;
     steps = is ∙ are ∙ ap (λ rs. steps_with (is_served goal rs) (length rs) last) same;
-    behind = behind;
     memory = memory;
     counted = counted;
   }
@@ -311,24 +320,19 @@ module _ {I : Type 0} (kind : LineKind I) (last : Step) (goal limit : ℕ) where
   -- progress
   pub record IsDriving (old new : DeskState I) (progress : List Progress) (idle : ℕ) : Type 0 where
     pub turns : List (List Done)
-    pub told : ReportHolds kind (joined turns) old new
+    pub holds : ReportHolds kind (joined turns) old new
     pub each : AreTurns goal limit (clients_of old) last turns
     pub memory : NoneRanOut (joined turns)
     pub is_counted : progress ≡ progress_of goal (clients_of old) (joined turns)
     pub ends_idle : EndsIdle goal (clients_of old) idle turns
     pub no_more : (n : ℕ) → EndsIdle goal (clients_of old) n turns → n ≤ idle
 
-  -- the clients of the desk are still as many
-  pub clients_now : (x y : DeskState I) (ps : List Progress) (idle : ℕ) → IsDriving x y ps idle → clients_of y ≡ clients_of x
-  clients_now x y ps idle d = d.told.clients.same_clients
-
   pub IsDriving-start : (x : DeskState I) (ps : List Progress) (n : ℕ) → n ≡ clients_of x
       → ps ≡ replicate n (record { served = 0; flushed = 0 })
-      → ((c : ℕ) (i : I) (b : BacklogState) → c < clients_of x → HeldIsLast (account_at kind x c i b))
-      → IsDriving x x ps 0
-  IsDriving-start x ps n is zeroed held = record {
+      → IsKept kind (at_rest x) → IsDriving x x ps 0
+  IsDriving-start x ps n is zeroed kept = record {
     turns = [];
-    told = ReportHolds-nothing kind x held;
+    holds = ReportHolds-nothing kind x kept;
     each = λ k l. absurd (omega arith);
     memory = λ k d l. absurd (omega arith);
     is_counted = zeroed ∙ progress-nothing goal n ∙ ap (λ m. progress_of goal m []) is;
@@ -343,14 +347,14 @@ module _ {I : Type 0} (kind : LineKind I) (last : Step) (goal limit : ℕ) where
     abbrev turns_then : List (List Done)
     turns_then = d.turns ++ t.turn ∷ []
 
-    told_then : ReportHolds kind (joined turns_then) x z
-    told_then = subst (λ r. ReportHolds kind r x z) (sym (joined-push d.turns t.turn))
-        (ReportHolds-joined kind (joined d.turns) t.turn x y z d.told t.told)
+    holds_then : ReportHolds kind (joined turns_then) x z
+    holds_then = subst (λ r. ReportHolds kind r x z) (sym (joined-push d.turns t.turn))
+        (ReportHolds-joined kind (joined d.turns) t.turn x y z d.holds t.holds)
 
     each_then : AreTurns goal limit (clients_of x) last turns_then
     each_then = AreTurns-push goal limit (clients_of x) last d.turns t.turn d.each (record {
       steps = t.steps ∙ steps_counted goal (clients_of x) last (joined d.turns) ps d.is_counted;
-      behind = t.behind;
+      behind = follow kind t.turn y z t.holds;
       short = is_short goal (clients_of x) (joined d.turns) ps d.is_counted not_done;
       memory = d.memory;
       goes_on = λ h. let e = d.no_more limit h in absurd (omega arith);
@@ -363,7 +367,7 @@ module _ {I : Type 0} (kind : LineKind I) (last : Step) (goal limit : ℕ) where
     pub IsDriving-passed : out_of_memory ≡ false → length qs ≡ clients_of x → all_left goal qs < all_left goal ps → IsDriving x z qs 0
     IsDriving-passed good len fewer = record {
       turns = turns_then;
-      told = told_then;
+      holds = holds_then;
       each = each_then;
       memory = ran_out_joined d.turns t.turn d.memory (t.memory good);
       is_counted = counted_then len;
@@ -380,7 +384,7 @@ module _ {I : Type 0} (kind : LineKind I) (last : Step) (goal limit : ℕ) where
     pub IsDriving-idle : out_of_memory ≡ false → length qs ≡ clients_of x → qs ≡ ps → IsDriving x z qs (idle + 1)
     IsDriving-idle good len same = record {
       turns = turns_then;
-      told = told_then;
+      holds = holds_then;
       each = each_then;
       memory = ran_out_joined d.turns t.turn d.memory (t.memory good);
       is_counted = counted_then len;
@@ -398,8 +402,8 @@ module _ {I : Type 0} (kind : LineKind I) (last : Step) (goal limit : ℕ) where
     pub Drives-ran_out : IsLaw x.facility → Drives kind last goal limit x z DriveEnds.OutOfMemory
     Drives-ran_out law = record {
       turns = turns_then;
-      told = told_then;
-      owed = AreOwed-in_time x.facility z.facility law (joined turns_then) told_then.facility told_then.in_time;
+      holds = holds_then;
+      owed = are_owed kind (joined turns_then) x z holds_then law;
       each = each_then;
       done = λ is. absurd (cc);
       idle = λ is. absurd (cc);
@@ -413,8 +417,8 @@ module _ {I : Type 0} (kind : LineKind I) (last : Step) (goal limit : ℕ) where
       → Drives kind last goal limit x y outcome
   Drives-ended x y ps idle outcome d law done at_limit = record {
     turns = d.turns;
-    told = d.told;
-    owed = AreOwed-in_time x.facility y.facility law (joined d.turns) d.told.facility d.told.in_time;
+    holds = d.holds;
+    owed = are_owed kind (joined d.turns) x y d.holds law;
     each = d.each;
     done = λ is c l. reached c l (done is);
     idle = λ is. subst (λ n. EndsIdle goal (clients_of x) n d.turns) (at_limit is) d.ends_idle;

@@ -6,7 +6,7 @@ use Rattle.timer_facility.specs.Facility.{FacilityView}
 use Rattle.timer_desk.specs.Inlet.{LineKind}
 use Rattle.timer_desk.specs.Backlog.{BacklogState, empty_backlog}
 use Rattle.timer_desk.specs.Flush.{without_words, IsGiven, Flushes}
-use Rattle.timer_desk.proofs.DispatchLemmas.{desk_of}
+use Rattle.timer_desk.proofs.DeskLemmas.{desk_of}
 
 module _ {I : Type 0} (kind : LineKind I) where
   pub Flushes-one : (c count : ℕ) (f : FacilityView) (inlets : List I) (backlogs : List BacklogState) (i i' : I) (b b' : BacklogState)

@@ -7,12 +7,12 @@ use Rattle.timer_facility.specs.declared.request.NotTaken.{NotTaken}
 use Rattle.timer_facility.specs.declared.request.NotTaken.TheVariants.{Closed, NoClient, Repeated, NumbersSpent, Ahead, OutOfMemory}
 use Rattle.timer_facility.specs.State.{FacilityState, number_of}
 use Rattle.timer_facility.specs.Verdict.{not_taken}
-use Rattle.timer_facility.specs.Facility.{FacilityView, wanted_of, IsNotTaken, NeedsMemory}
+use Rattle.timer_facility.specs.Facility.{FacilityView, model_of, IsNotTaken, NeedsMemory}
 use Rattle.timer_facility.proofs.ClockLemmas.{clients-asked}
 use Rattle.timer_desk.specs.declared.word.Numbered.{Numbered}
 use Rattle.timer_desk.specs.declared.word.Word.{Word}
-use Rattle.timer_desk.specs.Report.{place_told}
-use Rattle.timer_desk.specs.Forward.{HasAsked}
+use Rattle.timer_desk.specs.Report.{place_in_word}
+use Rattle.timer_desk.specs.Forward.{IsForwarded}
 
 first_of : (closed no_client repeated spent ahead : Bool) (next : ℕ)
     → (if closed then Some Closed else if no_client then Some NoClient else if repeated then Some
@@ -40,7 +40,7 @@ needs_memory s client number request reason e n = elim n [
 
 -- and it adds no client
 pub clients_are : (s : FacilityState) (client : ℕ) (numbered : Numbered) (word : Word) (new : FacilityView)
-    → HasAsked s client numbered word new → length new.state.numbers ≡ length s.numbers
+    → IsForwarded s client numbered word new → length new.state.numbers ≡ length s.numbers
 clients_are s client numbered word new h =
     ap (λ (v : FacilityView). length v.state.numbers) h.left
-    ∙ clients-asked s client numbered.number (wanted_of numbered.request) (place_told word)
+    ∙ clients-asked s client numbered.number (model_of numbered.request) (place_in_word word)

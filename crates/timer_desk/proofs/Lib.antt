@@ -1,15 +1,11 @@
+pub mod Members
 pub mod DeskLemmas
+pub mod EventLemmas
 pub mod DriverLemmas
 pub mod DriveBounds
 pub mod ReportHeld
-pub mod ReportConcatenation
-pub mod DispatchLemmas
-pub mod HeldLemmas
 pub mod ForwardLemmas
-pub mod ReportOfOne
 pub mod ProgressLemmas
 pub mod ShutdownLemmas
-pub mod TicksLemmas
-pub mod PassLemmas
 pub mod FlushLemmas
 pub mod StoppingLemmas

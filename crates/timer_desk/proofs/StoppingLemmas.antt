@@ -1,5 +1,5 @@
 -- A timer that is stopped in the name of a client: the step, and the desk after it.
-use Rattle.std.proofs.Common.{◌≡◌, ℕ, ◌+◌, ◌≤◌, ◌<◌, Bool, true, false, ◌⊎◌, not, List, [], ◌∷◌, length, get_or, refl, sym, ◌∙◌, ap, subst, inl, inr, arith}
+use Rattle.std.proofs.Common.{◌≡◌, ℕ, ◌+◌, ◌≤◌, Bool, true, false, ◌⊎◌, not, List, [], ◌∷◌, length, get_or, refl, sym, ◌∙◌, ap, subst, inl, inr, arith}
 use Rattle.std.specs.Prelude.{Option, Some, None, Ok, Err, Result, IfOk, IfErr, OnErr, filter, slice_get, slice_index, unwrap_or}
 use Rattle.std.proofs.lemmas.List.{length-set}
 use Rattle.std.proofs.lemmas.Option.{unwrap_or-slice_get}
@@ -10,16 +10,17 @@ use Rattle.timer_facility.specs.declared.request.Answer.{Answer}
 use Rattle.timer_facility.specs.declared.request.NotTaken.{NotTaken}
 use Rattle.timer_facility.specs.declared.request.Request.TheVariants as Requests
 use Rattle.timer_facility.specs.declared.event.Out.TheVariants as Outs
-use Rattle.timer_facility.specs.State.{FacilityState, number_of, count_of, pending_of, Stop, Asked}
-use Rattle.timer_facility.specs.Verdict.{not_taken, named}
-use Rattle.timer_facility.specs.Step.{StepResult, step, step_of_request, with_number, after_stop}
+use Rattle.timer_facility.specs.State.{FacilityState, number_of, count_of, pending_of, Name, ByHandle, Stop, SingleEvent, Asked}
+use Rattle.timer_facility.specs.Verdict.{timer_named, verdict}
+use Rattle.timer_facility.specs.Step.{StepResult, answered, answer_to, without_timer, step_by, step}
 use Rattle.timer_facility.specs.Run.{notices_in}
 use Rattle.timer_facility.specs.Facility.{FacilityView, with_nothing_waiting, view_after, place_in, IsTaken, IsNotTaken}
+use Rattle.timer_facility.proofs.StepLemmas.{by_verdict, step-not_taken}
 use Rattle.timer_desk.specs.Inlet.{LineKind}
 use Rattle.timer_desk.specs.Backlog.{BacklogState, notices_for}
 use Rattle.timer_desk.specs.Desk.{DeskState, IsDesk}
 use Rattle.timer_desk.specs.Stopping.{stop_step, stop_outs}
-use Rattle.timer_desk.proofs.DispatchLemmas.{desk_of}
+use Rattle.timer_desk.proofs.DeskLemmas.{desk_of, still, none_for}
 
 either : (b : Bool) → (b ≡ true) ⊎ (b ≡ false)
 either b = elim b as (λ v. (v ≡ true) ⊎ (v ≡ false)) [ true ↦ inl refl | false ↦ inr refl ]
@@ -27,10 +28,16 @@ either b = elim b as (λ v. (v ≡ true) ⊎ (v ≡ false)) [ true ↦ inl refl 
 -- The step.
 
 -- a stop gets no place
-placeless : (s : FacilityState) (client number : ℕ) (handle : Handle) (place : ℕ) (o : Option NotTaken)
-    → step_of_request s client number (Stop handle) place o ≡ step_of_request s client number (Stop handle) 0 o
-placeless s client number handle place None = refl
-placeless s client number handle place (Some reason) = refl
+no_place : (found : Option Timer) (place : ℕ) → answer_to found None place ≡ answer_to found None 0
+no_place None place = refl
+no_place (Some t) place = refl
+
+placeless : (s : FacilityState) (client number : ℕ) (name : Name) (place : ℕ)
+    → step s (Asked client number (Stop name)) place ≡ step s (Asked client number (Stop name)) 0
+placeless s client number name place =
+    let found : Option Timer = timer_named s client name in
+    let event : SingleEvent = Asked client number (Stop name) in
+    ap (λ answer. step_by s event (answered client number answer (without_timer found s)) (verdict s event)) (no_place found place)
 
 -- the step is this one, and nothing waits after it
 pub record IsStopStep (s : FacilityState) (client : ℕ) (handle : Handle) (result : Result Answer NotTaken)
@@ -45,35 +52,28 @@ no_notice st client number answer e = ap (λ outs. let v : FacilityView = record
 taken_step : (s : FacilityState) (client : ℕ) (handle : Handle) (answer : Answer) (new : FacilityView)
     → IsTaken s client (number_of s client) (Requests.Stop handle) answer new → IsStopStep s client handle (Ok answer) new
 taken_step s client handle answer new t =
-    let same : step s (Asked client (number_of s client) (Stop handle)) (place_in answer) ≡ stop_step s client handle =
-    placeless s client (number_of s client) handle (place_in answer) (not_taken s client (number_of s client)) in
+    let same : step s (Asked client (number_of s client) (Stop (ByHandle handle))) (place_in answer) ≡ stop_step s client handle =
+    placeless s client (number_of s client) (ByHandle handle) (place_in answer) in
     let outs : (stop_step s client handle).outs ≡ Outs.Answered client (number_of s client) answer ∷ [] =
     ap (λ (st : StepResult). st.outs) (sym same) ∙ t.answered in record {
       outs_are = outs;
       left = t.left ∙ (ap view_after same ∙ no_notice (stop_step s client handle) client (number_of s client) answer outs);
     }
 
-refused_step : (s : FacilityState) (client number : ℕ) (handle : Handle) (reason : NotTaken) (o : Option NotTaken) → o ≡ Some reason
-    → step_of_request s client number (Stop handle) 0 o ≡ record { outs = Outs.NotTaken client number reason ∷ []; state = s }
-refused_step s client number handle reason o e = ap (step_of_request s client number (Stop handle) 0) e
-
 not_taken_step : (s : FacilityState) (client : ℕ) (handle : Handle) (reason : NotTaken) (new : FacilityView)
     → IsNotTaken s client (number_of s client) (Requests.Stop handle) reason → new ≡ with_nothing_waiting s
     → IsStopStep s client handle (Err reason) new
 not_taken_step s client handle reason new (inl h) same =
     let e : stop_step s client handle ≡ record { outs = Outs.NotTaken client (number_of s client) reason ∷ []; state = s } =
-    refused_step s client (number_of s client) handle reason (not_taken s client (number_of s client)) h in record {
+    step-not_taken s client (number_of s client) (Stop (ByHandle handle)) 0 reason h in record {
       outs_are = ap (λ (st : StepResult). st.outs) e;
       left = same ∙ sym (ap (λ (st : StepResult). with_nothing_waiting st.state) e);
     }
-not_taken_step s client handle reason new (inr h) same = absurd h.1
+not_taken_step s client handle reason new (inr h) same = absurd h.1.2
 
 next_is : (numbers : List ℕ) (client : ℕ) (next : Option ℕ) → next ≡ slice_get numbers client
     → unwrap_or next 0 ≡ slice_index numbers client
 next_is numbers client next e = ap (λ o. unwrap_or o 0) e ∙ unwrap_or-slice_get numbers client 0
-
-quiet_is : (f : FacilityView) → f.waiting ≡ [] → f ≡ with_nothing_waiting f.state
-quiet_is f q = ap (λ waiting. let v : FacilityView = record { state = f.state; waiting = waiting } in v) q
 
 -- what `take` ensures of the request under the client's next number
 pub stop_is : (f : FacilityView) (client number : ℕ) (next : Option ℕ) (handle : Handle) (result : Result Answer NotTaken)
@@ -87,7 +87,7 @@ stop_is f client number next handle (Ok answer) new q e m t n u =
 stop_is f client number next handle (Err reason) new q e m t n u =
     not_taken_step f.state client handle reason new
     (subst (λ k. IsNotTaken f.state client k (Requests.Stop handle) reason) (m ∙ next_is f.state.numbers client next e) n)
-    (u ∙ quiet_is f q)
+    (u ∙ still f q)
 
 -- The desk.
 
@@ -106,31 +106,31 @@ pub record HasFewer (s t : FacilityState) : Type 0 where
   pub as_many : length t.numbers ≡ length s.numbers
   pub fewer : (c : ℕ) → pending_of t c ≤ pending_of s c
 
-stop_fewer : (s : FacilityState) (client number : ℕ) (handle : Handle) (o : Option NotTaken)
-    → HasFewer s (step_of_request s client number (Stop handle) 0 o).state
-stop_fewer s client number handle (Some reason) = record { as_many = refl; fewer = λ c. omega arith }
-stop_fewer s client number handle None = record {
-  as_many = length-set s.numbers client (number + 1);
-  fewer = λ c. found_fewer c (named s client (Stop handle)) s.pending;
-}
-
-none_for : (f : FacilityView) (c : ℕ) → f.waiting ≡ [] → notices_for c f.waiting ≡ 0
-none_for f c h = ap (notices_for c) h
+stop_fewer : (s : FacilityState) (client number : ℕ) (name : Name) → HasFewer s (step s (Asked client number (Stop name)) 0).state
+stop_fewer s client number name = by_verdict (λ st. HasFewer s st.state) s client number (Stop name) 0
+    (λ reason. record { as_many = refl; fewer = λ c. omega arith })
+    (λ reason taken. record { as_many = length-set s.numbers client (number + 1); fewer = λ c. omega arith })
+    (λ taken ok. record {
+      as_many = length-set s.numbers client (number + 1);
+      fewer = λ c. found_fewer c (timer_named s client name) s.pending;
+    })
 
 module _ {I : Type 0} (kind : LineKind I) where
   fewer_desk : (f f' : FacilityView) (inlets : List I) (backlogs : List BacklogState) → IsDesk kind f inlets backlogs
       → f'.waiting ≡ [] → HasFewer f.state f'.state → IsDesk kind f' inlets backlogs
   fewer_desk f f' inlets backlogs d quiet h = record {
     nothing_waits = quiet;
-    as_many = d.as_many;
     clients = d.clients ∙ sym h.as_many;
-    room = λ c b l.
-        let none : notices_for c f'.waiting ≡ 0 = none_for f' c quiet in
-        let was : length (get_or backlogs c b).outbox + pending_of f.state c + notices_for c f.waiting ≤ (get_or backlogs c b).room =
-        d.room c b l in
-        let fewer : pending_of f'.state c ≤ pending_of f.state c = h.fewer c in
-        omega arith;
-    held = d.held;
+    kept = record {
+      as_many = d.kept.as_many;
+      room = λ c b l.
+          let none : notices_for c f'.waiting ≡ 0 = none_for c f' quiet in
+          let was : length (get_or backlogs c b).outbox + pending_of f.state c + notices_for c f.waiting ≤ (get_or backlogs c b).room =
+          d.kept.room c b l in
+          let fewer : pending_of f'.state c ≤ pending_of f.state c = h.fewer c in
+          omega arith;
+      held = d.kept.held;
+    };
   }
 
   pub stopped_desk : (f f' : FacilityView) (inlets : List I) (backlogs : List BacklogState) (client : ℕ) (handle : Handle)
@@ -140,7 +140,7 @@ module _ {I : Type 0} (kind : LineKind I) where
       let st : StepResult = stop_step f.state client handle in
       let new : IsDesk kind (with_nothing_waiting st.state) inlets backlogs = fewer_desk f (with_nothing_waiting st.state) inlets backlogs d
       refl
-      (stop_fewer f.state client (number_of f.state client) handle (not_taken f.state client (number_of f.state client))) in
+      (stop_fewer f.state client (number_of f.state client) (ByHandle handle)) in
       subst (λ v. IsDesk kind v inlets backlogs) (sym h.left) new
 
 pub stopped_desk_is : {I : Type 0} (f f' : FacilityView) (inlets : List I) (backlogs : List BacklogState) (client : ℕ) (handle : Handle)

@@ -6,8 +6,8 @@ use Rattle.timer_desk.specs.declared.constructor.OpenFault.TheVariants.{Room, Ou
 use Rattle.timer_desk.specs.declared.constructor.TheConstants.{MIN_ROOM, MAX_ROOM}
 
 -- the facility and the lines are handed back unchanged; `Room` exactly if the room is out of range
-abbrev pub HandsBackBoth : {W I : Type 0} → ℕ → FacilityView → List I → OpenFault W I → Type 0
-HandsBackBoth room facility inlets (Room f is) = (f ≡ facility) × (is.items ≡ inlets)
+abbrev pub ReturnsArguments : {W I : Type 0} → ℕ → FacilityView → List I → OpenFault W I → Type 0
+ReturnsArguments room facility inlets (Room f is) = (f ≡ facility) × (is.items ≡ inlets)
     × ((room < MIN_ROOM) ⊎ (MAX_ROOM < room))
-HandsBackBoth room facility inlets (OutOfMemory f is) = (f ≡ facility) × (is.items ≡ inlets)
+ReturnsArguments room facility inlets (OutOfMemory f is) = (f ≡ facility) × (is.items ≡ inlets)
     × ((MIN_ROOM ≤ room) × (room ≤ MAX_ROOM))

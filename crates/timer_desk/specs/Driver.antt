@@ -12,8 +12,8 @@ use Rattle.timer_desk.specs.declared.driver.Turned.TheVariants.{Passed, Idle, Ou
 use Rattle.timer_desk.specs.declared.driver.DriveEnd.{DriveEnd}
 use Rattle.timer_desk.specs.declared.driver.DriveEnd.TheVariants as DriveEnds
 use Rattle.timer_desk.specs.Inlet.{LineKind}
-use Rattle.timer_desk.specs.Report.{asked, flushed}
-use Rattle.timer_desk.specs.Desk.{DeskState, clients_of, steps_of, AreBehind, AreOwed, ReportHolds}
+use Rattle.timer_desk.specs.Report.{asked, flushed, steps_of}
+use Rattle.timer_desk.specs.Desk.{DeskState, clients_of, NoticesFollow, AreOwed, ReportHolds}
 
 -- What was done of each client.
 
@@ -53,11 +53,8 @@ all_left goal (p ∷ ps) = left_for goal p + all_left goal ps
 
 -- whether the step is a flush of this client
 abbrev pub is_flush_of : ℕ → Step → Bool
-is_flush_of c (Steps.Serve client) = false
-is_flush_of c Steps.Tick = false
-is_flush_of c (Steps.Ticks limit) = false
-is_flush_of c Steps.Close = false
 is_flush_of c (Steps.Flush client) = client == c
+is_flush_of c step = false
 
 -- a serve of each client that is to be served, a flush of each client, both in the order of the clients, and the
 -- last step
@@ -82,7 +79,7 @@ abbrev pub NoneRanOut : List Done → Type 0
 NoneRanOut report = All (λ done. (c : ℕ) → done ≢ Dones.Served c NoMemory) report
 
 -- a client had fewer than `goal` requests served, or fewer than twice as many words flushed
-pub record IsShort (goal clients : ℕ) (report : List Done) : Type 0 where
+pub record HasUnfinishedClient (goal clients : ℕ) (report : List Done) : Type 0 where
   pub client : ℕ
   pub among : client < clients
   pub fewer : (length (asked client report) < goal) ⊎ (flushed client report < 2 * goal)
@@ -96,8 +93,8 @@ EndsIdle goal clients idle turns = (idle ≤ length turns) × (progress_of goal 
 -- run out of memory, and not each of the last `limit` turns was without progress.
 pub record IsTurn (goal limit clients : ℕ) (last : Step) (past : List (List Done)) (turn : List Done) : Type 0 where
   pub steps : steps_of turn ≡ turn_steps goal clients last (joined past)
-  pub behind : AreBehind false turn
-  pub short : IsShort goal clients (joined past)
+  pub behind : NoticesFollow false turn
+  pub short : HasUnfinishedClient goal clients (joined past)
   pub memory : NoneRanOut (joined past)
   pub goes_on : ¬ (EndsIdle goal clients limit past)
 
@@ -111,9 +108,8 @@ module _ {I : Type 0} (kind : LineKind I) (last : Step) where
   pub record TakesTurn (goal : ℕ) (out_of_memory : Bool) (old new : DeskState I)
       (before after : List Progress) : Type 0 where
     pub turn : List Done
-    pub told : ReportHolds kind turn old new
+    pub holds : ReportHolds kind turn old new
     pub steps : steps_of turn ≡ steps_with (is_served goal before) (length before) last
-    pub behind : AreBehind false turn
     pub memory : out_of_memory ≡ false → NoneRanOut turn
     pub counted : (c : ℕ) (p : Progress) → c < length before
         → HasCounted goal (length (asked c turn)) (flushed c turn) (get_or before c p) (get_or after c p)
@@ -131,7 +127,7 @@ module _ {I : Type 0} (kind : LineKind I) (last : Step) where
   -- no progress. Only if it ended out of memory, a serve of its last turn may have run out of memory.
   pub record Drives (goal limit : ℕ) (old new : DeskState I) (outcome : DriveEnd) : Type 0 where
     pub turns : List (List Done)
-    pub told : ReportHolds kind (joined turns) old new
+    pub holds : ReportHolds kind (joined turns) old new
     pub owed : AreOwed old.facility (joined turns)
     pub each : AreTurns goal limit (clients_of old) last turns
     pub done : outcome ≡ DriveEnds.Done → (c : ℕ) → c < clients_of old

@@ -1,5 +1,5 @@
 -- The result of a client's request at the desk.
-use Rattle.std.specs.Prelude.{◌≡◌, ℕ, Bool, true, [], ◌∷◌, Option, Some, None}
+use Rattle.std.specs.Prelude.{◌≡◌, ℕ, Bool, true, false, [], ◌∷◌, Option, Some, None}
 use Rattle.timer_facility.specs.declared.request.NotTaken.TheVariants as NotTakens
 use Rattle.timer_facility.specs.State.{FacilityState}
 use Rattle.timer_facility.specs.Step.{StepResult, step}
@@ -7,28 +7,29 @@ use Rattle.timer_facility.specs.Facility.{FacilityView, event_of_request, with_n
 use Rattle.timer_desk.specs.declared.word.Numbered.{Numbered}
 use Rattle.timer_desk.specs.declared.word.Word.{Word}
 use Rattle.timer_desk.specs.declared.word.Word.TheVariants as Words
-use Rattle.timer_desk.specs.Report.{out_of, place_told}
+use Rattle.timer_desk.specs.Report.{out_of, place_in_word}
 
 -- the step of a client's request, with the place in its word
-abbrev pub asked_step : FacilityState → ℕ → Numbered → Word → StepResult
-asked_step s client numbered word = step s (event_of_request client numbered.number numbered.request)
-    (place_told word)
+abbrev pub request_step : FacilityState → ℕ → Numbered → Word → StepResult
+request_step s client numbered word = step s (event_of_request client numbered.number numbered.request)
+    (place_in_word word)
 
 -- the word is not a refusal for memory
-abbrev pub IsNoWant : Word → Type 0
-IsNoWant (Words.Answered number answer) = Unit {0}
-IsNoWant (Words.NotTaken number reason) = ¬ (reason ≡ NotTakens.OutOfMemory)
-IsNoWant (Words.Notice notice) = Unit {0}
+abbrev pub IsNotOutOfMemory : Word → Type 0
+IsNotOutOfMemory (Words.Answered number answer) = Unit {0}
+IsNotOutOfMemory (Words.NotTaken number reason) = ¬ (reason ≡ NotTakens.OutOfMemory)
+IsNotOutOfMemory (Words.Notice notice) = Unit {0}
 
 -- the request was taken or refused, and this is its word
-pub record HasAsked (s : FacilityState) (client : ℕ) (numbered : Numbered) (word : Word)
+pub record IsForwarded (s : FacilityState) (client : ℕ) (numbered : Numbered) (word : Word)
     (new : FacilityView) : Type 0 where
-  pub told : (asked_step s client numbered word).outs ≡ out_of client word ∷ []
-  pub left : new ≡ with_nothing_waiting (asked_step s client numbered word).state
-  pub no_want : IsNoWant word
+  pub outs_are : (request_step s client numbered word).outs ≡ out_of client word ∷ []
+  pub left : new ≡ with_nothing_waiting (request_step s client numbered word).state
+  pub not_out_of_memory : IsNotOutOfMemory word
 
--- the line ran out of memory, or the request that is now held did: a start that would be accepted
+-- the line ran out of memory, or the request that is now held did: a start that would be accepted, at a facility in
+-- which no room was made
 abbrev pub RanOutOfMemory : Bool → ℕ → FacilityState → Option Numbered → Type 0
 RanOutOfMemory line_may_refuse client s None = line_may_refuse ≡ true
 RanOutOfMemory line_may_refuse client s (Some numbered) =
-    NeedsMemory s client numbered.number numbered.request
+    (s.has_room ≡ false) × NeedsMemory s client numbered.number numbered.request

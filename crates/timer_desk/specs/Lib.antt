@@ -2,12 +2,13 @@ pub mod Forward
 pub mod Backlog
 pub mod Desk
 pub mod Extends
-pub mod Held
+pub mod Member
 pub mod Inlet
 pub mod Looks
 pub mod Memory
 pub mod Report
-pub mod Right
+pub mod Laws
+pub mod Event
 pub mod Constructor
 pub mod Ring
 pub mod Settlement
@@ -15,6 +16,5 @@ pub mod Locked
 pub mod Queues
 pub mod Shutdown
 pub mod Driver
-pub mod Ticks
 pub mod Flush
 pub mod Stopping

@@ -15,6 +15,8 @@ use Rattle.timer_desk.specs.declared.word.Word.{Word}
 use Rattle.timer_desk.specs.declared.word.Word.TheVariants as Words
 use Rattle.timer_desk.specs.declared.report.Served.{Served}
 use Rattle.timer_desk.specs.declared.report.Served.TheVariants.{Idle, NoRoom, NoMemory, Did}
+use Rattle.timer_desk.specs.declared.report.Step.{Step}
+use Rattle.timer_desk.specs.declared.report.Step.TheVariants as Steps
 use Rattle.timer_desk.specs.declared.report.Done.{Done}
 use Rattle.timer_desk.specs.declared.report.Done.TheVariants as Dones
 use Rattle.timer_desk.specs.Backlog.{BacklogState, client_of}
@@ -37,33 +39,22 @@ word_in (Did numbered word) = word ∷ []
 
 abbrev pub asked_in : ℕ → Done → List Numbered
 asked_in c (Dones.Served client served) = if client == c then request_in served else []
-asked_in c (Dones.Ticked result) = []
-asked_in c (Dones.Passed limit passed) = []
-asked_in c (Dones.Closed result) = []
-asked_in c (Dones.Noticed notice) = []
-asked_in c (Dones.Flushed client count) = []
+asked_in c done = []
 
 abbrev pub words_in : ℕ → Done → List Word
 words_in c (Dones.Served client served) = if client == c then word_in served else []
-words_in c (Dones.Ticked result) = []
-words_in c (Dones.Passed limit passed) = []
-words_in c (Dones.Closed result) = []
 words_in c (Dones.Noticed notice) = if client_of notice == c then Words.Notice notice ∷ [] else []
-words_in c (Dones.Flushed client count) = []
+words_in c done = []
 
 abbrev pub flushed_in : ℕ → Done → ℕ
-flushed_in c (Dones.Served client served) = 0
-flushed_in c (Dones.Ticked result) = 0
-flushed_in c (Dones.Passed limit passed) = 0
-flushed_in c (Dones.Closed result) = 0
-flushed_in c (Dones.Noticed notice) = 0
 flushed_in c (Dones.Flushed client count) = if client == c then count else 0
+flushed_in c done = 0
 
 -- the place in a word, if it is the answer to an accepted start or restart
-abbrev pub place_told : Word → ℕ
-place_told (Words.Answered number answer) = place_in answer
-place_told (Words.NotTaken number reason) = 0
-place_told (Words.Notice notice) = 0
+abbrev pub place_in_word : Word → ℕ
+place_in_word (Words.Answered number answer) = place_in answer
+place_in_word (Words.NotTaken number reason) = 0
+place_in_word (Words.Notice notice) = 0
 
 -- a word to a client as an out
 abbrev pub out_of : ℕ → Word → Out
@@ -77,7 +68,7 @@ placed event place = record { event = event; place = place }
 -- a request that was tried and didn't run out of memory
 abbrev pub request_event : ℕ → Numbered → Word → PlacedEvent
 request_event client numbered word = placed (event_of_request client numbered.number numbered.request)
-    (place_told word)
+    (place_in_word word)
 
 abbrev pub served_events : ℕ → Served → List PlacedEvent
 served_events client Idle = []
@@ -96,14 +87,6 @@ abbrev pub passed_events : Result ℕ TickFault → List PlacedEvent
 passed_events (Ok passed) = ticks passed
 passed_events (Err fault) = ticks 1
 
-abbrev pub events_in : Done → List PlacedEvent
-events_in (Dones.Served client served) = served_events client served
-events_in (Dones.Ticked result) = placed Tick 0 ∷ []
-events_in (Dones.Passed limit passed) = passed_events passed
-events_in (Dones.Closed result) = close_events result
-events_in (Dones.Noticed notice) = []
-events_in (Dones.Flushed client count) = []
-
 abbrev pub served_outs : ℕ → Served → List Out
 served_outs client Idle = []
 served_outs client NoRoom = []
@@ -119,13 +102,44 @@ close_outs (Ok count) = Outs.Closed count ∷ []
 close_outs (Err CloseFaults.Closed) = Outs.CloseRefused ∷ []
 close_outs (Err CloseFaults.OutOfMemory) = []
 
+-- what a member stands for: the step that it is the result of, if it is of one; its events; and its outs
+pub record Meaning : Type 0 where
+  pub steps : List Step
+  pub events : List PlacedEvent
+  pub outs : List Out
+
+abbrev pub meaning_of : Done → Meaning
+meaning_of (Dones.Served client served) = record {
+  steps = Steps.Serve client ∷ [];
+  events = served_events client served;
+  outs = served_outs client served;
+}
+meaning_of (Dones.Ticked result) = record {
+  steps = Steps.Tick ∷ [];
+  events = placed Tick 0 ∷ [];
+  outs = tick_outs result;
+}
+meaning_of (Dones.Passed limit passed) = record {
+  steps = Steps.Ticks limit ∷ [];
+  events = passed_events passed;
+  outs = tick_outs passed;
+}
+meaning_of (Dones.Closed result) = record {
+  steps = Steps.Close ∷ [];
+  events = close_events result;
+  outs = close_outs result;
+}
+meaning_of (Dones.Noticed notice) = record { steps = []; events = []; outs = Outs.Notice notice ∷ [] }
+meaning_of (Dones.Flushed client count) = record { steps = Steps.Flush client ∷ []; events = []; outs = [] }
+
+abbrev pub step_in : Done → List Step
+step_in done = (meaning_of done).steps
+
+abbrev pub events_in : Done → List PlacedEvent
+events_in done = (meaning_of done).events
+
 abbrev pub outs_in : Done → List Out
-outs_in (Dones.Served client served) = served_outs client served
-outs_in (Dones.Ticked result) = tick_outs result
-outs_in (Dones.Passed limit passed) = tick_outs passed
-outs_in (Dones.Closed result) = close_outs result
-outs_in (Dones.Noticed notice) = Outs.Notice notice ∷ []
-outs_in (Dones.Flushed client count) = []
+outs_in done = (meaning_of done).outs
 
 -- The readings of a report.
 
@@ -141,6 +155,10 @@ words c report = flat_map (words_in c) report
 abbrev pub flushed : ℕ → List Done → ℕ
 flushed c [] = 0
 flushed c (done ∷ report) = flushed_in c done + flushed c report
+
+-- the steps, in order
+abbrev pub steps_of : List Done → List Step
+steps_of report = flat_map step_in report
 
 -- the events of the facility, each accepted start with the place in its answer
 abbrev pub events : List Done → List PlacedEvent
@@ -185,15 +203,19 @@ HeldIsLast a = got_but_held a ++ held_list a.backlog.held ≡ a.got
 abbrev pub left_of : Account → ℕ
 left_of a = length (held_list a.backlog.held) + length a.standing
 
--- what a report says of client c, whose account was a and is b
-pub record ClientAccount (c : ℕ) (report : List Done) (a b : Account) : Type 0 where
-  -- a request held before is the first one asked since, or is still held
-  pub held_first : Extends (held_list a.backlog.held) (asked c report ++ held_list b.backlog.held)
-  pub asked_are : got_but_held a ++ asked c report ++ held_list b.backlog.held ≡ b.got
-  pub words_are : b.given ++ b.backlog.outbox ≡ a.given ++ a.backlog.outbox ++ words c report
-  pub flushed_are : length b.given ≡ length a.given + flushed c report
-  pub fewer_left : left_of a ≤ length (asked c report) + left_of b
+-- the account was a and is b, after these requests were done, these words pushed and so many of them flushed
+pub record IsAccount (requests : List Numbered) (words : List Word) (flushed : ℕ) (a b : Account) : Type 0 where
+  -- a request held before is the first one done since, or is still held
+  pub held_first : Extends (held_list a.backlog.held) (requests ++ held_list b.backlog.held)
+  pub asked_are : got_but_held a ++ requests ++ held_list b.backlog.held ≡ b.got
+  pub words_are : b.given ++ b.backlog.outbox ≡ a.given ++ a.backlog.outbox ++ words
+  pub flushed_are : length b.given ≡ length a.given + flushed
+  pub fewer_left : left_of a ≤ length requests + left_of b
   pub same_room : b.backlog.room ≡ a.backlog.room
+
+-- what a report says of client c, whose account was a and is b
+abbrev pub ClientAccount : ℕ → List Done → Account → Account → Type 0
+ClientAccount c report a b = IsAccount (asked c report) (words c report) (flushed c report) a b
 
 -- what a report says of the facility, whose state was s and is t
 pub record Runs (report : List Done) (s t : FacilityState) : Type 0 where

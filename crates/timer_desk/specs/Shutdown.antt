@@ -5,7 +5,7 @@ use Rattle.timer_desk.specs.declared.ring.RequestsEnded.{RequestsEnded}
 use Rattle.timer_desk.specs.declared.ring.ClientReader.{ClientReader}
 use Rattle.timer_desk.specs.declared.word.Numbered.{Numbered}
 use Rattle.timer_desk.specs.Backlog.{BacklogState}
-use Rattle.timer_desk.specs.Desk.{DeskState, clients_of, backlog_at, IsIdle, AllIdle}
+use Rattle.timer_desk.specs.Desk.{DeskState, clients_of, backlog_at, IsIdle}
 use Rattle.timer_desk.specs.Ring.{line_of_inlet, got_of, given_of, requests_ring_of, words_ring_of_reader, all_submitted, read_by, unread_by, is_settled_reader}
 
 -- the ended end at each index is of the line at that index
@@ -56,7 +56,7 @@ abbrev pub IsWaiting : BacklogState → List Numbered → List Numbered → Type
 IsWaiting backlog got submitted = (¬ IsIdle backlog) ⊎ (length got < length submitted)
 
 -- something of this client waits, and nothing of a client before it
-pub record IsBlamed (desk : DeskState RingInlet) (ended : List RequestsEnded) (c : ℕ) : Type 0 where
+pub record IsFirstUnfinished (desk : DeskState RingInlet) (ended : List RequestsEnded) (c : ℕ) : Type 0 where
   pub client : c < clients_of desk
   pub waiting : (i : RingInlet) (e : RequestsEnded)
       → IsWaiting (backlog_at desk c) (got_of (get_or desk.inlets c i)) (all_submitted (get_or ended c e))

@@ -5,12 +5,12 @@ use Rattle.timer_facility.specs.declared.request.Answer.{Answer}
 use Rattle.timer_facility.specs.declared.request.NotTaken.{NotTaken}
 use Rattle.timer_facility.specs.declared.event.Out.{Out}
 use Rattle.timer_facility.specs.declared.event.Out.TheVariants as Outs
-use Rattle.timer_facility.specs.State.{FacilityState, number_of, Stop, SingleEvent, Asked}
+use Rattle.timer_facility.specs.State.{FacilityState, number_of, ByHandle, Stop, SingleEvent, Asked}
 use Rattle.timer_facility.specs.Step.{StepResult, step}
 
 -- the client's request, under its next number, to stop the timer with this handle
 abbrev pub next_stop : FacilityState → ℕ → Handle → SingleEvent
-next_stop s client handle = Asked client (number_of s client) (Stop handle)
+next_stop s client handle = Asked client (number_of s client) (Stop (ByHandle handle))
 
 -- its outs, and the state after it
 abbrev pub stop_step : FacilityState → ℕ → Handle → StepResult

@@ -32,11 +32,9 @@ impl Backlog {
     ghost use Rattle.timer_desk.specs.Backlog.{empty_backlog, with_word};
     ghost use Rattle.timer_facility.specs.State.{pending_of};
     ghost use Rattle.timer_facility.specs.HandedOver.{AddsAtMostOne};
-    ghost use Rattle.timer_desk.specs.Forward.{RanOutOfMemory};
     ghost use Rattle.timer_desk.specs.Inlet.{taken_of};
-    ghost use Rattle.timer_desk.specs.Report.{held_list, account_of, HeldIsLast, left_of, ClientAccount, Runs};
-    ghost use Rattle.timer_desk.specs.Right.{ServeRespectsRoom};
-    ghost use Rattle.timer_desk.specs.Held.{HoldsAfterServe};
+    ghost use Rattle.timer_desk.specs.Report.{held_list, account_of, HeldIsLast, request_in, word_in, IsAccount, Runs};
+    ghost use Rattle.timer_desk.specs.Member.{IsServe};
     ghost use Rattle.timer_desk.specs.Flush.{IsGiven, without_words};
     ghost use Rattle.timer_desk.specs.declared.word.Numbered.{Numbered};
 
@@ -109,15 +107,6 @@ impl Backlog {
 
     /// Moves words into the line until none is left or the line does not take one, and returns how many.
     pub fn flush<I: Inlet>(&mut self, inlet: &mut I) -> usize
-        ensures line { I.kind.same inlet.old inlet.new }
-        ensures others { self.new ≡ record self.old { outbox = self.new.outbox } }
-        ensures got { ((I.kind.state inlet.new).got ≡ (I.kind.state inlet.old).got)
-            × ((I.kind.state inlet.new).standing ≡ (I.kind.state inlet.old).standing) }
-        ensures words { (I.kind.state inlet.new).given ++ self.new.outbox
-            ≡ (I.kind.state inlet.old).given ++ self.old.outbox }
-        ensures fewer { length self.new.outbox ≤ length self.old.outbox }
-        ensures count { length (I.kind.state inlet.new).given
-            ≡ length (I.kind.state inlet.old).given + result }
         ensures stopped { (self.new.outbox ≡ []) ⊎ (I.kind.is_full inlet.new
             ⊎ (I.kind.put_may_refuse ≡ true)) }
         ensures given { IsGiven I.kind result self.old.outbox inlet.old inlet.new }
@@ -156,15 +145,11 @@ impl Backlog {
         requires room { length self.old.outbox + pending_of facility.old.state client ≤ self.old.room }
         requires held { HeldIsLast (account_of I.kind inlet.old self.old) }
         ensures line { I.kind.same inlet.old inlet.new }
-        ensures tells { ClientAccount client (Done.Served client result ∷ [])
+        ensures account { IsAccount (request_in result) (word_in result) 0
             (account_of I.kind inlet.old self.old) (account_of I.kind inlet.new self.new) }
+        ensures serve { IsServe I.kind.take_may_refuse client facility.old.state
+            (account_of I.kind inlet.old self.old) result (account_of I.kind inlet.new self.new) }
         ensures runs { Runs (Done.Served client result ∷ []) facility.old.state facility.new.state }
-        ensures right { ServeRespectsRoom self.old.room (length self.old.outbox)
-            (left_of (account_of I.kind inlet.old self.old)) (pending_of facility.old.state client) result }
-        ensures memory { result ≡ Served.NoMemory → RanOutOfMemory I.kind.take_may_refuse client
-            facility.old.state self.new.held }
-        ensures holds { HoldsAfterServe I.kind.take_may_refuse client facility.old.state self.old.held result
-            self.new.held }
         ensures no_room { result ≡ Served.NoRoom → (inlet.new ≡ inlet.old) × (self.new ≡ self.old)
             × (facility.new ≡ facility.old) }
         ensures idle { result ≡ Served.Idle

@@ -1,13 +1,8 @@
-//! The constructor of a desk, and its errors.
-ghost use Rattle.std.specs.Prelude.{◌≡◌, ◌≤◌, ◌<◌, [], length, IfOk, IfErr, replicate, vec_len, vec_capacity};
-ghost use Rattle.timer_facility.specs.Facility.{FacilityView, with_nothing_waiting};
+//! The errors of the constructor of a desk, and the backlogs of a new one.
+ghost use Rattle.std.specs.Prelude.{◌≡◌, ◌≤◌, IfOk, replicate, vec_len, vec_capacity};
 ghost use Rattle.timer_desk.specs.Backlog.{empty_backlog};
-ghost use Rattle.timer_desk.specs.Desk.{opened_desk};
-ghost use Rattle.timer_desk.specs.Constructor.{HandsBackBoth};
 
 use crate::backlog::Backlog;
-use crate::desk::Desk;
-use crate::inlet::Inlet;
 use std::alloc::{AllocError, Global};
 use timer_base::Wheel;
 use timer_facility::Facility;
@@ -27,40 +22,12 @@ pub enum OpenFault<W: Wheel + Drop, I: Drop> {
     OutOfMemory(Facility<W>, Vec<I>),
 }
 
-impl<W: Wheel + Drop, I: Inlet + Drop> Desk<W, I> {
-    /// Opens a desk over this facility, in which no timer is pending and nothing waits, and these lines,
-    /// one for each client. Each outbox has room for `room` words.
-    pub fn open(
-        alloc: Global,
-        facility: Facility<W>,
-        inlets: Vec<I>,
-        room: usize,
-    ) -> Result<Desk<W, I>, OpenFault<W, I>>
-        requires pending { facility.state.pending ≡ [] }
-        requires waiting { facility.waiting ≡ [] }
-        requires clients { vec_len inlets ≡ length facility.state.numbers }
-        ensures ok { IfOk result (λ desk. desk ≡ opened_desk facility.state inlets.items room) }
-        ensures room { IfOk result (λ _. (MIN_ROOM ≤ room) × (room ≤ MAX_ROOM)) }
-        ensures err { IfErr result (HandsBackBoth room facility inlets.items) }
-    {
-        if room < MIN_ROOM || room > MAX_ROOM {
-            return Err(OpenFault::Room(facility, inlets));
-        }
-        match empty_backlogs(alloc, inlets.len(), room) {
-            Ok(backlogs) => Ok(Desk {
-                facility,
-                inlets,
-                backlogs,
-                alloc,
-                kept: Vec::new(alloc),
-            }),
-            Err(_) => Err(OpenFault::OutOfMemory(facility, inlets)),
-        }
-    }
-}
-
 /// For each client an empty outbox with this room, and no held request.
-fn empty_backlogs(alloc: Global, clients: usize, room: usize) -> Result<Vec<Backlog>, AllocError>
+pub fn empty_backlogs(
+    alloc: Global,
+    clients: usize,
+    room: usize,
+) -> Result<Vec<Backlog>, AllocError>
     ensures { IfOk result (λ backlogs. backlogs.items ≡ replicate clients (empty_backlog room)) }
 {
     let mut backlogs = Vec::with_capacity(alloc, clients)?;

@@ -1,14 +1,14 @@
 //! The owner's desk: one facility, and for each client its line and its backlog.
-ghost use Rattle.std.specs.Prelude.{◌≡◌, ◌<◌, ◌≤◌, ◌+◌, ◌⊎◌, ◌++◌, [], ◌∷◌, length, get_or, true, map, IfOk, IfErr, OnOk, OnErr, replicate, slice_set, vec_len, vec_capacity, ℕ};
+ghost use Rattle.std.specs.Prelude.{◌≡◌, ◌<◌, ◌≤◌, ◌⊎◌, [], ◌∷◌, length, get_or, true, map, IfOk, IfErr, OnOk, OnErr, slice_set, vec_len};
 ghost use Rattle.timer_facility.specs.State.{FacilityState, IsSound, with_room};
-ghost use Rattle.timer_facility.specs.Facility.{with_nothing_waiting};
-ghost use Rattle.timer_desk.specs.Forward.{RanOutOfMemory};
-ghost use Rattle.timer_desk.specs.Backlog.{BacklogState, empty_backlog, HasRoom};
-ghost use Rattle.timer_desk.specs.Report.{HeldIsLast};
+ghost use Rattle.timer_facility.specs.Facility.{NoRoomToClose, with_nothing_waiting};
+ghost use Rattle.timer_desk.specs.Constructor.{ReturnsArguments};
 ghost use Rattle.timer_desk.specs.Flush.{Flushes};
-ghost use Rattle.timer_desk.specs.Desk.{DeskState, opened_desk, clients_of, backlog_at, IsIdle, AllIdle, account_at, TakesNothing, ReportHolds, tick_notices, close_notices};
+ghost use Rattle.timer_desk.specs.Member.{IsKept};
+ghost use Rattle.timer_desk.specs.Desk.{DeskState, opened_desk, at_rest, clients_of, backlog_at, IsIdle, AllIdle, LeavesAlone, ReportHolds, tick_notices, ticks_notices, close_notices};
 
 use crate::backlog::Backlog;
+use crate::constructor::{MAX_ROOM, MIN_ROOM, OpenFault, empty_backlogs};
 use crate::dispatch::hand_out;
 use crate::inlet::Inlet;
 use crate::report::{Done, Served};
@@ -17,7 +17,6 @@ use std::alloc::{AllocError, Global};
 use std::marker::Model;
 use std::mem;
 use timer_base::{OutOfMemory, Wheel};
-use timer_facility::laws::what_is_handed_out_was_pending;
 use timer_facility::{CloseFault, Facility, TickFault};
 
 /// A facility and its clients' lines.
@@ -47,6 +46,36 @@ impl<W: Wheel + Drop, I: Inlet + Drop> Model for Desk<W, I> {
 }
 
 impl<W: Wheel + Drop, I: Inlet + Drop> Desk<W, I> {
+    /// Opens a desk over this facility, in which no timer is pending and nothing waits, and these lines,
+    /// one for each client. Each outbox has room for `room` words.
+    pub fn open(
+        alloc: Global,
+        facility: Facility<W>,
+        inlets: Vec<I>,
+        room: usize,
+    ) -> Result<Desk<W, I>, OpenFault<W, I>>
+        requires pending { facility.state.pending ≡ [] }
+        requires waiting { facility.waiting ≡ [] }
+        requires clients { vec_len inlets ≡ length facility.state.numbers }
+        ensures ok { IfOk result (λ desk. desk ≡ opened_desk facility.state inlets.items room) }
+        ensures room { IfOk result (λ _. (MIN_ROOM ≤ room) × (room ≤ MAX_ROOM)) }
+        ensures err { IfErr result (ReturnsArguments room facility inlets.items) }
+    {
+        if room < MIN_ROOM || room > MAX_ROOM {
+            return Err(OpenFault::Room(facility, inlets));
+        }
+        match empty_backlogs(alloc, inlets.len(), room) {
+            Ok(backlogs) => Ok(Desk {
+                facility,
+                inlets,
+                backlogs,
+                alloc,
+                kept: Vec::new(alloc),
+            }),
+            Err(_) => Err(OpenFault::OutOfMemory(facility, inlets)),
+        }
+    }
+
     /// The facility, in which nothing waits. Does not allocate.
     pub fn facility(&self) -> &Facility<W>
         ensures { result.now ≡ with_nothing_waiting self.now.facility }
@@ -58,11 +87,8 @@ impl<W: Wheel + Drop, I: Inlet + Drop> Desk<W, I> {
     /// for a notice of each of its pending timers; and a held request is the last one that was taken. The call does
     /// nothing.
     pub fn lemma_invariant(&self)
-        ensures room { HasRoom self.now.backlogs (with_nothing_waiting self.now.facility) }
-        ensures held { (c : ℕ) (i : I) (b : BacklogState) → c < clients_of self.now
-            → HeldIsLast (account_at I.kind self.now c i b) }
+        ensures kept { IsKept I.kind (at_rest self.now) }
         ensures sound { IsSound self.now.facility }
-        ensures as_many { length self.now.backlogs ≡ clients_of self.now }
         ensures clients { clients_of self.now ≡ length self.now.facility.numbers }
     {
         let _ = self.facility.pending();
@@ -76,7 +102,8 @@ impl<W: Wheel + Drop, I: Inlet + Drop> Desk<W, I> {
     }
 
     /// Makes room for as many timers as the facility may hold, as `Facility::reserve` does. The only error is out of
-    /// memory, and then nothing changes. After it no serve over lines that don't allocate runs out of memory.
+    /// memory, and then nothing changes. After it no close runs out of memory, and no serve over lines that don't
+    /// allocate.
     pub fn reserve(&mut self) -> Result<(), OutOfMemory>
         ensures ok { OnOk result (self.new ≡ record self.old { facility = with_room self.old.facility }) }
         ensures err { OnErr result (self.new ≡ self.old) }
@@ -107,12 +134,8 @@ impl<W: Wheel + Drop, I: Inlet + Drop> Desk<W, I> {
     /// that it accepts.
     pub fn serve(&mut self, c: usize) -> Served
         requires { c < clients_of self.old }
-        ensures told { ReportHolds I.kind (Done.Served c result ∷ []) self.old self.new }
-        ensures pending { length self.new.facility.pending ≤ length self.old.facility.pending + 1 }
-        ensures no_room { result ≡ Served.NoRoom → self.new ≡ self.old }
-        ensures idle { result ≡ Served.Idle → TakesNothing I.kind self.old self.new }
-        ensures memory { result ≡ Served.NoMemory → RanOutOfMemory I.kind.take_may_refuse c self.old.facility
-            (backlog_at self.new c).held }
+        ensures report { ReportHolds I.kind (Done.Served c result ∷ []) self.old self.new }
+        ensures alone { LeavesAlone I.kind result self.old self.new }
     {
         self.backlogs[c].serve(&mut self.inlets[c], &mut self.facility, c)
     }
@@ -121,9 +144,8 @@ impl<W: Wheel + Drop, I: Inlet + Drop> Desk<W, I> {
     /// and returns how many it moved. Does not allocate unless the line does.
     pub fn flush(&mut self, c: usize) -> usize
         requires { c < clients_of self.old }
-        ensures told { ReportHolds I.kind (Done.Flushed c result ∷ []) self.old self.new }
+        ensures report { ReportHolds I.kind (Done.Flushed c result ∷ []) self.old self.new }
         ensures flushes { Flushes I.kind c result self.old self.new }
-        ensures facility { self.new.facility ≡ self.old.facility }
         ensures stopped { (i : I) → ((backlog_at self.new c).outbox ≡ [])
             ⊎ (I.kind.is_full (get_or self.new.inlets c i) ⊎ (I.kind.put_may_refuse ≡ true)) }
     {
@@ -135,12 +157,28 @@ impl<W: Wheel + Drop, I: Inlet + Drop> Desk<W, I> {
     ///
     /// A refusal changes nothing.
     pub fn tick(&mut self) -> Result<(), TickFault>
-        ensures told { let report = Done.Ticked result ∷ map Done.Noticed (tick_notices self.old.facility) in
+        ensures report { let report = Done.Ticked result ∷ map Done.Noticed (tick_notices self.old.facility) in
             ReportHolds I.kind report self.old self.new }
         ensures err { OnErr result (self.new ≡ self.old) }
     {
-        what_is_handed_out_was_pending();
         let result = self.facility.tick();
+        hand_out(&mut self.facility, &mut self.backlogs);
+        result
+    }
+
+    /// Passes at least one and at most `limit` ticks, ends at the first that hands out something, and returns
+    /// how many. Pushes each notice to the back of its client's outbox. Does not allocate.
+    ///
+    /// A refusal changes nothing.
+    pub fn ticks(&mut self, limit: u64) -> Result<u64, TickFault>
+        requires { 0 < limit }
+        ensures report { let report = Done.Passed limit result ∷ map Done.Noticed
+            (ticks_notices self.old.facility result)
+            in
+            ReportHolds I.kind report self.old self.new }
+        ensures err { OnErr result (self.new ≡ self.old) }
+    {
+        let result = self.facility.ticks(limit);
         hand_out(&mut self.facility, &mut self.backlogs);
         result
     }
@@ -149,13 +187,14 @@ impl<W: Wheel + Drop, I: Inlet + Drop> Desk<W, I> {
     /// timers are returned.
     ///
     /// A refusal changes nothing: after `OutOfMemory`, which a closed facility never returns, it may be repeated.
+    /// After a `reserve` that returned Ok, it is never out of memory.
     pub fn close(&mut self) -> Result<u64, CloseFault>
-        ensures told { let report = Done.Closed result ∷ map Done.Noticed (close_notices self.old.facility result)
+        ensures report { let report = Done.Closed result ∷ map Done.Noticed (close_notices self.old.facility result)
             in
             ReportHolds I.kind report self.old self.new }
+        ensures room { IfErr result (NoRoomToClose self.old.facility) }
         ensures err { OnErr result (self.new ≡ self.old) }
     {
-        what_is_handed_out_was_pending();
         let result = self.facility.close();
         hand_out(&mut self.facility, &mut self.backlogs);
         result

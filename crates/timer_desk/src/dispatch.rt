@@ -21,7 +21,7 @@ pub fn hand_out<W: Wheel + Drop>(facility: &mut Facility<W>, backlogs: &mut Vec<
 }
 
 /// Pushes each waiting notice to the back of its client's outbox, and appends it to the report.
-pub fn hand_out_into<W: Wheel + Drop>(
+pub fn hand_out_and_report<W: Wheel + Drop>(
     facility: &mut Facility<W>,
     backlogs: &mut Vec<Backlog>,
     report: &mut Vec<Done>,

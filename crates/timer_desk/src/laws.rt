@@ -1,14 +1,18 @@
 //! Lemmas about reports and drives. Each of these functions does nothing: its contract is the lemma.
-ghost use Rattle.std.specs.Prelude.{◌≡◌, ◌<◌, ◌≤◌, ℕ, List, [], ◌++◌, length, get_or, count_by};
+ghost use Rattle.std.specs.Prelude.{◌≡◌, ◌<◌, ◌≤◌, ℕ, false, List, [], ◌∷◌, ◌++◌, length, get_or, count_by};
 ghost use Rattle.timer_desk.specs.declared.driver.DriveEnd.{DriveEnd};
 ghost use Rattle.timer_desk.specs.declared.driver.DriveEnd.TheVariants as DriveEnds;
 ghost use Rattle.timer_desk.specs.declared.report.Done.{Done};
 ghost use Rattle.timer_desk.specs.declared.report.Step.{Step};
-ghost use Rattle.timer_desk.specs.Desk.{DeskState, clients_of, steps_of, InRange, ReportHolds};
-ghost use Rattle.timer_desk.specs.Driver.{Drives, IsShort, is_flush_of, joined};
-ghost use Rattle.timer_desk.specs.Report.{asked};
+ghost use Rattle.timer_facility.specs.State.{IsSound};
+ghost use Rattle.timer_desk.specs.Backlog.{BacklogState};
+ghost use Rattle.timer_desk.specs.Desk.{DeskState, clients_of, account_at, InRange, ReportHolds, NoticesFollow, AreOwed};
+ghost use Rattle.timer_desk.specs.Laws.{IsInTime, RespectsRoom};
+ghost use Rattle.timer_desk.specs.Driver.{Drives, HasUnfinishedClient, is_flush_of, joined};
+ghost use Rattle.timer_desk.specs.Report.{asked, ClientAccount, Runs, steps_of};
 
 use crate::inlet::Inlet;
+use timer_facility::laws::notices_are_owed;
 
 /// The reports of two consecutive turns, joined, are one report.
 pub fn reports_join<I: Inlet>()
@@ -16,6 +20,34 @@ pub fn reports_join<I: Inlet>()
         → ReportHolds I.kind report first second
         → ReportHolds I.kind next second third
         → ReportHolds I.kind (report ++ next) first third }
+{}
+
+/// What a report says of each client, and of the facility: it made a run over the report's events. Each notice
+/// comes after its tick or close.
+pub fn a_report_accounts_for_all<I: Inlet>()
+    ensures clients { (report : List Done) (first second : DeskState I) → ReportHolds I.kind report first second
+        → (c : ℕ) (i : I) (b : BacklogState) → c < clients_of first
+        → ClientAccount c report (account_at I.kind first c i b) (account_at I.kind second c i b) }
+    ensures facility { (report : List Done) (first second : DeskState I) → ReportHolds I.kind report first second
+        → Runs report first.facility second.facility }
+    ensures notices { (report : List Done) (first second : DeskState I) → ReportHolds I.kind report first second
+        → NoticesFollow false report }
+    ensures owed { (report : List Done) (first second : DeskState I) → ReportHolds I.kind report first second
+        → IsSound first.facility → AreOwed first.facility report }
+{
+    notices_are_owed();
+}
+
+/// What a report says of each of its members by those before it: no notice is late or early, and a serve accords
+/// with the room of its client's outbox.
+pub fn each_member_accords_with_those_before<I: Inlet>()
+    ensures in_time { (past later : List Done) (done : Done) (first second : DeskState I)
+        → ReportHolds I.kind (past ++ done ∷ later) first second → IsInTime first.facility past done }
+    ensures room { (past later : List Done) (done : Done) (first second : DeskState I)
+        → ReportHolds I.kind (past ++ done ∷ later) first second
+        → (c : ℕ) (i : I) (b : BacklogState) → c < clients_of first
+        → RespectsRoom I.kind.take_may_refuse c first.facility (account_at I.kind first c i b)
+        (account_at I.kind second c i b) past done later }
 {}
 
 /// A drive whose turns end in a tick, or in ticks, does at most `goal` requests of each client, and flushes each
@@ -30,5 +62,5 @@ pub fn a_drive_keeps_to_its_goal<I: Inlet>()
         → count_by (is_flush_of c) (steps_of (get_or d.turns k [])) ≡ 1 }
     ensures short { (last : Step) (goal limit : ℕ) (first second : DeskState I)
         → (d : Drives I.kind last goal limit first second DriveEnds.Limit) → 0 < limit
-        → IsShort goal (clients_of first) (joined d.turns) }
+        → HasUnfinishedClient goal (clients_of first) (joined d.turns) }
 {}

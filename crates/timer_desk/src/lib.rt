@@ -3,9 +3,11 @@
 //! A client's line carries its requests to the owner, and words back. A `Desk` owns the facility, its end
 //! of every line, and for each client a backlog: an outbox, and at most one request that ran out of
 //! memory. Its calls are single steps, or a `turn` of many, whose report says which requests were taken
-//! and which words each client gets. The layer above knows a desk by `specs/Desk.antt`, and a report by
-//! `specs/Report.antt`. Read `inlet` first, which is what every line does, then `desk` and `turn`. `ring`
-//! and `locked` are the lines between threads, `memory` is a line within one thread.
+//! and which words each client gets. The layer above knows a desk by `specs/Desk.antt`. A report is a chain
+//! of members, each of which leads from one moment of the desk to the next (`specs/Member.antt`). What a
+//! whole report says (`specs/Report.antt`) follows by the lemmas of `laws`. Read `inlet` first, which is
+//! what every line does, then `desk` and `turn`. `ring` and `locked` are the lines between threads, `memory`
+//! is a line within one thread.
 #![tactic(auto)]
 
 mod backlog;
@@ -27,7 +29,6 @@ mod ring;
 mod ring_maker;
 mod settlement;
 mod shutdown;
-mod ticks;
 mod turn;
 mod word;
 

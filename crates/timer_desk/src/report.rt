@@ -15,12 +15,12 @@ pub enum Served {
     Did { numbered: Numbered, word: Word },
 }
 
-/// One step of a turn. The number is that of a client, or how many ticks.
+/// One step of a turn. The number is that of a client, or a number of ticks.
 #[derive(Clone, Copy, Debug, PartialEq, Eq)]
 pub enum Step {
     Serve(usize),
     Tick,
-    /// At least one tick and at most so many, up to the first that hands out something. Not 0.
+    /// Passes 1 to this many ticks, and stops at the first that hands out something. Not 0.
     Ticks(u64),
     Close,
     Flush(usize),
@@ -34,7 +34,7 @@ pub enum Done {
         served: Served,
     },
     Ticked(Result<(), TickFault>),
-    /// Of at most `limit` ticks so many were passed. Only the last of them handed out anything.
+    /// `limit` ticks were requested, and `passed` were passed. Only the last of them handed out anything.
     Passed {
         limit: u64,
         passed: Result<u64, TickFault>,

@@ -4,7 +4,7 @@ ghost use Rattle.timer_facility.specs.Facility.{with_nothing_waiting};
 ghost use Rattle.timer_desk.specs.Desk.{clients_of, backlog_at, IsIdle, AllIdle};
 ghost use Rattle.timer_desk.specs.Ring.{line_of_inlet, got_of, requests_ring_of, all_submitted};
 ghost use Rattle.timer_desk.specs.Shutdown.{AreEndsOf, AreReadersOf, AllGot, AllReadOut};
-ghost use Rattle.timer_desk.specs.Shutdown.{KeepsLines, IsWaiting, IsBlamed};
+ghost use Rattle.timer_desk.specs.Shutdown.{KeepsLines, IsWaiting, IsFirstUnfinished};
 
 use crate::desk::Desk;
 use crate::ring::{ClientReader, RequestsEnded, RingInlet};
@@ -27,7 +27,7 @@ pub fn wind_up<W: Wheel + Drop>(
     ensures requests { IfOk result (λ _. AllGot desk.inlets ended.items) }
     ensures as_many { IfOk result (λ done. vec_len done.1 ≡ clients_of desk) }
     ensures words { IfOk result (λ done. AllReadOut desk.inlets readers.items done.1.items) }
-    ensures err { IfErr result (λ c. IsBlamed desk ended.items c) }
+    ensures err { IfErr result (λ c. IsFirstUnfinished desk ended.items c) }
 {
     let mut desk = desk;
     let mut ended = ended;

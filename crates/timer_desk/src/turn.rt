@@ -3,31 +3,27 @@
 //! Memory for the whole report is reserved before the first step. A step adds one member; a tick or a close
 //! adds a notice of each timer that it hands out, and each of these was pending before the turn or
 //! was started by a serve during it. So two members a step, and one for each pending timer, are enough.
-ghost use Rattle.std.specs.Prelude.{◌≡◌, [], ◌<◌, ◌≤◌, ◌+◌, length, All, IfOk, OnErr, vec_len, vec_capacity, false};
-ghost use Rattle.timer_facility.specs.Facility.{with_nothing_waiting};
-ghost use Rattle.timer_desk.specs.Backlog.{HasRoom};
-ghost use Rattle.timer_desk.specs.Desk.{clients_of, InRange, ReportHolds, AddsStep, steps_of, AreBehind, AreOwed};
+ghost use Rattle.std.specs.Prelude.{◌≡◌, [], ◌∷◌, ◌<◌, ◌≤◌, ◌+◌, length, true, All, IfOk, OnErr, vec_len, vec_capacity};
+ghost use Rattle.timer_desk.specs.Desk.{clients_of, InRange, AddsStep, IsReport};
+ghost use Rattle.timer_desk.specs.Report.{step_in};
+ghost use Rattle.timer_desk.specs.Event.{is_event, IsEvent};
 
 use crate::desk::Desk;
-use crate::dispatch::hand_out_into;
+use crate::dispatch::hand_out_and_report;
 use crate::inlet::Inlet;
 use crate::report::{Done, Step};
 use std::alloc::AllocError;
 use std::mem;
 use timer_base::{OutOfMemory, Wheel};
-use timer_facility::laws::{notices_are_owed, what_is_handed_out_was_pending};
+use timer_facility::Facility;
+use timer_facility::laws::notices_are_owed;
 
 impl<W: Wheel + Drop, I: Inlet + Drop> Desk<W, I> {
     /// Takes the steps in order, and returns the report of their results. The report is allocated first:
-    /// if that fails, nothing has changed.
+    /// if that fails, nothing has changed. What follows from a report is in `laws`.
     pub fn turn(&mut self, steps: &[Step]) -> Result<Vec<Done>, OutOfMemory>
         requires { All (InRange (clients_of self.old)) steps.now }
-        ensures told { IfOk result (λ report. ReportHolds I.kind report.items self.old self.new) }
-        ensures steps { IfOk result (λ report. steps_of report.items ≡ steps.now) }
-        ensures behind { IfOk result (λ report. AreBehind false report.items) }
-        ensures owed { IfOk result (λ report. AreOwed self.old.facility report.items) }
-        ensures room { IfOk result (λ report. HasRoom self.new.backlogs
-            (with_nothing_waiting self.new.facility)) }
+        ensures ok { IfOk result (λ report. IsReport I.kind steps.now report.items self.old self.new) }
         ensures err { OnErr result (self.new ≡ self.old) }
     {
         notices_are_owed();
@@ -41,7 +37,6 @@ impl<W: Wheel + Drop, I: Inlet + Drop> Desk<W, I> {
         for step in steps {
             self.step(*step, &mut report);
         }
-        self.lemma_invariant();
         Ok(report)
     }
 
@@ -78,58 +73,34 @@ impl<W: Wheel + Drop, I: Inlet + Drop> Desk<W, I> {
                 let served = self.serve(client);
                 report.push_reserved(Done::Served { client, served });
             }
-            Step::Tick => self.tick_into(report),
-            Step::Ticks(limit) => self.ticks_into(limit, report),
-            Step::Close => self.close_into(report),
             Step::Flush(client) => {
                 let count = self.flush(client);
                 report.push_reserved(Done::Flushed { client, count });
             }
+            _ => {
+                let done = make_event(&mut self.facility, step);
+                report.push_reserved(done);
+                hand_out_and_report(&mut self.facility, &mut self.backlogs, report);
+            }
         }
     }
+}
 
-    /// `tick`, which appends its result and its notices to the report.
-    fn tick_into(&mut self, report: &mut Vec<Done>)
-        requires { vec_len report.old + 1 + length self.old.facility.pending ≤ vec_capacity report.old }
-        ensures adds { AddsStep I.kind Step.Tick report.old.items report.new.items self.old self.new }
-        ensures capacity { vec_capacity report.new ≡ vec_capacity report.old }
-        ensures room { vec_len report.new + length self.new.facility.pending
-            ≤ vec_len report.old + length self.old.facility.pending + 1 }
-    {
-        what_is_handed_out_was_pending();
-        let result = self.facility.tick();
-        report.push_reserved(Done::Ticked(result));
-        hand_out_into(&mut self.facility, &mut self.backlogs, report);
-    }
-
-    /// `ticks`, which appends its result and its notices to the report.
-    fn ticks_into(&mut self, limit: u64, report: &mut Vec<Done>)
-        requires some { 0 < limit }
-        requires room { vec_len report.old + 1 + length self.old.facility.pending ≤ vec_capacity report.old }
-        ensures adds { AddsStep I.kind (Step.Ticks limit)
-            report.old.items report.new.items self.old self.new }
-        ensures capacity { vec_capacity report.new ≡ vec_capacity report.old }
-        ensures room { vec_len report.new + length self.new.facility.pending
-            ≤ vec_len report.old + length self.old.facility.pending + 1 }
-    {
-        what_is_handed_out_was_pending();
-        let passed = self.facility.ticks(limit);
-        report.push_reserved(Done::Passed { limit, passed });
-        hand_out_into(&mut self.facility, &mut self.backlogs, report);
-    }
-
-    /// `close`, which appends its result and its notices to the report.
-    fn close_into(&mut self, report: &mut Vec<Done>)
-        requires { vec_len report.old + 1 + length self.old.facility.pending ≤ vec_capacity report.old }
-        ensures adds { AddsStep I.kind Step.Close
-            report.old.items report.new.items self.old self.new }
-        ensures capacity { vec_capacity report.new ≡ vec_capacity report.old }
-        ensures room { vec_len report.new + length self.new.facility.pending
-            ≤ vec_len report.old + length self.old.facility.pending + 1 }
-    {
-        what_is_handed_out_was_pending();
-        let result = self.facility.close();
-        report.push_reserved(Done::Closed(result));
-        hand_out_into(&mut self.facility, &mut self.backlogs, report);
+/// Makes the event of a step that is the owner's at the facility, and returns its member of the report.
+fn make_event<W: Wheel + Drop>(facility: &mut Facility<W>, step: Step) -> Done
+    requires quiet { facility.old.waiting ≡ [] }
+    requires owner { is_event step ≡ true }
+    requires some { InRange 0 step }
+    ensures event { IsEvent result facility.old facility.new }
+    ensures step { step_in result ≡ step ∷ [] }
+{
+    match step {
+        Step::Tick => Done::Ticked(facility.tick()),
+        Step::Ticks(limit) => Done::Passed {
+            limit,
+            passed: facility.ticks(limit),
+        },
+        Step::Close => Done::Closed(facility.close()),
+        _ => unreachable!(),
     }
 }

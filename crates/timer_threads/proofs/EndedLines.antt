@@ -8,7 +8,7 @@ use Rattle.timer_desk.specs.declared.ring.RequestsEnded.{RequestsEnded}
 use Rattle.timer_desk.specs.declared.ring.ClientReader.{ClientReader}
 use Rattle.timer_desk.specs.Ring.{line_of_inlet, got_of, given_of, all_submitted, read_by, unread_by, requests_ring_of, words_ring_of_reader}
 use Rattle.timer_desk.specs.Desk.{DeskState, AllIdle, backlog_at}
-use Rattle.timer_desk.specs.Shutdown.{AreEndsOf, AreReadersOf, AllGot, AllReadOut, IsWaiting, IsBlamed}
+use Rattle.timer_desk.specs.Shutdown.{AreEndsOf, AreReadersOf, AllGot, AllReadOut, IsWaiting, IsFirstUnfinished}
 use Rattle.timer_desk.specs.declared.driver.DriveEnd.{DriveEnd}
 use Rattle.timer_desk.specs.declared.driver.DriveEnd.TheVariants as DriveEnds
 use Rattle.timer_threads.specs.declared.fault.ThreadsFault.{ThreadsFault}
@@ -175,7 +175,7 @@ pub record IsFirstHeld (desk : DeskState RingInlet) (all : List Worked) (c : ℕ
 pub unfinished_by : {X : Type 0} (es : X → List RequestsEnded) (rs : X
     → List ClientReader) (desk : DeskState RingInlet) (all : List Worked) (parts : Option X) (held : Option ℕ)
     → AreOfLines desk.inlets all → IfSome parts (λ p. AreUnzipped all (es p) (rs p)) → (IsNone parts → IsNone held)
-    → IfSome held (λ c. IfSome parts (λ p. IsBlamed desk (es p) c ⊎ IsFirstToRead desk (es p) (rs p) c))
+    → IfSome held (λ c. IfSome parts (λ p. IsFirstUnfinished desk (es p) c ⊎ IsFirstToRead desk (es p) (rs p) c))
     → IfSome held (λ c. IsFirstHeld desk all c)
 unfinished_by es rs desk all parts None lines unzipped missing told = tt
 unfinished_by es rs desk all None (Some c) lines unzipped missing told = let none = missing refl in absurd (cc)
@@ -184,7 +184,7 @@ unfinished_by es rs desk all (Some p) (Some c) lines unzipped missing told = go 
     low : c < length desk.inlets → c < length all
     low l = let m = lines.as_many in omega (arith, l, m)
 
-    go : (IsBlamed desk (es p) c ⊎ IsFirstToRead desk (es p) (rs p) c) → IsFirstHeld desk all c
+    go : (IsFirstUnfinished desk (es p) c ⊎ IsFirstToRead desk (es p) (rs p) c) → IsFirstHeld desk all c
     go (inl blamed) = record {
       client = low blamed.client;
       back = inl (λ i w e is. subst (λ x. IsWaiting (backlog_at desk c) (got_of (get_or desk.inlets c i)) (all_submitted x))

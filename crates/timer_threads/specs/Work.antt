@@ -100,8 +100,8 @@ pub record IsOfLine (line : Line) (w : Worked) : Type 0 where
   pub reader : words_ring_of_reader w.reader ≡ line.1
 
 -- something was not sent or not received
-abbrev pub IsShort : ℕ → Worked → Type 0
-IsShort count w = (w.sent < count) ⊎ ((w.started < count) ⊎ (w.expired < count))
+abbrev pub IsIncomplete : ℕ → Worked → Type 0
+IsIncomplete count w = (w.sent < count) ⊎ ((w.started < count) ⊎ (w.expired < count))
 
 -- What was sent and received by a client with `count` requests that began its work with this end, and whether it
 -- failed. If no word is at fault, it failed only after `limit` turns in a row in which it neither sent nor received.
@@ -120,7 +120,7 @@ pub record HasWorked (count limit : ℕ) (start : ClientEnd) (w : Worked) : Type
   pub passed : w.failed ≡ false → ArePassed (next_of start) count words
   pub complete : w.failed ≡ false → (w.sent ≡ count) × (w.started ≡ count) × (w.expired ≡ count)
   pub failed : w.failed ≡ true → IsStopped (next_of start) count words
-      ⊎ (ArePassed (next_of start) count words × IsShort count w × (w.idle ≡ limit))
+      ⊎ (ArePassed (next_of start) count words × IsIncomplete count w × (w.idle ≡ limit))
 
 -- the client began with some end
 pub record IsWork (count limit : ℕ) (w : Worked) : Type 0 where

@@ -1,7 +1,7 @@
 //! The end of a run of clients in threads, once each of them has finished.
 ghost use Rattle.std.specs.Prelude.{◌≡◌, ◌⊎◌, IfOk, IfErr, IfSome, IsNone, vec_len};
 ghost use Rattle.timer_desk.specs.Desk.{AllIdle};
-ghost use Rattle.timer_desk.specs.Shutdown.{AreEndsOf, AreReadersOf, AllGot, IsBlamed};
+ghost use Rattle.timer_desk.specs.Shutdown.{AreEndsOf, AreReadersOf, AllGot, IsFirstUnfinished};
 ghost use Rattle.timer_threads.specs.Threads.{AreOfLines, AllWhole, AllRead, NoneUnread, AreSettled, IsFirstWithWords, IsFirstToRead, HasSucceeded, IsFirstFault, drive_fault, whole_text};
 ghost use Rattle.timer_threads.specs.Results.{lower_of};
 
@@ -78,7 +78,7 @@ fn first_unfinished(
 ) -> Option<usize>
     requires ends { IfSome parts (λ p. AreEndsOf desk.inlets p.0.items) }
     requires readers { IfSome parts (λ p. AreReadersOf desk.inlets p.1.items) }
-    ensures some { IfSome result (λ c. IfSome parts (λ p. IsBlamed desk p.0.items c
+    ensures some { IfSome result (λ c. IfSome parts (λ p. IsFirstUnfinished desk p.0.items c
         ⊎ IsFirstToRead desk p.0.items p.1.items c)) }
     ensures no_parts { IsNone parts → IsNone result }
     ensures none { IsNone result → IfSome parts (λ p. AllIdle desk × AllGot desk.inlets p.0.items

@@ -13,14 +13,14 @@ returns-in_default g c =
     let none : List Progress = replicate c.clients.result (record { served = 0; flushed = 0 }) in
     Drives-ended g.I.Inlet.kind c.args.last c.args.goal c.args.limit c.args.desk c.args.desk none 0 DriveEnds.OutOfMemory
     (IsDriving-start g.I.Inlet.kind c.args.last c.args.goal c.args.limit c.args.desk none c.clients.result c.clients.ensures refl
-    c.lemma_invariant.ensures.held)
+    c.lemma_invariant.ensures.kept)
     (λ placed k. c.notices_are_owed.ensures c.args.desk.facility placed k c.lemma_invariant.ensures.sound)
     (λ is. absurd (cc)) (λ is. absurd (cc))
 
 pub loop-idle-init : goal.loop-idle-init
 loop-idle-init g c =
     let start = IsDriving-start g.I.Inlet.kind c.args.last c.args.goal c.args.limit c.args.desk c.in-Ok.progress.items c.clients.result
-    c.clients.ensures c.in-Ok.ensures c.lemma_invariant.ensures.held in record {
+    c.clients.ensures c.in-Ok.ensures c.lemma_invariant.ensures.kept in record {
       driving = start;
       clients = omega (
         arith,
@@ -62,8 +62,8 @@ loop-idle-preserved-in-Passed g c =
     let len : length c.one_turn.new.progress.items ≡ clients_of c.args.desk = omega (
       arith,
       c.in-Passed.ensures.clients,
-      turned.0.told.clients.same_clients,
-      was.driving.told.clients.same_clients,
+      turned.0.holds.same_clients,
+      was.driving.holds.same_clients,
       c.one_turn.new.progress.ok,
     ) in record {
       driving = IsDriving-passed g.I.Inlet.kind c.args.last c.args.goal c.args.limit c.args.desk c.loop-idle.desk c.one_turn.new.desk
@@ -85,8 +85,8 @@ loop-idle-preserved g c =
     let len : length c.one_turn.new.progress.items ≡ clients_of c.args.desk = omega (
       arith,
       c.in-Idle.ensures.clients,
-      turned.0.told.clients.same_clients,
-      was.driving.told.clients.same_clients,
+      turned.0.holds.same_clients,
+      was.driving.holds.same_clients,
       c.one_turn.new.progress.ok,
     ) in record {
       driving = IsDriving-idle g.I.Inlet.kind c.args.last c.args.goal c.args.limit c.args.desk c.loop-idle.desk c.one_turn.new.desk

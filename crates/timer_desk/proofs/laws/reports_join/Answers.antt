@@ -1,4 +1,4 @@
-use Rattle.timer_desk.proofs.ReportConcatenation.{ReportHolds-joined}
+use Rattle.timer_desk.proofs.Members.{ReportHolds-joined}
 use Rattle.timer_desk.proofs.laws.reports_join.Goals as goal
 
 pub returns : goal.returns

@@ -1,9 +1,8 @@
-use Rattle.std.proofs.Common.{◌≡◌, ◌<◌, ◌≤◌, ◌+◌, ◌∙◌, length, get_or, vec_len, subst, refl, sym, ap, arith}
+use Rattle.std.proofs.Common.{◌≡◌, ◌<◌, ◌≤◌, ◌∙◌, length, get_or, vec_len, subst, refl, arith}
 use Rattle.std.proofs.lemmas.List.{get_or_default}
 use Rattle.timer_desk.specs.declared.ring.RingInlet.{RingInlet}
 use Rattle.timer_desk.specs.declared.ring.ClientReader.{ClientReader}
-use Rattle.timer_desk.specs.Ring.{given_of}
-use Rattle.timer_desk.specs.Shutdown.{KeepsLines, IsReadOut}
+use Rattle.timer_desk.specs.Shutdown.{IsReadOut}
 use Rattle.timer_desk.proofs.ShutdownLemmas.{still_waits, IsReadOut-same, one_more_read, later_stays, keeps_looked, keeps_then}
 use Rattle.timer_desk.proofs.shutdown.wind_up.Goals as goal
 

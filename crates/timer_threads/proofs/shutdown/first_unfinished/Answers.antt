@@ -1,7 +1,7 @@
 use Rattle.std.proofs.Common.{◌≡◌, ◌⊎◌, inr, length, sym, subst, arith}
 use Rattle.std.specs.Prelude.{IfSome}
 use Rattle.timer_desk.specs.Desk.{AllIdle}
-use Rattle.timer_desk.specs.Shutdown.{AllGot, IsBlamed}
+use Rattle.timer_desk.specs.Shutdown.{AllGot, IsFirstUnfinished}
 use Rattle.timer_threads.specs.Threads.{AllRead, NoneUnread, AreSettled, IsFirstWithWords, IsFirstToRead}
 use Rattle.timer_threads.proofs.EndedLines.{read_out, are_settled, first_to_read, IfSome-map}
 use Rattle.timer_threads.proofs.shutdown.first_unfinished.Goals as goal
@@ -21,7 +21,7 @@ returns-in-Ok-clause-some c =
     let readers = c.in-Ok.readers.items in
     let long : length readers ≡ length desk.inlets = omega (arith, told.as_many, c.in-Ok.readers.ok) in
     IfSome-map _ _ first
-    (λ n some. subst (λ o. IfSome o (λ p. IsBlamed desk p.0.items n ⊎ IsFirstToRead desk p.0.items p.1.items n)) (sym c.in-Some.is)
+    (λ n some. subst (λ o. IfSome o (λ p. IsFirstUnfinished desk p.0.items n ⊎ IsFirstToRead desk p.0.items p.1.items n)) (sym c.in-Some.is)
     (inr (first_to_read desk c.in-Some.ends.items c.in-Some.readers.items readers n told.idle told.requests told.words long some)))
     (subst (λ rs. IfSome first (λ n. IsFirstWithWords rs n)) c.deref.ensures.value c.first_unread.ensures.some)
 

@@ -8,12 +8,13 @@ use Rattle.timer_threads.proofs.threads.drive_beside.Goals as goal
 
 pub end_all-requires-clause-lines : goal.end_all-requires-clause-lines
 end_all-requires-clause-lines g c =
-    let told = c.drive-desk.ensures.told.clients in
+    let driven = c.drive-desk.ensures in
     let inlets : c.in-Ok.desk.inlets ≡ c.args.inlets.items = search rules in
     lines_kept c.args.timers c.args.limit c.args.inlets.items c.drive-desk.result.desk.inlets
     (threads_of c.args.children) c.join-2.result.items c.requires.tied
-    (told.same_clients ∙ ap (λ is. length is) inlets)
-    (λ k i l. ap (λ is. line_of_inlet (get_or is k i)) (sym inlets) ∙ (told.lines k i (omega (arith, l, ap (λ is. length is) inlets))).line)
+    (driven.holds.same_clients ∙ ap (λ is. length is) inlets)
+    (λ k i l. ap (λ is. line_of_inlet (get_or is k i)) (sym inlets) ∙ (driven.holds.lines k i
+    (omega (arith, l, ap (λ is. length is) inlets))).line)
     c.join-2.ensures
 
 pub end_all-requires-clause-counts : goal.end_all-requires-clause-counts
@@ -31,12 +32,13 @@ returns-clause-text g c =
 
 pub returns-clause-ended : goal.returns-clause-ended
 returns-clause-ended g c =
-    let told = c.drive-desk.ensures.told.clients in
+    let driven = c.drive-desk.ensures in
     let inlets : c.in-Ok.desk.inlets ≡ c.args.inlets.items = search rules in
     let lines = lines_kept c.args.timers c.args.limit c.args.inlets.items c.drive-desk.result.desk.inlets
     (threads_of c.args.children) c.join-2.result.items c.requires.tied
-    (told.same_clients ∙ ap (λ is. length is) inlets)
-    (λ k i l. ap (λ is. line_of_inlet (get_or is k i)) (sym inlets) ∙ (told.lines k i (omega (arith, l, ap (λ is. length is) inlets))).line)
+    (driven.holds.same_clients ∙ ap (λ is. length is) inlets)
+    (λ k i l. ap (λ is. line_of_inlet (get_or is k i)) (sym inlets) ∙ (driven.holds.lines k i
+    (omega (arith, l, ap (λ is. length is) inlets))).line)
     c.join-2.ensures in
     let left = all_left c.args.timers c.args.limit c.args.inlets.items (threads_of c.args.children) c.join-2.result.items c.requires.tied
     c.join-2.ensures in
@@ -48,12 +50,13 @@ returns-clause-ended g c =
 
 pub returns-clause-failed : goal.returns-clause-failed
 returns-clause-failed g c =
-    let told = c.drive-desk.ensures.told.clients in
+    let driven = c.drive-desk.ensures in
     let inlets : c.in-Ok.desk.inlets ≡ c.args.inlets.items = search rules in
     let lines = lines_kept c.args.timers c.args.limit c.args.inlets.items c.drive-desk.result.desk.inlets
     (threads_of c.args.children) c.join-2.result.items c.requires.tied
-    (told.same_clients ∙ ap (λ is. length is) inlets)
-    (λ k i l. ap (λ is. line_of_inlet (get_or is k i)) (sym inlets) ∙ (told.lines k i (omega (arith, l, ap (λ is. length is) inlets))).line)
+    (driven.holds.same_clients ∙ ap (λ is. length is) inlets)
+    (λ k i l. ap (λ is. line_of_inlet (get_or is k i)) (sym inlets) ∙ (driven.holds.lines k i
+    (omega (arith, l, ap (λ is. length is) inlets))).line)
     c.join-2.ensures in
     let left = all_left c.args.timers c.args.limit c.args.inlets.items (threads_of c.args.children) c.join-2.result.items c.requires.tied
     c.join-2.ensures in

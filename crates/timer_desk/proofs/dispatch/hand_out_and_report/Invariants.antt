@@ -2,7 +2,7 @@ use Rattle.std.proofs.Common.{◌≡◌, ◌≤◌, ◌+◌, ◌++◌, length, m
 use Rattle.std.specs.Prelude.{vec_capacity}
 use Rattle.timer_desk.specs.declared.report.Done.TheVariants.{Noticed}
 use Rattle.timer_desk.specs.Backlog.{HasRoom, with_notices}
-use Rattle.timer_desk.proofs.dispatch.hand_out_into.Given as goal
+use Rattle.timer_desk.proofs.dispatch.hand_out_and_report.Given as goal
 
 -- handing out the rest leads to where handing out all leads
 abbrev pub invariant-loop-notice : goal.invariant-loop-notice

@@ -1,0 +1,46 @@
+-- What the laws on reports say of a member by those before it, without the desk between them.
+use Rattle.std.specs.Prelude.{◌≡◌, ℕ, ◌+◌, ◌-◌, ◌≤◌, ◌⊎◌, Bool, true, false, List, [], ◌∷◌, ◌++◌, length}
+use Rattle.timer_facility.specs.State.{FacilityState, pending_of}
+use Rattle.timer_facility.specs.Run.{run}
+use Rattle.timer_facility.specs.Facility.{NeedsMemory}
+use Rattle.timer_desk.specs.declared.word.Numbered.{Numbered}
+use Rattle.timer_desk.specs.declared.report.Served.{Served}
+use Rattle.timer_desk.specs.declared.report.Served.TheVariants.{NoMemory}
+use Rattle.timer_desk.specs.declared.report.Done.{Done}
+use Rattle.timer_desk.specs.declared.report.Done.TheVariants as Dones
+use Rattle.timer_desk.specs.Report.{Account, left_of, held_list, asked, words, flushed, events, outs}
+use Rattle.timer_desk.specs.Member.{ServeRespectsRoom, IsRight, is_notice}
+
+-- the line may run out of memory, or the facility allocates for the first of these requests
+abbrev pub IsNeeded : Bool → ℕ → FacilityState → List Numbered → Type 0
+IsNeeded may_refuse c s [] = may_refuse ≡ true
+IsNeeded may_refuse c s (numbered ∷ later) = (may_refuse ≡ true)
+    ⊎ NeedsMemory s c numbered.number numbered.request
+
+-- the length of a client's outbox after a report, if its account was a: the words before and those since,
+-- less those flushed
+abbrev pub outbox_after : ℕ → Account → List Done → ℕ
+outbox_after c a past = length a.backlog.outbox + length (words c past) - flushed c past
+
+-- how many timers of the client are pending after a report from the state s
+abbrev pub pending_after : ℕ → FacilityState → List Done → ℕ
+pending_after c s past = pending_of (run s (events past)).state c
+
+-- When a member is right for client c, whose account was a before the report and is b after it. A serve's result
+-- accords with the room. It runs out of memory only if the request that is then held (the next one done,
+-- or the one held at the end) allocates. After the member the outbox has room for a notice of each pending
+-- timer.
+pub record RespectsRoom (may_refuse : Bool) (c : ℕ) (s : FacilityState) (a b : Account) (past : List Done)
+    (done : Done) (later : List Done) : Type 0 where
+  pub served : (result : Served) → done ≡ Dones.Served c result
+      → ServeRespectsRoom a.backlog.room (outbox_after c a past) (left_of a - length (asked c past))
+      (pending_after c s past) result
+  pub needed : done ≡ Dones.Served c NoMemory → IsNeeded may_refuse c (run s (events past)).state
+      (asked c later ++ held_list b.backlog.held)
+  pub room : outbox_after c a (past ++ done ∷ []) + pending_after c s (past ++ done ∷ []) ≤ a.backlog.room
+
+-- Before a member that is not a notice, the outs of those before it are those of a run of their events: no notice
+-- comes late, and none early. The member accords with the state after that run.
+pub record IsInTime (s : FacilityState) (past : List Done) (done : Done) : Type 0 where
+  pub outs_are : is_notice done ≡ false → outs past ≡ (run s (events past)).outs
+  pub right : IsRight (run s (events past)).state done
