@@ -41,30 +41,33 @@
  *     gets one more word, at the tick of its deadline or at the close. So a client knows by counting that
  *     it has all its words: one for each request, and one for each such timer.
  *
- *     A client that does not count learns it from the owner. The client finishes and hands its line over;
+ *     A client that does not count can ask the owner instead. The client finishes and hands its line over;
  *     the owner calls timers_desk_end and hands the line back. The call is refused while something of the
- *     client is left at the desk. After it, what stands in the line is all that is still to be received.
- *     timers_line_receive then returns false only if there is nothing more, and timers_line_ended returns
+ *     client is left at the desk. Afterwards only the words in the line are still to be received:
+ *     timers_line_receive returns false only if there is nothing more, and timers_line_ended returns
  *     true. timers_desk_end_all does the same for all clients at once.
  *
- *     Either end may be freed while the other goes on. The owner learns by timers_desk_line_freed that a
- *     client's line was freed. What the client sent before is still taken; words to it are dropped by the
- *     flushes. A client learns by timers_line_abandoned that the desk was freed. That is once it has received
- *     all words that a flush had moved into its line. Words that waited in its outbox are lost. So a client's loop ends if timers_line_ended or timers_line_abandoned returns true.
+ *     Either end may be freed while the other one is used. timers_desk_line_freed tells the owner that a
+ *     client's line was freed. Requests that were sent before are still taken; words to the client are dropped
+ *     by the flushes. timers_line_abandoned tells a client that the desk was freed, once the client has received
+ *     all words that a flush had moved into its line: whatever the owner flushed before the free is received.
+ *     Words that waited in the outbox are lost. So a client's loop ends if timers_line_ended or
+ *     timers_line_abandoned returns true.
  *
- *     Clients come and go. A line that was freed is opened again for another client by timers_desk_open, under
- *     the same number. By then all that was sent was taken, no word waits, and no timer is pending. The timers
- *     need not expire before: timers_desk_stop_pending stops all of them in one call. The numbers of the new
- *     client's requests go on from those of the client before, since the desk counts them. The new line shares
- *     nothing with the old one, which is gone with all that stood in it. So no word of the old client reaches
- *     the new one, and each word that the new one receives is of its own requests.
+ *     Clients come and go. If a client's line was freed, timers_desk_open opens one for another client under the
+ *     same number. It requires that every request was taken, no word waits, and no timer is pending. The owner need
+ *     not wait until the timers expire: timers_desk_stop_pending stops all of them in one call. The request numbers
+ *     of the new client continue those of the client before, since the desk counts them. The new line shares nothing
+ *     with the old one, which was freed together with the words in it. So no word to the old client reaches the new
+ *     one, and each word that the new one receives is about its own requests.
  *
  *     Words wait in the client's outbox at the owner until a flush moves them into the line. A request is
  *     taken only if the outbox has room for its answer, a word of each of the client's pending timers, and
- *     one more. So no word is lost unless an end is freed. A client that does not read stops only its own
- *     requests. A stop needs that room too: a client at its room can cancel nothing until it reads, or until
- *     one of its timers expires. `room` in struct timers_desk_config says how much is enough. A request whose
- *     allocation failed is held, and retried first when its client is served the next time.
+ *     one more. So no word is lost unless an end is freed. A client that does not read blocks only its own
+ *     requests. A stop needs that room too: while the outbox lacks room (TIMERS_DESK_NO_ROOM), the client cannot stop a
+ *     timer until it reads words, or until one of its timers expires and a flush moves that word into the line.
+ *     `room` in struct timers_desk_config says how much is enough. A request whose allocation failed is held, and
+ *     retried first when its client is served the next time.
  *
  *     The owner's loop:
  *
@@ -94,10 +97,10 @@
  *     The library is proved: each function meets the contract stated in
  *     crates/timer_desk_c/src/desk_exports.rt or line_exports.rt, for every call that keeps the rules
  *     below. Nothing checks that a caller keeps them. Nothing is proved about time: when a thread runs, and
- *     when a word arrives. Nor is what timers_desk_line_freed and timers_line_abandoned return about the
- *     other end. It is proved that they change nothing, and that they look in the right order. Words that
- *     are missing count only once the desk was seen to be gone, so that none that was put before is lost. The
- *     same holds of a client's requests before its line is opened again.
+ *     when a word arrives. Nor is it proved that timers_desk_line_freed and timers_line_abandoned return true
+ *     exactly if the other end was freed. It is proved that they change nothing, and test in the right order:
+ *     first whether the desk is gone, and then whether a word is left in the line. So no word that was put before
+ *     is missed. The same holds for a client's requests before its line is opened again.
  *
  * RULES
  *     1. A `struct timers_desk` begins as TIMERS_DESK_INIT and a `struct timers_line` as TIMERS_LINE_INIT,
@@ -111,9 +114,13 @@
  *     4. Calls on one struct come one at a time, but for those that THREADS names. A struct may be handed from
  *        thread to thread: by a lock, by a thread's start or join, by an atomic with release and acquire order.
  *        Calls on two structs are independent: those of the owner and of its clients may overlap in every way.
- *     5. timers_desk_settle, timers_desk_end and timers_desk_end_all are given lines of the same desk. A
- *        line of another client is refused, and so is one of another desk whose client has another number.
- *        A line of another desk whose client has the same number is not detected.
+ *     5. timers_desk_settle, timers_desk_end and timers_desk_end_all are given lines of the same desk. A line of
+ *        another client is refused with TIMERS_DESK_OTHER_LINE. So is a line of an earlier desk of the same struct:
+ *        the struct counts the desks that were made in it, timers_desk_free keeps the count, and each line has the
+ *        count at which it was made. So do not set a struct to TIMERS_DESK_INIT again while lines of it are held. A line of another
+ *        struct with the same client and count is not detected. A program with several desks may set `lives` of each
+ *        struct to another number before its first timers_desk_new, such as 2^32 times the number of the desk. Then
+ *        lines of the other desks are refused, too.
  *     6. malloc, realloc and free, or what timers_set_allocator (timers.h) was given in their place, are one
  *        allocator that threads may share, and align as C requires.
  *     7. No call comes from a signal handler. THREADS says which calls a forked child may make.
@@ -190,7 +197,7 @@ enum timers_desk_status {
 	TIMERS_DESK_OUT_OF_RANGE = 19,   /* a number of the configuration, or the number of lines */
 	TIMERS_DESK_IDLE = 20,           /* no request was known to be in the line */
 	TIMERS_DESK_NO_ROOM = 21,        /* the outbox has no room for the words of another request */
-	TIMERS_DESK_OTHER_LINE = 22,     /* the line is not this client's line at this desk */
+	TIMERS_DESK_OTHER_LINE = 22,     /* the line is another client's, or of an earlier life of the desk's struct */
 	TIMERS_DESK_NOT_FINISHED = 23,   /* the line has not finished */
 	TIMERS_DESK_LEFT = 24,           /* something of the client is left at the desk */
 	TIMERS_DESK_NOT_FREED = 25       /* the client's line was not freed */
@@ -198,10 +205,10 @@ enum timers_desk_status {
 
 #define TIMERS_DESK_CLIENTS 64   /* the most clients */
 
-/* The kinds of words, and the members of a word that each one sets. A request gets the first reason that
- * holds: CLOSED, REPEATED and NUMBERS_SPENT before all others, in this order. Then a start is tested for ZERO_INTERVAL, TOO_LATE,
- * SERIALS_SPENT and CAPACITY; a restart for NOT_PENDING, ZERO_INTERVAL, TOO_LATE and SERIALS_SPENT; and a stop
- * for NOT_PENDING. */
+/* The kinds of words, and the members of a word that each one sets. A request gets the first reason that holds. CLOSED,
+ * REPEATED, NUMBERS_SPENT and AHEAD are tested first, in this order: the request is not taken. Then a start is tested
+ * for ZERO_INTERVAL, TOO_LATE, SERIALS_SPENT and CAPACITY; a restart for NOT_PENDING, ZERO_INTERVAL, TOO_LATE and
+ * SERIALS_SPENT; and a stop for NOT_PENDING. */
 enum timers_word_kind {
 	TIMERS_WORD_STARTED = 1,     /* number, handle, deadline */
 	TIMERS_WORD_RESTARTED = 2,   /* number, handle and deadline of the new timer, the old serial in `other` */
@@ -216,14 +223,16 @@ enum timers_word_kind {
 struct timers_desk {
 	void *at;
 	uint64_t mark;
+	uint64_t lives;    /* how many desks were made in it: rule 5 */
 };
 struct timers_line {
 	void *at;
 	uint64_t mark;
 	uint64_t client;   /* the number of its client, which may be read */
+	uint64_t life;     /* `lives` of its desk when it was made */
 };
-#define TIMERS_DESK_INIT { NULL, 0 }
-#define TIMERS_LINE_INIT { NULL, 0, 0 }
+#define TIMERS_DESK_INIT { NULL, 0, 0 }
+#define TIMERS_LINE_INIT { NULL, 0, 0, 0 }
 
 /* What a desk is made with. `size` is sizeof(struct timers_desk_config), by which a library tells the struct from one
  * of a later header that has more members: { .size = sizeof config, .capacity = 1000, .. }.
@@ -254,7 +263,8 @@ struct timers_word {
 
 /* The owner's calls. */
 
-/* Makes a desk with `clients` clients, 1 to 64, over wheels with the slots of a table. From then on
+/* Makes a desk with `clients` clients, 1 to 64, over wheels with the slots of a table. Its memory for timers grows with
+ * them, unless timers_desk_reserve makes all of it. From then on
  * lines[0] to lines[clients - 1] hold the clients' ends. `lines` must not be NULL, even if `clients` is 0.
  * TIMERS_DESK_OPEN, TIMERS_DESK_OUT_OF_RANGE (also: another size, no such table, or the first tick is after the
  * table's last tick), TIMERS_DESK_NO_MEMORY: nothing has changed then. */
@@ -264,7 +274,8 @@ enum timers_desk_status timers_desk_new(struct timers_desk *d, struct timers_lin
 
 /* Frees the desk, if it holds one: pending timers, and words that no client's line has yet, are dropped.
  * Clients may continue to call: their requests are never taken, and what stands in the line is still
- * received. Once it is, timers_line_abandoned returns true. */
+ * received. Once it is, timers_line_abandoned returns true. The struct may be made anew by timers_desk_new: then
+ * lines of before are refused by the calls that settle or end one (rule 5). */
 void timers_desk_free(struct timers_desk *d);
 
 /* Serves a client once: takes its held request, or else the next one of its line. At TIMERS_DESK_OK the
@@ -273,7 +284,7 @@ void timers_desk_free(struct timers_desk *d);
  * TIMERS_DESK_NO_MEMORY: the request is held, and is retried first. */
 enum timers_desk_status timers_desk_serve(struct timers_desk *d, size_t client);
 
-/* Serves each client once, from client 0 on, until `most` of its requests were done or a serve did none.
+/* Serves each client in turn, from client 0 on: each until `most` of its requests were done or a serve did none.
  * Allocates only for starts.
  * TIMERS_DESK_NOT_OPEN.
  * TIMERS_DESK_NO_MEMORY: an allocation failed for at least one client, whose request is held; others may have
@@ -305,7 +316,8 @@ enum timers_desk_status timers_desk_advance(struct timers_desk *d, uint64_t most
  * equal ones. From then on each request is answered by TIMERS_WORD_NOT_TAKEN. At TIMERS_DESK_OK it writes to
  * `*returned` how many timers were returned.
  * TIMERS_DESK_NOT_OPEN, TIMERS_DESK_CLOSED, TIMERS_DESK_NO_MEMORY: nothing has changed. After
- * TIMERS_DESK_NO_MEMORY it may be repeated. */
+ * TIMERS_DESK_NO_MEMORY it may be repeated. If timers_desk_reserve returned TIMERS_DESK_OK before, this call does not
+ * allocate and never returns TIMERS_DESK_NO_MEMORY. */
 TIMERS_CHECKED
 enum timers_desk_status timers_desk_close(struct timers_desk *d, uint64_t *returned);
 
@@ -313,8 +325,8 @@ enum timers_desk_status timers_desk_close(struct timers_desk *d, uint64_t *retur
  * TIMERS_DESK_OK it writes to `*standing` how many of the client's requests still stand in the line.
  * Suppose it is 0, the last serve did not return TIMERS_DESK_NO_MEMORY, and the outbox is empty. Then only
  * pending timers of this client are left at the desk. Does not allocate.
- * TIMERS_DESK_NOT_OPEN (either struct), TIMERS_DESK_NO_CLIENT, TIMERS_DESK_OTHER_LINE (it is not this client's at
- * this desk: its number is another, or its desk was freed before it finished), TIMERS_DESK_NOT_FINISHED: nothing has
+ * TIMERS_DESK_NOT_OPEN (either struct), TIMERS_DESK_NO_CLIENT, TIMERS_DESK_OTHER_LINE (it is another client's or of an
+ * earlier life of the struct `d`, or its desk was freed before it finished), TIMERS_DESK_NOT_FINISHED: nothing has
  * changed. */
 TIMERS_CHECKED
 enum timers_desk_status timers_desk_settle(struct timers_desk *d, size_t client,
@@ -350,9 +362,9 @@ enum timers_desk_status timers_desk_end_all(struct timers_desk *d, struct timers
  * others stay. Each is stopped by a request of the client, which takes its next number; nobody gets the answer. Nothing
  * else changes: words that wait for the client are dropped by a flush.
  *
- * Serve the client before, until that returns TIMERS_DESK_IDLE, or TIMERS_DESK_NO_ROOM since its timers take all room.
- * A request that still stands in its line may find its number taken afterwards. Then it starts and stops nothing. After
- * TIMERS_DESK_NO_ROOM repeat both calls, so that one flood of starts keeps no line for long.
+ * Serve the client before, until that returns TIMERS_DESK_IDLE, or TIMERS_DESK_NO_ROOM because its timers take all
+ * room. A request that is still in its line may be refused afterwards, since a stop took its number: it then starts and
+ * stops nothing. After TIMERS_DESK_NO_ROOM repeat both calls, until a serve returns TIMERS_DESK_IDLE.
  *
  * Takes time for each place in which there ever was a timer, of any client. Does not allocate.
  * TIMERS_DESK_NOT_OPEN, TIMERS_DESK_NO_CLIENT, TIMERS_DESK_NOT_FREED, TIMERS_DESK_CLOSED (the close has returned its
@@ -360,18 +372,19 @@ enum timers_desk_status timers_desk_end_all(struct timers_desk *d, struct timers
 TIMERS_CHECKED
 enum timers_desk_status timers_desk_stop_pending(struct timers_desk *d, size_t client, size_t *stopped);
 
-/* Opens a line for another client under the number of one that is gone. That one's line was freed, and each request
- * that it sent was taken. No word waits for it (a flush drops them), and no timer of it is pending. `line` holds the new client's
- * end from then on, and has room for `room` requests and as many words, as `line` in struct timers_desk_config. The
- * numbers of the client's requests go on: the first is one above the last that was taken. Waits for no thread.
+/* Opens a line for another client under the number of one whose line was freed. Every request of that one was taken, no
+ * word waits for it (a flush drops them), and no timer of it is pending. `line` holds the new client's end from then
+ * on, and has room for `room` requests and as many words, as `line` in struct timers_desk_config. The request numbers
+ * continue: the first is one above the last that was taken. Waits for no thread.
  * TIMERS_DESK_NOT_OPEN (the desk), TIMERS_DESK_OPEN (`line` holds one), TIMERS_DESK_NO_CLIENT, TIMERS_DESK_OUT_OF_RANGE
  * (the room), TIMERS_DESK_NOT_FREED, TIMERS_DESK_LEFT (something of the client that is gone: serve and flush it, and
  * stop its timers), TIMERS_DESK_NUMBERS_SPENT, TIMERS_DESK_NO_MEMORY: nothing has changed. */
 TIMERS_CHECKED
 enum timers_desk_status timers_desk_open(struct timers_desk *d, size_t client, struct timers_line *line, size_t room);
 
-/* Makes room for as many timers as may be pending, so that no serve allocates or runs out of memory from then on.
- * timers_desk_close still allocates.
+/* Makes room for as many timers as may be pending, and for the list of them that a close makes. From then on no serve
+ * and no timers_desk_close allocates or runs out of memory. Takes some 105 bytes for each of `capacity`. A second call
+ * allocates nothing.
  * TIMERS_DESK_NOT_OPEN, TIMERS_DESK_NO_MEMORY: nothing has changed. */
 TIMERS_CHECKED
 enum timers_desk_status timers_desk_reserve(struct timers_desk *d);
@@ -502,10 +515,11 @@ static TIMERS_INLINE const char *timers_desk_message(enum timers_desk_status sta
 #else
 #define TIMERS_DESK_ASSERT(fact, says) _Static_assert(fact, says)
 #endif
-TIMERS_DESK_ASSERT(sizeof(struct timers_desk) == 16 && offsetof(struct timers_desk, mark) == 8,
-                   "struct timers_desk");
-TIMERS_DESK_ASSERT(sizeof(struct timers_line) == 24 && offsetof(struct timers_line, mark) == 8
-                   && offsetof(struct timers_line, client) == 16, "struct timers_line");
+TIMERS_DESK_ASSERT(sizeof(struct timers_desk) == 24 && offsetof(struct timers_desk, mark) == 8
+                   && offsetof(struct timers_desk, lives) == 16, "struct timers_desk");
+TIMERS_DESK_ASSERT(sizeof(struct timers_line) == 32 && offsetof(struct timers_line, mark) == 8
+                   && offsetof(struct timers_line, client) == 16
+                   && offsetof(struct timers_line, life) == 24, "struct timers_line");
 TIMERS_DESK_ASSERT(sizeof(struct timers_word) == 56 && offsetof(struct timers_word, number) == 8
                    && offsetof(struct timers_word, handle) == 16
                    && offsetof(struct timers_word, deadline) == 32

@@ -103,6 +103,32 @@ static void agrees(unsigned seed)
 	THROWS(TIMERS_DESK_FINISHED, line.start(1, 1));
 }
 
+/* Each client's timers and words are counted for it alone. */
+static void counts_by_client()
+{
+	std::vector<timing::line> lines;
+	timing::desk made(lines, 2, timing::desk::config(9, 4, 4)), desk = std::move(made);
+	CHECK(lines[0].start(5, 1) && lines[1].start(3, 2) && lines[1].start(9, 3));
+	turn(desk);
+	CHECK(desk.pending(0) == 1 && desk.pending(1) == 2 && desk.size() == 3);
+	CHECK(desk.advance(20) == 3 && desk.now() == 3);
+	CHECK(desk.pending(1) == 1 && desk.outbox(0) == 0 && desk.outbox(1) == 1 && desk.size() == 2);
+	CHECK(desk.flush(0) == 0 && desk.flush(1) == 1);
+	THROWS(TIMERS_DESK_NOT_OPEN, made.reserve());
+}
+
+/* A line of another desk ends nothing, even if its client has the same number. */
+static void refuses_a_line_of_another_desk()
+{
+	std::vector<timing::line> lines, strangers;
+	timing::desk desk(lines, 1, timing::desk::config(9, 4, 4)), other(strangers, 1, timing::desk::config(9, 4, 4));
+	lines[0].finish(), strangers[0].finish();
+	THROWS(TIMERS_DESK_OTHER_LINE, desk.end(0, strangers[0]));
+	THROWS(TIMERS_DESK_OTHER_LINE, other.end(0, lines[0]));
+	CHECK(!lines[0].ended() && !strangers[0].ended());
+	CHECK(desk.end(0, lines[0]) == 0 && other.end(0, strangers[0]) == 0 && lines[0].ended() && strangers[0].ended());
+}
+
 static void come_and_go()
 {
 	std::vector<timing::line> lines;
@@ -190,6 +216,8 @@ int main()
 	for (unsigned seed = 1; seed < 5; seed++)
 		agrees(seed);
 	come_and_go();
+	counts_by_client();
+	refuses_a_line_of_another_desk();
 	threads(1);
 	threads(8);
 	std::vector<timing::line> lines;

@@ -664,20 +664,81 @@ static void room_enough(size_t k, size_t q)
 	}
 }
 
-/* A desk with room for all its timers runs out of memory at no start. */
+/* A desk with room for all its timers allocates for no start and for no close, and so runs out of memory at none. The
+ * words of the close come by deadline, and by serial among equal ones. */
 static void reserves(void)
 {
 	struct timers_desk d = TIMERS_DESK_INIT;
 	struct timers_line l = TIMERS_LINE_INIT;
 	struct timers_desk_config config = { sizeof config, 0, 200, 500, 256, TIMERS_WIDE };
-	uint64_t n;
+	struct timers_word w, last = { .deadline = 0 };
+	uint64_t n, returned = 0;
 	CHECK(timers_desk_new(&d, &l, 1, &config) == TIMERS_DESK_OK && timers_desk_reserve(&d) == TIMERS_DESK_OK);
 	for (uint64_t i = 1; i <= 201; i++)
-		CHECK(timers_line_start(&l, i, i, &n) == TIMERS_DESK_OK);
+		CHECK(timers_line_start(&l, 1 + 37 * i % 50, i, &n) == TIMERS_DESK_OK);
 	long before = asked;
+	left = 0;               /* the next allocation is refused */
 	CHECK(timers_desk_serve_all(&d, 300) == TIMERS_DESK_OK && timers_desk_pending(&d, 0) == 200 && timers_desk_len(&d) == 200);
-	CHECK(asked == before && timers_desk_pending(&d, 1) == 0);
+	CHECK(timers_desk_pending(&d, 1) == 0 && timers_desk_reserve(&d) == TIMERS_DESK_OK);
+	CHECK(timers_desk_close(&d, &n) == TIMERS_DESK_OK && n == 200 && timers_desk_len(&d) == 0);
+	n = 77;
+	CHECK(timers_desk_close(&d, &n) == TIMERS_DESK_CLOSED && n == 77 && timers_desk_reserve(&d) == TIMERS_DESK_OK);
+	CHECK(asked == before);
+	left = -1;
+	for (int turn = 0; turn < 2; turn++) {
+		timers_desk_flush_all(&d);
+		while (timers_line_receive(&l, &w)) {
+			if (w.kind != TIMERS_WORD_RETURNED)
+				continue;
+			CHECK(w.deadline > last.deadline || (w.deadline == last.deadline && w.handle.serial > last.handle.serial));
+			CHECK(w.deadline == 1 + 37 * w.action % 50);
+			last = w;
+			returned++;
+		}
+	}
+	CHECK(returned == 200 && !timers_desk_flush_all(&d));
 	timers_desk_free(&d), timers_line_free(&l);
+}
+
+/* A line of an earlier life of its desk's struct is refused, and settles nothing; neither does it end anything. */
+static void refuses_a_line_of_an_earlier_life(void)
+{
+	struct timers_desk d = TIMERS_DESK_INIT;
+	struct timers_line l[2] = { TIMERS_LINE_INIT, TIMERS_LINE_INIT }, old[2], none = TIMERS_LINE_INIT;
+	struct timers_desk_config config = { sizeof config, 0, 100, 8, 4, TIMERS_WIDE };
+	struct timers_word w;
+	uint64_t n;
+	size_t s = 55, c = 77;
+	CHECK(timers_desk_new(&d, l, 2, &config) == TIMERS_DESK_OK && d.lives == 1 && l[0].life == 1);
+	CHECK(timers_line_start(&l[0], 9, 1, &n) == TIMERS_DESK_OK && timers_line_finish(&l[0]) == TIMERS_DESK_OK);
+	owner_turn(&d);
+	old[0] = l[0], old[1] = l[1], l[0] = none, l[1] = none;
+	timers_desk_free(&d);
+	CHECK(d.lives == 1 && timers_desk_new(&d, l, 0, &config) == TIMERS_DESK_OUT_OF_RANGE && d.lives == 1);
+	CHECK(timers_desk_new(&d, l, 2, &config) == TIMERS_DESK_OK && d.lives == 2 && l[1].life == 2);
+	CHECK(timers_line_start(&l[0], 5, 2, &n) == TIMERS_DESK_OK && timers_line_finish(&l[0]) == TIMERS_DESK_OK);
+	/* client 0 finished then and now; client 1 has not finished then, and is refused for its life all the same */
+	CHECK(timers_desk_settle(&d, 0, &old[0], &s) == TIMERS_DESK_OTHER_LINE && timers_desk_end(&d, 0, &old[0], &s) == TIMERS_DESK_OTHER_LINE);
+	CHECK(timers_desk_settle(&d, 1, &old[1], &s) == TIMERS_DESK_OTHER_LINE && timers_desk_end(&d, 1, &old[1], &s) == TIMERS_DESK_OTHER_LINE);
+	CHECK(timers_desk_settle(&d, 2, &old[0], &s) == TIMERS_DESK_NO_CLIENT && s == 55);
+	swap(&l[0], &old[0]);
+	CHECK(timers_desk_end_all(&d, l, 2, &c) == TIMERS_DESK_OTHER_LINE && c == 0);
+	swap(&l[0], &old[0]);
+	/* the request of the present life still stands, and the word of the old one is still received */
+	CHECK(timers_desk_settle(&d, 0, &l[0], &s) == TIMERS_DESK_OK && s == 1);
+	CHECK(timers_line_receive(&old[0], &w) && w.kind == TIMERS_WORD_STARTED && w.action == 0 && !timers_line_ended(&old[0]));
+	CHECK(timers_line_abandoned(&old[0]) && timers_line_abandoned(&old[1]));
+	owner_turn(&d);
+	CHECK(timers_desk_advance(&d, 5, &n) == TIMERS_DESK_OK && n == 5 && timers_desk_flush(&d, 0) == 1);
+	CHECK(timers_desk_end(&d, 0, &l[0], &s) == TIMERS_DESK_OK && s == 2);
+	/* a line that is opened again is of the life of its desk */
+	timers_line_free(&l[1]);
+	CHECK(timers_desk_open(&d, 1, &l[1], 4) == TIMERS_DESK_OK && l[1].life == 2 && timers_line_finish(&l[1]) == TIMERS_DESK_OK);
+	CHECK(timers_desk_end_all(&d, l, 2, &c) == TIMERS_DESK_OK && c == 0);
+	timers_desk_free(&d);
+	CHECK(d.lives == 2);
+	for (int i = 0; i < 2; i++)
+		timers_line_free(&l[i]), timers_line_free(&old[i]);
 }
 
 /* each status has a text of its own */
@@ -706,6 +767,7 @@ int main(void)
 		for (size_t q = 1; q < 6; q++)
 			room_enough(k, q);
 	reserves();
+	refuses_a_line_of_an_earlier_life();
 	messages();
 	CHECK(!ends());
 	ends_all();

@@ -1,6 +1,6 @@
 /* Random calls to a desk and its lines in one thread, each compared with a model in lists: requests that stand in a line,
  * words that wait at the desk and in a line, and pending timers by deadline and serial. Lines are finished, freed and
- * opened again, rooms are small, and the desk is closed at last.
+ * opened again, rooms are small, and the desk is closed at last. Lines of an earlier life of its struct are refused.
  *
  *     desk_model [RUNS [CALLS]] */
 #include <cstdio>
@@ -35,6 +35,7 @@ struct model {
 	timers_desk_config config = {};
 	timers_desk desk TIMERS_DESK_INIT;
 	std::vector<client> clients;
+	std::vector<timers_line> old;           /* of an earlier life of the desk's struct, finished or not */
 	std::map<std::pair<std::uint64_t, std::uint64_t>, timer> pending;
 	std::uint64_t now = 0, serial = 1;
 	bool closed = false;
@@ -238,6 +239,10 @@ struct model {
 			CHECK(timers_desk_tick(&desk) == (closed ? TIMERS_DESK_CLOSED : TIMERS_DESK_OK));
 			now += !closed;
 			hand_out(TIMERS_WORD_EXPIRED, now);
+		} else if (what == 11 && below(4) == 0) {
+			CHECK(timers_desk_settle(&desk, c, &old[c], &size) == TIMERS_DESK_OTHER_LINE);
+			CHECK(timers_desk_end(&desk, c, &old[c], &size) == TIMERS_DESK_OTHER_LINE && size == 78);
+			CHECK(below(8) || timers_desk_reserve(&desk) == TIMERS_DESK_OK);
 		} else if (what == 11) {
 			const auto status = timers_desk_settle(&desk, c, &it.line, &size);
 			CHECK(status == (it.freed ? TIMERS_DESK_NOT_OPEN : !it.finished ? TIMERS_DESK_NOT_FINISHED : TIMERS_DESK_OK));
@@ -262,7 +267,7 @@ struct model {
 			CHECK(it.freed || timers_desk_open(&desk, c, &it.line, 1) == TIMERS_DESK_OPEN);
 		}
 	}
-	/* all lines at once, one of which may be elsewhere */
+	/* all lines at once, one of which may be elsewhere, or another one in its place */
 	void end_all()
 	{
 		const std::size_t away = below(2 * clients.size());
@@ -270,13 +275,15 @@ struct model {
 		for (client &it : clients)
 			lines.push_back(it.line);
 		const timers_line none TIMERS_LINE_INIT;
+		const bool other = below(2);
 		if (away < clients.size())
-			lines[away] = none;
+			lines[away] = other ? old[away] : none;
 		std::size_t left = 78, wanted = 78;
 		const auto status = timers_desk_end_all(&desk, lines.data(), clients.size(), &left);
 		timers_desk_status why = TIMERS_DESK_OK;
 		for (std::size_t c = 0; c < clients.size(); c++) {
-			const auto at = clients[c].freed ? TIMERS_DESK_OK : c == away ? TIMERS_DESK_NOT_FREED : end(c);
+			const auto at = c == away && other ? TIMERS_DESK_OTHER_LINE : clients[c].freed ? TIMERS_DESK_OK
+				: c == away ? TIMERS_DESK_NOT_FREED : end(c);
 			if (why == TIMERS_DESK_OK && at != TIMERS_DESK_OK)
 				why = at, wanted = c;
 		}
@@ -292,12 +299,38 @@ struct model {
 		CHECK(timers_desk_pending(&desk, c) == pending_of(c) && timers_desk_outbox(&desk, c) == clients[c].outbox.size());
 		CHECK(timers_desk_line_freed(&desk, c) == clients[c].freed);
 	}
+	/* An earlier life of the desk's struct, some of whose lines finish, before the desk is freed or after. */
+	void live_before()
+	{
+		old.resize(clients.size(), timers_line TIMERS_LINE_INIT);
+		CHECK(timers_desk_new(&desk, old.data(), old.size(), &config) == TIMERS_DESK_OK);
+		const std::uint64_t before = below(2);
+		if (!before)
+			timers_desk_free(&desk);
+		for (timers_line &line : old)
+			CHECK(below(3) == 0 || timers_line_finish(&line) == TIMERS_DESK_OK);
+		if (before)
+			timers_desk_free(&desk);
+	}
+	/* After the desk was freed a client receives the words in its line. Then it learns that no more come. */
+	void reads_out(client &it)
+	{
+		timers_word word;
+		for (; !it.freed && !it.words.empty(); it.words.pop_front()) {
+			CHECK(!timers_line_abandoned(&it.line) && !timers_line_ended(&it.line));
+			CHECK(timers_line_receive(&it.line, &word) && word.number == it.words.front().number && word.kind == it.words.front().kind);
+		}
+		CHECK(timers_line_abandoned(&it.line) == (!it.freed && !it.ended) && timers_line_ended(&it.line) == (!it.freed && it.ended));
+		CHECK(!timers_line_receive(&it.line, &word));
+		timers_line_free(&it.line);
+	}
 	void play(unsigned calls)
 	{
 		config.size = sizeof config, config.capacity = 1 + below(30), config.room = 2 + below(12), config.line = 1 + below(6);
 		config.first_tick = now = below(5000);
 		clients.resize(1 + below(5));
 		std::vector<timers_line> lines(clients.size(), timers_line TIMERS_LINE_INIT);
+		live_before();
 		CHECK(timers_desk_new(&desk, lines.data(), lines.size(), &config) == TIMERS_DESK_OK);
 		CHECK(below(2) || timers_desk_reserve(&desk) == TIMERS_DESK_OK);
 		for (std::size_t c = 0; c < clients.size(); c++)
@@ -318,9 +351,11 @@ struct model {
 			}
 			looks();
 		}
-		for (client &it : clients)
-			timers_line_free(&it.line);
 		timers_desk_free(&desk);
+		for (client &it : clients)
+			reads_out(it);
+		for (timers_line &line : old)
+			timers_line_free(&line);
 	}
 };
 

@@ -8,7 +8,7 @@ use Rattle.std.proofs.lemmas.List.{length-map, get_or_default}
 use Rattle.std.proofs.Math.ListN.{get_or-map}
 
 -- these ends are left of all of them, and the others are placed
-pub record IsPlaced (all : List (Box Line Global)) (before : List CLine) (left : List (Box Line Global))
+pub record IsPlaced (life : ℕ) (all : List (Box Line Global)) (before : List CLine) (left : List (Box Line Global))
     (lines : List CLine) : Type 0 where
   pub as_many : length lines ≡ length before
   pub long : length before ≡ length all
@@ -19,6 +19,7 @@ pub record IsPlaced (all : List (Box Line Global)) (before : List CLine) (left :
   pub state : (k : ℕ) (x : CLine) (b : Box Line Global) → length left ≤ k → k < length all
       → (get_or lines k x).slot.state ≡ (get_or all k b).value
   pub client : (k : ℕ) (x : CLine) → length left ≤ k → k < length all → (get_or lines k x).client ≡ k
+  pub life_is : (k : ℕ) (x : CLine) → length left ≤ k → k < length all → (get_or lines k x).life ≡ life
 
 none_below : (k : ℕ) → k < 0 → ⊥
 none_below k low = absurd (let z : k < 0 = low in grind (arith))
@@ -30,15 +31,16 @@ value_at all k l b low =
     get_or_default (map (λ (x : Box Line Global). x.value) all) k l b.value (omega (arith, long, low))
     ∙ get_or-map (λ (x : Box Line Global). x.value) all k b
 
-pub all_held : (all : List (Box Line Global)) (before : List CLine) (left : List (Box Line Global)) (lines : List CLine)
-    → IsPlaced all before left lines → length left ≡ 0 → AreHeld (map (λ (x : Box Line Global). x.value) all) lines
-all_held [] before left lines p e = record {
+pub all_held : (life : ℕ) (all : List (Box Line Global)) (before : List CLine) (left : List (Box Line Global)) (lines : List CLine)
+    → IsPlaced life all before left lines → length left ≡ 0 → AreHeld life (map (λ (x : Box Line Global). x.value) all) lines
+all_held life [] before left lines p e = record {
   as_many = p.as_many ∙ p.long;
   open_each = λ k x low. absurd (none_below k low);
   state = λ k x l low. absurd (none_below k low);
   client = λ k x low. absurd (none_below k low);
+  life_is = λ k x low. absurd (none_below k low);
 }
-all_held (b ∷ bs) before left lines p e =
+all_held life (b ∷ bs) before left lines p e =
     let all = b ∷ bs in
     let long = length-map all (λ (x : Box Line Global). x.value) in record {
       as_many = p.as_many ∙ p.long ∙ sym long;
@@ -46,4 +48,5 @@ all_held (b ∷ bs) before left lines p e =
       state = λ k x l low. p.state k x b (omega (arith, e)) (omega (arith, long, low))
           ∙ sym (value_at all k l b (omega (arith, long, low)));
       client = λ k x low. p.client k x (omega (arith, e)) (omega (arith, long, low));
+      life_is = λ k x low. p.life_is k x (omega (arith, e)) (omega (arith, long, low));
     }

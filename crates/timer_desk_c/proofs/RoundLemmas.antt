@@ -14,11 +14,12 @@ use Rattle.timer_desk.specs.declared.report.Done.{Done}
 use Rattle.timer_desk.specs.declared.report.Done.TheVariants as Dones
 use Rattle.timer_desk.specs.declared.ring.RingInlet.{RingInlet}
 use Rattle.timer_desk.specs.Backlog.{BacklogState, empty_backlog}
-use Rattle.timer_desk.specs.Report.{HeldIsLast, asked, asked_in, flushed}
+use Rattle.timer_desk.specs.Report.{asked, asked_in, flushed}
+use Rattle.timer_desk.specs.Member.{IsKept}
 use Rattle.timer_desk.specs.Ring.{ring_lines, free_of_inlet}
-use Rattle.timer_desk.specs.Desk.{clients_of, account_at, backlog_at}
+use Rattle.timer_desk.specs.Desk.{clients_of, at_rest, backlog_at}
 use Rattle.timer_desk.specs.Flush.{IsGiven, Flushes, without_words}
-use Rattle.timer_desk.proofs.ReportConcatenation.{ReportHolds-joined, ReportHolds-nothing}
+use Rattle.timer_desk.proofs.Members.{ReportHolds-joined, ReportHolds-nothing}
 use Rattle.timer_desk_c.specs.DeskSlots.{DeskState}
 use Rattle.timer_desk_c.specs.Desks.{Says}
 use Rattle.timer_desk_c.specs.Rounds.{did, starved, did_request, ran_out, served_none, flushed_one, moved_a_word, AreInOrder, IsFlush, IsServedOut, IsEmptied, round_status, HasServedAll, HasFlushedEach}
@@ -120,10 +121,7 @@ pub record IsServing (c n : ℕ) (busy : Bool) (old now : DeskState) : Type 0 wh
   pub busy_is : busy ≡ list_any did_request report
   pub fed_all : list_any ran_out report ≡ false
 
-abbrev pub IsHeldRight : DeskState → Type 0
-IsHeldRight x = (c : ℕ) (i : RingInlet) (b : BacklogState) → c < clients_of x → HeldIsLast (account_at ring_lines x c i b)
-
-pub serving_nothing : (c : ℕ) (x : DeskState) → IsHeldRight x → IsServing c 0 false x x
+pub serving_nothing : (c : ℕ) (x : DeskState) → IsKept ring_lines (at_rest x) → IsServing c 0 false x x
 serving_nothing c x last = record {
   report = [];
   says = ReportHolds-nothing ring_lines x last;
@@ -212,7 +210,7 @@ pub record IsRound (most k : ℕ) (busy out : Bool) (old now : DeskState) : Type
 none_below : (c : ℕ) → c < 0 → ⊥
 none_below c low = absurd (let z : c < 0 = low in grind (arith))
 
-pub round_nothing : (most : ℕ) (x : DeskState) → IsHeldRight x → IsRound most 0 false false x x
+pub round_nothing : (most : ℕ) (x : DeskState) → IsKept ring_lines (at_rest x) → IsRound most 0 false false x x
 round_nothing most x last = record {
   report = [];
   says = ReportHolds-nothing ring_lines x last;
@@ -303,7 +301,7 @@ pub record IsFlushing (k : ℕ) (moved : Bool) (old now : DeskState) : Type 0 wh
   pub same_backlogs : (c : ℕ) → k ≤ c → backlog_at now c ≡ backlog_at old c
   pub none_yet : (c : ℕ) → k ≤ c → flushed c report ≡ 0
 
-pub flushing_nothing : (x : DeskState) → IsHeldRight x → IsFlushing 0 false x x
+pub flushing_nothing : (x : DeskState) → IsKept ring_lines (at_rest x) → IsFlushing 0 false x x
 flushing_nothing x last = record {
   report = [];
   says = ReportHolds-nothing ring_lines x last;

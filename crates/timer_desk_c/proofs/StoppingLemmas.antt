@@ -13,11 +13,12 @@ use Rattle.timer_wheels.specs.HeldPlaces.{AreElsewhere, AreBefore}
 use Rattle.timer_facility.specs.declared.request.Answer.TheVariants.{Stopped}
 use Rattle.timer_facility.specs.declared.event.Out.{Out}
 use Rattle.timer_facility.specs.declared.event.Out.TheVariants as Outs
-use Rattle.timer_facility.specs.State.{FacilityState, number_of, count_of, one_of, pending_of, Stop, Asked}
-use Rattle.timer_facility.specs.Verdict.{not_taken, named, of_client}
-use Rattle.timer_facility.specs.Step.{StepResult, step, step_of_request, answer_to_stop, after_stop, with_number}
+use Rattle.timer_facility.specs.State.{FacilityState, number_of, count_of, one_of, pending_of, ByHandle, Stop, SingleEvent, Asked}
+use Rattle.timer_facility.specs.Verdict.{not_taken, timer_named, of_client, name_refusal, refusal, verdict_on_request, verdict}
+use Rattle.timer_facility.specs.Step.{StepResult, answered, answer_to, without_timer, step}
 use Rattle.timer_facility.specs.Run.{PlacedEvent, history, state_after, outs_of}
 use Rattle.timer_facility.proofs.VerdictLemmas.{IsKnown, not_taken-none}
+use Rattle.timer_facility.proofs.StepLemmas.{step-accepted}
 use Rattle.timer_desk.specs.Report.{placed}
 use Rattle.timer_desk.specs.Stopping.{stop_step}
 use Rattle.timer_desk_c.specs.DeskSlots.{DeskState}
@@ -53,7 +54,7 @@ outs-append s (x ∷ xs) ys =
     (append_assoc st.outs (outs_of (history st.state xs)) (outs_of (history (state_after st.state xs) ys)))
 
 abbrev one_stop : ℕ → ℕ → Handle → PlacedEvent
-one_stop client number handle = placed (Asked client number (Stop handle)) 0
+one_stop client number handle = placed (Asked client number (Stop (ByHandle handle))) 0
 
 abbrev one_out : ℕ → ℕ → Handle → Out
 one_out client number handle = Outs.Answered client number (Stopped handle.serial)
@@ -307,7 +308,7 @@ stopping-none client s m d = record {
 
 -- the timer that was found is another client's
 pub stopping-other : (client place : ℕ) (s t : FacilityState) (handle : Handle) → IsStopping client place s t
-    → IsFirstAt place t.pending handle → named t client (Stop handle) ≡ None → IsStopping client (handle.place + 1) s t
+    → IsFirstAt place t.pending handle → timer_named t client (ByHandle handle) ≡ None → IsStopping client (handle.place + 1) s t
 stopping-other client place s t handle h first none = record {
   handles = h.handles;
   state_is = h.state_is;
@@ -341,16 +342,15 @@ own_stop : (client : ℕ) (s : FacilityState) (handle : Handle) (t : Timer) → 
     → first_timer (has_handle handle) s.pending ≡ Some t → t.client ≡ client → IsOwnStop client s handle t
 own_stop client s handle t taken there own =
     let number : ℕ = number_of s client in
-    let found : named s client (Stop handle) ≡ Some t = own_found client (first_timer (has_handle handle) s.pending) t there own in
+    let found : timer_named s client (ByHandle handle) ≡ Some t = own_found client (first_timer (has_handle handle) s.pending) t there own in
     let serial : t.serial ≡ handle.serial = found_serial handle t s.pending there in
-    let is : stop_step s client handle ≡ step_of_request s client number (Stop handle) 0 None =
-    ap (step_of_request s client number (Stop handle) 0) taken in record {
-      outs_are =
-          ap (λ (st : StepResult). st.outs) is
-          ∙ (ap (λ o. Outs.Answered client number (answer_to_stop o) ∷ []) found
-          ∙ ap (λ n. Outs.Answered client number (Stopped n) ∷ []) serial);
-      state_is =
-          ap (λ (st : StepResult). st.state) is ∙ ap (λ o. with_number client number (after_stop o s)) found;
+    let event : SingleEvent = Asked client number (Stop (ByHandle handle)) in
+    let accepted : verdict s event ≡ None = ap (λ o. verdict_on_request o (refusal s client (Stop (ByHandle handle)))) taken
+    ∙ ap (λ o. verdict_on_request None (name_refusal o)) found in
+    let is : stop_step s client handle ≡ answered client number (Stopped t.serial) (without_timer (Some t) s) =
+    step-accepted s event 0 accepted ∙ ap (λ o. answered client number (answer_to o None 0) (without_timer o s)) found in record {
+      outs_are = ap (λ (st : StepResult). st.outs) is ∙ ap (λ n. Outs.Answered client number (Stopped n) ∷ []) serial;
+      state_is = ap (λ (st : StepResult). st.state) is;
     }
 
 is_own : (client : ℕ) (o : Option Timer) (t : Timer) → o ≡ Some t → of_client client o ≢ None → t.client ≡ client
@@ -361,7 +361,7 @@ is_own client o t e some = elim (either (t.client == client)) [
 
 -- the timer that was found is the client's, and is stopped
 module _ (client place : ℕ) (s t : FacilityState) (handle : Handle) (may : MayStop client s) (h : IsStopping client place s t)
-    (first : IsFirstAt place t.pending handle) (own : named t client (Stop handle) ≢ None) where
+    (first : IsFirstAt place t.pending handle) (own : timer_named t client (ByHandle handle) ≢ None) where
   abbrev found : Timer
   found = first.timer
 
@@ -401,8 +401,8 @@ module _ (client place : ℕ) (s t : FacilityState) (handle : Handle) (may : May
   stop : IsOwnStop client t handle found
   stop = own_stop client t handle found taken first.there mine
 
-  stop_at : (stop_step t client handle) ≡ step t (Asked client number (Stop handle)) 0
-  stop_at = ap (λ n. step t (Asked client n (Stop handle)) 0) numbered
+  stop_at : (stop_step t client handle) ≡ step t (Asked client number (Stop (ByHandle handle))) 0
+  stop_at = ap (λ n. step t (Asked client n (Stop (ByHandle handle))) 0) numbered
 
   abbrev left_pending : List Entry
   left_pending = without_serial found.serial t.pending
@@ -464,7 +464,7 @@ module _ (client place : ℕ) (s t : FacilityState) (handle : Handle) (may : May
           ≡ one_out client number handle ∷ []
       one_more =
           ap (λ u. outs_of (history u (one_stop client number handle ∷ []))) h.state_is
-          ∙ (append_nil_outs (step t (Asked client number (Stop handle)) 0).outs
+          ∙ (append_nil_outs (step t (Asked client number (Stop (ByHandle handle))) 0).outs
           ∙ (ap (λ (st : StepResult). st.outs) (sym stop_at) ∙ (stop.outs_are ∙ ap (λ n. one_out client n handle ∷ []) numbered)))
         where
           append_nil_outs : (os : List Out) → os ++ [] ≡ os
@@ -499,10 +499,10 @@ stopping-done client place s t h before =
 -- the timer at the first place with one is stopped if it is the client's
 module _ (client place : ℕ) (s : FacilityState) (d d' : DeskState) (handle : Handle) (may : MayStop client s)
     (h : IsStopping client place s d.facility) (first : IsFirstAt place d.facility.pending handle)
-    (own : named d.facility client (Stop handle) ≢ None
+    (own : timer_named d.facility client (ByHandle handle) ≢ None
     → d' ≡ record d { facility = (stop_step d.facility client handle).state })
-    (other : named d.facility client (Stop handle) ≡ None → d' ≡ d) where
-  either_way : (o : Option Timer) → named d.facility client (Stop handle) ≡ o
+    (other : timer_named d.facility client (ByHandle handle) ≡ None → d' ≡ d) where
+  either_way : (o : Option Timer) → timer_named d.facility client (ByHandle handle) ≡ o
       → IsStopping client (handle.place + 1) s d'.facility × (d' ≡ record d { facility = d'.facility })
   either_way None e = (
     subst (λ (x : DeskState). IsStopping client (handle.place + 1) s x.facility) (sym (other e))
@@ -510,7 +510,7 @@ module _ (client place : ℕ) (s : FacilityState) (d d' : DeskState) (handle : H
     other e ∙ ap (λ (x : DeskState). let y : DeskState = record d { facility = x.facility } in y) (sym (other e)),
   )
   either_way (Some t) e =
-      let some : named d.facility client (Stop handle) ≢ None = λ q. absurd (let g : Some t ≡ None = sym e ∙ q in cc) in
+      let some : timer_named d.facility client (ByHandle handle) ≢ None = λ q. absurd (let g : Some t ≡ None = sym e ∙ q in cc) in
       let is = own some in (
         subst (λ (x : DeskState). IsStopping client (handle.place + 1) s x.facility) (sym is)
             (stopping-own client place s d.facility handle may h first some),
@@ -518,7 +518,7 @@ module _ (client place : ℕ) (s : FacilityState) (d d' : DeskState) (handle : H
       )
 
   pub stopping-next : IsStopping client (handle.place + 1) s d'.facility × (d' ≡ record d { facility = d'.facility })
-  stopping-next = either_way (named d.facility client (Stop handle)) refl
+  stopping-next = either_way (timer_named d.facility client (ByHandle handle)) refl
 
 -- nothing but the facility has changed, from the first desk to the last
 pub only_then : (a b d : DeskState) → b ≡ record a { facility = b.facility } → d ≡ record b { facility = d.facility }

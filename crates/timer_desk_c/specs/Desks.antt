@@ -1,5 +1,5 @@
 -- The owner's desk, before and after a call.
-use Rattle.std.specs.Prelude.{ℕ, ◌≡◌, ◌≢◌, ◌<◌, ◌≤◌, ◌⊎◌, ◌==◌, true, false, List, [], ◌∷◌, length, get_or, map, Ok, Err, Some, None, Result, IfOk, if◌then◌else◌}
+use Rattle.std.specs.Prelude.{ℕ, ◌≡◌, ◌≢◌, ◌<◌, ◌≤◌, ◌⊎◌, ◌==◌, Bool, true, false, List, [], ◌∷◌, length, get_or, map, Ok, Err, Some, None, Result, IfOk, if◌then◌else◌}
 use Rattle.timer_base.specs.declared.limits.TheConstants.{LAST}
 use Rattle.timer_base.specs.WakeUps.{next_deadline}
 use Rattle.timer_wheels.specs.declared.table.Table.TheVariants.{Wide, Clock}
@@ -22,7 +22,7 @@ use Rattle.timer_desk.specs.declared.report.Done.TheVariants as Dones
 use Rattle.timer_desk.specs.declared.ring.RingInlet.{RingInlet}
 use Rattle.timer_desk.specs.Ring.{line_of_inlet, got_of, given_of, is_settled, free_of_inlet, ring_lines}
 use Rattle.timer_desk.specs.Settlement.{HasSettled}
-use Rattle.timer_desk.specs.Desk.{opened_desk, clients_of, ReportHolds, TakesNothing, tick_notices, close_notices}
+use Rattle.timer_desk.specs.Desk.{opened_desk, clients_of, ReportHolds, LeavesAlone, tick_notices, close_notices}
 use Rattle.timer_desk_c.specs.declared.layout.DeskConfig.{DeskConfig}
 use Rattle.timer_desk_c.specs.declared.layout.TheConstants.{CONFIG_SIZE}
 use Rattle.timer_desk_c.specs.declared.c_structs.CLine.{CLine}
@@ -89,13 +89,14 @@ pub record AreNewLines (room : ℕ) (inlets : List RingInlet) (ends : List Line)
       → IsEndOf (get_or inlets k i) (get_or ends k l)
 
 -- each of C's lines holds the end at its index
-pub record AreHeld (ends : List Line) (lines : List CLine) : Type 0 where
+pub record AreHeld (life : ℕ) (ends : List Line) (lines : List CLine) : Type 0 where
   pub as_many : length lines ≡ length ends
   pub open_each : (k : ℕ) (x : CLine) → k < length ends → HasLine (get_or lines k x)
   pub state : (k : ℕ) (x : CLine) (l : Line) → k < length ends
       → (get_or lines k x).slot.state ≡ get_or ends k l
-  -- and has its number
+  -- and has its number, and this life
   pub client : (k : ℕ) (x : CLine) → k < length ends → (get_or lines k x).client ≡ k
+  pub life_is : (k : ℕ) (x : CLine) → k < length ends → (get_or lines k x).life ≡ life
 
 -- none of C's lines holds one
 abbrev pub AllEmpty : List CLine → Type 0
@@ -112,12 +113,12 @@ abbrev pub IsNewDesk : ℕ → DeskConfig → DeskState → Type 0
 IsNewDesk clients c d = (d ≡ opened_desk (opened (config_of clients c) (last_of c.table) (slots_of c.table)) d.inlets c.room)
     × (clients_of d ≡ clients)
 
--- a new desk, and its lines at C
-pub record IsMade (c : DeskConfig) (d : DeskState) (lines : List CLine) : Type 0 where
+-- a new desk, and its lines at C, in this life of its struct
+pub record IsMade (life : ℕ) (c : DeskConfig) (d : DeskState) (lines : List CLine) : Type 0 where
   pub desk : IsNewDesk (length lines) c d
   pub ends : List Line
   pub lines_of : AreNewLines c.line d.inlets ends
-  pub held : AreHeld ends lines
+  pub held : AreHeld life ends lines
 
 abbrev pub WhyNotMade : ℕ → DeskConfig → ℕ → Type 0
 WhyNotMade clients c status = ((status ≡ OUT_OF_RANGE) × (IsFit clients c → ⊥))
@@ -138,8 +139,7 @@ pub record HasServed (client status : ℕ) (old new : DeskState) : Type 0 where
   pub served : Served
   pub status_is : status ≡ status_of served
   pub says : Says (Dones.Served client served ∷ []) old new
-  pub no_room : served ≡ Serveds.NoRoom → new ≡ old
-  pub idle : served ≡ Serveds.Idle → TakesNothing ring_lines old new
+  pub alone : LeavesAlone ring_lines served old new
 
 abbrev pub tick_status : {X : Type 0} → Result X TickFault → ℕ
 tick_status (Ok done) = OK
@@ -166,6 +166,8 @@ pub record HasClosed (status returned : ℕ) (old new : DeskState) : Type 0 wher
   pub returned_is : IfOk result (λ count. returned ≡ count)
   pub says : Says (Dones.Closed result ∷ map Dones.Noticed (close_notices old.facility result)) old new
   pub refused : 0 < status → new ≡ old
+  -- it is out of memory only if no room was made
+  pub room : status ≡ NO_MEMORY → old.facility.has_room ≡ false
 
 -- the same desk, and room was made for as many timers as may be pending
 abbrev pub with_reserve : DeskState → DeskState
@@ -199,10 +201,11 @@ IsGivenAs client d l = (i : RingInlet) → (requests_ring_on l ≡ None)
 abbrev pub IsAsBefore : Line → Line → Type 0
 IsAsBefore old new = IsSameLine old new × SameTraffic old new
 
--- why no line was settled: the first that holds, if the line has this number
-abbrev pub WhyNotSettled : ℕ → ℕ → DeskState → Line → ℕ → Type 0
-WhyNotSettled client number d l status =
+-- why no line was settled: the first that holds. `own` says whether the line is the client's, in this life of the
+-- desk's struct.
+abbrev pub WhyNotSettled : ℕ → Bool → DeskState → Line → ℕ → Type 0
+WhyNotSettled client own d l status =
     ((status ≡ NO_CLIENT) × (clients_of d ≤ client))
-    ⊎ ((status ≡ OTHER_LINE) × (client < clients_of d) × (number ≢ client))
-    ⊎ ((status ≡ NOT_FINISHED) × (client < clients_of d) × (number ≡ client) × (is_open_line l ≡ true))
-    ⊎ ((status ≡ OTHER_LINE) × (client < clients_of d) × (number ≡ client) × (requests_ring_on l ≡ None))
+    ⊎ ((status ≡ OTHER_LINE) × (client < clients_of d) × (own ≡ false))
+    ⊎ ((status ≡ NOT_FINISHED) × (client < clients_of d) × (own ≡ true) × (is_open_line l ≡ true))
+    ⊎ ((status ≡ OTHER_LINE) × (client < clients_of d) × (own ≡ true) × (requests_ring_on l ≡ None))

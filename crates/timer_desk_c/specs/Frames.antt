@@ -1,5 +1,5 @@
 -- What C holds, before and after a call.
-use Rattle.std.specs.Prelude.{◌≡◌, true, false}
+use Rattle.std.specs.Prelude.{◌≡◌, ◌==◌, ◌&&◌, ◌+◌, ◌%◌, ◌^◌, ℕ, Bool, true, false}
 use Rattle.timer_desk_c.specs.declared.c_structs.CDesk.{CDesk}
 use Rattle.timer_desk_c.specs.declared.c_structs.CLine.{CLine}
 use Rattle.timer_desk_c.specs.DeskSlots.{DeskState}
@@ -17,6 +17,18 @@ IsShut d = is_open d.slot.mark ≡ false
 -- the same, with a desk of this state
 abbrev pub with_desk : CDesk → DeskState → CDesk
 with_desk d state = record d { slot = record d.slot { state = state } }
+
+-- the life after this one: they are counted in 64 bits
+abbrev pub next_life : ℕ → ℕ
+next_life lives = (lives + 1) % 2 ^ 64
+
+-- a line with this client and life is the client's, in this life of its desk's struct
+abbrev pub is_line_of : ℕ → ℕ → ℕ → ℕ → Bool
+is_line_of client lives line_client line_life = (line_client == client) && (line_life == lives)
+
+-- the line was made for this client, in this life of its desk's struct
+abbrev pub is_own : ℕ → ℕ → CLine → Bool
+is_own client lives l = is_line_of client lives l.client l.life
 
 -- it holds a line
 abbrev pub HasLine : CLine → Type 0

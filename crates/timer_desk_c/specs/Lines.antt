@@ -19,7 +19,7 @@ is_open_line (Open e) = true
 is_open_line (Finished ended r) = false
 is_open_line Gone = false
 
--- its ring of requests; none if it finished after the owner's end was dropped
+-- its ring of requests; none if it finished after the owner's end was freed
 abbrev pub requests_ring_on : Line → Option Ring
 requests_ring_on (Open e) = Some (line_of_end e).0
 requests_ring_on (Finished (Some e) r) = Some (requests_ring_of e)
@@ -45,13 +45,13 @@ received_on (Open e) = received_by_end e
 received_on (Finished ended r) = read_by r
 received_on Gone = []
 
--- the words known to stand in the line
+-- the words that the client knows to be in the line
 abbrev pub seen_on : Line → List Word
 seen_on (Open e) = seen_by_end e
 seen_on (Finished ended r) = seen_by_reader r
 seen_on Gone = []
 
--- what the client's looks have found of the owner's end
+-- what the client has found out about the owner's end
 abbrev pub found_on : Line → Found
 found_on (Open e) = found_by_end e
 found_on (Finished ended r) = found_by_reader r
@@ -63,7 +63,7 @@ is_ended_line (Open e) = false
 is_ended_line (Finished ended r) = is_settled_reader r
 is_ended_line Gone = false
 
--- the words that stand in it, known once they have ended
+-- the unread words in the line; they are known once the owner has ended its words
 abbrev pub unread_on : Line → List Word
 unread_on (Open e) = []
 unread_on (Finished ended r) = unread_by r
@@ -81,7 +81,7 @@ free_on (Open e) = free_of e
 free_on (Finished ended r) = 0
 free_on Gone = 0
 
--- the same line, which has finished or not as before, and whose words have ended or not as before
+-- the same line; whether it has finished and whether its words have ended are unchanged
 abbrev pub IsSameLine : Line → Line → Type 0
 IsSameLine old new =
     (requests_ring_on new ≡ requests_ring_on old) × (words_ring_on new ≡ words_ring_on old)
@@ -104,7 +104,7 @@ HasSent request old new number =
     (is_open_line old ≡ true) × (number ≡ next_on old) × (number ≤ LAST) × (next_on new ≡ number + 1)
     × (submitted_on new ≡ submitted_on old ++ numbered number request ∷ [])
 
--- why no request was sent: `LINE_FULL` only if no slot is known to be free
+-- why no request was sent: `LINE_FULL` only if the client knows of no free slot
 abbrev pub WhyNotSent : Line → Line → ℕ → Type 0
 WhyNotSent old new status =
     ((status ≡ FINISHED) × (is_open_line old ≡ false))
@@ -117,16 +117,16 @@ pub record HasReceived (old new : Line) (out : Message) : Type 0 where
   pub received : received_on new ≡ received_on old ++ word ∷ []
   pub is : out ≡ message_of word
 
--- no word comes any more: the words have ended, and all of them were received
+-- no further word will arrive: the words have ended, and all of them were received
 abbrev pub IsReadToEnd : Line → Type 0
 IsReadToEnd l = (is_ended_line l ≡ true) × (unread_on l ≡ [])
 
--- some may come: the words have not ended, or some stand in the line
+-- further words may arrive: the words have not ended, or some are unread in the line
 abbrev pub MayReceive : Line → Type 0
 MayReceive l = (is_ended_line l ≡ false) ⊎ (0 < length (unread_on l))
 
--- The requests have ended. The line has no ring of requests afterwards only if the owner's end was
--- dropped, and else all that was submitted is known.
+-- The requests have ended. Afterwards the line has no ring of requests only if the owner's end was freed. Otherwise
+-- everything that was submitted is known.
 abbrev pub HasFinished : Line → Line → Type 0
 HasFinished old new =
     (is_open_line old ≡ true) × (is_open_line new ≡ false) × (is_ended_line new ≡ false)

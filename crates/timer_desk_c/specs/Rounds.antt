@@ -84,7 +84,7 @@ IsFlush (Dones.Closed result) = ⊥
 IsFlush (Dones.Noticed notice) = ⊥
 IsFlush (Dones.Flushed client count) = Unit {0}
 
--- the serves of clients from `low` on and below `high`, none of a client lower than the one before
+-- the members are serves of clients from `low` to below `high`, in ascending order of the clients
 abbrev pub AreInOrder : ℕ → ℕ → List Done → Type 0
 AreInOrder low high [] = Unit {0}
 AreInOrder low high (Dones.Served client served ∷ later) =
@@ -95,16 +95,16 @@ AreInOrder low high (Dones.Closed result ∷ later) = ⊥
 AreInOrder low high (Dones.Noticed notice ∷ later) = ⊥
 AreInOrder low high (Dones.Flushed client count ∷ later) = ⊥
 
--- at most so many requests of client c were done, and fewer only if a serve of it did none
+-- at most `most` requests of client c were done, and fewer only if one of its serves did none
 pub record IsServedOut (c most : ℕ) (report : List Done) : Type 0 where
   pub at_most : length (asked c report) ≤ most
   pub through : (length (asked c report) ≡ most) ⊎ (list_any (served_none c) report ≡ true)
 
--- the status of a round of serves: whether memory ran out in one of them, else whether one did a request
+-- the status of a round: out of memory if a serve ran out of memory, else done if one did a request, else idle
 abbrev pub round_status : Bool → Bool → ℕ
 round_status ran_out busy = if ran_out then NO_MEMORY else if busy then OK else IDLE
 
--- each client was served once, in the order of the clients, up to `most` times, with this status in all
+-- the clients were served in order, each up to `most` times, and this is the status of the round
 pub record HasServedAll (most status : ℕ) (old new : DeskState) : Type 0 where
   pub report : List Done
   pub says : Says report old new
@@ -112,8 +112,8 @@ pub record HasServedAll (most status : ℕ) (old new : DeskState) : Type 0 where
   pub each : (c : ℕ) → c < clients_of old → IsServedOut c most report
   pub status_is : status ≡ round_status (list_any ran_out report) (list_any did_request report)
 
--- the first `count` words of the outbox have left it and stand in the line, and no more could: none is left
--- in the outbox, or no slot of the line is known to be free
+-- The first `count` words of the outbox were moved into the line, and no more could be: the outbox is empty, or the
+-- owner knows of no free slot in the line.
 pub record IsEmptied (count : ℕ) (i j : RingInlet) (b d : BacklogState) : Type 0 where
   pub given : IsGiven ring_lines count b.outbox i j
   pub left : d ≡ without_words count b

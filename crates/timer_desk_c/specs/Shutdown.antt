@@ -1,5 +1,5 @@
 -- The end of one client's words at the owner's desk.
-use Rattle.std.specs.Prelude.{ℕ, ◌≡◌, ◌≢◌, ◌<◌, ◌≤◌, ◌⊎◌, ◌++◌, true, List, length, get_or, Some, None}
+use Rattle.std.specs.Prelude.{ℕ, ◌≡◌, ◌≢◌, ◌<◌, ◌≤◌, ◌⊎◌, ◌++◌, Bool, true, false, List, length, get_or, Some, None}
 use Rattle.timer_facility.specs.State.{pending_of}
 use Rattle.timer_desk.specs.declared.word.Numbered.{Numbered}
 use Rattle.timer_desk.specs.declared.ring.RingInlet.{RingInlet}
@@ -53,11 +53,12 @@ pub record HasEnded (client unread : ℕ) (d : DeskState) (old new : Line) : Typ
   pub same_submitted : submitted_on new ≡ submitted_on old
   pub same_rings : (requests_ring_on new ≡ requests_ring_on old) × (words_ring_on new ≡ words_ring_on old)
 
--- why no words were ended: the first that holds, if the line has this number
-abbrev pub WhyNotEnded : ℕ → ℕ → DeskState → Line → ℕ → Type 0
-WhyNotEnded client number d l status =
+-- why no words were ended: the first that holds. `own` says whether the line is the client's, in this life of the
+-- desk's struct.
+abbrev pub WhyNotEnded : ℕ → Bool → DeskState → Line → ℕ → Type 0
+WhyNotEnded client own d l status =
     ((status ≡ NO_CLIENT) × (clients_of d ≤ client))
-    ⊎ ((status ≡ OTHER_LINE) × (client < clients_of d) × (number ≢ client))
-    ⊎ ((status ≡ NOT_FINISHED) × (client < clients_of d) × (number ≡ client) × (is_open_line l ≡ true))
-    ⊎ ((status ≡ OTHER_LINE) × (client < clients_of d) × (number ≡ client) × (requests_ring_on l ≡ None))
-    ⊎ ((status ≡ LEFT) × (client < clients_of d) × (number ≡ client) × IsLeft client d (submitted_on l))
+    ⊎ ((status ≡ OTHER_LINE) × (client < clients_of d) × (own ≡ false))
+    ⊎ ((status ≡ NOT_FINISHED) × (client < clients_of d) × (own ≡ true) × (is_open_line l ≡ true))
+    ⊎ ((status ≡ OTHER_LINE) × (client < clients_of d) × (own ≡ true) × (requests_ring_on l ≡ None))
+    ⊎ ((status ≡ LEFT) × (client < clients_of d) × (own ≡ true) × IsLeft client d (submitted_on l))

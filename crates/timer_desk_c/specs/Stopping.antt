@@ -9,7 +9,7 @@ use Rattle.timer_wheels.specs.HeldPlaces.{AreElsewhere, AreBefore}
 use Rattle.timer_facility.specs.declared.request.Answer.TheVariants.{Stopped}
 use Rattle.timer_facility.specs.declared.event.Out.{Out}
 use Rattle.timer_facility.specs.declared.event.Out.TheVariants as Outs
-use Rattle.timer_facility.specs.State.{FacilityState, number_of, pending_of, Stop, Asked}
+use Rattle.timer_facility.specs.State.{FacilityState, number_of, pending_of, ByHandle, Stop, Asked}
 use Rattle.timer_facility.specs.Run.{PlacedEvent, run}
 use Rattle.timer_desk.specs.declared.ring.RingInlet.{RingInlet}
 use Rattle.timer_desk.specs.declared.looks.Found.TheVariants.{Nothing}
@@ -23,7 +23,7 @@ use Rattle.timer_desk_c.specs.Freed.{OnlyLooks}
 -- the client's requests to stop the timers with these handles, from this number on
 abbrev pub stops : ℕ → ℕ → List Handle → List PlacedEvent
 stops client number [] = []
-stops client number (handle ∷ handles) = placed (Asked client number (Stop handle)) 0 ∷ stops client (number + 1) handles
+stops client number (handle ∷ handles) = placed (Asked client number (Stop (ByHandle handle))) 0 ∷ stops client (number + 1) handles
 
 -- their outs, if each is accepted
 abbrev pub stops_outs : ℕ → ℕ → List Handle → List Out

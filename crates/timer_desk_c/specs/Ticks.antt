@@ -1,14 +1,13 @@
 -- Many ticks of the owner's desk, and the flush of one client.
-use Rattle.std.specs.Prelude.{ℕ, ◌≡◌, ◌<◌, ◌+◌, ◌⊎◌, [], ◌∷◌, Some, get_or}
+use Rattle.std.specs.Prelude.{ℕ, ◌≡◌, ◌<◌, ◌+◌, ◌⊎◌, [], ◌∷◌, Some, Ok, map, get_or}
 use Rattle.timer_facility.specs.declared.request.TickFault.TheVariants as TickFaults
 use Rattle.timer_facility.specs.State.{FacilityState}
 use Rattle.timer_facility.specs.Verdict.{tick_refusal}
 use Rattle.timer_desk.specs.declared.report.Done.TheVariants as Dones
 use Rattle.timer_desk.specs.declared.ring.RingInlet.{RingInlet}
 use Rattle.timer_desk.specs.Ring.{free_of_inlet, ring_lines}
-use Rattle.timer_desk.specs.Desk.{backlog_at}
+use Rattle.timer_desk.specs.Desk.{backlog_at, ticks_notices}
 use Rattle.timer_desk.specs.Flush.{Flushes}
-use Rattle.timer_desk.specs.Ticks.{ticks_report, HasPassed}
 use Rattle.timer_desk_c.specs.declared.status.TheConstants.{CLOSED, CLOCK_END}
 use Rattle.timer_desk_c.specs.DeskSlots.{DeskState}
 use Rattle.timer_desk_c.specs.Desks.{Says}
@@ -17,8 +16,8 @@ use Rattle.timer_desk_c.specs.Dropped.{HasDropped, waiting_at}
 -- this many ticks were passed: none if none was asked for
 abbrev pub HasAdvanced : ℕ → ℕ → DeskState → DeskState → Type 0
 HasAdvanced most passed old new =
-    ((most ≡ 0) × (passed ≡ 0) × (new ≡ old)) ⊎ (HasPassed most passed old.facility
-    × Says (ticks_report passed old.facility) old new)
+    ((most ≡ 0) × (passed ≡ 0) × (new ≡ old))
+    ⊎ Says (Dones.Passed most (Ok passed) ∷ map Dones.Noticed (ticks_notices old.facility (Ok passed))) old new
 
 -- why the clock does not advance, if a tick was asked for
 abbrev pub WhyNotAdvanced : ℕ → FacilityState → ℕ → Type 0

@@ -1,5 +1,6 @@
 //! What C holds: `struct timers_desk` and `struct timers_line` of `include/timers_desk.h`.
 ghost use Rattle.std.specs.Prelude.{◌≡◌};
+ghost use Rattle.timer_desk_c.specs.Frames.{is_line_of, next_life};
 
 use crate::desk_cell::DeskCell;
 use crate::line_cell::LineCell;
@@ -8,6 +9,8 @@ use crate::line_cell::LineCell;
 #[repr(C)]
 pub struct CDesk {
     pub slot: DeskCell,
+    /// How many desks were made in this struct. A free keeps it.
+    pub lives: u64,
 }
 
 /// A client's: a slot for its end of a line.
@@ -16,6 +19,22 @@ pub struct CLine {
     pub slot: LineCell,
     /// The number of its client, written when the line is made, so that the line is not settled as another's.
     pub client: u64,
+    /// The life of its desk's struct, written beside it, so that the line is not settled in a later life.
+    pub life: u64,
+}
+
+/// Whether a line of this client and life is that of `client` in the life `lives`.
+pub(crate) fn is_line_of(line_client: u64, line_life: u64, client: usize, lives: u64) -> bool
+    ensures { result ≡ is_line_of client lives line_client line_life }
+{
+    line_client == client as u64 && line_life == lives
+}
+
+/// The life after this one. It differs from the 2^64 - 1 before it.
+pub(crate) fn next_life(lives: u64) -> u64
+    ensures { result ≡ next_life lives }
+{
+    lives.wrapping_add(1)
 }
 
 /// They may be sent to other threads: here the `Send` of the slots is proved.

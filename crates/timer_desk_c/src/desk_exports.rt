@@ -9,7 +9,7 @@ ghost use Rattle.timer_desk.specs.declared.ring.RingInlet.{RingInlet};
 ghost use Rattle.timer_desk.specs.Desk.{clients_of, backlog_at};
 ghost use Rattle.timer_desk.specs.Ring.{line_of_inlet};
 ghost use Rattle.timer_desk.specs.Shutdown.{KeepsLines};
-ghost use Rattle.timer_desk_c.specs.Frames.{IsOpen, IsShut, with_desk, HasLine, HasNoLine, with_line};
+ghost use Rattle.timer_desk_c.specs.Frames.{IsOpen, IsShut, with_desk, HasLine, HasNoLine, with_line, is_own, next_life};
 ghost use Rattle.timer_desk_c.specs.Desks.{IsFit, IsMade, AllEmpty, IsOneHeld, WhyNotMade, with_reserve, HasServed, HasTicked, HasClosed, IsNextTick, IsFirstDeadline, IsSettled, IsGivenAs, IsAsBefore, WhyNotSettled};
 ghost use Rattle.timer_desk_c.specs.Rounds.{HasServedAll, HasFlushedAll};
 ghost use Rattle.timer_desk_c.specs.Ticks.{HasAdvanced, WhyNotAdvanced, HasFlushed};
@@ -20,11 +20,11 @@ ghost use Rattle.timer_desk_c.specs.Opening.{HasOpened, WhyNotOpened};
 ghost use Rattle.timer_desk_c.specs.Stopping.{HasStopped, WhyNotStopped};
 ghost use Rattle.timer_desk_c.specs.declared.status.TheConstants.{OK, NOT_OPEN, OPEN, NO_CLIENT, NO_MEMORY, LEFT, NEVER};
 
-use crate::c_structs::{CDesk, CLine};
+use crate::c_structs::{CDesk, CLine, is_line_of, next_life};
 use crate::desk_maker::{Made, make};
 use crate::layout::DeskConfig;
 use crate::opening::open;
-use crate::placement::{are_empty, place};
+use crate::placement::{are_empty, hold, place};
 use crate::settlement::settle;
 use crate::shutdown::end;
 use crate::shutdown_all::end_all;
@@ -34,7 +34,8 @@ use crate::{calls, rounds, ticks};
 use std::alloc::Global;
 use timer_ffi_base::RawBox;
 
-/// Makes a desk with a client for each of `lines`, which hold the clients' ends from then on.
+/// Makes a desk with a client for each of `lines`, which hold the clients' ends from then on. The struct begins another
+/// life.
 #[unsafe(no_mangle)]
 pub extern "C" fn timers_desk_new(
     alloc: Global,
@@ -44,7 +45,8 @@ pub extern "C" fn timers_desk_new(
 ) -> u32
     ensures made { result ≡ OK → IsShut d.old × AllEmpty lines.old × IsFit (length lines.old) config.now
         × IsOpen d.new
-        × IsMade config.now d.new.slot.state lines.new × (length lines.new ≡ length lines.old) }
+        × (d.new.lives ≡ next_life d.old.lives)
+        × IsMade d.new.lives config.now d.new.slot.state lines.new × (length lines.new ≡ length lines.old) }
     ensures refused { 0 < result → ((result ≡ OPEN) × (IsOpen d.old ⊎ IsOneHeld lines.old))
         ⊎ (IsShut d.old × AllEmpty lines.old × WhyNotMade (length lines.old) config.now result) }
     ensures kept { 0 < result → (d.new ≡ d.old) × (lines.new ≡ lines.old) }
@@ -59,7 +61,8 @@ pub extern "C" fn timers_desk_new(
         Ok(made) => {
             let Made { desk, ends } = made;
             d.slot.put(RawBox::park(desk));
-            place(ends, lines);
+            d.lives = next_life(d.lives);
+            place(ends, lines, d.lives);
             OK
         }
         Err(status) => status,
@@ -67,10 +70,11 @@ pub extern "C" fn timers_desk_new(
 }
 
 /// Frees the desk, if there is one: the facility, all pending timers and words, and the owner's ends of the
-/// lines.
+/// lines. The struct keeps the count of its lives.
 #[unsafe(no_mangle)]
 pub extern "C" fn timers_desk_free(alloc: Global, d: &mut CDesk)
     ensures shut { IsShut d.new }
+    ensures lives { d.new.lives ≡ d.old.lives }
     ensures kept { IsShut d.old → d.new ≡ d.old }
 {
     if d.slot.holds() {
@@ -169,7 +173,7 @@ pub extern "C" fn timers_desk_flush(d: &mut CDesk, client: usize) -> usize
 }
 
 /// Closes the facility: each pending timer is returned to its client, and no request is accepted from then
-/// on. Writes how many were returned.
+/// on. Writes how many were returned. It is never out of memory after a `timers_desk_reserve`.
 #[unsafe(no_mangle)]
 pub extern "C" fn timers_desk_close(d: &mut CDesk, returned: &mut u64) -> u32
     ensures closed { IsOpen d.old → HasClosed result returned.new d.old.slot.state d.new.slot.state }
@@ -266,7 +270,7 @@ pub extern "C" fn timers_desk_open(
     room: usize,
 ) -> u32
     ensures opened { result ≡ OK → IsOpen d.old × HasNoLine line.old × HasLine line.new
-        × (line.new.client ≡ client)
+        × (line.new.client ≡ client) × (line.new.life ≡ d.old.lives)
         × HasOpened client room d.old.slot.state d.new.slot.state line.new.slot.state }
     ensures refused { 0 < result → ((result ≡ NOT_OPEN) × IsShut d.old)
         ⊎ ((result ≡ OPEN) × IsOpen d.old × HasLine line.old)
@@ -284,8 +288,7 @@ pub extern "C" fn timers_desk_open(
     }
     match open(alloc, d.slot.desk(), client, room) {
         Ok(end) => {
-            line.slot.put(RawBox::park(end));
-            line.client = client as u64;
+            hold(line, end, client, d.lives);
             OK
         }
         Err(status) => status,
@@ -310,7 +313,7 @@ pub extern "C" fn timers_desk_stop_pending(d: &mut CDesk, client: usize, stopped
     stop_pending(d.slot.desk(), client, stopped)
 }
 
-/// Makes room for as many timers as may be pending: no serve runs out of memory from then on.
+/// Makes room for as many timers as may be pending: no serve and no close runs out of memory from then on.
 #[unsafe(no_mangle)]
 pub extern "C" fn timers_desk_reserve(d: &mut CDesk) -> u32
     ensures reserved { result ≡ OK → IsOpen d.old × (d.new.slot.state ≡ with_reserve d.old.slot.state) }
@@ -364,13 +367,13 @@ pub extern "C" fn timers_desk_settle(
     standing: &mut usize,
 ) -> u32
     requires line { IsOpen d.old → HasLine line.old → client < clients_of d.old.slot.state
-        → line.old.client ≡ client
+        → is_own client d.old.lives line.old ≡ true
         → IsGivenAs client d.old.slot.state line.old.slot.state }
-    ensures settled { result ≡ OK → IsOpen d.old × HasLine line.old × (line.old.client ≡ client)
+    ensures settled { result ≡ OK → IsOpen d.old × HasLine line.old × (is_own client d.old.lives line.old ≡ true)
         × IsSettled client standing.new line.old.slot.state d.old.slot.state d.new.slot.state }
     ensures refused { 0 < result → ((result ≡ NOT_OPEN) × (IsShut d.old ⊎ HasNoLine line.old))
-        ⊎ (IsOpen d.old × HasLine line.old × WhyNotSettled client line.old.client d.old.slot.state
-        line.old.slot.state result) }
+        ⊎ (IsOpen d.old × HasLine line.old × WhyNotSettled client (is_own client d.old.lives line.old)
+        d.old.slot.state line.old.slot.state result) }
     ensures kept { 0 < result → (d.new ≡ d.old) × (standing.new ≡ standing.old) }
     ensures line { IsAsBefore line.old.slot.state line.new.slot.state }
     ensures only { (d.new ≡ with_desk d.old d.new.slot.state)
@@ -382,8 +385,8 @@ pub extern "C" fn timers_desk_settle(
     if !line.slot.holds() {
         return NOT_OPEN;
     }
-    let number = line.client;
-    settle(d.slot.desk(), client, number, line.slot.line(), standing)
+    let own = is_line_of(line.client, line.life, client, d.lives);
+    settle(d.slot.desk(), client, own, line.slot.line(), standing)
 }
 
 /// Ends the words of a client that has finished, unless something of it is left at the desk, and writes how
@@ -396,13 +399,13 @@ pub extern "C" fn timers_desk_end(
     unread: &mut usize,
 ) -> u32
     requires line { IsOpen d.old → HasLine line.old → client < clients_of d.old.slot.state
-        → line.old.client ≡ client
+        → is_own client d.old.lives line.old ≡ true
         → IsTied client d.old.slot.state line.old.slot.state }
-    ensures ended { result ≡ OK → IsOpen d.old × HasLine line.old × (line.old.client ≡ client)
+    ensures ended { result ≡ OK → IsOpen d.old × HasLine line.old × (is_own client d.old.lives line.old ≡ true)
         × HasEnded client unread.new d.old.slot.state line.old.slot.state line.new.slot.state }
     ensures refused { 0 < result → ((result ≡ NOT_OPEN) × (IsShut d.old ⊎ HasNoLine line.old))
-        ⊎ (IsOpen d.old × HasLine line.old × WhyNotEnded client line.old.client d.old.slot.state
-        line.old.slot.state result) }
+        ⊎ (IsOpen d.old × HasLine line.old × WhyNotEnded client (is_own client d.old.lives line.old)
+        d.old.slot.state line.old.slot.state result) }
     ensures kept { 0 < result → (unread.new ≡ unread.old)
         × IsAsBefore line.old.slot.state line.new.slot.state }
     ensures same { 0 < result → result ≢ LEFT → d.new ≡ d.old }
@@ -416,8 +419,8 @@ pub extern "C" fn timers_desk_end(
     if !line.slot.holds() {
         return NOT_OPEN;
     }
-    let number = line.client;
-    end(d.slot.desk(), client, number, line.slot.line(), unread)
+    let own = is_line_of(line.client, line.life, client, d.lives);
+    end(d.slot.desk(), client, own, line.slot.line(), unread)
 }
 
 /// Ends the words of each client, unless something of it is left at the desk. `lines` has the line of each
@@ -430,14 +433,14 @@ pub extern "C" fn timers_desk_end(
 #[unsafe(no_mangle)]
 pub extern "C" fn timers_desk_end_all(d: &mut CDesk, lines: &mut [CLine], client: &mut usize) -> u32
     requires lines { IsOpen d.old → length lines.old ≡ clients_of d.old.slot.state
-        → AreTied d.old.slot.state lines.old }
-    ensures ended { result ≡ OK → IsOpen d.old × AllEnded d.old.slot.state d.new.slot.state lines.old
+        → AreTied d.old.lives d.old.slot.state lines.old }
+    ensures ended { result ≡ OK → IsOpen d.old × AllEnded d.old.lives d.old.slot.state d.new.slot.state lines.old
         lines.new }
     ensures refused { 0 < result → ((result ≡ NOT_OPEN) × IsShut d.old)
-        ⊎ (IsOpen d.old × WhyNotAllEnded client.new result d.old.slot.state d.new.slot.state lines.old
+        ⊎ (IsOpen d.old × WhyNotAllEnded d.old.lives client.new result d.old.slot.state d.new.slot.state lines.old
         lines.new) }
     ensures tried { IsOpen d.old → length lines.old ≡ clients_of d.old.slot.state
-        → AllTried d.old.slot.state d.new.slot.state lines.old lines.new }
+        → AllTried d.old.lives d.old.slot.state d.new.slot.state lines.old lines.new }
 
     // The number is written only if a client is to blame.
     ensures client { result ≡ OK → client.new ≡ client.old }
@@ -451,5 +454,6 @@ pub extern "C" fn timers_desk_end_all(d: &mut CDesk, lines: &mut [CLine], client
     if !d.slot.holds() {
         return NOT_OPEN;
     }
-    end_all(d.slot.desk(), lines, client)
+    let lives = d.lives;
+    end_all(d.slot.desk(), lives, lines, client)
 }

@@ -1,4 +1,4 @@
-//! Words to a client that is gone are dropped.
+//! Drops the words to a client whose line was freed.
 ghost use Rattle.std.specs.Prelude.{◌≡◌, ◌<◌, ◌+◌};
 ghost use Rattle.timer_desk.specs.Desk.{clients_of};
 ghost use Rattle.timer_desk_c.specs.Dropped.{HasDropped, waiting_at};
@@ -6,8 +6,8 @@ ghost use Rattle.timer_desk_c.specs.Dropped.{HasDropped, waiting_at};
 use timer_base::Wheel;
 use timer_desk::{Desk, RingInlet};
 
-/// Drops the words that wait for a client if its line was freed, and returns how many. A client for which no word
-/// waits is not looked at.
+/// Drops the words in a client's outbox if its line was freed, and returns how many. If the outbox is empty, the line
+/// is not examined.
 pub(crate) fn drop_rest<W: Wheel + Drop>(desk: &mut Desk<W, RingInlet>, client: usize) -> usize
     requires { client < clients_of desk.old }
     ensures dropped { HasDropped client desk.old desk.new }

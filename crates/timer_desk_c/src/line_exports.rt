@@ -1,9 +1,8 @@
-//! The functions that C calls in a client's thread. None of them waits, and none but `timers_line_free`
-//! allocates or frees memory.
+//! The functions that C calls in a client's thread. None of them waits or allocates. `timers_line_free` frees
+//! memory, and so may `timers_line_finish`.
 //!
 //! The contracts have the same parts: what the call did if it returns `OK`; the first reason that holds if it
-//! returns another status; what is the same then; and that nothing but the state of the line ever changes in
-//! what C holds.
+//! returns another status; what is unchanged then; and that of C's structs only the state of the line changes.
 ghost use Rattle.std.specs.Prelude.{◌≡◌, ◌<◌, ◌⊎◌, ◌↔◌, ◌++◌, [], true, false};
 ghost use Rattle.timer_facility.specs.declared.request.Request.TheVariants.{Start, StartAt, Stop, Restart, RestartAt};
 ghost use Rattle.timer_desk.specs.declared.looks.Found.TheVariants as Found;
@@ -183,7 +182,7 @@ pub extern "C" fn timers_line_receive(line: &mut CLine, out: &mut Message) -> bo
     line.slot.line().receive(out)
 }
 
-/// Whether no word comes any more: the owner has ended them, and all were received.
+/// Whether no further word will arrive: the owner has ended the words, and all of them were received.
 #[unsafe(no_mangle)]
 pub extern "C" fn timers_line_ended(line: &mut CLine) -> bool
     ensures yes { result ≡ true → HasLine line.old × IsReadToEnd line.old.slot.state }
@@ -196,10 +195,10 @@ pub extern "C" fn timers_line_ended(line: &mut CLine) -> bool
     line.slot.line().is_read_to_end()
 }
 
-/// Whether the desk was freed before it had ended the words, and all words that it put were received.
+/// Whether the desk was freed before it had ended the words, and all words that it put into the line were received.
 ///
-/// Whether it was freed is what the ring of words says of its other end, and no clause speaks of it. Unless the words
-/// have ended, true is returned exactly if the desk was seen to be gone, and no word stood in the line after that.
+/// The ring of words reports whether its other end was freed, and no clause is about that report. Unless the words
+/// have ended, the result is true exactly if the ring reported the desk to be gone, and the line was empty after that.
 #[unsafe(no_mangle)]
 pub extern "C" fn timers_line_abandoned(line: &mut CLine) -> bool
     ensures order { HasLine line.old → is_ended_line line.old.slot.state ≡ false

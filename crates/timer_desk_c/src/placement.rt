@@ -1,6 +1,7 @@
 //! Puts the clients' ends of new lines into C's structs.
 ghost use Rattle.std.specs.Prelude.{◌≡◌, map, length, vec_len, true, false};
 ghost use Rattle.timer_desk_c.specs.Desks.{AllEmpty, IsOneHeld, AreHeld};
+ghost use Rattle.timer_desk_c.specs.Frames.{HasLine, HasNoLine};
 
 use crate::c_structs::CLine;
 use crate::line::Line;
@@ -20,16 +21,28 @@ pub(crate) fn are_empty(lines: &mut [CLine]) -> bool
     true
 }
 
-/// Puts each end into the line at its index.
-pub(crate) fn place(ends: Vec<Box<Line>>, lines: &mut [CLine])
+/// Puts each end into the line at its index, in this life of their desk's struct.
+pub(crate) fn place(ends: Vec<Box<Line>>, lines: &mut [CLine], life: u64)
     requires empty { AllEmpty lines.old }
     requires as_many { vec_len ends ≡ length lines.old }
-    ensures held { AreHeld (map (λ b. b.value) ends.items) lines.new }
+    ensures held { AreHeld life (map (λ b. b.value) ends.items) lines.new }
 {
     let mut ends = ends;
     while let Some(end) = ends.pop() {
         let k = ends.len();
-        lines[k].slot.put(RawBox::park(end));
-        lines[k].client = k as u64;
+        hold(&mut lines[k], end, k, life);
     }
+}
+
+/// Puts the end of a client into a line that holds none, in this life of its desk's struct.
+pub(crate) fn hold(line: &mut CLine, end: Box<Line>, client: usize, life: u64)
+    requires { HasNoLine line.old }
+    ensures held { HasLine line.new }
+    ensures state { line.new.slot.state ≡ end.value }
+    ensures client { line.new.client ≡ client }
+    ensures life { line.new.life ≡ life }
+{
+    line.slot.put(RawBox::park(end));
+    line.client = client as u64;
+    line.life = life;
 }

@@ -1,5 +1,5 @@
 //! Settles the line of a client that has finished.
-ghost use Rattle.std.specs.Prelude.{◌≡◌, ◌<◌};
+ghost use Rattle.std.specs.Prelude.{◌≡◌, ◌<◌, true};
 ghost use Rattle.timer_desk.specs.Desk.{clients_of};
 ghost use Rattle.timer_desk_c.specs.Desks.{IsSettled, IsGivenAs, IsAsBefore, WhyNotSettled};
 ghost use Rattle.timer_desk_c.specs.declared.status.TheConstants.{OK};
@@ -9,25 +9,26 @@ use crate::status::{NO_CLIENT, NOT_FINISHED, OK, OTHER_LINE};
 use timer_base::Wheel;
 use timer_desk::{Desk, RingInlet};
 
-/// Settles the line of a client, which has this number, and writes how many requests stand in it.
+/// Settles the line of a client, and writes how many requests stand in it. `own` says whether the line is the
+/// client's, in this life of the desk's struct.
 pub(crate) fn settle<W: Wheel + Drop>(
     desk: &mut Desk<W, RingInlet>,
     client: usize,
-    number: u64,
+    own: bool,
     line: &mut Line,
     standing: &mut usize,
 ) -> u32
-    requires line { client < clients_of desk.old → number ≡ client → IsGivenAs client desk.old line.old }
-    ensures settled { result ≡ OK → (number ≡ client)
+    requires line { client < clients_of desk.old → own ≡ true → IsGivenAs client desk.old line.old }
+    ensures settled { result ≡ OK → (own ≡ true)
         × IsSettled client standing.new line.old desk.old desk.new }
-    ensures refused { 0 < result → WhyNotSettled client number desk.old line.old result }
+    ensures refused { 0 < result → WhyNotSettled client own desk.old line.old result }
     ensures kept { 0 < result → (desk.new ≡ desk.old) × (standing.new ≡ standing.old) }
     ensures line { IsAsBefore line.old line.new }
 {
     if client >= desk.clients() {
         return NO_CLIENT;
     }
-    if number != client as u64 {
+    if !own {
         return OTHER_LINE;
     }
     match line {

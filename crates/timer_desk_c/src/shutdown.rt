@@ -14,17 +14,18 @@ use crate::status::{LEFT, NO_CLIENT, NOT_FINISHED, OK, OTHER_LINE};
 use timer_base::Wheel;
 use timer_desk::{ClientReader, Desk, RequestsEnded, RingInlet};
 
-/// Ends the words of a client, whose line has this number, and writes how many stand in it.
+/// Ends the words of a client, and writes how many stand in its line. `own` says whether the line is the client's, in
+/// this life of the desk's struct.
 pub(crate) fn end<W: Wheel + Drop>(
     desk: &mut Desk<W, RingInlet>,
     client: usize,
-    number: u64,
+    own: bool,
     line: &mut Line,
     unread: &mut usize,
 ) -> u32
-    requires line { client < clients_of desk.old → number ≡ client → IsTied client desk.old line.old }
-    ensures ended { result ≡ OK → (number ≡ client) × HasEnded client unread.new desk.old line.old line.new }
-    ensures refused { 0 < result → WhyNotEnded client number desk.old line.old result }
+    requires line { client < clients_of desk.old → own ≡ true → IsTied client desk.old line.old }
+    ensures ended { result ≡ OK → (own ≡ true) × HasEnded client unread.new desk.old line.old line.new }
+    ensures refused { 0 < result → WhyNotEnded client own desk.old line.old result }
     ensures kept { 0 < result → (unread.new ≡ unread.old) × IsAsBefore line.old line.new }
     ensures same { 0 < result → result ≢ LEFT → desk.new ≡ desk.old }
     ensures desk { OnlySettles client desk.old desk.new }
@@ -32,7 +33,7 @@ pub(crate) fn end<W: Wheel + Drop>(
     if client >= desk.clients() {
         return NO_CLIENT;
     }
-    if number != client as u64 {
+    if !own {
         return OTHER_LINE;
     }
     match line {

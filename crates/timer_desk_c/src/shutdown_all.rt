@@ -1,18 +1,18 @@
 //! Ends the words of every client: each is tried in turn, and the first that is left is reported.
-ghost use Rattle.std.specs.Prelude.{◌≡◌, ◌≢◌, ◌<◌, ◌⊎◌, length, get_or, Some, None, IsNone, IfSome};
+ghost use Rattle.std.specs.Prelude.{◌≡◌, ◌≢◌, ◌<◌, ◌⊎◌, length, get_or, true, Some, None, IsNone, IfSome};
 ghost use Rattle.timer_desk.specs.Desk.{clients_of};
 ghost use Rattle.timer_desk.specs.declared.ring.RingInlet.{RingInlet};
 ghost use Rattle.timer_desk.specs.declared.looks.Found.TheVariants as Found;
 ghost use Rattle.timer_desk.specs.Ring.{found_by_inlet};
 ghost use Rattle.timer_desk.specs.Settlement.{HasLooked};
 ghost use Rattle.timer_desk.specs.Shutdown.{KeepsLines};
-ghost use Rattle.timer_desk_c.specs.Frames.{HasLine, HasNoLine, with_line};
+ghost use Rattle.timer_desk_c.specs.Frames.{HasLine, HasNoLine, with_line, is_own};
 ghost use Rattle.timer_desk_c.specs.Freed.{OnlyLooks};
 ghost use Rattle.timer_desk_c.specs.Shutdown.{IsTied, OnlySettles};
 ghost use Rattle.timer_desk_c.specs.ShutdownAll.{AreTied, OnlyStates, IsOverAt, IsLeftAt, AllTried, AllEnded, IsFirstLeft, WhyNotAllEnded};
 ghost use Rattle.timer_desk_c.specs.declared.status.TheConstants.{OK, LEFT, NOT_FREED};
 
-use crate::c_structs::CLine;
+use crate::c_structs::{CLine, is_line_of};
 use crate::shutdown::end;
 use crate::status::{NOT_FREED, OK, OUT_OF_RANGE};
 use timer_base::Wheel;
@@ -30,13 +30,14 @@ pub struct Left {
 /// with the status of the first client for which they can't, and writes its number.
 pub(crate) fn end_all<W: Wheel + Drop>(
     desk: &mut Desk<W, RingInlet>,
+    lives: u64,
     lines: &mut [CLine],
     client: &mut usize,
 ) -> u32
-    requires lines { length lines.old ≡ clients_of desk.old → AreTied desk.old lines.old }
-    ensures ended { result ≡ OK → AllEnded desk.old desk.new lines.old lines.new }
-    ensures refused { 0 < result → WhyNotAllEnded client.new result desk.old desk.new lines.old lines.new }
-    ensures tried { length lines.old ≡ clients_of desk.old → AllTried desk.old desk.new lines.old lines.new }
+    requires lines { length lines.old ≡ clients_of desk.old → AreTied lives desk.old lines.old }
+    ensures ended { result ≡ OK → AllEnded lives desk.old desk.new lines.old lines.new }
+    ensures refused { 0 < result → WhyNotAllEnded lives client.new result desk.old desk.new lines.old lines.new }
+    ensures tried { length lines.old ≡ clients_of desk.old → AllTried lives desk.old desk.new lines.old lines.new }
     ensures client { result ≡ OK → client.new ≡ client.old }
     ensures kept { length lines.old ≢ clients_of desk.old → (desk.new ≡ desk.old) × (lines.new ≡ lines.old)
         × (client.new ≡ client.old) }
@@ -46,7 +47,7 @@ pub(crate) fn end_all<W: Wheel + Drop>(
     if lines.len() != desk.clients() {
         return OUT_OF_RANGE;
     }
-    match end_each(desk, lines) {
+    match end_each(desk, lives, lines) {
         None => OK,
         Some(left) => {
             *client = left.client;
@@ -56,19 +57,23 @@ pub(crate) fn end_all<W: Wheel + Drop>(
 }
 
 /// Tries each client in turn, and returns the first whose words were not ended.
-fn end_each<W: Wheel + Drop>(desk: &mut Desk<W, RingInlet>, lines: &mut [CLine]) -> Option<Left>
+fn end_each<W: Wheel + Drop>(
+    desk: &mut Desk<W, RingInlet>,
+    lives: u64,
+    lines: &mut [CLine],
+) -> Option<Left>
     requires as_many { length lines.old ≡ clients_of desk.old }
-    requires lines { AreTied desk.old lines.old }
-    ensures none { IsNone result → AllEnded desk.old desk.new lines.old lines.new }
+    requires lines { AreTied lives desk.old lines.old }
+    ensures none { IsNone result → AllEnded lives desk.old desk.new lines.old lines.new }
     ensures some { IfSome result (λ left. (0 < left.status)
-        × IsFirstLeft left.client left.status desk.old desk.new lines.old lines.new) }
-    ensures tried { AllTried desk.old desk.new lines.old lines.new }
+        × IsFirstLeft lives left.client left.status desk.old desk.new lines.old lines.new) }
+    ensures tried { AllTried lives desk.old desk.new lines.old lines.new }
     ensures desk { KeepsLines desk.old desk.new }
     ensures only { OnlyStates lines.old lines.new }
 {
     let mut left = None;
     for client in 0..lines.len() {
-        let status = end_held(desk, client, &mut lines[client]);
+        let status = end_held(desk, client, lives, &mut lines[client]);
         left = first_left(left, client, status);
     }
     left
@@ -76,14 +81,19 @@ fn end_each<W: Wheel + Drop>(desk: &mut Desk<W, RingInlet>, lines: &mut [CLine])
 
 /// Ends the words of a client, if they can be ended. Nobody reads the words of a client whose line was freed. A struct
 /// that holds no line was freed, or it was moved, and then the client may still wait for words.
-fn end_held<W: Wheel + Drop>(desk: &mut Desk<W, RingInlet>, client: usize, line: &mut CLine) -> u32
+fn end_held<W: Wheel + Drop>(
+    desk: &mut Desk<W, RingInlet>,
+    client: usize,
+    lives: u64,
+    line: &mut CLine,
+) -> u32
     requires client { client < clients_of desk.old }
-    requires line { HasLine line.old → client < clients_of desk.old → line.old.client ≡ client
+    requires line { HasLine line.old → client < clients_of desk.old → is_own client lives line.old ≡ true
         → IsTied client desk.old line.old.slot.state }
-    ensures ended { result ≡ OK → IsOverAt client desk.old desk.new line.old line.new }
+    ensures ended { result ≡ OK → IsOverAt lives client desk.old desk.new line.old line.new }
     ensures skipped { HasNoLine line.old → (i : RingInlet) → HasLooked (get_or desk.old.inlets client i)
         (get_or desk.new.inlets client i) }
-    ensures left { 0 < result → IsLeftAt client result desk.old desk.new line.old line.new }
+    ensures left { 0 < result → IsLeftAt lives client result desk.old desk.new line.old line.new }
     ensures same { 0 < result → result ≢ LEFT → HasLine line.old → desk.new ≡ desk.old }
     ensures desk { OnlySettles client desk.old desk.new }
     ensures only { line.new ≡ with_line line.old line.new.slot.state }
@@ -91,9 +101,9 @@ fn end_held<W: Wheel + Drop>(desk: &mut Desk<W, RingInlet>, client: usize, line:
     if !line.slot.holds() {
         return freed(desk, client);
     }
-    let number = line.client;
+    let own = is_line_of(line.client, line.life, client, lives);
     let mut unread = 0;
-    end(desk, client, number, line.slot.line(), &mut unread)
+    end(desk, client, own, line.slot.line(), &mut unread)
 }
 
 /// `OK` if the line of a client was freed.

@@ -9,8 +9,8 @@
 //!     stopped    *       *   *              three requests, under the next three numbers of client 1
 ghost use Rattle.std.specs.Prelude.{◌≡◌, ◌≢◌, ◌+◌, ◌<◌, ◌≤◌, ℕ, true, false, get_or, IfSome, Some, None, OnOk, IfErr};
 ghost use Rattle.timer_base.specs.declared.limits.TheConstants.{LAST};
-ghost use Rattle.timer_facility.specs.State.{number_of, pending_of, Stop};
-ghost use Rattle.timer_facility.specs.Verdict.{named};
+ghost use Rattle.timer_facility.specs.State.{number_of, pending_of, ByHandle};
+ghost use Rattle.timer_facility.specs.Verdict.{timer_named};
 ghost use Rattle.timer_desk.specs.declared.ring.RingInlet.{RingInlet};
 ghost use Rattle.timer_desk.specs.declared.looks.Found.TheVariants as Found;
 ghost use Rattle.timer_desk.specs.Desk.{clients_of};
@@ -101,9 +101,9 @@ fn first_from(desk: &Desk<HierWheel, RingInlet>, place: usize) -> Option<Handle>
 fn stop_own(desk: &mut Desk<HierWheel, RingInlet>, client: usize, handle: Handle)
     requires client { client < clients_of desk.old }
     requires gone { (i : RingInlet) → found_by_inlet (get_or desk.old.inlets client i) ≢ Found.Nothing }
-    ensures own { named desk.old.facility client (Stop handle) ≢ None
+    ensures own { timer_named desk.old.facility client (ByHandle handle) ≢ None
         → desk.new ≡ record desk.old { facility = (stop_step desk.old.facility client handle).state } }
-    ensures other { named desk.old.facility client (Stop handle) ≡ None → desk.new ≡ desk.old }
+    ensures other { timer_named desk.old.facility client (ByHandle handle) ≡ None → desk.new ≡ desk.old }
 {
     if desk.facility().find_named(client as u64, handle).is_some() {
         let _ = desk.stop_for(client, handle);

@@ -5,7 +5,7 @@ use Rattle.timer_desk_c.proofs.rounds.flush_each.Goals as goal
 
 pub loop-client-init : goal.loop-client-init
 loop-client-init g c = record {
-  done = flushing_nothing c.args.desk.now c.lemma_invariant.ensures.held;
+  done = flushing_nothing c.args.desk.now c.lemma_invariant.ensures.kept;
   clients = refl;
   all = c.clients-client-end.ensures;
 }
@@ -13,20 +13,20 @@ loop-client-init g c = record {
 pub loop-client-preserved : goal.loop-client-preserved
 loop-client-preserved g c =
     let was = c.loop-client.invariant in
-    let told = c.flush.ensures.told in
+    let report = c.flush.ensures.report in
     let k = c.loop-client.client in
     let test = c.loop-client-test.true in
     let all = was.all in
     let clients = was.clients in
     let same = was.done.as_many_backlogs in
-    let many = c.lemma_invariant.ensures.as_many in
+    let many = c.lemma_invariant.ensures.kept.as_many in
     let low : k < clients_of c.loop-client.desk = omega (arith, test, all, clients) in
     let few : k < length c.loop-client.desk.backlogs = omega (arith, test, all, same, many) in record {
       done = subst (λ (b : Bool). IsFlushing (k + 1) b c.args.desk.now c.flush.new.self) (sym c.either-busy.ensures)
           (flushing_more k c.flush.result c.loop-client.busy c.is_some.result c.args.desk.now c.loop-client.desk c.flush.new.self was.done
-          told c.is_some.ensures
+          report c.is_some.ensures
           c.flush.ensures.flushes low few (λ i. ring_stopped (c.flush.ensures.stopped i)));
-      clients = told.clients.same_clients ∙ was.clients;
+      clients = report.same_clients ∙ was.clients;
       all = was.all;
     }
 

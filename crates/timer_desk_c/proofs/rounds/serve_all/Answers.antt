@@ -4,7 +4,7 @@ use Rattle.timer_desk_c.proofs.rounds.serve_all.Goals as goal
 
 pub loop-client-init : goal.loop-client-init
 loop-client-init g c = record {
-  done = round_nothing c.args.most c.args.desk.now c.lemma_invariant.ensures.held;
+  done = round_nothing c.args.most c.args.desk.now c.lemma_invariant.ensures.kept;
   clients = refl;
   all = c.clients-client-end.ensures;
 }
@@ -21,7 +21,7 @@ loop-client-preserved g c =
           (sym c.either-starved.ensures)
           (round_more c.args.most k c.loop-client.busy c.loop-client.starved c.serve_up_to-round.result.busy
           c.serve_up_to-round.result.starved old c.loop-client.desk now was.done did));
-      clients = did.says.clients.same_clients ∙ was.clients;
+      clients = did.says.same_clients ∙ was.clients;
       all = was.all;
     }
 

@@ -3,22 +3,22 @@ use Rattle.timer_desk_c.proofs.RoundLemmas.{IsServing, serving_nothing, serving_
 use Rattle.timer_desk_c.proofs.rounds.serve_up_to.Goals as goal
 
 pub loop-init : goal.loop-init
-loop-init g c = record { serving = serving_nothing c.args.client c.args.desk.now c.lemma_invariant.ensures.held; clients = refl }
+loop-init g c = record { serving = serving_nothing c.args.client c.args.desk.now c.lemma_invariant.ensures.kept; clients = refl }
 
 pub loop-preserved : goal.loop-preserved
 loop-preserved g c =
     let was = c.loop.invariant in
-    let told = c.serve-served.ensures.told in record {
+    let report = c.serve-served.ensures.report in record {
       serving = serving_more c.args.client c.loop.counter c.loop.busy c.args.desk.now c.loop.desk c.serve-served.new.self
-          c.serve-served.result was.serving (sym c.is_done.ensures ∙ c.if-not-is_done.false) told;
-      clients = told.clients.same_clients ∙ was.clients;
+          c.serve-served.result was.serving (sym c.is_done.ensures ∙ c.if-not-is_done.false) report;
+      clients = report.same_clients ∙ was.clients;
     }
 
 pub returns-then-not-is_done : goal.returns-then-not-is_done
 returns-then-not-is_done g c =
     serving_ends c.args.client c.loop.counter c.args.most c.loop.busy c.is_starved-starved.result c.args.desk.now c.loop.desk
     c.serve-served.new.self c.serve-served.result c.loop.invariant.serving
-    (omega arith) (sym c.is_done.ensures ∙ c.if-not-is_done.true) c.is_starved-starved.ensures c.serve-served.ensures.told
+    (omega arith) (sym c.is_done.ensures ∙ c.if-not-is_done.true) c.is_starved-starved.ensures c.serve-served.ensures.report
 
 pub returns : goal.returns
 returns g c =

@@ -4,7 +4,7 @@ use Rattle.timer_desk_c.proofs.ShutdownLemmas.{ending_nothing, ending_more}
 use Rattle.timer_desk_c.proofs.shutdown_all.end_each.Goals as goal
 
 pub loop-client-init : goal.loop-client-init
-loop-client-init g c = record { done = ending_nothing c.args.desk.now c.args.lines.now; all = refl }
+loop-client-init g c = record { done = ending_nothing c.args.lives c.args.desk.now c.args.lines.now; all = refl }
 
 pub loop-client-preserved : goal.loop-client-preserved
 loop-client-preserved g c =
@@ -18,7 +18,7 @@ loop-client-preserved g c =
     let all = was.all in
     let many = was.done.as_many in
     let low : k < length now = omega (arith, test, all, many) in record {
-      done = ending_more k c.end_held-status.result c.loop-client.left c.first_left-left.result c.args.desk.now c.loop-client.desk
+      done = ending_more c.args.lives k c.end_held-status.result c.loop-client.left c.first_left-left.result c.args.desk.now c.loop-client.desk
           c.end_held-status.new.desk c.args.lines.now now line c.end_held-status.new.line was.done low c.requires.as_many
           (λ x. get_or_default now k c.index-lines-client.result x low) tried.ended tried.skipped tried.left tried.same tried.desk
           tried.only first.before first.ended first.refused;
