@@ -25,23 +25,37 @@ struct run {
 	enum form form;
 };
 
-#define DEFAULTS {MAX_CLIENTS, CAPACITY, 0, LAST}
-#define NEAR_THE_END {MAX_CLIENTS, CAPACITY, 8639000, LAST_OF_CLOCK}
+#define DEFAULTS {MAX_CLIENTS, CAPACITY, 0, LAST, HIER, 0, 0, 0}
+#define NEAR_THE_END {MAX_CLIENTS, CAPACITY, 8639000, LAST_OF_CLOCK, CLOCK, 0, 0, 0}
 
 /* Small limits, both ends of the clock, one bucket and many. */
 static const struct run RUNS[] = {
 	{{"play", "--scheme", "plain"}, DEFAULTS, PLAY},
 	{{"play", "--scheme", "hier"}, DEFAULTS, PLAY},
-	{{"play", "--scheme", "hashed", "--slots", "1", "--capacity", "3", "--clients", "2"}, {2, 3, 0, LAST}, PLAY},
-	{{"play", "--scheme", "hier", "--first-tick", "1152921504606846900"}, {MAX_CLIENTS, CAPACITY, LAST - 75, LAST}, PLAY},
-	{{"play", "--scheme", "hashed", "--slots", "8", "--first-tick", "4090"}, {MAX_CLIENTS, CAPACITY, 4090, LAST}, PLAY},
-	{{"play", "--scheme", "clock", "--first-tick", "8639000", "--capacity", "5"}, {MAX_CLIENTS, 5, 8639000, LAST_OF_CLOCK}, PLAY},
+	{{"play", "--scheme", "hashed", "--slots", "1", "--capacity", "3", "--clients", "2"},
+	 {2, 3, 0, LAST, HASHED, 1, 0, 0}, PLAY},
+	{{"play", "--scheme", "hier", "--first-tick", "1152921504606846900"},
+	 {MAX_CLIENTS, CAPACITY, LAST - 75, LAST, HIER, 0, 0, 0}, PLAY},
+	{{"play", "--scheme", "hashed", "--slots", "8", "--first-tick", "4090"},
+	 {MAX_CLIENTS, CAPACITY, 4090, LAST, HASHED, 8, 0, 0}, PLAY},
+	{{"play", "--scheme", "clock", "--first-tick", "8639000", "--capacity", "5"},
+	 {MAX_CLIENTS, 5, 8639000, LAST_OF_CLOCK, CLOCK, 0, 0, 0}, PLAY},
 	{{"serve"}, DEFAULTS, SERVE},
 	{{"serve", "--keep-going", "--scheme", "plain"}, DEFAULTS, KEEP_GOING},
 	{{"serve", "--wakeups"}, DEFAULTS, WAKEUPS},
 	{{"serve", "--wakeups", "--scheme", "clock", "--first-tick", "8639000"}, NEAR_THE_END, WAKEUPS},
 	{{"serve", "--wakeups", "--scheme", "hashed", "--slots", "8"}, DEFAULTS, WAKEUPS},
-	{{"show", "--counts"}, DEFAULTS, SHOW},
+	{{"serve", "--wakeups", "--keep-going"}, DEFAULTS, KEEP_GOING_WAKEUPS},
+	{{"show"}, DEFAULTS, SHOW},
+	{{"show", "--counts", "--first-tick", "4000"}, {MAX_CLIENTS, CAPACITY, 4000, LAST, HIER, 0, 1, 0}, SHOW},
+	{{"show", "--counts", "--scheme", "clock"}, {MAX_CLIENTS, CAPACITY, 0, LAST_OF_CLOCK, CLOCK, 0, 1, 0}, SHOW},
+	{{"show", "--counts", "--scheme", "hashed", "--slots", "5"},
+	 {MAX_CLIENTS, CAPACITY, 0, LAST, HASHED, 5, 1, 0}, SHOW},
+	{{"show", "--scheme", "plain"}, {MAX_CLIENTS, CAPACITY, 0, LAST, PLAIN, 0, 0, 0}, SHOW},
+	{{"show", "--moves"}, {MAX_CLIENTS, CAPACITY, 0, LAST, HIER, 0, 0, 1}, SHOW},
+	{{"show", "--moves", "--counts", "--scheme", "clock", "--first-tick", "8600000"},
+	 {MAX_CLIENTS, CAPACITY, 8600000, LAST_OF_CLOCK, CLOCK, 0, 1, 1}, SHOW},
+	{{"show", "--moves", "--scheme", "hashed", "--slots", "8"}, {MAX_CLIENTS, CAPACITY, 0, LAST, HASHED, 8, 0, 1}, SHOW},
 	{{"check"}, DEFAULTS, CHECK},
 };
 
@@ -112,21 +126,6 @@ static int same(int fd, const struct text *wanted)
 	return is;
 }
 
-/* Cuts the lines that begin with a space. */
-static void cut_shown(struct text *text)
-{
-	size_t kept = 0;
-	for (size_t at = 0, next; at < text->len; at = next) {
-		const char *feed = memchr(text->at + at, '\n', text->len - at);
-		next = feed ? (size_t)(feed - text->at) + 1 : text->len;
-		if (text->at[at] == ' ')
-			continue;
-		memmove(text->at + kept, text->at + at, next - at);
-		kept += next - at;
-	}
-	text->len = kept;
-}
-
 /* A line of the text is the wanted one, or a wake-up after the present tick and at most at the first deadline. */
 static int line_fits(const char *found, size_t len, const char *wanted, size_t wanted_len)
 {
@@ -164,9 +163,8 @@ static int is_answer(int fd, const struct text *wanted, enum form form)
 {
 	struct text found = {0};
 	found.at = whole(fd, &found.len);
-	if (form == SHOW)
-		cut_shown(&found);
-	int is = form == WAKEUPS ? fits(&found, wanted) : found.len == wanted->len && (found.len == 0 || !memcmp(found.at, wanted->at, found.len));
+	int woken = form == WAKEUPS || form == KEEP_GOING_WAKEUPS;
+	int is = woken ? fits(&found, wanted) : found.len == wanted->len && (found.len == 0 || !memcmp(found.at, wanted->at, found.len));
 	free(found.at);
 	return is;
 }

@@ -15,19 +15,16 @@ struct event {
 	uint64_t client, number, serial, interval, action, count;
 };
 
-struct timer {
-	uint64_t serial, client, deadline, action;
-};
-
 struct facility {
 	struct options is;
 	uint64_t now, next_serial, numbers[MAX_CLIENTS];
 	bool closed;
+	struct counts counts;
 	struct timer *pending; /* by deadline, then serial */
 	size_t len;
 };
 
-static void add(struct text *text, const char *format, ...)
+void add(struct text *text, const char *format, ...)
 {
 	char line[200];
 	va_list arguments;
@@ -175,10 +172,55 @@ static void request(struct facility *f, const struct event *e, struct text *out)
 	}
 	struct timer timer = {f->next_serial++, e->client, f->now + e->interval, e->action};
 	insert(f, timer);
+	f->counts.starts++;
 	add(out, "%s %" PRIu64 " %" PRIu64 " ", e->kind == START ? "started" : "restarted", e->client, e->number);
 	if (e->kind == RESTART)
 		add(out, "%" PRIu64 " ", e->serial);
 	add(out, "%" PRIu64 " %" PRIu64 "\n", timer.serial, timer.deadline);
+}
+
+/* How often a pending timer moves to a lower wheel while the clock passes to this tick. */
+static uint64_t moves_until(enum scheme scheme, uint64_t now, uint64_t tick, uint64_t deadline)
+{
+	uint64_t moves = 0;
+	while ((now = next_move(scheme, now, deadline)) <= tick && now < deadline)
+		moves++;
+	return moves;
+}
+
+/* Counts what the wheel does while the clock passes to this tick. */
+static void count_ticks(struct facility *f, uint64_t tick)
+{
+	uint64_t slots = unit_of(f->is.scheme, 1);
+	f->counts.visits += tick / slots - f->now / slots;
+	for (size_t i = 0; i < f->len; i++) {
+		uint64_t deadline = f->pending[i].deadline;
+		bool is_first = i == 0 || f->pending[i - 1].deadline != deadline;
+		f->counts.moves += moves_until(f->is.scheme, f->now, tick, deadline);
+		f->counts.visits += is_first && deadline <= tick && deadline % slots != 0;
+	}
+}
+
+/* What expires next, or moves: the tick, or a later one than this. */
+static uint64_t next_stop(const struct facility *f, uint64_t tick)
+{
+	uint64_t stop = tick + 1;
+	for (size_t i = 0; i < f->len; i++) {
+		uint64_t next = next_move(f->is.scheme, f->now, f->pending[i].deadline);
+		stop = next < stop ? next : stop;
+	}
+	return stop;
+}
+
+/* Adds what expires at the tick, and cuts it. */
+static void expire(struct facility *f, uint64_t tick, struct text *out)
+{
+	size_t due = 0;
+	for (; due < f->len && f->pending[due].deadline <= tick; due++) {
+		const struct timer *t = &f->pending[due];
+		add(out, "expired %" PRIu64 " %" PRIu64 " %" PRIu64 " %" PRIu64 "\n", t->deadline, t->client, t->serial, t->action);
+	}
+	cut(f, 0, due);
 }
 
 static void ticks(struct facility *f, uint64_t count, struct text *out)
@@ -188,13 +230,14 @@ static void ticks(struct facility *f, uint64_t count, struct text *out)
 		return;
 	}
 	uint64_t left = f->is.last_tick - f->now;
-	f->now += count < left ? count : left;
-	size_t due = 0;
-	for (; due < f->len && f->pending[due].deadline <= f->now; due++) {
-		const struct timer *t = &f->pending[due];
-		add(out, "expired %" PRIu64 " %" PRIu64 " %" PRIu64 " %" PRIu64 "\n", t->deadline, t->client, t->serial, t->action);
+	uint64_t tick = f->now + (count < left ? count : left);
+	count_ticks(f, tick);
+	for (uint64_t stop; f->is.moves && (stop = next_stop(f, tick)) <= tick; f->now = stop) {
+		expire(f, stop, out);
+		show_moves(out, &f->is, f->now, stop, f->pending, f->len);
 	}
-	cut(f, 0, due);
+	expire(f, tick, out);
+	f->now = tick;
 	if (count > left)
 		add(out, "tick refused clock-end\n");
 }
@@ -256,6 +299,7 @@ static void wakeup(const struct facility *f, struct text *out)
 static bool lines(struct facility *f, const char *script, size_t len, enum form form, struct answer *answer)
 {
 	uint64_t n = 0;
+	bool goes_on = form == KEEP_GOING || form == KEEP_GOING_WAKEUPS;
 	for (const char *at = script, *end = script + len; at < end;) {
 		const char *feed = memchr(at, '\n', (size_t)(end - at));
 		const char *next = feed ? feed + 1 : end;
@@ -265,13 +309,15 @@ static bool lines(struct facility *f, const char *script, size_t len, enum form 
 		n++;
 		if (good && form != CHECK)
 			one(f, &e, &answer->output);
-		if (good && form == WAKEUPS)
+		if (good && (form == WAKEUPS || form == KEEP_GOING_WAKEUPS))
 			wakeup(f, &answer->output);
+		if (good && form == SHOW)
+			show(&answer->output, &f->is, &f->counts, f->now, f->pending, f->len);
 		if (!good && form == CHECK)
 			report(&answer->output, "", n, at, all);
-		if (!good && form == KEEP_GOING)
+		if (!good && goes_on)
 			report(&answer->faults, "bad ", n, at, all < MAX_LINE ? all : MAX_LINE);
-		if (!good && form != CHECK && form != KEEP_GOING) {
+		if (!good && form != CHECK && !goes_on) {
 			*answer = fault(*answer, "bad line", n);
 			return false;
 		}

@@ -7,8 +7,23 @@
 /* The page's numbers, and the reasons of `check` in the order of its table: tools/formats.py makes it. */
 #include "formats.h"
 
+enum scheme { HIER, PLAIN, HASHED, CLOCK };
+
 struct options {
 	uint64_t clients, capacity, first_tick, last_tick;
+	/* What only `show` needs. */
+	enum scheme scheme;
+	uint64_t slots;
+	int counts, moves;
+};
+
+struct timer {
+	uint64_t serial, client, deadline, action;
+};
+
+/* What a hierarchy counts. */
+struct counts {
+	uint64_t starts, moves, visits;
 };
 
 /* Text that grows. */
@@ -22,8 +37,26 @@ struct answer {
 	int status;
 };
 
-/* What is done with the input. The lines of SHOW are those of SERVE: what it shows is left out. */
-enum form { PLAY, SERVE, KEEP_GOING, WAKEUPS, SHOW, CHECK };
+/* What is done with the input. */
+enum form { PLAY, SERVE, KEEP_GOING, WAKEUPS, KEEP_GOING_WAKEUPS, SHOW, CHECK };
+
+/* Adds a line. */
+void add(struct text *text, const char *format, ...);
+
+/* How many ticks a slot of a wheel is; and in which wheel a pending timer is. */
+uint64_t unit_of(enum scheme scheme, int wheel);
+int wheel_of(enum scheme scheme, uint64_t now, uint64_t deadline);
+
+/* The tick at which a pending timer next moves to a lower wheel, or its deadline if it expires first. */
+uint64_t next_move(enum scheme scheme, uint64_t now, uint64_t deadline);
+
+/* Adds the moves at a tick, of timers that were where they are now until then. */
+void show_moves(struct text *text, const struct options *is, uint64_t now, uint64_t tick, const struct timer *pending,
+                size_t len);
+
+/* Adds what `show` does after a line: the pending timers are by deadline, then serial. */
+void show(struct text *text, const struct options *is, const struct counts *counts, uint64_t now, const struct timer *pending,
+          size_t len);
 
 /* What is wrong with a line: the column, the field, if it is in one, and the reason; none if it is good. */
 struct wrong {

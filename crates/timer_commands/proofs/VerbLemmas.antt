@@ -50,7 +50,7 @@ undone bytes streams faults faults' reading writing (verbs.Serve on_bad true) be
     unserved on_bad AddsWakeups wakeups_are_lawful before bytes streams faults faults' reading writing
 undone bytes streams faults faults' reading writing (verbs.Serve on_bad false) before =
     unserved on_bad AddsNothing nothing_is_lawful before bytes streams faults faults' reading writing
-undone bytes streams faults faults' reading writing (verbs.Show counts) before =
+undone bytes streams faults faults' reading writing (verbs.Show counts moves) before =
     unserved Stop AddsIndented indented_is_lawful before bytes streams faults faults' reading writing
 
 -- serving ended, and then its failure may have been reported

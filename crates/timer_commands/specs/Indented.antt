@@ -30,6 +30,10 @@ AddsIndented before events after answer text = AddsMarked 32 answer text
 abbrev pub HasGrownByIndented : List ℕ → List ℕ → Type 0
 HasGrownByIndented old new = (added : List ℕ) × (new ≡ old ++ added) × AddsMarked 32 [] added
 
--- it grew by the front of an indented line
-abbrev pub HasGrownByFront : List ℕ → List ℕ → Type 0
-HasGrownByFront old new = (front : List ℕ) × (new ≡ old ++ 32 ∷ front) × HasNoFeed front
+-- it grew by bytes without a line feed
+abbrev pub HasGrownByBare : List ℕ → List ℕ → Type 0
+HasGrownByBare old new = (more : List ℕ) × (new ≡ old ++ more) × HasNoFeed more
+
+-- it grew by the rest of a line
+abbrev pub HasGrownByEnd : List ℕ → List ℕ → Type 0
+HasGrownByEnd old new = (rest : List ℕ) × (new ≡ old ++ rest ++ 10 ∷ []) × HasNoFeed rest

@@ -92,7 +92,7 @@ HasDone (verbs.Serve on_bad false) before bytes old new status =
     HasAnswered on_bad AddsNothing before bytes old new status
 HasDone (verbs.Serve on_bad true) before bytes old new status =
     HasAnswered on_bad AddsWakeups before bytes old new status
-HasDone (verbs.Show counts) before bytes old new status = HasAnswered Stop AddsIndented before bytes old new status
+HasDone (verbs.Show counts moves) before bytes old new status = HasAnswered Stop AddsIndented before bytes old new status
 
 -- that was done over the facility of the options, or the options are refused and nothing was read or written
 pub record HasEnded {R S F : Type 0} (verb : Verb) (options : RunOptions) (bytes : Bytes R S F)

@@ -9,9 +9,14 @@
 //! two lines of a script nothing is. A wheel that counts its work may show what it counted:
 //!
 //!     hier      starts 3 moves 1 visits 128     timers started, moves to a lower wheel, slots visited
+//!
+//! A hierarchy may show which timers moved while ticks passed:
+//!
+//!     hier      moved at 128 from wheel 1 slot 2 to wheel 0 slot 2: 1
+//!     clock     moved at 900 from minute 15 to second 30: 1
 ghost use Rattle.std.specs.Prelude.{◌≡◌, ◌<◌, ◌++◌, length, decimal, OnOk};
 ghost use Rattle.timer_script.specs.Decorator.{HasGrown};
-ghost use Rattle.timer_commands.specs.Indented.{HasGrownByIndented, HasGrownByFront};
+ghost use Rattle.timer_commands.specs.Indented.{HasGrownByIndented, HasGrownByBare, HasGrownByEnd};
 ghost use Rattle.timer_commands.specs.Wakeups.{wakeup_line};
 
 use itoa::Buffer;
@@ -38,9 +43,26 @@ pub trait Placement {
         ensures kept { HasGrown text.old.items text.new.items };
 
     /// Appends a line of what the wheel counted, if it counts. The only error is out of memory.
-    fn push_counts(&self, text: &mut Vec<u8>) -> Result<(), OutOfMemory>
-        ensures indented { OnOk result (HasGrownByIndented text.old.items text.new.items) }
-        ensures kept { HasGrown text.old.items text.new.items };
+    fn push_counts(&self, _text: &mut Vec<u8>) -> Result<(), OutOfMemory>
+        ensures indented { OnOk result (HasGrownByIndented _text.old.items _text.new.items) }
+        ensures kept { HasGrown _text.old.items _text.new.items }
+    {
+        Ok(())
+    }
+
+    /// The first bucket that has a timer, if timers move between buckets: they go to lower ones, from there first.
+    fn first_bucket(&self) -> usize {
+        0
+    }
+
+    /// Appends a line for each bucket below this one that has a timer. None had one before some ticks, at the
+    /// last of which at most the bucket was emptied, so these timers moved from there. The only error is out of
+    /// memory.
+    fn push_moves(&self, _text: &mut Vec<u8>, _bucket: usize) -> Result<(), OutOfMemory>
+        ensures indented { OnOk result (HasGrownByIndented _text.old.items _text.new.items) }
+    {
+        Ok(())
+    }
 }
 
 impl Placement for PlainWheel {
@@ -57,29 +79,17 @@ impl Placement for PlainWheel {
         text.push(b'\n')?;
         Ok(())
     }
-
-    fn push_counts(&self, _text: &mut Vec<u8>) -> Result<(), OutOfMemory> {
-        Ok(())
-    }
 }
 
 impl Placement for HashedWheel {
     fn push_placement(&self, text: &mut Vec<u8>) -> Result<(), OutOfMemory> {
         push_lists(text, self.links(), Naming::Slots)
     }
-
-    fn push_counts(&self, _text: &mut Vec<u8>) -> Result<(), OutOfMemory> {
-        Ok(())
-    }
 }
 
 impl Placement for HierWheel {
     fn push_placement(&self, text: &mut Vec<u8>) -> Result<(), OutOfMemory> {
-        let naming = match self.table() {
-            Table::Wide => Naming::Wheels,
-            Table::Clock => Naming::Clock,
-        };
-        push_lists(text, self.links(), naming)
+        push_lists(text, self.links(), naming_of(self.table()))
     }
 
     fn push_counts(&self, text: &mut Vec<u8>) -> Result<(), OutOfMemory> {
@@ -87,6 +97,21 @@ impl Placement for HierWheel {
         push_number(text, b" moves ", self.moves())?;
         push_number(text, b" visits ", self.visits())?;
         text.push(b'\n')?;
+        Ok(())
+    }
+
+    fn first_bucket(&self) -> usize {
+        first_list(self.links())
+    }
+
+    fn push_moves(&self, text: &mut Vec<u8>, bucket: usize) -> Result<(), OutOfMemory> {
+        let naming = naming_of(self.table());
+        for list in 0..bucket.min(self.links().lists()) {
+            if !self.links().is_empty(list) {
+                push_number(text, b"  moved at ", self.now())?;
+                push_move(text, self.links(), bucket, list, naming)?;
+            }
+        }
         Ok(())
     }
 }
@@ -102,6 +127,41 @@ enum Naming {
     Clock,
 }
 
+/// How the buckets of a hierarchy are named.
+fn naming_of(table: Table) -> Naming {
+    match table {
+        Table::Wide => Naming::Wheels,
+        Table::Clock => Naming::Clock,
+    }
+}
+
+/// The first list that has a timer, or their number.
+fn first_list(links: &Links) -> usize {
+    for list in 0..links.lists() {
+        if !links.is_empty(list) {
+            return list;
+        }
+    }
+    links.lists()
+}
+
+/// Appends the rest of the line of a move: the bucket, that to which its timers went, and these.
+fn push_move(
+    text: &mut Vec<u8>,
+    links: &Links,
+    from: usize,
+    to: usize,
+    naming: Naming,
+) -> Result<(), OutOfMemory>
+    requires { to < length links.now.lists }
+    ensures { OnOk result (HasGrownByEnd text.old.items text.new.items) }
+{
+    text.extend_from_slice(b" from")?;
+    push_name(text, from as u64, naming)?;
+    text.extend_from_slice(b" to")?;
+    push_list(text, links, to, naming)
+}
+
 /// Appends a line for each list that has a timer.
 fn push_lists(text: &mut Vec<u8>, links: &Links, naming: Naming) -> Result<(), OutOfMemory>
     ensures indented { OnOk result (HasGrownByIndented text.old.items text.new.items) }
@@ -109,13 +169,14 @@ fn push_lists(text: &mut Vec<u8>, links: &Links, naming: Naming) -> Result<(), O
 {
     for list in 0..links.lists() {
         if !links.is_empty(list) {
+            text.push(b' ')?;
             push_list(text, links, list, naming)?;
         }
     }
     Ok(())
 }
 
-/// Appends the line of one list.
+/// Appends a list's name and its timers, up to the end of the line.
 fn push_list(
     text: &mut Vec<u8>,
     links: &Links,
@@ -123,7 +184,7 @@ fn push_list(
     naming: Naming,
 ) -> Result<(), OutOfMemory>
     requires { list < length links.now.lists }
-    ensures indented { OnOk result (HasGrownByIndented text.old.items text.new.items) }
+    ensures ended { OnOk result (HasGrownByEnd text.old.items text.new.items) }
     ensures kept { HasGrown text.old.items text.new.items }
 {
     push_name(text, list as u64, naming)?;
@@ -146,34 +207,34 @@ fn push_list(
     Ok(())
 }
 
-/// Appends the name of the bucket that is this list.
+/// Appends a space, and the name of the bucket that is this list.
 fn push_name(text: &mut Vec<u8>, list: u64, naming: Naming) -> Result<(), OutOfMemory>
-    ensures front { OnOk result (HasGrownByFront text.old.items text.new.items) }
+    ensures bare { OnOk result (HasGrownByBare text.old.items text.new.items) }
     ensures kept { HasGrown text.old.items text.new.items }
 {
     match naming {
-        Naming::Slots => push_number(text, b"  slot ", list),
+        Naming::Slots => push_number(text, b" slot ", list),
         Naming::Wheels => {
-            push_number(text, b"  wheel ", list / WHEEL_SLOTS)?;
+            push_number(text, b" wheel ", list / WHEEL_SLOTS)?;
             push_number(text, b" slot ", list % WHEEL_SLOTS)
         }
         Naming::Clock => push_hand(text, list),
     }
 }
 
-/// Appends the hand of the clock, and its slot, whose bucket is this list.
+/// Appends a space, and the hand of the clock and its slot, whose bucket is this list.
 fn push_hand(text: &mut Vec<u8>, list: u64) -> Result<(), OutOfMemory>
-    ensures front { OnOk result (HasGrownByFront text.old.items text.new.items) }
+    ensures bare { OnOk result (HasGrownByBare text.old.items text.new.items) }
     ensures kept { HasGrown text.old.items text.new.items }
 {
     if list < FIRST_MINUTE {
-        push_number(text, b"  second ", list)
+        push_number(text, b" second ", list)
     } else if list < FIRST_HOUR {
-        push_number(text, b"  minute ", list - FIRST_MINUTE)
+        push_number(text, b" minute ", list - FIRST_MINUTE)
     } else if list < FIRST_DAY {
-        push_number(text, b"  hour ", list - FIRST_HOUR)
+        push_number(text, b" hour ", list - FIRST_HOUR)
     } else {
-        push_number(text, b"  day ", list - FIRST_DAY)
+        push_number(text, b" day ", list - FIRST_DAY)
     }
 }
 

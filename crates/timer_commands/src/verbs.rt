@@ -4,7 +4,7 @@
 ghost use Rattle.std.specs.Prelude.{◌≡◌, [], false, OnOk};
 ghost use Rattle.timer_facility.specs.State.{FacilityState};
 ghost use Rattle.timer_script.specs.Watched.{has_failed};
-ghost use Rattle.timer_commands.specs.Subcommands.{HasDone, serving_status};
+ghost use Rattle.timer_commands.specs.Subcommands.{HasAnswered, HasDone, serving_status};
 
 use crate::error_report::report;
 use crate::render::{Placement, push_shown, push_wakeup};
@@ -23,16 +23,17 @@ pub enum Verb {
     Play,
     /// Answers lines as they come, and with `wakeups` reports after each when to wake up next.
     Serve { on_bad: OnBadLine, wakeups: bool },
-    /// Answers lines as they come, and shows after each where the timers are, and with `counts` what the wheel
-    /// counted.
-    Show { counts: bool },
+    /// Answers lines as they come, and shows after each where the timers are. With `counts` it shows what the
+    /// wheel counted, and with `moves` which timers moved while ticks passed.
+    Show { counts: bool, moves: bool },
 }
 
 /// Shows where the timers are. An answer is followed by the clock, the counts if they are wanted, and the
-/// placement, which `render` draws.
+/// placement, which `render` draws. If moves are wanted, ticks are played in steps, and those of each follow it.
 #[derive(Drop)]
 struct Placements {
     counts: bool,
+    moves: bool,
 }
 
 impl<W: Wheel + Placement + Drop> Decorator<W> for Placements {
@@ -48,6 +49,24 @@ impl<W: Wheel + Placement + Drop> Decorator<W> for Placements {
 
     fn decorate(&self, text: &mut Vec<u8>, facility: &Facility<W>) -> Result<(), OutOfMemory> {
         push_shown(text, facility.wheel(), self.counts)
+    }
+
+    fn shows_steps(&self) -> bool {
+        self.moves
+    }
+
+    // Of the buckets below this one, none has a timer. So those that have one after the step got it from there.
+    fn before_step(&self, facility: &Facility<W>) -> usize {
+        facility.wheel().first_bucket()
+    }
+
+    fn decorate_step(
+        &self,
+        before: usize,
+        text: &mut Vec<u8>,
+        facility: &Facility<W>,
+    ) -> Result<(), OutOfMemory> {
+        facility.wheel().push_moves(text, before)
     }
 
     ghost is_lawful = { indented_is_lawful };
@@ -110,24 +129,45 @@ pub fn do_verb<R: Read, S: Write, F: Write, W: Wheel + Placement + Drop>(
         },
         Verb::Serve { on_bad, wakeups } => {
             if wakeups {
-                let served = serve(alloc, streams, facility, &Wakeups, on_bad, faults);
-                return end_serving(served, faults);
+                serve_with(alloc, facility, &Wakeups, on_bad, streams, faults)
+            } else {
+                serve_with(alloc, facility, &Undecorated, on_bad, streams, faults)
             }
-            let served = serve(alloc, streams, facility, &Undecorated, on_bad, faults);
-            end_serving(served, faults)
         }
-        Verb::Show { counts } => {
-            let served = serve(
+        Verb::Show { counts, moves } => {
+            let placements = Placements { counts, moves };
+            serve_with(
                 alloc,
-                streams,
                 facility,
-                &Placements { counts },
+                &placements,
                 OnBadLine::Stop,
+                streams,
                 faults,
-            );
-            end_serving(served, faults)
+            )
         }
     }
+}
+
+/// Serves with this decorator, and returns the exit status. An error is reported in one line.
+fn serve_with<R: Read, S: Write, F: Write, W: Wheel + Drop, D: Decorator<W>>(
+    alloc: Global,
+    facility: Facility<W>,
+    decorator: &D,
+    on_bad: OnBadLine,
+    streams: &mut Streams<R, S>,
+    faults: &mut Watched<F>,
+) -> u8
+    requires reader_good { has_failed streams.old.reader ≡ false }
+    requires writer_good { has_failed streams.old.writer ≡ false }
+    requires pending { facility.state.pending ≡ [] }
+    requires waiting { facility.waiting ≡ [] }
+    ensures { HasAnswered on_bad D.adds facility.state
+        (record { remaining = R.remaining; contents = S.contents; reports = F.contents })
+        (record { streams = streams.old; faults = faults.old })
+        (record { streams = streams.new; faults = faults.new }) result }
+{
+    let served = serve(alloc, streams, facility, decorator, on_bad, faults);
+    end_serving(served, faults)
 }
 
 /// The exit status of serving. An error is reported in one line.

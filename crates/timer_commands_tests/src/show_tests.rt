@@ -318,6 +318,116 @@ static NO_COUNTS_OF_PLAIN: Row = (
     &["started 0 1 1 1", "  now 0", "  pending: 1:1", "end 0 1"],
 );
 
+/// Each move is shown within one line of ticks, after what expires at its tick. A timer for 4097 jumps over wheel 1,
+/// and those that go from one bucket to one other are in one line. 4096 itself expires where the others move.
+static MOVES: Row = (
+    USUAL,
+    "start 0 1 4161 1\nstart 0 2 4097 2\nstart 0 3 4161 3\nstart 0 4 4096 4\ntick 4161\n",
+    &[
+        "started 0 1 1 4161",
+        "  now 0",
+        "  wheel 2 slot 1: 1",
+        "started 0 2 2 4097",
+        "  now 0",
+        "  wheel 2 slot 1: 1 2",
+        "started 0 3 3 4161",
+        "  now 0",
+        "  wheel 2 slot 1: 1 2 3",
+        "started 0 4 4 4096",
+        "  now 0",
+        "  wheel 2 slot 1: 1 2 3 4",
+        "expired 4096 0 4 4",
+        "  moved at 4096 from wheel 2 slot 1 to wheel 0 slot 1: 2",
+        "  moved at 4096 from wheel 2 slot 1 to wheel 1 slot 1: 1 3",
+        "expired 4097 0 2 2",
+        "  moved at 4160 from wheel 1 slot 1 to wheel 0 slot 1: 1 3",
+        "expired 4161 0 1 1",
+        "expired 4161 0 3 3",
+        "  now 4161",
+        "end 4161 0",
+    ],
+);
+
+/// The paper's own example in one line of ticks, and a refused one after it.
+static MOVES_OF_CLOCK: Row = (
+    RunOptions {
+        scheme: Scheme::Clock,
+        first_tick: 987870,
+        ..USUAL
+    },
+    "start 0 1 3045 5\ntick 3045\nclose\ntick 9\n",
+    &[
+        "started 0 1 1 990915",
+        "  now 987870",
+        "  hour 11: 1",
+        "  moved at 990000 from hour 11 to minute 15: 1",
+        "  moved at 990900 from minute 15 to second 15: 1",
+        "expired 990915 0 1 5",
+        "  now 990915",
+        "closed 0",
+        "  now 990915",
+        "tick refused closed",
+        "  now 990915",
+        "end 990915 0",
+    ],
+);
+
+/// Ticks of which the last ones are refused, and a move at the last tick of a line.
+static MOVES_TO_THE_END: Row = (
+    RunOptions {
+        scheme: Scheme::Clock,
+        first_tick: 8639939,
+        ..USUAL
+    },
+    "start 0 1 59 1\ntick 1\ntick 100\n",
+    &[
+        "started 0 1 1 8639998",
+        "  now 8639939",
+        "  minute 59: 1",
+        "  moved at 8639940 from minute 59 to second 58: 1",
+        "  now 8639940",
+        "  second 58: 1",
+        "expired 8639998 0 1 1",
+        "tick refused clock-end",
+        "  now 8639999",
+        "end 8639999 0",
+    ],
+);
+
+/// A wheel whose timers stay in their bucket shows no move.
+static NO_MOVES: Row = (
+    RunOptions {
+        scheme: Scheme::Hashed,
+        slots: 8,
+        ..USUAL
+    },
+    "start 0 1 17 0\ntick 17\n",
+    &[
+        "started 0 1 1 17",
+        "  now 0",
+        "  slot 1: 1:2",
+        "expired 17 0 1 0",
+        "  now 17",
+        "end 17 0",
+    ],
+);
+
+static NO_MOVES_OF_PLAIN: Row = (
+    RunOptions {
+        scheme: Scheme::Plain,
+        ..USUAL
+    },
+    "start 0 1 1 0\ntick 1\n",
+    &[
+        "started 0 1 1 1",
+        "  now 0",
+        "  pending: 1:1",
+        "expired 1 0 1 0",
+        "  now 1",
+        "end 1 0",
+    ],
+);
+
 /// Nothing came.
 static EMPTY: Row = (USUAL, "", &["end 0 0"]);
 
@@ -348,6 +458,24 @@ fn the_counts_are_shown_after_the_clock(rt: HostRuntime) {
             source,
             Sink::new(alloc),
         );
+        has_left(&rt, script, &ended, 0, &text, b"");
+    }
+}
+
+#[test]
+fn each_move_is_shown_at_its_tick(rt: HostRuntime) {
+    let alloc = rt.alloc();
+    for (options, script, lines) in [
+        MOVES,
+        MOVES_OF_CLOCK,
+        MOVES_TO_THE_END,
+        NO_MOVES,
+        NO_MOVES_OF_PLAIN,
+        EMPTY,
+    ] {
+        let text = text_of(alloc, lines);
+        let source = Source::of(script.as_bytes());
+        let ended = call(alloc, Reading::ShowMoves, options, source, Sink::new(alloc));
         has_left(&rt, script, &ended, 0, &text, b"");
     }
 }

@@ -1,8 +1,8 @@
 //! Readers and writers that pass bytes on in pieces of many sizes, and fail once: nothing is tried again, and
 //! what went out is the front of the text that the writer took.
 use crate::support::{
-    Fault, MIGRATION, MIGRATION_TEXT, Reading, SCHEMES, SIZES, Sink, Source, USUAL, call, has_left,
-    same, same_in,
+    Fault, MIGRATION, MIGRATION_TEXT, Reading, SCHEMES, SIZES, Sink, Source, USUAL, call, filled,
+    has_left, same, same_in,
 };
 use std::alloc::Global;
 use std::io::ErrorKind;
@@ -54,8 +54,8 @@ static ROWS: [Row; 12] = [
         "tick 0\nstart 0 1 5 0\nstart 0 01 5 0\ntick 5\ntick 5",
         1,
         "started 0 1 1 5\nexpired 5 0 1 0\nend 5 0\n",
-        "bad line 1, column 6: count: out of range 1 to 1000000\n\
-         bad line 3, column 10: number: leading zero\nbad line 5, column 7: no line end\n",
+        "bad line 1, column 6: count: {OutOfTicks}\n\
+         bad line 3, column 10: number: {LeadingZero}\nbad line 5, column 7: {NoLineEnd}\n",
     ),
     (
         Reading::ServeWakeups,
@@ -89,7 +89,7 @@ static ROWS: [Row; 12] = [
         Reading::Check,
         "tick 0\ntick 1\nclose",
         1,
-        "line 1, column 6: count: out of range 1 to 1000000\nline 3, column 6: no line end\n",
+        "line 1, column 6: count: {OutOfTicks}\nline 3, column 6: {NoLineEnd}\n",
         "",
     ),
 ];
@@ -97,6 +97,8 @@ static ROWS: [Row; 12] = [
 #[test]
 fn pieces_of_any_size_change_nothing(rt: HostRuntime) {
     for (subcommand, script, status, text, faults) in ROWS {
+        let faults = filled(&rt, rt.alloc(), faults);
+        let text = filled(&rt, rt.alloc(), text);
         for read in SIZES {
             for written in SIZES {
                 let source = Source::of(script.as_bytes()).in_pieces(read);
@@ -117,6 +119,7 @@ fn read_fails(
     options: RunOptions,
     room: usize,
 ) {
+    let faults = filled(rt, alloc, faults);
     for kind in KINDS {
         let source = Source::of(script.as_bytes())
             .in_pieces(5)
@@ -157,7 +160,7 @@ static FAILED_READS: [(usize, Row); 7] = [
             "tick 0\ntick 1\n",
             1,
             "",
-            "bad line 1, column 6: count: out of range 1 to 1000000\nread failed\n",
+            "bad line 1, column 6: count: {OutOfTicks}\nread failed\n",
         ),
     ),
     (
@@ -216,13 +219,13 @@ fn write_fails(
 fn a_writer_that_fails_once_at_any_byte_ends_the_call(rt: HostRuntime) {
     let shown =
         "started 0 1 1 5\n  now 0\n  wheel 0 slot 5: 1\nexpired 5 0 1 0\n  now 5\nend 5 0\n";
-    let checked = "line 1, column 6: count: out of range 1 to 1000000\n";
+    let checked = filled(&rt, rt.alloc(), "line 1, column 6: count: {OutOfTicks}\n");
     for (subcommand, script, size, text) in [
         (Reading::Play, MIGRATION, 1, MIGRATION_TEXT),
         (Reading::Play, MIGRATION, 13, MIGRATION_TEXT),
         (Reading::Serve, MIGRATION, 5, MIGRATION_TEXT),
         (Reading::Show, "start 0 1 5 0\ntick 5\n", 5, shown),
-        (Reading::Check, "tick 0\n", 5, checked),
+        (Reading::Check, "tick 0\n", 5, checked.as_str()),
     ] {
         let text = text.as_bytes();
         for room in 0..text.len() {

@@ -5,7 +5,7 @@ use std::io;
 use std::io::{ErrorKind, Read, Write};
 use std::process::Abort;
 use timer_commands::{RunOptions, Scheme, Verb, check_script, run_verb};
-use timer_script::{OnBadLine, Streams, Watched};
+use timer_script::{LineReason, OnBadLine, Streams, Watched};
 
 /// Compares in a function of its own, so that a test is a list of calls without branches.
 pub fn same<T: PartialEq + Debug + Drop>(rt: &impl Abort, found: T, expected: T) {
@@ -20,6 +20,20 @@ pub fn same_in<R: Debug + Drop, T: PartialEq + Debug + Drop>(
     expected: T,
 ) {
     assert_eq!(rt; found, expected, "{row:?}");
+}
+
+/// A text with the words of reasons in place of their names in braces.
+pub fn filled(rt: &impl Abort, alloc: Global, text: &str) -> String {
+    let Ok(text) = text.replace(alloc, "{OutOfTicks}", LineReason::OutOfTicks.words()) else {
+        panic!(rt; "out of memory");
+    };
+    let Ok(text) = text.replace(alloc, "{LeadingZero}", LineReason::LeadingZero.words()) else {
+        panic!(rt; "out of memory");
+    };
+    let Ok(text) = text.replace(alloc, "{NoLineEnd}", LineReason::NoLineEnd.words()) else {
+        panic!(rt; "out of memory");
+    };
+    text
 }
 
 /// Two timers of one deadline, started at different ticks: the script of the row `migration`.
@@ -189,6 +203,7 @@ pub enum Reading {
     ServeWakeups,
     Show,
     ShowCounts,
+    ShowMoves,
     Check,
 }
 
@@ -204,6 +219,11 @@ pub struct Ended {
     pub flushes: u64,
     pub reader_failed: bool,
     pub writer_failed: bool,
+}
+
+/// The verb of `show`, with these options.
+const fn show(counts: bool, moves: bool) -> Verb {
+    Verb::Show { counts, moves }
 }
 
 /// Runs a subcommand.
@@ -230,8 +250,9 @@ pub fn call(
             on_bad: OnBadLine::Stop,
             wakeups: true,
         }),
-        Reading::Show => Some(Verb::Show { counts: false }),
-        Reading::ShowCounts => Some(Verb::Show { counts: true }),
+        Reading::Show => Some(show(false, false)),
+        Reading::ShowCounts => Some(show(true, false)),
+        Reading::ShowMoves => Some(show(false, true)),
         Reading::Check => None,
     };
     let status = match verb {

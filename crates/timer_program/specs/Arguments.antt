@@ -11,7 +11,7 @@ use Rattle.timer_commands.specs.declared.verbs.Verb.TheVariants.{Play, Serve, Sh
 abbrev pub subcommand_name : Subcommand → List ℕ
 subcommand_name (Run Play options) = codes "play"
 subcommand_name (Run (Serve on_bad wakeups) options) = codes "serve"
-subcommand_name (Run (Show counts) options) = codes "show"
+subcommand_name (Run (Show counts moves) options) = codes "show"
 subcommand_name (Threads options) = codes "threads"
 subcommand_name Check = codes "check"
 

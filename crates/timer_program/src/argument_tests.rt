@@ -1,8 +1,8 @@
 //! Arguments: the subcommand that they are read as, and what is refused.
 use crate::arguments::{Subcommand, read_arguments};
 use crate::argv::{after_name, end_without_arguments};
-use crate::help::{CHECKS, PLACEMENTS, SCHEMES, SCRIPTS, STREAMS, THREADS};
-use crate::support::{call, has_left, same, same_in};
+use crate::help::{CHECKS, PLACEMENTS, SCHEMES, SCRIPTS, STREAMS, THREADS, VERSION};
+use crate::support::{call, filled, has_left, same, same_in};
 use std::alloc::Global;
 use std::io::ErrorKind;
 use std::process::Abort;
@@ -54,6 +54,11 @@ const fn of_scheme(scheme: Scheme) -> Subcommand {
 /// Options of threads.
 const fn threads(clients: u64, timers: u64) -> Subcommand {
     Subcommand::Threads(ThreadsOptions { clients, timers })
+}
+
+/// What is shown, with options.
+const fn show(counts: bool, moves: bool, options: RunOptions) -> Subcommand {
+    Subcommand::Run(Verb::Show { counts, moves }, options)
 }
 
 /// The other options, with their values in arguments of their own.
@@ -142,7 +147,7 @@ static MOST: [&str; 5] = [
     "--first-tick=1152921504606846975",
 ];
 
-fn rows() -> [Row; 20] {
+fn rows() -> [Row; 22] {
     [
         (NO_ARGUMENTS.as_slice(), Subcommand::Run(Verb::Play, USUAL)),
         (&["play"], Subcommand::Run(Verb::Play, USUAL)),
@@ -174,11 +179,10 @@ fn rows() -> [Row; 20] {
                 OTHER,
             ),
         ),
-        (&SHOW, Subcommand::Run(Verb::Show { counts: false }, OTHER)),
-        (
-            &SHOW_COUNTS,
-            Subcommand::Run(Verb::Show { counts: true }, OTHER),
-        ),
+        (&SHOW, show(false, false, OTHER)),
+        (&SHOW_COUNTS, show(true, false, OTHER)),
+        (&["show", "--moves"], show(false, true, USUAL)),
+        (&["show", "--counts", "--moves"], show(true, true, USUAL)),
         (&SERVE_WAKEUPS, serve_usual(OnBadLine::Stop)),
         (&SERVE_ALL, serve_usual(OnBadLine::Report)),
         (&["threads"], threads(4, 1000)),
@@ -201,7 +205,7 @@ fn arguments_are_read_as_a_subcommand_with_its_options(rt: HostRuntime) {
 
 #[test]
 fn refused_arguments_read_nothing_and_write_nothing(rt: HostRuntime) {
-    let lines: [&[&str]; 36] = [
+    let lines: [&[&str]; 38] = [
         &["play", "--slots", "0"],
         &["play", "--slots", "65537"],
         &["play", "--clients", "0"],
@@ -223,7 +227,9 @@ fn refused_arguments_read_nothing_and_write_nothing(rt: HostRuntime) {
         &["show", "--keep-going"],
         &["show", "--wakeups"],
         &["show", "--counts=1"],
+        &["show", "--moves=1"],
         &["serve", "--counts"],
+        &["serve", "--moves"],
         &["serve", "--wakeups=1"],
         &["play", "--wakeups"],
         &["show", "--slots", "0"],
@@ -257,7 +263,7 @@ type Use = (
 );
 
 /// Each option changes what the same input gives.
-static USES: [Use; 17] = [
+static USES: [Use; 18] = [
     (
         &["play"],
         "start 1 1 11 7\n",
@@ -344,6 +350,14 @@ static USES: [Use; 17] = [
         "",
     ),
     (
+        &["show", "--moves"],
+        "start 0 1 65 7\ntick 65\n",
+        0,
+        "started 0 1 1 65\n  now 0\n  wheel 1 slot 1: 1\n  moved at 64 from wheel 1 slot 1 to wheel 0 slot 1: 1\n\
+         expired 65 0 1 7\n  now 65\nend 65 0\n",
+        "",
+    ),
+    (
         &["serve"],
         "close\ntick 0\nclose\n",
         1,
@@ -355,7 +369,7 @@ static USES: [Use; 17] = [
         "close\ntick 0\nclose\n",
         1,
         "closed 0\nclose refused closed\nend 0 0\n",
-        "bad line 2, column 6: count: out of range 1 to 1000000\n",
+        "bad line 2, column 6: count: {OutOfTicks}\n",
     ),
     (
         &["serve", "--wakeups"],
@@ -368,7 +382,7 @@ static USES: [Use; 17] = [
         &["check"],
         "close\ntick 0\nclose\n",
         1,
-        "line 2, column 6: count: out of range 1 to 1000000\n",
+        "line 2, column 6: count: {OutOfTicks}\n",
         "",
     ),
 ];
@@ -382,8 +396,8 @@ fn each_option_that_is_read_is_used(rt: HostRuntime) {
             arguments,
             &ended,
             status,
-            output.as_bytes(),
-            faults.as_bytes(),
+            filled(&rt, rt.alloc(), output).as_bytes(),
+            filled(&rt, rt.alloc(), faults).as_bytes(),
         );
     }
 }
@@ -416,7 +430,7 @@ static SHORT: [Short; 6] = [
         ],
     ),
     (&["serve", "-h"], 13, &["--keep-going ", "--wakeups "]),
-    (&["show", "-h"], 12, &["--counts "]),
+    (&["show", "-h"], 13, &["--counts ", "--moves "]),
     (&["threads", "-h"], 8, &["--timers <TIMERS> "]),
     (&["check", "-h"], 6, &[]),
 ];
@@ -492,8 +506,8 @@ fn texts() -> [Text; 11] {
         (&["show", "--help"], "", PLACEMENTS),
         (&["threads", "--help"], "", THREADS),
         (&["check", "--help"], "", CHECKS),
-        (&["--version"], "timers 1.0.0", "timers 1.0.0"),
-        (&["-V"], "timers 1.0.0", "timers 1.0.0"),
+        (&["--version"], "timers ", VERSION),
+        (&["-V"], "timers ", VERSION),
     ]
 }
 

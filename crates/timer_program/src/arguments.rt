@@ -166,7 +166,13 @@ fn show_command<'a>(alloc: Global) -> Result<Command<'a>, AllocError> {
         .long("counts")
         .action(ArgAction::SetTrue)
         .help("Show the starts, moves and visits that `hier` and `clock` count");
-    playing_command(alloc, "show", SHOW_USAGE, SHOW_ABOUT, PLACEMENTS)?.arg(counts)
+    let moves = Arg::new(alloc, "moves")
+        .long("moves")
+        .action(ArgAction::SetTrue)
+        .help("Show each move of a timer to a lower wheel while ticks pass");
+    playing_command(alloc, "show", SHOW_USAGE, SHOW_ABOUT, PLACEMENTS)?
+        .arg(counts)?
+        .arg(moves)
 }
 
 /// The subcommand `threads` with its options.
@@ -268,7 +274,8 @@ fn subcommand_of(name: &str, options: &ArgMatches) -> Option<Subcommand>
         }
         "show" => {
             let counts = options.get_flag("counts");
-            Some(Subcommand::Run(Verb::Show { counts }, run_options(options)?))
+            let moves = options.get_flag("moves");
+            Some(Subcommand::Run(Verb::Show { counts, moves }, run_options(options)?))
         }
         "threads" => Some(Subcommand::Threads(threads_options(options)?)),
         "check" => Some(Subcommand::Check),

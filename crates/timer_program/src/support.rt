@@ -6,7 +6,7 @@ use std::io;
 use std::io::{ErrorKind, Write};
 use std::process::Abort;
 use std::thread::Threads;
-use timer_script::{Streams, Watched};
+use timer_script::{LineReason, Streams, Watched};
 
 /// Compares in a function of its own, so that a test is a list of calls without branches.
 pub fn same<T: PartialEq + Debug + Drop>(rt: &impl Abort, found: T, expected: T) {
@@ -21,6 +21,14 @@ pub fn same_in<R: Debug + Drop, T: PartialEq + Debug + Drop>(
     expected: T,
 ) {
     assert_eq!(rt; found, expected, "{row:?}");
+}
+
+/// A text with the words of reasons in place of their names in braces.
+pub fn filled(rt: &impl Abort, alloc: Global, text: &str) -> String {
+    let Ok(text) = text.replace(alloc, "{OutOfTicks}", LineReason::OutOfTicks.words()) else {
+        panic!(rt; "out of memory");
+    };
+    text
 }
 
 /// Takes bytes until it is full, and then fails.

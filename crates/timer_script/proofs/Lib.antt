@@ -13,4 +13,5 @@ pub mod CutterLines
 pub mod PeerLemmas
 pub mod CutterLemmas
 pub mod ServicePieces
+pub mod StepLemmas
 pub mod ServiceLemmas

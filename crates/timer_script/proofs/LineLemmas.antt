@@ -14,7 +14,7 @@ use Rattle.timer_script.specs.declared.lines.TheConstants.{MAX_TICKS}
 use Rattle.timer_facility.specs.declared.event.Event.{Event}
 use Rattle.timer_facility.specs.declared.event.Event.TheVariants.{Start, Stop, Restart, Ticks, Close}
 use Rattle.timer_script.specs.Script.{IsInRange, line}
-use Rattle.timer_script.specs.Lines.{or_try, strip, digits_at, number_at, start_at, stop_at, restart_at, tick_at, line_at}
+use Rattle.timer_script.specs.Lines.{or_try, strip, digits_at, number_at, field_at, start_at, stop_at, restart_at, tick_at, line_at}
 use Rattle.timer_script.proofs.Digits.{digits_some, digits_sound}
 
 -- ---- a word
@@ -86,59 +86,47 @@ number_sound bytes rest n e =
     let spelled = decimal-digits_value (numerals_by_value _ tells_digits) ds number.0.1 number.0.0 alone small in
     (omega arith, rw (← value_is, ← number.1, spelled, ← rest_is) (sym (take-append-drop m.1 bytes)))
 
+-- ---- a field
+
+spaced : (n : ℕ) (rest : List ℕ) → n ≤ LAST → field_at (codes " ") (decimal n ++ (32 ∷ rest)) ≡ Some (n, rest)
+unfolding field_at
+spaced n rest fits = rw (number_again n (32 ∷ rest) fits (lit≤ tt), strip_again (codes " ") rest) refl
+
+ended : (n : ℕ) (rest : List ℕ) → n ≤ LAST → field_at (codes "\n") (decimal n ++ (10 ∷ rest)) ≡ Some (n, rest)
+unfolding field_at
+ended n rest fits = rw (number_again n (10 ∷ rest) fits (lit≤ tt), strip_again (codes "\n") rest) refl
+
+field_sound : (end bytes rest : List ℕ) (n : ℕ) → field_at end bytes ≡ Some (n, rest) → (n ≤ LAST) × (bytes ≡ decimal n ++ (end ++ rest))
+unfolding field_at
+field_sound end bytes rest n e =
+    and_then_some _ (number_at bytes) _ e λ m read e₁.
+    and_then_some _ (strip end m.1) _ e₁ λ after found e₂.
+    let (value_is, rest_is) = same_parts m.0 n after rest e₂ in
+    let is = number_sound bytes m.1 m.0 read in
+    (rw (← value_is) is.0, rw (← value_is, ← rest_is) (is.1 ∙ ap (λ t. decimal m.0 ++ t) (strip_sound end m.1 after found)))
+
 -- ---- a line
-
-spaced : (n : ℕ) (rest : List ℕ) → n ≤ LAST → number_at (decimal n ++ (32 ∷ rest)) ≡ Some (n, 32 ∷ rest)
-spaced n rest fits = number_again n (32 ∷ rest) fits (lit≤ tt)
-
-ended : (n : ℕ) (rest : List ℕ) → n ≤ LAST → number_at (decimal n ++ (10 ∷ rest)) ≡ Some (n, 10 ∷ rest)
-ended n rest fits = number_again n (10 ∷ rest) fits (lit≤ tt)
-
-space : (rest : List ℕ) → strip (codes " ") (32 ∷ rest) ≡ Some rest
-space rest = strip_again (codes " ") rest
-
-feed : (rest : List ℕ) → strip (codes "\n") (10 ∷ rest) ≡ Some rest
-feed rest = strip_again (codes "\n") rest
 
 start_again : (c n i a : ℕ) (rest : List ℕ) → IsInRange (Start c n i a)
     → start_at (decimal c ++ (32 ∷ (decimal n ++ (32 ∷ (decimal i ++ (32 ∷ (decimal a ++ (10 ∷ rest)))))))) ≡ Some (Start c n i a, rest)
 unfolding start_at
-start_again c n i a rest fits = rw (
-  spaced c _ fits.0,
-  space _,
-  spaced n _ fits.1,
-  space _,
-  spaced i _ fits.2,
-  space _,
-  ended a _ fits.3,
-  feed rest,
-) refl
+start_again c n i a rest fits = rw (spaced c _ fits.0, spaced n _ fits.1, spaced i _ fits.2, ended a _ fits.3) refl
 
 stop_again : (c n s : ℕ) (rest : List ℕ) → IsInRange (Stop c n s)
     → stop_at (decimal c ++ (32 ∷ (decimal n ++ (32 ∷ (decimal s ++ (10 ∷ rest)))))) ≡ Some (Stop c n s, rest)
 unfolding stop_at
-stop_again c n s rest fits = rw (spaced c _ fits.0, space _, spaced n _ fits.1, space _, ended s _ fits.2, feed rest) refl
+stop_again c n s rest fits = rw (spaced c _ fits.0, spaced n _ fits.1, ended s _ fits.2) refl
 
 restart_again : (c n s i a : ℕ) (rest : List ℕ) → IsInRange (Restart c n s i a)
     → restart_at (decimal c ++ (32 ∷ (decimal n ++ (32 ∷ (decimal s ++ (32 ∷ (decimal i ++ (32 ∷ (decimal a ++ (10 ∷ rest))))))))))
     ≡ Some (Restart c n s i a, rest)
 unfolding restart_at
-restart_again c n s i a rest fits = rw (
-  spaced c _ fits.0,
-  space _,
-  spaced n _ fits.1,
-  space _,
-  spaced s _ fits.2,
-  space _,
-  spaced i _ fits.3,
-  space _,
-  ended a _ fits.4,
-  feed rest,
-) refl
+restart_again c n s i a rest fits =
+    rw (spaced c _ fits.0, spaced n _ fits.1, spaced s _ fits.2, spaced i _ fits.3, ended a _ fits.4) refl
 
 tick_again : (k : ℕ) (rest : List ℕ) → IsInRange (Ticks k) → tick_at (decimal k ++ (10 ∷ rest)) ≡ Some (Ticks k, rest)
 unfolding tick_at
-tick_again k rest fits = rw (ended k _ (omega arith), and_from _ _ (le-leb 1 k fits.0) (le-leb k MAX_TICKS fits.1), feed rest) refl
+tick_again k rest fits = rw (ended k _ (omega arith), and_from _ _ (le-leb 1 k fits.0) (le-leb k MAX_TICKS fits.1)) refl
 
 pub line_again : (event : Event) (rest : List ℕ) → IsInRange event → line_at (line event ++ rest) ≡ Some (event, rest)
 unfolding line_at line strip
@@ -148,95 +136,59 @@ line_again (Restart c n s i a) rest fits = simp append_assoc (restart_again c n 
 line_again (Ticks k) rest fits = simp append_assoc (tick_again k rest fits)
 line_again Close rest fits = refl
 
+-- what was read of a line is the event and the rest that were wanted
+same_line : (word bytes rest after : List ℕ) (event read : Event)
+    → ◌≡◌ {A = Option (Event × List ℕ)} (Some (read, after)) (Some (event, rest)) → IsInRange read
+    → word ++ bytes ≡ line read ++ after → IsInRange event × (word ++ bytes ≡ line event ++ rest)
+same_line word bytes rest after event read e fits is =
+    let (event_is, rest_is) = same_parts read event after rest e in
+    subst (λ (x : Event). IsInRange x × (word ++ bytes ≡ line x ++ rest)) event_is
+    (subst (λ (r : List ℕ). IsInRange read × (word ++ bytes ≡ line read ++ r)) rest_is (fits, is))
+
 start_sound : (bytes rest : List ℕ) (event : Event) → start_at bytes ≡ Some (event, rest)
     → IsInRange event × (codes "start " ++ bytes ≡ line event ++ rest)
 unfolding start_at line
 start_sound bytes rest event e =
-    and_then_some _ (number_at bytes) _ e λ c read_c e₁.
-    and_then_some _ (strip (codes " ") c.1) _ e₁ λ c' space_c e₂.
-    and_then_some _ (number_at c') _ e₂ λ n read_n e₃.
-    and_then_some _ (strip (codes " ") n.1) _ e₃ λ n' space_n e₄.
-    and_then_some _ (number_at n') _ e₄ λ i read_i e₅.
-    and_then_some _ (strip (codes " ") i.1) _ e₅ λ i' space_i e₆.
-    and_then_some _ (number_at i') _ e₆ λ a read_a e₇.
-    and_then_some _ (strip (codes "\n") a.1) _ e₇ λ a' feed_a e₈.
-    let (event_is, rest_is) = same_parts (Start c.0 n.0 i.0 a.0) event a' rest e₈ in
-    let is_c = number_sound bytes c.1 c.0 read_c in
-    let is_n = number_sound c' n.1 n.0 read_n in
-    let is_i = number_sound n' i.1 i.0 read_i in
-    let is_a = number_sound i' a.1 a.0 read_a in
-    let split : codes "start " ++ bytes ≡ line (Start c.0 n.0 i.0 a.0) ++ a' =
-    rw (
-      is_c.1,
-      strip_sound _ c.1 c' space_c,
-      is_n.1,
-      strip_sound _ n.1 n' space_n,
-      is_i.1,
-      strip_sound _ i.1 i' space_i,
-      is_a.1,
-      strip_sound _ a.1 a' feed_a,
-    ) (simp append_assoc) in
-    subst (λ (x : Event). IsInRange x × (codes "start " ++ bytes ≡ line x ++ rest)) event_is
-    (subst (λ (r : List ℕ). IsInRange (Start c.0 n.0 i.0 a.0) × (codes "start " ++ bytes ≡ line (Start c.0 n.0 i.0 a.0) ++ r)) rest_is
-    ((is_c.0, is_n.0, is_i.0, is_a.0), split))
+    and_then_some _ (field_at (codes " ") bytes) _ e λ c read_c e₁.
+    and_then_some _ (field_at (codes " ") c.1) _ e₁ λ n read_n e₂.
+    and_then_some _ (field_at (codes " ") n.1) _ e₂ λ i read_i e₃.
+    and_then_some _ (field_at (codes "\n") i.1) _ e₃ λ a read_a e₄.
+    let is_c = field_sound _ bytes c.1 c.0 read_c in
+    let is_n = field_sound _ c.1 n.1 n.0 read_n in
+    let is_i = field_sound _ n.1 i.1 i.0 read_i in
+    let is_a = field_sound _ i.1 a.1 a.0 read_a in
+    same_line (codes "start ") bytes rest a.1 event (Start c.0 n.0 i.0 a.0) e₄ (is_c.0, is_n.0, is_i.0, is_a.0)
+    (rw (is_c.1, is_n.1, is_i.1, is_a.1) (simp append_assoc))
 
 stop_sound : (bytes rest : List ℕ) (event : Event) → stop_at bytes ≡ Some (event, rest)
     → IsInRange event × (codes "stop " ++ bytes ≡ line event ++ rest)
 unfolding stop_at line
 stop_sound bytes rest event e =
-    and_then_some _ (number_at bytes) _ e λ c read_c e₁.
-    and_then_some _ (strip (codes " ") c.1) _ e₁ λ c' space_c e₂.
-    and_then_some _ (number_at c') _ e₂ λ n read_n e₃.
-    and_then_some _ (strip (codes " ") n.1) _ e₃ λ n' space_n e₄.
-    and_then_some _ (number_at n') _ e₄ λ i read_i e₅.
-    and_then_some _ (strip (codes "\n") i.1) _ e₅ λ i' feed_i e₆.
-    let (event_is, rest_is) = same_parts (Stop c.0 n.0 i.0) event i' rest e₆ in
-    let is_c = number_sound bytes c.1 c.0 read_c in
-    let is_n = number_sound c' n.1 n.0 read_n in
-    let is_i = number_sound n' i.1 i.0 read_i in
-    let split : codes "stop " ++ bytes ≡ line (Stop c.0 n.0 i.0) ++ i' =
-    rw (is_c.1, strip_sound _ c.1 c' space_c, is_n.1, strip_sound _ n.1 n' space_n, is_i.1, strip_sound _ i.1 i' feed_i) (simp append_assoc)
-    in
-    subst (λ (x : Event). IsInRange x × (codes "stop " ++ bytes ≡ line x ++ rest)) event_is
-    (subst (λ (r : List ℕ). IsInRange (Stop c.0 n.0 i.0) × (codes "stop " ++ bytes ≡ line (Stop c.0 n.0 i.0) ++ r)) rest_is
-    ((is_c.0, is_n.0, is_i.0), split))
+    and_then_some _ (field_at (codes " ") bytes) _ e λ c read_c e₁.
+    and_then_some _ (field_at (codes " ") c.1) _ e₁ λ n read_n e₂.
+    and_then_some _ (field_at (codes "\n") n.1) _ e₂ λ s read_s e₃.
+    let is_c = field_sound _ bytes c.1 c.0 read_c in
+    let is_n = field_sound _ c.1 n.1 n.0 read_n in
+    let is_s = field_sound _ n.1 s.1 s.0 read_s in
+    same_line (codes "stop ") bytes rest s.1 event (Stop c.0 n.0 s.0) e₃ (is_c.0, is_n.0, is_s.0)
+    (rw (is_c.1, is_n.1, is_s.1) (simp append_assoc))
 
 restart_sound : (bytes rest : List ℕ) (event : Event) → restart_at bytes ≡ Some (event, rest)
     → IsInRange event × (codes "restart " ++ bytes ≡ line event ++ rest)
 unfolding restart_at line
 restart_sound bytes rest event e =
-    and_then_some _ (number_at bytes) _ e λ c read_c e₁.
-    and_then_some _ (strip (codes " ") c.1) _ e₁ λ c' space_c e₂.
-    and_then_some _ (number_at c') _ e₂ λ n read_n e₃.
-    and_then_some _ (strip (codes " ") n.1) _ e₃ λ n' space_n e₄.
-    and_then_some _ (number_at n') _ e₄ λ s read_s e₅.
-    and_then_some _ (strip (codes " ") s.1) _ e₅ λ s' space_s e₆.
-    and_then_some _ (number_at s') _ e₆ λ i read_i e₇.
-    and_then_some _ (strip (codes " ") i.1) _ e₇ λ i' space_i e₈.
-    and_then_some _ (number_at i') _ e₈ λ a read_a e₉.
-    and_then_some _ (strip (codes "\n") a.1) _ e₉ λ a' feed_a e₁₀.
-    let (event_is, rest_is) = same_parts (Restart c.0 n.0 s.0 i.0 a.0) event a' rest e₁₀ in
-    let is_c = number_sound bytes c.1 c.0 read_c in
-    let is_n = number_sound c' n.1 n.0 read_n in
-    let is_s = number_sound n' s.1 s.0 read_s in
-    let is_i = number_sound s' i.1 i.0 read_i in
-    let is_a = number_sound i' a.1 a.0 read_a in
-    let split : codes "restart " ++ bytes ≡ line (Restart c.0 n.0 s.0 i.0 a.0) ++ a' =
-    rw (
-      is_c.1,
-      strip_sound _ c.1 c' space_c,
-      is_n.1,
-      strip_sound _ n.1 n' space_n,
-      is_s.1,
-      strip_sound _ s.1 s' space_s,
-      is_i.1,
-      strip_sound _ i.1 i' space_i,
-      is_a.1,
-      strip_sound _ a.1 a' feed_a,
-    ) (simp append_assoc) in
-    subst (λ (x : Event). IsInRange x × (codes "restart " ++ bytes ≡ line x ++ rest)) event_is
-    (subst (λ (r : List ℕ). IsInRange (Restart c.0 n.0 s.0 i.0 a.0)
-    × (codes "restart " ++ bytes ≡ line (Restart c.0 n.0 s.0 i.0 a.0) ++ r)) rest_is ((is_c.0, is_n.0, is_s.0, is_i.0, is_a.0), split))
+    and_then_some _ (field_at (codes " ") bytes) _ e λ c read_c e₁.
+    and_then_some _ (field_at (codes " ") c.1) _ e₁ λ n read_n e₂.
+    and_then_some _ (field_at (codes " ") n.1) _ e₂ λ s read_s e₃.
+    and_then_some _ (field_at (codes " ") s.1) _ e₃ λ i read_i e₄.
+    and_then_some _ (field_at (codes "\n") i.1) _ e₄ λ a read_a e₅.
+    let is_c = field_sound _ bytes c.1 c.0 read_c in
+    let is_n = field_sound _ c.1 n.1 n.0 read_n in
+    let is_s = field_sound _ n.1 s.1 s.0 read_s in
+    let is_i = field_sound _ s.1 i.1 i.0 read_i in
+    let is_a = field_sound _ i.1 a.1 a.0 read_a in
+    same_line (codes "restart ") bytes rest a.1 event (Restart c.0 n.0 s.0 i.0 a.0) e₅
+    (is_c.0, is_n.0, is_s.0, is_i.0, is_a.0) (rw (is_c.1, is_n.1, is_s.1, is_i.1, is_a.1) (simp append_assoc))
 
 cond_both : {A : Type 0} (b : Bool) (o : Option A) (y : A) → cond b o None ≡ Some y → (b ≡ true) × (o ≡ Some y)
 cond_both true o y e = (refl, e)
@@ -246,16 +198,12 @@ tick_sound : (bytes rest : List ℕ) (event : Event) → tick_at bytes ≡ Some 
     → IsInRange event × (codes "tick " ++ bytes ≡ line event ++ rest)
 unfolding tick_at line
 tick_sound bytes rest event e =
-    and_then_some _ (number_at bytes) _ e λ k read_k e₁.
+    and_then_some _ (field_at (codes "\n") bytes) _ e λ k read_k e₁.
     let (test, e₂) = cond_both _ _ _ e₁ in
-    and_then_some _ (strip (codes "\n") k.1) _ e₂ λ k' feed_k e₃.
     let (low, high) = and_parts _ _ test in
-    let (event_is, rest_is) = same_parts (Ticks k.0) event k' rest e₃ in
-    let is_k = number_sound bytes k.1 k.0 read_k in
-    let split : codes "tick " ++ bytes ≡ line (Ticks k.0) ++ k' = rw (is_k.1, strip_sound _ k.1 k' feed_k) (simp append_assoc) in
-    subst (λ (x : Event). IsInRange x × (codes "tick " ++ bytes ≡ line x ++ rest)) event_is
-    (subst (λ (r : List ℕ). IsInRange (Ticks k.0) × (codes "tick " ++ bytes ≡ line (Ticks k.0) ++ r)) rest_is
-    ((leb-true 1 k.0 low, leb-true k.0 MAX_TICKS high), split))
+    let is_k = field_sound _ bytes k.1 k.0 read_k in
+    same_line (codes "tick ") bytes rest k.1 event (Ticks k.0) e₂ (leb-true 1 k.0 low, leb-true k.0 MAX_TICKS high)
+    (rw (is_k.1) (simp append_assoc))
 
 -- a word is at the front, or not
 by_word : {A P : Type 0} (o : Option (List ℕ)) (f : List ℕ → Option A) (other : Option A) (y : A) → or_try o f other ≡ Some y

@@ -1,7 +1,8 @@
 -- The text that is written for an answer: the answer, and what a decorator adds after its lines.
-use Rattle.std.specs.Prelude.{◌≡◌, ℕ, List, [], ◌++◌, length, refl}
+use Rattle.std.specs.Prelude.{◌≡◌, ℕ, ◌+◌, List, [], ◌∷◌, ◌++◌, length, refl}
 use Rattle.std.proofs.Common.{ap, ◌∙◌}
 use Rattle.timer_facility.specs.declared.event.Event.{Event}
+use Rattle.timer_facility.specs.declared.event.Event.TheVariants as events
 use Rattle.timer_facility.specs.declared.event.Out.{Out}
 use Rattle.timer_facility.specs.State.{FacilityState}
 use Rattle.timer_facility.specs.Played.{IsRun}
@@ -19,6 +20,12 @@ pub record IsLawful (Adds : Decoration) : Type 0 where
   pub lines : (s t : FacilityState) (events : List Event) (outs : List Out) → IsRun s events outs t
       → Adds s events t (lines_of outs) (lines_of outs)
   pub end : (s : FacilityState) → Adds s [] s (end_line s.now (length s.pending)) (end_line s.now (length s.pending))
+
+-- what may be added to ticks in two parts may be added to all of them
+abbrev pub JoinsTicks : Decoration → Type 0
+JoinsTicks Adds = (s t : FacilityState) (first rest : ℕ) (answer text : List ℕ)
+    → Adds s (events.Ticks first ∷ events.Ticks rest ∷ []) t answer text
+    → Adds s (events.Ticks (first + rest) ∷ []) t answer text
 
 -- the text grew
 abbrev pub HasGrown : List ℕ → List ℕ → Type 0

@@ -14,3 +14,4 @@ pub mod Streams
 pub mod Decorator
 pub mod Cutter
 pub mod Service
+pub mod Steps

@@ -41,51 +41,42 @@ unfoldable pub number_at : List ℕ → Read ℕ
 number_at bytes = digits_at bytes >>= λ n. if nat_lt 1 n.1 && (slice_index bytes 0 == 48) then None else Some
     (n.0, drop n.1 bytes)
 
+-- a number, and what follows the word that ends its field
+unfoldable pub field_at : List ℕ → List ℕ → Read ℕ
+field_at end bytes = number_at bytes >>= λ n. strip end n.1 >>= λ rest. Some (n.0, rest)
+
 -- the fields after the word `start`
 unfoldable pub start_at : List ℕ → Read Event
 start_at bytes =
-    number_at bytes >>= λ client.
-    strip (codes " ") client.1 >>= λ a.
-    number_at a >>= λ number.
-    strip (codes " ") number.1 >>= λ b.
-    number_at b >>= λ interval.
-    strip (codes " ") interval.1 >>= λ c.
-    number_at c >>= λ action.
-    strip (codes "\n") action.1 >>= λ rest.
-    Some (Start client.0 number.0 interval.0 action.0, rest)
+    field_at (codes " ") bytes >>= λ client.
+    field_at (codes " ") client.1 >>= λ number.
+    field_at (codes " ") number.1 >>= λ interval.
+    field_at (codes "\n") interval.1 >>= λ action.
+    Some (Start client.0 number.0 interval.0 action.0, action.1)
 
 -- the fields after the word `stop`
 unfoldable pub stop_at : List ℕ → Read Event
 stop_at bytes =
-    number_at bytes >>= λ client.
-    strip (codes " ") client.1 >>= λ a.
-    number_at a >>= λ number.
-    strip (codes " ") number.1 >>= λ b.
-    number_at b >>= λ serial.
-    strip (codes "\n") serial.1 >>= λ rest.
-    Some (Stop client.0 number.0 serial.0, rest)
+    field_at (codes " ") bytes >>= λ client.
+    field_at (codes " ") client.1 >>= λ number.
+    field_at (codes "\n") number.1 >>= λ serial.
+    Some (Stop client.0 number.0 serial.0, serial.1)
 
 -- the fields after the word `restart`
 unfoldable pub restart_at : List ℕ → Read Event
 restart_at bytes =
-    number_at bytes >>= λ client.
-    strip (codes " ") client.1 >>= λ a.
-    number_at a >>= λ number.
-    strip (codes " ") number.1 >>= λ b.
-    number_at b >>= λ serial.
-    strip (codes " ") serial.1 >>= λ c.
-    number_at c >>= λ interval.
-    strip (codes " ") interval.1 >>= λ d.
-    number_at d >>= λ action.
-    strip (codes "\n") action.1 >>= λ rest.
-    Some (Restart client.0 number.0 serial.0 interval.0 action.0, rest)
+    field_at (codes " ") bytes >>= λ client.
+    field_at (codes " ") client.1 >>= λ number.
+    field_at (codes " ") number.1 >>= λ serial.
+    field_at (codes " ") serial.1 >>= λ interval.
+    field_at (codes "\n") interval.1 >>= λ action.
+    Some (Restart client.0 number.0 serial.0 interval.0 action.0, action.1)
 
 -- the field after the word `tick`
 unfoldable pub tick_at : List ℕ → Read Event
 tick_at bytes =
-    number_at bytes >>= λ count.
-    if (nat_le 1 count.0 && nat_le count.0 MAX_TICKS) then
-    (strip (codes "\n") count.1 >>= λ rest. Some (Ticks count.0, rest)) else None
+    field_at (codes "\n") bytes >>= λ count.
+    if (nat_le 1 count.0 && nat_le count.0 MAX_TICKS) then Some (Ticks count.0, count.1) else None
 
 -- the event whose line is at the front
 unfoldable pub line_at : List ℕ → Read Event

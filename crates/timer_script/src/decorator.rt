@@ -3,10 +3,9 @@
 //!     Undecorated    started 0 1 1 4
 //!
 //!     one that       started 0 1 1 4
-//!     shows the        now 0
-//!     timers           pending: 1:4
-ghost use Rattle.std.specs.Prelude.{OnOk};
-ghost use Rattle.timer_script.specs.Decorator.{Decoration, IsLawful, HasGrown, HasGrownBy};
+//!     shows ticks      now 0
+ghost use Rattle.std.specs.Prelude.{◌≡◌, true, OnOk};
+ghost use Rattle.timer_script.specs.Decorator.{Decoration, IsLawful, JoinsTicks, HasGrown, HasGrownBy};
 
 use timer_base::{OutOfMemory, Wheel};
 use timer_facility::Facility;
@@ -25,6 +24,31 @@ pub trait Decorator<W: Wheel + Drop> {
     fn decorate(&self, text: &mut Vec<u8>, facility: &Facility<W>) -> Result<(), OutOfMemory>
         ensures added { OnOk result (HasGrownBy adds facility.now.state text.old.items text.new.items) }
         ensures kept { HasGrown text.old.items text.new.items };
+
+    /// Whether the ticks of a line are played in steps, and what comes after each of them is added. A step ends at
+    /// the latest at the tick until which the facility is quiet. It has an effect only beside `sends_each_line`.
+    fn shows_steps(&self) -> bool
+        ensures { result ≡ true → JoinsTicks adds }
+    {
+        false
+    }
+
+    /// What `decorate_step` has to know of the facility before a step.
+    fn before_step(&self, _facility: &Facility<W>) -> usize {
+        0
+    }
+
+    /// Appends what comes after a step. The only error is out of memory.
+    fn decorate_step(
+        &self,
+        _before: usize,
+        text: &mut Vec<u8>,
+        facility: &Facility<W>,
+    ) -> Result<(), OutOfMemory>
+        ensures { OnOk result (HasGrownBy adds facility.now.state text.old.items text.new.items) }
+    {
+        self.decorate(text, facility)
+    }
 
     /// Texts may be joined, and an answer may be left as it is.
     ghost is_lawful: { IsLawful adds };

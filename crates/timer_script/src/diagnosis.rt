@@ -3,7 +3,7 @@
 //! A line is read from its front as long as the bytes can still become the line of an event:
 //!
 //!     start 0 1 05 7
-//!                ^ column 12, interval: leading zero
+//!                ^ column 12, in the interval
 //!
 //! A number goes wrong at the digit with which it leaves its range: `tick 1000001` at its last one.
 //!

@@ -10,7 +10,7 @@
 //!
 //!     bytes       digits and lines (`lines`, `splitter`), scripts (`script`)
 //!     runs        `input`, `output`, `script_run`, `answer` (the same in memory), `text`
-//!     streams     a stream cut into lines (`cutter`), `session`, `peer`, `streams`,
+//!     streams     a stream cut into lines (`cutter`), `session`, `steps`, `peer`, `streams`,
 //!                 `service`, `decorator`
 //!     bad lines   `line_fault` and `diagnosis` (one line), `script_report` (those of a script)
 #![tactic(auto)]
@@ -32,6 +32,7 @@ mod script_run;
 mod service;
 mod session;
 mod splitter;
+mod steps;
 mod streams;
 mod text;
 mod watched;

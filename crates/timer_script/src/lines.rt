@@ -12,7 +12,7 @@
 //! bytes are read once and no line is copied.
 ghost use Rattle.std.specs.Prelude.{◌≡◌, ◌<◌, ◌≤◌, length, IfSome, option_copied};
 ghost use Rattle.timer_base.specs.declared.limits.TheConstants.{LAST};
-ghost use Rattle.timer_script.specs.Lines.{read_view, strip, digits_at, number_at, start_at, stop_at, restart_at, tick_at, line_at};
+ghost use Rattle.timer_script.specs.Lines.{read_view, strip, digits_at, number_at, field_at, start_at, stop_at, restart_at, tick_at, line_at};
 
 use timer_base::LAST;
 use timer_facility::Event;
@@ -70,16 +70,27 @@ fn after_word<'a>(bytes: &'a [u8], word: &[u8]) -> Option<&'a [u8]>
     bytes.strip_prefix(word)
 }
 
+/// A number, and what follows the word that ends its field.
+#[inline(always)]
+#[tactic(auto, unfolding(crate::specs::Lines::field_at))]
+fn read_field<'a>(bytes: &'a [u8], end: &[u8]) -> Option<(u64, &'a [u8])>
+    requires { 0 < length end.now }
+    ensures { read_view (λ n. n) result ≡ field_at end.now bytes.now }
+{
+    let (value, rest) = read_number(bytes)?;
+    let rest = after_word(rest, end)?;
+    Some((value, rest))
+}
+
 /// What follows `start `.
 #[tactic(auto, unfolding(crate::specs::Lines::start_at))]
 fn read_start(bytes: &[u8]) -> Option<(Event, &[u8])>
     ensures { read_view (λ e. e) result ≡ start_at bytes.now }
 {
-    let (client, rest) = read_number(bytes)?;
-    let (number, rest) = read_number(after_word(rest, b" ")?)?;
-    let (interval, rest) = read_number(after_word(rest, b" ")?)?;
-    let (action, rest) = read_number(after_word(rest, b" ")?)?;
-    let rest = after_word(rest, b"\n")?;
+    let (client, rest) = read_field(bytes, b" ")?;
+    let (number, rest) = read_field(rest, b" ")?;
+    let (interval, rest) = read_field(rest, b" ")?;
+    let (action, rest) = read_field(rest, b"\n")?;
     let event = Event::Start {
         client,
         number,
@@ -94,10 +105,9 @@ fn read_start(bytes: &[u8]) -> Option<(Event, &[u8])>
 fn read_stop(bytes: &[u8]) -> Option<(Event, &[u8])>
     ensures { read_view (λ e. e) result ≡ stop_at bytes.now }
 {
-    let (client, rest) = read_number(bytes)?;
-    let (number, rest) = read_number(after_word(rest, b" ")?)?;
-    let (serial, rest) = read_number(after_word(rest, b" ")?)?;
-    let rest = after_word(rest, b"\n")?;
+    let (client, rest) = read_field(bytes, b" ")?;
+    let (number, rest) = read_field(rest, b" ")?;
+    let (serial, rest) = read_field(rest, b"\n")?;
     let event = Event::Stop {
         client,
         number,
@@ -111,12 +121,11 @@ fn read_stop(bytes: &[u8]) -> Option<(Event, &[u8])>
 fn read_restart(bytes: &[u8]) -> Option<(Event, &[u8])>
     ensures { read_view (λ e. e) result ≡ restart_at bytes.now }
 {
-    let (client, rest) = read_number(bytes)?;
-    let (number, rest) = read_number(after_word(rest, b" ")?)?;
-    let (serial, rest) = read_number(after_word(rest, b" ")?)?;
-    let (interval, rest) = read_number(after_word(rest, b" ")?)?;
-    let (action, rest) = read_number(after_word(rest, b" ")?)?;
-    let rest = after_word(rest, b"\n")?;
+    let (client, rest) = read_field(bytes, b" ")?;
+    let (number, rest) = read_field(rest, b" ")?;
+    let (serial, rest) = read_field(rest, b" ")?;
+    let (interval, rest) = read_field(rest, b" ")?;
+    let (action, rest) = read_field(rest, b"\n")?;
     let event = Event::Restart {
         client,
         number,
@@ -132,11 +141,10 @@ fn read_restart(bytes: &[u8]) -> Option<(Event, &[u8])>
 fn read_tick(bytes: &[u8]) -> Option<(Event, &[u8])>
     ensures { read_view (λ e. e) result ≡ tick_at bytes.now }
 {
-    let (count, rest) = read_number(bytes)?;
+    let (count, rest) = read_field(bytes, b"\n")?;
     if count == 0 || count > MAX_TICKS {
         return None;
     }
-    let rest = after_word(rest, b"\n")?;
     Some((Event::Ticks { count }, rest))
 }
 

@@ -1,7 +1,4 @@
-//! Reports every bad line of a script, and plays nothing.
-//!
-//!     line 2, column 12: interval: leading zero
-//!     line 5, column 1: unknown word
+//! Reports every bad line of a script, and plays nothing: `line L, column C: FIELD: REASON`.
 ghost use Rattle.std.specs.Prelude.{◌≡◌, ◌↔◌, ◌++◌, ℕ, List, [], false, IsTrue, IfOk, OnOk, IsErrOf, decimal};
 ghost use Rattle.timer_facility.specs.declared.event.Event.{Event};
 ghost use Rattle.timer_script.specs.Script.{IsScript};

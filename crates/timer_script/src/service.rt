@@ -17,6 +17,7 @@ use crate::fault::{ServeFault, TurnFault};
 use crate::input::zeroed_buffer;
 use crate::peer::Peer;
 use crate::session::Session;
+use crate::steps::{only_ticks, play_steps};
 use crate::watched::Watched;
 use std::alloc::Global;
 use std::io::Write;
@@ -50,6 +51,27 @@ fn send<P: Peer>(peer: &mut P, text: &[u8]) -> Result<(), TurnFault>
     }
 }
 
+/// Plays these events, and appends the answers. A line of ticks is played in steps if the decorator shows these.
+/// If memory runs out, the text answers the first events.
+fn play<W: Wheel + Drop, D: Decorator<W>>(
+    session: &mut Session<W>,
+    decorator: &D,
+    events: &[Event],
+    text: &mut Vec<u8>,
+) -> Result<(), OutOfMemory>
+    requires { text.old.items ≡ [] }
+    ensures whole { OnOk result (HasAnswered D.adds session.old.player events.now session.new.player
+        text.new.items) }
+    ensures part { OnErr result (HasAnsweredPart D.adds session.old.player events.now text.new.items) }
+{
+    if decorator.shows_steps()
+        && let Some(count) = only_ticks(events)
+    {
+        return play_steps(session, decorator, count, text);
+    }
+    session.play(events, text)
+}
+
 /// Plays these events, and appends the answers and what is added after them. After no event nothing is added.
 /// If memory runs out, the text answers the first events.
 fn answer<W: Wheel + Drop, D: Decorator<W>>(
@@ -63,7 +85,7 @@ fn answer<W: Wheel + Drop, D: Decorator<W>>(
         text.new.items) }
     ensures part { OnErr result (HasAnsweredPart D.adds session.old.player events.now text.new.items) }
 {
-    session.play(events, text)?;
+    play(session, decorator, events, text)?;
     if events.is_empty() {
         return Ok(());
     }

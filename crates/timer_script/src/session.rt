@@ -49,7 +49,7 @@ impl<W: Wheel + Drop> Session<W> {
     }
 
     /// Plays one event, and appends its lines. The only error is out of memory, and then the text is unchanged.
-    fn play_one(&mut self, event: Event, text: &mut Vec<u8>) -> Result<(), OutOfMemory>
+    pub fn play_one(&mut self, event: Event, text: &mut Vec<u8>) -> Result<(), OutOfMemory>
         ensures played { OnOk result (AddsLines self.old.player (event ∷ []) text.old.items text.new.items
             self.new.player) }
         ensures text { OnErr result (text.new.items ≡ text.old.items) }

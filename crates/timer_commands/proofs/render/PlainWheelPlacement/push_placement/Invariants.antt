@@ -1,4 +1,4 @@
-use Rattle.timer_commands.specs.Indented.{HasGrownByFront}
+use Rattle.timer_commands.proofs.IndentedLemmas.{HasGrownByFront}
 use Rattle.timer_commands.proofs.render.PlainWheelPlacement.push_placement.Given as goal
 
 -- the line has begun

@@ -1,0 +1,194 @@
+-- Ticks that are played in steps: a run of some ticks, and then of others, is a run of all of them.
+use Rattle.std.proofs.Common.{◌≡◌, ◌<◌, ◌≤◌, ◌+◌, ◌-◌, ℕ, zero, suc, List, [], ◌∷◌, ◌++◌, refl, sym, ◌∙◌, ap, subst, arith, append-nil, append_assoc, inl, inr, ◌⊎◌}
+use Rattle.std.specs.Prelude.{replicate, map, min, Option, Some, None, Result, Ok, Err, OnOk, OnErr}
+use Rattle.std.proofs.lemmas.List.{map-append}
+use Rattle.timer_base.specs.declared.fault.OutOfMemory.{OutOfMemory}
+use Rattle.timer_facility.specs.declared.request.TickFault.{TickFault}
+use Rattle.timer_facility.specs.declared.event.Event.{Event}
+use Rattle.timer_facility.specs.declared.event.Event.TheVariants.{Ticks}
+use Rattle.timer_facility.specs.declared.event.Out.{Out}
+use Rattle.timer_facility.specs.State.{FacilityState, Tick}
+use Rattle.timer_facility.specs.Verdict.{tick_refusal}
+use Rattle.timer_facility.specs.Step.{step, step_of_tick}
+use Rattle.timer_facility.specs.Run.{PlacedEvent, state_after}
+use Rattle.timer_facility.specs.Played.{ticks_left, singles_of, ArePlaced, IsRun}
+use Rattle.timer_facility.proofs.PlayedTicks.{ticks_left-refused, ticks_left-accepted}
+use Rattle.timer_facility.proofs.PlayedLemmas.{IsRun-none}
+use Rattle.timer_script.specs.Text.{lines_of}
+use Rattle.timer_script.specs.ScriptRun.{AddsLines}
+use Rattle.timer_script.specs.Decorator.{Decoration, IsLawful, JoinsTicks, HasGrownBy}
+use Rattle.timer_script.specs.Service.{HasAnswered, HasAnsweredPart}
+use Rattle.timer_script.specs.Steps.{HasGrownByAnswer}
+use Rattle.timer_script.proofs.ServicePieces.{answered, decorated, answered_join}
+
+-- ---- how many ticks are left
+
+accepted : (s : FacilityState) (refusal : Option TickFault) → tick_refusal s ≡ refusal → s.now ≤ s.last → 1 ≤ ticks_left s
+    → refusal ≡ None
+accepted s None e i h = refl
+accepted s (Some fault) e i h = let none = ticks_left-refused s fault i e in absurd (omega arith)
+
+-- the state after an accepted tick
+abbrev after_tick : FacilityState → FacilityState
+after_tick s = (step_of_tick s None).state
+
+stepped : (s : FacilityState) (place : ℕ) → tick_refusal s ≡ None → (step s Tick place).state ≡ after_tick s
+stepped s place h = ap (λ refusal. (step_of_tick s refusal).state) h
+
+-- accepted ticks leave fewer
+left_after : (n : ℕ) (s : FacilityState) (placed : List PlacedEvent) → map (λ p. p.event) placed ≡ replicate n Tick
+    → n ≤ ticks_left s → s.now ≤ s.last
+    → (n + ticks_left (state_after s placed) ≡ ticks_left s)
+left_after zero s [] e h i = omega arith
+left_after zero s (p ∷ placed) e h i = absurd (cc)
+left_after (suc n) s [] e h i = absurd (cc)
+left_after (suc n) s (p ∷ placed) e h i =
+    let first : p.event ≡ Tick = cc in
+    let rest : map (λ p. p.event) placed ≡ replicate n Tick = cc in
+    let taken : tick_refusal s ≡ None = accepted s (tick_refusal s) refl i (omega arith) in
+    let l = ticks_left-accepted s i taken in
+    let next : (step s p.event p.place).state ≡ after_tick s =
+    ap (λ e. (step s e p.place).state) first ∙ stepped s p.place taken in
+    let more = left_after n (after_tick s) placed rest (omega (arith, l.0)) l.1 in
+    subst (λ c. suc n + ticks_left (state_after c placed) ≡ ticks_left s) (sym next) (omega (arith, l.0, more))
+
+-- the single events of one line of ticks
+only_placed : (s : FacilityState) (n : ℕ) (placed : List PlacedEvent) → ArePlaced s (Ticks n ∷ []) placed
+    → map (λ p. p.event) placed ≡ singles_of s (Ticks n)
+only_placed s n placed h = ap (map (λ p. p.event)) (h.2 ∙ ap (λ rest. h.0 ++ rest) h.4 ∙ append-nil h.0) ∙ h.3
+
+all_accepted : (s : FacilityState) (n : ℕ) → n ≤ ticks_left s → singles_of s (Ticks n) ≡ replicate n Tick
+all_accepted s n h = let e : min n (ticks_left s + 1) ≡ n = omega arith in ap (λ k. replicate k Tick) e
+
+left_run : (s m : FacilityState) (n : ℕ) (outs : List Out) → s.now ≤ s.last → n ≤ ticks_left s → IsRun s (Ticks n ∷ []) outs m
+    → n + ticks_left m ≡ ticks_left s
+left_run s m n outs i h run =
+    let all = only_placed s n run.placed run.singles ∙ all_accepted s n h in
+    subst (λ c. n + ticks_left c ≡ ticks_left s) (sym run.after_is) (left_after n s run.placed all h i)
+
+-- ---- ticks that join
+
+replicate-add : (a b : ℕ) → replicate a Tick ++ replicate b Tick ≡ replicate (a + b) Tick
+replicate-add zero b = let e : b ≡ 0 + b = omega arith in ap (λ n. replicate n Tick) e
+replicate-add (suc a) b =
+    let e : suc (a + b) ≡ suc a + b = omega arith in
+    ap (λ es. Tick ∷ es) (replicate-add a b) ∙ ap (λ n. replicate n Tick) e
+
+placed_join : (s : FacilityState) (a b : ℕ) (placed : List PlacedEvent) → s.now ≤ s.last → a ≤ ticks_left s
+    → ArePlaced s (Ticks a ∷ Ticks b ∷ []) placed → ArePlaced s (Ticks (a + b) ∷ []) placed
+placed_join s a b placed i h p =
+    let one : List PlacedEvent = p.0 in
+    let m : FacilityState = state_after s one in
+    let first : map (λ p. p.event) one ≡ replicate a Tick = p.3 ∙ all_accepted s a h in
+    let l : a + ticks_left m ≡ ticks_left s = left_after a s one first h i in
+    let k : ℕ = min b (ticks_left m + 1) in
+    let second : map (λ p. p.event) p.1 ≡ replicate k Tick = only_placed m b p.1 p.4 in
+    let count : a + k ≡ min (a + b) (ticks_left s + 1) = omega (arith, l) in (
+      placed,
+      [],
+      sym (append-nil placed),
+      ap (map (λ p. p.event)) p.2 ∙ map-append (λ p. p.event) one p.1 ∙ ap (λ es. es ++ map (λ p. p.event) p.1) first
+          ∙ ap (λ es. replicate a Tick ++ es) second
+          ∙ replicate-add a k
+          ∙ ap (λ n. replicate n Tick) count,
+      refl,
+    )
+
+ticks_join : (s t : FacilityState) (a b : ℕ) (outs : List Out) → s.now ≤ s.last → a ≤ ticks_left s
+    → IsRun s (Ticks a ∷ Ticks b ∷ []) outs t
+    → IsRun s (Ticks (a + b) ∷ []) outs t
+ticks_join s t a b outs i h run = record {
+  placed = run.placed;
+  singles = placed_join s a b run.placed i h run.singles;
+  outs_are = run.outs_are;
+  after_is = run.after_is;
+}
+
+answers_join : (A : Decoration) (d : IsLawful A) (j : JoinsTicks A) (s m t : FacilityState) (a b : ℕ) (x y : List ℕ) → s.now ≤ s.last
+    → a ≤ ticks_left s → HasAnswered A s (Ticks a ∷ []) m x → HasAnswered A m (Ticks b ∷ []) t y
+    → HasAnswered A s (Ticks (a + b) ∷ []) t (x ++ y)
+answers_join A d j s m t a b x y i h f g =
+    let both = answered_join A d s m t (Ticks a ∷ []) (Ticks b ∷ []) x y f g in
+    record {
+      outs = both.outs;
+      runs = ticks_join s t a b both.outs i h both.runs;
+      added = j s t a b (lines_of both.outs) (x ++ y) both.added;
+    }
+
+-- ---- one step after another
+
+-- so many ticks of a line were played in steps, and so many are left; a refused tick was in the last step
+pub record HasPlayedSteps (A : Decoration) (s : FacilityState) (done left : ℕ) (m : FacilityState) (text : List ℕ) : Type 0 where
+  pub answered : HasAnswered A s (Ticks done ∷ []) m text
+  pub rest : (left ≡ 0) ⊎ (done + ticks_left m ≡ ticks_left s)
+
+pub steps_none : (A : Decoration) (d : IsLawful A) (s : FacilityState) (count : ℕ) (text : List ℕ) → text ≡ []
+    → HasPlayedSteps A s (count - count) count s text
+steps_none A d s count text none =
+    let zero_is : 0 ≡ count - count = omega arith in
+    let least : 0 ≡ min 0 (ticks_left s + 1) = omega arith in
+    let run : IsRun s (Ticks 0 ∷ []) [] s = record {
+      placed = [];
+      singles = ([], [], refl, ap (λ n. replicate n Tick) least, refl);
+      outs_are = refl;
+      after_is = refl;
+    } in
+    subst (λ n. HasPlayedSteps A s n count s text) zero_is (record {
+      answered = record {
+        outs = [];
+        runs = run;
+        added = subst (λ z. A s (Ticks 0 ∷ []) s [] z) (sym none) (d.lines s s (Ticks 0 ∷ []) [] run);
+      };
+      rest = inr (omega arith);
+    })
+
+rest_more : (s m t : FacilityState) (done left n : ℕ) (outs : List Out) → m.now ≤ m.last → (n ≡ left) ⊎ (n ≤ ticks_left m)
+    → done + ticks_left m ≡ ticks_left s → IsRun m (Ticks n ∷ []) outs t
+    → (left - n ≡ 0) ⊎ ((done + n) + ticks_left t ≡ ticks_left s)
+rest_more s m t done left n outs i (inl all) h run = inl (omega (arith, all))
+rest_more s m t done left n outs i (inr few) h run = let l = left_run m t n outs i few run in inr (omega (arith, h, l))
+
+open_rest : (P : Type 0) (left : ℕ) → 0 < left → (left ≡ 0) ⊎ P → P
+open_rest P left some (inl none) = absurd (omega arith)
+open_rest P left some (inr rest) = rest
+
+pub steps_more : (A : Decoration) (d : IsLawful A) (j : JoinsTicks A) (s m t : FacilityState) (count left n : ℕ) (x y : List ℕ)
+    → s.now ≤ s.last → m.now ≤ m.last → left ≤ count → 0 < left → n ≤ left → (n ≡ left) ⊎ (n ≤ ticks_left m)
+    → HasPlayedSteps A s (count - left) left m x → HasGrownByAnswer A m (Ticks n ∷ []) t x y
+    → HasPlayedSteps A s (count - (left - n)) (left - n) t y
+steps_more A d j s m t count left n x y i k all some within few f g =
+    let done : ℕ = count - left in
+    let rest : done + ticks_left m ≡ ticks_left s = open_rest (done + ticks_left m ≡ ticks_left s) left some f.rest in
+    let accepted : done ≤ ticks_left s = omega (arith, rest) in
+    let both = answers_join A d j s m t done n x g.0 i accepted f.answered g.2 in
+    let sum : done + n ≡ count - (left - n) = omega arith in
+    subst (λ z. HasPlayedSteps A s z (left - n) t y) sum (record {
+      answered = subst (λ z. HasAnswered A s (Ticks (done + n) ∷ []) t z) (sym g.1) both;
+      rest = rest_more s m t done left n g.2.outs k few rest g.2.runs;
+    })
+
+-- the answer to a step, and what is added after it
+pub grown_answer : {E : Type 0} (A : Decoration) (d : IsLawful A) (result : Result Unit E) (s t shown : FacilityState)
+    (events : List Event) (x y z : List ℕ) → AddsLines s events x y t → shown ≡ t → OnOk result (HasGrownBy A shown y z)
+    → OnOk result (HasGrownByAnswer A s events t x z)
+grown_answer {E} A d (Err e) s t shown events x y z adds is h = tt
+grown_answer {E} A d (Ok u) s t shown events x y z adds is h =
+    let lines : List ℕ = lines_of adds.outs in
+    let grown : HasGrownBy A t y z = subst (λ c. HasGrownBy A c y z) is h in
+    let one = answered A d s t events [] lines refl (record { outs = adds.outs; runs = adds.runs; lines = refl }) in (
+      lines ++ grown.0,
+      grown.1 ∙ ap (λ w. w ++ grown.0) adds.lines ∙ append_assoc x lines grown.0,
+      decorated A d s t events lines (lines ++ grown.0) one (grown.0, refl, grown.2),
+    )
+
+-- the steps of a line were not all played, and no answer is left
+pub nothing_answered : (A : Decoration) (d : IsLawful A) (result : Result Unit OutOfMemory) (s : FacilityState) (events : List Event)
+    (text : List ℕ) → OnErr result (text ≡ []) → OnErr result (HasAnsweredPart A s events text)
+nothing_answered A d (Ok u) s events text h = tt
+nothing_answered A d (Err e) s events text h = record {
+  played = [];
+  unplayed = events;
+  parts = refl;
+  after = s;
+  answered = answered A d s s [] [] text refl (record { outs = []; runs = IsRun-none s; lines = h });
+}

@@ -1,0 +1,11 @@
+-- Ticks that are played in steps.
+use Rattle.std.specs.Prelude.{◌≡◌, ◌++◌, List, ℕ}
+use Rattle.timer_facility.specs.declared.event.Event.{Event}
+use Rattle.timer_facility.specs.State.{FacilityState}
+use Rattle.timer_script.specs.Decorator.{Decoration}
+use Rattle.timer_script.specs.Service.{HasAnswered}
+
+-- these events were played, and the text grew by the answer to them, with what may be added
+abbrev pub HasGrownByAnswer : Decoration → FacilityState → List Event → FacilityState → (old new : List ℕ) → Type 0
+HasGrownByAnswer Adds before events after old new =
+    (added : List ℕ) × (new ≡ old ++ added) × HasAnswered Adds before events after added

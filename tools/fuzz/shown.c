@@ -1,0 +1,148 @@
+/* Where the pending timers are: what `timers show` adds, from the deadlines and the present tick alone. */
+#include "model.h"
+
+#include <inttypes.h>
+#include <stdlib.h>
+
+struct place {
+	uint64_t bucket, serial, rounds, from;
+};
+
+/* How many ticks a slot of each wheel is, from the lowest. */
+static const uint64_t CLOCK_UNITS[] = {1, 60, 3600, 86400, 8640000};
+static const char *const HANDS[] = {"second", "minute", "hour", "day"};
+
+uint64_t unit_of(enum scheme scheme, int wheel)
+{
+	return scheme == CLOCK ? CLOCK_UNITS[wheel] : UINT64_C(1) << 6 * wheel;
+}
+
+int wheel_of(enum scheme scheme, uint64_t now, uint64_t deadline)
+{
+	int wheel = 0;
+	while (now / unit_of(scheme, wheel + 1) != deadline / unit_of(scheme, wheel + 1))
+		wheel++;
+	return wheel;
+}
+
+static uint64_t slot_of(enum scheme scheme, int wheel, uint64_t deadline)
+{
+	return deadline % unit_of(scheme, wheel + 1) / unit_of(scheme, wheel);
+}
+
+static void name(struct text *text, enum scheme scheme, int wheel, uint64_t slot)
+{
+	if (scheme == CLOCK)
+		add(text, "%s %" PRIu64, HANDS[wheel], slot);
+	else
+		add(text, "wheel %d slot %" PRIu64, wheel, slot);
+}
+
+static void name_bucket(struct text *text, enum scheme scheme, uint64_t bucket)
+{
+	name(text, scheme, (int)(bucket >> 8), bucket & 255);
+}
+
+static int by_bucket(const void *a, const void *b)
+{
+	const struct place *x = a, *y = b;
+	if (x->bucket != y->bucket)
+		return x->bucket < y->bucket ? -1 : 1;
+	return x->serial < y->serial ? -1 : x->serial > y->serial;
+}
+
+static struct place place_of(const struct options *is, uint64_t now, const struct timer *timer)
+{
+	struct place place = {0, timer->serial, 0, 0};
+	if (is->scheme == HASHED) {
+		place.bucket = timer->deadline % is->slots;
+		place.rounds = (timer->deadline - now - 1) / is->slots;
+	} else {
+		int wheel = wheel_of(is->scheme, now, timer->deadline);
+		place.bucket = (uint64_t)wheel << 8 | slot_of(is->scheme, wheel, timer->deadline);
+	}
+	return place;
+}
+
+static void show_plain(struct text *text, const struct timer *pending, size_t len)
+{
+	if (len == 0)
+		return;
+	add(text, "  pending:");
+	for (size_t i = 0; i < len; i++)
+		add(text, " %" PRIu64 ":%" PRIu64, pending[i].serial, pending[i].deadline);
+	add(text, "\n");
+}
+
+static void show_buckets(struct text *text, const struct options *is, uint64_t now, const struct timer *pending, size_t len)
+{
+	struct place *places = malloc((len + 1) * sizeof *places);
+	if (!places)
+		exit(3);
+	for (size_t i = 0; i < len; i++)
+		places[i] = place_of(is, now, &pending[i]);
+	qsort(places, len, sizeof *places, by_bucket);
+	for (size_t i = 0; i < len; i++) {
+		if (i == 0 || places[i].bucket != places[i - 1].bucket) {
+			add(text, "%s  ", i == 0 ? "" : "\n");
+			if (is->scheme == HASHED)
+				add(text, "slot %" PRIu64, places[i].bucket);
+			else
+				name_bucket(text, is->scheme, places[i].bucket);
+			add(text, ":");
+		}
+		add(text, " %" PRIu64, places[i].serial);
+		if (is->scheme == HASHED)
+			add(text, ":%" PRIu64, places[i].rounds);
+	}
+	if (len > 0)
+		add(text, "\n");
+	free(places);
+}
+
+uint64_t next_move(enum scheme scheme, uint64_t now, uint64_t deadline)
+{
+	if (scheme != HIER && scheme != CLOCK)
+		return deadline;
+	return deadline - deadline % unit_of(scheme, wheel_of(scheme, now, deadline));
+}
+
+void show_moves(struct text *text, const struct options *is, uint64_t now, uint64_t tick, const struct timer *pending,
+                size_t len)
+{
+	struct place *places = malloc((len + 1) * sizeof *places);
+	size_t moved = 0;
+	if (!places)
+		exit(3);
+	for (size_t i = 0; i < len; i++)
+		if (pending[i].deadline > tick && next_move(is->scheme, now, pending[i].deadline) == tick) {
+			places[moved] = place_of(is, tick, &pending[i]);
+			places[moved++].from = place_of(is, now, &pending[i]).bucket;
+		}
+	qsort(places, moved, sizeof *places, by_bucket);
+	for (size_t i = 0; i < moved; i++) {
+		if (i == 0 || places[i].bucket != places[i - 1].bucket) {
+			add(text, "%s  moved at %" PRIu64 " from ", i == 0 ? "" : "\n", tick);
+			name_bucket(text, is->scheme, places[i].from);
+			add(text, " to ");
+			name_bucket(text, is->scheme, places[i].bucket);
+			add(text, ":");
+		}
+		add(text, " %" PRIu64, places[i].serial);
+	}
+	if (moved > 0)
+		add(text, "\n");
+	free(places);
+}
+
+void show(struct text *text, const struct options *is, const struct counts *counts, uint64_t now, const struct timer *pending,
+          size_t len)
+{
+	add(text, "  now %" PRIu64 "\n", now);
+	if (is->counts && (is->scheme == HIER || is->scheme == CLOCK))
+		add(text, "  starts %" PRIu64 " moves %" PRIu64 " visits %" PRIu64 "\n", counts->starts, counts->moves, counts->visits);
+	if (is->scheme == PLAIN)
+		show_plain(text, pending, len);
+	else
+		show_buckets(text, is, now, pending, len);
+}
