@@ -145,7 +145,7 @@ fn see_handed<W: Wheel + Drop>(
 const ROOM: u64 = 1000;
 
 /// Makes room for all timers, at the second try if the first is refused. Starts this many of them, lets them expire,
-/// and replaces others as often.
+/// replaces others as often, and closes.
 pub fn start_with_room<W: Wheel + Drop>(alloc: Global, wheel: W, starts: u64) -> Result<(), Fault>
     requires pending { (W.state wheel).pending ≡ [] }
     requires due { (W.state wheel).due ≡ [] }
@@ -162,7 +162,8 @@ pub fn start_with_room<W: Wheel + Drop>(alloc: Global, wheel: W, starts: u64) ->
     }
     same(facility.pending() as u64, starts, "how many are pending")?;
     expire_in_room(&mut facility, starts)?;
-    replace_in_room(&mut facility, starts)
+    replace_in_room(&mut facility, starts)?;
+    close_in_room(&mut facility, starts)
 }
 
 /// Lets the timers with the serials up to `starts` expire, one at each tick. No call allocates.
@@ -198,6 +199,28 @@ fn replace_in_room<W: Wheel + Drop>(facility: &mut Facility<W>, rounds: u64) -> 
         same(ask(facility, Request::Stop(restarted))?, stopped, "a stop")?;
     }
     same(facility.pending(), 0, "what is left")
+}
+
+/// Starts this many timers again, and closes at once: the close is not refused for memory.
+fn close_in_room<W: Wheel + Drop>(facility: &mut Facility<W>, starts: u64) -> Result<(), Fault> {
+    for _ in 0..starts {
+        let start = Request::Start {
+            interval: 9,
+            action: 0,
+        };
+        made(ask(facility, start)?)?;
+    }
+    settle(facility)?;
+    same(
+        facility.close(),
+        Ok(starts),
+        "a close in the room that was made",
+    )?;
+    for _ in 0..starts {
+        let is_returned = matches!(facility.next_out(), Some(Notice::Returned(_)));
+        see(is_returned, "a timer that is returned")?;
+    }
+    same(facility.next_out(), None, "a timer too many")
 }
 
 /// The answer to the next request of client 0, which is taken at once.

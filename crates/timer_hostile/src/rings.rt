@@ -11,7 +11,7 @@ use timer_wheels::HierWheel;
 /// How many rounds there are. Each starts two timers.
 const ROUNDS: u64 = 100;
 
-/// Serves a client round after round, in the room that was made, and ends the desk.
+/// Serves a client round after round, in the room that was made, closes, and ends the desk.
 pub fn serve_in_room(alloc: Global) -> Result<(), Fault> {
     let (mut end, inlet) = ring(alloc)?;
     let mut desk = open(alloc, vec![in alloc; inlet]?)?;
@@ -20,10 +20,11 @@ pub fn serve_in_room(alloc: Global) -> Result<(), Fault> {
         replace_and_expire(&mut desk, &mut end)?;
         start_and_stop(&mut desk, &mut end)?;
     }
+    close_in_room(&mut desk, &mut end)?;
     end_desk(desk)?;
     same(
         end.next_number(),
-        6 * ROUNDS + 1,
+        6 * ROUNDS + 2,
         "how many requests were sent",
     )
 }
@@ -106,6 +107,22 @@ fn start_and_stop(desk: &mut Desk<HierWheel, RingInlet>, end: &mut ClientEnd) ->
     let serial = handle.serial;
     let stopped = Answer::Stopped { serial };
     same(ask(desk, end, Request::Stop(handle))?, stopped, "a stop")
+}
+
+/// Starts a timer and closes, at once: the close is not refused for memory.
+fn close_in_room(desk: &mut Desk<HierWheel, RingInlet>, end: &mut ClientEnd) -> Result<(), Fault> {
+    let start = Request::Start {
+        interval: 9,
+        action: 1,
+    };
+    let handle = made(ask(desk, end, start)?)?;
+    same(desk.close(), Ok(1), "a close in the room that was made")?;
+    match flush(desk, end)? {
+        Word::Notice(Notice::Returned(timer)) => {
+            same(timer.serial, handle.serial, "what is returned")
+        }
+        _ => Err(Fault::Wrong("a timer that is returned")),
+    }
 }
 
 /// Ends a desk of one client of whom nothing is left.
