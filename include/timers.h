@@ -3,11 +3,12 @@
  * NAME
  *     timers_new, timers_free - make and free timers
  *     timers_reserve - make room for timers
- *     timers_start, timers_restart, timers_stop - START_TIMER, RESTART, STOP_TIMER
- *     timers_start_at, timers_restart_at - the same, for a tick in place of an interval
+ *     timers_start, timers_stop - START_TIMER and STOP_TIMER of the paper by Varghese and Lauck
+ *     timers_restart - stop a timer and start another in its place
+ *     timers_start_at, timers_restart_at - start and restart for a tick in place of an interval
  *     timers_set_at - start a timer, or restart the one that a handle names
- *     timers_tick, timers_advance, timers_advance_to - pass ticks
- *     timers_expire, timers_expire_batch - take expired timers
+ *     timers_tick, timers_advance, timers_advance_to - pass ticks (PER_TICK_BOOKKEEPING)
+ *     timers_expire, timers_expire_batch - take expired timers (EXPIRY_PROCESSING)
  *     timers_take - take the next timer that is due by a tick, and pass the ticks up to it
  *     timers_clear - drop all timers
  *     timers_look, timers_each - read one timer, iterate over all of them
@@ -50,8 +51,8 @@
  *     the tick that was meant until it has caught up. If the work of each timer starts one that is due at
  *     once, a loop that takes what expires until nothing is left never ends.
  *
- *     An interval of 0 is refused (TIMERS_ZERO_INTERVAL). An interval ends at a later tick, and 0 is mostly
- *     a mistake of a calculation. For work that is due at once give timers_start_at the present tick.
+ *     An interval of 0 is refused (TIMERS_ZERO_INTERVAL). An interval ends at a later tick, and 0 is usually
+ *     a calculation error. For work that is due at once give timers_start_at the present tick.
  *
  *     The clock never goes back. A real time that does, and so is before timers_now, is no error for
  *     timers_advance_to and timers_take: they pass no tick then.
@@ -84,18 +85,19 @@
  *         len                     each expired timer that waits
  *         each                    each place up to the next timer
  *         reserve                 the most timers that were held at once
- *         new, free               constant: the buckets, four blocks of memory
+ *         new, free               constant: the buckets, at most four blocks of memory
  *
  *     A move takes a timer to a lower wheel. A tick moves the timers of its bucket, unless they expire.
  *
  *     From the first timers_find_next that walks a bucket on, the first deadline of each bucket above the lowest
  *     wheel is kept, and how many timers have it. A start, a restart, a stop and a move update that in constant
- *     time. A bucket that has timers by then is walked once before its own is known. It is lost if the last timer
- *     that has it is stopped or restarted, and others are left in the bucket. If the bucket of the next deadline
- *     has none that is known, timers_next and timers_find_next look at each of its timers. timers_find_next keeps
- *     what it found, timers_next does not. So a loop that asks in each turn calls timers_find_next.
+ *     time. A bucket that has timers by then is walked once before its first deadline is known. The deadline is
+ *     forgotten once the last timer that has it is stopped or restarted, and others are left in the bucket. If
+ *     the bucket of the next deadline has none that is known, both calls look at each of its timers.
+ *     timers_find_next keeps what it found, timers_next does not. So a loop that asks in each turn calls
+ *     timers_find_next.
  *
- *     Two of these are proved. No start returns TIMERS_NO_MEMORY while fewer timers are held than
+ *     Two facts are proved. No start returns TIMERS_NO_MEMORY while fewer timers are held than
  *     timers_reserve made room for. And there are at most 9 moves for each start and restart. (With
  *     TIMERS_CLOCK there are at most 3, which is proved of the wheel and not of timers_counts.) The other
  *     costs are in no contract: they follow from the code. Tests count the allocations of each call.
@@ -157,9 +159,8 @@
  *     of its own to write to, while no other call uses the same `struct timers`. Calls on two of them are
  *     independent.
  *
- *     A `struct timers` may be handed from thread to thread by all that makes the one see what the other
- *     wrote. A lock does, a thread's start or join, or an atomic stored with release order and loaded with
- *     acquire order.
+ *     A `struct timers` may be handed from thread to thread by anything that synchronizes the two. A lock does,
+ *     a thread's start or join, or an atomic stored with release order and loaded with acquire order.
  *
  *     No call waits for another thread, unless the allocator does. malloc, realloc and free are called only by
  *     the calls that MEMORY names, and by timers_free. No call is a cancellation point. timers_set_allocator
@@ -285,7 +286,7 @@ struct timers_expired {
 struct timers_counters {
 	uint64_t starts;     /* timers that were started or restarted */
 	uint64_t moves;      /* how often a timer moved to a lower wheel */
-	uint64_t visits;     /* buckets that were visited */
+	uint64_t visits;     /* buckets that ticks came to, also those that were known to be empty */
 };
 
 /* Has the library allocate by these functions from now on: in place of malloc, realloc and free, of which they
@@ -403,13 +404,13 @@ enum timers_status timers_advance(struct timers *t, uint64_t most, uint64_t *pas
 
 /* Passes the ticks up to `tick`, and stops at the first at which a timer expires, or at the last tick of the
  * clock. A tick that is not after the present one is none to pass. Then nothing changes and the status is
- * TIMERS_OK. So it is while an expired timer waits, and at the last tick.
+ * TIMERS_OK. This also holds while an expired timer waits, and at the last tick.
  * TIMERS_NOT_OPEN, TIMERS_DUE, TIMERS_CLOCK_END. */
 enum timers_status timers_advance_to(struct timers *t, uint64_t tick);
 
-/* Takes the next timer that is due by `tick`, and nothing after it. If an expired timer waits, it is the first
- * of these, and no tick passes. Otherwise it is the first whose deadline is at most `tick`, and the ticks up to
- * that deadline pass. Returns whether there was one, and writes `*out` exactly then.
+/* Takes the next timer that is due by `tick`, or by the present tick if that is later. If an expired timer
+ * waits, it is the first of these, and no tick passes. Otherwise it is the first whose deadline is at most
+ * `tick`, and the ticks up to that deadline pass. Returns whether there was one, and writes `*out` exactly then.
  * After false the ticks up to `tick` have passed, or those up to the last tick of the clock if that is before.
  * If `tick` is before the present tick, none passes. Returns false if not open. Does not allocate. */
 bool timers_take(struct timers *t, uint64_t tick, struct timers_expired *out);

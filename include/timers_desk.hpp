@@ -1,4 +1,4 @@
-/* timers_desk.hpp - timers_desk.h for C++17 and later, one header that may be taken along
+/* timers_desk.hpp - timers_desk.h for C++17 and later, one header that you can copy into your project
  *
  *     #include <timers_desk.hpp>
  *     c++ -std=c++17 -pthread prog.cpp $(pkg-config --cflags --libs timers)
@@ -15,6 +15,7 @@
 #error "timers_desk.hpp needs C++17 or later: C++11 and C++14 have timers_desk.h"
 #endif
 
+#include <atomic>
 #include <cstddef>
 #include <cstdint>
 #include <optional>
@@ -132,6 +133,7 @@ public:
 	 * TIMERS_DESK_NO_MEMORY; std::bad_alloc. */
 	desk(std::vector<line> &lines, std::size_t clients, const timers_desk_config &config) : raw_ TIMERS_DESK_INIT
 	{
+		raw_.lives = count();           /* so that a line of another desk is refused */
 		std::vector<timers_line> raw(clients + 1, timers_line TIMERS_LINE_INIT);
 		std::vector<line> ends(clients);
 		check(timers_desk_new(&raw_, raw.data(), clients, &config));
@@ -166,14 +168,14 @@ public:
 		check(timers_desk_advance(&raw_, most, &passed));
 		return passed;
 	}
-	/* Throws desk_error: TIMERS_DESK_NOT_OPEN, TIMERS_DESK_CLOSED, TIMERS_DESK_NO_MEMORY. */
+	/* Throws desk_error: TIMERS_DESK_NOT_OPEN, TIMERS_DESK_CLOSED; TIMERS_DESK_NO_MEMORY, unless reserve made room. */
 	std::uint64_t close()
 	{
 		std::uint64_t returned;
 		check(timers_desk_close(&raw_, &returned));
 		return returned;
 	}
-	/* Throws desk_error: that of timers_desk_end. */
+	/* Throws desk_error: that of timers_desk_end. A line of another desk is TIMERS_DESK_OTHER_LINE. */
 	std::size_t end(std::size_t client, line &of)
 	{
 		std::size_t unread;
@@ -196,7 +198,8 @@ public:
 		check(timers_desk_open(&raw_, client, &opened.raw_, room));
 		return opened;
 	}
-	/* Throws desk_error: TIMERS_DESK_NOT_OPEN, TIMERS_DESK_NO_MEMORY. */
+	/* Makes room for all timers: no serve and no close runs out of memory from then on. Throws desk_error:
+	 * TIMERS_DESK_NOT_OPEN, TIMERS_DESK_NO_MEMORY. */
 	void reserve() { check(timers_desk_reserve(&raw_)); }
 
 	std::uint64_t now() const noexcept { return timers_desk_now(&raw_); }
@@ -208,6 +211,12 @@ public:
 	bool line_freed(std::size_t client) noexcept { return timers_desk_line_freed(&raw_, client); }
 
 private:
+	/* Another number for each desk of the program. */
+	static std::uint64_t count() noexcept
+	{
+		static std::atomic<std::uint64_t> desks{0};
+		return desks.fetch_add(1, std::memory_order_relaxed);
+	}
 	static void check(enum timers_desk_status status)
 	{
 		if (status != TIMERS_DESK_OK)

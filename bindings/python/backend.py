@@ -1,7 +1,7 @@
-"""Builds the wheel of the module `timers`, for pip and other tools that read pyproject.toml.
+"""Builds the wheel of the package `timers`, for pip and other tools that read pyproject.toml.
 
-The wheel has a package of three files: timers.py, libtimers.so.1 as tools/lib builds it of generated/, and a first file
-that loads the library before the module, which then finds it by its name. The compiler is that of CC, by default cc.
+The wheel has a package of four files: timers.py, timers_desk.py, libtimers.so.1 as tools/lib builds it of generated/, and a
+first file that loads the library before the modules, which then find it by its name. The compiler is that of CC, by default cc.
 """
 # SPDX-License-Identifier: MIT OR Apache-2.0
 import base64
@@ -59,6 +59,7 @@ def build_wheel(wheel_directory, config_settings=None, metadata_directory=None):
     files = {
         "timers/__init__.py": PACKAGE.encode(),
         "timers/timers.py": contents(HERE, "timers.py"),
+        "timers/timers_desk.py": contents(HERE, "timers_desk.py"),
         f"timers/{LIBRARY}": library(),
         f"{folder}/METADATA": metadata(version).encode(),
         f"{folder}/WHEEL": f"Wheel-Version: 1.0\nGenerator: timers\nRoot-Is-Purelib: false\nTag: {tag}\n".encode(),

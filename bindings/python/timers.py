@@ -1,4 +1,4 @@
-"""Timers from Python, by ctypes, in one file that may be taken along. timers(3) says what each call does.
+"""Timers from Python, by ctypes, in one file that you can copy into your project. timers(3) says what each call does.
 
     from timers import Timers
     with Timers() as timers:
@@ -53,6 +53,9 @@ class Held(Structure):
 
 class Handle(Structure):
     _fields_ = [("place", c_size_t), ("serial", c_uint64)]
+
+    def __init__(self, *numbers):
+        super().__init__(*map(word, numbers))
 
 
 class Expired(Structure):
@@ -114,7 +117,8 @@ class Timers:
         check(self._call[name](self._held, *arguments))
 
     def close(self):
-        """Frees all timers. Every call that starts or passes something is refused from then on (NOT_OPEN)."""
+        """Frees all timers. From then on each call that can be refused is (NOT_OPEN). The others find no timer: `take`
+        and `expire` return None, and `expired` an empty list."""
         self._call["free"](self._held)
 
     def __del__(self):

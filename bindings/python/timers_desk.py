@@ -1,4 +1,5 @@
-"""A desk of timers from Python, by ctypes, in one file that may be taken along: timers_desk(3) says what each call does.
+"""A desk of timers from Python, by ctypes, in one file that you can copy into your project. timers_desk(3) says what
+each call does.
 
     from timers_desk import Desk
     with Desk(clients=2, capacity=1000, timers=50, requests=8) as desk:
@@ -8,12 +9,14 @@
         line.receive()                  # Word(kind=STARTED, number=1, ..)
 
 The owner's thread calls the desk, and each client's thread its line, one call at a time. A line is freed by free() or at
-the end of its `with`. Numbers are whole and from 0 to 2^64 - 1: any other is refused by OverflowError or TypeError. A
-call that the library refuses raises DeskError. If the library is in no folder that the loader searches, give its path:
-Desk(.., library="lib/libtimers.so.1").
+the end of its `with`. Numbers are whole and from 0 to 2^64 - 1, that of a table to 2^32 - 1: any other is refused by
+OverflowError or TypeError. So is a sum of `timers` and `requests` that leaves no room for one more word. A call that the
+library refuses raises DeskError. If the library is in no folder that the loader searches, give its path:
+Desk(.., library="lib/libtimers.so.1"). With the package of pip: from timers.timers_desk import Desk.
 """
 # SPDX-License-Identifier: MIT OR Apache-2.0
 import ctypes
+import itertools
 import operator
 from ctypes import POINTER, Structure, byref, c_bool, c_size_t, c_uint32, c_uint64, c_void_p
 
@@ -23,6 +26,8 @@ from ctypes import POINTER, Structure, byref, c_bool, c_size_t, c_uint32, c_uint
 NAMES = {value: name.lower().replace("_", " ") for name, value in list(globals().items()) if name.isupper()}
 STARTED, RESTARTED, STOPPED, REFUSED, NOT_TAKEN, EXPIRED, RETURNED = range(1, 8)
 NEVER = 2**64 - 1
+WIDE, CLOCK = 0, 1
+CLIENTS = 64
 
 
 class DeskError(Exception):
@@ -33,11 +38,11 @@ class DeskError(Exception):
         self.status = status
 
 
-def number(value):
-    """The argument, if it has at most 64 bits: ctypes would cut off the rest."""
+def number(value, bits=64):
+    """The argument, if it has at most this many bits: ctypes would cut off the rest."""
     value = operator.index(value)
-    if not 0 <= value < 2**64:
-        raise OverflowError(f"{value} is not from 0 to 2^64 - 1")
+    if not 0 <= value < 2**bits:
+        raise OverflowError(f"{value} is not from 0 to 2^{bits} - 1")
     return value
 
 
@@ -49,6 +54,9 @@ def check(status):
 class Handle(Structure):
     """The name of a client's timer."""
     _fields_ = [("place", c_size_t), ("serial", c_uint64)]
+
+    def __init__(self, *numbers):
+        super().__init__(*map(number, numbers))
 
     def __eq__(self, other):
         return isinstance(other, Handle) and (self.place, self.serial) == (other.place, other.serial)
@@ -68,12 +76,16 @@ class Config(Structure):
                 ("table", c_uint32)]
 
 
+# how many desks were made
+DESKS = itertools.count()
+
+
 class HeldDesk(Structure):
-    _fields_ = [("at", c_void_p), ("mark", c_uint64)]
+    _fields_ = [("at", c_void_p), ("mark", c_uint64), ("lives", c_uint64)]
 
 
 class HeldLine(Structure):
-    _fields_ = [("at", c_void_p), ("mark", c_uint64), ("client", c_uint64)]
+    _fields_ = [("at", c_void_p), ("mark", c_uint64), ("client", c_uint64), ("life", c_uint64)]
 
 
 def load(path):
@@ -169,13 +181,16 @@ class Desk:
 
     def __init__(self, clients, capacity, timers, requests, first_tick=0, table=0, library="libtimers.so.1"):
         self._library = load(library)
-        self._held = HeldDesk()
+        # each desk counts from another number, so that a line of another desk is refused
+        self._held = HeldDesk(lives=next(DESKS))
+        # The library looks at all lines before it refuses so many: an array for them need not be made.
+        check(OUT_OF_RANGE if number(clients) > CLIENTS else OK)
         lines = (HeldLine * max(clients, 1))()
-        config = Config(ctypes.sizeof(Config), number(first_tick), number(capacity), number(timers) + number(requests) + 1,
-                        number(requests), table)
+        room = number(number(timers) + number(requests) + 1)
+        config = Config(ctypes.sizeof(Config), number(first_tick), number(capacity), room, number(requests), number(table, 32))
         check(self._library.timers_desk_new(byref(self._held), lines, number(clients), byref(config)))
         # each line is moved to a struct of its own, and not used in the array from here on
-        self.lines = [Line(self._library, HeldLine(line.at, line.mark, line.client)) for line in lines[:clients]]
+        self.lines = [Line(self._library, HeldLine(line.at, line.mark, line.client, line.life)) for line in lines[:clients]]
 
     def free(self):
         """Frees the desk. Its lines may be used on."""
@@ -206,7 +221,7 @@ class Desk:
         return self._library.timers_desk_flush_all(byref(self._held))
 
     def advance(self, most):
-        """Passes at most so many ticks, up to the first at which a timer expires, and returns how many."""
+        """Passes at most `most` ticks, up to the first at which a timer expires, and returns how many."""
         passed = c_uint64()
         check(self._library.timers_desk_advance(byref(self._held), number(most), byref(passed)))
         return passed.value
@@ -218,6 +233,8 @@ class Desk:
         return returned.value
 
     def end(self, client, line):
+        """Ends the words of a client, and returns how many it has still to receive. A line of another desk is
+        OTHER_LINE."""
         unread = c_size_t()
         check(self._library.timers_desk_end(byref(self._held), number(client), byref(line._held), byref(unread)))
         return unread.value
@@ -235,6 +252,7 @@ class Desk:
         return Line(self._library, held)
 
     def reserve(self):
+        """Makes room for all timers: no serve and no close runs out of memory from then on."""
         check(self._library.timers_desk_reserve(byref(self._held)))
 
     @property

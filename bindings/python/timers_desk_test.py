@@ -120,6 +120,28 @@ def come_and_go():
     assert line.abandoned and other.abandoned
 
 
+def counts_by_client():
+    with Desk(2, 9, 4, 4, library=LIBRARY) as desk:
+        first, second = desk.lines
+        first.start(5, 1), second.start(3, 2), second.start(9, 3)
+        turn(desk)
+        assert (desk.pending(0), desk.pending(1), len(desk)) == (1, 2, 3)
+        assert (desk.advance(20), desk.now) == (3, 3)
+        assert (desk.pending(1), desk.outbox(0), desk.outbox(1), len(desk)) == (1, 0, 1, 2)
+        assert desk.flush(0) == 0 and desk.flush(1) == 1
+    refused(td.NOT_OPEN, desk.reserve)
+
+
+def refuses_a_line_of_another_desk():
+    with Desk(1, 9, 4, 4, library=LIBRARY) as desk, Desk(1, 9, 4, 4, library=LIBRARY) as other:
+        line, stranger = desk.lines[0], other.lines[0]
+        line.finish(), stranger.finish()
+        refused(td.OTHER_LINE, desk.end, 0, stranger)
+        refused(td.OTHER_LINE, other.end, 0, line)
+        assert not line.ended and not stranger.ended
+        assert desk.end(0, line) == other.end(0, stranger) == 0 and line.ended and stranger.ended
+
+
 def work(line, counts):
     sent = answered = expired = 0
     while expired < 300:
@@ -147,18 +169,51 @@ def threads(clients):
         assert counts == [300] * clients and len(desk) == 0
 
 
+def out_of_range(value, bits, call, *arguments, **named):
+    try:
+        call(*arguments, **named)
+    except OverflowError as error:
+        assert str(error) == f"{value} is not from 0 to 2^{bits} - 1", error
+    else:
+        raise AssertionError(f"not refused: {arguments} {named}")
+
+
+def numbers_out_of_range():
+    """No number is cut off: what has too many bits is refused, and so is a room that has."""
+    for name in ("clients", "capacity", "timers", "requests", "first_tick"):
+        fine = {"clients": 1, "capacity": 1, "timers": 1, "requests": 1, "library": LIBRARY}
+        for wrong in (-1, 2**64, 2**64 + 1):
+            out_of_range(wrong, 64, Desk, **{**fine, name: wrong})
+    for wrong in (-1, 2**32, 2**32 + 1):
+        out_of_range(wrong, 32, Desk, 1, 1, 1, 1, table=wrong, library=LIBRARY)
+    for timers, requests in ((2**64 - 1, 2), (2**64 - 2, 1), (2**63, 2**63)):
+        out_of_range(timers + requests + 1, 64, Desk, 1, 1, timers, requests, library=LIBRARY)
+    for table in (2, 2**32 - 1):
+        refused(td.OUT_OF_RANGE, lambda table=table: Desk(1, 1, 1, 1, table=table, library=LIBRARY))
+    for clients in (0, 65, 10**11, 2**64 - 1):
+        refused(td.OUT_OF_RANGE, lambda clients=clients: Desk(clients, 1, 1, 1, library=LIBRARY))
+    for wrong in (-1, 2**64):
+        out_of_range(wrong, 64, Handle, wrong, 1)
+        out_of_range(wrong, 64, Handle, 1, wrong)
+    with Desk(1, 1, 1, 1, library=LIBRARY) as desk:
+        calls = [desk.serve, desk.serve_all, desk.flush, desk.advance, desk.stop_pending, desk.pending, desk.outbox,
+                 desk.line_freed, lambda value: desk.end(value, desk.lines[0]), lambda value: desk.open(0, value),
+                 lambda value: desk.open(value, 1), lambda value: desk.lines[0].start(value, 1),
+                 lambda value: desk.lines[0].restart_at(Handle(), 1, value)]
+        for call in calls:
+            for wrong in (-1, 2**64):
+                out_of_range(wrong, 64, call, wrong)
+        with Desk(1, 1, 1, 1, first_tick=8639998, table=td.CLOCK, library=LIBRARY) as clock:
+            assert clock.advance(9) == 1 and desk.advance(9) == 9
+
+
 assert Handle(1, 7) == Handle(1, 7) and hash(Handle(1, 7)) == hash(Handle(1, 7))
 assert Handle(1, 7) not in (Handle(1, 8), Handle(2, 7), (1, 7))
 assert (str(DeskError(td.NO_ROOM)), str(DeskError(99))) == ("no room", "status 99")
 for seed in range(3):
     agrees(seed)
 come_and_go()
+counts_by_client()
+refuses_a_line_of_another_desk()
 threads(4)
-refused(td.OUT_OF_RANGE, lambda: Desk(65, 1, 1, 1, library=LIBRARY))
-for wrong in (-1, 2**64):
-    try:
-        Desk(1, wrong, 1, 1, library=LIBRARY)
-    except OverflowError as error:
-        assert str(error) == f"{wrong} is not from 0 to 2^64 - 1"
-        continue
-    raise AssertionError("not refused")
+numbers_out_of_range()

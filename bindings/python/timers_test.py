@@ -8,7 +8,7 @@ import random
 import sys
 import threading
 
-from timers import (CLOCK, CLOCK_END, DUE, MESSAGES, NO_MEMORY, NOT_OPEN, NOT_PENDING, OK, TOO_LATE, ZERO_INTERVAL, Timers,
+from timers import (CLOCK, CLOCK_END, DUE, MESSAGES, NO_MEMORY, NOT_OPEN, NOT_PENDING, OK, TOO_LATE, ZERO_INTERVAL, Handle, Timers,
                     TimersError)
 
 
@@ -127,6 +127,9 @@ def meet_the_edges(library):
             assert raises(OverflowError, timers.catch_up, value, print)
             assert raises(OverflowError, lambda value=value: Timers(library, first_tick=value))
         assert raises(OverflowError, lambda: Timers(library, table=2**32))
+        for value in (2**64, -1):
+            assert raises(OverflowError, Handle, value, 1) and raises(OverflowError, Handle, 1, value)
+        assert refused(timers.stop, Handle(handle.place, 2**64 - 1)) == NOT_PENDING
         assert raises(OverflowError, timers.reserve, 2**64) and raises(TypeError, timers.reserve, 1.0)
         assert refused(timers.reserve, 2**64 - 1) == NO_MEMORY
         assert refused(timers.start, 0, 1) == refused(timers.restart, handle, 0, 1) == ZERO_INTERVAL

@@ -1,5 +1,7 @@
-// Builds libtimers.a by tools/lib. The C compiler is that of CC, and without it cc, or Debian's for another processor.
+// Builds libtimers.a by tools/lib. The shared library is removed, so that nothing is linked with it. The C compiler is that
+// of CC, and without it cc, or Debian's for another processor.
 use std::env;
+use std::fs;
 use std::path::Path;
 use std::process::Command;
 
@@ -13,6 +15,11 @@ fn main() {
     }
     let status = build.status().expect("tools/lib cannot be run");
     assert!(status.success(), "tools/lib: {status}");
+    for file in fs::read_dir(&folder).expect("the folder can't be read").flatten() {
+        if file.file_name().to_string_lossy().contains(".so") {
+            fs::remove_file(file.path()).expect("a file can't be removed");
+        }
+    }
     println!("cargo:rustc-link-search=native={folder}");
     println!("cargo:rustc-link-lib=static=timers");
     println!("cargo:rerun-if-env-changed=CC");

@@ -1,10 +1,15 @@
-//! timers.h for Rust: a safe wrapper over the C library, in one file that may be taken along.
+//! timers.h for Rust: a safe wrapper over the C library, in one file that you can copy into your project.
 //!
 //! ```text
-//! mod timers;                     // in main.rs, with this file beside it
-//!
-//! rustc --edition 2021 -L PREFIX/lib main.rs
+//! let mut timers = Timers::new(Table::Wide, 0)?;         // the clock is at tick 0
+//! let tea = timers.start(300, 7)?;                       // the action 7 comes back at tick 300
+//! while let Some(timer) = timers.take(1000) {            // what is due by tick 1000
+//!     println!("{}: {}", timer.deadline, timer.action);
+//! }
 //! ```
+//!
+//! With the crate, `use timers::{Table, Timers}`. A copy of this file beside main.rs is a module, `mod timers;`, which
+//! `rustc --edition 2021 -L PREFIX/lib main.rs` links with an installed library.
 //!
 //! A [`Timers`] owns timers and their clock, and frees them when it is dropped. It can be sent to another
 //! thread, and not be shared by two. An action is 64 bits that come back with the timer: an index into what
@@ -42,6 +47,7 @@ pub enum Table {
 
 /// Why a call was refused.
 #[derive(Clone, Copy, Debug, Eq, PartialEq)]
+#[non_exhaustive]
 pub enum Error {
     /// Memory is out, or there are about 4.29 billion timers.
     NoMemory,
@@ -51,17 +57,19 @@ pub enum Error {
     NotPending,
     /// The interval is 0.
     ZeroInterval,
-    /// The tick is after the last one of the clock.
+    /// The tick is after the last one of the clock. Or it has passed and the clock is at its last tick, at which no
+    /// timer starts.
     TooLate,
     /// 2^60 - 1 timers were started.
     SerialsSpent,
     /// The clock is at its last tick.
     ClockEnd,
+    /// A status of a later library.
+    Other(c_uint),
 }
 
 impl Error {
-    /// The error of a status. A wrapper is always open and names a table that is there: so no other status
-    /// comes.
+    /// The error of a status. A wrapper is always open and names a table that is there.
     fn of(status: c_uint) -> Result<(), Error> {
         match status {
             OK => Ok(()),
@@ -72,7 +80,7 @@ impl Error {
             8 => Err(Error::TooLate),
             9 => Err(Error::SerialsSpent),
             10 => Err(Error::ClockEnd),
-            other => unreachable!("status {other} of libtimers"),
+            other => Err(Error::Other(other)),
         }
     }
 }
@@ -87,6 +95,7 @@ impl fmt::Display for Error {
             Error::TooLate => "after the last tick",
             Error::SerialsSpent => "every serial was used",
             Error::ClockEnd => "the clock is at its last tick",
+            Error::Other(status) => return write!(f, "status {status}"),
         })
     }
 }
@@ -103,6 +112,7 @@ pub struct Handle {
 
 impl Handle {
     /// Counts the starts and restarts, from 1.
+    #[must_use]
     pub fn serial(self) -> u64 {
         self.serial
     }
@@ -112,8 +122,11 @@ impl Handle {
 #[repr(C)]
 #[derive(Clone, Copy, Debug, Default, Eq, PartialEq)]
 pub struct Timer {
+    /// The tick at which it expires, or has expired.
     pub deadline: u64,
+    /// The serial of its handle.
     pub serial: u64,
+    /// The action that its start or restart was given.
     pub action: u64,
 }
 
@@ -125,7 +138,7 @@ pub struct Counts {
     pub starts: u64,
     /// How often a timer moved to a lower wheel.
     pub moves: u64,
-    /// Buckets that were visited.
+    /// Buckets that ticks came to, also those that were known to be empty.
     pub visits: u64,
 }
 
@@ -178,18 +191,24 @@ unsafe extern "C" {
     fn timers_counts(t: *const Held, counts: *mut Counts) -> c_uint;
 }
 
+// SAFETY, of each `unsafe` below: this keeps the rules of the header. `held` begins as zeros and is private, so only the
+// library writes it, and what it owns has one owner. Each pointer is to an object of this call alone. `&mut` and the
+// missing `Sync` make calls come one at a time.
+
 /// Timers and their clock.
-///
-/// This keeps the rules of the header, for each `unsafe` below. `held` begins as zeros and is private, so only
-/// the library writes it, and what it owns has one owner. Each pointer is to an object of this call alone.
-/// `&mut` and the missing `Sync` make calls come one at a time.
 pub struct Timers {
     held: Held,
     last_tick: u64,
 }
 
-// SAFETY: the library keeps nothing of a thread, and a struct may be handed to another one (rule 4).
+// SAFETY: the library keeps nothing of a thread, and a struct may be handed to another one (THREADS of the header).
 unsafe impl Send for Timers {}
+
+impl fmt::Debug for Timers {
+    fn fmt(&self, f: &mut fmt::Formatter<'_>) -> fmt::Result {
+        f.debug_struct("Timers").field("now", &self.now()).field("pending", &self.pending()).finish_non_exhaustive()
+    }
+}
 
 impl Drop for Timers {
     fn drop(&mut self) {
@@ -210,6 +229,7 @@ fn written<T>(call: impl FnOnce(*mut T) -> c_uint) -> Result<T, Error> {
 ///
 /// # Panics
 /// If a tick has no length.
+#[must_use]
 pub fn at_least(time: Duration, tick: Duration) -> u64 {
     let ticks = time.as_nanos().div_ceil(tick.as_nanos()) + 1;
     u64::try_from(ticks).unwrap_or(u64::MAX)
@@ -271,6 +291,7 @@ impl Timers {
     }
 
     /// The timer with this handle, pending or expired and not yet taken.
+    #[must_use]
     pub fn look(&self, handle: Handle) -> Option<Timer> {
         written(|out| unsafe { timers_look(&self.held, handle, out) }).ok()
     }
@@ -285,9 +306,9 @@ impl Timers {
     }
 
     /// All timers, pending and expired, in no particular order.
-    pub fn iter(&self) -> impl Iterator<Item = (Handle, Timer)> + '_ {
-        let mut cursor = 0;
-        std::iter::from_fn(move || self.visit(&mut cursor))
+    #[must_use]
+    pub fn iter(&self) -> Iter<'_> {
+        Iter { timers: self, cursor: 0 }
     }
 
     /// Advances the clock by one tick. `Due`, `ClockEnd`.
@@ -301,14 +322,15 @@ impl Timers {
         written(|passed| unsafe { timers_advance(&mut self.held, most, passed) })
     }
 
-    /// Passes the ticks up to this one, or up to the first at which a timer expires. Does nothing if it is not
-    /// after now. `Due`, `ClockEnd`.
+    /// Passes the ticks up to this one, up to the first at which a timer expires, or up to the last tick of the clock.
+    /// Does nothing if it is not after now. `Due`, `ClockEnd`.
     pub fn advance_to(&mut self, tick: u64) -> Result<(), Error> {
         Error::of(unsafe { timers_advance_to(&mut self.held, tick) })
     }
 
-    /// Takes the next timer that is due by this tick, and passes the ticks up to it. With `None` the ticks up to
-    /// `tick` have passed, as far as the clock has them. A tick before now is none to pass.
+    /// Takes the next timer that is due by this tick, or by now if that is later, and passes the ticks up to it. With
+    /// `None` the ticks up to `tick` have passed, as far as the clock has them.
+    #[must_use]
     pub fn take(&mut self, tick: u64) -> Option<Timer> {
         let mut timer = Timer::default();
         unsafe { timers_take(&mut self.held, tick, &mut timer) }.then_some(timer)
@@ -320,12 +342,14 @@ impl Timers {
     }
 
     /// Takes the first of the expired timers.
+    #[must_use]
     pub fn expire(&mut self) -> Option<Timer> {
         let mut timer = Timer::default();
         unsafe { timers_expire(&mut self.held, &mut timer) }.then_some(timer)
     }
 
     /// Takes as many of the expired timers as there are and as fit, and returns them.
+    #[must_use]
     pub fn expire_batch<'a>(&mut self, out: &'a mut [Timer]) -> &'a [Timer] {
         // SAFETY: the pointer of a slice is not null, also if the slice is empty.
         let count = unsafe { timers_expire_batch(&mut self.held, out.as_mut_ptr(), out.len()) };
@@ -350,42 +374,71 @@ impl Timers {
     }
 
     /// Whether an expired timer was not yet taken.
+    #[must_use]
     pub fn has_due(&self) -> bool {
         unsafe { timers_has_due(&self.held) }
     }
 
     /// The present tick.
+    #[must_use]
     pub fn now(&self) -> u64 {
         unsafe { timers_now(&self.held) }
     }
 
     /// How many timers are pending. Expired ones are not counted.
+    #[must_use]
     pub fn pending(&self) -> usize {
         unsafe { timers_len(&self.held) }
     }
 
     /// A tick until which the caller may sleep, at most the first deadline; `None` if no timer is held.
+    #[must_use]
     pub fn wakeup(&self) -> Option<u64> {
         Some(unsafe { timers_wakeup(&self.held) }).filter(|&tick| tick != NEVER)
     }
 
     /// The deadline of the timer that is taken next, exactly; `None` if no timer is held.
+    #[must_use]
     pub fn next_deadline(&self) -> Option<u64> {
         Some(unsafe { timers_next(&self.held) }).filter(|&tick| tick != NEVER)
     }
 
     /// The same deadline as that of `next_deadline`. What was found is kept for later calls, so that a loop which
-    /// asks in each turn seldom waits for a walk along timers.
+    /// asks in each turn seldom waits for a walk along timers, except if each turn pushes back the first of them.
     pub fn find_next(&mut self) -> Option<u64> {
         Some(unsafe { timers_find_next(&mut self.held) }).filter(|&tick| tick != NEVER)
     }
 
-    /// How often timers were started and moved to a lower wheel, and how many buckets were visited, since the
-    /// timers were made.
+    /// How often timers were started and moved to a lower wheel, and to how many buckets ticks came, since the timers
+    /// were made.
+    #[must_use]
     pub fn counts(&self) -> Counts {
         let mut counts = Counts::default();
         // They are written, since the timers are open.
         unsafe { timers_counts(&self.held, &mut counts) };
         counts
+    }
+}
+
+/// An iteration over all timers, pending and expired.
+pub struct Iter<'a> {
+    timers: &'a Timers,
+    cursor: usize,
+}
+
+impl Iterator for Iter<'_> {
+    type Item = (Handle, Timer);
+
+    fn next(&mut self) -> Option<(Handle, Timer)> {
+        self.timers.visit(&mut self.cursor)
+    }
+}
+
+impl<'a> IntoIterator for &'a Timers {
+    type Item = (Handle, Timer);
+    type IntoIter = Iter<'a>;
+
+    fn into_iter(self) -> Iter<'a> {
+        self.iter()
     }
 }

@@ -1,6 +1,6 @@
-//! timers_desk.h for Rust: a safe wrapper over the C library, in one file that may be taken along.
+//! timers_desk.h for Rust: a wrapper over the C library, in one file that you can copy into your project.
 //!
-//! A [`Desk`] is the owner's, and stays in the thread that made it. A [`Line`] is a client's end: it can be sent to the
+//! A [`Desk`] is the owner's, and stays in the thread that made it: so it is plain which thread owns it. A [`Line`] is a client's end: it can be sent to the
 //! client's thread, and not be shared by two. Both are freed when they are dropped, in any order. timers_desk(3) says
 //! what each call does, and how threads wake each other.
 //!
@@ -15,34 +15,57 @@ use std::fmt;
 use std::marker::PhantomData;
 use std::mem::MaybeUninit;
 use std::ptr;
+use std::sync::atomic::{AtomicU64, Ordering};
 
 const OK: c_uint = 0;
 const NEVER: u64 = u64::MAX;
+const CLIENTS: usize = 64;
 
 /// Why a call was refused, or a request.
 #[derive(Clone, Copy, Debug, Eq, PartialEq)]
 #[non_exhaustive]
 pub enum Error {
+    /// No desk or no line is held.
     NotOpen,
+    /// A desk or a line is held already.
     Open,
+    /// Out of memory.
     NoMemory,
+    /// No timer of the client has this handle.
     NotPending,
+    /// The interval is 0, or the deadline has passed.
     ZeroInterval,
+    /// After the last tick.
     TooLate,
+    /// Every serial was used.
     SerialsSpent,
+    /// The clock is at its last tick.
     ClockEnd,
+    /// The desk was closed.
     Closed,
+    /// As many timers are pending as may be.
     Capacity,
+    /// No such client.
     NoClient,
+    /// Every number of the client was used.
     NumbersSpent,
+    /// The line is full.
     LineFull,
+    /// The line has finished.
     Finished,
+    /// A number is out of its range.
     OutOfRange,
+    /// No request was found.
     Idle,
+    /// The outbox has no room.
     NoRoom,
+    /// The line is not this client's.
     OtherLine,
+    /// The line has not finished.
     NotFinished,
+    /// Something of the client is left.
     Left,
+    /// The client's line was not freed.
     NotFreed,
     /// A status of a later library.
     Other(c_uint),
@@ -79,7 +102,30 @@ impl Error {
 
 impl fmt::Display for Error {
     fn fmt(&self, f: &mut fmt::Formatter<'_>) -> fmt::Result {
-        write!(f, "libtimers: {self:?}")
+        f.write_str(match self {
+            Error::NotOpen => "no desk or no line is held",
+            Error::Open => "a desk or a line is held already",
+            Error::NoMemory => "out of memory",
+            Error::NotPending => "no timer of the client has this handle",
+            Error::ZeroInterval => "the interval is 0, or the deadline has passed",
+            Error::TooLate => "after the last tick",
+            Error::SerialsSpent => "every serial was used",
+            Error::ClockEnd => "the clock is at its last tick",
+            Error::Closed => "the desk was closed",
+            Error::Capacity => "as many timers are pending as may be",
+            Error::NoClient => "no such client",
+            Error::NumbersSpent => "every number of the client was used",
+            Error::LineFull => "the line is full",
+            Error::Finished => "the line has finished",
+            Error::OutOfRange => "a number is out of its range",
+            Error::Idle => "no request was found",
+            Error::NoRoom => "the outbox has no room",
+            Error::OtherLine => "the line is not this client's",
+            Error::NotFinished => "the line has not finished",
+            Error::Left => "something of the client is left",
+            Error::NotFreed => "the client's line was not freed",
+            Error::Other(status) => return write!(f, "status {status}"),
+        })
     }
 }
 
@@ -89,9 +135,19 @@ fn done<T>(status: c_uint, value: T) -> Result<T, Error> {
     if status == OK { Ok(value) } else { Err(Error::of(status)) }
 }
 
+/// The slots of the wheels.
+#[derive(Clone, Copy, Debug, Eq, PartialEq)]
+pub enum Table {
+    /// Ten wheels of 64 slots.
+    Wide = 0,
+    /// 60 seconds, 60 minutes, 24 hours, 100 days.
+    Clock = 1,
+}
+
 /// What a desk is made with. [`Config::new`] gives room enough for clients that keep to its numbers.
 #[derive(Clone, Copy, Debug, Eq, PartialEq)]
 pub struct Config {
+    /// The tick at which the clock begins.
     pub first_tick: u64,
     /// The most timers that may be pending at a time, of all clients.
     pub capacity: u64,
@@ -99,15 +155,17 @@ pub struct Config {
     pub room: usize,
     /// How many requests, and how many words, a line has room for.
     pub line: usize,
-    /// 0: ten wheels of 64 slots; 1: seconds, minutes, hours, 100 days.
-    pub table: u32,
+    pub table: Table,
 }
 
 impl Config {
     /// For clients that keep at most `timers` timers each, and have at most `requests` requests without an answer: none
-    /// of their requests is ever held back for want of room.
+    /// of their requests is ever held back for want of room. Numbers that are too large for a desk are refused by
+    /// [`Desk::new`].
+    #[must_use]
     pub fn new(capacity: u64, timers: usize, requests: usize) -> Config {
-        Config { first_tick: 0, capacity, room: timers + requests + 1, line: requests, table: 0 }
+        let room = timers.saturating_add(requests).saturating_add(1);
+        Config { first_tick: 0, capacity, room, line: requests, table: Table::Wide }
     }
 }
 
@@ -121,17 +179,22 @@ pub struct Handle {
 
 impl Handle {
     /// Counts the starts and restarts of the desk, from 1.
+    #[must_use]
     pub fn serial(self) -> u64 {
         self.serial
     }
 }
 
-/// A timer that was handed out. `number` is that of the request that started it.
+/// A timer that was handed out.
 #[derive(Clone, Copy, Debug, Eq, PartialEq)]
 pub struct Timer {
+    /// The number of the request that started it.
     pub number: u64,
+    /// The serial of its handle.
     pub serial: u64,
+    /// The tick at which it expired, or would have.
     pub deadline: u64,
+    /// The action that its request had.
     pub action: u64,
 }
 
@@ -139,12 +202,19 @@ pub struct Timer {
 #[derive(Clone, Copy, Debug, Eq, PartialEq)]
 #[non_exhaustive]
 pub enum Word {
+    /// The timer of this request has started.
     Started { number: u64, handle: Handle, deadline: u64 },
+    /// The same, in place of the timer with the serial `old`.
     Restarted { number: u64, handle: Handle, deadline: u64, old: u64 },
+    /// The timer with this serial was stopped.
     Stopped { number: u64, serial: u64 },
+    /// The request was taken and refused. Nothing else changed.
     Refused { number: u64, reason: Error },
+    /// The request was not taken.
     NotTaken { number: u64, reason: Error },
+    /// The timer has expired.
     Expired(Timer),
+    /// The desk was closed, and returns the timer.
     Returned(Timer),
 }
 
@@ -190,6 +260,7 @@ struct RawConfig {
 struct RawDesk {
     at: *mut c_void,
     mark: u64,
+    lives: u64,
 }
 
 /// `struct timers_line`. It may be moved.
@@ -198,11 +269,12 @@ struct RawLine {
     at: *mut c_void,
     mark: u64,
     client: u64,
+    life: u64,
 }
 
 impl RawLine {
     fn none() -> RawLine {
-        RawLine { at: ptr::null_mut(), mark: 0, client: 0 }
+        RawLine { at: ptr::null_mut(), mark: 0, client: 0, life: 0 }
     }
 }
 
@@ -239,6 +311,9 @@ unsafe extern "C" {
     fn timers_line_free(line: *mut RawLine);
 }
 
+/// How many desks were made.
+static DESKS: AtomicU64 = AtomicU64::new(0);
+
 /// The owner's desk. It is neither sent to another thread nor shared.
 pub struct Desk {
     held: RawDesk,
@@ -261,11 +336,17 @@ impl Line {
 }
 
 impl Desk {
-    /// A desk with `clients` clients, and the end of each.
+    /// A desk with `clients` clients, 1 to 64, and the end of each. `OutOfRange`, `TooLate`, `NoMemory`.
     pub fn new(clients: usize, config: Config) -> Result<(Desk, Vec<Line>), Error> {
+        // The library looks at all lines before it refuses so many.
+        if clients > CLIENTS {
+            return Err(Error::OutOfRange);
+        }
         let Config { first_tick, capacity, room, line, table } = config;
-        let raw = RawConfig { size: size_of::<RawConfig>(), first_tick, capacity, room, line, table };
-        let mut desk = Desk { held: RawDesk { at: ptr::null_mut(), mark: 0 }, clients };
+        let raw = RawConfig { size: size_of::<RawConfig>(), first_tick, capacity, room, line, table: table as u32 };
+        // Each desk counts from another number, so that a line of another desk is refused.
+        let lives = DESKS.fetch_add(1, Ordering::Relaxed);
+        let mut desk = Desk { held: RawDesk { at: ptr::null_mut(), mark: 0, lives }, clients };
         let mut lines: Vec<RawLine> = (0..clients).map(|_| RawLine::none()).collect();
         let status = unsafe { timers_desk_new(&mut desk.held, lines.as_mut_ptr(), clients, &raw) };
         done(status, ())?;
@@ -273,11 +354,13 @@ impl Desk {
     }
 
     /// How many clients there are.
+    #[must_use]
     pub fn clients(&self) -> usize {
         self.clients
     }
 
-    /// Serves a client once.
+    /// Serves a client once. `Idle` if it has no request, `NoRoom` if its outbox has no room for more words. With
+    /// `NoMemory` its request is held, and tried first at the next serve.
     pub fn serve(&mut self, client: usize) -> Result<(), Error> {
         done(unsafe { timers_desk_serve(&mut self.held, client) }, ())
     }
@@ -297,14 +380,15 @@ impl Desk {
         unsafe { timers_desk_flush_all(&mut self.held) }
     }
 
-    /// Passes at most `most` ticks, up to the first at which a timer expires, and returns how many.
+    /// Passes at most `most` ticks, up to the first at which a timer expires, and returns how many. `Closed`, `ClockEnd`.
     pub fn advance(&mut self, most: u64) -> Result<u64, Error> {
         let mut passed = 0;
         let status = unsafe { timers_desk_advance(&mut self.held, most, &mut passed) };
         done(status, passed)
     }
 
-    /// Passes the ticks up to this one. Does nothing if it has passed.
+    /// Passes the ticks up to this one, also those at which timers expire. Does nothing if it has passed. `Closed`. With
+    /// `ClockEnd` the ticks up to the last one of the clock have passed.
     pub fn advance_to(&mut self, tick: u64) -> Result<(), Error> {
         while self.now() < tick {
             self.advance(tick - self.now())?;
@@ -319,7 +403,8 @@ impl Desk {
         done(status, returned)
     }
 
-    /// Ends the words of a client that has finished, and returns how many it has still to receive.
+    /// Ends the words of a client that has finished, and returns how many it has still to receive. `OtherLine` if it
+    /// is a line of another client or of another desk, `NotFinished`.
     pub fn end(&mut self, client: usize, line: &mut Line) -> Result<usize, Error> {
         let mut unread = 0;
         let status = unsafe { timers_desk_end(&mut self.held, client, &mut line.held, &mut unread) };
@@ -340,44 +425,57 @@ impl Desk {
         done(status, line).map(Line::of)
     }
 
-    /// Makes room for as many timers as may be pending.
+    /// Makes room for as many timers as may be pending: no serve and no close runs out of memory from then on.
     pub fn reserve(&mut self) -> Result<(), Error> {
         done(unsafe { timers_desk_reserve(&mut self.held) }, ())
     }
 
     /// The present tick.
+    #[must_use]
     pub fn now(&self) -> u64 {
         unsafe { timers_desk_now(&self.held) }
     }
 
     /// How many timers are pending.
+    #[must_use]
     pub fn pending(&self) -> usize {
         unsafe { timers_desk_len(&self.held) }
     }
 
     /// How many timers of a client are pending.
+    #[must_use]
     pub fn pending_of(&self, client: usize) -> usize {
         unsafe { timers_desk_pending(&self.held, client) }
     }
 
     /// How many words wait for a client.
+    #[must_use]
     pub fn outbox(&self, client: usize) -> usize {
         unsafe { timers_desk_outbox(&self.held, client) }
     }
 
     /// A tick until which nothing expires, or None if nothing is pending.
+    #[must_use]
     pub fn wakeup(&self) -> Option<u64> {
         Some(unsafe { timers_desk_wakeup(&self.held) }).filter(|tick| *tick != NEVER)
     }
 
     /// The first deadline, or None if nothing is pending.
-    pub fn next(&self) -> Option<u64> {
+    #[must_use]
+    pub fn next_deadline(&self) -> Option<u64> {
         Some(unsafe { timers_desk_next(&self.held) }).filter(|tick| *tick != NEVER)
     }
 
     /// Whether a client's line was dropped.
+    #[must_use]
     pub fn line_freed(&mut self, client: usize) -> bool {
         unsafe { timers_desk_line_freed(&mut self.held, client) }
+    }
+}
+
+impl fmt::Debug for Desk {
+    fn fmt(&self, f: &mut fmt::Formatter<'_>) -> fmt::Result {
+        f.debug_struct("Desk").field("now", &self.now()).field("pending", &self.pending()).finish_non_exhaustive()
     }
 }
 
@@ -389,6 +487,7 @@ impl Drop for Desk {
 
 impl Line {
     /// The number of its client.
+    #[must_use]
     pub fn client(&self) -> usize {
         self.held.client as usize
     }
@@ -429,6 +528,7 @@ impl Line {
     }
 
     /// Receives the next word, if one is there.
+    #[must_use]
     pub fn receive(&mut self) -> Option<Word> {
         let mut word = MaybeUninit::<RawWord>::uninit();
         if unsafe { timers_line_receive(&mut self.held, word.as_mut_ptr()) } {
@@ -444,13 +544,21 @@ impl Line {
     }
 
     /// Whether the owner has ended the words, and all were received.
+    #[must_use]
     pub fn ended(&self) -> bool {
         unsafe { timers_line_ended(&self.held) }
     }
 
     /// Whether the desk was dropped, and all words that it had put into the line were received.
+    #[must_use]
     pub fn abandoned(&mut self) -> bool {
         unsafe { timers_line_abandoned(&mut self.held) }
+    }
+}
+
+impl fmt::Debug for Line {
+    fn fmt(&self, f: &mut fmt::Formatter<'_>) -> fmt::Result {
+        f.debug_struct("Line").field("client", &self.client()).finish_non_exhaustive()
     }
 }
 

@@ -4,7 +4,7 @@ mod timers_desk;
 
 use std::collections::BTreeMap;
 use std::thread;
-use timers_desk::{Config, Desk, Error, Handle, Line, Timer, Word};
+use timers_desk::{Config, Desk, Error, Handle, Line, Table, Timer, Word};
 
 struct Random(u64);
 
@@ -95,8 +95,8 @@ fn agrees_with_a_map(seed: u64) {
             }
         }
         assert_eq!((desk.pending(), desk.pending_of(0)), (model.len(), model.len()));
-        assert_eq!(desk.next(), model.first_key_value().map(|(key, _)| key.0));
-        assert!(desk.wakeup().is_none_or(|tick| tick > desk.now() && Some(tick) <= desk.next()));
+        assert_eq!(desk.next_deadline(), model.first_key_value().map(|(key, _)| key.0));
+        assert!(desk.wakeup().is_none_or(|tick| tick > desk.now() && Some(tick) <= desk.next_deadline()));
     }
     assert_eq!(desk.close(), Ok(model.len() as u64));
     turn(&mut desk);
@@ -108,10 +108,36 @@ fn agrees_with_a_map(seed: u64) {
     let number = line.start(1, 1).unwrap();
     turn(&mut desk);
     assert_eq!(line.receive(), Some(Word::NotTaken { number, reason: Error::Closed }));
-    assert_eq!(format!("{}, {}", Error::Closed, Error::Other(99)), "libtimers: Closed, libtimers: Other(99)");
+    assert_eq!(format!("{}, {}", Error::Closed, Error::Other(99)), "the desk was closed, status 99");
     line.finish().unwrap();
     assert_eq!((desk.end(0, &mut line), line.ended(), line.abandoned()), (Ok(0), true, false));
     assert_eq!(line.start(1, 1), Err(Error::Finished));
+}
+
+/// Each client's timers and words are counted for it alone.
+fn counts_by_client() {
+    let (mut desk, mut lines) = Desk::new(2, Config::new(9, 4, 4)).unwrap();
+    lines[0].start(5, 1).unwrap();
+    lines[1].start(3, 2).unwrap();
+    lines[1].start(9, 3).unwrap();
+    turn(&mut desk);
+    assert_eq!((desk.pending_of(0), desk.pending_of(1), desk.pending()), (1, 2, 3));
+    assert_eq!((desk.advance(20), desk.now()), (Ok(3), 3));
+    assert_eq!((desk.pending_of(1), desk.outbox(0), desk.outbox(1), desk.pending()), (1, 0, 1, 2));
+    assert_eq!((desk.flush(0), desk.flush(1)), (0, 1));
+}
+
+/// A line of another desk ends nothing, even if its client has the same number.
+fn refuses_a_line_of_another_desk() {
+    let (mut desk, mut lines) = Desk::new(1, Config::new(9, 4, 4)).unwrap();
+    let (mut other, mut strangers) = Desk::new(1, Config::new(9, 4, 4)).unwrap();
+    let (line, stranger) = (&mut lines[0], &mut strangers[0]);
+    line.finish().unwrap();
+    stranger.finish().unwrap();
+    assert_eq!((desk.end(0, stranger), other.end(0, line)), (Err(Error::OtherLine), Err(Error::OtherLine)));
+    assert!(!line.ended() && !stranger.ended());
+    assert_eq!((desk.end(0, line), other.end(0, stranger)), (Ok(0), Ok(0)));
+    assert!(line.ended() && stranger.ended());
 }
 
 /// A client that is dropped makes room for another, whose numbers go on.
@@ -199,13 +225,30 @@ fn threads(clients: usize) {
     assert_eq!((expired, desk.pending()), (2_000 * clients as u64, 0));
 }
 
+fn passes_the_last_tick() {
+    let config = Config { first_tick: 8_639_990, table: Table::Clock, ..Config::new(1, 1, 1) };
+    let (mut desk, mut lines) = Desk::new(1, config).unwrap();
+    lines[0].start(5, 7).unwrap();
+    turn(&mut desk);
+    assert_eq!((desk.advance_to(u64::MAX), desk.now(), desk.pending()), (Err(Error::ClockEnd), 8_639_999, 0));
+    assert_eq!(format!("{desk:?} {:?}", lines[0]), "Desk { now: 8639999, pending: 0, .. } Line { client: 0, .. }");
+}
+
 fn main() {
     for seed in 1..=4 {
         agrees_with_a_map(seed);
     }
     clients_come_and_go();
+    counts_by_client();
+    refuses_a_line_of_another_desk();
     threads(1);
     threads(8);
-    assert_eq!(Desk::new(65, Config::new(1, 1, 1)).err(), Some(Error::OutOfRange));
+    for clients in [0, 65, 100_000_000_000, usize::MAX] {
+        assert_eq!(Desk::new(clients, Config::new(1, 1, 1)).unwrap_err(), Error::OutOfRange);
+    }
+    for (timers, requests) in [(usize::MAX, 1), (1, usize::MAX), (usize::MAX, usize::MAX)] {
+        assert_eq!(Desk::new(1, Config::new(1, timers, requests)).unwrap_err(), Error::OutOfRange);
+    }
+    passes_the_last_tick();
     println!("ok");
 }
