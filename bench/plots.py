@@ -3,7 +3,8 @@
 
     plots.py [FOLDER]      by default docs/. It needs Debian's python3-matplotlib
 
-Each picture has the colours of light and dark pages, and a marker shape for each series.
+Each picture has the colours of light and dark pages, and a marker shape for each series. It is as narrow as a phone, so
+that its words can be read there.
 """
 import os
 import re
@@ -22,12 +23,14 @@ from figures import ends, median  # noqa: E402
 THEMES = {"#1a222d": "#e7ebf0", "#56616f": "#9ba7b5", "#d9dee5": "#2c3541", "#fefefe": "#0d1117",
           "#0b5cad": "#6cb0f5", "#b24a00": "#ffa463", "#5b6675": "#b8c2cf"}
 INK, SOFT, GRID, PAPER, PRODUCT, FIRST_PEER, SECOND_PEER = THEMES
+WIDTH = 5.6  # inches
+MARKS = "mark: median; bar: least to greatest of the runs"
 STYLES = {"product": (PRODUCT, "o"), "first": (FIRST_PEER, "s"), "second": (SECOND_PEER, "^")}
 plt.rcParams.update({
-    "svg.fonttype": "none", "svg.hashsalt": "timers", "font.family": "sans-serif", "font.size": 11, "figure.facecolor": PAPER,
-    "axes.facecolor": PAPER, "axes.edgecolor": SOFT, "axes.labelcolor": INK, "axes.titlesize": 11, "text.color": INK, "grid.color": GRID,
+    "svg.fonttype": "none", "svg.hashsalt": "timers", "font.family": "sans-serif", "font.size": 12, "figure.facecolor": PAPER,
+    "axes.facecolor": PAPER, "axes.edgecolor": SOFT, "axes.labelcolor": INK, "axes.titlesize": 12, "axes.labelsize": 11, "text.color": INK, "grid.color": GRID,
     "xtick.color": SOFT, "ytick.color": SOFT, "xtick.labelcolor": INK, "ytick.labelcolor": INK, "axes.spines.top": False, "axes.spines.right": False,
-    "legend.frameon": False, "lines.markersize": 6,
+    "legend.frameon": False, "lines.markersize": 6.5,
 })
 
 
@@ -39,7 +42,7 @@ def of_ns(value, _=None):
 
 def machine(part):
     row = next(row for row in figures.read("settings") if row["part"] == part)
-    return f"{row['machine']}, {row['date']}"
+    return f"{row['machine'].replace('(R)', '').replace(' Processor', '')}, {row['date']}"
 
 
 def draw(axes, at, cells, style, label=None, is_across=False):
@@ -86,31 +89,53 @@ def ratio_axis(axes, low, high, ticks):
     axes.tick_params(axis="y", length=0)
 
 
-def legend(figure, axes):
+def legend(figure, axes, columns=3):
     """One legend above all axes."""
-    figure.get_layout_engine().set(rect=(0, 0, 1, 1 - 0.3 / figure.get_figheight()))
-    figure.legend(*axes.get_legend_handles_labels(), loc="upper center", ncols=3)
+    handles, labels = axes.get_legend_handles_labels()
+    rows = -(-len(labels) // columns)
+    figure.get_layout_engine().set(rect=(0, 0, 1, 1 - (0.1 + 0.24 * rows) / figure.get_figheight()))
+    figure.legend(handles, labels, loc="upper center", ncols=columns, columnspacing=1.2, handletextpad=0.3)
+
+
+def under(figure, text):
+    """What a picture shows, below all axes."""
+    figure.supxlabel(text, fontsize=11)
+
+
+# What the units of a workload are, in words.
+WORKLOADS = {"churn": "stop and start", "push-back": "push back", "expire": "start and expire", "quiet": "quiet tick",
+             "steady": "steady load", "burst": "burst"}
+
+
+def in_words(workload):
+    """A workload and its size: timers pending, or the greatest interval."""
+    name, size = workload.rsplit("-", 1)
+    return f"{WORKLOADS[name]}, {size.replace('log', '2^')}"
 
 
 def bench(folder):
     rows = figures.read("wheels")
-    figure, axes = plt.subplots(figsize=(8.6, 7.6), layout="constrained")
-    for shift, style, column, label in ((-0.24, "product", "timers-hier", "timers"), (0, "first", "tokio-wheel", "tokio-util"),
-                                        (0.24, "second", "libuv", "libuv")):
+    figure, axes = plt.subplots(figsize=(WIDTH, 8.4), layout="constrained")
+    for shift, style, column, label in ((-0.24, "product", "timers-c", "timers (C library)"),
+                                        (0, "first", "tokio-wheel", "tokio-util"), (0.24, "second", "libuv", "libuv")):
         draw(axes, [at + shift for at in range(len(rows))], [row[column] for row in rows], style, label, is_across=True)
-    axes.set_yticks(range(len(rows)), [row["workload"] for row in rows])
+    axes.set_yticks(range(len(rows)), [in_words(row["workload"]) for row in rows])
     axes.set_ylim(len(rows) - 0.4, -0.6)
-    ratio_axis(axes, 0.4, 25, [0.5, 0.7, 1, 1.5, 2, 3, 5, 10, 20])
+    ratio_axis(axes, 0.4, 25, [0.5, 1, 2, 5, 10, 20])
     for at in range(len(rows) - 1):
         axes.axhline(at + 0.5, color=GRID, linewidth=0.6)
-    axes.set_xlabel("processor time, as a ratio to a hand-tuned C++ wheel (1); less is better\n" + machine("wheels"))
+    under(figure, f"ratio to a hand-tuned C++ wheel (1); less is better\n{MARKS}\n"
+          f"no mark: it can't do that load, or was not measured\n{machine('wheels')}")
     legend(figure, axes)
     save(figure, folder, "bench", "timers, tokio-util and libuv beside a hand-tuned C++ wheel",
-         "Ratios of processor time by workload: medians of five runs with the least and the greatest. bench/results/wheels.csv has the numbers.")
+         "Ratios of processor time by workload: medians of five runs with the least and the greatest. Less is better. With the C "
+         "library of timers they are 0.8 to 1.6 but for quiet ticks, at 3.3 to 5.2; with tokio-util 1.1 to 15; with libuv 4.0 to 16. "
+         "bench/results/wheels.csv has the numbers.")
 
 
-def panels(count, width):
-    figure, all_axes = plt.subplots(1, count, figsize=(width, 4.2), layout="constrained", sharey=True)
+def panels(rows, columns):
+    figure, all_axes = plt.subplots(rows, columns, figsize=(WIDTH, 2.9 * rows + 1.2), layout="constrained", sharey=True)
+    all_axes = list(all_axes.flat)
     for axes in all_axes:
         axes.set_yscale("log")
         axes.yaxis.set_major_formatter(FuncFormatter(of_ns))
@@ -125,7 +150,7 @@ FACILITIES = {"timers-c": ("product", "timers (C library)"), "ref-hier": ("first
 def scale(folder):
     rows = {(row["operation"], row["facility"]): row for row in figures.read("scale")}
     sizes = [size for size in next(iter(rows.values())) if size.isdigit()]
-    figure, all_axes = panels(4, 10.5)
+    figure, all_axes = panels(2, 2)
     for axes, operation in zip(all_axes, ("start", "stop", "restart", "tick")):
         for facility, (style, label) in FACILITIES.items():
             draw(axes, [float(size) for size in sizes], [rows[operation, facility][size] for size in sizes], style, label)
@@ -133,8 +158,8 @@ def scale(folder):
         axes.set_xscale("log")
         axes.set_xticks([float(size) for size in sizes], ["10³", "10⁴", "10⁵", "10⁶", "10⁷"])
         axes.xaxis.set_minor_locator(NullLocator())
-    figure.supxlabel("pending timers; processor time of one operation; less is better\n" + machine("scale"), fontsize=11)
-    legend(figure, all_axes[0])
+    under(figure, f"pending timers; processor time of one operation; less is better\n{machine('scale')}")
+    legend(figure, all_axes[0], 2)
     save(figure, folder, "scale", "What an operation costs, by the number of pending timers",
          "A panel each for start, stop, restart and a tick with nothing due, 1,000 to 10,000,000 timers. bench/results/scale.csv has the numbers.")
 
@@ -142,14 +167,15 @@ def scale(folder):
 def tail(folder):
     rows = {(row["what"], row["facility"]): row for row in figures.read("tail")}
     ranks = ["p50", "p99", "p99.9", "p99.99", "longest"]
-    figure, all_axes = panels(3, 10.5)
+    figure, all_axes = panels(3, 1)
     for axes, what in zip(all_axes, ("a tick", "a start, the table grows", "a start, with room")):
         for facility, (style, label) in FACILITIES.items():
             draw(axes, range(len(ranks)), [rows[what, facility][rank] for rank in ranks], style, label)
         axes.set_title(what, fontweight="bold")
         axes.set_xticks(range(len(ranks)), ["50", "99", "99.9", "99.99", "all"])
-    figure.supxlabel("so many per cent take at most so long, with a million timers; less is better\n" + machine("tail"), fontsize=11)
-    legend(figure, all_axes[0])
+    under(figure, "the share of them, in per cent, that takes at most so long\n"
+          f"a million timers; less is better\n{machine('tail')}")
+    legend(figure, all_axes[0], 2)
     save(figure, folder, "tail", "How long single ticks and starts take, with a million timers",
          "Elapsed time by rank, from the median to the longest. bench/results/tail.csv has the numbers.")
 
@@ -159,12 +185,12 @@ def lines(folder):
     for row in figures.read("threads"):
         cores = f"threads, {row['cores']} core{'' if row['cores'] == '1' else 's'}"
         rows.append((cores, row["to threads_ref"]))
-    figure, axes = plt.subplots(figsize=(8.6, 5.2), layout="constrained")
+    figure, axes = plt.subplots(figsize=(WIDTH, 5.6), layout="constrained")
     draw(axes, range(len(rows)), [cell for _, cell in rows], "product", is_across=True)
     axes.set_yticks(range(len(rows)), [name for name, _ in rows])
     axes.set_ylim(len(rows) - 0.4, -0.6)
-    ratio_axis(axes, 0.15, 10, [0.2, 0.5, 1, 2, 3, 5, 10])
-    axes.set_xlabel("ratio to the row's peer in C++ (1); less is better\n" + machine("lines"))
+    ratio_axis(axes, 0.15, 10, [0.2, 0.5, 1, 2, 5, 10])
+    under(figure, f"ratio to the row's peer in C++ (1); less is better\n{MARKS}\n{machine('lines')}")
     save(figure, folder, "lines", "The desk, its flushes and client threads beside their peers",
          "Ratios of time with the least and the greatest of five runs. bench/results/lines.csv and threads.csv have the numbers.")
 

@@ -5,8 +5,8 @@ const SVG = "http://www.w3.org/2000/svg";
 const INNER = 78;
 const OUTER = 98;
 const MAX_NUMBERS = 8; // slots of one wheel that have their number on the ring
-const NEAR = 0.045;    // of a turn: two numbers on the ring don't touch
-const BESIDE = 0.14;   // of a turn: a number doesn't touch the words at a slot
+const NEAR = 0.06;     // of a turn: two numbers on the ring don't touch
+const SIDE = 45;       // a number that is so far from the middle is beside the ring, or else above or below it
 
 function make(tag, attributes, ...children) {
   const svg = ["svg", "circle", "path", "text", "g", "line", "title"].includes(tag);
@@ -79,15 +79,18 @@ class WheelCard {
     return this.svg;
   }
 
-  // Where a slot is on the screen, at its outer edge.
+  // Where an arrow to or from a slot ends on the screen, outside of the slot's number, and the way outwards.
   spot(slot) {
-    const [x, y] = point((slot + 0.5) / this.play.wheels[this.wheel].slots, OUTER + 3);
+    const turn = (slot + 0.5) / this.play.wheels[this.wheel].slots;
+    const [awayX, awayY] = point(turn, 1);
+    const number = parseFloat(getComputedStyle(this.scale.firstChild).fontSize);
+    const [x, y] = point(turn, OUTER + 8 + number * (Math.abs(awayX) * OUTER < SIDE ? 1 : 1.3));
     const {a, d, e, f} = this.svg.getScreenCTM();
-    return [a * x + e, d * y + f];
+    return {x: a * x + e, y: d * y + f, awayX, awayY};
   }
 
   // `held` are the slots that have timers and their lists; `chosen` is the slot of the followed timer, or
-  // null; `left` and `came` are the slots that timers have just moved away from and to, and their moves.
+  // null; `left` and `came` are the slots that timers have just left and moved to, and these events.
   render({held, chosen, left, came}, now, followed) {
     if (this.svg) {
       this.renderRing(held, chosen, left, now);
@@ -102,33 +105,27 @@ class WheelCard {
     const quarters = slots < 8 ? [...Array(slots).keys()] : [0, 1, 2, 3].map((k) => Math.floor((k * slots) / 4));
     const occupied = held.length <= MAX_NUMBERS ? held.map(([slot]) => slot) : [];
     if (chosen !== null) occupied.unshift(chosen);
-    const kind = (moved) => `moved-label ${colour(moved, followed)}`;
     const wanted = [
-      ...[...came].map(([slot, moved]) => [slot, `now in slot ${slot}`, kind(moved)]),
-      ...[...left].map(([slot, moved]) => [slot, `was in slot ${slot}`, kind(moved)]),
-      ...occupied.map((slot) => [slot, String(slot), slot === chosen ? "is-followed" : "is-held"]),
-      ...quarters.map((slot) => [slot, String(slot), ""]),
+      ...[...came, ...left].map(([slot, events]) => [slot, `is-moved ${colour(events, followed)}`]),
+      ...occupied.map((slot) => [slot, slot === chosen ? "is-followed" : "is-held"]),
+      ...quarters.map((slot) => [slot, ""]),
     ];
     const put = [];
     for (const label of wanted) {
-      const isFree = put.every(([other, , of]) => {
+      const isFree = put.every(([other]) => {
         const apart = Math.abs(label[0] - other) / slots;
-        return Math.min(apart, 1 - apart) >= (of.startsWith("moved-label") ? BESIDE : NEAR);
+        return Math.min(apart, 1 - apart) >= NEAR;
       });
       if (isFree) put.push(label);
     }
-    this.scale.replaceChildren(...put.flatMap((label) => this.scaleLabel(label, slots)));
+    this.scale.replaceChildren(...put.map(([slot, kind]) => this.scaleLabel(slot, kind, slots)));
   }
 
-  // A number at the ring. That of a slot to or from which timers moved has words on a wide screen.
-  scaleLabel([slot, said, kind], slots) {
-    const [x, y] = point((slot + 0.5) / slots, 109);
-    if (!kind.startsWith("moved-label")) return [make("text", {class: `slot-label ${kind}`, x, y}, said)];
-    const side = x < 0 ? "is-left" : "is-right";
-    return [
-      make("text", {class: `slot-label ${kind} ${side}`, x: x + 5 * Math.sign(x), y}, said),
-      make("text", {class: `slot-label ${kind.replace("moved-label", "instead")}`, x, y}, String(slot)),
-    ];
+  // A number outside of the ring.
+  scaleLabel(slot, kind, slots) {
+    const [x, y] = point((slot + 0.5) / slots, OUTER + 5);
+    const side = Math.abs(x) < SIDE ? (y < 0 ? "is-top" : "is-bottom") : x < 0 ? "is-left" : "is-right";
+    return make("text", {class: `slot-label ${side} ${kind}`, x, y}, String(slot));
   }
 
   segment(slot) {
@@ -164,11 +161,14 @@ class WheelCard {
   renderBuckets(held, chosen, left, came, followed) {
     const rows =
         held.map(([slot, list]) => this.row(slot, list, slot === chosen ? followed : null, came.get(slot), followed));
-    for (const [slot, moved] of [...left].slice(0, MAX_NUMBERS))
+    for (const [slot, events] of [...left].slice(0, MAX_NUMBERS))
       rows.push(make("li", {class: "gone"}, make("span", {class: "name"}, this.slotName(slot)),
-          this.went(this.words.gone(moved), moved, followed)));
+          this.went(this.words.gone(events), events, followed)));
     if (!held.length && !left.size) rows.push(make("li", {}, make("span", {class: "none"}, "empty")));
     this.list.replaceChildren(...rows);
+    // In a list that scrolls by itself the first row that has changed is in sight.
+    const changed = this.list.querySelector(".went")?.closest("li");
+    if (changed) this.list.scrollTop = changed.offsetTop - this.list.offsetTop;
     const live = new Set(held.map(([slot]) => slot));
     for (const slot of this.rows.keys())
       if (!live.has(slot)) this.rows.delete(slot);

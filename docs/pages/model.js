@@ -77,12 +77,15 @@ class Play {
     const line = this.lines[this.steps[step - 1].line].split(" ");
     if (words[0] === "started") this.begin(words[3], words[1], words[4], line[4], step, null);
     else if (words[0] === "restarted") {
-      this.happen(words[3], step, {kind: "restarted", by: words[4]});
+      this.leave(words[3], step, {kind: "restarted", by: words[4]});
       this.begin(words[4], words[1], words[5], line[5], step, words[3]);
-    } else if (words[0] === "stopped") this.happen(words[3], step, {kind: "stopped"});
-    else if (words[0] === "expired") this.happen(words[3], step, {kind: "expired", tick: BigInt(words[1])});
-    else if (words[0] === "returned") this.happen(words[2], step, {kind: "returned"});
+    } else if (words[0] === "stopped") this.leave(words[3], step, {kind: "stopped"});
+    else if (words[0] === "expired") this.leave(words[3], step, {kind: "expired", tick: BigInt(words[1])});
+    else if (words[0] === "returned") this.leave(words[2], step, {kind: "returned"});
   }
+
+  // The end of a timer, with the bucket that it leaves.
+  leave(serial, step, event) { this.happen(serial, step, {...event, from: this.timers.get(serial)?.key ?? undefined}); }
 
   begin(serial, client, deadline, action, step, old) {
     const timer = {serial, client, action, deadline: BigInt(deadline), old, start: this.now(step)};
@@ -104,6 +107,17 @@ class Play {
       timer.note = note;
     }
     if (between.length) this.used.add(wheel);
+  }
+
+  // The serial of the timer of which there is most to be seen: the most events, and then the latest end. Or null.
+  longest() {
+    let found = null;
+    for (const timer of this.timers.values()) {
+      const {length} = timer.events;
+      const more = found ? length - found.events.length || timer.events[length - 1].step - found.events[length - 1].step : 1;
+      if (more > 0) found = timer;
+    }
+    return found && found.serial;
   }
 
   // Where a timer stands after a step: its key, or null where it isn't pending.

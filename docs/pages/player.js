@@ -4,13 +4,14 @@
 const MAX_ARROWS = 12;   // of one step
 const READ_FIRST = 2000; // milliseconds that Play rests at least where a timer moves or comes out
 const READ_LETTER = 20;  // and for each letter that is said there
+const EDGE = 8;          // pixels between what is brought into sight and the edge of the screen
 
 const $ = (id) => document.getElementById(id);
 const play = new Play(PLAYS.find(({name}) => location.hash === `#${name}`) ?? PLAYS[0]);
 const words = new Words(play);
 const shown = {
   step: 0,
-  followed: play.timers.size ? play.timers.keys().next().value : null,
+  followed: play.longest(),
   timer: null
 };
 const wide = window.matchMedia("(min-width: 860px)");
@@ -29,21 +30,13 @@ const lines = new LineList(play, $("lines"), go);
 // What kind of news a sentence is, for its colour.
 function kindOf(said, isBad) {
   if (isBad || said.includes(" is refused as ")) return "fault";
-  if (said.startsWith("By digits: ")) return "rule";
   return /^Timers? .* expires?[,.]|timers have .* expire[,.]/.test(said) ? "out" : "";
 }
 
 function newsOf(step) {
   const isBad = step > 0 && play.steps[step - 1].isBad === true;
   const said = words.of(step).map((sentence) => make("p", {class: kindOf(sentence, isBad)}, sentence));
-  // Before the first line a wide screen has room for the beginning of the guide.
-  const guide = step || !wide.matches ? [] : words.guide().slice(0, 2).map((text) => make("p", {}, text));
-  return [...(step ? [lineNow(step)] : []), ...said, ...guide];
-}
-
-function renderNews(step) {
-  $("news").replaceChildren(...newsOf(step));
-  $("news").scrollTop = 0;
+  return [...(step ? [lineNow(step)] : []), ...said];
 }
 
 // The line of a step, above what happened: on a phone the script is further below.
@@ -83,7 +76,8 @@ function historyRow(event, step) {
 // A timer's history. Of the rounds only the present one is listed.
 function history(timer, step) {
   const events = timer.events.filter((event) => event.kind !== "round" || event.step === step);
-  return make("ol", {class: "history"}, ...events.map((event) => historyRow(event, step)));
+  const rows = events.map((event) => historyRow(event, step));
+  return make("div", {class: "rows"}, make("ol", {class: "history"}, ...rows));
 }
 
 function renderFollowed(step) {
@@ -111,14 +105,20 @@ function renderFollowed(step) {
   showEvent();
 }
 
-// The present event of the followed timer is brought into sight where its column has a height of its own.
+// The present event of the followed timer is brought into sight where its history scrolls by itself.
 function showEvent() {
-  const column = document.querySelector(".follow");
-  const row = column.querySelector(".history .is-now");
-  if (row && column.scrollHeight > column.clientHeight) row.scrollIntoView({block: "nearest"});
+  if (isColumn()) document.querySelector(".history .is-now")?.scrollIntoView({block: "nearest"});
 }
 
-function movesOf(step) { return step ? play.steps[step - 1].events.filter((event) => event.kind === "moved") : []; }
+function eventsOf(step) { return step ? play.steps[step - 1].events : []; }
+
+function movesOf(step) { return eventsOf(step).filter((event) => event.kind === "moved"); }
+
+// The events of timers that left a slot at this step: they moved, or came out, or were stopped or restarted.
+function leavesOf(step) {
+  const isAway = ({kind, by, from}) => kind !== "restarted" || play.timers.get(by).events[0].to !== from;
+  return eventsOf(step).filter((event) => event.from !== undefined && isAway(event));
+}
 
 function addTo(map, slot, event) {
   if (!map.has(slot)) map.set(slot, []);
@@ -136,10 +136,9 @@ function renderWheels(step) {
   }
   const chosen = play.whereIs(shown.followed, step);
   if (chosen !== null) parts.get(placeOf(chosen).wheel).chosen = placeOf(chosen).slot;
-  for (const event of movesOf(step)) {
+  for (const event of play.scheme === "plain" ? [] : leavesOf(step))
     addTo(parts.get(placeOf(event.from).wheel).left, placeOf(event.from).slot, event);
-    addTo(parts.get(placeOf(event.to).wheel).came, placeOf(event.to).slot, event);
-  }
+  for (const event of movesOf(step)) addTo(parts.get(placeOf(event.to).wheel).came, placeOf(event.to).slot, event);
   for (const [k, card] of cards) card.render(parts.get(k), play.now(step), shown.followed);
   $("count").textContent = `${count} pending`;
 }
@@ -148,12 +147,24 @@ function spots(event) {
   return [event.from, event.to].map((key) => cards.get(placeOf(key).wheel).spot(placeOf(key).slot));
 }
 
-// An arrow from one point to another, bent aside of the rings.
-function arrow([x, y], [toX, toY], kind) {
+// Where a curve from a slot to another is drawn to: away from the slot's ring, and aside if the ring is in between.
+function bent(spot, other, [sideX, sideY]) {
+  const far = Math.hypot(other.x - spot.x, other.y - spot.y) || 1;
+  const ahead = (spot.awayX * (other.x - spot.x) + spot.awayY * (other.y - spot.y)) / far;
+  const [away, side, reach] = ahead < -0.3 ? [0.35, 1, Math.min(far * 0.44, 170)] : [1, 0.5, Math.min(far * 0.25, 48)];
+  const [x, y] = [away * spot.awayX + side * sideX, away * spot.awayY + side * sideY];
+  const length = Math.hypot(x, y) || 1;
+  return [spot.x + reach * x / length, spot.y + reach * y / length];
+}
+
+// An arrow from one slot to another: it leaves the one ring and comes to the other from outside.
+function arrow(from, to, kind) {
+  const {x, y} = from;
+  const [toX, toY] = [to.x, to.y];
   const isAcross = Math.abs(toX - x) > Math.abs(toY - y);
-  const aside = Math.max(x, toX) + 60;
-  const [leaveX, leaveY] = isAcross ? [x, Math.min(y, toY) - 40] : [aside, y];
-  const [comeX, comeY] = isAcross ? [toX - 60 * Math.sign(toX - x), Math.min(y, toY) - 40] : [aside, toY - 20];
+  const side = isAcross ? [0, from.awayY + to.awayY > 0.8 ? 1 : -1] : [1, 0];
+  const [leaveX, leaveY] = bent(from, to, side);
+  const [comeX, comeY] = bent(to, from, side);
   const length = Math.hypot(toX - comeX, toY - comeY) || 1;
   const [along, down] = [(toX - comeX) / length, (toY - comeY) / length];
   const at = (back, side) =>
@@ -177,7 +188,7 @@ function renderArrows() {
     if (!seen.has(pair) || event.serial === shown.followed) seen.set(pair, event);
   }
   for (const event of [...seen.values()].slice(0, MAX_ARROWS)) {
-    const [from, to] = spots(event).map(([x, y]) => [x - left, y - top]);
+    const [from, to] = spots(event).map((spot) => ({...spot, x: spot.x - left, y: spot.y - top}));
     shown.arrows.append(...arrow(from, to, event.serial === shown.followed ? "is-followed" : ""));
   }
 }
@@ -188,17 +199,51 @@ function render(step) {
   document.body.classList.toggle("is-jump", Math.abs(step - from) > 1);
   $("now").textContent = String(play.now(step));
   $("face").textContent = words.face(play.now(step));
-  renderNews(step);
+  $("news").replaceChildren(...newsOf(step));
   renderWheels(step);
   renderArrows();
   lines.render(step);
   if (step !== from) closeHelp();
   renderFollowed(step);
+  if (step !== from) showStep(step);
   $("slider").value = String(step);
   $("slider").setAttribute("aria-valuetext", `step ${step} of ${play.last}, tick ${play.now(step)}`);
   $("at").textContent = `${step} of ${play.last}`;
   $("first").disabled = $("back").disabled = step === 0;
   $("next").disabled = $("last").disabled = step === play.last;
+}
+
+// What can be seen of the stage: on a wide screen it scrolls by itself, on a phone with the page.
+function sight() {
+  const bottom = $("controls").getBoundingClientRect().top;
+  const stage = $("stage").getBoundingClientRect();
+  return isColumn() ? {top: stage.top, bottom: Math.min(stage.bottom, bottom)} : {top: 0, bottom};
+}
+
+// Whether each column scrolls by itself.
+function isColumn() { return getComputedStyle($("stage")).overflowY === "auto"; }
+
+// The wheels that timers left at a step, and those to which they moved; they are all that matters, or all wheels.
+function boundsOf(step) {
+  const used = new Set(leavesOf(step).flatMap(({from, to}) => (to === undefined ? [from] : [from, to]))
+      .map((key) => placeOf(key).wheel));
+  const rects = [...cards].filter(([k]) => !used.size || used.has(k)).map(([, card]) => card.element.getBoundingClientRect());
+  return {top: Math.min(...rects.map(({top}) => top)), bottom: Math.max(...rects.map(({bottom}) => bottom))};
+}
+
+// Brings the wheels of a step's news into sight, with the clock above them if there is room. A reader who looks at
+// what is below the stage is fetched back only if a timer left its slot, or while it plays.
+function showStep(step) {
+  const {top, bottom} = sight();
+  const isNews = leavesOf(step).length > 0 || shown.timer !== null;
+  if (!isNews && $("stage").getBoundingClientRect().bottom < top) return;
+  const wheels = boundsOf(step);
+  const clock = $("clock").getBoundingClientRect();
+  const news = $("news").getBoundingClientRect();
+  if (wheels.top >= top && Math.max(wheels.bottom, isColumn() ? 0 : news.bottom) <= bottom) return;
+  const fits = wheels.bottom - clock.top <= bottom - top - 2 * EDGE;
+  const by = fits ? clock.top - top - EDGE : Math.min(wheels.top - top, Math.max(wheels.bottom - bottom, 0) + EDGE);
+  (isColumn() ? $("stage") : window).scrollBy({top: by, behavior: "instant"});
 }
 
 // The help makes room at a step: on a phone for the wheels, and beside them for the timer's history, unless
@@ -290,7 +335,7 @@ function followTyped() {
 function followNext(by) { follow(String(BigInt(shown.followed) + by)); }
 
 // Only a hierarchy has slots from which timers move.
-function isDrawn([kind]) { return (kind !== "left" && kind !== "arrow") || words.isHierarchy; }
+function isDrawn([kind]) { return kind !== "arrow" || words.isHierarchy; }
 
 // The sign of a row of the legend, as it is drawn at the wheels.
 function signOf(kind) {
@@ -322,21 +367,27 @@ function fill() {
   $("command").textContent = play.command;
   $("scheme").textContent = words.scheme();
   $("opening").textContent = OPENING[play.scheme];
-  const keys = make("p", {}, "Keys: ", make("kbd", {}, "←"), " ", make("kbd", {}, "→"), " a step, ",
+  const keys = make("p", {class: "keys"}, "Keys: ", make("kbd", {}, "←"), " ", make("kbd", {}, "→"), " a step, ",
       make("kbd", {}, "space"), " play and pause, ", make("kbd", {}, "Home"), " ", make("kbd", {}, "End"),
       " first and last, ", make("kbd", {}, "f"), " another timer to follow.");
-  $("guide").replaceChildren(...words.guide().map((said) => make("p", {}, said)), keys);
+  const folded = cards.size < play.wheels.length ? ["Wheels that are not drawn are empty at every step."] : [];
+  $("guide").replaceChildren(...[...words.guide(), ...folded].map((said) => make("p", {}, said)), keys);
   if (play.scheme !== "plain") $("legend").replaceChildren(...LEGEND.filter(isDrawn).map(legendRow));
   const row = ([word, said], between) => make("p", {}, make("b", {}, word), `${between}${said}`);
   $("fields").replaceChildren(make("summary", {}, "What the numbers in a line are"),
       ...words.fields().map((pair) => row(pair, " ")), ...words.glossary().map((pair) => row(pair, ": ")));
   $("fields").querySelector("summary").onclick = () => { $("fields").dataset.kept = ""; };
-  $("intro").open = wide.matches;
+  $("intro").open = true;
   shown.arrows = make("svg", {class: "arrows", "aria-hidden": "true"});
   $("wheels").replaceChildren(...[...cards.values()].map((card) => card.element), shown.arrows);
   $("wheels").classList.toggle("is-single", cards.size === 1);
-  if (cards.size < play.wheels.length) $("folded").textContent = "The wheels that are not drawn are empty at every step.";
   $("slider").max = String(play.last);
+}
+
+// Another script begins at its top.
+function showAnother() {
+  window.scrollTo({top: 0, behavior: "instant"});
+  location.reload();
 }
 
 function listen() {
@@ -351,7 +402,7 @@ function listen() {
   $("before").onclick = () => followNext(-1n);
   $("after").onclick = () => followNext(1n);
   document.addEventListener("keydown", key);
-  window.addEventListener("hashchange", () => location.reload());
+  window.addEventListener("hashchange", showAnother);
   window.addEventListener("resize", renderArrows);
   listenToTheme();
 }

@@ -5,7 +5,7 @@
 const OPENING = {
   plain: "All pending timers wait in one list, as they were started. It is shown by deadline.",
   hashed: "A timer waits in one slot. The hand passes it once for each of its rounds, and takes it out when due.",
-  hier: "A timer far from its deadline waits in a coarse wheel. It moves to a finer one as its deadline comes near.",
+  hier: "A timer far from its deadline waits in a high wheel. It moves to a lower one as its deadline comes near.",
   clock: "A timer far from its deadline waits in the days or hours. It moves to minutes and seconds as it comes near.",
 };
 
@@ -17,30 +17,36 @@ const GUIDE = {
   ],
   hashed: [
     "With each tick the hand goes on by one slot, and the clock looks at that slot alone.",
-    "A timer is in the slot (deadline mod slots), so the hand is there at its deadline.",
+    "A timer is in slot (deadline mod slots), so the hand is there at its deadline.",
     "If the deadline is further away than one turn, the timer has rounds. They are written serial:rounds.",
   ],
   hier: [
-    "Each wheel has a hand: wheel 0's goes on with each tick, wheel 1's with every 64, wheel 2's with every 64².",
+    "Each wheel has a hand: wheel 0's goes on with each tick, wheel 1's with every 64, and so on.",
     "So the hands show the digits of the present tick in base 64. At tick 128 wheel 1 is at 2, and wheel 0 at 0.",
-    "A timer is in the highest wheel at which the digits of now and of its deadline differ.",
-    "When a wheel's hand reaches a slot, the slot is emptied: each timer moves to a finer wheel, or is due.",
-    "A tick empties one slot of one wheel, however many timers are pending.",
+    "A timer is in the highest wheel in which the digits of now and of its deadline differ, in the slot of its digit.",
+    "A tick empties one slot: that of its lowest digit that isn't 0. Each timer there moves to a lower wheel, or is due.",
+    "So slot 0 of a wheel is never used. At tick 128, slot 2 of wheel 1 is emptied, and no slot of wheel 0.",
   ],
   clock: [
     "A tick is a second here. The wheels are those of a clock: 60 seconds, 60 minutes, 24 hours, 100 days.",
-    "A timer is in the highest wheel at which its deadline differs from now: one for the next hour is in its hour.",
+    "A timer is in the highest wheel in which its deadline differs from now: one for the next hour is in its hour.",
     "When the hand reaches that hour, the timer moves to its minute, then to its second, and then it is due.",
+    "A tick empties one slot. At 11:00:00 that is hour 11, and not minute 0 or second 0, which are never used.",
   ],
 };
+// For a script whose timers are all in wheel 0.
+const GUIDE_OF_ONE = [
+  "The hand goes on by one slot with each tick, and that slot is emptied: its timers are due.",
+  "A timer is in slot (deadline mod 64). Timers with farther deadlines would be in wheels of coarser slots.",
+];
 
 // The colours and signs of the wheels.
 const LEGEND = [
-  ["hand", "the hand: the clock, at the present tick"],
-  ["held", "blue: a slot with timers"],
-  ["held-followed", "orange: the slot of the timer that you follow"],
-  ["left", "dashed: a slot that was emptied at this step"],
-  ["arrow", "from where to where a timer moved at this step"],
+  ["hand", "hand: now"],
+  ["held", "blue: has timers"],
+  ["held-followed", "orange: has the followed timer"],
+  ["left", "dashed: timers just left it"],
+  ["arrow", "arrow: a timer moved"],
 ];
 
 // The words of the fields of lines (FIELDS of plays.js), in half a sentence each.
@@ -87,6 +93,7 @@ class Words {
     const highest = Math.max(0, ...play.used);
     // The wheels whose digits are spoken of, from the highest down.
     this.levels = play.wheels.map((_, k) => k).filter((k) => k <= highest || play.scheme === "clock").reverse();
+    this.hasDigits = this.isHierarchy && this.levels.length > 1;
   }
 
   // A place as `timers show` names it.
@@ -113,8 +120,9 @@ class Words {
 
   // The clock's face: digits, days and hours, or the slot.
   face(tick) {
-    if (this.isHierarchy) return `=\u00a0${this.written(tick)}`;
-    return this.play.scheme === "hashed" ? `slot ${this.digits(tick)[0]} of ${this.play.wheels[0].slots}` : "";
+    if (this.isHierarchy) return this.hasDigits ? `=\u00a0${this.written(tick)}` : "";
+    if (this.play.scheme === "plain") return "";
+    return `at slot ${this.digits(tick)[0]} (slots 0 to ${this.play.wheels[0].slots - 1})`;
   }
 
   wheelName(k) { return this.play.scheme === "clock" ? `the wheel of ${this.play.wheels[k].name}s` : `wheel ${k}`; }
@@ -127,16 +135,16 @@ class Words {
       const slots = BigInt(wheels[0].slots);
       const rounds = (timer.deadline - now - 1n) / slots;
       return `${timer.deadline} mod ${slots} is ${
-          timer.deadline % slots}, so it stands in that slot. The clock passes it ${rounds} time${
+          timer.deadline % slots}, so it is in that slot. The clock passes it ${rounds} time${
           rounds === 1n ? "" : "s"} before it is due.`;
     }
     const level = levelOf(wheels, now, timer.deadline);
     if (level < 0) return "";
     const clock = digitsOf(wheels, now)[level];
     const digit = digitsOf(wheels, timer.deadline)[level];
-    const stands = this.placed(keyOf(level, digit));
-    return `${upper(this.wheelName(level))} is the highest wheel at which the clock's digit (${
-        clock}) and the deadline's (${digit}) differ, so it stands in ${stands}.`;
+    const slot = this.placed(keyOf(level, digit));
+    return `${upper(this.wheelName(level))} is the highest wheel in which the clock's digit (${
+        clock}) and the deadline's (${digit}) differ, so it is in ${slot}.`;
   }
 
   // The ticks of a slot, of which one is this deadline: from the tick at which the slot is emptied, to the last.
@@ -166,7 +174,7 @@ class Words {
         timer.old ? `restarts timer ${timer.old}, which is now timer ${timer.serial},` : `starts timer ${timer.serial}`;
     return `Client ${timer.client} ${what} for ${ticksOf(timer.deadline - timer.start)}: tick ${
         unbroken(`${timer.start} + ${timer.deadline - timer.start} = ${timer.deadline}`)}${
-        this.isHierarchy ? `, which is ${this.written(timer.deadline)}` : ""}. ${this.why(timer, timer.start)}${
+        this.hasDigits ? `, which is ${this.written(timer.deadline)}` : ""}. ${this.why(timer, timer.start)}${
         this.isHierarchy && event.to !== undefined ? this.until(timer, event.to) : ""}`;
   }
 
@@ -184,31 +192,25 @@ class Words {
         last}, and can't tell them apart.`;
   }
 
-  // The plain reason of a move, and then the rule by digits.
+  // Why a timer moves, and where to. By which digits, the followed timer's table shows.
   moved(event, now) {
     const timer = this.play.timers.get(event.serial);
     const {wheel} = placeOf(event.to);
-    const [first] = this.ticksOfSlot(timer.deadline, placeOf(event.from).wheel);
-    return [
-      `Timer ${timer.serial} has ${ticksOf(timer.deadline - now)} left. ${this.coarse(timer.deadline, event.from)} ${
-          upper(this.wheelName(wheel))} has a slot for ${
-          this.eachOf(wheel)}, so the timer moves there as the clock comes to tick ${first}.`,
-      `By digits: it is due at ${timer.deadline} =\u00a0${this.written(timer.deadline)}, and now is ${now} =\u00a0${
-          this.written(now)}. ${upper(this.wheelName(wheel))} is the highest wheel at which they differ, so the timer` +
-          ` moves to ${this.placed(event.to)}. Its slot there is chosen by its deadline, not by the slot it came from.`
-    ];
+    return `Timer ${timer.serial} has ${ticksOf(timer.deadline - now)} left. ${this.coarse(timer.deadline, event.from)} ${
+        upper(this.wheelName(wheel))} has a slot for ${this.eachOf(wheel)}, so the timer moves to ${
+        this.placed(event.to)}: its deadline is ${timer.deadline} =\u00a0${this.written(timer.deadline)}.`;
   }
 
   moves(events, now) {
     const moved = events.filter((event) => event.kind === "moved");
-    if (moved.length <= 2) return moved.flatMap((event) => this.moved(event, now));
+    if (moved.length <= 2) return moved.map((event) => this.moved(event, now));
     const places = new Set(moved.map((event) => event.from));
-    const from = places.size === 1 ? this.placed(moved[0].from) : `${places.size} buckets`;
+    const from = places.size === 1 ? this.placed(moved[0].from) : `${places.size} slots`;
     const {deadline} = this.play.timers.get(moved[0].serial);
     const why = places.size === 1 ? ` ${this.coarse(deadline, moved[0].from)}` : "";
     const who = upper(timersNamed(moved.map((event) => event.serial)));
     return [`The clock has reached ${from}, and empties ${places.size === 1 ? "it" : "them"}.${why} ${
-        who} move to finer wheels, each to the slot of its deadline.`];
+        who} move to lower wheels, each to the slot of its deadline.`];
   }
 
   // How far the hand of the lowest wheel went, where more than one tick passed.
@@ -235,20 +237,26 @@ class Words {
         out.length === 1 ? "its" : "their"} ${when} and expire${out.length === 1 ? "s" : ""}${order}.`];
   }
 
+  // How many rounds the timers have left that the clock passed.
+  passed(events) {
+    const passed = events.filter((event) => event.kind === "round");
+    if (passed.length > 5) return [`The clock passes ${passed.length} timers: each has fewer rounds left.`];
+    return passed.map(({serial, rounds}) => `The clock passes timer ${serial}: it has ${rounds} round${
+        rounds === "1" ? "" : "s"} left.`);
+  }
+
+  // A refused tick that passes none says nothing of the clock.
   ticked(step, at) {
     const before = this.play.now(at - 1);
+    if (step.now === before) return [];
     const said =
         [[`The clock goes from tick ${before} to tick ${step.now}.`, ...this.turned(step.now - before)].join(" ")];
-    const passed = step.events.filter((event) => event.kind === "round");
-    const more = [...this.moves(step.events, step.now), ...this.expired(step.events)];
-    if (passed.length)
-      more.push(`The clock passes ${timersNamed(passed.map((event) => event.serial))}: fewer rounds are left.`);
+    const more = [...this.moves(step.events, step.now), ...this.expired(step.events), ...this.passed(step.events)];
     if (!more.length)
-      said.push(this.isHierarchy && step.now > before ?
-              "The hands came to empty slots alone, so nothing moves, and nothing expires." :
-              "Nothing moves, and nothing expires.");
+      said.push(this.isHierarchy ? "Only empty slots were reached, so nothing moves, and nothing expires." :
+                                   "Nothing expires.");
     if (this.play.whole.includes(step.line))
-      more.push("More than 32 moves and expired timers on one line: it is shown as one step.");
+      more.push("So much happens on this line that it is shown as one step.");
     return [...said, ...more];
   }
 
@@ -303,8 +311,9 @@ class Words {
 
   guide() {
     const follow = "Choose a timer's serial to follow that timer: it is orange then," +
-        " and its history is below 'Follow a timer'.";
-    return [...GUIDE[this.play.scheme], follow];
+        " and its history is below 'Follow timer'.";
+    const isOne = this.play.scheme === "hier" && !this.hasDigits;
+    return [...(isOne ? GUIDE_OF_ONE : GUIDE[this.play.scheme]), follow];
   }
 
   // What a timer did that came to a slot at this step, or left it.
@@ -315,10 +324,20 @@ class Words {
   }
 
   gone(events) {
-    const to = new Set(events.map((event) => event.to));
-    const who = timersNamed(events.map((event) => event.serial));
-    return `${who} ${events.length === 1 ? "was" : "were"} here → ${
-        to.size === 1 ? this.place(events[0].to) : `${to.size} slots of finer wheels`}`;
+    const went = {
+      moved: (some) => {
+        const to = new Set(some.map((event) => event.to));
+        return `here → ${to.size === 1 ? this.place(some[0].to) : `${to.size} slots of lower wheels`}`;
+      },
+      expired: () => "here, and expired",
+      stopped: () => "here, and stopped",
+      returned: () => "here, and returned",
+      restarted: (some) => `here, restarted as ${timersNamed(some.map((event) => event.by))}`,
+    };
+    return Object.entries(went).map(([kind, how]) => [events.filter((event) => event.kind === kind), how])
+        .filter(([some]) => some.length)
+        .map(([some, how]) => `${timersNamed(some.map(({serial}) => serial))} ${some.length === 1 ? "was" : "were"} ${
+            how(some)}`).join("; ");
   }
 
   // The words of the fields that lines of this script have.

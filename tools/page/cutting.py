@@ -4,7 +4,7 @@ The cuts follow from the deadlines alone. They decide at which ticks the program
 stand, and nothing of what it answers."""
 from dataclasses import dataclass
 
-MAX_PIECES = 32  # of one line; a line with more is one step
+MAX_PIECES = 500  # of one line; a line with more is one step
 MAX_STEPS = 5_000
 
 

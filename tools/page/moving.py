@@ -1,13 +1,17 @@
 """The wheels through a whole script, as one SVG that moves: a frame for each step, with what happened at it."""
+import textwrap
 from html import escape
 
 import picture
 
 SECONDS = 2.2  # of a frame
-HEIGHT = 330
+HEIGHT = 372
+MIDDLE = 185  # of the wheels, from the top
+LONGEST = 48  # letters of a line of what happened
 
 STYLE = """
-.line {{ font: 600 15px ui-monospace, "DejaVu Sans Mono", monospace; }}
+.line {{ font: 600 21px ui-monospace, "DejaVu Sans Mono", monospace; }}
+.words {{ font-size: 20px; }}
 .frame {{ opacity: 0; animation: frame {whole:.1f}s step-end infinite; }} .still {{ opacity: 1; }}
 @keyframes frame {{ 0% {{ opacity: 1; }} {share:.3f}% {{ opacity: 0; }} }}
 @media (prefers-reduced-motion: reduce) {{ .frame {{ animation: none; }} }}"""
@@ -18,23 +22,36 @@ def places(step):
     return {timer: wheel for (wheel, _), timers in step.buckets.items() for timer in timers}
 
 
+def named(timers, does):
+    """What these timers do, in words: the verb has an s if it is one."""
+    if len(timers) == 1:
+        return f"timer {timers[0]} {does.replace(' ', 's ', 1) if ' ' in does else f'{does}s'}"
+    return f"timers {', '.join(timers[:-1])} and {timers[-1]} {does}"
+
+
 def events(scheme, before, step):
     """What happened at a step, in words."""
     was, held = places(before) if before else {}, places(step)
-    said = []
-    for answer in step.answers:
-        words = answer.split()
-        if words[0] == "started":
-            name = scheme.wheels[held[words[3]]].name
-            said.append(f"timer {words[3]} is started for tick {words[4]}, and goes to {name}")
-        elif words[0] == "expired":
-            said.append(f"timer {words[3]} expires at tick {words[1]}")
-    said += [
-        f"timer {timer} moves to {scheme.wheels[wheel].name}"
-        for timer, wheel in sorted(held.items())
-        if was.get(timer, wheel) != wheel
+    answers = [answer.split() for answer in step.answers]
+    said = [
+        f"timer {words[3]} starts for tick {words[4]}, in {scheme.wheels[held[words[3]]].name}"
+        for words in answers
+        if words[0] == "started"
     ]
+    expired = [words[3] for words in answers if words[0] == "expired"]
+    said += [named(expired, "expire")] if expired else []
+    for wheel, _ in enumerate(scheme.wheels):
+        moved = sorted((timer for timer, to in held.items() if to == wheel and was.get(timer, to) != to), key=int)
+        said += [named(moved, f"move to {scheme.wheels[wheel].name}")] if moved else []
     return "; ".join(said) or "nothing is due, and nothing moves"
+
+
+def described(play):
+    """What the picture shows, for those who don't see it."""
+    befores = [None, *play.steps]
+    said = [f"tick {step.now}: {events(play.scheme, before, step)}" for before, step in zip(befores, play.steps)]
+    signs = "The blue numbers are the serials of pending timers, at their slots. In a wheel's middle is the slot of its hand."
+    return f"{signs} {'. '.join(said)}."
 
 
 def frame(play, at, drawn, width):
@@ -44,14 +61,14 @@ def frame(play, at, drawn, width):
     for middle, k in drawn:
         held = {slot: timers for (of, slot), timers in sorted(step.buckets.items()) if of == k}
         parts += [
-            f'<g transform="translate({middle:.1f} 160)">',
+            f'<g transform="translate({middle:.1f} {MIDDLE})">',
             *picture.standing(scheme.wheels[k].slots, scheme.digit(k, step.now), held),
             "</g>",
         ]
     words = events(scheme, play.steps[at - 1] if at else None, step)
     return parts + [
-        picture.text(width / 2, 288, f"tick {step.now}", "line"),
-        picture.text(width / 2, 312, escape(words), "soft"),
+        picture.text(width / 2, HEIGHT - 42, f"tick {step.now}", "line"),
+        picture.text(width / 2, HEIGHT - 15, escape(textwrap.shorten(words, LONGEST, placeholder=" ..")), "words"),
     ]
 
 
@@ -59,20 +76,21 @@ def picture_of(play, title):
     """The whole script as one picture; where nothing may move, the frame in the middle."""
     scheme, steps = play.scheme, play.steps
     wheels = range(max((wheel for step in steps for wheel, _ in step.buckets), default=0), -1, -1)
-    width = max(picture.ROOM * len(wheels), 600)
+    width = max(picture.ROOM * len(wheels), 520)
     drawn = [(width / 2 + picture.ROOM * (at - (len(wheels) - 1) / 2), k) for at, k in enumerate(wheels)]
     whole = SECONDS * len(steps)
     parts = [
         f'<svg xmlns="http://www.w3.org/2000/svg" width="{width}" height="{HEIGHT}"'
-        f' viewBox="0 0 {width} {HEIGHT}" role="img">',
-        f"<title>{escape(title)}</title>",
+        f' viewBox="0 0 {width} {HEIGHT}" role="img" aria-labelledby="title desc">',
+        f'<title id="title">{escape(title)}</title>',
+        f'<desc id="desc">{escape(described(play))}</desc>',
         f"<style>{picture.STYLE}{STYLE.format(whole=whole, share=100 / len(steps))}\n</style>",
         f'<rect class="paper" width="{width}" height="{HEIGHT}" rx="8"/>',
     ]
     for middle, k in drawn:
         parts += [
             *picture.heading(scheme.wheels[k], middle),
-            f'<g transform="translate({middle:.1f} 160)">',
+            f'<g transform="translate({middle:.1f} {MIDDLE})">',
             *picture.track(scheme.wheels[k].slots),
             "</g>",
         ]

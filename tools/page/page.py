@@ -31,16 +31,16 @@ def edits(old, new):
     return [edit(place, old.get(place, []), new.get(place, [])) for place in places]
 
 
-def data_of(play, title, name, options):
+def data_of(play, title, path, options):
     """What the page's code reads. Ticks are strings, since they may have 60 bits."""
     steps, before = [], {}
     for step in play.steps:
         steps.append([step.line, step.passed, str(step.now), step.answers, edits(before, step.buckets)])
         before = step.buckets
     return {
-        "name": name,
+        "name": os.path.basename(path),
         "title": title,
-        "command": " ".join(["timers show", *options, "<", name]),
+        "command": " ".join(["./timers show", *options, "<", path]),
         "scheme": play.scheme.name,
         "firstTick": str(play.first_tick),
         "wheels": [{"name": w.name, "slots": w.slots, "ticks": str(w.ticks)} for w in play.scheme.wheels],
@@ -53,8 +53,8 @@ def data_of(play, title, name, options):
 
 
 def data(plays):
-    """The file plays.js: plays, each with its title, its name and the options of show, and words of docs/formats.md. The
-    first play is shown at first."""
+    """The file plays.js: plays, each with its title, its script's path and the options of show, and words of
+    docs/formats.md. The first play is shown at first."""
     rows = [json.dumps(data_of(*play), ensure_ascii=True, separators=(",", ":")) for play in plays]
     # Within a script element the text may not end it, nor open a comment.
     words = f"const REASONS = {json.dumps(formats.reasons())};\nconst FIELDS = {json.dumps(formats.fields())};\n"

@@ -2,15 +2,15 @@
 import math
 
 INNER, OUTER = 74, 94
-ROOM = 290  # the width of a wheel
+ROOM = 260  # the width of a wheel
 MAX_SERIALS = 6  # written at one slot
 
 STYLE = """
-text { font: 13px system-ui, -apple-system, "Segoe UI", Roboto, "DejaVu Sans", sans-serif; fill: #1a222d; }
+text { font: 18px system-ui, -apple-system, "Segoe UI", Roboto, "DejaVu Sans", sans-serif; fill: #1a222d; }
 .paper { fill: #ffffff; } .track { fill: none; stroke: #e3e8ee; stroke-width: 20; } .held { fill: #0b5cad; }
-.serial { fill: #0b5cad; font-weight: 700; }
-.soft { fill: #56616f; } .slot { fill: #56616f; font-size: 10px; }
-.name { font-size: 15px; font-weight: 600; } .digit { font-size: 26px; font-weight: 600; }
+.serial { fill: #0b5cad; font-size: 21px; font-weight: 700; }
+.soft { fill: #56616f; } .slot { fill: #56616f; }
+.name { font-size: 21px; font-weight: 600; } .digit { font-size: 30px; font-weight: 600; }
 .hand { stroke: #1a222d; stroke-width: 2.5; stroke-linecap: round; } .tip { fill: #1a222d; }
 @media (prefers-color-scheme: dark) {
 text { fill: #e7ebf0; } .paper { fill: #0d1117; } .track { stroke: #27303b; }
@@ -42,24 +42,24 @@ def segment(slot, slots):
 def label(slot, slots, timers):
     """The serials of a slot, outside of the ring."""
     turn = (slot + 0.5) / slots
-    x, y = point(turn, OUTER + 9)
-    anchor = "middle" if abs(x) < 20 else "start" if x > 0 else "end"
+    x, y = point(turn, OUTER + 14)
+    anchor = "middle" if abs(x) < 30 else "start" if x > 0 else "end"
     words = ", ".join(timers[:MAX_SERIALS]) + (" .." if len(timers) > MAX_SERIALS else "")
-    return text(x, y + 4.5, words, "serial", anchor)
+    return text(x, y + 7, words, "serial", anchor)
 
 
 def hand(slot, slots):
     angle = 360 * (slot + 0.5) / slots
     return (
-        f'<g transform="rotate({angle:.2f})"><line class="hand" x1="0" y1="-24" x2="0" y2="{-INNER + 29}"/>'
-        f'<path class="tip" d="M-5 {-INNER + 28}L5 {-INNER + 28}L0 {-INNER + 18}Z"/></g>'
+        f'<g transform="rotate({angle:.2f})"><line class="hand" x1="0" y1="-20" x2="0" y2="{-INNER + 38}"/>'
+        f'<path class="tip" d="M-5.5 {-INNER + 39}L5.5 {-INNER + 39}L0 {-INNER + 27}Z"/></g>'
     )
 
 
 def heading(wheel, middle):
     """The name of a wheel and what its slots are, above it."""
     slots = f"{wheel.slots} slots of {wheel.ticks} tick{'s' if wheel.ticks > 1 else ''}"
-    return [text(middle, 24, wheel.name, "name"), text(middle, 42, slots, "soft")]
+    return [text(middle, 28, wheel.name, "name"), text(middle, 51, slots, "soft")]
 
 
 def track(slots):
@@ -70,8 +70,8 @@ def track(slots):
         ' transform="rotate(-90)"/>'
     ]
     for mark in range(0, slots, max(1, slots // 4)):
-        x, y = point((mark + 0.5) / slots, INNER - 9)
-        parts.append(text(x, y + 3.5, mark, "slot"))
+        x, y = point((mark + 0.5) / slots, INNER - 15)
+        parts.append(text(x, y + 6.5, mark, "slot"))
     return parts
 
 
@@ -81,5 +81,5 @@ def standing(slots, digit, held):
         *[f'<path class="held" d="{segment(slot, slots)}"/>' for slot in held],
         *[label(slot, slots, timers) for slot, timers in held.items()],
         hand(digit, slots),
-        text(0, 9, digit, "digit"),
+        text(0, 10.5, digit, "digit"),
     ]

@@ -60,8 +60,8 @@ def steps_of(text, lines):
             line, passed = lines[len(steps)]
             steps.append(Step(line, passed, int(row[6:]), answers))
             answers = []
-        elif row.startswith("  starts "):
-            continue  # what the wheel counted, with --counts: a page shows no counts
+        elif row.startswith(("  starts ", "  moved ")):
+            continue  # with --counts and --moves: a page shows no counts, and a move by its own steps
         elif row.startswith("  "):
             name, timers = row.strip().split(": ")
             steps[-1].buckets[Scheme.place(name)] = timers.split()

@@ -17,6 +17,8 @@
         text(node.querySelector(".went")),
       ]),
       arrows: document.querySelectorAll(".arrows .arrow").length,
+      dashed: [...document.querySelectorAll("#wheels .left")].reduce(
+        (sum, node) => sum + node.getAttribute("d").split("M").length - 1, 0),
       top: document.querySelector("#wheels").getBoundingClientRect().top,
       followed: document.querySelector("#serial").value,
       news: text(document.querySelector("#news")),
@@ -73,5 +75,38 @@
     return [".history .is-now", ".follow", ".stage"].filter(
       (name) => bottom(document.querySelector(name)) > controls);
   };
+  // The part of the screen in which the stage is seen.
+  const sight = () => {
+    const stage = document.querySelector(".stage");
+    const bottom = document.querySelector(".controls").getBoundingClientRect().top;
+    const { top } = stage.getBoundingClientRect();
+    return getComputedStyle(stage).overflowY === "auto" ? { top, bottom } : { top: 0, bottom };
+  };
+  const isInside = (node) => {
+    const seen = sight();
+    const { top, bottom, left, right } = node.getBoundingClientRect();
+    return top >= seen.top && bottom <= seen.bottom && left >= 0 && right <= window.innerWidth;
+  };
+  // What of a step is not on the screen: rings that timers left or came to, arrows, and what is said.
+  window.unseen = () => {
+    const rings = [...document.querySelectorAll(".wheel")].filter((node) => node.querySelector(".went"))
+      .map((node) => node.querySelector("svg"));
+    const news = document.querySelector("#news");
+    return [...rings, ...document.querySelectorAll(".arrows path"), news].filter((node) => !isInside(node))
+      .map((node) => `${node.getAttribute("class")} is not all on the screen`)
+      .concat(news.scrollHeight > news.clientHeight ? ["what is said is cut"] : []);
+  };
+  // What can't be brought on the screen by scrolling.
+  window.unreached = () => ["#legend", "#intro summary", "#followed", "#lines"].filter((name) => {
+    const node = document.querySelector(name);
+    node.scrollIntoView({ block: "nearest", behavior: "instant" });
+    const { top } = node.getBoundingClientRect();
+    return top < 0 || top > document.querySelector(".controls").getBoundingClientRect().top;
+  });
+  // Controls that are too small for a finger.
+  window.untouched = (least) => [...document.querySelectorAll("button, a, select, summary, input[type=text]")]
+    .filter((node) => node.checkVisibility() && !node.closest("#lines"))
+    .filter((node) => Math.min(node.offsetHeight, Math.max(node.offsetWidth, 36)) < least)
+    .map((node) => `${text(node)} has ${node.offsetHeight} pixels`);
   window.current = () => JSON.stringify(read());
 })();
