@@ -5,6 +5,7 @@
 // Those with HAS_NEXT also have look(i): when it expires, and next(): the next deadline. Those with HAS_ALL also have
 // start_at(i, interval), by the tick of its deadline; wakeup(): a tick to sleep until; each(): the sum of all deadlines.
 #pragma once
+#include "random.hpp"
 #include "wheels.hpp"
 #include <cstdio>
 #include <cstdlib>
@@ -160,17 +161,6 @@ struct Libuv {
   uint64_t next() { return (uint64_t)uv__next_timeout(&loop); }
 };
 #endif
-
-struct Random {  // splitmix64
-  uint64_t s;
-  uint64_t next() {
-    uint64_t z = s += 0x9E3779B97F4A7C15ull;
-    z = (z ^ z >> 30) * 0xBF58476D1CE4E5B9ull;
-    z = (z ^ z >> 27) * 0x94D049BB133111EBull;
-    return z ^ z >> 31;
-  }
-  uint64_t below(uint64_t n) { return (uint64_t)((unsigned __int128)next() * n >> 64); }
-};
 
 // Calls `run` with the type of the facility that has this name; false where there is none.
 template <class Run> bool with_facility(const std::string &name, Run run) {

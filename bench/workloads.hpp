@@ -1,6 +1,7 @@
 // The candidates and the traces that driver.cpp times and count.cpp counts.
 #pragma once
 #include "bench.h"
+#include "random.hpp"
 #include <algorithm>
 #include <cmath>
 #include <cstdio>
@@ -10,23 +11,6 @@
 #include <sys/mman.h>
 #include <utility>
 #include <vector>
-
-struct Random {  // splitmix64
-  uint64_t s;
-  uint64_t next() {
-    uint64_t z = s += 0x9E3779B97F4A7C15ull;
-    z = (z ^ z >> 30) * 0xBF58476D1CE4E5B9ull;
-    z = (z ^ z >> 27) * 0x94D049BB133111EBull;
-    return z ^ z >> 31;
-  }
-  uint64_t below(uint64_t n) { return (uint64_t)((unsigned __int128)next() * n >> 64); }
-  uint64_t in(uint64_t lo, uint64_t hi) { return lo + below(hi - lo + 1); }
-  // 1 to 2^bits - 1, every power of two equally likely. Integer only, so that all machines agree.
-  uint64_t log_uniform(unsigned bits) {
-    unsigned b = (unsigned)below(bits);
-    return (1ull << b) + below(1ull << b);
-  }
-};
 
 // Whether a workload needs `ADVANCE` to jump over ticks, to end in a sensible time.
 enum Skip { TICK_BY_TICK, ANY };

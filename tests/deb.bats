@@ -1,7 +1,7 @@
 #!/usr/bin/env bats
 # Makes the Debian packages, and installs, uses and removes them in a clean root. No command here sees the toolchain. The
 # clean root is a Debian of the machine's release with a C compiler and pkg-config, and comes from the machine's mirrors,
-# within 300 seconds.
+# within 900 seconds.
 load helpers
 
 setup_file() {
@@ -88,7 +88,7 @@ files() {
     [ "$(id -u)" -eq 0 ] || skip "not root"
     # shellcheck source=/dev/null
     release=$(. /etc/os-release && echo "$VERSION_CODENAME")
-    if ! timeout 300 mmdebstrap --quiet --variant=apt --include=gcc,libc6-dev,pkgconf "$release" "$root" 2> "$work/log"; then
+    if ! timeout 900 mmdebstrap --quiet --variant=apt --include=gcc,libc6-dev,pkgconf "$release" "$root" 2> "$work/log"; then
         rm -rf --one-file-system "$root"
         skip "no clean root: $(tail -n 1 "$work/log")"
     fi

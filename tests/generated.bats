@@ -215,11 +215,11 @@ needs_cross() {
 # Limits of a case would be those of qemu too, so cases with limits are left out.
 @test "aarch64: the program gives each case without limits its output and status" {
     needs_cross
-    cp -R crates/timer_program/cases "$work/cases"
-    for limits in "$work"/cases/*.limits; do
-        rm "${limits%.limits}".*
+    cases=()
+    for path in crates/timer_program/cases/*.status; do
+        [ -e "${path%.status}.limits" ] || cases+=("$(basename "$path" .status)")
     done
-    "$work/cases/run" "$work/timers"
+    crates/timer_program/cases/run "$work/timers" "${cases[@]}"
 }
 
 @test "aarch64: the program plays each script of examples/" {

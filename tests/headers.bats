@@ -60,19 +60,22 @@ enumerators() { sed -nE 's/^\tTIMERS_((DESK|WORD)_)?([A-Z_]+) = ([0-9]+).*/\3 \4
         sed -n '/The kinds of a word/,$p' $status | constants TIMERS_WORD_
         fields timer_desk_c/desk_cell.rt DeskCell timers_desk 0
         fields timer_desk_c/line_cell.rt LineCell timers_line 0
+        fields timer_desk_c/c_structs.rt CDesk timers_desk 16
         fields timer_desk_c/c_structs.rt CLine timers_line 16
         fields timer_desk_c/layout.rt Message timers_word 8 | sed -e '/"deadline"/,$s/== \([0-9]*\) /== \1 + 16 /'
         fields timer_desk_c/layout.rt DeskConfig timers_desk_config 0
         sed -nE 's/^pub const CONFIG_SIZE: usize = ([0-9]+);$/_Static_assert(sizeof(struct timers_desk_config) == \1, "CONFIG_SIZE");/p' \
             crates/timer_desk_c/src/layout.rt
-    } | hold $((34 + 15))
+    } | hold $((34 + 17))
     [ "$(enumerators timers_desk | wc -l)" -eq 31 ]
 }
 
 @test "the names and numbers in Python are the headers'" {
     needs python3
+    # timers_desk.py has the tables and the most clients, too.
+    more() { sed -n 's/^#define TIMERS_DESK_\(CLIENTS\) \([0-9]*\).*/\1 \2/p' include/timers_desk.h; enumerators timers | grep -E '^(WIDE|CLOCK) '; }
     for module in timers timers_desk; do
-        diff <(enumerators $module) <(cd bindings/python && python3 -B -c "
+        diff <({ enumerators $module; [ $module = timers ] || more; } | sort) <(cd bindings/python && python3 -B -c "
 import $module
 for name, value in vars($module).items():
     if name.isupper() and isinstance(value, int) and value < 100:

@@ -69,9 +69,9 @@ EOT
 found_files() {
     (cd "$1" && find . -type f -printf '%m %P -\n' -o -type l -printf 'link %P %l\n') | sort
 }
-# has_all_files ROOT TREE: ROOT has the wanted files and no other, each a copy of that of TREE
+# has_all_files ROOT TREE ROW..: ROOT has the wanted files, those of these rows and no other, each a copy of that of TREE
 has_all_files() {
-    wanted_files > "$work/wanted"
+    { wanted_files; printf '%s\n' "${@:3}"; } | sed '/^$/d' > "$work/wanted"
     awk '{ if ($1 != "link") $3 = "-"; print }' "$work/wanted" | sort | diff - <(found_files "$1")
     while read -r mode path source; do
         if [ "$mode" != link ] && [ "$source" != - ]; then
@@ -80,7 +80,6 @@ has_all_files() {
     done < "$work/wanted"
 }
 has_folders_for_all() { [ -z "$(find "$1" -type d ! -perm 755)" ]; }
-is_empty() { [ -z "$(find "$1" -type f -o -type l)" ] && [ ! -e "$1/share/doc/timers" ] && [ ! -e "$1/share/timers" ]; }
 
 # names_only_what_is_there ROOT: what the installed pages name of docs/, examples/ and other man pages
 names_only_what_is_there() {
@@ -111,10 +110,13 @@ refused() {
     grep -F "$1" <<< "$output"
 }
 
-# With a mask that hides everything from others, which must not matter.
-@test "make install, without the toolchain" { (umask 077 && in_tree install PREFIX="$work/prefix"); }
+# One folder was there before. The mask hides everything from others, which must not matter.
+@test "make install, without the toolchain" {
+    mkdir -p "$work/prefix/share"
+    (umask 077 && in_tree install PREFIX="$work/prefix")
+}
 @test "installed: each file, mode and link, and folders that all can read" {
-    has_all_files "$work/prefix" "$work/tree"
+    has_all_files "$work/prefix" "$work/tree" "644 share/doc/timers/FOLDERS -"
     has_folders_for_all "$work/prefix"
 }
 @test "installed: the pages name only what is installed" { names_only_what_is_there "$work/prefix"; }
@@ -154,9 +156,10 @@ with Timers() as timers:
     assert timers.advance(100) == [(25, 1, 7)]"
 }
 
-@test "make uninstall, in a tree in which nothing was built, leaves no file and no folder of its own" {
+@test "make uninstall, in a tree in which nothing was built and after two installs, leaves what was there before" {
+    in_tree install PREFIX="$work/prefix"
     in_clone uninstall PREFIX="$work/prefix"
-    is_empty "$work/prefix"
+    [ "$(find "$work/prefix")" = "$work/prefix"$'\n'"$work/prefix/share" ]
 }
 
 # DESTDIR, from the environment, and folders of their own.
@@ -176,8 +179,7 @@ with Timers() as timers:
 
 @test "make uninstall with DESTDIR and folders leaves nothing" {
     DESTDIR=$work/stage PREFIX=/usr in_clone uninstall LIBDIR=/usr/lib/x86_64-linux-gnu BINDIR=/opt/bin
-    is_empty "$work/stage/usr"
-    [ -z "$(find "$work/stage" -type f -o -type l)" ]
+    [ "$(find "$work/stage")" = "$work/stage" ]
 }
 
 # Each folder apart from the others, and a file of somebody else's among the pages.
@@ -194,7 +196,7 @@ with Timers() as timers:
     grep -x "includedir=$work/apart/INCLUDEDIR" "$work/apart/LIBDIR/pkgconfig/timers.pc"
     touch "$work/apart/DOCDIR/docs/notes"
     in_clone uninstall PREFIX="$work/apart/PREFIX" "${folders[@]}"
-    [ "$(find "$work/apart" -type f -o -type l)" = "$work/apart/DOCDIR/docs/notes" ]
+    [ "$(find "$work/apart" -mindepth 1 | sort | paste -sd ' ')" = "$(echo "$work/apart"/DOCDIR{,/docs{,/notes}})" ]
 }
 
 # shellcheck disable=SC2016,SC2088

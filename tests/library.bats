@@ -112,6 +112,7 @@ agrees_with_its_model() {
 # threads COUNT: clients in threads beside a desk. With refused allocations each starts so many timers.
 threads() {
     build desk_threads.c $sanitize
+    runs 1 10000 mixed
     runs 8 10000 mixed
     runs 64 10000 mixed
     build desk_threads.c -DREFUSE $wraps $sanitize
@@ -120,6 +121,14 @@ threads() {
     runs 8 "$1"
     build desk_frees.c $sanitize
     runs 30 8
+    lives $sanitize
+}
+# clients that come and go in threads
+lives() {
+    build desk_lives.c "$@"
+    runs 1 30
+    runs 8 30
+    runs 64 10
 }
 
 @test "the examples in C print what they should" { prints_its_text; }
@@ -180,6 +189,7 @@ threads() {
     runs 64 1000
 }
 @test "desks and lines may be freed while the other side calls" { build desk_frees.c && runs 200 8; }
+@test "clients come and go in threads, and lines are opened again" { lives; }
 @test "valgrind finds no error and no leak in them, either" { build desk_frees.c && by_valgrind 20 4; }
 
 of_desks() {

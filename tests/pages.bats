@@ -1,7 +1,7 @@
 #!/usr/bin/env bats
 # The help and docs/formats.md against each other and against the program, which TIMERS names (by default ./timers); and
 # shell completions. docs/formats.md is timers(1), too (tests/man.bats).
-# shellcheck disable=SC2016,SC2034,SC2086
+# shellcheck disable=SC2016,SC2034,SC2046,SC2086
 load helpers
 bats_require_minimum_version 1.5.0
 
@@ -141,6 +141,48 @@ run_examples() {
         fi
     done < <(sed -nE 's/^\| `([a-z ]+[A-Z ]*)` \|.*\| `([^`]*)` \|$/\1\t\2/p' docs/formats.md)
     [ "$rows" -gt 0 ]
+}
+
+# What follows in the help and in docs/formats.md is two texts for two readers, so their sentences are not compared. What
+# can be false of them is: numbers, options, examples, reasons and errors elsewhere, and here commands, statuses and fields.
+@test "the help and docs/formats.md have the same commands, and each heading begins as the help of its command" {
+    commands=$(timers help | sed -nE '/^Commands:/,/^$/s/^  ([a-z]+) +(.)/\1: \l\2/p' | grep -v '^help:')
+    diff <(sed 's/:.*//' <<< "$commands") <(sed -nE 's/^### `timers ([a-z]+)`: .*/\1/p' docs/formats.md)
+    while IFS= read -r heading; do [[ $'\n'$commands == *$'\n'"$heading"* ]]; done < <(sed -nE 's/^### `timers ([a-z]+)`/\1/p' docs/formats.md)
+}
+
+# statuses_of COMMAND: the numbers in the part of its help on the exit status
+statuses_of() {
+    timers $1 --help | sed -n '/exit status is/,/^$/p' | grep -oE '\b[0-9]+\b' | sort -u | paste -sd ' '
+}
+@test "each exit status of a help is one of docs/formats.md, and the program ends with it" {
+    wanted=$(sed -n '/^## Exit status/,$s/^| \([0-9]*\) |.*/\1/p' docs/formats.md)
+    for command in "" play serve show threads check; do
+        case $command in
+            play | show) [ -z "$(statuses_of $command)" ] ;;
+            *) [ -n "$(statuses_of $command)" ] ;;
+        esac
+        for number in $(statuses_of $command); do grep -qx "$number" <<< "$wanted"; done
+        has_status 0 $command $(other_option "$command" clients)
+        has_status 2 ${command:-play} --no-such-option
+    done
+    for command in play serve show; do run -1 timers $command <<< "tick 0"; done
+    run -1 bash -c "timers threads --clients 1 --timers 1 > /dev/full"
+    run -1 timers check <<< "tick 0"
+}
+
+# An example has a remark with its fields, but for `end` and `closed`, of which it says what they count.
+@test "the help names the fields of a line as docs/formats.md does" {
+    rows=0
+    while IFS=$'\t' read -r line fields; do
+        rows=$((rows + 1))
+        echo "$line: $fields"
+        [ "$(wc -w <<< "$line")" -eq "$(($(tr -cd , <<< "$fields" | wc -c) + 2))" ]
+        [[ $line =~ ^(end|closed) ]] || grep -qxF "$fields" \
+            <(sed -nE "s/^\| \`${line%% *} ([A-Z ]+)\` \|.*/\L\1/p" docs/formats.md | sed 's/ /, /g')
+    done < <(for command in "" play; do timers $command --help; done |
+        sed -nE 's/^  ([a-z]+( [0-9]+)+) {3,}([a-z]+( [a-z]+)*(, [a-z]+( [a-z]+)*)*)$/\1\t\3/p')
+    [ "$rows" -gt 5 ]
 }
 
 # completed WORD..: what bash offers for the last one

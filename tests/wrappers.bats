@@ -21,6 +21,21 @@ pip() { "$work/venv/bin/pip" --disable-pip-version-check "$@"; }
     egg_and_tea | diff - "$work/out"
 }
 
+@test "cargo runs a client thread at a desk" {
+    needs_cargo
+    cargo run --quiet --offline --manifest-path bindings/rust/Cargo.toml --target-dir "$work/cargo" --example desk > "$work/out"
+    printf '240: 8\n300: 7\n' | diff - "$work/out"
+}
+
+# What it was linked with needs no library beside it: cargo alone sets a path for those.
+@test "a program of cargo runs by itself" {
+    needs_cargo
+    cargo build --quiet --offline --manifest-path bindings/rust/Cargo.toml --target-dir "$work/cargo" --examples
+    "$work/cargo/debug/examples/first" > "$work/out"
+    egg_and_tea | diff - "$work/out"
+    "$work/cargo/debug/examples/desk" > "$work/out"
+}
+
 @test "a crate that depends on it by its path builds and runs" {
     needs_cargo
     mkdir -p "$work/app/src"
@@ -44,6 +59,8 @@ pip() { "$work/venv/bin/pip" --disable-pip-version-check "$@"; }
     needs_venv
     package=$(cd / && "$work/venv/bin/python" -c 'import os, timers; print(os.path.dirname(timers.__file__))')
     cmp bindings/python/timers.py "$package/timers.py"
+    cmp bindings/python/timers_desk.py "$package/timers_desk.py"
+    (cd / && "$work/venv/bin/python" -c 'from timers.timers_desk import Desk; Desk(1, 1, 1, 1).free()')
     cmp generated/NOTICE "$package"/../timers-*.dist-info/licenses/NOTICE
     pip show --files timers | grep timers/libtimers.so.1
     pip show timers | grep -x "Version: $(cat tools/install/version)"

@@ -3,11 +3,14 @@
  * and how many starts of threads there were, and the size of each allocation, one a line. Those before main are not
  * counted. A program that runs for ten minutes is ended by SIGALRM.
  *
+ * Threads whose owner ended by the refusal try on until their limit of idle turns. From the refusal on they don't yield in
+ * these, since a yield can take milliseconds on a busy machine.
+ *
  * It includes no header, so that a compiler without the C library's headers builds it: the toolchain's own is one.
  * The numbers are those of Linux on x86-64. */
 typedef __SIZE_TYPE__ size_t;
 
-enum { SYS_EXIT_GROUP = 231, O_WRONLY_CREAT_TRUNC = 01 | 0100 | 01000, EAGAIN = 11 };
+enum { SYS_SCHED_YIELD = 24, SYS_EXIT_GROUP = 231, O_WRONLY_CREAT_TRUNC = 01 | 0100 | 01000, EAGAIN = 11 };
 enum { LIMIT = 600 };
 
 void *dlsym(void *, const char *);
@@ -33,6 +36,9 @@ enum { MAX_SIZES = 1 << 16 };
 static size_t sizes[MAX_SIZES];
 
 static _Atomic _Bool counts;
+
+/* Whether a call was refused after threads had begun. */
+static _Atomic _Bool was_refused;
 
 static void *(*real_malloc)(size_t);
 static void *(*real_realloc)(void *, size_t);
@@ -83,7 +89,13 @@ void _exit(int status)
 /* Counts a call, and returns its number, or 0 if it isn't counted. */
 static unsigned long counted(struct refusal *calls) { return counts ? ++calls->count : 0; }
 
-static _Bool refuses(struct refusal *calls, unsigned long number) { return number && number == calls->wanted; }
+static _Bool refuses(struct refusal *calls, unsigned long number)
+{
+	if (!number || number != calls->wanted)
+		return 0;
+	was_refused = threads.count > 0;
+	return 1;
+}
 
 static _Bool refuses_size(size_t size)
 {
@@ -111,3 +123,5 @@ int pthread_create(void *thread, const void *attributes, void *(*work)(void *), 
 {
 	return refuses(&threads, counted(&threads)) ? EAGAIN : real_create(thread, attributes, work, argument);
 }
+
+int sched_yield(void) { return was_refused ? 0 : (int)syscall(SYS_SCHED_YIELD); }
