@@ -1,6 +1,6 @@
 """The shortest whole use from Python: three timers, of which one is stopped.
 
-    pip install ./bindings/python && python3 bindings/python/first.py
+    pip install ./bindings/python && python3 examples/c/first.py
 """
 from timers import Timers
 
