@@ -1,13 +1,13 @@
 -- Lemmas about the pending timers: a tick removes the front, a start keeps the order, and a stop removes one.
-use Rattle.std.proofs.Common.{◌≡◌, ◌≢◌, ◌<◌, ◌≤◌, ◌+◌, ℕ, Bool, true, false, ◌⊎◌, List, [], ◌∷◌, ◌++◌, length, refl, sym, ◌∙◌, ap, inl, inr, arith, Option, Some, None}
+use Rattle.std.proofs.Common.{◌≡◌, ◌≢◌, ◌<◌, ◌≤◌, ◌+◌, ℕ, Bool, true, false, List, [], ◌∷◌, ◌++◌, length, refl, sym, ◌∙◌, ap, inl, inr, arith, Option, Some, None}
 use Rattle.std.specs.List.{AllByRecursion}
 use Rattle.std.proofs.lemmas.Bool.Decides.{nat_tests}
 use Rattle.timer_base.specs.Basics.{some_same, none_some, later_if_not_due, either}
 use Rattle.timer_base.specs.declared.timer.Timer.{Timer}
 use Rattle.timer_base.specs.declared.timer.Handle.{Handle}
-use Rattle.timer_base.specs.Order.{is_before, in_order, insert_in_order, IsFirst, IsOrdered, IsNotAmong, AreDistinct, AreBelow}
-use Rattle.timer_base.specs.HeldLaws.{without_handle-found, without_handle-none, no_serial}
-use Rattle.timer_base.specs.OrderLaws.{insert_newest, AreDistinct-rising}
+use Rattle.timer_base.specs.Order.{is_before, in_order, insert_in_order, IsFirst, IsOrdered, AreDistinct, AreBelow}
+use Rattle.timer_base.specs.HeldLaws.{without_handle-found, without_handle-none, no_serial, found_among}
+use Rattle.timer_base.specs.OrderLaws.{All-weaken, insert_newest, AreDistinct-rising}
 use Rattle.timer_base.specs.OneOrder.{in_order-ordered}
 use Rattle.timer_base.specs.Pending.{Entry, timer_of, timers_of, put, has_serial, has_handle, is_due_at, first_timer, first_found, entries_due, entries_left, without_serial, without_found, without_handle}
 use Rattle.timer_base.specs.WheelState.{WheelState, IsWellFormed, IsPending, NamesOne, timer_at, due_at, held_at, held_count, after_start, after_stop, after_removal}
@@ -34,30 +34,13 @@ front_is_due tick (e ∷ es) o a = elim (either (is_due_at tick e.timer)) [
       rw (h, none_due tick e.timer es later o.0, all_left tick e.timer es later o.0) refl
 ]
 
-not_before_next : (last_tick now last_serial : ℕ) (ts : List Timer) → AllByRecursion (IsPending last_tick now last_serial) ts
-    → AllByRecursion (λ t. now + 1 ≤ t.deadline) ts
-not_before_next last_tick now last_serial [] a = tt
-not_before_next last_tick now last_serial (t ∷ ts) a = (
-  let h : now < t.deadline = a.0.later
-      in omega arith,
-  not_before_next last_tick now last_serial ts a.1,
-)
-
 pub tick_cuts_front : (w : WheelState) → IsWellFormed w → w.pending
     ≡ entries_due (w.now + 1) w.pending ++ entries_left (w.now + 1) w.pending
 tick_cuts_front w k = front_is_due (w.now + 1) w.pending k.ordered
-    (not_before_next w.last_tick w.now w.last_serial (timers_of w.pending) k.each)
+    (All-weaken (IsPending w.last_tick w.now w.last_serial) (λ t. w.now + 1 ≤ t.deadline) (timers_of w.pending)
+    (λ t p. let h : w.now < t.deadline = p.later in omega arith) k.each)
 
 -- A start.
-
-below_newest : (last_tick now last_serial high : ℕ) (ts : List Timer) → last_serial < high
-    → AllByRecursion (IsPending last_tick now last_serial) ts → AreBelow high ts
-below_newest last_tick now last_serial high [] h a = tt
-below_newest last_tick now last_serial high (t ∷ ts) h a = (
-  let s : t.serial ≤ last_serial = a.0.serial
-      in omega arith,
-  below_newest last_tick now last_serial high ts h a.1,
-)
 
 put_in_order : (e : Entry) (es : List Entry) → AreBelow e.timer.serial (timers_of es) → AreDistinct (timers_of es)
     → IsOrdered (timers_of es) → put e es ≡ in_order timer_of (e ∷ es)
@@ -67,7 +50,8 @@ pub start_keeps_order : (w : WheelState) (place : ℕ) (t : Timer) → IsWellFor
     → (after_start place t w).pending ≡ in_order timer_of (record { place = place; timer = t } ∷ w.pending)
 start_keeps_order w place t k h =
     let e : Entry = record { place = place; timer = t } in
-    put_in_order e w.pending (below_newest w.last_tick w.now w.last_serial t.serial (timers_of w.pending) h k.each) k.distinct k.ordered
+    put_in_order e w.pending (All-weaken (IsPending w.last_tick w.now w.last_serial) (λ u. u.serial < t.serial) (timers_of w.pending)
+    (λ u p. let s : u.serial ≤ w.last_serial = p.serial in omega arith) k.each) k.distinct k.ordered
 
 -- A stop.
 
@@ -77,37 +61,21 @@ other_serial n t h = grind (arith, nat_tests)
 own_serial : (n : ℕ) (t : Timer) → t.serial ≡ n → has_serial n t ≡ true
 own_serial n t h = grind (arith, nat_tests)
 
-found_serial_step : (test : Entry → Bool) (n : ℕ) (e : Entry) (t : Timer) (es : List Entry)
-    → (first_timer test es ≡ Some t → IsNotAmong n (timers_of es) → t.serial ≢ n) → (test e ≡ true) ⊎ (test e ≡ false)
-    → first_timer test (e ∷ es) ≡ Some t → IsNotAmong n (timers_of (e ∷ es)) → t.serial ≢ n
-found_serial_step test n e t es ih (inl h) f a = let same : e.timer ≡ t = some_same e.timer t (rw h at f) in rw (← same) a.0
-found_serial_step test n e t es ih (inr h) f a = ih (rw h at f) a.1
-
--- what is found in a list has a serial different from that of any timer that is not in it
-found_serial : (test : Entry → Bool) (n : ℕ) (t : Timer) (es : List Entry) → first_timer test es ≡ Some t → IsNotAmong n (timers_of es)
-    → t.serial ≢ n
-found_serial test n t [] f a = absurd (cc)
-found_serial test n t (e ∷ es) f a = found_serial_step test n e t es (found_serial test n t es) (either (test e)) f a
-
-one_goes_step : (test : Entry → Bool) (e : Entry) (t : Timer) (es : List Entry)
-    → (first_timer test es ≡ Some t → length (without_serial t.serial es) + 1 ≡ length es) → (test e ≡ true) ⊎ (test e ≡ false)
-    → AreDistinct (timers_of (e ∷ es)) → first_timer test (e ∷ es) ≡ Some t
-    → length (without_serial t.serial (e ∷ es)) + 1 ≡ length (e ∷ es)
-one_goes_step test e t es ih (inl h) d f =
-    let same : e.timer ≡ t = some_same e.timer t (rw h at f) in
-    let serial : e.timer.serial ≡ t.serial = ap (λ (u : Timer). u.serial) same in
-    let others : without_serial t.serial es ≡ es = no_serial t.serial es (rw (← serial) d.0) in
-    rw (own_serial t.serial e.timer serial, others) (omega arith)
-one_goes_step test e t es ih (inr h) d f =
-    let rest : first_timer test es ≡ Some t = rw h at f in
-    let other : e.timer.serial ≢ t.serial = λ same. found_serial test e.timer.serial t es rest d.0 (sym same) in
-    let less = ih rest in
-    rw (other_serial t.serial e.timer other) (omega arith)
-
 one_goes : (test : Entry → Bool) (t : Timer) (es : List Entry) → AreDistinct (timers_of es) → first_timer test es ≡ Some t
     → length (without_serial t.serial es) + 1 ≡ length es
 one_goes test t [] d f = absurd (cc)
-one_goes test t (e ∷ es) d f = one_goes_step test e t es (one_goes test t es d.1) (either (test e)) d f
+one_goes test t (e ∷ es) d f = elim (either (test e)) [
+  | inl h ↦
+      let same : e.timer ≡ t = some_same e.timer t (rw h at f) in
+      let serial : e.timer.serial ≡ t.serial = ap (λ (u : Timer). u.serial) same in
+      let others : without_serial t.serial es ≡ es = no_serial t.serial es (rw (← serial) d.0) in
+      rw (own_serial t.serial e.timer serial, others) (omega arith)
+  | inr h ↦
+      let rest : first_timer test es ≡ Some t = rw h at f in
+      let other : e.timer.serial ≢ t.serial = λ same. found_among test t e.timer.serial es rest d.0 (sym same) in
+      let less = one_goes test t es d.1 rest in
+      rw (other_serial t.serial e.timer other) (omega arith)
+]
 
 pub stop_takes_one : (w : WheelState) (handle : Handle) (t : Timer) → IsWellFormed w → timer_at handle w ≡ Some t
     → length (after_stop handle w).pending + 1 ≡ length w.pending

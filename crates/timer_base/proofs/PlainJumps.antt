@@ -1,8 +1,7 @@
 -- Lemmas for `advance` of a `PlainWheel`: nothing is due before the first pending deadline, and something is due at it.
-use Rattle.std.proofs.Common.{◌≡◌, ◌<◌, ◌≤◌, ◌+◌, ◌-◌, ℕ, suc, true, false, List, [], ◌∷◌, length, refl, sym, ◌∙◌, ap, subst, inl, inr, arith, filter, map, min, Option, Some, None}
+use Rattle.std.proofs.Common.{◌≡◌, ◌<◌, ◌≤◌, ◌+◌, ◌-◌, ℕ, suc, false, List, [], ◌∷◌, length, refl, sym, ◌∙◌, ap, subst, inl, inr, arith, filter, map, min, Option, Some, None}
 use Rattle.std.specs.List.{AllByRecursion}
 use Rattle.std.proofs.lemmas.Bool.{cases_lt}
-use Rattle.std.proofs.lemmas.Bool.Decides.{nat_tests}
 use Rattle.timer_base.specs.Basics.{some_same, not_due_before, is_due, either}
 use Rattle.timer_base.specs.declared.timer.Timer.{Timer}
 use Rattle.std.proofs.lemmas.List.{length-map}
@@ -11,15 +10,12 @@ use Rattle.timer_base.specs.OrderLaws.{All-weaken, All-in_order, All-filter}
 use Rattle.timer_base.specs.Pending.{is_due_at}
 use Rattle.timer_base.specs.PlainState.{IsKept, AreDueAfter, IsJump, is_after, earliest, first_after, at_first_place, plain_state}
 use Rattle.timer_base.specs.TickLaws.{AreAfter, IsPassing, passing_quiet}
-use Rattle.timer_base.proofs.PlainSteps.{filter_after, state_is, plain_state-after_tick}
+use Rattle.timer_base.proofs.PlainSteps.{after_is, filter_after, state_is, plain_state-after_tick}
 use Rattle.timer_base.specs.WheelState.{WheelState, after_tick, after_ticks, Advances}
 
 not_none : (a : ℕ) (r : Option ℕ) → earliest (Some a) r ≡ None → ⊥
 not_none a None e = cc
 not_none a (Some b) e = cc
-
-after_is : (tick : ℕ) (t : Timer) → tick < t.deadline → is_after tick t ≡ true
-after_is tick t h = grind (arith, nat_tests)
 
 -- without a first deadline there is no timer
 pub no_timers : (tick : ℕ) (ts : List Timer) → AreDueAfter tick ts → first_after tick ts ≡ None → ts ≡ []

@@ -3,11 +3,13 @@ use Rattle.std.proofs.Common.{◌≡◌, ◌≢◌, ◌<◌, ◌≤◌, ◌+◌,
 use Rattle.std.specs.List.{AllByRecursion}
 use Rattle.std.proofs.lemmas.Bool.{cases_lt, cases_eq}
 use Rattle.std.proofs.lemmas.Bool.Decides.{nat_tests}
+use Rattle.std.proofs.lemmas.List.{length-map, map-append}
+use Rattle.std.proofs.lemmas.List.Elements.{filter-append}
 use Rattle.timer_base.specs.Basics.{not_due_before, is_due, later_if_not_due, is_not_due, either}
 use Rattle.timer_base.specs.declared.timer.Timer.{Timer}
 use Rattle.timer_base.specs.declared.limits.TheConstants.{LAST}
 use Rattle.timer_base.specs.Order.{in_order, itself, insert_by_deadline, AreRising, AreBelow}
-use Rattle.timer_base.specs.OrderLaws.{in_order-newest, filter-in_order, in_order-same, AllAt-filter, AreRising-filter, length-in_order}
+use Rattle.timer_base.specs.OrderLaws.{in_order-newest, filter-in_order, in_order-same, AllAt-filter, AreRising-filter, length-in_order, All-weaken, All-filter}
 use Rattle.timer_base.specs.OneOrder.{map-itself}
 use Rattle.timer_base.specs.Pending.{Entry, put, is_due_at}
 use Rattle.timer_base.specs.WheelState.{WheelState, after_start, after_due_start, after_held_start, after_tick, with_room, held_count}
@@ -106,29 +108,18 @@ none_of_them now last ts h = nothing (filter (is_due_at now) ts) h
 -- A start.
 
 below_new : (now last new : ℕ) (ts : List Timer) → AllByRecursion (IsKept now last) ts → last < new → AreBelow new ts
-below_new now last new [] k h = tt
-below_new now last new (t ∷ ts) k h = (let s : t.serial ≤ last = k.0.serial in omega arith, below_new now last new ts k.1 h)
-
-below-filter : (p : Timer → Bool) (high : ℕ) (ts : List Timer) → AreBelow high ts → AreBelow high (filter p ts)
-below-filter p high [] b = tt
-below-filter p high (t ∷ ts) b = elim (either (p t)) [
-  | inl h ↦ rw h (b.0, below-filter p high ts b.1)
-  | inr h ↦ rw h (below-filter p high ts b.1)
-]
+below_new now last new ts k h = All-weaken (IsKept now last) (λ t. t.serial < new) ts
+    (λ t i. let s : t.serial ≤ last = i.serial in omega arith) k
 
 pub filter-append_yes : (p : Timer → Bool) (ts : List Timer) (t : Timer) → p t ≡ true → filter p (ts ++ t ∷ []) ≡ filter p ts ++ t ∷ []
-filter-append_yes p [] t h = rw h refl
-filter-append_yes p (x ∷ xs) t h = elim (either (p x)) [
-  | inl k ↦ rw k (ap (λ r. x ∷ r) (filter-append_yes p xs t h))
-  | inr k ↦ rw k (filter-append_yes p xs t h)
-]
+filter-append_yes p ts t h =
+    let e : filter p (t ∷ []) ≡ t ∷ [] = rw h refl in
+    filter-append p ts (t ∷ []) ∙ ap (λ r. filter p ts ++ r) e
 
 pub filter-append_no : (p : Timer → Bool) (ts : List Timer) (t : Timer) → p t ≡ false → filter p (ts ++ t ∷ []) ≡ filter p ts
-filter-append_no p [] t h = rw h refl
-filter-append_no p (x ∷ xs) t h = elim (either (p x)) [
-  | inl k ↦ rw k (ap (λ r. x ∷ r) (filter-append_no p xs t h))
-  | inr k ↦ rw k (filter-append_no p xs t h)
-]
+filter-append_no p ts t h =
+    let e : filter p (t ∷ []) ≡ [] = rw h refl in
+    filter-append p ts (t ∷ []) ∙ (ap (λ r. filter p ts ++ r) e ∙ append-nil (filter p ts))
 
 map-insert_by_deadline : (t : Timer) (ts : List Timer) → map at_first_place (insert_by_deadline itself t ts)
     ≡ put (at_first_place t) (map at_first_place ts)
@@ -149,16 +140,13 @@ plain_state-after_start : (now last : ℕ) (ts : List Timer) (t : Timer) → All
     → now < t.deadline
     → plain_state now t.serial (ts ++ t ∷ []) ≡ after_start 0 t (plain_state now last ts)
 plain_state-after_start now last ts t k h l =
-    let b : AreBelow t.serial (filter (is_after now) ts) = below-filter (is_after now) t.serial ts (below_new now last t.serial ts k h) in
+    let b : AreBelow t.serial (filter (is_after now) ts) =
+    All-filter (λ u. u.serial < t.serial) (λ u. u.serial < t.serial) (is_after now) ts (λ u e b. b) (below_new now last t.serial ts k h) in
     state_is now t.serial
     (ap (λ r. map at_first_place (in_order itself r)) (filter-append_yes (is_after now) ts t (after_is now t l))
     ∙ ap (map at_first_place) (newest_last t (filter (is_after now) ts) b)
     ∙ map-insert_by_deadline t (in_order itself (filter (is_after now) ts)))
     (ap (map at_first_place) (filter-append_no (is_due_at now) ts t (not_due_before now t l)))
-
-map-append : (ts us : List Timer) → map at_first_place (ts ++ us) ≡ map at_first_place ts ++ map at_first_place us
-map-append [] us = refl
-map-append (t ∷ ts) us = ap (λ (r : List Entry). at_first_place t ∷ r) (map-append ts us)
 
 plain_state-after_due_start : (now last : ℕ) (ts : List Timer) (t : Timer) → t.deadline ≡ now
     → plain_state now t.serial (ts ++ t ∷ []) ≡ after_due_start 0 t (plain_state now last ts)
@@ -166,7 +154,7 @@ plain_state-after_due_start now last ts t h =
     let due : is_due_at now t ≡ true = is_due now t h in
     state_is now t.serial
     (ap (λ us. map at_first_place (in_order itself us)) (filter-append_no (is_after now) ts t (due_not_after now t due)))
-    (ap (map at_first_place) (filter-append_yes (is_due_at now) ts t due) ∙ map-append (filter (is_due_at now) ts) (t ∷ []))
+    (ap (map at_first_place) (filter-append_yes (is_due_at now) ts t due) ∙ map-append at_first_place (filter (is_due_at now) ts) (t ∷ []))
 
 -- for now or later
 pub plain_state-after_held_start : (now last : ℕ) (ts : List Timer) (t : Timer) → AllByRecursion (IsKept now last) ts
@@ -224,12 +212,8 @@ due_count-after_start now due more ts t e one none = elim (cases_eq t.deadline n
 
 -- How many are pending and how many are due.
 
-length-map : (ts : List Timer) → length (map at_first_place ts) ≡ length ts
-length-map [] = refl
-length-map (t ∷ ts) = ap suc (length-map ts)
-
 pub length-pending : (now last : ℕ) (ts : List Timer) → length (plain_state now last ts).pending ≡ length (filter (is_after now) ts)
-length-pending now last ts = length-map (in_order itself (filter (is_after now) ts)) ∙ length-in_order itself (filter (is_after now) ts)
+length-pending now last ts = length-map (in_order itself (filter (is_after now) ts)) at_first_place ∙ length-in_order itself (filter (is_after now) ts)
 
 all_counted : (now last : ℕ) (ts : List Timer) → AllByRecursion (IsKept now last) ts
     → length (filter (is_after now) ts) + due_count now ts ≡ length ts
@@ -240,7 +224,7 @@ all_counted now last (t ∷ ts) k = elim (either (is_due_at now t)) [
 ]
 
 pub due_count_is : (now last : ℕ) (ts : List Timer) → length (plain_state now last ts).due ≡ due_count now ts
-due_count_is now last ts = length-map (filter (is_due_at now) ts)
+due_count_is now last ts = length-map (filter (is_due_at now) ts) at_first_place
 
 pub due_count-le : (now last : ℕ) (ts : List Timer) → AllByRecursion (IsKept now last) ts → due_count now ts ≤ length ts
 due_count-le now last ts k = let all = all_counted now last ts k in omega arith

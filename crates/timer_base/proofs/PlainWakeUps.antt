@@ -43,16 +43,15 @@ none_sooner : (t : Timer) (es : List Entry) → IsFirst t (timers_of es) → All
 none_sooner t [] f = tt
 none_sooner t (e ∷ es) f = (not_sooner t e.timer f.0, none_sooner t es f.1)
 
-quiet_next : (slots last_tick now last room : ℕ) (es ds : List Entry) → IsOrdered (timers_of es)
-    → AllByRecursion (IsPending last_tick now last) (timers_of es)
-    → IsQuietUntil (next_deadline es) (record { slots = slots; last_tick = last_tick; now = now; pending = es; due = ds; last_serial = last; room = room })
-quiet_next slots last_tick now last room [] ds o a = refl
-quiet_next slots last_tick now last room (e ∷ es) ds o a = record {
+quiet_next : (last_tick now last : ℕ) (es : List Entry) → IsOrdered (timers_of es)
+    → AllByRecursion (IsPending last_tick now last) (timers_of es) → IsQuietUntil (next_deadline es) now es
+quiet_next last_tick now last [] o a = refl
+quiet_next last_tick now last (e ∷ es) o a = record {
   some = omega arith;
   later = a.0.later;
   in_time = (omega arith, none_sooner e.timer es o.0);
 }
 
 -- the first pending deadline is a tick to wake up at
-pub quiet_until_next : (w : WheelState) → IsWellFormed w → IsQuietUntil (next_deadline w.pending) w
-quiet_until_next w f = quiet_next w.slots w.last_tick w.now w.last_serial w.room w.pending w.due f.ordered f.each
+pub quiet_until_next : (w : WheelState) → IsWellFormed w → IsQuietUntil (next_deadline w.pending) w.now w.pending
+quiet_until_next w f = quiet_next w.last_tick w.now w.last_serial w.pending f.ordered f.each

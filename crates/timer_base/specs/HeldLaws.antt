@@ -48,14 +48,14 @@ no_serial serial (x ∷ xs) n =
     rw (ne_eqb x.timer.serial serial n.0) (ap (λ (r : List Entry). x ∷ r) (no_serial serial xs n.1))
 
 -- the timer that is found is one of them
-found_among : (handle : Handle) (t : Timer) (serial : ℕ) (es : List Entry) → first_timer (has_handle handle) es ≡ Some t
+pub found_among : (test : Entry → Bool) (t : Timer) (serial : ℕ) (es : List Entry) → first_timer test es ≡ Some t
     → IsNotAmong serial (timers_of es) → t.serial ≢ serial
-found_among handle t serial [] e n = absurd (none_some t e)
-found_among handle t serial (x ∷ xs) e n = elim (either (has_handle handle x)) [
+found_among test t serial [] e n = absurd (none_some t e)
+found_among test t serial (x ∷ xs) e n = elim (either (test x)) [
   | inl h ↦
       let f : Some x.timer ≡ Some t = rw h at e in
       λ (q : t.serial ≡ serial). n.0 (ap (λ (u : Timer). u.serial) (some_same x.timer t f) ∙ q)
-  | inr h ↦ found_among handle t serial xs (rw h at e) n.1
+  | inr h ↦ found_among test t serial xs (rw h at e) n.1
 ]
 
 removed_step : (handle : Handle) (x : Entry) (xs : List Entry) (o : Option Timer)
@@ -65,7 +65,7 @@ removed_step : (handle : Handle) (x : Entry) (xs : List Entry) (o : Option Timer
 removed_step handle x xs None e n ih = ap (λ (r : List Entry). x ∷ r) ih
 removed_step handle x xs (Some t) e n ih =
     let other : x.timer.serial ≢ t.serial = λ (q : x.timer.serial ≡ t.serial).
-    found_among handle t x.timer.serial xs (sym e) n (sym q) in
+    found_among (has_handle handle) t x.timer.serial xs (sym e) n (sym q) in
     rw (ne_eqb x.timer.serial t.serial other) (ap (λ (r : List Entry). x ∷ r) ih)
 
 -- the entry of a handle is that of its timer's serial

@@ -1,5 +1,6 @@
 -- The order of timers: by deadline, and then by serial. It orders lists of anything that has a timer.
 use Rattle.std.specs.Prelude.{◌≡◌, ◌≢◌, ◌<◌, ℕ, Bool, false, ◌||◌, ◌&&◌, ◌==◌, nat_lt, if◌then◌else◌, List, [], ◌∷◌}
+use Rattle.std.specs.List.{AllByRecursion}
 use Rattle.timer_base.specs.declared.timer.Timer.{Timer}
 
 -- a is handed out before b: its deadline is earlier, or the same and its serial is lower
@@ -35,8 +36,7 @@ IsOrdered (t ∷ ts) = IsFirst t ts × IsOrdered ts
 
 -- none of the timers has this serial
 abbrev pub IsNotAmong : ℕ → List Timer → Type 0
-IsNotAmong serial [] = Unit {0}
-IsNotAmong serial (t ∷ ts) = (t.serial ≢ serial) × IsNotAmong serial ts
+IsNotAmong serial ts = AllByRecursion (λ t. t.serial ≢ serial) ts
 
 -- no serial occurs twice
 abbrev pub AreDistinct : List Timer → Type 0
@@ -50,8 +50,7 @@ AreRising low (t ∷ ts) = (low < t.serial) × AreRising t.serial ts
 
 -- each serial is below high
 abbrev pub AreBelow : ℕ → List Timer → Type 0
-AreBelow high [] = Unit {0}
-AreBelow high (t ∷ ts) = (t.serial < high) × AreBelow high ts
+AreBelow high ts = AllByRecursion (λ t. t.serial < high) ts
 
 -- the timer of a timer
 abbrev pub itself : Timer → Timer

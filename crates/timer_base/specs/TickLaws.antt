@@ -3,6 +3,7 @@ use Rattle.std.proofs.Common.{◌≡◌, ◌<◌, ◌≤◌, ◌+◌, ◌-◌, �
 use Rattle.std.specs.List.{AllByRecursion}
 use Rattle.std.proofs.lemmas.Bool.{cases_lt}
 use Rattle.timer_base.specs.Basics.{not_due_before, either}
+use Rattle.timer_base.specs.OrderLaws.{All-weaken}
 use Rattle.timer_base.specs.Pending.{Entry, is_due_at, entries_due, entries_left}
 use Rattle.timer_base.specs.WakeUps.{IsWakeUp}
 use Rattle.timer_base.specs.WheelState.{WheelState, after_tick, after_ticks, with_room, Advances}
@@ -104,8 +105,7 @@ abbrev pub AreAfter : ℕ → List Entry → Type 0
 AreAfter tick entries = AllByRecursion (λ entry. tick < entry.timer.deadline) entries
 
 sooner_too : (a b : ℕ) (entries : List Entry) → a ≤ b → AreAfter b entries → AreAfter a entries
-sooner_too a b [] h f = tt
-sooner_too a b (e ∷ es) h f = (let g : b < e.timer.deadline = f.0 in omega arith, sooner_too a b es h f.1)
+sooner_too a b es h f = All-weaken (λ e. b < e.timer.deadline) (λ e. a < e.timer.deadline) es (λ e g. omega arith) f
 
 pub left_all : (tick : ℕ) (entries : List Entry) → AreAfter tick entries → entries_left tick entries ≡ entries
 left_all tick [] f = refl
@@ -173,18 +173,10 @@ after_ticks-serial (suc n) w = after_ticks-serial n w
 
 -- nothing is due before a tick to wake up at
 
-later_than : (tick n : ℕ) (entries : List Entry) → n < tick
-    → AllByRecursion (λ entry. tick ≤ entry.timer.deadline) entries → AreAfter n entries
-later_than tick n [] h f = tt
-later_than tick n (e ∷ es) h f = (
-  let g : tick ≤ e.timer.deadline = f.0
-      in omega arith,
-  later_than tick n es h f.1,
-)
-
-pub quiet_before_wake_up : (w : WheelState) (tick n : ℕ) → w.due ≡ [] → IsWakeUp tick w → w.now + n < tick
+pub quiet_before_wake_up : (w : WheelState) (tick n : ℕ) → w.due ≡ [] → IsWakeUp tick w.now w.pending → w.now + n < tick
     → (after_ticks n w).due ≡ []
-quiet_before_wake_up w tick n z u h = quiet_until n w z (later_than tick (w.now + n) w.pending h u.in_time) n
+quiet_before_wake_up w tick n z u h = quiet_until n w z
+    (All-weaken (λ e. tick ≤ e.timer.deadline) (λ e. w.now + n < e.timer.deadline) w.pending (λ e f. omega arith) u.in_time) n
     (omega arith)
 
 -- Room changes nothing of ticks.

@@ -59,7 +59,7 @@ pub fn a_start_is_for_later_or_for_now()
 
 /// Nothing becomes due before a tick to wake up at: it is safe to sleep until then.
 pub fn nothing_is_due_before_the_wake_up()
-    ensures { (w : WheelState) (tick n : ℕ) → w.due ≡ [] → IsWakeUp tick w → w.now + n < tick
+    ensures { (w : WheelState) (tick n : ℕ) → w.due ≡ [] → IsWakeUp tick w.now w.pending → w.now + n < tick
         → (after_ticks n w).due ≡ [] }
 {}
 

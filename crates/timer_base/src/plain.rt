@@ -193,8 +193,8 @@ impl Wheel for PlainWheel {
 
     /// Exactly the first pending deadline, found by a scan of all timers.
     fn quiet_until(&self) -> Option<u64>
-        ensures wake_up { IsQuietUntil result (plain_state self.entry.now.now self.entry.now.last_serial
-            self.entry.now.timers.items) }
+        ensures wake_up { IsQuietUntil result self.entry.now.now (plain_state self.entry.now.now
+            self.entry.now.last_serial self.entry.now.timers.items).pending }
         ensures exact { result ≡ next_deadline (plain_state self.entry.now.now self.entry.now.last_serial
             self.entry.now.timers.items).pending }
     {

@@ -164,7 +164,7 @@ pub trait Wheel {
     /// then, calls `advance`, and calls this again. A wheel may wake its owner before the first deadline
     /// rather than search for it: `wake_up` is exactly when. Does not allocate.
     fn quiet_until(&self) -> Option<u64>
-        ensures quiet { IsQuietUntil result (state self.now) }
+        ensures quiet { IsQuietUntil result (state self.now).now (state self.now).pending }
         ensures exact { result ≡ wake_up (state self.now).slots (state self.now).now (state self.now).pending };
 
     /// Returns the first pending deadline, or None exactly when nothing is pending.

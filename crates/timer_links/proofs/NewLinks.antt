@@ -41,10 +41,10 @@ one_more n neighbours more h e =
 abbrev pub no_rows : ℕ → KeyedLists
 no_rows n = replicate n []
 
-list_is_empty : (n l : ℕ) → list_at l (no_rows n) ≡ []
-list_is_empty zero l = refl
-list_is_empty (suc n) zero = refl
-list_is_empty (suc n) (suc l) = list_is_empty n l
+pub no_rows_at : (n l : ℕ) → list_at l (no_rows n) ≡ []
+no_rows_at zero l = refl
+no_rows_at (suc n) zero = refl
+no_rows_at (suc n) (suc l) = no_rows_at n l
 
 none_counted : (n : ℕ) → row_count (no_rows n) ≡ 0
 none_counted zero = refl
@@ -62,14 +62,14 @@ empty_linked n m nodes neighbours e h a b few =
       few = few;
       rings = λ l d.
           let inside : l < m = omega arith in
-          rw (list_is_empty n l) (
+          rw (no_rows_at n l) (
             record {
               forth = ap (λ (x : Neighbours). x.after) (h.each l inside);
               back_to = ap (λ (x : Neighbours). x.before) (h.each l inside);
             },
             tt,
           );
-      held = λ k. none k ∙ sym (node_at-none k (no_rows n) (λ l d. rw (list_is_empty n l) refl));
+      held = λ k. none k ∙ sym (node_at-none k (no_rows n) (λ l d. rw (no_rows_at n l) refl));
       total = rw (e, none_counted n) refl;
       roots = omega arith;
       reached = λ k i. absurd (none_is (rw (none k) at i));

@@ -260,8 +260,8 @@ impl Links {
             return Err((node, OutOfMemory));
         };
         let key = self.nodes.insert_reserved(node);
-        let index = (self.lists + key) as u32;
-        join_last(self.neighbours.as_mut_slice(), list as u32, index);
+        let index = self.lists + key;
+        join_last(self.neighbours.as_mut_slice(), list, index);
         Ok(key)
     }
 
@@ -294,8 +294,8 @@ impl Links {
         let node = self.nodes.remove(key);
         join(
             self.neighbours.as_mut_slice(),
-            neighbours.before,
-            neighbours.after,
+            neighbours.before as usize,
+            neighbours.after as usize,
         );
         RemovedNode {
             node,
@@ -311,9 +311,9 @@ impl Links {
         ensures room { self.new.room ≡ self.old.room }
     {
         let key = self.used_front(list)?;
-        let after = self.neighbours[self.lists + key].after;
+        let after = self.neighbours[self.lists + key].after as usize;
         let node = self.nodes.remove(key);
-        join(self.neighbours.as_mut_slice(), list as u32, after);
+        join(self.neighbours.as_mut_slice(), list, after);
         Some((key, node))
     }
 
@@ -351,8 +351,8 @@ impl Links {
         let index = self.lists + key;
         let Neighbours { before, after } = self.neighbours[index];
         let neighbours = self.neighbours.as_mut_slice();
-        join(neighbours, before, after);
-        join_last(neighbours, list as u32, index as u32);
+        join(neighbours, before as usize, after as usize);
+        join_last(neighbours, list, index);
         only_neighbour(Neighbours { before, after })
     }
 
@@ -369,10 +369,10 @@ impl Links {
             return;
         };
         let index = self.lists + key;
-        let after = self.neighbours[index].after;
+        let after = self.neighbours[index].after as usize;
         let neighbours = self.neighbours.as_mut_slice();
-        join(neighbours, from as u32, after);
-        join_last(neighbours, to as u32, index as u32);
+        join(neighbours, from, after);
+        join_last(neighbours, to, index);
     }
 
     /// Moves all nodes of one list to the back of another, in their order and under their keys.
@@ -392,12 +392,12 @@ impl Links {
             before: last,
             after: first,
         } = self.neighbours[from];
-        let back = self.neighbours[to].before;
+        let back = self.neighbours[to].before as usize;
         let neighbours = self.neighbours.as_mut_slice();
-        join(neighbours, back, first);
-        join(neighbours, last, to as u32);
+        join(neighbours, back, first as usize);
+        join(neighbours, last as usize, to);
         // An empty ring: the root links to itself.
-        join(neighbours, from as u32, from as u32);
+        join(neighbours, from, from);
     }
 
     /// The first key in use from this one on, or None when no such key is in use. Does not allocate.

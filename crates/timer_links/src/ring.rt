@@ -73,25 +73,28 @@ pub fn only_neighbour(neighbours: Neighbours) -> Option<usize>
 }
 
 /// Puts one index right after another.
+// Indexes are `usize` here, and cut to the 32 bits of a link only where one is stored: each cut costs an instruction.
 #[inline(always)]
-pub fn join(neighbours: &mut [Neighbours], front: u32, back: u32)
+pub fn join(neighbours: &mut [Neighbours], front: usize, back: usize)
     requires front { front < length neighbours.old }
     requires back { back < length neighbours.old }
+    requires numbered { length neighbours.old ≤ INDEXES }
     ensures { Joins front back neighbours.old neighbours.new }
 {
-    neighbours[front as usize].after = back;
-    neighbours[back as usize].before = front;
+    neighbours[front].after = back as u32;
+    neighbours[back].before = front as u32;
 }
 
 /// Appends an index that stands in no ring to the ring of this root.
 #[inline(always)]
-pub fn join_last(neighbours: &mut [Neighbours], root: u32, index: u32)
+pub fn join_last(neighbours: &mut [Neighbours], root: usize, index: usize)
     requires root { root < length neighbours.old }
     requires index { index < length neighbours.old }
+    requires numbered { length neighbours.old ≤ INDEXES }
     requires last { (neighbours_at neighbours.old root).before < length neighbours.old }
     ensures { JoinsLast root index neighbours.old neighbours.new }
 {
-    let last = neighbours[root as usize].before;
+    let last = neighbours[root].before as usize;
     join(neighbours, last, index);
     join(neighbours, index, root);
 }

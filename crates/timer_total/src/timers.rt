@@ -89,7 +89,7 @@ impl<W: Wheel + Drop> Timers<W> {
     /// A tick until which nothing expires, or None exactly if nothing is pending. It is after the
     /// present tick and at most the first pending deadline, and exactly the wheel's `wake_up`.
     pub fn quiet_until(&self) -> Option<u64>
-        ensures quiet { IsQuietUntil result self.now.wheel }
+        ensures quiet { IsQuietUntil result self.now.wheel.now self.now.wheel.pending }
         ensures exact { result ≡ W.wake_up self.now.wheel.slots self.now.wheel.now self.now.wheel.pending }
     {
         self.wheel.quiet_until()

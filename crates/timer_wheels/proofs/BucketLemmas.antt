@@ -1,7 +1,8 @@
 -- Lemmas for `Buckets`: the lists after each call but a tick, and so the state of the wheel.
-use Rattle.std.proofs.Common.{◌≡◌, ◌≢◌, ◌<◌, ◌≤◌, ◌+◌, ℕ, zero, suc, ◌==◌, List, [], ◌∷◌, ◌++◌, length, refl, sym, ◌∙◌, ap, subst, inl, inr, arith, append_assoc, length-append, get_or-set_same, get_or-set_other, Bool, map, filter, not, replicate, Option, Some, None}
+use Rattle.std.proofs.Common.{◌≡◌, ◌≢◌, ◌<◌, ◌≤◌, ◌+◌, ℕ, zero, suc, ◌==◌, List, [], ◌∷◌, ◌++◌, length, refl, sym, ◌∙◌, ap, subst, inl, inr, arith, append_assoc, length-append, get_or-set_same, get_or-set_other, Bool, map, filter, not, Option, Some, None}
 use Rattle.std.specs.List.{AllByRecursion}
 use Rattle.std.proofs.lemmas.Bool.{cases_eq, eqb-true}
+use Rattle.std.proofs.lemmas.List.{length-map}
 use Rattle.timer_base.specs.Basics.{either}
 use Rattle.timer_base.specs.declared.timer.Timer.{Timer}
 use Rattle.timer_base.specs.Order.{in_order, AreBelow, AreDistinct, AreRising, IsNotAmong}
@@ -57,7 +58,7 @@ pub filter-pending_in : (p : Entry → Bool) (rows : Rows)
     → filter p (pending_in rows) ≡ pending_in (filter (λ r. p (entry_of r)) rows)
 filter-pending_in p rows = filter-in_order timer_of p (entries_of rows) ∙ ap (in_order timer_of) (filter-entries p rows)
 
-IsNotAmong-part : (serial : ℕ) (p : Row → Bool) (rows : Rows) → IsNotAmong serial (timers_in rows)
+pub IsNotAmong-part : (serial : ℕ) (p : Row → Bool) (rows : Rows) → IsNotAmong serial (timers_in rows)
     → IsNotAmong serial (timers_in (filter p rows))
 IsNotAmong-part serial p [] n = tt
 IsNotAmong-part serial p (x ∷ xs) n = elim (either (p x)) [
@@ -189,12 +190,8 @@ row_count-parts (suc n) (x ∷ xs) e =
     let a : length (x ++ rows_below n xs) ≡ length x + length (rows_below n xs) = length-append x (rows_below n xs) in
     omega arith
 
-length-entries : (rows : Rows) → length (entries_of rows) ≡ length rows
-length-entries [] = refl
-length-entries (x ∷ xs) = ap (λ (k : ℕ). suc k) (length-entries xs)
-
 pub length-pending_in : (rows : Rows) → length (pending_in rows) ≡ length rows
-length-pending_in rows = length-in_order timer_of (entries_of rows) ∙ length-entries rows
+length-pending_in rows = length-in_order timer_of (entries_of rows) ∙ length-map rows entry_of
 
 pub node_in-append : (key : ℕ) (xs ys : Rows) → node_in key (xs ++ ys) ≡ first_of (node_in key xs) (node_in key ys)
 node_in-append key [] ys = refl
@@ -240,13 +237,6 @@ pub apart_rows : (n key : ℕ) (lists : KeyedLists) → n ≤ length lists → A
     → AllByRecursion (HasNode key (node_at key lists)) (rows_below n lists)
 apart_rows n key lists b a = all-rows_below (HasNode key (node_at key lists)) n lists
     (λ s h. apart_from lists s key [] (list_at s lists) a (omega arith) refl)
-
--- New lists.
-
-pub list_at-replicate : (k s : ℕ) → list_at s (replicate k []) ≡ []
-list_at-replicate zero s = refl
-list_at-replicate (suc k) zero = refl
-list_at-replicate (suc k) (suc s) = list_at-replicate k s
 
 -- What became due.
 

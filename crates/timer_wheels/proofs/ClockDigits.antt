@@ -1,5 +1,5 @@
 -- The buckets and visits of `Table::Clock`, by quotients: seconds, minutes, hours and days.
-use Rattle.std.proofs.Common.{◌≡◌, ◌≢◌, ◌<◌, ◌≤◌, ◌+◌, ◌-◌, ◌*◌, ◌/◌, ◌%◌, ℕ, [], ◌∷◌, refl, sym, ◌∙◌, ap, arith, le_refl}
+use Rattle.std.proofs.Common.{◌≡◌, ◌≢◌, ◌<◌, ◌≤◌, ◌+◌, ◌-◌, ◌*◌, ◌/◌, ◌%◌, ℕ, List, [], ◌∷◌, refl, sym, ◌∙◌, arith, le_refl}
 use Rattle.timer_base.specs.declared.limits.TheConstants.{LAST}
 use Rattle.timer_wheels.specs.declared.table.TheConstants.{MOST_BUCKETS}
 use Rattle.timer_wheels.specs.Digits.{IsTable, HasDigits, bucket, emptied, last_of}
@@ -7,7 +7,17 @@ use Rattle.timer_wheels.specs.Tables.{clock}
 use Rattle.timer_wheels.proofs.DigitLaws.{bucket_near, bucket_far, emptied_here, emptied_above, visit_here, visit_above, IsHierTable}
 use Rattle.timer_wheels.specs.Leap.{list_visit}
 
-clock_is : clock ≡ 60 ∷ 60 ∷ 24 ∷ 100 ∷ []
+-- the wheels from the minutes on, those from the hours on, and that of the days
+abbrev minutes : List ℕ
+minutes = 60 ∷ 24 ∷ 100 ∷ []
+
+abbrev hours : List ℕ
+hours = 24 ∷ 100 ∷ []
+
+abbrev days : List ℕ
+days = 100 ∷ []
+
+clock_is : clock ≡ 60 ∷ minutes
 unfolding clock
 clock_is = refl
 
@@ -38,87 +48,63 @@ clock_fits = record {
 
 module _ (a d : ℕ) where
   pub bucket_second : a / 60 ≡ d / 60 → d % 60 ≡ bucket clock a d
-  bucket_second e = rw clock_is (sym (bucket_near 60 (60 ∷ 24 ∷ 100 ∷ []) a d e))
+  bucket_second e = rw clock_is (sym (bucket_near 60 minutes a d e))
 
   pub bucket_minute : a / 60 ≢ d / 60 → a / 60 / 60 ≡ d / 60 / 60 → 60 + d / 60 % 60 ≡ bucket clock a d
-  bucket_minute n e = rw clock_is (sym (bucket_far 60 (60 ∷ 24 ∷ 100 ∷ []) a d n
-      ∙ ap (λ (x : ℕ). 60 + x) (bucket_near 60 (24 ∷ 100 ∷ []) (a / 60) (d / 60) e)))
+  bucket_minute n e = rw clock_is (omega (arith, bucket_far 60 minutes a d n, bucket_near 60 hours (a / 60) (d / 60) e))
 
   pub bucket_hour : a / 60 ≢ d / 60 → a / 60 / 60 ≢ d / 60 / 60 → a / 60 / 60 / 24 ≡ d / 60 / 60 / 24
       → 120 + d / 60 / 60 % 24 ≡ bucket clock a d
   bucket_hour n m e =
-      let x : bucket (60 ∷ 24 ∷ 100 ∷ []) (a / 60) (d / 60) ≡ 60 + d / 60 / 60 % 24 =
-      bucket_far 60 (24 ∷ 100 ∷ []) (a / 60) (d / 60) m ∙ ap (λ (x : ℕ). 60 + x)
-      (bucket_near 24 (100 ∷ []) (a / 60 / 60) (d / 60 / 60) e) in
-      let y : bucket (60 ∷ 60 ∷ 24 ∷ 100 ∷ []) a d ≡ 60 + bucket (60 ∷ 24 ∷ 100 ∷ []) (a / 60) (d / 60) =
-      bucket_far 60 (60 ∷ 24 ∷ 100 ∷ []) a d n in
-      rw clock_is (omega arith)
+      let days_up = bucket_near 24 days (a / 60 / 60) (d / 60 / 60) e in
+      rw clock_is (omega (arith, bucket_far 60 minutes a d n, bucket_far 60 hours (a / 60) (d / 60) m))
 
   pub bucket_day : a < d → d ≤ 8639999 → a / 60 ≢ d / 60 → a / 60 / 60 ≢ d / 60 / 60 → a / 60 / 60 / 24 ≢ d / 60 / 60 / 24
       → 144 + d / 60 / 60 / 24 ≡ bucket clock a d
   bucket_day l r n m k =
-      let e : a / 60 / 60 / 24 / 100 ≡ d / 60 / 60 / 24 / 100 = days_end a (omega arith) ∙ sym (days_end d r) in
-      let z : bucket (100 ∷ []) (a / 60 / 60 / 24) (d / 60 / 60 / 24) ≡ d / 60 / 60 / 24 % 100 =
-      bucket_near 100 [] (a / 60 / 60 / 24) (d / 60 / 60 / 24) e in
-      let w : d / 60 / 60 / 24 / 100 ≡ 0 = days_end d r in
-      let x : bucket (24 ∷ 100 ∷ []) (a / 60 / 60) (d / 60 / 60) ≡ 24 + bucket (100 ∷ []) (a / 60 / 60 / 24) (d / 60 / 60 / 24) =
-      bucket_far 24 (100 ∷ []) (a / 60 / 60) (d / 60 / 60) k in
-      let v : bucket (60 ∷ 24 ∷ 100 ∷ []) (a / 60) (d / 60) ≡ 60 + bucket (24 ∷ 100 ∷ []) (a / 60 / 60) (d / 60 / 60) =
-      bucket_far 60 (24 ∷ 100 ∷ []) (a / 60) (d / 60) m in
-      let y : bucket (60 ∷ 60 ∷ 24 ∷ 100 ∷ []) a d ≡ 60 + bucket (60 ∷ 24 ∷ 100 ∷ []) (a / 60) (d / 60) =
-      bucket_far 60 (60 ∷ 24 ∷ 100 ∷ []) a d n in
-      rw clock_is (omega arith)
+      let e : d / 60 / 60 / 24 / 100 ≡ 0 = days_end d r in
+      let top = bucket_near 100 [] (a / 60 / 60 / 24) (d / 60 / 60 / 24) (days_end a (omega arith) ∙ sym e) in
+      let last = bucket_far 24 days (a / 60 / 60) (d / 60 / 60) k in
+      rw clock_is (omega (arith, bucket_far 60 minutes a d n, bucket_far 60 hours (a / 60) (d / 60) m))
 
 module _ (t : ℕ) where
   pub emptied_second : t % 60 ≢ 0 → t % 60 ≡ emptied clock t
-  emptied_second n = rw clock_is (sym (emptied_here 60 (60 ∷ 24 ∷ 100 ∷ []) t n))
+  emptied_second n = rw clock_is (sym (emptied_here 60 minutes t n))
 
   pub emptied_minute : t % 60 ≡ 0 → t / 60 % 60 ≢ 0 → 60 + t / 60 % 60 ≡ emptied clock t
-  emptied_minute e n = rw clock_is (sym (emptied_above 60 (60 ∷ 24 ∷ 100 ∷ []) t e
-      ∙ ap (λ (x : ℕ). 60 + x) (emptied_here 60 (24 ∷ 100 ∷ []) (t / 60) n)))
+  emptied_minute e n = rw clock_is (omega (arith, emptied_above 60 minutes t e, emptied_here 60 hours (t / 60) n))
 
   pub emptied_hour : t % 60 ≡ 0 → t / 60 % 60 ≡ 0 → t / 60 / 60 % 24 ≢ 0 → 120 + t / 60 / 60 % 24 ≡ emptied clock t
   emptied_hour e f n =
-      let x : emptied (60 ∷ 24 ∷ 100 ∷ []) (t / 60) ≡ 60 + t / 60 / 60 % 24 =
-      emptied_above 60 (24 ∷ 100 ∷ []) (t / 60) f ∙ ap (λ (x : ℕ). 60 + x) (emptied_here 24 (100 ∷ []) (t / 60 / 60) n) in
-      let y : emptied (60 ∷ 60 ∷ 24 ∷ 100 ∷ []) t ≡ 60 + emptied (60 ∷ 24 ∷ 100 ∷ []) (t / 60) = emptied_above 60 (60 ∷ 24 ∷ 100 ∷ []) t e
-      in
-      rw clock_is (omega arith)
+      let last = emptied_here 24 days (t / 60 / 60) n in
+      rw clock_is (omega (arith, emptied_above 60 minutes t e, emptied_above 60 hours (t / 60) f))
 
   pub emptied_day : 0 < t → t ≤ 8639999 → t % 60 ≡ 0 → t / 60 % 60 ≡ 0 → t / 60 / 60 % 24 ≡ 0 → 144 + t / 60 / 60 / 24 ≡ emptied clock t
   emptied_day p r e f g =
       let w : t / 60 / 60 / 24 / 100 ≡ 0 = days_end t r in
-      let n : t / 60 / 60 / 24 % 100 ≢ 0 = λ (q : t / 60 / 60 / 24 % 100 ≡ 0). omega arith in
-      let z : emptied (100 ∷ []) (t / 60 / 60 / 24) ≡ t / 60 / 60 / 24 % 100 = emptied_here 100 [] (t / 60 / 60 / 24) n in
-      let x : emptied (24 ∷ 100 ∷ []) (t / 60 / 60) ≡ 24 + emptied (100 ∷ []) (t / 60 / 60 / 24) =
-      emptied_above 24 (100 ∷ []) (t / 60 / 60) g in
-      let v : emptied (60 ∷ 24 ∷ 100 ∷ []) (t / 60) ≡ 60 + emptied (24 ∷ 100 ∷ []) (t / 60 / 60) =
-      emptied_above 60 (24 ∷ 100 ∷ []) (t / 60) f in
-      let y : emptied (60 ∷ 60 ∷ 24 ∷ 100 ∷ []) t ≡ 60 + emptied (60 ∷ 24 ∷ 100 ∷ []) (t / 60) = emptied_above 60 (60 ∷ 24 ∷ 100 ∷ []) t e
-      in
-      rw clock_is (omega arith)
+      let n : t / 60 / 60 / 24 % 100 ≢ 0 = omega arith in
+      let top = emptied_here 100 [] (t / 60 / 60 / 24) n in
+      let last = emptied_above 24 days (t / 60 / 60) g in
+      rw clock_is (omega (arith, emptied_above 60 minutes t e, emptied_above 60 hours (t / 60) f))
 
 module _ (l now : ℕ) where
   pub clock_visit_second : l < 60 → 60 * (now / 60) + l ≡ list_visit clock l now
-  clock_visit_second h = rw clock_is (sym (visit_here 60 (60 ∷ 24 ∷ 100 ∷ []) l now h))
+  clock_visit_second h = rw clock_is (sym (visit_here 60 minutes l now h))
 
   pub clock_visit_minute : 60 ≤ l → l < 120 → 60 * (60 * (now / 60 / 60) + (l - 60)) ≡ list_visit clock l now
-  clock_visit_minute a b = rw clock_is (sym (visit_above 60 (60 ∷ 24 ∷ 100 ∷ []) l now a
-      ∙ ap (λ (x : ℕ). 60 * x) (visit_here 60 (24 ∷ 100 ∷ []) (l - 60) (now / 60) (omega arith))))
+  clock_visit_minute a b =
+      let last = visit_here 60 hours (l - 60) (now / 60) (omega arith) in
+      rw clock_is (omega (arith, visit_above 60 minutes l now a))
 
   pub clock_visit_hour : 120 ≤ l → l < 144 → 60 * (60 * (24 * (now / 60 / 60 / 24) + (l - 120))) ≡ list_visit clock l now
   clock_visit_hour a b =
-      let e : l - 60 - 60 ≡ l - 120 = omega arith in
-      rw clock_is (sym (visit_above 60 (60 ∷ 24 ∷ 100 ∷ []) l now (omega arith)
-      ∙ ap (λ (x : ℕ). 60 * x) (visit_above 60 (24 ∷ 100 ∷ []) (l - 60) (now / 60) (omega arith)
-      ∙ ap (λ (x : ℕ). 60 * x) (visit_here 24 (100 ∷ []) (l - 60 - 60) (now / 60 / 60) (omega arith)
-      ∙ ap (λ (x : ℕ). 24 * (now / 60 / 60 / 24) + x) e))))
+      let last = visit_here 24 days (l - 60 - 60) (now / 60 / 60) (omega arith) in
+      let above = visit_above 60 hours (l - 60) (now / 60) (omega arith) in
+      rw clock_is (omega (arith, visit_above 60 minutes l now (omega arith)))
 
   pub clock_visit_day : 144 ≤ l → l < 244 → now ≤ 8639999 → 60 * (60 * (24 * (l - 144))) ≡ list_visit clock l now
   clock_visit_day a b r =
-      let w : now / 60 / 60 / 24 / 100 ≡ 0 = days_end now r in
-      let e : 100 * (now / 60 / 60 / 24 / 100) + (l - 60 - 60 - 24) ≡ l - 144 = omega arith in
-      rw clock_is (sym (visit_above 60 (60 ∷ 24 ∷ 100 ∷ []) l now (omega arith)
-      ∙ ap (λ (x : ℕ). 60 * x) (visit_above 60 (24 ∷ 100 ∷ []) (l - 60) (now / 60) (omega arith)
-      ∙ ap (λ (x : ℕ). 60 * x) (visit_above 24 (100 ∷ []) (l - 60 - 60) (now / 60 / 60) (omega arith)
-      ∙ ap (λ (x : ℕ). 24 * x) (visit_here 100 [] (l - 60 - 60 - 24) (now / 60 / 60 / 24) (omega arith) ∙ e)))))
+      let top = visit_here 100 [] (l - 60 - 60 - 24) (now / 60 / 60 / 24) (omega arith) in
+      let last = visit_above 24 days (l - 60 - 60) (now / 60 / 60) (omega arith) in
+      let above = visit_above 60 hours (l - 60) (now / 60) (omega arith) in
+      rw clock_is (omega (arith, days_end now r, visit_above 60 minutes l now (omega arith)))

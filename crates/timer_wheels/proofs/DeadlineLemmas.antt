@@ -1,42 +1,37 @@
 -- Lemmas for `deadlines`: the least deadline of lists, and in which bucket of a hierarchy it is.
-use Rattle.std.proofs.Common.{◌≡◌, ◌<◌, ◌≤◌, ◌+◌, ◌*◌, ◌/◌, ◌%◌, ℕ, suc, List, [], ◌∷◌, ◌++◌, length, refl, sym, ◌∙◌, ap, subst, inl, inr, arith, Option, Some, None, min}
+use Rattle.std.proofs.Common.{◌≡◌, ◌<◌, ◌≤◌, ◌+◌, ◌*◌, ◌/◌, ℕ, suc, List, [], ◌∷◌, ◌++◌, length, refl, sym, ◌∙◌, ap, inl, inr, arith, Option, Some, None, min}
 use Rattle.std.specs.List.{AllByRecursion}
 use Rattle.std.proofs.lemmas.Bool.{cases_eq, cases_lt}
-use Rattle.std.proofs.lemmas.Nat.{le-div}
+use Rattle.std.proofs.lemmas.List.{length-map}
 use Rattle.timer_base.specs.Basics.{some_same, least_if_before, least_if_after, either}
 use Rattle.timer_base.specs.declared.timer.Timer.{Timer}
 use Rattle.timer_base.specs.Order.{insert_in_order, is_before}
 use Rattle.timer_base.specs.OrderLaws.{All-weaken}
-use Rattle.timer_base.specs.Pending.{Entry, timer_of, timers_of}
+use Rattle.timer_base.specs.Pending.{Entry, timer_of}
 use Rattle.timer_base.specs.PlainState.{earliest}
 use Rattle.timer_base.specs.WakeUps.{next_deadline}
-use Rattle.timer_base.specs.WheelState.{IsPending}
 use Rattle.timer_links.specs.declared.node.Node.{Node}
 use Rattle.timer_links.specs.Lists.{first_key, list_at, node_at, AreApart, KeyedLists, Row, Rows}
-use Rattle.timer_wheels.specs.declared.table.TheConstants.{MOST_BUCKETS}
-use Rattle.timer_wheels.specs.BucketLists.{timer_in, timers_in, entry_of, pending_in, rows_below}
-use Rattle.timer_wheels.specs.Buckets.{state_of, state_of-well_formed}
+use Rattle.timer_wheels.specs.BucketLists.{timer_in, timers_in, entry_of, pending_in, rows_below, EachRow}
+use Rattle.timer_wheels.specs.Buckets.{state_of}
 use Rattle.timer_wheels.specs.Deadlines.{HasDeadline, IsLeast, IsLeastDeadline}
 use Rattle.timer_wheels.specs.declared.first.First.{First}
-use Rattle.timer_wheels.specs.FirstDeadline.{deadline_count, IsFirstOf, IsKnownOf}
+use Rattle.timer_wheels.specs.FirstDeadline.{IsFirstOf, IsKnownOf}
 use Rattle.timer_wheels.specs.declared.buckets.Buckets.{Buckets}
 use Rattle.timer_wheels.specs.declared.table.Table.{Table}
-use Rattle.timer_wheels.specs.Digits.{IsTable, HasDigits, bucket, slots, lowest_radix}
+use Rattle.timer_wheels.specs.Digits.{IsTable, bucket, lowest_radix}
 use Rattle.timer_wheels.specs.Hier.{IsHier}
 use Rattle.timer_wheels.specs.Leap.{list_visit, timer_visit}
 use Rattle.timer_wheels.specs.Occupied.{IsFirstSet}
-use Rattle.timer_wheels.specs.Placement.{IsPlaced}
 use Rattle.timer_wheels.specs.Tables.{radices}
 use Rattle.timer_wheels.specs.WakeUps.{next_visit}
-use Rattle.timer_wheels.proofs.FirstLemmas.{count-few, enter_known, not_before-both, not_before-less}
-use Rattle.timer_wheels.proofs.FirstsLemmas.{length-timers}
-use Rattle.timer_wheels.proofs.DigitLaws.{bucket_near, bucket_far, visit_here}
-use Rattle.timer_wheels.proofs.DigitLaws.{digits_down}
-use Rattle.timer_wheels.proofs.HierLeaps.{first_in, filled_some, last_digits}
-use Rattle.timer_wheels.proofs.OccupiedLemmas.{no_rows_there}
-use Rattle.timer_wheels.proofs.RowLemmas.{all-list_at, all-rows_below, append-nil, timers-append, around, rows_below-more, rows_below-none}
+use Rattle.timer_wheels.proofs.FirstLemmas.{count-few, enter_known, not_before-less}
+use Rattle.timer_wheels.proofs.AllLemmas.{all-map, all-of_map}
+use Rattle.timer_wheels.proofs.DigitLaws.{bucket_near, bucket_far, lowest_bucket, visit_here, quotient_mono, less_quotient}
+use Rattle.timer_wheels.proofs.HierLeaps.{IsKnown, known, none_where, none_wakes, first_in, first_some}
+use Rattle.timer_wheels.proofs.RowLemmas.{all-append, all-rows_below, append-nil, timers-append, around, rows_below-more}
 use Rattle.timer_wheels.proofs.TableLaws.{of_table}
-use Rattle.timer_wheels.proofs.VisitLaws.{less_quotient, list_is}
+use Rattle.timer_wheels.proofs.VisitLaws.{list_is}
 use Rattle.timer_wheels.proofs.WalkLemmas.{IsWalking, IsNextRow, begun, next_row, found, walked}
 
 -- The least deadline of two lists together.
@@ -50,25 +45,19 @@ has-rest : (d : ℕ) (xs ys : List Timer) → HasDeadline d ys → HasDeadline d
 has-rest d [] ys h = h
 has-rest d (x ∷ xs) ys h = inr (has-rest d xs ys h)
 
-least-first : (a b : ℕ) (xs ys : List Timer) → a ≤ b → IsLeast a xs → IsLeast b ys → IsLeast a (xs ++ ys)
-least-first a b xs ys h l m = record {
-  has = has-front a xs ys l.has;
-  none_earlier = not_before-both a xs ys l.none_earlier (not_before-less a b ys h m.none_earlier);
-}
-
-least-second : (a b : ℕ) (xs ys : List Timer) → b ≤ a → IsLeast a xs → IsLeast b ys → IsLeast b (xs ++ ys)
-least-second a b xs ys h l m = record {
-  has = has-rest b xs ys m.has;
-  none_earlier = not_before-both b xs ys (not_before-less b a xs h l.none_earlier) m.none_earlier;
+least-both : (a b d : ℕ) (xs ys : List Timer) → d ≤ a → d ≤ b → HasDeadline d (xs ++ ys) → IsLeast a xs → IsLeast b ys → IsLeast d (xs ++ ys)
+least-both a b d xs ys h k e l m = record {
+  has = e;
+  none_earlier = all-append (λ t. d ≤ t.deadline) xs ys (not_before-less d a xs h l.none_earlier) (not_before-less d b ys k m.none_earlier);
 }
 
 pub least-append : (a b : Option ℕ) (xs ys : List Timer) → IsLeastDeadline a xs → IsLeastDeadline b ys
     → IsLeastDeadline (earliest a b) (xs ++ ys)
-least-append None b xs ys l m = subst (λ (zs : List Timer). IsLeastDeadline b (zs ++ ys)) (sym l) m
-least-append (Some a) None xs ys l m = subst (λ (zs : List Timer). IsLeast a (xs ++ zs)) (sym m) (subst (IsLeast a) (sym (append-nil xs)) l)
+least-append None b xs ys l m = rw l m
+least-append (Some a) None xs ys l m = rw (m, append-nil xs) l
 least-append (Some a) (Some b) xs ys l m = elim (cases_lt a b) [
-  | inl k ↦ let e : a ≡ min a b = omega arith in subst (λ (d : ℕ). IsLeast d (xs ++ ys)) e (least-first a b xs ys (omega arith) l m)
-  | inr k ↦ let e : b ≡ min a b = omega arith in subst (λ (d : ℕ). IsLeast d (xs ++ ys)) e (least-second a b xs ys k l m)
+  | inl k ↦ let e : min a b ≡ a = omega arith in rw e (least-both a b a xs ys (omega arith) (omega arith) (has-front a xs ys l.has) l m)
+  | inr k ↦ let e : min a b ≡ b = omega arith in rw e (least-both a b b xs ys k (omega arith) (has-rest b xs ys m.has) l m)
 ]
 
 least-one : (t : Timer) → IsLeast t.deadline (t ∷ [])
@@ -91,37 +80,31 @@ seeking-begun l lists at first e f b = record { past = []; walk = begun l lists 
 pub seeking-few : (l step most : ℕ) (lists : KeyedLists) (at : Option ℕ) (first : First) → IsSeeking l step lists at first
     → step < most → most < 18446744073709551616 → first.count < 18446744073709551615
 seeking-few l step most lists at first s h m =
-    let a : first.count ≡ deadline_count first.bound (timers_in s.past) = s.first_of.counted in
-    let b : deadline_count first.bound (timers_in s.past) ≤ length (timers_in s.past) = count-few first.bound (timers_in s.past) in
-    let c : length (timers_in s.past) ≡ length s.past = length-timers s.past in
-    let d : length s.past ≡ step = s.walk.count in
-    omega arith
+    omega (arith, s.first_of.counted, count-few first.bound (timers_in s.past), length-map s.past timer_in, s.walk.count)
 
 pub seeking-one : (l step : ℕ) (lists : KeyedLists) (b : l < length lists) (a : AreApart lists) (key : ℕ)
     (at next : Option ℕ) (first more : First) (node : Node) → (s : IsSeeking l step lists at first) → at ≡ Some key
     → Some node ≡ node_at key lists
     → ((ts : List Timer) (t : Timer) → t.deadline ≡ node.timer.deadline → IsFirstOf first ts → IsFirstOf more (ts ++ t ∷ []))
     → more.bound ≡ min first.bound node.timer.deadline → node.timer.deadline < 18446744073709551616
-    → ((w : IsNextRow l step lists key s.past) → next ≡ first_key w.rest) → IsSeeking l (step + 1) lists next more
+    → ((w : IsNextRow l step lists key s.past s.walk.left) → next ≡ first_key w.rest) → IsSeeking l (step + 1) lists next more
 seeking-one l step lists b a key at next first more node s e f m k r n =
-    let w : IsNextRow l step lists key s.past = next_row l step lists at key s.past s.walk e in
+    let w : IsNextRow l step lists key s.past s.walk.left = next_row l step lists at key s.past s.walk e in
     let same : node ≡ w.node = some_same node w.node (f ∙ found l step lists b a key s.past w) in
     let some : 0 < more.count = enter_known first more (timers_in s.past) node.timer (m (timers_in s.past) node.timer refl s.first_of)
-    s.first_of k (λ c. (let u : first.bound ≡ 18446744073709551615 = (s.begun_at c).1 in omega arith)) in
+    s.first_of k (λ c. omega (arith, (s.begun_at c).1)) in
     record {
       past = s.past ++ (key, w.node) ∷ [];
-      walk = walked l step lists b a key s.past w next (n w);
-      first_of = subst (IsFirstOf more) (sym (timers-append s.past ((key, w.node) ∷ [])))
+      walk = walked l step lists key s.past w next (n w);
+      first_of = rw (timers-append s.past ((key, w.node) ∷ []))
           (m (timers_in s.past) w.node.timer (ap (λ (y : Node). y.timer.deadline) (sym same)) s.first_of);
       begun_at = λ c. absurd (omega arith);
     }
 
 pub sought : (l step : ℕ) (lists : KeyedLists) (at : Option ℕ) (first : First) → (s : IsSeeking l step lists at first)
     → list_at l lists ≡ s.past → IsKnownOf first (timers_in (list_at l lists))
-sought l step lists at first s e = subst (λ (rows : Rows). IsKnownOf first (timers_in rows)) (sym e) (record {
-  first_of = s.first_of;
-  some = λ z. ap (λ (rows : Rows). timers_in rows) (s.begun_at z).0;
-})
+sought l step lists at first s e =
+    rw e (record { first_of = s.first_of; some = λ z. ap (λ (rows : Rows). timers_in rows) (s.begun_at z).0 })
 
 -- Several lists.
 
@@ -130,13 +113,8 @@ pub least-more : (n : ℕ) (lists : KeyedLists) (least one more : Option ℕ) �
     → IsLeastDeadline more (timers_in (rows_below (n + 1) lists))
 least-more n lists least one more b l m e =
     let s : n + 1 ≡ suc n = omega arith in
-    let rows : rows_below (n + 1) lists ≡ rows_below n lists ++ list_at n lists =
-    ap (λ (k : ℕ). rows_below k lists) s ∙ rows_below-more n lists b in
-    let ts : timers_in (rows_below (n + 1) lists) ≡ timers_in (rows_below n lists) ++ timers_in (list_at n lists) =
-    ap (λ (y : Rows). timers_in y) rows ∙ timers-append (rows_below n lists) (list_at n lists) in
-    subst (λ (o : Option ℕ). IsLeastDeadline o (timers_in (rows_below (n + 1) lists))) (sym e)
-    (subst (λ (y : List Timer). IsLeastDeadline (earliest least one) y) (sym ts)
-    (least-append least one (timers_in (rows_below n lists)) (timers_in (list_at n lists)) l m))
+    rw (e, s, rows_below-more n lists b, timers-append (rows_below n lists) (list_at n lists))
+    (least-append least one (timers_in (rows_below n lists)) (timers_in (list_at n lists)) l m)
 
 -- The least deadline is that of the first pending timer.
 
@@ -150,11 +128,8 @@ next-insert e (f ∷ es) = elim (either (is_before e.timer f.timer)) [
 
 next_is_least : (rows : Rows) → IsLeastDeadline (next_deadline (pending_in rows)) (timers_in rows)
 next_is_least [] = refl
-next_is_least (r ∷ rs) =
-    let both : IsLeastDeadline (earliest (Some (timer_in r).deadline) (next_deadline (pending_in rs))) (timer_in r ∷ timers_in rs) =
-    least-append (Some (timer_in r).deadline) (next_deadline (pending_in rs)) (timer_in r ∷ []) (timers_in rs) (least-one (timer_in r))
-    (next_is_least rs) in
-    subst (λ (o : Option ℕ). IsLeastDeadline o (timer_in r ∷ timers_in rs)) (sym (next-insert (entry_of r) (pending_in rs))) both
+next_is_least (r ∷ rs) = rw (next-insert (entry_of r) (pending_in rs)) (least-append (Some (timer_in r).deadline)
+    (next_deadline (pending_in rs)) (timer_in r ∷ []) (timers_in rs) (least-one (timer_in r)) (next_is_least rs))
 
 -- There is but one.
 
@@ -163,18 +138,12 @@ at_most c d [] a h = absurd h
 at_most c d (t ∷ ts) a (inl e) = let x : c ≤ t.deadline = a.0 in omega arith
 at_most c d (t ∷ ts) a (inr h) = at_most c d ts a.1 h
 
-has_none : (d : ℕ) (ts : List Timer) → ts ≡ [] → HasDeadline d ts → ⊥
-has_none d [] e h = h
-has_none d (t ∷ ts) e h = absurd (cc)
-
 one_least : (a b : Option ℕ) (ts : List Timer) → IsLeastDeadline a ts → IsLeastDeadline b ts → a ≡ b
 one_least None None ts l m = refl
-one_least None (Some b) ts l m = absurd (has_none b ts l m.has)
-one_least (Some a) None ts l m = absurd (has_none a ts m l.has)
+one_least None (Some b) ts l m = absurd (rw l at m.has)
+one_least (Some a) None ts l m = absurd (rw m at l.has)
 one_least (Some a) (Some b) ts l m =
-    let x : a ≤ b = at_most a b ts l.none_earlier m.has in
-    let y : b ≤ a = at_most b a ts m.none_earlier l.has in
-    let e : a ≡ b = omega arith in
+    let e : a ≡ b = omega (arith, at_most a b ts l.none_earlier m.has, at_most b a ts m.none_earlier l.has) in
     ap Some e
 
 pub least_is_next : (o : Option ℕ) (rows : Rows) → IsLeastDeadline o (timers_in rows) → o ≡ next_deadline (pending_in rows)
@@ -183,43 +152,20 @@ least_is_next o rows l = one_least o (next_deadline (pending_in rows)) (timers_i
 -- Deadlines of buckets, for every table.
 
 quotient_less : (r x y : ℕ) → 0 < r → x / r < y / r → x < y
-quotient_less r x y z h = elim (cases_lt x y) [
-  | inl k ↦ k
-  | inr k ↦
-      let e : r * (y / r) + y % r ≡ y = omega arith in
-      let q : y / r ≤ x / r = le-div (y / r) x r z (omega arith) in
-      absurd (omega arith)
-]
+quotient_less r x y z h = elim (cases_lt x y) [ inl k ↦ k | inr k ↦ absurd (omega (arith, quotient_mono r y x z k)) ]
 
 -- a bucket's deadlines are before those of the buckets after it
 bucket_before : (table : List ℕ) (a d e : ℕ) → IsTable table → a < d → a < e → bucket table a d < bucket table a e → d < e
-bucket_before [] a d e t h k b = absurd (let x : bucket [] a d ≡ 0 = refl in let y : bucket [] a e ≡ 0 = refl in omega arith)
+bucket_before [] a d e t h k b = absurd (omega arith)
 bucket_before (r ∷ rs) a d e t h k b = elim (cases_eq (a / r) (d / r)) [
   | inl p ↦ elim (cases_eq (a / r) (e / r)) [
-    | inl q ↦
-        let z : 0 < r = t.0 in
-        let x : bucket (r ∷ rs) a d ≡ d % r = bucket_near r rs a d p in
-        let y : bucket (r ∷ rs) a e ≡ e % r = bucket_near r rs a e q in
-        let u : r * (d / r) + d % r ≡ d = omega arith in
-        let v : r * (e / r) + e % r ≡ e = omega arith in
-        let w : r * (d / r) ≡ r * (e / r) = ap (λ (x : ℕ). r * x) (sym p ∙ q) in
-        omega arith
-    | inr q ↦
-        let l : a / r < e / r = less_quotient r a e k t.0 q in
-        quotient_less r d e t.0 (omega arith)
+    | inl q ↦ omega (arith, t.0, bucket_near r rs a d p, bucket_near r rs a e q, ap (λ (x : ℕ). r * x) (sym p ∙ q))
+    | inr q ↦ quotient_less r d e t.0 (omega (arith, less_quotient r a e k t.0 q))
   ]
   | inr p ↦ elim (cases_eq (a / r) (e / r)) [
-    | inl q ↦
-        let z : 0 < r = t.0 in
-        let x : bucket (r ∷ rs) a d ≡ r + bucket rs (a / r) (d / r) = bucket_far r rs a d p in
-        let y : bucket (r ∷ rs) a e ≡ e % r = bucket_near r rs a e q in
-        let m : e % r < r = omega arith in
-        absurd (omega arith)
-    | inr q ↦
-        let x : bucket (r ∷ rs) a d ≡ r + bucket rs (a / r) (d / r) = bucket_far r rs a d p in
-        let y : bucket (r ∷ rs) a e ≡ r + bucket rs (a / r) (e / r) = bucket_far r rs a e q in
-        quotient_less r d e t.0 (bucket_before rs (a / r) (d / r) (e / r) t.1 (less_quotient r a d h t.0 p) (less_quotient r a e k t.0 q)
-        (omega arith))
+    | inl q ↦ absurd (omega (arith, t.0, bucket_far r rs a d p, bucket_near r rs a e q))
+    | inr q ↦ quotient_less r d e t.0 (bucket_before rs (a / r) (d / r) (e / r) t.1 (less_quotient r a d h t.0 p) (less_quotient r a e k t.0 q)
+        (omega (arith, bucket_far r rs a d p, bucket_far r rs a e q)))
   ]
 ]
 
@@ -227,193 +173,112 @@ bucket_before (r ∷ rs) a d e t h k b = elim (cases_eq (a / r) (d / r)) [
 lowest_visit : (table : List ℕ) (a d l : ℕ) → IsTable table → 0 < length table → a < d → bucket table a d ≡ l → l < lowest_radix table
     → list_visit table l a ≡ d
 lowest_visit [] a d l t n h e b = absurd (omega arith)
-lowest_visit (r ∷ rs) a d l t n h e b = elim (cases_eq (a / r) (d / r)) [
-  | inl p ↦
-      let z : 0 < r = t.0 in
-      let x : bucket (r ∷ rs) a d ≡ d % r = bucket_near r rs a d p in
-      let u : r * (d / r) + d % r ≡ d = omega arith in
-      let w : r * (a / r) ≡ r * (d / r) = ap (λ (x : ℕ). r * x) p in
-      visit_here r rs l a b ∙ omega arith
-  | inr p ↦ absurd (let x : bucket (r ∷ rs) a d ≡ r + bucket rs (a / r) (d / r) = bucket_far r rs a d p in omega arith)
-]
+lowest_visit (r ∷ rs) a d l t n h e b =
+    let w = lowest_bucket r rs a d (omega arith) in
+    omega (arith, t.0, visit_here r rs l a b, w.1, ap (λ (x : ℕ). r * x) w.0)
 
 -- The first bucket with a timer.
 
--- a row of a bucket as the invariant knows it
-record IsStanding (table : List ℕ) (now s : ℕ) (row : Row) : Type 0 where
-  later : now < (timer_in row).deadline
-  placed : bucket table now (timer_in row).deadline ≡ s
-
-deadline_in : (d : ℕ) (P : Timer → Type 0) (ts : List Timer) → AllByRecursion P ts → HasDeadline d ts → (t : Timer) × P t × (t.deadline ≡ d)
-deadline_in d P [] a h = absurd h
-deadline_in d P (t ∷ ts) a (inl e) = (t, a.0, e)
-deadline_in d P (t ∷ ts) a (inr h) = deadline_in d P ts a.1 h
-
-timers_standing : (table : List ℕ) (now l : ℕ) (rows : Rows) → AllByRecursion (IsStanding table now l) rows
-    → AllByRecursion (λ (u : Timer). (now < u.deadline) × (bucket table now u.deadline ≡ l)) (timers_in rows)
-timers_standing table now l [] a = tt
-timers_standing table now l (r ∷ rs) a = ((a.0.later, a.0.placed), timers_standing table now l rs a.1)
-
-of_rows : (d : ℕ) (rows : Rows) → AllByRecursion (λ t. d ≤ t.deadline) (timers_in rows)
-    → AllByRecursion (λ row. d ≤ (timer_in row).deadline) rows
-of_rows d [] a = tt
-of_rows d (r ∷ rs) a = (a.0, of_rows d rs a.1)
-
-of_timers : (d : ℕ) (rows : Rows) → AllByRecursion (λ row. d ≤ (timer_in row).deadline) rows
-    → AllByRecursion (λ t. d ≤ t.deadline) (timers_in rows)
-of_timers d [] a = tt
-of_timers d (r ∷ rs) a = (a.0, of_timers d rs a.1)
+-- a row with the deadline
+row_with : (d : ℕ) (P : Row → Type 0) (rows : Rows) → AllByRecursion P rows → HasDeadline d (timers_in rows)
+    → (row : Row) × P row × ((timer_in row).deadline ≡ d)
+row_with d P [] a h = absurd h
+row_with d P (r ∷ rs) a (inl e) = (r, a.0, e)
+row_with d P (r ∷ rs) a (inr h) = row_with d P rs a.1 h
 
 -- what one list has, all have together
 has_below : (d n l : ℕ) (lists : KeyedLists) → l < n → l < length lists → HasDeadline d (timers_in (list_at l lists))
     → HasDeadline d (timers_in (rows_below n lists))
 has_below d n l lists k m h =
     let w = around n l lists k m in
-    let mid : HasDeadline d (timers_in (list_at l lists) ++ timers_in w.rest) =
-    has-front d (timers_in (list_at l lists)) (timers_in w.rest) h in
-    let back : HasDeadline d (timers_in (list_at l lists ++ w.rest)) =
-    subst (HasDeadline d) (sym (timers-append (list_at l lists) w.rest)) mid in
-    let all : HasDeadline d (timers_in (w.front ++ (list_at l lists ++ w.rest))) =
-    subst (HasDeadline d) (sym (timers-append w.front (list_at l lists ++ w.rest)))
-    (has-rest d (timers_in w.front) (timers_in (list_at l lists ++ w.rest)) back) in
-    subst (λ (rows : Rows). HasDeadline d (timers_in rows)) (sym w.rows) all
-
-all_at : (d : ℕ) (rows : Rows) → 0 < length rows → AllByRecursion (λ row. (timer_in row).deadline ≡ d) rows
-    → IsLeast d (timers_in rows)
-all_at d [] k a = absurd (omega arith)
-all_at d (r ∷ rs) k a = record {
-  has = inl a.0;
-  none_earlier = of_timers d (r ∷ rs)
-      (All-weaken (λ row. (timer_in row).deadline ≡ d) (λ row. d ≤ (timer_in row).deadline) (r ∷ rs) (λ row e. let x : (timer_in
-      row).deadline
-      ≡ d = e in omega arith) a);
-}
+    rw (w.rows, timers-append w.front (list_at l lists ++ w.rest), timers-append (list_at l lists) w.rest)
+    (has-rest d (timers_in w.front) (timers_in (list_at l lists) ++ timers_in w.rest)
+    (has-front d (timers_in (list_at l lists)) (timers_in w.rest) h))
 
 some_rows : (rows : Rows) → 0 < length rows → timers_in rows ≡ [] → ⊥
 some_rows [] k e = absurd (omega arith)
 some_rows (r ∷ rs) k e = absurd (cc)
 
-standing-rows : (table : List ℕ) (last_tick now last_serial s : ℕ) (rows : Rows)
-    → AllByRecursion (λ row. IsPending last_tick now last_serial (timer_in row)) rows → AllByRecursion (IsPlaced table now s) rows
-    → AllByRecursion (IsStanding table now s) rows
-standing-rows table last_tick now last_serial s [] p q = tt
-standing-rows table last_tick now last_serial s (r ∷ rs) p q = (
-  record {
-    later = p.0.later;
-    placed = q.0.0;
-  },
-  standing-rows table last_tick now last_serial s rs p.1 q.1,
-)
+-- a row with the least deadline of rows that satisfy a fact
+record HasLeast (P : Row → Type 0) (rows : Rows) : Type 0 where
+  row : Row
+  is : P row
+  least : IsLeast (timer_in row).deadline (timers_in rows)
+
+has_least : (P : Row → Type 0) (rows : Rows) (o : Option ℕ) → 0 < length rows → AllByRecursion P rows → IsLeastDeadline o (timers_in rows)
+    → HasLeast P rows
+has_least P rows None k a m = absurd (some_rows rows k m)
+has_least P rows (Some d) k a m = let u = row_with d P rows a m.has in record { row = u.0; is = u.1; least = rw u.2 m }
 
 -- nothing is pending if no bit is set
 pub none_is_next : (t : Table) (b : Buckets) (words : List ℕ) → IsHier t b words → IsFirstSet words None
     → None ≡ next_deadline (state_of b).pending
-none_is_next t b words h f =
-    let e : b.slots ≡ slots (radices t) = h.has_slots in
-    let k : slots (radices t) ≤ MOST_BUCKETS = (of_table t).few_slots in
-    let rows : rows_below b.slots b.links.lists ≡ [] = rows_below-none b.slots b.links.lists
-    (λ s c. no_rows_there (list_at s b.links.lists) (sym (h.marked.0 s c) ∙ f s (omega arith))) in
-    sym (ap (λ (y : Rows). next_deadline (pending_in y)) rows)
+none_is_next t b words h f = ap next_deadline (sym (none_wakes t b words h f))
 
 module _ (t : Table) (b : Buckets) (words : List ℕ) (h : IsHier t b words) (l : ℕ) (f : IsFirstSet words (Some l)) where
   pub first_below : l < b.slots
   first_below = first_in t b words h l f.0 f.1
 
-  standing : (s : ℕ) → s < b.slots → AllByRecursion (IsStanding (radices t) b.tick s) (list_at s b.links.lists)
-  standing s k = standing-rows (radices t) b.last_tick b.tick b.last_serial s (list_at s b.links.lists)
-      (all-list_at (λ row. IsPending b.last_tick b.tick b.last_serial (timer_in row)) b.slots b.links.lists b.sound.pending s k) (h.placed s k)
+  first_least : HasLeast (IsKnown (radices t) b.tick l) (list_at l b.links.lists)
+  first_least = has_least (IsKnown (radices t) b.tick l) (list_at l b.links.lists) (next_deadline (pending_in (list_at l b.links.lists)))
+      (first_some t b words h l f) (known t b words h l first_below) (next_is_least (list_at l b.links.lists))
 
-  some_there : 0 < length (list_at l b.links.lists)
-  some_there = filled_some t b words h (list_at l b.links.lists) (sym (h.marked.0 l first_below) ∙ f.1)
+  abbrev first_deadline : ℕ
+  first_deadline = (timer_in first_least.row).deadline
 
   -- a deadline of the first bucket with a timer is before those of the later buckets
-  not_later : (d s : ℕ) (row : Row) → IsLeast d (timers_in (list_at l b.links.lists)) → l < s → IsStanding (radices t) b.tick s row
-      → d ≤ (timer_in row).deadline
-  not_later d s row m c w =
-      let u = deadline_in d (λ (u : Timer). (b.tick < u.deadline)
-      × (bucket (radices t) b.tick u.deadline ≡ l)) (timers_in (list_at l b.links.lists))
-      (timers_standing (radices t) b.tick l (list_at l b.links.lists) (standing l first_below)) m.has in
-      let e : u.0.deadline ≡ d = u.2 in
-      let p : bucket (radices t) b.tick u.0.deadline ≡ l = u.1.1 in
-      let q : bucket (radices t) b.tick (timer_in row).deadline ≡ s = w.placed in
-      let x : u.0.deadline < (timer_in row).deadline = bucket_before (radices t) b.tick u.0.deadline (timer_in row).deadline
-      (of_table t).is_table u.1.0 w.later (omega arith) in
+  not_later : (s : ℕ) (row : Row) → l < s → IsKnown (radices t) b.tick s row → first_deadline ≤ (timer_in row).deadline
+  not_later s row c w =
+      let x = bucket_before (radices t) b.tick first_deadline (timer_in row).deadline (of_table t).is_table
+      first_least.is.later w.later (omega (arith, first_least.is.placed, w.placed)) in
       omega arith
 
-  not_sooner : (d s : ℕ) → IsLeast d (timers_in (list_at l b.links.lists)) → s < b.slots
-      → AllByRecursion (λ row. d ≤ (timer_in row).deadline) (list_at s b.links.lists)
-  not_sooner d s m k = elim (cases_lt s l) [
-    | inl c ↦ let P : Rows → Type 0 = AllByRecursion (λ row. d ≤ (timer_in row).deadline)
-        in subst P (sym (no_rows_there (list_at s b.links.lists) (sym (h.marked.0 s k) ∙ f.2 s c))) tt
+  not_sooner : EachRow (λ s row. first_deadline ≤ (timer_in row).deadline) b.slots b.links.lists
+  not_sooner s k = elim (cases_lt s l) [
+    | inl c ↦ rw (none_where t b words h s k (f.2 s c)) tt
     | inr c ↦ elim (cases_eq s l) [
-      | inl e ↦ let P : ℕ → Type 0 = λ n. AllByRecursion (λ row. d ≤ (timer_in row).deadline) (list_at n b.links.lists)
-          in subst P (sym e) (of_rows d (list_at l b.links.lists) m.none_earlier)
-      | inr n ↦ All-weaken (IsStanding (radices t) b.tick s) (λ row. d ≤ (timer_in row).deadline) (list_at s b.links.lists)
-          (λ row w. not_later d s row m (omega arith) w) (standing s k)
+      | inl e ↦ rw e (all-of_map timer_in (λ t. first_deadline ≤ t.deadline) (list_at l b.links.lists)
+          first_least.least.none_earlier)
+      | inr n ↦ All-weaken (IsKnown (radices t) b.tick s) (λ row. first_deadline ≤ (timer_in row).deadline)
+          (list_at s b.links.lists) (λ row w. not_later s row (omega arith) w) (known t b words h s k)
     ]
   ]
 
-  least_of_first : (d : ℕ) → IsLeast d (timers_in (list_at l b.links.lists)) → Some d ≡ next_deadline (state_of b).pending
-  least_of_first d m =
-      let n : length b.links.lists ≡ b.slots + 1 = b.sound.has_lists in
-      least_is_next (Some d) (rows_below b.slots b.links.lists) (record {
-        has = has_below d b.slots l b.links.lists first_below (let k : l < b.slots = first_below in omega arith) m.has;
-        none_earlier = of_timers d (rows_below b.slots b.links.lists)
-            (all-rows_below (λ row. d ≤ (timer_in row).deadline) b.slots b.links.lists (λ s k. not_sooner d s m k));
-      })
+  least_of_all : Some first_deadline ≡ next_deadline (state_of b).pending
+  least_of_all = least_is_next (Some first_deadline) (rows_below b.slots b.links.lists) (record {
+    has = has_below first_deadline b.slots l b.links.lists first_below (omega (arith, first_below, b.sound.has_lists))
+        first_least.least.has;
+    none_earlier = all-map timer_in (λ t. first_deadline ≤ t.deadline) (rows_below b.slots b.links.lists)
+        (all-rows_below (λ row. first_deadline ≤ (timer_in row).deadline) b.slots b.links.lists not_sooner);
+  })
 
   -- its least deadline is the first one of all
   pub first_is_next : (o : Option ℕ) → IsLeastDeadline o (timers_in (list_at l b.links.lists)) → o ≡ next_deadline (state_of b).pending
-  first_is_next None m = absurd (some_rows (list_at l b.links.lists) some_there m)
-  first_is_next (Some d) m = least_of_first d m
+  first_is_next o m =
+      one_least o (Some first_deadline) (timers_in (list_at l b.links.lists)) m first_least.least ∙ least_of_all
 
   -- and on the lowest wheel that is the tick of its visit
   pub visit_is_next : (visit : ℕ) → visit ≡ list_visit (radices t) l b.tick → l < lowest_radix (radices t)
       → Some visit ≡ next_deadline (state_of b).pending
   visit_is_next visit e k =
-      least_of_first visit (all_at visit (list_at l b.links.lists) some_there
-      (All-weaken (IsStanding (radices t) b.tick l) (λ row. (timer_in row).deadline ≡ visit) (list_at l b.links.lists)
-      (λ row w. let x : list_visit (radices t) l b.tick ≡ (timer_in row).deadline =
-      lowest_visit (radices t) b.tick (timer_in row).deadline l (of_table t).is_table (of_table t).more_wheels w.later w.placed k
-      in sym (e ∙ x))
-      (standing l first_below)))
+      ap Some (e ∙ lowest_visit (radices t) b.tick first_deadline l (of_table t).is_table (of_table t).more_wheels
+      first_least.is.later first_least.is.placed k)
+      ∙ least_of_all
 
   -- The visit of the first bucket with a timer is that of the first pending timer.
 
   first_deadline_is : (d : ℕ) (es : List Entry) → Some d ≡ next_deadline es
-      → AllByRecursion (IsPending b.last_tick b.tick b.last_serial) (timers_of es)
-      → (d ≤ b.last_tick) × (Some (timer_visit (radices t) b.tick d) ≡ next_visit (radices t) b.tick es)
-  first_deadline_is d [] e a = absurd (cc)
-  first_deadline_is d (x ∷ xs) e a =
-      let f : d ≡ x.timer.deadline = cc in
-      let r : x.timer.deadline ≤ b.last_tick = a.0.in_range in
-      (omega arith, ap (λ (k : ℕ). Some (timer_visit (radices t) b.tick k)) f)
-
-  visit_by : (o : Option ℕ) (visit : ℕ) → visit ≡ list_visit (radices t) l b.tick
-      → IsLeastDeadline o (timers_in (list_at l b.links.lists)) → Some visit ≡ next_visit (radices t) b.tick (state_of b).pending
-  visit_by None visit e m = absurd (some_rows (list_at l b.links.lists) some_there m)
-  visit_by (Some d) visit e m =
-      let u = deadline_in d (λ (u : Timer). (b.tick < u.deadline)
-      × (bucket (radices t) b.tick u.deadline ≡ l)) (timers_in (list_at l b.links.lists))
-      (timers_standing (radices t) b.tick l (list_at l b.links.lists) (standing l first_below)) m.has in
-      let same : u.0.deadline ≡ d = u.2 in
-      let later : b.tick < u.0.deadline = u.1.0 in
-      let here : bucket (radices t) b.tick d ≡ l = ap (λ (k : ℕ). bucket (radices t) b.tick k) (sym same) ∙ u.1.1 in
-      let first = first_deadline_is d (state_of b).pending (least_of_first d m) (state_of-well_formed b).each in
-      let digits : HasDigits (radices t) d =
-      digits_down (radices t) d b.last_tick (of_table t).is_table first.0 (last_digits t b words h) in
-      let is : list_visit (radices t) (bucket (radices t) b.tick d) b.tick ≡ timer_visit (radices t) b.tick d =
-      list_is (radices t) b.tick d (of_table t).is_table digits (omega arith) in
-      let at : visit ≡ timer_visit (radices t) b.tick d = e ∙ (ap (λ (k : ℕ). list_visit (radices t) k b.tick) (sym here) ∙ is) in
-      ap Some at ∙ first.1
+      → Some (timer_visit (radices t) b.tick d) ≡ next_visit (radices t) b.tick es
+  first_deadline_is d [] e = absurd (cc)
+  first_deadline_is d (x ∷ xs) e = ap (λ (k : ℕ). Some (timer_visit (radices t) b.tick k)) (some_same d x.timer.deadline e)
 
   pub visit_is_first : (visit : ℕ) → visit ≡ list_visit (radices t) l b.tick
       → Some visit ≡ next_visit (radices t) b.tick (state_of b).pending
-  visit_is_first visit e = visit_by (next_deadline (pending_in (list_at l b.links.lists))) visit e (next_is_least (list_at l b.links.lists))
-
-no_visit : (table : List ℕ) (now : ℕ) (es : List Entry) → es ≡ [] → None ≡ next_visit table now es
-no_visit table now es e = ap (next_visit table now) (sym e)
+  visit_is_first visit e =
+      ap Some (e ∙ (ap (λ (k : ℕ). list_visit (radices t) k b.tick) (sym first_least.is.placed)
+      ∙ list_is (radices t) b.tick first_deadline (of_table t).is_table first_least.is.digits first_least.is.later))
+      ∙ first_deadline_is first_deadline (state_of b).pending least_of_all
 
 -- and none is visited if no bit is set
 pub none_visited : (t : Table) (b : Buckets) → (state_of b).pending ≡ [] → None ≡ next_visit (radices t) b.tick (state_of b).pending
-none_visited t b e = no_visit (radices t) b.tick (state_of b).pending e
+none_visited t b e = ap (next_visit (radices t) b.tick) (sym e)

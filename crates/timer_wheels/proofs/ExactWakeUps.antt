@@ -1,11 +1,12 @@
 -- Lemmas for the exact wake-ups: a hashed wheel's next sweep is the earliest of its timers, and a table is known by its
 -- number of slots.
-use Rattle.std.proofs.Common.{◌≡◌, ◌<◌, ◌≤◌, ◌+◌, ◌-◌, ◌/◌, ◌%◌, ◌==◌, ℕ, List, [], ◌∷◌, length, sym, ◌∙◌, ap, inl, inr, arith, Bool, true, Option, Some, None, IfSome, filter, min}
+use Rattle.std.proofs.Common.{◌≡◌, ◌<◌, ◌≤◌, ◌+◌, ◌-◌, ◌%◌, ◌==◌, ℕ, List, [], ◌∷◌, length, sym, ◌∙◌, ap, inl, inr, arith, Bool, true, Option, Some, None, IfSome, filter, min}
 use Rattle.std.specs.List.{AllByRecursion}
 use Rattle.std.proofs.lemmas.Bool.{cases_lt, cases_eq, eq-eqb, ne_eqb}
 use Rattle.timer_base.specs.TickLaws.{AreAfter}
 use Rattle.timer_base.specs.Basics.{either}
-use Rattle.timer_base.specs.Pending.{Entry, timers_of}
+use Rattle.timer_base.specs.OrderLaws.{All-weaken}
+use Rattle.timer_base.specs.Pending.{Entry, timer_of, timers_of}
 use Rattle.timer_base.specs.PlainState.{earliest}
 use Rattle.timer_base.specs.WakeUps.{IsQuietUntil}
 use Rattle.timer_base.specs.WheelState.{WheelState, IsPending}
@@ -14,31 +15,30 @@ use Rattle.timer_wheels.specs.Hashed.{slot_of, IsNextSweep}
 use Rattle.timer_wheels.specs.Shown.{entries_at}
 use Rattle.timer_wheels.specs.Tables.{radices, radices_by_slots, slots_of_table, table_by_slots, by_its_slots}
 use Rattle.timer_wheels.specs.WakeUps.{sweep_of, earliest_sweep, next_visit}
+use Rattle.timer_wheels.proofs.AllLemmas.{all-of_map}
 use Rattle.timer_wheels.proofs.HashedTicks.{distance, same_slot, no_step}
 
 -- The sweep of one deadline's slot.
 
 -- it is at the slot, and at most n ticks ahead
 sweep_slot : (n now d : ℕ) → 0 < n → now < d → sweep_of n now d % n ≡ d % n
-sweep_slot n now d z h = sym (same_slot n now d ((d - now - 1) / n) ((d - now - 1) % n) (distance n now d z h))
+sweep_slot n now d z h = sym (same_slot (distance n now d z h))
+
+-- two ticks of one slot, less than a revolution apart, are one
+one_tick : (n a b : ℕ) → a ≤ b → b - a < n → b % n ≡ a % n → a ≡ b
+one_tick n a b h k e =
+    let g : a + (b - a) ≡ b = omega arith in
+    omega (arith, no_step n a (b - a) k (ap (λ (x : ℕ). x % n) g ∙ e))
 
 -- no other tick of those is
 one_sweep : (n now d tick : ℕ) → 0 < n → now < d → now < tick → tick ≤ now + n → d % n ≡ tick % n → sweep_of n now d ≡ tick
 one_sweep n now d tick z h k b e =
     let s : ℕ = sweep_of n now d in
-    let r : (d - now - 1) % n < n = (distance n now d z h).over in
+    let r : (d - now - 1) % n < n = omega arith in
     let f : s % n ≡ tick % n = sweep_slot n now d z h ∙ e in
     elim (cases_lt s tick) [
-      | inl c ↦
-          let g : s + (tick - s) ≡ tick = omega arith in
-          let i : (s + (tick - s)) % n ≡ s % n = ap (λ (x : ℕ). x % n) g ∙ sym f in
-          let j : tick - s ≡ 0 = no_step n s (tick - s) (omega arith) i in
-          omega arith
-      | inr c ↦
-          let g : tick + (s - tick) ≡ s = omega arith in
-          let i : (tick + (s - tick)) % n ≡ tick % n = ap (λ (x : ℕ). x % n) g ∙ f in
-          let j : s - tick ≡ 0 = no_step n tick (s - tick) (omega arith) i in
-          omega arith
+      | inl c ↦ one_tick n s tick (omega arith) (omega arith) (sym f)
+      | inr c ↦ sym (one_tick n tick s c (omega arith) f)
     ]
 
 -- The earliest of them.
@@ -55,7 +55,7 @@ head_out : (p : Entry → Bool) (e : Entry) (es : List Entry) → filter p (e �
 head_out p e es h k = let f = rw k at h in absurd (cc)
 
 tail_out : (p : Entry → Bool) (e : Entry) (es : List Entry) → filter p (e ∷ es) ≡ [] → filter p es ≡ []
-tail_out p e es h = elim (either (p e)) [ inl k ↦ absurd (head_out p e es h k) | inr k ↦ let f = rw k at h in f ]
+tail_out p e es h = elim (either (p e)) [ inl k ↦ absurd (head_out p e es h k) | inr k ↦ rw k at h ]
 
 module _ (n now tick : ℕ) (z : 0 < n) where
   rest_before : (e : Entry) (es : List Entry) → NoneBefore n now tick (e ∷ es) → NoneBefore n now tick es
@@ -86,9 +86,6 @@ module _ (n now tick : ℕ) (z : 0 < n) where
   first_here a None e k = ap Some e
   first_here a (Some b) e k = let x : tick ≤ b = k in ap Some (let m : min a b ≡ tick = omega arith in m)
 
-  first_there : (a : ℕ) (o : Option ℕ) → tick ≤ a → o ≡ Some tick → earliest (Some a) o ≡ Some tick
-  first_there a o h e = ap (earliest (Some a)) e ∙ ap Some (let m : min a tick ≡ tick = omega arith in m)
-
   earliest_is : (es : List Entry) → now < tick → tick ≤ now + n → AreAfter now es → NoneBefore n now tick es
       → 0 < length (entries_at (slot_of n) (tick % n) es) → earliest_sweep n now es ≡ Some tick
   earliest_is [] k b a f h = absurd (omega arith)
@@ -97,21 +94,19 @@ module _ (n now tick : ℕ) (z : 0 < n) where
         (one_sweep n now e.timer.deadline tick z a.0 k b m) (all_from es a.1 (rest_before e es f))
     | inr m ↦
         let i : 0 < length (entries_at (slot_of n) (tick % n) es) = rw (ne_eqb (e.timer.deadline % n) (tick % n) m) at h in
-        first_there (sweep_of n now e.timer.deadline) (earliest_sweep n now es) (not_sooner e es a.0 f)
-        (earliest_is es k b a.1 (rest_before e es f) i)
+        let first : min (sweep_of n now e.timer.deadline) tick ≡ tick = omega (arith, not_sooner e es a.0 f) in
+        rw (earliest_is es k b a.1 (rest_before e es f) i) (ap Some first)
   ]
-
-later_than_now : (last now serial : ℕ) (es : List Entry) → AllByRecursion (IsPending last now serial) (timers_of es) → AreAfter now es
-later_than_now last now serial [] a = tt
-later_than_now last now serial (e ∷ es) a = (a.0.later, later_than_now last now serial es a.1)
 
 -- the next sweep is the earliest one, and there is none if nothing is pending
 pub earliest_sweep_is : (n : ℕ) (w : WheelState) (o : Option ℕ) → 0 < n
     → AllByRecursion (IsPending w.last_tick w.now w.last_serial) (timers_of w.pending)
-    → IsQuietUntil o w → IfSome o (λ tick. IsNextSweep n tick w) → o ≡ earliest_sweep n w.now w.pending
+    → IsQuietUntil o w.now w.pending → IfSome o (λ tick. IsNextSweep n tick w) → o ≡ earliest_sweep n w.now w.pending
 earliest_sweep_is n w None z a q s = sym (ap (earliest_sweep n w.now) q)
 earliest_sweep_is n w (Some tick) z a q s =
-    sym (earliest_is n w.now tick z w.pending q.later s.in_turn (later_than_now w.last_tick w.now w.last_serial w.pending a)
+    sym (earliest_is n w.now tick z w.pending q.later s.in_turn
+    (All-weaken (λ entry. IsPending w.last_tick w.now w.last_serial entry.timer) (λ entry. w.now < entry.timer.deadline) w.pending
+    (λ entry x. x.later) (all-of_map timer_of (IsPending w.last_tick w.now w.last_serial) w.pending a))
     s.none_before s.some)
 
 -- The table of a hierarchy.

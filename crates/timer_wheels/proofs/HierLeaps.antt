@@ -1,7 +1,7 @@
 -- Lemmas for `leap`: the first visit ahead, the clock set forward to it, and the loop of `advance_until_due`.
 use Rattle.timer_wheels.specs.declared.table.TheConstants.{MOST_BUCKETS}
-use Rattle.timer_wheels.proofs.RoomLemmas.{leaps-with_room, wake_up-with_room}
-use Rattle.std.proofs.Common.{◌≡◌, ◌<◌, ◌≤◌, ◌+◌, ◌-◌, ◌*◌, ℕ, List, [], ◌∷◌, length, refl, sym, ◌∙◌, ap, subst, inl, inr, arith, Some}
+use Rattle.timer_wheels.proofs.RoomLemmas.{leaps-with_room}
+use Rattle.std.proofs.Common.{◌≡◌, ◌<◌, ◌≤◌, ◌+◌, ◌-◌, ◌*◌, ℕ, List, [], ◌∷◌, length, refl, sym, ◌∙◌, ap, inl, inr, arith, Some}
 use Rattle.std.specs.List.{AllByRecursion}
 use Rattle.std.proofs.lemmas.Bool.{cases_lt}
 use Rattle.timer_base.specs.declared.limits.TheConstants.{LAST}
@@ -14,6 +14,7 @@ use Rattle.timer_wheels.specs.Buckets.{state_of}
 use Rattle.timer_wheels.specs.declared.table.Table.{Table}
 use Rattle.timer_wheels.specs.declared.wheels.Wheels.{Wheels}
 use Rattle.timer_wheels.specs.Digits.{HasDigits, slots, last_of, bucket}
+use Rattle.timer_wheels.proofs.AllLemmas.{all-both}
 use Rattle.timer_wheels.proofs.DigitLaws.{digits_down}
 use Rattle.timer_wheels.specs.Tables.{radices}
 use Rattle.timer_wheels.specs.Hier.{IsHier}
@@ -31,67 +32,64 @@ use Rattle.timer_wheels.proofs.WakeUpLemmas.{wakes, sleeps}
 -- The next tick that empties a bucket with a timer.
 
 -- a row as the invariant knows it
-record IsKnown (table : List ℕ) (now s : ℕ) (row : Row) : Type 0 where
-  later : now < (timer_in row).deadline
-  digits : HasDigits table (timer_in row).deadline
-  placed : bucket table now (timer_in row).deadline ≡ s
+pub record IsKnown (table : List ℕ) (now s : ℕ) (row : Row) : Type 0 where
+  pub later : now < (timer_in row).deadline
+  pub digits : HasDigits table (timer_in row).deadline
+  pub placed : bucket table now (timer_in row).deadline ≡ s
 
 module _ (t : Table) (b : Buckets) (words : List ℕ) (h : IsHier t b words) where
   pub last_digits : HasDigits (radices t) b.last_tick
-  last_digits = let P : ℕ → Type 0 = HasDigits (radices t) in subst P (sym h.clock) (of_table t).digits
+  last_digits = rw h.clock (of_table t).digits
 
   slots_fit : b.slots ≤ MOST_BUCKETS
-  slots_fit = let e : b.slots ≡ slots (radices t) = h.has_slots in let f : slots (radices t) ≤ MOST_BUCKETS = (of_table t).few_slots in omega arith
+  slots_fit = omega (arith, h.has_slots, (of_table t).few_slots)
 
-  known_row : (s : ℕ) (row : Row) → IsPending b.last_tick b.tick b.last_serial (timer_in row) → IsPlaced (radices t) b.tick s row
-      → IsKnown (radices t) b.tick s row
-  known_row s row p q = record {
-    later = p.later;
-    digits = digits_down (radices t) (timer_in row).deadline b.last_tick
-        (of_table t).is_table p.in_range last_digits;
-    placed = q.0;
-  }
+  pub known : (s : ℕ) → s < b.slots → AllByRecursion (IsKnown (radices t) b.tick s) (list_at s b.links.lists)
+  known s k = all-both (λ row. IsPending b.last_tick b.tick b.last_serial (timer_in row)) (IsPlaced (radices t) b.tick s)
+      (IsKnown (radices t) b.tick s) (list_at s b.links.lists)
+      (λ row p q. record {
+        later = p.later;
+        digits = digits_down (radices t) (timer_in row).deadline b.last_tick (of_table t).is_table p.in_range last_digits;
+        placed = q.0;
+      })
+      (all-list_at (λ row. IsPending b.last_tick b.tick b.last_serial (timer_in row)) b.slots b.links.lists b.sound.pending s k) (h.placed s k)
 
-  known_rows : (s : ℕ) (rows : Rows) → AllByRecursion (λ row. IsPending b.last_tick b.tick b.last_serial (timer_in row)) rows
-      → AllByRecursion (IsPlaced (radices t) b.tick s) rows → AllByRecursion (IsKnown (radices t) b.tick s) rows
-  known_rows s [] p q = tt
-  known_rows s (r ∷ rs) p q = (known_row s r p.0 q.0, known_rows s rs p.1 q.1)
-
-  known : (s : ℕ) → s < b.slots → AllByRecursion (IsKnown (radices t) b.tick s) (list_at s b.links.lists)
-  known s k = known_rows s (list_at s b.links.lists) (all-list_at (λ row.
-      IsPending b.last_tick b.tick b.last_serial (timer_in row)) b.slots b.links.lists b.sound.pending s k) (h.placed s k)
-
-  none_where : (s : ℕ) → s < b.slots → bit_of words s ≡ 0 → list_at s b.links.lists ≡ []
+  pub none_where : (s : ℕ) → s < b.slots → bit_of words s ≡ 0 → list_at s b.links.lists ≡ []
   none_where s k z = no_rows_there (list_at s b.links.lists) (sym (h.marked.0 s k) ∙ z)
 
   pub none_ahead : (visit : ℕ) → ((s : ℕ) → s < MOST_BUCKETS → bit_of words s ≡ 0) → AreNotVisitedBefore (radices t) b.slots b.tick visit
       b.links.lists
-  none_ahead visit f s k = let P : Rows → Type 0 = AllByRecursion (λ row. visit
-      ≤ timer_visit (radices t) b.tick (timer_in row).deadline) in let r : b.slots ≤ MOST_BUCKETS = slots_fit
-      in subst P (sym (none_where s k (f s (omega arith)))) tt
+  none_ahead visit f s k = rw (none_where s k (f s (omega (arith, slots_fit)))) tt
 
   -- a bit that is set is that of a bucket
   pub first_in : (l : ℕ) → l < MOST_BUCKETS → bit_of words l ≡ 1 → l < b.slots
   first_in l f e = elim (cases_lt l b.slots) [
     | inl c ↦ c
-    | inr c ↦ absurd (let z : bit_of words l ≡ 0 = h.marked.1 l c f in omega arith)
+    | inr c ↦ absurd (omega (arith, h.marked.1 l c f))
   ]
 
   pub first_in_range : (l : ℕ) → IsFirstSet words (Some l) → l < slots (radices t)
-  first_in_range l f = let c : l < b.slots = first_in l f.0 f.1 in let e : b.slots ≡ slots (radices t) = h.has_slots in omega arith
+  first_in_range l f = omega (arith, first_in l f.0 f.1, h.has_slots)
+
+  -- and the bucket has a timer
+  filled_there : (l : ℕ) → IsFirstSet words (Some l) → filled (list_at l b.links.lists) ≡ 1
+  filled_there l f = sym (h.marked.0 l (first_in l f.0 f.1)) ∙ f.1
+
+  some_if_filled : (rows : Rows) → filled rows ≡ 1 → 0 < length rows
+  some_if_filled [] e = absurd (omega arith)
+  some_if_filled (r ∷ rs) e = omega arith
+
+  pub first_some : (l : ℕ) → IsFirstSet words (Some l) → 0 < length (list_at l b.links.lists)
+  first_some l f = some_if_filled (list_at l b.links.lists) (filled_there l f)
 
   pub first_ahead : (l visit : ℕ) → visit ≡ list_visit (radices t) l b.tick → IsFirstSet words (Some l)
       → AreNotVisitedBefore (radices t) b.slots b.tick visit b.links.lists
   first_ahead l visit e f s k = elim (cases_lt s l) [
-    | inl c ↦ let P : Rows → Type 0 = AllByRecursion (λ row. visit ≤ timer_visit (radices t) b.tick (timer_in row).deadline)
-        in subst P (sym (none_where s k (f.2 s c))) tt
+    | inl c ↦ rw (none_where s k (f.2 s c)) tt
     | inr c ↦ All-weaken (IsKnown (radices t) b.tick s) (λ row. visit ≤ timer_visit (radices t) b.tick (timer_in row).deadline)
         (list_at s b.links.lists)
-        (λ row w.
-        let p : bucket (radices t) b.tick (timer_in row).deadline ≡ s = w.placed in
-        let x : list_visit (radices t) l b.tick ≤ timer_visit (radices t) b.tick (timer_in row).deadline =
-        list_first (radices t) l b.tick (timer_in row).deadline (of_table t).is_table w.digits w.later (omega arith) in
-        omega arith)
+        (λ row w. rw e (list_first (radices t) l b.tick (timer_in row).deadline (of_table t).is_table w.digits w.later
+        (omega (arith, w.placed))))
         (known s k)
   ]
 
@@ -102,39 +100,25 @@ module _ (t : Table) (b : Buckets) (words : List ℕ) (h : IsHier t b words) whe
       let q : list_visit (radices t) l b.tick ≡ timer_visit (radices t) b.tick (timer_in r).deadline =
       ap (λ (x : ℕ). list_visit (radices t) x b.tick) (sym a.0.placed)
       ∙ list_is (radices t) b.tick (timer_in r).deadline (of_table t).is_table a.0.digits a.0.later in
-      let x : b.tick < timer_visit (radices t) b.tick (timer_in r).deadline =
-      visit_later (radices t) b.tick (timer_in r).deadline (of_table t).is_table a.0.later in
-      omega arith
+      omega (arith, visit_later (radices t) b.tick (timer_in r).deadline (of_table t).is_table a.0.later)
 
   pub first_later : (l visit : ℕ) → visit ≡ list_visit (radices t) l b.tick → IsFirstSet words (Some l) → b.tick < visit
   first_later l visit e f =
-      let c : l < b.slots = first_in l f.0 f.1 in
-      let x : b.tick < list_visit (radices t) l b.tick = later_by l (list_at l b.links.lists) (sym (h.marked.0 l c) ∙ f.1) (known l c) in
-      omega arith
-
-  pub filled_some : (rows : Rows) → filled rows ≡ 1 → 0 < length rows
-  filled_some [] e = absurd (omega arith)
-  filled_some (r ∷ rs) e = omega arith
+      omega (arith, later_by l (list_at l b.links.lists) (filled_there l f) (known l (first_in l f.0 f.1)))
 
   -- the next tick that empties a bucket with a timer is one to wake up at
-  pub first_wakes : (l visit : ℕ) → visit ≡ list_visit (radices t) l b.tick → IsFirstSet words (Some l) → IsWakeUp visit (state_of b)
+  pub first_wakes : (l visit : ℕ) → visit ≡ list_visit (radices t) l b.tick → IsFirstSet words (Some l) → IsWakeUp visit b.tick (state_of b).pending
   first_wakes l visit e f =
-      let c : l < b.slots = first_in l f.0 f.1 in
-      wake_up-with_room b.links.room _ _ (wakes b.slots b.last_tick b.tick b.last_serial b.links.lists visit l c (filled_some (list_at l
-      b.links.lists) (sym (h.marked.0 l c) ∙ f.1))
-      (first_later l visit e f)
+      wakes b.slots b.last_tick b.tick b.last_serial b.links.lists visit l (first_in l f.0 f.1)
+      (first_some l f) (first_later l visit e f)
       (λ s k. All-weaken (λ row. visit ≤ timer_visit (radices t) b.tick (timer_in row).deadline) (λ row. visit ≤ (timer_in row).deadline)
       (list_at s b.links.lists)
-      (λ row q.
-      let p : visit ≤ timer_visit (radices t) b.tick (timer_in row).deadline = q in
-      let x : timer_visit (radices t) b.tick (timer_in row).deadline ≤ (timer_in row).deadline =
-      visit_in_time (radices t) b.tick (timer_in row).deadline (of_table t).is_table in
-      omega arith)
-      (first_ahead l visit e f s k)))
+      (λ row q. omega (arith, visit_in_time (radices t) b.tick (timer_in row).deadline (of_table t).is_table))
+      (first_ahead l visit e f s k))
 
   pub none_wakes : ((s : ℕ) → s < MOST_BUCKETS → bit_of words s ≡ 0) → (state_of b).pending ≡ []
   none_wakes f = sleeps b.slots b.last_tick b.tick b.last_serial b.links.lists
-      (λ s k. none_where s k (f s (let r : b.slots ≤ MOST_BUCKETS = slots_fit in omega arith)))
+      (λ s k. none_where s k (f s (omega (arith, slots_fit))))
 
 -- The clock alone advances.
 
@@ -159,8 +143,7 @@ module _ (t : Table) (b : Buckets) (words : List ℕ) (h : IsHier t b words) (z 
       }
 
   pub skipped : (tick : ℕ) → b.tick ≤ tick → AreNotVisitedBefore (radices t) b.slots b.tick (tick + 1) b.links.lists → HasSkipped t b tick
-  skipped tick l q = let e : b.tick + (tick - b.tick) ≡ tick = omega arith in let P : ℕ → Type 0 = HasSkipped t b
-      in subst P e (skipped_by (tick - b.tick) tick e q)
+  skipped tick l q = let e : b.tick + (tick - b.tick) ≡ tick = omega arith in rw e at (skipped_by (tick - b.tick) tick e q)
 
 -- One leap, and the tick after it.
 
@@ -169,8 +152,7 @@ pub leap_and_tick : (table : List ℕ) (moves : ℕ) (old mid new : WheelState) 
     → Leaps table moves old new
 leap_and_tick table moves old mid new a z e m p =
     let none : 0 + moves ≡ moves = omega arith in
-    let P : ℕ → Type 0 = λ k. Leaps table k old new in
-    subst P none (leaps_on table 0 moves old mid new a z (leaps_tick table moves mid new z e m p))
+    rw none at (leaps_on table 0 moves old mid new a z (leaps_tick table moves mid new z e m p))
 
 -- Leap by leap.
 
@@ -193,7 +175,7 @@ advancing_none most w z = record {
 module _ {most moves : ℕ} {first w : Wheels} (a : IsAdvancing most moves first w) (more : ℕ) (new : Wheels)
     (l : Leaps (radices w.table) more (state_of w.buckets) (state_of new.buckets)) where
   pub leap_from : Leaps (radices first.table) more (state_of w.buckets) (state_of new.buckets)
-  leap_from = let P : Table → Type 0 = λ t. Leaps (radices t) more (state_of w.buckets) (state_of new.buckets) in subst P a.table l
+  leap_from = rw a.table at l
 
   pub leaps_all : Leaps (radices first.table) (moves + more) (state_of first.buckets) (state_of new.buckets)
   leaps_all = leaps_on (radices first.table) moves more (state_of first.buckets) (state_of w.buckets) (state_of new.buckets) a.leaps
@@ -212,10 +194,7 @@ module _ {most moves : ℕ} {first w : Wheels} (a : IsAdvancing most moves first
 -- the count of moves does not overflow
 pub moves_fit : (table : List ℕ) (moves more : ℕ) (u v w : WheelState) → Leaps table moves u v → Leaps table more v w
     → levels_of table u.now u.pending ≤ 9 * LAST → moves + more < 18446744073709551616
-moves_fit table moves more u v w a b r =
-    let x : moves + levels_of table v.now v.pending ≤ levels_of table u.now u.pending = a.pays in
-    let y : more + levels_of table w.now w.pending ≤ levels_of table v.now v.pending = b.pays in
-    omega arith
+moves_fit table moves more u v w a b r = omega (arith, a.pays, b.pays)
 
 pub advancing_ends : (table : List ℕ) (most moves : ℕ) (u w : WheelState) → Leaps table moves u w → u.now < w.now → w.now ≤ u.now + most
     → (w.now < u.now + most → 0 < length w.due) → Advances most (w.now - u.now) u w

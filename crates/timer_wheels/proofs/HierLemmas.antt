@@ -1,7 +1,7 @@
 -- The invariant of a hierarchy of wheels when it is made, after a start and a restart, and what `links` shows.
 use Rattle.timer_base.specs.Basics.{either}
 use Rattle.timer_wheels.proofs.RoomLemmas.{shows-with_room}
-use Rattle.std.proofs.Common.{◌≡◌, ◌<◌, ◌≤◌, ◌+◌, ◌*◌, ℕ, zero, suc, List, [], ◌∷◌, length, refl, sym, ◌∙◌, ap, subst, inl, inr, arith, Bool, filter, not, nat_lt, replicate}
+use Rattle.std.proofs.Common.{◌≡◌, ◌<◌, ◌≤◌, ◌+◌, ◌*◌, ℕ, List, [], ◌∷◌, length, refl, sym, ◌∙◌, ap, subst, inl, inr, arith, Bool, filter, not, nat_lt, replicate}
 use Rattle.std.proofs.lemmas.Bool.{cases_lt}
 use Rattle.timer_base.specs.declared.timer.Timer.{Timer}
 use Rattle.timer_base.specs.declared.timer.Handle.{Handle}
@@ -10,6 +10,7 @@ use Rattle.timer_base.specs.Pending.{Entry, put, has_handle, without_handle}
 use Rattle.timer_base.specs.WheelState.{WheelState, empty_wheel, after_start, after_due_start, after_held_start}
 use Rattle.timer_base.specs.HeldLaws.{start_when_later, start_when_now, held_start-last_serial}
 use Rattle.timer_links.specs.Lists.{list_at}
+use Rattle.timer_links.proofs.NewLinks.{no_rows_at}
 use Rattle.timer_wheels.specs.declared.buckets.Buckets.{Buckets}
 use Rattle.timer_wheels.specs.Buckets.{state_of}
 use Rattle.timer_wheels.specs.declared.table.Table.{Table}
@@ -25,16 +26,13 @@ use Rattle.std.proofs.lemmas.Nat.{mul-le}
 
 -- The levels of the timers that are pending.
 
-one_further : (y x r z : ℕ) → z ≡ x + r → y + z ≡ x + (y + r)
-one_further y x r z e = omega arith
-
 levels-put : (table : List ℕ) (now : ℕ) (x : Entry) (ys : List Entry)
     → levels_of table now (put x ys) ≡ level table now x.timer.deadline + levels_of table now ys
 levels-put table now x [] = refl
 levels-put table now x (y ∷ ys) = elim (either (nat_lt x.timer.deadline y.timer.deadline)) [
   | inl h ↦ rw h refl
-  | inr h ↦ rw h (one_further (level table now y.timer.deadline) (level table now x.timer.deadline) (levels_of table now ys)
-      (levels_of table now (put x ys)) (levels-put table now x ys))
+  | inr h ↦ rw h (let ih : levels_of table now (put x ys) ≡ level table now x.timer.deadline + levels_of table now ys =
+      levels-put table now x ys in omega arith)
 ]
 
 levels-filter : (table : List ℕ) (now : ℕ) (p : Entry → Bool) (es : List Entry) → levels_of table now (filter p es) ≤ levels_of table now es
@@ -49,32 +47,18 @@ pub levels-without : (table : List ℕ) (now : ℕ) (handle : Handle) (es : List
     → levels_of table now (without_handle handle es) ≤ levels_of table now es
 levels-without table now handle es = levels-filter table now (λ entry. not (has_handle handle entry)) es
 
-times_more : (k n : ℕ) → k * (n + 1) ≡ k * n + k
-times_more k zero = omega arith
-times_more zero (suc n) = omega arith
-times_more (suc k) (suc n) =
-    let ih : k * (suc n + 1) ≡ k * suc n + k = times_more k (suc n) in
-    let a : suc k * (suc n + 1) ≡ k * (suc n + 1) + (suc n + 1) = omega arith in
-    let b : suc k * suc n ≡ k * suc n + suc n = omega arith in
-    omega arith
-
 paid_more : (moves new more old top starts : ℕ) → new ≡ more + old → more ≤ top → moves + old ≤ top * starts
     → moves + new ≤ top * (starts + 1)
-paid_more moves new more old top starts e d p = let x : top * (starts + 1) ≡ top * starts + top = times_more top starts in omega arith
+paid_more moves new more old top starts e d p = let x : top * (starts + 1) ≡ top * starts + top = omega arith in omega arith
 
 pub paid_less : (moves new old paid : ℕ) → new ≤ old → moves + old ≤ paid → moves + new ≤ paid
 paid_less moves new old paid e p = omega arith
 
 -- A new wheel.
 
-list_at-replicate : (s n : ℕ) → list_at s (replicate n []) ≡ []
-list_at-replicate s zero = refl
-list_at-replicate zero (suc n) = refl
-list_at-replicate (suc s) (suc n) = list_at-replicate s n
-
 pub new_placed : (table : List ℕ) (b : Buckets) (n : ℕ) → b.links.lists ≡ replicate n [] → EachRow (IsPlaced table b.tick) b.slots
     b.links.lists
-new_placed table b n e = each-none (IsPlaced table b.tick) b.slots b.links.lists (λ s h. ap (list_at s) e ∙ list_at-replicate s n)
+new_placed table b n e = each-none (IsPlaced table b.tick) b.slots b.links.lists (λ s h. ap (list_at s) e ∙ no_rows_at n s)
 
 pub new_paid : (table : List ℕ) (b : Buckets) (n last first : ℕ) → state_of b ≡ empty_wheel n last first
     → IsPaid table 0 0 b.tick (state_of b).pending

@@ -1,5 +1,5 @@
 -- One tick of a hierarchy of wheels: the invariant, the state and the moves after `migrated`.
-use Rattle.std.proofs.Common.{◌≡◌, ◌≢◌, ◌<◌, ◌≤◌, ◌+◌, ℕ, suc, ◌==◌, ◌⊎◌, List, [], ◌∷◌, ◌++◌, length, refl, sym, ◌∙◌, ap, subst, inl, inr, arith, length-set, get_or-set_same, get_or-set_other, Bool, true, false, filter, not, if◌then◌else◌, slice_set}
+use Rattle.std.proofs.Common.{◌≡◌, ◌≢◌, ◌<◌, ◌≤◌, ◌+◌, ℕ, ◌==◌, ◌⊎◌, List, [], ◌∷◌, ◌++◌, length, refl, sym, ◌∙◌, ap, subst, inl, inr, arith, length-set, get_or-set_same, get_or-set_other, Bool, true, false, filter, not, if◌then◌else◌, slice_set}
 use Rattle.std.specs.List.{AllByRecursion}
 use Rattle.std.proofs.lemmas.Bool.{cases_eq, cases_lt, eq-eqb, ne_eqb, eqb-true, eqb-false}
 use Rattle.std.proofs.lemmas.Bool.Decides.{nat_tests}
@@ -8,7 +8,7 @@ use Rattle.timer_base.specs.declared.timer.Timer.{Timer}
 use Rattle.timer_base.specs.Order.{AreDistinct, AreRising, in_order, insert_in_order, is_before}
 use Rattle.timer_base.specs.OrderLaws.{map-in_order, in_order-same, AllAt, All-filter, All-weaken, All-in_order}
 use Rattle.timer_base.specs.Pending.{Entry, timer_of, is_due_at, entries_due, entries_left}
-use Rattle.timer_base.specs.WheelState.{WheelState, IsPending, after_tick}
+use Rattle.timer_base.specs.WheelState.{IsPending, after_tick}
 use Rattle.timer_links.specs.Lists.{list_at, KeyedLists, Row, Rows}
 use Rattle.timer_wheels.specs.Digits.{IsTable, HasDigits, level, lowest, slots_below, slots, bucket, emptied, hops, last_of, BucketAtTick}
 use Rattle.timer_wheels.proofs.DigitLaws.{bucket_at_tick, digits_down, emptied_in_range}
@@ -18,8 +18,8 @@ use Rattle.timer_wheels.specs.Placement.{IsPlaced, hops_of, levels_of}
 use Rattle.timer_wheels.specs.Migration.{target, migrated, due_rows, left_rows, MayMigrate, IsOfTick}
 use Rattle.timer_wheels.proofs.RowLemmas.{all-append, all-front, all-rest, all-rows_below, all-list_at, IsAround, around, append-nil, all-entries}
 use Rattle.std.proofs.lemmas.List.Elements.{filter-append}
-use Rattle.timer_wheels.proofs.BucketLemmas.{filter-pending_in, AreRising-part, no_rows, due_past}
-use Rattle.timer_wheels.proofs.MigrationLemmas.{target_due, target_left, migrate_rows-length, to_list, list_at-migrate_rows, Distinct, distinct-filter, in_order-pulled, distinct-pulled, GoesDown, AreMigrated, migrate_rows_keeps}
+use Rattle.timer_wheels.proofs.BucketLemmas.{filter-pending_in, AreDistinct-part, AreRising-part, no_rows, due_past}
+use Rattle.timer_wheels.proofs.MigrationLemmas.{target_due, target_left, migrate_rows-length, to_list, list_at-migrate_rows, Distinct, in_order-pulled, distinct-pulled, GoesDown, AreMigrated, migrate_rows_keeps}
 
 -- the invariant of a hierarchical wheel before a tick
 pub record IsBefore (table : List ℕ) (last_tick a last_serial : ℕ) (lists : KeyedLists) : Type 0 where
@@ -136,21 +136,6 @@ pending_in-rows rows = sym (map-in_order timer_in timer_of entry_of (λ x. refl)
 
 -- Hops.
 
-swap_sum : (y x r z : ℕ) → z ≡ x + r → y + z ≡ x + (y + r)
-swap_sum y x r z e = omega arith
-
-only_middle : (f x r q n : ℕ) → f ≡ 0 → r ≡ 0 → x ≡ n → q ≡ f + (x + r) → n ≡ q
-only_middle f x r q n a b c d = omega arith
-
-none_and_none : (x y : ℕ) → x ≡ 0 → y ≡ 0 → x + y ≡ 0
-none_and_none x y e f = omega arith
-
-one_of_none : (x y : ℕ) → x ≡ y → 0 + x ≡ y
-one_of_none x y e = omega arith
-
-one_of_one : (x y : ℕ) → x ≡ y → 1 + x ≡ suc y
-one_of_one x y e = omega arith
-
 hop_when : (table : List ℕ) (a d : ℕ) → a + 1 < d → level table (a + 1) d < level table a d → hops table a 1 d ≡ 1
 hop_when table a d h k = grind (arith, nat_tests)
 
@@ -179,8 +164,7 @@ hops-insert table a k x [] = refl
 hops-insert table a k x (y ∷ ys) = elim (either (is_before x.timer y.timer)) [
   | inl h ↦ rw h refl
   | inr h ↦ rw h (let ih : hops_of table a k (insert_in_order timer_of x ys) ≡ hops table a k x.timer.deadline + hops_of table a k ys =
-      hops-insert table a k x ys in swap_sum (hops table a k y.timer.deadline) (hops table a k x.timer.deadline) (hops_of table a k ys)
-      (hops_of table a k (insert_in_order timer_of x ys)) ih)
+      hops-insert table a k x ys in omega arith)
 ]
 
 -- the sum is that of the rows, in whatever order
@@ -193,17 +177,16 @@ no_row_hops : (table : List ℕ) (a : ℕ) (xs : Rows) → AllByRecursion (λ ro
     → row_hops table a xs ≡ 0
 no_row_hops table a [] h = refl
 no_row_hops table a (x ∷ xs) h = let ih : row_hops table a xs ≡ 0 = no_row_hops table a xs h.1
-    in let e : hops table a 1 (timer_in x).deadline ≡ 0 = h.0 in
-    none_and_none (hops table a 1 (timer_in x).deadline) (row_hops table a xs) e ih
+    in let e : hops table a 1 (timer_in x).deadline ≡ 0 = h.0 in omega arith
 
 all_row_hops : (table : List ℕ) (a : ℕ) (xs : Rows) → AllByRecursion (λ row. hops table a 1 (timer_in row).deadline
     ≡ (if is_due_at (a + 1) (timer_in row) then 0 else 1)) xs → row_hops table a xs ≡ length (left_rows (a + 1) xs)
 all_row_hops table a [] h = refl
 all_row_hops table a (x ∷ xs) h = elim (either (is_due_at (a + 1) (timer_in x))) [
   | inl k ↦ rw (h.0, k) (let ih : row_hops table a xs ≡ length (left_rows (a + 1) xs) = all_row_hops table a xs h.1
-      in one_of_none (row_hops table a xs) (length (left_rows (a + 1) xs)) ih)
+      in omega arith)
   | inr k ↦ rw (h.0, k) (let ih : row_hops table a xs ≡ length (left_rows (a + 1) xs) = all_row_hops table a xs h.1
-      in one_of_one (row_hops table a xs) (length (left_rows (a + 1) xs)) ih)
+      in omega arith)
 ]
 
 -- The tick.
@@ -439,7 +422,7 @@ module _ (table : List ℕ) (last_tick a last_serial : ℕ) (lists : KeyedLists)
       keeps.pending
       ∙ (ap (λ (r : Rows). in_order timer_in (left_rows (a + 1) rows_l ++ r)) base_rows
       ∙ (sym (in_order-pulled around_l.front (left_rows (a + 1) rows_l) around_l.rest
-      (subst Distinct left_parts (distinct-filter (λ row. not (is_due_at (a + 1) (timer_in row)))
+      (subst Distinct left_parts (AreDistinct-part (λ row. not (is_due_at (a + 1) (timer_in row)))
       (rows_below (slots table) lists) b.sound.distinct)))
       ∙ ap (in_order timer_in) (sym left_parts)))
 
@@ -499,8 +482,7 @@ module _ (table : List ℕ) (last_tick a last_serial : ℕ) (lists : KeyedLists)
       ∙ ap (λ (v : ℕ). row_hops table a around_l.front + v) (hops-append table a rows_l around_l.rest)) in
       let q : hops_of table a 1 (pending_in (rows_below (slots table) lists)) ≡ row_hops table a (rows_below (slots table) lists) =
       hops_of-in_order table a 1 (entries_of (rows_below (slots table) lists)) in
-      only_middle (row_hops table a around_l.front) (row_hops table a rows_l) (row_hops table a around_l.rest)
-      (hops_of table a 1 (pending_in (rows_below (slots table) lists))) (length (left_rows (a + 1) rows_l)) f r g (q ∙ p)
+      omega arith
 
   -- The preconditions of the emptying.
 
@@ -535,12 +517,6 @@ module _ (table : List ℕ) (last_tick a last_serial : ℕ) (lists : KeyedLists)
 abbrev pub FallsAt : List ℕ → ℕ → Entry → Type 0
 FallsAt table a entry = level table (a + 1) entry.timer.deadline ≤ level table a entry.timer.deadline
 
-paid_step : (h l2 l1 hs ls2 ls1 : ℕ) → h + l2 ≤ l1 → hs + ls2 ≤ ls1 → (h + hs) + (l2 + ls2) ≤ l1 + ls1
-paid_step h l2 l1 hs ls2 ls1 p q = omega arith
-
-paid_less : (h l2 l1 hs ls2 ls1 : ℕ) → h + l2 ≤ l1 → hs + ls2 ≤ ls1 → (h + hs) + ls2 ≤ l1 + ls1
-paid_less h l2 l1 hs ls2 ls1 p q = omega arith
-
 pub levels_pay : (table : List ℕ) (a : ℕ) (es : List Entry) → AllByRecursion (FallsAt table a) es
     → hops_of table a 1 es + levels_of table (a + 1) (entries_left (a + 1) es) ≤ levels_of table a es
 levels_pay table a [] h = omega arith
@@ -549,10 +525,8 @@ levels_pay table a (e ∷ es) h =
     let p : hops table a 1 d + level table (a + 1) d ≤ level table a d = hop_pays table a d h.0 in
     let ih : hops_of table a 1 es + levels_of table (a + 1) (entries_left (a + 1) es) ≤ levels_of table a es = levels_pay table a es h.1 in
     elim (either (is_due_at (a + 1) e.timer)) [
-      | inl k ↦ rw k (paid_less (hops table a 1 d) (level table (a + 1) d) (level table a d) (hops_of table a 1 es)
-          (levels_of table (a + 1) (entries_left (a + 1) es)) (levels_of table a es) p ih)
-      | inr k ↦ rw k (paid_step (hops table a 1 d) (level table (a + 1) d) (level table a d) (hops_of table a 1 es)
-          (levels_of table (a + 1) (entries_left (a + 1) es)) (levels_of table a es) p ih)
+      | inl k ↦ rw k (omega arith)
+      | inr k ↦ rw k (omega arith)
     ]
 
 falls_at : (table : List ℕ) (last_tick a last_serial : ℕ) (row : Row) → IsTable table → HasDigits table last_tick
@@ -569,27 +543,12 @@ all_fall table last_tick a last_serial rows i h p =
 
 -- A hierarchical wheel with n buckets after a tick.
 
-abbrev state : ℕ → ℕ → ℕ → ℕ → List Entry → List Entry → WheelState
-state n last_tick tick last_serial pending due = record {
-  slots = n;
-  last_tick = last_tick;
-  now = tick;
-  pending = pending;
-  due = due;
-  last_serial = last_serial;
-  room = 0;
-}
-
 pub record IsNext (table : List ℕ) (n last_tick a last_serial moves : ℕ) (lists new : KeyedLists) : Type 0 where
   pub sound : AreBuckets n last_tick (a + 1) last_serial new
   pub placed : EachRow (IsPlaced table (a + 1)) n new
   pub ticked : wheel_state n last_tick (a + 1) last_serial new ≡ after_tick (wheel_state n last_tick a last_serial lists)
   pub moves_are : moves ≡ hops_of table a 1 (pending_in (rows_below n lists))
   pub pays : moves + levels_of table (a + 1) (pending_in (rows_below n new)) ≤ levels_of table a (pending_in (rows_below n lists))
-
-same_state : (n last_tick tick last_serial : ℕ) (p q d e : List Entry) → p ≡ q → d ≡ e
-    → state n last_tick tick last_serial p d ≡ state n last_tick tick last_serial q e
-same_state n last_tick tick last_serial p q d e h k = cc
 
 next_here : (table : List ℕ) (last_tick a last_serial moves : ℕ) (lists new : KeyedLists)
     → IsBefore table last_tick a last_serial lists
@@ -628,9 +587,7 @@ next_here table last_tick a last_serial moves lists new b e g =
       };
       placed = (let P : KeyedLists → Type 0 = EachRow (IsPlaced table (a + 1)) (slots table)
           in subst P (sym e) (after-placed table last_tick a last_serial lists b));
-      ticked = same_state (slots table) last_tick (a + 1) last_serial (pending_in (rows_below (slots table) new))
-          (entries_left (a + 1) (pending_in (rows_below (slots table) lists))) (entries_of (list_at (slots table) new))
-          (entries_due (a + 1) (pending_in (rows_below (slots table) lists))) left due_is;
+      ticked = rw (left, due_is) refl;
       moves_are = hops;
       pays = omega arith;
     }

@@ -1,4 +1,5 @@
 -- The lemmas that the proofs of this crate share.
+pub mod AllLemmas
 pub mod DigitLaws
 pub mod FirstLemmas
 pub mod FirstsLemmas
@@ -22,7 +23,6 @@ pub mod RevolutionLemmas
 pub mod OccupiedLemmas
 pub mod VisitLaws
 pub mod LeapLemmas
-pub mod WideVisits
 pub mod NextVisitLemmas
 pub mod HierLeaps
 pub mod WheelUpdates

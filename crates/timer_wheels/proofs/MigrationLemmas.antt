@@ -1,5 +1,5 @@
 -- Where the rows of an emptied bucket go: each list after `migrated`, and the order of what is pending then.
-use Rattle.std.proofs.Common.{◌≡◌, ◌<◌, ◌+◌, ℕ, ◌==◌, List, [], ◌∷◌, ◌++◌, length, refl, sym, ◌∙◌, ap, subst, inl, inr, arith, append_assoc, length-set, get_or-set_same, get_or-set_other, Bool, true, false, filter, not}
+use Rattle.std.proofs.Common.{◌≡◌, ◌<◌, ◌+◌, ℕ, ◌==◌, List, [], ◌∷◌, ◌++◌, length, refl, sym, ◌∙◌, ap, subst, inl, inr, arith, append_assoc, length-set, get_or-set_same, get_or-set_other, true, false, filter, not}
 use Rattle.std.specs.List.{AllByRecursion}
 use Rattle.std.proofs.lemmas.Bool.{cases_eq, eq-eqb, ne_eqb}
 use Rattle.timer_base.specs.Basics.{either}
@@ -11,6 +11,7 @@ use Rattle.timer_links.specs.Lists.{list_at, with_row, KeyedLists, Row, Rows}
 use Rattle.timer_wheels.specs.Digits.{slots, bucket}
 use Rattle.timer_wheels.specs.BucketLists.{timer_in, timers_in, rows_below}
 use Rattle.timer_wheels.specs.Migration.{target, migrate_rows, left_rows}
+use Rattle.timer_wheels.proofs.BucketLemmas.{IsNotAmong-part}
 use Rattle.timer_wheels.proofs.RowLemmas.{rows_below-above, rows_below-with_row, append-nil, timers-append, AreDistinct-taken, IsNotAmong-others}
 
 -- Where the rows of the emptied list go.
@@ -69,14 +70,6 @@ module _ (serial : ℕ) where
   among-rest [] ys a = a
   among-rest (x ∷ xs) ys a = among-rest xs ys a.1
 
-  among-filter : (p : Row → Bool) (xs : Rows) → IsNotAmong serial (timers_in xs)
-      → IsNotAmong serial (timers_in (filter p xs))
-  among-filter p [] a = tt
-  among-filter p (x ∷ xs) a = elim (either (p x)) [
-    | inl k ↦ rw k (a.0, among-filter p xs a.1)
-    | inr k ↦ rw k (among-filter p xs a.1)
-  ]
-
   among-pulled : (front xs rest : Rows) → IsNotAmong serial (timers_in (front ++ (xs ++ rest)))
       → IsNotAmong serial (timers_in (xs ++ (front ++ rest)))
   among-pulled front xs rest a =
@@ -86,13 +79,6 @@ module _ (serial : ℕ) where
 
 abbrev pub Distinct : Rows → Type 0
 Distinct rows = AreDistinct (timers_in rows)
-
-pub distinct-filter : (p : Row → Bool) (xs : Rows) → Distinct xs → Distinct (filter p xs)
-distinct-filter p [] d = tt
-distinct-filter p (x ∷ xs) d = elim (either (p x)) [
-  | inl k ↦ rw k (among-filter (timer_in x).serial p xs d.0, distinct-filter p xs d.1)
-  | inr k ↦ rw k (distinct-filter p xs d.1)
-]
 
 -- removing a row
 distinct-taken : (xs : Rows) (x : Row) (ys : Rows) → Distinct (xs ++ x ∷ ys)
@@ -175,7 +161,7 @@ migrate_rows_left table tick x xs lists l le b len k d ih =
     append_assoc xs i.front (x ∷ i.rest) ∙ ap (λ (rows : Rows). xs ++ rows) (sym i.new_is) in
     let s = ih (subst P e3 d3) in
     let ls : Rows = left_rows tick xs in
-    let n1 = among-filter (timer_in x).serial (λ row. not (is_due_at tick (timer_in row))) xs
+    let n1 = IsNotAmong-part (timer_in x).serial (λ row. not (is_due_at tick (timer_in row))) xs
     (among-front (timer_in x).serial xs (i.front ++ i.rest) d1.0) in
     let n2 = among-front (timer_in x).serial i.front i.rest (among-rest (timer_in x).serial xs (i.front ++ i.rest) d1.0) in
     let w : with_row (target table tick x) x lists ≡ with_row l x lists =

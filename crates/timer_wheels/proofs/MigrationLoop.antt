@@ -4,7 +4,7 @@ use Rattle.std.specs.List.{AllByRecursion}
 use Rattle.std.proofs.lemmas.List.{set-get_or}
 use Rattle.std.proofs.lemmas.Bool.{eq-eqb, ne_eqb}
 use Rattle.timer_links.proofs.Rows.{length_list_at}
-use Rattle.timer_base.specs.Basics.{some_same, none_some, empty_when, some_none}
+use Rattle.timer_base.specs.Basics.{some_same, none_some, some_none}
 use Rattle.timer_base.specs.Pending.{is_due_at}
 use Rattle.timer_links.specs.declared.node.Node.{Node}
 use Rattle.timer_links.specs.Lists.{list_at, with_row, row_count, front_moved, first_row_moved, appended, node_at, first_key, AreApart, IsNext, KeyedLists, Row, Rows}
@@ -17,13 +17,12 @@ use Rattle.timer_wheels.proofs.RowLemmas.{append-nil, set_twice, set_swapped}
 -- Lists that are updated twice.
 
 -- some rows of the list have moved, and moving the rest leads to the same lists
-pub record IsEmptying (table : List ℕ) (l tick step moves : ℕ) (old lists : KeyedLists) : Type 0 where
+pub record IsEmptying (table : List ℕ) (l tick moves : ℕ) (old lists : KeyedLists) : Type 0 where
   pub leads : migrated table tick l lists ≡ migrated table tick l old
   pub has_lists : length lists ≡ length old
   pub rows : AllByRecursion (MayMigrate table tick l) (list_at l lists)
   pub moves_are : moves + length (left_rows tick (list_at l lists)) ≡ length (left_rows tick (list_at l old))
-  pub few : moves ≤ step
-  pub count : step + length (list_at l lists) ≡ length (list_at l old)
+  pub few : moves + length (list_at l lists) ≤ length (list_at l old)
 
 module _ (table : List ℕ) (l tick : ℕ) (lists : KeyedLists) (row : Row) (rest : Rows) (b : l < length lists) (at : list_at l lists ≡ row ∷ rest) (n : target table tick row ≢ l) where
   abbrev to : ℕ
@@ -87,9 +86,9 @@ first_in table l tick d lists (row ∷ rest) at a e = record {
   others = a.1;
 }
 
-pub first_row : (table : List ℕ) (l tick step moves d : ℕ) (old lists : KeyedLists)
-    → IsEmptying table l tick step moves old lists → Some d ≡ first_deadline (list_at l lists) → IsFirstRow table l tick d lists
-first_row table l tick step moves d old lists s e = first_in table l tick d lists (list_at l lists) refl s.rows (sym e)
+pub first_row : {table : List ℕ} {l tick moves d : ℕ} {old lists : KeyedLists}
+    → IsEmptying table l tick moves old lists → Some d ≡ first_deadline (list_at l lists) → IsFirstRow table l tick d lists
+first_row {table} {l} {tick} {moves} {d} {old} {lists} s e = first_in table l tick d lists (list_at l lists) refl s.rows (sym e)
 
 none_first : (rows : Rows) → first_deadline rows ≡ None → rows ≡ []
 none_first [] e = refl
@@ -100,31 +99,21 @@ pub record IsEmptied (table : List ℕ) (l tick moves : ℕ) (old lists : KeyedL
   pub moves_are : moves ≡ length (left_rows tick (list_at l old))
   pub emptied : list_at l lists ≡ []
 
-at_end : (table : List ℕ) (l tick step moves : ℕ) (old lists : KeyedLists) → IsEmptying table l tick step moves old lists
-    → list_at l lists ≡ [] → IsEmptied table l tick moves old lists
-at_end table l tick step moves old lists s e =
-    let y : length (left_rows tick (list_at l lists)) ≡ 0 = ap (λ (y : Rows). length (left_rows tick y)) e in
+pub ended_none : {table : List ℕ} {l tick moves : ℕ} {old lists : KeyedLists} → IsEmptying table l tick moves old lists
+    → None ≡ first_deadline (list_at l lists) → IsEmptied table l tick moves old lists
+ended_none {table} {l} {tick} {moves} {old} {lists} s e =
+    let none : list_at l lists ≡ [] = none_first (list_at l lists) (sym e) in
+    let y : length (left_rows tick (list_at l lists)) ≡ 0 = ap (λ (y : Rows). length (left_rows tick y)) none in
     let q : moves + length (left_rows tick (list_at l lists)) ≡ length (left_rows tick (list_at l old)) = s.moves_are in
     record {
-      lists_are = sym (ap (λ (y : Rows). migrate_rows table tick y (slice_set lists l [])) e
-          ∙ (ap (slice_set lists l) (sym e) ∙ set-get_or lists l [])) ∙ s.leads;
+      lists_are = sym (ap (λ (y : Rows). migrate_rows table tick y (slice_set lists l [])) none
+          ∙ (ap (slice_set lists l) (sym none) ∙ set-get_or lists l [])) ∙ s.leads;
       moves_are = omega arith;
-      emptied = e;
+      emptied = none;
     }
 
-pub ended_none : (table : List ℕ) (l tick step moves : ℕ) (old lists : KeyedLists)
-    → IsEmptying table l tick step moves old lists → None ≡ first_deadline (list_at l lists) → IsEmptied table l tick moves old lists
-ended_none table l tick step moves old lists s e = at_end table l tick step moves old lists s (none_first (list_at l lists) (sym e))
-
-pub ended_count : (table : List ℕ) (l tick step moves : ℕ) (old lists : KeyedLists)
-    → IsEmptying table l tick step moves old lists → row_count old ≤ step → IsEmptied table l tick moves old lists
-ended_count table l tick step moves old lists s h =
-    let a : length (list_at l old) ≤ row_count old = length_list_at old l in
-    let c : step + length (list_at l lists) ≡ length (list_at l old) = s.count in
-    at_end table l tick step moves old lists s (empty_when (list_at l lists) (omega arith))
-
-module _ (table : List ℕ) (l tick step moves d : ℕ) (old lists new : KeyedLists) (b : l < length old)
-    (s : IsEmptying table l tick step moves old lists) (f : IsFirstRow table l tick d lists) where
+module _ {table : List ℕ} {l tick moves d : ℕ} {old lists : KeyedLists} (new : KeyedLists) (b : l < length old)
+    (s : IsEmptying table l tick moves old lists) (f : IsFirstRow table l tick d lists) where
   b2 : l < length lists
   b2 = let e : length lists ≡ length old = s.has_lists in omega arith
 
@@ -140,12 +129,13 @@ module _ (table : List ℕ) (l tick step moves d : ℕ) (old lists new : KeyedLi
 
   next : (to moves2 : ℕ) → to ≡ target table tick f.row → new ≡ front_moved l to lists
       → moves2 + length (left_rows tick f.rest) ≡ moves + length (left_rows tick (f.row ∷ f.rest))
-      → moves2 ≤ step + 1
-      → IsEmptying table l tick (step + 1) moves2 old new
+      → moves2 ≤ moves + 1
+      → IsEmptying table l tick moves2 old new
   next to moves2 q e h w =
       let r : list_at l new ≡ f.rest = rest_at to q e in
-      let c : step + length (list_at l lists) ≡ length (list_at l old) = s.count in
+      let c : moves + length (list_at l lists) ≤ length (list_at l old) = s.few in
       let k : length (list_at l lists) ≡ suc (length f.rest) = count_is in
+      let n : length (list_at l new) ≡ length f.rest = ap (λ (y : Rows). length y) r in
       record {
         leads = ap (migrated table tick l) (new_is to q e) ∙ (leads_same table l tick lists f.row f.rest b2 f.at f.first.elsewhere
             ∙ s.leads);
@@ -154,54 +144,55 @@ module _ (table : List ℕ) (l tick step moves d : ℕ) (old lists new : KeyedLi
         rows = subst (AllByRecursion (MayMigrate table tick l)) (sym r) f.others;
         moves_are = ap (λ (y : Rows). moves2 + length (left_rows tick y)) r
             ∙ (h ∙ (ap (λ (y : Rows). moves + length (left_rows tick y)) (sym f.at) ∙ s.moves_are));
-        few = w;
-        count = ap (λ (y : Rows). step + 1 + length y) r ∙ omega arith;
+        few = omega arith;
       }
 
   pub next_due : (to moves2 : ℕ) → to ≡ slots table → d ≡ tick → new ≡ front_moved l to lists → moves2 ≡ moves
-      → IsEmptying table l tick (step + 1) moves2 old new
+      → IsEmptying table l tick moves2 old new
   next_due to moves2 q e p y =
-      let w : moves ≤ step = s.few in
       let k : is_due_at tick (timer_in f.row) ≡ true = eq-eqb (timer_in f.row).deadline tick (f.deadline ∙ e) in
       let m1 : length (left_rows tick (f.row ∷ f.rest)) ≡ length (left_rows tick f.rest) = due_more tick f.row f.rest k in
       next to moves2 (q ∙ sym (target_due table tick f.row k)) p (omega arith) (omega arith)
 
   pub next_left : (to moves2 : ℕ) → to ≡ bucket table tick d → d ≢ tick → new ≡ front_moved l to lists → moves2 ≡ moves + 1
-      → IsEmptying table l tick (step + 1) moves2 old new
+      → IsEmptying table l tick moves2 old new
   next_left to moves2 q n p y =
-      let w : moves ≤ step = s.few in
       let k : is_due_at tick (timer_in f.row) ≡ false = ne_eqb (timer_in f.row).deadline tick
       (λ (e : (timer_in f.row).deadline ≡ tick). n (sym f.deadline ∙ e)) in
       let m1 : length (left_rows tick (f.row ∷ f.rest)) ≡ suc (length (left_rows tick f.rest)) = left_more tick f.row f.rest k in
       next to moves2 (q ∙ (ap (bucket table tick) (sym f.deadline) ∙ sym (target_left table tick f.row k))) p (omega arith) (omega arith)
 
-  ahead_after : (to : ℕ) (o : Option ℕ) → to ≡ target table tick f.row → new ≡ front_moved l to lists
+  -- the list that it goes to
+  pub due_target : (to : ℕ) → to ≡ slots table → d ≡ tick → to ≡ target table tick f.row
+  due_target dest q e = q ∙ sym (target_due table tick f.row (eq-eqb (timer_in f.row).deadline tick (f.deadline ∙ e)))
+
+  pub left_target : (to : ℕ) → to ≡ bucket table tick d → d ≢ tick → to ≡ target table tick f.row
+  left_target dest q n =
+      let k : is_due_at tick (timer_in f.row) ≡ false = ne_eqb (timer_in f.row).deadline tick
+      (λ (e : (timer_in f.row).deadline ≡ tick). n (sym f.deadline ∙ e)) in
+      q ∙ (ap (bucket table tick) (sym f.deadline) ∙ sym (target_left table tick f.row k))
+
+  pub ahead_after : (to : ℕ) (o : Option ℕ) → to ≡ target table tick f.row → new ≡ front_moved l to lists
       → o ≡ second_deadline (list_at l lists) → o ≡ first_deadline (list_at l new)
   ahead_after to o q p h = h ∙ (ap second_deadline f.at ∙ ap first_deadline (sym (rest_at to q p)))
 
-  pub ahead_due : (to : ℕ) (o : Option ℕ) → to ≡ slots table → d ≡ tick → new ≡ front_moved l to lists
-      → o ≡ second_deadline (list_at l lists) → o ≡ first_deadline (list_at l new)
-  ahead_due to o q e p h =
-      let k : is_due_at tick (timer_in f.row) ≡ true = eq-eqb (timer_in f.row).deadline tick (f.deadline ∙ e) in
-      ahead_after to o (q ∙ sym (target_due table tick f.row k)) p h
+  -- fewer are left
+  pub shorter : (to : ℕ) → to ≡ target table tick f.row → new ≡ front_moved l to lists
+      → length (list_at l new) < length (list_at l lists)
+  shorter to q e =
+      let k : length (list_at l lists) ≡ suc (length f.rest) = count_is in
+      let n : length (list_at l new) ≡ length f.rest = ap (λ (y : Rows). length y) (rest_at to q e) in
+      omega arith
 
-  pub ahead_left : (to : ℕ) (o : Option ℕ) → to ≡ bucket table tick d → d ≢ tick → new ≡ front_moved l to lists
-      → o ≡ second_deadline (list_at l lists) → o ≡ first_deadline (list_at l new)
-  ahead_left to o q n p h =
-      let k : is_due_at tick (timer_in f.row) ≡ false = ne_eqb (timer_in f.row).deadline tick
-      (λ (e : (timer_in f.row).deadline ≡ tick). n (sym f.deadline ∙ e)) in
-      ahead_after to o (q ∙ (ap (bucket table tick) (sym f.deadline) ∙ sym (target_left table tick f.row k))) p h
+  pub moves_fit : row_count old < 18446744073709551616 → moves + 1 < 18446744073709551616
+  moves_fit h =
+      let c : moves + length (list_at l lists) ≤ length (list_at l old) = s.few in
+      let k : length (list_at l lists) ≡ suc (length f.rest) = count_is in
+      let a : length (list_at l old) ≤ row_count old = length_list_at old l in
+      omega arith
 
-  pub goes_elsewhere : (to : ℕ) → to ≡ bucket table tick d → d ≢ tick → to ≢ l
-  goes_elsewhere to q n =
-      let k : is_due_at tick (timer_in f.row) ≡ false = ne_eqb (timer_in f.row).deadline tick
-      (λ (e : (timer_in f.row).deadline ≡ tick). n (sym f.deadline ∙ e)) in
-      let t : to ≡ target table tick f.row = q ∙ (ap (bucket table tick) (sym f.deadline) ∙ sym (target_left table tick f.row k)) in
-      λ (e : to ≡ l). f.first.elsewhere (sym t ∙ e)
-
-  pub later_than : d ≢ tick → tick < d
-  later_than n = let a : tick ≤ (timer_in f.row).deadline = f.first.not_past in let e : (timer_in f.row).deadline ≡ d = f.deadline
-      in omega arith
+  pub goes_elsewhere : (to : ℕ) → to ≡ target table tick f.row → to ≢ l
+  goes_elsewhere to q = λ (e : to ≡ l). f.first.elsewhere (sym q ∙ e)
 
 -- A bucket whose rows are all due moves as a whole.
 

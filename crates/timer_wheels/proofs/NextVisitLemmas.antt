@@ -1,15 +1,13 @@
 -- Lemmas for `IsNextVisit`: at the visit of a bucket with a timer that timer is due or moves to a lower wheel.
-use Rattle.std.proofs.Common.{◌≡◌, ◌≢◌, ◌⊎◌, ◌<◌, ◌≤◌, ◌+◌, ◌-◌, ◌*◌, ◌/◌, ◌==◌, ℕ, zero, suc, List, [], ◌∷◌, length, refl, sym, ◌∙◌, ap, subst, inl, inr, arith, Some, true, nat_lt, filter}
+use Rattle.std.proofs.Common.{◌≡◌, ◌≢◌, ◌⊎◌, ◌<◌, ◌≤◌, ◌+◌, ◌-◌, ◌*◌, ◌/◌, ◌==◌, ℕ, zero, suc, List, [], ◌∷◌, length, refl, sym, ◌∙◌, ap, inl, inr, arith, Some, filter}
 use Rattle.std.specs.List.{AllByRecursion}
 use Rattle.std.proofs.lemmas.Bool.{cases_eq, eq-eqb, ne_eqb}
 use Rattle.std.proofs.lemmas.Bool.Decides.{nat_tests}
-use Rattle.std.proofs.lemmas.Nat.{div-mul-add}
-use Rattle.timer_base.specs.Basics.{either}
+use Rattle.std.proofs.Math.Nat.{mul-div_right}
 use Rattle.timer_base.specs.OrderLaws.{All-weaken}
-use Rattle.timer_base.specs.Pending.{Entry, timers_of, entries_due, entries_left}
+use Rattle.timer_base.specs.Pending.{Entry, timer_of, timers_of, entries_due}
 use Rattle.timer_base.specs.TickLaws.{AreAfter, left_all, after_ticks-now}
 use Rattle.timer_base.specs.WheelState.{WheelState, IsPending, after_ticks}
-use Rattle.timer_links.specs.Lists.{list_at}
 use Rattle.timer_wheels.specs.declared.buckets.Buckets.{Buckets}
 use Rattle.timer_wheels.specs.declared.table.Table.{Table}
 use Rattle.timer_wheels.specs.Buckets.{state_of, state_of-well_formed}
@@ -20,33 +18,30 @@ use Rattle.timer_wheels.specs.Occupied.{IsFirstSet}
 use Rattle.timer_wheels.specs.Placement.{bucket_at, no_rounds, hops_of}
 use Rattle.timer_wheels.specs.Shown.{entries_at}
 use Rattle.timer_wheels.specs.Tables.{radices}
-use Rattle.timer_wheels.proofs.DigitLaws.{level_near, level_far, digits_down}
-use Rattle.timer_wheels.proofs.HierLeaps.{last_digits, first_in, first_in_range, first_ahead, first_later, filled_some, first_wakes}
+use Rattle.timer_wheels.proofs.AllLemmas.{all-of_map}
+use Rattle.timer_wheels.proofs.DigitLaws.{level_near, level_far, digits_down, less_quotient}
+use Rattle.timer_wheels.proofs.HierLeaps.{last_digits, first_in_range, first_ahead, first_later, first_some, first_wakes}
 use Rattle.timer_wheels.proofs.HierLemmas.{shown}
 use Rattle.timer_wheels.proofs.LeapLemmas.{hop_at, leapt_hops}
 use Rattle.timer_wheels.proofs.ShownLemmas.{some_at}
 use Rattle.timer_wheels.proofs.TableLaws.{of_table}
-use Rattle.timer_wheels.proofs.VisitLaws.{visit_near, visit_far, visit_in_time, less_quotient, list_is}
+use Rattle.timer_wheels.proofs.VisitLaws.{visit_near, visit_far, visit_in_time, list_is}
 
 -- At the visit of its bucket the level of a timer falls.
-
-product_quotient : (r x : ℕ) → 0 < r → r * x / r ≡ x
-product_quotient r x z = let e : r * x ≡ x * r + 0 = omega arith in ap (λ (y : ℕ). y / r) e ∙ div-mul-add x r 0 z
 
 falls_far : (r : ℕ) (rs : List ℕ) (a d : ℕ) → 0 < r → a / r ≢ d / r
     → (timer_visit rs (a / r) (d / r) ≢ d / r → level rs (timer_visit rs (a / r) (d / r)) (d / r) < level rs (a / r) (d / r))
     → level (r ∷ rs) (r * timer_visit rs (a / r) (d / r)) d < level (r ∷ rs) a d
 falls_far r rs a d z e ih =
     let v : ℕ = timer_visit rs (a / r) (d / r) in
-    let q : r * v / r ≡ v = product_quotient r v z in
+    let q : r * v / r ≡ v = mul-div_right v z in
     let l1 : level (r ∷ rs) a d ≡ suc (level rs (a / r) (d / r)) = level_far r rs a d e in
     elim (cases_eq v (d / r)) [
-      | inl k ↦ let l2 : level (r ∷ rs) (r * v) d ≡ 0 = level_near r rs (r * v) d (q ∙ k) in omega arith
+      | inl k ↦ omega (arith, level_near r rs (r * v) d (q ∙ k))
       | inr k ↦
-          let f : level rs v (d / r) < level rs (a / r) (d / r) = ih k in
           let l2 : level (r ∷ rs) (r * v) d ≡ suc (level rs v (d / r)) =
           level_far r rs (r * v) d (λ (x : r * v / r ≡ d / r). k (sym q ∙ x)) ∙ ap (λ (x : ℕ). suc (level rs x (d / r))) q in
-          omega arith
+          omega (arith, ih k)
     ]
 
 level_falls : (table : List ℕ) (a d : ℕ) → IsTable table → HasDigits table d → a < d → timer_visit table a d ≢ d
@@ -59,16 +54,15 @@ level_falls (r ∷ rs) a d t i h n = elim (cases_eq (a / r) (d / r)) [
 
 -- A timer whose level changes over some ticks, and that is still pending after them, has moved.
 hop_now : (table : List ℕ) (a d : ℕ) → a + 1 < d → level table a d ≢ level table (a + 1) d → hop_at table a d ≡ 1
-hop_now table a d h k = rw (before (a + 1) h, ne_eqb (level table a d) (level table (a + 1) d) k) refl where
-  before : (x : ℕ) → x < d → nat_lt x d ≡ true
-  before x p = elim (either (nat_lt x d)) [ inl k ↦ k | inr k ↦ absurd (grind (arith, nat_tests)) ]
+hop_now table a d h k = grind (arith, nat_tests)
 
 moved : (table : List ℕ) (n a c d : ℕ) → c ≡ a + n → c < d → level table c d ≢ level table a d → 0 < hops table a n d
 moved table zero a c d e h m = absurd (m (ap (λ (x : ℕ). level table x d) (let f : c ≡ a = omega arith in f)))
 moved table (suc n) a c d e h m = elim (cases_eq (level table a d) (level table (a + 1) d)) [
-  | inl k ↦ let ih : 0 < hops table (a + 1) n d = moved table n (a + 1) c d (omega arith) h
-      (λ (x : level table c d ≡ level table (a + 1) d). m (x ∙ sym k)) in omega arith
-  | inr k ↦ let f : hop_at table a d ≡ 1 = hop_now table a d (omega arith) k in omega arith
+  | inl k ↦
+      let changed : level table c d ≢ level table (a + 1) d = λ (x : level table c d ≡ level table (a + 1) d). m (x ∙ sym k) in
+      omega (arith, moved table n (a + 1) c d (omega arith) h changed)
+  | inr k ↦ omega (arith, hop_now table a d (omega arith) k)
 ]
 
 -- Some pending timer is in the bucket.
@@ -85,11 +79,9 @@ module _ (table : List ℕ) (now visit l n : ℕ) (t : IsTable table) (after : v
   one_moves entry k b m =
       let d : ℕ = entry.timer.deadline in
       let v : visit ≡ timer_visit table now d = is d k.digits k.later b in
-      let s : timer_visit table now d ≤ d = visit_in_time table now d t in
-      let f : level table (timer_visit table now d) d < level table now d =
-      level_falls table now d t k.digits k.later (λ (x : timer_visit table now d ≡ d). m (sym (v ∙ x))) in
-      let g : level table visit d ≡ level table (timer_visit table now d) d = ap (λ (x : ℕ). level table x d) v in
-      moved table n now visit d after (omega arith) (omega arith)
+      let f : level table visit d < level table now d =
+      rw v (level_falls table now d t k.digits k.later (λ (x : timer_visit table now d ≡ d). m (sym (v ∙ x)))) in
+      moved table n now visit d after (omega (arith, visit_in_time table now d t)) (omega arith)
 
   pub some_move : (entries : List Entry) → AllByRecursion (MayMove table now) entries
       → 0 < length (filter (λ entry. bucket table now entry.timer.deadline == l) entries)
@@ -98,12 +90,11 @@ module _ (table : List ℕ) (now visit l n : ℕ) (t : IsTable table) (after : v
   some_move (e ∷ es) a h = elim (cases_eq e.timer.deadline visit) [
     | inl d ↦ inl (rw (eq-eqb e.timer.deadline visit d) (omega arith))
     | inr d ↦ rw (ne_eqb e.timer.deadline visit d) (elim (cases_eq (bucket table now e.timer.deadline) l) [
-      | inl b ↦ inr (let x : 0 < hops table now n e.timer.deadline = one_moves e a.0 b d in omega arith)
-      | inr b ↦ (let h2 : 0 < length (filter (λ entry. bucket table now entry.timer.deadline == l) es) =
-          rw (ne_eqb (bucket table now e.timer.deadline) l b) at h in elim (some_move es a.1 h2) [
-            | inl k ↦ inl k
-            | inr k ↦ inr (omega arith)
-          ])
+      | inl b ↦ inr (omega (arith, one_moves e a.0 b d))
+      | inr b ↦ elim (some_move es a.1 (rw (ne_eqb (bucket table now e.timer.deadline) l b) at h)) [
+        | inl k ↦ inl k
+        | inr k ↦ inr (omega arith)
+      ]
     ])
   ]
 
@@ -114,44 +105,32 @@ same_pending zero w f = refl
 same_pending (suc n) w f =
     let x : WheelState = after_ticks n w in
     let p : x.pending ≡ w.pending = same_pending n w (λ k h. f k (omega arith)) in
-    let t : x.now ≡ w.now + n = after_ticks-now n w in
-    let u : w.now + n + 1 ≡ x.now + 1 = omega arith in
-    let g : AreAfter (x.now + 1) w.pending = let P : ℕ → Type 0 = λ k. AreAfter k w.pending in subst P u (f n (omega arith)) in
-    ap (λ (y : List Entry). entries_left (x.now + 1) y) p ∙ left_all (x.now + 1) w.pending g
+    let u : x.now + 1 ≡ w.now + n + 1 = omega (arith, after_ticks-now n w) in
+    rw (p, u) (left_all (w.now + n + 1) w.pending (f n (omega arith)))
 
 pub due_then : (n visit : ℕ) (w : WheelState) → visit ≡ w.now + (n + 1) → ((k : ℕ) → k < n → AreAfter (w.now + k + 1) w.pending)
     → (after_ticks (n + 1) w).due ≡ entries_due visit w.pending
 due_then n visit w e f =
     let x : WheelState = after_ticks n w in
     let p : x.pending ≡ w.pending = same_pending n w f in
-    let t : x.now ≡ w.now + n = after_ticks-now n w in
-    let u : x.now + 1 ≡ visit = omega arith in
+    let u : x.now + 1 ≡ visit = omega (arith, after_ticks-now n w) in
     let s : n + 1 ≡ suc n = omega arith in
-    ap (λ (k : ℕ). (after_ticks k w).due) s
-    ∙ (ap (λ (k : ℕ). entries_due k x.pending) u ∙ ap (λ (y : List Entry). entries_due visit y) p)
+    rw (s, u, p) refl
 
 -- The first bucket with a timer.
 
 may_move : (table : List ℕ) (last now last_serial : ℕ) (entries : List Entry) → IsTable table → HasDigits table last
     → AllByRecursion (IsPending last now last_serial) (timers_of entries) → AllByRecursion (MayMove table now) entries
-may_move table last now last_serial [] i h a = tt
-may_move table last now last_serial (e ∷ es) i h a = (
-  record {
-    later = a.0.later;
-    digits = digits_down table e.timer.deadline last i a.0.in_range h;
-  },
-  may_move table last now last_serial es i h a.1,
-)
+may_move table last now last_serial entries i h a =
+    All-weaken (λ entry. IsPending last now last_serial entry.timer) (MayMove table now) entries
+    (λ entry p. record { later = p.later; digits = digits_down table entry.timer.deadline last i p.in_range h })
+    (all-of_map timer_of (IsPending last now last_serial) entries a)
 
 module _ (t : Table) (b : Buckets) (words : List ℕ) (h : IsHier t b words) (l visit : ℕ) (e : visit
     ≡ list_visit (radices t) l b.tick) (f : IsFirstSet words (Some l)) where
-  first_some : 0 < length (entries_at (bucket_at (radices t) b.tick) l (state_of b).pending)
-  first_some =
-      let c : l < b.slots = first_in t b words h l f.0 f.1 in
-      let s : l < slots (radices t) = first_in_range t b words h l f in
-      let r : 0 < length (list_at l b.links.lists) = filled_some t b words h (list_at l b.links.lists) (sym (h.marked.0 l c) ∙ f.1) in
-      some_at (slots (radices t)) (bucket_at (radices t) b.tick) no_rounds (state_of b) b.links.lists
-      (shown (radices t) b h.has_slots h.placed) l s r
+  shown_some : 0 < length (entries_at (bucket_at (radices t) b.tick) l (state_of b).pending)
+  shown_some = some_at (slots (radices t)) (bucket_at (radices t) b.tick) no_rounds (state_of b) b.links.lists
+      (shown (radices t) b h.has_slots h.placed) l (first_in_range t b words h l f) (first_some t b words h l f)
 
   first_moves : (n : ℕ) → visit ≡ b.tick + n → (0 < length (entries_due visit (state_of b).pending))
       ⊎ (0 < hops_of (radices t) b.tick n (state_of b).pending)
@@ -161,34 +140,28 @@ module _ (t : Table) (b : Buckets) (words : List ℕ) (h : IsHier t b words) (l 
       (state_of b).pending
       (may_move (radices t) b.last_tick b.tick b.last_serial (state_of b).pending (of_table t).is_table (last_digits t b words h)
       (state_of-well_formed b).each)
-      first_some
+      shown_some
 
   after_them : (k : ℕ) → b.tick + k < visit → AreAfter (b.tick + k) (state_of b).pending
   after_them k g = All-weaken (λ entry. visit ≤ entry.timer.deadline) (λ entry. b.tick + k < entry.timer.deadline) (state_of b).pending
-      (λ entry q. let x : visit ≤ entry.timer.deadline = q in omega arith) (first_wakes t b words h l visit e f).in_time
+      (λ entry q. omega arith) (first_wakes t b words h l visit e f).in_time
 
   next_by : (n : ℕ) → visit ≡ b.tick + (n + 1) → (0 < length (after_ticks (n + 1) (state_of b)).due)
       ⊎ (0 < hops_of (radices t) b.tick (n + 1) (state_of b).pending)
   next_by n g = elim (first_moves (n + 1) g) [
-    | inl k ↦ inl (let d : (after_ticks (n + 1) (state_of b)).due ≡ entries_due visit (state_of b).pending =
-        due_then n visit (state_of b) g (λ m r. after_later m n r g)
-        in let y : length (after_ticks (n + 1) (state_of b)).due ≡ length (entries_due visit (state_of b).pending) = ap length d
-        in omega arith)
+    | inl k ↦ inl (rw (due_then n visit (state_of b) g (λ m r. after_later m n r g)) k)
     | inr k ↦ inr k
   ] where
     after_later : (m n : ℕ) → m < n → visit ≡ b.tick + (n + 1) → AreAfter (b.tick + m + 1) (state_of b).pending
-    after_later m n r g = let u : b.tick + (m + 1) ≡ b.tick + m + 1 = omega arith in let P : ℕ
-        → Type 0 = λ k. AreAfter k (state_of b).pending in subst P u (after_them (m + 1) (omega arith))
+    after_later m n r g = let u : b.tick + m + 1 ≡ b.tick + (m + 1) = omega arith in rw u (after_them (m + 1) (omega arith))
 
   -- its visit is the first tick ahead at which a timer is due or moves
   pub first_next : IsNextVisit (radices t) visit (state_of b)
   first_next =
       let later : b.tick < visit = first_later t b words h l visit e f in
-      let n : ℕ = visit - b.tick - 1 in
-      let s : n + 1 ≡ visit - b.tick = omega arith in
-      let P : ℕ → Type 0 = λ k. (0 < length (after_ticks k (state_of b)).due) ⊎ (0 < hops_of (radices t) b.tick k (state_of b).pending) in
+      let s : visit - b.tick - 1 + 1 ≡ visit - b.tick = omega arith in
       record {
-        none_before = leapt_hops (radices t) b.last_tick b.tick visit n (of_table t).is_table (last_digits t b words h)
+        none_before = leapt_hops (radices t) b.last_tick b.tick visit (visit - b.tick - 1) (of_table t).is_table (last_digits t b words h)
             (omega arith) b.slots b.last_serial b.links.lists b.sound.pending (first_ahead t b words h l visit e f);
-        some = subst P s (next_by n (omega arith));
+        some = rw s at (next_by (visit - b.tick - 1) (omega arith));
       }

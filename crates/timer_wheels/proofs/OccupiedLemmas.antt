@@ -15,7 +15,7 @@ module _ (words : List ℕ) (l v : ℕ) (len : length words ≡ WORDS) (h : l < 
   written = slice_set words (l / 64) v
 
   word_here : slice_index_or written (l / 64) 0 ≡ v
-  word_here = get_or-set_same words (l / 64) v 0 (let e : length words ≡ WORDS = len in let b : l < MOST_BUCKETS = h in omega arith)
+  word_here = get_or-set_same words (l / 64) v 0 (omega arith)
 
   pub written_here : bit_of written l ≡ bit_at v (l % 64)
   written_here = ap (λ (x : ℕ). bit_at x (l % 64)) word_here
@@ -23,42 +23,32 @@ module _ (words : List ℕ) (l v : ℕ) (len : length words ≡ WORDS) (h : l < 
   pub written_others : (s : ℕ) → s ≢ l → ((i : ℕ) → i < 64 → i ≢ l % 64 → bit_at v i ≡ bit_at (slice_index_or words (l / 64) 0) i)
       → bit_of written s ≡ bit_of words s
   written_others s n f = elim (cases_eq (s / 64) (l / 64)) [
-    | inl e ↦
-        let p : s % 64 ≢ l % 64 = λ (x : s % 64 ≡ l % 64). n (omega arith) in
-        ap (λ (x : ℕ). bit_at (slice_index_or written x 0) (s % 64)) e
-        ∙ (ap (λ (x : ℕ). bit_at x (s % 64)) word_here
-        ∙ (f (s % 64) (omega arith) p
-        ∙ ap (λ (x : ℕ). bit_at (slice_index_or words x 0) (s % 64)) (sym e)))
+    | inl e ↦ rw (e, word_here) (f (s % 64) (omega arith) (omega arith))
     | inr e ↦ ap (λ (x : ℕ). bit_at x (s % 64)) (get_or-set_other words (l / 64) (s / 64) v 0 e)
   ]
 
-in_word : (l : ℕ) → l % 64 < 64
-in_word l = omega arith
+module _ (words : List ℕ) (l : ℕ) (len : length words ≡ WORDS) (h : l < MOST_BUCKETS) where
+  -- the word of the bit, and that word with the bit and without it
+  abbrev word : ℕ
+  word = slice_index_or words (l / 64) 0
 
-pub set_here : (words : List ℕ) (l : ℕ) → length words ≡ WORDS → l < MOST_BUCKETS
-    → bit_of (slice_set words (l / 64) (bit_or (slice_index_or words (l / 64) 0) (1 * 2 ^ (l % 64) % 18446744073709551616))) l ≡ 1
-set_here words l len h = written_here words l (bit_or (slice_index_or words (l / 64) 0) (1 * 2 ^ (l % 64) % 18446744073709551616)) len h
-    ∙ bit_at_set_same w64 (slice_index_or words (l / 64) 0) (l % 64) (in_word l)
+  abbrev with_bit : ℕ
+  with_bit = bit_or word (1 * 2 ^ (l % 64) % 18446744073709551616)
 
-pub set_others : (words : List ℕ) (l : ℕ) → length words ≡ WORDS → l < MOST_BUCKETS → (s : ℕ) → s ≢ l
-    → bit_of (slice_set words (l / 64) (bit_or (slice_index_or words (l / 64) 0) (1 * 2 ^ (l % 64) % 18446744073709551616))) s
-    ≡ bit_of words s
-set_others words l len h s n = written_others words l (bit_or (slice_index_or words (l / 64) 0) (1 * 2 ^ (l % 64) % 18446744073709551616))
-    len h s n (λ i b m. bit_at_set_other w64 (slice_index_or words (l / 64) 0) (l % 64) (in_word l) i m)
+  abbrev without_bit : ℕ
+  without_bit = bit_and word (18446744073709551615 - 1 * 2 ^ (l % 64) % 18446744073709551616)
 
-pub clear_here : (words : List ℕ) (l : ℕ) → length words ≡ WORDS → l < MOST_BUCKETS
-    → bit_of (slice_set words (l / 64) (bit_and (slice_index_or words (l / 64) 0)
-    (18446744073709551615 - 1 * 2 ^ (l % 64) % 18446744073709551616))) l ≡ 0
-clear_here words l len h = written_here words l (bit_and (slice_index_or words (l / 64) 0)
-    (18446744073709551615 - 1 * 2 ^ (l % 64) % 18446744073709551616)) len h
-    ∙ bit_at_clear_same w64 (slice_index_or words (l / 64) 0) (l % 64) (in_word l)
+  pub set_here : bit_of (slice_set words (l / 64) with_bit) l ≡ 1
+  set_here = written_here words l with_bit len h ∙ bit_at_set_same w64 word (l % 64) (omega arith)
 
-pub clear_others : (words : List ℕ) (l : ℕ) → length words ≡ WORDS → l < MOST_BUCKETS → (s : ℕ) → s ≢ l
-    → bit_of (slice_set words (l / 64) (bit_and (slice_index_or words (l / 64) 0)
-    (18446744073709551615 - 1 * 2 ^ (l % 64) % 18446744073709551616))) s ≡ bit_of words s
-clear_others words l len h s n = written_others words l (bit_and (slice_index_or words (l / 64) 0)
-    (18446744073709551615 - 1 * 2 ^ (l % 64) % 18446744073709551616)) len h s n
-    (λ i b m. bit_at_clear_other w64 (slice_index_or words (l / 64) 0) (l % 64) (in_word l) i b m)
+  pub set_others : (s : ℕ) → s ≢ l → bit_of (slice_set words (l / 64) with_bit) s ≡ bit_of words s
+  set_others s n = written_others words l with_bit len h s n (λ i b m. bit_at_set_other w64 word (l % 64) (omega arith) i m)
+
+  pub clear_here : bit_of (slice_set words (l / 64) without_bit) l ≡ 0
+  clear_here = written_here words l without_bit len h ∙ bit_at_clear_same w64 word (l % 64) (omega arith)
+
+  pub clear_others : (s : ℕ) → s ≢ l → bit_of (slice_set words (l / 64) without_bit) s ≡ bit_of words s
+  clear_others s n = written_others words l without_bit len h s n (λ i b m. bit_at_clear_other w64 word (l % 64) (omega arith) i b m)
 
 -- The first bit.
 
@@ -71,15 +61,14 @@ clear_word k words z c s h = elim (cases_lt s (64 * k)) [
   | inl b ↦ c s b
   | inr b ↦
       let e : s / 64 ≡ k = omega arith in
-      ap (λ (x : ℕ). bit_at (slice_index_or words x 0) (s % 64)) e ∙ (ap (λ (x : ℕ). bit_at x (s % 64)) z ∙ bit_at-zero (s % 64))
+      rw (e, z) (bit_at-zero (s % 64))
 ]
 
-place_of : (k j : ℕ) → j < 64 → ((64 * k + j) / 64 ≡ k) × ((64 * k + j) % 64 ≡ j)
-place_of k j h = (omega arith, omega arith)
-
 bit_there : (k j : ℕ) (words : List ℕ) → j < 64 → bit_of words (64 * k + j) ≡ bit_at (slice_index_or words k 0) j
-bit_there k j words h = let p = place_of k j h in ap (λ (x : ℕ). bit_at (slice_index_or words x 0) ((64 * k + j) % 64)) p.0
-    ∙ ap (bit_at (slice_index_or words k 0)) p.1
+bit_there k j words h =
+    let p : (64 * k + j) / 64 ≡ k = omega arith in
+    let q : (64 * k + j) % 64 ≡ j = omega arith in
+    rw (p, q) refl
 
 before_bit : (k : ℕ) (words : List ℕ) (s : ℕ) → 64 * k ≤ s → s < 64 * k + 64
     → bit_of words s ≡ bit_at (slice_index_or words k 0) (s - 64 * k)
@@ -123,7 +112,7 @@ marked_same n words old new e t = ((λ s h. t.0 s h ∙ sym (ap filled (e s h)))
 -- the bits from n on stay clear
 clear_too : (n l : ℕ) (words words2 : List ℕ) → l < n → ((s : ℕ) → s ≢ l → bit_of words2 s ≡ bit_of words s) → IsClearFrom n words
     → IsClearFrom n words2
-clear_too n l words words2 h o c s a b = o s (λ (e : s ≡ l). omega arith) ∙ c s a b
+clear_too n l words words2 h o c s a b = o s (omega arith) ∙ c s a b
 
 -- one bit is set, and one row inserted
 pub marked_with_row : (n : ℕ) (words words2 : List ℕ) (l : ℕ) (row : Row) (lists : KeyedLists) → l < n → l < length lists
@@ -131,9 +120,8 @@ pub marked_with_row : (n : ℕ) (words words2 : List ℕ) (l : ℕ) (row : Row) 
     → AreMarked n words2 (with_row l row lists)
 marked_with_row n words words2 l row lists f b h o t = (
   (λ (s : ℕ) (k : s < n). elim (cases_eq s l) [
-    | inl e ↦ ap (bit_of words2) e ∙ (h ∙ sym (ap (λ (v : ℕ). filled (list_at v (with_row l row lists))) e
-        ∙ (ap filled (get_or-set_same lists l (list_at l lists ++ row ∷ []) [] b) ∙ filled_behind (list_at l lists) row)))
-    | inr m ↦ o s m ∙ (t.0 s k ∙ sym (ap filled (get_or-set_other lists l s (list_at l lists ++ row ∷ []) [] m)))
+    | inl e ↦ rw (e, h, get_or-set_same lists l (list_at l lists ++ row ∷ []) [] b, filled_behind (list_at l lists) row) refl
+    | inr m ↦ rw (o s m, get_or-set_other lists l s (list_at l lists ++ row ∷ []) [] m) (t.0 s k)
   ]),
   clear_too n l words words2 f o t.1,
 )
@@ -142,7 +130,7 @@ pub marked_all : (n : ℕ) (words : List ℕ) (l : ℕ) (lists : KeyedLists) →
     → AreMarkedBut n l words lists → AreMarked n words lists
 marked_all n words l lists e t = (
   (λ (s : ℕ) (h : s < n). elim (cases_eq s l) [
-    | inl q ↦ ap (bit_of words) q ∙ (e ∙ sym (ap (λ (v : ℕ). filled (list_at v lists)) q))
+    | inl q ↦ rw q e
     | inr m ↦ t.0 s h m
   ]),
   t.1,
@@ -155,32 +143,29 @@ moved_same l to s lists [] n m = refl
 moved_same l to s lists (row ∷ rest) n m = get_or-set_other (slice_set lists l rest) to s (list_at to (slice_set lists l rest)
     ++ row ∷ []) [] m ∙ get_or-set_other lists l s rest [] n
 
-moved_there : (l to : ℕ) (lists : KeyedLists) (row : Row) (rest : Rows) → to < length lists
-    → filled (list_at to (first_row_moved l to lists (row ∷ rest))) ≡ 1
-moved_there l to lists row rest b =
-    ap filled (get_or-set_same (slice_set lists l rest) to (list_at to (slice_set lists l rest) ++ row ∷ []) []
-    (rw (length-set lists l rest) b))
-    ∙ filled_behind (list_at to (slice_set lists l rest)) row
-
 pub marked_due : (n : ℕ) (words : List ℕ) (l to : ℕ) (lists new : KeyedLists) → to ≡ n → new ≡ front_moved l to lists
     → AreMarkedBut n l words lists → AreMarkedBut n l words new
 marked_due n words l to lists new q e t = (
   (λ (s : ℕ) (h : s < n) (d : s ≢ l).
-      let m : s ≢ to = λ (x : s ≡ to). omega arith in
-      t.0 s h d ∙ sym (ap (λ (y : KeyedLists). filled (list_at s y)) e ∙ ap filled (moved_same l to s lists (list_at l lists) d m))),
+      let m : s ≢ to = omega arith in
+      rw (e, moved_same l to s lists (list_at l lists) d m) (t.0 s h d)),
   t.1,
 )
 
 pub marked_left : (n : ℕ) (words words2 : List ℕ) (l to : ℕ) (row : Row) (rest : Rows) (lists new : KeyedLists) → to < n
     → to < length lists → bit_of words2 to ≡ 1 → ((s : ℕ) → s ≢ to → bit_of words2 s ≡ bit_of words s)
     → list_at l lists ≡ row ∷ rest → new ≡ front_moved l to lists → AreMarkedBut n l words lists → AreMarkedBut n l words2 new
-marked_left n words words2 l to row rest lists new f b z o at e t =
-    let is : new ≡ first_row_moved l to lists (row ∷ rest) = e ∙ ap (first_row_moved l to lists) at in (
-      (λ (s : ℕ) (h : s < n) (d : s ≢ l). elim (cases_eq s to) [
-        | inl q ↦ ap (bit_of words2) q ∙ (z ∙ sym (ap (λ (v : ℕ). filled (list_at v new)) q
-            ∙ (ap (λ (y : KeyedLists). filled (list_at to y)) is ∙ moved_there l to lists row rest b)))
-        | inr m ↦ o s m ∙ (t.0 s h d ∙ sym (ap (λ (y : KeyedLists). filled (list_at s y)) is
-            ∙ ap filled (moved_same l to s lists (row ∷ rest) d m)))
-      ]),
-      clear_too n to words words2 f o t.1,
-    )
+marked_left n words words2 l to row rest lists new f b z o at e t = (
+  (λ (s : ℕ) (h : s < n) (d : s ≢ l). elim (cases_eq s to) [
+    | inl q ↦ rw (
+      q,
+      z,
+      e,
+      at,
+      get_or-set_same (slice_set lists l rest) to (list_at to (slice_set lists l rest) ++ row ∷ []) [] (rw (length-set lists l rest) b),
+      filled_behind (list_at to (slice_set lists l rest)) row,
+    ) refl
+    | inr m ↦ rw (o s m, e, moved_same l to s lists (list_at l lists) d m) (t.0 s h d)
+  ]),
+  clear_too n to words words2 f o t.1,
+)

@@ -1,5 +1,6 @@
 -- Lemmas for `replace_node`: the lists once another node is under the key of one.
-use Rattle.std.proofs.Common.{◌≡◌, ◌<◌, ℕ, [], ◌∷◌, ◌++◌, length, refl, sym, ◌∙◌, ap, arith, length-set, get_or-set_same, Option, Some, None, IsSome, map, slice_set}
+use Rattle.std.proofs.Common.{◌≡◌, ◌<◌, ℕ, [], ◌∷◌, ◌++◌, length, sym, ◌∙◌, ap, arith, length-set, get_or-set_same, Option, Some, map, slice_set}
+use Rattle.timer_links.proofs.LinksCalls.{Held}
 use Rattle.timer_links.proofs.Rows.{StandsIn, stands_in}
 use Rattle.timer_links.specs.declared.node.Node.{Node}
 use Rattle.timer_links.specs.Lists.{list_at, node_at, with_row, without_key, AreApart, IsAloneIn, SetsNode, MovesBack, KeyedLists}
@@ -7,22 +8,10 @@ use Rattle.timer_wheels.proofs.RowLemmas.{set_twice}
 
 -- Another node under the key, at the back of a list.
 
--- some node is under the key
-pub record IsUsed (key : ℕ) (lists : KeyedLists) : Type 0 where
-  pub node : Node
-  pub at : node_at key lists ≡ Some node
-
-used_by : (found : Option Node) → IsSome found → (n : Node) × (found ≡ Some n)
-used_by None h = absurd (cc)
-used_by (Some n) h = (n, refl)
-
-pub used : (key : ℕ) (lists : KeyedLists) → IsSome (node_at key lists) → IsUsed key lists
-used key lists h = let u = used_by (node_at key lists) h in record { node = u.0; at = u.1 }
-
-module _ (key list : ℕ) (node : Node) (old mid : KeyedLists) (u : IsUsed key old) (apart : AreApart old)
+module _ (key list : ℕ) (node : Node) (old mid : KeyedLists) (u : Held (node_at key old)) (apart : AreApart old)
     (set : SetsNode key node old mid) (apart2 : AreApart mid) where
   was : StandsIn key u.node old
-  was = stands_in key u.node old u.at
+  was = stands_in key u.node old u.is
 
   mid_is : mid ≡ slice_set old was.l (was.front ++ (key, node) ∷ was.rest)
   mid_is = set was.l was.front u.node was.rest was.in_range was.at
@@ -52,10 +41,6 @@ module _ (key list : ℕ) (node : Node) (old mid : KeyedLists) (u : IsUsed key o
 
   pub replaced : (new : KeyedLists) → MovesBack key list mid new → new ≡ with_row list (key, node) (map (without_key key) old)
   replaced new m = m node now_under ∙ ap (with_row list (key, node)) same_others
-
--- a node that was found under the key makes it used
-pub is_used : (key : ℕ) (node : Node) (lists : KeyedLists) → node_at key lists ≡ Some node → IsSome (node_at key lists)
-is_used key node lists e = rw e refl
 
 -- the list in which it is alone is that in which the old one was
 pub alone_before : (key : ℕ) (node : Node) (old mid : KeyedLists) (emptied : Option ℕ) → SetsNode key node old mid

@@ -2,19 +2,11 @@
 use Rattle.std.proofs.Common.{ℕ, List, sym, ◌∙◌, ap}
 use Rattle.timer_base.specs.TickLaws.{after_ticks-with_room}
 use Rattle.timer_base.specs.declared.timer.Timer.{Timer}
-use Rattle.timer_base.specs.WakeUps.{IsWakeUp}
 use Rattle.timer_base.specs.WheelState.{WheelState, with_room}
 use Rattle.timer_links.specs.Lists.{KeyedLists}
 use Rattle.timer_wheels.specs.Hashed.{IsNextSweep}
 use Rattle.timer_wheels.specs.Leap.{Leaps}
 use Rattle.timer_wheels.specs.Shown.{ShowsBuckets}
-
-pub wake_up-with_room : (room tick : ℕ) (w : WheelState) → IsWakeUp tick w → IsWakeUp tick (with_room room w)
-wake_up-with_room room tick w h = record {
-  some = h.some;
-  later = h.later;
-  in_time = h.in_time;
-}
 
 pub next_sweep-with_room : (room n tick : ℕ) (w : WheelState) → IsNextSweep n tick w → IsNextSweep n tick (with_room room w)
 next_sweep-with_room room n tick w h = record {

@@ -1,9 +1,13 @@
 -- Rows and lists of rows, and the rows of the first n lists after a change.
 use Rattle.std.proofs.Common.{◌≡◌, ◌≢◌, ◌<◌, ◌≤◌, ◌+◌, ℕ, zero, suc, ◌==◌, List, [], ◌∷◌, ◌++◌, length, refl, sym, ◌∙◌, ap, inl, inr, arith, append_assoc, Bool, map, filter, not, slice_set, length-append}
 use Rattle.std.specs.List.{AllByRecursion}
+use Rattle.std.proofs.lemmas.List.{map-append}
+pub use Rattle.std.proofs.lemmas.List.{append-nil, set-set as set_twice, set_comm as set_swapped}
+pub use Rattle.std.proofs.lemmas.List.Elements.{filter-append}
 use Rattle.timer_base.specs.Basics.{either}
 use Rattle.timer_base.specs.declared.timer.Timer.{Timer}
 use Rattle.timer_base.specs.Order.{AreBelow, AreDistinct, IsNotAmong}
+use Rattle.timer_base.specs.OrderLaws.{All-weaken}
 use Rattle.timer_base.specs.Pending.{Entry}
 use Rattle.timer_links.specs.Lists.{list_at, with_row, without_key, KeyedLists, Row, Rows}
 use Rattle.timer_wheels.specs.BucketLists.{timer_in, timers_in, entry_of, entries_of, rows_below}
@@ -101,23 +105,12 @@ rows_below-inserted n l row before after lists h b e =
           ∙ sym (append_assoc a.front before (row ∷ (after ++ a.rest))));
     }
 
-pub append-nil : {X : Type 0} (xs : List X) → xs ++ [] ≡ xs
-append-nil [] = refl
-append-nil (x ∷ xs) = ap (λ r. x ∷ r) (append-nil xs)
-
 -- a row is pushed to the back of one list
 pub rows_below-with_row : (n l : ℕ) (row : Row) (lists : KeyedLists) → l < n → l < length lists
     → IsInserted row (rows_below n lists) (rows_below n (with_row l row lists))
 rows_below-with_row n l row lists h b = rows_below-inserted n l row (list_at l lists) [] lists h b (sym (append-nil (list_at l lists)))
 
 -- A row is removed.
-
-pub filter-append : {X : Type 0} (p : X → Bool) (xs ys : List X) → filter p (xs ++ ys) ≡ filter p xs ++ filter p ys
-filter-append p [] ys = refl
-filter-append p (x ∷ xs) ys = elim (either (p x)) [
-  | inl k ↦ rw k (ap (λ r. x ∷ r) (filter-append p xs ys))
-  | inr k ↦ rw k (filter-append p xs ys)
-]
 
 pub rows_below-without_key : (n key : ℕ) (lists : KeyedLists)
     → rows_below n (map (without_key key) lists) ≡ without_key key (rows_below n lists)
@@ -134,12 +127,10 @@ list_at-without_key (suc s) key (x ∷ xs) = list_at-without_key s key xs
 -- Rows, entries and timers.
 
 pub timers-append : (xs ys : Rows) → timers_in (xs ++ ys) ≡ timers_in xs ++ timers_in ys
-timers-append [] ys = refl
-timers-append (x ∷ xs) ys = ap (λ r. timer_in x ∷ r) (timers-append xs ys)
+timers-append xs ys = map-append timer_in xs ys
 
 pub entries-append : (xs ys : Rows) → entries_of (xs ++ ys) ≡ entries_of xs ++ entries_of ys
-entries-append [] ys = refl
-entries-append (x ∷ xs) ys = ap (λ r. entry_of x ∷ r) (entries-append xs ys)
+entries-append xs ys = map-append entry_of xs ys
 
 pub filter-entries : (p : Entry → Bool) (rows : Rows)
     → filter p (entries_of rows) ≡ entries_of (filter (λ r. p (entry_of r)) rows)
@@ -156,32 +147,17 @@ pub AreBelow-timers : (high : ℕ) (rows : Rows) → AllByRecursion (λ row. (ti
 AreBelow-timers high [] a = tt
 AreBelow-timers high (x ∷ xs) a = (a.0, AreBelow-timers high xs a.1)
 
-pub IsNotAmong-append : (serial : ℕ) (xs ys : List Timer) → IsNotAmong serial xs → IsNotAmong serial ys → IsNotAmong serial (xs ++ ys)
-IsNotAmong-append serial [] ys a b = b
-IsNotAmong-append serial (x ∷ xs) ys a b = (a.0, IsNotAmong-append serial xs ys a.1 b)
-
-pub IsNotAmong-front : (serial : ℕ) (xs ys : List Timer) → IsNotAmong serial (xs ++ ys) → IsNotAmong serial xs
-IsNotAmong-front serial [] ys a = tt
-IsNotAmong-front serial (x ∷ xs) ys a = (a.0, IsNotAmong-front serial xs ys a.1)
-
-pub IsNotAmong-rest : (serial : ℕ) (xs ys : List Timer) → IsNotAmong serial (xs ++ ys) → IsNotAmong serial ys
-IsNotAmong-rest serial [] ys a = a
-IsNotAmong-rest serial (x ∷ xs) ys a = IsNotAmong-rest serial xs ys a.1
-
 pub IsNotAmong-below : (high : ℕ) (ts : List Timer) → AreBelow high ts → IsNotAmong high ts
-IsNotAmong-below high [] b = tt
-IsNotAmong-below high (t ∷ ts) b = (
-  (λ e. let b0 : t.serial < high = b.0 in let e0 : t.serial ≡ high = e
-      in omega arith),
-  IsNotAmong-below high ts b.1,
-)
+IsNotAmong-below high ts b = All-weaken (λ t. t.serial < high) (λ t. t.serial ≢ high) ts
+    (λ t h e. let below : t.serial < high = h in let same : t.serial ≡ high = e in omega arith) b
 
 -- a timer with a distinct serial may be inserted anywhere
 pub AreDistinct-inserted : (t : Timer) (xs ys : List Timer) → IsNotAmong t.serial (xs ++ ys) → AreDistinct (xs ++ ys)
     → AreDistinct (xs ++ t ∷ ys)
 AreDistinct-inserted t [] ys n d = (n, d)
 AreDistinct-inserted t (x ∷ xs) ys n d = (
-  IsNotAmong-append x.serial xs (t ∷ ys) (IsNotAmong-front x.serial xs ys d.0) ((λ e. n.0 (sym e)), IsNotAmong-rest x.serial xs ys d.0),
+  all-append (λ u. u.serial ≢ x.serial) xs (t ∷ ys) (all-front (λ u. u.serial ≢ x.serial) xs ys d.0)
+      ((λ e. n.0 (sym e)), all-rest (λ u. u.serial ≢ x.serial) xs ys d.0),
   AreDistinct-inserted t xs ys n.1 d.1,
 )
 
@@ -189,14 +165,15 @@ AreDistinct-inserted t (x ∷ xs) ys n d = (
 pub AreDistinct-taken : (t : Timer) (xs ys : List Timer) → AreDistinct (xs ++ t ∷ ys) → AreDistinct (xs ++ ys)
 AreDistinct-taken t [] ys d = d.1
 AreDistinct-taken t (x ∷ xs) ys d = (
-  IsNotAmong-append x.serial xs ys (IsNotAmong-front x.serial xs (t ∷ ys) d.0) (IsNotAmong-rest x.serial xs (t ∷ ys) d.0).1,
+  all-append (λ u. u.serial ≢ x.serial) xs ys (all-front (λ u. u.serial ≢ x.serial) xs (t ∷ ys) d.0)
+      (all-rest (λ u. u.serial ≢ x.serial) xs (t ∷ ys) d.0).1,
   AreDistinct-taken t xs ys d.1,
 )
 
 -- no other of the timers has its serial
 pub IsNotAmong-others : (t : Timer) (xs ys : List Timer) → AreDistinct (xs ++ t ∷ ys) → IsNotAmong t.serial (xs ++ ys)
 IsNotAmong-others t [] ys d = d.0
-IsNotAmong-others t (x ∷ xs) ys d = ((λ e. (IsNotAmong-rest x.serial xs (t ∷ ys) d.0).0 (sym e)), IsNotAmong-others t xs ys d.1)
+IsNotAmong-others t (x ∷ xs) ys d = ((λ e. (all-rest (λ u. u.serial ≢ x.serial) xs (t ∷ ys) d.0).0 (sym e)), IsNotAmong-others t xs ys d.1)
 
 -- one more list
 pub rows_below-more : (n : ℕ) (lists : KeyedLists) → n < length lists → rows_below (suc n) lists ≡ rows_below n lists ++ list_at n lists
@@ -214,20 +191,6 @@ timers_below-more n lists old new h a b =
     b ∙ (ap (λ (y : List Timer). y ++ timers_in (list_at n lists)) a
     ∙ (sym (timers-append (rows_below n lists) (list_at n lists))
     ∙ ap timers_in (sym (ap (λ (y : ℕ). rows_below y lists) e ∙ rows_below-more n lists h))))
-
-pub set_twice : (v : KeyedLists) (i : ℕ) (a b : Rows) → slice_set (slice_set v i a) i b ≡ slice_set v i b
-set_twice [] i a b = refl
-set_twice (x ∷ xs) zero a b = refl
-set_twice (x ∷ xs) (suc i) a b = ap (λ (y : KeyedLists). x ∷ y) (set_twice xs i a b)
-
-pub set_swapped : (v : KeyedLists) (i j : ℕ) (a b : Rows) → i ≢ j
-    → slice_set (slice_set v i a) j b ≡ slice_set (slice_set v j b) i a
-set_swapped [] i j a b n = refl
-set_swapped (x ∷ xs) zero zero a b n = absurd (n refl)
-set_swapped (x ∷ xs) zero (suc j) a b n = refl
-set_swapped (x ∷ xs) (suc i) zero a b n = refl
-set_swapped (x ∷ xs) (suc i) (suc j) a b n = ap (λ (y : KeyedLists). x ∷ y)
-    (set_swapped xs i j a b (λ (e : i ≡ j). n (ap (λ (k : ℕ). suc k) e)))
 
 pub all-entries : (P : Entry → Type 0) (rows : Rows) → AllByRecursion (λ row. P (entry_of row)) rows
     → AllByRecursion P (entries_of rows)

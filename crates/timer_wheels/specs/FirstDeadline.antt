@@ -19,6 +19,10 @@ deadline_count deadline (t ∷ ts) = has_deadline deadline t + deadline_count de
 abbrev pub unknown_first : First
 unknown_first = record { bound = 0; count = 0 }
 
+-- there is no timer: any deadline is at most the bound
+abbrev pub no_first : First
+no_first = record { bound = 18446744073709551615; count = 0 }
+
 -- none of the timers is earlier than the bound, and so many of them have it
 pub record IsFirstOf (first : First) (timers : List Timer) : Type 0 where
   pub none_earlier : AllByRecursion (λ t. first.bound ≤ t.deadline) timers

@@ -1,12 +1,13 @@
 -- The first deadline of each bucket above the lowest wheel.
-use Rattle.std.specs.Prelude.{◌≡◌, ◌≢◌, ◌<◌, ◌≤◌, ℕ, List, [], ◌∷◌, ◌++◌, length, min, replicate, slice_index_or, Bool, true, false}
+use Rattle.std.specs.Prelude.{◌≡◌, ◌≢◌, ◌<◌, ◌≤◌, ℕ, List, [], ◌∷◌, ◌++◌, zero, suc, ◌⊎◌, length, min, replicate, slice_index_or, Bool, true, false}
 use Rattle.std.specs.Coded.{Π_prop}
 use Rattle.std.proofs.Props.{props}
 use Rattle.timer_base.specs.declared.timer.Timer.{Timer}
 use Rattle.timer_links.specs.Lists.{list_at, KeyedLists}
 use Rattle.timer_wheels.specs.BucketLists.{timers_in}
 use Rattle.timer_wheels.specs.declared.first.First.{First}
-use Rattle.timer_wheels.specs.FirstDeadline.{unknown_first, IsFirstOf, IsFirstOf-prop}
+use Rattle.timer_wheels.specs.FirstDeadline.{unknown_first, no_first, IsFirstOf, IsFirstOf-prop}
+use Rattle.timer_wheels.specs.Occupied.{bit_of}
 
 -- that of list s
 abbrev pub first_at : ℕ → List First → First
@@ -21,6 +22,17 @@ firsts_kept false firsts = replicate (length firsts) unknown_first
 pub record ChangesOne (l : ℕ) (old new : List First) : Type 0 where
   pub size : length new ≡ length old
   pub others : (s : ℕ) → s ≢ l → first_at s new ≡ first_at s old
+
+-- as first deadlines begin to be kept, by the bucket's bit: none if it is clear, and unknown if it is set
+abbrev pub begun_first : ℕ → First
+begun_first zero = no_first
+begun_first (suc n) = unknown_first
+
+-- but for one list, each is as it was, or none where the bucket's bit is clear
+pub record Keeps (words : List ℕ) (l : ℕ) (old new : List First) : Type 0 where
+  pub size : length new ≡ length old
+  pub others : (s : ℕ) → s ≢ l
+      → (first_at s new ≡ first_at s old) ⊎ ((bit_of words s ≡ 0) × (first_at s new ≡ no_first))
 
 -- a timer with this deadline came to the back of a list, of which one is kept if it is not below `lowest`
 pub record Enters (lowest l deadline : ℕ) (old new : List First) : Type 0 where

@@ -1,16 +1,9 @@
 -- The next visit of a bucket in a hierarchy of wheels (the tick that empties it), and leaps of its clock.
-use Rattle.std.specs.Prelude.{◌≡◌, ℕ, ◌+◌, ◌-◌, ◌*◌, ◌/◌, ◌<◌, ◌≤◌, nat_lt, zero, suc, ◌==◌, ◌⊎◌, if◌then◌else◌, List, [], ◌∷◌, length, Option, MatchOption}
+use Rattle.std.specs.Prelude.{◌≡◌, ℕ, ◌+◌, ◌-◌, ◌*◌, ◌/◌, ◌<◌, ◌≤◌, nat_lt, ◌==◌, ◌⊎◌, if◌then◌else◌, List, [], ◌∷◌, length}
 use Rattle.timer_base.specs.WheelState.{WheelState, after_ticks}
 use Rattle.timer_links.specs.Lists.{KeyedLists}
 use Rattle.timer_wheels.specs.BucketLists.{timer_in, EachRow}
 use Rattle.timer_wheels.specs.Placement.{hops_of, levels_of}
-
--- now with s as its digit k, and zeros below: the next visit of slot s of wheel k, if that holds a pending
--- timer
-abbrev pub slot_visit : List ℕ → ℕ → ℕ → ℕ → ℕ
-slot_visit [] k s now = now
-slot_visit (r ∷ rs) zero s now = r * (now / r) + s
-slot_visit (r ∷ rs) (suc k) s now = r * slot_visit rs k s (now / r)
 
 -- the next visit of the bucket of a pending timer: its deadline, with zeros below its level
 abbrev pub timer_visit : List ℕ → ℕ → ℕ → ℕ
@@ -18,7 +11,8 @@ timer_visit [] now deadline = deadline
 timer_visit (r ∷ rs) now deadline = if (now / r) == (deadline / r) then deadline else r * timer_visit rs
     (now / r) (deadline / r)
 
--- the same of a list: its next visit, if it holds a pending timer
+-- the same of a list: now with the list's slot as the digit of its wheel, and zeros below, which is its next visit if it
+-- holds a pending timer
 abbrev pub list_visit : List ℕ → ℕ → ℕ → ℕ
 list_visit [] l now = now
 list_visit (r ∷ rs) l now = if nat_lt l r then r * (now / r) + l else r * list_visit rs (l - r) (now / r)
@@ -27,12 +21,6 @@ list_visit (r ∷ rs) l now = if nat_lt l r then r * (now / r) + l else r * list
 abbrev pub AreNotVisitedBefore : List ℕ → ℕ → ℕ → ℕ → KeyedLists → Type 0
 AreNotVisitedBefore table n now visit lists = EachRow (λ s row. visit
     ≤ timer_visit table now (timer_in row).deadline) n lists
-
--- the same of a tick that is found, and of every tick if none is
-abbrev pub IsVisitBound : List ℕ → ℕ → ℕ → Option ℕ → KeyedLists → Type 0
-IsVisitBound table n now found lists =
-    MatchOption found ((visit : ℕ) → AreNotVisitedBefore table n now visit lists)
-    (λ visit. AreNotVisitedBefore table n now visit lists)
 
 -- the first tick ahead at which a timer is due or moves to a lower wheel
 pub record IsNextVisit (table : List ℕ) (tick : ℕ) (w : WheelState) : Type 0 where

@@ -14,6 +14,7 @@ pub mod Occupied
 pub mod Leap
 pub mod Hier
 pub mod Tables
+pub mod TableNumbers
 pub mod HierWheel
 pub mod Deadlines
 pub mod FirstDeadline

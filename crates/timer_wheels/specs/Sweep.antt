@@ -1,22 +1,21 @@
 -- The lists of a hashed wheel after one bucket is swept.
-use Rattle.std.specs.Prelude.{ℕ, ◌-◌, ◌==◌, if◌then◌else◌, [], ◌∷◌, ◌++◌, slice_set}
-use Rattle.timer_links.specs.Lists.{list_at, KeyedLists, Rows}
+use Rattle.std.specs.Prelude.{ℕ, ◌==◌, Bool, not, map, filter, ◌++◌, slice_set, []}
+use Rattle.timer_links.specs.Lists.{list_at, KeyedLists, Row, Rows}
+use Rattle.timer_wheels.specs.Revolutions.{with_fewer_rounds}
+
+abbrev pub has_no_rounds : Row → Bool
+has_no_rounds row = row.1.rounds == 0
+
+abbrev pub has_rounds : Row → Bool
+has_rounds row = not (has_no_rounds row)
 
 -- the rows with no rounds left
 abbrev pub due_now : Rows → Rows
-due_now [] = []
-due_now (row ∷ rows) = if row.1.rounds == 0 then row ∷ due_now rows else due_now rows
+due_now rows = filter has_no_rounds rows
 
 -- the other rows, each with one round fewer
 abbrev pub due_later : Rows → Rows
-due_later [] = []
-due_later (row ∷ rows) = if row.1.rounds == 0 then due_later rows else (
-  row.0,
-  record row.1 {
-    rounds =
-        row.1.rounds - 1;
-  },
-) ∷ due_later rows
+due_later rows = map (with_fewer_rounds 1) (filter has_rounds rows)
 
 -- the lists after these rows of one list were swept, and those were not yet
 abbrev pub half_swept : ℕ → ℕ → Rows → Rows → KeyedLists → KeyedLists

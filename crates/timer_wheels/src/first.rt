@@ -14,7 +14,7 @@
 ghost use Rattle.std.specs.Prelude.{◌≡◌, ◌<◌, ◌∷◌, ◌++◌, [], List, min};
 ghost use Rattle.timer_base.specs.declared.timer.Timer.{Timer};
 ghost use Rattle.timer_wheels.specs.Deadlines.{IsLeastDeadline};
-ghost use Rattle.timer_wheels.specs.FirstDeadline.{unknown_first, IsFirstOf, IsKnownOf};
+ghost use Rattle.timer_wheels.specs.FirstDeadline.{unknown_first, no_first, IsFirstOf, IsKnownOf};
 
 /// A lower bound of the deadlines in a bucket, and how many timers have it.
 #[derive(Clone, Copy, Drop)]
@@ -31,6 +31,7 @@ impl First {
     pub fn none() -> First
         ensures none { IsFirstOf result [] }
         ensures bound { result.bound ≡ 18446744073709551615 }
+        ensures exact { result ≡ no_first }
     {
         First {
             bound: u64::MAX,

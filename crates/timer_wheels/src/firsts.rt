@@ -5,14 +5,18 @@
 //! kept of it. A tick changes that of the bucket that it empties and of the buckets that its timers move to.
 //!
 //! They are kept from the first one on that a walk of `find_next` finds. Until then none is known, and a timer that comes or
-//! leaves pays for no more than to see that: a stop would have to find its bucket.
+//! leaves pays for no more than to see that: a stop would have to find its bucket. A bucket that is empty as this
+//! begins is known at once, and each of the others once it is walked.
 ghost use Rattle.std.specs.Prelude.{◌≡◌, ◌<◌, ◌≤◌, [], ℕ, IfOk, length};
+ghost use Rattle.timer_wheels.specs.declared.table.TheConstants.{MOST_BUCKETS};
 ghost use Rattle.timer_wheels.specs.Digits.{bucket, slots, last_of, lowest_radix};
 ghost use Rattle.timer_wheels.specs.FirstDeadline.{IsFirstOf};
-ghost use Rattle.timer_wheels.specs.Firsts.{first_at, ChangesOne, Enters, Leaves, Empties};
+ghost use Rattle.timer_wheels.specs.Firsts.{first_at, begun_first, Keeps, Enters, Leaves, Empties};
+ghost use Rattle.timer_wheels.specs.Occupied.{bit_of};
 ghost use Rattle.timer_wheels.specs.Tables.{radices};
 
 use crate::first::First;
+use crate::occupied::Occupied;
 use crate::table::{Table, bucket_of, lowest_slots};
 use std::alloc::Global;
 use std::marker::Model;
@@ -61,14 +65,15 @@ impl Firsts {
         }
     }
 
-    /// Keeps that of a bucket, which was found by a walk. From then on all are kept.
-    pub fn keep(&mut self, list: usize, first: First)
-        requires { list < length self.old }
+    /// Keeps that of a bucket, which was found by a walk. From then on all are kept. A bucket without a bit is empty.
+    pub fn keep(&mut self, occupied: &Occupied, list: usize, first: First)
+        requires list { list < length self.old }
+        requires few { length self.old ≤ MOST_BUCKETS }
         ensures here { first_at list self.new ≡ first }
-        ensures one { ChangesOne list self.old self.new }
+        ensures others { Keeps occupied.now list self.old self.new }
     {
         if !self.is_kept {
-            self.firsts.fill(First::unknown());
+            begin(self.firsts.as_mut_slice(), occupied);
             self.is_kept = true;
         }
         self.firsts[list] = first;
@@ -127,6 +132,23 @@ impl Firsts {
         if self.is_kept {
             self.firsts.fill(First::none());
         }
+    }
+}
+
+/// Those of all buckets, before one is walked: an empty bucket has none, and of the others nothing is known.
+fn begin(firsts: &mut [First], occupied: &Occupied)
+    requires { length firsts.old ≤ MOST_BUCKETS }
+    ensures size { length firsts.new ≡ length firsts.old }
+    ensures each { (s : ℕ) → s < length firsts.old
+        → first_at s firsts.new ≡ begun_first (bit_of occupied.now s) }
+{
+    for list in 0..firsts.len() {
+        let is_empty = !occupied.has(list);
+        firsts[list] = if is_empty {
+            First::none()
+        } else {
+            First::unknown()
+        };
     }
 }
 

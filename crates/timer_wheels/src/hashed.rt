@@ -216,7 +216,7 @@ impl Wheel for HashedWheel {
     /// before it is looked at.
     fn quiet_until(&self) -> Option<u64>
         ensures next { IfSome result (λ tick. IsNextSweep (slots_of self.now) tick (hashed_state self.now)) }
-        ensures quiet { IsQuietUntil result (hashed_state self.now) }
+        ensures quiet { IsQuietUntil result (hashed_state self.now).now (hashed_state self.now).pending }
         ensures exact { result ≡ earliest_sweep (hashed_state self.now).slots (hashed_state self.now).now
             (hashed_state self.now).pending }
     {

@@ -307,7 +307,7 @@ impl Wheel for HierWheel {
     fn quiet_until(&self) -> Option<u64>
         ensures next { IfSome result (λ tick. IsNextVisit (radices (table_of self.now)) tick
             (hier_state self.now)) }
-        ensures quiet { IsQuietUntil result (hier_state self.now) }
+        ensures quiet { IsQuietUntil result (hier_state self.now).now (hier_state self.now).pending }
         ensures exact { result ≡ next_visit (radices_by_slots (hier_state self.now).slots)
             (hier_state self.now).now (hier_state self.now).pending }
     {

@@ -3,7 +3,7 @@
 //! A bucket with a timer is emptied next at the tick that has the bucket's digit in place of now's, and
 //! zeros below it. The first of these ticks is that of the first bucket with a timer. Up to it nothing
 //! moves and nothing is due, so the clock alone advances. Such a tick is the visit of its bucket.
-ghost use Rattle.std.specs.Prelude.{◌≡◌, ◌+◌, ◌-◌, ◌*◌, ◌<◌, ◌≤◌, ℕ, [], MatchOption};
+ghost use Rattle.std.specs.Prelude.{◌≡◌, ◌+◌, ◌-◌, ◌*◌, ◌<◌, ◌≤◌, []};
 ghost use Rattle.std.specs.Option.{IfSome};
 ghost use Rattle.timer_base.specs.declared.limits.TheConstants.{LAST};
 ghost use Rattle.timer_base.specs.WakeUps.{IsQuietUntil};
@@ -14,7 +14,7 @@ ghost use Rattle.timer_wheels.specs.Tables.{radices};
 ghost use Rattle.timer_wheels.specs.Placement.{visited_between, most_moves};
 ghost use Rattle.timer_wheels.specs.Buckets.{state_of};
 ghost use Rattle.timer_wheels.specs.Hier.{potential};
-ghost use Rattle.timer_wheels.specs.Leap.{AreNotVisitedBefore, IsVisitBound, IsNextVisit, Leaps};
+ghost use Rattle.timer_wheels.specs.Leap.{AreNotVisitedBefore, IsNextVisit, Leaps};
 ghost use Rattle.timer_wheels.specs.WakeUps.{next_visit};
 
 use crate::table::{Table, is_rollover, revolutions, visit_of};
@@ -57,38 +57,26 @@ impl Wheels {
         ensures end { self.new.buckets.tick ≤ end }
         ensures table { self.new.table ≡ self.old.table }
     {
-        let visit = self.next_visit(end);
+        let Some(list) = self.occupied.first() else {
+            self.skip_to(end);
+            return 0;
+        };
+        let visit = visit_of(self.table, list, self.buckets.tick);
         if end < visit {
             self.skip_to(end);
             0
         } else {
             self.skip_to(visit - 1);
-            self.next_tick()
-        }
-    }
-
-    /// The next visit of a bucket with a timer, or the tick after the end if no bucket has one.
-    fn next_visit(&self, end: u64) -> u64
-        requires before_end { self.now.buckets.tick < end }
-        requires end { end ≤ self.now.buckets.last_tick }
-        ensures later { self.now.buckets.tick < result }
-        ensures not_before { AreNotVisitedBefore (radices self.now.table) self.now.buckets.slots
-            self.now.buckets.tick result self.now.buckets.links.lists }
-    {
-        match self.first_visit() {
-            Some(visit) => visit,
-            None => end + 1,
+            self.visit_next(list)
         }
     }
 
     /// The next visit of a bucket with a timer, or None if no bucket has one.
     #[inline]
     pub fn first_visit(&self) -> Option<u64>
-        ensures quiet { IsQuietUntil result (state_of self.now.buckets) }
+        ensures quiet { IsQuietUntil result self.now.buckets.tick (state_of self.now.buckets).pending }
         ensures next { IfSome result (λ tick. IsNextVisit (radices self.now.table) tick
             (state_of self.now.buckets)) }
-        ensures not_before { IsVisitBound (radices self.now.table) self.now.buckets.slots
-            self.now.buckets.tick result self.now.buckets.links.lists }
         ensures exact { result ≡ next_visit (radices self.now.table) self.now.buckets.tick
             (state_of self.now.buckets).pending }
     {

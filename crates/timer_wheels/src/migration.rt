@@ -111,12 +111,10 @@ fn migrate_one_by_one(
     ensures foretold { AreFirsts (lowest_radix (radices table)) (slots (radices table)) firsts.new links.new.lists }
 {
     let due = buckets_of(table);
+    links.lemma_countable();
     let mut moves = 0;
     let mut ahead = front_deadline(links, list);
-    for step in 0..links.len() {
-        let Some(deadline) = ahead else {
-            break;
-        };
+    while let Some(deadline) = ahead {
         // Read before this timer moves: its node is on its way from memory by then.
         ahead = next_deadline(links, list);
         if deadline == tick {

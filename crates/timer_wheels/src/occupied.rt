@@ -20,6 +20,9 @@ const WORD_BITS: usize = 64;
 /// How many words hold a bit for each bucket of the largest table.
 const WORDS: usize = MOST_BUCKETS / WORD_BITS;
 
+// The words are whole: with a rest, the last buckets would have no bit.
+const _: () = prove!(MOST_BUCKETS % WORD_BITS == 0);
+
 /// A bit for each bucket.
 #[derive(Drop)]
 pub struct Occupied {

@@ -11,7 +11,7 @@ ghost use Rattle.timer_base.specs.declared.limits.TheConstants.{LAST};
 ghost use Rattle.timer_base.specs.WakeUps.{next_deadline};
 ghost use Rattle.timer_base.specs.WheelState.{empty_wheel, held_at, held_count, old_timer, after_held_start, after_removal, after_replacement, after_tick, after_clear};
 ghost use Rattle.timer_wheels.specs.Buckets.{state_of, IsListOf};
-ghost use Rattle.timer_wheels.specs.Digits.{bucket, slots, last_of, lowest_radix};
+ghost use Rattle.timer_wheels.specs.Digits.{bucket, emptied, slots, last_of, lowest_radix};
 ghost use Rattle.timer_wheels.specs.Firsts.{first_at};
 ghost use Rattle.timer_wheels.specs.Tables.{radices};
 ghost use Rattle.timer_wheels.specs.Hier.{IsHier, IsHier-prop, HasFirsts, HasFirsts-prop, Comes, Goes, potential};
@@ -100,6 +100,7 @@ impl Wheels {
         ensures err { OnErr result (state_of self.new.buckets ≡ state_of self.old.buckets) }
         ensures table { self.new.table ≡ self.old.table }
     {
+        let tick = self.buckets.tick;
         let list = self.list_of(timer.deadline);
         let handle = self.buckets.start(list, timer, 0)?;
         self.buckets.lemma_countable();
@@ -107,7 +108,7 @@ impl Wheels {
             self.table,
             &mut self.occupied,
             &mut self.firsts,
-            self.buckets.tick,
+            tick,
             timer.deadline,
             list,
         );
@@ -149,6 +150,7 @@ impl Wheels {
         ensures table { self.new.table ≡ self.old.table }
     {
         self.buckets.links.lemma_keys_unique();
+        let tick = self.buckets.tick;
         let list = self.list_of(timer.deadline);
         let (restarted, emptied) = self.buckets.replace(handle, list, timer, 0)?;
         let (_made, old) = restarted;
@@ -156,7 +158,7 @@ impl Wheels {
             self.table,
             &mut self.occupied,
             &mut self.firsts,
-            self.buckets.tick,
+            tick,
             old.deadline,
             emptied,
         );
@@ -165,7 +167,7 @@ impl Wheels {
             self.table,
             &mut self.occupied,
             &mut self.firsts,
-            self.buckets.tick,
+            tick,
             timer.deadline,
             list,
         );
@@ -187,8 +189,27 @@ impl Wheels {
             ≤ potential self.old.table self.old.buckets }
         ensures table { self.new.table ≡ self.old.table }
     {
+        let list = emptied_at(self.table, self.buckets.tick + 1);
+        self.visit_next(list)
+    }
+
+    /// Advances to the next tick, which empties this bucket.
+    ///
+    /// Returns how many timers went to a lower wheel. Does not allocate.
+    #[inline(always)]
+    pub fn visit_next(&mut self, list: usize) -> u64
+        requires nothing_due { (state_of self.old.buckets).due ≡ [] }
+        requires before_last { self.old.buckets.tick < self.old.buckets.last_tick }
+        requires emptied { list ≡ emptied (radices self.old.table) (self.old.buckets.tick + 1) }
+        requires in_range { list < slots (radices self.old.table) }
+        ensures ticked { state_of self.new.buckets ≡ after_tick (state_of self.old.buckets) }
+        ensures moves { result ≡ hops_of (radices self.old.table) self.old.buckets.tick 1
+            (state_of self.old.buckets).pending }
+        ensures falls { result + potential self.old.table self.new.buckets
+            ≤ potential self.old.table self.old.buckets }
+        ensures table { self.new.table ≡ self.old.table }
+    {
         let tick = self.buckets.tick + 1;
-        let list = emptied_at(self.table, tick);
         let buckets = &mut self.buckets;
         let moves = empty_bucket(
             self.table,
@@ -231,7 +252,7 @@ impl Wheels {
             return Some(visit_of(self.table, list, self.buckets.tick));
         }
         let first = self.first_of(list);
-        self.firsts.keep(list, first);
+        self.firsts.keep(&self.occupied, list, first);
         first.known()
     }
 

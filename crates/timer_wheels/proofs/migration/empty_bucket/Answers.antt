@@ -1,14 +1,11 @@
-use Rattle.std.proofs.Common.{◌+◌, ◌≡◌, ◌<◌, ◌≤◌, ℕ, length, sym, ◌∙◌, ap, arith}
+use Rattle.std.proofs.Common.{◌+◌, ◌≡◌, ◌<◌, ℕ, length, sym, ◌∙◌, ap, arith}
 use Rattle.timer_links.specs.Lists.{list_at, Rows}
-use Rattle.timer_wheels.specs.declared.table.TheConstants.{MOST_BUCKETS}
 use Rattle.timer_wheels.specs.Digits.{slots, lowest_radix}
 use Rattle.timer_wheels.specs.Tables.{radices}
 use Rattle.timer_wheels.proofs.MigrationLoop.{append_whole, none_left_over}
-use Rattle.timer_wheels.proofs.TableLaws.{of_table, below}
+use Rattle.timer_wheels.proofs.TableLaws.{below}
+use Rattle.timer_wheels.proofs.WheelUpdates.{in_word}
 use Rattle.timer_wheels.proofs.migration.empty_bucket.Goals as goal
-
-in_word : (l n : ℕ) → l < n → n ≤ MOST_BUCKETS → l < MOST_BUCKETS
-in_word l n a b = omega arith
 
 in_lists : (l n k : ℕ) → l < n → k ≡ n + 1 → l < k
 in_lists l n k a b = omega arith
@@ -17,7 +14,7 @@ pub is_empty-requires : goal.is_empty-requires
 is_empty-requires c = in_lists c.args.list (slots (radices c.args.table)) (length c.args.links.now.lists) c.requires.list c.requires.lists
 
 pub remove-requires : goal.remove-requires
-remove-requires c = in_word c.args.list (slots (radices c.args.table)) c.requires.list (of_table c.args.table).few_slots
+remove-requires c = in_word c.args.table c.args.list c.requires.list
 
 pub returns-then-list-lowest_slots-clause-migrated : goal.returns-then-list-lowest_slots-clause-migrated
 returns-then-list-lowest_slots-clause-migrated c =

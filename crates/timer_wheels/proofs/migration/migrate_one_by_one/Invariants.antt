@@ -1,4 +1,4 @@
-use Rattle.std.proofs.Common.{◌≡◌, []}
+use Rattle.std.proofs.Common.{◌≡◌, [], length}
 use Rattle.timer_wheels.specs.Digits.{slots, lowest_radix}
 use Rattle.timer_wheels.specs.FirstDeadline.{IsFirstOf}
 use Rattle.timer_wheels.specs.Firsts.{first_at, AreFirstsBut}
@@ -9,9 +9,9 @@ use Rattle.timer_wheels.specs.Migration.{first_deadline}
 use Rattle.timer_wheels.proofs.MigrationLoop.{IsEmptying}
 use Rattle.timer_wheels.proofs.migration.migrate_one_by_one.Given as goal
 
-abbrev pub invariant-loop-step : goal.invariant-loop-step
-invariant-loop-step l = record {
-  emptying : IsEmptying (radices l.table) l.list l.tick l.step l.moves l.initial.links.lists l.links.lists;
+abbrev pub invariant-loop-ahead : goal.invariant-loop-ahead
+invariant-loop-ahead l = record {
+  emptying : IsEmptying (radices l.table) l.list l.tick l.moves l.initial.links.lists l.links.lists;
   room : l.links.room ≡ l.initial.links.room;
   ahead : l.ahead ≡ first_deadline (list_at l.list l.links.lists);
   clear : bit_of l.occupied l.list ≡ 0;
@@ -19,3 +19,6 @@ invariant-loop-step l = record {
   none : IsFirstOf (first_at l.list l.firsts) [];
   foretold : AreFirstsBut l.list (lowest_radix (radices l.table)) (slots (radices l.table)) l.firsts l.links.lists;
 }
+
+abbrev pub decreases-loop-ahead : goal.decreases-loop-ahead
+decreases-loop-ahead l = length (list_at l.list l.links.lists)

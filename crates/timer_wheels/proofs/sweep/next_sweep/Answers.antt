@@ -1,4 +1,4 @@
-use Rattle.timer_wheels.proofs.RoomLemmas.{wake_up-with_room, next_sweep-with_room}
+use Rattle.timer_wheels.proofs.RoomLemmas.{next_sweep-with_room}
 use Rattle.std.proofs.Common.{◌<◌, ◌≤◌, arith}
 use Rattle.timer_links.specs.Lists.{list_at}
 use Rattle.timer_wheels.proofs.WakeUpLemmas.{none_ahead, one_ahead, all_ahead, seen_filled, none_at_all, sleeps, wakes_at, sweeps_next}
@@ -22,10 +22,9 @@ pub returns-then-not-is_empty-clause-quiet : goal.returns-then-not-is_empty-clau
 returns-then-not-is_empty-clause-quiet c =
     let b = c.args.buckets.now in
     let r : c.slot_after-bucket.result < b.slots = omega (arith, c.slot_after-bucket.ensures, c.requires.has_slots) in
-    wake_up-with_room b.links.room _ _ (wakes_at b.slots b.last_tick b.tick b.last_serial c.args.slot c.loop-step.step b.links.lists
-    c.requires.slot c.loop-step.invariant
+    wakes_at b.slots b.last_tick b.tick b.last_serial c.args.slot c.loop-step.step b.links.lists c.requires.slot c.loop-step.invariant
     c.slot_after-bucket.result r (seen_filled (list_at c.slot_after-bucket.result b.links.lists) c.is_empty.result c.is_empty.ensures
-    c.if-not-is_empty.true) b.sound.pending c.requires.in_buckets)
+    c.if-not-is_empty.true) b.sound.pending c.requires.in_buckets
 
 pub returns-then-not-is_empty-clause-next : goal.returns-then-not-is_empty-clause-next
 returns-then-not-is_empty-clause-next c =

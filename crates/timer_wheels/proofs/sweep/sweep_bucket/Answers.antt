@@ -39,7 +39,7 @@ loop-step-preserved c =
           c.in-Some.key w
           c.sweep_node.new.links.lists c.step-here.result.next c.lemma_keys_unique.ensures c.sweep_node.ensures.due
           c.sweep_node.ensures.later
-          (c.step-here.ensures.next c.args.bucket (due_later w.past) w.node w.rest
+          (c.step-here.ensures.next c.args.bucket (due_later w.past) w.row.node w.row.rest
           (in_range c.args.bucket c.args.due s.step c.args.links.now.lists s.links.lists c.requires.other c.requires.bucket c.requires.due
           c.in-Some.key
           w) (standing c.args.bucket c.args.due s.step c.args.links.now.lists s.links.lists c.requires.other c.requires.bucket
@@ -52,4 +52,4 @@ returns-after-loop-step-clause-swept c =
     let s = c.loop-step in
     let a : c.len-step-end.result ≡ row_count c.args.links.now.lists = c.len-step-end.ensures in
     let b : c.len-step-end.result ≤ s.step = c.loop-step-test.false in
-    (ended_count c.args.bucket c.args.due s.step c.args.links.now.lists s.links.lists s.at s.invariant.rows (omega arith)).is
+    ended_count c.args.bucket c.args.due s.step c.args.links.now.lists s.links.lists s.at s.invariant.rows (omega arith)

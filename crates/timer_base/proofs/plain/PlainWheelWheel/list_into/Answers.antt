@@ -1,4 +1,4 @@
-use Rattle.std.proofs.Common.{◌≡◌, ◌+◌, length, sym, ◌∙◌, ap, arith, ◌++◌}
+use Rattle.std.proofs.Common.{◌≡◌, length, sym, ◌∙◌, ap, arith, ◌++◌}
 use Rattle.std.specs.Prelude.{filter}
 use Rattle.timer_base.specs.Order.{in_order, itself}
 use Rattle.timer_base.specs.OrderLaws.{AreDistinct-rising, AreRising-filter}

@@ -15,6 +15,6 @@ returns-clause-wake_up c =
     let w = plain_state s.now s.last_serial s.timers.items in
     let e : c.first_deadline.result ≡ next_deadline w.pending =
     c.first_deadline.ensures ∙ ap (first_after s.now) c.as_slice.ensures.value ∙ first_is_next s.now s.last_serial s.timers.items in
-    let P : Option ℕ → Type 0 = λ o. IsQuietUntil o w in
+    let P : Option ℕ → Type 0 = λ o. IsQuietUntil o w.now w.pending in
     subst P (sym e) (quiet_until_next w (plain_state-well_formed s.now s.last_serial s.timers.items s.now_in_range s.serial_in_range
     s.rising s.kept))

@@ -2,12 +2,12 @@ use Rattle.std.proofs.Common.{◌≡◌, ◌+◌, ℕ, [], length, refl, ◌∙�
 use Rattle.std.proofs.lemmas.List.{length-replicate}
 use Rattle.timer_links.specs.Lists.{LinksState, list_at}
 use Rattle.timer_wheels.proofs.RowLemmas.{rows_below-none}
-use Rattle.timer_wheels.proofs.BucketLemmas.{list_at-replicate}
+use Rattle.timer_links.proofs.NewLinks.{no_rows_at}
 use Rattle.timer_wheels.proofs.Updates.{emptied}
 use Rattle.timer_wheels.proofs.buckets.Buckets.new.Goals as goal
 
 at_new : (k s : ℕ) (links : LinksState) → links ≡ record { lists = replicate k []; room = 0 } → list_at s links.lists ≡ []
-at_new k s links e = ap (λ (x : LinksState). list_at s x.lists) e ∙ list_at-replicate k s
+at_new k s links e = ap (λ (x : LinksState). list_at s x.lists) e ∙ no_rows_at k s
 
 pub invariant_of-result : goal.invariant_of-result
 invariant_of-result c = record {

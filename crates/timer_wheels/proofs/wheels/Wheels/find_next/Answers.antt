@@ -1,9 +1,11 @@
-use Rattle.std.proofs.Common.{◌≡◌, ◌<◌, arith}
+use Rattle.std.proofs.Common.{◌≡◌, ◌<◌, ◌≤◌, length, arith}
 use Rattle.timer_links.specs.Lists.{list_at}
+use Rattle.timer_wheels.specs.declared.table.TheConstants.{MOST_BUCKETS}
 use Rattle.timer_wheels.specs.BucketLists.{timers_in}
-use Rattle.timer_wheels.specs.Digits.{lowest_radix}
+use Rattle.timer_wheels.specs.Digits.{lowest_radix, slots}
 use Rattle.timer_wheels.specs.Tables.{radices}
 use Rattle.timer_wheels.proofs.DeadlineLemmas.{none_is_next, first_is_next, visit_is_next}
+use Rattle.timer_wheels.proofs.TableLaws.{of_table}
 use Rattle.timer_wheels.proofs.wheels.Wheels.find_next.Goals as goal
 
 pub returns-in_default-clause-first : goal.returns-in_default-clause-first
@@ -20,3 +22,11 @@ pub returns-clause-first : goal.returns-clause-first
 returns-clause-first c = first_is_next c.args.self.now.table c.args.self.now.buckets c.args.self.now.occupied c.args.self.now.hier c.in-Some.list
     c.in-Some.ensures c.known.result (c.known.ensures (timers_in (list_at c.in-Some.list c.args.self.now.buckets.links.lists))
     c.first_of-first.ensures)
+
+pub keep-requires-clause-few : goal.keep-requires-clause-few
+keep-requires-clause-few c =
+    let w = c.args.self.now in
+    let a : length w.firsts ≡ w.buckets.slots = w.foretold.size in
+    let b : w.buckets.slots ≡ slots (radices w.table) = w.hier.has_slots in
+    let few : slots (radices w.table) ≤ MOST_BUCKETS = (of_table w.table).few_slots in
+    omega arith

@@ -1,9 +1,7 @@
-use Rattle.std.proofs.Common.{◌≡◌, ◌≤◌, arith}
-use Rattle.timer_wheels.specs.Digits.{last_of}
-use Rattle.timer_wheels.specs.Tables.{radices}
-use Rattle.timer_wheels.proofs.HierLeaps.{none_ahead, first_ahead, first_in_range, first_wakes, none_wakes}
+use Rattle.timer_wheels.proofs.HierLeaps.{first_in_range, first_wakes, none_wakes}
 use Rattle.timer_wheels.proofs.NextVisitLemmas.{first_next}
 use Rattle.timer_wheels.proofs.DeadlineLemmas.{visit_is_first, none_visited}
+use Rattle.timer_wheels.proofs.WheelUpdates.{up_to_last_of}
 use Rattle.timer_wheels.proofs.wheels.Wheels.first_visit.Goals as goal
 
 pub visit_of-requires-clause-list : goal.visit_of-requires-clause-list
@@ -13,9 +11,7 @@ visit_of-requires-clause-list c = first_in_range c.args.self.now.table c.args.se
 pub visit_of-requires-clause-now : goal.visit_of-requires-clause-now
 visit_of-requires-clause-now c =
     let b = c.args.self.now.buckets in
-    let e : b.last_tick ≡ last_of (radices c.args.self.now.table) = c.args.self.now.hier.clock in
-    let r : b.tick ≤ b.last_tick = b.sound.tick_in_range in
-    omega arith
+    up_to_last_of c.args.self.now.hier b.tick b.sound.tick_in_range
 
 pub returns-in-Some-clause-quiet : goal.returns-in-Some-clause-quiet
 returns-in-Some-clause-quiet c = first_wakes c.args.self.now.table c.args.self.now.buckets c.args.self.now.occupied c.args.self.now.hier c.in-Some.list c.visit_of.result
@@ -25,16 +21,8 @@ pub returns-in-Some-clause-next : goal.returns-in-Some-clause-next
 returns-in-Some-clause-next c = first_next c.args.self.now.table c.args.self.now.buckets c.args.self.now.occupied c.args.self.now.hier c.in-Some.list c.visit_of.result
     c.visit_of.ensures c.in-Some.ensures
 
-pub returns-in-Some-clause-not_before : goal.returns-in-Some-clause-not_before
-returns-in-Some-clause-not_before c = first_ahead c.args.self.now.table c.args.self.now.buckets c.args.self.now.occupied c.args.self.now.hier c.in-Some.list
-    c.visit_of.result c.visit_of.ensures c.in-Some.ensures
-
 pub returns-in-None-clause-quiet : goal.returns-in-None-clause-quiet
 returns-in-None-clause-quiet c = none_wakes c.args.self.now.table c.args.self.now.buckets c.args.self.now.occupied c.args.self.now.hier c.in-None.ensures
-
-pub returns-in-None-clause-not_before : goal.returns-in-None-clause-not_before
-returns-in-None-clause-not_before c = λ visit. none_ahead c.args.self.now.table c.args.self.now.buckets c.args.self.now.occupied c.args.self.now.hier visit
-    c.in-None.ensures
 
 pub returns-in-Some-clause-exact : goal.returns-in-Some-clause-exact
 returns-in-Some-clause-exact c = visit_is_first c.args.self.now.table c.args.self.now.buckets c.args.self.now.occupied c.args.self.now.hier c.in-Some.list

@@ -1,18 +1,85 @@
-use Rattle.std.proofs.Common.{sym, subst}
+use Rattle.std.proofs.Common.{◌≡◌, ◌<◌, ◌≤◌, ◌+◌, ◌-◌, ℕ, List, sym, subst, arith}
+use Rattle.timer_base.specs.OrderLaws.{All-weaken}
+use Rattle.timer_links.specs.Lists.{list_at, KeyedLists}
 use Rattle.timer_wheels.specs.declared.table.Table.{Table}
+use Rattle.timer_wheels.specs.BucketLists.{timer_in}
 use Rattle.timer_wheels.specs.Buckets.{state_of}
-use Rattle.timer_wheels.specs.Leap.{Leaps}
+use Rattle.timer_wheels.specs.Leap.{timer_visit, AreNotVisitedBefore, Leaps}
 use Rattle.timer_wheels.specs.Tables.{radices}
-use Rattle.timer_wheels.proofs.HierLeaps.{leap_and_tick}
+use Rattle.timer_wheels.proofs.HierLeaps.{leap_and_tick, none_ahead, first_ahead, first_in_range, first_later}
+use Rattle.timer_wheels.proofs.MigrationTick.{first_empties}
+use Rattle.timer_wheels.proofs.WheelUpdates.{up_to_last_of}
 use Rattle.timer_wheels.proofs.wheels.Wheels.leap_to_visit.Goals as goal
+
+sooner : (table : List ℕ) (n now visit tick : ℕ) (lists : KeyedLists) → tick ≤ visit → AreNotVisitedBefore table n now visit lists
+    → AreNotVisitedBefore table n now tick lists
+sooner table n now visit tick lists h a s k =
+    All-weaken (λ row. visit ≤ timer_visit table now (timer_in row).deadline)
+    (λ row. tick ≤ timer_visit table now (timer_in row).deadline) (list_at s lists)
+    (λ row q. let p : visit ≤ timer_visit table now (timer_in row).deadline = q in omega arith) (a s k)
+
+pub skip_to-requires-clause-not_before : goal.skip_to-requires-clause-not_before
+skip_to-requires-clause-not_before c =
+    let w = c.args.self.now in
+    none_ahead w.table w.buckets w.occupied w.hier (c.args.end + 1) c.in_default.ensures
+
+pub visit_of-visit-requires-clause-list : goal.visit_of-visit-requires-clause-list
+visit_of-visit-requires-clause-list c =
+    let w = c.args.self.now in
+    first_in_range w.table w.buckets w.occupied w.hier c.in-Some.list c.in-Some.ensures
+
+pub visit_of-visit-requires-clause-now : goal.visit_of-visit-requires-clause-now
+visit_of-visit-requires-clause-now c =
+    let b = c.args.self.now.buckets in
+    up_to_last_of c.args.self.now.hier b.tick b.sound.tick_in_range
+
+pub skip_to-requires-then-end-visit-clause-not_before : goal.skip_to-requires-then-end-visit-clause-not_before
+skip_to-requires-then-end-visit-clause-not_before c =
+    let w = c.args.self.now in
+    sooner (radices w.table) w.buckets.slots w.buckets.tick c.visit_of-visit.result (c.args.end + 1) w.buckets.links.lists
+    (let h : c.args.end < c.visit_of-visit.result = c.if-end-visit.true in omega arith)
+    (first_ahead w.table w.buckets w.occupied w.hier c.in-Some.list c.visit_of-visit.result c.visit_of-visit.ensures c.in-Some.ensures)
+
+pub overflow_sub-visit : goal.overflow_sub-visit
+overflow_sub-visit c =
+    let w = c.args.self.now in
+    let later = first_later w.table w.buckets w.occupied w.hier c.in-Some.list c.visit_of-visit.result c.visit_of-visit.ensures
+    c.in-Some.ensures in
+    omega arith
+
+pub skip_to-requires-else-end-visit-clause-later : goal.skip_to-requires-else-end-visit-clause-later
+skip_to-requires-else-end-visit-clause-later c =
+    let w = c.args.self.now in
+    let later = first_later w.table w.buckets w.occupied w.hier c.in-Some.list c.visit_of-visit.result c.visit_of-visit.ensures
+    c.in-Some.ensures in
+    omega arith
+
+pub skip_to-requires-else-end-visit-clause-not_before : goal.skip_to-requires-else-end-visit-clause-not_before
+skip_to-requires-else-end-visit-clause-not_before c =
+    let w = c.args.self.now in
+    let later = first_later w.table w.buckets w.occupied w.hier c.in-Some.list c.visit_of-visit.result c.visit_of-visit.ensures
+    c.in-Some.ensures in
+    sooner (radices w.table) w.buckets.slots w.buckets.tick c.visit_of-visit.result (c.visit_of-visit.result - 1 + 1)
+    w.buckets.links.lists (omega arith) (first_ahead w.table w.buckets w.occupied w.hier c.in-Some.list c.visit_of-visit.result
+    c.visit_of-visit.ensures c.in-Some.ensures)
+
+pub visit_next-requires-clause-emptied : goal.visit_next-requires-clause-emptied
+visit_next-requires-clause-emptied c =
+    let w = c.args.self.now in
+    let s = c.skip_to-else-end-visit in
+    let later = first_later w.table w.buckets w.occupied w.hier c.in-Some.list c.visit_of-visit.result c.visit_of-visit.ensures
+    c.in-Some.ensures in
+    let set : s.new.self.buckets.tick ≡ c.visit_of-visit.result - 1 = s.ensures.tick in
+    let tick : s.new.self.buckets.tick + 1 ≡ c.visit_of-visit.result = omega arith in
+    rw (s.ensures.table, tick) (first_empties w.hier c.in-Some.list c.visit_of-visit.result c.visit_of-visit.ensures c.in-Some.ensures)
 
 pub returns-else-end-visit-clause-leaps : goal.returns-else-end-visit-clause-leaps
 returns-else-end-visit-clause-leaps c =
     let s = c.skip_to-else-end-visit in
     let old = state_of c.args.self.now.buckets in
     let mid = state_of s.new.self.buckets in
-    let new = state_of c.next_tick.new.self.buckets in
+    let new = state_of c.visit_next.new.self.buckets in
     let P : Table → Type 0 = λ t. Leaps (radices t) 0 old mid in
-    let Q : Table → Type 0 = λ t. Leaps (radices t) c.next_tick.result old new in
-    subst Q s.ensures.table (leap_and_tick (radices s.new.self.table) c.next_tick.result old mid new (subst P (sym s.ensures.table)
-    s.ensures.leaps) s.ensures.nothing_due c.next_tick.ensures.ticked c.next_tick.ensures.moves c.next_tick.ensures.falls)
+    let Q : Table → Type 0 = λ t. Leaps (radices t) c.visit_next.result old new in
+    subst Q s.ensures.table (leap_and_tick (radices s.new.self.table) c.visit_next.result old mid new (subst P (sym s.ensures.table)
+    s.ensures.leaps) s.ensures.nothing_due c.visit_next.ensures.ticked c.visit_next.ensures.moves c.visit_next.ensures.falls)

@@ -4,7 +4,7 @@ use Rattle.timer_links.specs.Lists.{list_at}
 use Rattle.timer_wheels.specs.Tables.{radices}
 use Rattle.timer_wheels.specs.Digits.{lowest_radix}
 use Rattle.timer_wheels.proofs.FirstsLemmas.{no_firsts}
-use Rattle.timer_wheels.proofs.BucketLemmas.{list_at-replicate}
+use Rattle.timer_links.proofs.NewLinks.{no_rows_at}
 use Rattle.timer_wheels.proofs.HierLemmas.{new_placed}
 use Rattle.timer_wheels.proofs.OccupiedLemmas.{marked_none}
 use Rattle.timer_wheels.proofs.wheels.Wheels.new.Goals as goal
@@ -13,7 +13,7 @@ pub invariant_of-result : goal.invariant_of-result
 invariant_of-result c =
     let b = c.in_ok-buckets.buckets in
     let empty = λ (s : ℕ) (h : s < b.slots). ap (list_at s) c.in_ok-buckets.ensures.lists
-    ∙ list_at-replicate (c.buckets_of-slots.result + 1) s in
+    ∙ no_rows_at (c.buckets_of-slots.result + 1) s in
     record {
       hier = record {
         has_slots = c.in_ok-buckets.ensures.slots ∙ c.buckets_of-slots.ensures.value;

@@ -12,54 +12,51 @@ leave_list-requires c =
     let apart = c.lemma_keys_unique.ensures in
     let r = c.in_ok-restarted in
     let t = r.restarted.1 in
-    let tick = c.replace.ensures.frame.tick in
     let found : held_at c.args.handle (state_of w.buckets) ≡ Some t =
     sym c.replace.ensures.old ∙ ap (λ o. old_timer (replaced o)) r.was in
     let wheels = wheels_of w.hier w.foretold in
     record {
       deadline = up_to_last_of w.hier t.deadline (up_to_last wheels w.buckets.sound apart c.args.handle t found);
       size = w.foretold.size ∙ w.hier.has_slots;
-      emptied = rw tick (λ later. in_table w.hier r.emptied (emptied_in_range wheels w.buckets.sound apart c.args.handle t found
-          r.emptied r.ensures.emptied later));
-      counted = rw tick (was_counted wheels w.buckets.sound apart c.args.handle t found);
+      emptied = λ later. in_table w.hier r.emptied (emptied_in_range wheels w.buckets.sound apart c.args.handle t found
+          r.emptied r.ensures.emptied later);
+      counted = was_counted wheels w.buckets.sound apart c.args.handle t found;
     }
 
 pub enter_list-requires : goal.enter_list-requires
 enter_list-requires c =
     let w = c.args.self.now in
     let r = c.in_ok-restarted in
-    let tick = c.replace.ensures.frame.tick in
     let found : held_at c.args.handle (state_of w.buckets) ≡ Some r.restarted.1 =
     sym c.replace.ensures.old ∙ ap (λ o. old_timer (replaced o)) r.was in
     let key = c.args.handle.place in
     let to = c.list_of-list in
     let left = gone_wheels (wheels_of w.hier w.foretold) w.buckets.sound c.lemma_keys_unique.ensures c.args.handle r.restarted.1
-    found r.emptied r.ensures.emptied c.leave_list.new.occupied c.leave_list.new.firsts (rw (← tick) c.leave_list.ensures.pending)
-    (rw (← tick) c.leave_list.ensures.due) in
+    found r.emptied r.ensures.emptied c.leave_list.new.occupied c.leave_list.new.firsts c.leave_list.ensures.pending
+    c.leave_list.ensures.due in
     let P : KeyedLists → Type 0 = λ lists. row_count lists < 18446744073709551616 in
     record {
-      list = rw tick (in_slots_of w.hier to.result w.buckets.tick c.args.timer.deadline to.ensures.list);
+      list = in_slots_of w.hier to.result w.buckets.tick c.args.timer.deadline to.ensures.list;
       size = left.foretold.size ∙ w.hier.has_slots;
-      few = rw tick (come_fits left to.result (row_at key c.args.timer 0) (removed w.buckets.sound key).has_lists refl
-          c.leave_list.new.occupied c.leave_list.new.firsts to.ensures.list (subst P r.ensures.lists c.lemma_countable.ensures));
+      few = come_fits left to.result (row_at key c.args.timer 0) (removed w.buckets.sound key).has_lists refl
+          c.leave_list.new.occupied c.leave_list.new.firsts to.ensures.list (subst P r.ensures.lists c.lemma_countable.ensures);
     }
 
 pub invariant_of-self-2 : goal.invariant_of-self-2
 invariant_of-self-2 c =
     let w = c.args.self.now in
     let r = c.in_ok-restarted in
-    let tick = c.replace.ensures.frame.tick in
     let found : held_at c.args.handle (state_of w.buckets) ≡ Some r.restarted.1 =
     sym c.replace.ensures.old ∙ ap (λ o. old_timer (replaced o)) r.was in
     let key = c.args.handle.place in
     let to = c.list_of-list in
     let row = row_at key c.args.timer 0 in
     let left = gone_wheels (wheels_of w.hier w.foretold) w.buckets.sound c.lemma_keys_unique.ensures c.args.handle r.restarted.1
-    found r.emptied r.ensures.emptied c.leave_list.new.occupied c.leave_list.new.firsts (rw (← tick) c.leave_list.ensures.pending)
-    (rw (← tick) c.leave_list.ensures.due) in
+    found r.emptied r.ensures.emptied c.leave_list.new.occupied c.leave_list.new.firsts c.leave_list.ensures.pending
+    c.leave_list.ensures.due in
     let new = c.enter_list.new in
     let kept = framed w.hier c.replace.new.self new.occupied new.firsts
     (with_row to.result row (map (without_key key) w.buckets.links.lists)) c.replace.ensures.frame r.ensures.lists
     (come_wheels left to.result row (removed w.buckets.sound key).has_lists refl new.occupied new.firsts to.ensures.list
-    to.ensures.bucket (rw (← tick) c.enter_list.ensures.pending) (rw (← tick) c.enter_list.ensures.due)) in
+    to.ensures.bucket c.enter_list.ensures.pending c.enter_list.ensures.due) in
     record { hier = kept.hier; foretold = kept.foretold }

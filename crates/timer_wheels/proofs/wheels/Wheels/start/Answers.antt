@@ -11,10 +11,10 @@ enter_list-requires c =
     let row = row_at c.in_ok-handle.handle.place c.args.timer 0 in
     let P : KeyedLists → Type 0 = λ lists. row_count lists < 18446744073709551616 in
     record {
-      list = rw c.start.ensures.frame.tick (in_slots_of w.hier to.result w.buckets.tick c.args.timer.deadline to.ensures.list);
+      list = in_slots_of w.hier to.result w.buckets.tick c.args.timer.deadline to.ensures.list;
       size = w.foretold.size ∙ w.hier.has_slots;
-      few = rw c.start.ensures.frame.tick (come_fits (wheels_of w.hier w.foretold) to.result row w.buckets.sound.has_lists refl
-          w.occupied w.firsts to.ensures.list (subst P c.in_ok-handle.ensures.lists c.lemma_countable.ensures));
+      few = come_fits (wheels_of w.hier w.foretold) to.result row w.buckets.sound.has_lists refl
+          w.occupied w.firsts to.ensures.list (subst P c.in_ok-handle.ensures.lists c.lemma_countable.ensures);
     }
 
 pub invariant_of-self-2 : goal.invariant_of-self-2
@@ -26,5 +26,5 @@ invariant_of-self-2 c =
     let kept = framed w.hier c.start.new.self new.occupied new.firsts (with_row to.result row w.buckets.links.lists)
     c.start.ensures.frame c.in_ok-handle.ensures.lists (come_wheels (wheels_of w.hier w.foretold) to.result row
     w.buckets.sound.has_lists refl new.occupied new.firsts to.ensures.list to.ensures.bucket
-    (rw (← c.start.ensures.frame.tick) c.enter_list.ensures.pending) (rw (← c.start.ensures.frame.tick) c.enter_list.ensures.due)) in
+    c.enter_list.ensures.pending c.enter_list.ensures.due) in
     record { hier = kept.hier; foretold = kept.foretold }

@@ -1,0 +1,58 @@
+use Rattle.std.proofs.Common.{ℕ, ap, subst, sym}
+use Rattle.timer_base.specs.WheelState.{with_room}
+use Rattle.timer_wheels.specs.Digits.{lowest_radix}
+use Rattle.timer_wheels.specs.Firsts.{AreFirsts}
+use Rattle.timer_wheels.specs.Occupied.{AreMarked}
+use Rattle.timer_wheels.specs.Tables.{radices}
+use Rattle.timer_wheels.proofs.MigrationTick.{may_migrate_at, all_of_tick_at, next_at}
+use Rattle.timer_wheels.proofs.wheels.Wheels.visit_next.Goals as goal
+
+pub empty_bucket-moves-requires-clause-rows : goal.empty_bucket-moves-requires-clause-rows
+empty_bucket-moves-requires-clause-rows c = may_migrate_at c.args.self.now.hier c.requires.nothing_due c.requires.before_last c.requires.emptied
+
+pub empty_bucket-moves-requires-clause-lowest : goal.empty_bucket-moves-requires-clause-lowest
+empty_bucket-moves-requires-clause-lowest c = all_of_tick_at c.args.self.now.hier c.requires.nothing_due c.requires.before_last c.requires.emptied
+
+pub empty_bucket-moves-requires-clause-foretold : goal.empty_bucket-moves-requires-clause-foretold
+empty_bucket-moves-requires-clause-foretold c =
+    let w = c.args.self.now in
+    let Q : ℕ → Type 0 = λ k. AreFirsts (lowest_radix (radices w.table)) k w.firsts w.buckets.links.lists in
+    subst Q w.hier.has_slots w.foretold
+
+pub invariant_of-self : goal.invariant_of-self
+invariant_of-self c =
+    let w = c.args.self.now in
+    let e = c.empty_bucket-moves in
+    let P : ℕ → Type 0 = λ k. AreMarked k e.new.occupied e.new.links.lists in
+    let Q : ℕ → Type 0 = λ k. AreFirsts (lowest_radix (radices w.table)) k e.new.firsts e.new.links.lists in
+    record {
+      hier = record {
+        has_slots = w.hier.has_slots;
+        clock = w.hier.clock;
+        placed = (next_at w.hier c.requires.nothing_due c.requires.before_last c.requires.emptied e.ensures.migrated
+            e.ensures.moves).placed;
+        marked = subst P (sym w.hier.has_slots) e.ensures.marked;
+      };
+      foretold = subst Q (sym w.hier.has_slots) e.ensures.foretold;
+    }
+
+pub invariant_of-buckets : goal.invariant_of-buckets
+invariant_of-buckets c = record {
+  sound = (next_at c.args.self.now.hier c.requires.nothing_due c.requires.before_last c.requires.emptied
+      c.empty_bucket-moves.ensures.migrated c.empty_bucket-moves.ensures.moves).sound;
+}
+
+pub returns-clause-ticked : goal.returns-clause-ticked
+returns-clause-ticked c =
+    let w = c.args.self.now in
+    let e = c.empty_bucket-moves in
+    rw e.ensures.room (ap (with_room w.buckets.links.room) (next_at w.hier c.requires.nothing_due c.requires.before_last
+    c.requires.emptied e.ensures.migrated e.ensures.moves).ticked)
+
+pub returns-clause-moves : goal.returns-clause-moves
+returns-clause-moves c = (next_at c.args.self.now.hier c.requires.nothing_due c.requires.before_last c.requires.emptied
+    c.empty_bucket-moves.ensures.migrated c.empty_bucket-moves.ensures.moves).moves_are
+
+pub returns-clause-falls : goal.returns-clause-falls
+returns-clause-falls c = (next_at c.args.self.now.hier c.requires.nothing_due c.requires.before_last c.requires.emptied
+    c.empty_bucket-moves.ensures.migrated c.empty_bucket-moves.ensures.moves).pays
