@@ -14,7 +14,7 @@ use Rattle.timer_facility.specs.State.{FacilityState, SingleEvent, Tick, Close, 
 use Rattle.timer_facility.specs.Verdict.{tick_refusal}
 use Rattle.timer_facility.specs.Step.{StepResult, step, step_of_tick, step_of_close, expired_next}
 use Rattle.timer_facility.specs.Run.{run, history, state_after, outs_of, notices, notices_in}
-use Rattle.timer_facility.specs.Facility.{FacilityView, view_after}
+use Rattle.timer_facility.specs.Facility.{FacilityView, view_after, NoRoomToClose}
 use Rattle.timer_facility.specs.HandedOver.{HandsOver}
 use Rattle.timer_facility.specs.Ticked.{ticks, AreTicked}
 use Rattle.timer_facility.specs.Owed.{timer_handed}
@@ -182,6 +182,7 @@ pub record HasClosed (f f' : FacilityView) (r : Result ℕ CloseFault) : Type 0 
   pub open_before : OnOk r (f.state.is_closed ≡ false)
   pub closed : OnOk r (f' ≡ view_after (step f.state Close 0))
   pub fault : IfErr r (λ fault. (fault ≡ CloseFaults.Closed) ↔ IsTrue f.state.is_closed)
+  pub room : IfErr r (NoRoomToClose f.state)
   pub unchanged : OnErr r (f' ≡ f)
 
 close_outs_are : (s : FacilityState) (closed : Bool) (count : ℕ) → closed ≡ false → count ≡ length s.pending
@@ -226,7 +227,8 @@ event_of_close f g (Err CloseFaults.OutOfMemory) quiet h =
     unchanged (Dones.Closed (Err CloseFaults.OutOfMemory)) f g
     (λ c. record { no_request = refl; no_word = refl; none_flushed = refl; no_serve = λ served e. absurd (cc) }) quiet h.unchanged
     (of_nothing (Dones.Closed (Err CloseFaults.OutOfMemory)) f quiet refl
-    (is_open f.state.is_closed (λ c. absurd (let same : CloseFaults.OutOfMemory ≡ CloseFaults.Closed = h.fault.1 c in cc))) refl refl)
+    (is_open f.state.is_closed (λ c. absurd (let same : CloseFaults.OutOfMemory ≡ CloseFaults.Closed = h.fault.1 c in cc)), h.room)
+    refl refl)
 
 -- what waits after them
 pub waiting_tick : (f g : FacilityView) → g ≡ view_after (step f.state Tick 0) → g.waiting ≡ tick_notices f.state

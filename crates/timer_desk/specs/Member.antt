@@ -88,10 +88,11 @@ abbrev pub is_any : List Notice → Bool
 is_any [] = false
 is_any (notice ∷ notices) = true
 
--- A close runs out of memory only at an open facility. Many ticks at once are accepted one by one; only the last
--- hands out anything, and fewer than were asked for are passed only if it does or the clock is at its end.
+-- A close runs out of memory only at an open facility in which no room was made. Many ticks at once are accepted one
+-- by one; only the last hands out anything, and fewer than were asked for are passed only if it does or the clock is
+-- at its end.
 abbrev pub IsRight : FacilityState → Done → Type 0
-IsRight s (Dones.Closed (Err OutOfMemory)) = s.is_closed ≡ false
+IsRight s (Dones.Closed (Err OutOfMemory)) = (s.is_closed ≡ false) × (s.has_room ≡ false)
 IsRight s (Dones.Passed limit (Ok passed)) = AreTicked limit passed s (view_after (run s (ticks passed)))
 IsRight s done = Unit {0}
 

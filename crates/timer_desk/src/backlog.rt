@@ -85,6 +85,7 @@ impl Backlog {
     }
 
     /// Returns the held request, or takes the next one of the line.
+    #[inline(always)]
     fn fetch<I: Inlet>(&self, inlet: &mut I) -> Taken
         ensures line { I.kind.same inlet.old inlet.new }
         ensures held { (n : Numbered) → self.now.held ≡ Some n
@@ -112,6 +113,9 @@ impl Backlog {
         ensures given { IsGiven I.kind result self.old.outbox inlet.old inlet.new }
         ensures left { self.new ≡ without_words result self.old }
     {
+        if self.outbox.is_empty() {
+            return 0;
+        }
         let count = put_words(&self.outbox, inlet);
         let left = self.outbox.len() - count;
         if left == 0 {
@@ -135,6 +139,7 @@ impl Backlog {
     }
 
     /// Serves the client once: a request is made at the facility, and its word pushed to the outbox.
+    #[inline(always)]
     pub fn serve<I: Inlet, W: Wheel + Drop>(
         &mut self,
         inlet: &mut I,
@@ -199,7 +204,7 @@ fn put_words<I: Inlet>(outbox: &HeapCircularBuffer<Word>, inlet: &mut I) -> usiz
 {
     let (first, rest) = outbox.as_slices();
     let count = inlet.put_slice(first);
-    if count < first.len() {
+    if rest.is_empty() || count < first.len() {
         return count;
     }
     count + inlet.put_slice(rest)

@@ -132,6 +132,7 @@ impl<W: Wheel + Drop, I: Inlet + Drop> Desk<W, I> {
     ///
     /// `NoRoom` is tested first, and then nothing was taken. The facility allocates only for a start
     /// that it accepts.
+    #[inline(always)]
     pub fn serve(&mut self, c: usize) -> Served
         requires { c < clients_of self.old }
         ensures report { ReportHolds I.kind (Done.Served c result ∷ []) self.old self.new }

@@ -1,5 +1,5 @@
 //! Drives a desk turn by turn until each client has reached a goal.
-ghost use Rattle.std.specs.Prelude.{◌≡◌, ◌≤◌, ◌<◌, ◌↔◌, false, IfOk, length, vec_len};
+ghost use Rattle.std.specs.Prelude.{◌≡◌, ◌≤◌, ◌<◌, ◌↔◌, false, OnOk, length, vec_len};
 ghost use Rattle.timer_base.specs.declared.limits.TheConstants.{LAST};
 ghost use Rattle.timer_desk.specs.Desk.{clients_of, InRange};
 ghost use Rattle.timer_desk.specs.Driver.{NoneRanOut, is_served, steps_with, Drives, IsTurned};
@@ -101,6 +101,7 @@ fn run_turns<W: Wheel + Drop, I: Inlet + Drop>(
             outcome: DriveEnd::OutOfMemory,
         };
     };
+    let mut steps = Vec::new(alloc);
     let mut idle = 0u64;
     while idle < limit {
         if all_done(&progress, goal) {
@@ -109,7 +110,7 @@ fn run_turns<W: Wheel + Drop, I: Inlet + Drop>(
                 outcome: DriveEnd::Done,
             };
         }
-        match one_turn(alloc, &mut desk, &mut progress, goal, last) {
+        match one_turn(&mut desk, &mut progress, &mut steps, goal, last) {
             Turned::Passed => idle = 0,
             Turned::Idle => {
                 idle += 1;
@@ -129,11 +130,12 @@ fn run_turns<W: Wheel + Drop, I: Inlet + Drop>(
     }
 }
 
-/// Runs one turn that ends in the step `last`, and counts its progress.
+/// Runs one turn that ends in the step `last`, and counts its progress. Its steps are written over those of the turn
+/// before it.
 fn one_turn<W: Wheel + Drop, I: Inlet + Drop>(
-    alloc: Global,
     desk: &mut Desk<W, I>,
     progress: &mut Vec<Progress>,
+    steps: &mut Vec<Step>,
     goal: u64,
     last: Step,
 ) -> Turned
@@ -144,10 +146,10 @@ fn one_turn<W: Wheel + Drop, I: Inlet + Drop>(
     ensures clients { vec_len progress.new ≡ clients_of desk.new }
 {
     desk.lemma_invariant();
-    let Ok(steps) = steps_of_turn(alloc, progress, goal, last) else {
+    let Ok(()) = write_steps(steps, progress, goal, last) else {
         return Turned::OutOfMemory;
     };
-    let Ok(report) = desk.turn(&steps) else {
+    let Ok(report) = desk.turn(steps) else {
         return Turned::OutOfMemory;
     };
     let passed = count_report(progress, &report, goal);
@@ -158,17 +160,18 @@ fn one_turn<W: Wheel + Drop, I: Inlet + Drop>(
     if passed { Turned::Passed } else { Turned::Idle }
 }
 
-/// The steps of one turn, the last of which is `last`.
-fn steps_of_turn(
-    alloc: Global,
+/// Writes the steps of one turn, the last of which is `last`.
+fn write_steps(
+    steps: &mut Vec<Step>,
     progress: &[Progress],
     goal: u64,
     last: Step,
-) -> Result<Vec<Step>, AllocError>
-    ensures { IfOk result (λ steps. steps.items
+) -> Result<(), AllocError>
+    ensures { OnOk result (steps.new.items
         ≡ steps_with (is_served goal progress.now) (length progress.now) last) }
 {
-    let mut steps = Vec::with_capacity(alloc, 2 * progress.len() + 1)?;
+    steps.clear();
+    steps.reserve(2 * progress.len() + 1)?;
     for (client, reached) in progress.iter().enumerate() {
         if reached.served < goal {
             steps.push_reserved(Step::Serve(client));
@@ -178,7 +181,7 @@ fn steps_of_turn(
         steps.push_reserved(Step::Flush(client));
     }
     steps.push_reserved(last);
-    Ok(steps)
+    Ok(())
 }
 
 /// Whether a serve of this report ran out of memory.

@@ -10,6 +10,7 @@ use timer_facility::{Facility, NotTaken};
 /// Makes a client's request at the facility, and returns the word for its answer or its refusal.
 ///
 /// None if the facility is out of memory, and then nothing changes. It is never out of memory after a `reserve`.
+#[inline(always)]
 pub fn ask<W: Wheel + Drop>(
     facility: &mut Facility<W>,
     client: u64,

@@ -77,4 +77,20 @@ impl Inlet for MemoryInlet {
             Err(_) => Put::NoMemory(word),
         }
     }
+
+    /// Puts words up to the room, with one copy. None of them if allocation fails.
+    ///
+    /// Each request gets an answer, and the timer that it started a notice. So the list of the words is allocated once,
+    /// for two words a request, and for no more than the room.
+    fn put_slice(&mut self, words: &[Word]) -> usize {
+        let count = words.len().min(self.room.saturating_sub(self.given.len()));
+        if self.given.capacity() == 0 {
+            let most = self.requests.len().saturating_mul(2);
+            let _ = self.given.reserve(most.min(self.room));
+        }
+        match self.given.extend_from_slice(&words[..count]) {
+            Ok(()) => count,
+            Err(_) => 0,
+        }
+    }
 }

@@ -274,7 +274,7 @@ impl RingInlet {
         self.looks.is_gone()
     }
 
-    /// Whether the client's end was dropped, and no request stands in the line: then none comes any more.
+    /// Whether the client's end was dropped, and no request stands in the line: then no further request arrives.
     ///
     /// True is returned only if the end was seen to be gone, and no request stood in the line after that: so each
     /// request that was sent before the drop is taken first.

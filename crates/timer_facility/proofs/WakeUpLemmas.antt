@@ -5,7 +5,7 @@ use Rattle.std.specs.List.{AllByRecursion}
 use Rattle.std.proofs.lemmas.Bool.Decides.{nat_tests}
 use Rattle.timer_base.specs.OrderLaws.{either}
 use Rattle.timer_base.specs.Pending.{Entry, timers_of, is_due_at}
-use Rattle.timer_base.specs.WakeUps as Wheels
+use Rattle.timer_base.specs.WakeUps.{IsQuietUntil}
 use Rattle.timer_facility.specs.declared.request.Notice.TheVariants.{Expired}
 use Rattle.timer_facility.specs.declared.request.TickFault.{TickFault}
 use Rattle.timer_facility.specs.declared.event.Out.TheVariants as Outs
@@ -15,7 +15,6 @@ use Rattle.timer_facility.specs.Step.{StepResult, step_of_tick}
 use Rattle.timer_facility.specs.Run.{history, notices, notices_in, outs_of}
 use Rattle.timer_facility.specs.Facility.{FacilityView, Fields, view_of, IsFacility}
 use Rattle.timer_facility.specs.Ticked.{ticks}
-use Rattle.timer_facility.specs.WakeUps.{IsWakeUp, IsQuietUntil}
 use Rattle.timer_facility.proofs.OwedLemmas.{notices_in-append}
 
 -- each of these timers has its deadline at the tick or after it
@@ -66,14 +65,6 @@ pub exact_until : {p : Fields} {v : FacilityView} → IsFacility p → view_of p
 exact_until {p} {v} a e wake_up result h = h ∙ ap (λ (u : FacilityView). wake_up u.state.slots u.state.now u.state.pending) e
 
 -- a wheel's wake-up is its facility's
-pub quiet_until_is : {p : Fields} {v : FacilityView} → IsFacility p → view_of p ≡ v → (result : Option ℕ) → Wheels.IsQuietUntil result p.wheel
-    → IsQuietUntil result v.state
-quiet_until_is {p} {v} a e None h = subst (λ (u : FacilityView). IsQuietUntil None u.state) e h
-quiet_until_is {p} {v} a e (Some tick) h =
-    let here : IsWakeUp tick (view_of p).state = record {
-      some = h.some;
-      later = h.later;
-      in_time = h.in_time;
-      quiet = λ n l. quiet_ticks tick n (view_of p).state h.in_time l;
-    } in
-    subst (λ (u : FacilityView). IsWakeUp tick u.state) e here
+pub quiet_until_is : {p : Fields} {v : FacilityView} → IsFacility p → view_of p ≡ v → (result : Option ℕ)
+    → IsQuietUntil result p.wheel.now p.wheel.pending → IsQuietUntil result v.state.now v.state.pending
+quiet_until_is {p} {v} a e result h = subst (λ (u : FacilityView). IsQuietUntil result u.state.now u.state.pending) e h

@@ -10,5 +10,4 @@ pub mod Facility
 pub mod Played
 pub mod Handles
 pub mod Ticked
-pub mod WakeUps
 pub mod HandedOver

@@ -6,7 +6,7 @@
 ghost use Rattle.std.specs.Prelude.{◌≡◌, false, ℕ, ◌+◌, ◌<◌, ◌≤◌, ◌↔◌, [], length, drop, slice_get, slice_index, IsTrue, IfSome, IfOk, IfErr, OnErr, OnOk, MatchResult, if◌then◌else◌, nat_lt, vec_capacity};
 ghost use Rattle.timer_base.specs.Pending.{timers_of};
 ghost use Rattle.timer_base.specs.WheelState.{after_clear};
-ghost use Rattle.timer_base.specs.WakeUps.{next_deadline};
+ghost use Rattle.timer_base.specs.WakeUps.{IsQuietUntil, next_deadline};
 ghost use Rattle.timer_facility.specs.declared.limits.TheConstants.{MAX_CLIENTS};
 ghost use Rattle.timer_facility.specs.State.{FacilityState, IsSound, After, At, ByHandle, Start, Stop, Restart, Tick, Close, number_of, pending_of, ticks_until};
 ghost use Rattle.timer_facility.specs.Verdict.{not_taken, timer_named, start_refusal, interval_refusal, refusal, tick_refusal, TickRefused, verdict};
@@ -16,7 +16,6 @@ ghost use Rattle.timer_facility.specs.Owed.{timer_handed};
 ghost use Rattle.timer_facility.specs.Opened.{opened};
 ghost use Rattle.timer_facility.specs.Handles.{is_pending};
 ghost use Rattle.timer_facility.specs.Ticked.{AreTicked};
-ghost use Rattle.timer_facility.specs.WakeUps.{IsQuietUntil};
 ghost use Rattle.timer_facility.specs.Facility.{FacilityView, view_of, view_after, view_with_room, with_nothing_waiting, NoRoomToClose, event_of_request, IsTaken, IsNotTaken, Fields, IsFacility, NoRoomWasMade, model_of, IsStart, HasAnswered};
 
 use crate::config::Checked;
@@ -221,6 +220,7 @@ impl<W: Wheel + Drop> Facility<W> {
     /// number and nothing else. Only an accepted start allocates, and after a `reserve` that returned Ok none
     /// is out of memory. The place in a `Started` or `Restarted` is a free choice of the wheel. No timer may
     /// wait to be handed out.
+    #[inline(always)]
     pub fn take(&mut self, client: u64, number: u64, request: Request) -> Result<Answer, NotTaken>
         requires { self.old.waiting ≡ [] }
         ensures taken { IfOk result (λ answer. IsTaken self.old.state client number request answer self.new) }
@@ -289,7 +289,7 @@ impl<W: Wheel + Drop> Facility<W> {
     /// then, calls `ticks`, and calls this again. It is exactly the wheel's `wake_up`. Timers that wait to
     /// be handed out do not count. Does not allocate.
     pub fn quiet_until(&self) -> Option<u64>
-        ensures quiet { IsQuietUntil result self.now.state }
+        ensures quiet { IsQuietUntil result self.now.state.now self.now.state.pending }
         ensures exact { result ≡ W.wake_up self.now.state.slots self.now.state.now self.now.state.pending }
     {
         self.wheel.quiet_until()
@@ -382,6 +382,7 @@ impl<W: Wheel + Drop> Facility<W> {
     /// Answers a request that is taken, and does what is accepted of it. Its number is not used up yet.
     ///
     /// The only error is out of memory, and then nothing changes.
+    #[inline(always)]
     fn answer(&mut self, client: u64, number: u64, request: Request) -> Result<Answer, OutOfMemory>
         requires waiting { self.old.waiting ≡ [] }
         requires client { client < length self.old.state.numbers }
@@ -418,6 +419,7 @@ impl<W: Wheel + Drop> Facility<W> {
     }
 
     /// A start that is taken.
+    #[inline(always)]
     fn take_start(
         &mut self,
         client: u64,

@@ -1,7 +1,8 @@
 //! Lemmas about every run of a facility, whatever the events are and whichever wheel it runs on.
 //! Each of these functions does nothing: its contract is the lemma.
-ghost use Rattle.std.specs.Prelude.{◌≡◌, ◌≤◌, List, [], ℕ, ◌+◌, length, take, map, true, Some};
+ghost use Rattle.std.specs.Prelude.{◌≡◌, ◌<◌, ◌≤◌, List, [], ℕ, ◌+◌, length, take, map, true, Some};
 ghost use Rattle.std.specs.List.{AllByRecursion};
+ghost use Rattle.timer_base.specs.WakeUps.{IsWakeUp};
 ghost use Rattle.timer_facility.specs.declared.limits.TheConstants.{MAX_CLIENTS, MAX_PENDING};
 ghost use Rattle.timer_facility.specs.declared.handles.TheConstants.{SPARE};
 ghost use Rattle.timer_facility.specs.State.{FacilityState, IsSound, SingleEvent, Asked, Tick, Close, ModelRequest, pending_of};
@@ -12,6 +13,7 @@ ghost use Rattle.timer_facility.specs.Run.{PlacedEvent, history, state_after, ru
 ghost use Rattle.timer_facility.specs.HandedOver.{AddsAtMostOne, HandsOver};
 ghost use Rattle.timer_facility.specs.Owed.{owed, left_after, accepted_ticks, others, AreHandedOutOnce, AreAllHandedOut};
 ghost use Rattle.timer_facility.specs.Played.{IsRun};
+ghost use Rattle.timer_facility.specs.Ticked.{ticks};
 ghost use Rattle.timer_facility.specs.declared.event.Event.{Event};
 ghost use Rattle.timer_facility.specs.declared.event.Out.{Out};
 
@@ -101,6 +103,12 @@ pub fn what_is_handed_out_was_pending()
 pub fn now_counts_the_accepted_ticks()
     ensures { (s : FacilityState) (placed : List PlacedEvent)
         → (state_after s placed).now ≡ s.now + accepted_ticks (history s placed) }
+{}
+
+/// Ticks that end before a tick to wake up at hand nothing out: it is safe to sleep until then.
+pub fn nothing_is_handed_out_before_the_wake_up()
+    ensures { (s : FacilityState) (tick n : ℕ) → IsWakeUp tick s.now s.pending → s.now + n < tick
+        → notices (history s (ticks n)) ≡ [] }
 {}
 
 /// A client that does not exist has no pending timer after a run, if it had none before.

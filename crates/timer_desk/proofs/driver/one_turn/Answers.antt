@@ -17,7 +17,7 @@ returns-then-ran_out-clause-turned g c =
     let before = c.args.progress.now.items in
     let after = c.count_report-passed.new.all.items in
     inr (TakesTurn-one g.I.Inlet.kind c.args.last c.args.goal true c.args.desk.now c.turn.new.self c.deref.result.now before after
-    c.in-Ok-turn.report.items c.in-Ok.steps.items c.in-Ok-turn.ensures.ok.holds (c.in-Ok-turn.ensures.ok.steps_are ∙ c.deref-2.ensures.value)
+    c.in-Ok-turn.report.items c.write_steps.new.steps.items c.in-Ok-turn.ensures.ok.holds (c.in-Ok-turn.ensures.ok.steps_are ∙ c.deref-2.ensures.value)
     c.in-Ok.ensures c.deref.ensures.value (λ is. absurd (cc))
     (λ k p l. subst (λ r. HasCounted c.args.goal (length (asked k r)) (flushed k r) (get_or before k p) (get_or after k p))
     c.deref-3.ensures.value (c.count_report-passed.ensures.counted k p (omega (arith, l, c.args.progress.now.ok)))))
@@ -29,7 +29,7 @@ returns-then-passed-clause-turned g c =
       subst (λ (d : DeskState g.row.I.Denot). TakesTurn g.I.Inlet.kind c.args.last c.args.goal false c.args.desk.now d before after)
           (sym c.recycle.ensures)
           (TakesTurn-one g.I.Inlet.kind c.args.last c.args.goal false c.args.desk.now c.turn.new.self c.deref.result.now before after
-          c.in-Ok-turn.report.items c.in-Ok.steps.items c.in-Ok-turn.ensures.ok.holds (c.in-Ok-turn.ensures.ok.steps_are ∙ c.deref-2.ensures.value)
+          c.in-Ok-turn.report.items c.write_steps.new.steps.items c.in-Ok-turn.ensures.ok.holds (c.in-Ok-turn.ensures.ok.steps_are ∙ c.deref-2.ensures.value)
           c.in-Ok.ensures c.deref.ensures.value
           (λ _. subst NoneRanOut c.deref-4.ensures.value (c.if-ran_out.ensures.0 refl))
           (λ k p l. subst (λ r. HasCounted c.args.goal (length (asked k r)) (flushed k r) (get_or before k p) (get_or after k p))
@@ -37,14 +37,14 @@ returns-then-passed-clause-turned g c =
       c.if-passed.ensures.fewer refl,
     )
 
-pub returns-clause-turned : goal.returns-clause-turned
-returns-clause-turned g c =
+pub returns-else-passed-clause-turned : goal.returns-else-passed-clause-turned
+returns-else-passed-clause-turned g c =
     let before = c.args.progress.now.items in
     let after = c.count_report-passed.new.all.items in (
       subst (λ (d : DeskState g.row.I.Denot). TakesTurn g.I.Inlet.kind c.args.last c.args.goal false c.args.desk.now d before after)
           (sym c.recycle.ensures)
           (TakesTurn-one g.I.Inlet.kind c.args.last c.args.goal false c.args.desk.now c.turn.new.self c.deref.result.now before after
-          c.in-Ok-turn.report.items c.in-Ok.steps.items c.in-Ok-turn.ensures.ok.holds (c.in-Ok-turn.ensures.ok.steps_are ∙ c.deref-2.ensures.value)
+          c.in-Ok-turn.report.items c.write_steps.new.steps.items c.in-Ok-turn.ensures.ok.holds (c.in-Ok-turn.ensures.ok.steps_are ∙ c.deref-2.ensures.value)
           c.in-Ok.ensures c.deref.ensures.value
           (λ _. subst NoneRanOut c.deref-4.ensures.value (c.if-ran_out.ensures.0 refl))
           (λ k p l. subst (λ r. HasCounted c.args.goal (length (asked k r)) (flushed k r) (get_or before k p) (get_or after k p))

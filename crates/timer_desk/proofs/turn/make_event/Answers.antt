@@ -16,5 +16,5 @@ pub returns-in-Close-clause-event : goal.returns-in-Close-clause-event
 returns-in-Close-clause-event g c =
     let e = c.close.ensures in
     let closed : HasClosed c.args.facility.now c.close.new.self c.close.result =
-    record { count = e.count; open_before = e.open; closed = e.closed; fault = e.fault; unchanged = e.err } in
+    record { count = e.count; open_before = e.open; closed = e.closed; fault = e.fault; room = e.room; unchanged = e.err } in
     event_of_close c.args.facility.now c.close.new.self c.close.result c.requires.quiet closed

@@ -10,7 +10,7 @@ hand_out-requires-clause-room g c =
     let d = c.self.invariant in
     let e = c.close-result.ensures in
     let closed : HasClosed c.self.inside.facility c.close-result.new.self c.close-result.result =
-    record { count = e.count; open_before = e.open; closed = e.closed; fault = e.fault; unchanged = e.err } in
+    record { count = e.count; open_before = e.open; closed = e.closed; fault = e.fault; room = e.room; unchanged = e.err } in
     let event = event_of_close c.self.inside.facility c.close-result.new.self c.close-result.result d.nothing_waits closed in
     (kept_event g.I.Inlet.kind (Closed c.close-result.result) c.self.inside.facility c.close-result.new.self c.self.inside.inlets.items
     c.self.inside.backlogs.items event d).room
@@ -20,7 +20,7 @@ hand_out-requires-clause-clients g c =
     let d = c.self.invariant in
     let e = c.close-result.ensures in
     let closed : HasClosed c.self.inside.facility c.close-result.new.self c.close-result.result =
-    record { count = e.count; open_before = e.open; closed = e.closed; fault = e.fault; unchanged = e.err } in
+    record { count = e.count; open_before = e.open; closed = e.closed; fault = e.fault; room = e.room; unchanged = e.err } in
     let event = event_of_close c.self.inside.facility c.close-result.new.self c.close-result.result d.nothing_waits closed in
     omega (arith, event.same_numbers, d.kept.as_many, d.clients, c.self.inside.backlogs.ok)
 
@@ -29,7 +29,7 @@ invariant_of-self g c =
     let d = c.self.invariant in
     let e = c.close-result.ensures in
     let closed : HasClosed c.self.inside.facility c.close-result.new.self c.close-result.result =
-    record { count = e.count; open_before = e.open; closed = e.closed; fault = e.fault; unchanged = e.err } in
+    record { count = e.count; open_before = e.open; closed = e.closed; fault = e.fault; room = e.room; unchanged = e.err } in
     let handed = c.hand_out.ensures in
     let event = event_of_close c.self.inside.facility c.close-result.new.self c.close-result.result d.nothing_waits closed in
     desk_event g.I.Inlet.kind (Closed c.close-result.result) c.self.inside.facility c.close-result.new.self c.hand_out.new.facility
@@ -40,7 +40,7 @@ returns-clause-report g c =
     let d = c.self.invariant in
     let e = c.close-result.ensures in
     let closed : HasClosed c.self.inside.facility c.close-result.new.self c.close-result.result =
-    record { count = e.count; open_before = e.open; closed = e.closed; fault = e.fault; unchanged = e.err } in
+    record { count = e.count; open_before = e.open; closed = e.closed; fault = e.fault; room = e.room; unchanged = e.err } in
     let handed = c.hand_out.ensures in
     let r = c.close-result.result in
     let event = event_of_close c.self.inside.facility c.close-result.new.self r d.nothing_waits closed in

@@ -3,7 +3,7 @@ use Rattle.std.specs.Prelude.{vec_capacity}
 use Rattle.std.specs.List.{filter, range_with_len}
 use Rattle.timer_desk.specs.declared.report.Step.TheVariants.{Serve, Flush}
 use Rattle.timer_desk.specs.Driver.{is_served}
-use Rattle.timer_desk.proofs.driver.steps_of_turn.Given as goal
+use Rattle.timer_desk.proofs.driver.write_steps.Given as goal
 
 abbrev pub invariant-loop-client : goal.invariant-loop-client
 invariant-loop-client l = record {

@@ -1,8 +1,8 @@
 use Rattle.std.proofs.Common.{rules, ◌∙◌, ap}
 use Rattle.timer_desk.specs.Driver.{is_served}
 use Rattle.timer_desk.proofs.DriverLemmas.{serves_more, serves_same, flushes_more, is_below, is_not_below}
-use Rattle.timer_desk.proofs.driver.steps_of_turn.Goals as goal
-use Rattle.timer_desk.proofs.driver.steps_of_turn.Goals.{then-reached-goal, else-reached-goal}
+use Rattle.timer_desk.proofs.driver.write_steps.Goals as goal
+use Rattle.timer_desk.proofs.driver.write_steps.Goals.{then-reached-goal, else-reached-goal}
 
 pub loop-client-preserved : goal.loop-client-preserved
 loop-client-preserved c =
