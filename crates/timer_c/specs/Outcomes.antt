@@ -7,13 +7,13 @@ use Rattle.timer_base.specs.declared.timer.Timer.{Timer}
 use Rattle.timer_base.specs.declared.timer.Handle as base
 use Rattle.timer_base.specs.WakeUps.{IsWakeUp, next_deadline}
 use Rattle.timer_base.specs.WheelState.{WheelState, empty_wheel, held_at, after_start, after_removal, after_tick}
-use Rattle.timer_wheels.specs.declared.table.Table.TheVariants.{Wide, Clock}
-use Rattle.timer_wheels.specs.Tables.{slots_of_table, radices_by_slots}
+use Rattle.timer_wheels.specs.declared.table.Table.{Table}
+use Rattle.timer_wheels.specs.Tables.{last_of_table, slots_of_table, radices_by_slots}
+use Rattle.timer_wheels.specs.TableNumbers.{table_with_number, IsTableFor}
 use Rattle.timer_wheels.specs.HeldPlaces.{AreBefore, AreElsewhere}
 use Rattle.timer_wheels.specs.HierWheel.{counts_of_tick, counts_of_advance}
 use Rattle.timer_wheels.specs.HierWheel as hier
 use Rattle.timer_wheels.specs.WakeUps.{next_visit}
-use Rattle.timer_wheels.specs.declared.table.TheConstants.{LAST_OF_CLOCK}
 use Rattle.timer_total.specs.Deadlines.{interval_until, after_start_at}
 use Rattle.timer_total.specs.Refusals.{next_timer, left_until, IsStartable, IsRoomUsed, IsAt}
 use Rattle.timer_total.specs.Taken.{IsTakenBy}
@@ -26,14 +26,13 @@ use Rattle.timer_total.specs.TimersState.{TimersState, with_wheel, with_start}
 use Rattle.timer_c.specs.declared.layout.Counts.{Counts}
 use Rattle.timer_c.specs.declared.layout.CHandle.{CHandle}
 use Rattle.timer_c.specs.declared.layout.Expired.{Expired}
-use Rattle.timer_c.specs.declared.status.TheConstants.{NO_TABLE, NO_MEMORY, DUE, NOT_PENDING, ZERO_INTERVAL, TOO_LATE, SERIALS_SPENT, CLOCK_END, WIDE, CLOCK, NEVER}
+use Rattle.timer_c.specs.declared.status.TheConstants.{NO_TABLE, NO_MEMORY, DUE, NOT_PENDING, ZERO_INTERVAL, TOO_LATE, SERIALS_SPENT, CLOCK_END, NEVER}
 
--- an empty wheel with this table, at its first tick
-abbrev pub IsEmptyWheel : ℕ → ℕ → WheelState → Type 0
-IsEmptyWheel table first_tick wheel =
-    ((table ≡ WIDE) × (first_tick ≤ LAST) × (wheel ≡ empty_wheel (slots_of_table Wide) LAST first_tick))
-    ⊎ ((table ≡ CLOCK) × (first_tick ≤ LAST_OF_CLOCK)
-    × (wheel ≡ empty_wheel (slots_of_table Clock) LAST_OF_CLOCK first_tick))
+-- an empty wheel with the table of this number, at its first tick
+pub record IsEmptyWheel (number first_tick : ℕ) (wheel : WheelState) : Type 0 where
+  pub table : Table
+  pub is_table : IsTableFor number first_tick table
+  pub empty : wheel ≡ empty_wheel (slots_of_table table) (last_of_table table) first_tick
 
 -- timers over such a wheel, with this last serial, and nothing was counted
 abbrev pub IsEmptyAt : ℕ → ℕ → ℕ → TimersState → Type 0
@@ -42,16 +41,15 @@ IsEmptyAt table first_tick serial new =
 
 -- there is such a table, and it has the first tick
 abbrev pub IsOpenable : ℕ → ℕ → Type 0
-IsOpenable table first_tick = ((table ≡ WIDE) × (first_tick ≤ LAST))
-    ⊎ ((table ≡ CLOCK) × (first_tick ≤ LAST_OF_CLOCK))
+IsOpenable number first_tick = (table : Table) × IsTableFor number first_tick table
 
 -- why no wheel is made
 abbrev pub WhyNoWheel : ℕ → ℕ → ℕ → Type 0
-WhyNoWheel table first_tick status =
-    ((status ≡ NO_TABLE) × (CLOCK < table))
-    ⊎ ((status ≡ TOO_LATE) × (((table ≡ WIDE) × (LAST < first_tick))
-    ⊎ ((table ≡ CLOCK) × (LAST_OF_CLOCK < first_tick))))
-    ⊎ ((status ≡ NO_MEMORY) × IsOpenable table first_tick)
+WhyNoWheel number first_tick status =
+    ((status ≡ NO_TABLE) × (table_with_number number ≡ None))
+    ⊎ ((status ≡ TOO_LATE) × ((table : Table) × (table_with_number number ≡ Some table)
+    × (last_of_table table < first_tick)))
+    ⊎ ((status ≡ NO_MEMORY) × IsOpenable number first_tick)
 
 -- a start was done: the state is that after the start, at a place that is a free choice
 abbrev pub IsStarted : ℕ → ℕ → TimersState → TimersState → CHandle → Type 0
@@ -204,7 +202,7 @@ abbrev pub IsNextCall : ℕ → WheelState → Type 0
 IsNextCall tick w =
     ((tick ≡ w.now) × (0 < length w.due))
     ⊎ ((tick ≡ NEVER) × (w.due ≡ []) × (w.pending ≡ []))
-    ⊎ ((w.due ≡ []) × IsWakeUp tick w
+    ⊎ ((w.due ≡ []) × IsWakeUp tick w.now w.pending
     × (next_visit (radices_by_slots w.slots) w.now w.pending ≡ Some tick))
 
 -- the deadline of the timer that is taken next: now if an expired one waits, else the first pending one

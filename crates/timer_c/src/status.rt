@@ -33,12 +33,6 @@ pub const SERIALS_SPENT: u32 = 9;
 /// The clock is at its last tick.
 pub const CLOCK_END: u32 = 10;
 
-/// Ten wheels of 64 slots: a clock of 2^60 ticks.
-pub const WIDE: u32 = 0;
-
-/// 60 seconds, 60 minutes, 24 hours, 100 days: a clock of 8,640,000 ticks.
-pub const CLOCK: u32 = 1;
-
 /// The version: 10,000 times its major number, 100 times its minor one, and its patch.
 pub const VERSION_NUMBER: u32 = 10000;
 

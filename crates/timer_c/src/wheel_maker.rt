@@ -5,7 +5,7 @@ ghost use Rattle.timer_base.specs.WheelState.{empty_wheel};
 ghost use Rattle.timer_wheels.specs.HierWheel.{counts_of, hier_state};
 ghost use Rattle.timer_c.specs.Outcomes.{IsEmptyWheel, WhyNoWheel};
 
-use crate::status::{CLOCK, NO_MEMORY, NO_TABLE, TOO_LATE, WIDE};
+use crate::status::{NO_MEMORY, NO_TABLE, TOO_LATE};
 use std::alloc::Global;
 use timer_base::MakeFault;
 use timer_wheels::{HierWheel, Table};
@@ -16,10 +16,8 @@ pub(crate) fn wheel_of(alloc: Global, table: u32, first_tick: u64) -> Result<Hie
     ensures counts { IfOk result (λ wheel. counts_of wheel ≡ no_counts) }
     ensures refused { IfErr result (WhyNoWheel table first_tick) }
 {
-    let table = match table {
-        WIDE => Table::Wide,
-        CLOCK => Table::Clock,
-        _ => return Err(NO_TABLE),
+    let Some(table) = Table::with_number(table) else {
+        return Err(NO_TABLE);
     };
     match HierWheel::with_table(alloc, table, first_tick) {
         Ok(wheel) => Ok(wheel),

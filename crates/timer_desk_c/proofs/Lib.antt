@@ -1,5 +1,6 @@
 pub mod DeskParts
 pub mod LineParts
+pub mod SmallFacts
 pub mod FrameSteps
 pub mod DeskMakerLemmas
 pub mod RoundLemmas

@@ -1,5 +1,5 @@
 -- A line that is opened again.
-use Rattle.std.proofs.Common.{◌≡◌, ◌≢◌, ◌<◌, ◌≤◌, ◌⊎◌, ℕ, List, length, get_or, sym, ◌∙◌, ap, subst, inl, inr, arith}
+use Rattle.std.proofs.Common.{◌≡◌, ◌<◌, ◌≤◌, ℕ, List, length, get_or, ◌∙◌, ap, subst, inl, inr, arith}
 use Rattle.std.specs.Prelude.{slice_set}
 use Rattle.std.proofs.lemmas.List.{get_or-set_same, get_or-set_other, length-set}
 use Rattle.timer_base.specs.declared.limits.TheConstants.{LAST}
@@ -7,7 +7,7 @@ use Rattle.timer_facility.specs.State.{FacilityState, number_of, pending_of}
 use Rattle.timer_desk.specs.declared.ring.RingInlet.{RingInlet}
 use Rattle.timer_desk.specs.declared.looks.Found.TheVariants.{GoneThenEmpty}
 use Rattle.timer_desk.specs.Backlog.{BacklogState, empty_backlog}
-use Rattle.timer_desk.specs.Desk.{clients_of, backlog_at, IsIdle}
+use Rattle.timer_desk.specs.Desk.{clients_of, IsIdle}
 use Rattle.timer_desk.specs.Ring.{found_by_inlet}
 use Rattle.timer_desk.specs.Settlement.{HasLooked}
 use Rattle.timer_desk_c.specs.declared.line.Line.{Line}

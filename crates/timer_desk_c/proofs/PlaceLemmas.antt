@@ -1,8 +1,8 @@
 -- The places of the pending timers of a hierarchy: no two timers have the same one.
-use Rattle.std.proofs.Common.{◌≡◌, ◌<◌, ◌≤◌, ◌+◌, ◌⊎◌, ◌==◌, ℕ, Bool, true, false, List, [], ◌∷◌, ◌++◌, length, map, refl, sym, ◌∙◌, ap, subst, inl, inr, arith, append_assoc}
+use Rattle.std.proofs.Common.{◌≡◌, ◌<◌, ◌≤◌, ◌+◌, ◌==◌, ℕ, true, false, List, [], ◌∷◌, ◌++◌, length, map, refl, sym, ◌∙◌, ap, subst, inl, inr, arith, append_assoc}
 use Rattle.std.specs.Prelude.{Option, Some, None, filter, IsSome}
 use Rattle.std.specs.List.{AllByRecursion}
-use Rattle.std.proofs.lemmas.Bool.Decides.{nat_tests}
+use Rattle.timer_base.specs.Basics.{either, some_same}
 use Rattle.timer_base.specs.declared.timer.Timer.{Timer}
 use Rattle.timer_base.specs.declared.timer.Handle.{Handle}
 use Rattle.timer_base.specs.Order.{is_before, insert_in_order, in_order}
@@ -19,18 +19,10 @@ use Rattle.timer_wheels.specs.HierWheel.{hier_state, table_of}
 use Rattle.timer_wheels.specs.Placement.{ShowsWheels, bucket_at, no_rounds}
 use Rattle.timer_wheels.specs.Shown.{ShowsBuckets, by_serial, entries_at, row_of, without_deadline}
 use Rattle.timer_wheels.specs.Tables.{radices}
-use Rattle.timer_wheels.proofs.DigitLaws.{bucket_in_range, digits_down}
+use Rattle.timer_wheels.proofs.DigitLaws.{bucket_at_tick, digits_down}
 use Rattle.timer_wheels.proofs.TableLaws.{of_table}
 use Rattle.timer_desk_c.specs.Stopping.{IsFirstAt, IsFirstPending}
-
-either : (b : Bool) → (b ≡ true) ⊎ (b ≡ false)
-either b = elim b as (λ v. (v ≡ true) ⊎ (v ≡ false)) [ true ↦ inl refl | false ↦ inr refl ]
-
-is_equal : (m n : ℕ) → (m == n) ≡ true → m ≡ n
-is_equal m n h = grind (arith, nat_tests)
-
-equals_itself : (n : ℕ) → (n == n) ≡ true
-equals_itself n = grind (arith, nat_tests)
+use Rattle.timer_desk_c.proofs.SmallFacts.{is_equal, equal_to, all_weaken}
 
 -- What holds of all members in another order, holds of all of them.
 
@@ -50,10 +42,6 @@ of_mapped : {X Y : Type 0} (f : X → Y) (P : Y → Type 0) (xs : List X) → Al
 of_mapped f P [] a = tt
 of_mapped f P (x ∷ xs) a = (a.0, of_mapped f P xs a.1)
 
-all_weaken : {X : Type 0} (P Q : X → Type 0) → ((x : X) → P x → Q x) → (xs : List X) → AllByRecursion P xs → AllByRecursion Q xs
-all_weaken P Q h [] a = tt
-all_weaken P Q h (x ∷ xs) a = (h x a.0, all_weaken P Q h xs a.1)
-
 -- what holds of the members of each bucket, holds of all whose bucket is one of them
 of_rest : {X : Type 0} (b : X → ℕ) (P : X → Type 0) (n : ℕ) (x : X) (xs : List X)
     → ((s : ℕ) → s < n → AllByRecursion P (filter (λ y. b y == s) (x ∷ xs)))
@@ -67,7 +55,7 @@ of_buckets : {X : Type 0} (b : X → ℕ) (P : X → Type 0) (n : ℕ) (xs : Lis
     → ((s : ℕ) → s < n → AllByRecursion P (filter (λ x. b x == s) xs)) → AllByRecursion P xs
 of_buckets b P n [] r a = tt
 of_buckets b P n (x ∷ xs) r a =
-    let here = rw (equals_itself (b x)) at (a (b x) r.0) in
+    let here = rw (equal_to (b x) (b x) refl) at (a (b x) r.0) in
     (here.0, of_buckets b P n xs r.1 (of_rest b P n x xs a))
 
 -- Each row of a list stands under its key.
@@ -97,17 +85,11 @@ all_under n bucket_of rounds_of w lists shows apart in_range =
 
 -- The timer that a handle names is alone at its place.
 
-same_node : (a b : Node) → Some a ≡ Some b → a ≡ b
-same_node a b e = cc
-
 found_place : (handle : Handle) (e : Entry) → has_handle handle e ≡ true → e.place ≡ handle.place
 found_place handle e h = elim (either (e.place == handle.place)) [
   | inl k ↦ is_equal e.place handle.place k
   | inr k ↦ absurd (let g : false ≡ true = rw k at h in cc)
 ]
-
-same_timer : (a b : Timer) → Some a ≡ Some b → a ≡ b
-same_timer a b e = cc
 
 under_handle : (rounds_of : Timer → ℕ) (lists : KeyedLists) (handle : Handle) (t : Timer) (es : List Entry)
     → AllByRecursion (IsUnder rounds_of lists) es → first_timer (has_handle handle) es ≡ Some t
@@ -115,7 +97,7 @@ under_handle : (rounds_of : Timer → ℕ) (lists : KeyedLists) (handle : Handle
 under_handle rounds_of lists handle t [] a h = absurd (cc)
 under_handle rounds_of lists handle t (e ∷ es) a h = elim (either (has_handle handle e)) [
   | inl k ↦
-      let same : e.timer ≡ t = same_timer e.timer t (rw k at h) in
+      let same : e.timer ≡ t = some_same e.timer t (rw k at h) in
       let there : node_at handle.place lists ≡ Some (record { timer = e.timer; rounds = rounds_of e.timer }) =
       subst (λ p. node_at p lists ≡ Some (record { timer = e.timer; rounds = rounds_of e.timer })) (found_place handle e k) a.0 in
       subst (λ (u : Timer). node_at handle.place lists ≡ Some (record { timer = u; rounds = rounds_of u })) same there
@@ -131,7 +113,7 @@ alone_at rounds_of lists handle t es a h =
     (λ e u same.
     let both : Some (row_of rounds_of e).1 ≡ Some (record { timer = t; rounds = rounds_of t }) =
     sym u ∙ (ap (λ p. node_at p lists) same ∙ there) in
-    ap (λ (n : Node). n.timer) (same_node (row_of rounds_of e).1 (record { timer = t; rounds = rounds_of t }) both)) es a
+    ap (λ (n : Node). n.timer) (some_same (row_of rounds_of e).1 (record { timer = t; rounds = rounds_of t }) both)) es a
 
 -- The wheel.
 
@@ -143,7 +125,7 @@ in_buckets table last now serial [] is l d a = tt
 in_buckets table last now serial (e ∷ es) is l d a =
     let h = a.0 in
     let within : e.timer.deadline ≤ last_of table = let k = h.in_range in omega arith in (
-      bucket_in_range table now e.timer.deadline is (digits_down table e.timer.deadline (last_of table) is within d) h.later,
+      (bucket_at_tick table now e.timer.deadline is (digits_down table e.timer.deadline (last_of table) is within d) h.later).in_range,
       in_buckets table last now serial es is l d a.1,
     )
 

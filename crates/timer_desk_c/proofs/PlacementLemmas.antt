@@ -4,6 +4,7 @@ use Rattle.timer_desk_c.specs.declared.c_structs.CLine.{CLine}
 use Rattle.timer_desk_c.specs.declared.line.Line.{Line}
 use Rattle.timer_desk_c.specs.Frames.{HasLine}
 use Rattle.timer_desk_c.specs.Desks.{AreHeld}
+use Rattle.timer_desk_c.proofs.SmallFacts.{none_below}
 use Rattle.std.proofs.lemmas.List.{length-map, get_or_default}
 use Rattle.std.proofs.Math.ListN.{get_or-map}
 
@@ -20,9 +21,6 @@ pub record IsPlaced (life : ℕ) (all : List (Box Line Global)) (before : List C
       → (get_or lines k x).slot.state ≡ (get_or all k b).value
   pub client : (k : ℕ) (x : CLine) → length left ≤ k → k < length all → (get_or lines k x).client ≡ k
   pub life_is : (k : ℕ) (x : CLine) → length left ≤ k → k < length all → (get_or lines k x).life ≡ life
-
-none_below : (k : ℕ) → k < 0 → ⊥
-none_below k low = absurd (let z : k < 0 = low in grind (arith))
 
 value_at : (all : List (Box Line Global)) (k : ℕ) (l : Line) (b : Box Line Global) → k < length all
     → get_or (map (λ (x : Box Line Global). x.value) all) k l ≡ (get_or all k b).value

@@ -1,8 +1,8 @@
 -- Clients whose words are ended one after the other.
-use Rattle.std.proofs.Common.{◌≡◌, ◌≢◌, ◌<◌, ◌≤◌, ◌+◌, ◌⊎◌, ◌==◌, ℕ, Bool, true, false, List, length, get_or, refl, sym, ◌∙◌, ap, subst, inl, inr, arith}
+use Rattle.std.proofs.Common.{◌≡◌, ◌≢◌, ◌<◌, ◌≤◌, ◌+◌, ◌==◌, ℕ, Bool, List, length, get_or, refl, sym, ◌∙◌, ap, subst, inl, inr, arith}
 use Rattle.std.specs.Prelude.{Option, Some, None, slice_set}
-use Rattle.std.proofs.lemmas.Bool.Decides.{nat_tests}
 use Rattle.std.proofs.lemmas.List.{get_or-set_same, get_or-set_other, length-set}
+use Rattle.timer_base.specs.Basics.{either}
 use Rattle.timer_facility.specs.State.{FacilityState, pending_of}
 use Rattle.timer_desk.specs.declared.word.Numbered.{Numbered}
 use Rattle.timer_desk.specs.declared.ring.RingInlet.{RingInlet}
@@ -21,30 +21,7 @@ use Rattle.timer_desk_c.specs.Frames.{HasLine, HasNoLine, with_line, is_own}
 use Rattle.timer_desk_c.specs.Lines.{submitted_on}
 use Rattle.timer_desk_c.specs.Shutdown.{IsLeft, OnlySettles, WhyNotEnded}
 use Rattle.timer_desk_c.specs.ShutdownAll.{IsEndedAt, IsOverAt, IsLeftAt, IsTriedAt}
-
-either : (b : Bool) → (b ≡ true) ⊎ (b ≡ false)
-either b = elim b as (λ v. (v ≡ true) ⊎ (v ≡ false)) [ true ↦ inl refl | false ↦ inr refl ]
-
-is_equal : (m n : ℕ) → (m == n) ≡ true → n ≡ m
-is_equal m n h = grind (arith, nat_tests)
-
-is_other : (m n : ℕ) → (m == n) ≡ false → n ≢ m
-is_other m n h = grind (arith, nat_tests)
-
-below_or_same : (c k : ℕ) → c < k + 1 → (c < k) ⊎ (c ≡ k)
-below_or_same c k h = grind (arith)
-
-zero_or_more : (n : ℕ) → (n ≡ 0) ⊎ (0 < n)
-zero_or_more n = grind (arith)
-
-less_is_other : (c k : ℕ) → c < k → c ≢ k
-less_is_other c k h e = absurd (omega (arith, h, e))
-
-more_is_other : (c k : ℕ) → k + 1 ≤ c → c ≢ k
-more_is_other c k h e = absurd (omega (arith, h, e))
-
-none_below : (c : ℕ) → c < 0 → ⊥
-none_below c low = absurd (let z : c < 0 = low in grind (arith))
+use Rattle.timer_desk_c.proofs.SmallFacts.{none_below, below_or_same, zero_or_more, less_is_other, more_is_other, is_equal, is_other}
 
 -- A desk of which more is known.
 
@@ -61,9 +38,9 @@ keeps_nothing d = record {
 -- what depends on a client's inlet alone, and is the same for the client that was settled, is the same for each
 same_at : {X : Type 0} (f : RingInlet → X) (k c : ℕ) (i : RingInlet) (y z : DeskState) → OnlySettles k y z
     → f (get_or z.inlets k i) ≡ f (get_or y.inlets k i) → f (get_or z.inlets c i) ≡ f (get_or y.inlets c i)
-same_at f k c i y z s here = elim (either (k == c)) [
-  | inl e ↦ subst (λ n. f (get_or z.inlets n i) ≡ f (get_or y.inlets n i)) (sym (is_equal k c e)) here
-  | inr e ↦ ap f (s.others c i (is_other k c e))
+same_at f k c i y z s here = elim (either (c == k)) [
+  | inl e ↦ subst (λ n. f (get_or z.inlets n i) ≡ f (get_or y.inlets n i)) (sym (is_equal c k e)) here
+  | inr e ↦ ap f (s.others c i (is_other c k e))
 ]
 
 keeps_more : (k : ℕ) (d y z : DeskState) → KeepsLines d y → OnlySettles k y z → KeepsLines d z

@@ -1,14 +1,14 @@
 -- The stops of the pending timers of a client, one after another along the places.
-use Rattle.std.proofs.Common.{◌≡◌, ◌≢◌, ◌<◌, ◌≤◌, ◌+◌, ◌⊎◌, ◌==◌, ℕ, Bool, true, false, not, List, [], ◌∷◌, ◌++◌, length, refl, sym, ◌∙◌, ap, subst, inl, inr, arith, append_assoc, append-nil, length-append}
-use Rattle.std.specs.Prelude.{Option, Some, None, filter, slice_set}
+use Rattle.std.proofs.Common.{◌≡◌, ◌≢◌, ◌<◌, ◌≤◌, ◌+◌, ◌⊎◌, ◌==◌, ℕ, true, false, List, [], ◌∷◌, ◌++◌, length, refl, sym, ◌∙◌, ap, subst, inl, inr, arith, append_assoc, append-nil, length-append}
+use Rattle.std.specs.Prelude.{Option, Some, None, slice_set}
 use Rattle.std.specs.List.{AllByRecursion}
-use Rattle.std.proofs.lemmas.Bool.Decides.{nat_tests}
 use Rattle.std.proofs.lemmas.List.{get_or-set_same, length-set, set-set, set-get_or}
 use Rattle.timer_base.specs.declared.limits.TheConstants.{LAST}
 use Rattle.timer_base.specs.declared.timer.Timer.{Timer}
 use Rattle.timer_base.specs.declared.timer.Handle.{Handle}
-use Rattle.timer_base.specs.Order.{IsNotAmong, AreDistinct}
-use Rattle.timer_base.specs.Pending.{Entry, timers_of, has_handle, has_serial, first_timer, without_serial}
+use Rattle.timer_base.specs.Basics.{either, some_same}
+use Rattle.timer_base.specs.Order.{AreDistinct}
+use Rattle.timer_base.specs.Pending.{Entry, timers_of, has_handle, first_timer, without_serial}
 use Rattle.timer_wheels.specs.HeldPlaces.{AreElsewhere, AreBefore}
 use Rattle.timer_facility.specs.declared.request.Answer.TheVariants.{Stopped}
 use Rattle.timer_facility.specs.declared.event.Out.{Out}
@@ -17,27 +17,15 @@ use Rattle.timer_facility.specs.State.{FacilityState, number_of, count_of, one_o
 use Rattle.timer_facility.specs.Verdict.{not_taken, timer_named, of_client, name_refusal, refusal, verdict_on_request, verdict}
 use Rattle.timer_facility.specs.Step.{StepResult, answered, answer_to, without_timer, step}
 use Rattle.timer_facility.specs.Run.{PlacedEvent, history, state_after, outs_of}
+use Rattle.timer_facility.proofs.FacilityCounts.{count-without}
+use Rattle.timer_facility.proofs.TimerLists.{IsOnly, AreDistinct-only, first_timer-among}
 use Rattle.timer_facility.proofs.VerdictLemmas.{IsKnown, not_taken-none}
 use Rattle.timer_facility.proofs.StepLemmas.{step-accepted}
 use Rattle.timer_desk.specs.Report.{placed}
 use Rattle.timer_desk.specs.Stopping.{stop_step}
 use Rattle.timer_desk_c.specs.DeskSlots.{DeskState}
 use Rattle.timer_desk_c.specs.Stopping.{stops, stops_outs, of_others, AreStopped, IsFirstAt}
-
-either : (b : Bool) → (b ≡ true) ⊎ (b ≡ false)
-either b = elim b as (λ v. (v ≡ true) ⊎ (v ≡ false)) [ true ↦ inl refl | false ↦ inr refl ]
-
-is_equal : (m n : ℕ) → (m == n) ≡ true → m ≡ n
-is_equal m n h = grind (arith, nat_tests)
-
-is_other : (m n : ℕ) → (m == n) ≡ false → m ≢ n
-is_other m n h = grind (arith, nat_tests)
-
-equal_to : (m n : ℕ) → m ≡ n → (m == n) ≡ true
-equal_to m n h = grind (arith, nat_tests)
-
-other_than : (m n : ℕ) → m ≢ n → (m == n) ≡ false
-other_than m n h = grind (arith, nat_tests)
+use Rattle.timer_desk_c.proofs.SmallFacts.{is_equal, is_other, equal_to, other_than, all_weaken}
 
 -- Runs of stops.
 
@@ -77,46 +65,11 @@ outs_append client number (x ∷ xs) h =
 
 -- Entries.
 
-all_weaken : {X : Type 0} (P Q : X → Type 0) → ((x : X) → P x → Q x) → (xs : List X) → AllByRecursion P xs → AllByRecursion Q xs
-all_weaken P Q h [] a = tt
-all_weaken P Q h (x ∷ xs) a = (h x a.0, all_weaken P Q h xs a.1)
-
-all_both : {X : Type 0} (P Q : X → Type 0) (xs : List X) → AllByRecursion P xs → AllByRecursion Q xs
-    → AllByRecursion (λ x. P x × Q x) xs
-all_both P Q [] a b = tt
-all_both P Q (x ∷ xs) a b = ((a.0, b.0), all_both P Q xs a.1 b.1)
-
-not_among-filter : (serial : ℕ) (p : Entry → Bool) (es : List Entry) → IsNotAmong serial (timers_of es)
-    → IsNotAmong serial (timers_of (filter p es))
-not_among-filter serial p [] n = tt
-not_among-filter serial p (e ∷ es) n = elim (either (p e)) [
-  | inl h ↦ rw h (n.0, not_among-filter serial p es n.1)
-  | inr h ↦ rw h (not_among-filter serial p es n.1)
-]
-
-distinct-filter : (p : Entry → Bool) (es : List Entry) → AreDistinct (timers_of es) → AreDistinct (timers_of (filter p es))
-distinct-filter p [] d = tt
-distinct-filter p (e ∷ es) d = elim (either (p e)) [
-  | inl h ↦ rw h (not_among-filter e.timer.serial p es d.0, distinct-filter p es d.1)
-  | inr h ↦ rw h (distinct-filter p es d.1)
-]
-
--- whoever has the serial of the timer that was found is that timer
-abbrev IsOnly : Timer → Entry → Type 0
-IsOnly t e = e.timer.serial ≡ t.serial → e.timer ≡ t
-
-others_only : (t : Timer) (es : List Entry) → IsNotAmong t.serial (timers_of es) → AllByRecursion (IsOnly t) es
-others_only t [] n = tt
-others_only t (e ∷ es) n = ((λ h. absurd (n.0 h)), others_only t es n.1)
-
-same_timer : (a b : Timer) → Some a ≡ Some b → a ≡ b
-same_timer a b e = cc
-
 -- what is found by the handle has its serial
 found_serial : (handle : Handle) (t : Timer) (es : List Entry) → first_timer (has_handle handle) es ≡ Some t → t.serial ≡ handle.serial
 found_serial handle t [] h = absurd (cc)
 found_serial handle t (e ∷ es) h = elim (either (has_handle handle e)) [
-  | inl k ↦ let same : e.timer ≡ t = same_timer e.timer t (rw k at h) in ap (λ (u : Timer). u.serial) (sym same) ∙ serial_of handle e k
+  | inl k ↦ let same : e.timer ≡ t = some_same e.timer t (rw k at h) in ap (λ (u : Timer). u.serial) (sym same) ∙ serial_of handle e k
   | inr k ↦ found_serial handle t es (rw k at h)
 ]
   where
@@ -126,31 +79,8 @@ found_serial handle t (e ∷ es) h = elim (either (has_handle handle e)) [
       | inr k ↦ absurd (let g : false ≡ true = rw k at h in cc)
     ]
 
-found_absent : (handle : Handle) (t : Timer) (serial : ℕ) (es : List Entry) → IsNotAmong serial (timers_of es)
-    → first_timer (has_handle handle) es ≡ Some t → t.serial ≢ serial
-found_absent handle t serial [] n h = absurd (cc)
-found_absent handle t serial (e ∷ es) n h = elim (either (has_handle handle e)) [
-  | inl k ↦
-      let same : e.timer ≡ t = same_timer e.timer t (rw k at h) in
-      subst (λ (u : Timer). u.serial ≢ serial) same n.0
-  | inr k ↦ found_absent handle t serial es n.1 (rw k at h)
-]
-
--- serials are distinct, so the one that is found is the only one with its serial
-found_only : (handle : Handle) (t : Timer) (es : List Entry) → AreDistinct (timers_of es)
-    → first_timer (has_handle handle) es ≡ Some t → AllByRecursion (IsOnly t) es
-found_only handle t [] d h = tt
-found_only handle t (e ∷ es) d h = elim (either (has_handle handle e)) [
-  | inl k ↦
-      let same : e.timer ≡ t = same_timer e.timer t (rw k at h) in
-      ((λ q. same), others_only t es (subst (λ (u : Timer). IsNotAmong u.serial (timers_of es)) same d.0))
-  | inr k ↦
-      let there : first_timer (has_handle handle) es ≡ Some t = rw k at h in
-      ((λ q. absurd (found_absent handle t e.timer.serial es d.0 there (sym q))), found_only handle t es d.1 there)
-]
-
 -- the entries without the timer that was found, a client's own
-others_kept : (client : ℕ) (t : Timer) (es : List Entry) → t.client ≡ client → AllByRecursion (IsOnly t) es
+others_kept : (client : ℕ) (t : Timer) (es : List Entry) → t.client ≡ client → AllByRecursion (IsOnly t) (timers_of es)
     → of_others client (without_serial t.serial es) ≡ of_others client es
 others_kept client t [] own a = refl
 others_kept client t (e ∷ es) own a = elim (either (e.timer.serial == t.serial)) [
@@ -164,33 +94,14 @@ others_kept client t (e ∷ es) own a = elim (either (e.timer.serial == t.serial
   ]
 ]
 
-count_without-none : (client serial : ℕ) (es : List Entry) → IsNotAmong serial (timers_of es)
-    → count_of client (timers_of (without_serial serial es)) ≡ count_of client (timers_of es)
-count_without-none client serial [] n = refl
-count_without-none client serial (e ∷ es) n =
-    rw (other_than e.timer.serial serial n.0) (ap (λ k. one_of client e.timer + k) (count_without-none client serial es n.1))
-
 -- one fewer of the client is pending without it
 count_without : (client : ℕ) (handle : Handle) (t : Timer) (es : List Entry) → t.client ≡ client → AreDistinct (timers_of es)
     → first_timer (has_handle handle) es ≡ Some t
     → 1 + count_of client (timers_of (without_serial t.serial es)) ≡ count_of client (timers_of es)
-count_without client handle t [] own d h = absurd (cc)
-count_without client handle t (e ∷ es) own d h = elim (either (has_handle handle e)) [
-  | inl k ↦
-      let same : e.timer ≡ t = same_timer e.timer t (rw k at h) in
-      let serial : e.timer.serial ≡ t.serial = ap (λ (u : Timer). u.serial) same in
-      let here : (e.timer.serial == t.serial) ≡ true = equal_to e.timer.serial t.serial serial in
-      let mine : (e.timer.client == client) ≡ true = equal_to e.timer.client client (ap (λ (u : Timer). u.client) same ∙ own) in
-      let none : IsNotAmong t.serial (timers_of es) = subst (λ n. IsNotAmong n (timers_of es)) serial d.0 in
-      rw (here, mine) (ap (λ k. 1 + k) (count_without-none client t.serial es none))
-  | inr k ↦
-      let there : first_timer (has_handle handle) es ≡ Some t = rw k at h in
-      let other : (e.timer.serial == t.serial) ≡ false =
-      other_than e.timer.serial t.serial (λ q. found_absent handle t e.timer.serial es d.0 there (sym q)) in
-      let ih : 1 + count_of client (timers_of (without_serial t.serial es)) ≡ count_of client (timers_of es) =
-      count_without client handle t es own d.1 there in
-      rw other (omega arith)
-]
+count_without client handle t es own d h =
+    let fewer = count-without client t es d (first_timer-among (has_handle handle) t es h) in
+    let one : one_of client t ≡ 1 = rw (equal_to t.client client own) refl in
+    omega (arith, fewer, one)
 
 -- The walk.
 
@@ -284,11 +195,14 @@ pub record IsStopping (client place : ℕ) (s t : FacilityState) : Type 0 where
   pub left : t ≡ with_left client s t.pending (number_of s client + length handles)
   pub others : of_others client t.pending ≡ of_others client s.pending
   pub counted : length handles + pending_of t client ≡ pending_of s client
-  pub distinct : AreDistinct (timers_of t.pending)
   pub passed : ArePassed client place t.pending
 
-pub stopping-none : (client : ℕ) (s : FacilityState) → MayStop client s → AreDistinct (timers_of s.pending) → IsStopping client 0 s s
-stopping-none client s m d = record {
+none_passed : (client : ℕ) (es : List Entry) → ArePassed client 0 es
+none_passed client [] = tt
+none_passed client (e ∷ es) = (inl (omega arith), none_passed client es)
+
+pub stopping-none : (client : ℕ) (s : FacilityState) → IsStopping client 0 s s
+stopping-none client s = record {
   handles = [];
   state_is = refl;
   outs_are = refl;
@@ -298,13 +212,8 @@ stopping-none client s m d = record {
       (set-get_or s.numbers client 0));
   others = refl;
   counted = omega arith;
-  distinct = d;
-  passed = all_weaken (λ e. Unit {0}) (λ e. (0 ≤ e.place) ⊎ (e.timer.client ≢ client)) (λ e u. inl (omega arith)) s.pending (all_units s.pending);
+  passed = none_passed client s.pending;
 }
-  where
-    all_units : (es : List Entry) → AllByRecursion (λ e. Unit {0}) es
-    all_units [] = tt
-    all_units (e ∷ es) = (tt, all_units es)
 
 -- the timer that was found is another client's
 pub stopping-other : (client place : ℕ) (s t : FacilityState) (handle : Handle) → IsStopping client place s t
@@ -316,7 +225,6 @@ stopping-other client place s t handle h first none = record {
   left = h.left;
   others = h.others;
   counted = h.counted;
-  distinct = h.distinct;
   passed = passed_other client handle first.timer foreign t.pending
       (all_past client place handle first.timer t.pending h.passed first.alone first.elsewhere);
 }
@@ -361,7 +269,8 @@ is_own client o t e some = elim (either (t.client == client)) [
 
 -- the timer that was found is the client's, and is stopped
 module _ (client place : ℕ) (s t : FacilityState) (handle : Handle) (may : MayStop client s) (h : IsStopping client place s t)
-    (first : IsFirstAt place t.pending handle) (own : timer_named t client (ByHandle handle) ≢ None) where
+    (distinct : AreDistinct (timers_of t.pending)) (first : IsFirstAt place t.pending handle)
+    (own : timer_named t client (ByHandle handle) ≢ None) where
   abbrev found : Timer
   found = first.timer
 
@@ -376,7 +285,7 @@ module _ (client place : ℕ) (s t : FacilityState) (handle : Handle) (may : May
       ∙ get_or-set_same s.numbers client number 0 may.is_client
 
   one_fewer : 1 + count_of client (timers_of (without_serial found.serial t.pending)) ≡ pending_of t client
-  one_fewer = count_without client handle found t.pending mine h.distinct first.there
+  one_fewer = count_without client handle found t.pending mine distinct first.there
 
   known : IsKnown t client (number_of t client)
   known = record {
@@ -446,20 +355,22 @@ module _ (client place : ℕ) (s t : FacilityState) (handle : Handle) (may : May
     left =
         after_left ∙ ap (λ es. with_left client s es (number_of s client + length handles)) (sym after_pending);
     others = ap (of_others client) after_pending
-        ∙ (others_kept client found t.pending mine (found_only handle found t.pending h.distinct first.there) ∙ h.others);
+        ∙ (others_kept client found t.pending mine only_one ∙ h.others);
     counted =
         let fewer = one_fewer in
         let counted = h.counted in
         let m = many in
         let e : pending_of after client ≡ count_of client (timers_of left_pending) = ap (λ es. count_of client (timers_of es)) after_pending in
         omega (arith, fewer, counted, m, e);
-    distinct = subst (λ es. AreDistinct (timers_of es)) (sym after_pending)
-        (distinct-filter (λ e. not (has_serial found.serial e.timer)) t.pending h.distinct);
     passed = subst (ArePassed client (handle.place + 1)) (sym after_pending)
         (passed_own client handle found t.pending
         (all_past client place handle found t.pending h.passed first.alone first.elsewhere));
   }
     where
+      only_one : AllByRecursion (IsOnly found) (timers_of t.pending)
+      only_one = AreDistinct-only found (timers_of t.pending) distinct
+          (first_timer-among (has_handle handle) found t.pending first.there)
+
       one_more : outs_of (history (state_after s (stops client (number_of s client) h.handles)) (one_stop client number handle ∷ []))
           ≡ one_out client number handle ∷ []
       one_more =
@@ -498,7 +409,8 @@ stopping-done client place s t h before =
 
 -- the timer at the first place with one is stopped if it is the client's
 module _ (client place : ℕ) (s : FacilityState) (d d' : DeskState) (handle : Handle) (may : MayStop client s)
-    (h : IsStopping client place s d.facility) (first : IsFirstAt place d.facility.pending handle)
+    (h : IsStopping client place s d.facility) (distinct : AreDistinct (timers_of d.facility.pending))
+    (first : IsFirstAt place d.facility.pending handle)
     (own : timer_named d.facility client (ByHandle handle) ≢ None
     → d' ≡ record d { facility = (stop_step d.facility client handle).state })
     (other : timer_named d.facility client (ByHandle handle) ≡ None → d' ≡ d) where
@@ -513,7 +425,7 @@ module _ (client place : ℕ) (s : FacilityState) (d d' : DeskState) (handle : H
       let some : timer_named d.facility client (ByHandle handle) ≢ None = λ q. absurd (let g : Some t ≡ None = sym e ∙ q in cc) in
       let is = own some in (
         subst (λ (x : DeskState). IsStopping client (handle.place + 1) s x.facility) (sym is)
-            (stopping-own client place s d.facility handle may h first some),
+            (stopping-own client place s d.facility handle may h distinct first some),
         is ∙ ap (λ (x : DeskState). let y : DeskState = record d { facility = x.facility } in y) (sym is),
       )
 

@@ -1,10 +1,9 @@
 -- The owner's desk, before and after a call.
-use Rattle.std.specs.Prelude.{ℕ, ◌≡◌, ◌≢◌, ◌<◌, ◌≤◌, ◌⊎◌, ◌==◌, Bool, true, false, List, [], ◌∷◌, length, get_or, map, Ok, Err, Some, None, Result, IfOk, if◌then◌else◌}
-use Rattle.timer_base.specs.declared.limits.TheConstants.{LAST}
-use Rattle.timer_base.specs.WakeUps.{next_deadline}
-use Rattle.timer_wheels.specs.declared.table.Table.TheVariants.{Wide, Clock}
-use Rattle.timer_wheels.specs.declared.table.TheConstants.{LAST_OF_CLOCK}
-use Rattle.timer_wheels.specs.Tables.{slots_of_table}
+use Rattle.std.specs.Prelude.{ℕ, ◌≡◌, ◌≢◌, ◌<◌, ◌≤◌, ◌⊎◌, Bool, true, false, List, [], ◌∷◌, length, get_or, map, Ok, Err, Some, None, Result, IfOk}
+use Rattle.timer_base.specs.WakeUps.{IsWakeUp, next_deadline}
+use Rattle.timer_wheels.specs.Tables.{slots_of_table, last_of_table}
+use Rattle.timer_wheels.specs.declared.table.Table.{Table}
+use Rattle.timer_wheels.specs.TableNumbers.{IsTableFor}
 use Rattle.timer_facility.specs.declared.config.Config as facility
 use Rattle.timer_facility.specs.declared.request.TickFault.{TickFault}
 use Rattle.timer_facility.specs.declared.request.CloseFault.{CloseFault}
@@ -13,7 +12,6 @@ use Rattle.timer_facility.specs.declared.request.CloseFault.TheVariants as Close
 use Rattle.timer_facility.specs.Config.{config_fault}
 use Rattle.timer_facility.specs.Opened.{opened}
 use Rattle.timer_facility.specs.State.{FacilityState, with_room}
-use Rattle.timer_facility.specs.WakeUps.{IsWakeUp}
 use Rattle.timer_desk.specs.declared.constructor.TheConstants.{MIN_ROOM, MAX_ROOM}
 use Rattle.timer_desk.specs.declared.report.Served.{Served}
 use Rattle.timer_desk.specs.declared.report.Served.TheVariants as Serveds
@@ -28,7 +26,7 @@ use Rattle.timer_desk_c.specs.declared.layout.TheConstants.{CONFIG_SIZE}
 use Rattle.timer_desk_c.specs.declared.c_structs.CLine.{CLine}
 use Rattle.timer_desk_c.specs.declared.line.Line.{Line}
 use Rattle.timer_desk_c.specs.declared.desk_maker.TheConstants.{MIN_LINE, MAX_LINE}
-use Rattle.timer_desk_c.specs.declared.status.TheConstants.{OK, NO_MEMORY, IDLE, NO_ROOM, OUT_OF_RANGE, CLOSED, CLOCK_END, NO_CLIENT, NOT_FINISHED, OTHER_LINE, WIDE, CLOCK, NEVER}
+use Rattle.timer_desk_c.specs.declared.status.TheConstants.{OK, NO_MEMORY, IDLE, NO_ROOM, OUT_OF_RANGE, CLOSED, CLOCK_END, NO_CLIENT, NOT_FINISHED, OTHER_LINE, NEVER}
 use Rattle.timer_desk_c.specs.DeskSlots.{DeskState}
 use Rattle.timer_desk_c.specs.Frames.{HasLine, HasNoLine}
 use Rattle.timer_desk_c.specs.Lines.{requests_ring_on, words_ring_on, submitted_on, received_on, next_on, free_on, is_open_line, IsSameLine, SameTraffic}
@@ -43,22 +41,11 @@ config_of clients c = record {
   first_number = 1;
 }
 
--- the last tick of the clock with this table
-abbrev pub last_of : ℕ → ℕ
-last_of table = if table == WIDE then LAST else LAST_OF_CLOCK
-
--- how many slots the wheels with this table have
-abbrev pub slots_of : ℕ → ℕ
-slots_of table = if table == WIDE then slots_of_table Wide else slots_of_table Clock
-
--- there is such a table, and it has the first tick
-abbrev pub HasTable : DeskConfig → Type 0
-HasTable c = (c.table ≤ CLOCK) × (c.first_tick ≤ last_of c.table)
-
 -- each number is in its range
 abbrev pub IsFit : ℕ → DeskConfig → Type 0
 IsFit clients c =
-    (c.size ≡ CONFIG_SIZE) × (config_fault (config_of clients c) ≡ None) × HasTable c × (MIN_ROOM ≤ c.room) × (c.room ≤ MAX_ROOM)
+    (c.size ≡ CONFIG_SIZE) × (config_fault (config_of clients c) ≡ None)
+    × ((table : Table) × IsTableFor c.table c.first_tick table) × (MIN_ROOM ≤ c.room) × (c.room ≤ MAX_ROOM)
     × (MIN_LINE ≤ c.line) × (c.line ≤ MAX_LINE)
 
 -- the client's end is of this inlet's line
@@ -109,9 +96,11 @@ pub record IsOneHeld (lines : List CLine) : Type 0 where
   pub held : (x : CLine) → HasLine (get_or lines index x)
 
 -- a new desk of this configuration over these lines
-abbrev pub IsNewDesk : ℕ → DeskConfig → DeskState → Type 0
-IsNewDesk clients c d = (d ≡ opened_desk (opened (config_of clients c) (last_of c.table) (slots_of c.table)) d.inlets c.room)
-    × (clients_of d ≡ clients)
+pub record IsNewDesk (clients : ℕ) (c : DeskConfig) (d : DeskState) : Type 0 where
+  pub table : Table
+  pub is_table : IsTableFor c.table c.first_tick table
+  pub is : d ≡ opened_desk (opened (config_of clients c) (last_of_table table) (slots_of_table table)) d.inlets c.room
+  pub as_many : clients_of d ≡ clients
 
 -- a new desk, and its lines at C, in this life of its struct
 pub record IsMade (life : ℕ) (c : DeskConfig) (d : DeskState) (lines : List CLine) : Type 0 where
@@ -175,7 +164,7 @@ with_reserve d = record d { facility = with_room d.facility }
 
 -- the tick until which nothing expires
 abbrev pub IsNextTick : ℕ → FacilityState → Type 0
-IsNextTick tick s = ((tick ≡ NEVER) × (s.pending ≡ [])) ⊎ IsWakeUp tick s
+IsNextTick tick s = ((tick ≡ NEVER) × (s.pending ≡ [])) ⊎ IsWakeUp tick s.now s.pending
 
 -- the first pending deadline
 abbrev pub IsFirstDeadline : ℕ → FacilityState → Type 0

@@ -1,5 +1,6 @@
 -- The words to a client that is gone: those that its line does not take are dropped.
-use Rattle.std.specs.Prelude.{ℕ, ◌≡◌, ◌≢◌, ◌<◌, Bool, true, false, [], length, get_or}
+use Rattle.std.specs.Prelude.{ℕ, ◌≡◌, ◌≢◌, ◌+◌, ◌<◌, Bool, List, [], length, get_or, nat_lt}
+use Rattle.std.specs.List.{list_any}
 use Rattle.timer_desk.specs.declared.ring.RingInlet.{RingInlet}
 use Rattle.timer_desk.specs.declared.looks.Found.TheVariants.{Nothing}
 use Rattle.timer_desk.specs.Backlog.{BacklogState}
@@ -30,12 +31,14 @@ pub record HasDropped (client : ℕ) (old new : DeskState) : Type 0 where
 abbrev pub waiting_at : DeskState → ℕ → ℕ
 waiting_at d c = length (backlog_at d c).outbox
 
--- so for each client, and whether a word was dropped
+-- so for each client, of which this many words were dropped; and whether any was
 pub record HasDroppedEach (dropped : Bool) (old new : DeskState) : Type 0 where
+  pub counts : List ℕ
+  pub as_many : length counts ≡ clients_of old
   pub same_facility : new.facility ≡ old.facility
   pub same_clients : clients_of new ≡ clients_of old
   pub as_many_backlogs : length new.backlogs ≡ length old.backlogs
   pub each : (c : ℕ) (i : RingInlet) → c < clients_of old → IsDropped (get_or old.inlets c i)
       (get_or new.inlets c i) (backlog_at old c) (backlog_at new c)
-  pub some : dropped ≡ true → (c : ℕ) × (c < clients_of old) × (waiting_at new c < waiting_at old c)
-  pub none : dropped ≡ false → (c : ℕ) → c < clients_of old → waiting_at new c ≡ waiting_at old c
+  pub counted : (c : ℕ) → c < clients_of old → get_or counts c 0 + waiting_at new c ≡ waiting_at old c
+  pub dropped_is : dropped ≡ list_any (nat_lt 0) counts

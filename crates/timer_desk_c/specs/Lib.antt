@@ -9,7 +9,6 @@ pub mod Desks
 pub mod Ticks
 pub mod Dropped
 pub mod Rounds
-pub mod ClientServes
 pub mod Shutdown
 pub mod ShutdownAll
 pub mod Freed

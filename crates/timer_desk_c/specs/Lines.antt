@@ -7,10 +7,12 @@ use Rattle.timer_desk.specs.declared.word.Word.{Word}
 use Rattle.timer_desk.specs.Ring.{Ring, line_of_end, requests_ring_of, words_ring_of_reader, submitted, all_submitted, received_by_end, read_by, unread_by, is_settled_reader, seen_by_end, seen_by_reader, free_of, next_of, numbered, found_by_end, found_by_reader}
 use Rattle.timer_desk.specs.declared.looks.Found.{Found}
 use Rattle.timer_desk.specs.declared.looks.Found.TheVariants.{Nothing}
+use Rattle.timer_desk_c.specs.declared.c_structs.CLine.{CLine}
 use Rattle.timer_desk_c.specs.declared.line.Line.{Line}
 use Rattle.timer_desk_c.specs.declared.line.Line.TheVariants.{Open, Finished, Gone}
 use Rattle.timer_desk_c.specs.declared.layout.Message.{Message}
-use Rattle.timer_desk_c.specs.declared.status.TheConstants.{LINE_FULL, NUMBERS_SPENT, FINISHED}
+use Rattle.timer_desk_c.specs.declared.status.TheConstants.{OK, NOT_OPEN, LINE_FULL, NUMBERS_SPENT, FINISHED}
+use Rattle.timer_desk_c.specs.Frames.{HasLine, HasNoLine, with_line}
 use Rattle.timer_desk_c.specs.Messages.{message_of}
 
 -- it has not finished
@@ -110,6 +112,17 @@ WhyNotSent old new status =
     ((status ≡ FINISHED) × (is_open_line old ≡ false))
     ⊎ ((status ≡ NUMBERS_SPENT) × (is_open_line old ≡ true) × (LAST < next_on old))
     ⊎ ((status ≡ LINE_FULL) × (is_open_line old ≡ true) × (next_on old ≤ LAST) × (free_on new ≡ 0))
+
+-- A request is sent over C's line: what the call did if it returns `OK`, and else why not, and what is unchanged then.
+-- Of the struct only the state of the line changes. The call writes the number over the one before.
+pub record Sends (request : Request) (status before number : ℕ) (old new : CLine) : Type 0 where
+  pub sent : status ≡ OK → HasLine old × HasSent request old.slot.state new.slot.state number
+  pub refused : 0 < status → ((status ≡ NOT_OPEN) × HasNoLine old)
+      ⊎ (HasLine old × WhyNotSent old.slot.state new.slot.state status)
+  pub kept : 0 < status → SameTraffic old.slot.state new.slot.state × (number ≡ before)
+  pub received : received_on new.slot.state ≡ received_on old.slot.state
+  pub line : IsSameLine old.slot.state new.slot.state
+  pub only : new ≡ with_line old new.slot.state
 
 -- a word was received, and this is it
 pub record HasReceived (old new : Line) (out : Message) : Type 0 where

@@ -98,8 +98,8 @@ pub extern "C" fn timers_desk_serve(d: &mut CDesk, client: usize) -> u32
     calls::serve(d.slot.desk(), client)
 }
 
-/// Serves each client in turn, each up to `most` times. Returns `NO_MEMORY` if memory ran out for a request,
-/// else `OK` if one was done, else `IDLE`.
+/// Serves each client in turn, each up to `most` times. Returns `NO_MEMORY` if a serve failed with out of memory,
+/// else `OK` if a request was done, else `IDLE`.
 #[unsafe(no_mangle)]
 pub extern "C" fn timers_desk_serve_all(d: &mut CDesk, most: u64) -> u32
     ensures served { IsOpen d.old → HasServedAll most result d.old.slot.state d.new.slot.state }

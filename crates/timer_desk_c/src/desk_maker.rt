@@ -4,17 +4,17 @@ ghost use Rattle.timer_facility.specs.Facility.{with_nothing_waiting};
 ghost use Rattle.timer_facility.specs.Opened.{opened};
 ghost use Rattle.timer_desk.specs.Desk.{clients_of};
 ghost use Rattle.timer_wheels.specs.Tables.{last_of_table, slots_of_table};
-ghost use Rattle.timer_desk_c.specs.Desks.{config_of, last_of, slots_of, IsFit, AreNewLines, IsNewDesk, WhyNotMade};
-ghost use Rattle.timer_desk_c.specs.declared.status.TheConstants.{CLOCK};
+ghost use Rattle.timer_wheels.specs.TableNumbers.{IsTableFor};
+ghost use Rattle.timer_desk_c.specs.Desks.{config_of, IsFit, AreNewLines, IsNewDesk, WhyNotMade};
 
 use crate::layout::{CONFIG_SIZE, DeskConfig};
 use crate::line::Line;
-use crate::status::{CLOCK, NO_MEMORY, OUT_OF_RANGE, WIDE};
+use crate::status::{NO_MEMORY, OUT_OF_RANGE};
 use std::alloc::Global;
-use timer_base::{LAST, OutOfMemory};
+use timer_base::OutOfMemory;
 use timer_desk::{Desk, MAX_ROOM, MIN_ROOM, RingInlet, ring_line};
 use timer_facility::{Checked, Config, Facility};
-use timer_wheels::{HierWheel, LAST_OF_CLOCK, Table};
+use timer_wheels::{HierWheel, Table};
 
 /// The least room of a line, each way.
 pub const MIN_LINE: usize = 1;
@@ -43,11 +43,10 @@ pub(crate) fn make(alloc: Global, clients: usize, config: DeskConfig) -> Result<
     ensures as_many { IfOk result (λ m. vec_len m.ends ≡ clients) }
     ensures err { IfErr result (WhyNotMade clients config) }
 {
-    let checked = match checked(clients, config) {
-        Some(checked) => checked,
-        None => return Err(OUT_OF_RANGE),
+    let Some((checked, table)) = checked(clients, config) else {
+        return Err(OUT_OF_RANGE);
     };
-    let Ok(facility) = new_facility(alloc, checked, config.table) else {
+    let Ok(facility) = new_facility(alloc, checked, table) else {
         return Err(NO_MEMORY);
     };
     let Ok(lines) = new_lines(alloc, clients, config.line) else {
@@ -63,9 +62,10 @@ pub(crate) fn make(alloc: Global, clients: usize, config: DeskConfig) -> Result<
     }
 }
 
-/// The configuration of the facility, if each number is in its range.
-fn checked(clients: usize, config: DeskConfig) -> Option<Checked>
-    ensures some { (c : _) → result ≡ Some c → (c ≡ config_of clients config) × IsFit clients config }
+/// The configuration of the facility and the wheels' table, if each number is in its range.
+fn checked(clients: usize, config: DeskConfig) -> Option<(Checked, Table)>
+    ensures some { IfSome result (λ made. (made.0 ≡ config_of clients config)
+        × IsTableFor config.table config.first_tick made.1 × IsFit clients config) }
     ensures none { result ≡ None → IsFit clients config → ⊥ }
 {
     if config.size != CONFIG_SIZE {
@@ -77,9 +77,7 @@ fn checked(clients: usize, config: DeskConfig) -> Option<Checked>
     if config.line < MIN_LINE || config.line > MAX_LINE {
         return None;
     }
-    if config.table > CLOCK || config.first_tick > last_of(config.table) {
-        return None;
-    }
+    let table = table_of(config)?;
     let numbers = Config {
         clients: clients as u64,
         capacity: config.capacity,
@@ -88,42 +86,35 @@ fn checked(clients: usize, config: DeskConfig) -> Option<Checked>
         first_number: 1,
     };
     match numbers.check() {
-        Ok(checked) => Some(checked),
+        Ok(checked) => Some((checked, table)),
         Err(_) => None,
     }
 }
 
-/// The last tick of the clock with this table.
-fn last_of(table: u32) -> u64
-    ensures { result ≡ last_of table }
+/// The wheels' table, if there is one with the configuration's number, and its clock has the first tick.
+fn table_of(config: DeskConfig) -> Option<Table>
+    ensures some { IfSome result (IsTableFor config.table config.first_tick) }
+    ensures none { result ≡ None → (table : _) → IsTableFor config.table config.first_tick table → ⊥ }
 {
-    if table == WIDE { LAST } else { LAST_OF_CLOCK }
-}
-
-/// The table with this number.
-fn table_of(number: u32) -> Table
-    ensures last { last_of_table result ≡ last_of number }
-    ensures slots { slots_of_table result ≡ slots_of number }
-{
-    if number == WIDE {
-        Table::Wide
-    } else {
-        Table::Clock
+    let table = Table::with_number(config.table)?;
+    if config.first_tick > table.last_tick() {
+        return None;
     }
+    Some(table)
 }
 
 /// A facility with this configuration, over the clock with this table.
 fn new_facility(
     alloc: Global,
     checked: Checked,
-    table: u32,
+    table: Table,
 ) -> Result<Facility<HierWheel>, OutOfMemory>
     requires { checked.first_serial ≡ 1 }
-    ensures { IfOk result (λ f. f ≡ with_nothing_waiting (opened checked (last_of table)
-        (slots_of table))) }
+    ensures { IfOk result (λ f. f ≡ with_nothing_waiting (opened checked (last_of_table table)
+        (slots_of_table table))) }
 {
     let config = checked.config();
-    let Ok(wheel) = HierWheel::with_table(alloc, table_of(table), config.first_tick) else {
+    let Ok(wheel) = HierWheel::with_table(alloc, table, config.first_tick) else {
         return Err(OutOfMemory);
     };
     Ok(Facility::open(alloc, checked, wheel))

@@ -87,7 +87,7 @@ impl Line {
         }
     }
 
-    /// Whether no word comes any more: they have ended, and all were received.
+    /// Whether no further word will arrive: the words have ended, and all of them were received.
     pub(crate) fn is_read_to_end(&self) -> bool
         ensures yes { result ≡ true → IsReadToEnd self.now }
         ensures no { result ≡ false → MayReceive self.now }

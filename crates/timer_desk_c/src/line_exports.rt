@@ -7,7 +7,7 @@ ghost use Rattle.std.specs.Prelude.{◌≡◌, ◌<◌, ◌⊎◌, ◌↔◌, �
 ghost use Rattle.timer_facility.specs.declared.request.Request.TheVariants.{Start, StartAt, Stop, Restart, RestartAt};
 ghost use Rattle.timer_desk.specs.declared.looks.Found.TheVariants as Found;
 ghost use Rattle.timer_desk_c.specs.Frames.{HasLine, HasNoLine, with_line};
-ghost use Rattle.timer_desk_c.specs.Lines.{HasSent, WhyNotSent, SameTraffic, SameSent, HasReceived, HasFinished, IsReadToEnd, MayReceive, IsSameLine, is_open_line, is_ended_line, seen_on, unread_on, received_on, found_on};
+ghost use Rattle.timer_desk_c.specs.Lines.{Sends, HasSent, WhyNotSent, SameTraffic, SameSent, HasReceived, HasFinished, IsReadToEnd, MayReceive, IsSameLine, is_open_line, is_ended_line, seen_on, unread_on, received_on, found_on};
 ghost use Rattle.timer_desk_c.specs.Freed.{HasNoWord};
 ghost use Rattle.timer_desk_c.specs.Messages.{base_handle};
 ghost use Rattle.timer_desk_c.specs.declared.status.TheConstants.{OK, NOT_OPEN, FINISHED};
@@ -27,22 +27,9 @@ pub extern "C" fn timers_line_start(
     action: u64,
     number: &mut u64,
 ) -> u32
-    ensures sent { result ≡ OK → HasLine line.old × HasSent
-        (Start interval action) line.old.slot.state line.new.slot.state number.new }
-    ensures refused { 0 < result → ((result ≡ NOT_OPEN) × HasNoLine line.old)
-        ⊎ (HasLine line.old × WhyNotSent line.old.slot.state line.new.slot.state result) }
-    ensures kept { 0 < result → SameTraffic line.old.slot.state line.new.slot.state
-        × (number.new ≡ number.old) }
-    ensures received { received_on line.new.slot.state ≡ received_on line.old.slot.state }
-    ensures line { IsSameLine line.old.slot.state line.new.slot.state }
-    ensures only { line.new ≡ with_line line.old line.new.slot.state }
+    ensures { Sends (Start interval action) result number.old number.new line.old line.new }
 {
-    if !line.slot.holds() {
-        return NOT_OPEN;
-    }
-    line.slot
-        .line()
-        .send(Request::Start { interval, action }, number)
+    send(line, Request::Start { interval, action }, number)
 }
 
 /// Sends the request to start a timer that expires at the tick `deadline`, and writes the request's number.
@@ -53,43 +40,17 @@ pub extern "C" fn timers_line_start_at(
     action: u64,
     number: &mut u64,
 ) -> u32
-    ensures sent { result ≡ OK → HasLine line.old × HasSent
-        (StartAt deadline action) line.old.slot.state line.new.slot.state number.new }
-    ensures refused { 0 < result → ((result ≡ NOT_OPEN) × HasNoLine line.old)
-        ⊎ (HasLine line.old × WhyNotSent line.old.slot.state line.new.slot.state result) }
-    ensures kept { 0 < result → SameTraffic line.old.slot.state line.new.slot.state
-        × (number.new ≡ number.old) }
-    ensures received { received_on line.new.slot.state ≡ received_on line.old.slot.state }
-    ensures line { IsSameLine line.old.slot.state line.new.slot.state }
-    ensures only { line.new ≡ with_line line.old line.new.slot.state }
+    ensures { Sends (StartAt deadline action) result number.old number.new line.old line.new }
 {
-    if !line.slot.holds() {
-        return NOT_OPEN;
-    }
-    line.slot
-        .line()
-        .send(Request::StartAt { deadline, action }, number)
+    send(line, Request::StartAt { deadline, action }, number)
 }
 
 /// Sends the request to stop the timer with this handle, and writes the request's number.
 #[unsafe(no_mangle)]
 pub extern "C" fn timers_line_stop(line: &mut CLine, handle: CHandle, number: &mut u64) -> u32
-    ensures sent { result ≡ OK → HasLine line.old × HasSent
-        (Stop (base_handle handle)) line.old.slot.state line.new.slot.state number.new }
-    ensures refused { 0 < result → ((result ≡ NOT_OPEN) × HasNoLine line.old)
-        ⊎ (HasLine line.old × WhyNotSent line.old.slot.state line.new.slot.state result) }
-    ensures kept { 0 < result → SameTraffic line.old.slot.state line.new.slot.state
-        × (number.new ≡ number.old) }
-    ensures received { received_on line.new.slot.state ≡ received_on line.old.slot.state }
-    ensures line { IsSameLine line.old.slot.state line.new.slot.state }
-    ensures only { line.new ≡ with_line line.old line.new.slot.state }
+    ensures { Sends (Stop (base_handle handle)) result number.old number.new line.old line.new }
 {
-    if !line.slot.holds() {
-        return NOT_OPEN;
-    }
-    line.slot
-        .line()
-        .send(Request::Stop(from_c_handle(handle)), number)
+    send(line, Request::Stop(from_c_handle(handle)), number)
 }
 
 /// Sends the request to stop the timer with this handle and start another in its place, and writes the
@@ -102,28 +63,15 @@ pub extern "C" fn timers_line_restart(
     action: u64,
     number: &mut u64,
 ) -> u32
-    ensures sent { result ≡ OK → HasLine line.old
-        × HasSent (Restart (base_handle handle) interval action)
-        line.old.slot.state line.new.slot.state number.new }
-    ensures refused { 0 < result → ((result ≡ NOT_OPEN) × HasNoLine line.old)
-        ⊎ (HasLine line.old × WhyNotSent line.old.slot.state line.new.slot.state result) }
-    ensures kept { 0 < result → SameTraffic line.old.slot.state line.new.slot.state
-        × (number.new ≡ number.old) }
-    ensures received { received_on line.new.slot.state ≡ received_on line.old.slot.state }
-    ensures line { IsSameLine line.old.slot.state line.new.slot.state }
-    ensures only { line.new ≡ with_line line.old line.new.slot.state }
+    ensures { Sends (Restart (base_handle handle) interval action) result number.old number.new line.old line.new }
 {
-    if !line.slot.holds() {
-        return NOT_OPEN;
-    }
-    line.slot.line().send(
-        Request::Restart {
-            handle: from_c_handle(handle),
-            interval,
-            action,
-        },
-        number,
-    )
+    let handle = from_c_handle(handle);
+    let request = Request::Restart {
+        handle,
+        interval,
+        action,
+    };
+    send(line, request, number)
 }
 
 /// Sends the request to stop the timer with this handle and start another in its place that expires at the tick
@@ -136,9 +84,22 @@ pub extern "C" fn timers_line_restart_at(
     action: u64,
     number: &mut u64,
 ) -> u32
+    ensures { Sends (RestartAt (base_handle handle) deadline action) result number.old number.new line.old line.new }
+{
+    let handle = from_c_handle(handle);
+    let request = Request::RestartAt {
+        handle,
+        deadline,
+        action,
+    };
+    send(line, request, number)
+}
+
+/// Sends a request, and writes its number.
+#[inline]
+fn send(line: &mut CLine, request: Request, number: &mut u64) -> u32
     ensures sent { result ≡ OK → HasLine line.old
-        × HasSent (RestartAt (base_handle handle) deadline action)
-        line.old.slot.state line.new.slot.state number.new }
+        × HasSent request line.old.slot.state line.new.slot.state number.new }
     ensures refused { 0 < result → ((result ≡ NOT_OPEN) × HasNoLine line.old)
         ⊎ (HasLine line.old × WhyNotSent line.old.slot.state line.new.slot.state result) }
     ensures kept { 0 < result → SameTraffic line.old.slot.state line.new.slot.state
@@ -150,14 +111,7 @@ pub extern "C" fn timers_line_restart_at(
     if !line.slot.holds() {
         return NOT_OPEN;
     }
-    line.slot.line().send(
-        Request::RestartAt {
-            handle: from_c_handle(handle),
-            deadline,
-            action,
-        },
-        number,
-    )
+    line.slot.line().send(request, number)
 }
 
 /// Receives the next word. Returns whether there was one.

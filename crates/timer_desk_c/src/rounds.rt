@@ -1,9 +1,8 @@
-//! Rounds of the owner: each client is served, or each outbox flushed.
+//! Rounds of the owner: each client is served, or each outbox flushed, in the order of the clients.
 ghost use Rattle.std.specs.Prelude.{◌≡◌, ◌<◌, ◌||◌, nat_lt};
 ghost use Rattle.timer_desk.specs.Desk.{clients_of};
-ghost use Rattle.timer_desk_c.specs.Rounds.{did, starved, round_status, HasServedAll, HasFlushedEach, HasFlushedAll};
+ghost use Rattle.timer_desk_c.specs.Rounds.{did, starved, round_status, HasServedClient, HasServedAll, HasFlushedEach, HasFlushedAll};
 ghost use Rattle.timer_desk_c.specs.Dropped.{HasDroppedEach};
-ghost use Rattle.timer_desk_c.specs.ClientServes.{HasServedClient};
 
 use crate::dropping::drop_rest;
 use crate::status::{IDLE, NO_MEMORY, OK};
@@ -15,7 +14,7 @@ use timer_desk::{Desk, RingInlet, Served};
 struct Round {
     /// A request was done.
     busy: bool,
-    /// Memory ran out for a request.
+    /// A serve failed with out of memory.
     starved: bool,
 }
 
@@ -95,7 +94,7 @@ fn is_done(served: Served) -> bool
     matches!(served, Served::Did { .. })
 }
 
-/// Whether memory ran out for a request.
+/// Whether a serve failed with out of memory.
 fn is_starved(served: Served) -> bool
     ensures { result ≡ starved served }
 {

@@ -72,12 +72,6 @@ pub const LEFT: u32 = 24;
 /// The client's line was not freed.
 pub const NOT_FREED: u32 = 25;
 
-/// Ten wheels of 64 slots: a clock of 2^60 ticks.
-pub const WIDE: u32 = 0;
-
-/// 60 seconds, 60 minutes, 24 hours, 100 days: a clock of 8,640,000 ticks.
-pub const CLOCK: u32 = 1;
-
 /// In place of a tick: nothing is pending.
 pub const NEVER: u64 = u64::MAX;
 

@@ -82,6 +82,7 @@ fn stop_each(desk: &mut Desk<HierWheel, RingInlet>, client: usize)
     desk.lemma_invariant();
     let mut place = 0;
     while let Some(handle) = first_from(desk, place) {
+        desk.lemma_invariant();
         stop_own(desk, client, handle);
         place = handle.place + 1;
     }

@@ -3,31 +3,23 @@ use Rattle.timer_desk_c.proofs.StoppingLemmas.{MayStop, stopping-none, stopping-
 use Rattle.timer_desk_c.proofs.stopping.stop_each.Goals as goal
 
 pub loop-handle-init : goal.loop-handle-init
-loop-handle-init c =
-    let told = c.lemma_invariant.ensures in
-    let s = c.args.desk.now.facility in
-    let may : MayStop c.args.client s = record {
-      still_open = c.requires.open;
-      is_client = let many = told.clients in let low = c.requires.client in omega (arith, many, low);
-      few = c.requires.numbers;
-    } in record {
-      stopping = stopping-none c.args.client s may told.sound.distinct;
-      only = refl;
-      place_in_range = omega arith;
-    }
+loop-handle-init c = record {
+  stopping = stopping-none c.args.client c.args.desk.now.facility;
+  only = refl;
+  place_in_range = omega arith;
+}
 
 pub loop-handle-preserved : goal.loop-handle-preserved
 loop-handle-preserved c =
-    let told = c.lemma_invariant.ensures in
     let s = c.args.desk.now.facility in
     let may : MayStop c.args.client s = record {
       still_open = c.requires.open;
-      is_client = let many = told.clients in let low = c.requires.client in omega (arith, many, low);
+      is_client = let many = c.lemma_invariant.ensures.clients in let low = c.requires.client in omega (arith, many, low);
       few = c.requires.numbers;
     } in
     let was = c.loop-handle.invariant in
     let next = stopping-next c.args.client c.loop-handle.place s c.loop-handle.desk c.stop_own.new.desk c.in-Some.handle may was.stopping
-    c.in-Some.ensures.first c.stop_own.ensures.own c.stop_own.ensures.other in record {
+    c.lemma_invariant-in-Some.ensures.sound.distinct c.in-Some.ensures.first c.stop_own.ensures.own c.stop_own.ensures.other in record {
       stopping = next.0;
       only = only_then c.args.desk.now c.loop-handle.desk c.stop_own.new.desk was.only next.1;
       place_in_range = let h = c.in-Some.ensures.in_range in omega (arith, h);
