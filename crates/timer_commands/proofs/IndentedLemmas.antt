@@ -1,10 +1,10 @@
 -- Text that grows by indented lines.
-use Rattle.std.proofs.Common.{◌≡◌, ℕ, ◌==◌, true, List, [], ◌∷◌, ◌++◌, decimal, refl, sym, ap, ◌∙◌, append_assoc, append-nil}
+use Rattle.std.proofs.Common.{◌≡◌, ℕ, true, List, [], ◌∷◌, ◌++◌, decimal, refl, sym, ap, ◌∙◌, append_assoc, append-nil}
 use Rattle.std.specs.Prelude.{Result, Ok, Err, OnOk}
 use Rattle.timer_script.specs.Splitter.{HasNoFeed}
-use Rattle.timer_script.proofs.SplitterLemmas.{no_feed-append, is_bare, bare}
+use Rattle.timer_script.proofs.SplitterLemmas.{no_feed-append, is_bare, bare, decimal_bare}
 use Rattle.timer_commands.specs.Indented.{AddsMarked, HasGrownByIndented, HasGrownByBare, HasGrownByEnd}
-use Rattle.timer_commands.specs.IndentedLaws.{decimal_bare, adds_nothing, adds_join}
+use Rattle.timer_commands.specs.IndentedLaws.{adds_nothing, adds_join}
 
 adds_line : (front : List ℕ) → HasNoFeed front → AddsMarked 32 [] (32 ∷ front ++ 10 ∷ [])
 adds_line front free = record {
@@ -96,3 +96,6 @@ pub bare_ok : {E : Type 0} (result : Result Unit E) (a b c : List ℕ) → HasGr
     → OnOk result (HasGrownByBare a c)
 bare_ok {E} (Ok u) a b c f g = bare_join a b c f g
 bare_ok {E} (Err e) a b c f g = tt
+
+-- words and numbers without a line feed
+pub ruleset bare_numbers = (numbered, numbered_ok, bare_ok)

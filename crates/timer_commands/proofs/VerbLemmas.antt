@@ -1,6 +1,6 @@
 -- How serving ends, as an exit status.
-use Rattle.std.proofs.Common.{◌≡◌, zero, suc, ℕ, ◌+◌, true, false, [], List, refl, sym, subst, arith, inl, inr}
-use Rattle.std.specs.Prelude.{Option, Result, Ok, Err, OnOk, Bool, true}
+use Rattle.std.proofs.Common.{◌≡◌, ℕ, true, false, [], refl, sym, subst, arith, inl, inr}
+use Rattle.std.specs.Prelude.{Result, Ok, Err, OnOk, Bool, true}
 use Rattle.timer_script.specs.declared.fault.ServeFault.{ServeFault}
 use Rattle.std.proofs.KnownBytes.{Consumes-nil}
 use Rattle.timer_facility.specs.State.{FacilityState}
@@ -21,7 +21,7 @@ use Rattle.timer_commands.specs.Indented.{AddsIndented}
 use Rattle.timer_commands.specs.IndentedLaws.{indented_is_lawful}
 use Rattle.timer_commands.specs.Wakeups.{AddsWakeups}
 use Rattle.timer_commands.specs.WakeupLaws.{wakeups_are_lawful}
-use Rattle.timer_commands.specs.Subcommands.{Bytes, Channels, Ends, HasServedStreams, serving_status, HasAnswered, HasDone}
+use Rattle.timer_commands.specs.Subcommands.{Bytes, Channels, HasServedStreams, serving_status, HasAnswered, HasDone}
 
 unserved : {R S F : Type 0} (on_bad : OnBadLine) (A : Decoration) (d : IsLawful A) (before : FacilityState) (bytes : Bytes R S F)
     (streams : Streams R S) (faults faults' : Watched F) → has_failed streams.reader ≡ false → has_failed streams.writer ≡ false

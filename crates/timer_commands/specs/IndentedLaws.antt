@@ -1,11 +1,9 @@
--- Which bytes are lines, and the laws of text to which marked lines are added. They are in specs/ since the
+-- The laws of text to which marked lines are added. They are in specs/ since the
 -- decorators of `show` and `serve` cite them.
-use Rattle.std.proofs.Common.{◌≡◌, ℕ, zero, suc, ◌+◌, ◌/◌, ◌%◌, ◌==◌, ◌&&◌, not, Bool, true, false, cond, nat_lt, List, [], ◌∷◌, ◌++◌, length, inl, inr, decimal, codes, refl, sym, ap, subst, ◌∙◌, arith, append-nil}
-use Rattle.std.specs.List.{filter, concat, AllByRecursion}
-use Rattle.std.specs.Fmt.{digits, digits_onto, digit_glyph}
+use Rattle.std.proofs.Common.{◌≡◌, ℕ, true, cond, List, [], ◌∷◌, ◌++◌, length, decimal, codes, refl, sym, ap, ◌∙◌, append-nil}
+use Rattle.std.specs.List.{filter, concat}
 use Rattle.std.proofs.lemmas.List.Elements.{filter-append}
 use Rattle.std.proofs.lemmas.List.Folds.{concat-append}
-use Rattle.timer_base.specs.OrderLaws.{either}
 use Rattle.timer_facility.specs.declared.request.Reason.{Reason}
 use Rattle.timer_facility.specs.declared.request.Reason.TheVariants as reason
 use Rattle.timer_facility.specs.declared.request.NotTaken.{NotTaken}
@@ -18,46 +16,19 @@ use Rattle.timer_facility.specs.declared.event.Out.TheVariants as out
 use Rattle.timer_script.specs.Splitter.{HasNoFeed}
 use Rattle.timer_script.specs.Decorator.{IsLawful}
 use Rattle.timer_script.specs.Text.{numbers, reason_word, refusal_word, out_line, lines_of, end_line}
-use Rattle.timer_script.proofs.SplitterLemmas.{no_feed-append, is_bare, bare}
+use Rattle.timer_script.proofs.Results.{all_append}
+use Rattle.timer_script.proofs.SplitterLemmas.{no_feed-append, is_bare, bare, decimal_bare}
 use Rattle.timer_commands.specs.Indented.{EndsWithFeed, is_unmarked, AddsMarked, AddsIndented}
-
--- ---- bytes without a line feed
-
-digit_bare : (d : ℕ) → digit_glyph false d ≡ 10 → ⊥
-digit_bare d e = elim (either (nat_lt d 10)) [
-  | inl k ↦ (let h : 48 + d ≡ 10 = ap (λ t. cond t (48 + d) (87 + d)) (sym k) ∙ e in absurd (omega arith))
-  | inr k ↦ (let h : 87 + d ≡ 10 = ap (λ t. cond t (48 + d) (87 + d)) (sym k) ∙ e in absurd (omega arith))
-]
-
-onto_bare : (k n : ℕ) (acc : List ℕ) → HasNoFeed acc → HasNoFeed (digits_onto k 10 false n acc)
-onto_bare zero n acc h = h
-onto_bare (suc k) n acc h =
-    let front : List ℕ = digit_glyph false (n % 10) ∷ acc in
-    let more : HasNoFeed front = (digit_bare (n % 10), h) in
-    elim (either (n / 10 == 0)) [
-      | inl z ↦ subst (λ t. HasNoFeed (cond t front (digits_onto k 10 false (n / 10) front))) (sym z) more
-      | inr z ↦ subst (λ t. HasNoFeed (cond t front (digits_onto k 10 false (n / 10) front))) (sym z)
-          (onto_bare k (n / 10) front more)
-    ]
-
-pub decimal_bare : (n : ℕ) → HasNoFeed (decimal n)
-unfolding digits
-decimal_bare n = onto_bare 64 n [] tt
 
 -- ---- lines that are added
 
 pub adds_nothing : (mark : ℕ) → AddsMarked mark [] []
 adds_nothing mark = record { lines = []; each = tt; text_is = refl; answer_is = refl }
 
-lines_join : (xs ys : List (List ℕ)) → AllByRecursion EndsWithFeed xs → AllByRecursion EndsWithFeed ys
-    → AllByRecursion EndsWithFeed (xs ++ ys)
-lines_join [] ys a b = b
-lines_join (x ∷ xs) ys a b = (a.0, lines_join xs ys a.1 b)
-
 pub adds_join : (mark : ℕ) (a b x y : List ℕ) → AddsMarked mark a x → AddsMarked mark b y → AddsMarked mark (a ++ b) (x ++ y)
 adds_join mark a b x y f g = record {
   lines = f.lines ++ g.lines;
-  each = lines_join f.lines g.lines f.each g.each;
+  each = all_append EndsWithFeed f.lines g.lines f.each g.each;
   text_is = ap (λ t. t ++ y) f.text_is ∙ ap (λ t. concat f.lines ++ t) g.text_is
       ∙ sym (concat-append f.lines g.lines);
   answer_is = ap (λ t. t ++ b) f.answer_is ∙ ap (λ t. concat (filter (is_unmarked mark) f.lines) ++ t) g.answer_is

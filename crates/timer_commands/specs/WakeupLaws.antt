@@ -5,13 +5,13 @@ use Rattle.timer_facility.specs.declared.event.Event.{Event}
 use Rattle.timer_facility.specs.declared.event.Out.{Out}
 use Rattle.timer_facility.specs.State.{FacilityState}
 use Rattle.timer_facility.specs.Played.{IsRun}
-use Rattle.timer_facility.specs.WakeUps.{IsQuietUntil}
+use Rattle.timer_base.specs.WakeUps.{IsQuietUntil}
 use Rattle.timer_script.specs.Splitter.{HasNoFeed}
 use Rattle.timer_script.specs.Decorator.{IsLawful}
 use Rattle.timer_script.specs.Text.{lines_of, end_line}
-use Rattle.timer_script.proofs.SplitterLemmas.{no_feed-append, bare}
+use Rattle.timer_script.proofs.SplitterLemmas.{no_feed-append, bare, decimal_bare}
 use Rattle.timer_commands.specs.Indented.{AddsMarked}
-use Rattle.timer_commands.specs.IndentedLaws.{IsUnused, decimal_bare, adds_join, adds_outs, adds_end}
+use Rattle.timer_commands.specs.IndentedLaws.{IsUnused, adds_join, adds_outs, adds_end}
 use Rattle.timer_commands.specs.Wakeups.{wakeup_line, Part, Answers, Wakeup, End, AreTimely, text_of, answer_of, AddsWakeups}
 
 -- ---- one text after another
@@ -109,7 +109,7 @@ wakeup_is_marked None = wakeup_marked (codes "akeup never") (bare (codes "akeup 
 wakeup_is_marked (Some tick) = wakeup_marked (codes "akeup " ++ decimal tick)
     (no_feed-append (codes "akeup ") (decimal tick) (bare (codes "akeup ") refl) (decimal_bare tick))
 
-pub wakeup_lawful : (quiet : Option ℕ) (s : FacilityState) → IsQuietUntil quiet s
+pub wakeup_lawful : (quiet : Option ℕ) (s : FacilityState) → IsQuietUntil quiet s.now s.pending
     → AddsWakeups s [] s [] (wakeup_line quiet)
 wakeup_lawful quiet s is = record {
   parts = Wakeup quiet ∷ [];

@@ -1,12 +1,11 @@
 -- Text with the lines of wake-ups between its own: when an owner of the facility has to wake up next.
 use Rattle.std.specs.Prelude.{◌≡◌, ℕ, List, [], ◌∷◌, ◌++◌, length, Option, None, Some, codes, decimal}
+use Rattle.timer_base.specs.WakeUps.{IsQuietUntil}
 use Rattle.timer_facility.specs.declared.event.Event.{Event}
 use Rattle.timer_facility.specs.declared.event.Out.{Out}
 use Rattle.timer_facility.specs.State.{FacilityState}
 use Rattle.timer_facility.specs.Played.{IsRun}
-use Rattle.timer_facility.specs.WakeUps.{IsQuietUntil}
 use Rattle.timer_script.specs.Text.{lines_of, end_line}
-use Rattle.timer_script.specs.Decorator.{Decoration}
 use Rattle.timer_commands.specs.Indented.{AddsMarked}
 
 -- the tick of a wake-up, or that there is none
@@ -27,7 +26,7 @@ abbrev pub AreTimely : FacilityState → List Event → FacilityState → List P
 AreTimely s events after [] = (events ≡ []) × (after ≡ s)
 AreTimely s events after (Answers some outs next ∷ parts) =
     (rest : List Event) × (events ≡ some ++ rest) × IsRun s some outs next × AreTimely next rest after parts
-AreTimely s events after (Wakeup quiet ∷ parts) = IsQuietUntil quiet s × AreTimely s events after parts
+AreTimely s events after (Wakeup quiet ∷ parts) = IsQuietUntil quiet s.now s.pending × AreTimely s events after parts
 AreTimely s events after (End ∷ parts) = AreTimely s events after parts
 
 -- the bytes of these parts

@@ -208,6 +208,7 @@ fn push_list(
 }
 
 /// Appends a space, and the name of the bucket that is this list.
+#[tactic(auto, using(crate::proofs::IndentedLemmas::bare_numbers))]
 fn push_name(text: &mut Vec<u8>, list: u64, naming: Naming) -> Result<(), OutOfMemory>
     ensures bare { OnOk result (HasGrownByBare text.old.items text.new.items) }
     ensures kept { HasGrown text.old.items text.new.items }
@@ -223,6 +224,7 @@ fn push_name(text: &mut Vec<u8>, list: u64, naming: Naming) -> Result<(), OutOfM
 }
 
 /// Appends a space, and the hand of the clock and its slot, whose bucket is this list.
+#[tactic(auto, using(crate::proofs::IndentedLemmas::numbered_ok))]
 fn push_hand(text: &mut Vec<u8>, list: u64) -> Result<(), OutOfMemory>
     ensures bare { OnOk result (HasGrownByBare text.old.items text.new.items) }
     ensures kept { HasGrown text.old.items text.new.items }
@@ -250,6 +252,7 @@ fn push_number(text: &mut Vec<u8>, word: &[u8], n: u64) -> Result<(), OutOfMemor
 }
 
 /// Appends a line of what the wheel counted, if it counts, and if that is wanted.
+#[tactic(auto, using(crate::proofs::IndentedLemmas::grown_none))]
 fn push_wanted_counts<W: Placement>(
     text: &mut Vec<u8>,
     wheel: &W,

@@ -1,16 +1,16 @@
 //! Arguments: the subcommand that they are read as, and what is refused.
 use crate::arguments::{Subcommand, read_arguments};
 use crate::argv::{after_name, end_without_arguments};
-use crate::help::{CHECKS, PLACEMENTS, SCHEMES, SCRIPTS, STREAMS, THREADS, VERSION};
-use crate::support::{call, filled, has_left, same, same_in};
+use crate::help::VERSION;
+use crate::support::{call, filled, has_left, same, same_in, words};
 use std::alloc::Global;
 use std::io::ErrorKind;
 use std::process::Abort;
 use timer_commands::{RunOptions, Scheme, ThreadsOptions, Verb};
 use timer_script::OnBadLine;
 
-/// Arguments, and what they are read as.
-type Row = (&'static [&'static str], Subcommand);
+/// A command line, and what it is read as.
+type Row = (&'static str, Subcommand);
 
 static NO_ARGUMENTS: [&str; 0] = [];
 
@@ -46,14 +46,19 @@ const HIGHEST: RunOptions = RunOptions {
     ..USUAL
 };
 
-/// The usual options with a scheme.
-const fn of_scheme(scheme: Scheme) -> Subcommand {
-    Subcommand::Run(Verb::Play, RunOptions { scheme, ..USUAL })
+/// A script that is played.
+const fn play(options: RunOptions) -> Subcommand {
+    Subcommand::Run(Verb::Play, options)
 }
 
-/// Options of threads.
-const fn threads(clients: u64, timers: u64) -> Subcommand {
-    Subcommand::Threads(ThreadsOptions { clients, timers })
+/// The usual options with a scheme.
+const fn of_scheme(scheme: Scheme) -> Subcommand {
+    play(RunOptions { scheme, ..USUAL })
+}
+
+/// Lines that are answered, with options.
+const fn serve(on_bad: OnBadLine, wakeups: bool, options: RunOptions) -> Subcommand {
+    Subcommand::Run(Verb::Serve { on_bad, wakeups }, options)
 }
 
 /// What is shown, with options.
@@ -61,145 +66,67 @@ const fn show(counts: bool, moves: bool, options: RunOptions) -> Subcommand {
     Subcommand::Run(Verb::Show { counts, moves }, options)
 }
 
-/// The other options, with their values in arguments of their own.
-static APART: [&str; 11] = [
-    "play",
-    "--scheme",
-    "hashed",
-    "--slots",
-    "8",
-    "--clients",
-    "2",
-    "--capacity",
-    "3",
-    "--first-tick",
-    "4",
-];
-
-/// The same in another order, each value in the option's argument.
-static JOINED: [&str; 6] = [
-    "play",
-    "--first-tick=4",
-    "--capacity=3",
-    "--clients=2",
-    "--slots=8",
-    "--scheme=hashed",
-];
-
-static SERVE: [&str; 6] = [
-    "serve",
-    "--scheme=hashed",
-    "--slots=8",
-    "--clients=2",
-    "--capacity=3",
-    "--first-tick=4",
-];
-
-static SERVE_GOOD: [&str; 7] = [
-    "serve",
-    "--scheme=hashed",
-    "--slots=8",
-    "--clients=2",
-    "--keep-going",
-    "--capacity=3",
-    "--first-tick=4",
-];
-
-static SHOW: [&str; 6] = [
-    "show",
-    "--scheme=hashed",
-    "--slots=8",
-    "--clients=2",
-    "--capacity=3",
-    "--first-tick=4",
-];
-
-static SHOW_COUNTS: [&str; 7] = [
-    "show",
-    "--scheme=hashed",
-    "--slots=8",
-    "--counts",
-    "--clients=2",
-    "--capacity=3",
-    "--first-tick=4",
-];
-
-static SERVE_WAKEUPS: [&str; 2] = ["serve", "--wakeups"];
-
-static SERVE_ALL: [&str; 3] = ["serve", "--wakeups", "--keep-going"];
-
-/// A server with the usual options that reports when to wake up.
-const fn serve_usual(on_bad: OnBadLine) -> Subcommand {
-    let verb = Verb::Serve {
-        on_bad,
-        wakeups: true,
-    };
-    Subcommand::Run(verb, USUAL)
+/// Options of threads.
+const fn threads(clients: u64, timers: u64) -> Subcommand {
+    Subcommand::Threads(ThreadsOptions { clients, timers })
 }
-
-static LEAST: [&str; 4] = ["play", "--slots=1", "--clients=1", "--capacity=1"];
-
-static MOST: [&str; 5] = [
-    "play",
-    "--slots=65536",
-    "--clients=64",
-    "--capacity=1048576",
-    "--first-tick=1152921504606846975",
-];
 
 fn rows() -> [Row; 22] {
     [
-        (NO_ARGUMENTS.as_slice(), Subcommand::Run(Verb::Play, USUAL)),
-        (&["play"], Subcommand::Run(Verb::Play, USUAL)),
-        (&["play", "--scheme=plain"], of_scheme(Scheme::Plain)),
-        (&["play", "--scheme=hashed"], of_scheme(Scheme::Hashed)),
-        (&["play", "--scheme=hier"], of_scheme(Scheme::Hier)),
-        (&["play", "--scheme=clock"], of_scheme(Scheme::Clock)),
-        (&LEAST, Subcommand::Run(Verb::Play, LOWEST)),
-        (&MOST, Subcommand::Run(Verb::Play, HIGHEST)),
-        (&APART, Subcommand::Run(Verb::Play, OTHER)),
-        (&JOINED, Subcommand::Run(Verb::Play, OTHER)),
+        ("", play(USUAL)),
+        ("play", play(USUAL)),
+        ("play --scheme=plain", of_scheme(Scheme::Plain)),
+        ("play --scheme=hashed", of_scheme(Scheme::Hashed)),
+        ("play --scheme=hier", of_scheme(Scheme::Hier)),
+        ("play --scheme=clock", of_scheme(Scheme::Clock)),
+        ("play --slots=1 --clients=1 --capacity=1", play(LOWEST)),
         (
-            &SERVE,
-            Subcommand::Run(
-                Verb::Serve {
-                    on_bad: OnBadLine::Stop,
-                    wakeups: false,
-                },
-                OTHER,
-            ),
+            "play --slots=65536 --clients=64 --capacity=1048576 --first-tick=1152921504606846975",
+            play(HIGHEST),
         ),
         (
-            &SERVE_GOOD,
-            Subcommand::Run(
-                Verb::Serve {
-                    on_bad: OnBadLine::Report,
-                    wakeups: false,
-                },
-                OTHER,
-            ),
+            "play --scheme hashed --slots 8 --clients 2 --capacity 3 --first-tick 4",
+            play(OTHER),
         ),
-        (&SHOW, show(false, false, OTHER)),
-        (&SHOW_COUNTS, show(true, false, OTHER)),
-        (&["show", "--moves"], show(false, true, USUAL)),
-        (&["show", "--counts", "--moves"], show(true, true, USUAL)),
-        (&SERVE_WAKEUPS, serve_usual(OnBadLine::Stop)),
-        (&SERVE_ALL, serve_usual(OnBadLine::Report)),
-        (&["threads"], threads(4, 1000)),
-        (&["threads", "--clients", "1"], threads(1, 1000)),
         (
-            &["threads", "--timers=10000", "--clients=64"],
-            threads(64, 10000),
+            "play --first-tick=4 --capacity=3 --clients=2 --slots=8 --scheme=hashed",
+            play(OTHER),
         ),
-        (&["check"], Subcommand::Check),
+        (
+            "serve --scheme=hashed --slots=8 --clients=2 --capacity=3 --first-tick=4",
+            serve(OnBadLine::Stop, false, OTHER),
+        ),
+        (
+            "serve --scheme=hashed --slots=8 --clients=2 --keep-going --capacity=3 --first-tick=4",
+            serve(OnBadLine::Report, false, OTHER),
+        ),
+        ("serve --wakeups", serve(OnBadLine::Stop, true, USUAL)),
+        (
+            "serve --wakeups --keep-going",
+            serve(OnBadLine::Report, true, USUAL),
+        ),
+        (
+            "show --scheme=hashed --slots=8 --clients=2 --capacity=3 --first-tick=4",
+            show(false, false, OTHER),
+        ),
+        (
+            "show --scheme=hashed --slots=8 --counts --clients=2 --capacity=3 --first-tick=4",
+            show(true, false, OTHER),
+        ),
+        ("show --moves", show(false, true, USUAL)),
+        ("show --counts --moves", show(true, true, USUAL)),
+        ("threads", threads(4, 1000)),
+        ("threads --clients 1", threads(1, 1000)),
+        ("threads --timers=10000 --clients=64", threads(64, 10000)),
+        ("check", Subcommand::Check),
     ]
 }
 
 #[test]
 fn arguments_are_read_as_a_subcommand_with_its_options(rt: HostRuntime) {
-    for (arguments, subcommand) in rows() {
-        let read = read_arguments(rt.alloc(), arguments).ok();
-        same_in(&rt, arguments, read, Some(subcommand));
+    for (line, subcommand) in rows() {
+        let read = read_arguments(rt.alloc(), &words(&rt, rt.alloc(), line)).ok();
+        same_in(&rt, line, read, Some(subcommand));
     }
 }
 
@@ -253,152 +180,117 @@ fn refused_arguments_read_nothing_and_write_nothing(rt: HostRuntime) {
     }
 }
 
-/// Arguments, the input, and what they leave: the exit status, the output and the reports.
-type Use = (
-    &'static [&'static str],
-    &'static str,
-    u8,
-    &'static str,
-    &'static str,
-);
+/// An input, and what it gives with some command lines.
+type Use = (&'static str, &'static [(&'static str, &'static str)]);
 
 /// Each option changes what the same input gives.
-static USES: [Use; 18] = [
+static USES: [Use; 5] = [
     (
-        &["play"],
         "start 1 1 11 7\n",
-        0,
-        "started 1 1 1 11\nend 0 1\n",
-        "",
+        &[
+            ("play", "started 1 1 1 11\nend 0 1\n"),
+            ("play --clients=1", "refused 1 1 no-client\nend 0 0\n"),
+            ("play --clients=2", "started 1 1 1 11\nend 0 1\n"),
+        ],
     ),
     (
-        &["play", "--clients=1"],
-        "start 1 1 11 7\n",
-        0,
-        "refused 1 1 no-client\nend 0 0\n",
-        "",
-    ),
-    (
-        &["play", "--clients=2"],
-        "start 1 1 11 7\n",
-        0,
-        "started 1 1 1 11\nend 0 1\n",
-        "",
-    ),
-    (
-        &["play", "--capacity=1"],
         "start 0 1 5 0\nstart 0 2 5 0\n",
-        0,
-        "started 0 1 1 5\nrefused 0 2 full\nend 0 1\n",
-        "",
+        &[
+            (
+                "play --capacity=1",
+                "started 0 1 1 5\nrefused 0 2 full\nend 0 1\n",
+            ),
+            (
+                "play --capacity=2",
+                "started 0 1 1 5\nstarted 0 2 2 5\nend 0 2\n",
+            ),
+        ],
     ),
+    ("tick 1\n", &[("play --first-tick=9", "end 10 0\n")]),
     (
-        &["play", "--capacity=2"],
-        "start 0 1 5 0\nstart 0 2 5 0\n",
-        0,
-        "started 0 1 1 5\nstarted 0 2 2 5\nend 0 2\n",
-        "",
-    ),
-    (&["play", "--first-tick=9"], "tick 1\n", 0, "end 10 0\n", ""),
-    (
-        &["show"],
-        "start 0 1 11 7\n",
-        0,
-        "started 0 1 1 11\n  now 0\n  wheel 0 slot 11: 1\nend 0 1\n",
-        "",
-    ),
-    (
-        &["show", "--scheme=plain"],
-        "start 0 1 11 7\n",
-        0,
-        "started 0 1 1 11\n  now 0\n  pending: 1:11\nend 0 1\n",
-        "",
-    ),
-    (
-        &["show", "--scheme=clock"],
-        "start 0 1 11 7\n",
-        0,
-        "started 0 1 1 11\n  now 0\n  second 11: 1\nend 0 1\n",
-        "",
-    ),
-    (
-        &["show", "--scheme=hashed"],
-        "start 0 1 11 7\n",
-        0,
-        "started 0 1 1 11\n  now 0\n  slot 11: 1:0\nend 0 1\n",
-        "",
-    ),
-    (
-        &["show", "--scheme=hashed", "--slots=8"],
-        "start 0 1 11 7\n",
-        0,
-        "started 0 1 1 11\n  now 0\n  slot 3: 1:1\nend 0 1\n",
-        "",
-    ),
-    (
-        &["show", "--slots=8"],
-        "start 0 1 11 7\n",
-        0,
-        "started 0 1 1 11\n  now 0\n  wheel 0 slot 11: 1\nend 0 1\n",
-        "",
-    ),
-    (
-        &["show", "--counts"],
-        "start 0 1 11 7\n",
-        0,
-        "started 0 1 1 11\n  now 0\n  starts 1 moves 0 visits 0\n  wheel 0 slot 11: 1\nend 0 1\n",
-        "",
-    ),
-    (
-        &["show", "--moves"],
-        "start 0 1 65 7\ntick 65\n",
-        0,
-        "started 0 1 1 65\n  now 0\n  wheel 1 slot 1: 1\n  moved at 64 from wheel 1 slot 1 to wheel 0 slot 1: 1\n\
-         expired 65 0 1 7\n  now 65\nend 65 0\n",
-        "",
-    ),
-    (
-        &["serve"],
-        "close\ntick 0\nclose\n",
-        1,
-        "closed 0\n",
-        "bad line 2\n",
-    ),
-    (
-        &["serve", "--keep-going"],
-        "close\ntick 0\nclose\n",
-        1,
-        "closed 0\nclose refused closed\nend 0 0\n",
-        "bad line 2, column 6: count: {OutOfTicks}\n",
-    ),
-    (
-        &["serve", "--wakeups"],
         "start 0 1 11 7\ntick 11\n",
-        0,
-        "started 0 1 1 11\nwakeup 11\nexpired 11 0 1 7\nwakeup never\nend 11 0\n",
-        "",
+        &[(
+            "serve --wakeups",
+            "started 0 1 1 11\nwakeup 11\nexpired 11 0 1 7\nwakeup never\nend 11 0\n",
+        )],
     ),
     (
-        &["check"],
-        "close\ntick 0\nclose\n",
-        1,
-        "line 2, column 6: count: {OutOfTicks}\n",
-        "",
+        "start 0 1 65 7\ntick 65\n",
+        &[(
+            "show --moves",
+            "started 0 1 1 65\n  now 0\n  wheel 1 slot 1: 1\n  moved at 64 from wheel 1 slot 1 to wheel 0 slot 1: 1\n\
+             expired 65 0 1 7\n  now 65\nend 65 0\n",
+        )],
     ),
 ];
 
 #[test]
 fn each_option_that_is_read_is_used(rt: HostRuntime) {
-    for (arguments, input, status, output, faults) in USES {
-        let ended = call(&rt, arguments, input.as_bytes(), usize::MAX);
-        has_left(
+    for (input, texts) in USES {
+        for (line, text) in texts {
+            let ended = call(
+                &rt,
+                &words(&rt, rt.alloc(), *line),
+                input.as_bytes(),
+                usize::MAX,
+            );
+            has_left(&rt, *line, &ended, 0, text.as_bytes(), b"");
+        }
+    }
+}
+
+/// Options of `show`, and what they show of a timer for tick 11 at tick 0.
+static SHOWN: [(&str, &str); 7] = [
+    ("", "  wheel 0 slot 11: 1\n"),
+    ("--scheme=plain", "  pending: 1:11\n"),
+    ("--scheme=clock", "  second 11: 1\n"),
+    ("--scheme=hashed", "  slot 11: 1:0\n"),
+    ("--scheme=hashed --slots=8", "  slot 3: 1:1\n"),
+    ("--slots=8", "  wheel 0 slot 11: 1\n"),
+    (
+        "--counts",
+        "  starts 1 moves 0 visits 0\n  wheel 0 slot 11: 1\n",
+    ),
+];
+
+#[test]
+fn each_option_of_show_that_is_read_is_used(rt: HostRuntime) {
+    for (options, shown) in SHOWN {
+        let Ok(line) = format!(in rt.alloc(); "show {options}") else {
+            panic!(&rt; "out of memory");
+        };
+        let Ok(text) = format!(in rt.alloc(); "started 0 1 1 11\n  now 0\n{shown}end 0 1\n") else {
+            panic!(&rt; "out of memory");
+        };
+        let ended = call(
             &rt,
-            arguments,
-            &ended,
-            status,
-            filled(&rt, rt.alloc(), output).as_bytes(),
-            filled(&rt, rt.alloc(), faults).as_bytes(),
+            &words(&rt, rt.alloc(), &line),
+            b"start 0 1 11 7\n",
+            usize::MAX,
         );
+        has_left(&rt, options, &ended, 0, text.as_bytes(), b"");
+    }
+}
+
+/// A command line, and its output and reports for lines of which the second is bad.
+static BAD: [(&str, &str, &str); 3] = [
+    ("serve", "closed 0\n", "bad line 2\n"),
+    (
+        "serve --keep-going",
+        "closed 0\nclose refused closed\nend 0 0\n",
+        "bad line 2, column 6: count: {OutOfTicks}\n",
+    ),
+    ("check", "line 2, column 6: count: {OutOfTicks}\n", ""),
+];
+
+#[test]
+fn each_subcommand_reports_a_bad_line_in_its_way(rt: HostRuntime) {
+    for (line, output, faults) in BAD {
+        let input = b"close\ntick 0\nclose\n";
+        let ended = call(&rt, &words(&rt, rt.alloc(), line), input, usize::MAX);
+        let output = filled(&rt, rt.alloc(), output);
+        let faults = filled(&rt, rt.alloc(), faults);
+        has_left(&rt, line, &ended, 1, output.as_bytes(), faults.as_bytes());
     }
 }
 
@@ -476,56 +368,41 @@ fn each_help_of_a_subcommand_says_how_it_is_called(rt: HostRuntime) {
     }
 }
 
-/// Arguments, and how the text that they ask for begins and ends.
-type Text = (&'static [&'static str], &'static str, &'static str);
+/// A command line, and the first and the last words of the text that it asks for.
+type Text = (&'static str, &'static str, &'static str);
 
 fn texts() -> [Text; 11] {
     [
-        (&["--help"], "Plays a script of timers", SCRIPTS),
-        (&["help"], "Plays a script of timers", SCRIPTS),
-        (
-            &["play", "--help"],
-            "Plays the script on standard input",
-            SCHEMES,
-        ),
-        (
-            &["help", "play"],
-            "Plays the script on standard input",
-            SCHEMES,
-        ),
-        (
-            &["serve", "--help"],
-            "Answers each line of standard input",
-            STREAMS,
-        ),
-        (
-            &["help", "serve"],
-            "Answers each line of standard input",
-            STREAMS,
-        ),
-        (&["show", "--help"], "", PLACEMENTS),
-        (&["threads", "--help"], "", THREADS),
-        (&["check", "--help"], "", CHECKS),
-        (&["--version"], "timers ", VERSION),
-        (&["-V"], "timers ", VERSION),
+        ("--help", "Plays a script", "of scripts and output."),
+        ("help", "Plays a script", "of scripts and output."),
+        ("play --help", "Plays the script", "have\nall of it."),
+        ("help play", "Plays the script", "have\nall of it."),
+        ("serve --help", "Answers each line", "been written then."),
+        ("help serve", "Answers each line", "been written then."),
+        ("show --help", "Answers lines", "from bucket to bucket."),
+        ("threads --help", "Runs clients", "standard\ninput."),
+        ("check --help", "Reports every", "arguments are refused."),
+        ("--version", "timers ", VERSION),
+        ("-V", "timers ", VERSION),
     ]
 }
 
 #[test]
 fn help_and_version_are_written_where_they_are_asked_for(rt: HostRuntime) {
-    for (arguments, front, end) in texts() {
+    for (line, front, end) in texts() {
         let Ok(end) = format!(in rt.alloc(); "{end}\n") else {
             panic!(&rt; "out of memory");
         };
-        let ended = call(&rt, arguments, b"x", usize::MAX);
+        let arguments = words(&rt, rt.alloc(), line);
+        let ended = call(&rt, &arguments, b"x", usize::MAX);
         let left = (ended.status, ended.unread, ended.faults.is_empty());
-        same_in(&rt, arguments, left, (0, 1, true));
+        same_in(&rt, line, left, (0, 1, true));
         let output = ended.output.as_slice();
         let is_whole = output.starts_with(front.as_bytes()) && output.ends_with(end.as_bytes());
-        same_in(&rt, arguments, is_whole, true);
-        let cut = call(&rt, arguments, b"x", 7);
+        same_in(&rt, line, is_whole, true);
+        let cut = call(&rt, &arguments, b"x", 7);
         let (taken, _) = output.split_at(output.len().min(7));
-        has_left(&rt, arguments, &cut, 1, taken, b"write failed\n");
+        has_left(&rt, line, &cut, 1, taken, b"write failed\n");
     }
 }
 

@@ -61,7 +61,7 @@ static RUN_NUMBERS: [NumberOption; 4] = [
         value_name: "SLOTS",
         range: (1, 65536),
         default: "256",
-        help: "The buckets of `hashed`, 1 to 65536; the other schemes have none, and ignore it",
+        help: "The buckets of `hashed`, 1 to 65536; the other schemes do not use it",
     },
     NumberOption {
         name: "clients",
@@ -145,34 +145,30 @@ fn playing_command<'a>(
     add_numbers(alloc, command, &RUN_NUMBERS)
 }
 
+/// An option without a value.
+fn flag<'a>(alloc: Global, name: &'a str, help: &'a str) -> Arg<'a> {
+    Arg::new(alloc, name)
+        .long(name)
+        .action(ArgAction::SetTrue)
+        .help(help)
+}
+
 /// The subcommand `serve` with the options of `play` and its own.
 fn serve_command<'a>(alloc: Global) -> Result<Command<'a>, AllocError> {
-    let keep_going = Arg::new(alloc, "keep-going")
-        .long("keep-going")
-        .action(ArgAction::SetTrue)
-        .help("Report each bad line on standard error, as `check` does, and go on");
-    let wakeups = Arg::new(alloc, "wakeups")
-        .long("wakeups")
-        .action(ArgAction::SetTrue)
-        .help("After the answers to each line, print when to wake up next");
+    let keep_going = "Report each bad line on standard error, as `check` does, and go on";
+    let wakeups = "After the answers to each line, print when to wake up next";
     playing_command(alloc, "serve", SERVE_USAGE, SERVE_ABOUT, STREAMS)?
-        .arg(keep_going)?
-        .arg(wakeups)
+        .arg(flag(alloc, "keep-going", keep_going))?
+        .arg(flag(alloc, "wakeups", wakeups))
 }
 
 /// The subcommand `show` with the options of `play` and its own.
 fn show_command<'a>(alloc: Global) -> Result<Command<'a>, AllocError> {
-    let counts = Arg::new(alloc, "counts")
-        .long("counts")
-        .action(ArgAction::SetTrue)
-        .help("Show the starts, moves and visits that `hier` and `clock` count");
-    let moves = Arg::new(alloc, "moves")
-        .long("moves")
-        .action(ArgAction::SetTrue)
-        .help("Show each move of a timer to a lower wheel while ticks pass");
+    let counts = "Show the starts, moves and visits that `hier` and `clock` count";
+    let moves = "Show each move of a timer to a lower wheel while ticks pass";
     playing_command(alloc, "show", SHOW_USAGE, SHOW_ABOUT, PLACEMENTS)?
-        .arg(counts)?
-        .arg(moves)
+        .arg(flag(alloc, "counts", counts))?
+        .arg(flag(alloc, "moves", moves))
 }
 
 /// The subcommand `threads` with its options.

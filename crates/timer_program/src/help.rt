@@ -134,7 +134,7 @@ A bucket is shown as
   hier    wheel 1 slot 2: 1 3
   clock   minute 15: 1                 or second, hour, day
 With `--counts` the schemes `hier` and `clock` show after the tick what they counted:
-  starts 1 moves 1 visits 3            timers started, moves, buckets looked at
+  starts 1 moves 1 visits 3            starts and restarts, moves, visits of buckets
 With `--moves` they show each move while ticks pass, between what expires before and after:
   moved at 128 from wheel 1 slot 2 to wheel 0 slot 2: 1
 Without the lines that begin with a space the output is that of `timers serve`:

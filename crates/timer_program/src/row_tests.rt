@@ -1,6 +1,5 @@
 //! The worked examples: scripts and the texts that answer them, with each scheme.
-use crate::support::{call, has_left, same_in};
-use std::alloc::Global;
+use crate::support::{call, has_left, same_in, words};
 use std::process::Abort;
 use std::thread::Threads;
 
@@ -8,28 +7,16 @@ use std::thread::Threads;
 #[derive(Clone, Copy)]
 struct Row {
     name: &'static str,
-    options: &'static [&'static str],
+    options: &'static str,
     script: &'static str,
     text: &'static str,
 }
-
-static NO_OPTIONS: [&str; 0] = [];
-
-static LATE: [&str; 2] = ["--first-tick", "1152921504606846974"];
-
-static ELEVEN_DAYS: [&str; 2] = ["--first-tick", "987870"];
-
-static ONE_TIMER: [&str; 2] = ["--capacity", "1"];
-
-static LAST_DAY: [&str; 2] = ["--first-tick", "8639990"];
-
-static FIRST_DAY: [&str; 2] = ["--first-tick", "86399"];
 
 /// A row that needs no options.
 fn usual_row(name: &'static str, script: &'static str, text: &'static str) -> Row {
     Row {
         name,
-        options: NO_OPTIONS.as_slice(),
+        options: "",
         script,
         text,
     }
@@ -74,7 +61,7 @@ fn expiring_rows() -> [Row; 8] {
         ),
         Row {
             name: "clock_face",
-            options: ELEVEN_DAYS.as_slice(),
+            options: "--first-tick 987870",
             script: "start 0 1 3045 5\ntick 3045\n",
             text: "started 0 1 1 990915\nexpired 990915 0 1 5\nend 990915 0\n",
         },
@@ -108,7 +95,7 @@ fn request_rows() -> [Row; 8] {
         ),
         Row {
             name: "clock_end",
-            options: LATE.as_slice(),
+            options: "--first-tick 1152921504606846974",
             script: "start 0 1 2 5\nstart 0 2 1 5\ntick 5\n",
             text: "refused 0 1 too-late\nstarted 0 2 1 1152921504606846975\n\
                  expired 1152921504606846975 0 1 5\ntick refused clock-end\n\
@@ -116,7 +103,7 @@ fn request_rows() -> [Row; 8] {
         },
         Row {
             name: "capacity",
-            options: ONE_TIMER.as_slice(),
+            options: "--capacity 1",
             script: "start 0 1 1 4\nstart 0 2 1 4\ntick 1\nstart 0 3 2 6\n",
             text: "started 0 1 1 1\nrefused 0 2 full\nexpired 1 0 1 4\nstarted 0 3 2 3\nend 1 1\n",
         },
@@ -156,7 +143,7 @@ fn restart_and_close_rows() -> [Row; 4] {
         ),
         Row {
             name: "restart_full",
-            options: ONE_TIMER.as_slice(),
+            options: "--capacity 1",
             script: "start 0 1 5 1\nrestart 0 2 1 2 9\nrestart 0 3 1 2 9\nrestart 0 4 2 0 9\n\
                  restart 1 1 2 2 9\ntick 2\n",
             text: "started 0 1 1 5\nrestarted 0 2 1 2 2\nrefused 0 3 no-such\n\
@@ -170,14 +157,14 @@ fn clock_rows() -> [Row; 2] {
     [
         Row {
             name: "clock_too_late",
-            options: LAST_DAY.as_slice(),
+            options: "--first-tick 8639990",
             script: "start 0 1 10 1\nstart 0 2 9 2\ntick 20\n",
             text: "refused 0 1 too-late\nstarted 0 2 1 8639999\nexpired 8639999 0 1 2\n\
                  tick refused clock-end\nend 8639999 0\n",
         },
         Row {
             name: "clock_day",
-            options: FIRST_DAY.as_slice(),
+            options: "--first-tick 86399",
             script: "start 0 1 1 1\ntick 1\n",
             text: "started 0 1 1 86400\nexpired 86400 0 1 1\nend 86400 0\n",
         },
@@ -185,54 +172,37 @@ fn clock_rows() -> [Row; 2] {
 }
 
 /// The schemes with their options. The clock of days, whose clock ends earlier, is the last.
-static SCHEMES: [&[&str]; 7] = [
-    &["--scheme", "plain"],
-    &["--scheme", "hashed"],
-    &["--scheme", "hashed", "--slots", "1"],
-    &["--scheme", "hashed", "--slots", "8"],
-    &["--scheme", "hashed", "--slots", "65536"],
-    &["--scheme", "hier"],
-    &["--scheme", "clock"],
+static SCHEMES: [&str; 7] = [
+    "plain",
+    "hashed",
+    "hashed --slots 1",
+    "hashed --slots 8",
+    "hashed --slots 65536",
+    "hier",
+    "clock",
 ];
 
-/// The words of a command line: a command, this scheme and these options.
-fn command_line(
-    rt: &impl Abort,
-    alloc: Global,
-    command: &'static str,
-    scheme: &[&'static str],
-    options: &[&'static str],
-) -> Vec<&'static str> {
-    let Ok(mut arguments) = vec![in alloc; command] else {
-        panic!(rt; "out of memory");
-    };
-    let Ok(()) = arguments.extend_from_slice(scheme) else {
-        panic!(rt; "out of memory");
-    };
-    let Ok(()) = arguments.extend_from_slice(options) else {
-        panic!(rt; "out of memory");
-    };
-    arguments
-}
-
 /// Plays the script of a row with a scheme, or serves it, and compares what is written.
-fn play_row<T: AllocGlobal + Abort + Threads>(
-    rt: &T,
-    command: &'static str,
-    row: Row,
-    scheme: &[&'static str],
-) {
+fn play_row<T: AllocGlobal + Abort + Threads>(rt: &T, command: &str, row: Row, scheme: &str) {
     let alloc = rt.alloc();
-    let arguments = command_line(rt, alloc, command, scheme, row.options);
-    let ended = call(rt, &arguments, row.script.as_bytes(), usize::MAX);
+    let options = row.options;
+    let Ok(line) = format!(in alloc; "{command} --scheme {scheme} {options}") else {
+        panic!(rt; "out of memory");
+    };
+    let ended = call(
+        rt,
+        &words(rt, alloc, &line),
+        row.script.as_bytes(),
+        usize::MAX,
+    );
     has_left(rt, row.name, &ended, 0, row.text.as_bytes(), b"");
 }
 
 /// Plays and serves the rows with each scheme that gives their text.
 fn play_rows<T: AllocGlobal + Abort + Threads>(rt: &T, rows: &[Row]) {
     for row in rows {
-        for scheme in &SCHEMES {
-            if row.name != "clock_end" || scheme[1] != "clock" {
+        for scheme in SCHEMES {
+            if row.name != "clock_end" || scheme != "clock" {
                 play_row(rt, "play", *row, scheme);
                 play_row(rt, "serve", *row, scheme);
             }
@@ -246,8 +216,8 @@ fn worked_rows_give_their_text_with_each_scheme(rt: HostRuntime) {
     play_rows(&rt, &request_rows());
     play_rows(&rt, &restart_and_close_rows());
     for row in clock_rows() {
-        play_row(&rt, "play", row, &["--scheme", "clock"]);
-        play_row(&rt, "serve", row, &["--scheme", "clock"]);
+        play_row(&rt, "play", row, "clock");
+        play_row(&rt, "serve", row, "clock");
     }
 }
 

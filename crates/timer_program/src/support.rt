@@ -31,6 +31,14 @@ pub fn filled(rt: &impl Abort, alloc: Global, text: &str) -> String {
     text
 }
 
+/// The words of a command line.
+pub fn words<'a>(rt: &impl Abort, alloc: Global, line: &'a str) -> Vec<&'a str> {
+    let Ok(words) = line.split_whitespace().collect::<Vec<&str>>(alloc) else {
+        panic!(rt; "out of memory");
+    };
+    words
+}
+
 /// Takes bytes until it is full, and then fails.
 #[derive(Drop)]
 struct Sink {

@@ -1,7 +1,8 @@
 -- What passes of the bytes of a stream, piece after piece.
-use Rattle.std.proofs.Common.{◌≡◌, zero, suc, ℕ, ◌+◌, ◌-◌, ◌^◌, ◌≤◌, Bool, true, false, List, [], ◌∷◌, ◌++◌, length, take, refl, sym, ap, subst, ◌∙◌, arith, inl, inr, lit≤, append_assoc, append-nil, length-append}
+use Rattle.std.proofs.Common.{◌≡◌, ℕ, ◌+◌, ◌-◌, ◌^◌, ◌≤◌, Bool, true, false, List, [], ◌∷◌, ◌++◌, length, take, refl, sym, ap, subst, ◌∙◌, arith, inl, inr, lit≤, append_assoc, append-nil, length-append}
 use Rattle.std.specs.Prelude.{◌↔◌, Option, None, Some, min}
 use Rattle.std.specs.List.{flat_map, AllByRecursion}
+use Rattle.std.proofs.lemmas.List.{take-append-le, take_all}
 use Rattle.std.proofs.Math.Seq.{take-append_seam, take-append-add}
 use Rattle.std.proofs.lemmas.Grind.{flat_map-append}
 use Rattle.std.proofs.KnownBytes.{Appends-nil, Appends-trans}
@@ -19,9 +20,9 @@ use Rattle.timer_script.specs.Watched.{inner_of, has_failed}
 use Rattle.timer_script.specs.Script.{IsInRange, spelling, BeginsNoLine}
 use Rattle.timer_script.specs.Diagnosis.{IsFaultOf}
 use Rattle.timer_script.specs.Cutter.{Line, IsGoodOrBad, bytes_of, events_of, number_after, number_next, Complaint, bad_among, bad_of, IsLastBad, complaint_line, complaints, IsFrontOf, HasCut, HasStoppedCut, HasReported, AreSoFar, AreFirst, HasPassed, HasSeen, HasSeenPart, HasEnded, IsStoppedAt, HasTakenIn, HasStopped, TakesPiece}
-use Rattle.timer_script.proofs.Results.{true_false}
+use Rattle.timer_script.proofs.Results.{true_false, all_append}
 use Rattle.timer_script.proofs.SplitterLemmas.{no_feed_no_line}
-use Rattle.timer_script.proofs.CutterLines.{stop_report, events-append, number-append, bad-append, among_is, next_is, good_script, lines-join, all_good, input_more, some_left, none_left, last_some}
+use Rattle.timer_script.proofs.CutterLines.{stop_report, events-append, number-append, bad-append, among_is, next_is, good_script, nil_left, all_good, input_more, some_left, none_left, last_some}
 
 -- ---- reports
 
@@ -34,15 +35,6 @@ reported_none contents w = record {
   failed = λ bad. refl;
 }
 
-take_within : (k : ℕ) (xs ys : List ℕ) → k ≤ length xs → take k (xs ++ ys) ≡ take k xs
-take_within zero xs ys l = refl
-take_within (suc k) [] ys l = absurd (omega arith)
-take_within (suc k) (x ∷ xs) ys l = ap (λ t. x ∷ t) (take_within k xs ys (omega arith))
-
-take_length : {A : Type 0} (xs : List A) → take (length xs) xs ≡ xs
-take_length [] = refl
-take_length (x ∷ xs) = ap (λ t. x ∷ t) (take_length xs)
-
 -- one report after another
 reported_join : {F : Type 0} (contents : F → Option (List ℕ)) (u v w : Watched F) (xs ys : List ℕ)
     → HasReported contents u v xs → HasReported contents v w ys → HasReported contents u w (xs ++ ys)
@@ -51,7 +43,7 @@ reported_join {F} contents u v w xs ys a b = elim (either (has_failed v)) [
     count = a.count;
     within = (let h = a.within in let l = length-append xs ys in omega arith);
     written = subst (λ t. Appends (contents (inner_of u)) (contents (inner_of v)) t)
-        (sym (take_within a.count xs ys a.within)) a.written;
+        (sym (take-append-le a.count xs ys a.within)) a.written;
     whole = λ good. absurd (true_false (has_failed v) bad good);
     failed = a.failed;
   })
@@ -62,7 +54,7 @@ reported_join {F} contents u v w xs ys a b = elim (either (has_failed v)) [
         (sym (take-append-add xs ys b.count))
         (Appends-trans (contents (inner_of u)) (contents (inner_of v)) (contents (inner_of w)) xs (take b.count ys)
         (subst (λ t. Appends (contents (inner_of u)) (contents (inner_of v)) t)
-        (ap (λ k. take k xs) (a.whole good) ∙ take_length xs) a.written) b.written);
+        (ap (λ k. take k xs) (a.whole good) ∙ take_all (length xs) xs (omega arith)) a.written) b.written);
     whole = λ fine. ap (λ k. length xs + k) (b.whole fine) ∙ sym (length-append xs ys);
     failed = λ bad. absurd (true_false (has_failed v) (ap has_failed (a.failed bad) ∙ bad) good);
   }
@@ -73,10 +65,6 @@ reported_join {F} contents u v w xs ys a b = elim (either (has_failed v)) [
 no_complaint : (xs : List Complaint) → complaints xs ≡ [] → xs ≡ []
 no_complaint [] e = refl
 no_complaint (x ∷ xs) e = absurd cc
-
-nil_left : (xs ys : List Complaint) → xs ++ ys ≡ [] → xs ≡ []
-nil_left [] ys e = refl
-nil_left (x ∷ xs) ys e = absurd cc
 
 nil_right : (xs ys : List Complaint) → xs ++ ys ≡ [] → ys ≡ []
 nil_right [] ys e = e
@@ -213,7 +201,7 @@ taken_stopped {F} contents w v old new n came events piece k cuts =
           ∙ ap (λ t. flat_map bytes_of q.lines ++ t) h.parts
           ∙ sym (append_assoc (flat_map bytes_of q.lines) (flat_map bytes_of h.lines) h.rest)
           ∙ ap (λ t. t ++ h.rest) (sym (flat_map-append bytes_of q.lines h.lines)))
-          (lines-join q.lines h.lines q.cut.each h.each)
+          (all_append IsGoodOrBad q.lines h.lines q.cut.each h.each)
           (none_among q.lines h.lines old.number k.counted (q.good h.stop) h.good) h.some h.bad
           (h.counted ∙ ap (λ m. number_after m h.lines) k.counted ∙ sym (number-append 1 q.lines h.lines))
           (ap (λ t. t ++ new.events.items) q.events_are ∙ ap (λ t. events_of q.lines ++ t) h.events_are
@@ -354,6 +342,7 @@ pub ended_seen : {F : Type 0} (contents : F → Option (List ℕ)) (w v : Watche
     (came : List ℕ) (events : List Event) → HasEnded o clean contents w v came events → HasSeenPart o contents w v came events
 ended_seen contents w v o clean came events h =
     let p = h.passed in
+    let all : List Complaint = bad_among p.passes.lines ++ p.are.0 in
     seen_whole contents w v o came events (inl (record {
       passes = p.passes;
       bad = p.bad;
@@ -361,8 +350,7 @@ ended_seen contents w v o clean came events h =
         p.are.0,
         p.are.1,
         length p.bad,
-        p.are.2 ∙ sym (take_length (bad_among p.passes.lines ++ p.are.0))
-            ∙ ap (λ t. take (length t) (bad_among p.passes.lines ++ p.are.0)) (sym p.are.2),
+        p.are.2 ∙ sym (take_all (length all) all (omega arith)) ∙ ap (λ t. take (length t) all) (sym p.are.2),
       );
       reported = p.reported;
       untouched = p.untouched;

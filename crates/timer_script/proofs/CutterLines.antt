@@ -1,17 +1,16 @@
 -- The lines of an input, one after another, as a cutter takes them.
-use Rattle.std.proofs.Common.{◌≡◌, lit≤, zero, suc, ℕ, ◌+◌, ◌-◌, ◌^◌, ◌<◌, ◌≤◌, List, [], ◌∷◌, ◌++◌, length, get_or, take, drop, Some, None, refl, sym, ap, subst, ◌∙◌, arith, append_assoc, append-nil, length-append, take-append-drop}
+use Rattle.std.proofs.Common.{◌≡◌, lit≤, zero, suc, ℕ, ◌+◌, ◌-◌, ◌^◌, ◌<◌, ◌≤◌, List, [], ◌∷◌, ◌++◌, length, get_or, take, drop, Some, None, refl, sym, ap, subst, ◌∙◌, arith, append_assoc, append-nil, length-append, take-append-drop, take_all}
 use Rattle.std.specs.Prelude.{min}
 use Rattle.std.specs.List.{flat_map, enumerate_from, AllByRecursion}
 use Rattle.std.proofs.lemmas.Grind.{flat_map-append}
-use Rattle.std.proofs.lemmas.List.{take_rest}
+use Rattle.std.proofs.lemmas.List.{take_rest, length-take, nil_from_length}
 use Rattle.std.proofs.Math.Seq.{take-add}
-use Rattle.std.proofs.lemmas.Option.{none-some}
 use Rattle.timer_facility.specs.declared.event.Event.{Event}
 use Rattle.timer_script.specs.declared.splitter.TheConstants.{MAX_LINE}
 use Rattle.timer_script.specs.Splitter.{HasNoFeed}
 use Rattle.timer_script.specs.Script.{IsInRange, line, spelling, BeginsNoLine}
 use Rattle.timer_script.specs.Lines.{line_at}
-use Rattle.timer_script.specs.Diagnosis.{IsLine, IsFaultOf}
+use Rattle.timer_script.specs.Diagnosis.{IsFaultOf}
 use Rattle.timer_script.specs.declared.line_fault.LineFault.{LineFault}
 use Rattle.timer_script.specs.declared.cutter.OnBadLine.{OnBadLine}
 use Rattle.timer_script.specs.declared.cutter.OnBadLine.TheVariants.{Stop, Report}
@@ -19,8 +18,10 @@ use Rattle.timer_script.specs.declared.cutter.Cutter.{Cutter}
 use Rattle.timer_script.specs.Cutter.{Line, Good, Bad, bytes_of, IsGoodOrBad, events_of, number_after_line, number_after, number_next, Complaint, complaint_of, bad_among, bad_of, IsLastBad, IsCut, complaint_line, complaints, IsFrontOf, HasEndedLine, StopsLine, HasCut, HasStoppedCut, StopsCut}
 use Rattle.timer_script.specs.declared.fault.ScriptFault.{ScriptFault}
 use Rattle.timer_script.specs.declared.fault.ScriptFault.TheVariants as faults
-use Rattle.timer_script.proofs.LineLemmas.{line_again, line_sound}
-use Rattle.timer_script.proofs.SplitterLemmas.{IsFed, line_fed, first_feed, no_feed-append, no_feed-take, feed-take, too_long}
+use Rattle.timer_script.proofs.LineLemmas.{line_sound}
+use Rattle.timer_script.proofs.DiagnosisLemmas.{unread_no_line}
+use Rattle.timer_script.proofs.Results.{all_append}
+use Rattle.timer_script.proofs.SplitterLemmas.{IsFed, line_fed, at_feed, first_feed, no_feed-append, no_feed-take, feed-take, too_long}
 
 -- ---- lists of lines
 
@@ -71,10 +72,6 @@ complaints-append : (n : ℕ) (xs ys : List Line) → complaints (bad_of n (xs +
     ≡ complaints (bad_of n xs) ++ complaints (bad_of (number_after n xs) ys)
 complaints-append n xs ys = ap complaints (bad-append n xs ys) ∙ flat_map-append complaint_line (bad_of n xs) (bad_of (number_after n xs) ys)
 
-pub lines-join : (xs ys : List Line) → AllByRecursion IsGoodOrBad xs → AllByRecursion IsGoodOrBad ys → AllByRecursion IsGoodOrBad (xs ++ ys)
-lines-join [] ys a b = b
-lines-join (x ∷ xs) ys a b = (a.0, lines-join xs ys a.1 b)
-
 -- the good lines are a script
 pub good_script : (xs : List Line) → AllByRecursion IsGoodOrBad xs → AllByRecursion IsInRange (events_of xs)
 good_script [] a = tt
@@ -94,12 +91,9 @@ all_good n (Bad front fault ∷ xs) e = absurd cc
 
 -- ---- the end of a line
 
-at_feed : (xs more : List ℕ) → (xs ++ 10 ∷ []) ++ more ≡ xs ++ 10 ∷ more
-at_feed xs more = append_assoc xs (10 ∷ []) more
-
-nothing_left : (xs ys : List ℕ) → [] ≡ xs ++ ys → xs ≡ []
-nothing_left [] ys e = refl
-nothing_left (x ∷ xs) ys e = absurd cc
+pub nil_left : {A : Type 0} (xs ys : List A) → xs ++ ys ≡ [] → xs ≡ []
+nil_left [] ys e = refl
+nil_left (x ∷ xs) ys e = absurd cc
 
 -- what can be read of the front of a line is all of it
 read_all : (front held after : List ℕ) (event : Event) → HasNoFeed front → held ≡ take MAX_LINE (front ++ 10 ∷ [])
@@ -112,33 +106,23 @@ read_all front held after event none is some =
     sym (take-append-drop MAX_LINE (front ++ 10 ∷ [])) ∙ ap (λ t. t ++ rest) (sym is ∙ parts) ∙ append_assoc (line event) after rest
     ∙ ap (λ t. t ++ (after ++ rest)) f.is ∙ at_feed f.front (after ++ rest) in
     let same = first_feed front f.front [] (after ++ rest) none f.no_feed whole in
-    let gone : after ≡ [] = nothing_left after rest same.1 in
+    let gone : after ≡ [] = nil_left after rest (sym same.1) in
     (fits, f.is ∙ ap (λ t. t ++ 10 ∷ []) (sym same.0), parts ∙ ap (λ t. line event ++ t) gone ∙ append-nil (line event))
 
 pub stop_report : (on_bad : OnBadLine) → on_bad ≡ Stop → on_bad ≡ Report → ⊥
 stop_report on_bad a b = cc
 
--- what can't be read is no line
-not_line : (held : List ℕ) → line_at held ≡ None → ¬ (IsLine held)
-not_line held none (event, fits, spelt) =
-    none-some _ (sym none ∙ ap line_at (spelt ∙ sym (append-nil (line event))) ∙ line_again event [] fits)
-
-take_short : (m : ℕ) (xs : List ℕ) → length xs ≤ m → take m xs ≡ xs
-take_short zero [] l = refl
-take_short zero (x ∷ xs) l = absurd (omega arith)
-take_short (suc m) [] l = refl
-take_short (suc m) (x ∷ xs) l = ap (λ t. x ∷ t) (take_short m xs (omega arith))
-
--- if the front of a line is no line, it is that of no event
-read_none : (front held : List ℕ) → HasNoFeed front → held ≡ take MAX_LINE (front ++ 10 ∷ []) → ¬ (IsLine held)
-    → BeginsNoLine (front ++ 10 ∷ [])
-read_none front held none is no_line event rest fits e =
+-- what can't be read of the front of a line is that of no event, whatever follows
+read_none : (front held more : List ℕ) → HasNoFeed front → held ≡ take MAX_LINE (front ++ 10 ∷ []) → line_at held ≡ None
+    → BeginsNoLine ((front ++ 10 ∷ []) ++ more)
+read_none front held more free is none event after fits e =
     let f : IsFed (line event) = line_fed event fits in
-    let same = first_feed front f.front [] rest none f.no_feed (e ∙ ap (λ t. t ++ rest) f.is ∙ at_feed f.front rest) in
-    let whole : front ++ 10 ∷ [] ≡ line event = ap (λ t. t ++ 10 ∷ []) same.0 ∙ sym f.is in
+    let same = first_feed front f.front more after free f.no_feed (sym (at_feed front more) ∙ e
+    ∙ ap (λ t. t ++ after) f.is ∙ at_feed f.front after) in
+    let all : front ++ 10 ∷ [] ≡ line event = ap (λ t. t ++ 10 ∷ []) same.0 ∙ sym f.is in
     let short : length (front ++ 10 ∷ []) ≤ MAX_LINE = (let s = f.short in let l = length-append f.front (10 ∷ [])
-    in let w = ap length (whole ∙ f.is) in omega arith) in
-    no_line (event, fits, is ∙ take_short MAX_LINE (front ++ 10 ∷ []) short ∙ whole)
+    in let w = ap length (all ∙ f.is) in omega arith) in
+    unread_no_line held none (event, fits, is ∙ take_all MAX_LINE (front ++ 10 ∷ []) short ∙ all)
 
 pub ended_good : (on_bad : OnBadLine) (front held after : List ℕ) (event : Event) (n : ℕ) (events events' : List Event) (said : List ℕ)
     → HasNoFeed front → held ≡ take MAX_LINE (front ++ 10 ∷ []) → line_at held ≡ Some (event, after)
@@ -162,7 +146,11 @@ pub ended_bad : (on_bad : OnBadLine) (front held : List ℕ) (n : ℕ) (fault : 
 ended_bad on_bad front held n fault events said said' report none is unread_none wrong grows = record {
   line = Bad front fault;
   bytes_is = refl;
-  is_line = (none, read_none front held none is (not_line held unread_none), subst (IsFaultOf fault) is wrong);
+  is_line = (
+    none,
+    subst BeginsNoLine (append-nil (front ++ 10 ∷ [])) (read_none front held [] none is unread_none),
+    subst (IsFaultOf fault) is wrong,
+  );
   events_are = sym (append-nil events);
   said_is = grows ∙ ap (λ t. said ++ t) (sym (append-nil (complaint_line (n, fault))));
   good = λ stop. absurd (stop_report on_bad stop report);
@@ -174,17 +162,11 @@ take_nil : (m : ℕ) → take {A = ℕ} m [] ≡ []
 take_nil zero = refl
 take_nil (suc m) = refl
 
-take_some : (m b : ℕ) (xs : List ℕ) → 1 ≤ m → take m (b ∷ xs) ≡ [] → ⊥
-take_some zero b xs some e = omega arith
-take_some (suc m) b xs some e = cc
-
 pub some_left : (m : ℕ) (held front : List ℕ) → held ≡ take m front → 1 ≤ length held → 1 ≤ length front
-some_left m held [] is some = (let e : length held ≡ 0 = ap length (is ∙ take_nil m) in omega arith)
-some_left m held (b ∷ front) is some = omega arith
+some_left m held front is some = omega (arith, ap length is, length-take m front)
 
 pub none_left : (held front : List ℕ) → held ≡ take MAX_LINE front → held ≡ [] → front ≡ []
-none_left held [] is none = refl
-none_left held (b ∷ front) is none = absurd (take_some MAX_LINE b front (lit≤ tt) (sym is ∙ none))
+none_left held front is none = nil_from_length front (omega (arith, ap length (sym is ∙ none), length-take MAX_LINE front))
 
 -- what is left at the end is a bad line
 pub last_some : (n : ℕ) (fault : LineFault) (front : List ℕ) → 1 ≤ length front → IsFaultOf fault (take MAX_LINE front)
@@ -330,20 +312,9 @@ stopped_line front held bytes n number old new h stop some within b is joined un
     let long : length ((whole ++ 10 ∷ []) ++ rest) ≡ length whole + 1 + length rest =
     length-append (whole ++ 10 ∷ []) rest ∙ ap (λ k. k + length rest) (length-append whole (10 ∷ [])) in
     stopped_now front bytes ((whole ++ 10 ∷ []) ++ rest) number old new stop parts (omega arith)
-    (bad_line whole held rest free
+    (read_none whole held rest free
     (line_front front old.held.items bytes held n h.kept some within is joined) unread_none)
     same counted
-  where
-    bad_line : (whole held more : List ℕ) → HasNoFeed whole → held ≡ take MAX_LINE (whole ++ 10 ∷ []) → line_at held ≡ None
-        → BeginsNoLine ((whole ++ 10 ∷ []) ++ more)
-    bad_line whole held more free is none event after fits e =
-        let f : IsFed (line event) = line_fed event fits in
-        let same = first_feed whole f.front more after free f.no_feed (sym (at_feed whole more) ∙ e
-        ∙ ap (λ t. t ++ after) f.is ∙ at_feed f.front after) in
-        let all : whole ++ 10 ∷ [] ≡ line event = ap (λ t. t ++ 10 ∷ []) same.0 ∙ sym f.is in
-        let short : length (whole ++ 10 ∷ []) ≤ MAX_LINE = (let s = f.short in let l = length-append f.front (10 ∷ [])
-        in let w = ap length (all ∙ f.is) in omega arith) in
-        not_line held none (event, fits, is ∙ take_short MAX_LINE (whole ++ 10 ∷ []) short ∙ all)
 
 -- why a line was not taken, and why a cut stopped at it
 pub line_stops : (fault : ScriptFault) (front held bytes : List ℕ) (n : ℕ) (old new : Cutter) → IsFrontOf old front → 0 < n
@@ -395,7 +366,7 @@ cut_join events said front x y a b c same h k = record {
   left = k.left;
   parts = sym (append_assoc front x y) ∙ ap (λ t. t ++ y) h.parts ∙ append_assoc (flat_map bytes_of h.lines) h.left y
       ∙ ap (λ t. flat_map bytes_of h.lines ++ t) k.parts ∙ lines_parts h.lines k.lines k.left;
-  each = lines-join h.lines k.lines h.each k.each;
+  each = all_append IsGoodOrBad h.lines k.lines h.each k.each;
   rest = k.rest;
   events_are = k.events_are ∙ ap (λ t. t ++ events_of k.lines) h.events_are
       ∙ append_assoc events (events_of h.lines) (events_of k.lines) ∙ ap (λ t. events ++ t) (sym (events-append h.lines k.lines));
@@ -436,7 +407,7 @@ cut_stopped front piece i n a b c same h later =
       parts = ap (λ t. front ++ t) (sym whole) ∙ sym (append_assoc front (take i piece) rest) ∙ ap (λ t. t ++ rest) h.parts
           ∙ append_assoc (flat_map bytes_of h.lines) h.left rest ∙ ap (λ t. flat_map bytes_of h.lines ++ t) k.parts
           ∙ lines_parts h.lines k.lines k.rest;
-      each = lines-join h.lines k.lines h.each k.each;
+      each = all_append IsGoodOrBad h.lines k.lines h.each k.each;
       some = k.some;
       bad = k.bad;
       events_are = k.events_are ∙ ap (λ t. t ++ events_of k.lines) h.events_are ∙ sym (events-append h.lines k.lines);
@@ -457,6 +428,6 @@ pub input_more : (bytes : List ℕ) (lines : List Line) (left more : List ℕ) (
 input_more bytes lines left more a b cut h = record {
   parts = ap (λ t. t ++ more) cut.parts ∙ append_assoc (flat_map bytes_of lines) left more ∙ ap (λ t. flat_map bytes_of lines ++ t) h.parts
       ∙ lines_parts lines h.lines h.left;
-  each = lines-join lines h.lines cut.each h.each;
+  each = all_append IsGoodOrBad lines h.lines cut.each h.each;
   unended = h.rest.no_feed;
 }

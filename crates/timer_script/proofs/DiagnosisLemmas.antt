@@ -7,6 +7,7 @@ use Rattle.timer_facility.specs.declared.event.Event.{Event}
 use Rattle.timer_script.specs.Script.{IsInRange, line}
 use Rattle.timer_script.specs.Lines.{line_at}
 use Rattle.timer_script.specs.Diagnosis.{IsLine}
+use Rattle.timer_script.proofs.Results.{emptied}
 use Rattle.timer_script.proofs.LineLemmas.{line_again, line_sound}
 
 pub line_whole : (bytes rest : List ℕ) (event : Event) → line_at bytes ≡ Some (event, rest) → rest ≡ [] → IsLine bytes
@@ -26,3 +27,6 @@ pub rest_no_line : (bytes rest : List ℕ) (event : Event) → line_at bytes ≡
 rest_no_line bytes rest event read more (other, fits, is) =
     let parts = same_parts event other rest [] (sym read ∙ read_again bytes other fits is) in
     both_ways _ more (eq-eqb (length rest) 0 (ap length parts.1))
+
+-- whether bytes are a line
+pub ruleset whole_lines = (line_whole, rest_no_line, unread_no_line, emptied)

@@ -6,7 +6,7 @@ use Rattle.timer_script.specs.declared.line_fault.LineFault.{LineFault}
 use Rattle.timer_script.specs.Script.{IsInRange, line, spelling, IsScript}
 use Rattle.timer_script.specs.ScriptReport.{push_front, cut_lines, AreVerdicts, IsReport}
 use Rattle.timer_script.proofs.SplitterLemmas.{IsFed, line_fed}
-use Rattle.timer_script.proofs.ScriptReportLemmas.{cut_line, report_from, bad_lines, bad-good, bad-bad}
+use Rattle.timer_script.proofs.ScriptReportLemmas.{cut_line, report_from, bad_lines, bad-more}
 
 -- the lines one after another
 abbrev join : List (List ℕ) → List ℕ
@@ -40,14 +40,14 @@ all_good n [] (first ∷ rest) right none = absurd right
 all_good n (verdict ∷ verdicts) [] right none = absurd right
 all_good n (None ∷ verdicts) (first ∷ rest) right none =
     let (event, fits, is) = right.0 in
-    let h = all_good (n + 1) verdicts rest right.1 (none ∙ bad-good verdicts) in
+    let h = all_good (n + 1) verdicts rest right.1 (omega (arith, none, bad-more None verdicts)) in
     record {
       empty = h.empty;
       events = event ∷ h.events;
       joined = ap (λ t. t ++ join rest) is ∙ ap (λ t. line event ++ t) h.joined;
       in_range = (fits, h.in_range);
     }
-all_good n (Some fault ∷ verdicts) (first ∷ rest) right none = absurd (omega (arith, bad-bad fault verdicts))
+all_good n (Some fault ∷ verdicts) (first ∷ rest) right none = absurd (omega (arith, none, bad-more (Some fault) verdicts))
 
 pub no_bad_lines : (bytes text : List ℕ) → IsReport bytes text 0 → (text ≡ []) × ((events : List Event) × IsScript events bytes)
 no_bad_lines bytes text r =
@@ -65,7 +65,7 @@ good_more : (event : Event) (rest : List ℕ) (verdicts : List (Option LineFault
     → ((others : List (Option LineFault)) → AreVerdicts others (cut_lines rest) → bad_lines others ≡ 0)
     → AreVerdicts verdicts (line event ∷ cut_lines rest) → bad_lines verdicts ≡ 0
 good_more event rest [] fits more right = absurd right
-good_more event rest (None ∷ others) fits more right = bad-good others ∙ more others right.1
+good_more event rest (None ∷ others) fits more right = omega (arith, bad-more None others, more others right.1)
 good_more event rest (Some fault ∷ others) fits more right = absurd (right.0.0 (event, fits, refl))
 
 script_good : (events : List Event) (verdicts : List (Option LineFault)) → AllByRecursion IsInRange events

@@ -1,7 +1,6 @@
 pub mod Results
 pub mod EmptyReportLemmas
 pub mod ScriptReportLemmas
-pub mod Digits
 pub mod DiagnosisLemmas
 pub mod LineLemmas
 pub mod ScriptLemmas

@@ -7,15 +7,14 @@ use Rattle.std.proofs.lemmas.Option.{none-some}
 use Rattle.std.proofs.lemmas.Fmt.{decimal_is_IsNumeral, decimal_digit, first_decimal, decimal-digits_value}
 use Rattle.std.proofs.lemmas.Str.Parse.{numerals_by_value, tells_digits}
 use Rattle.std.specs.Str.Parse.{digits_value}
-use Rattle.std.proofs.NetLemmas.Numbers.{NoDigit}
+use Rattle.std.proofs.NetLemmas.Numbers.{NoDigit, read_number_some, read_number_sound}
 use Rattle.std.proofs.NetLemmas.Options.{cond_some, cond_none, and_then_some, same_parts}
 use Rattle.timer_base.specs.declared.limits.TheConstants.{LAST}
 use Rattle.timer_script.specs.declared.lines.TheConstants.{MAX_TICKS}
 use Rattle.timer_facility.specs.declared.event.Event.{Event}
 use Rattle.timer_facility.specs.declared.event.Event.TheVariants.{Start, Stop, Restart, Ticks, Close}
 use Rattle.timer_script.specs.Script.{IsInRange, line}
-use Rattle.timer_script.specs.Lines.{or_try, strip, digits_at, number_at, field_at, start_at, stop_at, restart_at, tick_at, line_at}
-use Rattle.timer_script.proofs.Digits.{digits_some, digits_sound}
+use Rattle.timer_script.specs.Lines.{◌>>=◌, or_try, strip, digits_at, number_at, field_at, start_at, stop_at, restart_at, tick_at, line_at}
 
 -- ---- a word
 
@@ -64,7 +63,7 @@ pub number_again : (n : ℕ) (rest : List ℕ) → n ≤ LAST → NoDigit 10 res
 unfolding number_at
 number_again n rest fits stop =
     let (numeral, value) = decimal_is_IsNumeral n (omega arith) in
-    let read = digits_some (decimal n) rest numeral (omega arith) stop in
+    let read = read_number_some 10 LAST (decimal n) rest numeral (omega arith) stop in
     rw (read, no_leading_zero n rest fits, drop_at (decimal n) rest _ refl, value) refl
 
 pub number_sound : (bytes rest : List ℕ) (n : ℕ) → number_at bytes ≡ Some (n, rest) → (n ≤ LAST) × (bytes ≡ decimal n ++ rest)
@@ -73,7 +72,7 @@ number_sound bytes rest n e =
     and_then_some _ (digits_at bytes) _ e λ m read kept.
     let (test, some) = cond_none _ _ _ kept in
     let (value_is, rest_is) = same_parts m.0 n (drop m.1 bytes) rest some in
-    let (number, fits, len, stop) = digits_sound bytes m.0 m.1 read in
+    let (number, fits, len, stop) = read_number_sound 10 LAST bytes m.0 m.1 (lit≤ tt) read in
     let ds = take m.1 bytes in
     let some_digit : 0 < m.1 = omega (arith, number.0.0) in
     let alone : get_or ds 0 0 ≡ 48 → length ds ≡ 1 = λ zero_first.
@@ -145,50 +144,45 @@ same_line word bytes rest after event read e fits is =
     subst (λ (x : Event). IsInRange x × (word ++ bytes ≡ line x ++ rest)) event_is
     (subst (λ (r : List ℕ). IsInRange read × (word ++ bytes ≡ line read ++ r)) rest_is (fits, is))
 
+-- what was read after a field
+field_then : {A P : Type 0} (end bytes : List ℕ) (f : ℕ × List ℕ → Option A) (y : A) → (field_at end bytes >>= f) ≡ Some y
+    → ((n : ℕ) (rest : List ℕ) → n ≤ LAST → bytes ≡ decimal n ++ (end ++ rest) → f (n, rest) ≡ Some y → P) → P
+field_then end bytes f y e more =
+    and_then_some _ (field_at end bytes) _ e λ m read e₁.
+    let is = field_sound end bytes m.1 m.0 read in
+    more m.0 m.1 is.0 is.1 e₁
+
 start_sound : (bytes rest : List ℕ) (event : Event) → start_at bytes ≡ Some (event, rest)
     → IsInRange event × (codes "start " ++ bytes ≡ line event ++ rest)
 unfolding start_at line
 start_sound bytes rest event e =
-    and_then_some _ (field_at (codes " ") bytes) _ e λ c read_c e₁.
-    and_then_some _ (field_at (codes " ") c.1) _ e₁ λ n read_n e₂.
-    and_then_some _ (field_at (codes " ") n.1) _ e₂ λ i read_i e₃.
-    and_then_some _ (field_at (codes "\n") i.1) _ e₃ λ a read_a e₄.
-    let is_c = field_sound _ bytes c.1 c.0 read_c in
-    let is_n = field_sound _ c.1 n.1 n.0 read_n in
-    let is_i = field_sound _ n.1 i.1 i.0 read_i in
-    let is_a = field_sound _ i.1 a.1 a.0 read_a in
-    same_line (codes "start ") bytes rest a.1 event (Start c.0 n.0 i.0 a.0) e₄ (is_c.0, is_n.0, is_i.0, is_a.0)
-    (rw (is_c.1, is_n.1, is_i.1, is_a.1) (simp append_assoc))
+    field_then (codes " ") bytes _ _ e λ c r₁ fit_c is_c e₁.
+    field_then (codes " ") r₁ _ _ e₁ λ n r₂ fit_n is_n e₂.
+    field_then (codes " ") r₂ _ _ e₂ λ i r₃ fit_i is_i e₃.
+    field_then (codes "\n") r₃ _ _ e₃ λ a r₄ fit_a is_a e₄.
+    same_line (codes "start ") bytes rest r₄ event (Start c n i a) e₄ (fit_c, fit_n, fit_i, fit_a)
+    (rw (is_c, is_n, is_i, is_a) (simp append_assoc))
 
 stop_sound : (bytes rest : List ℕ) (event : Event) → stop_at bytes ≡ Some (event, rest)
     → IsInRange event × (codes "stop " ++ bytes ≡ line event ++ rest)
 unfolding stop_at line
 stop_sound bytes rest event e =
-    and_then_some _ (field_at (codes " ") bytes) _ e λ c read_c e₁.
-    and_then_some _ (field_at (codes " ") c.1) _ e₁ λ n read_n e₂.
-    and_then_some _ (field_at (codes "\n") n.1) _ e₂ λ s read_s e₃.
-    let is_c = field_sound _ bytes c.1 c.0 read_c in
-    let is_n = field_sound _ c.1 n.1 n.0 read_n in
-    let is_s = field_sound _ n.1 s.1 s.0 read_s in
-    same_line (codes "stop ") bytes rest s.1 event (Stop c.0 n.0 s.0) e₃ (is_c.0, is_n.0, is_s.0)
-    (rw (is_c.1, is_n.1, is_s.1) (simp append_assoc))
+    field_then (codes " ") bytes _ _ e λ c r₁ fit_c is_c e₁.
+    field_then (codes " ") r₁ _ _ e₁ λ n r₂ fit_n is_n e₂.
+    field_then (codes "\n") r₂ _ _ e₂ λ s r₃ fit_s is_s e₃.
+    same_line (codes "stop ") bytes rest r₃ event (Stop c n s) e₃ (fit_c, fit_n, fit_s) (rw (is_c, is_n, is_s) (simp append_assoc))
 
 restart_sound : (bytes rest : List ℕ) (event : Event) → restart_at bytes ≡ Some (event, rest)
     → IsInRange event × (codes "restart " ++ bytes ≡ line event ++ rest)
 unfolding restart_at line
 restart_sound bytes rest event e =
-    and_then_some _ (field_at (codes " ") bytes) _ e λ c read_c e₁.
-    and_then_some _ (field_at (codes " ") c.1) _ e₁ λ n read_n e₂.
-    and_then_some _ (field_at (codes " ") n.1) _ e₂ λ s read_s e₃.
-    and_then_some _ (field_at (codes " ") s.1) _ e₃ λ i read_i e₄.
-    and_then_some _ (field_at (codes "\n") i.1) _ e₄ λ a read_a e₅.
-    let is_c = field_sound _ bytes c.1 c.0 read_c in
-    let is_n = field_sound _ c.1 n.1 n.0 read_n in
-    let is_s = field_sound _ n.1 s.1 s.0 read_s in
-    let is_i = field_sound _ s.1 i.1 i.0 read_i in
-    let is_a = field_sound _ i.1 a.1 a.0 read_a in
-    same_line (codes "restart ") bytes rest a.1 event (Restart c.0 n.0 s.0 i.0 a.0) e₅
-    (is_c.0, is_n.0, is_s.0, is_i.0, is_a.0) (rw (is_c.1, is_n.1, is_s.1, is_i.1, is_a.1) (simp append_assoc))
+    field_then (codes " ") bytes _ _ e λ c r₁ fit_c is_c e₁.
+    field_then (codes " ") r₁ _ _ e₁ λ n r₂ fit_n is_n e₂.
+    field_then (codes " ") r₂ _ _ e₂ λ s r₃ fit_s is_s e₃.
+    field_then (codes " ") r₃ _ _ e₃ λ i r₄ fit_i is_i e₄.
+    field_then (codes "\n") r₄ _ _ e₄ λ a r₅ fit_a is_a e₅.
+    same_line (codes "restart ") bytes rest r₅ event (Restart c n s i a) e₅ (fit_c, fit_n, fit_s, fit_i, fit_a)
+    (rw (is_c, is_n, is_s, is_i, is_a) (simp append_assoc))
 
 cond_both : {A : Type 0} (b : Bool) (o : Option A) (y : A) → cond b o None ≡ Some y → (b ≡ true) × (o ≡ Some y)
 cond_both true o y e = (refl, e)
@@ -198,12 +192,11 @@ tick_sound : (bytes rest : List ℕ) (event : Event) → tick_at bytes ≡ Some 
     → IsInRange event × (codes "tick " ++ bytes ≡ line event ++ rest)
 unfolding tick_at line
 tick_sound bytes rest event e =
-    and_then_some _ (field_at (codes "\n") bytes) _ e λ k read_k e₁.
+    field_then (codes "\n") bytes _ _ e λ k r₁ fit_k is_k e₁.
     let (test, e₂) = cond_both _ _ _ e₁ in
     let (low, high) = and_parts _ _ test in
-    let is_k = field_sound _ bytes k.1 k.0 read_k in
-    same_line (codes "tick ") bytes rest k.1 event (Ticks k.0) e₂ (leb-true 1 k.0 low, leb-true k.0 MAX_TICKS high)
-    (rw (is_k.1) (simp append_assoc))
+    same_line (codes "tick ") bytes rest r₁ event (Ticks k) e₂ (leb-true 1 k low, leb-true k MAX_TICKS high)
+    (rw (is_k) (simp append_assoc))
 
 -- a word is at the front, or not
 by_word : {A P : Type 0} (o : Option (List ℕ)) (f : List ℕ → Option A) (other : Option A) (y : A) → or_try o f other ≡ Some y

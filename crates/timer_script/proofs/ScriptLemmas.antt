@@ -1,5 +1,5 @@
 -- The spelling of a script is unique, and so is the first bad line.
-use Rattle.std.proofs.Common.{◌≡◌, ℕ, ◌≤◌, List, [], ◌∷◌, ◌++◌, length, None, refl, sym, ap, ◌∙◌, arith, append_assoc}
+use Rattle.std.proofs.Common.{◌≡◌, ℕ, ◌+◌, ◌≤◌, List, [], ◌∷◌, ◌++◌, length, Some, None, refl, sym, ap, ◌∙◌, arith, append_assoc}
 use Rattle.std.specs.List.{AllByRecursion}
 use Rattle.std.proofs.lemmas.Option.{none-some}
 use Rattle.std.proofs.NetLemmas.Options.{same_parts}
@@ -8,16 +8,17 @@ use Rattle.timer_facility.specs.declared.event.Event.{Event}
 use Rattle.timer_facility.specs.declared.event.Event.TheVariants.{Start, Stop, Restart, Ticks, Close}
 use Rattle.timer_script.specs.Script.{IsInRange, line, spelling, IsScript, BeginsNoLine, IsBadLine}
 use Rattle.timer_script.specs.Lines.{line_at}
-use Rattle.timer_script.proofs.LineLemmas.{line_again}
+use Rattle.timer_script.proofs.Results.{all_append, emptied, not_emptied}
+use Rattle.timer_script.proofs.LineLemmas.{line_again, line_sound}
 
 -- the first lines of two texts that are one
 one_line : (d e : Event) (xs ys : List ℕ) → IsInRange d → IsInRange e → line d ++ xs ≡ line e ++ ys → (d ≡ e) × (xs ≡ ys)
 one_line d e xs ys fit_d fit_e same = same_parts d e xs ys (sym (line_again d xs fit_d) ∙ ap line_at same ∙ line_again e ys fit_e)
 
-pub no_line_none : (bytes : List ℕ) → line_at bytes ≡ None → BeginsNoLine bytes
+no_line_none : (bytes : List ℕ) → line_at bytes ≡ None → BeginsNoLine bytes
 no_line_none bytes none event more fits e = none-some _ (sym none ∙ ap line_at e ∙ line_again event more fits)
 
-pub line_long : (event : Event) → 1 ≤ length (line event)
+line_long : (event : Event) → 1 ≤ length (line event)
 unfolding line
 line_long (Start c n i a) = omega arith
 line_long (Stop c n s) = omega arith
@@ -73,12 +74,53 @@ one_bad_line_is bytes m n a b =
 
 -- ---- steps of the loop
 
-pub all_push : (xs : List Event) (x : Event) → AllByRecursion IsInRange xs → IsInRange x → AllByRecursion IsInRange (xs ++ x ∷ [])
-all_push [] x h one = (one, tt)
-all_push (y ∷ ys) x h one = (h.0, all_push ys x h.1 one)
-
-pub spelling_push : (xs : List Event) (x : Event) (rest : List ℕ) → spelling (xs ++ x ∷ []) ++ rest ≡ spelling xs ++ (line x ++ rest)
+spelling_push : (xs : List Event) (x : Event) (rest : List ℕ) → spelling (xs ++ x ∷ []) ++ rest ≡ spelling xs ++ (line x ++ rest)
 spelling_push [] x rest = ap (λ t. t ++ rest) (append-nil (line x))
 spelling_push (y ∷ ys) x rest =
     append_assoc (line y) (spelling (ys ++ x ∷ [])) rest ∙ ap (λ t. line y ++ t) (spelling_push ys x rest)
     ∙ sym (append_assoc (line y) (spelling ys) (line x ++ rest))
+
+-- the lines before the rest were read as these events
+pub record HasReadTo (bytes rest : List ℕ) (events : List Event) : Type 0 where
+  pub parts : bytes ≡ spelling events ++ rest
+  pub in_range : AllByRecursion IsInRange events
+
+pub read_nothing : (bytes : List ℕ) → HasReadTo bytes bytes []
+read_nothing bytes = record { parts = refl; in_range = tt }
+
+-- a line is shorter than what it stands at the front of
+pub line_shorter : (rest after : List ℕ) (event : Event) → line_at rest ≡ Some (event, after) → length after + 1 ≤ length rest
+line_shorter rest after event read =
+    let (fits, is) = line_sound rest after event read in
+    let long = line_long event in
+    omega (arith, ap length is, length-append (line event) after)
+
+pub read_more : (bytes rest after : List ℕ) (events : List Event) (event : Event) → HasReadTo bytes rest events
+    → line_at rest ≡ Some (event, after) → HasReadTo bytes after (events ++ event ∷ [])
+read_more bytes rest after events event h read =
+    let (fits, is) = line_sound rest after event read in
+    record {
+      parts = h.parts ∙ ap (λ t. spelling events ++ t) is ∙ sym (spelling_push events event after);
+      in_range = all_append IsInRange events (event ∷ []) h.in_range (fits, tt);
+    }
+
+pub read_all : (bytes rest : List ℕ) (events : List Event) → HasReadTo bytes rest events → rest ≡ [] → IsScript events bytes
+read_all bytes rest events h none = record {
+  lines = h.parts ∙ ap (λ t. spelling events ++ t) none ∙ append-nil (spelling events);
+  in_range = h.in_range;
+}
+
+pub read_bad : (bytes rest : List ℕ) (events : List Event) (n : ℕ) → HasReadTo bytes rest events → 1 ≤ length rest
+    → line_at rest ≡ None → n ≡ length events + 1 → IsBadLine bytes n
+read_bad bytes rest events n h some none is = record {
+  before = events;
+  rest = rest;
+  parts = h.parts;
+  in_range = h.in_range;
+  some = some;
+  bad = no_line_none rest none;
+  counted = is;
+}
+
+-- the steps of a script that is read
+pub ruleset reading = (read_nothing, read_all, read_bad, line_shorter, emptied, not_emptied)

@@ -1,14 +1,15 @@
 -- Bytes are cut into lines, and the report grows line by line.
-use Rattle.std.proofs.Common.{◌≡◌, ◌==◌, ◌+◌, ◌-◌, ◌<◌, ◌≤◌, ◌⊎◌, inl, inr, Bool, true, false, if◌then◌else◌, ℕ, List, [], ◌∷◌, ◌++◌, length, get_or, take, drop, Option, Some, None, refl, sym, ap, subst, ◌∙◌, arith, append_assoc, append-nil, take-append-drop, eqb-true, eq-eqb, ne_eqb}
+use Rattle.std.proofs.Common.{◌≡◌, ◌==◌, ◌+◌, ◌-◌, ◌<◌, ◌≤◌, inl, inr, false, if◌then◌else◌, ℕ, List, [], ◌∷◌, ◌++◌, length, get_or, take, drop, Option, Some, None, refl, sym, ap, subst, ◌∙◌, arith, append_assoc, append-nil, take-append-drop, eqb-true, eq-eqb, ne_eqb, lit≤}
 use Rattle.std.specs.List.{flat_map, enumerate_from, count_by}
 use Rattle.std.specs.Prelude.{cond}
 use Rattle.std.proofs.lemmas.List.Sums.{sum_by-cons}
 use Rattle.std.proofs.lemmas.Bool.{both_ways, cases_lt}
 use Rattle.std.proofs.lemmas.List.{nil_from_length, length-drop, take_rest}
+use Rattle.timer_base.specs.OrderLaws.{either}
 use Rattle.timer_script.specs.declared.line_fault.LineFault.{LineFault}
 use Rattle.timer_script.specs.Splitter.{HasNoFeed}
 use Rattle.timer_script.specs.Diagnosis.{IsVerdict}
-use Rattle.timer_script.specs.ScriptReport.{push_front, cut_lines, AreVerdicts, fault_line, verdict_line, is_bad, IsReport}
+use Rattle.timer_script.specs.ScriptReport.{push_front, cut_lines, AreVerdicts, verdict_line, is_bad, IsReport}
 use Rattle.timer_script.proofs.SplitterLemmas.{no_feed-take, feed-take}
 
 -- ---- one line
@@ -30,10 +31,6 @@ cut_last [] free some = absurd (omega arith)
 cut_last (b ∷ []) free some = cut_step b [] [] (ne_eqb b 10 free.0) refl
 cut_last (b ∷ c ∷ front) free some = cut_step b (c ∷ front) ((c ∷ front) ∷ []) (ne_eqb b 10 free.0)
     (cut_last (c ∷ front) free.1 (omega arith))
-
-either : (b : Bool) → (b ≡ true) ⊎ (b ≡ false)
-either true = inl refl
-either false = inr refl
 
 -- the bytes up to the first line feed, or all of them, are the first line
 pub cut_at : (bytes : List ℕ) (n : ℕ) → 0 < n → n ≤ length bytes → HasNoFeed (take (n - 1) bytes)
@@ -69,13 +66,12 @@ report_from n verdicts = flat_map (λ numbered. verdict_line numbered.0 numbered
 abbrev pub bad_lines : List (Option LineFault) → ℕ
 bad_lines verdicts = count_by is_bad verdicts
 
-pub bad-good : (rest : List (Option LineFault)) → bad_lines (None ∷ rest) ≡ bad_lines rest
-bad-good rest =
-    let e : bad_lines (None ∷ rest) ≡ 0 + bad_lines rest = sum_by-cons (λ x. cond (is_bad x) 1 0) None rest in omega arith
+-- how many a verdict counts for
+abbrev pub count_of : Option LineFault → ℕ
+count_of verdict = cond (is_bad verdict) 1 0
 
-pub bad-bad : (fault : LineFault) (rest : List (Option LineFault)) → bad_lines (Some fault ∷ rest) ≡ bad_lines rest + 1
-bad-bad fault rest =
-    let e : bad_lines (Some fault ∷ rest) ≡ 1 + bad_lines rest = sum_by-cons (λ x. cond (is_bad x) 1 0) (Some fault) rest in omega arith
+pub bad-more : (verdict : Option LineFault) (rest : List (Option LineFault)) → bad_lines (verdict ∷ rest) ≡ count_of verdict + bad_lines rest
+bad-more verdict rest = sum_by-cons (λ x. cond (is_bad x) 1 0) verdict rest
 
 -- the verdicts on all lines, if these are on those that are left
 pub record Leads (script : List ℕ) (others : List (Option LineFault)) (lines bad : ℕ) (text : List ℕ) : Type 0 where
@@ -102,38 +98,6 @@ reported_none script text empty = record {
   few = omega arith;
 }
 
--- the line is good
-pub reported_good : (script rest line after : List ℕ) (lines bad : ℕ) (text : List ℕ) → HasReported script rest lines bad text
-    → cut_lines rest ≡ line ∷ cut_lines after → IsVerdict None line → length after + 1 ≤ length rest
-    → HasReported script after (lines + 1) bad text
-reported_good script rest line after lines bad text h cut verdict shorter = record {
-  leads = λ others right.
-      let l = h.leads (None ∷ others) (subst (AreVerdicts (None ∷ others)) (sym cut) (verdict, right)) in
-      record { all = l.all; right = l.right; text_is = l.text_is; counted = let k = l.counted in omega (arith, bad-good others) };
-  short = let s = h.short in omega arith;
-  few = let f = h.few in omega arith;
-}
-
--- the line is bad, and its fault is in the text
-pub reported_bad : (script rest line after : List ℕ) (lines bad : ℕ) (text new : List ℕ) (fault : LineFault)
-    → HasReported script rest lines bad text
-    → cut_lines rest ≡ line ∷ cut_lines after → IsVerdict (Some fault) line → length after + 1 ≤ length rest
-    → new ≡ text ++ fault_line (lines + 1) fault
-    → HasReported script after (lines + 1) (bad + 1) new
-reported_bad script rest line after lines bad text new fault h cut verdict shorter joined = record {
-  leads = λ others right.
-      let l = h.leads (Some fault ∷ others) (subst (AreVerdicts (Some fault ∷ others)) (sym cut) (verdict, right)) in
-      record {
-        all = l.all;
-        right = l.right;
-        text_is = ap (λ t. t ++ report_from (lines + 1 + 1) others) joined
-            ∙ append_assoc text (fault_line (lines + 1) fault) (report_from (lines + 1 + 1) others) ∙ l.text_is;
-        counted = let k = l.counted in omega (arith, bad-bad fault others);
-      };
-  short = let s = h.short in omega arith;
-  few = let f = h.few in omega arith;
-}
-
 pub reported_all : (script rest : List ℕ) (lines bad : ℕ) (text : List ℕ) → HasReported script rest lines bad text → rest ≡ []
     → IsReport script text bad
 reported_all script rest lines bad text h none =
@@ -147,30 +111,30 @@ reported_all script rest lines bad text h none =
 
 -- ---- one turn of the loop
 
--- what is left is shorter
-left_short : (rest : List ℕ) (n : ℕ) → 0 < n → n ≤ length rest → length (drop n rest) + 1 ≤ length rest
-left_short rest n some within = omega (arith, length-drop n rest)
+at_most_one : (verdict : Option LineFault) → count_of verdict ≤ 1
+at_most_one None = lit≤ tt
+at_most_one (Some fault) = lit≤ tt
 
-pub line_good : (script rest : List ℕ) (n lines bad bad' : ℕ) (text new : List ℕ) → HasReported script rest lines bad text → 0 < n
-    → n ≤ length rest
-    → HasNoFeed (take (n - 1) rest) → (n < length rest → get_or rest (n - 1) 0 ≡ 10) → IsVerdict None (take n rest) → new ≡ text
-    → bad' ≡ bad
+-- one more line has this verdict, and if it is bad its fault is in the text
+pub line_more : (script rest : List ℕ) (n lines bad bad' : ℕ) (text new : List ℕ) (verdict : Option LineFault)
+    → HasReported script rest lines bad text → 0 < n → n ≤ length rest → HasNoFeed (take (n - 1) rest)
+    → (n < length rest → get_or rest (n - 1) 0 ≡ 10) → IsVerdict verdict (take n rest)
+    → new ≡ text ++ verdict_line (lines + 1) verdict → bad' ≡ bad + count_of verdict
     → HasReported script (take (length rest - n) (drop n rest)) (lines + 1) bad' new
-line_good script rest n lines bad bad' text new h some within free whole verdict same as_before =
+line_more script rest n lines bad bad' text new verdict h some within free whole right joined one_more =
+    let after : List ℕ = drop n rest in
     let cut = cut_at rest n some within free whole in
-    let next = reported_good script rest (take n rest) (drop n rest) lines bad text h cut verdict (left_short rest n some within) in
-    subst (λ r. HasReported script r (lines + 1) bad' new) (sym (take_rest rest n))
-    (subst (λ b. HasReported script (drop n rest) (lines + 1) b new) (sym as_before)
-    (subst (HasReported script (drop n rest) (lines + 1) bad) (sym same) next))
-
-pub line_bad : (script rest : List ℕ) (n lines bad bad' : ℕ) (text new : List ℕ) (fault : LineFault)
-    → HasReported script rest lines bad text → 0 < n → n ≤ length rest
-    → HasNoFeed (take (n - 1) rest) → (n < length rest → get_or rest (n - 1) 0 ≡ 10) → IsVerdict (Some fault) (take n rest)
-    → new ≡ text ++ fault_line (lines + 1) fault → bad' ≡ bad + 1
-    → HasReported script (take (length rest - n) (drop n rest)) (lines + 1) bad' new
-line_bad script rest n lines bad bad' text new fault h some within free whole verdict joined one_more =
-    let cut = cut_at rest n some within free whole in
-    let next = reported_bad script rest (take n rest) (drop n rest) lines bad text new fault h cut verdict
-    (left_short rest n some within) joined in
-    subst (λ r. HasReported script r (lines + 1) bad' new) (sym (take_rest rest n))
-    (subst (λ b. HasReported script (drop n rest) (lines + 1) b new) (sym one_more) next)
+    let shorter : length after + 1 ≤ length rest = omega (arith, length-drop n rest) in
+    subst (λ r. HasReported script r (lines + 1) bad' new) (sym (take_rest rest n)) (record {
+      leads = λ others rights.
+          let l = h.leads (verdict ∷ others) (subst (AreVerdicts (verdict ∷ others)) (sym cut) (right, rights)) in
+          record {
+            all = l.all;
+            right = l.right;
+            text_is = ap (λ t. t ++ report_from (lines + 1 + 1) others) joined
+                ∙ append_assoc text (verdict_line (lines + 1) verdict) (report_from (lines + 1 + 1) others) ∙ l.text_is;
+            counted = let k = l.counted in omega (arith, bad-more verdict others);
+          };
+      short = let s = h.short in omega arith;
+      few = let f = h.few in let m = at_most_one verdict in omega arith;
+    })

@@ -1,7 +1,7 @@
 -- Texts that grow as events are played.
 use Rattle.std.proofs.Common.{◌≡◌, ◌≤◌, ◌+◌, ℕ, List, [], ◌∷◌, ◌++◌, length, take, drop, Some, None, refl, sym, ap, subst, ◌∙◌, arith, append_assoc, append-nil, take-append-drop}
 use Rattle.std.specs.Prelude.{Result, Ok, Err, OnOk}
-use Rattle.std.specs.List.{flat_map, AllByRecursion}
+use Rattle.std.specs.List.{flat_map}
 use Rattle.std.proofs.lemmas.List.{length-append}
 use Rattle.std.proofs.lemmas.Grind.{flat_map-append}
 use Rattle.timer_facility.specs.declared.event.Event.{Event}
@@ -10,11 +10,11 @@ use Rattle.timer_facility.specs.State.{FacilityState, IsSound}
 use Rattle.timer_facility.specs.Played.{IsRun}
 use Rattle.timer_facility.proofs.PlayedLemmas.{IsRun-none, IsRun-join, IsPlayed-run}
 use Rattle.timer_script.specs.Text.{out_line, end_line}
-use Rattle.timer_script.specs.Script.{IsInRange, line, spelling, IsBadLine}
+use Rattle.timer_script.specs.Script.{IsBadLine}
 use Rattle.timer_script.specs.Lines.{line_at}
 use Rattle.timer_script.specs.ScriptRun.{AddsLines, AddsFirstLines, HasPlayedLines, IsAnswer}
-use Rattle.timer_script.proofs.LineLemmas.{line_sound}
-use Rattle.timer_script.proofs.ScriptLemmas.{no_line_none, line_long, all_push, spelling_push}
+use Rattle.timer_script.proofs.Results.{emptied}
+use Rattle.timer_script.proofs.ScriptLemmas.{HasReadTo, read_nothing, read_more, read_all, read_bad, line_shorter}
 
 pub adds_join : (a b c : FacilityState) (es fs : List Event) (x y z : List ℕ) → AddsLines a es x y b → AddsLines b fs y z c
     → AddsLines a (es ++ fs) x z c
@@ -39,8 +39,7 @@ adds_chunk {E} (Err e) s c es all outs written x y run whole same h = tt
 -- the lines before the rest were played, and there were this many
 pub record HasPlayedTo (before : FacilityState) (bytes rest : List ℕ) (lines : ℕ) (old new : List ℕ) (after : FacilityState) : Type 0 where
   pub events : List Event
-  pub parts : bytes ≡ spelling events ++ rest
-  pub in_range : AllByRecursion IsInRange events
+  pub read : HasReadTo bytes rest events
   pub counted : lines ≡ length events
   pub short : lines + length rest ≤ length bytes
   pub adds : AddsLines before events old new after
@@ -48,53 +47,32 @@ pub record HasPlayedTo (before : FacilityState) (bytes rest : List ℕ) (lines :
 pub played_none : (s : FacilityState) (bytes text : List ℕ) → HasPlayedTo s bytes bytes 0 text text s
 played_none s bytes text = record {
   events = [];
-  parts = refl;
-  in_range = tt;
+  read = read_nothing bytes;
   counted = refl;
   short = omega arith;
   adds = record { outs = []; runs = IsRun-none s; lines = sym (append-nil text) };
 }
 
--- a line is shorter than what it stands at the front of
-pub line_shorter : (rest after : List ℕ) (event : Event) → line_at rest ≡ Some (event, after) → length after + 1 ≤ length rest
-line_shorter rest after event read =
-    let (fits, is) = line_sound rest after event read in
-    let long = line_long event in
-    omega (arith, ap length is, length-append (line event) after)
-
 pub played_more : (a b c : FacilityState) (bytes rest after : List ℕ) (event : Event) (n : ℕ) (x y z : List ℕ)
     → HasPlayedTo a bytes rest n x y b
     → line_at rest ≡ Some (event, after) → AddsLines b (event ∷ []) y z c → HasPlayedTo a bytes after (n + 1) x z c
-played_more a b c bytes rest after event n x y z h read adds =
-    let (fits, is) = line_sound rest after event read in
-    record {
-      events = h.events ++ event ∷ [];
-      parts = h.parts ∙ ap (λ t. spelling h.events ++ t) is ∙ sym (spelling_push h.events event after);
-      in_range = all_push h.events event h.in_range fits;
-      counted = omega (arith, h.counted, length-append h.events (event ∷ []));
-      short = omega (arith, h.short, line_shorter rest after event read);
-      adds = adds_join a b c h.events (event ∷ []) x y z h.adds adds;
-    }
+played_more a b c bytes rest after event n x y z h read adds = record {
+  events = h.events ++ event ∷ [];
+  read = read_more bytes rest after h.events event h.read read;
+  counted = omega (arith, h.counted, length-append h.events (event ∷ []));
+  short = omega (arith, h.short, line_shorter rest after event read);
+  adds = adds_join a b c h.events (event ∷ []) x y z h.adds adds;
+}
 
 pub played_all : (a b : FacilityState) (bytes rest : List ℕ) (n : ℕ) (x y : List ℕ) → HasPlayedTo a bytes rest n x y b → rest ≡ []
     → HasPlayedLines a bytes x y b
-played_all a b bytes rest n x y h none = record {
-  events = h.events;
-  script = record { lines = h.parts ∙ ap (λ t. spelling h.events ++ t) none ∙ append-nil (spelling h.events); in_range = h.in_range };
-  adds = h.adds;
-}
+played_all a b bytes rest n x y h none =
+    record { events = h.events; script = read_all bytes rest h.events h.read none; adds = h.adds }
 
 pub played_bad : (a b : FacilityState) (bytes rest : List ℕ) (n : ℕ) (x y : List ℕ) → HasPlayedTo a bytes rest n x y b → 1 ≤ length rest
     → line_at rest ≡ None → IsBadLine bytes (n + 1)
-played_bad a b bytes rest n x y h some none = record {
-  before = h.events;
-  rest = rest;
-  parts = h.parts;
-  in_range = h.in_range;
-  some = some;
-  bad = no_line_none rest none;
-  counted = ap (λ k. k + 1) h.counted;
-}
+played_bad a b bytes rest n x y h some none =
+    read_bad bytes rest h.events (n + 1) h.read some none (ap (λ k. k + 1) h.counted)
 
 -- the lines of all events, and the end line, are the answer to them
 pub added_answer : (s after : FacilityState) (events : List Event) (lines answer : List ℕ) → IsSound s → AddsLines s events [] lines after
@@ -121,3 +99,6 @@ adds_first a b events i x y z h same = record {
   after = b;
   adds = subst (λ t. AddsLines a (take i events) x t b) (sym same) h;
 }
+
+-- the steps of a script that is played
+pub ruleset playing = (played_none, played_more, played_all, line_shorter, emptied)

@@ -1,8 +1,8 @@
 -- What serving did, turn after turn, and how it ends.
-use Rattle.std.proofs.Common.{◌≡◌, zero, suc, ℕ, ◌+◌, ◌-◌, ◌^◌, ◌≤◌, Bool, true, List, [], ◌∷◌, ◌++◌, length, take, drop, inl, inr, refl, sym, ap, subst, ◌∙◌, arith, append_assoc, append-nil, length-append, take-append-drop}
+use Rattle.std.proofs.Common.{◌≡◌, zero, suc, ℕ, ◌+◌, ◌-◌, ◌^◌, ◌≤◌, Bool, true, List, [], ◌++◌, length, take, drop, inl, inr, refl, sym, ap, subst, ◌∙◌, arith, append_assoc, append-nil, length-append, take-append-drop}
 use Rattle.std.specs.Prelude.{Option, Result, Ok, Err, None, Some}
 use Rattle.std.specs.Io.KnownBytes.{IsAtEnd}
-use Rattle.std.proofs.lemmas.List.{length-take-le, take-append-le}
+use Rattle.std.proofs.lemmas.List.{length-take-le, take-append-le, take-take}
 use Rattle.timer_facility.specs.declared.event.Event.{Event}
 use Rattle.timer_facility.specs.State.{FacilityState, IsSound}
 use Rattle.timer_facility.proofs.PlayedLemmas.{IsRun-none, IsPlayed-run}
@@ -16,7 +16,7 @@ use Rattle.timer_script.specs.declared.cutter.Cutter.{Cutter}
 use Rattle.timer_script.specs.declared.watched.Watched.{Watched}
 use Rattle.timer_script.specs.Fault.{serve_fault}
 use Rattle.timer_script.specs.Text.{lines_of}
-use Rattle.timer_script.specs.Decorator.{Decoration, IsLawful, AddsNothing}
+use Rattle.timer_script.specs.Decorator.{Decoration, IsLawful}
 use Rattle.timer_script.specs.Cutter.{Passes, HasPassed, AreSoFar, HasSeen, HasSeenPart, HasEnded, HasStopped, IsStoppedAt, HasTakenIn, TakesPiece, TakesEnd}
 use Rattle.timer_script.specs.Peer.{PeerState, Moment, Gives}
 use Rattle.timer_script.specs.Service.{AreGood, HasSent, is_flushed, StopsEnd, last_line, HasAnswered, HasServedEvents, HasServedSome, StopsEvents, IsAnsweredWith, IsPrompt, HasTalked, Server, server_with, Sides, HasServedAll, HasServedPart, HasAnsweredAll, HasServed, HasUnseen, HasServedPiece}
@@ -303,31 +303,19 @@ often_more {F} S new w u p t s turns n served some =
 pub often_ended : {F : Type 0} (S : Server F) (cutter : Cutter) (w v : Watched F) (p q : PeerState) (s : FacilityState) (turns : ℕ)
     → cutter.on_bad ≡ S.on_bad → 2 ^ 64 - 1 ≤ turns → AreGood q → HasServedOften S cutter w v p q s turns
     → HasServed S (record { peer = p; faults = w }) (record { peer = q; faults = v }) (Err faults.TooLong)
+unfolding all_as
 often_ended {F} S cutter w v p q s turns is long good often =
-    let h = often.all in
     let m = often.many in (
       s,
-      record {
-        came = h.came;
-        events = h.events;
-        sent = h.sent;
-        passed = taken_passed S.contents w v cutter S.on_bad is h.came h.events h.passed;
-        talked = h.talked;
-        answered = h.answered;
-      },
-      (let l : 2 ^ 64 - 1 ≤ length h.came = omega arith in l),
+      all_as S (HasTakenIn cutter S.contents w v) (HasPassed S.on_bad AreSoFar S.contents w v) p q s
+          (taken_passed S.contents w v cutter S.on_bad is) often.all,
+      (let l : 2 ^ 64 - 1 ≤ length often.all.came = omega arith in l),
       good,
     )
 
 -- the first bytes of a buffer, of which a slice was written
-take_within : (n m : ℕ) (xs : List ℕ) → n ≤ m → take n (take m xs) ≡ take n xs
-take_within zero m xs le = refl
-take_within (suc n) zero xs le = absurd (omega arith)
-take_within (suc n) (suc m) [] le = refl
-take_within (suc n) (suc m) (x ∷ xs) le = ap (λ t. x ∷ t) (take_within n m xs (omega arith))
-
 pub front_of : (n len : ℕ) (new rest now : List ℕ) → n ≤ len → n ≤ length new → now ≡ take len (new ++ rest) → take n now ≡ take n new
-front_of n len new rest now a b e = ap (take n) e ∙ take_within n len (new ++ rest) a ∙ take-append-le n new rest b
+front_of n len new rest now a b e = ap (take n) e ∙ take-take n len (new ++ rest) a ∙ take-append-le n new rest b
 
 -- ---- how serving ends
 
@@ -434,7 +422,7 @@ known {F} S p q came gone flushed calls none is talked =
     known_prompt (IsAnsweredWith S.on_bad S.Adds S.before) p q came gone flushed calls none is talked
 
 -- calls that are known are prompt, however serving ended
-prompt : {F : Type 0} (S : Server F) (old new : Sides F) (result : Result Bool ServeFault) (calls : List Moment)
+pub prompt : {F : Type 0} (S : Server F) (old new : Sides F) (result : Result Bool ServeFault) (calls : List Moment)
     → old.peer.moments ≡ Some [] → new.peer.moments ≡ Some calls → HasServed S old new result
     → IsPrompt S.on_bad S.Adds S.before calls
 prompt {F} S old new (Ok clean) calls none is h = known S old.peer new.peer h.0 h.2 true calls none is h.5
@@ -447,8 +435,3 @@ prompt {F} S old new (Err faults.Write) calls none is h = elim h.0 [
   | inr x ↦ known S old.peer new.peer x.0 x.2 x.4 calls none is x.8
 ]
 prompt {F} S old new (Err faults.TooLong) calls none is h = known S old.peer new.peer h.1.came h.1.sent true calls none is h.1.talked
-
-pub served_prompt : {F : Type 0} (o : OnBadLine) (before : FacilityState) (contents : F → Option (List ℕ)) (old new : Sides F)
-    (result : Result Bool ServeFault) (calls : List Moment) → old.peer.moments ≡ Some [] → new.peer.moments ≡ Some calls
-    → HasServed (server_with o AddsNothing before contents) old new result → IsPrompt o AddsNothing before calls
-served_prompt {F} o before contents old new result calls none is h = prompt (server_with o AddsNothing before contents) old new result calls none is h

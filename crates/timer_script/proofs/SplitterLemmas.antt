@@ -1,6 +1,7 @@
 -- The positions of line feeds in lines.
-use Rattle.std.proofs.Common.{◌==◌, ◌&&◌, not, Bool, true, false, inl, inr, ◌≡◌, ℕ, ◌+◌, ◌-◌, ◌^◌, ◌%◌, ◌<◌, ◌≤◌, List, [], ◌∷◌, ◌++◌, length, get_or, take, None, decimal, codes, refl, sym, ap, subst, ◌∙◌, arith, append_assoc, append-nil, length-append, lit≤}
-use Rattle.std.proofs.lemmas.Fmt.{length-decimal-le, decimal_by_steps}
+use Rattle.std.proofs.Common.{◌==◌, ◌&&◌, not, Bool, true, false, cond, inl, inr, ◌≡◌, zero, suc, ℕ, ◌+◌, ◌-◌, ◌/◌, ◌%◌, ◌<◌, ◌≤◌, nat_lt, List, [], ◌∷◌, ◌++◌, length, get_or, take, decimal, codes, refl, sym, ap, subst, ◌∙◌, arith, append_assoc, append-nil, length-append, lit≤}
+use Rattle.std.specs.Fmt.{digits, digits_onto, digit_glyph}
+use Rattle.std.proofs.lemmas.Fmt.{length-decimal-le}
 use Rattle.std.proofs.lemmas.List.{take_more}
 use Rattle.timer_base.specs.declared.limits.TheConstants.{LAST}
 use Rattle.timer_base.specs.OrderLaws.{either}
@@ -10,9 +11,6 @@ use Rattle.timer_facility.specs.declared.event.Event.{Event}
 use Rattle.timer_facility.specs.declared.event.Event.TheVariants.{Start, Stop, Restart, Ticks, Close}
 use Rattle.timer_script.specs.Script.{IsInRange, line, BeginsNoLine}
 use Rattle.timer_script.specs.Splitter.{HasNoFeed}
-use Rattle.std.proofs.lemmas.Option.{none-some}
-use Rattle.timer_script.specs.Lines.{line_at}
-use Rattle.timer_script.proofs.LineLemmas.{line_again}
 
 pub no_feed-append : (xs ys : List ℕ) → HasNoFeed xs → HasNoFeed ys → HasNoFeed (xs ++ ys)
 no_feed-append [] ys a b = b
@@ -34,14 +32,29 @@ bare (b ∷ bytes) e = elim (either (b == 10)) [
   )
 ]
 
--- a number has no line feed, and at most 19 digits
-decimal_no_feed : (n : ℕ) → n < 2 ^ 64 → HasNoFeed (decimal n)
-decimal_no_feed n small = decimal_by_steps (λ m ds. HasNoFeed ds) (λ m l. (λ e. omega arith, tt))
-    (λ m ds l h. no_feed-append ds ((48 + m % 10) ∷ []) h (λ e. omega arith, tt)) n small
+-- a number has no line feed
+digit_bare : (d : ℕ) → digit_glyph false d ≡ 10 → ⊥
+digit_bare d e = elim (either (nat_lt d 10)) [
+  | inl k ↦ (let h : 48 + d ≡ 10 = ap (λ t. cond t (48 + d) (87 + d)) (sym k) ∙ e in absurd (omega arith))
+  | inr k ↦ (let h : 87 + d ≡ 10 = ap (λ t. cond t (48 + d) (87 + d)) (sym k) ∙ e in absurd (omega arith))
+]
 
-number_no_feed : (n : ℕ) → n ≤ LAST → HasNoFeed (decimal n)
-number_no_feed n fits = decimal_no_feed n (omega arith)
+onto_bare : (k n : ℕ) (acc : List ℕ) → HasNoFeed acc → HasNoFeed (digits_onto k 10 false n acc)
+onto_bare zero n acc h = h
+onto_bare (suc k) n acc h =
+    let front : List ℕ = digit_glyph false (n % 10) ∷ acc in
+    let more : HasNoFeed front = (digit_bare (n % 10), h) in
+    elim (either (n / 10 == 0)) [
+      | inl z ↦ subst (λ t. HasNoFeed (cond t front (digits_onto k 10 false (n / 10) front))) (sym z) more
+      | inr z ↦ subst (λ t. HasNoFeed (cond t front (digits_onto k 10 false (n / 10) front))) (sym z)
+          (onto_bare k (n / 10) front more)
+    ]
 
+pub decimal_bare : (n : ℕ) → HasNoFeed (decimal n)
+unfolding digits
+decimal_bare n = onto_bare 64 n [] tt
+
+-- and at most 19 digits
 number_short : (n : ℕ) → n ≤ LAST → length (decimal n) ≤ 19
 number_short n fits = length-decimal-le 19 n (lit≤ tt) (omega arith) (omega arith)
 
@@ -64,32 +77,14 @@ join m n xs ys a b = record {
 }
 
 number : (n : ℕ) → n ≤ LAST → IsBare 19 (decimal n)
-number n fits = record { no_feed = number_no_feed n fits; short = number_short n fits }
+number n fits = record { no_feed = decimal_bare n; short = number_short n fits }
 
 word : (most : ℕ) (bytes : List ℕ) → is_bare bytes ≡ true → length bytes ≤ most → IsBare most bytes
 word most bytes free short = record { no_feed = bare bytes free; short = short }
 
-blank : IsBare 1 (codes " ")
-blank = word 1 (codes " ") refl (omega arith)
-
-word_start : IsBare 6 (codes "start ")
-word_start = word 6 (codes "start ") refl (omega arith)
-
-word_stop : IsBare 5 (codes "stop ")
-word_stop = word 5 (codes "stop ") refl (omega arith)
-
-word_restart : IsBare 8 (codes "restart ")
-word_restart = word 8 (codes "restart ") refl (omega arith)
-
-word_tick : IsBare 5 (codes "tick ")
-word_tick = word 5 (codes "tick ") refl (omega arith)
-
-word_close : IsBare 5 (codes "close")
-word_close = word 5 (codes "close") refl (omega arith)
-
 -- a number and a space
 spaced : (n : ℕ) → n ≤ LAST → IsBare 20 (decimal n ++ codes " ")
-spaced n fits = join 19 1 (decimal n) (codes " ") (number n fits) blank
+spaced n fits = join 19 1 (decimal n) (codes " ") (number n fits) (word 1 (codes " ") refl (omega arith))
 
 few_ticks : (k : ℕ) → k ≤ MAX_TICKS → k ≤ LAST
 few_ticks k few = omega arith
@@ -102,22 +97,22 @@ unfolding line
 line_fed (Start c n i a) fits =
     fed 85 _ (codes "start " ++ ((decimal c ++ codes " ") ++ ((decimal n ++ codes " ") ++ ((decimal i ++ codes " ") ++ decimal a))))
     (lit≤ tt)
-    (join 6 79 _ _ word_start (join 20 59 _ _ (spaced c fits.0)
+    (join 6 79 _ _ (word 6 (codes "start ") refl (omega arith)) (join 20 59 _ _ (spaced c fits.0)
     (join 20 39 _ _ (spaced n fits.1) (join 20 19 _ _ (spaced i fits.2) (number a fits.3)))))
     (simp append_assoc refl)
 line_fed (Stop c n s) fits =
     fed 64 _ (codes "stop " ++ ((decimal c ++ codes " ") ++ ((decimal n ++ codes " ") ++ decimal s))) (lit≤ tt)
-    (join 5 59 _ _ word_stop (join 20 39 _ _ (spaced c fits.0) (join 20 19 _ _ (spaced n fits.1) (number s fits.2))))
+    (join 5 59 _ _ (word 5 (codes "stop ") refl (omega arith)) (join 20 39 _ _ (spaced c fits.0) (join 20 19 _ _ (spaced n fits.1) (number s fits.2))))
     (simp append_assoc refl)
 line_fed (Restart c n s i a) fits =
     fed 107 _ (codes "restart " ++ ((decimal c ++ codes " ") ++ ((decimal n ++ codes " ")
     ++ ((decimal s ++ codes " ") ++ ((decimal i ++ codes " ") ++ decimal a))))) (lit≤ tt)
-    (join 8 99 _ _ word_restart (join 20 79 _ _ (spaced c fits.0)
+    (join 8 99 _ _ (word 8 (codes "restart ") refl (omega arith)) (join 20 79 _ _ (spaced c fits.0)
     (join 20 59 _ _ (spaced n fits.1) (join 20 39 _ _ (spaced s fits.2) (join 20 19 _ _ (spaced i fits.3) (number a fits.4))))))
     (simp append_assoc refl)
 line_fed (Ticks k) fits =
-    fed 24 _ (codes "tick " ++ decimal k) (lit≤ tt) (join 5 19 _ _ word_tick (number k (few_ticks k fits.1))) (simp append_assoc refl)
-line_fed Close fits = fed 5 _ (codes "close") (lit≤ tt) word_close refl
+    fed 24 _ (codes "tick " ++ decimal k) (lit≤ tt) (join 5 19 _ _ (word 5 (codes "tick ") refl (omega arith)) (number k (few_ticks k fits.1))) (simp append_assoc refl)
+line_fed Close fits = fed 5 _ (codes "close") (lit≤ tt) (word 5 (codes "close") refl (omega arith)) refl
 
 -- bytes split at their first line feed in one way
 pub first_feed : (xs ys more other : List ℕ) → HasNoFeed xs → HasNoFeed ys → xs ++ 10 ∷ more ≡ ys ++ 10 ∷ other → (xs ≡ ys) × (more ≡ other)
@@ -135,7 +130,7 @@ no_feed_long [] ys more other a e = omega arith
 no_feed_long (x ∷ xs) [] more other a e = absurd (a.0 cc)
 no_feed_long (x ∷ xs) (y ∷ ys) more other a e = let h = no_feed_long xs ys more other a.1 (cc) in omega arith
 
-at_feed : (xs more : List ℕ) → (xs ++ 10 ∷ []) ++ more ≡ xs ++ 10 ∷ more
+pub at_feed : (xs more : List ℕ) → (xs ++ 10 ∷ []) ++ more ≡ xs ++ 10 ∷ more
 at_feed xs more = append_assoc xs (10 ∷ []) more
 
 -- bytes with no line feed that are too many for a line begin no line
@@ -158,15 +153,6 @@ no_feed_no_line xs none event rest fits e =
     no_feed_none [] (y ∷ ys) rest a e = absurd cc
     no_feed_none (x ∷ xs) [] rest a e = a.0 cc
     no_feed_none (x ∷ xs) (y ∷ ys) rest a e = no_feed_none xs ys rest a.1 cc
-
--- a complete line that can't be read begins no line, whatever follows
-pub unread : (front more : List ℕ) → HasNoFeed front → line_at (front ++ 10 ∷ []) ≡ None → BeginsNoLine ((front ++ 10 ∷ []) ++ more)
-unread front more free unread_none event rest fits e =
-    let f : IsFed (line event) = line_fed event fits in
-    let same = first_feed front f.front more rest free f.no_feed (sym (at_feed front more) ∙ e
-    ∙ ap (λ t. t ++ rest) f.is ∙ at_feed f.front rest) in
-    let whole : front ++ 10 ∷ [] ≡ line event ++ [] = ap (λ t. t ++ 10 ∷ []) same.0 ∙ sym f.is ∙ sym (append-nil (line event)) in
-    none-some _ (sym unread_none ∙ ap line_at whole ∙ line_again event [] fits)
 
 -- one more byte, which is no line feed
 pub no_feed-take : (old bytes : List ℕ) (n : ℕ) → 0 < n → n ≤ length bytes → HasNoFeed old → HasNoFeed (take (n - 1) bytes)

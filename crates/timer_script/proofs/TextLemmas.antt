@@ -1,6 +1,7 @@
--- The text of outs does not depend on the places of handles.
-use Rattle.std.proofs.Common.{◌≡◌, List, [], ◌∷◌, length, refl, sym, ap, ◌∙◌}
+-- How long a number is, and that the text of outs does not depend on the places of handles.
+use Rattle.std.proofs.Common.{◌≡◌, ◌<◌, ◌≤◌, ◌^◌, ℕ, List, [], ◌∷◌, length, decimal, arith, lit≤, refl, sym, ap, ◌∙◌}
 use Rattle.std.proofs.lemmas.List.{length-map}
+use Rattle.std.proofs.lemmas.Fmt.{length-decimal-le}
 use Rattle.std.specs.List.{flat_map}
 use Rattle.timer_facility.specs.declared.request.Answer.TheVariants.{Started, Stopped, Restarted, Refused}
 use Rattle.timer_facility.specs.declared.event.Out.{Out}
@@ -8,6 +9,10 @@ use Rattle.timer_facility.specs.declared.event.Out.TheVariants as Outs
 use Rattle.timer_facility.specs.State.{FacilityState}
 use Rattle.timer_facility.specs.Run.{bare, bare_outs, bare_entry, bare_state}
 use Rattle.timer_script.specs.Text.{out_line, text}
+
+-- a number of a word has at most 20 digits
+pub short_decimal : (n : ℕ) → n < 18446744073709551616 → length (decimal n) ≤ 20
+short_decimal n fits = length-decimal-le 20 n (lit≤ tt) (let w : 18446744073709551616 ≤ 10 ^ 20 = lit≤ tt in omega arith) fits
 
 out_line-bare : (out : Out) → out_line (bare out) ≡ out_line out
 out_line-bare (Outs.Answered client number (Started handle deadline)) = refl

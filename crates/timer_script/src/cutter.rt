@@ -63,6 +63,7 @@ fn push_complaint(reports: &mut Vec<u8>, number: u64, fault: LineFault) -> Resul
 
 /// Keeps the event of a line if it is good, and else reports the line, or stops there. If the line is too long,
 /// only its front is held.
+#[tactic(auto, using(crate::proofs::CutterLines::ended_good, crate::proofs::CutterLines::ended_bad))]
 fn sort_line(
     on_bad: OnBadLine,
     held: &[u8],

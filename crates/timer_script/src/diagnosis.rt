@@ -53,6 +53,7 @@ pub fn fault_in_line(line: &[u8]) -> Option<LineFault>
 }
 
 /// Whether the bytes are the line of an event.
+#[tactic(auto, using(crate::proofs::DiagnosisLemmas::whole_lines))]
 fn is_line(line: &[u8]) -> bool
     ensures line { IsTrue result → IsLine line.now }
     ensures none { result ≡ false → ¬ (IsLine line.now) }

@@ -83,6 +83,7 @@ fn read_field<'a>(bytes: &'a [u8], end: &[u8]) -> Option<(u64, &'a [u8])>
 }
 
 /// What follows `start `.
+#[inline(always)]
 #[tactic(auto, unfolding(crate::specs::Lines::start_at))]
 fn read_start(bytes: &[u8]) -> Option<(Event, &[u8])>
     ensures { read_view (λ e. e) result ≡ start_at bytes.now }
@@ -101,6 +102,7 @@ fn read_start(bytes: &[u8]) -> Option<(Event, &[u8])>
 }
 
 /// What follows `stop `.
+#[inline(always)]
 #[tactic(auto, unfolding(crate::specs::Lines::stop_at))]
 fn read_stop(bytes: &[u8]) -> Option<(Event, &[u8])>
     ensures { read_view (λ e. e) result ≡ stop_at bytes.now }
@@ -116,7 +118,8 @@ fn read_stop(bytes: &[u8]) -> Option<(Event, &[u8])>
     Some((event, rest))
 }
 
-/// What follows `restart `.
+/// What follows `restart `. A call, as that of `tick ` is: with both inside, `read_line` is too large to be inlined.
+#[inline(never)]
 #[tactic(auto, unfolding(crate::specs::Lines::restart_at))]
 fn read_restart(bytes: &[u8]) -> Option<(Event, &[u8])>
     ensures { read_view (λ e. e) result ≡ restart_at bytes.now }
@@ -137,6 +140,7 @@ fn read_restart(bytes: &[u8]) -> Option<(Event, &[u8])>
 }
 
 /// What follows `tick `.
+#[inline(never)]
 #[tactic(auto, unfolding(crate::specs::Lines::tick_at))]
 fn read_tick(bytes: &[u8]) -> Option<(Event, &[u8])>
     ensures { read_view (λ e. e) result ≡ tick_at bytes.now }
@@ -148,7 +152,9 @@ fn read_tick(bytes: &[u8]) -> Option<(Event, &[u8])>
     Some((Event::Ticks { count }, rest))
 }
 
-/// The event whose line is at the front, and the bytes after the line.
+/// The event whose line is at the front, and the bytes after the line. Inlined: an event that is returned through
+/// memory is read back in other pieces than it was written in, and waits for the writes.
+#[inline(always)]
 #[tactic(auto, unfolding(crate::specs::Lines::line_at))]
 pub fn read_line(bytes: &[u8]) -> Option<(Event, &[u8])>
     ensures { read_view (λ e. e) result ≡ line_at bytes.now }

@@ -13,6 +13,7 @@ use std::io::Write;
 ///
 /// The error comes if the writer failed, or took no byte, and has the number of bytes of the text that were
 /// written before.
+#[tactic(auto, using(crate::proofs::KnownBytes::sends_more))]
 pub fn write_text<S: Write>(writer: &mut Watched<S>, text: &[u8]) -> Result<(), WriteFault>
     requires { has_failed writer.old ≡ false }
     ensures ok { OnOk result (Appends (S.contents (inner_of writer.old))

@@ -15,6 +15,7 @@ use timer_facility::Event;
 ///
 /// `Bad` names the first bad line, counted from 1. Bytes after the last line feed are a bad line, and
 /// so is an empty line. A well-formed line that the facility will refuse is not.
+#[tactic(auto, using(crate::proofs::ScriptLemmas::reading))]
 pub fn parse_script(alloc: Global, bytes: &[u8]) -> Result<Vec<Event>, ScriptFault>
     // The bytes spell these events.
     ensures read { IfOk result (λ events. IsScript events.items bytes.now) }

@@ -28,7 +28,8 @@ use timer_facility::{Event, Facility, Out, Player};
 const GROWTH: usize = 4;
 
 /// Plays an event, and adds the line of each of its outs to the text. `outs` is a scratch buffer,
-/// reused.
+/// reused. Inlined, so that the event need not be in memory.
+#[inline(always)]
 pub fn play_event<W: Wheel + Drop>(
     player: &mut Player<W>,
     event: Event,
@@ -43,6 +44,7 @@ pub fn play_event<W: Wheel + Drop>(
 }
 
 /// Plays each line of a script, and adds the line of each out to the text.
+#[tactic(auto, using(crate::proofs::ScriptRunLemmas::playing))]
 fn play_lines<W: Wheel + Drop>(
     alloc: Global,
     player: &mut Player<W>,

@@ -53,6 +53,7 @@ fn send<P: Peer>(peer: &mut P, text: &[u8]) -> Result<(), TurnFault>
 
 /// Plays these events, and appends the answers. A line of ticks is played in steps if the decorator shows these.
 /// If memory runs out, the text answers the first events.
+#[tactic(auto, using(crate::proofs::StepLemmas::nothing_answered))]
 fn play<W: Wheel + Drop, D: Decorator<W>>(
     session: &mut Session<W>,
     decorator: &D,

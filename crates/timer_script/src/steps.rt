@@ -72,6 +72,7 @@ fn step_of<W: Wheel + Drop>(facility: &Facility<W>, left: u64) -> u64
 }
 
 /// Plays one step, and appends the answers and what is added after it.
+#[tactic(auto, using(crate::proofs::StepLemmas::grown_answer))]
 fn play_step<W: Wheel + Drop, D: Decorator<W>>(
     session: &mut Session<W>,
     decorator: &D,

@@ -13,7 +13,7 @@
 //!     end NOW PENDING                           the tick and the number of pending timers at the end
 //!
 //! The text is built in one `Vec`, with no formatting machinery for each line.
-ghost use Rattle.std.specs.Prelude.{◌≡◌, ◌≤◌, ◌+◌, ◌∷◌, ◌++◌, length, drop, IfOk, OnOk, codes, decimal};
+ghost use Rattle.std.specs.Prelude.{◌≡◌, ◌≤◌, ◌+◌, ◌∷◌, [], ◌++◌, length, drop, IfOk, OnOk, codes, decimal};
 ghost use Rattle.timer_script.specs.declared.text.TheConstants.{MAX_NUMBERS, MAX_DIGITS};
 ghost use Rattle.std.specs.List.{flat_map};
 ghost use Rattle.timer_script.specs.Text.{numbers, reason_word, refusal_word, fault_word, out_line, end_line, text};
@@ -66,11 +66,12 @@ const MAX_NUMBERS: usize = 5;
 /// The most bytes of a number and the space before it.
 const MAX_DIGITS: usize = 21;
 
-/// The most bytes of the numbers of a line.
-const ROOM: usize = 105;
+/// The most bytes of the numbers of a line, and of the byte after them.
+const ROOM: usize = 106;
 
 /// Writes a space and a number so that they end at `end`, and returns where they start.
 #[inline(always)]
+#[tactic(auto, using(crate::proofs::TextLemmas::short_decimal))]
 fn put_number(n: u64, buffer: &mut [u8], end: usize) -> usize
     requires { (MAX_DIGITS ≤ end) × (end ≤ length buffer.old) }
     ensures written { drop result buffer.new ≡ 32 ∷ decimal n ++ drop end buffer.old }
@@ -83,14 +84,15 @@ fn put_number(n: u64, buffer: &mut [u8], end: usize) -> usize
     at
 }
 
-/// Writes numbers, each after a space: from the last to the first into a piece of memory, which is then
-/// copied at once.
-fn push_numbers(out: &mut Vec<u8>, all: &[u64]) -> Result<(), OutOfMemory>
+/// Writes numbers, each after a space, and the byte that follows them: from the last to the first into a piece of
+/// memory, which is then copied at once.
+fn push_numbers(out: &mut Vec<u8>, all: &[u64], last: u8) -> Result<(), OutOfMemory>
     requires { length all.now ≤ MAX_NUMBERS }
-    ensures { OnOk result (out.new.items ≡ out.old.items ++ numbers all.now) }
+    ensures { OnOk result (out.new.items ≡ out.old.items ++ numbers all.now ++ last ∷ []) }
 {
     let mut buffer = [0u8; ROOM];
-    let mut at = ROOM;
+    let mut at = ROOM - 1;
+    buffer[at] = last;
     let mut i = all.len();
     while i > 0 {
         i -= 1;
@@ -106,9 +108,7 @@ fn push_line(out: &mut Vec<u8>, word: &[u8], all: &[u64]) -> Result<(), OutOfMem
     ensures { OnOk result (out.new.items ≡ out.old.items ++ word.now ++ numbers all.now ++ codes "\n") }
 {
     out.extend_from_slice(word)?;
-    push_numbers(out, all)?;
-    out.push(b'\n')?;
-    Ok(())
+    push_numbers(out, all, b'\n')
 }
 
 /// Writes a word, numbers and a reason as a line.
@@ -123,8 +123,7 @@ fn push_refused(
         ++ reason.now ++ codes "\n") }
 {
     out.extend_from_slice(word)?;
-    push_numbers(out, all)?;
-    out.push(b' ')?;
+    push_numbers(out, all, b' ')?;
     out.extend_from_slice(reason)?;
     out.push(b'\n')?;
     Ok(())

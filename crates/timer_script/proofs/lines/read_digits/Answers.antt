@@ -3,7 +3,8 @@ use Rattle.std.proofs.lemmas.List.{get_or_past}
 use Rattle.std.proofs.lemmas.Int.Digits.{digits_more, digits_value_more}
 use Rattle.std.specs.Char.{digit_value}
 use Rattle.std.specs.Str.Parse.{AllDigits, digits_value}
-use Rattle.timer_script.proofs.Digits.{digits_some_at, digits_large_at, digits_empty}
+use Rattle.std.proofs.NetLemmas.Numbers.{read_number_some_at, read_number_large_at, read_number_empty}
+use Rattle.timer_base.specs.declared.limits.TheConstants.{LAST}
 use Rattle.timer_script.proofs.lines.read_digits.Goals.{else-loop-b-test, then-loop-b-test+in_default}
 use Rattle.timer_script.proofs.lines.read_digits.Goals as goal
 
@@ -27,7 +28,7 @@ pub returns-then-next-gt-LAST-clause-value : goal.returns-then-next-gt-LAST-clau
 returns-then-next-gt-LAST-clause-value c =
     let i = c.loop-b.invariant in
     let h = more _ _ _ _ _ _ i.counted c.loop-b-test.true i.digits i.value c.from.ensures c.in-Some.ensures.value in
-    sym (digits_large_at c.args.bytes.now (c.loop-b.len + 1) h.0 (rw (← h.1) c.if-next-gt-LAST.true))
+    sym (read_number_large_at 10 LAST c.args.bytes.now (c.loop-b.len + 1) (lit≤ tt) h.0 (rw (← h.1) c.if-next-gt-LAST.true))
 
 pub loop-b-preserved : goal.loop-b-preserved
 loop-b-preserved c =
@@ -41,7 +42,7 @@ returns-then-len-eq0-clause-value c =
       | else-loop-b-test w ↦ past _ _ _ c.loop-b.invariant.counted w.loop-b-test.false
       | then-loop-b-test+in_default w ↦ other _ _ _ _ c.loop-b.invariant.counted w.from.ensures w.in_default.ensures.value
     ] in
-    sym (digits_empty c.args.bytes.now (rw c.if-len-eq0.true at stop))
+    sym (read_number_empty 10 LAST c.args.bytes.now (rw c.if-len-eq0.true at stop))
 
 pub returns-else-len-eq0-clause-value : goal.returns-else-len-eq0-clause-value
 returns-else-len-eq0-clause-value c =
@@ -50,5 +51,5 @@ returns-else-len-eq0-clause-value c =
       | else-loop-b-test w ↦ past _ _ _ i.counted w.loop-b-test.false
       | then-loop-b-test+in_default w ↦ other _ _ _ _ i.counted w.from.ensures w.in_default.ensures.value
     ] in
-    let read = digits_some_at c.args.bytes.now c.loop-b.len (omega arith) (omega arith) i.digits (rw (← i.value) i.most) stop in
+    let read = read_number_some_at 10 LAST c.args.bytes.now c.loop-b.len (omega arith) (omega arith) i.digits (rw (← i.value) i.most) stop in
     rw i.value (sym read)

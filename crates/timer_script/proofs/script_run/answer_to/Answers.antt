@@ -1,4 +1,4 @@
-use Rattle.std.proofs.Common.{◌≡◌, [], ◌++◌, length, ap, subst, ◌∙◌}
+use Rattle.std.proofs.Common.{◌≡◌, [], ◌++◌, length, ap, ◌∙◌}
 use Rattle.timer_facility.specs.State.{FacilityState}
 use Rattle.timer_script.specs.Text.{end_line}
 use Rattle.timer_script.specs.ScriptRun.{HasPlayedLines}
@@ -12,9 +12,7 @@ returns-clause-ok g c =
     let lines = c.play_lines.new.text.items in
     let of_player : HasPlayedLines c.open-player.result c.args.script.now c.in-Ok.answer.items lines after = c.in_ok-play_lines.ensures.ok
     in
-    let played : HasPlayedLines s c.args.script.now [] lines after =
-    subst (λ t. HasPlayedLines s c.args.script.now t lines after) c.in-Ok.ensures.items
-    (subst (λ (d : FacilityState). HasPlayedLines d c.args.script.now c.in-Ok.answer.items lines after) c.open-player.ensures of_player) in
+    let played : HasPlayedLines s c.args.script.now [] lines after = rw (← c.in-Ok.ensures.items, ← c.open-player.ensures) of_player in
     let now : c.now-now-2.result ≡ after.now = c.now-now-2.ensures.now ∙ ap (λ (d : FacilityState). d.now) c.facility.ensures.state in
     let pending : c.pending-pending.result ≡ length after.pending =
     c.pending-pending.ensures.pending ∙ ap (λ (d : FacilityState). length d.pending) c.facility-2.ensures.state in

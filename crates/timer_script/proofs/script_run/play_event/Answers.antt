@@ -10,7 +10,5 @@ returns g c =
     let ran : AddsRun c.args.player.now event [] c.play_one.new.outs.items c.play_one.new.self =
     subst (λ os. AddsRun c.args.player.now event os c.play_one.new.outs.items c.play_one.new.self) c.clear.ensures.items
     c.in_ok-play_one.ensures.ok in
-    adds_chunk c.push_outs.result c.args.player.now c.play_one.new.self (event ∷ [])
-    (event ∷ []) c.play_one.new.outs.items c.deref.result.now c.args.text.now.items c.push_outs.new.text.items
-    (IsRun-more c.args.player.now [] event [] c.play_one.new.outs.items c.args.player.now c.play_one.new.self
-    (IsRun-none c.args.player.now) ran) refl c.deref.ensures.value c.push_outs.ensures
+    adds_chunk c.push_outs.result _ _ (event ∷ []) (event ∷ []) c.play_one.new.outs.items _ _ _
+    (IsRun-more _ [] event [] _ _ _ (IsRun-none c.args.player.now) ran) refl c.deref.ensures.value c.push_outs.ensures

@@ -6,13 +6,9 @@ use Rattle.timer_script.proofs.service.answer.Goals as goal
 
 pub returns-in-Ok-clause-whole : goal.returns-in-Ok-clause-whole
 returns-in-Ok-clause-whole g c =
-    let A = g.D.Decorator.adds in
-    let d = g.met.D.Decorator.is_lawful in
-    let s = c.args.session.now.player in
-    let t = c.play.new.session.player in
-    let x = c.play.new.text.items in
-    decorated A d s t c.args.events.now x c.decorate.new.text.items c.in_ok-play.ensures.whole
-    (subst (λ z. HasGrownBy A z x c.decorate.new.text.items) c.facility.ensures.state c.in-Ok.ensures.added)
+    decorated _ g.met.D.Decorator.is_lawful _ _ _ _ _ c.in_ok-play.ensures.whole
+    (subst (λ z. HasGrownBy g.D.Decorator.adds z c.play.new.text.items c.decorate.new.text.items) c.facility.ensures.state
+    c.in-Ok.ensures.added)
 
 pub returns-in-Err-clause-part : goal.returns-in-Err-clause-part
 returns-in-Err-clause-part g c =

@@ -9,8 +9,7 @@ use Rattle.timer_script.proofs.service.end_stream.Goals as goal
 pub returns-in_default : goal.returns-in_default
 returns-in_default g c = λ before p w sound all.
     let old = c.args.cutter.now in
-    end_lost (server_with old.on_bad g.D.Decorator.adds before g.F.Write.contents) old w c.args.faults.now c.end.new.faults p
-    (g.P.Peer.state c.args.peer.now) c.args.session.now.player refl c.in_default.ensures.unreported c.requires.good all
+    end_lost _ old _ _ _ _ _ _ refl c.in_default.ensures.unreported c.requires.good all
 
 pub returns-in-Some : goal.returns-in-Some
 returns-in-Some g c = λ before p w sound all.

@@ -17,9 +17,8 @@ pub loop-turned-init : goal.loop-turned-init
 loop-turned-init g c =
     let e = c.new-cutter.ensures in record {
       on_bad = e.on_bad;
-      often = often_none (server_with c.args.on_bad g.D.Decorator.adds c.args.facility.state g.F.Write.contents)
-          g.met.D.Decorator.is_lawful (g.P.Peer.state c.args.peer.now) c.args.faults.now c.new-cutter.result c.open-session.result.player
-          e.held e.number e.clean c.open-session.ensures;
+      often = often_none _ g.met.D.Decorator.is_lawful _ _ c.new-cutter.result c.open-session.result.player e.held e.number e.clean
+          c.open-session.ensures;
       good = c.requires.good;
       room = c.in-Ok.ensures.len;
     }
@@ -30,35 +29,23 @@ returns-in_default-read g c =
     let e = c.in_default-read.ensures in
     let s = c.loop-turned.session.player in (
       s,
-      all_failed (server_with c.args.on_bad g.D.Decorator.adds c.args.facility.state g.F.Write.contents) c.loop-turned.cutter
-          c.args.faults.now c.loop-turned.faults (g.P.Peer.state c.args.peer.now) (g.P.Peer.state c.loop-turned.peer)
-          (g.P.Peer.state c.read.new.self) s c.in_default-read.field-0 c.read.new.piece i.on_bad i.often.all e,
+      all_failed _ c.loop-turned.cutter _ _ _ _ _ s c.in_default-read.field-0 c.read.new.piece i.on_bad i.often.all e,
       e.failed ∙ ap (λ b. b || true) i.good.reading,
       e.writing ∙ i.good.writing,
     )
 
 pub returns-in_err-serve_piece : goal.returns-in_err-serve_piece
 returns-in_err-serve_piece g c =
-    let A = g.D.Decorator.adds in
-    let C = g.F.Write.contents in
-    let o = c.args.on_bad in
-    let w = c.args.faults.now in
-    let u = c.serve_piece.new.faults in
     let i = c.loop-turned.invariant in
-    let before = c.args.facility.state in
-    let p = g.P.Peer.state c.args.peer.now in
-    let t = g.P.Peer.state c.serve_piece.new.peer in
     let n = c.in-Ok-read.n in
     let piece = c.read.new.piece in
     let room : vec_len c.loop-turned.piece ≡ PIECE = i.room in
     let within : n ≤ length piece = search rules in
     let short : length piece ≤ PIECE = search rules in
     let fault = c.in_err-serve_piece.field-0.0 in
-    subst (HasServed (server_with o A before C) (record { peer = p; faults = w }) (record { peer = t; faults = u }))
-    (sym (passed_on c.from_residual.result fault c.from_residual.ensures.1))
-    (turned o A before C c.loop-turned.cutter c.serve_piece.new.cutter w c.loop-turned.faults u p (g.P.Peer.state c.loop-turned.peer)
-    (g.P.Peer.state c.read.new.self) t c.loop-turned.session.player c.serve_piece.new.session.player c.loop-turned.turned n _ piece (Err fault)
-    i.on_bad within short
+    subst (HasServed _ _ _) (sym (passed_on c.from_residual.result fault c.from_residual.ensures.1))
+    (turned c.args.on_bad g.D.Decorator.adds c.args.facility.state g.F.Write.contents _ c.serve_piece.new.cutter c.args.faults.now _ _
+    (g.P.Peer.state c.args.peer.now) _ _ _ _ c.serve_piece.new.session.player _ n _ piece (Err fault) i.on_bad within short
     (front_of n (vec_len c.loop-turned.piece) piece (drop (length piece) c.loop-turned.piece.items) c.deref.result.now (omega arith) within
     c.deref.ensures.value) i.often c.in-Ok-read.ensures c.in_err-serve_piece.ensures.served)
 
@@ -70,7 +57,6 @@ pub returns-then-n-eq0 : goal.returns-then-n-eq0
 returns-then-n-eq0 g c =
     let A = g.D.Decorator.adds in
     let C = g.F.Write.contents in
-    let o = c.args.on_bad in
     let w = c.args.faults.now in
     let u = c.serve_piece.new.faults in
     let k = c.serve_piece.new.cutter in
@@ -84,11 +70,10 @@ returns-then-n-eq0 g c =
     let room : vec_len c.loop-turned.piece ≡ PIECE = i.room in
     let within : n ≤ length piece = search rules in
     let short : length piece ≤ PIECE = search rules in
-    let served = turned o A before C c.loop-turned.cutter k w c.loop-turned.faults u p (g.P.Peer.state c.loop-turned.peer)
-    (g.P.Peer.state c.read.new.self) t c.loop-turned.session.player s c.loop-turned.turned n _ piece (Ok tt) i.on_bad within short
+    let served = turned c.args.on_bad A before C _ k w _ u p _ _ t _ s _ n _ piece (Ok tt) i.on_bad within short
     (front_of n (vec_len c.loop-turned.piece) piece (drop (length piece) c.loop-turned.piece.items) c.deref.result.now (omega arith) within
     c.deref.ensures.value) i.often c.in-Ok-read.ensures c.in_ok-serve_piece.ensures.served in
-    let is : k.on_bad ≡ o = c.serve_piece.ensures.kept ∙ i.on_bad in
+    let is : k.on_bad ≡ c.args.on_bad = c.serve_piece.ensures.kept ∙ i.on_bad in
     subst (λ x. HasServed (server_with x A before C) (record { peer = p; faults = w })
     (record { peer = g.P.Peer.state c.end_stream.new.peer; faults = c.end_stream.new.faults }) c.end_stream.result) is
     (c.end_stream.ensures before p w c.now-now.ensures.sound
@@ -96,29 +81,22 @@ returns-then-n-eq0 g c =
 
 pub loop-turned-preserved : goal.loop-turned-preserved
 loop-turned-preserved g c =
-    let A = g.D.Decorator.adds in
-    let C = g.F.Write.contents in
-    let o = c.args.on_bad in
-    let w = c.args.faults.now in
-    let u = c.serve_piece.new.faults in
-    let k = c.serve_piece.new.cutter in
     let i = c.loop-turned.invariant in
-    let before = c.args.facility.state in
-    let p = g.P.Peer.state c.args.peer.now in
-    let t = g.P.Peer.state c.serve_piece.new.peer in
+    let k = c.serve_piece.new.cutter in
     let s = c.serve_piece.new.session.player in
     let n = c.in-Ok-read.n in
     let piece = c.read.new.piece in
     let room : vec_len c.loop-turned.piece ≡ PIECE = i.room in
     let within : n ≤ length piece = search rules in
     let short : length piece ≤ PIECE = search rules in
-    let served = turned o A before C c.loop-turned.cutter k w c.loop-turned.faults u p (g.P.Peer.state c.loop-turned.peer)
-    (g.P.Peer.state c.read.new.self) t c.loop-turned.session.player s c.loop-turned.turned n _ piece (Ok tt) i.on_bad within short
+    let served = turned c.args.on_bad g.D.Decorator.adds c.args.facility.state g.F.Write.contents _ k c.args.faults.now _
+    c.serve_piece.new.faults (g.P.Peer.state c.args.peer.now) _ _ (g.P.Peer.state c.serve_piece.new.peer) _ s _ n _ piece (Ok tt) i.on_bad
+    within short
     (front_of n (vec_len c.loop-turned.piece) piece (drop (length piece) c.loop-turned.piece.items) c.deref.result.now (omega arith) within
     c.deref.ensures.value) i.often c.in-Ok-read.ensures c.in_ok-serve_piece.ensures.served in
     record {
       on_bad = c.serve_piece.ensures.kept ∙ i.on_bad;
-      often = often_more (server_with o A before C) k w u p t s c.loop-turned.turned n served c.if-n-eq0.false;
+      often = often_more _ k _ _ _ _ s _ n served c.if-n-eq0.false;
       good = c.in_ok-serve_piece.ensures.good;
       room = search rules;
     }
@@ -127,6 +105,4 @@ pub returns : goal.returns
 returns g c =
     let i = c.loop-turned.invariant in
     let all = c.loop-turned-test.false in
-    often_ended (server_with c.args.on_bad g.D.Decorator.adds c.args.facility.state g.F.Write.contents) c.loop-turned.cutter
-    c.args.faults.now c.loop-turned.faults (g.P.Peer.state c.args.peer.now) (g.P.Peer.state c.loop-turned.peer)
-    c.loop-turned.session.player c.loop-turned.turned i.on_bad (omega arith) i.good i.often
+    often_ended _ c.loop-turned.cutter _ _ _ _ c.loop-turned.session.player c.loop-turned.turned i.on_bad (omega arith) i.good i.often

@@ -9,8 +9,7 @@ use Rattle.timer_script.proofs.service.serve_piece.Goals as goal
 pub returns-in_default-clause-served : goal.returns-in_default-clause-served
 returns-in_default-clause-served g c = λ before p w all.
     let old = c.args.cutter.now in
-    piece_lost (server_with old.on_bad g.D.Decorator.adds before g.F.Write.contents) old w c.args.faults.now c.take_in.new.faults p
-    (g.P.Peer.state c.args.peer.now) c.args.session.now.player c.args.piece.now refl c.in_default.ensures.unreported c.requires all
+    piece_lost _ old _ _ _ _ _ _ _ refl c.in_default.ensures.unreported c.requires all
 
 pub returns-in_err-serve_events-clause-served : goal.returns-in_err-serve_events-clause-served
 returns-in_err-serve_events-clause-served g c = λ before p w all.

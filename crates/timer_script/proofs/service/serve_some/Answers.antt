@@ -1,8 +1,7 @@
-use Rattle.std.proofs.Common.{sym, subst}
-use Rattle.std.specs.Prelude.{IfErr}
+use Rattle.std.proofs.Common.{subst}
 use Rattle.timer_script.specs.declared.fault.TurnFault.TheVariants.{OutOfMemory}
-use Rattle.timer_script.specs.Service.{HasSent, HasSentPart, StopsEvents}
-use Rattle.timer_script.proofs.Results.{passed_on}
+use Rattle.timer_script.specs.Service.{HasSent, HasSentPart}
+use Rattle.timer_script.proofs.Results.{handed_on}
 use Rattle.timer_script.proofs.ServicePieces.{events_sent, sent_part, unsent}
 use Rattle.timer_script.proofs.service.serve_some.Goals as goal
 
@@ -14,8 +13,7 @@ returns-in_err-send-clause-fault g c =
     let r = g.P.Peer.state c.send.new.peer in
     let h = c.answer-played in
     let fault = c.in_err-send.field-0.0 in
-    subst (λ e. IfErr e (λ f. StopsEvents A f s c.args.events.now q r))
-    (sym (passed_on c.from_residual.result fault c.from_residual.ensures.1))
+    handed_on _ c.from_residual.result fault c.from_residual.ensures.1
     (unsent A fault h.result s h.new.session.player q r c.args.events.now h.new.text.items c.in_err-send.ensures.fault h.ensures.whole
     h.ensures.part c.requires.reading (subst (λ t. HasSentPart q t r) c.deref.ensures.value c.in_err-send.ensures.part))
 
@@ -25,8 +23,7 @@ returns-in_err-played-clause-fault g c =
     let s = c.args.session.now.player in
     let q = g.P.Peer.state c.args.peer.now in
     let r = g.P.Peer.state c.send.new.peer in
-    subst (λ e. IfErr e (λ f. StopsEvents A f s c.args.events.now q r))
-    (sym (passed_on c.from_residual-in_err-played.result OutOfMemory c.from_residual-in_err-played.ensures.1))
+    handed_on _ c.from_residual-in_err-played.result OutOfMemory c.from_residual-in_err-played.ensures.1
     (sent_part A s q r c.args.events.now c.answer-played.new.text.items c.in_err-played.ensures.part c.requires.reading
     (subst (λ t. HasSent q t r) c.deref.ensures.value c.in_ok-send.ensures.ok))
 

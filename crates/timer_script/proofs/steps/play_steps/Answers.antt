@@ -25,8 +25,7 @@ loop-left-preserved g c =
     subst (λ f. (n ≡ c.loop-left.left) ⊎ (n ≤ ticks_left f)) here c.step_of-step.ensures.accepted in
     let some : 0 < c.loop-left.left = search rules in
     record {
-      played = steps_more g.D.Decorator.adds g.met.D.Decorator.is_lawful c.requires.joins s m c.play_step.new.session.player
-          c.args.count c.loop-left.left n c.loop-left.text.items c.play_step.new.text.items before now
+      played = steps_more _ g.met.D.Decorator.is_lawful c.requires.joins s m _ c.args.count c.loop-left.left n _ _ before now
           c.loop-left.invariant.within some c.step_of-step.ensures.within accepted c.loop-left.invariant.played c.in-Ok.ensures;
       within = omega (arith, c.loop-left.invariant.within);
     }

@@ -6,11 +6,11 @@ use Rattle.timer_script.proofs.cutter.Cutter.end.Goals as goal
 
 pub returns-then-is_empty-clause-ended : goal.returns-then-is_empty-clause-ended
 returns-then-is_empty-clause-ended g c = λ writer came events h.
-    ended_none g.F.Write.contents writer c.args.faults.now c.args.self.now came events h (search rules)
+    ended_none _ _ _ _ _ _ h (search rules)
 
 pub returns-in-Stop-clause-ended : goal.returns-in-Stop-clause-ended
 returns-in-Stop-clause-ended g c = λ writer came events h.
-    ended_stopped g.F.Write.contents writer c.args.faults.now c.args.self.now came events h (search rules) c.in-Stop.is
+    ended_stopped _ _ _ _ _ _ h (search rules) c.in-Stop.is
 
 pub returns-in_ok-push_complaint-in-Report-clause-ended : goal.returns-in_ok-push_complaint-in-Report-clause-ended
 returns-in_ok-push_complaint-in-Report-clause-ended g c = λ writer came events h.

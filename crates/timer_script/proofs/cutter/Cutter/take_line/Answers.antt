@@ -1,7 +1,5 @@
-use Rattle.std.proofs.Common.{rules, sym, subst, List, ℕ, ◌++◌, ◌-◌, take}
-use Rattle.std.specs.Prelude.{IfErr}
-use Rattle.timer_script.specs.Cutter.{IsFrontOf, StopsCut}
-use Rattle.timer_script.proofs.Results.{passed_on, true_false}
+use Rattle.std.proofs.Common.{rules, ◌++◌, ◌-◌, take}
+use Rattle.timer_script.proofs.Results.{handed_on, true_false}
 use Rattle.timer_script.proofs.CutterLines.{cut_held, cut_line, line_front, line_stops, stopped_long}
 use Rattle.timer_script.proofs.SplitterLemmas.{no_feed-append}
 use Rattle.timer_script.proofs.cutter.Cutter.take_line.Goals as goal
@@ -22,9 +20,7 @@ returns-in_err-end_line-clause-stopped c =
     let l = c.line_len-len.ensures in
     let old = c.args.self.now in
     let fault = c.in_err-end_line.field-0.0 in
-    subst (λ r. IfErr r (λ f. (front : List ℕ) → IsFrontOf old front
-    → StopsCut f old.events.items front c.args.bytes.now old c.end_line.new.self))
-    (sym (passed_on c.from_residual-in_err-end_line.result fault c.from_residual-in_err-end_line.ensures.1))
+    handed_on _ c.from_residual-in_err-end_line.result fault c.from_residual-in_err-end_line.ensures.1
     (λ front h. line_stops fault front c.extend_from_slice.new.self.items c.args.bytes.now c.line_len-len.result old c.end_line.new.self h
     l.some l.within l.no_feed (search rules) (search rules) c.in_err-end_line.ensures.stopped)
 

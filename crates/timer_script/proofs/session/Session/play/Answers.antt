@@ -1,4 +1,4 @@
-use Rattle.std.proofs.Common.{sym, subst, take}
+use Rattle.std.proofs.Common.{sym, subst}
 use Rattle.std.proofs.lemmas.List.{take_more}
 use Rattle.timer_script.specs.ScriptRun.{AddsLines}
 use Rattle.timer_script.proofs.Results.{on_err}
@@ -12,14 +12,10 @@ pub loop-event-preserved : goal.loop-event-preserved
 loop-event-preserved g c =
     let i = c.loop-event.event-index in
     let more = take_more c.args.events.now i _ c.loop-event-test.true in
-    let x = c.args.text.now.items in
-    let z = c.play_one.new.text.items in
-    let t = c.play_one.new.self.player in
-    subst (λ es. AddsLines c.args.self.now.player es x z t) (sym more)
-    (adds_join c.args.self.now.player c.loop-event.self.player t (take i c.args.events.now) _ x c.loop-event.text.items z
-    c.loop-event.invariant c.in_ok-play_one.ensures.played)
+    subst (λ es. AddsLines c.args.self.now.player es c.args.text.now.items c.play_one.new.text.items c.play_one.new.self.player) (sym more)
+    (adds_join _ _ _ _ _ _ _ _ c.loop-event.invariant c.in_ok-play_one.ensures.played)
 
 pub returns-in_err-play_one-clause-part : goal.returns-in_err-play_one-clause-part
 returns-in_err-play_one-clause-part g c =
-    on_err c.from_residual.result (adds_first c.args.self.now.player c.loop-event.self.player c.args.events.now c.loop-event.event-index
-    c.args.text.now.items c.loop-event.text.items c.play_one.new.text.items c.loop-event.invariant c.in_err-play_one.ensures.text)
+    on_err c.from_residual.result (adds_first _ _ c.args.events.now c.loop-event.event-index _ _ _ c.loop-event.invariant
+    c.in_err-play_one.ensures.text)
