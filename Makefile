@@ -16,7 +16,8 @@
 # make ports       libuv, nginx and lwIP on these timers: their tests, traces, memory, instructions (ports/README.md)
 # make clean       removes what was built
 #
-# CC is the C compiler, by default cc: CC=aarch64-linux-gnu-gcc builds for another processor. CFLAGS and LDFLAGS are its flags.
+# CC is the C compiler, by default cc: CC=aarch64-linux-gnu-gcc builds for another processor. CPPFLAGS, CFLAGS and LDFLAGS are
+# its flags.
 #
 # With the toolchain (rt):
 #
@@ -42,21 +43,27 @@ all: timers lib
 
 .DELETE_ON_ERROR:
 
-timers: tools/program $(GENERATED) | tools/install/timers.1
+timers: tools/program build/flags $(GENERATED) | tools/install/timers.1
 	tools/program timers
 
 lib: build/lib/libtimers.a pages
 
-build/lib/libtimers.a: tools/lib tools/install/version tools/install/timers.map $(GENERATED)
+build/lib/libtimers.a: tools/lib build/flags tools/install/version tools/install/timers.map $(GENERATED)
 	tools/lib build/lib
+
+# Another compiler or other flags build all anew.
+build/flags: export FLAGS = $(CC) $(CPPFLAGS) $(CFLAGS) $(LDFLAGS)
+build/flags: FORCE
+	@mkdir -p build; echo "$$FLAGS" | cmp -s - $@ || echo "$$FLAGS" > $@
+FORCE:
 
 # The man pages, from docs/formats.md and the headers.
 pages: tools/install/timers.1 tools/install/timers.3 tools/install/timers_desk.3
 
-tools/install/timers.1: docs/formats.md tools/install/man1 tools/install/version tools/debian/changelog
+tools/install/timers.1: docs/formats.md tools/install/man1 tools/install/version tools/install/date
 	tools/install/man1 > $@
 
-tools/install/%.3: include/%.h tools/install/man3 tools/install/timers.1
+tools/install/%.3: include/%.h tools/install/man3 tools/install/version tools/install/date
 	tools/install/man3 $* > $@
 
 run: all
@@ -86,7 +93,7 @@ uninstall:
 dist: all
 	tools/dist
 
-deb: dist
+deb:
 	tools/deb
 
 bench: lib
@@ -123,4 +130,4 @@ clean:
 	rm -rf crates/*/out build timers tools/install/*.[13]
 	$(MAKE) -C bench clean
 
-.PHONY: all lib pages run test prove try generate install uninstall dist deb bench bench-lines bench-scale bench-tail bench-next bench-desk hostile fuzz soak docs ports clean
+.PHONY: FORCE all lib pages run test prove try generate install uninstall dist deb bench bench-lines bench-scale bench-tail bench-next bench-desk hostile fuzz soak docs ports clean

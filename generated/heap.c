@@ -1,11 +1,12 @@
 /* The memory of the timers: the three functions that the generated code calls, over malloc, realloc and free, or over
  * what timers_set_allocator was given.
  *
- * They are the only code of the library that is written by hand, so no proof covers them. The proofs rest on what is
- * said here of each.
+ * They are written by hand, as names.h and the inline functions of the headers are, so no proof covers them. The proofs
+ * rest on what is said here of each.
  *
  * Every alignment that is asked for divides 16. malloc and realloc have to align a block to each power of two up to 16
  * that divides its size, as those of glibc, musl and jemalloc do. It is C and C++. */
+/* SPDX-License-Identifier: MIT OR Apache-2.0 */
 #include <stdbool.h>
 #include <stddef.h>
 #include <stdlib.h>

@@ -1,4 +1,5 @@
 /* What the generated code and heap.c agree on. */
+/* SPDX-License-Identifier: MIT OR Apache-2.0 */
 
 /* Another library that the toolchain made may stand in the same program, with a heap of its own. */
 #define rattle_alloc timers_heap_alloc

@@ -23,19 +23,47 @@ needs_root() {
     [ -e "$root/usr/bin/dpkg" ] || skip "no clean root"
 }
 
-# has_three_packages FOLDER ARCHITECTURE
-has_three_packages() {
+# has_its_packages FOLDER ARCHITECTURE: three, and for debuggers the symbols of two
+has_its_packages() {
     diff <(cd "$1" && ls -- *.deb) - << EOT
 libtimers-dev_$version-1_$2.deb
+libtimers1-dbgsym_$version-1_$2.deb
 libtimers1_$version-1_$2.deb
+timers-dbgsym_$version-1_$2.deb
 timers_$version-1_$2.deb
 EOT
 }
 
-@test "packages are made, source and binary: three of them" {
+@test "outside of a clone tools/deb says that it needs one, in a line" {
+    needs_debian
+    copy_tree "$work/copy"
+    run "$work/copy/tools/deb"
+    [ "$status" -eq 3 ]
+    [ "${#lines[@]}" -eq 1 ]
+    grep "only a clone" <<< "$output"
+}
+
+@test "packages are made, source and binary" {
     needs_debian
     tools/deb
-    has_three_packages build/deb "$architecture"
+    has_its_packages build/deb "$architecture"
+}
+
+@test "the original source is what the repository tracks" {
+    needs_debian
+    diff <(git ls-files | sort) <(tar -tzf build/deb/*.orig.tar.gz | sed -n 's|^[^/]*/\(.*[^/]\)$|\1|p' | sort)
+}
+
+@test "the pages that timers(3) names are in libtimers-dev, and the examples, which a compiler reads" {
+    needs_debian
+    dpkg-deb -x build/deb/libtimers-dev_*.deb "$work/dev"
+    pages=$(zcat "$work"/dev/usr/share/man/man3/timers*.gz | grep -oh 'share/doc/timers/[a-z/]*\.md' | sort -u)
+    grep embedding <<< "$pages"
+    for page in $pages; do
+        echo "$page"
+        [ -e "$work/dev/usr/$page" ]
+    done
+    for example in examples/c/*; do [ -e "$work/dev/usr/share/doc/timers/$example" ]; done
 }
 
 @test "the source package alone gives the same files" {
@@ -44,10 +72,21 @@ EOT
     cp build/deb/*.dsc build/deb/*.tar.* "$work/source"
     (cd "$work/source" && dpkg-source -x --no-check ./*.dsc tree)
     (cd "$work/source/tree" && dpkg-buildpackage --build=binary --unsigned-source --unsigned-changes --no-check-builddeps)
-    for package in build/deb/*.deb; do
-        diff <(dpkg-deb -c "$package" | awk '{ print $1, $2, $6, $7, $8 }') \
-            <(dpkg-deb -c "$work/source/$(basename "$package")" | awk '{ print $1, $2, $6, $7, $8 }')
-    done
+    for package in build/deb/*.deb; do cmp "$package" "$work/source/$(basename "$package")"; done
+}
+
+@test "a function that the library lacks fails the build, in a folder with a space" {
+    needs_debian
+    cp -R "$work/source/tree" "$work/a tree"
+    cd "$work/a tree"
+    debian/rules override_dh_auto_install
+    [ -x debian/tmp/usr/bin/timers ]
+    sed -i 's/local: /&timers_take; /' tools/install/timers.map
+    tools/lib build/lib
+    cp "build/lib/libtimers.so.$version" debian/libtimers1/usr/lib/*/
+    run dh_makeshlibs --package=libtimers1
+    [ "$status" -ne 0 ]
+    grep 'timers_take@TIMERS_1' <<< "$output"
 }
 
 @test "lintian finds no error" {
@@ -56,15 +95,26 @@ EOT
     lintian --fail-on error --allow-root build/deb/*.changes
 }
 
-@test "packages for arm64 are made: three of them" {
+@test "packages for arm64 are made" {
     needs_cross
     tools/deb arm64
-    has_three_packages build/deb-arm64 arm64
+    has_its_packages build/deb-arm64 arm64
+}
+
+# By Multi-Arch: same both may be installed.
+@test "the library's packages for both processors have the same files in usr/share" {
+    needs_cross
+    for package in libtimers1 libtimers-dev; do
+        mkdir "$work/$package"
+        dpkg-deb -x build/deb/"$package"_*.deb "$work/$package/here"
+        dpkg-deb -x build/deb-arm64/"$package"_*.deb "$work/$package/arm64"
+        diff -r --no-dereference "$work/$package"/{here,arm64}/usr/share
+    done
 }
 
 @test "their library is for that processor, and their program plays a script under qemu" {
     needs_cross
-    for package in build/deb-arm64/*.deb; do dpkg-deb -x "$package" "$work/arm64"; done
+    for package in build/deb-arm64/*timers[1_]*.deb; do dpkg-deb -x "$package" "$work/arm64"; done
     readelf -h "$work/arm64/usr/lib/aarch64-linux-gnu/libtimers.so.$version" | grep AArch64
     qemu-aarch64-static -L /usr/aarch64-linux-gnu "$work/arm64/usr/bin/timers" < examples/one_timer | diff examples/one_timer.stdout -
 }
@@ -93,7 +143,7 @@ files() {
         skip "no clean root: $(tail -n 1 "$work/log")"
     fi
     files > "$work/before"
-    cp build/deb/*.deb "$root/tmp"
+    cp build/deb/{timers,libtimers1,libtimers-dev}_*.deb "$root/tmp"
     inside sh -c 'dpkg -i /tmp/*.deb'
 }
 

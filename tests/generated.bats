@@ -2,7 +2,7 @@
 # What generated/ says of itself; builds it as other projects do: by hand, with CMake and Meson, and for aarch64. No command
 # here sees the toolchain. What is compiled for aarch64, library and program, runs under qemu, which shows no weaker order
 # of memory than that of this machine.
-# shellcheck disable=SC2013,SC2034,SC2086,SC2143,SC2154
+# shellcheck disable=SC2013,SC2030,SC2031,SC2034,SC2086,SC2143,SC2154
 load helpers
 
 sources="generated/timers.S generated/timers_desk.S generated/heap.c"
@@ -86,6 +86,19 @@ functions() {
 @test "gcc builds the shared object, which exports the API" { exports gcc -DTIMERS_SHARED "$(functions)"; }
 @test "clang builds the shared object, which exports the API" { exports clang -DTIMERS_SHARED "$(functions)"; }
 
+# link_time CC FLAG: the archive has machine code, and the compiler's lines are shown
+link_time() {
+    needs "$1"
+    run env CC="$1" CPPFLAGS=-DGIVEN CFLAGS="-O2 -flto $2" LDFLAGS=-flto tools/lib "$work/link_time"
+    [ "$status" -eq 0 ]
+    [ "$(grep -c -e "^+ $1 .* -DGIVEN .*generated/" <<< "$output")" -eq 4 ]
+    "$1" -O2 -Iinclude -o "$work/first" examples/c/first.c "$work/link_time/libtimers.a"
+    prints_first "$work/first"
+}
+
+@test "gcc builds the archive with flags for link time optimization" { link_time gcc -ffat-lto-objects; }
+@test "clang does so too" { link_time clang; }
+
 @test "musl-gcc builds static programs of it" {
     needs musl-gcc
     musl-gcc -static -O2 -Wall -Wextra -Iinclude -o "$work/first" examples/c/first.c $sources
@@ -113,6 +126,9 @@ cmake_app() {
     cmake --build "$folder/build"
     prints_first "$folder/build/app"
 }
+has_licences() {
+    for name in generated/NOTICE LICENSE-MIT LICENSE-APACHE; do cmp "$name" "$1/$(basename "$name")"; done
+}
 # An installation that CMake's find_package finds, of this version and of no later one.
 cmake_finds() {
     needs cmake
@@ -126,11 +142,16 @@ if(timers_FOUND)
 endif()
 find_package(timers 1.0 REQUIRED)
 EOT
-    cmp generated/NOTICE "$work/installed/prefix/share/doc/timers/NOTICE"
+    has_licences "$work/installed/prefix/share/doc/timers"
     rm -rf "$work/installed"
 }
 
-@test "a CMake project builds it as a subproject" { cmake_app cmake <<< "add_subdirectory($top timers)"; }
+@test "a CMake project builds it as a subproject, and installs nothing of it" {
+    cmake_app cmake <<< "add_subdirectory($top timers)"
+    cmake --install "$work/cmake/build" --prefix "$work/cmake/prefix"
+    [ ! -e "$work/cmake/prefix/lib" ]
+    [ ! -e "$work/cmake/prefix/include" ]
+}
 @test "as a shared object, too" { cmake_app cmake -DBUILD_SHARED_LIBS=ON <<< "add_subdirectory($top timers)"; }
 
 @test "FetchContent makes it available" {
@@ -167,7 +188,7 @@ EOT
     # shellcheck disable=SC2046
     cc -o "$work/first" examples/c/first.c $(PKG_CONFIG_PATH=$work/meson_prefix/lib/pkgconfig pkg-config --cflags --libs timers)
     prints_first "$work/first"
-    cmp generated/NOTICE "$work/meson_prefix/share/doc/timers/NOTICE"
+    has_licences "$work/meson_prefix/share/doc/timers"
 }
 
 needs_cross() {
@@ -237,10 +258,11 @@ needs_cross() {
     { seq 0 63 | sed 's/.*/client & sent 200 started 200 expired 200/' && echo end; } | diff - "$work/out"
 }
 
-# In a copy of this tree, with the cross compiler.
+# In a copy of this tree, in which make built for this machine before.
 @test "aarch64: make, make install and make dist" {
     needs_cross
     copy_tree "$work/copy"
+    make -s -C "$work/copy"
     make -s -C "$work/copy" CC=$cross
     make -s -C "$work/copy" install PREFIX="$work/prefix" CC=$cross
     $cross -o "$work/first" -I"$work/prefix/include" examples/c/first.c -L"$work/prefix/lib" -ltimers

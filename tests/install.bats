@@ -69,21 +69,33 @@ EOT
 found_files() {
     (cd "$1" && find . -type f -printf '%m %P -\n' -o -type l -printf 'link %P %l\n') | sort
 }
-# has_all_files ROOT TREE ROW..: ROOT has the wanted files, those of these rows and no other, each a copy of that of TREE
+# A page's text, without the targets of its links.
+text_of() { sed -E 's/\[([^]]*)\]\([^)]*\)/\1/g' "$1"; }
+
+# has_all_files ROOT TREE ROW..: ROOT has the wanted files, those of these rows and no other, each a copy of that of TREE,
+# pages but for links
 has_all_files() {
     { wanted_files; printf '%s\n' "${@:3}"; } | sed '/^$/d' > "$work/wanted"
     awk '{ if ($1 != "link") $3 = "-"; print }' "$work/wanted" | sort | diff - <(found_files "$1")
     while read -r mode path source; do
-        if [ "$mode" != link ] && [ "$source" != - ]; then
+        if [[ $path == *.md ]]; then
+            diff <(text_of "$1/$path") <(text_of "$2/$source")
+        elif [ "$mode" != link ] && [ "$source" != - ]; then
             cmp "$1/$path" "$2/$source"
         fi
     done < "$work/wanted"
 }
 has_folders_for_all() { [ -z "$(find "$1" -type d ! -perm 755)" ]; }
 
-# names_only_what_is_there ROOT: what the installed pages name of docs/, examples/ and other man pages
+# names_only_what_is_there ROOT: what the installed pages link to, and name of docs/, examples/ and other man pages
 names_only_what_is_there() {
     local path page section doc=$1/share/doc/timers
+    for page in "$doc"/docs/*.md "$doc"/*.md; do
+        for path in $(grep -oE '\]\([^)#]+' "$page" | cut -c 3- | grep -v '^https\?:'); do
+            echo "$page links to $path"
+            [ -e "${page%/*}/$path" ]
+        done
+    done
     for path in $(grep -ohE '\b(docs|examples)/[a-zA-Z0-9_/.]*[a-zA-Z0-9_]' "$doc"/docs/*.md "$doc"/*.md "$1"/share/man/man?/*); do
         echo "$path"
         [ -e "$doc/$path" ]
@@ -199,6 +211,14 @@ with Timers() as timers:
     [ "$(find "$work/apart" -mindepth 1 | sort | paste -sd ' ')" = "$(echo "$work/apart"/DOCDIR{,/docs{,/notes}})" ]
 }
 
+@test "the spelling of GNU names the same folders" {
+    in_tree install prefix="$work/gnu" libdir="$work/gnu/lib64"
+    [ -x "$work/gnu/bin/timers" ]
+    [ -e "$work/gnu/lib64/libtimers.a" ]
+    in_clone uninstall prefix="$work/gnu" libdir="$work/gnu/lib64"
+    [ ! -e "$work/gnu" ]
+}
+
 # shellcheck disable=SC2016,SC2088
 @test "a PREFIX that is relative, or that a shell would read in another way, is refused" {
     for odd in some/where '~/timers' '/a b' '/a;b' '/a$b'; do
@@ -228,6 +248,13 @@ with Timers() as timers:
     grep -xE "gate       (not run|[0-9]+ passed, .*)" BUILT
     grep -x "processor  $(uname -m)" BUILT
     cmp PROVENANCE "$top/generated/$(uname -m)/PROVENANCE"
+}
+
+@test "the command of its README leaves the modes of folders that were there" {
+    mkdir -m 2775 "$work/local" "$work/local/share"
+    sed -n "s|^ *\(tar -C \)/usr/local\(.*\)TARBALL  *installs it|\1$work/local\2build/$tarball|p" tools/install/dist_readme | sh
+    [ -x "$work/local/bin/timers" ]
+    [ "$(stat -c %a "$work/local" "$work/local/share" | uniq)" = 2775 ]
 }
 
 @test "from the tarball: each file, mode and link, and folders that all can read" {

@@ -2,6 +2,7 @@
  * arguments and errno.
  *
  * No proof covers this file. The proofs rest on what is said here of each function. */
+/* SPDX-License-Identifier: MIT OR Apache-2.0 */
 #include <errno.h>
 #include <stddef.h>
 #include <stdint.h>
