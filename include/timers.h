@@ -60,15 +60,15 @@
  *     The clock of TIMERS_CLOCK ends after 100 days. Before that, free the timers, make them again at tick
  *     0 and start what is left. That of TIMERS_WIDE has ticks for 36 million years of milliseconds.
  *
- *     The library is proved, but for timers_set_allocator and the inline functions of this header, which are
- *     tested. Each other function meets the contract
- *     that the sources state for it (crates/timer_c/src/exports.rt), for every call that keeps the rules below.
- *     Nothing checks that a caller keeps them.
+ *     The library is proved, but for the few lines of C that allocate, timers_set_allocator among them, and the
+ *     inline functions of this header, which are tested. Each other function meets the contract that the sources
+ *     state for it (crates/timer_c/src/exports.rt), for every call that keeps the rules below. Nothing checks that
+ *     a caller keeps them.
  *
  * COSTS
  *     The timers are in arrays, and each is in the bucket of a wheel. A bucket of the lowest wheel has one
- *     tick, one of the next wheel 64 ticks (of TIMERS_CLOCK, 60), and so on. The calls, without their
- *     timers_, and what they take time for:
+ *     tick, one of the next wheel 64 ticks (of TIMERS_CLOCK, 60), and so on. What each call takes time for,
+ *     without the prefix timers_:
  *
  *         start, start_at         constant; if the arrays are full, moves them
  *         restart, restart_at     constant
@@ -289,13 +289,13 @@ struct timers_counters {
 	uint64_t visits;     /* buckets that ticks came to, also those that were known to be empty */
 };
 
-/* Has the library allocate by these functions from now on: in place of malloc, realloc and free, of which they
- * keep the promises. Each gives a block that is aligned for every type, or NULL if there is no memory, and then
- * leaves the one that it was given as it was. `resize` may be NULL: a block that grows is then a new one, into
+/* From now on the library calls these functions instead of malloc, realloc and free, and they must behave alike.
+ * Each returns a block that is aligned for every type, or NULL if there is no memory, and then leaves the one that
+ * it was given as it was. `resize` may be NULL: a block that grows is then a new one, into
  * which the bytes are copied. No function is given NULL, a size of 0, or a block that another made. None may call
  * the library. `allocate` and `release` must not be NULL.
- * Comes before the first timers_new and timers_desk_new of the process, and may be called again until then.
- * Afterwards it returns TIMERS_OPEN and changes nothing. Does not allocate. */
+ * Comes before the library first allocates in this process, and may be called again until then. Afterwards it
+ * returns TIMERS_OPEN and changes nothing. Does not allocate. */
 TIMERS_CHECKED
 enum timers_status timers_set_allocator(void *(*allocate)(size_t size),
                                         void *(*resize)(void *block, size_t size),
@@ -448,11 +448,11 @@ uint64_t timers_wakeup(const struct timers *t);
  * A loop that asks in each turn calls timers_find_next. */
 uint64_t timers_next(const struct timers *t);
 
-/* Returns what timers_next returns, and keeps it for later calls, none of which returns anything else for that.
- * It walks the timers of one bucket if timers_next would. Then both take constant time until the last timer
- * with that deadline is stopped or restarted, and others are left in its bucket. A loop that pushes back the
- * first timer in each turn may walk in each turn. It can sleep until timers_wakeup, which never walks. Does not
- * allocate. */
+/* Returns what timers_next returns, and keeps it so that later calls are faster. No result of a call changes. It
+ * walks the timers of one bucket if timers_next would. Then both take constant time until the last timer with that
+ * deadline is stopped or restarted, and others are left in its bucket, or until the next deadline is in a bucket
+ * whose first deadline is not known (COSTS). A loop that pushes back the first timer in each turn may walk in each
+ * turn. It can sleep until timers_wakeup, which never walks. Does not allocate. */
 uint64_t timers_find_next(struct timers *t);
 
 /* Writes `*counts`, what the wheels have done since timers_new, at TIMERS_OK. `starts` counts each start and
@@ -476,8 +476,8 @@ static TIMERS_INLINE const char *timers_message(enum timers_status status)
 
 	switch (number) {
 	case TIMERS_OK: return "done";
-	case TIMERS_NOT_OPEN: return "no timers are held";
-	case TIMERS_OPEN: return "timers are held already";
+	case TIMERS_NOT_OPEN: return "not open";
+	case TIMERS_OPEN: return "already open";
 	case TIMERS_NO_TABLE: return "no such table";
 	case TIMERS_NO_MEMORY: return "out of memory";
 	case TIMERS_DUE: return "an expired timer was not yet taken";

@@ -16,7 +16,7 @@
  *     timers_line_start, timers_line_stop, timers_line_restart - send a request
  *     timers_line_start_at, timers_line_restart_at - send a request with a deadline
  *     timers_line_receive - receive a word
- *     timers_line_finish, timers_line_ended - end the requests, learn that no word comes any more
+ *     timers_line_finish, timers_line_ended - end the requests, learn that every word was received
  *     timers_line_abandoned - learn that the desk was freed
  *     timers_line_free - free a client's end
  *     timers_desk_message - the text of a status
@@ -65,9 +65,10 @@
  *     taken only if the outbox has room for its answer, a word of each of the client's pending timers, and
  *     one more. So no word is lost unless an end is freed. A client that does not read blocks only its own
  *     requests. A stop needs that room too: while the outbox lacks room (TIMERS_DESK_NO_ROOM), the client cannot stop a
- *     timer until it reads words, or until one of its timers expires and a flush moves that word into the line.
- *     `room` in struct timers_desk_config says how much is enough. A request whose allocation failed is held, and
- *     retried first when its client is served the next time.
+ *     timer. Words leave the outbox by a flush, if the line has room for them, so the client has to read. If its
+ *     pending timers alone take the room, one of them has to expire first.
+ *     `room` in struct timers_desk_config says how much is enough. A request that failed with out of memory is
+ *     held, and retried first when its client is served the next time.
  *
  *     The owner's loop:
  *
@@ -94,9 +95,9 @@
  *     holds: the client clears its signal, receives until there is no word, and then sleeps.
  *     examples/c/desk_server.c does this with eventfds.
  *
- *     The library is proved: each function meets the contract stated in
- *     crates/timer_desk_c/src/desk_exports.rt or line_exports.rt, for every call that keeps the rules
- *     below. Nothing checks that a caller keeps them. Nothing is proved about time: when a thread runs, and
+ *     The library is proved, but for the few lines of C that allocate and the inline function of this header. Each
+ *     other function meets the contract stated in crates/timer_desk_c/src/desk_exports.rt or line_exports.rt, for
+ *     every call that keeps the rules below. Nothing checks that a caller keeps them. Nothing is proved about time: when a thread runs, and
  *     when a word arrives. Nor is it proved that timers_desk_line_freed and timers_line_abandoned return true
  *     exactly if the other end was freed. It is proved that they change nothing, and test in the right order:
  *     first whether the desk is gone, and then whether a word is left in the line. So no word that was put before
@@ -137,8 +138,8 @@
  *     and the frees. No call is a cancellation point, and none calls back.
  *
  *     A call has to run to its end. One that is left by a longjmp out of a signal handler, or by an
- *     asynchronous cancellation, may leave its struct half changed: then no call may use that any more, its free
- *     included. The other end of the line may go on.
+ *     asynchronous cancellation, may leave its struct half changed: then it must not be used again, not even
+ *     freed. The other end of the line may go on.
  *
  *     A forked child has copies of the structs, which share nothing with those of the parent, and one thread,
  *     that which forked. It may use what no other thread was changing during the fork, by the calls that neither
@@ -180,7 +181,7 @@ enum timers_desk_status {
 	TIMERS_DESK_OK = 0,
 	TIMERS_DESK_NOT_OPEN = 1,        /* the struct holds nothing */
 	TIMERS_DESK_OPEN = 2,            /* the desk or one of the lines holds something already */
-	TIMERS_DESK_NO_MEMORY = 4,       /* malloc or realloc returned NULL */
+	TIMERS_DESK_NO_MEMORY = 4,       /* out of memory: malloc or realloc returned NULL */
 	TIMERS_DESK_NOT_PENDING = 6,     /* no pending timer of this client has this handle */
 	TIMERS_DESK_ZERO_INTERVAL = 7,   /* the interval is 0, or the deadline not after the present tick */
 	TIMERS_DESK_TOO_LATE = 8,        /* the deadline is after the last tick */
@@ -238,9 +239,9 @@ struct timers_line {
  * of a later header that has more members: { .size = sizeof config, .capacity = 1000, .. }.
  *
  * `room`: a serve takes no request of a client, not even a stop, while its pending timers and the words in its outbox
- * are more than room - 2. That cannot happen to a client that keeps at most k timers and has at most q requests without
- * an answer if room is k + q + 1 or more. There a timer counts from the request that starts it until its last word is
- * received, and a request until its answer is. With room 2 no timer can ever be stopped. */
+ * are more than room - 2. No request is held back so of a client that keeps at most k timers, and has at most q
+ * requests without an answer, if room is k + q + 1 or more. There a timer counts from the request that starts it until
+ * its last word is received, and a request until its answer is. With room 2 no request can stop or restart a timer. */
 struct timers_desk_config {
 	size_t size;           /* sizeof(struct timers_desk_config) */
 	uint64_t first_tick;   /* the clock begins at it: up to TIMERS_LAST, of TIMERS_CLOCK TIMERS_CLOCK_LAST */
@@ -275,20 +276,22 @@ enum timers_desk_status timers_desk_new(struct timers_desk *d, struct timers_lin
 /* Frees the desk, if it holds one: pending timers, and words that no client's line has yet, are dropped.
  * Clients may continue to call: their requests are never taken, and what stands in the line is still
  * received. Once it is, timers_line_abandoned returns true. The struct may be made anew by timers_desk_new: then
- * lines of before are refused by the calls that settle or end one (rule 5). */
+ * earlier lines are refused by the calls that settle or end one (rule 5). Serials begin at 1 again, so a handle of
+ * the earlier desk may name a timer of the new one. */
 void timers_desk_free(struct timers_desk *d);
 
 /* Serves a client once: takes its held request, or else the next one of its line. At TIMERS_DESK_OK the
  * answer is in the outbox. Allocates only for a start.
- * TIMERS_DESK_NOT_OPEN, TIMERS_DESK_NO_CLIENT, TIMERS_DESK_NO_ROOM, TIMERS_DESK_IDLE: nothing was taken.
+ * TIMERS_DESK_NOT_OPEN, TIMERS_DESK_NO_CLIENT, TIMERS_DESK_NO_ROOM, TIMERS_DESK_IDLE: nothing was taken. NO_ROOM is
+ * tested first, also if no request stands in the line.
  * TIMERS_DESK_NO_MEMORY: the request is held, and is retried first. */
 enum timers_desk_status timers_desk_serve(struct timers_desk *d, size_t client);
 
 /* Serves each client in turn, from client 0 on: each until `most` of its requests were done or a serve did none.
  * Allocates only for starts.
  * TIMERS_DESK_NOT_OPEN.
- * TIMERS_DESK_NO_MEMORY: an allocation failed for at least one client, whose request is held; others may have
- * been done.
+ * TIMERS_DESK_NO_MEMORY: a request of at least one client failed with out of memory and is held; others may have been
+ * done.
  * TIMERS_DESK_OK: at least one request was done. TIMERS_DESK_IDLE: none was. */
 enum timers_desk_status timers_desk_serve_all(struct timers_desk *d, uint64_t most);
 
@@ -306,8 +309,8 @@ size_t timers_desk_flush(struct timers_desk *d, size_t client);
 enum timers_desk_status timers_desk_tick(struct timers_desk *d);
 
 /* Passes at most `most` ticks, up to the first at which a timer expires. At TIMERS_DESK_OK it writes to
- * `*passed` how many. They are 0 only if `most` is 0: that is no tick, and is not refused at a closed desk or
- * at the last tick. They are fewer than `most` only if a timer has expired or the clock is at its last tick.
+ * `*passed` how many: 0 only if `most` is 0, which is no tick, and is not refused at a closed desk or at the
+ * last tick; and fewer than `most` only if a timer has expired or the clock is at its last tick.
  * Jumps over stretches in which nothing happens. Does not allocate.
  * TIMERS_DESK_NOT_OPEN, TIMERS_DESK_CLOSED, TIMERS_DESK_CLOCK_END. */
 enum timers_desk_status timers_desk_advance(struct timers_desk *d, uint64_t most, uint64_t *passed);
@@ -359,7 +362,7 @@ enum timers_desk_status timers_desk_end_all(struct timers_desk *d, struct timers
                                             size_t *client);
 
 /* Stops all pending timers of a client whose line was freed, and writes to `*stopped` how many they were. The timers of
- * others stay. Each is stopped by a request of the client, which takes its next number; nobody gets the answer. Nothing
+ * others stay. Each is stopped by a request of the client, which takes its next number; its answer is dropped. Nothing
  * else changes: words that wait for the client are dropped by a flush.
  *
  * Serve the client before, until that returns TIMERS_DESK_IDLE, or TIMERS_DESK_NO_ROOM because its timers take all
@@ -383,7 +386,7 @@ TIMERS_CHECKED
 enum timers_desk_status timers_desk_open(struct timers_desk *d, size_t client, struct timers_line *line, size_t room);
 
 /* Makes room for as many timers as may be pending, and for the list of them that a close makes. From then on no serve
- * and no timers_desk_close allocates or runs out of memory. Takes some 105 bytes for each of `capacity`. A second call
+ * and no timers_desk_close allocates or runs out of memory. Takes 104 bytes for each of `capacity`. A second call
  * allocates nothing.
  * TIMERS_DESK_NOT_OPEN, TIMERS_DESK_NO_MEMORY: nothing has changed. */
 TIMERS_CHECKED
@@ -460,11 +463,11 @@ bool timers_line_receive(struct timers_line *line, struct timers_word *word);
 enum timers_desk_status timers_line_finish(struct timers_line *line);
 
 /* Whether the owner has ended the words, by timers_desk_end or timers_desk_end_all, and all were received:
- * then no word comes any more. False if it holds no line. */
+ * then no further word arrives. False if it holds no line. */
 bool timers_line_ended(const struct timers_line *line);
 
-/* Whether the desk was freed, and all words that it had put into the line were received: then no word comes
- * any more. Words that waited at the desk were dropped with it. Once true it stays true. False if it holds
+/* Whether the desk was freed, and all words that it had put into the line were received: then no further word
+ * arrives. Words that waited at the desk were dropped with it. Once true it stays true. False if it holds
  * no line, or if its words were ended by timers_desk_end: then timers_line_ended returns true once all were
  * received. Nothing changes. Constant time. */
 bool timers_line_abandoned(struct timers_line *line);
@@ -496,10 +499,10 @@ static TIMERS_INLINE const char *timers_desk_message(enum timers_desk_status sta
 	case TIMERS_DESK_AHEAD: return "an earlier number is missing";
 	case TIMERS_DESK_LINE_FULL: return "the line is full";
 	case TIMERS_DESK_FINISHED: return "the line has finished";
-	case TIMERS_DESK_OUT_OF_RANGE: return "a number is out of its range";
+	case TIMERS_DESK_OUT_OF_RANGE: return "a number of clients, room or configuration is out of range";
 	case TIMERS_DESK_IDLE: return "no request was found";
 	case TIMERS_DESK_NO_ROOM: return "the outbox has no room";
-	case TIMERS_DESK_OTHER_LINE: return "the line is not this client's";
+	case TIMERS_DESK_OTHER_LINE: return "the line is another client's, or of another desk";
 	case TIMERS_DESK_NOT_FINISHED: return "the line has not finished";
 	case TIMERS_DESK_LEFT: return "something of the client is left";
 	case TIMERS_DESK_NOT_FREED: return "the client's line was not freed";

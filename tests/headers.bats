@@ -43,6 +43,7 @@ enumerators() { sed -nE 's/^\tTIMERS_((DESK|WORD)_)?([A-Z_]+) = ([0-9]+).*/\3 \4
         constants TIMERS_ < crates/timer_c/src/status.rt
         grep '^pub const LAST:' crates/timer_base/src/limits.rt | constants TIMERS_
         grep '^pub const LAST_OF_CLOCK:' crates/timer_wheels/src/table.rt | constants TIMERS_
+        constants TIMERS_ < crates/timer_wheels/src/table/number.rt
         fields timer_c/owned_cell.rt OwnedCell timers 0
         fields timer_c/c_timers.rt CTimers timers 16
         fields timer_c/layout.rt CHandle timers_handle 0
@@ -55,8 +56,8 @@ enumerators() { sed -nE 's/^\tTIMERS_((DESK|WORD)_)?([A-Z_]+) = ([0-9]+).*/\3 \4
 @test "the numbers and layouts of timers_desk.h are the crate's, and it has no other number" {
     status=crates/timer_desk_c/src/status.rt
     {
-        sed '/The kinds of a word/,$d' $status | grep -vE ' (WIDE|CLOCK|NEVER):' | constants TIMERS_DESK_
-        grep -E ' (WIDE|CLOCK|NEVER):' $status | constants TIMERS_
+        sed '/The kinds of a word/,$d' $status | grep -v ' NEVER:' | constants TIMERS_DESK_
+        { grep ' NEVER:' $status; cat crates/timer_wheels/src/table/number.rt; } | constants TIMERS_
         sed -n '/The kinds of a word/,$p' $status | constants TIMERS_WORD_
         fields timer_desk_c/desk_cell.rt DeskCell timers_desk 0
         fields timer_desk_c/line_cell.rt LineCell timers_line 0
@@ -83,16 +84,17 @@ for name, value in vars($module).items():
     done
 }
 
-# in_rust FILE COUNT: the numbers that it maps to names are the header's, of which it has so many
+# in_rust FILE COUNT: the numbers that it maps to names, and those of constants, are the header's, of which it has so many
 in_rust() {
-    sed -nE 's/^ *([0-9]+) => (Err\(Error|Error|Word)::([A-Za-z]+).*/\1 \3/p' bindings/rust/$1.rs |
+    sed -nE -e 's/^ *([0-9]+) => (Err\(Error|Error|Word)::([A-Za-z]+).*/\1 \3/p' -e 's/^const ([A-Z]+): c_uint = ([0-9]+);/\2 \1/p' \
+        bindings/rust/$1.rs |
         sed -E -e 's/([a-z])([A-Z])/\1_\2/g' -e 's/^([0-9]+) (.*)/\U\2 \1/' | sort > "$work/numbers"
     [ "$(wc -l < "$work/numbers")" -eq "$2" ]
     [ -z "$(comm -13 <(enumerators $1) "$work/numbers")" ]
 }
 @test "those in Rust are the headers', too" {
-    in_rust timers 7
-    in_rust timers_desk 27
+    in_rust timers 8
+    in_rust timers_desk 28
 }
 
 @test "the version of the header, as a text and as a number, is that of the library" {

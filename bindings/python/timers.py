@@ -20,7 +20,7 @@ WIDE, CLOCK = 0, 1
 LAST, LAST_OF_CLOCK = 2**60 - 1, 8639999  # the last tick of each
 NEVER = 2**64 - 1
 MESSAGES = [
-    "done", "no timers are held", "timers are held already", "no such table", "out of memory",
+    "done", "not open", "already open", "no such table", "out of memory",
     "an expired timer was not yet taken", "no timer has this handle", "the interval is 0",
     "after the last tick", "every serial was used", "the clock is at its last tick",
 ]

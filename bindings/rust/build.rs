@@ -22,7 +22,9 @@ fn main() {
     }
     println!("cargo:rustc-link-search=native={folder}");
     println!("cargo:rustc-link-lib=static=timers");
-    println!("cargo:rerun-if-env-changed=CC");
+    for name in ["CC", "CPPFLAGS", "CFLAGS", "LDFLAGS"] {
+        println!("cargo:rerun-if-env-changed={name}");
+    }
     for path in ["generated", "tools/lib", "tools/install/version"] {
         println!("cargo:rerun-if-changed={}", top.join(path).display());
     }

@@ -16,7 +16,8 @@
 //! you keep. A tick is as long as you choose. timers(3) says what each call does, and when an interval
 //! counts from now.
 //!
-//! A call that is refused returns an [`Error`], and has changed nothing. In the child of a process with
+//! A call that is refused returns an [`Error`], and has changed nothing. Errors are listed in the order in which they are
+//! tested. In the child of a process with
 //! threads call nothing before `exec`. Rust 1.82 or later.
 
 // SPDX-License-Identifier: MIT OR Apache-2.0
@@ -236,7 +237,10 @@ pub fn at_least(time: Duration, tick: Duration) -> u64 {
 }
 
 impl Timers {
-    /// Timers of which none is pending. `TooLate`, `NoMemory`.
+    /// Timers of which none is pending, on a clock that begins at `first_tick`.
+    ///
+    /// # Errors
+    /// `TooLate` if that is after the last tick of the table; `NoMemory`.
     pub fn new(table: Table, first_tick: u64) -> Result<Timers, Error> {
         let mut held = Held { at: std::ptr::null_mut(), mark: 0, last_serial: 0 };
         Error::of(unsafe { timers_new(&mut held, table as u32, first_tick) })?;
@@ -247,37 +251,52 @@ impl Timers {
         Ok(Timers { held, last_tick })
     }
 
-    /// Makes room for `most` timers at once: no start fails for memory while fewer are held. `NoMemory`.
+    /// Makes room for `most` timers at once: no start fails for memory while fewer are held.
+    ///
+    /// # Errors
+    /// `NoMemory`.
     pub fn reserve(&mut self, most: usize) -> Result<(), Error> {
         Error::of(unsafe { timers_reserve(&mut self.held, most) })
     }
 
-    /// Starts a timer that expires after `interval` ticks. `ZeroInterval`, `TooLate`, `SerialsSpent`,
-    /// `NoMemory`.
+    /// Starts a timer that expires after `interval` ticks.
+    ///
+    /// # Errors
+    /// `ZeroInterval`; `TooLate`; `SerialsSpent`; `NoMemory`.
     pub fn start(&mut self, interval: u64, action: u64) -> Result<Handle, Error> {
         written(|handle| unsafe { timers_start(&mut self.held, interval, action, handle) })
     }
 
     /// Starts a timer that expires at the tick `deadline`. If that is not after now, the timer is due at once: it
-    /// is taken after those that have expired already. `TooLate`, `SerialsSpent`, `NoMemory`.
+    /// is taken after those that have expired already.
+    ///
+    /// # Errors
+    /// `TooLate`; `SerialsSpent`; `NoMemory`.
     pub fn start_at(&mut self, deadline: u64, action: u64) -> Result<Handle, Error> {
         written(|handle| unsafe { timers_start_at(&mut self.held, deadline, action, handle) })
     }
 
     /// Stops a timer, pending or expired, and starts another in its place. It does not allocate.
-    /// `NotPending`, `ZeroInterval`, `TooLate`, `SerialsSpent`: then the old one stays as it is.
+    ///
+    /// # Errors
+    /// `NotPending`; `ZeroInterval`; `TooLate`; `SerialsSpent`. The old timer then stays as it is.
     pub fn restart(&mut self, handle: Handle, interval: u64, action: u64) -> Result<Handle, Error> {
         written(|restarted| unsafe { timers_restart(&mut self.held, handle, interval, action, restarted) })
     }
 
-    /// `restart`, for a timer that expires at the tick `deadline`, or at once, as `start_at`. `NotPending`,
-    /// `TooLate`, `SerialsSpent`.
+    /// `restart`, for a timer that expires at the tick `deadline`, or at once, as `start_at`.
+    ///
+    /// # Errors
+    /// `NotPending`; `TooLate`; `SerialsSpent`.
     pub fn restart_at(&mut self, handle: Handle, deadline: u64, action: u64) -> Result<Handle, Error> {
         written(|restarted| unsafe { timers_restart_at(&mut self.held, handle, deadline, action, restarted) })
     }
 
     /// Restarts the timer with this handle as `restart_at`, and if there is none starts one as `start_at`. Returns
-    /// its handle. `TooLate`, `SerialsSpent`, `NoMemory`, the last only if no timer has the handle.
+    /// its handle.
+    ///
+    /// # Errors
+    /// `TooLate`; `SerialsSpent`; `NoMemory`, only if no timer has the handle.
     pub fn set_at(&mut self, handle: Handle, deadline: u64, action: u64) -> Result<Handle, Error> {
         let mut made = handle;
         Error::of(unsafe { timers_set_at(&mut self.held, &mut made, deadline, action) })?;
@@ -311,19 +330,27 @@ impl Timers {
         Iter { timers: self, cursor: 0 }
     }
 
-    /// Advances the clock by one tick. `Due`, `ClockEnd`.
+    /// Advances the clock by one tick.
+    ///
+    /// # Errors
+    /// `Due`; `ClockEnd`.
     pub fn tick(&mut self) -> Result<(), Error> {
         Error::of(unsafe { timers_tick(&mut self.held) })
     }
 
-    /// Passes at most `most` ticks, stops at the first at which a timer expires, and returns how many were
-    /// passed. `Due`, `ClockEnd`.
+    /// Passes at most `most` ticks, stops at the first at which a timer expires, and returns how many were passed.
+    ///
+    /// # Errors
+    /// `Due`; `ClockEnd`.
     pub fn advance(&mut self, most: u64) -> Result<u64, Error> {
         written(|passed| unsafe { timers_advance(&mut self.held, most, passed) })
     }
 
     /// Passes the ticks up to this one, up to the first at which a timer expires, or up to the last tick of the clock.
-    /// Does nothing if it is not after now. `Due`, `ClockEnd`.
+    /// Does nothing if it is not after now.
+    ///
+    /// # Errors
+    /// `Due`; `ClockEnd`.
     pub fn advance_to(&mut self, tick: u64) -> Result<(), Error> {
         Error::of(unsafe { timers_advance_to(&mut self.held, tick) })
     }
@@ -359,7 +386,10 @@ impl Timers {
     /// Passes the ticks up to `now`, and calls `run` for each timer that expires on the way. It takes them one at
     /// a time: what `run` stops does not come out. It returns only once nothing is due: a `run` that always
     /// starts a timer which is due at once keeps it from returning. With a tick before the present one it does
-    /// nothing. `TooLate` if `now` is after the last tick: then nothing was run.
+    /// nothing.
+    ///
+    /// # Errors
+    /// `TooLate` if `now` is after the last tick: then nothing was run.
     pub fn catch_up(&mut self, now: u64, mut run: impl FnMut(&mut Timers, Timer)) -> Result<(), Error> {
         if now > self.last_tick {
             return Err(Error::TooLate);

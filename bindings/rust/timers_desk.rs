@@ -1,10 +1,11 @@
 //! timers_desk.h for Rust: a wrapper over the C library, in one file that you can copy into your project.
 //!
-//! A [`Desk`] is the owner's, and stays in the thread that made it: so it is plain which thread owns it. A [`Line`] is a client's end: it can be sent to the
-//! client's thread, and not be shared by two. Both are freed when they are dropped, in any order. timers_desk(3) says
-//! what each call does, and how threads wake each other.
+//! A [`Desk`] is the owner's, and stays in the thread that made it: so it is plain which thread owns it. A [`Line`] is a
+//! client's end: it can be sent to the client's thread, and not be shared by two. Both are freed when they are dropped,
+//! in any order. timers_desk(3) says what each call does, and how threads wake each other.
 //!
-//! A call that is refused returns an [`Error`], and has changed nothing but where its text says so. Rust 1.82 or later.
+//! A call that is refused returns an [`Error`], and has changed nothing unless its text says so. Errors are listed in the
+//! order in which they are tested. Rust 1.82 or later.
 
 // SPDX-License-Identifier: MIT OR Apache-2.0
 #![allow(dead_code)]
@@ -18,6 +19,7 @@ use std::ptr;
 use std::sync::atomic::{AtomicU64, Ordering};
 
 const OK: c_uint = 0;
+const IDLE: c_uint = 20;
 const NEVER: u64 = u64::MAX;
 const CLIENTS: usize = 64;
 
@@ -55,8 +57,6 @@ pub enum Error {
     Finished,
     /// A number is out of its range.
     OutOfRange,
-    /// No request was found.
-    Idle,
     /// The outbox has no room.
     NoRoom,
     /// The line is not this client's.
@@ -89,7 +89,6 @@ impl Error {
             17 => Error::LineFull,
             18 => Error::Finished,
             19 => Error::OutOfRange,
-            20 => Error::Idle,
             21 => Error::NoRoom,
             22 => Error::OtherLine,
             23 => Error::NotFinished,
@@ -117,10 +116,9 @@ impl fmt::Display for Error {
             Error::NumbersSpent => "every number of the client was used",
             Error::LineFull => "the line is full",
             Error::Finished => "the line has finished",
-            Error::OutOfRange => "a number is out of its range",
-            Error::Idle => "no request was found",
+            Error::OutOfRange => "a number of clients, room or configuration is out of range",
             Error::NoRoom => "the outbox has no room",
-            Error::OtherLine => "the line is not this client's",
+            Error::OtherLine => "the line is another client's, or of another desk",
             Error::NotFinished => "the line has not finished",
             Error::Left => "something of the client is left",
             Error::NotFreed => "the client's line was not freed",
@@ -133,6 +131,11 @@ impl error::Error for Error {}
 
 fn done<T>(status: c_uint, value: T) -> Result<T, Error> {
     if status == OK { Ok(value) } else { Err(Error::of(status)) }
+}
+
+/// Whether a serve has done a request.
+fn served(status: c_uint) -> Result<bool, Error> {
+    if status == IDLE { Ok(false) } else { done(status, true) }
 }
 
 /// The slots of the wheels.
@@ -311,6 +314,10 @@ unsafe extern "C" {
     fn timers_line_free(line: *mut RawLine);
 }
 
+// SAFETY, of each `unsafe` below: this keeps the rules of the header. A `RawDesk` and a `RawLine` begin as the header says
+// and are private, so only the library writes them, and what they own has one owner. Each pointer is to an object of this
+// call alone. `&mut` and the missing `Sync` make calls come one at a time.
+
 /// How many desks were made.
 static DESKS: AtomicU64 = AtomicU64::new(0);
 
@@ -326,7 +333,7 @@ pub struct Line {
     alone: PhantomData<*mut ()>,
 }
 
-// A line is used by one thread at a time, which may change: nothing of it belongs to a thread.
+// SAFETY: a line is used by one thread at a time, which may change (rule 4 of the header): nothing of it belongs to a thread.
 unsafe impl Send for Line {}
 
 impl Line {
@@ -336,7 +343,10 @@ impl Line {
 }
 
 impl Desk {
-    /// A desk with `clients` clients, 1 to 64, and the end of each. `OutOfRange`, `TooLate`, `NoMemory`.
+    /// A desk with `clients` clients, 1 to 64, and the end of each.
+    ///
+    /// # Errors
+    /// `OutOfRange` if a number of the configuration, or of clients, is out of its range; `NoMemory`.
     pub fn new(clients: usize, config: Config) -> Result<(Desk, Vec<Line>), Error> {
         // The library looks at all lines before it refuses so many.
         if clients > CLIENTS {
@@ -359,15 +369,21 @@ impl Desk {
         self.clients
     }
 
-    /// Serves a client once. `Idle` if it has no request, `NoRoom` if its outbox has no room for more words. With
-    /// `NoMemory` its request is held, and tried first at the next serve.
-    pub fn serve(&mut self, client: usize) -> Result<(), Error> {
-        done(unsafe { timers_desk_serve(&mut self.held, client) }, ())
+    /// Serves a client once, and returns whether it had a request. The answer is then in its outbox.
+    ///
+    /// # Errors
+    /// `NoClient`; `NoRoom` if its outbox has no room for more words. With `NoMemory` its request is held, and tried
+    /// first at the next serve.
+    pub fn serve(&mut self, client: usize) -> Result<bool, Error> {
+        served(unsafe { timers_desk_serve(&mut self.held, client) })
     }
 
-    /// Serves each client up to `most` times. `Err(Idle)` if no request was done, `Err(NoMemory)` if one is held.
-    pub fn serve_all(&mut self, most: u64) -> Result<(), Error> {
-        done(unsafe { timers_desk_serve_all(&mut self.held, most) }, ())
+    /// Serves each client up to `most` times, and returns whether a request was done.
+    ///
+    /// # Errors
+    /// With `NoMemory` a request of at least one client is held. Requests of others may have been done.
+    pub fn serve_all(&mut self, most: u64) -> Result<bool, Error> {
+        served(unsafe { timers_desk_serve_all(&mut self.held, most) })
     }
 
     /// Moves a client's words into its line, and returns how many have left its outbox.
@@ -380,15 +396,20 @@ impl Desk {
         unsafe { timers_desk_flush_all(&mut self.held) }
     }
 
-    /// Passes at most `most` ticks, up to the first at which a timer expires, and returns how many. `Closed`, `ClockEnd`.
+    /// Passes at most `most` ticks, up to the first at which a timer expires, and returns how many. Does not allocate.
+    ///
+    /// # Errors
+    /// `Closed`; `ClockEnd`. Neither if `most` is 0.
     pub fn advance(&mut self, most: u64) -> Result<u64, Error> {
         let mut passed = 0;
         let status = unsafe { timers_desk_advance(&mut self.held, most, &mut passed) };
         done(status, passed)
     }
 
-    /// Passes the ticks up to this one, also those at which timers expire. Does nothing if it has passed. `Closed`. With
-    /// `ClockEnd` the ticks up to the last one of the clock have passed.
+    /// Passes the ticks up to this one, also those at which timers expire. Does nothing if it has passed.
+    ///
+    /// # Errors
+    /// `Closed`. With `ClockEnd` the ticks up to the last one of the clock have passed.
     pub fn advance_to(&mut self, tick: u64) -> Result<(), Error> {
         while self.now() < tick {
             self.advance(tick - self.now())?;
@@ -396,29 +417,44 @@ impl Desk {
         Ok(())
     }
 
-    /// Closes the desk, and returns how many timers were returned.
+    /// Closes the desk, and returns how many timers were returned. From then on each request is answered by
+    /// `Word::NotTaken`.
+    ///
+    /// # Errors
+    /// `Closed`; `NoMemory`, but never after [`Desk::reserve`] has succeeded.
     pub fn close(&mut self) -> Result<u64, Error> {
         let mut returned = 0;
         let status = unsafe { timers_desk_close(&mut self.held, &mut returned) };
         done(status, returned)
     }
 
-    /// Ends the words of a client that has finished, and returns how many it has still to receive. `OtherLine` if it
-    /// is a line of another client or of another desk, `NotFinished`.
+    /// Ends the words of a client that has finished, and returns how many it has still to receive.
+    ///
+    /// # Errors
+    /// `NoClient`; `OtherLine` if it is a line of another client or of another desk; `NotFinished`; `Left` if a request
+    /// is held or stands in the line, a word waits in the outbox, or a timer is pending.
     pub fn end(&mut self, client: usize, line: &mut Line) -> Result<usize, Error> {
         let mut unread = 0;
         let status = unsafe { timers_desk_end(&mut self.held, client, &mut line.held, &mut unread) };
         done(status, unread)
     }
 
-    /// Stops all pending timers of a client whose line was dropped, and returns how many.
+    /// Stops all pending timers of a client whose line was dropped, and returns how many. Each stop takes a number of
+    /// the client. Does not allocate.
+    ///
+    /// # Errors
+    /// `NoClient`; `NotFreed`; `Closed`; `NumbersSpent` if fewer numbers are left than timers are pending.
     pub fn stop_pending(&mut self, client: usize) -> Result<usize, Error> {
         let mut stopped = 0;
         let status = unsafe { timers_desk_stop_pending(&mut self.held, client, &mut stopped) };
         done(status, stopped)
     }
 
-    /// Opens a line for another client, under the number of one whose line was dropped and of which nothing is left.
+    /// Opens a line for another client, under the number of one whose line was dropped and of which nothing is left. It
+    /// has room for `room` requests and as many words, 1 to 65,536.
+    ///
+    /// # Errors
+    /// `NoClient`; `OutOfRange`; `NotFreed`; `Left`; `NumbersSpent`; `NoMemory`.
     pub fn open(&mut self, client: usize, room: usize) -> Result<Line, Error> {
         let mut line = RawLine::none();
         let status = unsafe { timers_desk_open(&mut self.held, client, &mut line, room) };
@@ -426,6 +462,9 @@ impl Desk {
     }
 
     /// Makes room for as many timers as may be pending: no serve and no close runs out of memory from then on.
+    ///
+    /// # Errors
+    /// `NoMemory`.
     pub fn reserve(&mut self) -> Result<(), Error> {
         done(unsafe { timers_desk_reserve(&mut self.held) }, ())
     }
@@ -492,7 +531,11 @@ impl Line {
         self.held.client as usize
     }
 
-    /// Sends the request to start a timer, and returns the request's number.
+    /// Sends the request to start a timer that expires `interval` ticks after it is taken, and returns the request's
+    /// number. Its answer is a word. Neither allocates nor waits.
+    ///
+    /// # Errors
+    /// `Finished`; `NumbersSpent`; `LineFull`: it may be sent again once the owner has served the client.
     pub fn start(&mut self, interval: u64, action: u64) -> Result<u64, Error> {
         let mut number = 0;
         let status = unsafe { timers_line_start(&mut self.held, interval, action, &mut number) };
@@ -500,6 +543,9 @@ impl Line {
     }
 
     /// Sends the request to start a timer that expires at the tick `deadline`, and returns the request's number.
+    ///
+    /// # Errors
+    /// Those of [`Line::start`].
     pub fn start_at(&mut self, deadline: u64, action: u64) -> Result<u64, Error> {
         let mut number = 0;
         let status = unsafe { timers_line_start_at(&mut self.held, deadline, action, &mut number) };
@@ -507,6 +553,9 @@ impl Line {
     }
 
     /// Sends the request to stop a timer.
+    ///
+    /// # Errors
+    /// Those of [`Line::start`].
     pub fn stop(&mut self, handle: Handle) -> Result<u64, Error> {
         let mut number = 0;
         let status = unsafe { timers_line_stop(&mut self.held, handle, &mut number) };
@@ -514,6 +563,9 @@ impl Line {
     }
 
     /// Sends the request to stop a timer and start another in its place.
+    ///
+    /// # Errors
+    /// Those of [`Line::start`].
     pub fn restart(&mut self, handle: Handle, interval: u64, action: u64) -> Result<u64, Error> {
         let mut number = 0;
         let status = unsafe { timers_line_restart(&mut self.held, handle, interval, action, &mut number) };
@@ -521,6 +573,9 @@ impl Line {
     }
 
     /// Sends the request to stop a timer and start another in its place that expires at the tick `deadline`.
+    ///
+    /// # Errors
+    /// Those of [`Line::start`].
     pub fn restart_at(&mut self, handle: Handle, deadline: u64, action: u64) -> Result<u64, Error> {
         let mut number = 0;
         let status = unsafe { timers_line_restart_at(&mut self.held, handle, deadline, action, &mut number) };
@@ -539,6 +594,9 @@ impl Line {
     }
 
     /// Ends the requests. Words are still received.
+    ///
+    /// # Errors
+    /// `Finished`.
     pub fn finish(&mut self) -> Result<(), Error> {
         done(unsafe { timers_line_finish(&mut self.held) }, ())
     }

@@ -16,7 +16,7 @@ impl Random {
 }
 
 fn turn(desk: &mut Desk) {
-    while desk.serve_all(64).is_ok() | desk.flush_all() {}
+    while desk.serve_all(64).unwrap() | desk.flush_all() {}
 }
 
 /// Random requests of one client, each answered before the next, against a map from (deadline, serial).
@@ -174,7 +174,7 @@ fn clients_come_and_go() {
     }
     assert_eq!((desk.stop_pending(0), desk.stop_pending(2)), (Err(Error::NotFreed), Err(Error::NoClient)));
     assert_eq!(other.start(1, 1), Ok(1));
-    assert_eq!((desk.serve(1), desk.serve(1), desk.serve(2)), (Ok(()), Err(Error::Idle), Err(Error::NoClient)));
+    assert_eq!((desk.serve(1), desk.serve(1), desk.serve(2)), (Ok(true), Ok(false), Err(Error::NoClient)));
     drop(desk);
     assert!(line.abandoned() && other.abandoned());
 }
@@ -213,11 +213,10 @@ fn threads(clients: usize) {
     desk.reserve().unwrap();
     let workers: Vec<_> = lines.into_iter().map(|line| thread::spawn(|| work(line))).collect();
     while !workers.iter().all(|worker| worker.is_finished()) {
-        let busy = desk.serve_all(64);
-        assert_ne!(busy, Err(Error::NoMemory));
+        let is_busy = desk.serve_all(64).unwrap();
         let moved = desk.flush_all();
         desk.advance(1).unwrap();
-        if busy.is_err() && !moved {
+        if !is_busy && !moved {
             thread::yield_now();
         }
     }

@@ -22,10 +22,7 @@ fn main() -> Result<(), Error> {
         line.finish()
     });
     while !client.is_finished() {
-        match desk.serve_all(10) {
-            Ok(()) | Err(Error::Idle) => {}
-            Err(other) => return Err(other),
-        }
+        desk.serve_all(10)?;
         if let Some(tick) = desk.wakeup() {
             desk.advance_to(tick)?; // a server sleeps until then first
         }
