@@ -1,4 +1,4 @@
-// Read by tools/wheels_page_test in a page: what can be seen of it, step by step.
+// Read by tests/wheels_page in a page: what can be seen of it, step by step.
 (() => {
   const text = (node) => node.textContent.trim();
   const bucket = (node) => [
