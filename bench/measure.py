@@ -1,5 +1,5 @@
 #!/usr/bin/env python3
-"""Measures the tables of results/, on a machine that does nothing else: some fifteen minutes in all.
+"""Measures the tables of results/, on a machine that does nothing else: some twenty minutes in all.
 
     bench/build_all && python3 bench/measure.py [PART..]      all parts, or some of them
     python3 bench/plots.py                                    then draws the plots of docs/
@@ -28,7 +28,7 @@ DRIVEN = [("0.3", "5", SHORT), ("8", "5", "quiet-1k,quiet-100k,quiet-1M"), ("0.3
 COLUMNS = ["timers-hier", "timers-c", "ref-apart", "tokio-wheel", "libuv", "timers-hash-64k", "ref-hash-64k"]
 SCRIPTS = {
     "instructions": ["instructions.py"],
-    "programs": ["programs.py", TIMERS],
+    "programs": ["programs.py", TIMERS, "--runs", "60"],
     "lines": ["lines.py", WORK],
     "tail": ["runs.py", "tail"],
     "scale": ["runs.py", "scale", "--repeats", "3", "--count", "500000"],

@@ -74,9 +74,9 @@ def closes():
 
 
 def jumps(most):
-    """3,000 jumps of a million ticks, before each of them a start of up to so many ticks."""
+    """25,000 jumps of a million ticks, before each of them a start of up to so many ticks."""
     r = splitmix(3)
-    return "".join(f"start 0 {n} {1 + next(r) % most} 1\ntick 1000000\n" for n in range(1, 3001)).encode()
+    return "".join(f"start 0 {n} {1 + next(r) % most} 1\ntick 1000000\n" for n in range(1, 25_001)).encode()
 
 
 def mebibyte(parts):
@@ -94,8 +94,8 @@ SCRIPTS = {
     "1 MiB of closes": mebibyte(closes()),
 }
 JUMPS = {
-    "3,000 jumps of a million ticks, one timer between": jumps(1_000_000),
-    "3,000 jumps of a million ticks, some 50 timers pending": jumps(100_000_000),
+    "25,000 jumps of a million ticks, one timer between": jumps(1_000_000),
+    "25,000 jumps of a million ticks, some 50 timers pending": jumps(100_000_000),
 }
 SCHEMES = {"hierarchy": ["hier"], "hashed, 256 slots": ["hashed", "--slots", "256"], "plain": ["plain"]}
 
