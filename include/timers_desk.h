@@ -274,7 +274,7 @@ enum timers_desk_status timers_desk_new(struct timers_desk *d, struct timers_lin
                                         const struct timers_desk_config *config);
 
 /* Frees the desk, if it holds one: pending timers, and words that no client's line has yet, are dropped.
- * Clients may continue to call: their requests are never taken, and what stands in the line is still
+ * Clients may continue to call: their requests are never taken, and what is in the line is still
  * received. Once it is, timers_line_abandoned returns true. The struct may be made anew by timers_desk_new: then
  * earlier lines are refused by the calls that settle or end one (rule 5). Serials begin at 1 again, so a handle of
  * the earlier desk may name a timer of the new one. */
@@ -283,7 +283,7 @@ void timers_desk_free(struct timers_desk *d);
 /* Serves a client once: takes its held request, or else the next one of its line. At TIMERS_DESK_OK the
  * answer is in the outbox. Allocates only for a start.
  * TIMERS_DESK_NOT_OPEN, TIMERS_DESK_NO_CLIENT, TIMERS_DESK_NO_ROOM, TIMERS_DESK_IDLE: nothing was taken. NO_ROOM is
- * tested first, also if no request stands in the line.
+ * tested first, also if no request is in the line.
  * TIMERS_DESK_NO_MEMORY: the request is held, and is retried first. */
 enum timers_desk_status timers_desk_serve(struct timers_desk *d, size_t client);
 
@@ -325,7 +325,7 @@ TIMERS_CHECKED
 enum timers_desk_status timers_desk_close(struct timers_desk *d, uint64_t *returned);
 
 /* Settles the line of a client that has finished, once its thread has handed the line over (rule 4). At
- * TIMERS_DESK_OK it writes to `*standing` how many of the client's requests still stand in the line.
+ * TIMERS_DESK_OK it writes to `*standing` how many of the client's requests still are in the line.
  * Suppose it is 0, the last serve did not return TIMERS_DESK_NO_MEMORY, and the outbox is empty. Then only
  * pending timers of this client are left at the desk. Does not allocate.
  * TIMERS_DESK_NOT_OPEN (either struct), TIMERS_DESK_NO_CLIENT, TIMERS_DESK_OTHER_LINE (it is another client's or of an
@@ -336,12 +336,12 @@ enum timers_desk_status timers_desk_settle(struct timers_desk *d, size_t client,
                                            struct timers_line *line, size_t *standing);
 
 /* Ends the words of a client that has finished, once its thread has handed the line over (rule 4). At
- * TIMERS_DESK_OK it writes to `*unread` how many words stand in the line. With those that were received
+ * TIMERS_DESK_OK it writes to `*unread` how many words are in the line. With those that were received
  * they are all that the client was given. The line may then be handed back and read to its end. Does not
  * allocate.
  * TIMERS_DESK_NOT_OPEN (either struct), TIMERS_DESK_NO_CLIENT, TIMERS_DESK_OTHER_LINE (as above),
  * TIMERS_DESK_NOT_FINISHED.
- * TIMERS_DESK_LEFT: a request is held or stands in the line, a word waits in the outbox, or a timer is
+ * TIMERS_DESK_LEFT: a request is held or is in the line, a word waits in the outbox, or a timer is
  * pending. */
 TIMERS_CHECKED
 enum timers_desk_status timers_desk_end(struct timers_desk *d, size_t client, struct timers_line *line,
