@@ -139,7 +139,7 @@
  *        given uninitialised memory: it could not tell whether that owns timers.
  *     2. A pointer argument points to an object of its type that this call alone uses. No two arguments of
  *        one call overlap. It is NULL only where nobody wants the answer: the handle or restarted of a start
- *        or restart, action, passed, out of timers_expire and timers_take, handle and out of timers_each. And
+ *        or restart (not of timers_set_at, which reads its handle), action, passed, out of timers_expire and timers_take, handle and out of timers_each. And
  *        timers_free(NULL) does nothing. (That is done by inline functions at the end of this header. The
  *        symbols of the library, with which other languages link, need an object.)
  *     3. If an argument is only written (handle, restarted, action, passed, out, counts), the object may be
@@ -320,7 +320,7 @@ void timers_clear(struct timers *t);
  * already among them. While fewer are held, a start then allocates nothing and does not return
  * TIMERS_NO_MEMORY, whatever was started, stopped and taken before. The timers and the clock don't change.
  * Takes 64 bytes for each timer, and time for the most that were ever held at once, which it may move. The rest
- * is allocated and not written. The memory is kept until timers_free, also what was allocated before a failure.
+ * is allocated and not written. The memory is kept until timers_free. After TIMERS_NO_MEMORY it is as much as before.
  * If an earlier timers_reserve made as much room, it allocates nothing and returns TIMERS_OK.
  * TIMERS_NO_MEMORY is also returned if `most` is above some 4.29 billion.
  * TIMERS_NOT_OPEN, TIMERS_NO_MEMORY. */

@@ -105,7 +105,7 @@
  *
  * RULES
  *     1. A `struct timers_desk` begins as TIMERS_DESK_INIT and a `struct timers_line` as TIMERS_LINE_INIT,
- *        or with all bytes 0. Only these functions write them. They must not be copied, since they own
+ *        or with all bytes 0. Only these functions write them, but for `lives` (rule 5). They must not be copied, since they own
  *        memory; they may be moved by a memcpy after which the old one is not used.
  *     2. A pointer argument is not NULL. It points to an object of its type that this call alone uses;
  *        `lines` points to as many as are passed. No two arguments of one call overlap.
@@ -241,7 +241,8 @@ struct timers_line {
  * `room`: a serve takes no request of a client, not even a stop, while its pending timers and the words in its outbox
  * are more than room - 2. No request is held back so of a client that keeps at most k timers, and has at most q
  * requests without an answer, if room is k + q + 1 or more. There a timer counts from the request that starts it until
- * its last word is received, and a request until its answer is. With room 2 no request can stop or restart a timer. */
+ * its last word is received, and a request until its answer is. With room 2 no request can stop or restart a timer. A
+ * client keeps at most room - 1 timers. timers_desk_new allocates the outbox: 56 bytes for each word of room. */
 struct timers_desk_config {
 	size_t size;           /* sizeof(struct timers_desk_config) */
 	uint64_t first_tick;   /* the clock begins at it: up to TIMERS_LAST, of TIMERS_CLOCK TIMERS_CLOCK_LAST */
