@@ -1,0 +1,278 @@
+#!/usr/bin/env bats
+# The worked examples with each scheme, and what arguments are read as, by the program that TIMERS names (by default
+# ./timers). An input is a file: what a call leaves unread is read by `cat` after it.
+bats_require_minimum_version 1.5.0
+
+setup() {
+    TIMERS=$(realpath "${TIMERS:-timers}")
+    cd "$BATS_TEST_TMPDIR" || return
+}
+
+# gives STATUS ARGUMENTS INPUT OUTPUT [ERRORS]: a call with this input has this status and writes these texts
+gives() {
+    local status=0
+    printf '%b' "$3" > input
+    # shellcheck disable=SC2086  # words
+    "$TIMERS" $2 < input > output 2> errors || status=$?
+    [ "$status" -eq "$1" ] && cmp output <(printf '%b' "$4") && cmp errors <(printf '%b' "${5:-}") && return
+    echo "timers $2: status $status for $3"
+    return 1
+}
+
+# row NAME OPTIONS SCRIPT TEXT..: played and served with each scheme, whose wheels may have any number of slots
+row() {
+    local scheme verb
+    for scheme in plain hashed "hashed --slots 1" "hashed --slots 8" "hashed --slots 65536" hier clock; do
+        # The clock of days ends earlier.
+        if [ "$1 $scheme" = "clock_end clock" ]; then continue; fi
+        for verb in play serve; do
+            gives 0 "$verb --scheme $scheme $2" "$3" "$(printf %s "${@:4}")"
+        done
+    done
+}
+clock_row() {
+    gives 0 "play --scheme clock $2" "$3" "$(printf %s "${@:4}")"
+    gives 0 "serve --scheme clock $2" "$3" "$(printf %s "${@:4}")"
+}
+
+@test "worked examples give their text with each scheme" {
+    row empty '' '' 'end 0 0\n'
+    row one_timer '' 'start 0 1 1 7\ntick 1\n' 'started 0 1 1 1\nexpired 1 0 1 7\nend 1 0\n'
+    row rollover '' 'start 0 1 4096 1\ntick 4090\nstart 1 1 6 2\ntick 5\nstart 0 2 1 3\ntick 1\n' \
+        'started 0 1 1 4096\nstarted 1 1 2 4096\nstarted 0 2 3 4096\nexpired 4096 0 1 1\nexpired 4096 1 2 2\n' \
+        'expired 4096 0 3 3\nend 4096 0\n'
+    row migration '' 'start 0 1 130 1\ntick 128\nstart 1 1 2 2\ntick 2\n' \
+        'started 0 1 1 130\nstarted 1 1 2 130\nexpired 130 0 1 1\nexpired 130 1 2 2\nend 130 0\n'
+    row rounds '' 'start 0 1 1 11\nstart 0 2 8 12\nstart 0 3 9 13\nstart 0 4 16 14\nstart 0 5 8 15\ntick 16\n' \
+        'started 0 1 1 1\nstarted 0 2 2 8\nstarted 0 3 3 9\nstarted 0 4 4 16\nstarted 0 5 5 8\n' \
+        'expired 1 0 1 11\nexpired 8 0 2 12\nexpired 8 0 5 15\nexpired 9 0 3 13\nexpired 16 0 4 14\n' \
+        'end 16 0\n'
+    row two_moves '' 'start 0 1 4161 1\ntick 4161\n' 'started 0 1 1 4161\nexpired 4161 0 1 1\nend 4161 0\n'
+    row spread '' 'start 0 1 3661 1\ntick 3600\nstart 1 1 61 2\ntick 61\n' \
+        'started 0 1 1 3661\nstarted 1 1 2 3661\nexpired 3661 0 1 1\nexpired 3661 1 2 2\nend 3661 0\n'
+    row clock_face '--first-tick 987870' 'start 0 1 3045 5\ntick 3045\n' \
+        'started 0 1 1 990915\nexpired 990915 0 1 5\nend 990915 0\n'
+    row stop_middle '' 'start 0 1 10 1\nstart 0 2 10 2\nstart 0 3 10 3\nstop 0 4 2\ntick 10\n' \
+        'started 0 1 1 10\nstarted 0 2 2 10\nstarted 0 3 3 10\nstopped 0 4 2\nexpired 10 0 1 1\n' \
+        'expired 10 0 3 3\nend 10 0\n'
+    row stop_twice '' 'start 0 1 5 0\nstop 0 2 1\nstop 0 3 1\ntick 5\n' \
+        'started 0 1 1 5\nstopped 0 2 1\nrefused 0 3 no-such\nend 5 0\n'
+    row numbering '' 'start 0 1 5 0\nstart 0 1 5 0\nstart 0 3 5 0\nstart 0 2 5 0\ntick 5\n' \
+        'started 0 1 1 5\nrefused 0 1 repeated\nrefused 0 3 ahead\nstarted 0 2 2 5\nexpired 5 0 1 0\n' \
+        'expired 5 0 2 0\nend 5 0\n'
+    row zero_interval '' 'start 0 1 0 9\nstart 0 2 1 9\ntick 1\n' \
+        'refused 0 1 zero-interval\nstarted 0 2 1 1\nexpired 1 0 1 9\nend 1 0\n'
+    row clock_end '--first-tick 1152921504606846974' 'start 0 1 2 5\nstart 0 2 1 5\ntick 5\n' \
+        'refused 0 1 too-late\nstarted 0 2 1 1152921504606846975\nexpired 1152921504606846975 0 1 5\n' \
+        'tick refused clock-end\nend 1152921504606846975 0\n'
+    row capacity '--capacity 1' 'start 0 1 1 4\nstart 0 2 1 4\ntick 1\nstart 0 3 2 6\n' \
+        'started 0 1 1 1\nrefused 0 2 full\nexpired 1 0 1 4\nstarted 0 3 2 3\nend 1 1\n'
+    row other_client '' 'start 0 1 3 7\nstop 1 1 1\ntick 3\n' \
+        'started 0 1 1 3\nrefused 1 1 no-such\nexpired 3 0 1 7\nend 3 0\n'
+    row no_client '' 'start 64 1 5 0\n' 'refused 64 1 no-client\nend 0 0\n'
+    row close '' 'start 0 1 5 1\nstart 1 1 3 2\nstart 0 2 5 3\nclose\nstart 0 3 1 4\ntick 2\nclose\n' \
+        'started 0 1 1 5\nstarted 1 1 2 3\nstarted 0 2 3 5\nclosed 3\nreturned 1 2 3 2\nreturned 0 1 5 1\n' \
+        'returned 0 3 5 3\nrefused 0 3 closed\ntick refused closed\nclose refused closed\nend 0 0\n'
+    row restart '' 'start 0 1 5 1\ntick 3\nrestart 0 2 1 5 2\ntick 5\n' \
+        'started 0 1 1 5\nrestarted 0 2 1 2 8\nexpired 8 0 2 2\nend 8 0\n'
+    row restart_order '' 'start 0 1 5 1\nstart 1 1 5 2\nrestart 0 2 1 5 3\ntick 5\n' \
+        'started 0 1 1 5\nstarted 1 1 2 5\nrestarted 0 2 1 3 5\nexpired 5 1 2 2\nexpired 5 0 3 3\nend 5 0\n'
+    row restart_full '--capacity 1' \
+        'start 0 1 5 1\nrestart 0 2 1 2 9\nrestart 0 3 1 2 9\nrestart 0 4 2 0 9\nrestart 1 1 2 2 9\ntick 2\n' \
+        'started 0 1 1 5\nrestarted 0 2 1 2 2\nrefused 0 3 no-such\nrefused 0 4 zero-interval\n' \
+        'refused 1 1 no-such\nexpired 2 0 2 9\nend 2 0\n'
+}
+
+@test "worked examples of the clock of days" {
+    clock_row clock_too_late '--first-tick 8639990' 'start 0 1 10 1\nstart 0 2 9 2\ntick 20\n' \
+        'refused 0 1 too-late\nstarted 0 2 1 8639999\nexpired 8639999 0 1 2\ntick refused clock-end\n' \
+        'end 8639999 0\n'
+    clock_row clock_day '--first-tick 86399' 'start 0 1 1 1\ntick 1\n' \
+        'started 0 1 1 86400\nexpired 86400 0 1 1\nend 86400 0\n'
+}
+
+@test "a bad line is named and nothing is written, with each scheme" {
+    local scheme
+    bad() {
+        for scheme in plain hashed hier clock; do gives 1 "play --scheme $scheme" "$2" "" "bad line $1\n"; done
+    }
+    bad 2 'start 0 1 5 0\nstart 0 01 5 0\n'
+    bad 2 'start 0 1 5 0\nstart 0 2 5 0'
+    bad 1 'tick 0\n'
+    bad 1 'tick 1000001\n'
+    bad 1 '\n'
+    bad 1 'start 0 1 5 1152921504606846976\n'
+    bad 1 'start 0 1 5 99999999999999999999\n'
+    bad 1 'start  0 1 5 0\n'
+    bad 1 'start 0 1 5 0 \n'
+    bad 1 'start 0 1 +5 0\n'
+    bad 1 'start 0\t1 5 0\n'
+    bad 1 'Start 0 1 5 0\n'
+    bad 1 'stop 1 2 3 4\n'
+    bad 2 'close\n\r\n'
+    bad 1 'restart 0 2 1 5\n'
+    bad 1 'start 0 1 5 0\r\n'
+    bad 1 ' close\n'
+    bad 2 'close\n# comment\n'
+    bad 2 'close\nclose'
+}
+
+@test "clients in threads: 4 of 1000 timers if nothing else is asked for" {
+    local text
+    text="$(printf 'client %s sent 1000 started 1000 expired 1000\\n' 0 1 2 3)end\n"
+    gives 0 "threads" "" "$text"
+    gives 0 "threads --clients 4 --timers 1000" "" "$text"
+    gives 0 "threads --clients 1" "" 'client 0 sent 1000 started 1000 expired 1000\nend\n'
+    echo "not read" > input
+    [ "$("$TIMERS" threads < input > output; cat < input)" = "not read" ]
+}
+
+@test "refused arguments read nothing and write nothing" {
+    refused() {
+        local status=0 left
+        printf 'close\n' > input
+        left=$({ "$TIMERS" "$@" > output 2> errors; echo "$?"; cat; } < input)
+        [ "$left" = $'2\nclose' ] && [ ! -s output ] && grep -q '^error: ' errors && return
+        echo "timers $*: $left"
+        return 1
+    }
+    refused play --slots 0
+    refused play --slots 65537
+    refused play --clients 0
+    refused play --clients 65
+    refused play --capacity 0
+    refused play --capacity 1048577
+    refused play --first-tick 1152921504606846976
+    refused play --first-tick -1
+    refused play --scheme wheel
+    refused play --scheme
+    refused play x
+    refused serve --slots 0
+    refused serve --clients 65
+    refused serve --timers 1
+    refused serve --keep-going --slots 0
+    refused serve --keep-going=1
+    refused serve x
+    refused play --keep-going
+    refused show --keep-going
+    refused show --wakeups
+    refused show --counts=1
+    refused show --moves=1
+    refused serve --counts
+    refused serve --moves
+    refused serve --wakeups=1
+    refused play --wakeups
+    refused show --slots 0
+    refused show script
+    refused threads --clients 0
+    refused threads --clients 65
+    refused threads --timers 0
+    refused threads --timers 10001
+    refused threads --slots 8
+    refused check --slots=8
+    refused check x
+    refused pause
+    refused --scheme plain
+    refused ''
+}
+
+@test "each option that is read is used" {
+    gives 0 "play" 'start 1 1 11 7\n' 'started 1 1 1 11\nend 0 1\n'
+    gives 0 "play --clients=1" 'start 1 1 11 7\n' 'refused 1 1 no-client\nend 0 0\n'
+    gives 0 "play --clients=2" 'start 1 1 11 7\n' 'started 1 1 1 11\nend 0 1\n'
+    gives 0 "play --capacity=1" 'start 0 1 5 0\nstart 0 2 5 0\n' 'started 0 1 1 5\nrefused 0 2 full\nend 0 1\n'
+    gives 0 "play --capacity=2" 'start 0 1 5 0\nstart 0 2 5 0\n' 'started 0 1 1 5\nstarted 0 2 2 5\nend 0 2\n'
+    gives 0 "play --first-tick=9" 'tick 1\n' 'end 10 0\n'
+    gives 0 "play --first-tick=4 --capacity=1 --clients=2 --slots=8 --scheme=hashed" \
+        'start 1 1 5 0\nstart 2 1 5 0\nstart 1 2 5 0\n' \
+        'started 1 1 1 9\nrefused 2 1 no-client\nrefused 1 2 full\nend 4 1\n'
+    gives 0 "play --slots=65536 --clients=64 --capacity=1048576 --first-tick=1152921504606846975" \
+        'start 63 1 1 0\n' 'refused 63 1 too-late\nend 1152921504606846975 0\n'
+    gives 0 "serve --wakeups" 'start 0 1 11 7\ntick 11\n' \
+        'started 0 1 1 11\nwakeup 11\nexpired 11 0 1 7\nwakeup never\nend 11 0\n'
+    gives 0 "show --moves" 'start 0 1 65 7\ntick 65\n' "$(printf %s 'started 0 1 1 65\n  now 0\n  wheel 1 slot 1: 1\n' \
+        '  moved at 64 from wheel 1 slot 1 to wheel 0 slot 1: 1\nexpired 65 0 1 7\n  now 65\nend 65 0\n')"
+}
+
+@test "each option of show that is read is used" {
+    shows() { gives 0 "show $1" 'start 0 1 11 7\n' "started 0 1 1 11\n  now 0\n$2\nend 0 1\n"; }
+    shows "" '  wheel 0 slot 11: 1'
+    shows "--scheme=plain" '  pending: 1:11'
+    shows "--scheme=clock" '  second 11: 1'
+    shows "--scheme=hashed" '  slot 11: 1:0'
+    shows "--scheme=hashed --slots=8" '  slot 3: 1:1'
+    shows "--slots=8" '  wheel 0 slot 11: 1'
+    shows "--counts" '  starts 1 moves 0 visits 0\n  wheel 0 slot 11: 1'
+    shows "--counts --moves" '  starts 1 moves 0 visits 0\n  wheel 0 slot 11: 1'
+}
+
+@test "each subcommand reports a bad line in its way" {
+    local reason='count: out of range 1 to 1000000'
+    gives 1 "serve" 'close\ntick 0\nclose\n' 'closed 0\n' 'bad line 2\n'
+    gives 1 "serve --keep-going" 'close\ntick 0\nclose\n' \
+        'closed 0\nclose refused closed\nend 0 0\n' "bad line 2, column 6: $reason\n"
+    gives 1 "serve --wakeups --keep-going" 'close\ntick 0\nclose\n' \
+        'closed 0\nwakeup never\nclose refused closed\nwakeup never\nend 0 0\n' "bad line 2, column 6: $reason\n"
+    gives 1 "check" 'close\ntick 0\nclose\n' "line 2, column 6: $reason\n"
+}
+
+# A help is written to standard output, and nothing is read.
+help_of() {
+    echo x > input
+    [ "$({ "$TIMERS" "$@" > output 2> errors; echo "$?"; cat; } < input)" = $'0\nx' ] && [ ! -s errors ]
+}
+
+@test "the short help has the options in few lines" {
+    short() {
+        # shellcheck disable=SC2086  # words
+        help_of $2 -h
+        [ "$(wc -l < output)" -le "$1" ] && grep -q -e '-h, --help' output
+        for part in "${@:3}"; do grep -qF -e "$part" output || { echo "timers $2 -h: no $part"; return 1; }; done
+    }
+    short 16 "" "Usage: timers < FILE" "       timers COMMAND [OPTIONS] < FILE" "  play     Plays the script" \
+        "  serve    Answers each line" "  show     Answers lines" "  threads  Runs clients" "  check    Reports every bad line"
+    short 11 play "--scheme <SCHEME> " "--slots <SLOTS> " "--clients <CLIENTS> " "--capacity <TIMERS> " "--first-tick <TICK> "
+    short 13 serve "--keep-going " "--wakeups "
+    short 13 show "--counts " "--moves "
+    short 8 threads "--timers <TIMERS> "
+    short 6 check
+}
+
+@test "each help of a subcommand says how it is called" {
+    called() {
+        for option in -h --help; do
+            help_of "$1" "$option"
+            grep -qxF "Usage: timers $1$2" output
+        done
+    }
+    called play " [OPTIONS] < FILE"
+    called serve " [OPTIONS] < FILE"
+    called show " [OPTIONS] < FILE"
+    called threads " [OPTIONS]"
+    called check " < FILE"
+}
+
+@test "help and version are whole where they are asked for, and a full output is told" {
+    whole() {
+        # shellcheck disable=SC2086  # words
+        help_of $1
+        case $(tr '\n' ' ' < output) in
+        "$2"*"$3 ") ;;
+        *)
+            echo "timers $1"
+            return 1
+            ;;
+        esac
+        local status=0
+        # shellcheck disable=SC2086  # words
+        "$TIMERS" $1 > /dev/full 2> errors || status=$?
+        [ "$status" -eq 1 ] && [ "$(cat errors)" = "write failed" ]
+    }
+    for words in --help help; do whole "$words" "Plays a script" "of scripts and output."; done
+    for words in "play --help" "help play"; do whole "$words" "Plays the script" "have all of it."; done
+    for words in "serve --help" "help serve"; do whole "$words" "Answers each line" "been written then."; done
+    whole "show --help" "Answers lines" "from bucket to bucket."
+    whole "threads --help" "Runs clients" "standard input."
+    whole "check --help" "Reports every" "arguments are refused."
+    for words in --version -V; do whole "$words" "timers " "$(cat "$BATS_TEST_DIRNAME/../tools/install/version")"; done
+}
