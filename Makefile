@@ -5,7 +5,8 @@
 # make lib         builds the libraries alone, and the man pages
 # make install     installs what make built, under PREFIX (tools/install/install has all variables)
 # make uninstall   removes what it installed
-# make dist        a tarball of program and libraries, for machines without a compiler: build/timers-*.tar.gz
+# make dist        a tarball of program and libraries, for machines without a compiler: build/timers-*.tar.gz (for another
+#                  processor give it CC, too)
 # make deb         Debian packages, binary and source: build/deb
 # make hostile     the program under memory limits and input and output errors
 # make fuzz        an hour of scripts, against a model of docs/formats.md (MINUTES=N)

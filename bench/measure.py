@@ -5,7 +5,7 @@
     python3 bench/plots.py                                    then draws the plots of docs/
 
 results/settings.csv gets the machine, the date, and how many cores other processes and the host's neighbours took.
-Status 1: a part failed.
+Status 1: a part failed. Status 2: wrong arguments, or bench/build lacks a program.
 """
 import csv
 import datetime
@@ -79,7 +79,9 @@ def times():
 
 def main():
     if set(sys.argv[1:]) - {"wheels", *SCRIPTS}:
-        sys.exit(__doc__)
+        figures.fail(__doc__, 2)
+    if not os.path.exists(os.path.join(figures.HERE, "build", "bench")):
+        figures.fail("measure.py: no build/bench: run bench/build_all", 2)
     os.environ["RESULTS"] = figures.FOLDER = figures.KEPT
     settings = {row["part"]: row for row in figures.read("settings")}
     is_well = True

@@ -113,8 +113,16 @@ def in_words(workload):
     return f"{WORKLOADS[name]}, {size.replace('log', '2^')}"
 
 
+def reach(rows, column):
+    """The least and the greatest median of a column, in words."""
+    medians = [figures.median(row[column]) for row in rows if row[column]]
+    return f"{min(medians):.1f} to {max(medians):.1f}"
+
+
 def bench(folder):
     rows = figures.read("wheels")
+    quiet = [row for row in rows if row["workload"].startswith("quiet")]
+    others = [row for row in rows if row not in quiet]
     figure, axes = plt.subplots(figsize=(WIDTH, 8.4), layout="constrained")
     for shift, style, column, label in ((-0.24, "product", "timers-c", "timers (C library)"),
                                         (0, "first", "tokio-wheel", "tokio-util"), (0.24, "second", "libuv", "libuv")):
@@ -128,9 +136,9 @@ def bench(folder):
           f"no mark: it can't do that load, or was not measured\n{machine('wheels')}")
     legend(figure, axes)
     save(figure, folder, "bench", "timers, tokio-util and libuv beside a hand-tuned C++ wheel",
-         "Ratios of processor time by workload: medians of five runs with the least and the greatest. Less is better. With the C "
-         "library of timers they are 0.8 to 1.6 but for quiet ticks, at 3.3 to 5.2; with tokio-util 1.1 to 15; with libuv 4.0 to 16. "
-         "bench/results/wheels.csv has the numbers.")
+         "Ratios of processor time by workload: medians of the repeats with the least and the greatest. Less is better. With the "
+         f"C library of timers they are {reach(others, 'timers-c')}, and {reach(quiet, 'timers-c')} for quiet ticks; with tokio-util "
+         f"{reach(rows, 'tokio-wheel')}; with libuv {reach(rows, 'libuv')}. bench/results/wheels.csv has the numbers.")
 
 
 def panels(rows, columns):

@@ -7,7 +7,7 @@ the greatest.
     runs.py next [--repeats N] [--facilities A,B] [--sizes 10000,100000]
 
 --sizes are numbers of pending timers, --count is how many operations or ticks are timed. Facilities that the program
-doesn't have are left out. Status 1: a run failed, or there is nothing to run.
+doesn't have are left out. Status 1: a run failed, or there is nothing to run. Status 2: wrong arguments, or no program.
 """
 import argparse
 import os
@@ -86,6 +86,8 @@ def main():
     parser.add_argument("--sizes")
     parser.add_argument("--count", type=int, default=1_000_000)
     options = parser.parse_args()
+    if not os.path.exists(os.path.join(figures.HERE, "build", options.program)):
+        fail(f"runs.py: no build/{options.program}: run bench/build_all", 2)
     options.sizes = [int(size) for size in (options.sizes or SIZES[options.program]).split(",")]
     options.facilities = options.facilities or FACILITIES[options.program]
     table = {"scale": scale, "tail": tail, "next": next_deadlines}[options.program]

@@ -488,7 +488,7 @@ static TIMERS_INLINE const char *timers_desk_message(enum timers_desk_status sta
 	case TIMERS_DESK_OPEN: return "a desk or a line is held already";
 	case TIMERS_DESK_NO_MEMORY: return "out of memory";
 	case TIMERS_DESK_NOT_PENDING: return "no timer of the client has this handle";
-	case TIMERS_DESK_ZERO_INTERVAL: return "the interval is 0, or the deadline has passed";
+	case TIMERS_DESK_ZERO_INTERVAL: return "the interval is 0, or the deadline is not after the present tick";
 	case TIMERS_DESK_TOO_LATE: return "after the last tick";
 	case TIMERS_DESK_SERIALS_SPENT: return "every serial was used";
 	case TIMERS_DESK_CLOCK_END: return "the clock is at its last tick";

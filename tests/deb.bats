@@ -8,8 +8,9 @@ setup_file() {
     cd "$BATS_TEST_DIRNAME/.." || return
     hide_toolchain
     version=$(cat tools/install/version)
+    packed=$version~$(tr -d - < tools/install/date)
     architecture=$(dpkg --print-architecture)
-    export version architecture work=$BATS_FILE_TMPDIR root=$BATS_FILE_TMPDIR/root
+    export version packed architecture work=$BATS_FILE_TMPDIR root=$BATS_FILE_TMPDIR/root
 }
 
 needs_debian() { needs dpkg-buildpackage dh fakeroot; }
@@ -26,11 +27,11 @@ needs_root() {
 # has_its_packages FOLDER ARCHITECTURE: three, and for debuggers the symbols of two
 has_its_packages() {
     diff <(cd "$1" && ls -- *.deb) - << EOT
-libtimers-dev_$version-1_$2.deb
-libtimers1-dbgsym_$version-1_$2.deb
-libtimers1_$version-1_$2.deb
-timers-dbgsym_$version-1_$2.deb
-timers_$version-1_$2.deb
+libtimers-dev_$packed-1_$2.deb
+libtimers1-dbgsym_$packed-1_$2.deb
+libtimers1_$packed-1_$2.deb
+timers-dbgsym_$packed-1_$2.deb
+timers_$packed-1_$2.deb
 EOT
 }
 

@@ -40,7 +40,7 @@ def library():
 
 
 def metadata(version):
-    return f"Metadata-Version: 2.1\nName: timers\nVersion: {version}\nLicense: (MIT OR Apache-2.0) AND MIT AND BSD-3-Clause\nRequires-Python: >=3.8\n"
+    return f"Metadata-Version: 2.1\nName: timers\nVersion: {version}\nLicense: (MIT OR Apache-2.0) AND MIT AND BSD-3-Clause AND LicenseRef-Rattle-libraries\nRequires-Python: >=3.8\n"
 
 
 def record(files, path):

@@ -58,8 +58,7 @@ pub enum Error {
     NotPending,
     /// The interval is 0.
     ZeroInterval,
-    /// The tick is after the last one of the clock. Or it has passed and the clock is at its last tick, at which no
-    /// timer starts.
+    /// The tick is after the last one of the clock, or the clock is at its last tick, at which no timer starts.
     TooLate,
     /// 2^60 - 1 timers were started.
     SerialsSpent,

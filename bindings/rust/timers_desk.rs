@@ -35,7 +35,7 @@ pub enum Error {
     NoMemory,
     /// No timer of the client has this handle.
     NotPending,
-    /// The interval is 0, or the deadline has passed.
+    /// The interval is 0, or the deadline is not after the present tick.
     ZeroInterval,
     /// After the last tick.
     TooLate,
@@ -106,7 +106,7 @@ impl fmt::Display for Error {
             Error::Open => "a desk or a line is held already",
             Error::NoMemory => "out of memory",
             Error::NotPending => "no timer of the client has this handle",
-            Error::ZeroInterval => "the interval is 0, or the deadline has passed",
+            Error::ZeroInterval => "the interval is 0, or the deadline is not after the present tick",
             Error::TooLate => "after the last tick",
             Error::SerialsSpent => "every serial was used",
             Error::ClockEnd => "the clock is at its last tick",
@@ -149,6 +149,7 @@ pub enum Table {
 
 /// What a desk is made with. [`Config::new`] gives room enough for clients that keep to its numbers.
 #[derive(Clone, Copy, Debug, Eq, PartialEq)]
+#[non_exhaustive]
 pub struct Config {
     /// The tick at which the clock begins.
     pub first_tick: u64,
@@ -532,7 +533,8 @@ impl Line {
     }
 
     /// Sends the request to start a timer that expires `interval` ticks after it is taken, and returns the request's
-    /// number. Its answer is a word. Neither allocates nor waits.
+    /// number. Its answer is a word. Neither allocates nor waits. After the desk was dropped a request is still accepted
+    /// while the line has room, and gets no answer: see [`Line::abandoned`].
     ///
     /// # Errors
     /// `Finished`; `NumbersSpent`; `LineFull`: it may be sent again once the owner has served the client.
@@ -607,7 +609,8 @@ impl Line {
         unsafe { timers_line_ended(&self.held) }
     }
 
-    /// Whether the desk was dropped, and all words that it had put into the line were received.
+    /// Whether the desk was dropped, and all words that it had put into the line were received. False if the words were
+    /// ended by [`Desk::end`]: then [`Line::ended`] is true. A client's loop ends if either is.
     #[must_use]
     pub fn abandoned(&mut self) -> bool {
         unsafe { timers_line_abandoned(&mut self.held) }

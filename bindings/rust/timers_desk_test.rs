@@ -225,7 +225,9 @@ fn threads(clients: usize) {
 }
 
 fn passes_the_last_tick() {
-    let config = Config { first_tick: 8_639_990, table: Table::Clock, ..Config::new(1, 1, 1) };
+    let mut config = Config::new(1, 1, 1);
+    config.first_tick = 8_639_990;
+    config.table = Table::Clock;
     let (mut desk, mut lines) = Desk::new(1, config).unwrap();
     lines[0].start(5, 7).unwrap();
     turn(&mut desk);

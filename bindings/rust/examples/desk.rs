@@ -21,9 +21,11 @@ fn main() -> Result<(), Error> {
         }
         line.finish()
     });
+    let mut served = 0;
     while !client.is_finished() {
-        desk.serve_all(10)?;
-        if let Some(tick) = desk.wakeup() {
+        served += usize::from(desk.serve(0)?);
+        // an interval counts from the tick at which its request is served: here both count from 0
+        if let (2, Some(tick)) = (served, desk.wakeup()) {
             desk.advance_to(tick)?; // a server sleeps until then first
         }
         desk.flush_all();
