@@ -20,11 +20,6 @@ pub record AreJoined (neighbours : List Neighbours) (front back : ℕ) : Type 0 
   pub forth : (neighbours_at neighbours front).after ≡ back
   pub back_to : (neighbours_at neighbours back).before ≡ front
 
--- each of these indexes comes right after the one before it
-abbrev pub IsChain : List Neighbours → ℕ → List ℕ → Type 0
-IsChain neighbours index [] = Unit {0}
-IsChain neighbours index (next ∷ rest) = AreJoined neighbours index next × IsChain neighbours next rest
-
 -- the second index was put right after the first, and all else stays
 pub record Joins (front back : ℕ) (old new : List Neighbours) : Type 0 where
   pub forth : (neighbours_at new front).after ≡ back
