@@ -11,7 +11,7 @@ use Rattle.timer_links.specs.declared.node.Node.{Node}
 use Rattle.timer_links.specs.declared.ring.Neighbours.{Neighbours}
 use Rattle.timer_links.specs.declared.ring.TheConstants.{INDEXES}
 use Rattle.timer_links.specs.Lists.{node_in, node_at, first_key, list_at, row_count, without_key, with_row, moved_back, first_row_moved, front_moved, appended, IsAloneIn, KeyedLists, Row, Rows}
-use Rattle.timer_links.specs.Ring.{neighbours_at, key_of, neighbour_on_both_sides, AreJoined, Joins, JoinsLast, IsGrown}
+use Rattle.timer_links.specs.Ring.{neighbours_at, key_of, neighbour_on_both_sides, Joins, JoinsLast, IsGrown}
 use Rattle.timer_links.specs.Links.{LeadsOver, AreRings, IsLinked}
 use Rattle.timer_links.proofs.Rows.{none_is, IsAbsent, look, node_in-absent, node_in-other, node_in-append, length_split, StandsIn, stands_in, without_none, node_at-none, node_at-set, row_count-set}
 use Rattle.timer_links.proofs.Rings.{before_end, after_start, ring_at, leads_renamed, leads_same, rings_set, around, apart_here, not_elsewhere, is_alone, node_at-here, without_is, detached, absent, attached, rings_appended}

@@ -8,7 +8,7 @@ use Rattle.timer_base.specs.OrderLaws.{All-weaken}
 use Rattle.timer_links.specs.declared.node.Node.{Node}
 use Rattle.timer_links.specs.declared.ring.Neighbours.{Neighbours}
 use Rattle.timer_links.specs.Lists.{node_at, list_at, list_if_alone, without_key, with_row, appended, AreApart, KeyedLists, Row, Rows}
-use Rattle.timer_links.specs.Ring.{neighbours_at, neighbour_on_both_sides, AreJoined, Joins, JoinsLast}
+use Rattle.timer_links.specs.Ring.{neighbours_at, neighbour_on_both_sides, AreJoined, Joins}
 use Rattle.timer_links.specs.Links.{LeadsOver, AreRings}
 use Rattle.timer_links.proofs.Rows.{IsAbsent, FoundIn, look, once, node_at-once, without_once}
 

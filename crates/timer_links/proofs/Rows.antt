@@ -1,10 +1,10 @@
 -- Lemmas about rows and lists of rows: which keys they have, and where a key stands.
-use Rattle.std.proofs.Common.{◌≡◌, ◌≢◌, ◌<◌, ◌≤◌, ◌+◌, ℕ, ◌⊎◌, zero, suc, [], ◌∷◌, ◌++◌, length, refl, sym, ◌∙◌, ap, inl, inr, arith, map, length-append, Option, Some, None, IsSome, slice_set}
+use Rattle.std.proofs.Common.{◌≡◌, ◌≢◌, ◌<◌, ◌≤◌, ◌+◌, ℕ, ◌⊎◌, zero, suc, [], ◌∷◌, ◌++◌, length, refl, sym, ◌∙◌, ap, inl, inr, arith, map, length-append, Some, None, IsSome, slice_set}
 use Rattle.std.specs.List.{AllByRecursion}
 use Rattle.std.proofs.lemmas.Bool.{cases_eq, eq-eqb, ne_eqb}
 use Rattle.timer_base.specs.Basics.{some_same, some_none}
 use Rattle.timer_links.specs.declared.node.Node.{Node}
-use Rattle.timer_links.specs.Lists.{node_in, node_at, first_of, list_at, row_count, without_key, KeyedLists, Row, Rows}
+use Rattle.timer_links.specs.Lists.{node_in, node_at, list_at, row_count, without_key, KeyedLists, Row, Rows}
 
 pub none_is : IsSome {T = Node} None → ⊥
 none_is h = cc

@@ -1,5 +1,5 @@
 -- The links of each index, what a join changes, and which indexes follow one another: all that `ring` states.
-use Rattle.std.specs.Prelude.{◌≡◌, ◌≢◌, ℕ, ◌-◌, ◌≤◌, nat_lt, ◌==◌, if◌then◌else◌, List, [], ◌∷◌, length, Option, Some, None, slice_index_or}
+use Rattle.std.specs.Prelude.{◌≡◌, ◌≢◌, ℕ, ◌-◌, ◌≤◌, nat_lt, ◌==◌, if◌then◌else◌, List, length, Option, Some, None, slice_index_or}
 use Rattle.timer_links.specs.declared.ring.Neighbours.{Neighbours}
 
 -- what is at an index, or a default past the end

@@ -1,9 +1,8 @@
-use Rattle.std.proofs.Common.{rules, ◌≡◌, ◌≤◌, ◌+◌, ◌∙◌, ap, arith, max, ◌-◌}
+use Rattle.std.proofs.Common.{rules, ◌≡◌, ◌≤◌, ◌∙◌, ap, arith, max, ◌-◌}
 use Rattle.std.proofs.Math.Nat.{max-le}
 use Rattle.slab.specs.Slab.{Slab, slab_len}
 use Rattle.timer_links.specs.declared.node.Node.{Node}
 use Rattle.timer_links.specs.Lists.{LinksState}
-use Rattle.timer_links.specs.Links.{IsLinked}
 use Rattle.timer_links.proofs.UniqueLists.{opened, stands, lists_are, state_is}
 use Rattle.timer_links.proofs.Room.{room_stays, ready_kept}
 use Rattle.timer_links.proofs.LinksCalls.{reserved}

@@ -1,4 +1,4 @@
-use Rattle.std.proofs.Common.{◌≡◌, ◌∷◌, ◌∙◌, sym, ap, refl, map}
+use Rattle.std.proofs.Common.{◌≡◌, ◌∷◌, ◌∙◌, sym, ap, map}
 use Rattle.std.specs.Vec.{with_items}
 use Rattle.timer_base.specs.Basics.{some_same}
 use Rattle.timer_links.specs.declared.node.Node.{Node}

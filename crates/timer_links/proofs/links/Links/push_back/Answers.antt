@@ -1,6 +1,5 @@
 use Rattle.std.proofs.Common.{◌<◌, ◌+◌, ◌∙◌, ap, refl, arith, length}
 use Rattle.std.specs.Vec.{with_items}
-use Rattle.timer_links.specs.declared.links.Links.TheInside.{Inside}
 use Rattle.timer_links.specs.Lists.{LinksState, with_row}
 use Rattle.timer_links.proofs.UniqueLists.{opened, Stands, stands, written, state_is}
 use Rattle.timer_links.proofs.Room.{has_index}

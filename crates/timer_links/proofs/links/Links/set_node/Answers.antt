@@ -1,6 +1,4 @@
-use Rattle.std.proofs.Common.{◌≡◌, ◌<◌, ◌++◌, ◌∷◌, length, slice_set, refl, arith}
-use Rattle.timer_links.specs.Lists.{list_at, Rows}
-use Rattle.timer_links.specs.declared.node.Node.{Node}
+use Rattle.std.proofs.Common.{refl, arith}
 use Rattle.timer_links.proofs.UniqueLists.{opened, lists_are, stands}
 use Rattle.timer_links.proofs.Room.{room_stays, ready_kept}
 use Rattle.timer_links.proofs.LinksCalls.{seat, node_set}
