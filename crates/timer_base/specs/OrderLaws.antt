@@ -8,16 +8,10 @@ pub use Rattle.timer_base.specs.Basics.{either}
 use Rattle.timer_base.specs.declared.timer.Timer.{Timer}
 use Rattle.timer_base.specs.Order.{is_before, insert_in_order, in_order, insert_by_deadline, IsFirst, IsOrdered, IsNotAmong, AreDistinct, AreRising, AreBelow}
 
--- Of two timers with different serials, exactly one comes first.
+-- Of two timers at most one comes first.
 
 not_both : (a b : Timer) → is_before a b ≡ true → is_before b a ≡ false
 not_both a b h = grind (arith, nat_tests)
-
-one_of_both : (a b : Timer) → a.serial ≢ b.serial → is_before a b ≡ false → is_before b a ≡ true
-one_of_both a b n h = grind (arith, nat_tests)
-
-through : (a b c : Timer) → is_before a b ≡ true → is_before b c ≡ true → is_before a c ≡ true
-through a b c h k = grind (arith, nat_tests)
 
 -- what is not handed out before c is not handed out before what comes before c
 first_through : (a b c : Timer) → is_before a b ≡ true → is_before c b ≡ false → is_before c a ≡ false
@@ -57,21 +51,24 @@ pub insert_newest : {X : Type 0} (timer : X → Timer) (e : X) (l : List X)
 insert_newest timer e [] b = refl
 insert_newest timer e (y ∷ ys) b = rw (newest_test (timer e) (timer y) b.0, insert_newest timer e ys b.1) refl
 
-AreBelow-insert_in_order : {X : Type 0} (timer : X → Timer) (high : ℕ) (x : X) (l : List X)
-    → (timer x).serial < high
-    → AreBelow high (map timer l) → AreBelow high (map timer (insert_in_order timer x l))
-AreBelow-insert_in_order timer high x [] h b = (h, tt)
-AreBelow-insert_in_order timer high x (y ∷ ys) h b = elim (either (is_before (timer x) (timer y))) [
-  | inl k ↦ rw k (h, b)
-  | inr k ↦ rw k (b.0, AreBelow-insert_in_order timer high x ys h b.1)
+-- what holds of each timer holds of each in order
+all_inserted : {X : Type 0} (timer : X → Timer) (P : Timer → Type 0) (x : X) (l : List X) → P (timer x)
+    → AllByRecursion P (map timer l) → AllByRecursion P (map timer (insert_in_order timer x l))
+all_inserted timer P x [] h a = (h, tt)
+all_inserted timer P x (y ∷ ys) h a = elim (either (is_before (timer x) (timer y))) [
+  | inl k ↦ rw k (h, a)
+  | inr k ↦ rw k (a.0, all_inserted timer P x ys h a.1)
 ]
+
+all_timers : {X : Type 0} (timer : X → Timer) (P : Timer → Type 0) (xs : List X) → AllByRecursion P (map timer xs)
+    → AllByRecursion P (map timer (in_order timer xs))
+all_timers timer P [] a = tt
+all_timers timer P (x ∷ xs) a = all_inserted timer P x (in_order timer xs) a.0 (all_timers timer P xs a.1)
 
 pub AreBelow-in_order : {X : Type 0} (timer : X → Timer) (high : ℕ) (xs : List X)
     → AreBelow high (map timer xs)
     → AreBelow high (map timer (in_order timer xs))
-AreBelow-in_order timer high [] b = tt
-AreBelow-in_order timer high (x ∷ xs) b = AreBelow-insert_in_order timer high x (in_order timer xs) b.0
-    (AreBelow-in_order timer high xs b.1)
+AreBelow-in_order timer high xs b = all_timers timer (λ t. t.serial < high) xs b
 
 -- a newest one, wherever it is in the list, is ordered after those of its deadline
 pub in_order-newest : {X : Type 0} (timer : X → Timer) (e : X) (xs ys : List X)
@@ -85,39 +82,22 @@ in_order-newest timer e (x ∷ xs) ys b =
 
 -- The position of a member in the list does not affect the order.
 
-both_bools : (b : Bool) → b ≡ true → b ≡ false → ⊥
-both_bools b h k = cc
+commutes_step : {X : Type 0} (timer : X → Timer) (x y z : X) (zs : List X) → (timer x).serial ≢ (timer y).serial
+    → insert_in_order timer x (insert_in_order timer y zs) ≡ insert_in_order timer y (insert_in_order timer x zs)
+    → insert_in_order timer x (insert_in_order timer y (z ∷ zs))
+    ≡ insert_in_order timer y (insert_in_order timer x (z ∷ zs))
+commutes_step timer x y z zs n ih = grind (arith, nat_tests)
 
-clash : (a b c : Timer) → is_before a b ≡ true → is_before b c ≡ true → is_before a c ≡ false → ⊥
-clash a b c h k e = both_bools (is_before a c) (through a b c h k) e
+commutes_none : {X : Type 0} (timer : X → Timer) (x y : X) → (timer x).serial ≢ (timer y).serial
+    → insert_in_order timer x (insert_in_order timer y []) ≡ insert_in_order timer y (insert_in_order timer x [])
+commutes_none timer x y n = grind (arith, nat_tests)
 
 pub insert_in_order-commutes : {X : Type 0} (timer : X → Timer) (x y : X) (l : List X)
     → (timer x).serial ≢ (timer y).serial
     → insert_in_order timer x (insert_in_order timer y l)
     ≡ insert_in_order timer y (insert_in_order timer x l)
-insert_in_order-commutes timer x y [] n = elim (either (is_before (timer x) (timer y))) [
-  | inl h ↦ simp (h, not_both (timer x) (timer y) h) refl
-  | inr h ↦ simp (h, one_of_both (timer x) (timer y) n h) refl
-]
-insert_in_order-commutes timer x y (z ∷ zs) n = elim (either (is_before (timer x) (timer z))) [
-  | inl a ↦ elim (either (is_before (timer y) (timer z))) [
-    | inl b ↦ elim (either (is_before (timer x) (timer y))) [
-      | inl h ↦ simp (b, a, h, not_both (timer x) (timer y) h) refl
-      | inr h ↦ simp (b, a, h, one_of_both (timer x) (timer y) n h) refl
-    ]
-    | inr b ↦ elim (either (is_before (timer x) (timer y))) [
-      | inl h ↦ simp (b, a, not_both (timer x) (timer y) h) refl
-      | inr h ↦ absurd (clash (timer y) (timer x) (timer z) (one_of_both (timer x) (timer y) n h) a b)
-    ]
-  ]
-  | inr a ↦ elim (either (is_before (timer y) (timer z))) [
-    | inl b ↦ elim (either (is_before (timer x) (timer y))) [
-      | inl h ↦ absurd (clash (timer x) (timer y) (timer z) h b a)
-      | inr h ↦ simp (b, a, h) refl
-    ]
-    | inr b ↦ simp (b, a) (ap (λ r. z ∷ r) (insert_in_order-commutes timer x y zs n))
-  ]
-]
+insert_in_order-commutes timer x y [] n = commutes_none timer x y n
+insert_in_order-commutes timer x y (z ∷ zs) n = commutes_step timer x y z zs n (insert_in_order-commutes timer x y zs n)
 
 pub in_order-anywhere : {X : Type 0} (timer : X → Timer) (x : X) (ys zs : List X)
     → IsNotAmong (timer x).serial (map timer ys)
@@ -333,15 +313,6 @@ AllAt-filter tick (t ∷ ts) = elim (either (t.deadline == tick)) [
 
 -- Distinct serials.
 
-IsNotAmong-insert_in_order : {X : Type 0} (timer : X → Timer) (s : ℕ) (x : X) (ys : List X)
-    → (timer x).serial ≢ s
-    → IsNotAmong s (map timer ys) → IsNotAmong s (map timer (insert_in_order timer x ys))
-IsNotAmong-insert_in_order timer s x [] h n = (h, tt)
-IsNotAmong-insert_in_order timer s x (y ∷ ys) h n = elim (either (is_before (timer x) (timer y))) [
-  | inl k ↦ rw k (h, n)
-  | inr k ↦ rw k (n.0, IsNotAmong-insert_in_order timer s x ys h n.1)
-]
-
 AreDistinct-insert_in_order : {X : Type 0} (timer : X → Timer) (x : X) (ys : List X)
     → IsNotAmong (timer x).serial (map timer ys)
     → AreDistinct (map timer ys) → AreDistinct (map timer (insert_in_order timer x ys))
@@ -349,16 +320,14 @@ AreDistinct-insert_in_order timer x [] n d = (tt, tt)
 AreDistinct-insert_in_order timer x (y ∷ ys) n d = elim (either (is_before (timer x) (timer y))) [
   | inl k ↦ rw k (n, d)
   | inr k ↦ rw k (
-    IsNotAmong-insert_in_order timer (timer y).serial x ys (λ e. n.0 (sym e)) d.0,
+    all_inserted timer (λ t. t.serial ≢ (timer y).serial) x ys (λ e. n.0 (sym e)) d.0,
     AreDistinct-insert_in_order timer x ys n.1 d.1,
   )
 ]
 
 pub IsNotAmong-in_order : {X : Type 0} (timer : X → Timer) (s : ℕ) (xs : List X) → IsNotAmong s (map timer xs)
     → IsNotAmong s (map timer (in_order timer xs))
-IsNotAmong-in_order timer s [] n = tt
-IsNotAmong-in_order timer s (x ∷ xs) n = IsNotAmong-insert_in_order timer s x (in_order timer xs) n.0
-    (IsNotAmong-in_order timer s xs n.1)
+IsNotAmong-in_order timer s xs n = all_timers timer (λ t. t.serial ≢ s) xs n
 
 pub AreDistinct-in_order : {X : Type 0} (timer : X → Timer) (xs : List X) → AreDistinct (map timer xs)
     → AreDistinct (map timer (in_order timer xs))
