@@ -3,6 +3,7 @@
 use Rattle.std.proofs.Common.{sym, ◌∙◌, ap, inl, inr, arith, ◌≡◌, ◌≢◌, ◌<◌, ◌≤◌, ℕ, suc, Bool, true, false, ◌==◌, nat_lt, if◌then◌else◌, List, [], ◌∷◌, ◌++◌, length, filter, map, refl}
 use Rattle.std.specs.Coded.{×_prop, Unit-prop, le_prop}
 use Rattle.std.specs.List.{AllByRecursion}
+use Rattle.std.proofs.lemmas.Bool.{eqb-true}
 use Rattle.std.proofs.lemmas.Bool.Decides.{nat_tests}
 pub use Rattle.timer_base.specs.Basics.{either}
 use Rattle.timer_base.specs.declared.timer.Timer.{Timer}
@@ -210,21 +211,19 @@ filter_not timer p x (y ∷ ys) n = elim (either (is_before (timer x) (timer y))
   | inr k ↦ rw k (ap (λ r. if p y then y ∷ r else r) (filter_not timer p x ys n))
 ]
 
+kept_step : {X : Type 0} (timer : X → Timer) (p : X → Bool) (x y : X) (ys : List X) → p x ≡ true
+    → (is_before (timer x) (timer y) ≡ true → insert_in_order timer x (filter p ys) ≡ x ∷ filter p ys)
+    → filter p (insert_in_order timer x ys) ≡ insert_in_order timer x (filter p ys)
+    → filter p (insert_in_order timer x (y ∷ ys)) ≡ insert_in_order timer x (filter p (y ∷ ys))
+kept_step timer p x y ys n front ih = grind (arith, nat_tests)
+
 filter_kept : {X : Type 0} (timer : X → Timer) (p : X → Bool) (x : X) (ys : List X) → p x ≡ true
     → IsOrdered (map timer ys)
     → filter p (insert_in_order timer x ys) ≡ insert_in_order timer x (filter p ys)
 filter_kept timer p x [] n o = rw n refl
-filter_kept timer p x (y ∷ ys) n o = elim (either (is_before (timer x) (timer y))) [
-  | inl k ↦ elim (either (p y)) [
-    | inl m ↦ rw (k, n, m, k) refl
-    | inr m ↦ rw (k, n, m) (sym (insert_front timer x y (filter p ys) k
-        (IsFirst-filter timer p (timer y) ys o.0)))
-  ]
-  | inr k ↦ elim (either (p y)) [
-    | inl m ↦ rw (k, m, k) (ap (λ r. y ∷ r) (filter_kept timer p x ys n o.1))
-    | inr m ↦ rw (k, m) (filter_kept timer p x ys n o.1)
-  ]
-]
+filter_kept timer p x (y ∷ ys) n o = kept_step timer p x y ys n
+    (λ k. insert_front timer x y (filter p ys) k (IsFirst-filter timer p (timer y) ys o.0))
+    (filter_kept timer p x ys n o.1)
 
 pub filter-in_order : {X : Type 0} (timer : X → Timer) (p : X → Bool) (xs : List X)
     → filter p (in_order timer xs) ≡ in_order timer (filter p xs)
@@ -241,10 +240,7 @@ map_step : {X : Type 0} {Y : Type 0} (f : X → Timer) (g : Y → Timer) (h : X 
     → g (h x) ≡ f x → g (h y) ≡ f y
     → map h (insert_in_order f x ys) ≡ insert_in_order g (h x) (map h ys)
     → map h (insert_in_order f x (y ∷ ys)) ≡ insert_in_order g (h x) (map h (y ∷ ys))
-map_step f g h x y ys a b ih = rw (a, b) (elim (either (is_before (f x) (f y))) [
-  | inl k ↦ rw k refl
-  | inr k ↦ rw k (ap (λ r. h y ∷ r) ih)
-])
+map_step f g h x y ys a b ih = grind (arith, nat_tests)
 
 map-insert_in_order : {X : Type 0} {Y : Type 0} (f : X → Timer) (g : Y → Timer) (h : X → Y) (same : (x : X)
     → g (h x) ≡ f x)
@@ -301,13 +297,10 @@ in_order-same timer tick low (x ∷ y ∷ ys) a r =
     ap (insert_in_order timer x) (in_order-same timer tick (timer x).serial (y ∷ ys) a.1 r.1)
     ∙ rw (same_front (timer x) (timer y) tick a.0 a.1.0 r.1.0) refl
 
-deadline_is : (t : Timer) (tick : ℕ) → (t.deadline == tick) ≡ true → t.deadline ≡ tick
-deadline_is t tick k = grind (arith, nat_tests)
-
 pub AllAt-filter : (tick : ℕ) (ts : List Timer) → AllAt tick (filter (λ t. t.deadline == tick) ts)
 AllAt-filter tick [] = tt
 AllAt-filter tick (t ∷ ts) = elim (either (t.deadline == tick)) [
-  | inl k ↦ rw k (deadline_is t tick k, AllAt-filter tick ts)
+  | inl k ↦ rw k (eqb-true t.deadline tick k, AllAt-filter tick ts)
   | inr k ↦ rw k (AllAt-filter tick ts)
 ]
 
