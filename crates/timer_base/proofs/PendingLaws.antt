@@ -1,5 +1,5 @@
 -- Lemmas about the pending timers: a tick removes the front, a start keeps the order, and a stop removes one.
-use Rattle.std.proofs.Common.{◌≡◌, ◌≢◌, ◌<◌, ◌≤◌, ◌+◌, ℕ, Bool, true, false, List, [], ◌∷◌, ◌++◌, length, refl, sym, ◌∙◌, ap, inl, inr, arith, Option, Some, None}
+use Rattle.std.proofs.Common.{◌≡◌, ◌≢◌, ◌<◌, ◌≤◌, ◌+◌, ℕ, Bool, false, List, [], ◌∷◌, ◌++◌, length, refl, sym, ◌∙◌, ap, inl, inr, arith, Option, Some, None}
 use Rattle.std.specs.List.{AllByRecursion}
 use Rattle.std.proofs.lemmas.Bool.{eq-eqb, ne_eqb}
 use Rattle.std.proofs.lemmas.Bool.Decides.{nat_tests}
@@ -10,7 +10,7 @@ use Rattle.timer_base.specs.Order.{is_before, in_order, insert_in_order, IsFirst
 use Rattle.timer_base.specs.HeldLaws.{without_handle-found, without_handle-none, no_serial, found_among}
 use Rattle.timer_base.specs.OrderLaws.{All-weaken, insert_newest, AreDistinct-rising}
 use Rattle.timer_base.specs.OneOrder.{in_order-ordered}
-use Rattle.timer_base.specs.Pending.{Entry, timer_of, timers_of, put, has_serial, has_handle, is_due_at, first_timer, first_found, entries_due, entries_left, without_serial, without_found, without_handle}
+use Rattle.timer_base.specs.Pending.{Entry, timer_of, timers_of, put, has_handle, is_due_at, first_timer, first_found, entries_due, entries_left, without_serial, without_found, without_handle}
 use Rattle.timer_base.specs.WheelState.{WheelState, IsWellFormed, IsPending, NamesOne, timer_at, due_at, held_at, held_count, after_start, after_stop, after_removal}
 
 -- A tick.

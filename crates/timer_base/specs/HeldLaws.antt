@@ -1,6 +1,6 @@
 -- Held timers: what a call on pending and due timers says when nothing is due, and of a deadline after now. They are
 -- in specs/ since crates above cite them.
-use Rattle.std.proofs.Common.{◌∙◌, ap, sym, subst, inl, inr, arith, ◌==◌, ◌&&◌, ◌≡◌, ◌≢◌, ℕ, ◌<◌, Bool, true, false, nat_lt, List, [], ◌∷◌, Option, Some, None, refl}
+use Rattle.std.proofs.Common.{◌∙◌, ap, sym, subst, inl, inr, arith, ◌==◌, ◌≡◌, ◌≢◌, ℕ, ◌<◌, Bool, true, false, nat_lt, List, [], ◌∷◌, Option, Some, None, refl}
 use Rattle.std.proofs.lemmas.Bool.{ne_eqb, eq-eqb, eqb-true, lt-ltb, le-ltb, and_parts}
 use Rattle.timer_base.specs.Basics.{some_same, none_some, either}
 use Rattle.timer_base.specs.declared.timer.Timer.{Timer}

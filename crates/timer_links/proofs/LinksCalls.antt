@@ -155,9 +155,9 @@ module _ (n : ℕ) (nodes : Slab Node) (s : List Neighbours) (v : KeyedLists) (h
         (λ e. a ∙ (let P : Rows → Type 0 = λ r. LeadsOver n s l r l in subst P e (h.rings l b)).forth),
       )
     where
-    empty : (l : ℕ) (rows : Rows) → l < n → LeadsOver n s l rows l → (neighbours_at s l).after ≡ l → rows ≡ []
-    empty l [] b c e = refl
-    empty l (r ∷ rs) b c e = let q : n + r.0 ≡ l = sym c.0.forth ∙ e in absurd (omega arith)
+      empty : (l : ℕ) (rows : Rows) → l < n → LeadsOver n s l rows l → (neighbours_at s l).after ≡ l → rows ≡ []
+      empty l [] b c e = refl
+      empty l (r ∷ rs) b c e = let q : n + r.0 ≡ l = sym c.0.forth ∙ e in absurd (omega arith)
 
   pub is_alone_in : (key : ℕ) (x : Neighbours) → x ≡ neighbours_at s (n + key) → IsAloneIn key v (neighbour_on_both_sides x)
   is_alone_in key x q l front node rest d e =
@@ -172,9 +172,9 @@ module _ (n : ℕ) (nodes : Slab Node) (s : List Neighbours) (v : KeyedLists) (h
   pub unused : (key : ℕ) → (ContainsKey nodes key → IsTrue false) → node_at key v ≡ None
   unused key f = sym (h.held key) ∙ no_value (get nodes key) f
     where
-    no_value : (o : Option Node) → (IsSome o → IsTrue false) → o ≡ None
-    no_value None i = refl
-    no_value (Some x) i = let z : IsTrue false = i refl in cc
+      no_value : (o : Option Node) → (IsSome o → IsTrue false) → o ≡ None
+      no_value None i = refl
+      no_value (Some x) i = let z : IsTrue false = i refl in cc
 
   pub is_missing : (key : ℕ) → node_at key v ≡ None → map (without_key key) v ≡ v
   is_missing key e = without_none key v (λ l d. absent n s v h.rings h.many key e l (low l d))
@@ -263,10 +263,10 @@ module _ (n : ℕ) (nodes : Slab Node) (s : List Neighbours) (v : KeyedLists) (h
     slot_below : key < length nodes.slots
     slot_below = below nodes.slots key c
       where
-      below : (slots : List (Option Node)) (key : ℕ) → IsSome (slice_index_or slots key None) → key < length slots
-      below [] key i = absurd (none_is i)
-      below (x ∷ xs) zero i = omega arith
-      below (x ∷ xs) (suc key) i = omega (arith, below xs key i)
+        below : (slots : List (Option Node)) (key : ℕ) → IsSome (slice_index_or slots key None) → key < length slots
+        below [] key i = absurd (none_is i)
+        below (x ∷ xs) zero i = omega arith
+        below (x ∷ xs) (suc key) i = omega (arith, below xs key i)
 
     slot_set : (slot : Option Node) → Updates nodes (with_slot key slot) key slot
     slot_set slot = record {
@@ -305,7 +305,9 @@ module _ (n : ℕ) (nodes : Slab Node) (s : List Neighbours) (v : KeyedLists) (h
           | inr o ↦ z.others k o ∙ (h.held k ∙ sym (node_at-set k l new v (node_in-other k key node rest front o
               ∙ sym (ap (node_in k) e ∙ node_in-other k key was rest front o))))
         ];
-        total = omega (arith, slots_counted key i (Some node), row_count-set v l new d, length_split key node rest front, length_split key was rest front);
+        total = let same : length (front ++ (key, node) ∷ rest) ≡ length (front ++ (key, was) ∷ rest) =
+            omega (arith, length_split key node rest front, length_split key was rest front) in
+            omega (arith, slots_counted key i (Some node), row_count-set v l new d);
         roots = h.roots;
         reached = λ k j. elim (cases_eq k key) [
           | inl q ↦ rw q (h.reached key i)

@@ -268,11 +268,11 @@ module _ (n : ℕ) (s : List Neighbours) (v : KeyedLists) (h : AreRings n s v) w
                 ∙ (ap (λ (z : ℕ). (neighbours_at t z).before) (sym first) ∙ new.back_to));
           },
           (let P : Rows → Type 0 = λ r. LeadsOver n u (n + y.0) r to in
-          subst P (append-nil ys) (rerouted n s u from to joined above from to [] (λ r nr c.
-          let end = met t a (neighbours_at s from).before to r j c.back_to in record {
-            forth = k.afters r nr ∙ end.forth;
-            back_to = k.befores to o ∙ end.back_to;
-          }) (n + y.0) ys (λ q. omega arith) (avoid_root n from ys bf) source.1)),
+              subst P (append-nil ys) (rerouted n s u from to joined above from to [] (λ r nr c.
+              let end = met t a (neighbours_at s from).before to r j c.back_to in record {
+                forth = k.afters r nr ∙ end.forth;
+                back_to = k.befores to o ∙ end.back_to;
+              }) (n + y.0) ys (λ q. omega arith) (avoid_root n from ys bf) source.1)),
         )
 
     pub rings_appended : length v ≡ n → AreRings n u (appended from to v)

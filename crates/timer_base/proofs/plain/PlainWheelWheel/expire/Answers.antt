@@ -1,9 +1,9 @@
 use Rattle.timer_base.specs.WheelState.{with_room}
-use Rattle.std.proofs.Common.{◌≡◌, ◌<◌, sym, ◌∙◌, ap, arith, find}
-use Rattle.timer_base.specs.OrderLaws.{AreRising-filter, All-filter}
-use Rattle.timer_base.specs.Pending.{is_due_at}
-use Rattle.timer_base.specs.PlainState.{IsKept, due_count}
+use Rattle.std.proofs.Common.{◌≡◌, ◌<◌, sym, ◌∙◌, ap, arith}
+use Rattle.timer_base.specs.OrderLaws.{AreRising-filter}
+use Rattle.timer_base.specs.PlainState.{due_count}
 use Rattle.timer_base.proofs.PlainExpiries.{first_is_due, plain_state-after_expiry, plain_state-none_due, some_due, due_count-after_expiry}
+use Rattle.timer_base.proofs.PlainHeld.{kept-without}
 use Rattle.timer_base.proofs.plain.PlainWheelWheel.expire.Goals as goal
 
 pub returns-in_err-first-clause-first : goal.returns-in_err-first-clause-first
@@ -33,8 +33,7 @@ invariant_of-self-clause-rising c = rw c.drop_serial.ensures.items
 pub invariant_of-self-clause-kept : goal.invariant_of-self-clause-kept
 invariant_of-self-clause-kept c =
     let s = c.args.self.now in
-    rw c.drop_serial.ensures.items (All-filter (IsKept s.now s.last_serial) (IsKept s.now s.last_serial) _ s.timers.items
-    (λ x e k. k) s.kept)
+    rw c.drop_serial.ensures.items (kept-without s.now s.last_serial c.in_ok-first.first.serial s.timers.items s.kept)
 
 pub invariant_of-self-clause-counted : goal.invariant_of-self-clause-counted
 invariant_of-self-clause-counted c =

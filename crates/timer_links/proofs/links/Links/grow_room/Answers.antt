@@ -1,4 +1,4 @@
-use Rattle.std.proofs.Common.{rules, ◌≡◌, ◌≤◌, ◌∙◌, ap, arith, max, ◌-◌}
+use Rattle.std.proofs.Common.{rules, ◌≡◌, ◌≤◌, ◌∙◌, ap, arith, max}
 use Rattle.std.proofs.Math.Nat.{max-le}
 use Rattle.slab.specs.Slab.{Slab, slab_len}
 use Rattle.timer_links.specs.declared.node.Node.{Node}

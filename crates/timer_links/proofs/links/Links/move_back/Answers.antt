@@ -6,17 +6,12 @@ use Rattle.timer_links.proofs.UniqueLists.{opened, Stands, written}
 use Rattle.timer_links.proofs.LinksCalls.{used, held, read_node, joins_read, back_after, moved, size_last, is_alone_in}
 use Rattle.timer_links.proofs.links.Links.move_back.Goals as goal
 
-pub join-requires-clause-front : goal.join-requires-clause-front
-join-requires-clause-front c =
+pub join-requires : goal.join-requires
+join-requires c =
     let h = opened c.self.inside c.args.self.now c.self.view_is c.self.invariant in
-    (read_node _ _ _ _ h c.args.key _ _ (used _ _ _ _ h c.args.key c.requires.used) c.as_mut_slice-neighbours.ensures.value
-    c.index.ensures).before
-
-pub join-requires-clause-back : goal.join-requires-clause-back
-join-requires-clause-back c =
-    let h = opened c.self.inside c.args.self.now c.self.view_is c.self.invariant in
-    (read_node _ _ _ _ h c.args.key _ _ (used _ _ _ _ h c.args.key c.requires.used) c.as_mut_slice-neighbours.ensures.value
-    c.index.ensures).after
+    let r = read_node _ _ _ _ h c.args.key _ _ (used _ _ _ _ h c.args.key c.requires.used) c.as_mut_slice-neighbours.ensures.value
+    c.index.ensures in
+    record { front = r.before; back = r.after; numbered = rw c.as_mut_slice-neighbours.ensures.value h.numbered }
 
 pub join_last-requires-clause-last : goal.join_last-requires-clause-last
 join_last-requires-clause-last c =

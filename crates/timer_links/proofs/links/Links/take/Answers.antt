@@ -5,17 +5,12 @@ use Rattle.timer_links.proofs.UniqueLists.{opened, Stands, written}
 use Rattle.timer_links.proofs.LinksCalls.{some_is, read_node, joins_read, unlinked, is_alone_in}
 use Rattle.timer_links.proofs.links.Links.take.Goals as goal
 
-pub join-requires-clause-front : goal.join-requires-clause-front
-join-requires-clause-front c =
+pub join-requires : goal.join-requires
+join-requires c =
     let h = opened c.self.inside c.args.self.now c.self.view_is c.self.invariant in
-    (read_node _ _ _ _ h c.args.key _ _ (some_is _ _ c.remove-node.ensures.value) c.as_mut_slice.ensures.value
-    c.index-neighbours.ensures).before
-
-pub join-requires-clause-back : goal.join-requires-clause-back
-join-requires-clause-back c =
-    let h = opened c.self.inside c.args.self.now c.self.view_is c.self.invariant in
-    (read_node _ _ _ _ h c.args.key _ _ (some_is _ _ c.remove-node.ensures.value) c.as_mut_slice.ensures.value
-    c.index-neighbours.ensures).after
+    let r = read_node _ _ _ _ h c.args.key _ _ (some_is _ _ c.remove-node.ensures.value) c.as_mut_slice.ensures.value
+    c.index-neighbours.ensures in
+    record { front = r.before; back = r.after; numbered = rw c.as_mut_slice.ensures.value h.numbered }
 
 now : (c : goal.After-only_neighbour) → Stands c.self.inside.lists c.self.inside.room c.self.inside.ready c.remove-node.new.self
     (with_items c.self.inside.neighbours c.join.new.neighbours) (map (without_key c.args.key) c.args.self.now.lists)
