@@ -1,7 +1,6 @@
 -- The lemmas that the proofs of this crate share.
 pub mod PendingLaws
 pub mod PlainExpiries
-pub mod PlainClears
 pub mod PlainJumps
 pub mod PlainHeld
 pub mod PlainSteps

@@ -1,6 +1,7 @@
 -- Lemmas about the pending timers: a tick removes the front, a start keeps the order, and a stop removes one.
-use Rattle.std.proofs.Common.{◌≡◌, ◌≢◌, ◌<◌, ◌≤◌, ◌+◌, ℕ, Bool, true, false, List, [], ◌∷◌, ◌++◌, length, refl, sym, ◌∙◌, ap, inl, inr, arith, Option, Some, None}
+use Rattle.std.proofs.Common.{◌≡◌, ◌≢◌, ◌<◌, ◌≤◌, ◌+◌, ℕ, Bool, false, List, [], ◌∷◌, ◌++◌, length, refl, sym, ◌∙◌, ap, inl, inr, arith, Option, Some, None}
 use Rattle.std.specs.List.{AllByRecursion}
+use Rattle.std.proofs.lemmas.Bool.{eq-eqb, ne_eqb}
 use Rattle.std.proofs.lemmas.Bool.Decides.{nat_tests}
 use Rattle.timer_base.specs.Basics.{some_same, none_some, later_if_not_due, either}
 use Rattle.timer_base.specs.declared.timer.Timer.{Timer}
@@ -9,7 +10,7 @@ use Rattle.timer_base.specs.Order.{is_before, in_order, insert_in_order, IsFirst
 use Rattle.timer_base.specs.HeldLaws.{without_handle-found, without_handle-none, no_serial, found_among}
 use Rattle.timer_base.specs.OrderLaws.{All-weaken, insert_newest, AreDistinct-rising}
 use Rattle.timer_base.specs.OneOrder.{in_order-ordered}
-use Rattle.timer_base.specs.Pending.{Entry, timer_of, timers_of, put, has_serial, has_handle, is_due_at, first_timer, first_found, entries_due, entries_left, without_serial, without_found, without_handle}
+use Rattle.timer_base.specs.Pending.{Entry, timer_of, timers_of, put, has_handle, is_due_at, first_timer, first_found, entries_due, entries_left, without_serial, without_found, without_handle}
 use Rattle.timer_base.specs.WheelState.{WheelState, IsWellFormed, IsPending, NamesOne, timer_at, due_at, held_at, held_count, after_start, after_stop, after_removal}
 
 -- A tick.
@@ -55,12 +56,6 @@ start_keeps_order w place t k h =
 
 -- A stop.
 
-other_serial : (n : ℕ) (t : Timer) → t.serial ≢ n → has_serial n t ≡ false
-other_serial n t h = grind (arith, nat_tests)
-
-own_serial : (n : ℕ) (t : Timer) → t.serial ≡ n → has_serial n t ≡ true
-own_serial n t h = grind (arith, nat_tests)
-
 one_goes : (test : Entry → Bool) (t : Timer) (es : List Entry) → AreDistinct (timers_of es) → first_timer test es ≡ Some t
     → length (without_serial t.serial es) + 1 ≡ length es
 one_goes test t [] d f = absurd (cc)
@@ -69,12 +64,12 @@ one_goes test t (e ∷ es) d f = elim (either (test e)) [
       let same : e.timer ≡ t = some_same e.timer t (rw h at f) in
       let serial : e.timer.serial ≡ t.serial = ap (λ (u : Timer). u.serial) same in
       let others : without_serial t.serial es ≡ es = no_serial t.serial es (rw (← serial) d.0) in
-      rw (own_serial t.serial e.timer serial, others) (omega arith)
+      rw (eq-eqb e.timer.serial t.serial serial, others) (omega arith)
   | inr h ↦
       let rest : first_timer test es ≡ Some t = rw h at f in
       let other : e.timer.serial ≢ t.serial = λ same. found_among test t e.timer.serial es rest d.0 (sym same) in
       let less = one_goes test t es d.1 rest in
-      rw (other_serial t.serial e.timer other) (omega arith)
+      rw (ne_eqb e.timer.serial t.serial other) (omega arith)
 ]
 
 pub stop_takes_one : (w : WheelState) (handle : Handle) (t : Timer) → IsWellFormed w → timer_at handle w ≡ Some t

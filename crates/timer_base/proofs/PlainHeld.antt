@@ -1,8 +1,8 @@
 -- Lemmas for `look`, `stop` and `restart` of a `PlainWheel`: a timer is found by its serial, and removed.
-use Rattle.std.proofs.Common.{◌≡◌, ◌≢◌, ◌<◌, ◌≤◌, ℕ, Bool, true, false, not, ◌==◌, List, [], ◌∷◌, length, refl, sym, ◌∙◌, ap, inl, inr, arith, slice_get, map, filter, find, if◌then◌else◌, Option, Some, None}
+use Rattle.std.proofs.Common.{◌≡◌, ◌≢◌, ◌<◌, ◌≤◌, ℕ, Bool, true, not, List, [], ◌∷◌, length, refl, sym, ◌∙◌, ap, inl, inr, arith, slice_get, map, filter, find, if◌then◌else◌, Option, Some, None}
 use Rattle.std.specs.List.{AllByRecursion}
-use Rattle.std.proofs.lemmas.Bool.{cases_eq}
-use Rattle.std.proofs.lemmas.Bool.Decides.{nat_tests}
+use Rattle.std.proofs.lemmas.Bool.{cases_eq, eq-eqb, ne_eqb, eqb-true}
+use Rattle.std.proofs.lemmas.List.Sums.{length-filter, count_by-le-length}
 use Rattle.timer_base.specs.Basics.{some_same, none_some, later_if_not_due, either}
 use Rattle.timer_base.specs.declared.timer.Timer.{Timer}
 use Rattle.timer_base.specs.declared.timer.Handle.{Handle}
@@ -14,21 +14,15 @@ use Rattle.timer_base.specs.PlainState.{IsKept, is_after, at_first_place, plain_
 use Rattle.timer_base.proofs.PlainSteps.{state_is, after_is, due_not_after}
 use Rattle.timer_base.proofs.PlainExpiries.{find-filter}
 
-not_zero : (n : ℕ) → n ≢ 0 → (0 == n) ≡ false
-not_zero n h = grind (arith, nat_tests)
-
 -- no other place has a timer
 no_place : (h : Handle) (ts : List Timer) → h.place ≢ 0 → first_timer (has_handle h) (map at_first_place ts) ≡ None
 no_place h [] n = refl
-no_place h (t ∷ ts) n = rw (not_zero h.place n) (no_place h ts n)
-
-is_zero : (n : ℕ) → n ≡ 0 → (0 == n) ≡ true
-is_zero n h = grind (arith, nat_tests)
+no_place h (t ∷ ts) n = rw (ne_eqb 0 h.place (λ e. n (sym e))) (no_place h ts n)
 
 at_place : (h : Handle) (ts : List Timer) → h.place ≡ 0 → first_timer (has_handle h) (map at_first_place ts)
     ≡ find (has_serial h.serial) ts
 at_place h [] z = refl
-at_place h (t ∷ ts) z = rw (is_zero h.place z) (ap (λ o. if has_serial h.serial t then Some t else o) (at_place h ts z))
+at_place h (t ∷ ts) z = rw (eq-eqb 0 h.place (sym z)) (ap (λ o. if has_serial h.serial t then Some t else o) (at_place h ts z))
 
 filter-filter_same : (p q : Timer → Bool) (ts : List Timer) → filter p (filter q ts) ≡ filter q (filter p ts)
 filter-filter_same p q [] = refl
@@ -45,18 +39,12 @@ no_serial : (k low : ℕ) (ts : List Timer) → k ≤ low → AreRising low ts �
 no_serial k low [] l r = refl
 no_serial k low (t ∷ ts) l r =
     let r0 : low < t.serial = r.0 in
-    rw (other t.serial k (omega arith)) (no_serial k t.serial ts (omega arith) r.1)
-  where
-    other : (a b : ℕ) → b < a → (a == b) ≡ false
-    other a b h = grind (arith, nat_tests)
-
-eq_is : (a b : ℕ) → (a == b) ≡ true → a ≡ b
-eq_is a b h = grind (arith, nat_tests)
+    rw (ne_eqb t.serial k (λ e. omega arith)) (no_serial k t.serial ts (omega arith) r.1)
 
 one_serial : (k low : ℕ) (ts : List Timer) → AreRising low ts → in_order itself (filter (has_serial k) ts) ≡ filter (has_serial k) ts
 one_serial k low [] r = refl
 one_serial k low (t ∷ ts) r = elim (either (has_serial k t)) [
-  | inl h ↦ let same : t.serial ≡ k = eq_is t.serial k h in
+  | inl h ↦ let same : t.serial ≡ k = eqb-true t.serial k h in
       let none : filter (has_serial k) ts ≡ [] = no_serial k t.serial ts (omega arith) r.1 in
       rw (h, none) refl
   | inr h ↦ rw h (one_serial k t.serial ts r.1)
@@ -98,7 +86,7 @@ sides_step : (now last k : ℕ) (t : Timer) (ts : List Timer) → IsKept now las
 sides_step now last k t ts kept r rest = elim (either (is_due_at now t)) [
   | inl d ↦ elim (either (has_serial k t)) [
     | inl h ↦
-        let same : t.serial ≡ k = eq_is t.serial k h in
+        let same : t.serial ≡ k = eqb-true t.serial k h in
         let none : pending_with now k ts ≡ None = absent k t.serial (is_after now) ts (omega arith) r in
         simp (d, due_not_after now t d, h) (only_due t (pending_with now k ts) none)
     | inr h ↦ simp (d, due_not_after now t d, h) rest
@@ -107,7 +95,7 @@ sides_step now last k t ts kept r rest = elim (either (is_due_at now t)) [
       let after : is_after now t ≡ true = after_is now t (later_if_not_due now t kept.not_before d) in
       elim (either (has_serial k t)) [
         | inl h ↦
-            let same : t.serial ≡ k = eq_is t.serial k h in
+            let same : t.serial ≡ k = eqb-true t.serial k h in
             let none : due_with now k ts ≡ None = absent k t.serial (is_due_at now) ts (omega arith) r in
             simp (d, after, h) (only_pending t (due_with now k ts) none)
         | inr h ↦ simp (d, after, h) rest
@@ -163,28 +151,21 @@ passes p f (t ∷ ts) e = elim (either (p t)) [
   | inr h ↦ passes p f ts (rw h at e)
 ]
 
-filter_le : (p : Timer → Bool) (ts : List Timer) → length (filter p ts) ≤ length ts
-filter_le p [] = omega arith
-filter_le p (t ∷ ts) = elim (either (p t)) [
-  | inl h ↦ rw h (let n : length (filter p ts) ≤ length ts = filter_le p ts in omega arith)
-  | inr h ↦ rw h (let n : length (filter p ts) ≤ length ts = filter_le p ts in omega arith)
-]
-
 shorter : (k : ℕ) (t : Timer) (ts : List Timer) → find (has_serial k) ts ≡ Some t
     → length (filter (λ u. not (has_serial k u)) ts) < length ts
 shorter k t [] e = absurd (cc)
 shorter k t (x ∷ xs) e = elim (either (has_serial k x)) [
-  | inl h ↦ rw h (let n : length (filter (λ u. not (has_serial k u)) xs) ≤ length xs = filter_le (λ u. not (has_serial k u)) xs
-      in omega arith)
-  | inr h ↦ rw h (let n : length (filter (λ u. not (has_serial k u)) xs) < length xs = shorter k t xs (rw h at e) in omega arith)
+  | inl h ↦ rw h (let p : Timer → Bool = λ u. not (has_serial k u) in
+      omega (arith, length-filter p xs, count_by-le-length p xs))
+  | inr h ↦ rw h (omega (arith, shorter k t xs (rw h at e)))
 ]
 
 others_at_place : (h : Handle) (ts : List Timer) → h.place ≡ 0
     → map at_first_place (filter (λ u. not (has_serial h.serial u)) ts) ≡ without_handle h (map at_first_place ts)
 others_at_place h [] z = refl
 others_at_place h (t ∷ ts) z = elim (either (has_serial h.serial t)) [
-  | inl k ↦ simp (is_zero h.place z, k) (others_at_place h ts z)
-  | inr k ↦ simp (is_zero h.place z, k) (ap (λ (r : List Entry). at_first_place t ∷ r) (others_at_place h ts z))
+  | inl k ↦ simp (eq-eqb 0 h.place (sym z), k) (others_at_place h ts z)
+  | inr k ↦ simp (eq-eqb 0 h.place (sym z), k) (ap (λ (r : List Entry). at_first_place t ∷ r) (others_at_place h ts z))
 ]
 
 pub kept-without : (now last serial : ℕ) (ts : List Timer) → AllByRecursion (IsKept now last) ts
@@ -206,7 +187,7 @@ module _ (now last : ℕ) (ts : List Timer) (h : Handle) (a : AllByRecursion (Is
   found = held_here now last ts h a r place_is ∙ f
 
   serial_is : h.serial ≡ t.serial
-  serial_is = sym (eq_is t.serial h.serial (passes (has_serial h.serial) t ts found))
+  serial_is = sym (eqb-true t.serial h.serial (passes (has_serial h.serial) t ts found))
 
   -- there is room for one more
   pub one_less : length (filter (λ u. not (has_serial t.serial u)) ts) < length ts

@@ -10,7 +10,7 @@ use Rattle.timer_base.specs.OrderLaws.{All-weaken, All-in_order, All-filter}
 use Rattle.timer_base.specs.Pending.{is_due_at}
 use Rattle.timer_base.specs.PlainState.{IsKept, AreDueAfter, IsJump, is_after, earliest, first_after, at_first_place, plain_state}
 use Rattle.timer_base.specs.TickLaws.{AreAfter, IsPassing, passing_quiet}
-use Rattle.timer_base.proofs.PlainSteps.{after_is, filter_after, state_is, plain_state-after_tick}
+use Rattle.timer_base.proofs.PlainSteps.{after_is, filter_after, kept_later, state_is, plain_state-after_tick}
 use Rattle.timer_base.specs.WheelState.{WheelState, after_tick, after_ticks, Advances}
 
 not_none : (a : ℕ) (r : Option ℕ) → earliest (Some a) r ≡ None → ⊥
@@ -77,11 +77,8 @@ jumps n most passed old mid new p e h t d = record {
 
 pub kept-skipped : (now last ticks : ℕ) (ts : List Timer) → AreDueAfter (now + ticks) ts → AllByRecursion (IsKept now last) ts
     → AllByRecursion (IsKept (now + ticks) last) ts
-kept-skipped now last ticks [] a k = tt
-kept-skipped now last ticks (t ∷ ts) a k = (
-  record { not_before = let h : now + ticks < t.deadline = a.0 in omega arith; in_range = k.0.in_range; serial = k.0.serial },
-  kept-skipped now last ticks ts a.1 k.1,
-)
+kept-skipped now last ticks ts a k = kept_later now last (now + ticks) ts k
+    (All-weaken (λ t. now + ticks < t.deadline) (λ t. now + ticks ≤ t.deadline) ts (λ t h. omega arith) a)
 
 pub none_due_after : (tick : ℕ) (ts : List Timer) → AreDueAfter tick ts → filter (is_due_at tick) ts ≡ []
 none_due_after tick [] a = refl
@@ -161,5 +158,3 @@ pub due_skipped : (now next ticks last serial : ℕ) (ts us : List Timer) → ne
     → (plain_state next serial us).due ≡ []
 due_skipped now next ticks last serial ts us n t a =
     rw (n, t) (ap (map at_first_place) (none_due_after (now + ticks) ts a))
-
--- Room changes nothing on the way.

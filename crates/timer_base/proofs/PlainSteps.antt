@@ -9,7 +9,7 @@ use Rattle.timer_base.specs.Basics.{not_due_before, is_due, later_if_not_due, is
 use Rattle.timer_base.specs.declared.timer.Timer.{Timer}
 use Rattle.timer_base.specs.declared.limits.TheConstants.{LAST}
 use Rattle.timer_base.specs.Order.{in_order, itself, insert_by_deadline, AreRising, AreBelow}
-use Rattle.timer_base.specs.OrderLaws.{in_order-newest, filter-in_order, in_order-same, AllAt-filter, AreRising-filter, length-in_order, All-weaken, All-filter}
+use Rattle.timer_base.specs.OrderLaws.{in_order-newest, filter-in_order, in_order-same, AllAt-filter, AreRising-append, AreRising-filter, length-in_order, All-weaken, All-filter}
 use Rattle.timer_base.specs.OneOrder.{map-itself}
 use Rattle.timer_base.specs.Pending.{Entry, put, is_due_at}
 use Rattle.timer_base.specs.WheelState.{WheelState, after_start, after_due_start, after_held_start, after_tick, with_room, held_count}
@@ -58,21 +58,19 @@ state_is n l h k = cc
 
 -- A tick.
 
-kept_next : (now last : ℕ) (ts : List Timer) → AllByRecursion (IsKept now last) ts → AreDueAfter now ts
-    → AllByRecursion (IsKept (now + 1) last) ts
-kept_next now last [] k a = tt
-kept_next now last (t ∷ ts) k a = (
-  record {
-    not_before = let h : now < t.deadline = a.0 in omega arith;
-    in_range = k.0.in_range;
-    serial = k.0.serial;
-  },
-  kept_next now last ts k.1 a.1,
+-- while no deadline is passed
+pub kept_later : (now last later : ℕ) (ts : List Timer) → AllByRecursion (IsKept now last) ts → AllByRecursion (λ t. later ≤ t.deadline) ts
+    → AllByRecursion (IsKept later last) ts
+kept_later now last later [] k a = tt
+kept_later now last later (t ∷ ts) k a = (
+  record { not_before = a.0; in_range = k.0.in_range; serial = k.0.serial },
+  kept_later now last later ts k.1 a.1,
 )
 
 pub kept-after_tick : (now last : ℕ) (ts : List Timer) → AllByRecursion (IsKept now last) ts → filter (is_due_at now) ts ≡ []
     → AllByRecursion (IsKept (now + 1) last) ts
-kept-after_tick now last ts k d = kept_next now last ts k (all_after now last ts k d)
+kept-after_tick now last ts k d = kept_later now last (now + 1) ts k
+    (All-weaken (λ t. now < t.deadline) (λ t. now + 1 ≤ t.deadline) ts (λ t h. omega arith) (all_after now last ts k d))
 
 due_in_order : (tick : ℕ) (ts : List Timer) → AreRising 0 ts → in_order itself (filter (is_due_at tick) ts) ≡ filter (is_due_at tick) ts
 due_in_order tick ts r =
@@ -167,32 +165,19 @@ plain_state-after_held_start now last ts t k h l = elim (cases_lt now t.deadline
       plain_state-after_due_start now last ts t due ∙ sym (start_when_now 0 t (plain_state now last ts) due)
 ]
 
-kept_one : (now last new : ℕ) (t : Timer) → last < new → IsKept now last t → IsKept now new t
-kept_one now last new t h k = record {
-  not_before = k.not_before;
-  in_range = k.in_range;
-  serial = let s : t.serial ≤ last = k.serial
-      in omega arith;
-}
-
 pub kept-after_start : (now last : ℕ) (ts : List Timer) (t : Timer) → AllByRecursion (IsKept now last) ts → last < t.serial
     → now ≤ t.deadline → t.deadline ≤ LAST
     → AllByRecursion (IsKept now t.serial) (ts ++ t ∷ [])
 kept-after_start now last [] t k h l m = (record { not_before = omega arith; in_range = m; serial = omega arith }, tt)
-kept-after_start now last (x ∷ xs) t k h l m = (kept_one now last t.serial x h k.0, kept-after_start now last xs t k.1 h l m)
-
-rising_on : (low now last : ℕ) (ts : List Timer) (t : Timer) → AllByRecursion (IsKept now last) ts → AreRising low ts → low < t.serial
-    → last < t.serial → AreRising low (ts ++ t ∷ [])
-rising_on low now last [] t k r h l = (h, tt)
-rising_on low now last (x ∷ xs) t k r h l = (
-  r.0,
-  rising_on x.serial now last xs t k.1 r.1 (let s : x.serial ≤ last = k.0.serial
-      in omega arith) l,
-)
+kept-after_start now last (x ∷ xs) t k h l m =
+    let s : x.serial ≤ last = k.0.serial in (
+      record { not_before = k.0.not_before; in_range = k.0.in_range; serial = omega arith },
+      kept-after_start now last xs t k.1 h l m,
+    )
 
 pub rising-after_start : (now last : ℕ) (ts : List Timer) (t : Timer) → AllByRecursion (IsKept now last) ts → AreRising 0 ts
     → last < t.serial → AreRising 0 (ts ++ t ∷ [])
-rising-after_start now last ts t k r l = rising_on 0 now last ts t k r (omega arith) l
+rising-after_start now last ts t k r l = AreRising-append 0 t ts r (below_new now last t.serial ts k l) (omega arith)
 
 -- one more is due if the new timer is
 pub due_count-after_start : (now due more : ℕ) (ts : List Timer) (t : Timer) → due ≡ due_count now ts

@@ -17,9 +17,6 @@ key_is_before a b = grind (arith, nat_tests)
 sorted_tail : (t : Timer) (ts : List Timer) → IsSortedBy is_before (t ∷ ts) → IsSortedBy is_before ts
 sorted_tail t ts s = λ k d l h. let e : suc k + 1 ≡ suc (k + 1) = omega arith in rw e at (s (suc k) d (omega arith) (omega arith))
 
-sorted_front : (t u : Timer) (ts : List Timer) → IsSortedBy is_before (t ∷ u ∷ ts) → is_before u t ≡ false
-sorted_front t u ts s = s 0 t (omega arith) (omega arith)
-
 through : (a b c : Timer) → is_before b a ≡ false → is_before c b ≡ false → is_before c a ≡ false
 through a b c h k = grind (arith, nat_tests)
 
@@ -27,20 +24,17 @@ first_through : (a b : Timer) (ts : List Timer) → is_before b a ≡ false → 
 first_through a b [] h f = tt
 first_through a b (t ∷ ts) h f = (through a b t h f.0, first_through a b ts h f.1)
 
-pub sorted_is_ordered : (ts : List Timer) → IsSortedBy is_before ts → IsOrdered ts
+sorted_is_ordered : (ts : List Timer) → IsSortedBy is_before ts → IsOrdered ts
 sorted_is_ordered [] s = tt
 sorted_is_ordered (t ∷ []) s = (tt, tt)
 sorted_is_ordered (t ∷ u ∷ us) s =
-    let front : is_before u t ≡ false = sorted_front t u us s in
+    let front : is_before u t ≡ false = s 0 t (omega arith) (omega arith) in
     let rest : IsOrdered (u ∷ us) = sorted_is_ordered (u ∷ us) (sorted_tail t (u ∷ us) s) in
     ((front, first_through t u us front rest.0), rest)
-
-pub by_key : (ts : List Timer) → IsSortedByKey key_of (λ x y. ordering_then (nat_cmp x.0 y.0) (nat_cmp x.1 y.1)) ts
-    → IsSortedBy is_before ts
-by_key ts s = λ k d l h. sym (key_is_before (get_or ts (k + 1) d) (get_or ts k d)) ∙ s k d l h
 
 -- the result of a sort of distinct timers
 pub sorted_in_order : (old new : List Timer) → IsPermutation old new → AreDistinct old
     → IsSortedByKey key_of (λ x y. ordering_then (nat_cmp x.0 y.0) (nat_cmp x.1 y.1)) new → new ≡ in_order itself old
 sorted_in_order old new p d s = ordered_is_in_order itself old new p (rw (map-itself old) d)
-    (rw (map-itself new) (sorted_is_ordered new (by_key new s)))
+    (rw (map-itself new) (sorted_is_ordered new
+    (λ k e l h. sym (key_is_before (get_or new (k + 1) e) (get_or new k e)) ∙ s k e l h)))

@@ -1,8 +1,7 @@
 -- Held timers: what a call on pending and due timers says when nothing is due, and of a deadline after now. They are
 -- in specs/ since crates above cite them.
-use Rattle.std.proofs.Common.{◌∙◌, ap, sym, subst, inl, inr, arith, ◌==◌, ◌&&◌, ◌≡◌, ◌≢◌, ℕ, ◌<◌, Bool, true, false, nat_lt, List, [], ◌∷◌, Option, Some, None, refl}
-use Rattle.std.proofs.lemmas.Bool.{ne_eqb, eq-eqb, eqb-true}
-use Rattle.std.proofs.lemmas.Bool.Decides.{nat_tests}
+use Rattle.std.proofs.Common.{◌∙◌, ap, sym, subst, inl, inr, arith, ◌==◌, ◌≡◌, ◌≢◌, ℕ, ◌<◌, Bool, true, false, nat_lt, List, [], ◌∷◌, Option, Some, None, refl}
+use Rattle.std.proofs.lemmas.Bool.{ne_eqb, eq-eqb, eqb-true, lt-ltb, le-ltb, and_parts}
 use Rattle.timer_base.specs.Basics.{some_same, none_some, either}
 use Rattle.timer_base.specs.declared.timer.Timer.{Timer}
 use Rattle.timer_base.specs.declared.timer.Handle.{Handle}
@@ -23,13 +22,9 @@ held_when_none_due handle w e =
 
 -- A stop.
 
-second_of : (a b : Bool) → (a && b) ≡ true → b ≡ true
-second_of true b e = e
-second_of false b e = absurd (cc)
-
 has_serial_of : (handle : Handle) (x : Entry) → has_handle handle x ≡ true → x.timer.serial ≡ handle.serial
 has_serial_of handle x h = eqb-true x.timer.serial handle.serial
-    (second_of (x.place == handle.place) (x.timer.serial == handle.serial) h)
+    (and_parts (x.place == handle.place) (x.timer.serial == handle.serial) h).1
 
 pub other_serial : (handle : Handle) (x : Entry) → x.timer.serial ≢ handle.serial → has_handle handle x ≡ false
 other_serial handle x n = elim (either (x.place == handle.place)) [
@@ -94,17 +89,11 @@ removal_when_none_due handle w d e =
 
 pub start_when_later : (place : ℕ) (t : Timer) (w : WheelState) → w.now < t.deadline
     → after_held_start place t w ≡ after_start place t w
-start_when_later place t w h = elim (either (nat_lt w.now t.deadline)) [
-  | inl k ↦ rw k refl
-  | inr k ↦ absurd (grind (arith, nat_tests))
-]
+start_when_later place t w h = rw (lt-ltb w.now t.deadline h) refl
 
 pub start_when_now : (place : ℕ) (t : Timer) (w : WheelState) → t.deadline ≡ w.now
     → after_held_start place t w ≡ after_due_start place t w
-start_when_now place t w h = elim (either (nat_lt w.now t.deadline)) [
-  | inl k ↦ absurd (grind (arith, nat_tests))
-  | inr k ↦ rw k refl
-]
+start_when_now place t w h = rw (le-ltb w.now t.deadline (omega arith)) refl
 
 -- either way it is the last one that was started
 pub held_start-last_serial : (place : ℕ) (t : Timer) (w : WheelState)

@@ -1,7 +1,8 @@
 -- Lemmas: the order of distinct timers is unique. They are in specs/ since crates above cite them.
-use Rattle.std.proofs.Common.{sym, ◌∙◌, ap, subst, inl, inr, arith, ◌≡◌, ◌≢◌, ◌≤◌, ◌+◌, ℕ, true, false, ◌==◌, ◌⊎◌, if◌then◌else◌, List, [], ◌∷◌, map, refl}
+use Rattle.std.proofs.Common.{sym, ◌∙◌, ap, subst, inl, inr, arith, ◌≡◌, ◌≢◌, ◌≤◌, ◌+◌, ℕ, false, ◌==◌, ◌⊎◌, if◌then◌else◌, List, [], ◌∷◌, map, refl}
 use Rattle.std.specs.List.{AllByRecursion, sum_by}
 use Rattle.std.specs.List.Sorted.{IsPermutation}
+use Rattle.std.proofs.lemmas.Bool.{eqb-true, eqb-false}
 use Rattle.std.proofs.lemmas.Bool.Decides.{nat_tests}
 use Rattle.std.proofs.lemmas.List.Elements.{All-from_recursion, recursion_from_All}
 use Rattle.std.proofs.lemmas.List.Sorted.{IsPermutation-refl, IsPermutation-sym, All-permutation, sum_by-IsPermutation}
@@ -66,9 +67,6 @@ without_head timer x y (z ∷ zs) ys e n a = (
   without_head timer x y zs ys e n.1 a.1,
 )
 
-same_tails : {X : Type 0} (x y : X) (xs ys : List X) → x ≡ y → xs ≡ ys → x ∷ xs ≡ y ∷ ys
-same_tails x y xs ys e h = cc
-
 pub one_order : {X : Type 0} (timer : X → Timer) (xs ys : List X) → IsOrdered (map timer xs)
     → IsOrdered (map timer ys)
     → AreDistinct (map timer xs) → AreDistinct (map timer ys)
@@ -78,9 +76,9 @@ one_order timer [] (y ∷ ys) o p d e a b = absurd b.0
 one_order timer (x ∷ xs) [] o p d e a b = absurd a.0
 one_order timer (x ∷ xs) (y ∷ ys) o p d e a b =
     let head : x ≡ y = same_heads timer x y xs ys o.0 p.0 e.0 a.0 b.0 in
-    same_tails x y xs ys head (one_order timer xs ys o.1 p.1 d.1 e.1
-    (without_head timer x y xs ys head d.0 a.1)
-    (without_head timer y x ys xs (sym head) e.0 b.1))
+    let tail : xs ≡ ys = one_order timer xs ys o.1 p.1 d.1 e.1 (without_head timer x y xs ys head d.0 a.1)
+    (without_head timer y x ys xs (sym head) e.0 b.1) in
+    cc
 
 -- The members of a list, of that list in order, and of a permutation.
 
@@ -163,24 +161,18 @@ no_times timer k (x ∷ xs) n = omega (
   no_times timer k xs n.1,
 )
 
-is_same : (k n : ℕ) → (n == k) ≡ true → n ≡ k
-is_same k n h = grind (arith, nat_tests)
-
-is_other : (k n : ℕ) → (n == k) ≡ false → n ≢ k
-is_other k n h = grind (arith, nat_tests)
-
 once_at_most : {X : Type 0} (timer : X → Timer) (k : ℕ) (xs : List X) → AreDistinct (map timer xs)
     → times_of timer k xs ≤ 1
 once_at_most timer k [] d = omega arith
 once_at_most timer k (x ∷ xs) d = elim (either ((timer x).serial == k)) [
-  | inl h ↦ let e : (timer x).serial ≡ k = is_same k (timer x).serial h in
+  | inl h ↦ let e : (timer x).serial ≡ k = eqb-true (timer x).serial k h in
       let none : times_of timer (timer x).serial xs ≡ 0 = no_times timer (timer x).serial xs d.0 in
       let none_k : times_of timer k xs ≡ 0 = ap (λ s. times_of timer s xs) (sym e) ∙ none in
       omega (arith, times-cons timer k x xs, one_same k (timer x).serial e, none_k)
   | inr h ↦ omega (
     arith,
     times-cons timer k x xs,
-    one_other k (timer x).serial (is_other k (timer x).serial h),
+    one_other k (timer x).serial (eqb-false (timer x).serial k h),
     once_at_most timer k xs d.1,
   )
 ]
@@ -227,11 +219,6 @@ the_order_is_one timer xs ys p d o q =
     let m = same_members xs ys p in
     one_order timer xs ys o q d (AreDistinct-permuted timer xs ys p d) m.into m.back
 
-into_order : {X : Type 0} (timer : X → Timer) (xs ys : List X) → AllByRecursion (λ z. IsMember z ys) xs
-    → AllByRecursion (λ z. IsMember z (in_order timer ys)) xs
-into_order timer xs ys a = All-weaken (λ z. IsMember z ys) (λ z. IsMember z (in_order timer ys)) xs
-    (λ z m. IsMember-in_order timer z ys m) a
-
 -- what is ordered and a permutation of distinct timers is those in order
 pub ordered_is_in_order : {X : Type 0} (timer : X → Timer) (xs ys : List X) → IsPermutation xs ys
     → AreDistinct (map timer xs)
@@ -240,7 +227,8 @@ ordered_is_in_order timer xs ys p d o =
     let m = same_members xs ys p in
     one_order timer ys (in_order timer xs) o (IsOrdered-in_order timer xs)
     (AreDistinct-permuted timer xs ys p d) (AreDistinct-in_order timer xs d)
-    (into_order timer ys xs m.back)
+    (All-weaken (λ z. IsMember z xs) (λ z. IsMember z (in_order timer xs)) ys
+    (λ z i. IsMember-in_order timer z xs i) m.back)
     (All-in_order timer (λ z. IsMember z ys) xs m.into)
 
 -- an ordered list of distinct timers is in order already

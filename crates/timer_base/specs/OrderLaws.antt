@@ -3,21 +3,16 @@
 use Rattle.std.proofs.Common.{sym, ◌∙◌, ap, inl, inr, arith, ◌≡◌, ◌≢◌, ◌<◌, ◌≤◌, ℕ, suc, Bool, true, false, ◌==◌, nat_lt, if◌then◌else◌, List, [], ◌∷◌, ◌++◌, length, filter, map, refl}
 use Rattle.std.specs.Coded.{×_prop, Unit-prop, le_prop}
 use Rattle.std.specs.List.{AllByRecursion}
+use Rattle.std.proofs.lemmas.Bool.{eqb-true}
 use Rattle.std.proofs.lemmas.Bool.Decides.{nat_tests}
 pub use Rattle.timer_base.specs.Basics.{either}
 use Rattle.timer_base.specs.declared.timer.Timer.{Timer}
 use Rattle.timer_base.specs.Order.{is_before, insert_in_order, in_order, insert_by_deadline, IsFirst, IsOrdered, IsNotAmong, AreDistinct, AreRising, AreBelow}
 
--- Of two timers with different serials, exactly one comes first.
+-- Of two timers at most one comes first.
 
 not_both : (a b : Timer) → is_before a b ≡ true → is_before b a ≡ false
 not_both a b h = grind (arith, nat_tests)
-
-one_of_both : (a b : Timer) → a.serial ≢ b.serial → is_before a b ≡ false → is_before b a ≡ true
-one_of_both a b n h = grind (arith, nat_tests)
-
-through : (a b c : Timer) → is_before a b ≡ true → is_before b c ≡ true → is_before a c ≡ true
-through a b c h k = grind (arith, nat_tests)
 
 -- what is not handed out before c is not handed out before what comes before c
 first_through : (a b c : Timer) → is_before a b ≡ true → is_before c b ≡ false → is_before c a ≡ false
@@ -57,21 +52,24 @@ pub insert_newest : {X : Type 0} (timer : X → Timer) (e : X) (l : List X)
 insert_newest timer e [] b = refl
 insert_newest timer e (y ∷ ys) b = rw (newest_test (timer e) (timer y) b.0, insert_newest timer e ys b.1) refl
 
-AreBelow-insert_in_order : {X : Type 0} (timer : X → Timer) (high : ℕ) (x : X) (l : List X)
-    → (timer x).serial < high
-    → AreBelow high (map timer l) → AreBelow high (map timer (insert_in_order timer x l))
-AreBelow-insert_in_order timer high x [] h b = (h, tt)
-AreBelow-insert_in_order timer high x (y ∷ ys) h b = elim (either (is_before (timer x) (timer y))) [
-  | inl k ↦ rw k (h, b)
-  | inr k ↦ rw k (b.0, AreBelow-insert_in_order timer high x ys h b.1)
+-- what holds of each timer holds of each in order
+all_inserted : {X : Type 0} (timer : X → Timer) (P : Timer → Type 0) (x : X) (l : List X) → P (timer x)
+    → AllByRecursion P (map timer l) → AllByRecursion P (map timer (insert_in_order timer x l))
+all_inserted timer P x [] h a = (h, tt)
+all_inserted timer P x (y ∷ ys) h a = elim (either (is_before (timer x) (timer y))) [
+  | inl k ↦ rw k (h, a)
+  | inr k ↦ rw k (a.0, all_inserted timer P x ys h a.1)
 ]
+
+all_timers : {X : Type 0} (timer : X → Timer) (P : Timer → Type 0) (xs : List X) → AllByRecursion P (map timer xs)
+    → AllByRecursion P (map timer (in_order timer xs))
+all_timers timer P [] a = tt
+all_timers timer P (x ∷ xs) a = all_inserted timer P x (in_order timer xs) a.0 (all_timers timer P xs a.1)
 
 pub AreBelow-in_order : {X : Type 0} (timer : X → Timer) (high : ℕ) (xs : List X)
     → AreBelow high (map timer xs)
     → AreBelow high (map timer (in_order timer xs))
-AreBelow-in_order timer high [] b = tt
-AreBelow-in_order timer high (x ∷ xs) b = AreBelow-insert_in_order timer high x (in_order timer xs) b.0
-    (AreBelow-in_order timer high xs b.1)
+AreBelow-in_order timer high xs b = all_timers timer (λ t. t.serial < high) xs b
 
 -- a newest one, wherever it is in the list, is ordered after those of its deadline
 pub in_order-newest : {X : Type 0} (timer : X → Timer) (e : X) (xs ys : List X)
@@ -85,39 +83,22 @@ in_order-newest timer e (x ∷ xs) ys b =
 
 -- The position of a member in the list does not affect the order.
 
-both_bools : (b : Bool) → b ≡ true → b ≡ false → ⊥
-both_bools b h k = cc
+commutes_step : {X : Type 0} (timer : X → Timer) (x y z : X) (zs : List X) → (timer x).serial ≢ (timer y).serial
+    → insert_in_order timer x (insert_in_order timer y zs) ≡ insert_in_order timer y (insert_in_order timer x zs)
+    → insert_in_order timer x (insert_in_order timer y (z ∷ zs))
+    ≡ insert_in_order timer y (insert_in_order timer x (z ∷ zs))
+commutes_step timer x y z zs n ih = grind (arith, nat_tests)
 
-clash : (a b c : Timer) → is_before a b ≡ true → is_before b c ≡ true → is_before a c ≡ false → ⊥
-clash a b c h k e = both_bools (is_before a c) (through a b c h k) e
+commutes_none : {X : Type 0} (timer : X → Timer) (x y : X) → (timer x).serial ≢ (timer y).serial
+    → insert_in_order timer x (insert_in_order timer y []) ≡ insert_in_order timer y (insert_in_order timer x [])
+commutes_none timer x y n = grind (arith, nat_tests)
 
 pub insert_in_order-commutes : {X : Type 0} (timer : X → Timer) (x y : X) (l : List X)
     → (timer x).serial ≢ (timer y).serial
     → insert_in_order timer x (insert_in_order timer y l)
     ≡ insert_in_order timer y (insert_in_order timer x l)
-insert_in_order-commutes timer x y [] n = elim (either (is_before (timer x) (timer y))) [
-  | inl h ↦ simp (h, not_both (timer x) (timer y) h) refl
-  | inr h ↦ simp (h, one_of_both (timer x) (timer y) n h) refl
-]
-insert_in_order-commutes timer x y (z ∷ zs) n = elim (either (is_before (timer x) (timer z))) [
-  | inl a ↦ elim (either (is_before (timer y) (timer z))) [
-    | inl b ↦ elim (either (is_before (timer x) (timer y))) [
-      | inl h ↦ simp (b, a, h, not_both (timer x) (timer y) h) refl
-      | inr h ↦ simp (b, a, h, one_of_both (timer x) (timer y) n h) refl
-    ]
-    | inr b ↦ elim (either (is_before (timer x) (timer y))) [
-      | inl h ↦ simp (b, a, not_both (timer x) (timer y) h) refl
-      | inr h ↦ absurd (clash (timer y) (timer x) (timer z) (one_of_both (timer x) (timer y) n h) a b)
-    ]
-  ]
-  | inr a ↦ elim (either (is_before (timer y) (timer z))) [
-    | inl b ↦ elim (either (is_before (timer x) (timer y))) [
-      | inl h ↦ absurd (clash (timer x) (timer y) (timer z) h b a)
-      | inr h ↦ simp (b, a, h) refl
-    ]
-    | inr b ↦ simp (b, a) (ap (λ r. z ∷ r) (insert_in_order-commutes timer x y zs n))
-  ]
-]
+insert_in_order-commutes timer x y [] n = commutes_none timer x y n
+insert_in_order-commutes timer x y (z ∷ zs) n = commutes_step timer x y z zs n (insert_in_order-commutes timer x y zs n)
 
 pub in_order-anywhere : {X : Type 0} (timer : X → Timer) (x : X) (ys zs : List X)
     → IsNotAmong (timer x).serial (map timer ys)
@@ -230,21 +211,19 @@ filter_not timer p x (y ∷ ys) n = elim (either (is_before (timer x) (timer y))
   | inr k ↦ rw k (ap (λ r. if p y then y ∷ r else r) (filter_not timer p x ys n))
 ]
 
+kept_step : {X : Type 0} (timer : X → Timer) (p : X → Bool) (x y : X) (ys : List X) → p x ≡ true
+    → (is_before (timer x) (timer y) ≡ true → insert_in_order timer x (filter p ys) ≡ x ∷ filter p ys)
+    → filter p (insert_in_order timer x ys) ≡ insert_in_order timer x (filter p ys)
+    → filter p (insert_in_order timer x (y ∷ ys)) ≡ insert_in_order timer x (filter p (y ∷ ys))
+kept_step timer p x y ys n front ih = grind (arith, nat_tests)
+
 filter_kept : {X : Type 0} (timer : X → Timer) (p : X → Bool) (x : X) (ys : List X) → p x ≡ true
     → IsOrdered (map timer ys)
     → filter p (insert_in_order timer x ys) ≡ insert_in_order timer x (filter p ys)
 filter_kept timer p x [] n o = rw n refl
-filter_kept timer p x (y ∷ ys) n o = elim (either (is_before (timer x) (timer y))) [
-  | inl k ↦ elim (either (p y)) [
-    | inl m ↦ rw (k, n, m, k) refl
-    | inr m ↦ rw (k, n, m) (sym (insert_front timer x y (filter p ys) k
-        (IsFirst-filter timer p (timer y) ys o.0)))
-  ]
-  | inr k ↦ elim (either (p y)) [
-    | inl m ↦ rw (k, m, k) (ap (λ r. y ∷ r) (filter_kept timer p x ys n o.1))
-    | inr m ↦ rw (k, m) (filter_kept timer p x ys n o.1)
-  ]
-]
+filter_kept timer p x (y ∷ ys) n o = kept_step timer p x y ys n
+    (λ k. insert_front timer x y (filter p ys) k (IsFirst-filter timer p (timer y) ys o.0))
+    (filter_kept timer p x ys n o.1)
 
 pub filter-in_order : {X : Type 0} (timer : X → Timer) (p : X → Bool) (xs : List X)
     → filter p (in_order timer xs) ≡ in_order timer (filter p xs)
@@ -261,10 +240,7 @@ map_step : {X : Type 0} {Y : Type 0} (f : X → Timer) (g : Y → Timer) (h : X 
     → g (h x) ≡ f x → g (h y) ≡ f y
     → map h (insert_in_order f x ys) ≡ insert_in_order g (h x) (map h ys)
     → map h (insert_in_order f x (y ∷ ys)) ≡ insert_in_order g (h x) (map h (y ∷ ys))
-map_step f g h x y ys a b ih = rw (a, b) (elim (either (is_before (f x) (f y))) [
-  | inl k ↦ rw k refl
-  | inr k ↦ rw k (ap (λ r. h y ∷ r) ih)
-])
+map_step f g h x y ys a b ih = grind (arith, nat_tests)
 
 map-insert_in_order : {X : Type 0} {Y : Type 0} (f : X → Timer) (g : Y → Timer) (h : X → Y) (same : (x : X)
     → g (h x) ≡ f x)
@@ -321,26 +297,14 @@ in_order-same timer tick low (x ∷ y ∷ ys) a r =
     ap (insert_in_order timer x) (in_order-same timer tick (timer x).serial (y ∷ ys) a.1 r.1)
     ∙ rw (same_front (timer x) (timer y) tick a.0 a.1.0 r.1.0) refl
 
-deadline_is : (t : Timer) (tick : ℕ) → (t.deadline == tick) ≡ true → t.deadline ≡ tick
-deadline_is t tick k = grind (arith, nat_tests)
-
 pub AllAt-filter : (tick : ℕ) (ts : List Timer) → AllAt tick (filter (λ t. t.deadline == tick) ts)
 AllAt-filter tick [] = tt
 AllAt-filter tick (t ∷ ts) = elim (either (t.deadline == tick)) [
-  | inl k ↦ rw k (deadline_is t tick k, AllAt-filter tick ts)
+  | inl k ↦ rw k (eqb-true t.deadline tick k, AllAt-filter tick ts)
   | inr k ↦ rw k (AllAt-filter tick ts)
 ]
 
 -- Distinct serials.
-
-IsNotAmong-insert_in_order : {X : Type 0} (timer : X → Timer) (s : ℕ) (x : X) (ys : List X)
-    → (timer x).serial ≢ s
-    → IsNotAmong s (map timer ys) → IsNotAmong s (map timer (insert_in_order timer x ys))
-IsNotAmong-insert_in_order timer s x [] h n = (h, tt)
-IsNotAmong-insert_in_order timer s x (y ∷ ys) h n = elim (either (is_before (timer x) (timer y))) [
-  | inl k ↦ rw k (h, n)
-  | inr k ↦ rw k (n.0, IsNotAmong-insert_in_order timer s x ys h n.1)
-]
 
 AreDistinct-insert_in_order : {X : Type 0} (timer : X → Timer) (x : X) (ys : List X)
     → IsNotAmong (timer x).serial (map timer ys)
@@ -349,16 +313,14 @@ AreDistinct-insert_in_order timer x [] n d = (tt, tt)
 AreDistinct-insert_in_order timer x (y ∷ ys) n d = elim (either (is_before (timer x) (timer y))) [
   | inl k ↦ rw k (n, d)
   | inr k ↦ rw k (
-    IsNotAmong-insert_in_order timer (timer y).serial x ys (λ e. n.0 (sym e)) d.0,
+    all_inserted timer (λ t. t.serial ≢ (timer y).serial) x ys (λ e. n.0 (sym e)) d.0,
     AreDistinct-insert_in_order timer x ys n.1 d.1,
   )
 ]
 
 pub IsNotAmong-in_order : {X : Type 0} (timer : X → Timer) (s : ℕ) (xs : List X) → IsNotAmong s (map timer xs)
     → IsNotAmong s (map timer (in_order timer xs))
-IsNotAmong-in_order timer s [] n = tt
-IsNotAmong-in_order timer s (x ∷ xs) n = IsNotAmong-insert_in_order timer s x (in_order timer xs) n.0
-    (IsNotAmong-in_order timer s xs n.1)
+IsNotAmong-in_order timer s xs n = all_timers timer (λ t. t.serial ≢ s) xs n
 
 pub AreDistinct-in_order : {X : Type 0} (timer : X → Timer) (xs : List X) → AreDistinct (map timer xs)
     → AreDistinct (map timer (in_order timer xs))

@@ -1,10 +1,8 @@
 -- Lemmas about the room that was made: for nodes, and for the index of each key that they can get.
-use Rattle.std.proofs.Common.{◌≡◌, ◌<◌, ◌≤◌, ◌+◌, ℕ, zero, suc, List, [], ◌∷◌, length, inl, inr, arith, Option, Some, None, is_some, count_by, slice_index_or}
-use Rattle.std.proofs.Common.{cond}
+use Rattle.std.proofs.Common.{◌≡◌, ◌<◌, ◌≤◌, ◌+◌, ℕ, List, length, refl, inl, inr, arith, length-set, cond, Option, Some, None, is_some, slice_set}
 use Rattle.std.proofs.lemmas.Bool.{cases_lt}
-use Rattle.std.proofs.lemmas.List.Sums.{count_by-le-length, sum_by-cons}
+use Rattle.std.proofs.lemmas.List.Sums.{count_by-le-length, sum_by-set}
 use Rattle.slab.specs.Slab.{Slab, get, HasRoomFor}
-use Rattle.timer_base.specs.Basics.{some_none}
 use Rattle.timer_links.specs.declared.node.Node.{Node}
 use Rattle.timer_links.specs.declared.ring.Neighbours.{Neighbours}
 use Rattle.timer_links.specs.declared.ring.TheConstants.{INDEXES}
@@ -27,10 +25,6 @@ ready_kept ready n added was old new h e k = record {
   indexed = let f : n + ready ≤ was = h.indexed in omega arith;
 }
 
-pub ready_stays : (ready n added was : ℕ) (old new : Slab Node) → IsReady ready n old was → new.capacity ≡ old.capacity
-    → was ≤ added → IsReady ready n new added
-ready_stays ready n added was old new h e k = ready_kept ready n added was old new h (omega arith) k
-
 -- no room was made yet
 pub no_room : (n reserved : ℕ) (nodes : Slab Node) → HasRoom 0 n nodes reserved
 no_room n reserved nodes = record {
@@ -45,25 +39,20 @@ pub has_index : (n key : ℕ) (nodes : Slab Node) (s : List Neighbours) → HasI
 has_index n key nodes s (inl l) b e = rw e l
 has_index n key nodes s (inr m) b e = omega arith
 
-abbrev counted : Option Node → ℕ
+-- an unused slot is not counted
+abbrev pub counted : Option Node → ℕ
 counted slot = cond (is_some slot) 1 0
 
--- an unused slot is not counted
-not_all : (slots : List (Option Node)) (key : ℕ) → slice_index_or slots key None ≡ None → key < length slots
-    → count_by is_some slots < length slots
-not_all [] key e b = absurd (omega arith)
-not_all (Some x ∷ xs) zero e b = absurd (some_none x e)
-not_all (None ∷ xs) zero e b =
-    omega (arith, count_by-le-length is_some xs, sum_by-cons counted None xs)
-not_all (None ∷ xs) (suc key) e b =
-    omega (arith, not_all xs key e (omega arith), sum_by-cons counted None xs)
-not_all (Some x ∷ xs) (suc key) e b =
-    omega (arith, not_all xs key e (omega arith), sum_by-cons counted (Some x) xs)
+any : Node
+any = record { timer = record { serial = 0; client = 0; number = 0; deadline = 0; action = 0 }; rounds = 0 }
 
 -- while a key below the capacity is not in use, one more node fits
 pub fits_one : (nodes : Slab Node) (key : ℕ) → get nodes key ≡ None → key < nodes.capacity → length nodes.slots ≤ nodes.capacity
     → HasRoomFor nodes 1
 fits_one nodes key e b c = elim (cases_lt key (length nodes.slots)) [
-  | inl low ↦ omega (arith, not_all nodes.slots key e low)
+  | inl low ↦
+      let none : counted (get nodes key) ≡ 0 = rw e refl in
+      let full : List (Option Node) = slice_set nodes.slots key (Some any) in
+      omega (arith, sum_by-set counted nodes.slots key (Some any) None low, count_by-le-length is_some full, length-set nodes.slots key (Some any))
   | inr past ↦ omega (arith, count_by-le-length is_some nodes.slots)
 ]

@@ -1,106 +1,99 @@
 -- Lemmas about rows and lists of rows: which keys they have, and where a key stands.
-use Rattle.std.proofs.Common.{◌≡◌, ◌≢◌, ◌<◌, ◌≤◌, ◌+◌, ℕ, ◌⊎◌, zero, suc, [], ◌∷◌, ◌++◌, length, refl, sym, ◌∙◌, ap, subst, inl, inr, arith, map, Option, Some, None, IsSome, slice_set}
+use Rattle.std.proofs.Common.{◌≡◌, ◌≢◌, ◌<◌, ◌≤◌, ◌+◌, ℕ, ◌⊎◌, zero, suc, [], ◌∷◌, ◌++◌, length, refl, sym, ◌∙◌, ap, inl, inr, arith, map, length-append, Some, None, IsSome, slice_set}
+use Rattle.std.specs.List.{AllByRecursion}
 use Rattle.std.proofs.lemmas.Bool.{cases_eq, eq-eqb, ne_eqb}
 use Rattle.timer_base.specs.Basics.{some_same, some_none}
 use Rattle.timer_links.specs.declared.node.Node.{Node}
-use Rattle.timer_links.specs.Lists.{node_in, node_at, first_of, list_at, row_count, without_key, KeyedLists, Rows}
+use Rattle.timer_links.specs.Lists.{node_in, node_at, list_at, row_count, without_key, KeyedLists, Row, Rows}
 
 pub none_is : IsSome {T = Node} None → ⊥
 none_is h = cc
 
--- the key is one of these rows'
-abbrev pub Has : ℕ → Rows → Type 0
-Has key [] = ⊥
-Has key (row ∷ rest) = (row.0 ≡ key) ⊎ Has key rest
-
--- no key occurs twice in the list
-abbrev pub IsDistinct : Rows → Type 0
-IsDistinct [] = Unit {0}
-IsDistinct (row ∷ rest) = (Has row.0 rest → ⊥) × IsDistinct rest
-
-pub has_left : (k : ℕ) (xs ys : Rows) → Has k xs → Has k (xs ++ ys)
-has_left k [] ys h = absurd h
-has_left k (x ∷ xs) ys (inl e) = inl e
-has_left k (x ∷ xs) ys (inr h) = inr (has_left k xs ys h)
-
-pub has_right : (k : ℕ) (xs ys : Rows) → Has k ys → Has k (xs ++ ys)
-has_right k [] ys h = h
-has_right k (x ∷ xs) ys h = inr (has_right k xs ys h)
-
-pub has_either : (k : ℕ) (xs ys : Rows) → Has k (xs ++ ys) → Has k xs ⊎ Has k ys
-has_either k [] ys h = inr h
-has_either k (x ∷ xs) ys (inl e) = inl (inl e)
-has_either k (x ∷ xs) ys (inr h) = elim (has_either k xs ys h) [ inl a ↦ inl (inr a) | inr b ↦ inr b ]
-
-pub has_as : (k j : ℕ) (rows : Rows) → k ≡ j → Has k rows → Has j rows
-has_as k j rows e h = let P : ℕ → Type 0 = λ x. Has x rows in subst P e h
-
-pub has_in : (k : ℕ) (xs ys : Rows) → xs ≡ ys → Has k xs → Has k ys
-has_in k xs ys e h = let P : Rows → Type 0 = λ x. Has k x in subst P e h
-
-pub distinct_in : (xs ys : Rows) → xs ≡ ys → IsDistinct xs → IsDistinct ys
-distinct_in xs ys e h = let P : Rows → Type 0 = λ x. IsDistinct x in subst P e h
-
--- what is known of the two parts of such a list
-pub record Parts (xs ys : Rows) : Type 0 where
-  pub front : IsDistinct xs
-  pub back : IsDistinct ys
-  pub between : (k : ℕ) → Has k xs → Has k ys → ⊥
-
-pub distinct_parts : (xs ys : Rows) → IsDistinct (xs ++ ys) → Parts xs ys
-distinct_parts [] ys d = record { front = tt; back = d; between = λ k i j. i }
-distinct_parts (x ∷ xs) ys d =
-    let p = distinct_parts xs ys d.1 in
-    record {
-      front = ((λ h. d.0 (has_left x.0 xs ys h)), p.front);
-      back = p.back;
-      between = λ k i j. elim i [ inl e ↦ d.0 (has_right x.0 xs ys (has_as k x.0 ys (sym e) j)) | inr h ↦ p.between k h j ];
-    }
-
-module _ (key : ℕ) (node : Node) (rest : Rows) where
-  pub has_this : (front : Rows) → Has key (front ++ (key, node) ∷ rest)
-  has_this front = has_right key front ((key, node) ∷ rest) (inl refl)
-
-  pub length_split : (front : Rows) → length (front ++ (key, node) ∷ rest) ≡ length (front ++ rest) + 1
-  length_split [] = omega arith
-  length_split (x ∷ xs) = let h : length (xs ++ (key, node) ∷ rest) ≡ length (xs ++ rest) + 1 = length_split xs in omega arith
-
-pub without_absent : (key : ℕ) (rows : Rows) → (Has key rows → ⊥) → without_key key rows ≡ rows
-without_absent key [] n = refl
-without_absent key (r ∷ rs) n = rw (ne_eqb r.0 key (λ (e : r.0 ≡ key). n (inl e)))
-    (ap (λ (x : Rows). r ∷ x) (without_absent key rs (λ h. n (inr h))))
-
-pub without_split : (key : ℕ) (node : Node) (front rest : Rows) → IsDistinct (front ++ (key, node) ∷ rest)
-    → without_key key (front ++ (key, node) ∷ rest) ≡ front ++ rest
-without_split key node [] rest d = rw (eq-eqb key key refl) (without_absent key rest d.0)
-without_split key node (x ∷ xs) rest d =
-    let n : x.0 ≢ key = λ (e : x.0 ≡ key). d.0 (has_as key x.0 (xs ++ (key, node) ∷ rest) (sym e) (has_this key node rest xs)) in
-    rw (ne_eqb x.0 key n) (ap (λ (y : Rows). x ∷ y) (without_split key node xs rest d.1))
-
-pub node_in-absent : (k : ℕ) (rows : Rows) → (Has k rows → ⊥) → node_in k rows ≡ None
-node_in-absent k [] n = refl
-node_in-absent k (r ∷ rs) n = rw (ne_eqb r.0 k (λ (e : r.0 ≡ k). n (inl e))) (node_in-absent k rs (λ h. n (inr h)))
-
-pub node_in-split : (key : ℕ) (node : Node) (front rest : Rows) → IsDistinct (front ++ (key, node) ∷ rest)
-    → node_in key (front ++ (key, node) ∷ rest) ≡ Some node
-node_in-split key node [] rest d = rw (eq-eqb key key refl) refl
-node_in-split key node (x ∷ xs) rest d =
-    let n : x.0 ≢ key = λ (e : x.0 ≡ key). d.0 (has_as key x.0 (xs ++ (key, node) ∷ rest) (sym e) (has_this key node rest xs)) in
-    rw (ne_eqb x.0 key n) (node_in-split key node xs rest d.1)
+-- the key is none of these rows'
+abbrev pub IsAbsent : ℕ → Rows → Type 0
+IsAbsent key rows = AllByRecursion (λ row. row.0 ≢ key) rows
 
 -- where a key stands in a list
-pub record IsSplit (key : ℕ) (rows : Rows) : Type 0 where
+pub record FoundIn (key : ℕ) (rows : Rows) : Type 0 where
   pub front : Rows
   pub node : Node
   pub rest : Rows
   pub is : rows ≡ front ++ (key, node) ∷ rest
 
-pub split_at : (key : ℕ) (rows : Rows) → Has key rows → IsSplit key rows
-split_at key [] h = absurd h
-split_at key (r ∷ rs) (inl e) = record { front = []; node = r.1; rest = rs; is = ap (λ (y : ℕ). (y, r.1) ∷ rs) e }
-split_at key (r ∷ rs) (inr h) =
-    let i = split_at key rs h in
-    record { front = r ∷ i.front; node = i.node; rest = i.rest; is = ap (λ (y : Rows). r ∷ y) i.is }
+abbrev behind : (key : ℕ) (r : Row) (rs : Rows) → FoundIn key rs → FoundIn key (r ∷ rs)
+behind key r rs f = record { front = r ∷ f.front; node = f.node; rest = f.rest; is = ap (λ (x : Rows). r ∷ x) f.is }
+
+abbrev here : (key : ℕ) (r : Row) (rs : Rows) → r.0 ≡ key → FoundIn key (r ∷ rs)
+here key r rs e = record { front = []; node = r.1; rest = rs; is = ap (λ (k : ℕ). (k, r.1) ∷ rs) e }
+
+-- the first row with the key, if there is one
+pub look : (key : ℕ) (rows : Rows) → IsAbsent key rows ⊎ ((f : FoundIn key rows) × IsAbsent key f.front)
+look key [] = inl tt
+look key (r ∷ rs) = elim (cases_eq r.0 key) [
+  | inl e ↦ inr (here key r rs e, tt)
+  | inr n ↦ elim (look key rs) [ inl a ↦ inl (n, a) | inr f ↦ inr (behind key r rs f.0, (n, f.1)) ]
+]
+
+-- a key that has one position alone is not before it and not after it
+pub once : (key : ℕ) (node : Node) (rest front : Rows)
+    → ((f : FoundIn key (front ++ (key, node) ∷ rest)) → length f.rest ≡ length rest) → IsAbsent key front × IsAbsent key rest
+once key node rest [] same = (
+  tt,
+  elim (look key rest) [
+    | inl a ↦ a
+    | inr f ↦
+        let e : length f.0.rest ≡ length rest = same (behind key (key, node) rest f.0) in
+        let g : length rest ≡ length (f.0.front ++ (key, f.0.node) ∷ f.0.rest) = ap (λ (x : Rows). length x) f.0.is in
+        absurd (omega (arith, length-append f.0.front ((key, f.0.node) ∷ f.0.rest)))
+  ],
+)
+once key node rest (x ∷ xs) same =
+    let all : Rows = xs ++ (key, node) ∷ rest in
+    let p = once key node rest xs (λ f. same (behind key x all f)) in (
+      (
+        (λ e.
+            let q : length all ≡ length rest = same (here key x all e) in
+            omega (arith, length-append xs ((key, node) ∷ rest))),
+        p.0,
+      ),
+      p.1,
+    )
+
+pub without_absent : (key : ℕ) (rows : Rows) → IsAbsent key rows → without_key key rows ≡ rows
+without_absent key [] a = refl
+without_absent key (r ∷ rs) a = rw (ne_eqb r.0 key a.0) (ap (λ (x : Rows). r ∷ x) (without_absent key rs a.1))
+
+without_split : (key : ℕ) (node : Node) (rest front : Rows) → IsAbsent key rest → IsAbsent key front
+    → without_key key (front ++ (key, node) ∷ rest) ≡ front ++ rest
+without_split key node rest [] a b = rw (eq-eqb key key refl) (without_absent key rest a)
+without_split key node rest (x ∷ xs) a b =
+    rw (ne_eqb x.0 key b.0) (ap (λ (y : Rows). x ∷ y) (without_split key node rest xs a b.1))
+
+pub node_in-absent : (k : ℕ) (rows : Rows) → IsAbsent k rows → node_in k rows ≡ None
+node_in-absent k [] a = refl
+node_in-absent k (r ∷ rs) a = rw (ne_eqb r.0 k a.0) (node_in-absent k rs a.1)
+
+node_in-split : (key : ℕ) (node : Node) (rest front : Rows) → IsAbsent key front
+    → node_in key (front ++ (key, node) ∷ rest) ≡ Some node
+node_in-split key node rest [] a = rw (eq-eqb key key refl) refl
+node_in-split key node rest (x ∷ xs) a = rw (ne_eqb x.0 key a.0) (node_in-split key node rest xs a.1)
+
+-- a row of another key changes nothing
+pub node_in-other : (k key : ℕ) (node : Node) (rest front : Rows) → k ≢ key
+    → node_in k (front ++ (key, node) ∷ rest) ≡ node_in k (front ++ rest)
+node_in-other k key node rest [] n = rw (ne_eqb key k (λ (q : key ≡ k). n (sym q))) refl
+node_in-other k key node rest (x ∷ xs) n = rw (node_in-other k key node rest xs n) refl
+
+-- nor do rows without the key
+pub node_in-append : (k : ℕ) (rest front : Rows) → IsAbsent k rest → node_in k (front ++ rest) ≡ node_in k front
+node_in-append k rest [] a = node_in-absent k rest a
+node_in-append k rest (x ∷ xs) a = rw (node_in-append k rest xs a) refl
+
+pub length_split : (key : ℕ) (node : Node) (rest front : Rows)
+    → length (front ++ (key, node) ∷ rest) ≡ length (front ++ rest) + 1
+length_split key node rest front = omega (arith, length-append front ((key, node) ∷ rest), length-append front rest)
+
+-- Lists of rows.
 
 -- where the node stands that the lists have under a key
 pub record StandsIn (key : ℕ) (node : Node) (v : KeyedLists) : Type 0 where
@@ -110,76 +103,68 @@ pub record StandsIn (key : ℕ) (node : Node) (v : KeyedLists) : Type 0 where
   pub rest : Rows
   pub at : list_at l v ≡ front ++ (key, node) ∷ rest
 
-record FoundIn (key : ℕ) (node : Node) (rows : Rows) : Type 0 where
-  pub front : Rows
-  pub rest : Rows
-  pub is : rows ≡ front ++ (key, node) ∷ rest
-
-found_in : (key : ℕ) (node : Node) (rows : Rows) → node_in key rows ≡ Some node → FoundIn key node rows
-found_in key node [] h = absurd (some_none node (sym h))
-found_in key node (r ∷ rs) h = elim (cases_eq r.0 key) [
-  | inl e ↦
-      let q : r.1 ≡ node = some_same r.1 node (rw (eq-eqb r.0 key e) at h) in
-      record { front = []; rest = rs; is = ap (λ (y : ℕ). (y, r.1) ∷ rs) e ∙ ap (λ (y : Node). (key, y) ∷ rs) q }
-  | inr n ↦
-      let i = found_in key node rs (rw (ne_eqb r.0 key n) at h) in
-      record { front = r ∷ i.front; rest = i.rest; is = ap (λ (y : Rows). r ∷ y) i.is }
-]
-
--- which of the two it is
-of_first : (o : Option Node) → (o ≡ None) ⊎ IsSome o
-of_first None = inl refl
-of_first (Some x) = inr refl
-
-first_some : (a b : Option Node) (node : Node) → IsSome a → first_of a b ≡ Some node → a ≡ Some node
-first_some None b node i h = absurd (none_is i)
-first_some (Some x) b node i h = h
-
 pub stands_in : (key : ℕ) (node : Node) (v : KeyedLists) → node_at key v ≡ Some node → StandsIn key node v
 stands_in key node [] h = absurd (some_none node (sym h))
-stands_in key node (x ∷ xs) h = elim (of_first (node_in key x)) [
-  | inl e ↦
-      let f = stands_in key node xs (rw e at h) in
+stands_in key node (x ∷ xs) h = elim (look key x) [
+  | inl a ↦
+      let f = stands_in key node xs (rw (node_in-absent key x a) at h) in
       let b : f.l < length xs = f.in_range in
       record { l = suc f.l; in_range = omega arith; front = f.front; rest = f.rest; at = f.at }
-  | inr i ↦
-      let f = found_in key node x (first_some (node_in key x) (node_at key xs) node i h) in
-      record { l = 0; in_range = omega arith; front = f.front; rest = f.rest; at = f.is }
+  | inr f ↦
+      let e : node_in key x ≡ Some f.0.node = ap (node_in key) f.0.is ∙ node_in-split key f.0.node f.0.rest f.0.front f.1 in
+      let same : f.0.node ≡ node = some_same f.0.node node (rw e at h) in
+      record {
+        l = 0;
+        in_range = omega arith;
+        front = f.0.front;
+        rest = f.0.rest;
+        at = f.0.is ∙ ap (λ (y : Node). f.0.front ++ (key, y) ∷ f.0.rest) same;
+      }
 ]
 
-pub map_each : (f : Rows → Rows) (lists : KeyedLists)
-    → ((l : ℕ) → l < length lists → f (list_at l lists) ≡ list_at l lists) → map f lists ≡ lists
-map_each f [] h = refl
-map_each f (x ∷ xs) h = rw (h 0 (omega arith)) (ap (λ (y : KeyedLists). x ∷ y) (map_each f xs (λ l b. h (suc l) (omega arith))))
+pub without_none : (key : ℕ) (v : KeyedLists) → ((l : ℕ) → l < length v → IsAbsent key (list_at l v))
+    → map (without_key key) v ≡ v
+without_none key [] a = refl
+without_none key (x ∷ xs) a = rw (without_absent key x (a 0 (omega arith)))
+    (ap (λ (y : KeyedLists). x ∷ y) (without_none key xs (λ l b. a (suc l) (omega arith))))
 
-pub map_without : (key l : ℕ) (lists : KeyedLists) → ((m : ℕ) → m < length lists → m ≢ l
-    → without_key key (list_at m lists) ≡ list_at m lists) → map (without_key key) lists
-    ≡ slice_set lists l (without_key key (list_at l lists))
-map_without key l [] h = refl
-map_without key zero (y ∷ ys) h = ap (λ (z : KeyedLists). without_key key y ∷ z)
-    (map_each (without_key key) ys (λ m b. h (suc m) (omega arith) (omega arith)))
-map_without key (suc l) (y ∷ ys) h = rw (h 0 (omega arith) (omega arith))
-    (ap (λ (z : KeyedLists). y ∷ z) (map_without key l ys (λ m b n. h (suc m) (omega arith) (omega arith))))
+pub node_at-none : (k : ℕ) (v : KeyedLists) → ((l : ℕ) → l < length v → IsAbsent k (list_at l v)) → node_at k v ≡ None
+node_at-none k [] a = refl
+node_at-none k (x ∷ xs) a = rw (node_in-absent k x (a 0 (omega arith))) (node_at-none k xs (λ l b. a (suc l) (omega arith)))
 
-pub node_at-none : (k : ℕ) (lists : KeyedLists) → ((l : ℕ) → l < length lists → node_in k (list_at l lists) ≡ None) → node_at k lists ≡ None
-node_at-none k [] h = refl
-node_at-none k (x ∷ xs) h = rw (h 0 (omega arith)) (node_at-none k xs (λ l b. h (suc l) (omega arith)))
+-- a key that stands once, in this list: its node, and the lists without it
+module _ (key : ℕ) (front : Rows) (node : Node) (rest : Rows) (apart : IsAbsent key front × IsAbsent key rest) where
+  pub node_at-once : (l : ℕ) (v : KeyedLists) → l < length v → list_at l v ≡ front ++ (key, node) ∷ rest
+      → ((m : ℕ) → m < length v → m ≢ l → IsAbsent key (list_at m v)) → node_at key v ≡ Some node
+  node_at-once l [] b e o = absurd (omega arith)
+  node_at-once zero (x ∷ xs) b e o = rw (ap (node_in key) e ∙ node_in-split key node rest front apart.0) refl
+  node_at-once (suc l) (x ∷ xs) b e o = rw (node_in-absent key x (o 0 (omega arith) (omega arith)))
+      (node_at-once l xs (omega arith) e (λ m c d. o (suc m) (omega arith) (omega arith)))
 
-pub node_at-some : (k l : ℕ) (n : Node) (lists : KeyedLists) → l < length lists → node_in k (list_at l lists) ≡ Some n
-    → ((m : ℕ) → m < length lists → m ≢ l → node_in k (list_at m lists) ≡ None) → node_at k lists ≡ Some n
-node_at-some k l n [] b h o = absurd (omega arith)
-node_at-some k zero n (x ∷ xs) b h o = rw h refl
-node_at-some k (suc l) n (x ∷ xs) b h o = rw (o 0 (omega arith) (omega arith))
-    (node_at-some k l n xs (omega arith) h (λ m d e. o (suc m) (omega arith) (omega arith)))
+  pub without_once : (l : ℕ) (v : KeyedLists) → list_at l v ≡ front ++ (key, node) ∷ rest
+      → ((m : ℕ) → m < length v → m ≢ l → IsAbsent key (list_at m v))
+      → map (without_key key) v ≡ slice_set v l (front ++ rest)
+  without_once l [] e o = refl
+  without_once zero (x ∷ xs) e o =
+      rw (ap (without_key key) e ∙ without_split key node rest front apart.1 apart.0)
+      (ap (λ (y : KeyedLists). (front ++ rest) ∷ y) (without_none key xs (λ m b. o (suc m) (omega arith) (omega arith))))
+  without_once (suc l) (x ∷ xs) e o = rw (without_absent key x (o 0 (omega arith) (omega arith)))
+      (ap (λ (y : KeyedLists). x ∷ y) (without_once l xs e (λ m b d. o (suc m) (omega arith) (omega arith))))
 
-pub row_count-set : (lists : KeyedLists) (l : ℕ) (rows : Rows) → l < length lists
-    → row_count (slice_set lists l rows) + length (list_at l lists) ≡ row_count lists + length rows
+-- a list in which nothing of the key has changed
+pub node_at-set : (k l : ℕ) (rows : Rows) (v : KeyedLists) → node_in k rows ≡ node_in k (list_at l v)
+    → node_at k (slice_set v l rows) ≡ node_at k v
+node_at-set k l rows [] e = refl
+node_at-set k zero rows (x ∷ xs) e = rw e refl
+node_at-set k (suc l) rows (x ∷ xs) e = rw (node_at-set k l rows xs e) refl
+
+pub row_count-set : (v : KeyedLists) (l : ℕ) (rows : Rows) → l < length v
+    → row_count (slice_set v l rows) + length (list_at l v) ≡ row_count v + length rows
 row_count-set [] l rows h = absurd (omega arith)
 row_count-set (x ∷ xs) zero rows h = omega arith
-row_count-set (x ∷ xs) (suc l) rows h = let e : row_count (slice_set xs l rows) + length (list_at l xs) ≡ row_count xs + length rows =
-    row_count-set xs l rows (omega arith) in omega arith
+row_count-set (x ∷ xs) (suc l) rows h = omega (arith, row_count-set xs l rows (omega arith))
 
 pub length_list_at : (lists : KeyedLists) (l : ℕ) → length (list_at l lists) ≤ row_count lists
 length_list_at [] l = omega arith
 length_list_at (x ∷ xs) zero = omega arith
-length_list_at (x ∷ xs) (suc l) = let h : length (list_at l xs) ≤ row_count xs = length_list_at xs l in omega arith
+length_list_at (x ∷ xs) (suc l) = omega (arith, length_list_at xs l)

@@ -1,5 +1,6 @@
 -- The nodes and links represent one value alone: whatever lists satisfy `IsLinked` are `lists_of`.
 use Rattle.std.proofs.Common.{◌≡◌, ◌<◌, ◌≤◌, ◌+◌, ℕ, zero, suc, true, false, List, [], ◌∷◌, ◌++◌, length, refl, sym, ◌∙◌, ap, subst, arith, Vec, Some, None, nat_lt, ◌-◌}
+use Rattle.std.specs.List.{AllByRecursion}
 use Rattle.std.proofs.lemmas.Bool.Decides.{nat_tests}
 use Rattle.std.proofs.lemmas.List.{ext_get_or, append_assoc, with_items_is}
 use Rattle.std.specs.Vec.{with_items, vec_len, vec_capacity}
@@ -9,10 +10,11 @@ use Rattle.timer_links.specs.declared.node.Node.{Node}
 use Rattle.timer_links.specs.declared.ring.Neighbours.{Neighbours}
 use Rattle.timer_links.specs.declared.links.Links.TheInside.{Inside}
 use Rattle.timer_links.specs.Lists.{LinksState, list_at, row_count, KeyedLists, Rows}
-use Rattle.timer_links.specs.Ring.{neighbours_at, key_of, IsChain}
-use Rattle.timer_links.specs.Links.{indexes, walk, lists_of, IsLinked, HasRoom, IsReady}
+use Rattle.timer_links.specs.Ring.{neighbours_at, key_of}
+use Rattle.timer_links.specs.Links.{LeadsOver, walk, lists_of, IsLinked, HasRoom, IsReady}
 use Rattle.timer_links.proofs.Rows.{length_list_at}
 use Rattle.timer_links.proofs.Rings.{node_at-here}
+use Rattle.timer_links.proofs.Room.{room_stays, ready_kept}
 
 pub root_low : (n l : ℕ) → l < n → key_of n l ≡ None
 root_low n l b = let h : nat_lt l n ≡ true = grind (arith, nat_tests) in rw h refl
@@ -25,21 +27,19 @@ key_high n k =
 
 -- each row's node stands under its key
 abbrev pub AreHeld : Slab Node → Rows → Type 0
-AreHeld nodes [] = Unit {0}
-AreHeld nodes (row ∷ rest) = (get nodes row.0 ≡ Some row.1) × AreHeld nodes rest
+AreHeld nodes rows = AllByRecursion (λ row. get nodes row.0 ≡ Some row.1) rows
 
--- the walk goes along the chain
-walk_is : (m n : ℕ) (nodes : Slab Node) (s : List Neighbours) (l p : ℕ) (rows : Rows) → l < n → length rows ≤ m → AreHeld
-    nodes rows
-    → IsChain s p (indexes n rows ++ l ∷ []) → walk m n nodes s (neighbours_at s p).after ≡ rows
+-- the walk goes along the links
+walk_is : (m n : ℕ) (nodes : Slab Node) (s : List Neighbours) (l p : ℕ) (rows : Rows) → l < n → length rows ≤ m → AreHeld nodes rows
+    → LeadsOver n s p rows l → walk m n nodes s (neighbours_at s p).after ≡ rows
 walk_is zero n nodes s l p [] b f a c = refl
 walk_is zero n nodes s l p (r ∷ rs) b f a c = absurd (omega arith)
-walk_is (suc m) n nodes s l p [] b f a c = rw (c.0.forth, root_low n l b) refl
+walk_is (suc m) n nodes s l p [] b f a c = rw (c.forth, root_low n l b) refl
 walk_is (suc m) n nodes s l p (r ∷ rs) b f a c = rw (c.0.forth, key_high n r.0, a.0)
     (ap (λ (x : Rows). r ∷ x) (walk_is m n nodes s l (n + r.0) rs b (omega arith) a.1 c.1))
 
 module _ (n : ℕ) (nodes : Slab Node) (s : List Neighbours) (v : KeyedLists) (h : IsLinked n nodes s v) where
-  held_from : (l : ℕ) (rows front : Rows) → l < n → list_at l v ≡ front ++ rows → AreHeld nodes rows
+  pub held_from : (l : ℕ) (rows front : Rows) → l < n → list_at l v ≡ front ++ rows → AreHeld nodes rows
   held_from l [] front b e = tt
   held_from l (r ∷ rs) front b e = (
     h.held r.0 ∙ node_at-here n s v h.rings r.0 l front r.1 rs b e h.many,
@@ -59,10 +59,6 @@ module _ (n : ℕ) (nodes : Slab Node) (s : List Neighbours) (v : KeyedLists) (h
       get_or-map-range_with_len f 0 n l l [] b (omega arith) ∙ walk_is (slab_len nodes) n nodes s l l (list_at l v) b (omega arith)
       (held_from l (list_at l v) [] b refl) (h.rings l b))
 
-pub closed : (n : ℕ) (nodes : Slab Node) (s : List Neighbours) (v : KeyedLists) → IsLinked n nodes s v → IsLinked n nodes s (lists_of n
-    nodes s)
-closed n nodes s v h = let P : KeyedLists → Type 0 = λ x. IsLinked n nodes s x in subst P (sym (lists_are n nodes s v h)) h
-
 -- the lists of a value, which is open
 pub opened : (s : Inside) (v : LinksState) → record { lists = lists_of s.lists s.nodes s.neighbours.items; room = s.room } ≡ v
     → IsLinked s.lists s.nodes s.neighbours.items (lists_of s.lists s.nodes s.neighbours.items) × HasRoom s.room s.lists s.nodes
@@ -71,11 +67,29 @@ pub opened : (s : Inside) (v : LinksState) → record { lists = lists_of s.lists
 opened s v e h = let P : KeyedLists → Type 0 = λ x. IsLinked s.lists s.nodes s.neighbours.items x in
     subst P (ap (λ (r : LinksState). r.lists) e) h.0
 
--- what was written to the slice of a vector is the vector's
-pub written : {Z : Type 0} (n : ℕ) (nodes : Slab Node) (neighbours : Vec Neighbours Z) (ws : List Neighbours) (v : KeyedLists)
-    → length ws ≡ neighbours.len → IsLinked n nodes ws v → IsLinked n nodes (with_items neighbours ws).items v
-written n nodes neighbours ws v e h = let P : List Neighbours → Type 0 = λ x. IsLinked n nodes x v in subst P (sym (with_items_is
-    neighbours ws e)) h
+-- fields with these lists as their value, which may be closed again
+pub record Stands {Z : Type 0} (n room ready : ℕ) (nodes : Slab Node) (neighbours : Vec Neighbours Z) (v : KeyedLists) : Type 0 where
+  pub invariant : IsLinked n nodes neighbours.items (lists_of n nodes neighbours.items)
+      × HasRoom room n nodes (vec_capacity neighbours) × IsReady ready n nodes (vec_len neighbours)
+  pub value : lists_of n nodes neighbours.items ≡ v
+
+pub stands : {Z : Type 0} (n room ready : ℕ) (nodes : Slab Node) (neighbours : Vec Neighbours Z) (v : KeyedLists)
+    → IsLinked n nodes neighbours.items v → HasRoom room n nodes (vec_capacity neighbours) → IsReady ready n nodes (vec_len neighbours)
+    → Stands n room ready nodes neighbours v
+stands n room ready nodes neighbours v h r k =
+    let e : lists_of n nodes neighbours.items ≡ v = lists_are n nodes neighbours.items v h in
+    let P : KeyedLists → Type 0 = λ x. IsLinked n nodes neighbours.items x in
+    record { invariant = (subst P (sym e) h, r, k); value = e }
+
+-- the same after a change of nodes, and of the links in the slice of the vector: room and what is ready stay
+pub written : {Z : Type 0} (n room ready : ℕ) (old new : Slab Node) (neighbours : Vec Neighbours Z) (ws : List Neighbours)
+    (v : KeyedLists) → HasRoom room n old (vec_capacity neighbours) → IsReady ready n old (vec_len neighbours)
+    → new.capacity ≡ old.capacity → length ws ≡ neighbours.len → IsLinked n new ws v
+    → Stands n room ready new (with_items neighbours ws) v
+written n room ready old new neighbours ws v r k same e h =
+    let P : List Neighbours → Type 0 = λ x. IsLinked n new x v in
+    stands n room ready new (with_items neighbours ws) v (subst P (sym (with_items_is neighbours ws e)) h)
+    (room_stays room n _ _ old new r same refl) (ready_kept ready n _ _ old new k (omega arith) (omega arith))
 
 -- the value of these fields is the state with these lists and this room
 pub state_is : (w : LinksState) (x : KeyedLists) (room : ℕ) → x ≡ w.lists → room ≡ w.room → record { lists = x; room = room } ≡ w

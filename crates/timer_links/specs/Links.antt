@@ -1,12 +1,12 @@
 -- How `Links` represents its lists by nodes and links: its invariant. No public clause cites this file.
-use Rattle.std.specs.Prelude.{◌≡◌, ℕ, ◌+◌, ◌<◌, ◌≤◌, ◌⊎◌, zero, suc, List, [], ◌∷◌, ◌++◌, length, map, Option, Some, None}
+use Rattle.std.specs.Prelude.{◌≡◌, ℕ, ◌+◌, ◌<◌, ◌≤◌, ◌⊎◌, zero, suc, List, [], ◌∷◌, length, map, Option, Some, None}
 use Rattle.std.specs.List.{range_with_len}
 use Rattle.slab.specs.Slab.{Slab, get, slab_len, ContainsKey}
 use Rattle.timer_links.specs.declared.node.Node.{Node}
 use Rattle.timer_links.specs.declared.ring.Neighbours.{Neighbours}
 use Rattle.timer_links.specs.declared.ring.TheConstants.{INDEXES}
 use Rattle.timer_links.specs.Lists.{list_at, node_at, row_count, KeyedLists, Rows}
-use Rattle.timer_links.specs.Ring.{neighbours_at, key_of, IsChain}
+use Rattle.timer_links.specs.Ring.{neighbours_at, key_of, AreJoined}
 
 -- the row of a key and its node, before these rows
 abbrev pub row_of : ℕ → Option Node → Rows → Rows
@@ -29,15 +29,15 @@ lists_of lists nodes neighbours =
     map (λ root. walk (slab_len nodes) lists nodes neighbours (neighbours_at neighbours root).after)
     (range_with_len 0 lists)
 
--- the indexes of these rows
-abbrev pub indexes : ℕ → Rows → List ℕ
-indexes lists [] = []
-indexes lists (row ∷ rest) = (lists + row.0) ∷ indexes lists rest
+-- from one index the links lead over these rows, in their order, to another index
+abbrev pub LeadsOver : ℕ → List Neighbours → ℕ → Rows → ℕ → Type 0
+LeadsOver lists neighbours index [] end = AreJoined neighbours index end
+LeadsOver lists neighbours index (row ∷ rest) end = AreJoined neighbours index (lists + row.0)
+    × LeadsOver lists neighbours (lists + row.0) rest end
 
 -- each list is a ring: its root, its nodes in their order, and back to the root
 abbrev pub AreRings : ℕ → List Neighbours → KeyedLists → Type 0
-AreRings lists neighbours v =
-    (l : ℕ) → l < lists → IsChain neighbours l (indexes lists (list_at l v) ++ l ∷ [])
+AreRings lists neighbours v = (l : ℕ) → l < lists → LeadsOver lists neighbours l (list_at l v) l
 
 -- the nodes under these keys stand in these lists, and each list is a ring
 pub record IsLinked (lists : ℕ) (nodes : Slab Node) (neighbours : List Neighbours)

@@ -1,5 +1,5 @@
 -- The links of each index, what a join changes, and which indexes follow one another: all that `ring` states.
-use Rattle.std.specs.Prelude.{◌≡◌, ◌≢◌, ℕ, ◌-◌, ◌≤◌, nat_lt, ◌==◌, if◌then◌else◌, List, [], ◌∷◌, length, Option, Some, None, slice_index_or}
+use Rattle.std.specs.Prelude.{◌≡◌, ◌≢◌, ℕ, ◌-◌, ◌≤◌, nat_lt, ◌==◌, if◌then◌else◌, List, length, Option, Some, None, slice_index_or}
 use Rattle.timer_links.specs.declared.ring.Neighbours.{Neighbours}
 
 -- what is at an index, or a default past the end
@@ -19,11 +19,6 @@ neighbour_on_both_sides neighbours =
 pub record AreJoined (neighbours : List Neighbours) (front back : ℕ) : Type 0 where
   pub forth : (neighbours_at neighbours front).after ≡ back
   pub back_to : (neighbours_at neighbours back).before ≡ front
-
--- each of these indexes comes right after the one before it
-abbrev pub IsChain : List Neighbours → ℕ → List ℕ → Type 0
-IsChain neighbours index [] = Unit {0}
-IsChain neighbours index (next ∷ rest) = AreJoined neighbours index next × IsChain neighbours next rest
 
 -- the second index was put right after the first, and all else stays
 pub record Joins (front back : ℕ) (old new : List Neighbours) : Type 0 where

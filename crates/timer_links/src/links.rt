@@ -435,6 +435,8 @@ fn make_way(
     ensures nodes { nodes.new ≡ record nodes.old { capacity = nodes.new.capacity } }
     ensures kept { IsGrown neighbours.old.items neighbours.new.items }
     ensures few { length neighbours.new.items ≤ INDEXES }
+    ensures at_most { length neighbours.new.items
+        ≤ max (length neighbours.old.items) (lists + nodes.old.vacant_key + 64) }
     ensures room { HasRoom room lists nodes.new (vec_capacity neighbours.new) }
     ensures ready { IsReady ready.new lists nodes.new (vec_len neighbours.new) }
     ensures fits { OnOk result (HasRoomFor nodes.new 1) }
@@ -468,6 +470,8 @@ fn make_ready(
     ensures larger { nodes.old.capacity ≤ nodes.new.capacity }
     ensures kept { IsGrown neighbours.old.items neighbours.new.items }
     ensures few { length neighbours.new.items ≤ INDEXES }
+    ensures at_most { length neighbours.new.items
+        ≤ max (length neighbours.old.items) (lists + nodes.old.vacant_key + 64) }
     ensures room { HasRoom room lists nodes.new (vec_capacity neighbours.new) }
     ensures fits { OnOk result (HasRoomFor nodes.new 1) }
     ensures index { OnOk result (HasIndex lists nodes.new neighbours.new.items) }
@@ -501,6 +505,8 @@ fn make_way_in_room(
     ensures larger { nodes.old.capacity ≤ nodes.new.capacity }
     ensures kept { IsGrown neighbours.old.items neighbours.new.items }
     ensures few { length neighbours.new.items ≤ INDEXES }
+    ensures at_most { length neighbours.new.items
+        ≤ max (length neighbours.old.items) (lists + nodes.old.vacant_key + 64) }
     ensures reserved { lists + nodes.new.capacity ≤ vec_capacity neighbours.new }
     ensures numbered { lists + nodes.new.capacity ≤ INDEXES }
     ensures fits { OnOk result (HasRoomFor nodes.new 1) }

@@ -109,6 +109,7 @@ pub fn reserve_index(neighbours: &mut Vec<Neighbours>, index: usize) -> Result<(
         → IsOk result × (neighbours.new ≡ neighbours.old) }
     ensures kept { IsGrown neighbours.old.items neighbours.new.items }
     ensures few { length neighbours.new.items ≤ INDEXES }
+    ensures at_most { length neighbours.new.items ≤ max (length neighbours.old.items) (index + 64) }
     ensures reached { OnOk result (index < length neighbours.new.items) }
 {
     if index < neighbours.len() {
@@ -127,6 +128,7 @@ fn grow(neighbours: &mut Vec<Neighbours>, index: usize) -> Result<(), OutOfMemor
     requires past { length neighbours.old.items ≤ index }
     ensures kept { IsGrown neighbours.old.items neighbours.new.items }
     ensures few { length neighbours.new.items ≤ INDEXES }
+    ensures at_most { length neighbours.new.items ≤ max (length neighbours.old.items) (index + 64) }
     ensures reached { OnOk result (index < length neighbours.new.items) }
 {
     let none = Neighbours {

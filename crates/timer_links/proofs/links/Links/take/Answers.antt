@@ -1,49 +1,37 @@
-use Rattle.std.proofs.Common.{ℕ, ◌∙◌, sym, refl, subst, arith, Option}
-use Rattle.timer_links.specs.Lists.{IsAloneIn}
-use Rattle.timer_links.proofs.UniqueLists.{opened, closed, written, lists_are}
-use Rattle.timer_links.proofs.Room.{room_stays, ready_stays}
-use Rattle.timer_links.proofs.LinksCalls.{some_is, read_node, joins_read, unlinked}
-use Rattle.timer_links.proofs.AloneIn.{is_alone_in}
+use Rattle.std.proofs.Common.{ℕ, ◌∙◌, sym, subst, map, Option}
+use Rattle.std.specs.Vec.{with_items}
+use Rattle.timer_links.specs.Lists.{without_key, IsAloneIn}
+use Rattle.timer_links.proofs.UniqueLists.{opened, Stands, written}
+use Rattle.timer_links.proofs.LinksCalls.{some_is, read_node, joins_read, unlinked, is_alone_in}
 use Rattle.timer_links.proofs.links.Links.take.Goals as goal
 
-pub join-requires-clause-front : goal.join-requires-clause-front
-join-requires-clause-front c =
+pub join-requires : goal.join-requires
+join-requires c =
     let h = opened c.self.inside c.args.self.now c.self.view_is c.self.invariant in
-    (read_node _ _ _ _ c.args.key _ _ h (some_is _ _ c.remove-node.ensures.value) c.as_mut_slice.ensures.value
-    c.index-neighbours.ensures).before
+    let r = read_node _ _ _ _ h c.args.key _ _ (some_is _ _ c.remove-node.ensures.value) c.as_mut_slice.ensures.value
+    c.index-neighbours.ensures in
+    record { front = r.before; back = r.after; numbered = rw c.as_mut_slice.ensures.value h.numbered }
 
-pub join-requires-clause-back : goal.join-requires-clause-back
-join-requires-clause-back c =
+now : (c : goal.After-only_neighbour) → Stands c.self.inside.lists c.self.inside.room c.self.inside.ready c.remove-node.new.self
+    (with_items c.self.inside.neighbours c.join.new.neighbours) (map (without_key c.args.key) c.args.self.now.lists)
+now c =
     let h = opened c.self.inside c.args.self.now c.self.view_is c.self.invariant in
-    (read_node _ _ _ _ c.args.key _ _ h (some_is _ _ c.remove-node.ensures.value) c.as_mut_slice.ensures.value
-    c.index-neighbours.ensures).after
+    let i = some_is _ _ c.remove-node.ensures.value in
+    let r = read_node _ _ _ _ h c.args.key _ _ i c.as_mut_slice.ensures.value c.index-neighbours.ensures in
+    written _ _ _ c.self.inside.nodes _ _ _ _ c.self.invariant.1 c.self.invariant.2 c.remove-node.ensures.capacity
+    (c.join.ensures.size ∙ c.as_mut_slice.ensures.len) (unlinked _ _ _ _ h _ _ c.args.key i c.remove-node.ensures.updates
+    c.remove-node.ensures.len (joins_read _ _ _ _ _ r c.join.ensures))
 
 pub invariant_of-self : goal.invariant_of-self
-invariant_of-self c =
-    let h = opened c.self.inside c.args.self.now c.self.view_is c.self.invariant in
-    let i = some_is _ _ c.remove-node.ensures.value in
-    let r = read_node _ _ _ _ c.args.key _ _ h i c.as_mut_slice.ensures.value c.index-neighbours.ensures in (
-      closed _ _ _ _ (written _ _ c.self.inside.neighbours _ _ (c.join.ensures.size ∙ c.as_mut_slice.ensures.len)
-          (unlinked _ _ _ _ _ _ c.args.key h i c.remove-node.ensures.updates c.remove-node.ensures.len
-          (joins_read _ _ _ _ _ c.as_mut_slice.ensures.value r.is c.join.ensures))),
-      room_stays _ _ _ _ _ _ c.self.invariant.1 c.remove-node.ensures.capacity refl,
-      ready_stays _ _ _ _ _ _ c.self.invariant.2 c.remove-node.ensures.capacity (omega arith),
-    )
+invariant_of-self c = (now c).invariant
 
 pub returns-clause-taken : goal.returns-clause-taken
-returns-clause-taken c =
-    let h = opened c.self.inside c.args.self.now c.self.view_is c.self.invariant in
-    let i = some_is _ _ c.remove-node.ensures.value in
-    let r = read_node _ _ _ _ c.args.key _ _ h i c.as_mut_slice.ensures.value c.index-neighbours.ensures in
-    lists_are _ _ _ _ (written _ _ c.self.inside.neighbours _ _ (c.join.ensures.size ∙ c.as_mut_slice.ensures.len)
-    (unlinked _ _ _ _ _ _ c.args.key h i c.remove-node.ensures.updates c.remove-node.ensures.len
-    (joins_read _ _ _ _ _ c.as_mut_slice.ensures.value r.is c.join.ensures)))
+returns-clause-taken c = (now c).value
 
 pub returns-clause-emptied : goal.returns-clause-emptied
 returns-clause-emptied c =
     let h = opened c.self.inside c.args.self.now c.self.view_is c.self.invariant in
-    let r = read_node _ _ _ _ c.args.key _ _ h (some_is _ _ c.remove-node.ensures.value) c.as_mut_slice.ensures.value
-    c.index-neighbours.ensures
-    in
+    let r = read_node _ _ _ _ h c.args.key _ _ (some_is _ _ c.remove-node.ensures.value) c.as_mut_slice.ensures.value
+    c.index-neighbours.ensures in
     let P : Option ℕ → Type 0 = IsAloneIn c.args.key c.args.self.now.lists in
-    subst P (sym c.only_neighbour.ensures) (is_alone_in _ _ _ _ c.args.key _ h r.is)
+    subst P (sym c.only_neighbour.ensures) (is_alone_in _ _ _ _ h c.args.key _ r.is)

@@ -1,5 +1,5 @@
 use Rattle.timer_links.proofs.UniqueLists.{opened}
-use Rattle.timer_links.proofs.PopFront.{first_used}
+use Rattle.timer_links.proofs.LinksCalls.{first_used}
 use Rattle.timer_links.proofs.links.Links.used_front.Goals as goal
 
 pub returns-clause-used : goal.returns-clause-used
