@@ -25,7 +25,7 @@ use Rattle.timer_wheels.specs.Leap.{list_visit, timer_visit}
 use Rattle.timer_wheels.specs.Occupied.{IsFirstSet}
 use Rattle.timer_wheels.specs.Tables.{radices}
 use Rattle.timer_wheels.specs.WakeUps.{next_visit}
-use Rattle.timer_wheels.proofs.FirstLemmas.{count-few, enter_known, not_before-less}
+use Rattle.timer_wheels.proofs.FirstLemmas.{count-few, enter_known, known_least, not_before-less}
 use Rattle.timer_wheels.proofs.AllLemmas.{all-map, all-of_map}
 use Rattle.timer_wheels.proofs.DigitLaws.{bucket_near, bucket_far, lowest_bucket, visit_here, quotient_mono, less_quotient}
 use Rattle.timer_wheels.proofs.HierLeaps.{IsKnown, known, none_where, none_wakes, first_in, first_some}
@@ -251,6 +251,14 @@ module _ (t : Table) (b : Buckets) (words : List ℕ) (h : IsHier t b words) (l 
     none_earlier = all-map timer_in (λ t. first_deadline ≤ t.deadline) (rows_below b.slots b.links.lists)
         (all-rows_below (λ row. first_deadline ≤ (timer_in row).deadline) b.slots b.links.lists not_sooner);
   })
+
+  -- what is known of it has a bound after now
+  pub bound_known : (first : First) → IsKnownOf first (timers_in (list_at l b.links.lists)) → 0 < first.bound
+  bound_known first k =
+      let rows : Rows = list_at l b.links.lists in
+      let m = known_least first (timers_in rows) (λ z. some_rows rows (first_some t b words h l f) (k.some z)) k.first_of in
+      let u = row_with first.bound (IsKnown (radices t) b.tick l) rows (known t b words h l first_below) m.has in
+      omega (arith, u.1.later, u.2)
 
   -- its least deadline is the first one of all
   pub first_is_next : (o : Option ℕ) → IsLeastDeadline o (timers_in (list_at l b.links.lists)) → o ≡ next_deadline (state_of b).pending

@@ -4,7 +4,8 @@ use Rattle.timer_wheels.specs.declared.table.TheConstants.{MOST_BUCKETS}
 use Rattle.timer_wheels.specs.BucketLists.{timers_in}
 use Rattle.timer_wheels.specs.Digits.{lowest_radix, slots}
 use Rattle.timer_wheels.specs.Tables.{radices}
-use Rattle.timer_wheels.proofs.DeadlineLemmas.{none_is_next, first_is_next, visit_is_next}
+use Rattle.timer_wheels.proofs.DeadlineLemmas.{none_is_next, bound_known, first_is_next, visit_is_next}
+use Rattle.timer_wheels.proofs.FirstsLemmas.{kept_firsts}
 use Rattle.timer_wheels.proofs.TableLaws.{of_table}
 use Rattle.timer_wheels.proofs.wheels.Wheels.find_next.Goals as goal
 
@@ -30,3 +31,13 @@ keep-requires-clause-few c =
     let b : w.buckets.slots ≡ slots (radices w.table) = w.hier.has_slots in
     let few : slots (radices w.table) ≤ MOST_BUCKETS = (of_table w.table).few_slots in
     omega arith
+
+pub keep-requires-clause-found : goal.keep-requires-clause-found
+keep-requires-clause-found c = bound_known c.args.self.now.table c.args.self.now.buckets c.args.self.now.occupied c.args.self.now.hier
+    c.in-Some.list c.in-Some.ensures c.first_of-first.result c.first_of-first.ensures
+
+pub invariant_of-self-clause-foretold : goal.invariant_of-self-clause-foretold
+invariant_of-self-clause-foretold c =
+    let w = c.args.self.now in
+    kept_firsts w.foretold w.occupied c.in-Some.list c.keep.new.self w.hier.marked c.keep.ensures.others
+    (rw c.keep.ensures.here c.first_of-first.ensures.first_of)
