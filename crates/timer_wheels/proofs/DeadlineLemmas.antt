@@ -211,17 +211,17 @@ has_least P rows None k a m = absurd (some_rows rows k m)
 has_least P rows (Some d) k a m = let u = row_with d P rows a m.has in record { row = u.0; is = u.1; least = rw u.2 m }
 
 -- nothing is pending if no bit is set
-pub none_is_next : (t : Table) (b : Buckets) (words : List ℕ) → IsHier t b words → IsFirstSet words None
+pub none_is_next : {t : Table} {b : Buckets} {words : List ℕ} → IsHier t b words → IsFirstSet words None
     → None ≡ next_deadline (state_of b).pending
-none_is_next t b words h f = ap next_deadline (sym (none_wakes t b words h f))
+none_is_next h f = ap next_deadline (sym (none_wakes h f))
 
-module _ (t : Table) (b : Buckets) (words : List ℕ) (h : IsHier t b words) (l : ℕ) (f : IsFirstSet words (Some l)) where
+module _ {t : Table} {b : Buckets} {words : List ℕ} (h : IsHier t b words) (l : ℕ) (f : IsFirstSet words (Some l)) where
   pub first_below : l < b.slots
-  first_below = first_in t b words h l f.0 f.1
+  first_below = first_in h l f.0 f.1
 
   first_least : HasLeast (IsKnown (radices t) b.tick l) (list_at l b.links.lists)
   first_least = has_least (IsKnown (radices t) b.tick l) (list_at l b.links.lists) (next_deadline (pending_in (list_at l b.links.lists)))
-      (first_some t b words h l f) (known t b words h l first_below) (next_is_least (list_at l b.links.lists))
+      (first_some h l f) (known h l first_below) (next_is_least (list_at l b.links.lists))
 
   abbrev first_deadline : ℕ
   first_deadline = (timer_in first_least.row).deadline
@@ -235,12 +235,12 @@ module _ (t : Table) (b : Buckets) (words : List ℕ) (h : IsHier t b words) (l 
 
   not_sooner : EachRow (λ s row. first_deadline ≤ (timer_in row).deadline) b.slots b.links.lists
   not_sooner s k = elim (cases_lt s l) [
-    | inl c ↦ rw (none_where t b words h s k (f.2 s c)) tt
+    | inl c ↦ rw (none_where h s k (f.2 s c)) tt
     | inr c ↦ elim (cases_eq s l) [
       | inl e ↦ rw e (all-of_map timer_in (λ t. first_deadline ≤ t.deadline) (list_at l b.links.lists)
           first_least.least.none_earlier)
       | inr n ↦ All-weaken (IsKnown (radices t) b.tick s) (λ row. first_deadline ≤ (timer_in row).deadline)
-          (list_at s b.links.lists) (λ row w. not_later s row (omega arith) w) (known t b words h s k)
+          (list_at s b.links.lists) (λ row w. not_later s row (omega arith) w) (known h s k)
     ]
   ]
 
@@ -256,8 +256,8 @@ module _ (t : Table) (b : Buckets) (words : List ℕ) (h : IsHier t b words) (l 
   pub bound_known : (first : First) → IsKnownOf first (timers_in (list_at l b.links.lists)) → 0 < first.bound
   bound_known first k =
       let rows : Rows = list_at l b.links.lists in
-      let m = known_least first (timers_in rows) (λ z. some_rows rows (first_some t b words h l f) (k.some z)) k.first_of in
-      let u = row_with first.bound (IsKnown (radices t) b.tick l) rows (known t b words h l first_below) m.has in
+      let m = known_least first (timers_in rows) (λ z. some_rows rows (first_some h l f) (k.some z)) k.first_of in
+      let u = row_with first.bound (IsKnown (radices t) b.tick l) rows (known h l first_below) m.has in
       omega (arith, u.1.later, u.2)
 
   -- its least deadline is the first one of all
@@ -288,5 +288,6 @@ module _ (t : Table) (b : Buckets) (words : List ℕ) (h : IsHier t b words) (l 
       ∙ first_deadline_is first_deadline (state_of b).pending least_of_all
 
 -- and none is visited if no bit is set
-pub none_visited : (t : Table) (b : Buckets) → (state_of b).pending ≡ [] → None ≡ next_visit (radices t) b.tick (state_of b).pending
-none_visited t b e = ap (next_visit (radices t) b.tick) (sym e)
+pub none_visited : {t : Table} {b : Buckets} {words : List ℕ} → IsHier t b words → IsFirstSet words None
+    → None ≡ next_visit (radices t) b.tick (state_of b).pending
+none_visited {t} {b} h f = ap (next_visit (radices t) b.tick) (sym (none_wakes h f))

@@ -53,7 +53,7 @@ module _ {t : Table} {b : Buckets} {words : List ℕ} (h : IsHier t b words) whe
   first_row_is l (r ∷ rs) e p q =
       let d : ℕ = (timer_in r).deadline in
       let i : HasDigits (radices t) d =
-      digits_down (radices t) d b.last_tick (of_table t).is_table p.0.in_range (last_digits t b words h) in
+      digits_down (radices t) d b.last_tick (of_table t).is_table p.0.in_range (last_digits h) in
       let v : list_visit (radices t) l b.tick ≡ timer_visit (radices t) b.tick d =
       ap (λ (x : ℕ). list_visit (radices t) x b.tick) (sym q.0.0)
       ∙ list_is (radices t) b.tick d (of_table t).is_table i p.0.later in
@@ -63,7 +63,7 @@ module _ {t : Table} {b : Buckets} {words : List ℕ} (h : IsHier t b words) whe
   pub first_empties : (l visit : ℕ) → visit ≡ list_visit (radices t) l b.tick → IsFirstSet words (Some l)
       → l ≡ emptied (radices t) visit
   first_empties l visit e f =
-      let c = first_in t b words h l f.0 f.1 in
+      let c = first_in h l f.0 f.1 in
       first_row_is l (list_at l b.links.lists) (sym (h.marked.0 l c) ∙ f.1)
       (all-list_at (λ row. IsPending b.last_tick b.tick b.last_serial (timer_in row)) b.slots b.links.lists b.sound.pending l c)
       (h.placed l c) ∙ ap (emptied (radices t)) (sym e)
