@@ -81,19 +81,19 @@ module _ {t : Table} {b : Buckets} {words : List ℕ} (h : IsHier t b words) (z 
   may_migrate_at {list} e =
       let P : ℕ → Type 0 = λ k. AllByRecursion (MayMigrate (radices t) (b.tick + 1) k) (list_at k b.links.lists) in
       let c : b.last_tick ≡ last_of (radices t) = h.clock in
-      subst P (sym e) (all_may_migrate (radices t) b.last_tick b.tick b.last_serial b.links.lists before_tick (omega arith))
+      subst P (sym e) (all_may_migrate before_tick (omega arith))
 
   pub all_of_tick_at : {list : ℕ} → list ≡ emptied (radices t) (b.tick + 1) → list < lowest_radix (radices t)
       → AllByRecursion (IsOfTick (b.tick + 1)) (list_at list b.links.lists)
   all_of_tick_at {list} e k =
       let P : ℕ → Type 0 = λ k. AllByRecursion (IsOfTick (b.tick + 1)) (list_at k b.links.lists) in
-      subst P (sym e) (all_of_tick (radices t) b.last_tick b.tick b.last_serial b.links.lists before_tick
+      subst P (sym e) (all_of_tick before_tick
       (none_below (radices t) (b.tick + 1) (omega arith)))
 
   pub next_at : {list moves : ℕ} {new : KeyedLists} → list ≡ emptied (radices t) (b.tick + 1)
       → new ≡ migrated (radices t) (b.tick + 1) list b.links.lists → moves ≡ length (left_rows (b.tick + 1) (list_at list b.links.lists))
       → IsNext (radices t) b.slots b.last_tick b.tick b.last_serial moves b.links.lists new
   next_at {list} {moves} {new} e f k =
-      next_of (radices t) b.slots b.last_tick b.tick b.last_serial moves b.links.lists new h.has_slots before_tick
+      next_of before_tick b.slots moves new h.has_slots
       (f ∙ ap (λ (v : ℕ). migrated (radices t) (b.tick + 1) v b.links.lists) e)
       (k ∙ ap (λ (v : ℕ). length (left_rows (b.tick + 1) (list_at v b.links.lists))) e)
