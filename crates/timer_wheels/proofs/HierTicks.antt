@@ -510,9 +510,9 @@ module _ {table : List ℕ} {last_tick a last_serial : ℕ} {lists : KeyedLists}
         in_range = omega (arith, h.pending.in_range);
       })
       (known_rows l l_in_range) where
-    elsewhere : (row : Row) → RowLeaves table a m row → target table (a + 1) row ≢ l
-    elsewhere row (inl d) e = omega (arith, d.to, l_in_range)
-    elsewhere row (inr g) e = omega (arith, g.to, not_below_m)
+        elsewhere : (row : Row) → RowLeaves table a m row → target table (a + 1) row ≢ l
+        elsewhere row (inl d) e = omega (arith, d.to, l_in_range)
+        elsewhere row (inr g) e = omega (arith, g.to, not_below_m)
 
   -- a bucket of the lowest wheel has only timers of this tick
   pub all_of_tick : m ≡ 0 → AllByRecursion (IsOfTick (a + 1)) rows_l
