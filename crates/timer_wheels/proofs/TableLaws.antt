@@ -12,10 +12,10 @@ pub of_table : (table : Table) → IsHierTable (radices table)
 of_table Wide = wide_fits
 of_table Clock = clock_fits
 
-pub last-named : (table : Table) → last_of (radices table) ≡ last_of_table table
+pub last_named : (table : Table) → last_of (radices table) ≡ last_of_table table
 unfolding wide clock
-last-named Wide = refl
-last-named Clock = refl
+last_named Wide = refl
+last_named Clock = refl
 
 pub at_most : (x n m : ℕ) → n ≡ m → x ≤ n → x ≤ m
 at_most x n m e h = omega arith
