@@ -14,7 +14,8 @@ use Rattle.timer_links.specs.Lists.{list_at, node_in, node_at, first_of, with_ro
 use Rattle.timer_wheels.specs.BucketLaws.{timers_of-entries}
 use Rattle.timer_wheels.specs.Buckets.{IsListOf}
 use Rattle.timer_wheels.specs.BucketLists.{timer_in, timers_in, entry_of, entries_of, rows_below, pending_in, wheel_state, ArePending, AreDue, AreInOrder, EachRow}
-use Rattle.timer_wheels.proofs.RowLemmas.{all-append, all-front, all-rest, all-rows_below, IsInserted, rows_below-with_row, list_at-without_key, timers-append, entries-append, filter-entries, AreBelow-timers, IsNotAmong-below, AreDistinct-inserted}
+use Rattle.timer_wheels.proofs.AllLemmas.{all-map, all-of_map}
+use Rattle.timer_wheels.proofs.RowLemmas.{all-append, all-front, all-rest, all-rows_below, IsInserted, rows_below-with_row, list_at-without_key, timers-append, entries-append, filter-entries, IsNotAmong-below, AreDistinct-inserted}
 
 -- A row is inserted.
 
@@ -90,7 +91,7 @@ newer last_tick now last high t h p = let q : t.serial ≤ last = p.serial in om
 
 pub AreBelow-pending : (last_tick now last high : ℕ) (rows : Rows) → last < high → ArePending last_tick now last rows
     → AreBelow high (timers_in rows)
-AreBelow-pending last_tick now last high rows h a = AreBelow-timers high rows
+AreBelow-pending last_tick now last high rows h a = all-map timer_in (λ t. t.serial < high) rows
     (All-weaken (λ row. IsPending last_tick now last (timer_in row)) (λ row. (timer_in row).serial < high) rows
     (λ row p. newer last_tick now last high (timer_in row) h p) a)
 
@@ -251,15 +252,11 @@ timers_past last_tick before now last (e ∷ es) a = elim (either (is_due_at now
   | inr k ↦ rw k (timers_past last_tick before now last es a.1)
 ]
 
-rows_past : (now last : ℕ) (rows : Rows) → AllByRecursion (IsDue now last) (timers_in rows) → AreDue now last rows
-rows_past now last [] a = tt
-rows_past now last (x ∷ xs) a = (a.0, rows_past now last xs a.1)
-
 -- what became due at a tick was pending before it
 pub due_past : (last_tick before now last : ℕ) (es : List Entry) (rows : Rows)
     → AllByRecursion (IsPending last_tick before last) (timers_of es) → entries_of rows ≡ entries_due now es → AreDue now last rows
-due_past last_tick before now last es rows a e = rows_past now last rows (let P : List Timer → Type 0 = AllByRecursion (IsDue now last)
-    in subst P (sym (ap timers_of e) ∙ timers_of-entries rows) (timers_past last_tick before now last es a))
+due_past last_tick before now last es rows a e = all-of_map timer_in (IsDue now last) rows
+    (subst (AllByRecursion (IsDue now last)) (sym (ap timers_of e) ∙ timers_of-entries rows) (timers_past last_tick before now last es a))
 
 pub none_past : (now last : ℕ) (rows : Rows) → entries_of rows ≡ [] → AreDue now last rows
 none_past now last [] e = tt

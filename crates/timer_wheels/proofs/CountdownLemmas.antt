@@ -85,16 +85,16 @@ IsCounting l step k old lists at = IsChanging (counting l k old) l step old list
 pub counting-begun : (l k : ℕ) (old : KeyedLists) (at : Option ℕ) → at ≡ first_key (list_at l old) → IsCounting l 0 k old old at
 counting-begun l k old at e = change_begun (counting l k old) l old at e (sym (set-get_or old l []))
 
-pub next_left : (l step k : ℕ) (old lists : KeyedLists) (at : Option ℕ) (key : ℕ) → IsCounting l step k old lists at
-    → at ≡ Some key → IsNextChanged (counting l k old) l step old lists key
-next_left l step k old lists at key s e = change_next (counting l k old) l old step lists at key s e
-
 pub counting-enough : (l step k : ℕ) (old lists : KeyedLists) (at : Option ℕ) → IsCounting l step k old lists at
     → row_count old ≤ step → lists ≡ slice_set old l (fewer k (list_at l old))
 counting-enough l step k old lists at s h = change_ended (counting l k old) l old step lists at s h
     ∙ ap (slice_set old l) (append-nil (fewer k (list_at l old)))
 
-module _ (l step k : ℕ) (old lists : KeyedLists) (b : l < length old) (key : ℕ) (w : IsNextChanged (counting l k old) l step old lists key) where
+module _ (l step k : ℕ) (old lists : KeyedLists) (b : l < length old) (key : ℕ) (at : Option ℕ) (s : IsCounting l step k old lists at)
+    (q : at ≡ Some key) where
+  w : IsNextChanged (counting l k old) l step old lists key
+  w = change_next (counting l k old) l old step lists at key s q
+
   counting-in_range : l < length lists
   counting-in_range = rw (w.is, length-set old l (fewer k w.past ++ (key, w.row.node) ∷ w.row.rest)) b
 
@@ -122,14 +122,14 @@ module _ (l step k : ℕ) (old lists : KeyedLists) (b : l < length old) (key : �
       let more : fewer k (w.past ++ row ∷ []) ≡ fewer k w.past ++ with_fewer_rounds k row ∷ [] =
       map-append (with_fewer_rounds k) w.past (row ∷ []) in
       change_more (counting l k old) l old step lists new next key w
-      (rw (
-        t l (fewer k w.past) w.row.node w.row.rest counting-in_range counting-standing,
-        w.is,
+      (t l (fewer k w.past) w.row.node w.row.rest counting-in_range counting-standing
+      ∙ (ap (λ (y : KeyedLists). slice_set y l (fewer k w.past ++ (key, record w.row.node { rounds = less }) ∷ w.row.rest)) w.is
+      ∙ rw (
         set_twice old l (fewer k w.past ++ row ∷ w.row.rest) (fewer k w.past ++ (key, record w.row.node { rounds = less }) ∷ w.row.rest),
         is_less,
         more,
         append_assoc (fewer k w.past) (with_fewer_rounds k row ∷ []) w.row.rest,
-      ) refl)
+      ) refl))
       (n l (fewer k w.past) w.row.node w.row.rest counting-in_range counting-standing)
 
 -- the lists so far have lost their rounds, and the others are unchanged

@@ -16,7 +16,8 @@ use Rattle.timer_wheels.specs.Buckets.{state_of}
 use Rattle.timer_wheels.specs.HeldPlaces.{IsHeld, IsFirstHeld}
 use Rattle.timer_wheels.specs.declared.buckets.Buckets.{Buckets}
 use Rattle.timer_wheels.proofs.Handles.{timer_named, held_is}
-use Rattle.timer_wheels.proofs.RowLemmas.{all-rows_below, all-entries}
+use Rattle.timer_wheels.proofs.AllLemmas.{all-map}
+use Rattle.timer_wheels.proofs.RowLemmas.{all-rows_below}
 
 -- each row stands under its key
 under_from : (lists : KeyedLists) (l : ℕ) (front rows : Rows) → AreApart lists → l < length lists
@@ -59,13 +60,13 @@ module _ (b : Buckets) (apart : AreApart b.links.lists) where
   of_pending : (P : Entry → Type 0) → ((row : Row) → node_at row.0 b.links.lists ≡ Some row.1 → P (entry_of row))
       → AllByRecursion P (state_of b).pending
   of_pending P f = All-in_order timer_of P (entries_of (rows_below b.slots b.links.lists))
-      (all-entries P (rows_below b.slots b.links.lists) (All-weaken (λ row. node_at row.0 b.links.lists
+      (all-map entry_of P (rows_below b.slots b.links.lists) (All-weaken (λ row. node_at row.0 b.links.lists
       ≡ Some row.1) (λ row. P (entry_of row)) (rows_below b.slots b.links.lists) f under_below))
 
   -- and of those of the due timers
   of_due : (P : Entry → Type 0) → ((row : Row) → node_at row.0 b.links.lists ≡ Some row.1 → P (entry_of row))
       → AllByRecursion P (state_of b).due
-  of_due P f = all-entries P (list_at b.slots b.links.lists) (All-weaken (λ row. node_at row.0 b.links.lists
+  of_due P f = all-map entry_of P (list_at b.slots b.links.lists) (All-weaken (λ row. node_at row.0 b.links.lists
       ≡ Some row.1) (λ row. P (entry_of row)) (list_at b.slots b.links.lists) f (under b.slots (omega arith)))
 
   held_under : (handle : Handle) (node : Node) → Some node ≡ node_at handle.place b.links.lists → node.timer.serial ≡ handle.serial

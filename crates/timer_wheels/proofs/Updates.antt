@@ -12,7 +12,8 @@ use Rattle.timer_links.specs.declared.node.Node.{Node}
 use Rattle.timer_links.specs.Lists.{list_at, with_row, without_key, PopsFront, KeyedLists, Row, Rows}
 use Rattle.timer_wheels.specs.Buckets.{IsListOf}
 use Rattle.timer_wheels.specs.BucketLists.{timer_in, timers_in, rows_below, wheel_state, AreDue, AreBuckets}
-use Rattle.timer_wheels.proofs.RowLemmas.{AreBelow-timers, all-append, all-list_at, entries-append, rows_below-above, rows_below-none, rows_below-without_key, list_at-without_key}
+use Rattle.timer_wheels.proofs.AllLemmas.{all-map}
+use Rattle.timer_wheels.proofs.RowLemmas.{all-append, all-list_at, entries-append, rows_below-above, rows_below-none, rows_below-without_key, list_at-without_key}
 use Rattle.timer_wheels.proofs.BucketLemmas.{AreDistinct-part, AreRising-part, AreBelow-pending, started, started-pending, started-distinct, in_order-with_row}
 
 module _ {n last_tick now last : ℕ} {lists : KeyedLists} (b : AreBuckets n last_tick now last lists) where
@@ -78,7 +79,7 @@ module _ {n last_tick now last : ℕ} {lists : KeyedLists} (b : AreBuckets n las
       }) b.pending
 
   newest_due : (serial : ℕ) → last < serial → AreBelow serial (timers_in (list_at n lists))
-  newest_due serial fresh = AreBelow-timers serial (list_at n lists)
+  newest_due serial fresh = all-map timer_in (λ t. t.serial < serial) (list_at n lists)
       (All-weaken (λ row. IsDue now last (timer_in row)) (λ row. (timer_in row).serial < serial) (list_at n lists)
       (λ row d. let s : (timer_in row).serial ≤ last = d.serial in omega arith) b.due)
 
