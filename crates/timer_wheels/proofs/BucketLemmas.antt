@@ -19,7 +19,7 @@ use Rattle.timer_wheels.proofs.RowLemmas.{all-append, all-front, all-rest, all-r
 
 -- A row is inserted.
 
-module _ (row : Row) (old new : Rows) (i : IsInserted row old new) where
+module _ {row : Row} {old new : Rows} (i : IsInserted row old new) where
   entries_old : entries_of old ≡ entries_of i.front ++ entries_of i.rest
   entries_old = ap entries_of i.old_is ∙ entries-append i.front i.rest
 
@@ -94,41 +94,6 @@ pub AreBelow-pending : (last_tick now last high : ℕ) (rows : Rows) → last < 
 AreBelow-pending last_tick now last high rows h a = all-map timer_in (λ t. t.serial < high) rows
     (All-weaken (λ row. IsPending last_tick now last (timer_in row)) (λ row. (timer_in row).serial < high) rows
     (λ row p. newer last_tick now last high (timer_in row) h p) a)
-
-module _ (n last_tick now last bucket place : ℕ) (node : Node) (lists : KeyedLists) (h : bucket < n) (b : bucket < length lists)
-    (fresh : last < node.timer.serial) (p : ArePending last_tick now last (rows_below n lists)) where
-  inserted : IsInserted (place, node) (rows_below n lists) (rows_below n (with_row bucket (place, node) lists))
-  inserted = rows_below-with_row n bucket (place, node) lists h b
-
-  older : AreBelow node.timer.serial (timers_in (rows_below n lists))
-  older = AreBelow-pending last_tick now last node.timer.serial (rows_below n lists) fresh p
-
-  pub started : wheel_state n last_tick now node.timer.serial (with_row bucket (place, node) lists)
-      ≡ after_start place node.timer (wheel_state n last_tick now last lists)
-  started =
-      let m : n ≢ bucket = omega arith in
-      rw (
-        pending_in-newest (place, node) (rows_below n lists) (rows_below n (with_row bucket (place, node) lists)) inserted older,
-        get_or-set_other lists bucket n (list_at bucket lists ++ (place, node) ∷ []) [] m,
-      ) refl
-
-  pub started-pending : now < node.timer.deadline → node.timer.deadline ≤ last_tick
-      → ArePending last_tick now node.timer.serial (rows_below n (with_row bucket (place, node) lists))
-  started-pending later range =
-      all-inserted (place, node) (rows_below n lists) (rows_below n (with_row bucket (place, node) lists)) inserted
-      (λ row. IsPending last_tick now node.timer.serial (timer_in row))
-      (record { later = later; in_range = range; serial = omega arith })
-      (All-weaken (λ row. IsPending last_tick now last (timer_in row)) (λ row. IsPending last_tick now node.timer.serial (timer_in row))
-      (rows_below n lists) (λ row q. record {
-        later = q.later;
-        in_range = q.in_range;
-        serial = (let s : (timer_in row).serial ≤ last = q.serial in omega arith);
-      }) p)
-
-  pub started-distinct : AreDistinct (timers_in (rows_below n lists))
-      → AreDistinct (timers_in (rows_below n (with_row bucket (place, node) lists)))
-  started-distinct d = distinct-inserted (place, node) (rows_below n lists) (rows_below n (with_row bucket (place, node) lists)) inserted
-      (IsNotAmong-below node.timer.serial (timers_in (rows_below n lists)) older) d
 
 -- A newest row is pushed to the back of one list: each list stays in order.
 pub in_order-with_row : (m l : ℕ) (row : Row) (lists : KeyedLists) → l < length lists → 0 < (timer_in row).serial
