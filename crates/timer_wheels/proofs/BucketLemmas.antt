@@ -191,18 +191,30 @@ node_at-parts (suc n) key (x ∷ xs) l =
 abbrev pub HasNode : ℕ → Option Node → Row → Type 0
 HasNode key found row = row.0 ≡ key → Some row.1 ≡ found
 
-pub apart_from : (lists : KeyedLists) (l key : ℕ) (front rows : Rows) → AreApart lists → l < length lists
-    → list_at l lists ≡ front ++ rows → AllByRecursion (HasNode key (node_at key lists)) rows
-apart_from lists l key front [] a b e = tt
-apart_from lists l key front (x ∷ xs) a b e = (
-  (λ (k : x.0 ≡ key). sym (ap (λ (y : ℕ). node_at y lists) (sym k) ∙ (a l front x xs b e).0)),
-  apart_from lists l key (front ++ x ∷ []) xs a b (e ∙ sym (append_assoc front (x ∷ []) xs)),
+has_node : (key : ℕ) (lists : KeyedLists) (row : Row) → node_at row.0 lists ≡ Some row.1 → HasNode key (node_at key lists) row
+has_node key lists row e k = sym (ap (λ (y : ℕ). node_at y lists) (sym k) ∙ e)
+
+-- each row stands under its key
+under_from : (lists : KeyedLists) (l : ℕ) (front rows : Rows) → AreApart lists → l < length lists
+    → list_at l lists ≡ front ++ rows → AllByRecursion (λ row. node_at row.0 lists ≡ Some row.1) rows
+under_from lists l front [] a b e = tt
+under_from lists l front (x ∷ xs) a b e = (
+  (a l front x xs b e).0,
+  under_from lists l (front ++ x ∷ []) xs a b (e ∙ sym (append_assoc front (x ∷ []) xs)),
 )
+
+pub under_keys : (l : ℕ) (lists : KeyedLists) → l < length lists → AreApart lists
+    → AllByRecursion (λ row. node_at row.0 lists ≡ Some row.1) (list_at l lists)
+under_keys l lists b a = under_from lists l [] (list_at l lists) a b refl
+
+pub apart_list : (l key : ℕ) (lists : KeyedLists) → l < length lists → AreApart lists
+    → AllByRecursion (HasNode key (node_at key lists)) (list_at l lists)
+apart_list l key lists b a = All-weaken (λ row. node_at row.0 lists ≡ Some row.1) (HasNode key (node_at key lists)) (list_at l lists)
+    (has_node key lists) (under_keys l lists b a)
 
 pub apart_rows : (n key : ℕ) (lists : KeyedLists) → n ≤ length lists → AreApart lists
     → AllByRecursion (HasNode key (node_at key lists)) (rows_below n lists)
-apart_rows n key lists b a = all-rows_below (HasNode key (node_at key lists)) n lists
-    (λ s h. apart_from lists s key [] (list_at s lists) a (omega arith) refl)
+apart_rows n key lists b a = all-rows_below (HasNode key (node_at key lists)) n lists (λ s h. apart_list s key lists (omega arith) a)
 
 -- What became due.
 

@@ -17,16 +17,8 @@ use Rattle.timer_wheels.specs.HeldPlaces.{IsHeld, IsFirstHeld}
 use Rattle.timer_wheels.specs.declared.buckets.Buckets.{Buckets}
 use Rattle.timer_wheels.proofs.Handles.{timer_named, held_is}
 use Rattle.timer_wheels.proofs.AllLemmas.{all-map}
+use Rattle.timer_wheels.proofs.BucketLemmas.{under_keys}
 use Rattle.timer_wheels.proofs.RowLemmas.{all-rows_below}
-
--- each row stands under its key
-under_from : (lists : KeyedLists) (l : ℕ) (front rows : Rows) → AreApart lists → l < length lists
-    → list_at l lists ≡ front ++ rows → AllByRecursion (λ row. node_at row.0 lists ≡ Some row.1) rows
-under_from lists l front [] a b e = tt
-under_from lists l front (x ∷ xs) a b e = (
-  (a l front x xs b e).0,
-  under_from lists l (front ++ x ∷ []) xs a b (e ∙ sym (append_assoc front (x ∷ []) xs)),
-)
 
 elsewhere : (from to : ℕ) (lists : KeyedLists) → AreUnused from to lists → (row : Row) → node_at row.0 lists ≡ Some row.1
     → (row.0 < from) ⊎ (to ≤ row.0)
@@ -50,8 +42,7 @@ some_timer t o e = subst IsSome e refl
 
 module _ (b : Buckets) (apart : AreApart b.links.lists) where
   under : (l : ℕ) → l < b.slots + 1 → AllByRecursion (λ row. node_at row.0 b.links.lists ≡ Some row.1) (list_at l b.links.lists)
-  under l h = let n : length b.links.lists ≡ b.slots + 1 = b.sound.has_lists in under_from b.links.lists l [] (list_at l b.links.lists) apart
-      (omega arith) refl
+  under l h = under_keys l b.links.lists (omega (arith, b.sound.has_lists)) apart
 
   under_below : AllByRecursion (λ row. node_at row.0 b.links.lists ≡ Some row.1) (rows_below b.slots b.links.lists)
   under_below = all-rows_below (λ row. node_at row.0 b.links.lists ≡ Some row.1) b.slots b.links.lists (λ s h. under s (omega arith))
