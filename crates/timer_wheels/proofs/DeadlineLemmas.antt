@@ -32,7 +32,7 @@ use Rattle.timer_wheels.proofs.HierLeaps.{IsKnown, known, none_where, none_wakes
 use Rattle.timer_wheels.proofs.RowLemmas.{all-append, all-rows_below, append-nil, timers-append, around, rows_below-more}
 use Rattle.timer_wheels.proofs.TableLaws.{of_table}
 use Rattle.timer_wheels.proofs.VisitLaws.{list_is}
-use Rattle.timer_wheels.proofs.WalkLemmas.{IsWalking, IsNextRow, begun, next_row, found, walked}
+use Rattle.timer_wheels.proofs.WalkLemmas.{IsGathering}
 
 -- The least deadline of two lists together.
 
@@ -65,46 +65,33 @@ least-one t = record { has = inl refl; none_earlier = (omega arith, tt) }
 
 -- The walk along one list.
 
-pub record IsSeeking (l step : ℕ) (lists : KeyedLists) (at : Option ℕ) (first : First) : Type 0 where
-  pub past : Rows
-  pub walk : IsWalking l step lists at past
-  pub first_of : IsFirstOf first (timers_in past)
+-- the first deadline of the rows, which is known if there are rows
+pub record IsSought (first : First) (rows : Rows) : Type 0 where
+  pub first_of : IsFirstOf first (timers_in rows)
   -- the first timer is at most the bound
-  pub begun_at : first.count ≡ 0 → (past ≡ []) × (first.bound ≡ 18446744073709551615)
-
-pub seeking-begun : (l : ℕ) (lists : KeyedLists) (at : Option ℕ) (first : First) → at ≡ first_key (list_at l lists)
-    → IsFirstOf first [] → first.bound ≡ 18446744073709551615 → IsSeeking l 0 lists at first
-seeking-begun l lists at first e f b = record { past = []; walk = begun l lists at e; first_of = f; begun_at = λ z. (refl, b) }
+  pub begun_at : first.count ≡ 0 → (rows ≡ []) × (first.bound ≡ 18446744073709551615)
 
 -- it can count one more
-pub seeking-few : (l step most : ℕ) (lists : KeyedLists) (at : Option ℕ) (first : First) → IsSeeking l step lists at first
+pub sought_few : {l step : ℕ} {lists : KeyedLists} {at : Option ℕ} {first : First} (most : ℕ) → IsGathering (IsSought first) l step lists at
     → step < most → most < 18446744073709551616 → first.count < 18446744073709551615
-seeking-few l step most lists at first s h m =
-    omega (arith, s.first_of.counted, count-few first.bound (timers_in s.past), length-map s.past timer_in, s.walk.count)
+sought_few {first = first} most s h m =
+    omega (arith, s.holds.first_of.counted, count-few first.bound (timers_in s.past), length-map s.past timer_in, s.walk.count)
 
-pub seeking-one : (l step : ℕ) (lists : KeyedLists) (b : l < length lists) (a : AreApart lists) (key : ℕ)
-    (at next : Option ℕ) (first more : First) (node : Node) → (s : IsSeeking l step lists at first) → at ≡ Some key
-    → Some node ≡ node_at key lists
-    → ((ts : List Timer) (t : Timer) → t.deadline ≡ node.timer.deadline → IsFirstOf first ts → IsFirstOf more (ts ++ t ∷ []))
-    → more.bound ≡ min first.bound node.timer.deadline → node.timer.deadline < 18446744073709551616
-    → ((w : IsNextRow l step lists key s.past s.walk.left) → next ≡ first_key w.rest) → IsSeeking l (step + 1) lists next more
-seeking-one l step lists b a key at next first more node s e f m k r n =
-    let w : IsNextRow l step lists key s.past s.walk.left = next_row l step lists at key s.past s.walk e in
-    let same : node ≡ w.node = some_same node w.node (f ∙ found l step lists b a key s.past w) in
-    let some : 0 < more.count = enter_known first more (timers_in s.past) node.timer (m (timers_in s.past) node.timer refl s.first_of)
+pub sought_one : (key : ℕ) (first more : First) (node same : Node) (found : Option Node) (rows : Rows) → Some same ≡ found
+    → ((ts : List Timer) (t : Timer) → t.deadline ≡ same.timer.deadline → IsFirstOf first ts → IsFirstOf more (ts ++ t ∷ []))
+    → more.bound ≡ min first.bound same.timer.deadline → same.timer.deadline < 18446744073709551616 → found ≡ Some node
+    → IsSought first rows → IsSought more (rows ++ (key, node) ∷ [])
+sought_one key first more node same found rows f m k r e s =
+    let some : 0 < more.count = enter_known first more (timers_in rows) same.timer (m (timers_in rows) same.timer refl s.first_of)
     s.first_of k (λ c. omega (arith, (s.begun_at c).1)) in
     record {
-      past = s.past ++ (key, w.node) ∷ [];
-      walk = walked l step lists key s.past w next (n w);
-      first_of = rw (timers-append s.past ((key, w.node) ∷ []))
-          (m (timers_in s.past) w.node.timer (ap (λ (y : Node). y.timer.deadline) (sym same)) s.first_of);
+      first_of = rw (timers-append rows ((key, node) ∷ []))
+          (m (timers_in rows) node.timer (ap (λ (y : Node). y.timer.deadline) (sym (some_same same node (f ∙ e)))) s.first_of);
       begun_at = λ c. absurd (omega arith);
     }
 
-pub sought : (l step : ℕ) (lists : KeyedLists) (at : Option ℕ) (first : First) → (s : IsSeeking l step lists at first)
-    → list_at l lists ≡ s.past → IsKnownOf first (timers_in (list_at l lists))
-sought l step lists at first s e =
-    rw e (record { first_of = s.first_of; some = λ z. ap (λ (rows : Rows). timers_in rows) (s.begun_at z).0 })
+pub known_of : (first : First) (rows : Rows) → IsSought first rows → IsKnownOf first (timers_in rows)
+known_of first rows s = record { first_of = s.first_of; some = λ z. ap (λ (rows : Rows). timers_in rows) (s.begun_at z).0 }
 
 -- Several lists.
 

@@ -195,17 +195,6 @@ pub record AreBegun (k n : ℕ) (words : List ℕ) (firsts : List First) : Type 
   pub size : length firsts ≡ n
   pub each : (s : ℕ) → s < k → first_at s firsts ≡ begun_first (bit_of words s)
 
--- one more, by its bit
-pub begun-one : (k n : ℕ) (words : List ℕ) (firsts : List First) (first : First) → k < n → AreBegun k n words firsts
-    → first ≡ begun_first (bit_of words k) → AreBegun (k + 1) n words (slice_set firsts k first)
-begun-one k n words firsts first h f e = record {
-  size = length-set firsts k first ∙ f.size;
-  each = λ s b. elim (cases_eq s k) [
-    | inl q ↦ rw q (get_or-set_same firsts k first unknown_first (omega (arith, f.size)) ∙ e)
-    | inr m ↦ get_or-set_other firsts k s first unknown_first m ∙ f.each s (omega arith)
-  ];
-}
-
 begun_either : (b : ℕ) (first : First) → first ≡ begun_first b → (first ≡ unknown_first) ⊎ ((b ≡ 0) × (first ≡ no_first))
 begun_either zero first e = inr (refl, e)
 begun_either (suc n) first e = inl e
