@@ -19,6 +19,3 @@ last_named Clock = refl
 
 pub at_most : (x n m : ℕ) → n ≡ m → x ≤ n → x ≤ m
 at_most x n m e h = omega arith
-
-pub below : (x n m : ℕ) → n ≡ m → x < n → x < m
-below x n m e h = omega arith

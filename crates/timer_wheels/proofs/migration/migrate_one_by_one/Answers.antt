@@ -9,12 +9,6 @@ use Rattle.timer_wheels.proofs.MigrationLoop.{first_row, next_due, next_left, du
 use Rattle.timer_wheels.proofs.OccupiedLemmas.{marked_due, marked_left, marked_all}
 use Rattle.timer_wheels.proofs.migration.migrate_one_by_one.Goals as goal
 
-in_new : (to n : ℕ) (lists old : KeyedLists) → to < n → length old ≡ n + 1 → length lists ≡ length old → to < length lists
-in_new to n lists old h e f = omega arith
-
-positive : (tick d deadline : ℕ) → tick ≤ d → d ≡ deadline → deadline ≢ tick → 0 < deadline
-positive tick d deadline h e n = omega arith
-
 pub loop-ahead-preserved-then-deadline-tick : goal.loop-ahead-preserved-then-deadline-tick
 loop-ahead-preserved-then-deadline-tick c =
     let i = c.loop-ahead.invariant in
@@ -45,8 +39,7 @@ loop-ahead-preserved c =
     let to = c.bucket_of-to in
     let is = left_target after i.emptying f to.result to.ensures.value c.if-deadline-tick.false in
     let away = goes_elsewhere after i.emptying f to.result is in
-    let inside = in_new to.result n c.loop-ahead.links.lists c.args.links.now.lists to.ensures.in_range c.requires.lists
-    i.emptying.has_lists in
+    let inside : to.result < length c.loop-ahead.links.lists = omega (arith, to.ensures.in_range, c.requires.lists, i.emptying.has_lists) in
     record {
       room = m.ensures.room ∙ i.room;
       emptying = next_left after i.emptying f to.result (c.loop-ahead.moves + 1) to.ensures.value c.if-deadline-tick.false
@@ -92,10 +85,10 @@ enter-requires c =
     let to = c.bucket_of-to in
     let f = first_row i.emptying (sym c.in-Some.is ∙ i.ahead) in
     let is = left_target m.new.self.lists i.emptying f to.result to.ensures.value c.if-deadline-tick.false in
-    let inside = in_new to.result n c.loop-ahead.links.lists c.args.links.now.lists to.ensures.in_range c.requires.lists i.emptying.has_lists in
+    let inside : to.result < length c.loop-ahead.links.lists = omega (arith, to.ensures.in_range, c.requires.lists, i.emptying.has_lists) in
     record {
       list = rw i.foretold.size to.ensures.in_range;
-      positive = positive c.args.tick (timer_in f.row).deadline c.in-Some.deadline f.first.not_past f.deadline c.if-deadline-tick.false;
+      positive = omega (arith, f.first.not_past, f.deadline, c.if-deadline-tick.false);
       few = but_fits i.foretold to.result c.in-Some.deadline f.row f.rest m.new.self.lists to.ensures.in_range inside
           (goes_elsewhere m.new.self.lists i.emptying f to.result is) f.at m.ensures.moved
           c.lemma_countable-else-deadline-tick.ensures;
