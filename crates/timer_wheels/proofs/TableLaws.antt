@@ -16,6 +16,3 @@ pub last_named : (table : Table) → last_of (radices table) ≡ last_of_table t
 unfolding wide clock
 last_named Wide = refl
 last_named Clock = refl
-
-pub at_most : (x n m : ℕ) → n ≡ m → x ≤ n → x ≤ m
-at_most x n m e h = omega arith
