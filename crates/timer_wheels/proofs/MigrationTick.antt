@@ -71,9 +71,7 @@ module _ {t : Table} {b : Buckets} {words : List ℕ} (h : IsHier t b words) whe
 module _ {t : Table} {b : Buckets} {words : List ℕ} (h : IsHier t b words) (z : (state_of b).due ≡ []) (l : b.tick < b.last_tick) where
   before_tick : IsBefore (radices t) b.last_tick b.tick b.last_serial b.links.lists
   before_tick =
-      let k = of_table t in
-      let P : ℕ → Type 0 = HasDigits (radices t) in
-      before_of (radices t) b.slots b.last_tick b.tick b.last_serial b.links.lists h.has_slots k.is_table (subst P (sym h.clock) k.digits) l
+      before_of (radices t) b.slots b.last_tick b.tick b.last_serial b.links.lists h.has_slots (of_table t).is_table (last_digits h) l
       b.sound h.placed z
 
   pub may_migrate_at : {list : ℕ} → list ≡ emptied (radices t) (b.tick + 1)

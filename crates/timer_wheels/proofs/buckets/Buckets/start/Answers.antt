@@ -31,11 +31,10 @@ returns-clause-started c =
 pub returns-in_default-clause-full : goal.returns-in_default-clause-full
 returns-in_default-clause-full c =
     let b = c.args.self.now in
-    let due : Rows = list_at b.slots b.links.lists in
-    let parts : row_count b.links.lists ≡ length (rows_below b.slots b.links.lists) + length due =
-    row_count-parts b.slots b.links.lists b.sound.has_lists in
-    let rows : length (pending_in (rows_below b.slots b.links.lists)) ≡ length (rows_below b.slots b.links.lists) =
-    length-pending_in (rows_below b.slots b.links.lists) in
-    let entries : length (entries_of due) ≡ length due = length-map due entry_of in
-    let full : b.links.room ≤ row_count b.links.lists = c.in_default.ensures.full in
-    omega arith
+    omega (
+      arith,
+      row_count-parts b.slots b.links.lists b.sound.has_lists,
+      length-pending_in (rows_below b.slots b.links.lists),
+      length-map (list_at b.slots b.links.lists) entry_of,
+      c.in_default.ensures.full,
+    )
