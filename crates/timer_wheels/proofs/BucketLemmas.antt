@@ -8,14 +8,14 @@ use Rattle.timer_base.specs.declared.timer.Timer.{Timer}
 use Rattle.timer_base.specs.Order.{in_order, AreBelow, AreDistinct, AreRising, IsNotAmong}
 use Rattle.timer_base.specs.OrderLaws.{in_order-newest, filter-in_order, length-in_order, All-filter, All-weaken, AreRising-append, AreRising-weaken}
 use Rattle.timer_base.specs.Pending.{Entry, timer_of, timers_of, is_due_at, entries_due, put}
-use Rattle.timer_base.specs.WheelState.{IsPending, IsDue, after_start}
+use Rattle.timer_base.specs.WheelState.{IsPending, IsDue}
 use Rattle.timer_links.specs.declared.node.Node.{Node}
 use Rattle.timer_links.specs.Lists.{list_at, node_in, node_at, first_of, with_row, without_key, row_count, AreApart, KeyedLists, Row, Rows}
 use Rattle.timer_wheels.specs.BucketLaws.{timers_of-entries}
 use Rattle.timer_wheels.specs.Buckets.{IsListOf}
-use Rattle.timer_wheels.specs.BucketLists.{timer_in, timers_in, entry_of, entries_of, rows_below, pending_in, wheel_state, ArePending, AreDue, AreInOrder, EachRow}
+use Rattle.timer_wheels.specs.BucketLists.{timer_in, timers_in, entry_of, entries_of, rows_below, pending_in, ArePending, AreDue, AreInOrder, EachRow}
 use Rattle.timer_wheels.proofs.AllLemmas.{all-map, all-of_map}
-use Rattle.timer_wheels.proofs.RowLemmas.{all-append, all-front, all-rest, all-rows_below, IsInserted, rows_below-with_row, list_at-without_key, timers-append, entries-append, filter-entries, IsNotAmong-below, AreDistinct-inserted}
+use Rattle.timer_wheels.proofs.RowLemmas.{all-append, all-front, all-rest, all-rows_below, IsInserted, list_at-without_key, timers-append, entries-append, filter-entries, AreDistinct-inserted}
 
 -- A row is inserted.
 

@@ -11,7 +11,7 @@ use Rattle.timer_base.specs.Pending.{Entry, timer_of}
 use Rattle.timer_base.specs.PlainState.{earliest}
 use Rattle.timer_base.specs.WakeUps.{next_deadline}
 use Rattle.timer_links.specs.declared.node.Node.{Node}
-use Rattle.timer_links.specs.Lists.{first_key, list_at, node_at, AreApart, KeyedLists, Row, Rows}
+use Rattle.timer_links.specs.Lists.{list_at, KeyedLists, Row, Rows}
 use Rattle.timer_wheels.specs.BucketLists.{timer_in, timers_in, entry_of, pending_in, rows_below, EachRow}
 use Rattle.timer_wheels.specs.Buckets.{state_of}
 use Rattle.timer_wheels.specs.Deadlines.{HasDeadline, IsLeast, IsLeastDeadline}

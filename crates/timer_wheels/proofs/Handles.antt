@@ -1,5 +1,5 @@
 -- What a handle names: a timer that is held, pending or due, or nothing. And the state once it is removed.
-use Rattle.std.proofs.Common.{◌≡◌, ◌≢◌, ◌<◌, ◌+◌, ℕ, ◌==◌, Bool, false, List, [], ◌∷◌, length, refl, sym, ◌∙◌, ap, subst, inl, inr, arith, map, filter, not, if◌then◌else◌, Option, Some, None, IsSome}
+use Rattle.std.proofs.Common.{◌≡◌, ◌≢◌, ◌<◌, ℕ, ◌==◌, Bool, false, List, [], ◌∷◌, refl, sym, ◌∙◌, ap, subst, inl, inr, arith, map, filter, not, if◌then◌else◌, Option, Some, None, IsSome}
 use Rattle.std.specs.List.{AllByRecursion}
 use Rattle.std.proofs.lemmas.Bool.{cases_eq, eq-eqb, eqb-true, ne_eqb}
 use Rattle.timer_base.specs.HeldLaws.{found_or_none, other_serial}

@@ -1,11 +1,10 @@
 -- One tick of a hierarchy of wheels: the invariant, the state and the moves after `migrated`.
 use Rattle.std.proofs.Common.{◌≡◌, ◌≢◌, ◌<◌, ◌≤◌, ◌+◌, ℕ, ◌==◌, ◌⊎◌, List, [], ◌∷◌, ◌++◌, length, refl, sym, ◌∙◌, ap, subst, inl, inr, arith, length-set, get_or-set_same, get_or-set_other, Bool, true, false, filter, not, if◌then◌else◌, slice_set}
 use Rattle.std.specs.List.{AllByRecursion}
-use Rattle.std.proofs.lemmas.Bool.{cases_eq, cases_lt, eq-eqb, ne_eqb, eqb-true, eqb-false}
+use Rattle.std.proofs.lemmas.Bool.{cases_eq, cases_lt, eq-eqb, ne_eqb, eqb-true}
 use Rattle.std.proofs.lemmas.Bool.Decides.{nat_tests}
 use Rattle.timer_base.specs.Basics.{is_not_due, is_due, not_due_before, either}
-use Rattle.timer_base.specs.declared.timer.Timer.{Timer}
-use Rattle.timer_base.specs.Order.{AreDistinct, AreRising, in_order, insert_in_order, is_before}
+use Rattle.timer_base.specs.Order.{AreRising, in_order, insert_in_order, is_before}
 use Rattle.timer_base.specs.OrderLaws.{map-in_order, in_order-same, AllAt, All-filter, All-weaken, All-in_order}
 use Rattle.timer_base.specs.Pending.{Entry, timer_of, is_due_at, entries_due, entries_left}
 use Rattle.timer_base.specs.WheelState.{IsPending, after_tick}

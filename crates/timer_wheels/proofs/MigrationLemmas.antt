@@ -3,7 +3,6 @@ use Rattle.std.proofs.Common.{◌≡◌, ◌<◌, ◌+◌, ℕ, ◌==◌, List, 
 use Rattle.std.specs.List.{AllByRecursion}
 use Rattle.std.proofs.lemmas.Bool.{cases_eq, eq-eqb, ne_eqb}
 use Rattle.timer_base.specs.Basics.{either}
-use Rattle.timer_base.specs.declared.timer.Timer.{Timer}
 use Rattle.timer_base.specs.Order.{AreDistinct, IsNotAmong, in_order, insert_in_order}
 use Rattle.timer_base.specs.OrderLaws.{in_order-anywhere}
 use Rattle.timer_base.specs.Pending.{is_due_at}

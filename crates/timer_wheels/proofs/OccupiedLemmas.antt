@@ -3,7 +3,7 @@ use Rattle.std.proofs.Common.{◌≡◌, ◌≢◌, ◌<◌, ◌≤◌, ◌+◌,
 use Rattle.std.specs.Int.{bit_at, w64, trailing_zeros}
 use Rattle.std.proofs.lemmas.Bool.{cases_eq, cases_lt}
 use Rattle.std.proofs.lemmas.Nat.Bits.{bit_at_set_same, bit_at_set_other, bit_at_clear_same, bit_at_clear_other, bit_at-trailing_zeros, bit_at-zero}
-use Rattle.timer_links.specs.Lists.{list_at, with_row, front_moved, first_row_moved, KeyedLists, Row, Rows}
+use Rattle.timer_links.specs.Lists.{list_at, front_moved, first_row_moved, KeyedLists, Row, Rows}
 use Rattle.timer_wheels.specs.declared.table.TheConstants.{MOST_BUCKETS}
 use Rattle.timer_wheels.specs.declared.occupied.TheConstants.{WORDS}
 use Rattle.timer_wheels.specs.Occupied.{bit_of, filled, AreMarked, AreMarkedBut, IsClearFrom, IsFirstSet, IsLowestSet}

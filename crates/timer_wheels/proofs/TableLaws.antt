@@ -1,5 +1,5 @@
 -- Lemmas about every table that a hierarchy of wheels may have.
-use Rattle.std.proofs.Common.{◌≡◌, ◌<◌, ◌≤◌, ℕ, refl, arith}
+use Rattle.std.proofs.Common.{◌≡◌, refl}
 use Rattle.timer_wheels.specs.declared.table.Table.{Table}
 use Rattle.timer_wheels.specs.declared.table.Table.TheVariants.{Wide, Clock}
 use Rattle.timer_wheels.specs.Digits.{last_of}

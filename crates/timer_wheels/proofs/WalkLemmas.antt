@@ -1,5 +1,5 @@
 -- Lemmas for `walks`: the loop invariants of copying, counting and emptying one list.
-use Rattle.std.proofs.Common.{◌≡◌, ◌<◌, ◌≤◌, ◌+◌, ℕ, suc, List, [], ◌∷◌, ◌++◌, length, refl, sym, ◌∙◌, ap, arith, append_assoc, length-append, get_or-set_same, true, IsSome, Option, Some, None, slice_set, is_some}
+use Rattle.std.proofs.Common.{◌≡◌, ◌<◌, ◌≤◌, ◌+◌, ℕ, List, [], ◌∷◌, ◌++◌, length, refl, sym, ◌∙◌, ap, arith, append_assoc, length-append, get_or-set_same, true, IsSome, Option, Some, None, slice_set, is_some}
 use Rattle.std.proofs.lemmas.List.{set-get_or, length-map}
 use Rattle.timer_links.proofs.Rows.{length_list_at}
 use Rattle.timer_base.specs.Basics.{some_same, some_none, none_some, empty_when}

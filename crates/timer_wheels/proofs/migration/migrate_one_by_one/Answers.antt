@@ -1,6 +1,4 @@
-use Rattle.std.proofs.Common.{◌≡◌, ◌≢◌, ◌<◌, ◌≤◌, ◌+◌, ℕ, length, refl, sym, ◌∙◌, ap, arith, rules}
-use Rattle.timer_links.specs.Lists.{KeyedLists}
-use Rattle.timer_wheels.specs.BucketLists.{timer_in}
+use Rattle.std.proofs.Common.{◌<◌, ◌+◌, length, refl, sym, ◌∙◌, ap, arith, rules}
 use Rattle.timer_wheels.specs.Digits.{slots, lowest_radix}
 use Rattle.timer_wheels.specs.Occupied.{filled}
 use Rattle.timer_wheels.specs.Tables.{radices}

@@ -1,10 +1,10 @@
-use Rattle.std.proofs.Common.{◌≤◌, ◌≡◌, ◌+◌, ◌∙◌, length, ap, arith}
+use Rattle.std.proofs.Common.{◌∙◌, ap, arith}
 use Rattle.std.proofs.lemmas.List.{length-map}
 use Rattle.timer_base.specs.HeldLaws.{with_room-held_start}
 use Rattle.timer_base.specs.WheelState.{with_room}
-use Rattle.timer_links.specs.Lists.{row_count, list_at, Rows}
+use Rattle.timer_links.specs.Lists.{list_at}
 use Rattle.timer_wheels.specs.Buckets.{roomless_state, row_at}
-use Rattle.timer_wheels.specs.BucketLists.{rows_below, pending_in, entries_of, entry_of}
+use Rattle.timer_wheels.specs.BucketLists.{rows_below, entry_of}
 use Rattle.timer_wheels.proofs.BucketLemmas.{row_count-parts, length-pending_in}
 use Rattle.timer_wheels.proofs.Updates.{pushed_in, pushed_in-state, in_lists}
 use Rattle.timer_wheels.proofs.buckets.Buckets.start.Goals as goal
