@@ -8,17 +8,18 @@ use Rattle.timer_base.specs.declared.timer.Timer.{Timer}
 use Rattle.timer_base.specs.Order.{in_order, AreBelow, AreDistinct, AreRising, IsNotAmong}
 use Rattle.timer_base.specs.OrderLaws.{in_order-newest, filter-in_order, length-in_order, All-filter, All-weaken, AreRising-append, AreRising-weaken}
 use Rattle.timer_base.specs.Pending.{Entry, timer_of, timers_of, is_due_at, entries_due, put}
-use Rattle.timer_base.specs.WheelState.{IsPending, IsDue, after_start}
+use Rattle.timer_base.specs.WheelState.{IsPending, IsDue}
 use Rattle.timer_links.specs.declared.node.Node.{Node}
 use Rattle.timer_links.specs.Lists.{list_at, node_in, node_at, first_of, with_row, without_key, row_count, AreApart, KeyedLists, Row, Rows}
 use Rattle.timer_wheels.specs.BucketLaws.{timers_of-entries}
 use Rattle.timer_wheels.specs.Buckets.{IsListOf}
-use Rattle.timer_wheels.specs.BucketLists.{timer_in, timers_in, entry_of, entries_of, rows_below, pending_in, wheel_state, ArePending, AreDue, AreInOrder, EachRow}
-use Rattle.timer_wheels.proofs.RowLemmas.{all-append, all-front, all-rest, all-rows_below, IsInserted, rows_below-with_row, list_at-without_key, timers-append, entries-append, filter-entries, AreBelow-timers, IsNotAmong-below, AreDistinct-inserted}
+use Rattle.timer_wheels.specs.BucketLists.{timer_in, timers_in, entry_of, entries_of, rows_below, pending_in, ArePending, AreDue, AreInOrder, EachRow}
+use Rattle.timer_wheels.proofs.AllLemmas.{all-map, all-of_map}
+use Rattle.timer_wheels.proofs.RowLemmas.{all-append, all-front, all-rest, all-rows_below, IsInserted, list_at-without_key, timers-append, entries-append, filter-entries, AreDistinct-inserted}
 
 -- A row is inserted.
 
-module _ (row : Row) (old new : Rows) (i : IsInserted row old new) where
+module _ {row : Row} {old new : Rows} (i : IsInserted row old new) where
   entries_old : entries_of old ≡ entries_of i.front ++ entries_of i.rest
   entries_old = ap entries_of i.old_is ∙ entries-append i.front i.rest
 
@@ -90,44 +91,9 @@ newer last_tick now last high t h p = let q : t.serial ≤ last = p.serial in om
 
 pub AreBelow-pending : (last_tick now last high : ℕ) (rows : Rows) → last < high → ArePending last_tick now last rows
     → AreBelow high (timers_in rows)
-AreBelow-pending last_tick now last high rows h a = AreBelow-timers high rows
+AreBelow-pending last_tick now last high rows h a = all-map timer_in (λ t. t.serial < high) rows
     (All-weaken (λ row. IsPending last_tick now last (timer_in row)) (λ row. (timer_in row).serial < high) rows
     (λ row p. newer last_tick now last high (timer_in row) h p) a)
-
-module _ (n last_tick now last bucket place : ℕ) (node : Node) (lists : KeyedLists) (h : bucket < n) (b : bucket < length lists)
-    (fresh : last < node.timer.serial) (p : ArePending last_tick now last (rows_below n lists)) where
-  inserted : IsInserted (place, node) (rows_below n lists) (rows_below n (with_row bucket (place, node) lists))
-  inserted = rows_below-with_row n bucket (place, node) lists h b
-
-  older : AreBelow node.timer.serial (timers_in (rows_below n lists))
-  older = AreBelow-pending last_tick now last node.timer.serial (rows_below n lists) fresh p
-
-  pub started : wheel_state n last_tick now node.timer.serial (with_row bucket (place, node) lists)
-      ≡ after_start place node.timer (wheel_state n last_tick now last lists)
-  started =
-      let m : n ≢ bucket = omega arith in
-      rw (
-        pending_in-newest (place, node) (rows_below n lists) (rows_below n (with_row bucket (place, node) lists)) inserted older,
-        get_or-set_other lists bucket n (list_at bucket lists ++ (place, node) ∷ []) [] m,
-      ) refl
-
-  pub started-pending : now < node.timer.deadline → node.timer.deadline ≤ last_tick
-      → ArePending last_tick now node.timer.serial (rows_below n (with_row bucket (place, node) lists))
-  started-pending later range =
-      all-inserted (place, node) (rows_below n lists) (rows_below n (with_row bucket (place, node) lists)) inserted
-      (λ row. IsPending last_tick now node.timer.serial (timer_in row))
-      (record { later = later; in_range = range; serial = omega arith })
-      (All-weaken (λ row. IsPending last_tick now last (timer_in row)) (λ row. IsPending last_tick now node.timer.serial (timer_in row))
-      (rows_below n lists) (λ row q. record {
-        later = q.later;
-        in_range = q.in_range;
-        serial = (let s : (timer_in row).serial ≤ last = q.serial in omega arith);
-      }) p)
-
-  pub started-distinct : AreDistinct (timers_in (rows_below n lists))
-      → AreDistinct (timers_in (rows_below n (with_row bucket (place, node) lists)))
-  started-distinct d = distinct-inserted (place, node) (rows_below n lists) (rows_below n (with_row bucket (place, node) lists)) inserted
-      (IsNotAmong-below node.timer.serial (timers_in (rows_below n lists)) older) d
 
 -- A newest row is pushed to the back of one list: each list stays in order.
 pub in_order-with_row : (m l : ℕ) (row : Row) (lists : KeyedLists) → l < length lists → 0 < (timer_in row).serial
@@ -225,18 +191,30 @@ node_at-parts (suc n) key (x ∷ xs) l =
 abbrev pub HasNode : ℕ → Option Node → Row → Type 0
 HasNode key found row = row.0 ≡ key → Some row.1 ≡ found
 
-pub apart_from : (lists : KeyedLists) (l key : ℕ) (front rows : Rows) → AreApart lists → l < length lists
-    → list_at l lists ≡ front ++ rows → AllByRecursion (HasNode key (node_at key lists)) rows
-apart_from lists l key front [] a b e = tt
-apart_from lists l key front (x ∷ xs) a b e = (
-  (λ (k : x.0 ≡ key). sym (ap (λ (y : ℕ). node_at y lists) (sym k) ∙ (a l front x xs b e).0)),
-  apart_from lists l key (front ++ x ∷ []) xs a b (e ∙ sym (append_assoc front (x ∷ []) xs)),
+has_node : (key : ℕ) (lists : KeyedLists) (row : Row) → node_at row.0 lists ≡ Some row.1 → HasNode key (node_at key lists) row
+has_node key lists row e k = sym (ap (λ (y : ℕ). node_at y lists) (sym k) ∙ e)
+
+-- each row stands under its key
+under_from : (lists : KeyedLists) (l : ℕ) (front rows : Rows) → AreApart lists → l < length lists
+    → list_at l lists ≡ front ++ rows → AllByRecursion (λ row. node_at row.0 lists ≡ Some row.1) rows
+under_from lists l front [] a b e = tt
+under_from lists l front (x ∷ xs) a b e = (
+  (a l front x xs b e).0,
+  under_from lists l (front ++ x ∷ []) xs a b (e ∙ sym (append_assoc front (x ∷ []) xs)),
 )
+
+pub under_keys : (l : ℕ) (lists : KeyedLists) → l < length lists → AreApart lists
+    → AllByRecursion (λ row. node_at row.0 lists ≡ Some row.1) (list_at l lists)
+under_keys l lists b a = under_from lists l [] (list_at l lists) a b refl
+
+pub apart_list : (l key : ℕ) (lists : KeyedLists) → l < length lists → AreApart lists
+    → AllByRecursion (HasNode key (node_at key lists)) (list_at l lists)
+apart_list l key lists b a = All-weaken (λ row. node_at row.0 lists ≡ Some row.1) (HasNode key (node_at key lists)) (list_at l lists)
+    (has_node key lists) (under_keys l lists b a)
 
 pub apart_rows : (n key : ℕ) (lists : KeyedLists) → n ≤ length lists → AreApart lists
     → AllByRecursion (HasNode key (node_at key lists)) (rows_below n lists)
-apart_rows n key lists b a = all-rows_below (HasNode key (node_at key lists)) n lists
-    (λ s h. apart_from lists s key [] (list_at s lists) a (omega arith) refl)
+apart_rows n key lists b a = all-rows_below (HasNode key (node_at key lists)) n lists (λ s h. apart_list s key lists (omega arith) a)
 
 -- What became due.
 
@@ -251,15 +229,11 @@ timers_past last_tick before now last (e ∷ es) a = elim (either (is_due_at now
   | inr k ↦ rw k (timers_past last_tick before now last es a.1)
 ]
 
-rows_past : (now last : ℕ) (rows : Rows) → AllByRecursion (IsDue now last) (timers_in rows) → AreDue now last rows
-rows_past now last [] a = tt
-rows_past now last (x ∷ xs) a = (a.0, rows_past now last xs a.1)
-
 -- what became due at a tick was pending before it
 pub due_past : (last_tick before now last : ℕ) (es : List Entry) (rows : Rows)
     → AllByRecursion (IsPending last_tick before last) (timers_of es) → entries_of rows ≡ entries_due now es → AreDue now last rows
-due_past last_tick before now last es rows a e = rows_past now last rows (let P : List Timer → Type 0 = AllByRecursion (IsDue now last)
-    in subst P (sym (ap timers_of e) ∙ timers_of-entries rows) (timers_past last_tick before now last es a))
+due_past last_tick before now last es rows a e = all-of_map timer_in (IsDue now last) rows
+    (subst (AllByRecursion (IsDue now last)) (sym (ap timers_of e) ∙ timers_of-entries rows) (timers_past last_tick before now last es a))
 
 pub none_past : (now last : ℕ) (rows : Rows) → entries_of rows ≡ [] → AreDue now last rows
 none_past now last [] e = tt

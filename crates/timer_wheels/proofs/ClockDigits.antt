@@ -108,3 +108,10 @@ module _ (l now : ℕ) where
       let last = visit_above 24 days (l - 60 - 60) (now / 60 / 60) (omega arith) in
       let above = visit_above 60 hours (l - 60) (now / 60) (omega arith) in
       rw clock_is (omega (arith, days_end now r, visit_above 60 minutes l now (omega arith)))
+
+-- what the functions of the table return
+pub ruleset clock_buckets = (bucket_second, bucket_minute, bucket_hour, bucket_day)
+
+pub ruleset clock_emptied = (emptied_second, emptied_minute, emptied_hour, emptied_day)
+
+pub ruleset clock_visits = (clock_visit_second, clock_visit_minute, clock_visit_hour, clock_visit_day)

@@ -4,53 +4,31 @@ use Rattle.std.specs.List.{AllByRecursion}
 use Rattle.std.proofs.lemmas.Bool.{cases_eq}
 use Rattle.std.proofs.lemmas.List.{map-append, set-get_or}
 use Rattle.timer_base.specs.OrderLaws.{All-weaken}
+use Rattle.timer_links.specs.declared.node.Node.{Node}
 use Rattle.timer_links.specs.Lists.{node_at, first_key, list_at, row_count, AreApart, IsNext, HasRounds, SetsRounds, KeyedLists, Row, Rows}
 use Rattle.timer_wheels.specs.Revolutions.{HasRoundsLeft, with_fewer_rounds}
 use Rattle.timer_wheels.proofs.RowLemmas.{all-append, all-rest, append-nil, set_twice}
-use Rattle.timer_wheels.proofs.WalkLemmas.{IsWalking, IsChanging, IsNextChanged, begun, next_row, found, in_use, walked, ended_count, change_begun, change_next, change_more, change_ended}
+use Rattle.timer_wheels.proofs.WalkLemmas.{IsChanging, IsNextChanged, change_begun, change_next, change_more, change_ended}
 
 -- The fewest rounds.
 
--- the rows so far have at least this many rounds
-pub record IsMeasuring (l step : ℕ) (lists : KeyedLists) (at : Option ℕ) (most fewest : ℕ) : Type 0 where
-  pub past : Rows
-  pub walk : IsWalking l step lists at past
+-- the rows have at least this many rounds
+pub record AreMeasuredRows (most fewest : ℕ) (rows : Rows) : Type 0 where
   pub at_most : fewest ≤ most
-  pub each : AllByRecursion (HasRoundsLeft fewest) past
+  pub each : AllByRecursion (HasRoundsLeft fewest) rows
 
-pub measured-none : (l : ℕ) (lists : KeyedLists) (at : Option ℕ) (most : ℕ) → at ≡ first_key (list_at l lists)
-    → IsMeasuring l 0 lists at most most
-measured-none l lists at most e = record { past = []; walk = begun l lists at e; at_most = omega arith; each = tt }
+pub measured_none : (most : ℕ) → AreMeasuredRows most most []
+measured_none most = record { at_most = omega arith; each = tt }
 
 fewer_left : (a b : ℕ) (rows : Rows) → b ≤ a → AllByRecursion (HasRoundsLeft a) rows → AllByRecursion (HasRoundsLeft b) rows
 fewer_left a b rows h f = All-weaken (HasRoundsLeft a) (HasRoundsLeft b) rows (λ row k. omega arith) f
 
-pub measured-in_use : (l step : ℕ) (lists : KeyedLists) (b : l < length lists) (a : AreApart lists) (key : ℕ) (at : Option ℕ)
-    (most fewest : ℕ)
-    → (m : IsMeasuring l step lists at most fewest) → at ≡ Some key → IsSome (node_at key lists)
-measured-in_use l step lists b a key at most fewest m e = in_use l step lists b a key m.past (next_row l step lists at key m.past m.walk e)
-
-pub measured-one : (l step : ℕ) (lists : KeyedLists) (b : l < length lists) (a : AreApart lists) (key : ℕ) (at next : Option ℕ)
-    (most fewest rounds less : ℕ)
-    → (m : IsMeasuring l step lists at most fewest) → at ≡ Some key → HasRounds key lists rounds → IsNext key lists next
-    → less ≡ min fewest rounds
-    → IsMeasuring l (step + 1) lists next most less
-measured-one l step lists b a key at next most fewest rounds less m e r n k =
-    let w = next_row l step lists at key m.past m.walk e in
-    let same : rounds ≡ w.node.rounds = r w.node (found l step lists b a key m.past w) in
-    record {
-      past = m.past ++ (key, w.node) ∷ [];
-      walk = walked l step lists key m.past w next (n l m.past w.node w.rest b w.rows);
-      at_most = omega (arith, m.at_most);
-      each = all-append (HasRoundsLeft less) m.past ((key, w.node) ∷ []) (fewer_left fewest less m.past (omega arith) m.each) (
-        omega arith,
-        tt,
-      );
-    }
-
-pub measured-enough : (l step : ℕ) (lists : KeyedLists) (at : Option ℕ) (most fewest : ℕ)
-    → IsMeasuring l step lists at most fewest → row_count lists ≤ step → AllByRecursion (HasRoundsLeft fewest) (list_at l lists)
-measured-enough l step lists at most fewest m h = rw (ended_count l step lists at m.past m.walk h) m.each
+pub measured_one : (most fewest rounds less key : ℕ) (node : Node) (rows : Rows) → rounds ≡ node.rounds → less ≡ min fewest rounds
+    → AreMeasuredRows most fewest rows → AreMeasuredRows most less (rows ++ (key, node) ∷ [])
+measured_one most fewest rounds less key node rows r k m = record {
+  at_most = omega (arith, m.at_most);
+  each = all-append (HasRoundsLeft less) rows ((key, node) ∷ []) (fewer_left fewest less rows (omega arith) m.each) (omega arith, tt);
+}
 
 -- the rows of the lists so far have at least this many rounds
 pub record AreMeasured (count : ℕ) (lists : KeyedLists) (most fewest : ℕ) : Type 0 where
@@ -85,16 +63,16 @@ IsCounting l step k old lists at = IsChanging (counting l k old) l step old list
 pub counting-begun : (l k : ℕ) (old : KeyedLists) (at : Option ℕ) → at ≡ first_key (list_at l old) → IsCounting l 0 k old old at
 counting-begun l k old at e = change_begun (counting l k old) l old at e (sym (set-get_or old l []))
 
-pub next_left : (l step k : ℕ) (old lists : KeyedLists) (at : Option ℕ) (key : ℕ) → IsCounting l step k old lists at
-    → at ≡ Some key → IsNextChanged (counting l k old) l step old lists key
-next_left l step k old lists at key s e = change_next (counting l k old) l old step lists at key s e
-
 pub counting-enough : (l step k : ℕ) (old lists : KeyedLists) (at : Option ℕ) → IsCounting l step k old lists at
     → row_count old ≤ step → lists ≡ slice_set old l (fewer k (list_at l old))
 counting-enough l step k old lists at s h = change_ended (counting l k old) l old step lists at s h
     ∙ ap (slice_set old l) (append-nil (fewer k (list_at l old)))
 
-module _ (l step k : ℕ) (old lists : KeyedLists) (b : l < length old) (key : ℕ) (w : IsNextChanged (counting l k old) l step old lists key) where
+module _ (l step k : ℕ) (old lists : KeyedLists) (b : l < length old) (key : ℕ) (at : Option ℕ) (s : IsCounting l step k old lists at)
+    (q : at ≡ Some key) where
+  w : IsNextChanged (counting l k old) l step old lists key
+  w = change_next (counting l k old) l old step lists at key s q
+
   counting-in_range : l < length lists
   counting-in_range = rw (w.is, length-set old l (fewer k w.past ++ (key, w.row.node) ∷ w.row.rest)) b
 
@@ -122,14 +100,14 @@ module _ (l step k : ℕ) (old lists : KeyedLists) (b : l < length old) (key : �
       let more : fewer k (w.past ++ row ∷ []) ≡ fewer k w.past ++ with_fewer_rounds k row ∷ [] =
       map-append (with_fewer_rounds k) w.past (row ∷ []) in
       change_more (counting l k old) l old step lists new next key w
-      (rw (
-        t l (fewer k w.past) w.row.node w.row.rest counting-in_range counting-standing,
-        w.is,
+      (t l (fewer k w.past) w.row.node w.row.rest counting-in_range counting-standing
+      ∙ (ap (λ (y : KeyedLists). slice_set y l (fewer k w.past ++ (key, record w.row.node { rounds = less }) ∷ w.row.rest)) w.is
+      ∙ rw (
         set_twice old l (fewer k w.past ++ row ∷ w.row.rest) (fewer k w.past ++ (key, record w.row.node { rounds = less }) ∷ w.row.rest),
         is_less,
         more,
         append_assoc (fewer k w.past) (with_fewer_rounds k row ∷ []) w.row.rest,
-      ) refl)
+      ) refl))
       (n l (fewer k w.past) w.row.node w.row.rest counting-in_range counting-standing)
 
 -- the lists so far have lost their rounds, and the others are unchanged

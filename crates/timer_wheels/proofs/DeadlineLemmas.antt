@@ -11,7 +11,7 @@ use Rattle.timer_base.specs.Pending.{Entry, timer_of}
 use Rattle.timer_base.specs.PlainState.{earliest}
 use Rattle.timer_base.specs.WakeUps.{next_deadline}
 use Rattle.timer_links.specs.declared.node.Node.{Node}
-use Rattle.timer_links.specs.Lists.{first_key, list_at, node_at, AreApart, KeyedLists, Row, Rows}
+use Rattle.timer_links.specs.Lists.{list_at, KeyedLists, Row, Rows}
 use Rattle.timer_wheels.specs.BucketLists.{timer_in, timers_in, entry_of, pending_in, rows_below, EachRow}
 use Rattle.timer_wheels.specs.Buckets.{state_of}
 use Rattle.timer_wheels.specs.Deadlines.{HasDeadline, IsLeast, IsLeastDeadline}
@@ -25,14 +25,14 @@ use Rattle.timer_wheels.specs.Leap.{list_visit, timer_visit}
 use Rattle.timer_wheels.specs.Occupied.{IsFirstSet}
 use Rattle.timer_wheels.specs.Tables.{radices}
 use Rattle.timer_wheels.specs.WakeUps.{next_visit}
-use Rattle.timer_wheels.proofs.FirstLemmas.{count-few, enter_known, not_before-less}
+use Rattle.timer_wheels.proofs.FirstLemmas.{count-few, enter_known, known_least, not_before-less}
 use Rattle.timer_wheels.proofs.AllLemmas.{all-map, all-of_map}
 use Rattle.timer_wheels.proofs.DigitLaws.{bucket_near, bucket_far, lowest_bucket, visit_here, quotient_mono, less_quotient}
 use Rattle.timer_wheels.proofs.HierLeaps.{IsKnown, known, none_where, none_wakes, first_in, first_some}
 use Rattle.timer_wheels.proofs.RowLemmas.{all-append, all-rows_below, append-nil, timers-append, around, rows_below-more}
 use Rattle.timer_wheels.proofs.TableLaws.{of_table}
 use Rattle.timer_wheels.proofs.VisitLaws.{list_is}
-use Rattle.timer_wheels.proofs.WalkLemmas.{IsWalking, IsNextRow, begun, next_row, found, walked}
+use Rattle.timer_wheels.proofs.WalkLemmas.{IsGathering}
 
 -- The least deadline of two lists together.
 
@@ -65,46 +65,33 @@ least-one t = record { has = inl refl; none_earlier = (omega arith, tt) }
 
 -- The walk along one list.
 
-pub record IsSeeking (l step : ℕ) (lists : KeyedLists) (at : Option ℕ) (first : First) : Type 0 where
-  pub past : Rows
-  pub walk : IsWalking l step lists at past
-  pub first_of : IsFirstOf first (timers_in past)
+-- the first deadline of the rows, which is known if there are rows
+pub record IsSought (first : First) (rows : Rows) : Type 0 where
+  pub first_of : IsFirstOf first (timers_in rows)
   -- the first timer is at most the bound
-  pub begun_at : first.count ≡ 0 → (past ≡ []) × (first.bound ≡ 18446744073709551615)
-
-pub seeking-begun : (l : ℕ) (lists : KeyedLists) (at : Option ℕ) (first : First) → at ≡ first_key (list_at l lists)
-    → IsFirstOf first [] → first.bound ≡ 18446744073709551615 → IsSeeking l 0 lists at first
-seeking-begun l lists at first e f b = record { past = []; walk = begun l lists at e; first_of = f; begun_at = λ z. (refl, b) }
+  pub begun_at : first.count ≡ 0 → (rows ≡ []) × (first.bound ≡ 18446744073709551615)
 
 -- it can count one more
-pub seeking-few : (l step most : ℕ) (lists : KeyedLists) (at : Option ℕ) (first : First) → IsSeeking l step lists at first
+pub sought_few : {l step : ℕ} {lists : KeyedLists} {at : Option ℕ} {first : First} (most : ℕ) → IsGathering (IsSought first) l step lists at
     → step < most → most < 18446744073709551616 → first.count < 18446744073709551615
-seeking-few l step most lists at first s h m =
-    omega (arith, s.first_of.counted, count-few first.bound (timers_in s.past), length-map s.past timer_in, s.walk.count)
+sought_few {first = first} most s h m =
+    omega (arith, s.holds.first_of.counted, count-few first.bound (timers_in s.past), length-map s.past timer_in, s.walk.count)
 
-pub seeking-one : (l step : ℕ) (lists : KeyedLists) (b : l < length lists) (a : AreApart lists) (key : ℕ)
-    (at next : Option ℕ) (first more : First) (node : Node) → (s : IsSeeking l step lists at first) → at ≡ Some key
-    → Some node ≡ node_at key lists
-    → ((ts : List Timer) (t : Timer) → t.deadline ≡ node.timer.deadline → IsFirstOf first ts → IsFirstOf more (ts ++ t ∷ []))
-    → more.bound ≡ min first.bound node.timer.deadline → node.timer.deadline < 18446744073709551616
-    → ((w : IsNextRow l step lists key s.past s.walk.left) → next ≡ first_key w.rest) → IsSeeking l (step + 1) lists next more
-seeking-one l step lists b a key at next first more node s e f m k r n =
-    let w : IsNextRow l step lists key s.past s.walk.left = next_row l step lists at key s.past s.walk e in
-    let same : node ≡ w.node = some_same node w.node (f ∙ found l step lists b a key s.past w) in
-    let some : 0 < more.count = enter_known first more (timers_in s.past) node.timer (m (timers_in s.past) node.timer refl s.first_of)
+pub sought_one : (key : ℕ) (first more : First) (node same : Node) (found : Option Node) (rows : Rows) → Some same ≡ found
+    → ((ts : List Timer) (t : Timer) → t.deadline ≡ same.timer.deadline → IsFirstOf first ts → IsFirstOf more (ts ++ t ∷ []))
+    → more.bound ≡ min first.bound same.timer.deadline → same.timer.deadline < 18446744073709551616 → found ≡ Some node
+    → IsSought first rows → IsSought more (rows ++ (key, node) ∷ [])
+sought_one key first more node same found rows f m k r e s =
+    let some : 0 < more.count = enter_known first more (timers_in rows) same.timer (m (timers_in rows) same.timer refl s.first_of)
     s.first_of k (λ c. omega (arith, (s.begun_at c).1)) in
     record {
-      past = s.past ++ (key, w.node) ∷ [];
-      walk = walked l step lists key s.past w next (n w);
-      first_of = rw (timers-append s.past ((key, w.node) ∷ []))
-          (m (timers_in s.past) w.node.timer (ap (λ (y : Node). y.timer.deadline) (sym same)) s.first_of);
+      first_of = rw (timers-append rows ((key, node) ∷ []))
+          (m (timers_in rows) node.timer (ap (λ (y : Node). y.timer.deadline) (sym (some_same same node (f ∙ e)))) s.first_of);
       begun_at = λ c. absurd (omega arith);
     }
 
-pub sought : (l step : ℕ) (lists : KeyedLists) (at : Option ℕ) (first : First) → (s : IsSeeking l step lists at first)
-    → list_at l lists ≡ s.past → IsKnownOf first (timers_in (list_at l lists))
-sought l step lists at first s e =
-    rw e (record { first_of = s.first_of; some = λ z. ap (λ (rows : Rows). timers_in rows) (s.begun_at z).0 })
+pub known_of : (first : First) (rows : Rows) → IsSought first rows → IsKnownOf first (timers_in rows)
+known_of first rows s = record { first_of = s.first_of; some = λ z. ap (λ (rows : Rows). timers_in rows) (s.begun_at z).0 }
 
 -- Several lists.
 
@@ -211,17 +198,17 @@ has_least P rows None k a m = absurd (some_rows rows k m)
 has_least P rows (Some d) k a m = let u = row_with d P rows a m.has in record { row = u.0; is = u.1; least = rw u.2 m }
 
 -- nothing is pending if no bit is set
-pub none_is_next : (t : Table) (b : Buckets) (words : List ℕ) → IsHier t b words → IsFirstSet words None
+pub none_is_next : {t : Table} {b : Buckets} {words : List ℕ} → IsHier t b words → IsFirstSet words None
     → None ≡ next_deadline (state_of b).pending
-none_is_next t b words h f = ap next_deadline (sym (none_wakes t b words h f))
+none_is_next h f = ap next_deadline (sym (none_wakes h f))
 
-module _ (t : Table) (b : Buckets) (words : List ℕ) (h : IsHier t b words) (l : ℕ) (f : IsFirstSet words (Some l)) where
+module _ {t : Table} {b : Buckets} {words : List ℕ} (h : IsHier t b words) (l : ℕ) (f : IsFirstSet words (Some l)) where
   pub first_below : l < b.slots
-  first_below = first_in t b words h l f.0 f.1
+  first_below = first_in h l f.0 f.1
 
   first_least : HasLeast (IsKnown (radices t) b.tick l) (list_at l b.links.lists)
   first_least = has_least (IsKnown (radices t) b.tick l) (list_at l b.links.lists) (next_deadline (pending_in (list_at l b.links.lists)))
-      (first_some t b words h l f) (known t b words h l first_below) (next_is_least (list_at l b.links.lists))
+      (first_some h l f) (known h l first_below) (next_is_least (list_at l b.links.lists))
 
   abbrev first_deadline : ℕ
   first_deadline = (timer_in first_least.row).deadline
@@ -235,12 +222,12 @@ module _ (t : Table) (b : Buckets) (words : List ℕ) (h : IsHier t b words) (l 
 
   not_sooner : EachRow (λ s row. first_deadline ≤ (timer_in row).deadline) b.slots b.links.lists
   not_sooner s k = elim (cases_lt s l) [
-    | inl c ↦ rw (none_where t b words h s k (f.2 s c)) tt
+    | inl c ↦ rw (none_where h s k (f.2 s c)) tt
     | inr c ↦ elim (cases_eq s l) [
       | inl e ↦ rw e (all-of_map timer_in (λ t. first_deadline ≤ t.deadline) (list_at l b.links.lists)
           first_least.least.none_earlier)
       | inr n ↦ All-weaken (IsKnown (radices t) b.tick s) (λ row. first_deadline ≤ (timer_in row).deadline)
-          (list_at s b.links.lists) (λ row w. not_later s row (omega arith) w) (known t b words h s k)
+          (list_at s b.links.lists) (λ row w. not_later s row (omega arith) w) (known h s k)
     ]
   ]
 
@@ -251,6 +238,14 @@ module _ (t : Table) (b : Buckets) (words : List ℕ) (h : IsHier t b words) (l 
     none_earlier = all-map timer_in (λ t. first_deadline ≤ t.deadline) (rows_below b.slots b.links.lists)
         (all-rows_below (λ row. first_deadline ≤ (timer_in row).deadline) b.slots b.links.lists not_sooner);
   })
+
+  -- what is known of it has a bound after now
+  pub bound_known : (first : First) → IsKnownOf first (timers_in (list_at l b.links.lists)) → 0 < first.bound
+  bound_known first k =
+      let rows : Rows = list_at l b.links.lists in
+      let m = known_least first (timers_in rows) (λ z. some_rows rows (first_some h l f) (k.some z)) k.first_of in
+      let u = row_with first.bound (IsKnown (radices t) b.tick l) rows (known h l first_below) m.has in
+      omega (arith, u.1.later, u.2)
 
   -- its least deadline is the first one of all
   pub first_is_next : (o : Option ℕ) → IsLeastDeadline o (timers_in (list_at l b.links.lists)) → o ≡ next_deadline (state_of b).pending
@@ -280,5 +275,6 @@ module _ (t : Table) (b : Buckets) (words : List ℕ) (h : IsHier t b words) (l 
       ∙ first_deadline_is first_deadline (state_of b).pending least_of_all
 
 -- and none is visited if no bit is set
-pub none_visited : (t : Table) (b : Buckets) → (state_of b).pending ≡ [] → None ≡ next_visit (radices t) b.tick (state_of b).pending
-none_visited t b e = ap (next_visit (radices t) b.tick) (sym e)
+pub none_visited : {t : Table} {b : Buckets} {words : List ℕ} → IsHier t b words → IsFirstSet words None
+    → None ≡ next_visit (radices t) b.tick (state_of b).pending
+none_visited {t} {b} h f = ap (next_visit (radices t) b.tick) (sym (none_wakes h f))

@@ -8,10 +8,10 @@ use Rattle.timer_links.specs.Lists.{list_at, with_row, front_moved, list_if_alon
 use Rattle.timer_wheels.specs.BucketLists.{timer_in, timers_in}
 use Rattle.timer_wheels.specs.declared.first.First.{First}
 use Rattle.timer_wheels.specs.FirstDeadline.{unknown_first, no_first, IsFirstOf}
-use Rattle.timer_wheels.specs.Firsts.{first_at, firsts_kept, begun_first, Keeps, ChangesOne, Enters, Leaves, Empties, AreFirsts, AreFirstsBut}
-use Rattle.timer_wheels.specs.Occupied.{bit_of}
+use Rattle.timer_wheels.specs.Firsts.{first_at, firsts_kept, begun_first, HasBound, Keeps, ChangesOne, Enters, Leaves, Empties, AreFirsts, AreFirstsBut}
+use Rattle.timer_wheels.specs.Occupied.{bit_of, AreMarked}
 use Rattle.timer_wheels.proofs.FirstLemmas.{count-few, enter_after, leave_counted, leave_other}
-use Rattle.timer_wheels.proofs.OccupiedLemmas.{moved_same}
+use Rattle.timer_wheels.proofs.OccupiedLemmas.{moved_same, no_rows_there}
 use Rattle.timer_wheels.proofs.RowLemmas.{timers-append}
 
 -- one row more fits into a list, so that its first deadline counts one more
@@ -93,6 +93,21 @@ pub no_firsts : (lowest n : ℕ) (firsts : List First) (lists : KeyedLists) → 
     → ((s : ℕ) → s < n → IsFirstOf (first_at s firsts) []) → ((s : ℕ) → s < n → list_at s lists ≡ []) → AreFirsts lowest n firsts lists
 no_firsts lowest n firsts lists e none empty = record { size = e; each = λ s a b. rw (empty s b) (none s b) }
 
+-- that of one bucket was found by a walk
+pub kept_firsts : {lowest n : ℕ} {firsts : List First} {lists : KeyedLists} (f : AreFirsts lowest n firsts lists) (words : List ℕ)
+    (l : ℕ) (new : List First) → AreMarked n words lists → Keeps words l firsts new → IsFirstOf (first_at l new) (timers_in (list_at l lists))
+    → AreFirsts lowest n new lists
+kept_firsts {lists = lists} f words l new t k here = record {
+  size = k.size ∙ f.size;
+  each = λ s a b. elim (cases_eq s l) [
+    | inl q ↦ rw q here
+    | inr m ↦ elim (k.others s m) [
+      | inl e ↦ rw e (f.each s a b)
+      | inr z ↦ rw (z.1, no_rows_there (list_at s lists) (sym (t.0 s b) ∙ z.0)) (record { none_earlier = tt; counted = refl })
+    ]
+  ];
+}
+
 -- A bucket is emptied row by row.
 
 pub but_ended : {lowest n l : ℕ} {firsts : List First} {lists : KeyedLists} → AreFirstsBut l lowest n firsts lists
@@ -169,7 +184,7 @@ module _ (is_kept : Bool) (items now : List First) (none : is_kept ≡ false) (e
   pub left_unknown : (lowest l d : ℕ) → 0 < d → Leaves lowest l d now now
   left_unknown lowest l d positive = record {
     one = record { size = refl; others = λ s m. refl };
-    bound = λ k. refl;
+    bound = refl;
     here = λ k front rest t q h. leave_other (first_at l now) d front rest t q h (omega (arith, bound_is l));
   }
 
@@ -180,20 +195,16 @@ pub record AreBegun (k n : ℕ) (words : List ℕ) (firsts : List First) : Type 
   pub size : length firsts ≡ n
   pub each : (s : ℕ) → s < k → first_at s firsts ≡ begun_first (bit_of words s)
 
--- one more, by its bit
-pub begun-one : (k n : ℕ) (words : List ℕ) (firsts : List First) (first : First) → k < n → AreBegun k n words firsts
-    → first ≡ begun_first (bit_of words k) → AreBegun (k + 1) n words (slice_set firsts k first)
-begun-one k n words firsts first h f e = record {
-  size = length-set firsts k first ∙ f.size;
-  each = λ s b. elim (cases_eq s k) [
-    | inl q ↦ rw q (get_or-set_same firsts k first unknown_first (omega (arith, f.size)) ∙ e)
-    | inr m ↦ get_or-set_other firsts k s first unknown_first m ∙ f.each s (omega arith)
-  ];
-}
-
 begun_either : (b : ℕ) (first : First) → first ≡ begun_first b → (first ≡ unknown_first) ⊎ ((b ≡ 0) × (first ≡ no_first))
 begun_either zero first e = inr (refl, e)
 begun_either (suc n) first e = inl e
+
+pub bound_here : (l : ℕ) (first : First) (firsts : List First) → l < length firsts → 0 < first.bound → HasBound (slice_set firsts l first)
+bound_here l first firsts h b = (
+  l,
+  rw (length-set firsts l first) h,
+  rw (get_or-set_same firsts l first unknown_first h) b,
+)
 
 -- that of one bucket is kept: the first one
 pub keeps_begun : (n : ℕ) (words : List ℕ) (l : ℕ) (first : First) (begun : List First) → length begun ≡ n
@@ -201,6 +212,7 @@ pub keeps_begun : (n : ℕ) (words : List ℕ) (l : ℕ) (first : First) (begun 
     → Keeps words l (replicate n unknown_first) (slice_set begun l first)
 keeps_begun n words l first begun size each = record {
   size = length-set begun l first ∙ size ∙ sym (length-replicate n unknown_first);
+  begun = λ u s h m. get_or-set_other begun l s first unknown_first m ∙ each s (omega (arith, length-replicate n unknown_first));
   others = λ s m.
       let same : first_at s (slice_set begun l first) ≡ first_at s begun = get_or-set_other begun l s first unknown_first m in
       rw (same, at-unknown n s) (elim (cases_lt s n) [
@@ -210,8 +222,10 @@ keeps_begun n words l first begun size each = record {
 }
 
 -- or a later one
-pub keeps_others : (words : List ℕ) (l : ℕ) (first : First) (firsts : List First) → Keeps words l firsts (slice_set firsts l first)
-keeps_others words l first firsts = record {
+pub keeps_others : (words : List ℕ) (l : ℕ) (first : First) (firsts : List First) → HasBound firsts
+    → Keeps words l firsts (slice_set firsts l first)
+keeps_others words l first firsts b = record {
   size = length-set firsts l first;
+  begun = λ u s h m. absurd (omega (arith, u b.0 b.1, b.2));
   others = λ s m. inl (get_or-set_other firsts l s first unknown_first m);
 }

@@ -1,5 +1,5 @@
 -- What a handle names: a timer that is held, pending or due, or nothing. And the state once it is removed.
-use Rattle.std.proofs.Common.{◌≡◌, ◌≢◌, ◌<◌, ◌+◌, ℕ, ◌==◌, Bool, false, List, [], ◌∷◌, length, refl, sym, ◌∙◌, ap, subst, inl, inr, arith, map, filter, not, if◌then◌else◌, Option, Some, None, IsSome}
+use Rattle.std.proofs.Common.{◌≡◌, ◌≢◌, ◌<◌, ℕ, ◌==◌, Bool, false, List, [], ◌∷◌, refl, sym, ◌∙◌, ap, subst, inl, inr, arith, map, filter, not, if◌then◌else◌, Option, Some, None, IsSome}
 use Rattle.std.specs.List.{AllByRecursion}
 use Rattle.std.proofs.lemmas.Bool.{cases_eq, eq-eqb, eqb-true, ne_eqb}
 use Rattle.timer_base.specs.HeldLaws.{found_or_none, other_serial}
@@ -14,7 +14,7 @@ use Rattle.timer_links.specs.declared.node.Node.{Node}
 use Rattle.timer_links.specs.Lists.{list_at, node_in, node_at, first_of, without_key, AreApart, KeyedLists, Row, Rows}
 use Rattle.timer_wheels.specs.BucketLists.{timer_in, timers_in, entry_of, entries_of, rows_below, pending_in, wheel_state, AreBuckets}
 use Rattle.timer_wheels.proofs.RowLemmas.{rows_below-without_key, list_at-without_key}
-use Rattle.timer_wheels.proofs.BucketLemmas.{HasNode, node_at-parts, apart_from, apart_rows}
+use Rattle.timer_wheels.proofs.BucketLemmas.{HasNode, node_at-parts, apart_list, apart_rows}
 
 -- A node under a key.
 
@@ -180,10 +180,10 @@ module _ {n last_tick now last : ℕ} {lists : KeyedLists} (b : AreBuckets n las
   found = node_at handle.place lists
 
   rows_have : AllByRecursion (HasNode handle.place found) rows
-  rows_have = apart_rows n handle.place lists (let h : length lists ≡ n + 1 = b.has_lists in omega arith) apart
+  rows_have = apart_rows n handle.place lists (omega (arith, b.has_lists)) apart
 
   past_have : AllByRecursion (HasNode handle.place found) past
-  past_have = apart_from lists n handle.place [] past apart (let h : length lists ≡ n + 1 = b.has_lists in omega arith) refl
+  past_have = apart_list n handle.place lists (omega (arith, b.has_lists)) apart
 
   past_distinct : AreDistinct (timers_in past)
   past_distinct = AreDistinct-rising 0 (timers_in past) (b.in_order n (omega arith))

@@ -193,8 +193,8 @@ stays n last_tick now last lists p b t h = all-both (λ row. IsPending last_tick
     (StaysIn n last_tick now last t) (list_at t lists) (λ row q r. (q, r))
     (all-list_at (λ row. IsPending last_tick now last (timer_in row)) n lists p t h) (b t h)
 
-module _ (n last_tick now last : ℕ) (lists : KeyedLists) (z : 0 < n) (len : length lists ≡ n + 1)
-    (p : ArePending last_tick now last (rows_below n lists)) (b : AreInBuckets n now lists) (none : list_at n lists ≡ []) where
+module _ {n last_tick now last : ℕ} {lists : KeyedLists} (a : AreBuckets n last_tick now last lists) (z : 0 < n)
+    (b : AreInBuckets n now lists) (none : list_at n lists ≡ []) where
   -- the slot of the tick, its bucket, and the lists after the tick
   abbrev tick_slot : ℕ
   tick_slot = (now + 1) % n
@@ -208,23 +208,26 @@ module _ (n last_tick now last : ℕ) (lists : KeyedLists) (z : 0 < n) (len : le
   below : tick_slot < n
   below = omega arith
 
+  in_lists : tick_slot < length lists
+  in_lists = omega (arith, below, a.has_lists)
+
   swept_rows : AllByRecursion (IsSweptRow n now) bucket
   swept_rows = All-weaken (StaysIn n last_tick now last tick_slot) (IsSweptRow n now) bucket
-      (λ row q. at_slot n now tick_slot row z refl q.0.later q.1) (stays n last_tick now last lists p b tick_slot below)
+      (λ row q. at_slot n now tick_slot row z refl q.0.later q.1) (stays n last_tick now last lists a.pending b tick_slot below)
 
   staying_rows : (t : ℕ) → t < n → t ≢ tick_slot → AllByRecursion (StaysIn n last_tick (now + 1) last t) (list_at t lists)
   staying_rows t h e = All-weaken (StaysIn n last_tick now last t) (StaysIn n last_tick (now + 1) last t) (list_at t lists)
       (λ row q. let f = off_slot n now t row z e q.0.later q.1 in (still last_tick now last (timer_in row) q.0 f.0, f.1))
-      (stays n last_tick now last lists p b t h)
+      (stays n last_tick now last lists a.pending b t h)
 
   length-swept : length new ≡ length lists
-  length-swept = same_length tick_slot n lists (omega (arith, below)) (omega (arith, below)) (omega arith) bucket []
+  length-swept = same_length tick_slot n lists (omega (arith, below)) in_lists (omega (arith, a.has_lists)) bucket []
 
   at_this : list_at tick_slot new ≡ due_later bucket
-  at_this = at_list tick_slot n lists (omega (arith, below)) (omega (arith, below)) (omega arith) bucket [] ∙ append-nil (due_later bucket)
+  at_this = at_list tick_slot n lists (omega (arith, below)) in_lists (omega (arith, a.has_lists)) bucket [] ∙ append-nil (due_later bucket)
 
   at_due : list_at n new ≡ due_now bucket
-  at_due = due_list tick_slot n lists (omega (arith, below)) (omega (arith, below)) (omega arith) bucket []
+  at_due = due_list tick_slot n lists (omega (arith, below)) in_lists (omega (arith, a.has_lists)) bucket []
       ∙ ap (λ (y : Rows). y ++ due_now bucket) none
 
   at_other : (t : ℕ) → t < n → t ≢ tick_slot → list_at t new ≡ list_at t lists
@@ -233,7 +236,7 @@ module _ (n last_tick now last : ℕ) (lists : KeyedLists) (z : 0 < n) (len : le
 
   each_after : EachRow (StaysIn n last_tick (now + 1) last) n new
   each_after t h = elim (cases_eq t tick_slot) [
-    | inl e ↦ rw (e, at_this) (stays-later n now bucket swept_rows last_tick last tick_slot (stays n last_tick now last lists p b tick_slot below))
+    | inl e ↦ rw (e, at_this) (stays-later n now bucket swept_rows last_tick last tick_slot (stays n last_tick now last lists a.pending b tick_slot below))
     | inr x ↦ rw (at_other t h x) (staying_rows t h x)
   ]
 
@@ -257,51 +260,54 @@ module _ (n last_tick now last : ℕ) (lists : KeyedLists) (z : 0 < n) (len : le
   pub ticked-in_buckets : AreInBuckets n (now + 1) new
   ticked-in_buckets = stays-in_buckets n last_tick (now + 1) last new each_after
 
-  ticked-in_order : AreInOrder (n + 1) lists → AreInOrder (n + 1) new
-  ticked-in_order o t h = elim (cases_eq t n) [
-    | inl e ↦ rw (e, at_due) (AreRising-part has_no_rounds 0 bucket (o tick_slot (omega (arith, below))))
+  rising_bucket : AreRising 0 (timers_in bucket)
+  rising_bucket = a.in_order tick_slot (omega (arith, below))
+
+  ticked-in_order : AreInOrder (n + 1) new
+  ticked-in_order t h = elim (cases_eq t n) [
+    | inl e ↦ rw (e, at_due) (AreRising-part has_no_rounds 0 bucket rising_bucket)
     | inr x ↦ elim (cases_eq t tick_slot) [
-      | inl e ↦ rw (e, at_this) (rising-later 0 bucket (o tick_slot (omega (arith, below))))
-      | inr y ↦ rw (at_other t (omega arith) y) (o t h)
+      | inl e ↦ rw (e, at_this) (rising-later 0 bucket rising_bucket)
+      | inr y ↦ rw (at_other t (omega arith) y) (a.in_order t h)
     ]
   ]
 
-  ticked-distinct : AreDistinct (timers_in (rows_below n lists)) → AreDistinct (timers_in (rows_below n new))
-  ticked-distinct d =
+  ticked-distinct : AreDistinct (timers_in (rows_below n new))
+  ticked-distinct =
       let left : Rows = filter (λ (row : Row). is_left (entry_of row)) (rows_below n lists) in
       rw (sym (timers_of-entries (rows_below n new)) ∙ (ap (map timer_of) (rows_left ∙ filter-entries is_left (rows_below n lists))
       ∙ timers_of-entries left))
-      (AreDistinct-part (λ (row : Row). is_left (entry_of row)) (rows_below n lists) d)
+      (AreDistinct-part (λ (row : Row). is_left (entry_of row)) (rows_below n lists) a.distinct)
 
   -- what became due
-  due_rows : AreInOrder (n + 1) lists → entries_due (now + 1) (pending_in (rows_below n lists)) ≡ entries_of (due_now bucket)
-  due_rows o =
+  due_rows : entries_due (now + 1) (pending_in (rows_below n lists)) ≡ entries_of (due_now bucket)
+  due_rows =
       filter-pending_in (λ (entry : Entry). is_due_at (now + 1) entry.timer) (rows_below n lists)
       ∙ (ap pending_in (filter-one_list (λ (row : Row). is_due_at (now + 1) (timer_in row)) n tick_slot lists below
-      (omega (arith, below)) none_other)
+      in_lists none_other)
       ∙ (ap (in_order timer_of) (sym (filter-entries (λ (entry : Entry). is_due_at (now + 1) entry.timer) bucket)
       ∙ sym (entries-now n now bucket swept_rows))
       ∙ in_order-same timer_of (now + 1) 0 (entries_of (due_now bucket)) (all-due n now bucket swept_rows)
-      (rw (timers_of-entries (due_now bucket)) (AreRising-part has_no_rounds 0 bucket (o tick_slot (omega (arith, below)))))))
+      (rw (timers_of-entries (due_now bucket)) (AreRising-part has_no_rounds 0 bucket rising_bucket))))
 
-  pub ticked : AreInOrder (n + 1) lists → wheel_state n last_tick (now + 1) last new ≡ after_tick (wheel_state n last_tick now last lists)
-  ticked o = rw (
+  pub ticked : wheel_state n last_tick (now + 1) last new ≡ after_tick (wheel_state n last_tick now last lists)
+  ticked = rw (
     ap (in_order timer_of) rows_left ∙ sym (filter-in_order timer_of is_left (entries_of (rows_below n lists))),
     at_due,
-    due_rows o,
+    due_rows,
   ) refl
 
-  pub ticked-sound : AreBuckets n last_tick now last lists → now < last_tick → AreBuckets n last_tick (now + 1) last new
-  ticked-sound a before = record {
+  pub ticked-sound : now < last_tick → AreBuckets n last_tick (now + 1) last new
+  ticked-sound before = record {
     last_in_range = a.last_in_range;
     tick_in_range = omega arith;
     serial_in_range = a.serial_in_range;
-    has_lists = length-swept ∙ len;
+    has_lists = length-swept ∙ a.has_lists;
     pending = stays-pending n last_tick (now + 1) last new each_after;
-    distinct = ticked-distinct a.distinct;
+    distinct = ticked-distinct;
     due = due_past last_tick now (now + 1) last (pending_in (rows_below n lists)) (list_at n new)
-        (wheel_state-well_formed n last_tick now last lists a).each (ap (λ (w : WheelState). w.due) (ticked a.in_order));
-    in_order = ticked-in_order a.in_order;
+        (wheel_state-well_formed n last_tick now last lists a).each (ap (λ (w : WheelState). w.due) ticked);
+    in_order = ticked-in_order;
   }
 
 -- Slots.

@@ -1,10 +1,10 @@
 -- The counts of a hierarchy of wheels after `advance`.
-use Rattle.std.proofs.Common.{◌≡◌, ◌<◌, ◌≤◌, ◌+◌, ◌-◌, ◌*◌, ℕ, List, [], ◌∷◌, length, refl, ◌∙◌, ap, arith, Bool, true, false}
+use Rattle.std.proofs.Common.{◌≡◌, ◌<◌, ◌+◌, ◌-◌, ℕ, List, [], ◌∷◌, length, refl, ◌∙◌, ap, arith, Bool, true, false}
 use Rattle.timer_base.specs.Pending.{Entry}
 use Rattle.timer_base.specs.TickLaws.{after_ticks-serial}
 use Rattle.timer_base.specs.WheelState.{WheelState, Advances}
 use Rattle.timer_wheels.specs.Leap.{Leaps}
-use Rattle.timer_wheels.specs.Placement.{IsPaid, hops_of, levels_of, has_any, most_moves}
+use Rattle.timer_wheels.specs.Placement.{IsPaid, hops_of, has_any}
 
 -- Many ticks.
 
@@ -18,14 +18,10 @@ advanced_serial most passed u w a = ap (λ (x : WheelState). x.last_serial) a.ti
 
 pub leapt_paid : (table : List ℕ) (starts moves more : ℕ) (u w : WheelState) → Leaps table more u w
     → IsPaid table starts moves u.now u.pending → IsPaid table starts (moves + more) w.now w.pending
-leapt_paid table starts moves more u w l p =
-    let x : more + levels_of table w.now w.pending ≤ levels_of table u.now u.pending = l.pays in
-    let y : moves + levels_of table u.now u.pending ≤ most_moves table * starts = p in
-    omega arith
+leapt_paid table starts moves more u w l p = omega (arith, l.pays, p)
 
 pub leapt_moves : (table : List ℕ) (more : ℕ) (u w : WheelState) → Leaps table more u w
     → more ≡ hops_of table u.now (w.now - u.now) u.pending
 leapt_moves table more u w l =
-    let n : w.now ≡ u.now + l.passed = l.now_is in
-    let e : l.passed ≡ w.now - u.now = omega arith in
+    let e : l.passed ≡ w.now - u.now = omega (arith, l.now_is) in
     l.moves_are ∙ ap (λ (k : ℕ). hops_of table u.now k u.pending) e

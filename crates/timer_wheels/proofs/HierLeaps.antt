@@ -37,7 +37,7 @@ pub record IsKnown (table : List ℕ) (now s : ℕ) (row : Row) : Type 0 where
   pub digits : HasDigits table (timer_in row).deadline
   pub placed : bucket table now (timer_in row).deadline ≡ s
 
-module _ (t : Table) (b : Buckets) (words : List ℕ) (h : IsHier t b words) where
+module _ {t : Table} {b : Buckets} {words : List ℕ} (h : IsHier t b words) where
   pub last_digits : HasDigits (radices t) b.last_tick
   last_digits = rw h.clock (of_table t).digits
 
@@ -128,13 +128,13 @@ pub record HasSkipped (t : Table) (b : Buckets) (tick : ℕ) : Type 0 where
   pub leaps : Leaps (radices t) 0 (state_of b)
       (with_room b.links.room (wheel_state b.slots b.last_tick tick b.last_serial b.links.lists))
 
-module _ (t : Table) (b : Buckets) (words : List ℕ) (h : IsHier t b words) (z : (state_of b).due ≡ []) where
+module _ {t : Table} {b : Buckets} {words : List ℕ} (h : IsHier t b words) (z : (state_of b).due ≡ []) where
   skipped_by : (n tick : ℕ) → b.tick + n ≡ tick → AreNotVisitedBefore (radices t) b.slots b.tick (tick + 1) b.links.lists
       → HasSkipped t b (b.tick + n)
   skipped_by n tick e q =
       let near : b.tick + n < tick + 1 = omega arith in
       let i = (of_table t).is_table in
-      let d = last_digits t b words h in
+      let d = last_digits h in
       record {
         pending = leapt_pending (radices t) b.last_tick b.tick (tick + 1) n i d near b.slots b.last_serial b.links.lists b.sound.pending q;
         placed = leapt_placed (radices t) b.last_tick b.tick (tick + 1) n i d near b.slots b.last_serial b.links.lists b.sound.pending q h.placed;

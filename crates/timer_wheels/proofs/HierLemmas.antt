@@ -31,17 +31,15 @@ levels-put : (table : List ℕ) (now : ℕ) (x : Entry) (ys : List Entry)
 levels-put table now x [] = refl
 levels-put table now x (y ∷ ys) = elim (either (nat_lt x.timer.deadline y.timer.deadline)) [
   | inl h ↦ rw h refl
-  | inr h ↦ rw h (let ih : levels_of table now (put x ys) ≡ level table now x.timer.deadline + levels_of table now ys =
-      levels-put table now x ys in omega arith)
+  | inr h ↦ rw h (omega (arith, levels-put table now x ys))
 ]
 
 levels-filter : (table : List ℕ) (now : ℕ) (p : Entry → Bool) (es : List Entry) → levels_of table now (filter p es) ≤ levels_of table now es
 levels-filter table now p [] = omega arith
-levels-filter table now p (e ∷ es) = let h : levels_of table now (filter p es) ≤ levels_of table now es = levels-filter table now p es
-    in elim (either (p e)) [
-      | inl k ↦ rw k (omega arith)
-      | inr k ↦ rw k (omega arith)
-    ]
+levels-filter table now p (e ∷ es) = elim (either (p e)) [
+  | inl k ↦ rw k (omega (arith, levels-filter table now p es))
+  | inr k ↦ rw k (omega (arith, levels-filter table now p es))
+]
 
 pub levels-without : (table : List ℕ) (now : ℕ) (handle : Handle) (es : List Entry)
     → levels_of table now (without_handle handle es) ≤ levels_of table now es
@@ -51,9 +49,6 @@ paid_more : (moves new more old top starts : ℕ) → new ≡ more + old → mor
     → moves + new ≤ top * (starts + 1)
 paid_more moves new more old top starts e d p = let x : top * (starts + 1) ≡ top * starts + top = omega arith in omega arith
 
-pub paid_less : (moves new old paid : ℕ) → new ≤ old → moves + old ≤ paid → moves + new ≤ paid
-paid_less moves new old paid e p = omega arith
-
 -- A new wheel.
 
 pub new_placed : (table : List ℕ) (b : Buckets) (n : ℕ) → b.links.lists ≡ replicate n [] → EachRow (IsPlaced table b.tick) b.slots
@@ -62,8 +57,7 @@ new_placed table b n e = each-none (IsPlaced table b.tick) b.slots b.links.lists
 
 pub new_paid : (table : List ℕ) (b : Buckets) (n last first : ℕ) → state_of b ≡ empty_wheel n last first
     → IsPaid table 0 0 b.tick (state_of b).pending
-new_paid table b n last first e = let h : levels_of table b.tick (state_of b).pending ≡ 0 =
-    ap (λ (w : WheelState). levels_of table b.tick w.pending) e in omega arith
+new_paid table b n last first e = omega (arith, ap (λ (w : WheelState). levels_of table b.tick w.pending) e)
 
 -- The moves that are left stay paid for.
 
@@ -73,19 +67,13 @@ module _ (table : List ℕ) (old new : Buckets) (starts moves : ℕ) (p : IsPaid
       → (state_of new).pending ≡ without_handle handle (state_of old).pending
       → IsPaid table starts moves new.tick (state_of new).pending
   paid_without handle tick e =
-      let x : levels_of table new.tick (state_of new).pending ≡ levels_of table old.tick (without_handle handle (state_of old).pending) =
-      ap (λ (k : ℕ). levels_of table k (state_of new).pending) tick ∙ ap (levels_of table old.tick) e in
-      let y : levels_of table old.tick (without_handle handle (state_of old).pending) ≤ levels_of table old.tick (state_of old).pending =
-      levels-without table old.tick handle (state_of old).pending in
-      paid_less moves (levels_of table new.tick (state_of new).pending) (levels_of table old.tick (state_of old).pending)
-      (most_moves table * starts) (omega arith) p
+      rw (tick, e) (omega (arith, levels-without table old.tick handle (state_of old).pending, p))
 
   -- one timer is started, after another went or none
   module _ (place : ℕ) (t : Timer) (rest : WheelState) (y : levels_of table old.tick rest.pending
       ≤ levels_of table old.tick (state_of old).pending) (now : rest.now ≡ old.tick) where
     left : moves + levels_of table old.tick rest.pending ≤ most_moves table * starts
-    left = paid_less moves (levels_of table old.tick rest.pending) (levels_of table old.tick (state_of old).pending)
-        (most_moves table * starts) y p
+    left = omega (arith, y, p)
 
     pending_start : IsHierTable table → old.tick < t.deadline → t.deadline ≤ last_of table → state_of new ≡ after_start place t rest
         → IsPaid table (starts + 1) moves new.tick (state_of new).pending
@@ -118,8 +106,7 @@ module _ (table : List ℕ) (old new : Buckets) (starts moves : ℕ) (p : IsPaid
 pub few_starts : (old new : Buckets) (place starts : ℕ) (t : Timer) (rest : WheelState) → starts ≤ old.last_serial
     → old.last_serial < t.serial → state_of new ≡ after_held_start place t rest → starts + 1 ≤ new.last_serial
 few_starts old new place starts t rest h k e =
-    let x : new.last_serial ≡ t.serial = ap (λ (w : WheelState). w.last_serial) e ∙ held_start-last_serial place t rest in
-    omega arith
+    omega (arith, ap (λ (w : WheelState). w.last_serial) e, held_start-last_serial place t rest)
 
 -- What the buckets show.
 
@@ -141,10 +128,7 @@ paid_at starts moves b old new e p = let P : Table → Type 0 = λ t. IsPaid (ra
 pub paid_bound : (table : List ℕ) (starts moves last_serial now : ℕ) (es : List Entry) → IsHierTable table → starts ≤ last_serial
     → last_serial ≤ LAST → IsPaid table starts moves now es → moves + levels_of table now es ≤ 9 * LAST
 paid_bound table starts moves last_serial now es k f r p =
-    let t : most_moves table ≤ 9 = k.few_wheels in
-    let s : starts ≤ LAST = omega arith in
-    let x : most_moves table * starts ≤ 9 * LAST = mul-le (most_moves table) starts 9 LAST t s in
-    omega arith
+    omega (arith, p, mul-le (most_moves table) starts 9 LAST k.few_wheels (omega arith))
 
 pub moves_fit : (moves more left levels : ℕ) → moves + levels ≤ 9 * LAST → more + left ≤ levels → moves + more < 18446744073709551616
 moves_fit moves more left levels a b = omega arith

@@ -1,5 +1,5 @@
 -- Lemmas for `iteration`: the places of the timers are the keys in use.
-use Rattle.std.proofs.Common.{◌≡◌, ◌<◌, ◌≤◌, ◌+◌, ◌⊎◌, ℕ, [], ◌∷◌, ◌++◌, length, refl, sym, ◌∙◌, subst, inl, inr, arith, append_assoc, Option, Some, None, IsSome}
+use Rattle.std.proofs.Common.{◌≡◌, ◌<◌, ◌≤◌, ◌+◌, ◌⊎◌, ℕ, refl, sym, ◌∙◌, subst, inl, inr, arith, Option, Some, None, IsSome}
 use Rattle.std.specs.List.{AllByRecursion}
 use Rattle.std.proofs.lemmas.Bool.{cases_lt, eq-eqb}
 use Rattle.timer_base.specs.Basics.{none_some}
@@ -10,22 +10,15 @@ use Rattle.timer_base.specs.Pending.{Entry, timer_of}
 use Rattle.timer_base.specs.WheelState.{held_at}
 use Rattle.timer_links.specs.declared.node.Node.{Node}
 use Rattle.timer_links.specs.Keys.{AreUnused, IsFirstUsed}
-use Rattle.timer_links.specs.Lists.{list_at, node_at, AreApart, KeyedLists, Row, Rows}
+use Rattle.timer_links.specs.Lists.{list_at, node_at, AreApart, KeyedLists, Row}
 use Rattle.timer_wheels.specs.BucketLists.{entry_of, entries_of, rows_below}
 use Rattle.timer_wheels.specs.Buckets.{state_of}
 use Rattle.timer_wheels.specs.HeldPlaces.{IsHeld, IsFirstHeld}
 use Rattle.timer_wheels.specs.declared.buckets.Buckets.{Buckets}
 use Rattle.timer_wheels.proofs.Handles.{timer_named, held_is}
-use Rattle.timer_wheels.proofs.RowLemmas.{all-rows_below, all-entries}
-
--- each row stands under its key
-under_from : (lists : KeyedLists) (l : ℕ) (front rows : Rows) → AreApart lists → l < length lists
-    → list_at l lists ≡ front ++ rows → AllByRecursion (λ row. node_at row.0 lists ≡ Some row.1) rows
-under_from lists l front [] a b e = tt
-under_from lists l front (x ∷ xs) a b e = (
-  (a l front x xs b e).0,
-  under_from lists l (front ++ x ∷ []) xs a b (e ∙ sym (append_assoc front (x ∷ []) xs)),
-)
+use Rattle.timer_wheels.proofs.AllLemmas.{all-map}
+use Rattle.timer_wheels.proofs.BucketLemmas.{under_keys}
+use Rattle.timer_wheels.proofs.RowLemmas.{all-rows_below}
 
 elsewhere : (from to : ℕ) (lists : KeyedLists) → AreUnused from to lists → (row : Row) → node_at row.0 lists ≡ Some row.1
     → (row.0 < from) ⊎ (to ≤ row.0)
@@ -49,8 +42,7 @@ some_timer t o e = subst IsSome e refl
 
 module _ (b : Buckets) (apart : AreApart b.links.lists) where
   under : (l : ℕ) → l < b.slots + 1 → AllByRecursion (λ row. node_at row.0 b.links.lists ≡ Some row.1) (list_at l b.links.lists)
-  under l h = let n : length b.links.lists ≡ b.slots + 1 = b.sound.has_lists in under_from b.links.lists l [] (list_at l b.links.lists) apart
-      (omega arith) refl
+  under l h = under_keys l b.links.lists (omega (arith, b.sound.has_lists)) apart
 
   under_below : AllByRecursion (λ row. node_at row.0 b.links.lists ≡ Some row.1) (rows_below b.slots b.links.lists)
   under_below = all-rows_below (λ row. node_at row.0 b.links.lists ≡ Some row.1) b.slots b.links.lists (λ s h. under s (omega arith))
@@ -59,13 +51,13 @@ module _ (b : Buckets) (apart : AreApart b.links.lists) where
   of_pending : (P : Entry → Type 0) → ((row : Row) → node_at row.0 b.links.lists ≡ Some row.1 → P (entry_of row))
       → AllByRecursion P (state_of b).pending
   of_pending P f = All-in_order timer_of P (entries_of (rows_below b.slots b.links.lists))
-      (all-entries P (rows_below b.slots b.links.lists) (All-weaken (λ row. node_at row.0 b.links.lists
+      (all-map entry_of P (rows_below b.slots b.links.lists) (All-weaken (λ row. node_at row.0 b.links.lists
       ≡ Some row.1) (λ row. P (entry_of row)) (rows_below b.slots b.links.lists) f under_below))
 
   -- and of those of the due timers
   of_due : (P : Entry → Type 0) → ((row : Row) → node_at row.0 b.links.lists ≡ Some row.1 → P (entry_of row))
       → AllByRecursion P (state_of b).due
-  of_due P f = all-entries P (list_at b.slots b.links.lists) (All-weaken (λ row. node_at row.0 b.links.lists
+  of_due P f = all-map entry_of P (list_at b.slots b.links.lists) (All-weaken (λ row. node_at row.0 b.links.lists
       ≡ Some row.1) (λ row. P (entry_of row)) (list_at b.slots b.links.lists) f (under b.slots (omega arith)))
 
   held_under : (handle : Handle) (node : Node) → Some node ≡ node_at handle.place b.links.lists → node.timer.serial ≡ handle.serial

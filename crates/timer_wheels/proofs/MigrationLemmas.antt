@@ -3,7 +3,6 @@ use Rattle.std.proofs.Common.{◌≡◌, ◌<◌, ◌+◌, ℕ, ◌==◌, List, 
 use Rattle.std.specs.List.{AllByRecursion}
 use Rattle.std.proofs.lemmas.Bool.{cases_eq, eq-eqb, ne_eqb}
 use Rattle.timer_base.specs.Basics.{either}
-use Rattle.timer_base.specs.declared.timer.Timer.{Timer}
 use Rattle.timer_base.specs.Order.{AreDistinct, IsNotAmong, in_order, insert_in_order}
 use Rattle.timer_base.specs.OrderLaws.{in_order-anywhere}
 use Rattle.timer_base.specs.Pending.{is_due_at}
@@ -85,11 +84,9 @@ distinct-taken : (xs : Rows) (x : Row) (ys : Rows) → Distinct (xs ++ x ∷ ys)
     → IsNotAmong (timer_in x).serial (timers_in (xs ++ ys)) × Distinct (xs ++ ys)
 distinct-taken xs x ys d =
     let e : timers_in (xs ++ ys) ≡ timers_in xs ++ timers_in ys = timers-append xs ys in
-    let d2 : AreDistinct (timers_in xs ++ timer_in x ∷ timers_in ys) = let P : List Timer → Type 0 = AreDistinct
-    in subst P (timers-append xs (x ∷ ys)) d in (
-      let P : List Timer → Type 0 = IsNotAmong (timer_in x).serial
-          in subst P (sym e) (IsNotAmong-others (timer_in x) (timers_in xs) (timers_in ys) d2),
-      let P : List Timer → Type 0 = AreDistinct in subst P (sym e) (AreDistinct-taken (timer_in x) (timers_in xs) (timers_in ys) d2),
+    let d2 : AreDistinct (timers_in xs ++ timer_in x ∷ timers_in ys) = subst AreDistinct (timers-append xs (x ∷ ys)) d in (
+      subst (IsNotAmong (timer_in x).serial) (sym e) (IsNotAmong-others (timer_in x) (timers_in xs) (timers_in ys) d2),
+      subst AreDistinct (sym e) (AreDistinct-taken (timer_in x) (timers_in xs) (timers_in ys) d2),
     )
 
 -- inserting a row anywhere
@@ -133,8 +130,7 @@ migrate_rows_due : (table : List ℕ) (tick : ℕ) (x : Row) (xs : Rows) (lists 
 migrate_rows_due table tick x xs lists k d ih =
     let e : rows_below (slots table) (with_row (slots table) x lists) ≡ rows_below (slots table) lists =
     rows_below-above (slots table) (slots table) lists (list_at (slots table) lists ++ x ∷ []) (omega arith) in
-    let P : Rows → Type 0 = λ rows. Distinct (xs ++ rows) in
-    let s = ih (subst P (sym e) d.1) in
+    let s = ih (subst (λ (rows : Rows). Distinct (xs ++ rows)) (sym e) d.1) in
     record {
       distinct = rw k s.distinct;
       pending = rw k (s.pending ∙ ap (λ (rows : Rows). in_order timer_in (left_rows tick xs ++ rows)) e);
@@ -151,34 +147,31 @@ migrate_rows_left : (table : List ℕ) (tick : ℕ) (x : Row) (xs : Rows) (lists
     → AreMigrated table tick (x ∷ xs) lists
 migrate_rows_left table tick x xs lists l le b len k d ih =
     let i = rows_below-with_row (slots table) l x lists b (omega arith) in
-    let P : Rows → Type 0 = Distinct in
-    let Q : Rows → Type 0 = λ rows. Distinct (x ∷ (xs ++ rows)) in
-    let d1 : Distinct (x ∷ (xs ++ (i.front ++ i.rest))) = subst Q i.old_is d in
-    let R : Rows → Type 0 = λ rows. Distinct (x ∷ rows) in
-    let d2 : Distinct (x ∷ ((xs ++ i.front) ++ i.rest)) = subst R (sym (append_assoc xs i.front i.rest)) d1 in
+    let d1 : Distinct (x ∷ (xs ++ (i.front ++ i.rest))) = subst (λ (rows : Rows). Distinct (x ∷ (xs ++ rows))) i.old_is d in
+    let d2 : Distinct (x ∷ ((xs ++ i.front) ++ i.rest)) =
+    subst (λ (rows : Rows). Distinct (x ∷ rows)) (sym (append_assoc xs i.front i.rest)) d1 in
     let d3 : Distinct ((xs ++ i.front) ++ x ∷ i.rest) = distinct-inserted (xs ++ i.front) x i.rest d2 in
     let e3 : (xs ++ i.front) ++ x ∷ i.rest ≡ xs ++ rows_below (slots table) (with_row l x lists) =
     append_assoc xs i.front (x ∷ i.rest) ∙ ap (λ (rows : Rows). xs ++ rows) (sym i.new_is) in
-    let s = ih (subst P e3 d3) in
+    let s = ih (subst Distinct e3 d3) in
     let ls : Rows = left_rows tick xs in
     let n1 = IsNotAmong-part (timer_in x).serial (λ row. not (is_due_at tick (timer_in row))) xs
     (among-front (timer_in x).serial xs (i.front ++ i.rest) d1.0) in
     let n2 = among-front (timer_in x).serial i.front i.rest (among-rest (timer_in x).serial xs (i.front ++ i.rest) d1.0) in
     let w : with_row (target table tick x) x lists ≡ with_row l x lists =
     ap (λ (v : ℕ). with_row v x lists) (target_left table tick x k ∙ sym le) in
-    let S : KeyedLists → Type 0 = λ ys. Distinct (rows_below (slots table) (migrate_rows table tick xs ys)) in
-    let T : KeyedLists → Type 0 = λ ys. in_order timer_in (rows_below (slots table) (migrate_rows table tick xs ys))
-    ≡ in_order timer_in (ls ++ rows_below (slots table) (with_row l x lists)) in
+    let moved = λ (ys : KeyedLists). rows_below (slots table) (migrate_rows table tick xs ys) in
     record {
-      distinct = subst S (sym w) s.distinct;
+      distinct = subst (λ (ys : KeyedLists). Distinct (moved ys)) (sym w) s.distinct;
       pending =
-          subst T (sym w) s.pending
+          ap (λ (ys : KeyedLists). in_order timer_in (moved ys)) w
+          ∙ (s.pending
           ∙ (ap (λ (rows : Rows). in_order timer_in (ls ++ rows)) i.new_is
           ∙ (ap (in_order timer_in) (sym (append_assoc ls i.front (x ∷ i.rest)))
           ∙ (in_order-anywhere timer_in x (ls ++ i.front) i.rest (among-append (timer_in x).serial ls i.front n1 n2)
           ∙ (ap (λ (rows : Rows). insert_in_order timer_in x (in_order timer_in rows)) (append_assoc ls i.front i.rest)
           ∙ (ap (λ (rows : Rows). insert_in_order timer_in x (in_order timer_in (ls ++ rows))) (sym i.old_is)
-          ∙ sym (kept_left tick x xs (rows_below (slots table) lists) k))))));
+          ∙ sym (kept_left tick x xs (rows_below (slots table) lists) k)))))));
     }
 
 pub migrate_rows_keeps : (table : List ℕ) (tick : ℕ) (rows : Rows) (lists : KeyedLists)

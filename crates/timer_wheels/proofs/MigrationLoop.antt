@@ -13,11 +13,13 @@ use Rattle.timer_wheels.specs.BucketLists.{timer_in}
 use Rattle.timer_wheels.specs.Migration.{target, migrate_rows, migrated, left_rows, first_deadline, second_deadline, MayMigrate, IsOfTick}
 use Rattle.timer_wheels.proofs.MigrationLemmas.{target_due, target_left}
 use Rattle.timer_wheels.proofs.RowLemmas.{append-nil, set_twice, set_swapped}
+use Rattle.timer_wheels.proofs.WalkLemmas.{IsNextRow, begun, next_row, found, walked}
 
 -- Lists that are updated twice.
 
 -- some rows of the list have moved, and moving the rest leads to the same lists
 pub record IsEmptying (table : List ℕ) (l tick moves : ℕ) (old lists : KeyedLists) : Type 0 where
+  pub in_range : l < length old
   pub leads : migrated table tick l lists ≡ migrated table tick l old
   pub has_lists : length lists ≡ length old
   pub rows : AllByRecursion (MayMigrate table tick l) (list_at l lists)
@@ -103,19 +105,17 @@ pub ended_none : {table : List ℕ} {l tick moves : ℕ} {old lists : KeyedLists
     → None ≡ first_deadline (list_at l lists) → IsEmptied table l tick moves old lists
 ended_none {table} {l} {tick} {moves} {old} {lists} s e =
     let none : list_at l lists ≡ [] = none_first (list_at l lists) (sym e) in
-    let y : length (left_rows tick (list_at l lists)) ≡ 0 = ap (λ (y : Rows). length (left_rows tick y)) none in
-    let q : moves + length (left_rows tick (list_at l lists)) ≡ length (left_rows tick (list_at l old)) = s.moves_are in
     record {
       lists_are = sym (ap (λ (y : Rows). migrate_rows table tick y (slice_set lists l [])) none
           ∙ (ap (slice_set lists l) (sym none) ∙ set-get_or lists l [])) ∙ s.leads;
-      moves_are = omega arith;
+      moves_are = omega (arith, s.moves_are, ap (λ (y : Rows). length (left_rows tick y)) none);
       emptied = none;
     }
 
-module _ {table : List ℕ} {l tick moves d : ℕ} {old lists : KeyedLists} (new : KeyedLists) (b : l < length old)
+module _ {table : List ℕ} {l tick moves d : ℕ} {old lists : KeyedLists} (new : KeyedLists)
     (s : IsEmptying table l tick moves old lists) (f : IsFirstRow table l tick d lists) where
   b2 : l < length lists
-  b2 = let e : length lists ≡ length old = s.has_lists in omega arith
+  b2 = rw s.has_lists s.in_range
 
   count_is : length (list_at l lists) ≡ suc (length f.rest)
   count_is = ap (λ (y : Rows). length y) f.at
@@ -133,10 +133,8 @@ module _ {table : List ℕ} {l tick moves d : ℕ} {old lists : KeyedLists} (new
       → IsEmptying table l tick moves2 old new
   next to moves2 q e h w =
       let r : list_at l new ≡ f.rest = rest_at to q e in
-      let c : moves + length (list_at l lists) ≤ length (list_at l old) = s.few in
-      let k : length (list_at l lists) ≡ suc (length f.rest) = count_is in
-      let n : length (list_at l new) ≡ length f.rest = ap (λ (y : Rows). length y) r in
       record {
+        in_range = s.in_range;
         leads = ap (migrated table tick l) (new_is to q e) ∙ (leads_same table l tick lists f.row f.rest b2 f.at f.first.elsewhere
             ∙ s.leads);
         has_lists = ap (λ (y : KeyedLists). length y) (new_is to q e)
@@ -144,33 +142,31 @@ module _ {table : List ℕ} {l tick moves d : ℕ} {old lists : KeyedLists} (new
         rows = subst (AllByRecursion (MayMigrate table tick l)) (sym r) f.others;
         moves_are = ap (λ (y : Rows). moves2 + length (left_rows tick y)) r
             ∙ (h ∙ (ap (λ (y : Rows). moves + length (left_rows tick y)) (sym f.at) ∙ s.moves_are));
-        few = omega arith;
+        few = omega (arith, s.few, count_is, ap (λ (y : Rows). length y) r);
       }
+
+  is_due_row : d ≡ tick → is_due_at tick (timer_in f.row) ≡ true
+  is_due_row e = eq-eqb (timer_in f.row).deadline tick (f.deadline ∙ e)
+
+  is_left_row : d ≢ tick → is_due_at tick (timer_in f.row) ≡ false
+  is_left_row n = ne_eqb (timer_in f.row).deadline tick (λ e. n (sym f.deadline ∙ e))
+
+  -- the list that it goes to
+  pub due_target : (to : ℕ) → to ≡ slots table → d ≡ tick → to ≡ target table tick f.row
+  due_target dest q e = q ∙ sym (target_due table tick f.row (is_due_row e))
+
+  pub left_target : (to : ℕ) → to ≡ bucket table tick d → d ≢ tick → to ≡ target table tick f.row
+  left_target dest q n = q ∙ (ap (bucket table tick) (sym f.deadline) ∙ sym (target_left table tick f.row (is_left_row n)))
 
   pub next_due : (to moves2 : ℕ) → to ≡ slots table → d ≡ tick → new ≡ front_moved l to lists → moves2 ≡ moves
       → IsEmptying table l tick moves2 old new
   next_due to moves2 q e p y =
-      let k : is_due_at tick (timer_in f.row) ≡ true = eq-eqb (timer_in f.row).deadline tick (f.deadline ∙ e) in
-      let m1 : length (left_rows tick (f.row ∷ f.rest)) ≡ length (left_rows tick f.rest) = due_more tick f.row f.rest k in
-      next to moves2 (q ∙ sym (target_due table tick f.row k)) p (omega arith) (omega arith)
+      next to moves2 (due_target to q e) p (omega (arith, due_more tick f.row f.rest (is_due_row e))) (omega arith)
 
   pub next_left : (to moves2 : ℕ) → to ≡ bucket table tick d → d ≢ tick → new ≡ front_moved l to lists → moves2 ≡ moves + 1
       → IsEmptying table l tick moves2 old new
   next_left to moves2 q n p y =
-      let k : is_due_at tick (timer_in f.row) ≡ false = ne_eqb (timer_in f.row).deadline tick
-      (λ (e : (timer_in f.row).deadline ≡ tick). n (sym f.deadline ∙ e)) in
-      let m1 : length (left_rows tick (f.row ∷ f.rest)) ≡ suc (length (left_rows tick f.rest)) = left_more tick f.row f.rest k in
-      next to moves2 (q ∙ (ap (bucket table tick) (sym f.deadline) ∙ sym (target_left table tick f.row k))) p (omega arith) (omega arith)
-
-  -- the list that it goes to
-  pub due_target : (to : ℕ) → to ≡ slots table → d ≡ tick → to ≡ target table tick f.row
-  due_target dest q e = q ∙ sym (target_due table tick f.row (eq-eqb (timer_in f.row).deadline tick (f.deadline ∙ e)))
-
-  pub left_target : (to : ℕ) → to ≡ bucket table tick d → d ≢ tick → to ≡ target table tick f.row
-  left_target dest q n =
-      let k : is_due_at tick (timer_in f.row) ≡ false = ne_eqb (timer_in f.row).deadline tick
-      (λ (e : (timer_in f.row).deadline ≡ tick). n (sym f.deadline ∙ e)) in
-      q ∙ (ap (bucket table tick) (sym f.deadline) ∙ sym (target_left table tick f.row k))
+      next to moves2 (left_target to q n) p (omega (arith, left_more tick f.row f.rest (is_left_row n))) (omega arith)
 
   pub ahead_after : (to : ℕ) (o : Option ℕ) → to ≡ target table tick f.row → new ≡ front_moved l to lists
       → o ≡ second_deadline (list_at l lists) → o ≡ first_deadline (list_at l new)
@@ -179,17 +175,10 @@ module _ {table : List ℕ} {l tick moves d : ℕ} {old lists : KeyedLists} (new
   -- fewer are left
   pub shorter : (to : ℕ) → to ≡ target table tick f.row → new ≡ front_moved l to lists
       → length (list_at l new) < length (list_at l lists)
-  shorter to q e =
-      let k : length (list_at l lists) ≡ suc (length f.rest) = count_is in
-      let n : length (list_at l new) ≡ length f.rest = ap (λ (y : Rows). length y) (rest_at to q e) in
-      omega arith
+  shorter to q e = omega (arith, count_is, ap (λ (y : Rows). length y) (rest_at to q e))
 
   pub moves_fit : row_count old < 18446744073709551616 → moves + 1 < 18446744073709551616
-  moves_fit h =
-      let c : moves + length (list_at l lists) ≤ length (list_at l old) = s.few in
-      let k : length (list_at l lists) ≡ suc (length f.rest) = count_is in
-      let a : length (list_at l old) ≤ row_count old = length_list_at old l in
-      omega arith
+  moves_fit h = omega (arith, s.few, count_is, length_list_at old l)
 
   pub goes_elsewhere : (to : ℕ) → to ≡ target table tick f.row → to ≢ l
   goes_elsewhere to q = λ (e : to ≡ l). f.first.elsewhere (sym q ∙ e)
@@ -229,83 +218,45 @@ pub none_left_over : (tick : ℕ) (rows : Rows) → AllByRecursion (IsOfTick tic
 none_left_over tick [] a = refl
 none_left_over tick (x ∷ xs) a = rw (eq-eqb (timer_in x).deadline tick a.0) (none_left_over tick xs a.1)
 
--- The first row by its key.
+-- The first two rows, by their keys.
 
-pub record IsFront (l key : ℕ) (lists : KeyedLists) : Type 0 where
+-- the node under this key has this deadline
+pub record IsAt (key : ℕ) (lists : KeyedLists) (deadline : Option ℕ) : Type 0 where
   pub node : Node
   pub found : node_at key lists ≡ Some node
-  pub first : first_deadline (list_at l lists) ≡ Some node.timer.deadline
+  pub is : deadline ≡ Some node.timer.deadline
 
-front_in : (l key : ℕ) (lists : KeyedLists) (rows : Rows) → list_at l lists ≡ rows → AreApart lists
-    → l < length lists → first_key rows ≡ Some key → IsFront l key lists
-front_in l key lists [] at a b e = absurd (some_none key (sym e))
-front_in l key lists (row ∷ rest) at a b e =
-    let k : row.0 ≡ key = some_same row.0 key e in
-    record {
-      node = row.1;
-      found = ap (λ (v : ℕ). node_at v lists) (sym k) ∙ (a l [] row rest b at).0;
-      first = ap first_deadline at;
-    }
+module _ {key : ℕ} {lists : KeyedLists} {deadline : Option ℕ} (f : IsAt key lists deadline) where
+  pub never_none : None ≡ node_at key lists → ⊥
+  never_none e = none_some f.node (e ∙ f.found)
 
-pub front_of : (l key : ℕ) (lists : KeyedLists) → AreApart lists → l < length lists → Some key ≡ first_key (list_at l lists)
-    → IsFront l key lists
-front_of l key lists a b e = front_in l key lists (list_at l lists) refl a b (sym e)
+  pub deadline_is : (node : Node) → Some node ≡ node_at key lists → Some node.timer.deadline ≡ deadline
+  deadline_is node e = ap (λ (n : Node). Some n.timer.deadline) (some_same node f.node (e ∙ f.found)) ∙ sym f.is
 
-pub never_none : (l key : ℕ) (lists : KeyedLists) → IsFront l key lists → None ≡ node_at key lists → ⊥
-never_none l key lists f e = none_some f.node (e ∙ f.found)
+  pub is_in_use : IsSome (node_at key lists)
+  is_in_use = rw f.found refl
 
-pub front_deadline_is : (l key : ℕ) (node : Node) (lists : KeyedLists) → IsFront l key lists → Some node ≡ node_at key lists
-    → Some node.timer.deadline ≡ first_deadline (list_at l lists)
-front_deadline_is l key node lists f e = ap (λ (n : Node). Some n.timer.deadline) (some_same node f.node (e ∙ f.found)) ∙ sym f.first
+no_deadline : (rows : Rows) → first_key rows ≡ None → None ≡ first_deadline rows
+no_deadline [] e = refl
+no_deadline (x ∷ xs) e = absurd (some_none x.0 e)
 
-pub front_in_use : (l key : ℕ) (lists : KeyedLists) → IsFront l key lists → IsSome (node_at key lists)
-front_in_use l key lists f = rw f.found refl
+module _ (l first : ℕ) (lists : KeyedLists) (b : l < length lists) (e : Some first ≡ first_key (list_at l lists)) where
+  first_is : IsNextRow l 0 lists first [] (list_at l lists)
+  first_is = next_row l 0 lists (Some first) first [] (begun l lists (Some first) e) refl
 
--- The second row, which is read ahead.
+  pub front_of : AreApart lists → IsAt first lists (first_deadline (list_at l lists))
+  front_of a = record { node = first_is.node; found = found l 0 lists b a first [] first_is; is = ap first_deadline first_is.rows }
 
-pub record IsSecond (l key : ℕ) (lists : KeyedLists) : Type 0 where
-  pub node : Node
-  pub found : node_at key lists ≡ Some node
-  pub second : second_deadline (list_at l lists) ≡ Some node.timer.deadline
+  module _ (next : Option ℕ) (n : IsNext first lists next) where
+    next_is : next ≡ first_key first_is.rest
+    next_is = n l [] first_is.node first_is.rest b first_is.rows
 
--- the row behind the first one, under this key
-second_in : (l first : ℕ) (next : Option ℕ) (lists : KeyedLists) (rows : Rows) → list_at l lists ≡ rows
-    → AreApart lists → l < length lists → first_key rows ≡ Some first → IsNext first lists next
-    → (key : ℕ) → next ≡ Some key → IsSecond l key lists
-second_in l first next lists [] at a b e n key w = absurd (some_none first (sym e))
-second_in l first next lists (row ∷ []) at a b e n key w =
-    let k : row.0 ≡ first = some_same row.0 first e in
-    absurd (some_none key (sym w ∙ n l [] row.1 [] b (at ∙ ap (λ (x : ℕ). (x, row.1) ∷ []) k)))
-second_in l first next lists (row ∷ other ∷ rest) at a b e n key w =
-    let k : row.0 ≡ first = some_same row.0 first e in
-    let m : other.0 ≡ key = some_same other.0 key (sym (n l [] row.1 (other ∷ rest) b (at ∙ ap (λ (x : ℕ). (x, row.1) ∷ other ∷ rest) k))
-    ∙ w) in
-    record {
-      node = other.1;
-      found = ap (λ (v : ℕ). node_at v lists) (sym m) ∙ (a l (row ∷ []) other rest b at).0;
-      second = ap second_deadline at;
-    }
+    pub second_of : (key : ℕ) → AreApart lists → next ≡ Some key → IsAt key lists (second_deadline (list_at l lists))
+    second_of key a q =
+        let past : Rows = (first, first_is.node) ∷ [] in
+        let w = next_row l 1 lists next key past (walked l 0 lists first [] first_is next next_is) q in
+        record { node = w.node; found = found l 1 lists b a key past w; is = ap second_deadline w.rows }
 
-pub second_of : (l first key : ℕ) (next : Option ℕ) (lists : KeyedLists) → AreApart lists → l < length lists
-    → Some first ≡ first_key (list_at l lists) → IsNext first lists next → next ≡ Some key → IsSecond l key lists
-second_of l first key next lists a b e n w = second_in l first next lists (list_at l lists) refl a b (sym e) n key w
-
--- no row is behind the first one
-none_second : (l first : ℕ) (next : Option ℕ) (lists : KeyedLists) (rows : Rows) → list_at l lists ≡ rows
-    → l < length lists → first_key rows ≡ Some first → IsNext first lists next → next ≡ None → None ≡ second_deadline rows
-none_second l first next lists [] at b e n w = refl
-none_second l first next lists (row ∷ []) at b e n w = refl
-none_second l first next lists (row ∷ other ∷ rest) at b e n w =
-    let k : row.0 ≡ first = some_same row.0 first e in
-    absurd (some_none other.0 (sym (n l [] row.1 (other ∷ rest) b (at ∙ ap (λ (x : ℕ). (x, row.1) ∷ other ∷ rest) k)) ∙ w))
-
-pub no_second : (l first : ℕ) (next : Option ℕ) (lists : KeyedLists) → l < length lists
-    → Some first ≡ first_key (list_at l lists) → IsNext first lists next → next ≡ None → None ≡ second_deadline (list_at l lists)
-no_second l first next lists b e n w = none_second l first next lists (list_at l lists) refl b (sym e) n w
-
-pub second_there : (l key : ℕ) (lists : KeyedLists) → IsSecond l key lists → None ≡ node_at key lists → ⊥
-second_there l key lists f e = none_some f.node (e ∙ f.found)
-
-pub next_deadline_is : (l key : ℕ) (node : Node) (lists : KeyedLists) → IsSecond l key lists → Some node ≡ node_at key lists
-    → Some node.timer.deadline ≡ second_deadline (list_at l lists)
-next_deadline_is l key node lists f e = ap (λ (n : Node). Some n.timer.deadline) (some_same node f.node (e ∙ f.found)) ∙ sym f.second
+    -- or no row is behind the first one
+    pub no_second : next ≡ None → None ≡ second_deadline (list_at l lists)
+    no_second q = no_deadline first_is.rest (sym next_is ∙ q) ∙ sym (ap second_deadline first_is.rows)

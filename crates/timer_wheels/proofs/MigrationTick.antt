@@ -53,7 +53,7 @@ module _ {t : Table} {b : Buckets} {words : List ℕ} (h : IsHier t b words) whe
   first_row_is l (r ∷ rs) e p q =
       let d : ℕ = (timer_in r).deadline in
       let i : HasDigits (radices t) d =
-      digits_down (radices t) d b.last_tick (of_table t).is_table p.0.in_range (last_digits t b words h) in
+      digits_down (radices t) d b.last_tick (of_table t).is_table p.0.in_range (last_digits h) in
       let v : list_visit (radices t) l b.tick ≡ timer_visit (radices t) b.tick d =
       ap (λ (x : ℕ). list_visit (radices t) x b.tick) (sym q.0.0)
       ∙ list_is (radices t) b.tick d (of_table t).is_table i p.0.later in
@@ -63,7 +63,7 @@ module _ {t : Table} {b : Buckets} {words : List ℕ} (h : IsHier t b words) whe
   pub first_empties : (l visit : ℕ) → visit ≡ list_visit (radices t) l b.tick → IsFirstSet words (Some l)
       → l ≡ emptied (radices t) visit
   first_empties l visit e f =
-      let c = first_in t b words h l f.0 f.1 in
+      let c = first_in h l f.0 f.1 in
       first_row_is l (list_at l b.links.lists) (sym (h.marked.0 l c) ∙ f.1)
       (all-list_at (λ row. IsPending b.last_tick b.tick b.last_serial (timer_in row)) b.slots b.links.lists b.sound.pending l c)
       (h.placed l c) ∙ ap (emptied (radices t)) (sym e)
@@ -71,9 +71,7 @@ module _ {t : Table} {b : Buckets} {words : List ℕ} (h : IsHier t b words) whe
 module _ {t : Table} {b : Buckets} {words : List ℕ} (h : IsHier t b words) (z : (state_of b).due ≡ []) (l : b.tick < b.last_tick) where
   before_tick : IsBefore (radices t) b.last_tick b.tick b.last_serial b.links.lists
   before_tick =
-      let k = of_table t in
-      let P : ℕ → Type 0 = HasDigits (radices t) in
-      before_of (radices t) b.slots b.last_tick b.tick b.last_serial b.links.lists h.has_slots k.is_table (subst P (sym h.clock) k.digits) l
+      before_of (radices t) b.slots b.last_tick b.tick b.last_serial b.links.lists h.has_slots (of_table t).is_table (last_digits h) l
       b.sound h.placed z
 
   pub may_migrate_at : {list : ℕ} → list ≡ emptied (radices t) (b.tick + 1)
@@ -81,19 +79,19 @@ module _ {t : Table} {b : Buckets} {words : List ℕ} (h : IsHier t b words) (z 
   may_migrate_at {list} e =
       let P : ℕ → Type 0 = λ k. AllByRecursion (MayMigrate (radices t) (b.tick + 1) k) (list_at k b.links.lists) in
       let c : b.last_tick ≡ last_of (radices t) = h.clock in
-      subst P (sym e) (all_may_migrate (radices t) b.last_tick b.tick b.last_serial b.links.lists before_tick (omega arith))
+      subst P (sym e) (all_may_migrate before_tick (omega arith))
 
   pub all_of_tick_at : {list : ℕ} → list ≡ emptied (radices t) (b.tick + 1) → list < lowest_radix (radices t)
       → AllByRecursion (IsOfTick (b.tick + 1)) (list_at list b.links.lists)
   all_of_tick_at {list} e k =
       let P : ℕ → Type 0 = λ k. AllByRecursion (IsOfTick (b.tick + 1)) (list_at k b.links.lists) in
-      subst P (sym e) (all_of_tick (radices t) b.last_tick b.tick b.last_serial b.links.lists before_tick
+      subst P (sym e) (all_of_tick before_tick
       (none_below (radices t) (b.tick + 1) (omega arith)))
 
   pub next_at : {list moves : ℕ} {new : KeyedLists} → list ≡ emptied (radices t) (b.tick + 1)
       → new ≡ migrated (radices t) (b.tick + 1) list b.links.lists → moves ≡ length (left_rows (b.tick + 1) (list_at list b.links.lists))
       → IsNext (radices t) b.slots b.last_tick b.tick b.last_serial moves b.links.lists new
   next_at {list} {moves} {new} e f k =
-      next_of (radices t) b.slots b.last_tick b.tick b.last_serial moves b.links.lists new h.has_slots before_tick
+      next_of before_tick b.slots moves new h.has_slots
       (f ∙ ap (λ (v : ℕ). migrated (radices t) (b.tick + 1) v b.links.lists) e)
       (k ∙ ap (λ (v : ℕ). length (left_rows (b.tick + 1) (list_at v b.links.lists))) e)

@@ -126,11 +126,11 @@ may_move table last now last_serial entries i h a =
     (λ entry p. record { later = p.later; digits = digits_down table entry.timer.deadline last i p.in_range h })
     (all-of_map timer_of (IsPending last now last_serial) entries a)
 
-module _ (t : Table) (b : Buckets) (words : List ℕ) (h : IsHier t b words) (l visit : ℕ) (e : visit
+module _ {t : Table} {b : Buckets} {words : List ℕ} (h : IsHier t b words) (l visit : ℕ) (e : visit
     ≡ list_visit (radices t) l b.tick) (f : IsFirstSet words (Some l)) where
   shown_some : 0 < length (entries_at (bucket_at (radices t) b.tick) l (state_of b).pending)
   shown_some = some_at (slots (radices t)) (bucket_at (radices t) b.tick) no_rounds (state_of b) b.links.lists
-      (shown (radices t) b h.has_slots h.placed) l (first_in_range t b words h l f) (first_some t b words h l f)
+      (shown (radices t) b h.has_slots h.placed) l (first_in_range h l f) (first_some h l f)
 
   first_moves : (n : ℕ) → visit ≡ b.tick + n → (0 < length (entries_due visit (state_of b).pending))
       ⊎ (0 < hops_of (radices t) b.tick n (state_of b).pending)
@@ -138,13 +138,13 @@ module _ (t : Table) (b : Buckets) (words : List ℕ) (h : IsHier t b words) (l 
       some_move (radices t) b.tick visit l n (of_table t).is_table g
       (λ d k p q. e ∙ (ap (λ (x : ℕ). list_visit (radices t) x b.tick) (sym q) ∙ list_is (radices t) b.tick d (of_table t).is_table k p))
       (state_of b).pending
-      (may_move (radices t) b.last_tick b.tick b.last_serial (state_of b).pending (of_table t).is_table (last_digits t b words h)
+      (may_move (radices t) b.last_tick b.tick b.last_serial (state_of b).pending (of_table t).is_table (last_digits h)
       (state_of-well_formed b).each)
       shown_some
 
   after_them : (k : ℕ) → b.tick + k < visit → AreAfter (b.tick + k) (state_of b).pending
   after_them k g = All-weaken (λ entry. visit ≤ entry.timer.deadline) (λ entry. b.tick + k < entry.timer.deadline) (state_of b).pending
-      (λ entry q. omega arith) (first_wakes t b words h l visit e f).in_time
+      (λ entry q. omega arith) (first_wakes h l visit e f).in_time
 
   next_by : (n : ℕ) → visit ≡ b.tick + (n + 1) → (0 < length (after_ticks (n + 1) (state_of b)).due)
       ⊎ (0 < hops_of (radices t) b.tick (n + 1) (state_of b).pending)
@@ -158,10 +158,10 @@ module _ (t : Table) (b : Buckets) (words : List ℕ) (h : IsHier t b words) (l 
   -- its visit is the first tick ahead at which a timer is due or moves
   pub first_next : IsNextVisit (radices t) visit (state_of b)
   first_next =
-      let later : b.tick < visit = first_later t b words h l visit e f in
+      let later : b.tick < visit = first_later h l visit e f in
       let s : visit - b.tick - 1 + 1 ≡ visit - b.tick = omega arith in
       record {
-        none_before = leapt_hops (radices t) b.last_tick b.tick visit (visit - b.tick - 1) (of_table t).is_table (last_digits t b words h)
-            (omega arith) b.slots b.last_serial b.links.lists b.sound.pending (first_ahead t b words h l visit e f);
+        none_before = leapt_hops (radices t) b.last_tick b.tick visit (visit - b.tick - 1) (of_table t).is_table (last_digits h)
+            (omega arith) b.slots b.last_serial b.links.lists b.sound.pending (first_ahead h l visit e f);
         some = rw s at (next_by (visit - b.tick - 1) (omega arith));
       }

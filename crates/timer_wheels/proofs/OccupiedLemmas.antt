@@ -3,7 +3,7 @@ use Rattle.std.proofs.Common.{◌≡◌, ◌≢◌, ◌<◌, ◌≤◌, ◌+◌,
 use Rattle.std.specs.Int.{bit_at, w64, trailing_zeros}
 use Rattle.std.proofs.lemmas.Bool.{cases_eq, cases_lt}
 use Rattle.std.proofs.lemmas.Nat.Bits.{bit_at_set_same, bit_at_set_other, bit_at_clear_same, bit_at_clear_other, bit_at-trailing_zeros, bit_at-zero}
-use Rattle.timer_links.specs.Lists.{list_at, with_row, front_moved, first_row_moved, KeyedLists, Row, Rows}
+use Rattle.timer_links.specs.Lists.{list_at, front_moved, first_row_moved, KeyedLists, Row, Rows}
 use Rattle.timer_wheels.specs.declared.table.TheConstants.{MOST_BUCKETS}
 use Rattle.timer_wheels.specs.declared.occupied.TheConstants.{WORDS}
 use Rattle.timer_wheels.specs.Occupied.{bit_of, filled, AreMarked, AreMarkedBut, IsClearFrom, IsFirstSet, IsLowestSet}
@@ -114,14 +114,14 @@ clear_too : (n l : ℕ) (words words2 : List ℕ) → l < n → ((s : ℕ) → s
     → IsClearFrom n words2
 clear_too n l words words2 h o c s a b = o s (omega arith) ∙ c s a b
 
--- one bit is set, and one row inserted
-pub marked_with_row : (n : ℕ) (words words2 : List ℕ) (l : ℕ) (row : Row) (lists : KeyedLists) → l < n → l < length lists
-    → bit_of words2 l ≡ 1 → ((s : ℕ) → s ≢ l → bit_of words2 s ≡ bit_of words s) → AreMarked n words lists
-    → AreMarked n words2 (with_row l row lists)
-marked_with_row n words words2 l row lists f b h o t = (
+-- one list is replaced, and its bit is that of its rows
+pub marked_set : (n : ℕ) (words words2 : List ℕ) (l : ℕ) (rows : Rows) (lists : KeyedLists) → l < n → l < length lists
+    → bit_of words2 l ≡ filled rows → ((s : ℕ) → s ≢ l → bit_of words2 s ≡ bit_of words s) → AreMarked n words lists
+    → AreMarked n words2 (slice_set lists l rows)
+marked_set n words words2 l rows lists f b h o t = (
   (λ (s : ℕ) (k : s < n). elim (cases_eq s l) [
-    | inl e ↦ rw (e, h, get_or-set_same lists l (list_at l lists ++ row ∷ []) [] b, filled_behind (list_at l lists) row) refl
-    | inr m ↦ rw (o s m, get_or-set_other lists l s (list_at l lists ++ row ∷ []) [] m) (t.0 s k)
+    | inl e ↦ rw (e, get_or-set_same lists l rows [] b) h
+    | inr m ↦ rw (o s m, get_or-set_other lists l s rows [] m) (t.0 s k)
   ]),
   clear_too n l words words2 f o t.1,
 )

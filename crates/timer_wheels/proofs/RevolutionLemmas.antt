@@ -57,14 +57,14 @@ quiet_now n last_tick now last lists p = later_entries last_tick now last (now +
 
 -- All lists.
 
-module _ (n last_tick now last k tick : ℕ) (old new : KeyedLists) (z : 0 < n) (e : tick ≡ now + k * n) (len : length new
-    ≡ length old) (p : ArePending last_tick now last (rows_below n old)) (b : AreInBuckets n now old) (enough : (s : ℕ) → s < n
-    → AllByRecursion (HasRoundsLeft k) (list_at s old)) (counted : (s : ℕ) → s < n
-    → list_at s new ≡ map (with_fewer_rounds k) (list_at s old)) (others : list_at n new ≡ list_at n old) where
+module _ {n last_tick now last : ℕ} {old : KeyedLists} (a : AreBuckets n last_tick now last old) (k tick : ℕ) (new : KeyedLists)
+    (z : 0 < n) (e : tick ≡ now + k * n) (len : length new ≡ length old) (b : AreInBuckets n now old)
+    (enough : (s : ℕ) → s < n → AllByRecursion (HasRoundsLeft k) (list_at s old))
+    (counted : (s : ℕ) → s < n → list_at s new ≡ map (with_fewer_rounds k) (list_at s old)) (others : list_at n new ≡ list_at n old) where
   after : EachRow (StaysIn n last_tick tick last) n new
   after s h = rw (counted s h) (all-map (with_fewer_rounds k) (StaysIn n last_tick tick last s) (list_at s old)
       (all-both (StaysIn n last_tick now last s) (HasRoundsLeft k) (λ row. StaysIn n last_tick tick last s (with_fewer_rounds k row))
-      (list_at s old) (λ row q r. after_row n last_tick now last k s tick row z e q r) (stays n last_tick now last old p b s h) (enough s h)))
+      (list_at s old) (λ row q r. after_row n last_tick now last k s tick row z e q r) (stays n last_tick now last old a.pending b s h) (enough s h)))
 
   entries : entries_of (rows_below n new) ≡ entries_of (rows_below n old)
   entries = entries_below (λ (es : List Entry). es) n old new refl (λ xs ys. refl) (sym len)
@@ -79,14 +79,14 @@ module _ (n last_tick now last k tick : ℕ) (old new : KeyedLists) (z : 0 < n) 
   pub skipped-in_buckets : AreInBuckets n tick new
   skipped-in_buckets = stays-in_buckets n last_tick tick last new after
 
-  skipped-in_order : AreInOrder (n + 1) old → AreInOrder (n + 1) new
-  skipped-in_order o s h = elim (cases_eq s n) [
-    | inl q ↦ rw (q, others) (o n (omega arith))
-    | inr x ↦ rw (counted s (omega arith), timers-fewer k (list_at s old)) (o s h)
+  skipped-in_order : AreInOrder (n + 1) new
+  skipped-in_order s h = elim (cases_eq s n) [
+    | inl q ↦ rw (q, others) (a.in_order n (omega arith))
+    | inr x ↦ rw (counted s (omega arith), timers-fewer k (list_at s old)) (a.in_order s h)
   ]
 
-  pub skipped-sound : AreBuckets n last_tick now last old → list_at n old ≡ [] → tick ≤ last_tick → AreBuckets n last_tick tick last new
-  skipped-sound a d range = record {
+  pub skipped-sound : list_at n old ≡ [] → tick ≤ last_tick → AreBuckets n last_tick tick last new
+  skipped-sound d range = record {
     last_in_range = a.last_in_range;
     tick_in_range = range;
     serial_in_range = a.serial_in_range;
@@ -94,7 +94,7 @@ module _ (n last_tick now last k tick : ℕ) (old new : KeyedLists) (z : 0 < n) 
     pending = stays-pending n last_tick tick last new after;
     distinct = rw timers a.distinct;
     due = rw (others, d) tt;
-    in_order = skipped-in_order a.in_order;
+    in_order = skipped-in_order;
   }
 
   pub skipped-quiet : AreAfter tick (pending_in (rows_below n old))

@@ -142,11 +142,6 @@ filter-entries p (x ∷ xs) = elim (either (p (entry_of x))) [
 
 -- Serials.
 
-pub AreBelow-timers : (high : ℕ) (rows : Rows) → AllByRecursion (λ row. (timer_in row).serial < high) rows
-    → AreBelow high (timers_in rows)
-AreBelow-timers high [] a = tt
-AreBelow-timers high (x ∷ xs) a = (a.0, AreBelow-timers high xs a.1)
-
 pub IsNotAmong-below : (high : ℕ) (ts : List Timer) → AreBelow high ts → IsNotAmong high ts
 IsNotAmong-below high ts b = All-weaken (λ t. t.serial < high) (λ t. t.serial ≢ high) ts
     (λ t h e. let below : t.serial < high = h in let same : t.serial ≡ high = e in omega arith) b
@@ -191,11 +186,6 @@ timers_below-more n lists old new h a b =
     b ∙ (ap (λ (y : List Timer). y ++ timers_in (list_at n lists)) a
     ∙ (sym (timers-append (rows_below n lists) (list_at n lists))
     ∙ ap timers_in (sym (ap (λ (y : ℕ). rows_below y lists) e ∙ rows_below-more n lists h))))
-
-pub all-entries : (P : Entry → Type 0) (rows : Rows) → AllByRecursion (λ row. P (entry_of row)) rows
-    → AllByRecursion P (entries_of rows)
-all-entries P [] a = tt
-all-entries P (x ∷ xs) a = (a.0, all-entries P xs a.1)
 
 -- more lists have as many rows at least
 pub length-rows_below : (n m : ℕ) (lists : KeyedLists) → n ≤ m → length (rows_below n lists) ≤ length (rows_below m lists)

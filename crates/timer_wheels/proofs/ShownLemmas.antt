@@ -13,18 +13,11 @@ use Rattle.timer_links.specs.Lists.{list_at, KeyedLists, Row, Rows}
 use Rattle.timer_wheels.specs.BucketLists.{timer_in, timers_in, entries_of, rows_below, pending_in, wheel_state, AreInOrder, EachRow}
 use Rattle.timer_wheels.specs.BucketLaws.{timers_of-entries}
 use Rattle.timer_wheels.specs.Shown.{without_deadline, by_serial, row_of, entries_at, ShowsBuckets}
+use Rattle.timer_wheels.proofs.AllLemmas.{filter_none, filter_each}
 use Rattle.timer_wheels.proofs.RowLemmas.{append-nil, filter-append}
 use Rattle.timer_wheels.proofs.BucketLemmas.{filter-pending_in}
 
 -- Which rows satisfy a test.
-
-pub filter-none : {X : Type 0} (p : X → Bool) (xs : List X) → AllByRecursion (λ x. p x ≡ false) xs → filter p xs ≡ []
-filter-none p [] a = refl
-filter-none p (x ∷ xs) a = rw a.0 (filter-none p xs a.1)
-
-pub filter-each : {X : Type 0} (p : X → Bool) (xs : List X) → AllByRecursion (λ x. p x ≡ true) xs → filter p xs ≡ xs
-filter-each p [] a = refl
-filter-each p (x ∷ xs) a = rw a.0 (ap (λ r. x ∷ r) (filter-each p xs a.1))
 
 -- no row of the lists satisfies the test
 pub filter-no_list : (p : Row → Bool) (n : ℕ) (lists : KeyedLists)
@@ -32,7 +25,7 @@ pub filter-no_list : (p : Row → Bool) (n : ℕ) (lists : KeyedLists)
 filter-no_list p zero lists h = refl
 filter-no_list p (suc n) [] h = refl
 filter-no_list p (suc n) (x ∷ xs) h = filter-append p x (rows_below n xs)
-    ∙ rw (filter-none p x (h 0 (omega arith)), filter-no_list p n xs (λ t b. h (suc t) (omega arith))) refl
+    ∙ rw (filter_none p x (h 0 (omega arith)), filter-no_list p n xs (λ t b. h (suc t) (omega arith))) refl
 
 -- only rows of one list do
 pub filter-one_list : (p : Row → Bool) (n s : ℕ) (lists : KeyedLists) → s < n → s < length lists
@@ -46,7 +39,7 @@ filter-one_list p (suc n) zero (x ∷ xs) h b o =
     ∙ append-nil (filter p x))
 filter-one_list p (suc n) (suc s) (x ∷ xs) h b o =
     filter-append p x (rows_below n xs)
-    ∙ (ap (λ (y : Rows). y ++ filter p (rows_below n xs)) (filter-none p x (o 0 (omega arith) (omega arith)))
+    ∙ (ap (λ (y : Rows). y ++ filter p (rows_below n xs)) (filter_none p x (o 0 (omega arith) (omega arith)))
     ∙ filter-one_list p n s xs (omega arith) (omega arith) (λ t c e. o (suc t) (omega arith) (omega arith)))
 
 -- By serial.
@@ -119,7 +112,7 @@ module _ (n : ℕ) (bucket_of rounds_of : Timer → ℕ) (lists : KeyedLists) (l
   entries_at-pending s h =
       filter-pending_in (λ (entry : Entry). bucket_of entry.timer == s) (rows_below n lists)
       ∙ ap pending_in (filter-one_list (λ (row : Row). bucket_of (timer_in row) == s) n s lists h (omega arith) (other_rows s)
-      ∙ filter-each (λ (row : Row). bucket_of (timer_in row) == s) (list_at s lists) (these_rows s h))
+      ∙ filter_each (λ (row : Row). bucket_of (timer_in row) == s) (list_at s lists) (these_rows s h))
 
   pub shows : (last_tick now last : ℕ) → AreInOrder (n + 1) lists
       → ShowsBuckets n bucket_of rounds_of (wheel_state n last_tick now last lists) lists

@@ -3,7 +3,7 @@ use Rattle.std.proofs.Common.{◌≡◌, ◌≢◌, ◌<◌, ◌≤◌, ◌+◌,
 use Rattle.std.proofs.lemmas.List.{set-get_or, map-append}
 use Rattle.std.proofs.lemmas.Bool.{cases_eq, eq-eqb, ne_eqb}
 use Rattle.timer_links.specs.declared.node.Node.{Node}
-use Rattle.timer_links.specs.Lists.{node_at, first_key, list_at, row_count, without_key, moved_back, AreApart, SetsRounds, KeyedLists, Row, Rows}
+use Rattle.timer_links.specs.Lists.{node_at, first_key, list_at, row_count, without_key, moved_back, AreApart, IsNext, SetsRounds, KeyedLists, Row, Rows}
 use Rattle.timer_wheels.specs.Revolutions.{with_fewer_rounds}
 use Rattle.timer_wheels.specs.Sweep.{has_no_rounds, has_rounds, due_now, due_later, half_swept, swept}
 use Rattle.timer_wheels.proofs.RowLemmas.{append-nil, filter-append, set_twice, set_swapped}
@@ -82,20 +82,19 @@ pub begun : (l due : ℕ) (old : KeyedLists) (at : Option ℕ) → at ≡ first_
 begun l due old at e = change_begun (sweeping l due old) l old at e
     (rw (set-get_or old l [], append-nil (list_at due old), set-get_or old due []) refl)
 
-pub next_row : (l due step : ℕ) (old lists : KeyedLists) (at : Option ℕ) (key : ℕ) → IsSweeping l due step old lists at
-    → at ≡ Some key → IsNextChanged (sweeping l due old) l step old lists key
-next_row l due step old lists at key s e = change_next (sweeping l due old) l old step lists at key s e
-
 pub ended_count : (l due step : ℕ) (old lists : KeyedLists) (at : Option ℕ) → IsSweeping l due step old lists at
     → row_count old ≤ step → lists ≡ swept l due old
 ended_count l due step old lists at s h = change_ended (sweeping l due old) l old step lists at s h
 
 module _ (l due step : ℕ) (old lists : KeyedLists) (n : l ≢ due) (lb : l < length old) (db : due < length old) (key : ℕ)
-    (w : IsNextChanged (sweeping l due old) l step old lists key) where
-  pub in_range : l < length lists
+    (at : Option ℕ) (s : IsSweeping l due step old lists at) (q : at ≡ Some key) where
+  w : IsNextChanged (sweeping l due old) l step old lists key
+  w = change_next (sweeping l due old) l old step lists at key s q
+
+  in_range : l < length lists
   in_range = rw (w.is, same_length l due old n lb db w.past ((key, w.row.node) ∷ w.row.rest)) lb
 
-  pub standing : list_at l lists ≡ due_later w.past ++ (key, w.row.node) ∷ w.row.rest
+  standing : list_at l lists ≡ due_later w.past ++ (key, w.row.node) ∷ w.row.rest
   standing = ap (list_at l) w.is ∙ at_list l due old n lb db w.past ((key, w.row.node) ∷ w.row.rest)
 
   found : AreApart lists → node_at key lists ≡ Some w.row.node
@@ -105,11 +104,11 @@ module _ (l due step : ℕ) (old lists : KeyedLists) (n : l ≢ due) (lb : l < l
   in_use a = rw (found a) refl
 
   -- one timer lost a round or became due
-  pub passed : (new : KeyedLists) (at : Option ℕ) → AreApart lists
+  pub passed : (new : KeyedLists) (next : Option ℕ) → AreApart lists
       → ((node : Node) → node_at key lists ≡ Some node → node.rounds ≡ 0 → new ≡ moved_back key due node lists)
       → ((node : Node) → node_at key lists ≡ Some node → node.rounds ≢ 0 → SetsRounds key (node.rounds - 1) lists new)
-      → at ≡ first_key w.row.rest → IsSweeping l due (step + 1) old new at
-  passed new at a now later f = change_more (sweeping l due old) l old step lists new at key w (elim (cases_eq w.row.node.rounds 0) [
+      → IsNext key lists next → IsSweeping l due (step + 1) old new next
+  passed new next a now later f = change_more (sweeping l due old) l old step lists new next key w (elim (cases_eq w.row.node.rounds 0) [
     | inl z ↦
         now w.row.node (found a) z
         ∙ (ap (moved_back key due w.row.node) w.is
@@ -118,4 +117,4 @@ module _ (l due step : ℕ) (old lists : KeyedLists) (n : l ≢ due) (lb : l < l
         later w.row.node (found a) z l (due_later w.past) w.row.node w.row.rest in_range standing
         ∙ (ap (λ (y : KeyedLists). slice_set y l (due_later w.past ++ with_fewer_rounds 1 (key, w.row.node) ∷ w.row.rest)) w.is
         ∙ later_step l due old n lb db w.past w.row.rest (key, w.row.node) z)
-  ]) f
+  ]) (f l (due_later w.past) w.row.node w.row.rest in_range standing)

@@ -1,5 +1,5 @@
 -- Lemmas about every table that a hierarchy of wheels may have.
-use Rattle.std.proofs.Common.{◌≡◌, ◌<◌, ◌≤◌, ℕ, refl, arith}
+use Rattle.std.proofs.Common.{◌≡◌, refl}
 use Rattle.timer_wheels.specs.declared.table.Table.{Table}
 use Rattle.timer_wheels.specs.declared.table.Table.TheVariants.{Wide, Clock}
 use Rattle.timer_wheels.specs.Digits.{last_of}
@@ -12,13 +12,7 @@ pub of_table : (table : Table) → IsHierTable (radices table)
 of_table Wide = wide_fits
 of_table Clock = clock_fits
 
-pub last-named : (table : Table) → last_of (radices table) ≡ last_of_table table
+pub last_named : (table : Table) → last_of (radices table) ≡ last_of_table table
 unfolding wide clock
-last-named Wide = refl
-last-named Clock = refl
-
-pub at_most : (x n m : ℕ) → n ≡ m → x ≤ n → x ≤ m
-at_most x n m e h = omega arith
-
-pub below : (x n m : ℕ) → n ≡ m → x < n → x < m
-below x n m e h = omega arith
+last_named Wide = refl
+last_named Clock = refl

@@ -1,5 +1,5 @@
 -- The two changes that every call but a tick composes: a row is removed, and a row is pushed to the back of a list.
-use Rattle.std.proofs.Common.{◌≡◌, ◌≢◌, ◌<◌, ◌≤◌, ◌+◌, ◌==◌, ℕ, [], ◌∷◌, ◌++◌, length, refl, sym, ◌∙◌, ap, subst, inl, inr, arith, length-set, get_or-set_same, get_or-set_other, Option, Some, None, map, not, slice_set}
+use Rattle.std.proofs.Common.{◌≡◌, ◌<◌, ◌≤◌, ◌+◌, ◌==◌, ℕ, [], ◌∷◌, ◌++◌, length, refl, sym, ◌∙◌, ap, subst, inl, inr, arith, length-set, get_or-set_same, get_or-set_other, Option, Some, None, map, not, slice_set}
 use Rattle.std.specs.List.{AllByRecursion}
 use Rattle.std.proofs.lemmas.Bool.{cases_eq}
 use Rattle.std.proofs.lemmas.List.{length-map}
@@ -12,8 +12,9 @@ use Rattle.timer_links.specs.declared.node.Node.{Node}
 use Rattle.timer_links.specs.Lists.{list_at, with_row, without_key, PopsFront, KeyedLists, Row, Rows}
 use Rattle.timer_wheels.specs.Buckets.{IsListOf}
 use Rattle.timer_wheels.specs.BucketLists.{timer_in, timers_in, rows_below, wheel_state, AreDue, AreBuckets}
-use Rattle.timer_wheels.proofs.RowLemmas.{AreBelow-timers, all-append, all-list_at, entries-append, rows_below-above, rows_below-none, rows_below-without_key, list_at-without_key}
-use Rattle.timer_wheels.proofs.BucketLemmas.{AreDistinct-part, AreRising-part, AreBelow-pending, started, started-pending, started-distinct, in_order-with_row}
+use Rattle.timer_wheels.proofs.AllLemmas.{all-map}
+use Rattle.timer_wheels.proofs.RowLemmas.{IsInserted, IsNotAmong-below, rows_below-with_row, all-append, all-list_at, entries-append, rows_below-above, rows_below-none, rows_below-without_key, list_at-without_key}
+use Rattle.timer_wheels.proofs.BucketLemmas.{AreDistinct-part, AreRising-part, AreBelow-pending, pending_in-newest, all-inserted, distinct-inserted, in_order-with_row}
 
 module _ {n last_tick now last : ℕ} {lists : KeyedLists} (b : AreBuckets n last_tick now last lists) where
   -- the row under a key is removed, if there is one
@@ -39,34 +40,6 @@ module _ {n last_tick now last : ℕ} {lists : KeyedLists} (b : AreBuckets n las
   older serial fresh = All-weaken (λ row. IsDue now last (timer_in row)) (λ row. IsDue now serial (timer_in row)) (list_at n lists)
       (λ row d. record { deadline = d.deadline; serial = let s : (timer_in row).serial ≤ last = d.serial in omega arith }) b.due
 
-  -- a timer is started at the back of a bucket
-  pushed : (bucket place : ℕ) (node : Node) → bucket < n → now < node.timer.deadline → node.timer.deadline ≤ last_tick
-      → last < node.timer.serial → node.timer.serial ≤ LAST
-      → AreBuckets n last_tick now node.timer.serial (with_row bucket (place, node) lists)
-  pushed bucket place node h later range fresh serial =
-      let here : bucket < length lists = let e : length lists ≡ n + 1 = b.has_lists in omega arith in
-      let m : n ≢ bucket = omega arith in
-      record {
-        last_in_range = b.last_in_range;
-        tick_in_range = b.tick_in_range;
-        serial_in_range = serial;
-        has_lists = length-set lists bucket (list_at bucket lists ++ (place, node) ∷ []) ∙ b.has_lists;
-        pending = started-pending n last_tick now last bucket place node lists h here fresh b.pending later range;
-        distinct = started-distinct n last_tick now last bucket place node lists h here fresh b.pending b.distinct;
-        due = subst (AreDue now node.timer.serial)
-            (sym (get_or-set_other lists bucket n (list_at bucket lists ++ (place, node) ∷ []) [] m)) (older node.timer.serial fresh);
-        in_order = in_order-with_row (n + 1) bucket (place, node) lists here (omega arith)
-            (AreBelow-pending last_tick now last node.timer.serial (list_at bucket lists) fresh
-            (all-list_at (λ row. IsPending last_tick now last (timer_in row)) n lists b.pending bucket h)) b.in_order;
-      }
-
-  -- its entry comes to its place among the pending ones
-  pushed-state : (bucket place : ℕ) (node : Node) → bucket < n → last < node.timer.serial
-      → wheel_state n last_tick now node.timer.serial (with_row bucket (place, node) lists)
-      ≡ after_start place node.timer (wheel_state n last_tick now last lists)
-  pushed-state bucket place node h fresh = started n last_tick now last bucket place node lists h
-      (let e : length lists ≡ n + 1 = b.has_lists in omega arith) fresh b.pending
-
   -- what is pending, with a later last serial
   older_pending : (serial : ℕ) → last < serial
       → AllByRecursion (λ row. IsPending last_tick now serial (timer_in row)) (rows_below n lists)
@@ -77,8 +50,43 @@ module _ {n last_tick now last : ℕ} {lists : KeyedLists} (b : AreBuckets n las
         serial = let s : (timer_in row).serial ≤ last = p.serial in omega arith;
       }) b.pending
 
+  -- a timer is started at the back of a bucket
+  module _ (bucket place : ℕ) (node : Node) (h : bucket < n) (fresh : last < node.timer.serial) where
+    here : bucket < length lists
+    here = omega (arith, b.has_lists)
+
+    inserted : IsInserted (place, node) (rows_below n lists) (rows_below n (with_row bucket (place, node) lists))
+    inserted = rows_below-with_row n bucket (place, node) lists h here
+
+    below : AreBelow node.timer.serial (timers_in (rows_below n lists))
+    below = AreBelow-pending last_tick now last node.timer.serial (rows_below n lists) fresh b.pending
+
+    due_stays : list_at n (with_row bucket (place, node) lists) ≡ list_at n lists
+    due_stays = get_or-set_other lists bucket n (list_at bucket lists ++ (place, node) ∷ []) [] (omega arith)
+
+    pushed : now < node.timer.deadline → node.timer.deadline ≤ last_tick → node.timer.serial ≤ LAST
+        → AreBuckets n last_tick now node.timer.serial (with_row bucket (place, node) lists)
+    pushed later range serial = record {
+      last_in_range = b.last_in_range;
+      tick_in_range = b.tick_in_range;
+      serial_in_range = serial;
+      has_lists = length-set lists bucket (list_at bucket lists ++ (place, node) ∷ []) ∙ b.has_lists;
+      pending = all-inserted inserted (λ row. IsPending last_tick now node.timer.serial (timer_in row))
+          (record { later = later; in_range = range; serial = omega arith }) (older_pending node.timer.serial fresh);
+      distinct = distinct-inserted inserted (IsNotAmong-below node.timer.serial (timers_in (rows_below n lists)) below) b.distinct;
+      due = subst (AreDue now node.timer.serial) (sym due_stays) (older node.timer.serial fresh);
+      in_order = in_order-with_row (n + 1) bucket (place, node) lists here (omega arith)
+          (AreBelow-pending last_tick now last node.timer.serial (list_at bucket lists) fresh
+          (all-list_at (λ row. IsPending last_tick now last (timer_in row)) n lists b.pending bucket h)) b.in_order;
+    }
+
+    -- its entry comes to its place among the pending ones
+    pushed-state : wheel_state n last_tick now node.timer.serial (with_row bucket (place, node) lists)
+        ≡ after_start place node.timer (wheel_state n last_tick now last lists)
+    pushed-state = rw (pending_in-newest inserted below, due_stays) refl
+
   newest_due : (serial : ℕ) → last < serial → AreBelow serial (timers_in (list_at n lists))
-  newest_due serial fresh = AreBelow-timers serial (list_at n lists)
+  newest_due serial fresh = all-map timer_in (λ t. t.serial < serial) (list_at n lists)
       (All-weaken (λ row. IsDue now last (timer_in row)) (λ row. (timer_in row).serial < serial) (list_at n lists)
       (λ row d. let s : (timer_in row).serial ≤ last = d.serial in omega arith) b.due)
 
@@ -118,7 +126,7 @@ module _ {n last_tick now last : ℕ} {lists : KeyedLists} (b : AreBuckets n las
       (serial : node.timer.serial ≤ LAST) where
     pub pushed_in : IsListOf list n now node.timer.deadline
         → AreBuckets n last_tick now node.timer.serial (with_row list (place, node) lists)
-    pushed_in (inl h) = pushed list place node h.0 h.1 range fresh serial
+    pushed_in (inl h) = pushed list place node h.0 fresh h.1 range serial
     pushed_in (inr h) = subst (λ (l : ℕ). AreBuckets n last_tick now node.timer.serial (with_row l (place, node) lists)) (sym h.0)
         (pushed_due place node h.1 fresh serial)
 

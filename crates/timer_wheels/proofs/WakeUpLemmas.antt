@@ -11,11 +11,11 @@ use Rattle.timer_base.specs.WheelState.{IsPending}
 use Rattle.timer_links.specs.Lists.{list_at, row_count, KeyedLists, Rows}
 use Rattle.timer_wheels.specs.Hashed.{slot_of, rounds_of, IsInBucket, AreInBuckets, IsNextSweep}
 use Rattle.timer_wheels.specs.Shown.{entries_at}
-use Rattle.timer_wheels.specs.BucketLists.{timer_in, entries_of, rows_below, pending_in, wheel_state, ArePending, AreInOrder, EachRow}
+use Rattle.timer_wheels.specs.BucketLists.{timer_in, entry_of, entries_of, rows_below, pending_in, wheel_state, ArePending, AreInOrder, EachRow}
 use Rattle.timer_wheels.proofs.ShownLemmas.{shows, some_at, entries_at-pending}
-use Rattle.timer_wheels.proofs.AllLemmas.{all-both}
+use Rattle.timer_wheels.proofs.AllLemmas.{all-both, all-map}
 use Rattle.timer_wheels.proofs.DigitLaws.{rest_is}
-use Rattle.timer_wheels.proofs.RowLemmas.{all-rows_below, all-list_at, all-entries, rows_below-none, length-rows_below-next}
+use Rattle.timer_wheels.proofs.RowLemmas.{all-rows_below, all-list_at, rows_below-none, length-rows_below-next}
 use Rattle.timer_wheels.proofs.BucketLemmas.{row_count-parts, length-pending_in}
 
 -- Some timer is pending, or none is.
@@ -38,7 +38,7 @@ module _ (n last now last_serial : ℕ) (lists : KeyedLists) where
     some = some_pending n l lists b h;
     later = k;
     in_time = All-in_order timer_of (λ entry. visit ≤ entry.timer.deadline) (entries_of (rows_below n lists))
-        (all-entries (λ entry. visit ≤ entry.timer.deadline) (rows_below n lists)
+        (all-map entry_of (λ entry. visit ≤ entry.timer.deadline) (rows_below n lists)
         (all-rows_below (λ row. visit ≤ (timer_in row).deadline) n lists a));
   }
 

@@ -1,8 +1,8 @@
 -- Lemmas for `walks`: the loop invariants of copying, counting and emptying one list.
-use Rattle.std.proofs.Common.{◌≡◌, ◌<◌, ◌≤◌, ◌+◌, ℕ, suc, List, [], ◌∷◌, ◌++◌, length, refl, sym, ◌∙◌, ap, arith, append_assoc, length-append, get_or-set_same, true, IsSome, Option, Some, None, slice_set, is_some}
+use Rattle.std.proofs.Common.{◌≡◌, ◌<◌, ◌≤◌, ◌+◌, ℕ, List, [], ◌∷◌, ◌++◌, length, refl, sym, ◌∙◌, ap, arith, append_assoc, length-append, get_or-set_same, true, IsSome, Option, Some, None, slice_set, is_some}
 use Rattle.std.proofs.lemmas.List.{set-get_or, length-map}
 use Rattle.timer_links.proofs.Rows.{length_list_at}
-use Rattle.timer_base.specs.Basics.{some_same, some_none, empty_when}
+use Rattle.timer_base.specs.Basics.{some_same, some_none, none_some, empty_when}
 use Rattle.timer_base.specs.declared.timer.Timer.{Timer}
 use Rattle.timer_links.specs.declared.node.Node.{Node}
 use Rattle.timer_links.specs.Lists.{node_at, first_key, list_at, row_count, AreApart, IsNext, PopsFront, KeyedLists, Row, Rows}
@@ -101,65 +101,78 @@ module _ (change : Rows → Rows → KeyedLists) (l : ℕ) (old : KeyedLists) wh
       s.is ∙ (ap (change s.past) (none_left l step old at s.past s.walk h)
       ∙ ap (λ (y : Rows). change y []) (sym (ended_count l step old at s.past s.walk h)))
 
--- One list is counted.
+-- A walk that leaves the lists as they are, with a fact of the rows that it passed.
 
--- the rows so far are counted
-pub record IsCounting (l step : ℕ) (lists : KeyedLists) (at : Option ℕ) : Type 0 where
+pub record IsGathering (P : Rows → Type 0) (l step : ℕ) (lists : KeyedLists) (at : Option ℕ) : Type 0 where
   pub past : Rows
   pub walk : IsWalking l step lists at past
+  pub holds : P past
 
-pub counted-none : (l : ℕ) (lists : KeyedLists) (at : Option ℕ) → at ≡ first_key (list_at l lists) → IsCounting l 0 lists at
-counted-none l lists at e = record { past = []; walk = begun l lists at e }
+pub gathered_none : {P : Rows → Type 0} (l : ℕ) (lists : KeyedLists) (at : Option ℕ) → at ≡ first_key (list_at l lists) → P []
+    → IsGathering P l 0 lists at
+gathered_none l lists at e h = record { past = []; walk = begun l lists at e; holds = h }
 
-pub counted-one : (l step : ℕ) (lists : KeyedLists) (b : l < length lists) (a : AreApart lists) (key : ℕ) (at next : Option ℕ)
-    → (c : IsCounting l step lists at) → at ≡ Some key → IsNext key lists next → IsCounting l (step + 1) lists next
-counted-one l step lists b a key at next c e n =
-    let w = next_row l step lists at key c.past c.walk e in
-    record { past = c.past ++ (key, w.node) ∷ []; walk = walked l step lists key c.past w next (n l c.past w.node w.rest b w.rows) }
+module _ {P : Rows → Type 0} {l step : ℕ} {lists : KeyedLists} {at : Option ℕ} (g : IsGathering P l step lists at) where
+  -- once no row is left it holds of all
+  pub gathered_all : row_count lists ≤ step → P (list_at l lists)
+  gathered_all h = rw (ended_count l step lists at g.past g.walk h) g.holds
 
-pub counted-in_use : (l step : ℕ) (lists : KeyedLists) (b : l < length lists) (a : AreApart lists) (key : ℕ) (at : Option ℕ)
-    → (c : IsCounting l step lists at) → at ≡ Some key → IsSome (node_at key lists)
-counted-in_use l step lists b a key at c e = in_use l step lists b a key c.past (next_row l step lists at key c.past c.walk e)
+  module _ (b : l < length lists) (a : AreApart lists) (key : ℕ) (e : at ≡ Some key) where
+    here : IsNextRow l step lists key g.past g.walk.left
+    here = next_row l step lists at key g.past g.walk e
 
-pub counted-enough : (l step : ℕ) (lists : KeyedLists) (at : Option ℕ) → IsCounting l step lists at → row_count lists ≤ step
-    → step ≡ length (list_at l lists)
-counted-enough l step lists at c h = sym c.walk.count ∙ ap (λ (y : Rows). length y)
-    (sym (ended_count l step lists at c.past c.walk h))
+    here_found : node_at key lists ≡ Some here.node
+    here_found = found l step lists b a key g.past here
 
--- the rows copied so far
-pub record IsCopying (l step : ℕ) (lists : KeyedLists) (at : Option ℕ) (old new : List Timer) : Type 0 where
-  pub past : Rows
-  pub walk : IsWalking l step lists at past
-  pub timers : new ≡ old ++ timers_in past
+    pub here_in_use : IsSome (node_at key lists)
+    here_in_use = rw here_found refl
 
-pub copied : (l step : ℕ) (lists : KeyedLists) (b : l < length lists) (a : AreApart lists) (key : ℕ) (at next : Option ℕ)
-    (node : Node) (old new more : List Timer) → (c : IsCopying l step lists at old new) → at ≡ Some key → Some node ≡ node_at key lists
-    → more ≡ new ++ node.timer ∷ []
-    → ((w : IsNextRow l step lists key c.past c.walk.left) → next ≡ first_key w.rest) → IsCopying l (step + 1) lists next old more
-copied l step lists b a key at next node old new more c e f m n =
-    let w : IsNextRow l step lists key c.past c.walk.left = next_row l step lists at key c.past c.walk e in
-    let same : node ≡ w.node = some_same node w.node (f ∙ found l step lists b a key c.past w) in
-    record {
-      past = c.past ++ (key, w.node) ∷ [];
-      walk = walked l step lists key c.past w next (n w);
-      timers = rw (m, c.timers, same, timers-append c.past ((key, w.node) ∷ []), append_assoc old (timers_in c.past) (w.node.timer ∷ []))
-          refl;
+    pub here_is_some : None ≡ node_at key lists → ⊥
+    here_is_some n = none_some here.node (n ∙ here_found)
+
+    -- one more row
+    pub gathered_one : {Q : Rows → Type 0} (next : Option ℕ) → IsNext key lists next
+        → ((node : Node) → node_at key lists ≡ Some node → P g.past → Q (g.past ++ (key, node) ∷ [])) → IsGathering Q l (step + 1) lists next
+    gathered_one next n f = record {
+      past = g.past ++ (key, here.node) ∷ [];
+      walk = walked l step lists key g.past here next (n l g.past here.node here.rest b here.rows);
+      holds = f here.node here_found g.holds;
     }
 
-pub copied-all : (l step : ℕ) (lists : KeyedLists) (at : Option ℕ) (old new : List Timer)
-    → (c : IsCopying l step lists at old new) → list_at l lists ≡ c.past → new ≡ old ++ timers_in (list_at l lists)
-copied-all l step lists at old new c e = c.timers ∙ ap (λ (y : Rows). old ++ timers_in y) (sym e)
+-- One list is counted, and copied.
+
+abbrev pub IsCounted : ℕ → Rows → Type 0
+IsCounted step past = length past ≡ step
+
+pub counted_one : (step key : ℕ) (node : Node) (past : Rows) → IsCounted step past → IsCounted (step + 1) (past ++ (key, node) ∷ [])
+counted_one step key node past h = omega (arith, h, length-append past ((key, node) ∷ []))
+
+abbrev pub IsCopied : List Timer → List Timer → Rows → Type 0
+IsCopied old new past = new ≡ old ++ timers_in past
+
+pub copied_one : (key : ℕ) (node same : Node) (found : Option Node) (old new more : List Timer) (past : Rows) → Some same ≡ found
+    → more ≡ new ++ same.timer ∷ [] → found ≡ Some node → IsCopied old new past → IsCopied old more (past ++ (key, node) ∷ [])
+copied_one key node same found old new more past f m e h = rw (
+  m,
+  h,
+  some_same same node (f ∙ e),
+  timers-append past ((key, node) ∷ []),
+  append_assoc old (timers_in past) (node.timer ∷ []),
+) refl
 
 -- while a row is left, fewer timers were copied than the list has
-pub copied-fits : (l step : ℕ) (lists : KeyedLists) (key : ℕ) (at : Option ℕ) (old new : List Timer)
-    → IsCopying l step lists at old new → at ≡ Some key → length new < length old + length (list_at l lists)
-copied-fits l step lists key at old new c e =
-    let w = next_row l step lists at key c.past c.walk e in
-    let rows : length (list_at l lists) ≡ length c.past + suc (length w.rest) =
-    ap (λ (y : Rows). length y) w.rows ∙ length-append c.past ((key, w.node) ∷ w.rest) in
-    let here : length new ≡ length old + length (timers_in c.past) =
-    ap (λ (y : List Timer). length y) c.timers ∙ length-append old (timers_in c.past) in
-    omega (arith, length-map c.past timer_in)
+pub copied_fits : {l step : ℕ} {lists : KeyedLists} {at : Option ℕ} (old new : List Timer) (key : ℕ)
+    → IsGathering (IsCopied old new) l step lists at → at ≡ Some key → length new < length old + length (list_at l lists)
+copied_fits {l = l} {step = step} {lists = lists} {at = at} old new key g e =
+    let w = next_row l step lists at key g.past g.walk e in
+    omega (
+      arith,
+      ap (λ (y : Rows). length y) w.rows,
+      length-append g.past ((key, w.node) ∷ w.rest),
+      ap (λ (y : List Timer). length y) g.holds,
+      length-append old (timers_in g.past),
+      length-map g.past timer_in,
+    )
 
 -- One list is emptied.
 

@@ -1,8 +1,8 @@
 -- The two changes of a hierarchy of wheels: a row is removed, and a row is pushed to the back of its list. If the last
 -- row leaves a bucket, its bit is cleared; if one comes to a bucket, it is set. What is due has no bit.
-use Rattle.std.proofs.Common.{◌≡◌, ◌≢◌, ◌<◌, ◌≤◌, ◌+◌, ◌⊎◌, ℕ, List, [], ◌∷◌, ◌++◌, length, refl, sym, ◌∙◌, ap, subst, inl, inr, arith, get_or-set_same, get_or-set_other, Option, Some, IfSome, map, slice_set}
+use Rattle.std.proofs.Common.{◌≡◌, ◌≢◌, ◌<◌, ◌≤◌, ◌+◌, ◌⊎◌, ℕ, List, [], ◌∷◌, ◌++◌, length, refl, sym, ◌∙◌, ap, subst, inl, inr, arith, get_or-set_other, Option, Some, IfSome, map, slice_set}
 use Rattle.std.specs.List.{AllByRecursion}
-use Rattle.std.proofs.lemmas.Bool.{cases_eq, cases_lt}
+use Rattle.std.proofs.lemmas.Bool.{cases_lt}
 use Rattle.timer_links.proofs.Rows.{StandsIn, stands_in}
 use Rattle.timer_base.specs.declared.timer.Timer.{Timer}
 use Rattle.timer_base.specs.declared.timer.Handle.{Handle}
@@ -24,40 +24,22 @@ use Rattle.timer_wheels.specs.Tables.{radices}
 use Rattle.timer_wheels.proofs.BucketLemmas.{each-with_row, each-without_key, each-same}
 use Rattle.timer_wheels.proofs.FirstsLemmas.{same_firsts, entered_firsts, entered_fits, left_firsts, left_counted}
 use Rattle.timer_wheels.proofs.Handles.{held_node}
-use Rattle.timer_wheels.proofs.OccupiedLemmas.{marked_same, marked_with_row}
+use Rattle.timer_wheels.proofs.OccupiedLemmas.{marked_same, marked_set, filled_behind}
 use Rattle.timer_wheels.proofs.RowLemmas.{all-rest, all-list_at}
 use Rattle.timer_wheels.proofs.TableLaws.{of_table}
 
--- one row is removed from a bucket, and its bit is cleared if no other row is left in it
-kept_filled : (n : ℕ) (words words2 : List ℕ) (l : ℕ) (rows : Rows) (lists new : KeyedLists) → l < n
-    → l < length lists → filled (list_at l lists) ≡ 1 → filled rows ≡ 1 → new ≡ slice_set lists l rows → words2 ≡ words
-    → AreMarked n words lists → AreMarked n words2 new
-kept_filled n words words2 l rows lists new h b was now e c t = (
-  (λ (s : ℕ) (k : s < n). ap (λ (w : List ℕ). bit_of w s) c ∙ (t.0 s k
-      ∙ sym (ap (λ (y : KeyedLists). filled (list_at s y)) e ∙ elim (cases_eq s l) [
-        | inl q ↦ ap (λ (v : ℕ). filled (list_at v (slice_set lists l rows))) q
-            ∙ (ap filled (get_or-set_same lists l rows [] b) ∙ (now ∙ sym (ap (λ (v : ℕ). filled (list_at v lists)) q ∙ was)))
-        | inr m ↦ ap filled (get_or-set_other lists l s rows [] m)
-      ]))),
-  (λ s a d. ap (λ (w : List ℕ). bit_of w s) c ∙ t.1 s a d),
-)
+module _ (n : ℕ) (words words2 : List ℕ) (l : ℕ) (lists : KeyedLists) (h : l < n) (b : l < length lists)
+    (t : AreMarked n words lists) where
+  stays_marked : (rows : Rows) → filled (list_at l lists) ≡ filled rows → words2 ≡ words → AreMarked n words2 (slice_set lists l rows)
+  stays_marked rows f c = marked_set n words words2 l rows lists h b (ap (λ (w : List ℕ). bit_of w l) c ∙ (t.0 l h ∙ f))
+      (λ s m. ap (λ (w : List ℕ). bit_of w s) c) t
 
-taken_out : (n : ℕ) (words words2 : List ℕ) (key l : ℕ) (node : Node) (front rest : Rows) (lists new : KeyedLists)
-    → l < n → l < length lists → list_at l lists ≡ front ++ (key, node) ∷ rest → new ≡ slice_set lists l (front ++ rest)
-    → Clears (list_if_alone l front rest) words words2 → AreMarked n words lists → AreMarked n words2 new
-taken_out n words words2 key l node [] [] lists new h b at e c t = (
-  (λ (s : ℕ) (k : s < n). elim (cases_eq s l) [
-    | inl q ↦ ap (bit_of words2) q ∙ (c.0 ∙ sym (ap (λ (y : KeyedLists). filled (list_at s y)) e
-        ∙ (ap (λ (v : ℕ). filled (list_at v (slice_set lists l []))) q ∙ ap filled (get_or-set_same lists l [] [] b))))
-    | inr m ↦ c.1 s m ∙ (t.0 s k ∙ sym (ap (λ (y : KeyedLists). filled (list_at s y)) e
-        ∙ ap filled (get_or-set_other lists l s [] [] m)))
-  ]),
-  (λ s a d. c.1 s (λ (q : s ≡ l). omega arith) ∙ t.1 s a d),
-)
-taken_out n words words2 key l node [] (x ∷ xs) lists new h b at e c t =
-    kept_filled n words words2 l (x ∷ xs) lists new h b (ap filled at) refl e c t
-taken_out n words words2 key l node (x ∷ xs) rest lists new h b at e c t =
-    kept_filled n words words2 l (x ∷ (xs ++ rest)) lists new h b (ap filled at) refl e c t
+  -- one row is removed from a bucket, and its bit is cleared if no other row is left in it
+  taken_out : (key : ℕ) (node : Node) (front rest : Rows) → list_at l lists ≡ front ++ (key, node) ∷ rest
+      → Clears (list_if_alone l front rest) words words2 → AreMarked n words2 (slice_set lists l (front ++ rest))
+  taken_out key node [] [] at c = marked_set n words words2 l [] lists h b c.0 c.1 t
+  taken_out key node [] (x ∷ xs) at c = stays_marked (x ∷ xs) (ap filled at) c
+  taken_out key node (x ∷ xs) rest at c = stays_marked (x ∷ (xs ++ rest)) (ap filled at) c
 
 list_if_alone_in_range : (n l : ℕ) (front rest : Rows) → l < n
     → IfSome (list_if_alone l front rest) (λ l. l < n)
@@ -90,7 +72,8 @@ module _ {table : List ℕ} {now n : ℕ} {words : List ℕ} {firsts : List Firs
         → AreWheels table now n words2 firsts2 (with_row list row lists)
     pushed_wheels h at c = record {
       placed = each-with_row (IsPlaced table now) n list row lists (omega arith) (at, z) w.placed;
-      marked = marked_with_row n words words2 list row lists h (omega arith) c.here c.others w.marked;
+      marked = marked_set n words words2 list (list_at list lists ++ row ∷ []) lists h (omega arith)
+          (c.here ∙ sym (filled_behind (list_at list lists) row)) c.others w.marked;
       foretold = entered_firsts w.foretold firsts2 list d row h (omega arith) refl c.counted;
     }
 
@@ -198,8 +181,8 @@ module _ {table : List ℕ} {now n : ℕ} {words : List ℕ} {firsts : List Firs
             → AreWheels table now n words2 firsts2 rest
         left_wheels h c = record {
           placed = each-without_key (IsPlaced table now) n handle.place lists w.placed;
-          marked = taken_out n words words2 handle.place there.l node there.front there.rest lists rest h there.in_range there.at
-              rest_is c.bits w.marked;
+          marked = subst (AreMarked n words2) (sym rest_is) (taken_out n words words2 there.l lists h there.in_range w.marked
+              handle.place node there.front there.rest there.at c.bits);
           foretold = left_firsts w.foretold handle.place there.l t.deadline node there.front there.rest rest h there.in_range there.at
               rest_is node_deadline firsts2 c.counted;
         }

@@ -127,8 +127,8 @@ level_by_top a b h r =
 pub zeros_bound : (a b : ℕ) → a < b → b ≤ 1152921504606846975 → count_leading_zeros 64 (bit_xor a b) ≤ 63
 zeros_bound a b h r = omega (arith, (has_top a b h r).1)
 
-pub level_below_ten : (a b : ℕ) → a < b → b ≤ 1152921504606846975 → level wide a b < 10
-level_below_ten a b h r = omega (arith, level_in_table wide a b wide_is_table (in_wide b r) h, length-wide)
+pub level_below_ten : (a b : ℕ) → a < b → b ≤ 1152921504606846975 → (63 - count_leading_zeros 64 (bit_xor a b)) / 6 < 10
+level_below_ten a b h r = omega (arith, level_in_table wide a b wide_is_table (in_wide b r) h, level_by_top a b h r, length-wide)
 
 -- Digits and slots.
 
@@ -227,8 +227,9 @@ lowest_by_zeros t h r =
 pub emptied_low : (t : ℕ) → t % 64 ≢ 0 → t % 64 ≡ emptied wide t
 emptied_low t n = rw wide_is (sym (emptied_here 64 (wides 9) t n))
 
-pub lowest_below_ten : (t : ℕ) → 0 < t → t ≤ 1152921504606846975 → lowest wide t < 10
-lowest_below_ten t h r = omega (arith, lowest-bound wide t wide_is_table (in_wide t r) (omega arith), length-wide)
+pub lowest_below_ten : (t : ℕ) → 0 < t → t ≤ 1152921504606846975 → trailing_zeros w64 t / 6 < 10
+lowest_below_ten t h r =
+    omega (arith, lowest-bound wide t wide_is_table (in_wide t r) (omega arith), lowest_by_zeros t h r, length-wide)
 
 -- The next visit of a list.
 
@@ -267,3 +268,10 @@ visit_by_shift l a h r =
     let e : 64 * (l / 64) + l % 64 ≡ l = omega arith in
     mod_small (above (a / 2 ^ (6 * (l / 64))) (l % 64) * 2 ^ (6 * (l / 64))) (in_word (l / 64) (l % 64) a (omega arith) (omega arith) r)
     ∙ rw wide_is (sym (visit_step 10 (l / 64) (l % 64) a (omega arith) (omega arith)) ∙ ap (λ (x : ℕ). list_visit (wides 10) x a) e)
+
+-- what the functions of the table return
+pub ruleset wide_levels = (level_by_top, zeros_bound, level_below_ten)
+
+pub ruleset wide_lowest = (lowest_by_zeros, lowest_below_ten)
+
+pub ruleset wide_emptied = (slot_by_product, emptied_low)

@@ -28,9 +28,19 @@ abbrev pub begun_first : ℕ → First
 begun_first zero = no_first
 begun_first (suc n) = unknown_first
 
+-- nothing is known of any list, as before first deadlines are kept
+abbrev pub AreUnknown : List First → Type 0
+AreUnknown firsts = (s : ℕ) → s < length firsts → (first_at s firsts).bound ≡ 0
+
+-- that of some list has a bound above 0, as always once they are kept
+abbrev pub HasBound : List First → Type 0
+HasBound firsts = (s : ℕ) × (s < length firsts) × (0 < (first_at s firsts).bound)
+
 -- but for one list, each is as it was, or none where the bucket's bit is clear
 pub record Keeps (words : List ℕ) (l : ℕ) (old new : List First) : Type 0 where
   pub size : length new ≡ length old
+  -- if nothing was known, each begins by its bit
+  pub begun : AreUnknown old → (s : ℕ) → s < length old → s ≢ l → first_at s new ≡ begun_first (bit_of words s)
   pub others : (s : ℕ) → s ≢ l
       → (first_at s new ≡ first_at s old) ⊎ ((bit_of words s ≡ 0) × (first_at s new ≡ no_first))
 
@@ -44,7 +54,7 @@ pub record Enters (lowest l deadline : ℕ) (old new : List First) : Type 0 wher
 -- a timer with this deadline left the list
 pub record Leaves (lowest l deadline : ℕ) (old new : List First) : Type 0 where
   pub one : ChangesOne l old new
-  pub bound : lowest ≤ l → (first_at l new).bound ≡ (first_at l old).bound
+  pub bound : (first_at l new).bound ≡ (first_at l old).bound
   pub here : lowest ≤ l → (front rest : List Timer) (t : Timer) → t.deadline ≡ deadline
       → IsFirstOf (first_at l old) (front ++ t ∷ rest) → IsFirstOf (first_at l new) (front ++ rest)
 

@@ -31,13 +31,16 @@ pub struct Firsts {
 }
 
 impl Model for Firsts {
-    ghost use Rattle.std.specs.Prelude.{List};
-    ghost use Rattle.timer_wheels.specs.Firsts.{firsts_kept};
+    ghost use Rattle.std.specs.Prelude.{◌≡◌, List, true};
+    ghost use Rattle.timer_wheels.specs.Firsts.{firsts_kept, HasBound};
     ghost use Rattle.timer_wheels.specs.declared.first.First.{First};
 
     ghost Value = { List First };
 
     ghost view = { λ f. firsts_kept f.is_kept f.firsts.items };
+
+    // So the view shows whether they are kept.
+    ghost invariant = { λ f. f.is_kept ≡ true → HasBound f.firsts.items };
 }
 
 impl Firsts {
@@ -68,6 +71,7 @@ impl Firsts {
     /// Keeps that of a bucket, which was found by a walk. From then on all are kept. A bucket without a bit is empty.
     pub fn keep(&mut self, occupied: &Occupied, list: usize, first: First)
         requires list { list < length self.old }
+        requires found { 0 < first.bound }
         requires few { length self.old ≤ MOST_BUCKETS }
         ensures here { first_at list self.new ≡ first }
         ensures others { Keeps occupied.now list self.old self.new }

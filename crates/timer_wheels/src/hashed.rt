@@ -101,6 +101,7 @@ impl HashedWheel {
     /// The list and the rounds of a timer that is started now: its bucket, or the list of due timers if its
     /// deadline is now.
     #[inline(always)]
+    #[tactic(auto, using(crate::proofs::HashedTicks::slot_from))]
     fn list_and_rounds(&self, timer: Timer) -> (usize, u64)
         requires not_past { (hashed_state self.now).now ≤ timer.deadline }
         ensures list { IsListOf result.0 (slots_of self.now) (hashed_state self.now).now timer.deadline }

@@ -135,6 +135,7 @@ impl HierWheel {
     ///
     /// Errors, in this order: `FirstTick` above the table's last tick, which is `LAST` or
     /// `LAST_OF_CLOCK`; `OutOfMemory`.
+    #[tactic(auto, using(crate::proofs::HierLemmas::new_paid))]
     pub fn with_table(alloc: Global, table: Table, first_tick: u64) -> Result<HierWheel, MakeFault>
         ensures state { IfOk result (λ wheel. hier_state wheel
             ≡ empty_wheel (slots_of_table table) (last_of_table table) first_tick) }
@@ -304,6 +305,7 @@ impl Wheel for HierWheel {
 
     /// The next tick at which a bucket with a timer is emptied: a timer is due then, or moves to a lower
     /// wheel. None moves before it.
+    #[tactic(auto, using(crate::proofs::ExactWakeUps::visit_by_slots))]
     fn quiet_until(&self) -> Option<u64>
         ensures next { IfSome result (λ tick. IsNextVisit (radices (table_of self.now)) tick
             (hier_state self.now)) }

@@ -109,6 +109,7 @@ impl Wheels {
 /// wheel's slots, and that of the last tick if something is due then.
 ///
 /// An empty bucket counts without a look at it, since emptying it changes nothing.
+#[tactic(auto, using(crate::proofs::TableLaws::of_table, crate::proofs::VisitLaws::few_multiples, crate::proofs::VisitLaws::fewer_multiples))]
 pub fn visits_between(table: Table, first: u64, last: u64, due: bool) -> u64
     requires later { first < last }
     requires range { last ≤ LAST }

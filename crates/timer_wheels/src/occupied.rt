@@ -59,6 +59,7 @@ impl Occupied {
     /// Sets a bucket's bit.
     // Where it is set already nothing is stored: a store would hold back the next start's load of the word.
     #[inline]
+    #[tactic(auto, using(crate::proofs::OccupiedLemmas::set_here, crate::proofs::OccupiedLemmas::set_others))]
     pub fn insert(&mut self, list: usize)
         requires { list < MOST_BUCKETS }
         ensures here { bit_of self.new list ≡ 1 }
@@ -73,6 +74,7 @@ impl Occupied {
 
     /// Clears a bucket's bit.
     #[inline]
+    #[tactic(auto, using(crate::proofs::OccupiedLemmas::clear_here, crate::proofs::OccupiedLemmas::clear_others))]
     pub fn remove(&mut self, list: usize)
         requires { list < MOST_BUCKETS }
         ensures here { bit_of self.new list ≡ 0 }
@@ -99,6 +101,7 @@ impl Occupied {
 
 /// The place of the lowest bit that is set.
 #[inline]
+#[tactic(auto, using(crate::proofs::OccupiedLemmas::lowest_set))]
 fn lowest_bit(word: u64) -> usize
     requires { word ≢ 0 }
     ensures { IsLowestSet word result }

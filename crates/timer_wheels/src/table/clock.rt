@@ -57,7 +57,7 @@ pub fn is_rollover(tick: u64) -> bool
 
 /// The list of a timer that is pending now.
 #[inline]
-#[tactic(auto, unfolding(crate::specs::Tables::clock))]
+#[tactic(auto, using(crate::proofs::ClockDigits::clock_buckets), unfolding(crate::specs::Tables::clock))]
 pub fn bucket_of(now: u64, deadline: u64) -> usize
     requires later { now < deadline }
     requires deadline { deadline ≤ last_of clock }
@@ -81,7 +81,7 @@ pub fn bucket_of(now: u64, deadline: u64) -> usize
 
 /// The list that a tick empties.
 #[inline]
-#[tactic(auto, unfolding(crate::specs::Tables::clock))]
+#[tactic(auto, using(crate::proofs::ClockDigits::clock_emptied), unfolding(crate::specs::Tables::clock))]
 pub fn emptied_at(tick: u64) -> usize
     requires later { 0 < tick }
     requires in_range { tick ≤ last_of clock }
@@ -104,7 +104,7 @@ pub fn emptied_at(tick: u64) -> usize
 
 /// Now with the slot of a list as its digit, and zeros below.
 #[inline]
-#[tactic(auto, unfolding(crate::specs::Tables::clock))]
+#[tactic(auto, using(crate::proofs::ClockDigits::clock_visits), unfolding(crate::specs::Tables::clock))]
 pub fn visit_of(list: usize, now: u64) -> u64
     requires list { list < slots clock }
     requires now { now ≤ last_of clock }

@@ -67,6 +67,7 @@ pub fn is_rollover(tick: u64) -> bool
 
 /// Digit `k` of a tick.
 #[inline]
+#[tactic(auto, using(crate::proofs::WideDigits::digit_by_shift))]
 fn digit_of(k: u32, tick: u64) -> usize
     requires { k < 10 }
     ensures value { result ≡ digit wide k tick }
@@ -77,6 +78,7 @@ fn digit_of(k: u32, tick: u64) -> usize
 
 /// The wheel of a timer: the highest digit in which its deadline differs from now.
 #[inline]
+#[tactic(auto, using(crate::proofs::WideDigits::wide_levels))]
 fn level_of(now: u64, deadline: u64) -> u32
     requires later { now < deadline }
     requires deadline { deadline ≤ LAST }
@@ -88,6 +90,7 @@ fn level_of(now: u64, deadline: u64) -> u32
 
 /// The number of a tick's lowest digit that isn't zero.
 #[inline]
+#[tactic(auto, using(crate::proofs::WideDigits::wide_lowest))]
 fn lowest_digit(tick: u64) -> u32
     requires later { 0 < tick }
     requires in_range { tick ≤ LAST }
@@ -99,7 +102,7 @@ fn lowest_digit(tick: u64) -> u32
 
 /// The list of a timer that is pending now.
 #[inline]
-#[tactic(auto, unfolding(crate::specs::Tables::wide))]
+#[tactic(auto, using(crate::proofs::WideDigits::slot_by_product), unfolding(crate::specs::Tables::wide))]
 pub fn bucket_of(now: u64, deadline: u64) -> usize
     requires later { now < deadline }
     requires deadline { deadline ≤ last_of wide }
@@ -112,7 +115,7 @@ pub fn bucket_of(now: u64, deadline: u64) -> usize
 
 /// The list that a tick empties.
 #[inline]
-#[tactic(auto, unfolding(crate::specs::Tables::wide))]
+#[tactic(auto, using(crate::proofs::WideDigits::wide_emptied), unfolding(crate::specs::Tables::wide))]
 pub fn emptied_at(tick: u64) -> usize
     requires later { 0 < tick }
     requires in_range { tick ≤ last_of wide }
@@ -130,7 +133,7 @@ pub fn emptied_at(tick: u64) -> usize
 
 /// Now with the slot of a list as its digit, and zeros below.
 #[inline]
-#[tactic(auto, unfolding(crate::specs::Tables::wide))]
+#[tactic(auto, using(crate::proofs::WideDigits::visit_by_shift), unfolding(crate::specs::Tables::wide))]
 pub fn visit_of(list: usize, now: u64) -> u64
     requires list { list < slots wide }
     requires now { now ≤ last_of wide }

@@ -1,5 +1,6 @@
-use Rattle.timer_wheels.proofs.DeadlineLemmas.{IsSeeking}
+use Rattle.timer_wheels.proofs.DeadlineLemmas.{IsSought}
+use Rattle.timer_wheels.proofs.WalkLemmas.{IsGathering}
 use Rattle.timer_wheels.proofs.deadlines.first_in.Given as goal
 
 abbrev pub invariant-loop-step : goal.invariant-loop-step
-invariant-loop-step l = IsSeeking l.list l.step l.links.lists l.at l.first
+invariant-loop-step l = IsGathering (IsSought l.first) l.list l.step l.links.lists l.at

@@ -1,17 +1,12 @@
-use Rattle.std.proofs.Common.{◌+◌, ◌≡◌, ◌<◌, ℕ, length, sym, ◌∙◌, ap, arith}
+use Rattle.std.proofs.Common.{length, sym, ◌∙◌, ap, arith}
 use Rattle.timer_links.specs.Lists.{list_at, Rows}
-use Rattle.timer_wheels.specs.Digits.{slots, lowest_radix}
 use Rattle.timer_wheels.specs.Tables.{radices}
 use Rattle.timer_wheels.proofs.MigrationLoop.{append_whole, none_left_over}
-use Rattle.timer_wheels.proofs.TableLaws.{below}
 use Rattle.timer_wheels.proofs.WheelUpdates.{in_word}
 use Rattle.timer_wheels.proofs.migration.empty_bucket.Goals as goal
 
-in_lists : (l n k : ℕ) → l < n → k ≡ n + 1 → l < k
-in_lists l n k a b = omega arith
-
 pub is_empty-requires : goal.is_empty-requires
-is_empty-requires c = in_lists c.args.list (slots (radices c.args.table)) (length c.args.links.now.lists) c.requires.list c.requires.lists
+is_empty-requires c = omega (arith, c.requires.list, c.requires.lists)
 
 pub remove-requires : goal.remove-requires
 remove-requires c = in_word c.args.table c.args.list c.requires.list
@@ -20,11 +15,9 @@ pub returns-then-list-lowest_slots-clause-migrated : goal.returns-then-list-lowe
 returns-then-list-lowest_slots-clause-migrated c =
     c.append.ensures.appended ∙ append_whole (radices c.args.table) c.buckets_of.result c.args.tick c.args.list c.args.links.now.lists
     c.buckets_of.ensures.value c.requires.lists c.requires.list
-    (c.requires.lowest (below c.args.list c.lowest_slots.result
-    (lowest_radix (radices c.args.table)) c.lowest_slots.ensures.value c.if-list-lowest_slots.true))
+    (c.requires.lowest (omega (arith, c.lowest_slots.ensures.value, c.if-list-lowest_slots.true)))
 
 pub returns-then-list-lowest_slots-clause-moves : goal.returns-then-list-lowest_slots-clause-moves
 returns-then-list-lowest_slots-clause-moves c =
     ap (λ (y : Rows). length y) (sym (none_left_over c.args.tick (list_at c.args.list c.args.links.now.lists)
-    (c.requires.lowest (below c.args.list c.lowest_slots.result
-    (lowest_radix (radices c.args.table)) c.lowest_slots.ensures.value c.if-list-lowest_slots.true))))
+    (c.requires.lowest (omega (arith, c.lowest_slots.ensures.value, c.if-list-lowest_slots.true)))))

@@ -1,6 +1,4 @@
-use Rattle.std.proofs.Common.{◌≡◌, ◌≢◌, ◌<◌, ◌≤◌, ◌+◌, ℕ, length, refl, sym, ◌∙◌, ap, arith, rules}
-use Rattle.timer_links.specs.Lists.{KeyedLists}
-use Rattle.timer_wheels.specs.BucketLists.{timer_in}
+use Rattle.std.proofs.Common.{◌<◌, ◌+◌, length, refl, sym, ◌∙◌, ap, arith, rules}
 use Rattle.timer_wheels.specs.Digits.{slots, lowest_radix}
 use Rattle.timer_wheels.specs.Occupied.{filled}
 use Rattle.timer_wheels.specs.Tables.{radices}
@@ -9,29 +7,19 @@ use Rattle.timer_wheels.proofs.MigrationLoop.{first_row, next_due, next_left, du
 use Rattle.timer_wheels.proofs.OccupiedLemmas.{marked_due, marked_left, marked_all}
 use Rattle.timer_wheels.proofs.migration.migrate_one_by_one.Goals as goal
 
-in_lists : (l n : ℕ) (lists : KeyedLists) → length lists ≡ n + 1 → l < n → l < length lists
-in_lists l n lists e h = omega arith
-
-in_new : (to n : ℕ) (lists old : KeyedLists) → to < n → length old ≡ n + 1 → length lists ≡ length old → to < length lists
-in_new to n lists old h e f = omega arith
-
-positive : (tick d deadline : ℕ) → tick ≤ d → d ≡ deadline → deadline ≢ tick → 0 < deadline
-positive tick d deadline h e n = omega arith
-
 pub loop-ahead-preserved-then-deadline-tick : goal.loop-ahead-preserved-then-deadline-tick
 loop-ahead-preserved-then-deadline-tick c =
     let i = c.loop-ahead.invariant in
-    let b = in_lists c.args.list (slots (radices c.args.table)) c.args.links.now.lists c.requires.lists c.requires.list in
     let f = first_row i.emptying (sym c.in-Some.is ∙ i.ahead) in
     let m = c.move_front in
     let after = m.new.self.lists in
     let due = c.buckets_of-due in
-    let to = due_target after b i.emptying f due.result due.ensures.value c.if-deadline-tick.true in
+    let to = due_target after i.emptying f due.result due.ensures.value c.if-deadline-tick.true in
     record {
       room = m.ensures.room ∙ i.room;
-      emptying = next_due after b i.emptying f due.result c.loop-ahead.moves due.ensures.value c.if-deadline-tick.true m.ensures.moved
+      emptying = next_due after i.emptying f due.result c.loop-ahead.moves due.ensures.value c.if-deadline-tick.true m.ensures.moved
           refl;
-      ahead = ahead_after after b i.emptying f due.result c.next_deadline-ahead.result to m.ensures.moved c.next_deadline-ahead.ensures;
+      ahead = ahead_after after i.emptying f due.result c.next_deadline-ahead.result to m.ensures.moved c.next_deadline-ahead.ensures;
       clear = i.clear;
       marked = marked_due (slots (radices c.args.table)) c.loop-ahead.occupied c.args.list due.result c.loop-ahead.links.lists after
           due.ensures.value m.ensures.moved i.marked;
@@ -43,20 +31,18 @@ pub loop-ahead-preserved : goal.loop-ahead-preserved
 loop-ahead-preserved c =
     let n = slots (radices c.args.table) in
     let i = c.loop-ahead.invariant in
-    let b = in_lists c.args.list n c.args.links.now.lists c.requires.lists c.requires.list in
     let f = first_row i.emptying (sym c.in-Some.is ∙ i.ahead) in
     let m = c.move_front-else-deadline-tick in
     let after = m.new.self.lists in
     let to = c.bucket_of-to in
-    let is = left_target after b i.emptying f to.result to.ensures.value c.if-deadline-tick.false in
-    let away = goes_elsewhere after b i.emptying f to.result is in
-    let inside = in_new to.result n c.loop-ahead.links.lists c.args.links.now.lists to.ensures.in_range c.requires.lists
-    i.emptying.has_lists in
+    let is = left_target after i.emptying f to.result to.ensures.value c.if-deadline-tick.false in
+    let away = goes_elsewhere after i.emptying f to.result is in
+    let inside : to.result < length c.loop-ahead.links.lists = omega (arith, to.ensures.in_range, c.requires.lists, i.emptying.has_lists) in
     record {
       room = m.ensures.room ∙ i.room;
-      emptying = next_left after b i.emptying f to.result (c.loop-ahead.moves + 1) to.ensures.value c.if-deadline-tick.false
+      emptying = next_left after i.emptying f to.result (c.loop-ahead.moves + 1) to.ensures.value c.if-deadline-tick.false
           m.ensures.moved refl;
-      ahead = ahead_after after b i.emptying f to.result c.next_deadline-ahead.result is m.ensures.moved c.next_deadline-ahead.ensures;
+      ahead = ahead_after after i.emptying f to.result c.next_deadline-ahead.result is m.ensures.moved c.next_deadline-ahead.ensures;
       clear = c.insert.ensures.others c.args.list (λ x. away (sym x)) ∙ i.clear;
       marked = marked_left n c.loop-ahead.occupied c.insert.new.self c.args.list to.result f.row f.rest c.loop-ahead.links.lists after
           to.ensures.in_range inside c.insert.ensures.here c.insert.ensures.others f.at m.ensures.moved i.marked;
@@ -69,26 +55,23 @@ loop-ahead-preserved c =
 pub loop-ahead-smaller-then-deadline-tick : goal.loop-ahead-smaller-then-deadline-tick
 loop-ahead-smaller-then-deadline-tick c =
     let i = c.loop-ahead.invariant in
-    let b = in_lists c.args.list (slots (radices c.args.table)) c.args.links.now.lists c.requires.lists c.requires.list in
     let f = first_row i.emptying (sym c.in-Some.is ∙ i.ahead) in
     let m = c.move_front in
-    shorter m.new.self.lists b i.emptying f c.buckets_of-due.result (due_target m.new.self.lists b i.emptying f c.buckets_of-due.result
+    shorter m.new.self.lists i.emptying f c.buckets_of-due.result (due_target m.new.self.lists i.emptying f c.buckets_of-due.result
     c.buckets_of-due.ensures.value c.if-deadline-tick.true) m.ensures.moved
 
 pub loop-ahead-smaller : goal.loop-ahead-smaller
 loop-ahead-smaller c =
     let i = c.loop-ahead.invariant in
-    let b = in_lists c.args.list (slots (radices c.args.table)) c.args.links.now.lists c.requires.lists c.requires.list in
     let f = first_row i.emptying (sym c.in-Some.is ∙ i.ahead) in
     let m = c.move_front-else-deadline-tick in
-    shorter m.new.self.lists b i.emptying f c.bucket_of-to.result (left_target m.new.self.lists b i.emptying f c.bucket_of-to.result
+    shorter m.new.self.lists i.emptying f c.bucket_of-to.result (left_target m.new.self.lists i.emptying f c.bucket_of-to.result
     c.bucket_of-to.ensures.value c.if-deadline-tick.false) m.ensures.moved
 
 pub overflow_add-moves : goal.overflow_add-moves
 overflow_add-moves c =
     let i = c.loop-ahead.invariant in
-    let b = in_lists c.args.list (slots (radices c.args.table)) c.args.links.now.lists c.requires.lists c.requires.list in
-    let h : c.loop-ahead.moves + 1 < 18446744073709551616 = moves_fit c.loop-ahead.links.lists b i.emptying (first_row i.emptying (sym c.in-Some.is
+    let h : c.loop-ahead.moves + 1 < 18446744073709551616 = moves_fit c.loop-ahead.links.lists i.emptying (first_row i.emptying (sym c.in-Some.is
     ∙ i.ahead)) c.lemma_countable.ensures in
     search rules
 
@@ -98,15 +81,14 @@ enter-requires c =
     let i = c.loop-ahead.invariant in
     let m = c.move_front-else-deadline-tick in
     let to = c.bucket_of-to in
-    let b = in_lists c.args.list n c.args.links.now.lists c.requires.lists c.requires.list in
     let f = first_row i.emptying (sym c.in-Some.is ∙ i.ahead) in
-    let is = left_target m.new.self.lists b i.emptying f to.result to.ensures.value c.if-deadline-tick.false in
-    let inside = in_new to.result n c.loop-ahead.links.lists c.args.links.now.lists to.ensures.in_range c.requires.lists i.emptying.has_lists in
+    let is = left_target m.new.self.lists i.emptying f to.result to.ensures.value c.if-deadline-tick.false in
+    let inside : to.result < length c.loop-ahead.links.lists = omega (arith, to.ensures.in_range, c.requires.lists, i.emptying.has_lists) in
     record {
       list = rw i.foretold.size to.ensures.in_range;
-      positive = positive c.args.tick (timer_in f.row).deadline c.in-Some.deadline f.first.not_past f.deadline c.if-deadline-tick.false;
+      positive = omega (arith, f.first.not_past, f.deadline, c.if-deadline-tick.false);
       few = but_fits i.foretold to.result c.in-Some.deadline f.row f.rest m.new.self.lists to.ensures.in_range inside
-          (goes_elsewhere m.new.self.lists b i.emptying f to.result is) f.at m.ensures.moved
+          (goes_elsewhere m.new.self.lists i.emptying f to.result is) f.at m.ensures.moved
           c.lemma_countable-else-deadline-tick.ensures;
     }
 

@@ -18,38 +18,37 @@ returns-then-revolutions-eq0-clause-quiet c =
 pub invariant_of-buckets : goal.invariant_of-buckets
 invariant_of-buckets c =
     let b = c.args.buckets.now in
+    let n = c.fewest_rounds-revolutions.result in
     record {
-      sound = skipped-sound b.slots b.last_tick b.tick b.last_serial c.fewest_rounds-revolutions.result
-          (b.tick + c.fewest_rounds-revolutions.result * b.slots) b.links.lists c.count_down_lists.new.links.lists
-          c.requires.has_slots refl c.count_down_lists.ensures.length b.sound.pending c.requires.in_buckets
-          c.fewest_rounds-revolutions.ensures.fewest c.count_down_lists.ensures.counted
-          (c.count_down_lists.ensures.others b.slots (omega arith)) b.sound (no_rows (list_at b.slots b.links.lists) c.requires.nothing_due)
-          (let h : b.tick + c.fewest_rounds-revolutions.result * b.slots ≤ b.last_tick = search rules in h);
+      sound = skipped-sound b.sound n (b.tick + n * b.slots) c.count_down_lists.new.links.lists c.requires.has_slots refl
+          c.count_down_lists.ensures.length c.requires.in_buckets c.fewest_rounds-revolutions.ensures.fewest
+          c.count_down_lists.ensures.counted (c.count_down_lists.ensures.others b.slots (omega arith))
+          (no_rows (list_at b.slots b.links.lists) c.requires.nothing_due)
+          (let h : b.tick + n * b.slots ≤ b.last_tick = search rules in h);
     }
 
 pub returns-clause-skipped : goal.returns-clause-skipped
 returns-clause-skipped c =
     let b = c.args.buckets.now in
-    rw c.count_down_lists.ensures.room (ap (with_room b.links.room) (skipped b.slots b.last_tick b.tick b.last_serial
-    c.fewest_rounds-revolutions.result
-    (b.tick + c.fewest_rounds-revolutions.result * b.slots) b.links.lists c.count_down_lists.new.links.lists
-    c.requires.has_slots refl c.count_down_lists.ensures.length b.sound.pending c.requires.in_buckets c.fewest_rounds-revolutions.ensures.fewest
+    let n = c.fewest_rounds-revolutions.result in
+    rw c.count_down_lists.ensures.room (ap (with_room b.links.room) (skipped b.sound n (b.tick + n * b.slots) c.count_down_lists.new.links.lists c.requires.has_slots refl
+    c.count_down_lists.ensures.length c.requires.in_buckets c.fewest_rounds-revolutions.ensures.fewest
     c.count_down_lists.ensures.counted (c.count_down_lists.ensures.others b.slots (omega arith))))
 
 pub returns-clause-quiet : goal.returns-clause-quiet
 returns-clause-quiet c =
     let b = c.args.buckets.now in
-    skipped-quiet b.slots b.last_tick b.tick b.last_serial c.fewest_rounds-revolutions.result
-    (b.tick + c.fewest_rounds-revolutions.result * b.slots) b.links.lists c.count_down_lists.new.links.lists
-    c.requires.has_slots refl c.count_down_lists.ensures.length b.sound.pending c.requires.in_buckets c.fewest_rounds-revolutions.ensures.fewest
+    let n = c.fewest_rounds-revolutions.result in
+    skipped-quiet b.sound n (b.tick + n * b.slots) c.count_down_lists.new.links.lists c.requires.has_slots refl
+    c.count_down_lists.ensures.length c.requires.in_buckets c.fewest_rounds-revolutions.ensures.fewest
     c.count_down_lists.ensures.counted (c.count_down_lists.ensures.others b.slots (omega arith))
 
 pub returns-clause-in_buckets : goal.returns-clause-in_buckets
 returns-clause-in_buckets c =
     let b = c.args.buckets.now in
-    skipped-in_buckets b.slots b.last_tick b.tick b.last_serial c.fewest_rounds-revolutions.result
-    (b.tick + c.fewest_rounds-revolutions.result * b.slots) b.links.lists c.count_down_lists.new.links.lists
-    c.requires.has_slots refl c.count_down_lists.ensures.length b.sound.pending c.requires.in_buckets c.fewest_rounds-revolutions.ensures.fewest
+    let n = c.fewest_rounds-revolutions.result in
+    skipped-in_buckets b.sound n (b.tick + n * b.slots) c.count_down_lists.new.links.lists c.requires.has_slots refl
+    c.count_down_lists.ensures.length c.requires.in_buckets c.fewest_rounds-revolutions.ensures.fewest
     c.count_down_lists.ensures.counted (c.count_down_lists.ensures.others b.slots (omega arith))
 
 pub returns-clause-same_slot : goal.returns-clause-same_slot

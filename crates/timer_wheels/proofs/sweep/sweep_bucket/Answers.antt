@@ -1,7 +1,6 @@
 use Rattle.std.proofs.Common.{refl, ◌∙◌, ◌≡◌, ◌≤◌, arith}
 use Rattle.timer_links.specs.Lists.{row_count}
-use Rattle.timer_wheels.specs.Sweep.{due_later}
-use Rattle.timer_wheels.proofs.SweepLemmas.{begun, next_row, in_use, in_range, standing, passed, ended_count}
+use Rattle.timer_wheels.proofs.SweepLemmas.{begun, in_use, passed, ended_count}
 use Rattle.timer_wheels.proofs.sweep.sweep_bucket.Goals as goal
 
 pub loop-step-init : goal.loop-step-init
@@ -13,38 +12,23 @@ loop-step-init c = record {
 pub step-here-requires : goal.step-here-requires
 step-here-requires c =
     let s = c.loop-step in
-    let w = next_row c.args.bucket c.args.due s.step c.args.links.now.lists s.links.lists s.at c.in-Some.key s.invariant.rows c.in-Some.is
-    in
     in_use c.args.bucket c.args.due s.step c.args.links.now.lists s.links.lists c.requires.other c.requires.bucket c.requires.due
-    c.in-Some.key w
-    c.lemma_keys_unique.ensures
+    c.in-Some.key s.at s.invariant.rows c.in-Some.is c.lemma_keys_unique.ensures
 
 pub sweep_node-requires-clause-used : goal.sweep_node-requires-clause-used
 sweep_node-requires-clause-used c =
     let s = c.loop-step in
-    let w = next_row c.args.bucket c.args.due s.step c.args.links.now.lists s.links.lists s.at c.in-Some.key s.invariant.rows c.in-Some.is
-    in
     in_use c.args.bucket c.args.due s.step c.args.links.now.lists s.links.lists c.requires.other c.requires.bucket c.requires.due
-    c.in-Some.key w
-    c.lemma_keys_unique.ensures
+    c.in-Some.key s.at s.invariant.rows c.in-Some.is c.lemma_keys_unique.ensures
 
 pub loop-step-preserved : goal.loop-step-preserved
 loop-step-preserved c =
     let s = c.loop-step in
-    let w = next_row c.args.bucket c.args.due s.step c.args.links.now.lists s.links.lists s.at c.in-Some.key s.invariant.rows c.in-Some.is
-    in
     record {
       room = c.sweep_node.ensures.room ∙ s.invariant.room;
       rows = passed c.args.bucket c.args.due s.step c.args.links.now.lists s.links.lists c.requires.other c.requires.bucket c.requires.due
-          c.in-Some.key w
-          c.sweep_node.new.links.lists c.step-here.result.next c.lemma_keys_unique.ensures c.sweep_node.ensures.due
-          c.sweep_node.ensures.later
-          (c.step-here.ensures.next c.args.bucket (due_later w.past) w.row.node w.row.rest
-          (in_range c.args.bucket c.args.due s.step c.args.links.now.lists s.links.lists c.requires.other c.requires.bucket c.requires.due
-          c.in-Some.key
-          w) (standing c.args.bucket c.args.due s.step c.args.links.now.lists s.links.lists c.requires.other c.requires.bucket
-          c.requires.due
-          c.in-Some.key w));
+          c.in-Some.key s.at s.invariant.rows c.in-Some.is c.sweep_node.new.links.lists c.step-here.result.next
+          c.lemma_keys_unique.ensures c.sweep_node.ensures.due c.sweep_node.ensures.later c.step-here.ensures.next;
     }
 
 pub returns-after-loop-step-clause-swept : goal.returns-after-loop-step-clause-swept

@@ -15,8 +15,8 @@ invariant_of-buckets c =
     let b = c.args.buckets.now in
     rw (gone_through b.slots b.tick c.args.slot b.links.lists c.sweep_bucket.new.links.lists c.sweep_bucket.ensures.swept c.requires.slot)
     (record {
-      sound = ticked-sound b.slots b.last_tick b.tick b.last_serial b.links.lists c.requires.has_slots b.sound.has_lists b.sound.pending
-          c.requires.in_buckets (no_rows (list_at b.slots b.links.lists) c.requires.nothing_due) b.sound c.requires.before_last;
+      sound = ticked-sound b.sound c.requires.has_slots c.requires.in_buckets
+          (no_rows (list_at b.slots b.links.lists) c.requires.nothing_due) c.requires.before_last;
     })
 
 pub returns-clause-ticked : goal.returns-clause-ticked
@@ -25,15 +25,12 @@ returns-clause-ticked c =
     rw (
       gone_through b.slots b.tick c.args.slot b.links.lists c.sweep_bucket.new.links.lists c.sweep_bucket.ensures.swept c.requires.slot,
       c.sweep_bucket.ensures.room,
-    )
-    (ap (with_room b.links.room) (ticked b.slots b.last_tick b.tick b.last_serial b.links.lists c.requires.has_slots b.sound.has_lists b.sound.pending
-    c.requires.in_buckets
-    (no_rows (list_at b.slots b.links.lists) c.requires.nothing_due) b.sound.in_order))
+    ) (ap (with_room b.links.room) (ticked b.sound c.requires.has_slots c.requires.in_buckets
+    (no_rows (list_at b.slots b.links.lists) c.requires.nothing_due)))
 
 pub returns-clause-in_buckets : goal.returns-clause-in_buckets
 returns-clause-in_buckets c =
     let b = c.args.buckets.now in
     rw (gone_through b.slots b.tick c.args.slot b.links.lists c.sweep_bucket.new.links.lists c.sweep_bucket.ensures.swept c.requires.slot)
-    (ticked-in_buckets b.slots b.last_tick b.tick b.last_serial b.links.lists c.requires.has_slots b.sound.has_lists b.sound.pending
-    c.requires.in_buckets
+    (ticked-in_buckets b.sound c.requires.has_slots c.requires.in_buckets
     (no_rows (list_at b.slots b.links.lists) c.requires.nothing_due))

@@ -1,10 +1,10 @@
-use Rattle.std.proofs.Common.{◌≤◌, ◌≡◌, ◌+◌, ◌∙◌, length, ap, arith}
+use Rattle.std.proofs.Common.{◌∙◌, ap, arith}
 use Rattle.std.proofs.lemmas.List.{length-map}
 use Rattle.timer_base.specs.HeldLaws.{with_room-held_start}
 use Rattle.timer_base.specs.WheelState.{with_room}
-use Rattle.timer_links.specs.Lists.{row_count, list_at, Rows}
+use Rattle.timer_links.specs.Lists.{list_at}
 use Rattle.timer_wheels.specs.Buckets.{roomless_state, row_at}
-use Rattle.timer_wheels.specs.BucketLists.{rows_below, pending_in, entries_of, entry_of}
+use Rattle.timer_wheels.specs.BucketLists.{rows_below, entry_of}
 use Rattle.timer_wheels.proofs.BucketLemmas.{row_count-parts, length-pending_in}
 use Rattle.timer_wheels.proofs.Updates.{pushed_in, pushed_in-state, in_lists}
 use Rattle.timer_wheels.proofs.buckets.Buckets.start.Goals as goal
@@ -31,11 +31,10 @@ returns-clause-started c =
 pub returns-in_default-clause-full : goal.returns-in_default-clause-full
 returns-in_default-clause-full c =
     let b = c.args.self.now in
-    let due : Rows = list_at b.slots b.links.lists in
-    let parts : row_count b.links.lists ≡ length (rows_below b.slots b.links.lists) + length due =
-    row_count-parts b.slots b.links.lists b.sound.has_lists in
-    let rows : length (pending_in (rows_below b.slots b.links.lists)) ≡ length (rows_below b.slots b.links.lists) =
-    length-pending_in (rows_below b.slots b.links.lists) in
-    let entries : length (entries_of due) ≡ length due = length-map due entry_of in
-    let full : b.links.room ≤ row_count b.links.lists = c.in_default.ensures.full in
-    omega arith
+    omega (
+      arith,
+      row_count-parts b.slots b.links.lists b.sound.has_lists,
+      length-pending_in (rows_below b.slots b.links.lists),
+      length-map (list_at b.slots b.links.lists) entry_of,
+      c.in_default.ensures.full,
+    )

@@ -1,10 +1,9 @@
-use Rattle.std.proofs.Common.{◌+◌, refl}
+use Rattle.std.proofs.Common.{◌+◌, refl, arith}
 use Rattle.timer_base.specs.WheelState.{after_removal}
 use Rattle.timer_wheels.specs.Buckets.{state_of}
-use Rattle.timer_wheels.specs.Digits.{last_of}
 use Rattle.timer_wheels.specs.Tables.{radices}
 use Rattle.timer_wheels.proofs.HierLemmas.{levels-without, paid_at, paid_start, few_starts}
-use Rattle.timer_wheels.proofs.TableLaws.{of_table, at_most}
+use Rattle.timer_wheels.proofs.TableLaws.{of_table}
 use Rattle.timer_wheels.proofs.hier.HierWheelWheel.restart.Goals as goal
 
 pub invariant_of-self-2-clause-few_starts : goal.invariant_of-self-2-clause-few_starts
@@ -22,5 +21,4 @@ invariant_of-self-2-clause-paid c =
     paid_at (w.counts.starts + 1) w.counts.moves n.buckets w.wheels.table n.table c.restart.ensures.table
     (paid_start t b n.buckets w.counts.starts w.counts.moves w.paid c.in_ok-restarted.restarted.0.place c.args.timer
     (after_removal c.args.handle (state_of b)) (levels-without t b.tick c.args.handle (state_of b).pending) refl
-    (of_table w.wheels.table) c.requires.not_past (at_most c.args.timer.deadline b.last_tick (last_of t) w.wheels.hier.clock
-    c.requires.deadline) c.in_ok-restarted.ensures.restarted)
+    (of_table w.wheels.table) c.requires.not_past (omega (arith, w.wheels.hier.clock, c.requires.deadline)) c.in_ok-restarted.ensures.restarted)

@@ -5,8 +5,7 @@ use Rattle.timer_wheels.proofs.WheelUpdates.{up_to_last_of}
 use Rattle.timer_wheels.proofs.wheels.Wheels.first_visit.Goals as goal
 
 pub visit_of-requires-clause-list : goal.visit_of-requires-clause-list
-visit_of-requires-clause-list c = first_in_range c.args.self.now.table c.args.self.now.buckets c.args.self.now.occupied c.args.self.now.hier c.in-Some.list
-    c.in-Some.ensures
+visit_of-requires-clause-list c = first_in_range c.args.self.now.hier c.in-Some.list c.in-Some.ensures
 
 pub visit_of-requires-clause-now : goal.visit_of-requires-clause-now
 visit_of-requires-clause-now c =
@@ -14,20 +13,19 @@ visit_of-requires-clause-now c =
     up_to_last_of c.args.self.now.hier b.tick b.sound.tick_in_range
 
 pub returns-in-Some-clause-quiet : goal.returns-in-Some-clause-quiet
-returns-in-Some-clause-quiet c = first_wakes c.args.self.now.table c.args.self.now.buckets c.args.self.now.occupied c.args.self.now.hier c.in-Some.list c.visit_of.result
-    c.visit_of.ensures c.in-Some.ensures
+returns-in-Some-clause-quiet c =
+    first_wakes c.args.self.now.hier c.in-Some.list c.visit_of.result c.visit_of.ensures c.in-Some.ensures
 
 pub returns-in-Some-clause-next : goal.returns-in-Some-clause-next
-returns-in-Some-clause-next c = first_next c.args.self.now.table c.args.self.now.buckets c.args.self.now.occupied c.args.self.now.hier c.in-Some.list c.visit_of.result
-    c.visit_of.ensures c.in-Some.ensures
-
-pub returns-in-None-clause-quiet : goal.returns-in-None-clause-quiet
-returns-in-None-clause-quiet c = none_wakes c.args.self.now.table c.args.self.now.buckets c.args.self.now.occupied c.args.self.now.hier c.in-None.ensures
+returns-in-Some-clause-next c =
+    first_next c.args.self.now.hier c.in-Some.list c.visit_of.result c.visit_of.ensures c.in-Some.ensures
 
 pub returns-in-Some-clause-exact : goal.returns-in-Some-clause-exact
-returns-in-Some-clause-exact c = visit_is_first c.args.self.now.table c.args.self.now.buckets c.args.self.now.occupied c.args.self.now.hier c.in-Some.list
-    c.in-Some.ensures c.visit_of.result c.visit_of.ensures
+returns-in-Some-clause-exact c =
+    visit_is_first c.args.self.now.hier c.in-Some.list c.in-Some.ensures c.visit_of.result c.visit_of.ensures
+
+pub returns-in-None-clause-quiet : goal.returns-in-None-clause-quiet
+returns-in-None-clause-quiet c = none_wakes c.args.self.now.hier c.in-None.ensures
 
 pub returns-in-None-clause-exact : goal.returns-in-None-clause-exact
-returns-in-None-clause-exact c = none_visited c.args.self.now.table c.args.self.now.buckets
-    (none_wakes c.args.self.now.table c.args.self.now.buckets c.args.self.now.occupied c.args.self.now.hier c.in-None.ensures)
+returns-in-None-clause-exact c = none_visited c.args.self.now.hier c.in-None.ensures

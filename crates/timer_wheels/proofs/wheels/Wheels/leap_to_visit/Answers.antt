@@ -1,4 +1,4 @@
-use Rattle.std.proofs.Common.{◌≡◌, ◌<◌, ◌≤◌, ◌+◌, ◌-◌, ℕ, List, sym, subst, arith}
+use Rattle.std.proofs.Common.{◌≡◌, ◌≤◌, ◌+◌, ◌-◌, ℕ, List, sym, subst, arith}
 use Rattle.timer_base.specs.OrderLaws.{All-weaken}
 use Rattle.timer_links.specs.Lists.{list_at, KeyedLists}
 use Rattle.timer_wheels.specs.declared.table.Table.{Table}
@@ -19,14 +19,10 @@ sooner table n now visit tick lists h a s k =
     (λ row q. let p : visit ≤ timer_visit table now (timer_in row).deadline = q in omega arith) (a s k)
 
 pub skip_to-requires-clause-not_before : goal.skip_to-requires-clause-not_before
-skip_to-requires-clause-not_before c =
-    let w = c.args.self.now in
-    none_ahead w.table w.buckets w.occupied w.hier (c.args.end + 1) c.in_default.ensures
+skip_to-requires-clause-not_before c = none_ahead c.args.self.now.hier (c.args.end + 1) c.in_default.ensures
 
 pub visit_of-visit-requires-clause-list : goal.visit_of-visit-requires-clause-list
-visit_of-visit-requires-clause-list c =
-    let w = c.args.self.now in
-    first_in_range w.table w.buckets w.occupied w.hier c.in-Some.list c.in-Some.ensures
+visit_of-visit-requires-clause-list c = first_in_range c.args.self.now.hier c.in-Some.list c.in-Some.ensures
 
 pub visit_of-visit-requires-clause-now : goal.visit_of-visit-requires-clause-now
 visit_of-visit-requires-clause-now c =
@@ -37,40 +33,35 @@ pub skip_to-requires-then-end-visit-clause-not_before : goal.skip_to-requires-th
 skip_to-requires-then-end-visit-clause-not_before c =
     let w = c.args.self.now in
     sooner (radices w.table) w.buckets.slots w.buckets.tick c.visit_of-visit.result (c.args.end + 1) w.buckets.links.lists
-    (let h : c.args.end < c.visit_of-visit.result = c.if-end-visit.true in omega arith)
-    (first_ahead w.table w.buckets w.occupied w.hier c.in-Some.list c.visit_of-visit.result c.visit_of-visit.ensures c.in-Some.ensures)
+    (omega (arith, c.if-end-visit.true))
+    (first_ahead w.hier c.in-Some.list c.visit_of-visit.result c.visit_of-visit.ensures c.in-Some.ensures)
 
 pub overflow_sub-visit : goal.overflow_sub-visit
-overflow_sub-visit c =
-    let w = c.args.self.now in
-    let later = first_later w.table w.buckets w.occupied w.hier c.in-Some.list c.visit_of-visit.result c.visit_of-visit.ensures
-    c.in-Some.ensures in
-    omega arith
+overflow_sub-visit c = omega (
+  arith,
+  first_later c.args.self.now.hier c.in-Some.list c.visit_of-visit.result c.visit_of-visit.ensures c.in-Some.ensures,
+)
 
 pub skip_to-requires-else-end-visit-clause-later : goal.skip_to-requires-else-end-visit-clause-later
-skip_to-requires-else-end-visit-clause-later c =
-    let w = c.args.self.now in
-    let later = first_later w.table w.buckets w.occupied w.hier c.in-Some.list c.visit_of-visit.result c.visit_of-visit.ensures
-    c.in-Some.ensures in
-    omega arith
+skip_to-requires-else-end-visit-clause-later c = omega (
+  arith,
+  first_later c.args.self.now.hier c.in-Some.list c.visit_of-visit.result c.visit_of-visit.ensures c.in-Some.ensures,
+)
 
 pub skip_to-requires-else-end-visit-clause-not_before : goal.skip_to-requires-else-end-visit-clause-not_before
 skip_to-requires-else-end-visit-clause-not_before c =
     let w = c.args.self.now in
-    let later = first_later w.table w.buckets w.occupied w.hier c.in-Some.list c.visit_of-visit.result c.visit_of-visit.ensures
-    c.in-Some.ensures in
+    let later = first_later w.hier c.in-Some.list c.visit_of-visit.result c.visit_of-visit.ensures c.in-Some.ensures in
     sooner (radices w.table) w.buckets.slots w.buckets.tick c.visit_of-visit.result (c.visit_of-visit.result - 1 + 1)
-    w.buckets.links.lists (omega arith) (first_ahead w.table w.buckets w.occupied w.hier c.in-Some.list c.visit_of-visit.result
-    c.visit_of-visit.ensures c.in-Some.ensures)
+    w.buckets.links.lists (omega arith)
+    (first_ahead w.hier c.in-Some.list c.visit_of-visit.result c.visit_of-visit.ensures c.in-Some.ensures)
 
 pub visit_next-requires-clause-emptied : goal.visit_next-requires-clause-emptied
 visit_next-requires-clause-emptied c =
     let w = c.args.self.now in
     let s = c.skip_to-else-end-visit in
-    let later = first_later w.table w.buckets w.occupied w.hier c.in-Some.list c.visit_of-visit.result c.visit_of-visit.ensures
-    c.in-Some.ensures in
-    let set : s.new.self.buckets.tick ≡ c.visit_of-visit.result - 1 = s.ensures.tick in
-    let tick : s.new.self.buckets.tick + 1 ≡ c.visit_of-visit.result = omega arith in
+    let later = first_later w.hier c.in-Some.list c.visit_of-visit.result c.visit_of-visit.ensures c.in-Some.ensures in
+    let tick : s.new.self.buckets.tick + 1 ≡ c.visit_of-visit.result = omega (arith, s.ensures.tick) in
     rw (s.ensures.table, tick) (first_empties w.hier c.in-Some.list c.visit_of-visit.result c.visit_of-visit.ensures c.in-Some.ensures)
 
 pub returns-else-end-visit-clause-leaps : goal.returns-else-end-visit-clause-leaps

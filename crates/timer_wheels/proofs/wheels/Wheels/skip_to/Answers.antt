@@ -12,11 +12,10 @@ invariant_of-buckets c =
         tick_in_range = c.requires.in_range;
         serial_in_range = b.sound.serial_in_range;
         has_lists = b.sound.has_lists;
-        pending = (skipped c.args.self.now.table b c.args.self.now.occupied c.args.self.now.hier c.requires.nothing_due c.args.tick c.requires.later
-            c.requires.not_before).pending;
         distinct = b.sound.distinct;
-        due = none_past c.args.tick b.last_serial (list_at b.slots b.links.lists) c.requires.nothing_due;
         in_order = b.sound.in_order;
+        pending = (skipped c.args.self.now.hier c.requires.nothing_due c.args.tick c.requires.later c.requires.not_before).pending;
+        due = none_past c.args.tick b.last_serial (list_at b.slots b.links.lists) c.requires.nothing_due;
       };
     }
 
@@ -27,13 +26,12 @@ invariant_of-self c =
       hier = record {
         has_slots = w.hier.has_slots;
         clock = w.hier.clock;
-        placed = (skipped w.table w.buckets w.occupied w.hier c.requires.nothing_due c.args.tick c.requires.later
-            c.requires.not_before).placed;
         marked = w.hier.marked;
+        placed = (skipped w.hier c.requires.nothing_due c.args.tick c.requires.later c.requires.not_before).placed;
       };
       foretold = w.foretold;
     }
 
 pub returns-clause-leaps : goal.returns-clause-leaps
-returns-clause-leaps c = (skipped c.args.self.now.table c.args.self.now.buckets c.args.self.now.occupied c.args.self.now.hier c.requires.nothing_due c.args.tick
-    c.requires.later c.requires.not_before).leaps
+returns-clause-leaps c =
+    (skipped c.args.self.now.hier c.requires.nothing_due c.args.tick c.requires.later c.requires.not_before).leaps
