@@ -19,10 +19,9 @@ use Rattle.timer_facility.specs.declared.request.Request.TheVariants.{Start}
 use Rattle.timer_threads.specs.declared.client.Client.{Client}
 use Rattle.timer_threads.specs.declared.outcome.Worked.{Worked}
 use Rattle.timer_threads.specs.declared.turn.Turn.{Turn}
-use Rattle.timer_threads.specs.Turns.{sent_in, received_in, requests_of, words_of, idle_at_end}
+use Rattle.timer_threads.specs.Turns.{requests_of, words_of, idle_at_end}
 use Rattle.timer_threads.specs.Work.{HasWorked, request_of, requests_from, started_in, expired_in, started_by, expired_by, follows, AreAscending, ArePassed, IsStopped, GoesOn, AreTurns, IsLetGo, turns_of, WasAtEnd}
 use Rattle.timer_threads.specs.Client.{is_next_start, passes, AreChecked, IsAtWork, IsRecorded, turns_by, IsSound, is_complete}
-use Rattle.timer_threads.proofs.TurnLemmas.{requests_of-more, words_of-more}
 
 -- The requests.
 
@@ -332,19 +331,6 @@ pub IsLetGo-counted : (lets_go : ℕ → ℕ → Type 0) (start : ClientEnd) (c 
     → IfSome t.sent (λ request. lets_go request.number c.expired) → IsLetGo lets_go (turns_by c) t
 IsLetGo-counted lets_go start c t h r asked =
     subst (λ n. IfSome t.sent (λ request. lets_go request.number n)) (expired_counted start c h r) asked
-
--- a turn was taken, and recorded
-pub IsRecorded-more : (start : ClientEnd) (old new : Client) (t : Turn) → turns_by new ≡ turns_by old ++ t ∷ []
-    → submitted new.end ≡ submitted old.end ++ sent_in t → received_by_end new.end ≡ received_by_end old.end ++ received_in t
-    → IsRecorded start old → IsRecorded start new
-IsRecorded-more start old new t more sends receives was = record {
-  requests = sends ∙ ap (λ xs. xs ++ sent_in t) was.requests
-      ∙ append_assoc (submitted start) (requests_of (turns_by old)) (sent_in t)
-      ∙ ap (λ xs. submitted start ++ xs) (sym (ap requests_of more ∙ requests_of-more (turns_by old) t));
-  words = receives ∙ ap (λ xs. xs ++ received_in t) was.words
-      ∙ append_assoc (received_by_end start) (words_of (turns_by old)) (received_in t)
-      ∙ ap (λ xs. received_by_end start ++ xs) (sym (ap words_of more ∙ words_of-more (turns_by old) t));
-}
 
 pub HasWorked-finished : (start : ClientEnd) (limit : ℕ) (c : Client) (w : Worked) → IsSound c → IsAtWork start c → IsRecorded start c
     → AreTurns (next_of start) c.count limit (turns_by c) → w.idle ≡ idle_at_end (turns_by c)

@@ -1,21 +1,12 @@
 -- One more turn of a client.
-use Rattle.std.proofs.Common.{◌≡◌, ◌+◌, ◌<◌, ◌≤◌, ◌&&◌, not, cond, ℕ, Bool, true, false, List, [], ◌∷◌, ◌++◌, length, get_or, take, reverse, refl, sym, ◌∙◌, ap, subst, arith, append-nil, ⊎_elim}
-use Rattle.std.specs.Prelude.{Option, Some, None, is_some, is_none}
+use Rattle.std.proofs.Common.{◌≡◌, ◌+◌, ◌<◌, ◌≤◌, not, cond, ℕ, Bool, true, false, List, [], ◌∷◌, ◌++◌, length, get_or, take, reverse, refl, sym, ◌∙◌, ap, subst, arith, ⊎_elim}
 use Rattle.std.specs.List.{prefix_len}
 use Rattle.std.proofs.lemmas.Bool.{cases_lt}
-use Rattle.std.proofs.lemmas.Grind.{flat_map-append}
 use Rattle.std.proofs.lemmas.List.{get_or_append_left, get_or_push, length_push, take-append-le, reverse-append}
 use Rattle.std.proofs.Math.Seq.{take-append_seam}
 use Rattle.timer_threads.specs.declared.turn.Turn.{Turn}
-use Rattle.timer_threads.specs.Turns.{sent_in, received_in, requests_of, words_of, is_idle, idle_at_end}
+use Rattle.timer_threads.specs.Turns.{is_idle, idle_at_end}
 use Rattle.timer_threads.specs.Work.{GoesOn, AreTurns, IsLetGo, AreLetGo}
-use Rattle.timer_threads.specs.Client.{IsLess}
-
-pub requests_of-more : (ts : List Turn) (t : Turn) → requests_of (ts ++ t ∷ []) ≡ requests_of ts ++ sent_in t
-requests_of-more ts t = flat_map-append sent_in ts (t ∷ []) ∙ ap (λ xs. requests_of ts ++ xs) (append-nil (sent_in t))
-
-pub words_of-more : (ts : List Turn) (t : Turn) → words_of (ts ++ t ∷ []) ≡ words_of ts ++ received_in t
-words_of-more ts t = flat_map-append received_in ts (t ∷ []) ∙ ap (λ xs. words_of ts ++ xs) (append-nil (received_in t))
 
 idle_at_end-more : (ts : List Turn) (t : Turn) → idle_at_end (ts ++ t ∷ []) ≡ cond (is_idle t) (1 + idle_at_end ts) 0
 idle_at_end-more ts t = ap (prefix_len is_idle) (reverse-append ts (t ∷ []))
@@ -70,11 +61,3 @@ AreTurns-more first count limit ts us t more each one = subst (AreTurns first co
 pub AreLetGo-more : (lets_go : ℕ → ℕ → Type 0) (ts us : List Turn) (t : Turn) → us ≡ ts ++ t ∷ [] → AreLetGo lets_go ts
     → IsLetGo lets_go ts t → AreLetGo lets_go us
 AreLetGo-more lets_go ts us t more each one = subst (AreLetGo lets_go) (sym more) (push_each (IsLetGo lets_go) ts t each one)
-
--- less is left after a turn in which something was sent or received
-pub less_by_turn : {A B : Type 0} (s : Option A) (r : Option B) (a b c : ℕ) → IsLess (is_some s) a b → IsLess (is_some r) b c
-    → IsLess (not (is_none s && is_none r)) a c
-less_by_turn None None a b c h k = omega (arith, h, k)
-less_by_turn None (Some x) a b c h k = omega (arith, h, k)
-less_by_turn (Some x) None a b c h k = omega (arith, h, k)
-less_by_turn (Some x) (Some y) a b c h k = omega (arith, h, k)

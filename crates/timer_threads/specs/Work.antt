@@ -153,9 +153,16 @@ pub record HasWorked (count limit : ℕ) (start : ClientEnd) (w : Worked) : Type
   pub failed : w.failed ≡ true → IsStopped (next_of start) count (words_of (turns_of w))
       ⊎ (ArePassed (next_of start) count (words_of (turns_of w)) × IsIncomplete count w × (w.idle ≡ limit))
 
--- the client began with some end
+-- a new end: nothing was sent or received, and the first request has number 1
+pub record IsNewEnd (end : ClientEnd) : Type 0 where
+  pub none_sent : submitted end ≡ []
+  pub none_received : received_by_end end ≡ []
+  pub first : next_of end ≡ 1
+
+-- the client began with a new end
 pub record IsWork (count limit : ℕ) (w : Worked) : Type 0 where
   pub start : ClientEnd
+  pub new : IsNewEnd start
   pub worked : HasWorked count limit start w
 
 -- if nothing failed, all requests were sent, and as many timers started and expired
