@@ -1,9 +1,11 @@
 -- The owner's desk, before and after a call.
-use Rattle.std.specs.Prelude.{ℕ, ◌≡◌, ◌≢◌, ◌<◌, ◌≤◌, ◌⊎◌, Bool, true, false, List, [], ◌∷◌, length, get_or, map, Ok, Err, Some, None, Result, IfOk}
+use Rattle.std.specs.Prelude.{ℕ, ◌≡◌, ◌≢◌, ◌<◌, ◌≤◌, ◌⊎◌, Bool, true, false, List, [], ◌∷◌, length, get_or, map, Ok, Err, Option, Some, None, Result, IfOk}
+use Rattle.timer_base.specs.Pending.{Entry}
 use Rattle.timer_base.specs.WakeUps.{IsWakeUp, next_deadline}
-use Rattle.timer_wheels.specs.Tables.{slots_of_table, last_of_table}
+use Rattle.timer_wheels.specs.Tables.{slots_of_table, last_of_table, radices_by_slots}
 use Rattle.timer_wheels.specs.declared.table.Table.{Table}
 use Rattle.timer_wheels.specs.TableNumbers.{IsTableFor}
+use Rattle.timer_wheels.specs.WakeUps.{next_visit}
 use Rattle.timer_facility.specs.declared.config.Config as facility
 use Rattle.timer_facility.specs.declared.request.TickFault.{TickFault}
 use Rattle.timer_facility.specs.declared.request.CloseFault.{CloseFault}
@@ -162,9 +164,14 @@ pub record HasClosed (status returned : ℕ) (old new : DeskState) : Type 0 wher
 abbrev pub with_reserve : DeskState → DeskState
 with_reserve d = record d { facility = with_room d.facility }
 
--- the tick until which nothing expires
+-- the tick at which the owner wakes up, by this function of a wheel, and before which nothing expires
+abbrev pub IsWokenAt : (ℕ → ℕ → List Entry → Option ℕ) → ℕ → FacilityState → Type 0
+IsWokenAt wake_up tick s = ((tick ≡ NEVER) × (s.pending ≡ []))
+    ⊎ (IsWakeUp tick s.now s.pending × (wake_up s.slots s.now s.pending ≡ Some tick))
+
+-- the first tick at which a timer expires or moves to a lower wheel, and before which nothing expires
 abbrev pub IsNextTick : ℕ → FacilityState → Type 0
-IsNextTick tick s = ((tick ≡ NEVER) × (s.pending ≡ [])) ⊎ IsWakeUp tick s.now s.pending
+IsNextTick tick s = IsWokenAt (λ slots now pending. next_visit (radices_by_slots slots) now pending) tick s
 
 -- the first pending deadline
 abbrev pub IsFirstDeadline : ℕ → FacilityState → Type 0

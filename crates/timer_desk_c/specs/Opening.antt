@@ -31,6 +31,10 @@ pub record IsClear (client : ℕ) (d : DeskState) : Type 0 where
   pub idle : IsIdle (backlog_at d client)
   pub none_pending : pending_of d.facility client ≡ 0
 
+-- the client was seen to have freed its end, and then no request to stand in its line
+abbrev pub IsSeenOver : ℕ → DeskState → Type 0
+IsSeenOver client d = (i : RingInlet) → found_by_inlet (get_or d.inlets client i) ≡ GoneThenEmpty
+
 -- The client was seen to have freed its end, and then no request to stand in its line: so nothing of it was left.
 -- It has another line, with new ends, whose first request has the number after that of its last; nothing else has
 -- changed.
@@ -40,7 +44,7 @@ pub record HasOpened (client room : ℕ) (old new : DeskState) (line : Line) : T
   pub clear : IsClear client old
   pub between : DeskState
   pub looked : OnlyLooks client old between
-  pub over : (i : RingInlet) → found_by_inlet (get_or between.inlets client i) ≡ GoneThenEmpty
+  pub over : IsSeenOver client between
   pub number_in_range : number_of old.facility client ≤ LAST
   pub inlet : RingInlet
   pub new_inlet : IsNewInlet room inlet
@@ -63,6 +67,6 @@ WhyNotOpened client room old new status =
     × ((i : RingInlet) → found_by_inlet (get_or new.inlets client i) ≢ Nothing)
     × (IsClear client old → (i : RingInlet) → found_by_inlet (get_or new.inlets client i) ≢ GoneThenEmpty))
     ⊎ ((status ≡ NUMBERS_SPENT) × (client < clients_of old) × IsRoom room × IsClear client old
-    × (LAST < number_of old.facility client))
+    × IsSeenOver client new × (LAST < number_of old.facility client))
     ⊎ ((status ≡ NO_MEMORY) × (client < clients_of old) × IsRoom room × IsClear client old
-    × (number_of old.facility client ≤ LAST))
+    × IsSeenOver client new × (number_of old.facility client ≤ LAST))

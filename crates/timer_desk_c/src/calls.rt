@@ -2,8 +2,8 @@
 ghost use Rattle.std.specs.Prelude.{◌≡◌, ◌<◌, ◌≤◌, length, false};
 ghost use Rattle.timer_desk.specs.Desk.{clients_of, backlog_at};
 ghost use Rattle.timer_facility.specs.State.{pending_of};
-ghost use Rattle.timer_desk_c.specs.Desks.{with_reserve, status_of, HasServed, HasTicked, HasClosed, IsNextTick, IsFirstDeadline};
-ghost use Rattle.timer_desk_c.specs.Freed.{OnlyLooks};
+ghost use Rattle.timer_desk_c.specs.Desks.{with_reserve, status_of, HasServed, HasTicked, HasClosed, IsWokenAt, IsFirstDeadline};
+ghost use Rattle.timer_desk_c.specs.Freed.{OnlyLooks, IsSeenFreed};
 ghost use Rattle.timer_desk_c.specs.declared.status.TheConstants.{OK, NO_CLIENT, NO_MEMORY};
 
 use crate::status::{CLOCK_END, CLOSED, IDLE, NEVER, NO_CLIENT, NO_MEMORY, NO_ROOM, OK};
@@ -59,9 +59,9 @@ pub(crate) fn close<W: Wheel + Drop>(desk: &mut Desk<W, RingInlet>, returned: &m
     }
 }
 
-/// The tick until which its owner may sleep.
+/// The tick until which its owner may sleep: exactly when the wheel wakes it.
 pub(crate) fn wakeup<W: Wheel + Drop>(desk: &Desk<W, RingInlet>) -> u64
-    ensures { IsNextTick result desk.now.facility }
+    ensures { IsWokenAt W.wake_up result desk.now.facility }
 {
     match desk.facility().quiet_until() {
         Some(tick) => tick,
@@ -82,6 +82,7 @@ pub(crate) fn next<W: Wheel + Drop>(desk: &Desk<W, RingInlet>) -> u64
 /// Whether a client's line was freed. Nothing changes.
 pub(crate) fn line_freed<W: Wheel + Drop>(desk: &mut Desk<W, RingInlet>, client: usize) -> bool
     ensures looked { client < clients_of desk.old → OnlyLooks client desk.old desk.new }
+    ensures freed { client < clients_of desk.old → IsSeenFreed result client desk.old desk.new }
     ensures none { clients_of desk.old ≤ client → (result ≡ false) × (desk.new ≡ desk.old) }
 {
     if client >= desk.clients() {

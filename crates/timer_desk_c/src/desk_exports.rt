@@ -15,7 +15,7 @@ ghost use Rattle.timer_desk_c.specs.Rounds.{HasServedAll, HasFlushedAll};
 ghost use Rattle.timer_desk_c.specs.Ticks.{HasAdvanced, WhyNotAdvanced, HasFlushed};
 ghost use Rattle.timer_desk_c.specs.Shutdown.{IsTied, OnlySettles, HasEnded, WhyNotEnded};
 ghost use Rattle.timer_desk_c.specs.ShutdownAll.{AreTied, OnlyStates, AllTried, AllEnded, WhyNotAllEnded};
-ghost use Rattle.timer_desk_c.specs.Freed.{OnlyLooks};
+ghost use Rattle.timer_desk_c.specs.Freed.{OnlyLooks, IsSeenFreed};
 ghost use Rattle.timer_desk_c.specs.Opening.{HasOpened, WhyNotOpened};
 ghost use Rattle.timer_desk_c.specs.Stopping.{HasStopped, WhyNotStopped};
 ghost use Rattle.timer_desk_c.specs.declared.status.TheConstants.{OK, NOT_OPEN, OPEN, NO_CLIENT, NO_MEMORY, LEFT, NEVER};
@@ -213,8 +213,8 @@ pub extern "C" fn timers_desk_len(d: &mut CDesk) -> usize
     d.slot.desk().facility().pending()
 }
 
-/// A tick after the present one and at most the first deadline, before which nothing expires; `NEVER` if
-/// nothing is pending or there is no desk.
+/// The first tick at which a timer expires or moves to a lower wheel; `NEVER` if nothing is pending or there is no
+/// desk. It is after the present one and at most the first deadline, and nothing expires before it.
 #[unsafe(no_mangle)]
 pub extern "C" fn timers_desk_wakeup(d: &mut CDesk) -> u64
     ensures tick { IsOpen d.old → IsNextTick result d.old.slot.state.facility }
@@ -242,12 +242,14 @@ pub extern "C" fn timers_desk_next(d: &mut CDesk) -> u64
 
 /// Whether a client's line was freed. False if there is no such client or no desk.
 ///
-/// That is what the ring of its words says of its other end, and no clause speaks of it. Whatever it says,
-/// nothing changes.
+/// It is what the ring of its words has reported of its other end, by now or at an earlier call. No clause is about
+/// that report. Nothing changes but what is known of the line.
 #[unsafe(no_mangle)]
 pub extern "C" fn timers_desk_line_freed(d: &mut CDesk, client: usize) -> bool
     ensures looked { IsOpen d.old → client < clients_of d.old.slot.state
         → OnlyLooks client d.old.slot.state d.new.slot.state }
+    ensures freed { IsOpen d.old → client < clients_of d.old.slot.state
+        → IsSeenFreed result client d.old.slot.state d.new.slot.state }
     ensures none { IsOpen d.old → clients_of d.old.slot.state ≤ client
         → (result ≡ false) × (d.new ≡ d.old) }
     ensures not_open { IsShut d.old → (result ≡ false) × (d.new ≡ d.old) }

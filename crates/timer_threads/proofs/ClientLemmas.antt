@@ -3,8 +3,8 @@ use Rattle.std.proofs.Common.{◌≡◌, ◌+◌, ◌-◌, ◌*◌, ◌%◌, ◌
 use Rattle.std.specs.Prelude.{Option, Some, None, IfSome}
 use Rattle.std.specs.List.{range_with_len, last_or}
 use Rattle.std.proofs.lemmas.Grind.{flat_map-append}
-use Rattle.std.proofs.lemmas.List.{get_or_push}
-use Rattle.std.proofs.lemmas.List.FromFn.{map-range_with_len_more, get_or-range_with_len}
+use Rattle.std.proofs.lemmas.List.{get_or_push, append_cancel_left}
+use Rattle.std.proofs.lemmas.List.FromFn.{map-range_with_len_more, get_or-range_with_len, length-map-range_with_len}
 use Rattle.std.proofs.lemmas.Bool.Decides.{nat_tests}
 use Rattle.timer_base.specs.declared.timer.Timer.{Timer}
 use Rattle.timer_base.specs.OrderLaws.{either}
@@ -18,8 +18,10 @@ use Rattle.timer_desk.specs.Ring.{line_of_end, next_of, submitted, received_by_e
 use Rattle.timer_facility.specs.declared.request.Request.TheVariants.{Start}
 use Rattle.timer_threads.specs.declared.client.Client.{Client}
 use Rattle.timer_threads.specs.declared.outcome.Worked.{Worked}
-use Rattle.timer_threads.specs.Work.{HasWorked, request_of, requests_from, started_in, expired_in, started_by, expired_by, follows, AreAscending, ArePassed, IsStopped, AreLetGo}
-use Rattle.timer_threads.specs.Client.{is_next_start, passes, AreChecked, IsAtWork, IsSound, is_complete}
+use Rattle.timer_threads.specs.declared.turn.Turn.{Turn}
+use Rattle.timer_threads.specs.Turns.{requests_of, words_of, idle_at_end}
+use Rattle.timer_threads.specs.Work.{HasWorked, request_of, requests_from, started_in, expired_in, started_by, expired_by, follows, AreAscending, ArePassed, IsStopped, GoesOn, AreTurns, IsLetGo, turns_of, WasAtEnd}
+use Rattle.timer_threads.specs.Client.{is_next_start, passes, AreChecked, IsAtWork, IsRecorded, turns_by, IsSound, is_complete}
 
 -- The requests.
 
@@ -256,34 +258,6 @@ IsAtWork-sent start old new number line received is next sent first count counte
           (subst (λ n. AreChecked old.failed old.first n h.words) (sym count) h.checked));
     }
 
--- What the gate let go.
-
-asked_at : (first sent j : ℕ) → j < sent + 1 → (j < sent) ⊎ (j ≡ sent)
-asked_at first sent j h = grind (arith)
-
--- one more request was let go
-pub AreLetGo-sent : (lets_go : ℕ → ℕ → Type 0) (first sent expired number : ℕ) → number ≡ first + sent → lets_go number expired
-    → AreLetGo lets_go first sent expired → AreLetGo lets_go first (sent + 1) expired
-AreLetGo-sent lets_go first sent expired number is h was j l = elim (asked_at first sent j l) [
-  | inl low ↦ was j low
-  | inr at ↦ record {
-    expired = expired;
-    few = omega arith;
-    let_go = subst (λ n. lets_go n expired) (is ∙ ap (λ k. first + k) (sym at)) h;
-  }
-]
-
--- more timers have expired
-pub AreLetGo-read : (lets_go : ℕ → ℕ → Type 0) (first first' sent sent' expired expired' : ℕ) → first' ≡ first → sent' ≡ sent
-    → expired ≤ expired' → AreLetGo lets_go first sent expired → AreLetGo lets_go first' sent' expired'
-AreLetGo-read lets_go first first' sent sent' expired expired' f s e was j l =
-    let one = was j (omega (arith, s, l)) in
-    let few = one.few in record {
-      expired = one.expired;
-      few = omega (arith, few, e);
-      let_go = subst (λ n. lets_go (n + j) one.expired) (sym f) one.let_go;
-    }
-
 -- The end of the work.
 
 pub ended_so : (P Q : RequestsEnded → Type 0) (o : Option RequestsEnded) → ((e : RequestsEnded) → P e → Q e) → IfSome o P → IfSome o Q
@@ -316,36 +290,85 @@ neither : (a b : Bool) → a ≡ false → b ≡ false → a || b ≡ false
 neither true b h k = h
 neither false b h k = k
 
-pub HasWorked-finished : (start : ClientEnd) (limit : ℕ) (c : Client) (w : Worked) → IsSound c → IsAtWork start c
+-- the words and the requests of the turns are those that were counted and checked
+words_counted : (start : ClientEnd) (c : Client) (h : IsAtWork start c) → IsRecorded start c → h.words ≡ words_of (turns_by c)
+words_counted start c h r = append_cancel_left (received_by_end start) h.words (words_of (turns_by c)) (sym h.received ∙ r.words)
+
+requests_counted : (start : ClientEnd) (c : Client) → IsAtWork start c → IsRecorded start c
+    → requests_of (turns_by c) ≡ requests_from (next_of start) c.sent
+requests_counted start c h r =
+    append_cancel_left (submitted start) (requests_of (turns_by c)) (requests_from c.first c.sent) (sym r.requests ∙ h.sends)
+    ∙ ap (λ n. requests_from n c.sent) h.first
+
+expired_counted : (start : ClientEnd) (c : Client) → IsAtWork start c → IsRecorded start c → c.expired ≡ length (expired_by (words_of (turns_by c)))
+expired_counted start c h r = sym h.expired ∙ ap (λ ws. length (expired_by ws)) (words_counted start c h r)
+
+passed_counted : (start : ClientEnd) (c : Client) → IsAtWork start c → IsRecorded start c → c.failed ≡ false
+    → ArePassed (next_of start) c.count (words_of (turns_by c))
+passed_counted start c h r good = subst (λ ws. ArePassed (next_of start) c.count ws) (words_counted start c h r)
+    (subst (λ n. ArePassed n c.count h.words) h.first (subst (λ b. AreChecked b c.first c.count h.words) good h.checked))
+
+-- a client that is not over goes on
+pub goes_on : (start : ClientEnd) (limit idle : ℕ) (c : Client) → IsSound c → IsAtWork start c → IsRecorded start c
+    → c.failed || is_complete c ≡ false → idle ≡ idle_at_end (turns_by c) → idle < limit → GoesOn (next_of start) c.count limit (turns_by c)
+goes_on start limit idle c sound h r not_over is few =
+    let both = or_false c.failed (is_complete c) not_over in
+    let same = words_counted start c h r in
+    let sent : c.sent ≡ length (requests_of (turns_by c)) =
+    sym (ap length (requests_counted start c h r) ∙ length-map-range_with_len (request_of (next_of start)) 1 c.sent) in
+    let started : c.started ≡ length (started_by (words_of (turns_by c))) = sym h.started ∙ ap (λ ws. length (started_by ws)) same in record {
+      passed = passed_counted start c h r both.0;
+      short = subst (λ n. (n < c.count) ⊎ ((length (started_by (words_of (turns_by c))) < c.count)
+          ⊎ (length (expired_by (words_of (turns_by c))) < c.count))) sent
+          (subst (λ n. (c.sent < c.count) ⊎ ((n < c.count) ⊎ (length (expired_by (words_of (turns_by c))) < c.count))) started
+          (subst (λ n. (c.sent < c.count) ⊎ ((c.started < c.count) ⊎ (n < c.count))) (expired_counted start c h r)
+          (short_means c.sent c.started c.expired c.count sound.sent (sound.started both.0) (sound.expired both.0) both.1)));
+      idle = subst (λ n. n < limit) is few;
+    }
+
+-- the request of a turn was let go if the gate was asked with the client's count
+pub IsLetGo-counted : (lets_go : ℕ → ℕ → Type 0) (start : ClientEnd) (c : Client) (t : Turn) → IsAtWork start c → IsRecorded start c
+    → IfSome t.sent (λ request. lets_go request.number c.expired) → IsLetGo lets_go (turns_by c) t
+IsLetGo-counted lets_go start c t h r asked =
+    subst (λ n. IfSome t.sent (λ request. lets_go request.number n)) (expired_counted start c h r) asked
+
+pub HasWorked-finished : (start : ClientEnd) (limit : ℕ) (c : Client) (w : Worked) → IsSound c → IsAtWork start c → IsRecorded start c
+    → AreTurns (next_of start) c.count limit (turns_by c) → w.idle ≡ idle_at_end (turns_by c)
+    → turns_of w ≡ turns_by c → WasAtEnd w c.end
     → IfSome w.ended (λ e. all_submitted e ≡ submitted c.end) → read_by w.reader ≡ received_by_end c.end
     → w.sent ≡ c.sent → w.started ≡ c.started → w.expired ≡ c.expired → w.failed ≡ c.failed || not (is_complete c)
     → (c.failed || is_complete c ≡ false → w.idle ≡ limit)
     → HasWorked c.count limit start w
-HasWorked-finished start limit c w sound h ended reader sent started expired failed gave_up =
+HasWorked-finished start limit c w sound h r taken idle turns last ended reader sent started expired failed gave_up =
     let submits : submitted c.end ≡ submitted start ++ requests_from (next_of start) w.sent =
     h.sends ∙ ap (λ n. submitted start ++ requests_from n c.sent) h.first
     ∙ ap (λ n. submitted start ++ requests_from (next_of start) n) (sym sent) in
-    let passed : c.failed ≡ false → ArePassed (next_of start) c.count h.words =
-    λ good. subst (λ n. ArePassed n c.count h.words) h.first (subst (λ b. AreChecked b c.first c.count h.words) good h.checked) in record {
+    let same : h.words ≡ words_of (turns_of w) = words_counted start c h r ∙ ap words_of (sym turns) in
+    let passed : c.failed ≡ false → ArePassed (next_of start) c.count (words_of (turns_of w)) =
+    λ good. subst (λ ts. ArePassed (next_of start) c.count (words_of ts)) (sym turns) (passed_counted start c h r good) in record {
       sent = ended_so (λ e. all_submitted e ≡ submitted c.end) (λ e. all_submitted e
           ≡ submitted start ++ requests_from (next_of start) w.sent) w.ended
           (λ e is. is ∙ submits) ended;
       most = let a = sound.sent in omega (arith, a, sent);
       last = c.end;
+      last_is = last;
       same_line = h.line;
       next = h.next ∙ ap (λ n. n + c.sent) h.first ∙ ap (λ n. next_of start + n) (sym sent);
       submits = submits;
-      words = h.words;
-      received = reader ∙ h.received;
-      started = h.started ∙ sym started;
-      expired = h.expired ∙ sym expired;
+      requests = ap requests_of turns ∙ requests_counted start c h r ∙ ap (requests_from (next_of start)) (sym sent);
+      received = reader ∙ h.received ∙ ap (λ ws. received_by_end start ++ ws) same;
+      started = ap (λ ws. length (started_by ws)) (sym same) ∙ h.started ∙ sym started;
+      expired = ap (λ ws. length (expired_by ws)) (sym same) ∙ h.expired ∙ sym expired;
+      taken = subst (AreTurns (next_of start) c.count limit) (sym turns) taken;
+      idle = idle ∙ ap idle_at_end (sym turns);
       passed = λ good. passed (or_false c.failed (not (is_complete c)) (sym failed ∙ good)).0;
       complete = λ good.
           let all = complete_means c.sent c.started c.expired c.count
           (not_false (is_complete c) (or_false c.failed (not (is_complete c)) (sym failed ∙ good)).1) in
           (sent ∙ all.0, started ∙ all.1, expired ∙ all.2);
       failed = λ bad. elim (either c.failed) [
-        | inl k ↦ inl (subst (λ n. IsStopped n c.count h.words) h.first (subst (λ b. AreChecked b c.first c.count h.words) k h.checked))
+        | inl k ↦ inl (subst (IsStopped (next_of start) c.count) same
+            (subst (λ n. IsStopped n c.count h.words) h.first (subst (λ b. AreChecked b c.first c.count h.words) k h.checked)))
         | inr k ↦
             let short : is_complete c ≡ false = not_true (is_complete c) (or_else c.failed (not (is_complete c)) k (sym failed ∙ bad)) in inr (
               passed k,

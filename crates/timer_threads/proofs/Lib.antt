@@ -1,4 +1,6 @@
+pub mod TurnLemmas
 pub mod ClientLemmas
 pub mod ResultsLemmas
 pub mod EndedLines
 pub mod ThreadLemmas
+pub mod LogParts

@@ -7,15 +7,16 @@ use Rattle.timer_desk.specs.Driver.{Drives}
 use Rattle.timer_desk.specs.Ring.{line_of_end, line_of_inlet, ring_lines}
 use Rattle.timer_desk.specs.declared.report.Step.TheVariants.{Tick}
 use Rattle.timer_desk.specs.declared.driver.DriveEnd.{DriveEnd}
-use Rattle.timer_desk.specs.Desk.{DeskState}
+use Rattle.timer_facility.specs.State.{FacilityState}
+use Rattle.timer_desk.specs.Desk.{DeskState, opened_desk}
 use Rattle.timer_threads.specs.declared.child.Child.{Child}
 use Rattle.timer_threads.specs.declared.fault.ThreadsFault.{ThreadsFault}
 use Rattle.timer_threads.specs.declared.fault.ThreadsFault.TheVariants as Faults
 use Rattle.timer_threads.specs.declared.outcome.Worked.{Worked}
 use Rattle.timer_threads.specs.Children.{promise_of, HaveLeft}
-use Rattle.timer_threads.specs.Work.{IsOfLine, HasWorked, IsWork}
+use Rattle.timer_threads.specs.Work.{IsOfLine, HasWorked, IsNewEnd, IsWork}
 use Rattle.timer_threads.specs.Results.{NoneFailed}
-use Rattle.timer_threads.specs.Threads.{AreTied, AreOfLines, AllWhole, HasSucceeded, IsRun, IsExplained, IsFirstFault, clients_text, client_line, whole_lines}
+use Rattle.timer_threads.specs.Threads.{IsNewInlet, AreNewInlets, IsNewFacility, IsNewDesk, AreTied, AreOfLines, AllWhole, HasSucceeded, IsRun, IsExplained, IsFirstFault, clients_text, client_line, whole_lines}
 
 before_or_last : (k n : ℕ) → k < n + 1 → (k < n) ⊎ (k ≡ n)
 before_or_last k n h = grind (arith)
@@ -23,8 +24,9 @@ before_or_last k n h = grind (arith)
 pub AreTied-more : (count limit : ℕ) (inlets : List RingInlet) (children : List Child) (i : RingInlet) (h : Child)
     → AreTied count limit inlets children
     → line_of_inlet i ≡ line_of_end (promise_of h).end.value → (promise_of h).count ≡ count → (promise_of h).limit ≡ limit
+    → IsNewInlet i → IsNewEnd (promise_of h).end.value
     → AreTied count limit (inlets ++ i ∷ []) (children ++ h ∷ [])
-AreTied-more count limit inlets children i h was line is_count is_limit = record {
+AreTied-more count limit inlets children i h was line is_count is_limit new_inlet new_end = record {
   as_many = let a = was.as_many in omega (arith, length-append children (h ∷ []), length-append inlets (i ∷ []), a);
   lines = λ k j g l. elim (before_or_last k (length inlets) (let a = length-append inlets (i ∷ []) in omega arith)) [
     | inl low ↦
@@ -49,7 +51,23 @@ AreTied-more count limit inlets children i h was line is_count is_limit = record
         ∙ was.limits k g low
     | inr is ↦ ap (λ (x : Child). (promise_of x).limit) (get_or_push children h g k (was.as_many ∙ sym is)) ∙ is_limit
   ];
+  inlets_new = λ k j l. elim (before_or_last k (length inlets) (let a = length-append inlets (i ∷ []) in omega arith)) [
+    | inl low ↦ subst IsNewInlet (sym (get_or_append_left inlets (i ∷ []) j k low)) (was.inlets_new k j low)
+    | inr is ↦ subst IsNewInlet (sym (get_or_push inlets i j k (sym is))) new_inlet
+  ];
+  ends_new = λ k g l. elim (before_or_last k (length inlets) (let a = length-append inlets (i ∷ []) in omega arith)) [
+    | inl low ↦ subst (λ (x : Child). IsNewEnd (promise_of x).end.value)
+        (sym (get_or_append_left children (h ∷ []) g k (let a = was.as_many in omega (arith, a, low)))) (was.ends_new k g low)
+    | inr is ↦ subst (λ (x : Child). IsNewEnd (promise_of x).end.value)
+        (sym (get_or_push children h g k (was.as_many ∙ sym is))) new_end
+  ];
 }
+
+-- a desk that was opened over new lines
+pub new_desk : (clients room : ℕ) (s : FacilityState) (inlets : List RingInlet) (desk : DeskState RingInlet)
+    → desk ≡ opened_desk s inlets room → IsNewFacility clients s → AreNewInlets inlets → IsNewDesk clients desk
+new_desk clients room s inlets desk is facility lines =
+    subst (IsNewDesk clients) (sym is) (record { facility = facility; lines = lines; room = room; is = refl })
 
 pub clients_text-last : (n : ℕ) (ws : List Worked) (w : Worked)
     → clients_text n (ws ++ w ∷ []) ≡ clients_text n ws ++ client_line (n + length ws) w.sent w.started w.expired
@@ -126,6 +144,7 @@ work_kept count limit first children all tied left k w l =
     let n : (promise_of is.child).count ≡ count = ap (λ (x : Child). (promise_of x).count) is.at ∙ tied.counts k is.child low in
     let m : (promise_of is.child).limit ≡ limit = ap (λ (x : Child). (promise_of x).limit) is.at ∙ tied.limits k is.child low in record {
       start = (promise_of is.child).end.value;
+      new = subst (λ (x : Child). IsNewEnd (promise_of x).end.value) (sym is.at) (tied.ends_new k is.child low);
       worked = subst (λ i. HasWorked i limit (promise_of is.child).end.value (get_or all k w)) n
           (subst (λ j. HasWorked (promise_of is.child).count j (promise_of is.child).end.value (get_or all k w)) m is.worked);
     }
@@ -147,12 +166,13 @@ all_left count limit inlets children all tied left = left_as_many children all l
 
 -- a run that ended well, or with its first error
 module _ (clients timers limit : ℕ) (opened desk : DeskState RingInlet) (outcome : DriveEnd) (all : List Worked)
-    (as_many : length all ≡ clients) (lines : AreOfLines desk.inlets all)
+    (new : IsNewDesk clients opened) (as_many : length all ≡ clients) (lines : AreOfLines desk.inlets all)
     (driven : Drives ring_lines Tick timers limit opened desk outcome)
     (worked : (k : ℕ) (w : Worked) → k < length all → IsWork timers limit (get_or all k w)) where
   is_run : (Ends : DeskState RingInlet → DriveEnd → List Worked → Type 0) → Ends desk outcome all → IsRun clients timers limit Ends
   is_run Ends h = record {
     opened = opened;
+    new = new;
     desk = desk;
     outcome = outcome;
     all = all;

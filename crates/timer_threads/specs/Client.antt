@@ -1,5 +1,5 @@
 -- A client at work. No public clause cites this file.
-use Rattle.std.specs.Prelude.{◌≡◌, ◌+◌, ◌-◌, ◌<◌, ◌≤◌, ◌==◌, ◌&&◌, nat_lt, ℕ, Bool, true, false, if◌then◌else◌, List, ◌++◌, length, None}
+use Rattle.std.specs.Prelude.{◌≡◌, ◌+◌, ◌-◌, ◌<◌, ◌≤◌, ◌==◌, ◌&&◌, not, nat_lt, ℕ, Bool, true, false, if◌then◌else◌, List, [], ◌∷◌, ◌++◌, length, None}
 use Rattle.std.specs.List.{last_or}
 use Rattle.timer_base.specs.declared.limits.TheConstants.{LAST}
 use Rattle.timer_facility.specs.declared.request.Answer.{Answer}
@@ -11,7 +11,9 @@ use Rattle.timer_desk.specs.declared.word.Word.TheVariants as Words
 use Rattle.timer_desk.specs.declared.ring.ClientEnd.{ClientEnd}
 use Rattle.timer_desk.specs.Ring.{line_of_end, next_of, submitted, received_by_end}
 use Rattle.timer_threads.specs.declared.client.Client.{Client}
-use Rattle.timer_threads.specs.Work.{requests_from, started_by, expired_by, follows, ArePassed, IsStopped, AreLetGo}
+use Rattle.timer_threads.specs.declared.turn.Turn.{Turn}
+use Rattle.timer_threads.specs.Turns.{requests_of, words_of, is_idle}
+use Rattle.timer_threads.specs.Work.{requests_from, started_by, expired_by, follows, ArePassed, IsStopped}
 
 -- whether a `Started` answer with this number is the next one
 abbrev pub is_next_start : Client → ℕ → Bool
@@ -56,9 +58,20 @@ pub record IsSound (c : Client) : Type 0 where
   pub started : c.failed ≡ false → c.started ≤ c.count
   pub expired : c.failed ≡ false → c.expired ≤ c.count
 
--- a gate let each request go that was sent
-abbrev pub HasAsked : (ℕ → ℕ → Type 0) → Client → Type 0
-HasAsked lets_go c = AreLetGo lets_go c.first c.sent c.expired
+-- what the client did in its turns so far
+abbrev pub turns_by : Client → List Turn
+turns_by c = c.turns.items
+
+-- the turns are exactly what was sent and received since `start`
+pub record IsRecorded (start : ClientEnd) (c : Client) : Type 0 where
+  pub requests : submitted c.end ≡ submitted start ++ requests_of (turns_by c)
+  pub words : received_by_end c.end ≡ received_by_end start ++ words_of (turns_by c)
+
+-- one more turn was taken; `busy` says whether something was sent or received in it
+pub record TakesTurn (busy : Bool) (old new : Client) : Type 0 where
+  pub turn : Turn
+  pub added : turns_by new ≡ turns_by old ++ turn ∷ []
+  pub busy_is : busy ≡ not (is_idle turn)
 
 -- a measure of what is left to do
 abbrev pub left_of : Client → ℕ

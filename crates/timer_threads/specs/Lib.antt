@@ -1,3 +1,4 @@
+pub mod Turns
 pub mod Work
 pub mod Children
 pub mod Client

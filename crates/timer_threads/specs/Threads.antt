@@ -1,31 +1,58 @@
 -- Clients in threads of their own, and the text of their counts.
-use Rattle.std.specs.Prelude.{◌≡◌, ◌<◌, ◌+◌, ◌++◌, ◌⊎◌, ℕ, zero, suc, true, false, List, [], ◌∷◌, length, get_or, Option, Some, None, codes, decimal}
+use Rattle.std.specs.Prelude.{◌≡◌, ◌<◌, ◌+◌, ◌++◌, ◌⊎◌, ℕ, zero, suc, true, false, List, [], ◌∷◌, length, get_or, replicate, Option, Some, None, codes, decimal}
 use Rattle.timer_desk.specs.declared.ring.RingInlet.{RingInlet}
 use Rattle.timer_desk.specs.declared.ring.RequestsEnded.{RequestsEnded}
 use Rattle.timer_desk.specs.declared.ring.ClientReader.{ClientReader}
 use Rattle.timer_desk.specs.declared.report.Step.TheVariants.{Tick}
 use Rattle.timer_desk.specs.declared.driver.DriveEnd.{DriveEnd}
 use Rattle.timer_desk.specs.declared.driver.DriveEnd.TheVariants as DriveEnds
-use Rattle.timer_desk.specs.Desk.{DeskState, IsIdle, AllIdle, backlog_at}
+use Rattle.timer_facility.specs.State.{FacilityState}
+use Rattle.timer_desk.specs.Desk.{DeskState, opened_desk, IsIdle, AllIdle, backlog_at}
 use Rattle.timer_desk.specs.Driver.{Drives}
 use Rattle.timer_desk.specs.Shutdown.{IsWaiting, AllGot}
-use Rattle.timer_desk.specs.Ring.{line_of_end, line_of_inlet, got_of, given_of, all_submitted, read_by, unread_by, is_settled_reader, ring_lines}
+use Rattle.timer_desk.specs.Ring.{line_of_end, line_of_inlet, got_of, given_of, is_settled, all_submitted, read_by, unread_by, is_settled_reader, ring_lines}
 use Rattle.timer_threads.specs.declared.child.Child.{Child}
 use Rattle.timer_threads.specs.declared.fault.ThreadsFault.{ThreadsFault}
 use Rattle.timer_threads.specs.declared.fault.ThreadsFault.TheVariants as Faults
 use Rattle.timer_threads.specs.declared.outcome.Worked.{Worked}
 use Rattle.timer_threads.specs.Children.{promise_of}
-use Rattle.timer_threads.specs.Work.{IsOfLine, IsWork, IsWhole}
+use Rattle.timer_threads.specs.Work.{IsOfLine, IsNewEnd, IsWork, IsWhole}
 use Rattle.timer_threads.specs.Results.{has_failed, NoneFailed, AllEnded}
 
--- the thread at each index was started with the end of the line at that index, with this many requests to send and
--- with this limit
+-- nothing was taken from this inlet or given to it
+pub record IsNewInlet (inlet : RingInlet) : Type 0 where
+  pub none_got : got_of inlet ≡ []
+  pub none_given : given_of inlet ≡ []
+  pub unsettled : is_settled inlet ≡ false
+
+-- so for each
+abbrev pub AreNewInlets : List RingInlet → Type 0
+AreNewInlets inlets = (k : ℕ) (i : RingInlet) → k < length inlets → IsNewInlet (get_or inlets k i)
+
+-- an open facility at tick 0, in which no timer is pending, and from whose clients no request was taken
+pub record IsNewFacility (clients : ℕ) (s : FacilityState) : Type 0 where
+  pub now : s.now ≡ 0
+  pub none_pending : s.pending ≡ []
+  pub numbers : s.numbers ≡ replicate clients 1
+  pub still_open : s.is_closed ≡ false
+
+-- a new desk, with empty outboxes, over new lines
+pub record IsNewDesk (clients : ℕ) (desk : DeskState RingInlet) : Type 0 where
+  pub facility : IsNewFacility clients desk.facility
+  pub lines : AreNewInlets desk.inlets
+  pub room : ℕ
+  pub is : desk ≡ opened_desk desk.facility desk.inlets room
+
+-- the thread at each index was started with the new end of the new line at that index, with this many requests to send
+-- and with this limit
 pub record AreTied (count limit : ℕ) (inlets : List RingInlet) (children : List Child) : Type 0 where
   pub as_many : length children ≡ length inlets
   pub lines : (k : ℕ) (i : RingInlet) (h : Child) → k < length inlets
       → line_of_inlet (get_or inlets k i) ≡ line_of_end (promise_of (get_or children k h)).end.value
   pub counts : (k : ℕ) (h : Child) → k < length inlets → (promise_of (get_or children k h)).count ≡ count
   pub limits : (k : ℕ) (h : Child) → k < length inlets → (promise_of (get_or children k h)).limit ≡ limit
+  pub inlets_new : AreNewInlets inlets
+  pub ends_new : (k : ℕ) (h : Child) → k < length inlets → IsNewEnd (promise_of (get_or children k h)).end.value
 
 -- what the client at each index left is of the line of the inlet at that index
 pub record AreOfLines (inlets : List RingInlet) (all : List Worked) : Type 0 where
@@ -137,10 +164,11 @@ drive_fault DriveEnds.Done None = None
 drive_fault DriveEnds.Limit None = Some Faults.Desk
 drive_fault DriveEnds.OutOfMemory None = Some Faults.OutOfMemory
 
--- a desk was driven beside the clients, each did its work, and of the desk and of what they left this holds
+-- a new desk was driven beside the clients, each did its work, and of the desk and of what they left this holds
 pub record IsRun (clients timers limit : ℕ)
     (Ends : DeskState RingInlet → DriveEnd → List Worked → Type 0) : Type 0 where
   pub opened : DeskState RingInlet
+  pub new : IsNewDesk clients opened
   pub desk : DeskState RingInlet
   pub outcome : DriveEnd
   pub all : List Worked

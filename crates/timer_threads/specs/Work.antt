@@ -1,5 +1,5 @@
 -- What a client sends, what it may receive, and the result of its work.
-use Rattle.std.specs.Prelude.{◌≡◌, ◌+◌, ◌-◌, ◌%◌, ◌<◌, ◌≤◌, ◌⊎◌, ℕ, Bool, true, false, List, [], ◌∷◌, ◌++◌, length, map, Option, Some, None, IfSome}
+use Rattle.std.specs.Prelude.{◌≡◌, ◌+◌, ◌-◌, ◌%◌, ◌<◌, ◌≤◌, ◌⊎◌, ℕ, Bool, true, false, List, [], ◌∷◌, ◌++◌, length, map, take, get_or, Option, Some, None, IfSome}
 use Rattle.std.specs.List.{flat_map, range_with_len}
 use Rattle.timer_base.specs.declared.timer.Timer.{Timer}
 use Rattle.timer_base.specs.Order.{is_before}
@@ -13,7 +13,9 @@ use Rattle.timer_desk.specs.declared.word.Word.{Word}
 use Rattle.timer_desk.specs.declared.word.Word.TheVariants as Words
 use Rattle.timer_desk.specs.declared.ring.ClientEnd.{ClientEnd}
 use Rattle.timer_desk.specs.Ring.{Line, line_of_end, next_of, numbered, submitted, received_by_end, all_submitted, requests_ring_of, words_ring_of_reader, read_by}
+use Rattle.timer_threads.specs.declared.turn.Turn.{Turn}
 use Rattle.timer_threads.specs.declared.outcome.Worked.{Worked}
+use Rattle.timer_threads.specs.Turns.{requests_of, words_of, idle_at_end}
 
 -- What is sent.
 
@@ -24,16 +26,6 @@ request_of first j = numbered (first + (j - 1)) (Start (1 + j % 97) j)
 -- the first `sent` requests of a client
 abbrev pub requests_from : ℕ → ℕ → List Numbered
 requests_from first sent = map (request_of first) (range_with_len 1 sent)
-
--- the request with this number was let go, when at most so many timers had expired
-pub record IsLetGo (lets_go : ℕ → ℕ → Type 0) (number most : ℕ) : Type 0 where
-  pub expired : ℕ
-  pub few : expired ≤ most
-  pub let_go : lets_go number expired
-
--- so was each of the first `sent` requests
-abbrev pub AreLetGo : (ℕ → ℕ → Type 0) → ℕ → ℕ → ℕ → Type 0
-AreLetGo lets_go first sent most = (j : ℕ) → j < sent → IsLetGo lets_go (first + j) most
 
 -- What is received.
 
@@ -92,7 +84,43 @@ pub record IsStopped (first count : ℕ) (words : List Word) : Type 0 where
   pub pass : ArePassed first count passed
   pub fails : ¬ (ArePassed first count words)
 
+-- The turns.
+
+-- something was not sent, or of the words not received
+abbrev pub IsShort : ℕ → List Turn → Type 0
+IsShort count turns = (length (requests_of turns) < count)
+    ⊎ ((length (started_by (words_of turns)) < count) ⊎ (length (expired_by (words_of turns)) < count))
+
+-- A client goes on after these turns: the words that it received satisfy its checks, something is left to send or to
+-- receive, and fewer than `limit` turns in a row were idle.
+pub record GoesOn (first count limit : ℕ) (turns : List Turn) : Type 0 where
+  pub passed : ArePassed first count (words_of turns)
+  pub short : IsShort count turns
+  pub idle : idle_at_end turns < limit
+
+-- it took each of its turns only while it went on after those before
+abbrev pub AreTurns : ℕ → ℕ → ℕ → List Turn → Type 0
+AreTurns first count limit turns = (k : ℕ) → k < length turns → GoesOn first count limit (take k turns)
+
+-- the gate let the request of this turn go, if there is one: it was asked with the request's number, and with how many
+-- timers had expired by the words of the turns before
+abbrev pub IsLetGo : (ℕ → ℕ → Type 0) → List Turn → Turn → Type 0
+IsLetGo lets_go before turn = IfSome turn.sent
+    (λ request. lets_go request.number (length (expired_by (words_of before))))
+
+-- so for each turn
+abbrev pub AreLetGo : (ℕ → ℕ → Type 0) → List Turn → Type 0
+AreLetGo lets_go turns = (k : ℕ) (t : Turn) → k < length turns → IsLetGo lets_go (take k turns) (get_or turns k t)
+
 -- The result of the work.
+
+-- what the client did in its turns
+abbrev pub turns_of : Worked → List Turn
+turns_of w = w.history.turns.items
+
+-- its end was this one when the work ended, also if nothing is left of it since the owner's end was dropped
+abbrev pub WasAtEnd : Worked → ClientEnd → Type 0
+WasAtEnd w end = w.history.last.items ≡ end ∷ []
 
 -- the ended end and the reader are of this line
 pub record IsOfLine (line : Line) (w : Worked) : Type 0 where
@@ -103,28 +131,38 @@ pub record IsOfLine (line : Line) (w : Worked) : Type 0 where
 abbrev pub IsIncomplete : ℕ → Worked → Type 0
 IsIncomplete count w = (w.sent < count) ⊎ ((w.started < count) ⊎ (w.expired < count))
 
--- What was sent and received by a client with `count` requests that began its work with this end, and whether it
--- failed. If no word is at fault, it failed only after `limit` turns in a row in which it neither sent nor received.
+-- What was sent and received by a client with `count` requests that began its work with this end, turn by turn, and
+-- whether it failed. If no word is at fault, it failed only after `limit` turns in a row in which it neither sent nor
+-- received.
 pub record HasWorked (count limit : ℕ) (start : ClientEnd) (w : Worked) : Type 0 where
   pub sent : IfSome w.ended (λ e. all_submitted e ≡ submitted start ++ requests_from (next_of start) w.sent)
   pub most : w.sent ≤ count
-  -- the end when the work ended, also when nothing is left of it since the owner's end was dropped
   pub last : ClientEnd
+  pub last_is : WasAtEnd w last
   pub same_line : line_of_end last ≡ line_of_end start
   pub next : next_of last ≡ next_of start + w.sent
   pub submits : submitted last ≡ submitted start ++ requests_from (next_of start) w.sent
-  pub words : List Word
-  pub received : read_by w.reader ≡ received_by_end start ++ words
-  pub started : length (started_by words) ≡ w.started
-  pub expired : length (expired_by words) ≡ w.expired
-  pub passed : w.failed ≡ false → ArePassed (next_of start) count words
+  pub requests : requests_of (turns_of w) ≡ requests_from (next_of start) w.sent
+  pub received : read_by w.reader ≡ received_by_end start ++ words_of (turns_of w)
+  pub started : length (started_by (words_of (turns_of w))) ≡ w.started
+  pub expired : length (expired_by (words_of (turns_of w))) ≡ w.expired
+  pub taken : AreTurns (next_of start) count limit (turns_of w)
+  pub idle : w.idle ≡ idle_at_end (turns_of w)
+  pub passed : w.failed ≡ false → ArePassed (next_of start) count (words_of (turns_of w))
   pub complete : w.failed ≡ false → (w.sent ≡ count) × (w.started ≡ count) × (w.expired ≡ count)
-  pub failed : w.failed ≡ true → IsStopped (next_of start) count words
-      ⊎ (ArePassed (next_of start) count words × IsIncomplete count w × (w.idle ≡ limit))
+  pub failed : w.failed ≡ true → IsStopped (next_of start) count (words_of (turns_of w))
+      ⊎ (ArePassed (next_of start) count (words_of (turns_of w)) × IsIncomplete count w × (w.idle ≡ limit))
 
--- the client began with some end
+-- a new end: nothing was sent or received, and the first request has number 1
+pub record IsNewEnd (end : ClientEnd) : Type 0 where
+  pub none_sent : submitted end ≡ []
+  pub none_received : received_by_end end ≡ []
+  pub first : next_of end ≡ 1
+
+-- the client began with a new end
 pub record IsWork (count limit : ℕ) (w : Worked) : Type 0 where
   pub start : ClientEnd
+  pub new : IsNewEnd start
   pub worked : HasWorked count limit start w
 
 -- if nothing failed, all requests were sent, and as many timers started and expired

@@ -35,7 +35,7 @@ impl Child {
     ) -> Result<Child, OutOfMemory>
         requires count { count ≤ LAST }
         requires limit { limit ≤ LAST }
-        ensures line { IfOk result (λ child. line_of_end (promise_of child).end.value ≡ line_of_end end) }
+        ensures end { IfOk result (λ child. (promise_of child).end.value ≡ end) }
         ensures count { IfOk result (λ child. (promise_of child).count ≡ count) }
         ensures limit { IfOk result (λ child. (promise_of child).limit ≡ limit) }
     {

@@ -2,17 +2,23 @@
 //!
 //! Request j, from 1 on, is a start with interval `1 + (j mod 97)` and action j. Answers have to come
 //! by number and be `Started`; timers have to expire by deadline, then serial.
-ghost use Rattle.std.specs.Prelude.{◌≡◌, ◌+◌, ◌<◌, ◌≤◌, ◌==◌, ◌||◌, ℕ, not, false, true, length};
+//!
+//! Each turn is recorded, so that contracts can name what a client did and in which order. Only the functions here
+//! write that record, and it has no bytes.
+ghost use Rattle.std.specs.Prelude.{◌≡◌, ◌+◌, ◌<◌, ◌≤◌, ◌==◌, ◌||◌, ◌++◌, [], ℕ, not, false, true, length, is_some, IsNone, IfSome, option_to_list};
 ghost use Rattle.std.specs.List.{last_or};
 ghost use Rattle.timer_base.specs.declared.limits.TheConstants.{LAST};
-ghost use Rattle.timer_desk.specs.Ring.{line_of_end};
+ghost use Rattle.timer_desk.specs.Ring.{line_of_end, next_of, submitted, received_by_end, seen_by_end};
 ghost use Rattle.timer_desk.specs.declared.ring.ClientEnd.{ClientEnd};
-ghost use Rattle.timer_threads.specs.Work.{started_in, expired_in, follows, IsOfLine, HasWorked};
+ghost use Rattle.timer_threads.specs.Turns.{idle_at_end};
+ghost use Rattle.timer_threads.specs.Work.{started_in, expired_in, follows, AreTurns, AreLetGo, turns_of, IsOfLine, HasWorked};
 
 use crate::gate::Gate;
+use crate::log::Log;
 use crate::outcome::Worked;
+use crate::turn::Turn;
 use timer_base::Timer;
-use timer_desk::{ClientEnd, Word};
+use timer_desk::{ClientEnd, Numbered, Word};
 use timer_facility::{Answer, Notice, Request};
 
 /// A client at work.
@@ -29,10 +35,20 @@ pub struct Client {
     last: Option<Timer>,
     // Whether a check failed.
     failed: bool,
+    // What it sent and received in each turn.
+    turns: Log<Turn>,
+}
+
+/// What a client did: its turns, and its end as it was when it finished.
+#[derive(Drop)]
+pub struct History {
+    turns: Log<Turn>,
+    // One item.
+    last: Log<ClientEnd>,
 }
 
 impl Client {
-    ghost use Rattle.timer_threads.specs.Client.{is_complete, passes, IsSound, IsAtWork, HasAsked, left_of, IsLess};
+    ghost use Rattle.timer_threads.specs.Client.{is_complete, passes, IsSound, IsAtWork, IsRecorded, TakesTurn, turns_by, left_of, IsLess};
 
     /// A client that has sent and received nothing yet, of `count` requests.
     pub fn new(end: ClientEnd, count: u64) -> Client
@@ -40,7 +56,8 @@ impl Client {
         ensures count { result.count ≡ count }
         ensures sound { IsSound result }
         ensures at_work { IsAtWork end result }
-        ensures sent { result.sent ≡ 0 }
+        ensures recorded { IsRecorded end result }
+        ensures none { turns_by result ≡ [] }
     {
         let first = end.next_number();
         Client {
@@ -52,6 +69,7 @@ impl Client {
             expired: 0,
             last: None,
             failed: false,
+            turns: Log::new(),
         }
     }
 
@@ -69,40 +87,45 @@ impl Client {
         self.sent == self.count && self.started == self.count && self.expired == self.count
     }
 
-    /// Sends a request if the gate lets it go, reads a word, and returns whether one of the two was
+    /// Takes a turn: sends a request if the gate lets it go, and reads a word. Returns whether one of the two was
     /// done.
     pub fn work_once<G: Gate>(&mut self, gate: &mut G) -> bool
         requires sound { IsSound self.old }
         requires good { self.old.failed ≡ false }
         ensures sound { IsSound self.new }
         ensures at_work { (start : ClientEnd) → IsAtWork start self.old → IsAtWork start self.new }
-        ensures asked { (start : ClientEnd) → IsAtWork start self.old → HasAsked G.lets_go self.old
-            → HasAsked G.lets_go self.new }
+        ensures turn { TakesTurn result self.old self.new }
+        ensures recorded { (start : ClientEnd) → IsRecorded start self.old → IsRecorded start self.new }
+        ensures asked { (start : ClientEnd) → IsAtWork start self.old → IsRecorded start self.old
+            → AreLetGo G.lets_go (turns_by self.old) → AreLetGo G.lets_go (turns_by self.new) }
         ensures count { self.new.count ≡ self.old.count }
         ensures left { IsLess result (left_of self.old) (left_of self.new) }
     {
         let sent = self.send_next(gate);
         let received = self.read_next();
-        sent || received
+        let turn = Turn { sent, received };
+        self.turns = self.turns.and(&turn);
+        !turn.is_idle()
     }
 
-    /// Sends the next request, and returns whether it went.
-    fn send_next<G: Gate>(&mut self, gate: &mut G) -> bool
+    /// Sends the next request, and returns it if it went.
+    fn send_next<G: Gate>(&mut self, gate: &mut G) -> Option<Numbered>
         requires sound { IsSound self.old }
         requires good { self.old.failed ≡ false }
         ensures sound { IsSound self.new }
         ensures good { self.new.failed ≡ false }
         ensures at_work { (start : ClientEnd) → IsAtWork start self.old → IsAtWork start self.new }
-        ensures asked { (start : ClientEnd) → IsAtWork start self.old → HasAsked G.lets_go self.old
-            → HasAsked G.lets_go self.new }
-        ensures count { self.new.count ≡ self.old.count }
-        ensures left { IsLess result (left_of self.old) (left_of self.new) }
+        ensures sends { submitted self.new.end ≡ submitted self.old.end ++ option_to_list result }
+        ensures received { received_by_end self.new.end ≡ received_by_end self.old.end }
+        ensures asked { IfSome result (λ request. G.lets_go request.number self.old.expired) }
+        ensures same { (self.new.count ≡ self.old.count) × (self.new.turns ≡ self.old.turns) }
+        ensures left { IsLess (is_some result) (left_of self.old) (left_of self.new) }
     {
         if self.sent >= self.count {
-            return false;
+            return None;
         }
         if !gate.may_send(self.end.next_number(), self.expired) {
-            return false;
+            return None;
         }
         let action = self.sent + 1;
         let request = Request::Start {
@@ -110,30 +133,31 @@ impl Client {
             action,
         };
         match self.end.submit(request) {
-            Ok(_) => {
+            Ok(number) => {
                 self.sent = action;
-                true
+                Some(Numbered { number, request })
             }
-            Err(_) => false,
+            Err(_) => None,
         }
     }
 
-    /// Reads the next word, and returns whether one came.
-    fn read_next(&mut self) -> bool
+    /// Reads the next word, and returns it if one came.
+    fn read_next(&mut self) -> Option<Word>
         requires sound { IsSound self.old }
         requires good { self.old.failed ≡ false }
         ensures sound { IsSound self.new }
         ensures at_work { (start : ClientEnd) → IsAtWork start self.old → IsAtWork start self.new }
-        ensures count { self.new.count ≡ self.old.count }
-        ensures asked { (self.new.first ≡ self.old.first) × (self.new.sent ≡ self.old.sent)
-            × (self.old.expired ≤ self.new.expired) }
-        ensures left { IsLess result (left_of self.old) (left_of self.new) }
+        ensures receives { received_by_end self.new.end ≡ received_by_end self.old.end ++ option_to_list result }
+        ensures none { IsNone result → seen_by_end self.old.end ≡ [] }
+        ensures sent { submitted self.new.end ≡ submitted self.old.end }
+        ensures same { (self.new.count ≡ self.old.count) × (self.new.turns ≡ self.old.turns) }
+        ensures left { IsLess (is_some result) (left_of self.old) (left_of self.new) }
     {
         let Some(word) = self.end.receive() else {
-            return false;
+            return None;
         };
         self.check(word);
-        true
+        Some(word)
     }
 
     /// Counts and checks a word that was received.
@@ -147,7 +171,8 @@ impl Client {
         ensures failed { self.new.failed ≡ not (passes self.old word) }
         ensures fewer { left_of self.new < left_of self.old }
         ensures others { (self.new.end ≡ self.old.end) × (self.new.count ≡ self.old.count)
-            × (self.new.first ≡ self.old.first) × (self.new.sent ≡ self.old.sent) }
+            × (self.new.first ≡ self.old.first) × (self.new.sent ≡ self.old.sent)
+            × (self.new.turns ≡ self.old.turns) }
     {
         match word {
             Word::Answered {
@@ -190,9 +215,10 @@ impl Client {
     pub fn finish(self, idle: u64) -> Worked
         requires { IsSound self }
         ensures line { (start : ClientEnd) → IsAtWork start self → IsOfLine (line_of_end start) result }
-        ensures worked { (start : ClientEnd) (limit : ℕ) → IsAtWork start self
+        ensures worked { (start : ClientEnd) (limit : ℕ) → IsAtWork start self → IsRecorded start self
+            → AreTurns (next_of start) self.count limit (turns_by self) → idle ≡ idle_at_end (turns_by self)
             → (self.failed || is_complete self ≡ false → idle ≡ limit) → HasWorked self.count limit start result }
-        ensures counts { (result.sent ≡ self.sent) × (result.expired ≡ self.expired) }
+        ensures turns { turns_of result ≡ turns_by self }
     {
         let failed = self.failed || !self.is_complete();
         let Client {
@@ -200,8 +226,10 @@ impl Client {
             sent,
             started,
             expired,
+            turns,
             ..
         } = self;
+        let last = Log::new().and(&end);
         let (ended, reader) = end.finish();
         Worked {
             ended,
@@ -211,6 +239,7 @@ impl Client {
             expired,
             failed,
             idle,
+            history: History { turns, last },
         }
     }
 }

@@ -1,4 +1,5 @@
 //! The result of a client's run.
+use crate::client::History;
 use timer_desk::{ClientReader, RequestsEnded};
 
 /// What is left of a client that has finished.
@@ -18,4 +19,6 @@ pub struct Worked {
     pub failed: bool,
     /// How many turns in a row it had neither sent nor received when it ended.
     pub idle: u64,
+    /// What it did, turn by turn. It has no bytes: only contracts read it.
+    pub history: History,
 }

@@ -8,7 +8,7 @@
 ghost use Rattle.std.specs.Prelude.{◌≡◌, ◌<◌, ◌≤◌, [], length, true, IfOk, IfErr, vec_len};
 ghost use Rattle.timer_base.specs.declared.limits.TheConstants.{LAST};
 ghost use Rattle.timer_threads.specs.Children.{threads_of};
-ghost use Rattle.timer_threads.specs.Threads.{AreTied, HasSucceeded, IsRun, IsExplained, whole_text};
+ghost use Rattle.timer_threads.specs.Threads.{IsNewFacility, AreTied, HasSucceeded, IsRun, IsExplained, whole_text};
 
 use crate::child::Child;
 use crate::children::Children;
@@ -42,7 +42,7 @@ struct Clients {
 /// A facility of `clients` clients, in which no timer is pending.
 fn new_facility(alloc: Global, clients: u64) -> Result<Facility<HierWheel>, OutOfMemory>
     ensures clients { IfOk result (λ facility. length facility.state.numbers ≡ clients) }
-    ensures pending { IfOk result (λ facility. facility.state.pending ≡ []) }
+    ensures new { IfOk result (λ facility. IsNewFacility clients facility.state) }
     ensures waiting { IfOk result (λ facility. facility.waiting ≡ []) }
 {
     let config = Config {
@@ -153,7 +153,7 @@ fn drive_beside(
     limit: u64,
 ) -> Result<Vec<u8>, ThreadsFault>
     requires clients { vec_len inlets ≡ length facility.state.numbers }
-    requires pending { facility.state.pending ≡ [] }
+    requires new { IsNewFacility (vec_len inlets) facility.state }
     requires waiting { facility.waiting ≡ [] }
     requires tied { AreTied timers limit inlets.items (threads_of children) }
     requires timers { timers ≤ LAST }

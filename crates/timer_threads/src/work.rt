@@ -1,8 +1,8 @@
 //! Runs one client to its end, and returns what is left of its line.
 ghost use Rattle.std.specs.Prelude.{◌≤◌};
 ghost use Rattle.timer_base.specs.declared.limits.TheConstants.{LAST};
-ghost use Rattle.timer_desk.specs.Ring.{line_of_end, next_of};
-ghost use Rattle.timer_threads.specs.Work.{IsOfLine, HasWorked, AreLetGo};
+ghost use Rattle.timer_desk.specs.Ring.{line_of_end};
+ghost use Rattle.timer_threads.specs.Work.{AreLetGo, turns_of, IsOfLine, HasWorked};
 
 use crate::client::Client;
 use crate::gate::Gate;
@@ -21,7 +21,7 @@ pub fn client_work<G: Gate + Drop>(end: ClientEnd, count: u64, limit: u64, gate:
     requires limit { limit ≤ LAST }
     ensures line { IsOfLine (line_of_end end) result }
     ensures worked { HasWorked count limit end result }
-    ensures asked { AreLetGo G.lets_go (next_of end) result.sent result.expired }
+    ensures asked { AreLetGo G.lets_go (turns_of result) }
 {
     let mut gate = gate;
     let mut client = Client::new(end, count);

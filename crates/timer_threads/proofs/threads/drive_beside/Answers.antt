@@ -3,7 +3,7 @@ use Rattle.std.specs.Prelude.{IfOk}
 use Rattle.timer_desk.specs.Ring.{line_of_inlet}
 use Rattle.timer_threads.specs.Children.{threads_of}
 use Rattle.timer_threads.specs.Threads.{whole_text}
-use Rattle.timer_threads.proofs.ThreadLemmas.{lines_kept, work_kept, whole_kept, all_left, run_succeeded, run_failed}
+use Rattle.timer_threads.proofs.ThreadLemmas.{new_desk, lines_kept, work_kept, whole_kept, all_left, run_succeeded, run_failed}
 use Rattle.timer_threads.proofs.threads.drive_beside.Goals as goal
 
 pub end_all-requires-clause-lines : goal.end_all-requires-clause-lines
@@ -43,8 +43,10 @@ returns-clause-ended g c =
     let left = all_left c.args.timers c.args.limit c.args.inlets.items (threads_of c.args.children) c.join-2.result.items c.requires.tied
     c.join-2.ensures in
     let as_many : length c.join-2.result.items ≡ vec_len c.args.inlets = omega (arith, left, c.args.inlets.ok) in
+    let new = new_desk (vec_len c.args.inlets) 1024 c.args.facility.state c.args.inlets.items c.in-Ok.desk c.in-Ok.ensures.ok c.requires.new
+    c.requires.tied.inlets_new in
     run_succeeded (vec_len c.args.inlets) c.args.timers c.args.limit c.in-Ok.desk c.drive-desk.result.desk c.drive-desk.result.outcome
-    c.join-2.result.items as_many lines c.drive-desk.ensures
+    c.join-2.result.items new as_many lines c.drive-desk.ensures
     (work_kept c.args.timers c.args.limit c.args.inlets.items (threads_of c.args.children) c.join-2.result.items c.requires.tied
     c.join-2.ensures) c.end_all.result c.end_all.ensures.ended
 
@@ -61,7 +63,9 @@ returns-clause-failed g c =
     let left = all_left c.args.timers c.args.limit c.args.inlets.items (threads_of c.args.children) c.join-2.result.items c.requires.tied
     c.join-2.ensures in
     let as_many : length c.join-2.result.items ≡ vec_len c.args.inlets = omega (arith, left, c.args.inlets.ok) in
+    let new = new_desk (vec_len c.args.inlets) 1024 c.args.facility.state c.args.inlets.items c.in-Ok.desk c.in-Ok.ensures.ok c.requires.new
+    c.requires.tied.inlets_new in
     run_failed (vec_len c.args.inlets) c.args.timers c.args.limit c.in-Ok.desk c.drive-desk.result.desk c.drive-desk.result.outcome
-    c.join-2.result.items as_many lines c.drive-desk.ensures
+    c.join-2.result.items new as_many lines c.drive-desk.ensures
     (work_kept c.args.timers c.args.limit c.args.inlets.items (threads_of c.args.children) c.join-2.result.items c.requires.tied
     c.join-2.ensures) c.end_all.result c.end_all.ensures.fault

@@ -1,6 +1,8 @@
-use Rattle.std.proofs.Common.{◌∙◌, sym, arith}
+use Rattle.std.proofs.Common.{◌∙◌, ap, sym, subst, arith}
 use Rattle.std.proofs.lemmas.Grind.{common_steps}
+use Rattle.timer_desk.specs.Ring.{line_of_end}
 use Rattle.timer_threads.specs.Children.{threads_of}
+use Rattle.timer_threads.specs.Work.{IsNewEnd}
 use Rattle.timer_threads.proofs.ThreadLemmas.{AreTied-more}
 use Rattle.timer_threads.proofs.threads.start_all.Goals as goal
 
@@ -8,11 +10,15 @@ pub loop-gate-preserved : goal.loop-gate-preserved
 loop-gate-preserved g c =
     let was = c.loop-gate.invariant in
     let inlets = c.push_reserved.ensures in
-    let children = c.push_reserved-in-loop-gate.ensures in record {
+    let children = c.push_reserved-in-loop-gate.ensures in
+    let line = c.in-Ok-ring_line.ensures in
+    let child = c.in-Ok-start.ensures in record {
       tied = rw (inlets.items, children.threads)
           (AreTied-more c.args.count c.args.limit c.loop-gate.inlets.items (threads_of c.loop-gate.children) c.in-Ok-ring_line.inlet c.in-Ok-start.child
           was.tied
-          (sym c.in-Ok-ring_line.ensures.line ∙ sym c.in-Ok-start.ensures.line) c.in-Ok-start.ensures.count c.in-Ok-start.ensures.limit);
+          (sym line.line ∙ ap line_of_end (sym child.end)) child.count child.limit
+          (record { none_got = line.inlet.0; none_given = line.inlet.1; unsettled = line.inlet.2 })
+          (subst IsNewEnd (sym child.end) (record { none_sent = line.end.0; none_received = line.end.1; first = line.end.2 })));
       each = grind (arith, common_steps);
       inlets_room = grind (arith, common_steps);
       children_room = grind (arith, common_steps);

@@ -1,21 +1,46 @@
 use Rattle.std.proofs.Common.{◌∙◌, sym, subst, arith}
-use Rattle.timer_threads.specs.Client.{left_of}
-use Rattle.timer_threads.specs.Work.{HasWorked}
-use Rattle.timer_threads.proofs.ClientLemmas.{less_to_do, nearer_the_limit, AreLetGo-read}
+use Rattle.timer_desk.specs.Ring.{next_of}
+use Rattle.timer_threads.specs.Client.{left_of, turns_by}
+use Rattle.timer_threads.specs.Work.{HasWorked, GoesOn, AreTurns}
+use Rattle.timer_threads.proofs.ClientLemmas.{less_to_do, nearer_the_limit, goes_on}
+use Rattle.timer_threads.proofs.TurnLemmas.{idle_at_start, AreTurns-none, AreLetGo-none, AreTurns-more, busy_at_end, idle_once_more}
 use Rattle.timer_threads.proofs.work.client_work.Goals as goal
+
+pub loop-idle-init : goal.loop-idle-init
+loop-idle-init g c =
+    let new = c.new-client.ensures in record {
+      sound = new.sound;
+      at_work = new.at_work;
+      recorded = new.recorded;
+      count = new.count;
+      taken = AreTurns-none (next_of c.args.end) c.args.count c.args.limit (turns_by c.new-client.result) new.none;
+      idle_is = idle_at_start (turns_by c.new-client.result) new.none;
+      asked = AreLetGo-none g.G.Gate.lets_go (turns_by c.new-client.result) new.none;
+      within = omega arith;
+    }
 
 pub loop-idle-smaller-then-work_once : goal.loop-idle-smaller-then-work_once
 loop-idle-smaller-then-work_once g c =
     less_to_do (left_of c.loop-idle.client) (left_of c.work_once.new.self) c.args.limit c.loop-idle.idle c.if-work_once.ensures.left
 
 pub loop-idle-preserved-then-work_once : goal.loop-idle-preserved-then-work_once
-loop-idle-preserved-then-work_once g c = record {
-  sound = c.work_once.ensures.sound;
-  at_work = c.work_once.ensures.at_work c.args.end c.loop-idle.invariant.at_work;
-  count = c.work_once.ensures.count ∙ c.loop-idle.invariant.count;
-  asked = c.work_once.ensures.asked c.args.end c.loop-idle.invariant.at_work c.loop-idle.invariant.asked;
-  within = omega arith;
-}
+loop-idle-preserved-then-work_once g c =
+    let was = c.loop-idle.invariant in
+    let turn = c.if-work_once.ensures.turn in
+    let on : GoesOn (next_of c.args.end) c.args.count c.args.limit (turns_by c.loop-idle.client) =
+    subst (λ n. GoesOn (next_of c.args.end) n c.args.limit (turns_by c.loop-idle.client)) was.count
+    (goes_on c.args.end c.args.limit c.loop-idle.idle c.loop-idle.client was.sound was.at_work was.recorded
+    (sym c.is_over.ensures ∙ c.if-is_over.false) was.idle_is c.loop-idle-test.true) in record {
+      sound = c.work_once.ensures.sound;
+      at_work = c.work_once.ensures.at_work c.args.end was.at_work;
+      recorded = c.work_once.ensures.recorded c.args.end was.recorded;
+      count = c.work_once.ensures.count ∙ was.count;
+      taken = AreTurns-more (next_of c.args.end) c.args.count c.args.limit (turns_by c.loop-idle.client) (turns_by c.work_once.new.self)
+          turn.turn turn.added was.taken on;
+      idle_is = busy_at_end (turns_by c.loop-idle.client) (turns_by c.work_once.new.self) turn.turn turn.added turn.busy_is;
+      asked = c.work_once.ensures.asked c.args.end was.at_work was.recorded was.asked;
+      within = omega arith;
+    }
 
 pub loop-idle-smaller : goal.loop-idle-smaller
 loop-idle-smaller g c =
@@ -23,39 +48,43 @@ loop-idle-smaller g c =
     c.loop-idle-test.true c.if-work_once.ensures.left
 
 pub loop-idle-preserved : goal.loop-idle-preserved
-loop-idle-preserved g c = record {
-  sound = c.work_once.ensures.sound;
-  at_work = c.work_once.ensures.at_work c.args.end c.loop-idle.invariant.at_work;
-  count = c.work_once.ensures.count ∙ c.loop-idle.invariant.count;
-  asked = c.work_once.ensures.asked c.args.end c.loop-idle.invariant.at_work c.loop-idle.invariant.asked;
-  within = omega (arith, c.loop-idle-test.true);
-}
+loop-idle-preserved g c =
+    let was = c.loop-idle.invariant in
+    let turn = c.if-work_once.ensures.turn in
+    let on : GoesOn (next_of c.args.end) c.args.count c.args.limit (turns_by c.loop-idle.client) =
+    subst (λ n. GoesOn (next_of c.args.end) n c.args.limit (turns_by c.loop-idle.client)) was.count
+    (goes_on c.args.end c.args.limit c.loop-idle.idle c.loop-idle.client was.sound was.at_work was.recorded
+    (sym c.is_over.ensures ∙ c.if-is_over.false) was.idle_is c.loop-idle-test.true) in record {
+      sound = c.work_once.ensures.sound;
+      at_work = c.work_once.ensures.at_work c.args.end was.at_work;
+      recorded = c.work_once.ensures.recorded c.args.end was.recorded;
+      count = c.work_once.ensures.count ∙ was.count;
+      taken = AreTurns-more (next_of c.args.end) c.args.count c.args.limit (turns_by c.loop-idle.client) (turns_by c.work_once.new.self)
+          turn.turn turn.added was.taken on;
+      idle_is = idle_once_more (turns_by c.loop-idle.client) (turns_by c.work_once.new.self) turn.turn c.loop-idle.idle turn.added turn.busy_is
+          was.idle_is;
+      asked = c.work_once.ensures.asked c.args.end was.at_work was.recorded was.asked;
+      within = omega (arith, c.loop-idle-test.true);
+    }
 
 pub returns-clause-line : goal.returns-clause-line
 returns-clause-line g c = c.finish-2.ensures.line c.args.end c.loop-idle.invariant.at_work
 
 pub returns-clause-worked : goal.returns-clause-worked
 returns-clause-worked g c =
-    subst (λ n. HasWorked n c.args.limit c.args.end c.finish-2.result) c.loop-idle.invariant.count
-    (c.finish-2.ensures.worked c.args.end c.args.limit c.loop-idle.invariant.at_work
-    (λ _. omega (arith, c.loop-idle.invariant.within, c.loop-idle-test.false)))
+    let was = c.loop-idle.invariant in
+    subst (λ n. HasWorked n c.args.limit c.args.end c.finish-2.result) was.count
+    (c.finish-2.ensures.worked c.args.end c.args.limit was.at_work was.recorded
+    (subst (λ n. AreTurns (next_of c.args.end) n c.args.limit (turns_by c.loop-idle.client)) (sym was.count) was.taken) was.idle_is
+    (λ _. omega (arith, was.within, c.loop-idle-test.false)))
 
 pub returns-then-is_over-clause-line : goal.returns-then-is_over-clause-line
 returns-then-is_over-clause-line g c = c.finish.ensures.line c.args.end c.loop-idle.invariant.at_work
 
 pub returns-then-is_over-clause-worked : goal.returns-then-is_over-clause-worked
 returns-then-is_over-clause-worked g c =
-    subst (λ n. HasWorked n c.args.limit c.args.end c.finish.result) c.loop-idle.invariant.count
-    (c.finish.ensures.worked c.args.end c.args.limit c.loop-idle.invariant.at_work (λ is. absurd (cc)))
-
-pub returns-clause-asked : goal.returns-clause-asked
-returns-clause-asked g c =
-    let counts = c.finish-2.ensures.counts in
-    AreLetGo-read g.G.Gate.lets_go _ _ _ _ _ _ (sym c.loop-idle.invariant.at_work.first) counts.0 (omega (arith, counts.1))
-    c.loop-idle.invariant.asked
-
-pub returns-then-is_over-clause-asked : goal.returns-then-is_over-clause-asked
-returns-then-is_over-clause-asked g c =
-    let counts = c.finish.ensures.counts in
-    AreLetGo-read g.G.Gate.lets_go _ _ _ _ _ _ (sym c.loop-idle.invariant.at_work.first) counts.0 (omega (arith, counts.1))
-    c.loop-idle.invariant.asked
+    let was = c.loop-idle.invariant in
+    subst (λ n. HasWorked n c.args.limit c.args.end c.finish.result) was.count
+    (c.finish.ensures.worked c.args.end c.args.limit was.at_work was.recorded
+    (subst (λ n. AreTurns (next_of c.args.end) n c.args.limit (turns_by c.loop-idle.client)) (sym was.count) was.taken) was.idle_is
+    (λ is. absurd (cc)))

@@ -1,14 +1,20 @@
 use Rattle.std.proofs.Common.{◌≡◌, ◌≤◌, ◌+◌, ◌-◌, ◌*◌}
-use Rattle.timer_threads.specs.Client.{IsSound, IsAtWork, HasAsked, left_of}
+use Rattle.timer_desk.specs.Ring.{next_of}
+use Rattle.timer_threads.specs.Turns.{idle_at_end}
+use Rattle.timer_threads.specs.Work.{AreTurns, AreLetGo}
+use Rattle.timer_threads.specs.Client.{IsSound, IsAtWork, IsRecorded, turns_by, left_of}
 use Rattle.timer_threads.proofs.work.client_work.Given as goal
 
--- all that was sent or received is counted
+-- all that was sent or received is counted, and recorded turn by turn
 abbrev pub invariant-loop-idle : goal.invariant-loop-idle
 invariant-loop-idle g l = record {
   sound : IsSound l.client;
   at_work : IsAtWork l.fn.end l.client;
+  recorded : IsRecorded l.fn.end l.client;
   count : l.client.count ≡ l.fn.count;
-  asked : HasAsked g.G.Gate.lets_go l.client;
+  taken : AreTurns (next_of l.fn.end) l.fn.count l.fn.limit (turns_by l.client);
+  idle_is : l.idle ≡ idle_at_end (turns_by l.client);
+  asked : AreLetGo g.G.Gate.lets_go (turns_by l.client);
   within : l.idle ≤ l.limit;
 }
 

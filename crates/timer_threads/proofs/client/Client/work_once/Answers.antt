@@ -1,18 +1,15 @@
-use Rattle.timer_threads.proofs.ClientLemmas.{AreLetGo-read}
+use Rattle.std.proofs.Common.{[], ◌∷◌, ◌++◌, ◌∙◌, ap}
+use Rattle.timer_threads.specs.declared.log.Log.{Log}
+use Rattle.timer_threads.specs.declared.turn.Turn.{Turn}
+use Rattle.timer_threads.specs.Client.{turns_by}
+use Rattle.timer_threads.proofs.TurnLemmas.{AreLetGo-more}
+use Rattle.timer_threads.proofs.ClientLemmas.{IsLetGo-counted}
 use Rattle.timer_threads.proofs.client.Client.work_once.Goals as goal
 
-pub returns-then-sent-clause-at_work : goal.returns-then-sent-clause-at_work
-returns-then-sent-clause-at_work g c = λ start h. c.read_next-received.ensures.at_work start (c.send_next-sent.ensures.at_work start h)
-
-pub returns-else-sent-clause-at_work : goal.returns-else-sent-clause-at_work
-returns-else-sent-clause-at_work g c = λ start h. c.read_next-received.ensures.at_work start (c.send_next-sent.ensures.at_work start h)
-
-pub returns-then-sent-clause-asked : goal.returns-then-sent-clause-asked
-returns-then-sent-clause-asked g c = λ start h was.
-    let read = c.read_next-received.ensures.asked in
-    AreLetGo-read g.G.Gate.lets_go _ _ _ _ _ _ read.0 read.1 read.2 (c.send_next-sent.ensures.asked start h was)
-
-pub returns-else-sent-clause-asked : goal.returns-else-sent-clause-asked
-returns-else-sent-clause-asked g c = λ start h was.
-    let read = c.read_next-received.ensures.asked in
-    AreLetGo-read g.G.Gate.lets_go _ _ _ _ _ _ read.0 read.1 read.2 (c.send_next-sent.ensures.asked start h was)
+pub returns-clause-asked : goal.returns-clause-asked
+returns-clause-asked g c = λ start h recorded was.
+    let turn : Turn = record { sent = c.send_next-sent.result; received = c.read_next-received.result } in
+    let same = c.read_next-received.ensures.same.1 ∙ c.send_next-sent.ensures.same.1 in
+    AreLetGo-more g.G.Gate.lets_go (turns_by c.args.self.now) c.and-self.result.items turn
+    (c.and-self.ensures ∙ ap (λ (l : Log Turn). l.items ++ turn ∷ []) same) was
+    (IsLetGo-counted g.G.Gate.lets_go start c.args.self.now turn h recorded c.send_next-sent.ensures.asked)
