@@ -68,6 +68,7 @@ impl Handles {
     }
 
     /// Drops the handles of timers that are no longer pending, if there are many. Does not allocate.
+    #[inline(always)]
     pub fn forget<W: Wheel + Drop>(&mut self, facility: &Facility<W>)
         requires { AreRecorded self.old.list.items facility.now.state }
         ensures recorded { AreRecorded self.new.list.items facility.now.state }
@@ -107,6 +108,7 @@ fn place_of(list: &[Handle], serial: u64) -> Option<usize>
 }
 
 /// Drops the handles that no pending timer has.
+#[inline(never)]
 fn sweep<W: Wheel + Drop>(list: &mut Vec<Handle>, facility: &Facility<W>)
     ensures { list.new.items ≡ filter (is_pending facility.now.state) list.old.items }
 {
