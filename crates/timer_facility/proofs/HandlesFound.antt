@@ -27,7 +27,7 @@ serials_rise (x ∷ xs) i zero a l m = absurd (omega arith)
 serials_rise (x ∷ xs) zero (suc j) a l m = all_at (λ k. x.serial < k.serial) xs j a.0 (omega arith)
 serials_rise (x ∷ xs) (suc i) (suc j) a l m = serials_rise xs i j a.1 (omega arith) (omega arith)
 
-place_present : (hs : HandleList) (k i : ℕ) → AreSorted hs → i < length hs → (get_or hs i (record { place = 0; serial = 0 })).serial ≡ k
+pub place_present : (hs : HandleList) (k i : ℕ) → AreSorted hs → i < length hs → (get_or hs i (record { place = 0; serial = 0 })).serial ≡ k
     → place_at k hs ≡ Some (get_or hs i (record { place = 0; serial = 0 })).place
 place_present [] k i a l e = absurd (omega arith)
 place_present (x ∷ xs) k zero a l e = let same : (x.serial == k) ≡ true = ap (λ n. n == k) e ∙ is_same k in rw same refl

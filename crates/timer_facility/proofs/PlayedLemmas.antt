@@ -1,6 +1,6 @@
 -- Runs that go on.
 use Rattle.std.proofs.Common.{◌≡◌, ℕ, List, [], ◌∷◌, ◌++◌, refl, sym, ◌∙◌, ap, subst, append-nil, append_assoc, inl, inr}
-use Rattle.std.specs.Prelude.{Some, Result, Ok, Err, OnOk}
+use Rattle.std.specs.Prelude.{Some, Result, Ok, Err, IfOk}
 use Rattle.timer_base.specs.declared.timer.Handle.{Handle}
 use Rattle.timer_facility.specs.declared.request.Request.{Request}
 use Rattle.timer_facility.specs.declared.request.Answer.{Answer}
@@ -152,9 +152,9 @@ AddsRun-restart s client number serial interval action before outs after handles
     (named-recorded handles s client serial handle a h)) m)
 
 -- if a call returned Ok
-pub on_ok : {T E : Type 0} (r : Result T E) (A B : Type 0) → (A → B) → OnOk r A → OnOk r B
-on_ok (Ok x) A B f h = f h
-on_ok (Err e) A B f h = tt
+pub if_ok : {T E : Type 0} (r : Result T E) (A B : T → Type 0) → ((x : T) → A x → B x) → IfOk r A → IfOk r B
+if_ok (Ok x) A B f h = f x h
+if_ok (Err e) A B f h = tt
 
 -- a request that is taken
 pub MakesStep-taken : (s : FacilityState) (client number : ℕ) (request : Request) (answer : Answer) (before outs : List Out)

@@ -517,6 +517,7 @@ impl<W: Wheel + Drop> Facility<W> {
     }
 
     /// A stop that is taken.
+    #[inline(always)]
     fn take_stop(&mut self, client: u64, handle: Handle) -> Answer
         requires { self.old.waiting ≡ [] }
         ensures { (number : ℕ)

@@ -1,6 +1,7 @@
 //! The handles of the pending timers, by serial.
 //!
-//! Serials rise, so one `Vec` keeps the handles in order of starting, and a binary search finds one.
+//! Serials rise, so one `Vec` keeps the handles in order of starting. One since the last sweep is found from its
+//! distance to the last one, and any other by binary search.
 //! The handle of a timer that is no longer pending stays for a while. Once there are more than two
 //! handles for each pending timer, and `SPARE` = 64 more, a sweep drops all that no pending timer has:
 //!
@@ -11,7 +12,7 @@
 //!
 //! A sweep of n handles drops more than n / 2 of them, and each was added by one start or restart. So
 //! sweeps look up at most two handles per start or restart, whatever the order of events is.
-ghost use Rattle.std.specs.Prelude.{◌≡◌, ◌<◌, ℕ, [], OnOk, Some, filter};
+ghost use Rattle.std.specs.Prelude.{◌≡◌, ◌<◌, ℕ, [], OnOk, IfSome, Some, filter};
 ghost use Rattle.std.specs.Prelude.{vec_len, vec_capacity};
 ghost use Rattle.timer_facility.specs.Handles.{place_at, AreSorted, AreRecorded, AreFew, is_pending, with_answer};
 
@@ -68,6 +69,7 @@ impl Handles {
     }
 
     /// Drops the handles of timers that are no longer pending, if there are many. Does not allocate.
+    #[inline(always)]
     pub fn forget<W: Wheel + Drop>(&mut self, facility: &Facility<W>)
         requires { AreRecorded self.old.list.items facility.now.state }
         ensures recorded { AreRecorded self.new.list.items facility.now.state }
@@ -95,11 +97,35 @@ impl Handles {
     }
 }
 
+/// The place under this serial, if it is found at its distance from the last one.
+///
+/// Each start and restart since the last sweep added one handle, and took the next serial. So it finds all of these.
+#[inline(always)]
+fn place_since_sweep(list: &[Handle], serial: u64) -> Option<usize>
+    requires { AreSorted list.now }
+    ensures { IfSome result (λ place. place_at serial list.now ≡ Some place) }
+{
+    let last = list.last()?;
+    let behind = last.serial.wrapping_sub(serial);
+    if behind >= list.len() as u64 {
+        return None;
+    }
+    let i = list.len() - 1 - behind as usize;
+    if list[i].serial == serial {
+        Some(list[i].place)
+    } else {
+        None
+    }
+}
+
 /// The place under this serial.
 fn place_of(list: &[Handle], serial: u64) -> Option<usize>
     requires { AreSorted list.now }
     ensures { result ≡ place_at serial list.now }
 {
+    if let Some(place) = place_since_sweep(list, serial) {
+        return Some(place);
+    }
     match list.binary_search_by_key(&serial, |handle| handle.serial) {
         Ok(i) => Some(list[i].place),
         Err(_) => None,
@@ -107,6 +133,7 @@ fn place_of(list: &[Handle], serial: u64) -> Option<usize>
 }
 
 /// Drops the handles that no pending timer has.
+#[inline(never)]
 fn sweep<W: Wheel + Drop>(list: &mut Vec<Handle>, facility: &Facility<W>)
     ensures { list.new.items ≡ filter (is_pending facility.now.state) list.old.items }
 {

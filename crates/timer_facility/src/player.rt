@@ -3,7 +3,7 @@
 //! Memory for all that an event can produce is reserved before the event: one out and one handle for a
 //! request, and one notice for each pending timer. After that only the facility's own call can fail,
 //! which then has changed nothing. So an event is played whole or not at all.
-ghost use Rattle.std.specs.Prelude.{◌≡◌, ◌<◌, ◌≤◌, ◌+◌, ◌*◌, ◌++◌, ◌∷◌, ◌↔◌, ℕ, List, [], None, length, map, take, IsTrue, IfOk, IfErr, OnErr, OnOk, vec_len, vec_capacity};
+ghost use Rattle.std.specs.Prelude.{◌≡◌, ◌<◌, ◌≤◌, ◌+◌, ◌*◌, ◌++◌, ◌∷◌, ◌↔◌, ℕ, List, [], None, length, map, take, IsTrue, IfSome, IfOk, IfErr, OnErr, OnOk, vec_len, vec_capacity};
 ghost use Rattle.timer_facility.specs.State.{FacilityState, IsSound, Tick, Close};
 ghost use Rattle.timer_facility.specs.Verdict.{tick_refusal};
 ghost use Rattle.timer_facility.specs.Step.{step};
@@ -15,7 +15,7 @@ ghost use Rattle.timer_facility.specs.declared.handles.TheConstants.{SPARE};
 use crate::event::{Event, Out};
 use crate::facility::Facility;
 use crate::handles::Handles;
-use crate::request::{Answer, CloseFault, NotTaken, Request};
+use crate::request::{CloseFault, NotTaken, Request};
 use std::alloc::Global;
 use std::marker::Model;
 use timer_base::{Handle, OutOfMemory, Wheel};
@@ -118,14 +118,21 @@ impl<W: Wheel + Drop> Player<W> {
                 number,
                 interval,
                 action,
-            } => self.play_request(client, number, Request::Start { interval, action }, outs),
+            } => {
+                outs.reserve(1)?;
+                let out = self.play_start(client, number, interval, action)?;
+                outs.push_reserved(out);
+                Ok(())
+            }
             Event::Stop {
                 client,
                 number,
                 serial,
             } => {
-                let handle = self.handles.handle_of(serial);
-                self.play_request(client, number, Request::Stop(handle), outs)
+                outs.reserve(1)?;
+                let out = self.play_stop(client, number, serial)?;
+                outs.push_reserved(out);
+                Ok(())
             }
             Event::Restart {
                 client,
@@ -134,47 +141,113 @@ impl<W: Wheel + Drop> Player<W> {
                 interval,
                 action,
             } => {
-                let handle = self.handles.handle_of(serial);
-                let request = Request::Restart {
-                    handle,
-                    interval,
-                    action,
-                };
-                self.play_request(client, number, request, outs)
+                outs.reserve(1)?;
+                let out = self.play_restart(client, number, serial, interval, action)?;
+                outs.push_reserved(out);
+                Ok(())
             }
             Event::Ticks { count } => self.play_ticks(count, outs),
             Event::Close => self.play_close(outs),
         }
     }
 
+    /// Plays a start, and returns its out. The only error is out of memory, and then nothing changes.
+    ///
+    /// This and the next two are inlined, as all that they call: an out that is returned through memory is read
+    /// in other pieces than it was written in, and such a read waits for the writes.
+    #[inline(always)]
+    pub fn play_start(
+        &mut self,
+        client: u64,
+        number: u64,
+        interval: u64,
+        action: u64,
+    ) -> Result<Out, OutOfMemory>
+        ensures ok { IfOk result (λ out. AddsRun self.old (Event.Start client number interval action) []
+            (out ∷ []) self.new) }
+        ensures err { OnErr result (self.new ≡ self.old) }
+    {
+        self.play_request(client, number, Request::Start { interval, action })
+    }
+
+    /// Plays a stop, and returns its out. The only error is out of memory, and then nothing changes.
+    #[inline(always)]
+    pub fn play_stop(&mut self, client: u64, number: u64, serial: u64) -> Result<Out, OutOfMemory>
+        ensures ok { IfOk result (λ out. AddsRun self.old (Event.Stop client number serial) []
+            (out ∷ []) self.new) }
+        ensures err { OnErr result (self.new ≡ self.old) }
+    {
+        let handle = self.handles.handle_of(serial);
+        self.play_request(client, number, Request::Stop(handle))
+    }
+
+    /// Plays a restart, and returns its out. The only error is out of memory, and then nothing changes.
+    #[inline(always)]
+    pub fn play_restart(
+        &mut self,
+        client: u64,
+        number: u64,
+        serial: u64,
+        interval: u64,
+        action: u64,
+    ) -> Result<Out, OutOfMemory>
+        ensures ok { IfOk result (λ out. AddsRun self.old (Event.Restart client number serial interval action) []
+            (out ∷ []) self.new) }
+        ensures err { OnErr result (self.new ≡ self.old) }
+    {
+        let handle = self.handles.handle_of(serial);
+        let request = Request::Restart {
+            handle,
+            interval,
+            action,
+        };
+        self.play_request(client, number, request)
+    }
+
+    /// The out of a close, if it is refused: the facility is closed already. Does not allocate.
+    #[inline(always)]
+    pub fn refused_close(&self) -> Option<Out>
+        ensures { IfSome result (λ out. AddsRun self.now Event.Close [] (out ∷ []) self.now) }
+    {
+        if self.facility.is_closed() {
+            Some(Out::CloseRefused)
+        } else {
+            None
+        }
+    }
+
     /// Plays a request, and keeps the handle of the timer that it started.
+    #[inline(always)]
     fn play_request(
         &mut self,
         client: u64,
         number: u64,
         request: Request,
-        outs: &mut Vec<Out>,
-    ) -> Result<(), OutOfMemory>
-        ensures ok { OnOk result (MakesStep self.old (event_of_request client number request)
-            outs.old.items outs.new.items self.new) }
-        ensures state { OnErr result (self.new ≡ self.old) }
-        ensures outs { OnErr result (outs.new.items ≡ outs.old.items) }
+    ) -> Result<Out, OutOfMemory>
+        ensures ok { IfOk result (λ out. MakesStep self.old (event_of_request client number request) []
+            (out ∷ []) self.new) }
+        ensures err { OnErr result (self.new ≡ self.old) }
     {
-        outs.reserve(1)?;
         self.handles.make_room()?;
         match self.facility.take(client, number, request) {
             Ok(answer) => {
                 self.handles.record(answer);
                 self.handles.forget(&self.facility);
-                push_answer(outs, client, number, answer);
-                Ok(())
+                Ok(Out::Answered {
+                    client,
+                    number,
+                    answer,
+                })
             }
             Err(reason) => {
                 if let NotTaken::OutOfMemory = reason {
                     return Err(OutOfMemory);
                 }
-                push_reason(outs, client, number, reason);
-                Ok(())
+                Ok(Out::NotTaken {
+                    client,
+                    number,
+                    reason,
+                })
             }
         }
     }
@@ -213,30 +286,6 @@ impl<W: Wheel + Drop> Player<W> {
             Err(CloseFault::OutOfMemory) => Err(OutOfMemory),
         }
     }
-}
-
-/// Appends the answer to a request. Room for it was reserved.
-fn push_answer(outs: &mut Vec<Out>, client: u64, number: u64, answer: Answer)
-    requires { vec_len outs.old < vec_capacity outs.old }
-    ensures { outs.new.items ≡ outs.old.items ++ Out.Answered client number answer ∷ [] }
-{
-    outs.push_reserved(Out::Answered {
-        client,
-        number,
-        answer,
-    });
-}
-
-/// Appends why a request was not taken. Room for it was reserved.
-fn push_reason(outs: &mut Vec<Out>, client: u64, number: u64, reason: NotTaken)
-    requires { vec_len outs.old < vec_capacity outs.old }
-    ensures { outs.new.items ≡ outs.old.items ++ Out.NotTaken client number reason ∷ [] }
-{
-    outs.push_reserved(Out::NotTaken {
-        client,
-        number,
-        reason,
-    });
 }
 
 /// Reserves room for one out and for a notice of each pending timer. Ticks and a close produce no more.

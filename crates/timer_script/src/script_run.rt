@@ -16,7 +16,7 @@ use crate::fault::{RunFault, ScriptFault};
 use crate::input::read_script;
 use crate::lines::read_line;
 use crate::output::write_text;
-use crate::text::{push_end, push_outs};
+use crate::text::{push_end, push_out, push_outs};
 use crate::watched::Watched;
 use std::alloc::Global;
 use std::io::{Read, Write};
@@ -28,9 +28,109 @@ use timer_facility::{Event, Facility, Out, Player};
 const GROWTH: usize = 4;
 
 /// Plays an event, and adds the line of each of its outs to the text. `outs` is a scratch buffer,
-/// reused. Inlined, so that the event need not be in memory.
+/// reused. Inlined, so that the event need not be in memory; what plays an event of each kind is a call.
 #[inline(always)]
 pub fn play_event<W: Wheel + Drop>(
+    player: &mut Player<W>,
+    event: Event,
+    outs: &mut Vec<Out>,
+    text: &mut Vec<u8>,
+) -> Result<(), OutOfMemory>
+    ensures { OnOk result (AddsLines player.old (event ∷ []) text.old.items text.new.items player.new) }
+{
+    match event {
+        Event::Start {
+            client,
+            number,
+            interval,
+            action,
+        } => play_start(player, client, number, interval, action, text),
+        Event::Stop {
+            client,
+            number,
+            serial,
+        } => play_stop(player, client, number, serial, text),
+        Event::Restart {
+            client,
+            number,
+            serial,
+            interval,
+            action,
+        } => play_restart(player, client, number, serial, interval, action, text),
+        Event::Ticks { count } => play_outs(player, Event::Ticks { count }, outs, text),
+        Event::Close => play_close(player, outs, text),
+    }
+}
+
+/// Plays a start, and adds its line.
+#[inline(never)]
+fn play_start<W: Wheel + Drop>(
+    player: &mut Player<W>,
+    client: u64,
+    number: u64,
+    interval: u64,
+    action: u64,
+    text: &mut Vec<u8>,
+) -> Result<(), OutOfMemory>
+    ensures { OnOk result (AddsLines player.old (Event.Start client number interval action ∷ [])
+        text.old.items text.new.items player.new) }
+{
+    let out = player.play_start(client, number, interval, action)?;
+    push_out(text, &out)
+}
+
+/// Plays a stop, and adds its line.
+#[inline(never)]
+fn play_stop<W: Wheel + Drop>(
+    player: &mut Player<W>,
+    client: u64,
+    number: u64,
+    serial: u64,
+    text: &mut Vec<u8>,
+) -> Result<(), OutOfMemory>
+    ensures { OnOk result (AddsLines player.old (Event.Stop client number serial ∷ [])
+        text.old.items text.new.items player.new) }
+{
+    let out = player.play_stop(client, number, serial)?;
+    push_out(text, &out)
+}
+
+/// Plays a restart, and adds its line.
+#[inline(never)]
+fn play_restart<W: Wheel + Drop>(
+    player: &mut Player<W>,
+    client: u64,
+    number: u64,
+    serial: u64,
+    interval: u64,
+    action: u64,
+    text: &mut Vec<u8>,
+) -> Result<(), OutOfMemory>
+    ensures { OnOk result (AddsLines player.old (Event.Restart client number serial interval action ∷ [])
+        text.old.items text.new.items player.new) }
+{
+    let out = player.play_restart(client, number, serial, interval, action)?;
+    push_out(text, &out)
+}
+
+/// Plays a close, and adds its lines.
+#[inline(never)]
+fn play_close<W: Wheel + Drop>(
+    player: &mut Player<W>,
+    outs: &mut Vec<Out>,
+    text: &mut Vec<u8>,
+) -> Result<(), OutOfMemory>
+    ensures { OnOk result (AddsLines player.old (Event.Close ∷ []) text.old.items text.new.items player.new) }
+{
+    if let Some(out) = player.refused_close() {
+        return push_out(text, &out);
+    }
+    play_outs(player, Event::Close, outs, text)
+}
+
+/// Plays an event that may have many outs, and adds the line of each.
+#[inline(never)]
+fn play_outs<W: Wheel + Drop>(
     player: &mut Player<W>,
     event: Event,
     outs: &mut Vec<Out>,

@@ -102,7 +102,8 @@ fn push_numbers(out: &mut Vec<u8>, all: &[u64], last: u8) -> Result<(), OutOfMem
     Ok(())
 }
 
-/// Writes a word and numbers as a line.
+/// Writes a word and numbers as a line. Inlined, so that the length of the word is known.
+#[inline(always)]
 fn push_line(out: &mut Vec<u8>, word: &[u8], all: &[u64]) -> Result<(), OutOfMemory>
     requires { length all.now ≤ MAX_NUMBERS }
     ensures { OnOk result (out.new.items ≡ out.old.items ++ word.now ++ numbers all.now ++ codes "\n") }
@@ -112,6 +113,7 @@ fn push_line(out: &mut Vec<u8>, word: &[u8], all: &[u64]) -> Result<(), OutOfMem
 }
 
 /// Writes a word, numbers and a reason as a line.
+#[inline(never)]
 fn push_refused(
     out: &mut Vec<u8>,
     word: &[u8],
@@ -133,6 +135,7 @@ fn push_refused(
 ///
 /// Answers and outs are read in place, field by field. A copy would be read in other pieces than the out was
 /// written in, and such a read waits for the writes.
+#[inline(always)]
 fn push_answer(
     text: &mut Vec<u8>,
     client: u64,
@@ -164,8 +167,9 @@ fn push_answer(
     }
 }
 
-/// Writes one out as its line.
-fn push_out(text: &mut Vec<u8>, out: &Out) -> Result<(), OutOfMemory>
+/// Writes one out as its line. Inlined, so that an out of which the kind is known need not be in memory.
+#[inline(always)]
+pub fn push_out(text: &mut Vec<u8>, out: &Out) -> Result<(), OutOfMemory>
     ensures { OnOk result (text.new.items ≡ text.old.items ++ out_line out.now) }
 {
     match out {

@@ -1,4 +1,4 @@
-use Rattle.std.proofs.Common.{◌≡◌, ◌∷◌, ◌++◌, [], ◌∙◌, ap, sym, subst, Some}
+use Rattle.std.proofs.Common.{◌≡◌, ◌∷◌, [], refl, ◌∙◌, ap, sym, subst, Some}
 use Rattle.timer_facility.specs.declared.event.Out.TheVariants as Outs
 use Rattle.timer_facility.specs.State.{FacilityState, SingleEvent}
 use Rattle.timer_facility.specs.Verdict.{not_taken}
@@ -31,28 +31,19 @@ invariant_of-self-in-Ok g c =
 pub returns-in-Ok-clause-ok : goal.returns-in-Ok-clause-ok
 returns-in-Ok-clause-ok g c =
     let s : FacilityState = c.self.inside.facility.state in
-    let before = c.args.outs.now.items in
     let event : SingleEvent = event_of_request c.args.client c.args.number c.args.request in
-    let outs : c.push_answer.new.outs.items ≡ before ++ Outs.Answered c.args.client c.args.number c.in-Ok.answer ∷ [] =
-    c.push_answer.ensures ∙ ap (λ os. os ++ Outs.Answered c.args.client c.args.number c.in-Ok.answer ∷ []) c.reserve.ensures.items in
-    subst (λ a. MakesStep a event before c.push_answer.new.outs.items c.take.new.self.state) c.self.view_is
-    (MakesStep-taken s c.args.client c.args.number c.args.request c.in-Ok.answer before c.push_answer.new.outs.items c.take.new.self
-    c.in-Ok.ensures.taken outs)
+    let outs = Outs.Answered c.args.client c.args.number c.in-Ok.answer ∷ [] in
+    subst (λ a. MakesStep a event [] outs c.take.new.self.state) c.self.view_is
+    (MakesStep-taken s c.args.client c.args.number c.args.request c.in-Ok.answer [] outs c.take.new.self c.in-Ok.ensures.taken refl)
 
-pub returns-in_default : goal.returns-in_default
-returns-in_default g c =
+pub returns-in_default-clause-ok : goal.returns-in_default-clause-ok
+returns-in_default-clause-ok g c =
     let s : FacilityState = c.self.inside.facility.state in
-    let before = c.args.outs.now.items in
     let event : SingleEvent = event_of_request c.args.client c.args.number c.args.request in
+    let outs = Outs.NotTaken c.args.client c.args.number c.in-Err.reason ∷ [] in
     let reason : not_taken s c.args.client c.args.number ≡ Some c.in-Err.reason =
     reason-verdict s c.args.client c.args.number c.args.request c.in-Err.reason c.in-Err.ensures.not_taken
     c.in_default.not-OutOfMemory in
-    let outs : c.push_reason.new.outs.items ≡ before ++ Outs.NotTaken c.args.client c.args.number c.in-Err.reason ∷ [] =
-    c.push_reason.ensures ∙ ap (λ os. os ++ Outs.NotTaken c.args.client c.args.number c.in-Err.reason ∷ []) c.reserve.ensures.items in
-    record {
-      ok = subst (λ a. MakesStep a event before c.push_reason.new.outs.items c.take.new.self.state) c.self.view_is
-          (MakesStep-not_taken s c.args.client c.args.number c.args.request c.in-Err.reason before c.push_reason.new.outs.items
-          c.take.new.self.state reason outs (ap (λ (v : FacilityView). v.state) c.in-Err.ensures.err));
-      state = tt;
-      outs = tt;
-    }
+    subst (λ a. MakesStep a event [] outs c.take.new.self.state) c.self.view_is
+    (MakesStep-not_taken s c.args.client c.args.number c.args.request c.in-Err.reason [] outs c.take.new.self.state reason refl
+    (ap (λ (v : FacilityView). v.state) c.in-Err.ensures.err))

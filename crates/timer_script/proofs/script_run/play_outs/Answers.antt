@@ -2,7 +2,7 @@ use Rattle.std.proofs.Common.{[], ◌∷◌, refl, subst}
 use Rattle.timer_facility.specs.Played.{AddsRun}
 use Rattle.timer_facility.proofs.PlayedLemmas.{IsRun-none, IsRun-more}
 use Rattle.timer_script.proofs.ScriptRunLemmas.{adds_chunk}
-use Rattle.timer_script.proofs.script_run.play_event.Goals as goal
+use Rattle.timer_script.proofs.script_run.play_outs.Goals as goal
 
 pub returns : goal.returns
 returns g c =
