@@ -12,6 +12,7 @@
 mod cmd_check;
 mod cmd_threads;
 mod error_report;
+pub mod laws;
 mod options;
 mod render;
 mod schemes;

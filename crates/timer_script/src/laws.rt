@@ -10,7 +10,7 @@ ghost use Rattle.timer_script.specs.Script.{IsScript, IsBadLine};
 ghost use Rattle.timer_script.specs.ScriptRun.{IsAnswer};
 ghost use Rattle.timer_script.specs.declared.fault.ServeFault.{ServeFault};
 ghost use Rattle.timer_script.specs.declared.cutter.OnBadLine.{OnBadLine};
-ghost use Rattle.timer_script.specs.Decorator.{AddsNothing};
+ghost use Rattle.timer_script.specs.Decorator.{AddsNothing, AreDecorated};
 ghost use Rattle.timer_script.specs.Peer.{Moment};
 ghost use Rattle.timer_script.specs.Service.{Sides, IsPrompt, HasServed, server_with};
 
@@ -53,4 +53,10 @@ pub fn served_calls_are_prompt<F: Write>()
         → old.peer.moments ≡ Some [] → new.peer.moments ≡ Some calls
         → HasServed (server_with on_bad AddsNothing before F.contents) old new result
         → IsPrompt on_bad AddsNothing before calls }
+{}
+
+/// With a decorator that adds nothing the text for lines is the answer to them.
+pub fn undecorated_text_is_the_answer()
+    ensures { (before after : FacilityState) (events : List Event) (answer text : List ℕ)
+        → AreDecorated AddsNothing before events after answer text → text ≡ answer }
 {}

@@ -34,7 +34,7 @@ returns-in_err-finish-in-None g c = λ before p w sound all.
     let fault = c.in_err-finish-in-None.field-0.0 in
     subst (HasServed S (record { peer = p; faults = w }) (record { peer = r; faults = u }))
     (sym (passed_on c.from_residual.result (serve_fault fault) c.from_residual.ensures.1))
-    (end_stopped S g.met.D.Decorator.is_lawful fault old new w v u p q r c.args.session.now.player refl
+    (end_stopped S fault old new w v u p q r c.args.session.now.player refl
     (subst (λ o. TakesEnd o C old v new u) c.in-None.is c.in-Ok.ensures.ended) c.requires.good sound c.requires.ended all
     c.in_err-finish-in-None.ensures.fault)
 
@@ -45,7 +45,7 @@ returns-in_ok-finish-in-None g c = λ before p w sound all.
     let new = c.end.new.self in
     let v = c.args.faults.now in
     let u = c.end.new.faults in
-    end_served (server_with old.on_bad g.D.Decorator.adds before C) g.met.D.Decorator.is_lawful old new w v u p
+    end_served (server_with old.on_bad g.D.Decorator.adds before C) old new w v u p
     (g.P.Peer.state c.args.peer.now) (g.P.Peer.state c.finish.new.peer) c.args.session.now.player refl
     (subst (λ o. TakesEnd o C old v new u) c.in-None.is c.in-Ok.ensures.ended) c.requires.good sound c.requires.ended all
     c.in_ok-finish-in-None.ensures.sent

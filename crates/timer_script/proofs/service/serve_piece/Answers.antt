@@ -25,7 +25,7 @@ returns-in_err-serve_events-clause-served g c = λ before p w all.
     subst (HasServedPiece S (record { peer = p; faults = w }) new c.serve_events.new.session.player (record { peer = r; faults = u })
     (length all.came))
     (sym (passed_on c.from_residual.result (serve_fault fault) c.from_residual.ensures.1))
-    (piece_stopped S g.met.D.Decorator.is_lawful fault old new c.in-Ok.bad w c.args.faults.now u p q r s c.args.piece.now refl
+    (piece_stopped S fault old new c.in-Ok.bad w c.args.faults.now u p q r s c.args.piece.now refl
     c.take_in.ensures.kept c.in-Ok.ensures.taken all
     (subst (λ es. StopsEvents A fault s es q r) c.deref.ensures.value c.in_err-serve_events.ensures.fault))
 
@@ -41,9 +41,9 @@ returns-in-Some-clause-served g c = λ before p w all.
     let t = c.serve_events.new.session.player in
     let q = g.P.Peer.state c.args.peer.now in
     let r = g.P.Peer.state c.serve_events.new.peer in
-    piece_bad (server_with old.on_bad A before C) g.met.D.Decorator.is_lawful old new c.in-Some.line w v u p q r s t c.args.piece.now refl
+    piece_bad (server_with old.on_bad A before C) old new c.in-Some.line w v u p q r s t c.args.piece.now refl
     (subst (λ o. TakesPiece o C c.args.piece.now old v new u) c.in-Some.is c.in-Ok.ensures.taken) all
-    (subst (λ es. HasServedEvents A s es t q r [] true) c.deref.ensures.value c.in_ok-serve_events.ensures.served)
+    (subst (λ es. HasServedEvents A s es t q r) c.deref.ensures.value c.in_ok-serve_events.ensures.served)
     c.in_ok-serve_events.ensures.good
 
 pub returns-in-None-clause-served : goal.returns-in-None-clause-served
@@ -58,9 +58,9 @@ returns-in-None-clause-served g c = λ before p w all.
     let t = c.serve_events.new.session.player in
     let q = g.P.Peer.state c.args.peer.now in
     let r = g.P.Peer.state c.serve_events.new.peer in
-    piece_served (server_with old.on_bad A before C) g.met.D.Decorator.is_lawful old new w v u p q r s t c.args.piece.now
+    piece_served (server_with old.on_bad A before C) old new w v u p q r s t c.args.piece.now
     (subst (λ o. TakesPiece o C c.args.piece.now old v new u) c.in-None.is c.in-Ok.ensures.taken) all
-    (subst (λ es. HasServedEvents A s es t q r [] true) c.deref.ensures.value c.in_ok-serve_events.ensures.served)
+    (subst (λ es. HasServedEvents A s es t q r) c.deref.ensures.value c.in_ok-serve_events.ensures.served)
 
 pub returns-in-None-clause-unread : goal.returns-in-None-clause-unread
 returns-in-None-clause-unread g c = c.in_ok-serve_events.ensures.served.written.remaining
