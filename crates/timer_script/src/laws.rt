@@ -25,6 +25,7 @@ pub fn limits()
 {}
 
 /// Bytes spell at most one list of events.
+#[tactic(auto, using(crate::proofs::ScriptLemmas::one_spelling))]
 pub fn one_spelling()
     ensures { (xs ys : List Event) (bytes : List ℕ) → IsScript xs bytes → IsScript ys bytes → xs ≡ ys }
 {}
@@ -47,6 +48,7 @@ pub fn each_wheel_gives_the_same_text()
 
 /// The calls of a peer, if they are known, are prompt, however serving ends: before each read every
 /// complete line that came, or every good one if bad ones are reported, was answered, and the answers flushed.
+#[tactic(auto, using(crate::proofs::ServiceLemmas::prompt))]
 pub fn served_calls_are_prompt<F: Write>()
     ensures { (on_bad : OnBadLine) (before : FacilityState) (old new : Sides F)
         (result : Result Bool ServeFault) (calls : List Moment)
