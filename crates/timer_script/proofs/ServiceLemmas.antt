@@ -2,6 +2,7 @@
 use Rattle.std.proofs.Common.{◌≡◌, zero, suc, ℕ, ◌+◌, ◌-◌, ◌^◌, ◌≤◌, Bool, true, List, [], ◌++◌, length, take, drop, inl, inr, refl, sym, ap, subst, ◌∙◌, arith, append_assoc, append-nil, length-append, take-append-drop}
 use Rattle.std.specs.Prelude.{Option, Result, Ok, Err, None, Some}
 use Rattle.std.specs.Io.KnownBytes.{IsAtEnd}
+use Rattle.std.specs.Result.{IsErrAnd}
 use Rattle.std.proofs.lemmas.List.{length-take-le, take-append-le, take-take}
 use Rattle.timer_facility.specs.declared.event.Event.{Event}
 use Rattle.timer_facility.specs.State.{FacilityState, IsSound}
@@ -20,6 +21,7 @@ use Rattle.timer_script.specs.Decorator.{Decoration}
 use Rattle.timer_script.specs.Cutter.{Passes, HasPassed, AreSoFar, HasSeen, HasSeenPart, HasEnded, HasStopped, IsStoppedAt, HasTakenIn, TakesPiece, TakesEnd}
 use Rattle.timer_script.specs.Peer.{PeerState, Moment, Gives}
 use Rattle.timer_script.specs.Service.{AreGood, HasSent, is_flushed, StopsEnd, last_line, HasAnswered, HasAnsweredPart, HasServedEvents, HasServedSome, StopsEvents, IsAnsweredWith, IsPrompt, HasTalked, Server, server_with, Sides, HasServedAll, HasServedPart, HasAnsweredAll, HasServed, HasUnseen, HasServedPiece}
+use Rattle.timer_script.proofs.Results.{passed_on}
 use Rattle.timer_script.proofs.CutterLemmas.{seen_part, seen_whole, piece_seen, ended_seen, passed_none, taken_none, taken_passed}
 use Rattle.timer_script.proofs.PeerLemmas.{known_prompt, talked_nothing, talked_wrote, talked_sent, came_after, failed_after}
 use Rattle.timer_script.proofs.ServicePieces.{answered_none, answered_whole, answered_join, part_join, sent_good}
@@ -170,18 +172,18 @@ unseen_seen {F} S old new stop w v u piece is same takes came events x =
     (piece_seen S.contents w v u old new stop x.seen piece events same takes x.taken))
 
 -- its events were not all answered
-pub piece_stopped : {F : Type 0} (S : Server F) (fault : TurnFault) (old new : Cutter) (stop : Option ℕ)
+stopped_piece : {F : Type 0} (S : Server F) (fault : TurnFault) (old new : Cutter) (stop : Option ℕ)
     (w v u : Watched F) (p q r : PeerState) (s : FacilityState) (piece : List ℕ)
     → old.on_bad ≡ S.on_bad → new.on_bad ≡ old.on_bad → TakesPiece stop S.contents piece old v new u
     → HasServedAll S (HasUnseen old S.contents w v piece) p q s → StopsEvents S.Adds fault s new.events.items q r
     → HasServed S (record { peer = p; faults = w }) (record { peer = r; faults = u }) (Err (serve_fault fault))
-piece_stopped {F} S turns.OutOfMemory old new stop w v u p q r s piece is same takes h stops = (
+stopped_piece {F} S turns.OutOfMemory old new stop w v u p q r s piece is same takes h stops = (
   all_some S (HasUnseen old S.contents w v piece) (HasSeenPart S.on_bad S.contents w u) p q r s new.events.items [] true
       (λ came events x. seen_whole S.contents w u S.on_bad came (events ++ new.events.items)
       (unseen_seen S old new stop w v u piece is same takes came events x)) h stops.0,
   stops.1,
 )
-piece_stopped {F} S turns.Write old new stop w v u p q r s piece is same takes h stops = (
+stopped_piece {F} S turns.Write old new stop w v u p q r s piece is same takes h stops = (
   inl (
     stops.0,
     stops.1,
@@ -191,6 +193,17 @@ piece_stopped {F} S turns.Write old new stop w v u p q r s piece is same takes h
   stops.3,
   stops.4,
 )
+
+pub piece_stopped : {F : Type 0} (S : Server F) (fault : TurnFault) (result : Result Unit ServeFault) (old new : Cutter)
+    (stop : Option ℕ) (w v u : Watched F) (p q r : PeerState) (s t : FacilityState) (piece : List ℕ) (events : List Event) (least : ℕ)
+    → IsErrAnd result (λ e. e ≡ serve_fault fault) → old.on_bad ≡ S.on_bad → new.on_bad ≡ old.on_bad
+    → TakesPiece stop S.contents piece old v new u → events ≡ new.events.items
+    → HasServedAll S (HasUnseen old S.contents w v piece) p q s → StopsEvents S.Adds fault s events q r
+    → HasServedPiece S (record { peer = p; faults = w }) new t (record { peer = r; faults = u }) least result
+piece_stopped {F} S fault result old new stop w v u p q r s t piece events least err is same takes all h stops =
+    subst (HasServedPiece S (record { peer = p; faults = w }) new t (record { peer = r; faults = u }) least)
+    (sym (passed_on result (serve_fault fault) err))
+    (stopped_piece S fault old new stop w v u p q r s piece is same takes h (subst (λ es. StopsEvents S.Adds fault s es q r) all stops))
 
 -- a bad line ends the stream
 bad_at : {F : Type 0} (S : Server F) (w v : Watched F) (p q : PeerState) (s : FacilityState) (n : ℕ)
@@ -205,26 +218,28 @@ bad_at {F} S w v p q s n h good = (
   good,
 )
 
-pub piece_bad : {F : Type 0} (S : Server F) (old new : Cutter) (n : ℕ)
-    (w v u : Watched F) (p q r : PeerState) (s t : FacilityState) (piece : List ℕ)
-    → old.on_bad ≡ S.on_bad → TakesPiece (Some n) S.contents piece old v new u
-    → HasServedAll S (HasUnseen old S.contents w v piece) p q s
-    → HasServedEvents S.Adds s new.events.items t q r → AreGood r
+pub piece_bad : {F : Type 0} (S : Server F) (old new : Cutter) (stop : Option ℕ) (n : ℕ)
+    (w v u : Watched F) (p q r : PeerState) (s t : FacilityState) (piece : List ℕ) (events : List Event)
+    → stop ≡ Some n → old.on_bad ≡ S.on_bad → TakesPiece stop S.contents piece old v new u → events ≡ new.events.items
+    → HasServedAll S (HasUnseen old S.contents w v piece) p q s → HasServedEvents S.Adds s events t q r → AreGood r
     → HasServed S (record { peer = p; faults = w }) (record { peer = r; faults = u }) (Err (faults.Bad n))
-piece_bad {F} S old new n w v u p q r s t piece is takes h g good =
+piece_bad {F} S old new stop n w v u p q r s t piece events bad is taken all h served good =
+    let takes = subst (λ o. TakesPiece o S.contents piece old v new u) bad taken in
+    let g = subst (λ es. HasServedEvents S.Adds s es t q r) all served in
     bad_at S w u p r t n
     (all_more S (HasUnseen old S.contents w v piece) (λ came events. HasStopped S.on_bad w u came events n) p q r s t new.events.items
     (λ came events x. subst (λ o. HasStopped o w u came (events ++ new.events.items) n) is
     (subst (λ z. HasStopped old.on_bad w u z (events ++ new.events.items) n) (sym x.parts) (takes w x.seen events x.taken))) h g) good
 
-pub piece_served : {F : Type 0} (S : Server F) (old new : Cutter)
-    (w v u : Watched F) (p q r : PeerState) (s t : FacilityState) (piece : List ℕ)
-    → TakesPiece None S.contents piece old v new u
-    → (h : HasServedAll S (HasUnseen old S.contents w v piece) p q s)
-    → HasServedEvents S.Adds s new.events.items t q r
+pub piece_served : {F : Type 0} (S : Server F) (old new : Cutter) (stop : Option ℕ)
+    (w v u : Watched F) (p q r : PeerState) (s t : FacilityState) (piece : List ℕ) (events : List Event)
+    → stop ≡ None → TakesPiece stop S.contents piece old v new u → events ≡ new.events.items
+    → (h : HasServedAll S (HasUnseen old S.contents w v piece) p q s) → HasServedEvents S.Adds s events t q r
     → (all : HasServedAll S (HasTakenIn new S.contents w u) p r t) × (length h.came ≤ length all.came)
 unfolding all_more
-piece_served {F} S old new w v u p q r s t piece takes h g = (
+piece_served {F} S old new stop w v u p q r s t piece events none taken all h served =
+    let takes = subst (λ o. TakesPiece o S.contents piece old v new u) none taken in
+    let g = subst (λ es. HasServedEvents S.Adds s es t q r) all served in (
   all_more S (HasUnseen old S.contents w v piece) (HasTakenIn new S.contents w u) p q r s t new.events.items
       (λ came events x. subst (λ z. HasTakenIn new S.contents w u z (events ++ new.events.items)) (sym x.parts)
       (takes w x.seen events x.taken)) h g,
@@ -347,33 +362,35 @@ end_lost {F} S cutter w v u p q s is same good h = (
 )
 
 -- it is bad, and ends the stream
-pub end_bad : {F : Type 0} (S : Server F) (old new : Cutter) (n : ℕ) (w v u : Watched F) (p q : PeerState) (s : FacilityState)
-    → old.on_bad ≡ S.on_bad → TakesEnd (Some n) S.contents old v new u → AreGood q
+pub end_bad : {F : Type 0} (S : Server F) (old new : Cutter) (stop : Option ℕ) (n : ℕ) (w v u : Watched F) (p q : PeerState)
+    (s : FacilityState) → stop ≡ Some n → old.on_bad ≡ S.on_bad → TakesEnd stop S.contents old v new u → AreGood q
     → HasServedAll S (HasTakenIn old S.contents w v) p q s
     → HasServed S (record { peer = p; faults = w }) (record { peer = q; faults = u }) (Err (faults.Bad n))
-end_bad {F} S old new n w v u p q s is takes good h =
+end_bad {F} S old new stop n w v u p q s bad is taken good h =
+    let takes = subst (λ o. TakesEnd o S.contents old v new u) bad taken in
     bad_at S w u p q s n
     (all_as S (HasTakenIn old S.contents w v) (λ came events. HasStopped S.on_bad w u came events n) p q s
     (λ came events x. subst (λ o. HasStopped o w u came events n) is (takes w came events x)) h) good
 
-ended_as : {F : Type 0} (S : Server F) (old new : Cutter) (w v u : Watched F) → old.on_bad ≡ S.on_bad
-    → TakesEnd None S.contents old v new u → (came : List ℕ) (events : List Event) → HasTakenIn old S.contents w v came events
+ended_as : {F : Type 0} (S : Server F) (old new : Cutter) (stop : Option ℕ) (w v u : Watched F) → stop ≡ None → old.on_bad ≡ S.on_bad
+    → TakesEnd stop S.contents old v new u → (came : List ℕ) (events : List Event) → HasTakenIn old S.contents w v came events
     → HasEnded S.on_bad new.clean S.contents w u came events
-ended_as {F} S old new w v u is takes came events x =
-    subst (λ o. HasEnded o new.clean S.contents w u came events) is (takes w came events x)
+ended_as {F} S old new stop w v u none is takes came events x =
+    subst (λ o. HasEnded o new.clean S.contents w u came events) is
+    (subst (λ o. TakesEnd o S.contents old v new u) none takes w came events x)
 
 -- the end line was not written, or not completely
-pub end_stopped : {F : Type 0} (S : Server F) (fault : TurnFault) (old new : Cutter) (w v u : Watched F)
-    (p q r : PeerState) (s : FacilityState) → old.on_bad ≡ S.on_bad → TakesEnd None S.contents old v new u → AreGood q
+stopped_end : {F : Type 0} (S : Server F) (fault : TurnFault) (old new : Cutter) (stop : Option ℕ) (w v u : Watched F) (p q r : PeerState)
+    (s : FacilityState) → stop ≡ None → old.on_bad ≡ S.on_bad → TakesEnd stop S.contents old v new u → AreGood q
     → IsSound S.before → IsAtEnd q.remaining → HasServedAll S (HasTakenIn old S.contents w v) p q s → StopsEnd fault s q r
     → HasServed S (record { peer = p; faults = w }) (record { peer = r; faults = u }) (Err (serve_fault fault))
-end_stopped {F} S turns.OutOfMemory old new w v u p q r s is takes good sound at_end h same =
+stopped_end {F} S turns.OutOfMemory old new stop w v u p q r s none is takes good sound at_end h same =
     subst (λ x. HasServed S (record { peer = p; faults = w }) (record { peer = x; faults = u }) (Err faults.OutOfMemory)) (sym same) (
       all_part S (HasTakenIn old S.contents w v) (HasSeenPart S.on_bad S.contents w u) p q s
-          (λ came events x. ended_seen S.contents w u S.on_bad new.clean came events (ended_as S old new w v u is takes came events x)) h,
+          (λ came events x. ended_seen S.contents w u S.on_bad new.clean came events (ended_as S old new stop w v u none is takes came events x)) h,
       good,
     )
-end_stopped {F} S turns.Write old new w v u p q r s is takes good sound at_end h part =
+stopped_end {F} S turns.Write old new stop w v u p q r s none is takes good sound at_end h part =
     let end : List ℕ = last_line s in
     let cut : h.sent ++ end ≡ (h.sent ++ take part.count end) ++ drop part.count end =
     ap (λ x. h.sent ++ x) (sym (take-append-drop part.count end)) ∙ sym (append_assoc h.sent (take part.count end) (drop part.count end)) in (
@@ -384,7 +401,7 @@ end_stopped {F} S turns.Write old new w v u p q r s is takes good sound at_end h
         drop part.count end,
         is_flushed true part.written.moments,
         new.clean,
-        ended_as S old new w v u is takes h.came h.events h.passed,
+        ended_as S old new stop w v u none is takes h.came h.events h.passed,
         subst (HasAnsweredAll S r h.events) cut
             (whole S (HasTakenIn old S.contents w v) p q r s h sound at_end part.written.remaining),
         talked_wrote (IsAnsweredWith S.on_bad S.Adds S.before) p q r h.came h.sent (take part.count end) true h.talked part.written,
@@ -393,16 +410,25 @@ end_stopped {F} S turns.Write old new w v u p q r s is takes good sound at_end h
       part.failed,
     )
 
+pub end_stopped : {F : Type 0} (S : Server F) (fault : TurnFault) (result : Result Bool ServeFault) (old new : Cutter) (stop : Option ℕ)
+    (w v u : Watched F) (p q r : PeerState) (s : FacilityState) → IsErrAnd result (λ e. e ≡ serve_fault fault) → stop ≡ None
+    → old.on_bad ≡ S.on_bad → TakesEnd stop S.contents old v new u → AreGood q → IsSound S.before → IsAtEnd q.remaining
+    → HasServedAll S (HasTakenIn old S.contents w v) p q s → StopsEnd fault s q r
+    → HasServed S (record { peer = p; faults = w }) (record { peer = r; faults = u }) result
+end_stopped {F} S fault result old new stop w v u p q r s err none is takes good sound at_end h stops =
+    subst (HasServed S (record { peer = p; faults = w }) (record { peer = r; faults = u })) (sym (passed_on result (serve_fault fault) err))
+    (stopped_end S fault old new stop w v u p q r s none is takes good sound at_end h stops)
+
 -- it was
-pub end_served : {F : Type 0} (S : Server F) (old new : Cutter) (w v u : Watched F)
-    (p q r : PeerState) (s : FacilityState) → old.on_bad ≡ S.on_bad → TakesEnd None S.contents old v new u → AreGood q
+pub end_served : {F : Type 0} (S : Server F) (old new : Cutter) (stop : Option ℕ) (w v u : Watched F) (p q r : PeerState)
+    (s : FacilityState) → stop ≡ None → old.on_bad ≡ S.on_bad → TakesEnd stop S.contents old v new u → AreGood q
     → IsSound S.before → IsAtEnd q.remaining → HasServedAll S (HasTakenIn old S.contents w v) p q s → HasSent q (last_line s) r
     → HasServed S (record { peer = p; faults = w }) (record { peer = r; faults = u }) (Ok new.clean)
-end_served {F} S old new w v u p q r s is takes good sound at_end h sent = (
+end_served {F} S old new stop w v u p q r s none is takes good sound at_end h sent = (
   h.came,
   h.events,
   h.sent ++ last_line s,
-  ended_as S old new w v u is takes h.came h.events h.passed,
+  ended_as S old new stop w v u none is takes h.came h.events h.passed,
   whole S (HasTakenIn old S.contents w v) p q r s h sound at_end sent.written.remaining,
   talked_sent (IsAnsweredWith S.on_bad S.Adds S.before) p q r h.came h.sent (last_line s) true h.talked sent,
   sent_good q r (last_line s) good.reading sent,
