@@ -240,11 +240,11 @@ unfolding all_more
 piece_served {F} S old new stop w v u p q r s t piece events none taken all h served =
     let takes = subst (λ o. TakesPiece o S.contents piece old v new u) none taken in
     let g = subst (λ es. HasServedEvents S.Adds s es t q r) all served in (
-  all_more S (HasUnseen old S.contents w v piece) (HasTakenIn new S.contents w u) p q r s t new.events.items
-      (λ came events x. subst (λ z. HasTakenIn new S.contents w u z (events ++ new.events.items)) (sym x.parts)
-      (takes w x.seen events x.taken)) h g,
-  (let l : length h.came ≤ length h.came = omega arith in l),
-)
+      all_more S (HasUnseen old S.contents w v piece) (HasTakenIn new S.contents w u) p q r s t new.events.items
+          (λ came events x. subst (λ z. HasTakenIn new S.contents w u z (events ++ new.events.items)) (sym x.parts)
+          (takes w x.seen events x.taken)) h g,
+      (let l : length h.came ≤ length h.came = omega arith in l),
+    )
 
 -- turns that each brought some bytes
 pub record HasServedOften {F : Type 0} (server : Server F) (cutter : Cutter) (writer writer' : Watched F) (peer peer' : PeerState)
