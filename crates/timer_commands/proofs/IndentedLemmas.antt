@@ -1,9 +1,9 @@
 -- Text that grows by indented lines.
-use Rattle.std.proofs.Common.{◌≡◌, ℕ, true, List, [], ◌∷◌, ◌++◌, decimal, refl, sym, ap, ◌∙◌, append_assoc, append-nil}
+use Rattle.std.proofs.Common.{◌≡◌, ℕ, true, List, [], ◌∷◌, ◌++◌, decimal, codes, refl, sym, ap, subst, ◌∙◌, append_assoc, append-nil}
 use Rattle.std.specs.Prelude.{Result, Ok, Err, OnOk}
 use Rattle.timer_script.specs.Splitter.{HasNoFeed}
 use Rattle.timer_script.proofs.SplitterLemmas.{no_feed-append, is_bare, bare, decimal_bare}
-use Rattle.timer_commands.specs.Indented.{AddsMarked, HasGrownByIndented, HasGrownByBare, HasGrownByEnd}
+use Rattle.timer_commands.specs.Indented.{AddsMarked, clock_line, HasGrownByPicture, HasGrownByIndented, HasGrownByBare, HasGrownByEnd}
 use Rattle.timer_commands.specs.IndentedLaws.{adds_nothing, adds_join}
 
 adds_line : (front : List ℕ) → HasNoFeed front → AddsMarked 32 [] (32 ∷ front ++ 10 ∷ [])
@@ -82,10 +82,26 @@ line_joined a b c f g =
 pub line_ended : (a b c : List ℕ) → HasGrownByFront a b → c ≡ b ++ 10 ∷ [] → HasGrownByIndented a c
 line_ended a b c f e = line_joined a b c f ([], e ∙ ap (λ t. t ++ 10 ∷ []) (sym (append-nil b)), tt)
 
-pub grown_ok : {E : Type 0} (result : Result Unit E) (a b c : List ℕ) → HasGrownByIndented a b → OnOk result (HasGrownByIndented b c)
-    → OnOk result (HasGrownByIndented a c)
-grown_ok {E} (Ok u) a b c f g = grown_join a b c f g
-grown_ok {E} (Err e) a b c f g = tt
+-- the line of the clock, and then indented lines
+pub pictured : {E : Type 0} (result : Result Unit E) (a x b c d : List ℕ) (n now : ℕ) → n ≡ now → x ≡ a ++ codes "  now " ++ decimal n
+    → b ≡ x ++ 10 ∷ [] → HasGrownByIndented b c → OnOk result (HasGrownByIndented c d) → OnOk result (HasGrownByPicture now a d)
+pictured {E} (Err e) a x b c d n now is number line f g = tt
+pictured {E} (Ok u) a x b c d n now is number line f g =
+    let front : List ℕ = codes " now " ++ decimal n in
+    let clock : List ℕ = clock_line n in
+    let begin : b ≡ a ++ clock = line ∙ ap (λ t. t ++ 10 ∷ []) (number ∙ append_assoc a (codes "  now ") (decimal n))
+    ∙ append_assoc a (32 ∷ front) (10 ∷ []) in
+    subst (λ k. HasGrownByPicture k a d) is (
+      clock ++ (f.0 ++ g.0),
+      g.1 ∙ ap (λ t. t ++ g.0) (f.1 ∙ ap (λ t. t ++ f.0) begin) ∙ append_assoc (a ++ clock) f.0 g.0 ∙ append_assoc a clock (f.0 ++ g.0),
+      (
+        f.0 ++ g.0,
+        refl,
+        adds_join 32 [] [] clock (f.0 ++ g.0)
+            (adds_line front (no_feed-append (codes " now ") (decimal n) (bare (codes " now ") refl) (decimal_bare n)))
+            (adds_join 32 [] [] f.0 g.0 f.2 g.2),
+      ),
+    )
 
 pub end_ok : {E : Type 0} (result : Result Unit E) (a b c : List ℕ) → HasGrownByBare a b → OnOk result (HasGrownByEnd b c)
     → OnOk result (HasGrownByEnd a c)

@@ -1,3 +1,3 @@
 pub mod IndentedLemmas
-mod WakeupLemmas
+mod MarkedLemmas
 mod VerbLemmas

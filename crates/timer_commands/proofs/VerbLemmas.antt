@@ -11,28 +11,26 @@ use Rattle.timer_script.specs.declared.cutter.OnBadLine.TheVariants.{Stop}
 use Rattle.timer_script.specs.declared.streams.Streams.{Streams}
 use Rattle.timer_script.specs.declared.watched.Watched.{Watched}
 use Rattle.timer_script.specs.Watched.{inner_of, has_failed}
-use Rattle.timer_script.specs.Decorator.{Decoration, IsLawful, AddsNothing, nothing_is_lawful}
+use Rattle.timer_script.specs.Decorator.{Decoration, AddsNothing}
 use Rattle.timer_script.specs.Streams.{streams_state}
 use Rattle.timer_script.specs.Service.{server_with}
 use Rattle.timer_script.proofs.ServiceLemmas.{served_nothing}
 use Rattle.timer_commands.specs.declared.verbs.Verb.{Verb}
 use Rattle.timer_commands.specs.declared.verbs.Verb.TheVariants as verbs
 use Rattle.timer_commands.specs.Indented.{AddsIndented}
-use Rattle.timer_commands.specs.IndentedLaws.{indented_is_lawful}
 use Rattle.timer_commands.specs.Wakeups.{AddsWakeups}
-use Rattle.timer_commands.specs.WakeupLaws.{wakeups_are_lawful}
 use Rattle.timer_commands.specs.Subcommands.{Bytes, Channels, HasServedStreams, serving_status, HasAnswered, HasDone}
 
-unserved : {R S F : Type 0} (on_bad : OnBadLine) (A : Decoration) (d : IsLawful A) (before : FacilityState) (bytes : Bytes R S F)
+unserved : {R S F : Type 0} (on_bad : OnBadLine) (A : Decoration) (before : FacilityState) (bytes : Bytes R S F)
     (streams : Streams R S) (faults faults' : Watched F) → has_failed streams.reader ≡ false → has_failed streams.writer ≡ false
     → HasAnswered on_bad A before bytes (record { streams = streams; faults = faults }) (record { streams = streams; faults = faults' }) 1
-unserved on_bad A d before bytes streams faults faults' reading writing = record {
+unserved on_bad A before bytes streams faults faults' reading writing = record {
   in_range = omega arith;
   good = λ e. absurd cc;
   bad = λ e. inr (
     serves.OutOfMemory,
     faults,
-    served_nothing (server_with on_bad A before bytes.reports) d
+    served_nothing (server_with on_bad A before bytes.reports)
         (streams_state bytes.remaining bytes.contents streams.reader streams.writer) faults
         (record { reading = reading; writing = writing }),
   );
@@ -47,11 +45,11 @@ undone bytes streams faults faults' reading writing verbs.Play before = record {
   bad = λ e. (runs.OutOfMemory, (([], Consumes-nil (bytes.remaining (inner_of streams.reader)), omega arith), reading, refl));
 }
 undone bytes streams faults faults' reading writing (verbs.Serve on_bad true) before =
-    unserved on_bad AddsWakeups wakeups_are_lawful before bytes streams faults faults' reading writing
+    unserved on_bad AddsWakeups before bytes streams faults faults' reading writing
 undone bytes streams faults faults' reading writing (verbs.Serve on_bad false) before =
-    unserved on_bad AddsNothing nothing_is_lawful before bytes streams faults faults' reading writing
+    unserved on_bad AddsNothing before bytes streams faults faults' reading writing
 undone bytes streams faults faults' reading writing (verbs.Show counts moves) before =
-    unserved Stop AddsIndented indented_is_lawful before bytes streams faults faults' reading writing
+    unserved Stop AddsIndented before bytes streams faults faults' reading writing
 
 -- serving ended, and then its failure may have been reported
 pub ended_serving : {R S F : Type 0} (on_bad : OnBadLine) (A : Decoration) (before : FacilityState) (bytes : Bytes R S F)

@@ -1,5 +1,5 @@
 -- Text with lines added between its own: lines that begin with a byte with which none of its own does.
-use Rattle.std.specs.Prelude.{◌≡◌, ℕ, ◌==◌, Bool, true, not, List, [], ◌∷◌, ◌++◌}
+use Rattle.std.specs.Prelude.{◌≡◌, ℕ, ◌==◌, Bool, true, not, List, [], ◌∷◌, ◌++◌, codes, decimal}
 use Rattle.std.specs.List.{filter, concat, AllByRecursion}
 use Rattle.timer_script.specs.Splitter.{HasNoFeed}
 use Rattle.timer_script.specs.Decorator.{Decoration}
@@ -22,9 +22,21 @@ pub record AddsMarked (mark : ℕ) (answer text : List ℕ) : Type 0 where
   pub text_is : text ≡ concat lines
   pub answer_is : answer ≡ concat (filter (is_unmarked mark) lines)
 
--- the answer is the lines that are not indented, whatever was played
+-- the line of the clock
+abbrev pub clock_line : ℕ → List ℕ
+clock_line now = codes "  now " ++ decimal now ++ codes "\n"
+
+-- indented lines, the first of which has the tick
+abbrev pub IsPicture : ℕ → List ℕ → Type 0
+IsPicture now text = (more : List ℕ) × (text ≡ clock_line now ++ more) × AddsMarked 32 [] text
+
+-- after the answer to each line comes a picture; and there may be indented lines within it
 abbrev pub AddsIndented : Decoration
-AddsIndented before events after answer text = AddsMarked 32 answer text
+AddsIndented = record { Within = AddsMarked 32; After = λ s added. IsPicture s.now added }
+
+-- the text grew by a picture
+abbrev pub HasGrownByPicture : ℕ → List ℕ → List ℕ → Type 0
+HasGrownByPicture now old new = (added : List ℕ) × (new ≡ old ++ added) × IsPicture now added
 
 -- the text grew by indented lines
 abbrev pub HasGrownByIndented : List ℕ → List ℕ → Type 0

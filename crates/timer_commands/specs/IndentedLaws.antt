@@ -1,6 +1,5 @@
--- The laws of text to which marked lines are added. They are in specs/ since the
--- decorators of `show` and `serve` cite them.
-use Rattle.std.proofs.Common.{◌≡◌, ℕ, true, cond, List, [], ◌∷◌, ◌++◌, length, decimal, codes, refl, sym, ap, ◌∙◌, append-nil}
+-- The laws of text to which marked lines are added. They are in specs/ since the decorator of `show` cites them.
+use Rattle.std.proofs.Common.{◌≡◌, ℕ, true, cond, List, [], ◌∷◌, ◌++◌, decimal, codes, refl, sym, ap, ◌∙◌, append-nil}
 use Rattle.std.specs.List.{filter, concat}
 use Rattle.std.proofs.lemmas.List.Elements.{filter-append}
 use Rattle.std.proofs.lemmas.List.Folds.{concat-append}
@@ -132,9 +131,4 @@ adds_outs mark u (o ∷ outs) = adds_join mark (out_line o) (lines_of outs) (out
 
 pub indented_is_lawful : IsLawful AddsIndented
 indented_is_lawful =
-    let unused : IsUnused 32 = record { s = refl; r = refl; e = refl; c = refl; t = refl } in
-    record {
-      joins = λ s t u events more. adds_join 32;
-      lines = λ s t events outs run. adds_outs 32 unused outs;
-      end = λ s. adds_end 32 unused s.now (length s.pending);
-    }
+    record { kept = adds_outs 32 (record { s = refl; r = refl; e = refl; c = refl; t = refl }); joined = adds_join 32 }

@@ -4,5 +4,4 @@ pub mod Clients
 pub mod Indented
 pub mod IndentedLaws
 pub mod Wakeups
-pub mod WakeupLaws
 pub mod Subcommands

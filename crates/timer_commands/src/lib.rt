@@ -4,6 +4,7 @@
 //! `options` and `threads_options` have the options and their ranges. `schemes` makes the wheel that they
 //! name, and `verbs` has what is done over it: `play`, `serve` and `show`. The other subcommands are in
 //! `cmd_check` and `cmd_threads`; `error_report` reports an error, and `render` draws where the timers are.
+//! `laws` has what is known of the lines that `serve` and `show` add.
 //!
 //! A module's definitions are in the file of its name in `specs/`; those of the subcommands are in
 //! `specs/Subcommands.antt`, and of clients in threads in `specs/Clients.antt`.
@@ -12,6 +13,7 @@
 mod cmd_check;
 mod cmd_threads;
 mod error_report;
+pub mod laws;
 mod options;
 mod render;
 mod schemes;

@@ -16,7 +16,7 @@
 //!     clock     moved at 900 from minute 15 to second 30: 1
 ghost use Rattle.std.specs.Prelude.{◌≡◌, ◌<◌, ◌++◌, length, decimal, OnOk};
 ghost use Rattle.timer_script.specs.Decorator.{HasGrown};
-ghost use Rattle.timer_commands.specs.Indented.{HasGrownByIndented, HasGrownByBare, HasGrownByEnd};
+ghost use Rattle.timer_commands.specs.Indented.{HasGrownByIndented, HasGrownByPicture, HasGrownByBare, HasGrownByEnd};
 ghost use Rattle.timer_commands.specs.Wakeups.{wakeup_line};
 
 use itoa::Buffer;
@@ -275,7 +275,7 @@ pub fn push_shown<W: Wheel + Placement>(
     wheel: &W,
     counts: bool,
 ) -> Result<(), OutOfMemory>
-    ensures indented { OnOk result (HasGrownByIndented text.old.items text.new.items) }
+    ensures picture { OnOk result (HasGrownByPicture (W.state wheel.now).now text.old.items text.new.items) }
     ensures kept { HasGrown text.old.items text.new.items }
 {
     push_number(text, b"  now ", wheel.now())?;

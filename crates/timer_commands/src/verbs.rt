@@ -78,9 +78,8 @@ struct Wakeups;
 
 impl<W: Wheel + Drop> Decorator<W> for Wakeups {
     ghost use Rattle.std.specs.Prelude.{◌≡◌, ◌++◌, OnOk};
-    ghost use Rattle.timer_script.specs.Decorator.{HasGrown, HasGrownBy};
-    ghost use Rattle.timer_commands.specs.Wakeups.{AddsWakeups, wakeup_line};
-    ghost use Rattle.timer_commands.specs.WakeupLaws.{wakeups_are_lawful};
+    ghost use Rattle.timer_script.specs.Decorator.{HasGrown, HasGrownAfter, after_is_lawful};
+    ghost use Rattle.timer_commands.specs.Wakeups.{AddsWakeups, IsWakeup, wakeup_line};
 
     ghost adds = { AddsWakeups };
 
@@ -90,7 +89,7 @@ impl<W: Wheel + Drop> Decorator<W> for Wakeups {
     }
 
     fn decorate(&self, text: &mut Vec<u8>, facility: &Facility<W>) -> Result<(), OutOfMemory>
-        ensures added { OnOk result (HasGrownBy AddsWakeups facility.now.state text.old.items text.new.items) }
+        ensures added { OnOk result (HasGrownAfter AddsWakeups facility.now.state text.old.items text.new.items) }
         ensures kept { HasGrown text.old.items text.new.items }
         // The tick is after the present one, and at most the first pending deadline.
         ensures wakeup { OnOk result (text.new.items ≡ text.old.items
@@ -99,7 +98,7 @@ impl<W: Wheel + Drop> Decorator<W> for Wakeups {
         push_wakeup(text, facility.quiet_until())
     }
 
-    ghost is_lawful = { wakeups_are_lawful };
+    ghost is_lawful = { after_is_lawful IsWakeup };
 }
 
 /// Does it, and returns the exit status.

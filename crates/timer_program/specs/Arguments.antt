@@ -1,11 +1,18 @@
--- Which subcommand the arguments name, and whether they ask for help or the version.
-use Rattle.std.specs.Prelude.{◌≡◌, ◌⊎◌, ℕ, true, nat_eq, List, [], ◌∷◌, codes}
+-- Which subcommand the arguments name, with which options, and whether they ask for help or the version.
+use Rattle.std.specs.Prelude.{◌≡◌, ◌⊎◌, ℕ, Bool, true, false, nat_eq, List, [], ◌∷◌, Option, None, Some, codes}
 use Rattle.std.specs.List.{starts_with}
+use Rattle.std.specs.Str.Parse.{digits_value, without_leading_plus}
+use Rattle.clap.specs.Words.{first_value, one_text}
+use Rattle.clap.specs.declared.parser.matches.Found.{Found}
 use Rattle.clap.specs.declared.error.kind.ErrorKind.{ErrorKind}
 use Rattle.clap.specs.declared.error.kind.ErrorKind.TheVariants as kinds
 use Rattle.timer_program.specs.declared.arguments.Subcommand.{Subcommand}
 use Rattle.timer_program.specs.declared.arguments.Subcommand.TheVariants.{Run, Threads, Check}
+use Rattle.timer_script.specs.declared.cutter.OnBadLine.{OnBadLine}
+use Rattle.timer_script.specs.declared.cutter.OnBadLine.TheVariants.{Stop, Report}
+use Rattle.timer_commands.specs.declared.options.RunOptions.{RunOptions}
 use Rattle.timer_commands.specs.declared.verbs.Verb.TheVariants.{Play, Serve, Show}
+use Rattle.timer_commands.specs.Options.{name_of}
 
 -- the name of a subcommand, as it is typed
 abbrev pub subcommand_name : Subcommand → List ℕ
@@ -35,3 +42,40 @@ abbrev pub AsksForText : List ℕ → Type 0
 AsksForText argument =
     (argument ≡ codes "help") ⊎ ((argument ≡ codes "--help")
     ⊎ ((argument ≡ codes "--version") ⊎ IsShortOfText argument))
+
+-- ---- the options, by what clap found of them
+
+-- this is the number of an option
+abbrev pub IsNumberOf : Found → List ℕ → ℕ → Type 0
+IsNumberOf found option n =
+    (text : List ℕ) × (one_text found option ≡ Some text) × (n ≡ digits_value 10 (without_leading_plus text))
+
+-- whether an option without a value was given
+abbrev pub IsGiven : Found → List ℕ → Bool → Type 0
+IsGiven found option given = (one_text found option ≡ None → given ≡ false)
+    × (one_text found option ≡ Some (codes "true") → given ≡ true)
+    × (one_text found option ≡ Some (codes "false") → given ≡ false)
+
+-- bad lines are reported
+abbrev pub reports : OnBadLine → Bool
+reports Stop = false
+reports Report = true
+
+-- the options of `play`, `serve` and `show`
+pub record AreRunOptions (found : Found) (options : RunOptions) : Type 0 where
+  pub scheme : first_value found (codes "scheme") ≡ Some (name_of options.scheme)
+  pub slots : IsNumberOf found (codes "slots") options.slots
+  pub clients : IsNumberOf found (codes "clients") options.clients
+  pub capacity : IsNumberOf found (codes "capacity") options.capacity
+  pub first_tick : IsNumberOf found (codes "first-tick") options.first_tick
+
+-- each option of the subcommand is the one that was found under its name
+abbrev pub HasOptions : Found → Subcommand → Type 0
+HasOptions found (Run Play options) = AreRunOptions found options
+HasOptions found (Run (Serve on_bad wakeups) options) = AreRunOptions found options
+    × IsGiven found (codes "keep-going") (reports on_bad) × IsGiven found (codes "wakeups") wakeups
+HasOptions found (Run (Show counts moves) options) = AreRunOptions found options
+    × IsGiven found (codes "counts") counts × IsGiven found (codes "moves") moves
+HasOptions found (Threads options) = IsNumberOf found (codes "clients") options.clients
+    × IsNumberOf found (codes "timers") options.timers
+HasOptions found Check = Unit {0}

@@ -10,10 +10,10 @@
 //!     timers --version              its name and version
 //!
 //! `clap` reads the arguments, writes the help, and says why arguments are refused.
-ghost use Rattle.std.specs.Prelude.{◌≡◌, IfSome, IfOk, IfErr, IsTrue, Any};
-ghost use Rattle.clap.specs.Values.{kind_of};
+ghost use Rattle.std.specs.Prelude.{◌≡◌, IfSome, IfOk, IfErr, IsTrue, Any, codes};
+ghost use Rattle.clap.specs.Words.{kind_of, found_of};
 ghost use Rattle.timer_commands.specs.Options.{name_of};
-ghost use Rattle.timer_program.specs.Arguments.{first_or_play, subcommand_name, IsShown, IsShortOfText, AsksForText};
+ghost use Rattle.timer_program.specs.Arguments.{first_or_play, subcommand_name, IsShown, IsShortOfText, AsksForText, IsNumberOf, IsGiven, reports, AreRunOptions, HasOptions};
 
 use crate::help::{
     ABOUT, CHECK_ABOUT, CHECK_USAGE, CHECKS, NAME, PLACEMENTS, PLAY_ABOUT, PLAY_USAGE, SCHEMES,
@@ -229,19 +229,32 @@ fn scheme_of(name: &str) -> Option<Scheme>
     }
 }
 
+/// The number of an option, if it has one.
+#[tactic(auto, using(crate::proofs::OptionLemmas::number_read))]
+fn number_of(options: &ArgMatches, name: &str) -> Option<u64>
+    ensures { IfSome result (λ n. IsNumberOf (found_of options.now) name.now n) }
+{
+    options.get_one::<u64>(name)
+}
+
 /// The options of `play`, `serve` or `show`, if each has a value.
-fn run_options(options: &ArgMatches) -> Option<RunOptions> {
+fn run_options(options: &ArgMatches) -> Option<RunOptions>
+    ensures { IfSome result (λ run. AreRunOptions (found_of options.now) run) }
+{
+    let scheme = scheme_of(options.get_str("scheme")?)?;
     Some(RunOptions {
-        scheme: scheme_of(options.get_str("scheme")?)?,
-        slots: options.get_one::<u64>("slots")?,
-        clients: options.get_one::<u64>("clients")?,
-        capacity: options.get_one::<u64>("capacity")?,
-        first_tick: options.get_one::<u64>("first-tick")?,
+        scheme,
+        slots: number_of(options, "slots")?,
+        clients: number_of(options, "clients")?,
+        capacity: number_of(options, "capacity")?,
+        first_tick: number_of(options, "first-tick")?,
     })
 }
 
 /// What `serve` does at a bad line.
-fn on_bad_of(options: &ArgMatches) -> OnBadLine {
+fn on_bad_of(options: &ArgMatches) -> OnBadLine
+    ensures { IsGiven (found_of options.now) (codes "keep-going") (reports result) }
+{
     if options.get_flag("keep-going") {
         OnBadLine::Report
     } else {
@@ -250,16 +263,19 @@ fn on_bad_of(options: &ArgMatches) -> OnBadLine {
 }
 
 /// The options of `threads`, if each has a value.
-fn threads_options(options: &ArgMatches) -> Option<ThreadsOptions> {
+fn threads_options(options: &ArgMatches) -> Option<ThreadsOptions>
+    ensures { IfSome result (λ threads. HasOptions (found_of options.now) (Subcommand.Threads threads)) }
+{
     Some(ThreadsOptions {
-        clients: options.get_one::<u64>("clients")?,
-        timers: options.get_one::<u64>("timers")?,
+        clients: number_of(options, "clients")?,
+        timers: number_of(options, "timers")?,
     })
 }
 
 /// The subcommand of this name, if each of its options has a value.
 fn subcommand_of(name: &str, options: &ArgMatches) -> Option<Subcommand>
-    ensures { IfSome result (λ subcommand. name.now ≡ subcommand_name subcommand) }
+    ensures name { IfSome result (λ subcommand. name.now ≡ subcommand_name subcommand) }
+    ensures options { IfSome result (λ subcommand. HasOptions (found_of options.now) subcommand) }
 {
     match name {
         "play" => Some(Subcommand::Run(Verb::Play, run_options(options)?)),

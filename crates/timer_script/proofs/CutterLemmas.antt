@@ -293,7 +293,7 @@ some_last n [] = ([], refl)
 some_last n (b ∷ left) =
     let seen : List ℕ = take MAX_LINE (b ∷ left) in
     let fault : LineFault = record { column = length seen + 1; field = None; reason = NoLineEnd } in
-    ((n, fault) ∷ [], (fault, record { some = omega arith; within = omega arith; reason = omega arith }, refl))
+    ((n, fault) ∷ [], (fault, record { some = omega arith; within = omega arith; reason = omega arith; field = refl }, refl))
 
 pub taken_passed : {F : Type 0} (contents : F → Option (List ℕ)) (w v : Watched F) (cutter : Cutter) (o : OnBadLine)
     → cutter.on_bad ≡ o → (came : List ℕ) (events : List Event) → HasTakenIn cutter contents w v came events

@@ -1,12 +1,15 @@
 -- Bytes are the line of an event exactly if the reader reads all of them.
-use Rattle.std.proofs.Common.{◌≡◌, ◌==◌, false, ℕ, List, [], ◌++◌, length, Some, None, sym, ap, ◌∙◌, append-nil, eq-eqb}
+use Rattle.std.proofs.Common.{◌≡◌, ◌⊎◌, ◌==◌, ◌+◌, ◌-◌, ◌≤◌, false, zero, suc, ℕ, List, [], ◌++◌, length, drop, get_or-drop, Some, None, refl, sym, ap, subst, ◌∙◌, arith, append-nil, eq-eqb}
+use Rattle.std.specs.Prelude.{slice_index}
+use Rattle.std.proofs.lemmas.List.{length-drop}
 use Rattle.std.proofs.lemmas.Bool.{both_ways}
 use Rattle.std.proofs.lemmas.Option.{none-some}
 use Rattle.std.proofs.NetLemmas.Options.{same_parts}
 use Rattle.timer_facility.specs.declared.event.Event.{Event}
 use Rattle.timer_script.specs.Script.{IsInRange, line}
 use Rattle.timer_script.specs.Lines.{line_at}
-use Rattle.timer_script.specs.Diagnosis.{IsLine}
+use Rattle.timer_script.specs.declared.line_fault.Field.{Field}
+use Rattle.timer_script.specs.Diagnosis.{IsLine, IsDigit, IsAt, AreBefore, IsDigitAt, IsAfterZero, LeavesRange, IsEndOf, IsInNumber}
 use Rattle.timer_script.proofs.Results.{emptied}
 use Rattle.timer_script.proofs.LineLemmas.{line_again, line_sound}
 
@@ -30,3 +33,55 @@ rest_no_line bytes rest event read more (other, fits, is) =
 
 -- whether bytes are a line
 pub ruleset whole_lines = (line_whole, rest_no_line, unread_no_line, emptied)
+
+-- ---- the digits of a number
+
+pub after_zero : (bytes : List ℕ) (at len : ℕ) → IsInNumber bytes at len → len ≡ 1 → slice_index bytes (at - 1) ≡ 48 → IsAfterZero bytes at
+after_zero bytes at len number one nought =
+    let i = number.some in
+    ((omega (arith, one), nought), (omega (arith, one), ap (λ n. slice_index bytes (at - n - 1)) (sym one) ∙ number.space))
+
+pub leaves_range : (bytes : List ℕ) (at len : ℕ) → IsInNumber bytes at len → IsDigitAt bytes at
+    → (len ≡ 1 → slice_index bytes (at - 1) ≡ 48 → ⊥) → LeavesRange bytes at
+leaves_range bytes at len number digit other =
+    (digit, (at - len - 1, (let i = number.some in omega arith), number.space), λ z. no_zero len number other z)
+  where
+    no_zero : (n : ℕ) → IsInNumber bytes at n → (n ≡ 1 → slice_index bytes (at - 1) ≡ 48 → ⊥) → IsAfterZero bytes at → ⊥
+    no_zero zero number other z =
+        let here : slice_index bytes (at - 1) ≡ 32 = ap (slice_index bytes) (let e : at - 1 ≡ at - 0 - 1 = omega arith in e) ∙ number.space in
+        let there = z.0.1 in omega arith
+    no_zero (suc zero) number other z = other refl z.0.1
+    no_zero (suc (suc k)) number other z =
+        let i = number.some in
+        let same : at - suc (suc k) + k ≡ at - 1 - 1 = omega arith in
+        let digit : IsDigit (slice_index bytes (at - 1 - 1)) = subst (λ j. IsDigit (slice_index bytes j)) same (number.digits k (omega arith)) in
+        let low = digit.0 in
+        let space = z.1.1 in omega arith
+
+-- so many digits after a space
+pub in_number : (bytes rest : List ℕ) (at len : ℕ) → rest ≡ drop (at + 1) bytes → IsAt 32 bytes at → len ≤ length rest
+    → AreBefore IsDigit rest len → (len ≡ 0) ⊎ IsDigitAt bytes (at + 1 + len) → IsInNumber bytes (at + 1 + len) len
+in_number bytes rest at len is space within are stuck = record {
+  within = omega (arith, space.0, within, ap length is, length-drop (at + 1) bytes);
+  some = omega arith;
+  space = ap (slice_index bytes) (let e : at + 1 + len - len - 1 ≡ at = omega arith in e) ∙ space.1;
+  digits = λ i less. subst IsDigit
+      (ap (λ z. slice_index z i) is ∙ get_or-drop (at + 1) bytes i 0
+      ∙ ap (slice_index bytes) (let e : at + 1 + i ≡ at + 1 + len - len + i = omega arith in e)) (are i less);
+  stuck = stuck;
+}
+
+-- and no more
+pub end_of_number : (bytes rest : List ℕ) (at len : ℕ) (field : Field) → rest ≡ drop (at + 1) bytes → IsAt 32 bytes at → len ≤ length rest
+    → AreBefore IsDigit rest len → (len ≡ 0 → ⊥) → ¬ (IsDigitAt bytes (at + 1 + len)) → IsEndOf (Some field) bytes (at + 1 + len)
+end_of_number bytes rest at zero field is space within are some last = absurd (some refl)
+end_of_number bytes rest at (suc k) field is space within are some last = record {
+  some = omega arith;
+  within = omega (arith, space.0, within, ap length is, length-drop (at + 1) bytes);
+  no_space = λ e.
+      let same : slice_index rest k ≡ 32 = ap (λ z. slice_index z k) is ∙ get_or-drop (at + 1) bytes k 0
+      ∙ ap (slice_index bytes) (let e : at + 1 + k ≡ at + 1 + suc k - 1 = omega arith in e) ∙ e in
+      let digit = are k (omega arith) in
+      let low = digit.0 in omega arith;
+  behind = ((at, omega arith, space.1), last);
+}

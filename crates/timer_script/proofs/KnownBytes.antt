@@ -5,9 +5,8 @@ use Rattle.std.specs.Io.KnownBytes.{Consumes, Appends}
 use Rattle.std.proofs.KnownBytes.{Consumes-kept, Consumes-trans, Appends-trans}
 use Rattle.std.proofs.Math.Seq.{take-add}
 use Rattle.timer_script.specs.declared.input.TheConstants.{MAX_BYTES}
-use Rattle.timer_script.specs.declared.fault.PieceFault.{PieceFault}
-use Rattle.timer_script.specs.declared.fault.PieceFault.TheVariants as pieces
-use Rattle.timer_script.specs.Fault.{read_fault}
+use Rattle.timer_script.specs.declared.fault.ReadFault.{ReadFault}
+use Rattle.timer_script.specs.declared.fault.ReadFault.TheVariants as reads
 use Rattle.timer_script.specs.Input.{HasRead, FailsToRead, StopsReading}
 
 pub reads_more : (a b c : Option (List ℕ)) (failed : Bool) (old new : List ℕ) (n : ℕ) → Consumes a b old → HasRead b c failed old new n
@@ -21,9 +20,10 @@ sends_more a b c text i n before h =
     subst (Appends a c) (ap (λ t. take i text ++ take n t) (take_rest text i) ∙ sym (take-add i n text)) both
 
 -- a read that failed after these bytes stops the reading
-pub stops_reading : (fault : PieceFault) (a b c : Option (List ℕ)) (failed : Bool) (old : List ℕ) (room : ℕ) → Consumes a b old
+pub stops_reading : (fault : ReadFault) (a b c : Option (List ℕ)) (failed : Bool) (old : List ℕ) (room : ℕ) → Consumes a b old
     → length old ≤ MAX_BYTES → length old + room ≤ MAX_BYTES + 1
-    → FailsToRead fault room b c failed → StopsReading (read_fault fault) a c failed
-stops_reading pieces.Read a b c failed old room got short fits h = ((old, Consumes-kept a b c old got h.0, short), h.1)
-stops_reading pieces.OutOfMemory a b c failed old room got short fits h =
+    → FailsToRead fault room b c failed → StopsReading fault a c failed
+stops_reading reads.Read a b c failed old room got short fits h = ((old, Consumes-kept a b c old got h.0, short), h.1)
+stops_reading reads.TooLong a b c failed old room got short fits h = absurd h
+stops_reading reads.OutOfMemory a b c failed old room got short fits h =
     ((old ++ h.0.0, Consumes-trans a b c old h.0.0 got h.0.1, omega (arith, h.0.2, length-append old h.0.0)), h.1)

@@ -40,13 +40,16 @@ front (x ∷ xs) (y ∷ ys) rest other fx fy bad e =
     let h = front xs ys rest other fx.1 fy.1 bad others in
     omega arith
 
-pub one_spelling_is : (xs ys : List Event) → AllByRecursion IsInRange xs → AllByRecursion IsInRange ys → spelling xs ≡ spelling ys → xs ≡ ys
+one_spelling_is : (xs ys : List Event) → AllByRecursion IsInRange xs → AllByRecursion IsInRange ys → spelling xs ≡ spelling ys → xs ≡ ys
 one_spelling_is [] [] fx fy e = refl
 one_spelling_is [] (y ∷ ys) fx fy e = let h = line_some y (spelling ys) in absurd (omega (arith, ap length e))
 one_spelling_is (x ∷ xs) [] fx fy e = let h = line_some x (spelling xs) in absurd (omega (arith, ap length e))
 one_spelling_is (x ∷ xs) (y ∷ ys) fx fy e =
     let (first, others) = one_line x y (spelling xs) (spelling ys) fx.0 fy.0 e in
     rw (first, one_spelling_is xs ys fx.1 fy.1 others) refl
+
+pub one_spelling : (xs ys : List Event) (bytes : List ℕ) → IsScript xs bytes → IsScript ys bytes → xs ≡ ys
+one_spelling xs ys bytes a b = one_spelling_is xs ys a.in_range b.in_range (sym a.lines ∙ b.lines)
 
 -- the empty rest is no line
 end_is_no_line : BeginsNoLine []

@@ -2,10 +2,11 @@
 use Rattle.std.proofs.Common.{◌≡◌, zero, suc, ℕ, ◌+◌, ◌-◌, ◌^◌, ◌≤◌, Bool, true, List, [], ◌++◌, length, take, drop, inl, inr, refl, sym, ap, subst, ◌∙◌, arith, append_assoc, append-nil, length-append, take-append-drop}
 use Rattle.std.specs.Prelude.{Option, Result, Ok, Err, None, Some}
 use Rattle.std.specs.Io.KnownBytes.{IsAtEnd}
+use Rattle.std.specs.Result.{IsErrAnd}
 use Rattle.std.proofs.lemmas.List.{length-take-le, take-append-le, take-take}
 use Rattle.timer_facility.specs.declared.event.Event.{Event}
 use Rattle.timer_facility.specs.State.{FacilityState, IsSound}
-use Rattle.timer_facility.proofs.PlayedLemmas.{IsRun-none, IsPlayed-run}
+use Rattle.timer_facility.proofs.PlayedLemmas.{IsPlayed-run}
 use Rattle.timer_script.specs.declared.fault.TurnFault.{TurnFault}
 use Rattle.timer_script.specs.declared.fault.TurnFault.TheVariants as turns
 use Rattle.timer_script.specs.declared.fault.ServeFault.{ServeFault}
@@ -16,13 +17,14 @@ use Rattle.timer_script.specs.declared.cutter.Cutter.{Cutter}
 use Rattle.timer_script.specs.declared.watched.Watched.{Watched}
 use Rattle.timer_script.specs.Fault.{serve_fault}
 use Rattle.timer_script.specs.Text.{lines_of}
-use Rattle.timer_script.specs.Decorator.{Decoration, IsLawful}
+use Rattle.timer_script.specs.Decorator.{Decoration}
 use Rattle.timer_script.specs.Cutter.{Passes, HasPassed, AreSoFar, HasSeen, HasSeenPart, HasEnded, HasStopped, IsStoppedAt, HasTakenIn, TakesPiece, TakesEnd}
 use Rattle.timer_script.specs.Peer.{PeerState, Moment, Gives}
-use Rattle.timer_script.specs.Service.{AreGood, HasSent, is_flushed, StopsEnd, last_line, HasAnswered, HasServedEvents, HasServedSome, StopsEvents, IsAnsweredWith, IsPrompt, HasTalked, Server, server_with, Sides, HasServedAll, HasServedPart, HasAnsweredAll, HasServed, HasUnseen, HasServedPiece}
+use Rattle.timer_script.specs.Service.{AreGood, HasSent, is_flushed, StopsEnd, last_line, HasAnswered, HasAnsweredPart, HasServedEvents, HasServedSome, StopsEvents, IsAnsweredWith, IsPrompt, HasTalked, Server, server_with, Sides, HasServedAll, HasServedPart, HasAnsweredAll, HasServed, HasUnseen, HasServedPiece}
+use Rattle.timer_script.proofs.Results.{passed_on}
 use Rattle.timer_script.proofs.CutterLemmas.{seen_part, seen_whole, piece_seen, ended_seen, passed_none, taken_none, taken_passed}
 use Rattle.timer_script.proofs.PeerLemmas.{known_prompt, talked_nothing, talked_wrote, talked_sent, came_after, failed_after}
-use Rattle.timer_script.proofs.ServicePieces.{answered, answered_whole, answered_join, sent_good}
+use Rattle.timer_script.proofs.ServicePieces.{answered_none, answered_whole, answered_join, part_join, sent_good}
 
 -- ---- a server and its peer
 
@@ -30,15 +32,15 @@ use Rattle.timer_script.proofs.ServicePieces.{answered, answered_whole, answered
 abbrev pub Passage : Type 1
 Passage = List ℕ → List Event → Type 0
 
-pub all_none : {F : Type 0} (S : Server F) (d : IsLawful S.Adds) (P : Passage) (p : PeerState) → P [] []
+pub all_none : {F : Type 0} (S : Server F) (P : Passage) (p : PeerState) → P [] []
     → HasServedAll S P p p S.before
-all_none {F} S d P p none = record {
+all_none {F} S P p none = record {
   came = [];
   events = [];
   sent = [];
   passed = none;
   talked = talked_nothing (IsAnsweredWith S.on_bad S.Adds S.before) p;
-  answered = answered S.Adds d S.before S.before [] [] [] refl (record { outs = []; runs = IsRun-none S.before; lines = refl });
+  answered = answered_none S.Adds S.before;
 }
 
 -- seen in another way
@@ -106,51 +108,45 @@ all_failed {E} {F} S cutter w v p q r s e piece is h gives = record {
 }
 
 -- what was written for the events that pass of what came since
-all_more : {F : Type 0} (S : Server F) (d : IsLawful S.Adds) (P Q : Passage) (p q r : PeerState) (s t : FacilityState)
+all_more : {F : Type 0} (S : Server F) (P Q : Passage) (p q r : PeerState) (s t : FacilityState)
     (events : List Event)
     → ((came : List ℕ) (before : List Event) → P came before → Q came (before ++ events))
-    → HasServedAll S P p q s → HasServedEvents S.Adds s events t q r [] true → HasServedAll S Q p r t
-all_more {F} S d P Q p q r s t events f h g = record {
+    → HasServedAll S P p q s → HasServedEvents S.Adds s events t q r → HasServedAll S Q p r t
+all_more {F} S P Q p q r s t events f h g = record {
   came = h.came;
   events = h.events ++ events;
   sent = h.sent ++ g.sent;
   passed = f h.came h.events h.passed;
   talked = subst (HasTalked S p r h.came (h.sent ++ g.sent)) g.flush
       (talked_wrote (IsAnsweredWith S.on_bad S.Adds S.before) p q r h.came h.sent g.sent true h.talked g.written);
-  answered = answered_join S.Adds d S.before s t h.events events h.sent g.sent h.answered
-      (subst (HasAnswered S.Adds s events t) (append-nil g.sent) g.answered);
+  answered = answered_join S.Adds S.before s t h.events events h.sent g.sent h.answered
+      g.answered;
 }
 
-all_some : {F : Type 0} (S : Server F) (d : IsLawful S.Adds) (P Q : Passage) (p q r : PeerState) (s : FacilityState)
+all_some : {F : Type 0} (S : Server F) (P Q : Passage) (p q r : PeerState) (s : FacilityState)
     (events : List Event) (unsent : List ℕ) (flushed : Bool)
     → ((came : List ℕ) (before : List Event) → P came before → Q came (before ++ events))
     → HasServedAll S P p q s → HasServedSome S.Adds s events q r unsent flushed → HasServedPart S Q p r unsent flushed
-all_some {F} S d P Q p q r s events unsent flushed f h g = record {
+all_some {F} S P Q p q r s events unsent flushed f h g = record {
   came = h.came;
   events = h.events ++ events;
-  sent = h.sent ++ g.served.sent;
+  sent = h.sent ++ g.sent;
   passed = f h.came h.events h.passed;
-  talked = subst (HasTalked S p r h.came (h.sent ++ g.served.sent)) g.served.flush
-      (talked_wrote (IsAnsweredWith S.on_bad S.Adds S.before) p q r h.came h.sent g.served.sent true h.talked g.served.written);
-  answered = record {
-    played = h.events ++ g.played;
-    unplayed = g.unplayed;
-    parts = ap (λ z. h.events ++ z) g.parts ∙ sym (append_assoc h.events g.played g.unplayed);
-    after = g.after;
-    answered = subst (HasAnswered S.Adds S.before (h.events ++ g.played) g.after) (sym (append_assoc h.sent g.served.sent unsent))
-        (answered_join S.Adds d S.before s g.after h.events g.played h.sent (g.served.sent ++ unsent) h.answered g.served.answered);
-  };
+  talked = subst (HasTalked S p r h.came (h.sent ++ g.sent)) g.flush
+      (talked_wrote (IsAnsweredWith S.on_bad S.Adds S.before) p q r h.came h.sent g.sent true h.talked g.written);
+  answered = subst (HasAnsweredPart S.Adds S.before (h.events ++ events)) (sym (append_assoc h.sent g.sent unsent))
+      (part_join S.Adds S.before s h.events events h.sent (g.sent ++ unsent) h.answered g.answered);
 }
 
 -- ---- one turn
 
 -- out of memory before anything was read
-pub served_nothing : {F : Type 0} (S : Server F) (d : IsLawful S.Adds) (p : PeerState) (w : Watched F) → AreGood p
+pub served_nothing : {F : Type 0} (S : Server F) (p : PeerState) (w : Watched F) → AreGood p
     → HasServed S (record { peer = p; faults = w }) (record { peer = p; faults = w }) (Err faults.OutOfMemory)
-served_nothing {F} S d p w good = (
+served_nothing {F} S p w good = (
   all_part S (HasPassed S.on_bad AreSoFar S.contents w w) (HasSeenPart S.on_bad S.contents w w) p p S.before
       (λ came events h. seen_part S.contents w w S.on_bad came came [] events (sym (append-nil came)) h)
-      (all_none S d (HasPassed S.on_bad AreSoFar S.contents w w) p (passed_none S.on_bad S.contents w)),
+      (all_none S (HasPassed S.on_bad AreSoFar S.contents w w) p (passed_none S.on_bad S.contents w)),
   good,
 )
 
@@ -176,27 +172,38 @@ unseen_seen {F} S old new stop w v u piece is same takes came events x =
     (piece_seen S.contents w v u old new stop x.seen piece events same takes x.taken))
 
 -- its events were not all answered
-pub piece_stopped : {F : Type 0} (S : Server F) (d : IsLawful S.Adds) (fault : TurnFault) (old new : Cutter) (stop : Option ℕ)
+stopped_piece : {F : Type 0} (S : Server F) (fault : TurnFault) (old new : Cutter) (stop : Option ℕ)
     (w v u : Watched F) (p q r : PeerState) (s : FacilityState) (piece : List ℕ)
     → old.on_bad ≡ S.on_bad → new.on_bad ≡ old.on_bad → TakesPiece stop S.contents piece old v new u
     → HasServedAll S (HasUnseen old S.contents w v piece) p q s → StopsEvents S.Adds fault s new.events.items q r
     → HasServed S (record { peer = p; faults = w }) (record { peer = r; faults = u }) (Err (serve_fault fault))
-piece_stopped {F} S d turns.OutOfMemory old new stop w v u p q r s piece is same takes h stops = (
-  all_some S d (HasUnseen old S.contents w v piece) (HasSeenPart S.on_bad S.contents w u) p q r s new.events.items [] true
+stopped_piece {F} S turns.OutOfMemory old new stop w v u p q r s piece is same takes h stops = (
+  all_some S (HasUnseen old S.contents w v piece) (HasSeenPart S.on_bad S.contents w u) p q r s new.events.items [] true
       (λ came events x. seen_whole S.contents w u S.on_bad came (events ++ new.events.items)
       (unseen_seen S old new stop w v u piece is same takes came events x)) h stops.0,
   stops.1,
 )
-piece_stopped {F} S d turns.Write old new stop w v u p q r s piece is same takes h stops = (
+stopped_piece {F} S turns.Write old new stop w v u p q r s piece is same takes h stops = (
   inl (
     stops.0,
     stops.1,
-    all_some S d (HasUnseen old S.contents w v piece) (HasSeen S.on_bad S.contents w u) p q r s new.events.items stops.0 stops.1
+    all_some S (HasUnseen old S.contents w v piece) (HasSeen S.on_bad S.contents w u) p q r s new.events.items stops.0 stops.1
         (unseen_seen S old new stop w v u piece is same takes) h stops.2,
   ),
   stops.3,
   stops.4,
 )
+
+pub piece_stopped : {F : Type 0} (S : Server F) (fault : TurnFault) (result : Result Unit ServeFault) (old new : Cutter)
+    (stop : Option ℕ) (w v u : Watched F) (p q r : PeerState) (s t : FacilityState) (piece : List ℕ) (events : List Event) (least : ℕ)
+    → IsErrAnd result (λ e. e ≡ serve_fault fault) → old.on_bad ≡ S.on_bad → new.on_bad ≡ old.on_bad
+    → TakesPiece stop S.contents piece old v new u → events ≡ new.events.items
+    → HasServedAll S (HasUnseen old S.contents w v piece) p q s → StopsEvents S.Adds fault s events q r
+    → HasServedPiece S (record { peer = p; faults = w }) new t (record { peer = r; faults = u }) least result
+piece_stopped {F} S fault result old new stop w v u p q r s t piece events least err is same takes all h stops =
+    subst (HasServedPiece S (record { peer = p; faults = w }) new t (record { peer = r; faults = u }) least)
+    (sym (passed_on result (serve_fault fault) err))
+    (stopped_piece S fault old new stop w v u p q r s piece is same takes h (subst (λ es. StopsEvents S.Adds fault s es q r) all stops))
 
 -- a bad line ends the stream
 bad_at : {F : Type 0} (S : Server F) (w v : Watched F) (p q : PeerState) (s : FacilityState) (n : ℕ)
@@ -211,31 +218,33 @@ bad_at {F} S w v p q s n h good = (
   good,
 )
 
-pub piece_bad : {F : Type 0} (S : Server F) (d : IsLawful S.Adds) (old new : Cutter) (n : ℕ)
-    (w v u : Watched F) (p q r : PeerState) (s t : FacilityState) (piece : List ℕ)
-    → old.on_bad ≡ S.on_bad → TakesPiece (Some n) S.contents piece old v new u
-    → HasServedAll S (HasUnseen old S.contents w v piece) p q s
-    → HasServedEvents S.Adds s new.events.items t q r [] true → AreGood r
+pub piece_bad : {F : Type 0} (S : Server F) (old new : Cutter) (stop : Option ℕ) (n : ℕ)
+    (w v u : Watched F) (p q r : PeerState) (s t : FacilityState) (piece : List ℕ) (events : List Event)
+    → stop ≡ Some n → old.on_bad ≡ S.on_bad → TakesPiece stop S.contents piece old v new u → events ≡ new.events.items
+    → HasServedAll S (HasUnseen old S.contents w v piece) p q s → HasServedEvents S.Adds s events t q r → AreGood r
     → HasServed S (record { peer = p; faults = w }) (record { peer = r; faults = u }) (Err (faults.Bad n))
-piece_bad {F} S d old new n w v u p q r s t piece is takes h g good =
+piece_bad {F} S old new stop n w v u p q r s t piece events bad is taken all h served good =
+    let takes = subst (λ o. TakesPiece o S.contents piece old v new u) bad taken in
+    let g = subst (λ es. HasServedEvents S.Adds s es t q r) all served in
     bad_at S w u p r t n
-    (all_more S d (HasUnseen old S.contents w v piece) (λ came events. HasStopped S.on_bad w u came events n) p q r s t new.events.items
+    (all_more S (HasUnseen old S.contents w v piece) (λ came events. HasStopped S.on_bad w u came events n) p q r s t new.events.items
     (λ came events x. subst (λ o. HasStopped o w u came (events ++ new.events.items) n) is
     (subst (λ z. HasStopped old.on_bad w u z (events ++ new.events.items) n) (sym x.parts) (takes w x.seen events x.taken))) h g) good
 
-pub piece_served : {F : Type 0} (S : Server F) (d : IsLawful S.Adds) (old new : Cutter)
-    (w v u : Watched F) (p q r : PeerState) (s t : FacilityState) (piece : List ℕ)
-    → TakesPiece None S.contents piece old v new u
-    → (h : HasServedAll S (HasUnseen old S.contents w v piece) p q s)
-    → HasServedEvents S.Adds s new.events.items t q r [] true
+pub piece_served : {F : Type 0} (S : Server F) (old new : Cutter) (stop : Option ℕ)
+    (w v u : Watched F) (p q r : PeerState) (s t : FacilityState) (piece : List ℕ) (events : List Event)
+    → stop ≡ None → TakesPiece stop S.contents piece old v new u → events ≡ new.events.items
+    → (h : HasServedAll S (HasUnseen old S.contents w v piece) p q s) → HasServedEvents S.Adds s events t q r
     → (all : HasServedAll S (HasTakenIn new S.contents w u) p r t) × (length h.came ≤ length all.came)
 unfolding all_more
-piece_served {F} S d old new w v u p q r s t piece takes h g = (
-  all_more S d (HasUnseen old S.contents w v piece) (HasTakenIn new S.contents w u) p q r s t new.events.items
-      (λ came events x. subst (λ z. HasTakenIn new S.contents w u z (events ++ new.events.items)) (sym x.parts)
-      (takes w x.seen events x.taken)) h g,
-  (let l : length h.came ≤ length h.came = omega arith in l),
-)
+piece_served {F} S old new stop w v u p q r s t piece events none taken all h served =
+    let takes = subst (λ o. TakesPiece o S.contents piece old v new u) none taken in
+    let g = subst (λ es. HasServedEvents S.Adds s es t q r) all served in (
+      all_more S (HasUnseen old S.contents w v piece) (HasTakenIn new S.contents w u) p q r s t new.events.items
+          (λ came events x. subst (λ z. HasTakenIn new S.contents w u z (events ++ new.events.items)) (sym x.parts)
+          (takes w x.seen events x.taken)) h g,
+      (let l : length h.came ≤ length h.came = omega arith in l),
+    )
 
 -- turns that each brought some bytes
 pub record HasServedOften {F : Type 0} (server : Server F) (cutter : Cutter) (writer writer' : Watched F) (peer peer' : PeerState)
@@ -243,11 +252,11 @@ pub record HasServedOften {F : Type 0} (server : Server F) (cutter : Cutter) (wr
   pub all : HasServedAll server (HasTakenIn cutter server.contents writer writer') peer peer' state
   pub many : turns ≤ length all.came
 
-pub often_none : {F : Type 0} (S : Server F) (d : IsLawful S.Adds) (p : PeerState) (w : Watched F) (cutter : Cutter) (s : FacilityState)
+pub often_none : {F : Type 0} (S : Server F) (p : PeerState) (w : Watched F) (cutter : Cutter) (s : FacilityState)
     → cutter.held.items ≡ [] → cutter.number ≡ 1 → cutter.clean ≡ true → s ≡ S.before
     → HasServedOften S cutter w w p p s 0
-often_none {F} S d p w cutter s none first clean is = subst (λ x. HasServedOften S cutter w w p p x 0) (sym is) (record {
-  all = all_none S d (HasTakenIn cutter S.contents w w) p (taken_none S.contents w cutter none first clean);
+often_none {F} S p w cutter s none first clean is = subst (λ x. HasServedOften S cutter w w p p x 0) (sym is) (record {
+  all = all_none S (HasTakenIn cutter S.contents w w) p (taken_none S.contents w cutter none first clean);
   many = omega arith;
 })
 
@@ -320,10 +329,10 @@ front_of n len new rest now a b e = ap (take n) e ∙ take-take n len (new ++ re
 -- ---- how serving ends
 
 -- what was sent and the end line are the whole answer, with what is added
-whole : {F : Type 0} (S : Server F) (d : IsLawful S.Adds) (P : Passage) (p q r : PeerState) (s : FacilityState)
+whole : {F : Type 0} (S : Server F) (P : Passage) (p q r : PeerState) (s : FacilityState)
     → (h : HasServedAll S P p q s) → IsSound S.before → IsAtEnd q.remaining → r.remaining ≡ q.remaining
     → HasAnsweredAll S r h.events (h.sent ++ last_line s)
-whole {F} S d P p q r s h sound at_end same =
+whole {F} S P p q r s h sound at_end same =
     let a = h.answered in
     let end : List ℕ = last_line s in
     record {
@@ -335,8 +344,9 @@ whole {F} S d P p q r s h sound at_end same =
         played = IsPlayed-run S.before h.events a.outs s sound a.runs;
         lines = refl;
       };
-      added = subst (λ z. S.Adds S.before z s (lines_of a.outs ++ end) (h.sent ++ end)) (append-nil h.events)
-          (d.joins S.before s s h.events [] (lines_of a.outs) end h.sent end a.added (d.end s));
+      decorated = h.sent;
+      added = a.added;
+      text_is = refl;
     }
 
 -- a line that has not ended was not reported
@@ -352,33 +362,35 @@ end_lost {F} S cutter w v u p q s is same good h = (
 )
 
 -- it is bad, and ends the stream
-pub end_bad : {F : Type 0} (S : Server F) (old new : Cutter) (n : ℕ) (w v u : Watched F) (p q : PeerState) (s : FacilityState)
-    → old.on_bad ≡ S.on_bad → TakesEnd (Some n) S.contents old v new u → AreGood q
+pub end_bad : {F : Type 0} (S : Server F) (old new : Cutter) (stop : Option ℕ) (n : ℕ) (w v u : Watched F) (p q : PeerState)
+    (s : FacilityState) → stop ≡ Some n → old.on_bad ≡ S.on_bad → TakesEnd stop S.contents old v new u → AreGood q
     → HasServedAll S (HasTakenIn old S.contents w v) p q s
     → HasServed S (record { peer = p; faults = w }) (record { peer = q; faults = u }) (Err (faults.Bad n))
-end_bad {F} S old new n w v u p q s is takes good h =
+end_bad {F} S old new stop n w v u p q s bad is taken good h =
+    let takes = subst (λ o. TakesEnd o S.contents old v new u) bad taken in
     bad_at S w u p q s n
     (all_as S (HasTakenIn old S.contents w v) (λ came events. HasStopped S.on_bad w u came events n) p q s
     (λ came events x. subst (λ o. HasStopped o w u came events n) is (takes w came events x)) h) good
 
-ended_as : {F : Type 0} (S : Server F) (old new : Cutter) (w v u : Watched F) → old.on_bad ≡ S.on_bad
-    → TakesEnd None S.contents old v new u → (came : List ℕ) (events : List Event) → HasTakenIn old S.contents w v came events
+ended_as : {F : Type 0} (S : Server F) (old new : Cutter) (stop : Option ℕ) (w v u : Watched F) → stop ≡ None → old.on_bad ≡ S.on_bad
+    → TakesEnd stop S.contents old v new u → (came : List ℕ) (events : List Event) → HasTakenIn old S.contents w v came events
     → HasEnded S.on_bad new.clean S.contents w u came events
-ended_as {F} S old new w v u is takes came events x =
-    subst (λ o. HasEnded o new.clean S.contents w u came events) is (takes w came events x)
+ended_as {F} S old new stop w v u none is takes came events x =
+    subst (λ o. HasEnded o new.clean S.contents w u came events) is
+    (subst (λ o. TakesEnd o S.contents old v new u) none takes w came events x)
 
 -- the end line was not written, or not completely
-pub end_stopped : {F : Type 0} (S : Server F) (d : IsLawful S.Adds) (fault : TurnFault) (old new : Cutter) (w v u : Watched F)
-    (p q r : PeerState) (s : FacilityState) → old.on_bad ≡ S.on_bad → TakesEnd None S.contents old v new u → AreGood q
+stopped_end : {F : Type 0} (S : Server F) (fault : TurnFault) (old new : Cutter) (stop : Option ℕ) (w v u : Watched F) (p q r : PeerState)
+    (s : FacilityState) → stop ≡ None → old.on_bad ≡ S.on_bad → TakesEnd stop S.contents old v new u → AreGood q
     → IsSound S.before → IsAtEnd q.remaining → HasServedAll S (HasTakenIn old S.contents w v) p q s → StopsEnd fault s q r
     → HasServed S (record { peer = p; faults = w }) (record { peer = r; faults = u }) (Err (serve_fault fault))
-end_stopped {F} S d turns.OutOfMemory old new w v u p q r s is takes good sound at_end h same =
+stopped_end {F} S turns.OutOfMemory old new stop w v u p q r s none is takes good sound at_end h same =
     subst (λ x. HasServed S (record { peer = p; faults = w }) (record { peer = x; faults = u }) (Err faults.OutOfMemory)) (sym same) (
       all_part S (HasTakenIn old S.contents w v) (HasSeenPart S.on_bad S.contents w u) p q s
-          (λ came events x. ended_seen S.contents w u S.on_bad new.clean came events (ended_as S old new w v u is takes came events x)) h,
+          (λ came events x. ended_seen S.contents w u S.on_bad new.clean came events (ended_as S old new stop w v u none is takes came events x)) h,
       good,
     )
-end_stopped {F} S d turns.Write old new w v u p q r s is takes good sound at_end h part =
+stopped_end {F} S turns.Write old new stop w v u p q r s none is takes good sound at_end h part =
     let end : List ℕ = last_line s in
     let cut : h.sent ++ end ≡ (h.sent ++ take part.count end) ++ drop part.count end =
     ap (λ x. h.sent ++ x) (sym (take-append-drop part.count end)) ∙ sym (append_assoc h.sent (take part.count end) (drop part.count end)) in (
@@ -389,26 +401,35 @@ end_stopped {F} S d turns.Write old new w v u p q r s is takes good sound at_end
         drop part.count end,
         is_flushed true part.written.moments,
         new.clean,
-        ended_as S old new w v u is takes h.came h.events h.passed,
+        ended_as S old new stop w v u none is takes h.came h.events h.passed,
         subst (HasAnsweredAll S r h.events) cut
-            (whole S d (HasTakenIn old S.contents w v) p q r s h sound at_end part.written.remaining),
+            (whole S (HasTakenIn old S.contents w v) p q r s h sound at_end part.written.remaining),
         talked_wrote (IsAnsweredWith S.on_bad S.Adds S.before) p q r h.came h.sent (take part.count end) true h.talked part.written,
       ),
       part.written.reading ∙ good.reading,
       part.failed,
     )
 
+pub end_stopped : {F : Type 0} (S : Server F) (fault : TurnFault) (result : Result Bool ServeFault) (old new : Cutter) (stop : Option ℕ)
+    (w v u : Watched F) (p q r : PeerState) (s : FacilityState) → IsErrAnd result (λ e. e ≡ serve_fault fault) → stop ≡ None
+    → old.on_bad ≡ S.on_bad → TakesEnd stop S.contents old v new u → AreGood q → IsSound S.before → IsAtEnd q.remaining
+    → HasServedAll S (HasTakenIn old S.contents w v) p q s → StopsEnd fault s q r
+    → HasServed S (record { peer = p; faults = w }) (record { peer = r; faults = u }) result
+end_stopped {F} S fault result old new stop w v u p q r s err none is takes good sound at_end h stops =
+    subst (HasServed S (record { peer = p; faults = w }) (record { peer = r; faults = u })) (sym (passed_on result (serve_fault fault) err))
+    (stopped_end S fault old new stop w v u p q r s none is takes good sound at_end h stops)
+
 -- it was
-pub end_served : {F : Type 0} (S : Server F) (d : IsLawful S.Adds) (old new : Cutter) (w v u : Watched F)
-    (p q r : PeerState) (s : FacilityState) → old.on_bad ≡ S.on_bad → TakesEnd None S.contents old v new u → AreGood q
+pub end_served : {F : Type 0} (S : Server F) (old new : Cutter) (stop : Option ℕ) (w v u : Watched F) (p q r : PeerState)
+    (s : FacilityState) → stop ≡ None → old.on_bad ≡ S.on_bad → TakesEnd stop S.contents old v new u → AreGood q
     → IsSound S.before → IsAtEnd q.remaining → HasServedAll S (HasTakenIn old S.contents w v) p q s → HasSent q (last_line s) r
     → HasServed S (record { peer = p; faults = w }) (record { peer = r; faults = u }) (Ok new.clean)
-end_served {F} S d old new w v u p q r s is takes good sound at_end h sent = (
+end_served {F} S old new stop w v u p q r s none is takes good sound at_end h sent = (
   h.came,
   h.events,
   h.sent ++ last_line s,
-  ended_as S old new w v u is takes h.came h.events h.passed,
-  whole S d (HasTakenIn old S.contents w v) p q r s h sound at_end sent.written.remaining,
+  ended_as S old new stop w v u none is takes h.came h.events h.passed,
+  whole S (HasTakenIn old S.contents w v) p q r s h sound at_end sent.written.remaining,
   talked_sent (IsAnsweredWith S.on_bad S.Adds S.before) p q r h.came h.sent (last_line s) true h.talked sent,
   sent_good q r (last_line s) good.reading sent,
 )

@@ -2,6 +2,7 @@
 use Rattle.std.proofs.Common.{◌≡◌, ◌<◌, ◌≤◌, ◌+◌, ◌-◌, ℕ, zero, suc, List, [], ◌∷◌, ◌++◌, refl, sym, ◌∙◌, ap, subst, arith, append-nil, append_assoc, inl, inr, ◌⊎◌}
 use Rattle.std.specs.Prelude.{replicate, map, min, Option, Some, None, Result, Ok, Err, OnOk, OnErr}
 use Rattle.std.proofs.lemmas.List.{map-append}
+use Rattle.std.proofs.lemmas.Grind.{flat_map-append}
 use Rattle.timer_base.specs.declared.fault.OutOfMemory.{OutOfMemory}
 use Rattle.timer_facility.specs.declared.request.TickFault.{TickFault}
 use Rattle.timer_facility.specs.declared.event.Event.{Event}
@@ -13,13 +14,11 @@ use Rattle.timer_facility.specs.Step.{step, step_of_tick}
 use Rattle.timer_facility.specs.Run.{PlacedEvent, state_after}
 use Rattle.timer_facility.specs.Played.{ticks_left, singles_of, ArePlaced, IsRun}
 use Rattle.timer_facility.proofs.PlayedTicks.{ticks_left-refused, ticks_left-accepted}
-use Rattle.timer_facility.proofs.PlayedLemmas.{IsRun-none}
-use Rattle.timer_script.specs.Text.{lines_of}
-use Rattle.timer_script.specs.ScriptRun.{AddsLines}
-use Rattle.timer_script.specs.Decorator.{Decoration, IsLawful, JoinsTicks, HasGrownBy}
-use Rattle.timer_script.specs.Service.{HasAnswered, HasAnsweredPart}
-use Rattle.timer_script.specs.Steps.{HasGrownByAnswer}
-use Rattle.timer_script.proofs.ServicePieces.{answered, decorated, answered_join}
+use Rattle.timer_facility.proofs.PlayedLemmas.{IsRun-none, IsRun-join}
+use Rattle.timer_script.specs.Text.{out_line, lines_of}
+use Rattle.timer_script.specs.ScriptRun.{AddsLines, AddsFirstLines}
+use Rattle.timer_script.specs.Decorator.{Decoration, IsLawful, HasGrownWithin, HasAnsweredWithin}
+use Rattle.timer_script.specs.Steps.{HasGrownByAnswer, HasPlayedText}
 
 -- ---- how many ticks are left
 
@@ -104,22 +103,21 @@ ticks_join s t a b outs i h run = record {
   after_is = run.after_is;
 }
 
-answers_join : (A : Decoration) (d : IsLawful A) (j : JoinsTicks A) (s m t : FacilityState) (a b : ℕ) (x y : List ℕ) → s.now ≤ s.last
-    → a ≤ ticks_left s → HasAnswered A s (Ticks a ∷ []) m x → HasAnswered A m (Ticks b ∷ []) t y
-    → HasAnswered A s (Ticks (a + b) ∷ []) t (x ++ y)
-answers_join A d j s m t a b x y i h f g =
-    let both = answered_join A d s m t (Ticks a ∷ []) (Ticks b ∷ []) x y f g in
-    record {
-      outs = both.outs;
-      runs = ticks_join s t a b both.outs i h both.runs;
-      added = j s t a b (lines_of both.outs) (x ++ y) both.added;
-    }
+answers_join : (A : Decoration) (d : IsLawful A) (s m t : FacilityState) (a b : ℕ) (x y : List ℕ) → s.now ≤ s.last
+    → a ≤ ticks_left s → HasAnsweredWithin A s (Ticks a ∷ []) m x → HasAnsweredWithin A m (Ticks b ∷ []) t y
+    → HasAnsweredWithin A s (Ticks (a + b) ∷ []) t (x ++ y)
+answers_join A d s m t a b x y i h f g = record {
+  outs = f.outs ++ g.outs;
+  runs = ticks_join s t a b (f.outs ++ g.outs) i h (IsRun-join s m t (Ticks a ∷ []) (Ticks b ∷ []) f.outs g.outs f.runs g.runs);
+  within = subst (λ z. A.Within z (x ++ y)) (sym (flat_map-append out_line f.outs g.outs))
+      (d.joined (lines_of f.outs) (lines_of g.outs) x y f.within g.within);
+}
 
 -- ---- one step after another
 
 -- so many ticks of a line were played in steps, and so many are left; a refused tick was in the last step
 pub record HasPlayedSteps (A : Decoration) (s : FacilityState) (done left : ℕ) (m : FacilityState) (text : List ℕ) : Type 0 where
-  pub answered : HasAnswered A s (Ticks done ∷ []) m text
+  pub answered : HasAnsweredWithin A s (Ticks done ∷ []) m text
   pub rest : (left ≡ 0) ⊎ (done + ticks_left m ≡ ticks_left s)
 
 pub steps_none : (A : Decoration) (d : IsLawful A) (s : FacilityState) (count : ℕ) (text : List ℕ) → text ≡ []
@@ -137,7 +135,7 @@ steps_none A d s count text none =
       answered = record {
         outs = [];
         runs = run;
-        added = subst (λ z. A s (Ticks 0 ∷ []) s [] z) (sym none) (d.lines s s (Ticks 0 ∷ []) [] run);
+        within = subst (λ z. A.Within [] z) (sym none) (d.kept []);
       };
       rest = inr (omega arith);
     })
@@ -152,43 +150,64 @@ open_rest : (P : Type 0) (left : ℕ) → 0 < left → (left ≡ 0) ⊎ P → P
 open_rest P left some (inl none) = absurd (omega arith)
 open_rest P left some (inr rest) = rest
 
-pub steps_more : (A : Decoration) (d : IsLawful A) (j : JoinsTicks A) (s m t : FacilityState) (count left n : ℕ) (x y : List ℕ)
+pub steps_more : (A : Decoration) (d : IsLawful A) (s m t : FacilityState) (count left n : ℕ) (x y : List ℕ)
     → s.now ≤ s.last → m.now ≤ m.last → left ≤ count → 0 < left → n ≤ left → (n ≡ left) ⊎ (n ≤ ticks_left m)
     → HasPlayedSteps A s (count - left) left m x → HasGrownByAnswer A m (Ticks n ∷ []) t x y
     → HasPlayedSteps A s (count - (left - n)) (left - n) t y
-steps_more A d j s m t count left n x y i k all some within few f g =
+steps_more A d s m t count left n x y i k all some within few f g =
     let done : ℕ = count - left in
     let rest : done + ticks_left m ≡ ticks_left s = open_rest (done + ticks_left m ≡ ticks_left s) left some f.rest in
     let accepted : done ≤ ticks_left s = omega (arith, rest) in
-    let both = answers_join A d j s m t done n x g.0 i accepted f.answered g.2 in
+    let both = answers_join A d s m t done n x g.0 i accepted f.answered g.2 in
     let sum : done + n ≡ count - (left - n) = omega arith in
     subst (λ z. HasPlayedSteps A s z (left - n) t y) sum (record {
-      answered = subst (λ z. HasAnswered A s (Ticks (done + n) ∷ []) t z) (sym g.1) both;
+      answered = subst (HasAnsweredWithin A s (Ticks (done + n) ∷ []) t) (sym g.1) both;
       rest = rest_more s m t done left n g.2.outs k few rest g.2.runs;
     })
 
 -- the answer to a step, and what is added after it
-pub grown_answer : {E : Type 0} (A : Decoration) (d : IsLawful A) (result : Result Unit E) (s t shown : FacilityState)
-    (events : List Event) (x y z : List ℕ) → AddsLines s events x y t → shown ≡ t → OnOk result (HasGrownBy A shown y z)
+pub grown_answer : {E : Type 0} (A : Decoration) (d : IsLawful A) (result : Result Unit E) (s t : FacilityState)
+    (events : List Event) (x y z : List ℕ) → AddsLines s events x y t → OnOk result (HasGrownWithin A y z)
     → OnOk result (HasGrownByAnswer A s events t x z)
-grown_answer {E} A d (Err e) s t shown events x y z adds is h = tt
-grown_answer {E} A d (Ok u) s t shown events x y z adds is h =
-    let lines : List ℕ = lines_of adds.outs in
-    let grown : HasGrownBy A t y z = subst (λ c. HasGrownBy A c y z) is h in
-    let one = answered A d s t events [] lines refl (record { outs = adds.outs; runs = adds.runs; lines = refl }) in (
-      lines ++ grown.0,
-      grown.1 ∙ ap (λ w. w ++ grown.0) adds.lines ∙ append_assoc x lines grown.0,
-      decorated A d s t events lines (lines ++ grown.0) one (grown.0, refl, grown.2),
+grown_answer {E} A d (Err e) s t events x y z adds h = tt
+grown_answer {E} A d (Ok u) s t events x y z adds h =
+    let lines : List ℕ = lines_of adds.outs in (
+      lines ++ h.0,
+      h.1 ∙ ap (λ w. w ++ h.0) adds.lines ∙ append_assoc x lines h.0,
+      record {
+        outs = adds.outs;
+        runs = adds.runs;
+        within = subst (λ w. A.Within w (lines ++ h.0)) (append-nil lines) (d.joined lines [] lines h.0 (d.kept adds.outs) h.2);
+      },
     )
 
+-- lines that were played in steps or at once
+pub stepped_text : (A : Decoration) (result : Result Unit OutOfMemory) (s t : FacilityState) (events : List Event) (count : ℕ)
+    (text : List ℕ) → events ≡ Ticks count ∷ [] → OnOk result (HasAnsweredWithin A s (Ticks count ∷ []) t text)
+    → OnOk result (HasPlayedText A s events t text)
+stepped_text A (Ok u) s t events count text is h = inr (Ticks count, is, h)
+stepped_text A (Err e) s t events count text is h = tt
+
+pub played_text : (A : Decoration) (result : Result Unit OutOfMemory) (s t : FacilityState) (events : List Event)
+    (before text : List ℕ) → before ≡ [] → OnOk result (AddsLines s events before text t) → OnOk result (HasPlayedText A s events t text)
+played_text A (Ok u) s t events before text none h = inl (subst (λ z. AddsLines s events z text t) none h)
+played_text A (Err e) s t events before text none h = tt
+
 -- the steps of a line were not all played, and no answer is left
-pub nothing_answered : (A : Decoration) (d : IsLawful A) (result : Result Unit OutOfMemory) (s : FacilityState) (events : List Event)
-    (text : List ℕ) → OnErr result (text ≡ []) → OnErr result (HasAnsweredPart A s events text)
-nothing_answered A d (Ok u) s events text h = tt
-nothing_answered A d (Err e) s events text h = record {
+pub nothing_played : (result : Result Unit OutOfMemory) (s : FacilityState) (events : List Event) (text : List ℕ)
+    → OnErr result (text ≡ []) → OnErr result (AddsFirstLines s events [] text)
+nothing_played (Ok u) s events text h = tt
+nothing_played (Err e) s events text h = record {
   played = [];
   unplayed = events;
   parts = refl;
   after = s;
-  answered = answered A d s s [] [] text refl (record { outs = []; runs = IsRun-none s; lines = h });
+  adds = record { outs = []; runs = IsRun-none s; lines = h };
 }
+
+pub first_played : (result : Result Unit OutOfMemory) (s : FacilityState) (events : List Event) (before text : List ℕ) → before ≡ []
+    → OnErr result (AddsFirstLines s events before text) → OnErr result (AddsFirstLines s events [] text)
+first_played (Ok u) s events before text none h = tt
+first_played (Err e) s events before text none h = subst (λ z. AddsFirstLines s events z text) none h
+
+pub ruleset played_texts = (stepped_text, played_text, nothing_played, first_played)

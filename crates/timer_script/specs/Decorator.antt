@@ -1,47 +1,77 @@
--- The text that is written for an answer: the answer, and what a decorator adds after its lines.
-use Rattle.std.specs.Prelude.{◌≡◌, ℕ, ◌+◌, List, [], ◌∷◌, ◌++◌, length, refl}
+-- The text that is written for lines: the answer to each, and what a decorator adds to it.
+use Rattle.std.specs.Prelude.{◌≡◌, ℕ, List, [], ◌∷◌, ◌++◌, refl}
 use Rattle.std.proofs.Common.{ap, ◌∙◌}
 use Rattle.timer_facility.specs.declared.event.Event.{Event}
-use Rattle.timer_facility.specs.declared.event.Event.TheVariants as events
 use Rattle.timer_facility.specs.declared.event.Out.{Out}
 use Rattle.timer_facility.specs.State.{FacilityState}
 use Rattle.timer_facility.specs.Played.{IsRun}
-use Rattle.timer_script.specs.Text.{lines_of, end_line}
+use Rattle.timer_script.specs.Text.{lines_of}
 
--- the state of a facility, some events, and its state after them; their answer, and the text that may be
--- written for it
-abbrev pub Decoration : Type 1
-Decoration = FacilityState → List Event → FacilityState → List ℕ → List ℕ → Type 0
+-- what is added to the answers to lines
+pub record Decoration : Type 1 where
+  -- the answer to one line, and its text with what may stand after the steps of its ticks
+  pub Within : (answer text : List ℕ) → Type 0
+  -- what comes after it, by the state of the facility then
+  pub After : FacilityState → List ℕ → Type 0
 
--- the text for two answers, one after the other, is that for each; an answer may stay as it is
+-- an answer may stay as it is, and the text for two parts of an answer is that for both
 pub record IsLawful (Adds : Decoration) : Type 0 where
-  pub joins : (s t u : FacilityState) (events more : List Event) (a b x y : List ℕ) → Adds s events t a x
-      → Adds t more u b y → Adds s (events ++ more) u (a ++ b) (x ++ y)
-  pub lines : (s t : FacilityState) (events : List Event) (outs : List Out) → IsRun s events outs t
-      → Adds s events t (lines_of outs) (lines_of outs)
-  pub end : (s : FacilityState) → Adds s [] s (end_line s.now (length s.pending)) (end_line s.now (length s.pending))
+  pub kept : (outs : List Out) → Adds.Within (lines_of outs) (lines_of outs)
+  pub joined : (a b x y : List ℕ) → Adds.Within a x → Adds.Within b y → Adds.Within (a ++ b) (x ++ y)
 
--- what may be added to ticks in two parts may be added to all of them
-abbrev pub JoinsTicks : Decoration → Type 0
-JoinsTicks Adds = (s t : FacilityState) (first rest : ℕ) (answer text : List ℕ)
-    → Adds s (events.Ticks first ∷ events.Ticks rest ∷ []) t answer text
-    → Adds s (events.Ticks (first + rest) ∷ []) t answer text
+-- nothing may come after an answer
+abbrev pub MayAddNothing : Decoration → Type 0
+MayAddNothing Adds = (s : FacilityState) → Adds.After s []
 
 -- the text grew
 abbrev pub HasGrown : List ℕ → List ℕ → Type 0
 HasGrown old new = (added : List ℕ) × (new ≡ old ++ added)
 
--- by what may come after an answer, in this state of the facility
-abbrev pub HasGrownBy : Decoration → FacilityState → List ℕ → List ℕ → Type 0
-HasGrownBy Adds state old new = (added : List ℕ) × (new ≡ old ++ added) × Adds state [] state [] added
+-- by what comes after an answer, in this state of the facility
+abbrev pub HasGrownAfter : Decoration → FacilityState → List ℕ → List ℕ → Type 0
+HasGrownAfter Adds state old new = (added : List ℕ) × (new ≡ old ++ added) × Adds.After state added
+
+-- by what may stand after a step
+abbrev pub HasGrownWithin : Decoration → List ℕ → List ℕ → Type 0
+HasGrownWithin Adds old new = (added : List ℕ) × (new ≡ old ++ added) × Adds.Within [] added
+
+-- some events were played, and the text is their answer with what may stand within it, and nothing after it
+pub record HasAnsweredWithin (Adds : Decoration) (before : FacilityState) (events : List Event)
+    (after : FacilityState) (text : List ℕ) : Type 0 where
+  pub outs : List Out
+  pub runs : IsRun before events outs after
+  pub within : Adds.Within (lines_of outs) text
+
+-- one line was played; its answer, and the text for it, at the end of which is what comes after the answer
+pub record IsDecorated (Adds : Decoration) (before : FacilityState) (event : Event) (after : FacilityState)
+    (answer text : List ℕ) : Type 0 where
+  pub line : List ℕ
+  pub answered : HasAnsweredWithin Adds before (event ∷ []) after line
+  pub answer_is : answer ≡ lines_of answered.outs
+  pub added : List ℕ
+  pub comes_after : Adds.After after added
+  pub text_is : text ≡ line ++ added
+
+-- so it is for one line after another
+abbrev pub AreDecorated : Decoration → FacilityState → List Event → FacilityState → (answer text : List ℕ) → Type 0
+AreDecorated Adds before [] after answer text = (after ≡ before) × (answer ≡ []) × (text ≡ [])
+AreDecorated Adds before (event ∷ events) after answer text =
+    (next : FacilityState) × (a x b y : List ℕ) × IsDecorated Adds before event next a x
+    × AreDecorated Adds next events after b y × (answer ≡ a ++ b) × (text ≡ x ++ y)
+
+-- nothing stands within an answer
+abbrev pub AddsAfter : (FacilityState → List ℕ → Type 0) → Decoration
+AddsAfter After = record { Within = λ answer text. text ≡ answer; After = After }
+
+pub after_is_lawful : (After : FacilityState → List ℕ → Type 0) → IsLawful (AddsAfter After)
+after_is_lawful After = record {
+  kept = λ outs. refl;
+  joined = λ a b x y f g. ap (λ t. t ++ y) f ∙ ap (λ t. a ++ t) g;
+}
 
 -- nothing is added
-abbrev pub AddsNothing : Decoration
-AddsNothing before events after answer text = text ≡ answer
+abbrev pub IsNothing : FacilityState → List ℕ → Type 0
+IsNothing s added = added ≡ []
 
-pub nothing_is_lawful : IsLawful AddsNothing
-nothing_is_lawful = record {
-  joins = λ s t u events more a b x y f g. ap (λ t. t ++ y) f ∙ ap (λ t. a ++ t) g;
-  lines = λ s t events outs run. refl;
-  end = λ s. refl;
-}
+abbrev pub AddsNothing : Decoration
+AddsNothing = AddsAfter IsNothing

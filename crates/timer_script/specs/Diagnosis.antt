@@ -1,5 +1,5 @@
 -- Why bytes are not the line of an event, and from which column on.
-use Rattle.std.specs.Prelude.{◌≡◌, ℕ, ◌+◌, ◌-◌, ◌<◌, ◌≤◌, List, [], ◌∷◌, length, take, slice_index, Option, Some, None, codes}
+use Rattle.std.specs.Prelude.{◌≡◌, ◌≢◌, ◌⊎◌, ℕ, ◌+◌, ◌-◌, ◌<◌, ◌≤◌, List, [], ◌∷◌, length, take, slice_index, Option, Some, None, codes}
 use Rattle.timer_facility.specs.declared.event.Event.{Event}
 use Rattle.timer_script.specs.Script.{IsInRange, line}
 use Rattle.timer_script.specs.declared.line_fault.Field.{Field}
@@ -16,33 +16,131 @@ IsLine bytes = (event : Event) × IsInRange event × (bytes ≡ line event)
 abbrev pub IsDigit : ℕ → Type 0
 IsDigit byte = (48 ≤ byte) × (byte ≤ 57)
 
--- what is at this place, counted from 0, for each reason
+-- the byte is a lower-case letter
+abbrev pub IsLetter : ℕ → Type 0
+IsLetter byte = (97 ≤ byte) × (byte ≤ 122)
+
+-- the bytes are a word that begins a line
+abbrev pub IsWord : List ℕ → Type 0
+IsWord word = (word ≡ codes "start") ⊎ ((word ≡ codes "stop") ⊎ ((word ≡ codes "restart") ⊎ ((word ≡ codes "tick")
+    ⊎ (word ≡ codes "close"))))
+
+-- this byte is at this place, counted from 0
+abbrev pub IsAt : ℕ → List ℕ → ℕ → Type 0
+IsAt byte bytes at = (at < length bytes) × (slice_index bytes at ≡ byte)
+
+-- this byte is right before it
+abbrev pub IsBefore : ℕ → List ℕ → ℕ → Type 0
+IsBefore byte bytes at = (1 ≤ at) × (slice_index bytes (at - 1) ≡ byte)
+
+-- each byte before it is so
+abbrev pub AreBefore : (ℕ → Type 0) → List ℕ → ℕ → Type 0
+AreBefore P bytes at = (i : ℕ) → i < at → P (slice_index bytes i)
+
+-- some byte before it is a space
+abbrev pub IsAfterSpace : List ℕ → ℕ → Type 0
+IsAfterSpace bytes at = (i : ℕ) × (i < at) × (slice_index bytes i ≡ 32)
+
+-- the word of the line ended before it
+abbrev pub IsPastWord : List ℕ → ℕ → Type 0
+IsPastWord bytes at = IsAfterSpace bytes at ⊎ IsWord (take at bytes)
+
+-- the line ends after the byte here
+abbrev pub EndsAfter : List ℕ → ℕ → Type 0
+EndsAfter bytes at = (at + 1 ≡ length bytes) ⊎ ((slice_index bytes (at + 1) ≡ 10) ⊎ (slice_index bytes (at + 1) ≡ 13))
+
+-- a byte of no word, or one at which the line would end before it has one
+pub record IsUnknown (bytes : List ℕ) (at : ℕ) : Type 0 where
+  pub within : at < length bytes
+  pub in_word : AreBefore (λ b. b ≡ 32 → ⊥) bytes at
+  pub no_return : slice_index bytes at ≡ 13 → ⊥
+  pub no_tab : slice_index bytes at ≡ 9 → ⊥
+  pub ends : (slice_index bytes at ≡ 10) ⊎ (slice_index bytes at ≡ 32) → (1 ≤ at) × ¬ (IsWord (take at bytes))
+  pub no_mark : at ≡ 0 → take 3 bytes ≡ 239 ∷ 187 ∷ 191 ∷ [] → ⊥
+
+-- a byte of no number
+pub record IsForeign (bytes : List ℕ) (at : ℕ) : Type 0 where
+  pub within : at < length bytes
+  pub past : IsAfterSpace bytes at
+  pub no_digit : ¬ (IsDigit (slice_index bytes at))
+  pub other : (slice_index bytes at ≡ 9) ⊎ ((slice_index bytes at ≡ 10) ⊎ ((slice_index bytes at ≡ 13)
+      ⊎ (slice_index bytes at ≡ 32))) → ⊥
+
+-- a digit of a number
+abbrev pub IsDigitAt : List ℕ → ℕ → Type 0
+IsDigitAt bytes at = (at < length bytes) × IsDigit (slice_index bytes at)
+
+-- the number before it is a single zero
+abbrev pub IsAfterZero : List ℕ → ℕ → Type 0
+IsAfterZero bytes at = IsBefore 48 bytes at × IsBefore 32 bytes (at - 1)
+
+-- a digit with which a number leaves its range
+abbrev pub LeavesRange : List ℕ → ℕ → Type 0
+LeavesRange bytes at = IsDigitAt bytes at × IsAfterSpace bytes at × ¬ (IsAfterZero bytes at)
+
+-- what is at this place for each reason: in a line, whose line feed is its last byte, one reason alone
 abbrev pub IsReasonAt : LineReason → List ℕ → ℕ → Type 0
 IsReasonAt reasons.NoLineEnd bytes at = at ≡ length bytes
-IsReasonAt reasons.EmptyLine bytes at = (at ≡ 0) × (at < length bytes) × (slice_index bytes at ≡ 10)
-IsReasonAt reasons.CarriageReturn bytes at = (at < length bytes) × (slice_index bytes at ≡ 13)
+IsReasonAt reasons.EmptyLine bytes at = (at ≡ 0) × IsAt 10 bytes at
+IsReasonAt reasons.CarriageReturn bytes at = IsAt 13 bytes at
 IsReasonAt reasons.ByteOrderMark bytes at = (at ≡ 0) × (take 3 bytes ≡ 239 ∷ 187 ∷ 191 ∷ [])
-IsReasonAt reasons.Tab bytes at = (at < length bytes) × (slice_index bytes at ≡ 9)
-IsReasonAt reasons.Space bytes at = (at < length bytes) × (slice_index bytes at ≡ 32)
-IsReasonAt reasons.UnknownWord bytes at = at < length bytes
-IsReasonAt reasons.MissingField bytes at = (at < length bytes) × (slice_index bytes at ≡ 10)
-IsReasonAt reasons.TooManyFields bytes at = at < length bytes
-IsReasonAt reasons.NotANumber bytes at = (at < length bytes) × ¬ (IsDigit (slice_index bytes at))
-IsReasonAt reasons.LeadingZero bytes at =
-    (1 ≤ at) × (at < length bytes) × IsDigit (slice_index bytes at) × (slice_index bytes (at - 1) ≡ 48)
-IsReasonAt reasons.OutOfRange bytes at = (at < length bytes) × IsDigit (slice_index bytes at)
-IsReasonAt reasons.OutOfTicks bytes at = (at < length bytes) × IsDigit (slice_index bytes at)
+IsReasonAt reasons.Tab bytes at = IsAt 9 bytes at
+-- at the start, after another space, or at the end
+IsReasonAt reasons.Space bytes at =
+    IsAt 32 bytes at × ((at ≡ 0) ⊎ (IsBefore 32 bytes at ⊎ (IsPastWord bytes at × EndsAfter bytes at)))
+IsReasonAt reasons.UnknownWord bytes at = IsUnknown bytes at
+IsReasonAt reasons.MissingField bytes at = IsAt 10 bytes at × IsPastWord bytes at
+-- a space, after which more comes; or bytes after a line feed
+IsReasonAt reasons.TooManyFields bytes at =
+    (IsAt 32 bytes at × (1 ≤ at) × ¬ (IsBefore 32 bytes at) × IsPastWord bytes at × ¬ (EndsAfter bytes at))
+    ⊎ ((at < length bytes) × IsBefore 10 bytes at)
+IsReasonAt reasons.NotANumber bytes at = IsForeign bytes at
+IsReasonAt reasons.LeadingZero bytes at = IsDigitAt bytes at × IsAfterZero bytes at
+IsReasonAt reasons.OutOfRange bytes at = LeavesRange bytes at
+IsReasonAt reasons.OutOfTicks bytes at = LeavesRange bytes at
+
+-- a field is named for these reasons alone, and of ticks for the last alone
+abbrev pub NamesField : LineReason → Option Field → Type 0
+NamesField reasons.MissingField field = field ≢ None
+NamesField reasons.NotANumber field = field ≢ None
+NamesField reasons.LeadingZero field = field ≢ None
+NamesField reasons.OutOfRange field = (field ≢ None) × (field ≢ Some fields.Count)
+NamesField reasons.OutOfTicks field = field ≡ Some fields.Count
+NamesField _ field = field ≡ None
 
 -- the fault is in these bytes, or right after them, and its reason is what is there
 pub record IsFaultOf (fault : LineFault) (bytes : List ℕ) : Type 0 where
   pub some : 1 ≤ fault.column
   pub within : fault.column ≤ length bytes + 1
   pub reason : IsReasonAt fault.reason bytes (fault.column - 1)
+  pub field : NamesField fault.reason fault.field
 
 -- no fault for the line of an event, and a fault for other bytes
 abbrev pub IsVerdict : Option LineFault → List ℕ → Type 0
 IsVerdict None bytes = IsLine bytes
 IsVerdict (Some fault) bytes = ¬ (IsLine bytes) × IsFaultOf fault bytes
+
+-- ---- within a line
+
+-- what stands before this place: the letters of a word that begins a line, or fields, of which this is the last
+abbrev pub IsBehind : Option Field → List ℕ → ℕ → Type 0
+IsBehind None bytes at = AreBefore IsLetter bytes at × IsWord (take at bytes)
+IsBehind (Some field) bytes at = IsAfterSpace bytes at × ¬ (IsDigitAt bytes at)
+
+-- the word or a field ends here
+pub record IsEndOf (before : Option Field) (bytes : List ℕ) (at : ℕ) : Type 0 where
+  pub some : 1 ≤ at
+  pub within : at ≤ length bytes
+  pub no_space : slice_index bytes (at - 1) ≡ 32 → ⊥
+  pub behind : IsBehind before bytes at
+
+-- so many digits of a number were read after a space: none, or the next byte is one too
+pub record IsInNumber (bytes : List ℕ) (at len : ℕ) : Type 0 where
+  pub within : at ≤ length bytes
+  pub some : len + 1 ≤ at
+  pub space : slice_index bytes (at - len - 1) ≡ 32
+  pub digits : (i : ℕ) → i < len → IsDigit (slice_index bytes (at - len + i))
+  pub stuck : (len ≡ 0) ⊎ IsDigitAt bytes at
 
 -- the name of a field
 abbrev pub field_words : Field → List ℕ

@@ -1,8 +1,6 @@
 -- The errors of one step as those of the whole.
 use Rattle.timer_script.specs.declared.fault.ScriptFault.{ScriptFault}
 use Rattle.timer_script.specs.declared.fault.ScriptFault.TheVariants as scripts
-use Rattle.timer_script.specs.declared.fault.PieceFault.{PieceFault}
-use Rattle.timer_script.specs.declared.fault.PieceFault.TheVariants as pieces
 use Rattle.timer_script.specs.declared.fault.ReadFault.{ReadFault}
 use Rattle.timer_script.specs.declared.fault.ReadFault.TheVariants as reads
 use Rattle.timer_script.specs.declared.fault.RunFault.{RunFault}
@@ -15,10 +13,6 @@ use Rattle.timer_script.specs.declared.fault.TurnFault.{TurnFault}
 use Rattle.timer_script.specs.declared.fault.TurnFault.TheVariants as turns
 use Rattle.timer_script.specs.declared.fault.ServeFault.{ServeFault}
 use Rattle.timer_script.specs.declared.fault.ServeFault.TheVariants as serves
-
-abbrev pub read_fault : PieceFault → ReadFault
-read_fault pieces.Read = reads.Read
-read_fault pieces.OutOfMemory = reads.OutOfMemory
 
 abbrev pub run_read_fault : ReadFault → RunFault
 run_read_fault reads.Read = runs.Read

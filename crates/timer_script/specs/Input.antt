@@ -2,8 +2,6 @@
 use Rattle.std.specs.Prelude.{◌≡◌, ℕ, ◌+◌, ◌≤◌, Bool, true, false, List, length, ◌++◌, Option}
 use Rattle.std.specs.Io.KnownBytes.{Keeps, Consumes, IsAtEnd}
 use Rattle.timer_script.specs.declared.input.TheConstants.{MAX_BYTES}
-use Rattle.timer_script.specs.declared.fault.PieceFault.{PieceFault}
-use Rattle.timer_script.specs.declared.fault.PieceFault.TheVariants as pieces
 use Rattle.timer_script.specs.declared.fault.ReadFault.{ReadFault}
 use Rattle.timer_script.specs.declared.fault.ReadFault.TheVariants as reads
 
@@ -35,6 +33,7 @@ pub record HasRead (old new : Option (List ℕ)) (failed : Bool) (bytes bytes' :
   pub good : failed ≡ false
 
 -- why one read appended nothing; if the reader failed, no byte was read, and else at most `room` were
-abbrev pub FailsToRead : PieceFault → ℕ → Option (List ℕ) → Option (List ℕ) → Bool → Type 0
-FailsToRead pieces.Read room old new failed = Keeps old new × (failed ≡ true)
-FailsToRead pieces.OutOfMemory room old new failed = ReadsUpTo room old new × (failed ≡ false)
+abbrev pub FailsToRead : ReadFault → ℕ → Option (List ℕ) → Option (List ℕ) → Bool → Type 0
+FailsToRead reads.Read room old new failed = Keeps old new × (failed ≡ true)
+FailsToRead reads.TooLong room old new failed = ⊥
+FailsToRead reads.OutOfMemory room old new failed = ReadsUpTo room old new × (failed ≡ false)

@@ -16,7 +16,7 @@ use Rattle.timer_script.specs.declared.cutter.Cutter.{Cutter}
 use Rattle.timer_script.specs.declared.watched.Watched.{Watched}
 use Rattle.timer_script.specs.Text.{lines_of, end_line}
 use Rattle.timer_script.specs.ScriptRun.{IsAnswer}
-use Rattle.timer_script.specs.Decorator.{Decoration}
+use Rattle.timer_script.specs.Decorator.{Decoration, HasAnsweredWithin, MayAddNothing, AreDecorated}
 use Rattle.timer_script.specs.Cutter.{Passes, AreSoFar, HasPassed, HasSeen, HasSeenPart, HasEnded, IsStoppedAt, HasTakenIn}
 use Rattle.timer_script.specs.Peer.{PeerState, Moment, Came, Went, Flush, Grows}
 
@@ -100,38 +100,51 @@ pub record HasSentPart (old : PeerState) (text : List ℕ) (new : PeerState) : T
   pub written : HasWritten old (take count text) new
   pub failed : new.write_failed ≡ true
 
--- these events were played, and the text is the answer to them, with what may be added
+-- these events were played, and the text is the answer to each, followed by what comes after it
 pub record HasAnswered (Adds : Decoration) (before : FacilityState) (events : List Event) (after : FacilityState)
     (text : List ℕ) : Type 0 where
   pub outs : List Out
   pub runs : IsRun before events outs after
-  pub added : Adds before events after (lines_of outs) text
+  pub added : AreDecorated Adds before events after (lines_of outs) text
 
--- so it is for the first of the events
+-- nothing, or the answer to the first of these events alone
+abbrev pub IsBegun : Decoration → FacilityState → List Event → List ℕ → Type 0
+IsBegun Adds before events text = (text ≡ [])
+    ⊎ ((event : Event) × (later : List Event) × (events ≡ event ∷ later) × (after : FacilityState)
+    × HasAnsweredWithin Adds before (event ∷ []) after text)
+
+-- the first of the events are answered, each with what comes after it, and the next may be without that
 pub record HasAnsweredPart (Adds : Decoration) (before : FacilityState) (events : List Event) (text : List ℕ)
     : Type 0 where
-  pub played : List Event
-  pub unplayed : List Event
-  pub parts : events ≡ played ++ unplayed
+  pub done : List Event
+  pub rest : List Event
+  pub parts : events ≡ done ++ rest
   pub after : FacilityState
-  pub answered : HasAnswered Adds before played after text
+  pub decorated : List ℕ
+  pub answered : HasAnswered Adds before done after decorated
+  pub last : List ℕ
+  pub begun : IsBegun Adds after rest last
+  pub text_is : text ≡ decorated ++ last
 
--- the text for these events was written except for its last part, and nothing was read
+-- so many lines are served at once: one, or any if nothing may come after an answer
+abbrev pub MayServe : Decoration → List Event → Type 0
+MayServe Adds events = (length events ≤ 1) ⊎ MayAddNothing Adds
+
+-- the text for these events was written and flushed, and nothing was read
 pub record HasServedEvents (Adds : Decoration) (before : FacilityState) (events : List Event)
-    (after : FacilityState) (peer peer' : PeerState) (unsent : List ℕ) (flushed : Bool) : Type 0 where
+    (after : FacilityState) (peer peer' : PeerState) : Type 0 where
   pub sent : List ℕ
-  pub answered : HasAnswered Adds before events after (sent ++ unsent)
+  pub answered : HasAnswered Adds before events after sent
   pub written : HasWritten peer sent peer'
-  pub flush : is_flushed true written.moments ≡ flushed
+  pub flush : is_flushed true written.moments ≡ true
 
--- so it was for the first of the events
+-- that for the first of the events was written except for its last part
 pub record HasServedSome (Adds : Decoration) (before : FacilityState) (events : List Event)
     (peer peer' : PeerState) (unsent : List ℕ) (flushed : Bool) : Type 0 where
-  pub played : List Event
-  pub unplayed : List Event
-  pub parts : events ≡ played ++ unplayed
-  pub after : FacilityState
-  pub served : HasServedEvents Adds before played after peer peer' unsent flushed
+  pub sent : List ℕ
+  pub answered : HasAnsweredPart Adds before events (sent ++ unsent)
+  pub written : HasWritten peer sent peer'
+  pub flush : is_flushed true written.moments ≡ flushed
 
 -- why not all of these events were served
 abbrev pub StopsEvents : Decoration → TurnFault → FacilityState → List Event → (peer peer' : PeerState) → Type 0
@@ -208,13 +221,15 @@ pub record HasServedPart {F : Type 0} (server : Server F) (Passed : List ℕ →
   pub talked : HasTalked server old new came sent flushed
   pub answered : HasAnsweredPart server.Adds server.before events (sent ++ unsent)
 
--- the peer was read to its end, and this is the whole answer to the events, with what is added
+-- the peer was read to its end, and this is the whole answer to the events, with what is added, and the end line
 pub record HasAnsweredAll {F : Type 0} (server : Server F) (peer : PeerState) (events : List Event)
     (text : List ℕ) : Type 0 where
   pub at_end : IsAtEnd peer.remaining
   pub answer : List ℕ
   pub answered : IsAnswer server.before events answer
-  pub added : server.Adds server.before events answered.after answer text
+  pub decorated : List ℕ
+  pub added : AreDecorated server.Adds server.before events answered.after (lines_of answered.outs) decorated
+  pub text_is : text ≡ decorated ++ last_line answered.after
 
 -- what serving did, by how it ended; in each case every complete line that passes was answered, and its answer
 -- flushed, before more was read

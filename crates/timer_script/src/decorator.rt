@@ -4,32 +4,31 @@
 //!
 //!     one that       started 0 1 1 4
 //!     shows ticks      now 0
-ghost use Rattle.std.specs.Prelude.{◌≡◌, true, OnOk};
-ghost use Rattle.timer_script.specs.Decorator.{Decoration, IsLawful, JoinsTicks, HasGrown, HasGrownBy};
+ghost use Rattle.std.specs.Prelude.{◌≡◌, false, OnOk};
+ghost use Rattle.timer_script.specs.Decorator.{Decoration, IsLawful, MayAddNothing, HasGrown, HasGrownAfter, HasGrownWithin};
 
 use timer_base::{OutOfMemory, Wheel};
 use timer_facility::Facility;
 
 /// Adds text to answers.
 pub trait Decorator<W: Wheel + Drop> {
-    /// The text is the answer to some events, with what may be added after them. What may be added depends on
-    /// the facility's state at that place.
+    /// What comes after the answer to a line, by the facility's state at that place, and what may stand after the
+    /// steps of its ticks.
     ghost adds: { Decoration };
 
     /// Whether the text for each line is written before the next line is played. If not, that for all lines
     /// of one read is written at once, and only the last of them is decorated.
-    fn sends_each_line(&self) -> bool;
+    fn sends_each_line(&self) -> bool
+        ensures { result ≡ false → MayAddNothing adds };
 
     /// Appends what comes after the answer to a line. The only error is out of memory.
     fn decorate(&self, text: &mut Vec<u8>, facility: &Facility<W>) -> Result<(), OutOfMemory>
-        ensures added { OnOk result (HasGrownBy adds facility.now.state text.old.items text.new.items) }
+        ensures added { OnOk result (HasGrownAfter adds facility.now.state text.old.items text.new.items) }
         ensures kept { HasGrown text.old.items text.new.items };
 
     /// Whether the ticks of a line are played in steps, and what comes after each of them is added. A step ends at
     /// the latest at the tick until which the facility is quiet. It has an effect only beside `sends_each_line`.
-    fn shows_steps(&self) -> bool
-        ensures { result ≡ true → JoinsTicks adds }
-    {
+    fn shows_steps(&self) -> bool {
         false
     }
 
@@ -38,19 +37,19 @@ pub trait Decorator<W: Wheel + Drop> {
         0
     }
 
-    /// Appends what comes after a step. The only error is out of memory.
+    /// Appends what comes after a step: nothing, unless a decorator shows steps. The only error is out of memory.
     fn decorate_step(
         &self,
         _before: usize,
-        text: &mut Vec<u8>,
-        facility: &Facility<W>,
+        _text: &mut Vec<u8>,
+        _facility: &Facility<W>,
     ) -> Result<(), OutOfMemory>
-        ensures { OnOk result (HasGrownBy adds facility.now.state text.old.items text.new.items) }
+        ensures { OnOk result (HasGrownWithin adds _text.old.items _text.new.items) }
     {
-        self.decorate(text, facility)
+        Ok(())
     }
 
-    /// Texts may be joined, and an answer may be left as it is.
+    /// Within a line, texts may be joined, and an answer may be left as it is.
     ghost is_lawful: { IsLawful adds };
 }
 
@@ -59,7 +58,7 @@ pub trait Decorator<W: Wheel + Drop> {
 pub struct Undecorated;
 
 impl<W: Wheel + Drop> Decorator<W> for Undecorated {
-    ghost use Rattle.timer_script.specs.Decorator.{AddsNothing, nothing_is_lawful};
+    ghost use Rattle.timer_script.specs.Decorator.{AddsNothing, IsNothing, after_is_lawful};
 
     ghost adds = { AddsNothing };
 
@@ -71,5 +70,5 @@ impl<W: Wheel + Drop> Decorator<W> for Undecorated {
         Ok(())
     }
 
-    ghost is_lawful = { nothing_is_lawful };
+    ghost is_lawful = { after_is_lawful IsNothing };
 }

@@ -7,11 +7,11 @@
 //!
 //! A number goes wrong at the digit with which it leaves its range: `tick 1000001` at its last one.
 //!
-//! It is proved which bytes have a fault, and what is at its column. That no earlier byte is at fault, and
-//! which field is named, is only tested.
-ghost use Rattle.std.specs.Prelude.{◌≡◌, ◌↔◌, ◌+◌, ◌<◌, ◌≤◌, false, IsTrue, length, slice_index};
+//! It is proved which bytes have a fault, and that its reason is that of its column and no other. That no earlier
+//! byte is at fault, and which of its word's fields is named, is only tested.
+ghost use Rattle.std.specs.Prelude.{◌≡◌, ◌↔◌, ◌+◌, ◌<◌, ◌≤◌, ℕ, None, Some, false, IsTrue, IfSome, length, take, slice_index, Option};
 ghost use Rattle.timer_base.specs.declared.limits.TheConstants.{LAST};
-ghost use Rattle.timer_script.specs.Diagnosis.{IsLine, IsReasonAt, IsFaultOf, IsVerdict, IsDigit};
+ghost use Rattle.timer_script.specs.Diagnosis.{IsLine, IsReasonAt, NamesField, IsFaultOf, IsVerdict, IsDigit, IsLetter, IsWord, IsAt, IsBefore, AreBefore, IsDigitAt, IsBehind, IsEndOf, IsInNumber};
 
 use crate::line_fault::{Field, LineFault, LineReason};
 use crate::lines::{MAX_TICKS, read_line};
@@ -77,7 +77,9 @@ pub fn fault_of_bad(line: &[u8]) -> LineFault
 
 /// How many lower-case letters are at the front.
 fn word_len(line: &[u8]) -> usize
-    ensures { result ≤ length line.now }
+    ensures within { result ≤ length line.now }
+    ensures letters { AreBefore IsLetter line.now result }
+    ensures ends { ¬ (IsLetter (slice_index line.now result)) }
 {
     for i in 0..line.len() {
         if !line[i].is_ascii_lowercase() {
@@ -88,7 +90,10 @@ fn word_len(line: &[u8]) -> usize
 }
 
 /// The fields that follow a word, if it begins a line.
-fn fields_of(word: &[u8]) -> Option<&'static [Field]> {
+fn fields_of(word: &[u8]) -> Option<&'static [Field]>
+    ensures some { IfSome result (λ _. IsWord word.now) }
+    ensures none { result ≡ None → ¬ (IsWord word.now) }
+{
     match word {
         b"start" => Some(&START),
         b"stop" => Some(&STOP),
@@ -103,6 +108,7 @@ fn fields_of(word: &[u8]) -> Option<&'static [Field]> {
 fn fault_at(line: &[u8], at: usize, field: Option<Field>, reason: LineReason) -> LineFault
     requires within { at ≤ length line.now }
     requires reason { IsReasonAt reason line.now at }
+    requires field { NamesField reason field }
     ensures fault { IsFaultOf result line.now }
     ensures column { result.column ≡ at + 1 }
 {
@@ -115,6 +121,7 @@ fn fault_at(line: &[u8], at: usize, field: Option<Field>, reason: LineReason) ->
 
 /// What is wrong with a line whose word does not begin one: the first byte that begins none.
 fn fault_in_word(line: &[u8]) -> LineFault
+    requires { (n : ℕ) → AreBefore IsLetter line.now n → ¬ (IsLetter (slice_index line.now n)) → ¬ (IsWord (take n line.now)) }
     ensures { IsFaultOf result line.now }
 {
     let at = known_len(line);
@@ -134,7 +141,8 @@ fn fault_in_word(line: &[u8]) -> LineFault
 
 /// How many bytes at the front begin a word.
 fn known_len(line: &[u8]) -> usize
-    ensures { result ≤ length line.now }
+    ensures within { result ≤ length line.now }
+    ensures letters { AreBefore IsLetter line.now result }
 {
     common_len(line, b"start")
         .max(common_len(line, b"stop"))
@@ -145,7 +153,9 @@ fn known_len(line: &[u8]) -> usize
 
 /// How many bytes at the front are those of the word.
 fn common_len(line: &[u8], word: &[u8]) -> usize
-    ensures { result ≤ length line.now }
+    requires { AreBefore IsLetter word.now (length word.now) }
+    ensures within { result ≤ length line.now }
+    ensures letters { AreBefore IsLetter line.now result }
 {
     let most = line.len().min(word.len());
     for i in 0..most {
@@ -158,7 +168,7 @@ fn common_len(line: &[u8], word: &[u8]) -> usize
 
 /// What is wrong after a word that begins a line with these fields.
 fn fault_in_fields(line: &[u8], word: usize, fields: &[Field]) -> LineFault
-    requires { word ≤ length line.now }
+    requires { IsEndOf None line.now word }
     ensures { IsFaultOf result line.now }
 {
     let mut at = word;
@@ -180,14 +190,14 @@ fn fault_in_fields(line: &[u8], word: usize, fields: &[Field]) -> LineFault
 
 /// Whether this byte is at `at`.
 fn is_byte(line: &[u8], at: usize, byte: u8) -> bool
-    ensures { IsTrue result → (at < length line.now) × (slice_index line.now at ≡ byte) }
+    ensures { (IsTrue result) ↔ IsAt byte line.now at }
 {
     at < line.len() && line[at] == byte
 }
 
 /// Whether a digit is at `at`.
 fn is_digit_at(line: &[u8], at: usize) -> bool
-    ensures { (IsTrue result) ↔ ((at < length line.now) × IsDigit (slice_index line.now at)) }
+    ensures { (IsTrue result) ↔ IsDigitAt line.now at }
 {
     at < line.len() && line[at] >= b'0' && line[at] <= b'9'
 }
@@ -204,7 +214,8 @@ fn range_of(field: Field) -> (u64, u64)
 
 /// How many bytes at the front begin a number in the range of the field.
 fn number_len(bytes: &[u8], field: Field) -> usize
-    ensures { result ≤ length bytes.now }
+    ensures within { result ≤ length bytes.now }
+    ensures digits { AreBefore IsDigit bytes.now result }
 {
     let (least, most) = range_of(field);
     let mut value = 0u64;
@@ -226,7 +237,8 @@ fn number_len(bytes: &[u8], field: Field) -> usize
 
 /// What is wrong if a space and a field should follow.
 fn fault_in_gap(line: &[u8], at: usize, before: Option<Field>, field: Field) -> LineFault
-    requires { at ≤ length line.now }
+    requires end { IsEndOf before line.now at }
+    requires no_space { ¬ (IsAt 32 line.now at) }
     ensures { IsFaultOf result line.now }
 {
     if is_byte(line, at, b'\n') {
@@ -237,7 +249,7 @@ fn fault_in_gap(line: &[u8], at: usize, before: Option<Field>, field: Field) -> 
 
 /// What is wrong within a number, of which `len` digits were read.
 fn fault_in_number(line: &[u8], at: usize, len: usize, field: Field) -> LineFault
-    requires { (at ≤ length line.now) × (len ≤ at) }
+    requires { IsInNumber line.now at len }
     ensures { IsFaultOf result line.now }
 {
     if is_byte(line, at, b'\n') {
@@ -249,19 +261,29 @@ fn fault_in_number(line: &[u8], at: usize, len: usize, field: Field) -> LineFaul
     if !is_digit_at(line, at) {
         return fault_of_byte(line, at, Some(field));
     }
-    let reason = if len == 1 && line[at - 1] == b'0' {
+    fault_at(line, at, Some(field), reason_of_digit(line, at, len, field))
+}
+
+/// Why a digit may not follow `len` others.
+#[tactic(auto, using(crate::proofs::DiagnosisLemmas::after_zero))]
+fn reason_of_digit(line: &[u8], at: usize, len: usize, field: Field) -> LineReason
+    requires number { IsInNumber line.now at len }
+    requires digit { IsDigitAt line.now at }
+    ensures reason { IsReasonAt result line.now at }
+    ensures field { NamesField result (Some field) }
+{
+    if len == 1 && line[at - 1] == b'0' {
         LineReason::LeadingZero
     } else if field == Field::Count {
         LineReason::OutOfTicks
     } else {
         LineReason::OutOfRange
-    };
-    fault_at(line, at, Some(field), reason)
+    }
 }
 
 /// What is wrong if the line should end.
 fn fault_at_end(line: &[u8], at: usize, before: Option<Field>) -> LineFault
-    requires { at ≤ length line.now }
+    requires { IsEndOf before line.now at }
     ensures { IsFaultOf result line.now }
 {
     if is_byte(line, at, b' ') {
@@ -274,15 +296,30 @@ fn fault_at_end(line: &[u8], at: usize, before: Option<Field>) -> LineFault
         };
         return fault_at(line, at, None, reason);
     }
-    if is_byte(line, at, b'\n') && at + 1 < line.len() {
-        return fault_at(line, at + 1, None, LineReason::TooManyFields);
+    if is_byte(line, at, b'\n') {
+        return fault_after_feed(line, at + 1);
     }
     fault_of_byte(line, at, before)
 }
 
+/// What is wrong after a line feed that ends a line. The line of an event, which ends there, is not diagnosed.
+fn fault_after_feed(line: &[u8], at: usize) -> LineFault
+    requires { (at ≤ length line.now) × IsBefore 10 line.now at }
+    ensures { IsFaultOf result line.now }
+{
+    let reason = if at < line.len() {
+        LineReason::TooManyFields
+    } else {
+        LineReason::NoLineEnd
+    };
+    fault_at(line, at, None, reason)
+}
+
 /// What is wrong with a byte that is in no line, or may not follow this field or the word.
 fn fault_of_byte(line: &[u8], at: usize, before: Option<Field>) -> LineFault
-    requires { at ≤ length line.now }
+    requires within { (1 ≤ at) × (at ≤ length line.now) }
+    requires behind { IsBehind before line.now at }
+    requires other { ¬ (IsAt 10 line.now at) × ¬ (IsAt 32 line.now at) }
     ensures { IsFaultOf result line.now }
 {
     if at == line.len() {

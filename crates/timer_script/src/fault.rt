@@ -5,7 +5,7 @@ ghost use Rattle.timer_script.specs.declared.fault.ReadFault.TheVariants as read
 ghost use Rattle.timer_script.specs.declared.fault.RunFault.TheVariants as runs;
 ghost use Rattle.timer_script.specs.declared.fault.CheckFault.TheVariants as checks;
 ghost use Rattle.timer_script.specs.declared.fault.TurnFault.TheVariants as turns;
-ghost use Rattle.timer_script.specs.Fault.{read_fault, run_read_fault, run_script_fault, check_read_fault, answer_script_fault, serve_fault};
+ghost use Rattle.timer_script.specs.Fault.{run_read_fault, run_script_fault, check_read_fault, answer_script_fault, serve_fault};
 
 use std::alloc::{AllocError, AllocFailed};
 use thiserror::Error;
@@ -45,15 +45,6 @@ impl From<timer_base::OutOfMemory> for ScriptFault {
     }
 }
 
-/// Why one read appended nothing.
-#[derive(Clone, Copy, Debug, PartialEq, Eq)]
-pub enum PieceFault {
-    /// The reader failed.
-    Read,
-    /// An allocation failed.
-    OutOfMemory,
-}
-
 /// Why a script was not read to its end.
 #[derive(Clone, Copy, Debug, PartialEq, Eq)]
 pub enum ReadFault {
@@ -63,17 +54,6 @@ pub enum ReadFault {
     TooLong,
     /// An allocation failed.
     OutOfMemory,
-}
-
-impl From<PieceFault> for ReadFault {
-    ghost from_gives = { λ fault e. e ≡ read_fault fault };
-
-    fn from(fault: PieceFault) -> ReadFault {
-        match fault {
-            PieceFault::Read => ReadFault::Read,
-            PieceFault::OutOfMemory => ReadFault::OutOfMemory,
-        }
-    }
 }
 
 impl From<timer_base::OutOfMemory> for ReadFault {

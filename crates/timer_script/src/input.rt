@@ -3,7 +3,7 @@ ghost use Rattle.std.specs.Prelude.{◌+◌, vec_len, ◌≡◌, ◌≤◌, ◌<
 ghost use Rattle.timer_script.specs.declared.input.TheConstants.{MAX_BYTES};
 ghost use Rattle.timer_script.specs.Input.{ReadsWhole, StopsReading, HasRead, FailsToRead};
 
-use crate::fault::{PieceFault, ReadFault};
+use crate::fault::ReadFault;
 use crate::watched::Watched;
 use std::alloc::Global;
 use std::io::Read;
@@ -30,7 +30,7 @@ fn read_once<R: Read>(
     reader: &mut Watched<R>,
     piece: &mut [u8],
     bytes: &mut Vec<u8>,
-) -> Result<usize, PieceFault>
+) -> Result<usize, ReadFault>
     requires good { reader.old.failed ≡ false }
     requires room { 0 < length piece.old }
     ensures ok { IfOk result (λ n. HasRead (R.remaining reader.old.inner)
@@ -42,10 +42,10 @@ fn read_once<R: Read>(
         (R.remaining reader.old.inner) (R.remaining reader.new.inner) reader.new.failed) }
 {
     let Ok(n) = reader.read(piece) else {
-        return Err(PieceFault::Read);
+        return Err(ReadFault::Read);
     };
     if bytes.extend_from_slice(&piece[..n]).is_err() {
-        return Err(PieceFault::OutOfMemory);
+        return Err(ReadFault::OutOfMemory);
     }
     Ok(n)
 }

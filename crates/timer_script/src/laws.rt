@@ -10,7 +10,7 @@ ghost use Rattle.timer_script.specs.Script.{IsScript, IsBadLine};
 ghost use Rattle.timer_script.specs.ScriptRun.{IsAnswer};
 ghost use Rattle.timer_script.specs.declared.fault.ServeFault.{ServeFault};
 ghost use Rattle.timer_script.specs.declared.cutter.OnBadLine.{OnBadLine};
-ghost use Rattle.timer_script.specs.Decorator.{AddsNothing};
+ghost use Rattle.timer_script.specs.Decorator.{AddsNothing, AreDecorated};
 ghost use Rattle.timer_script.specs.Peer.{Moment};
 ghost use Rattle.timer_script.specs.Service.{Sides, IsPrompt, HasServed, server_with};
 
@@ -25,6 +25,7 @@ pub fn limits()
 {}
 
 /// Bytes spell at most one list of events.
+#[tactic(auto, using(crate::proofs::ScriptLemmas::one_spelling))]
 pub fn one_spelling()
     ensures { (xs ys : List Event) (bytes : List ℕ) → IsScript xs bytes → IsScript ys bytes → xs ≡ ys }
 {}
@@ -47,10 +48,17 @@ pub fn each_wheel_gives_the_same_text()
 
 /// The calls of a peer, if they are known, are prompt, however serving ends: before each read every
 /// complete line that came, or every good one if bad ones are reported, was answered, and the answers flushed.
+#[tactic(auto, using(crate::proofs::ServiceLemmas::prompt))]
 pub fn served_calls_are_prompt<F: Write>()
     ensures { (on_bad : OnBadLine) (before : FacilityState) (old new : Sides F)
         (result : Result Bool ServeFault) (calls : List Moment)
         → old.peer.moments ≡ Some [] → new.peer.moments ≡ Some calls
         → HasServed (server_with on_bad AddsNothing before F.contents) old new result
         → IsPrompt on_bad AddsNothing before calls }
+{}
+
+/// With a decorator that adds nothing the text for lines is the answer to them.
+pub fn undecorated_text_is_the_answer()
+    ensures { (before after : FacilityState) (events : List Event) (answer text : List ℕ)
+        → AreDecorated AddsNothing before events after answer text → text ≡ answer }
 {}

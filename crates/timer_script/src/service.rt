@@ -8,8 +8,10 @@ ghost use Rattle.std.specs.Io.KnownBytes.{IsAtEnd};
 ghost use Rattle.timer_facility.specs.State.{FacilityState, IsSound};
 ghost use Rattle.timer_script.specs.declared.watched.Watched.{Watched};
 ghost use Rattle.timer_script.specs.Peer.{PeerState};
+ghost use Rattle.timer_script.specs.ScriptRun.{AddsFirstLines};
+ghost use Rattle.timer_script.specs.Steps.{HasPlayedText};
 ghost use Rattle.timer_script.specs.Cutter.{HasTakenIn};
-ghost use Rattle.timer_script.specs.Service.{AreGood, HasSent, HasSentPart, HasAnswered, HasAnsweredPart, HasServedEvents, StopsEvents, StopsEnd, HasServedAll, HasUnseen, HasServedPiece, HasServed, server_with, last_line};
+ghost use Rattle.timer_script.specs.Service.{AreGood, HasSent, HasSentPart, HasAnswered, HasAnsweredPart, MayServe, HasServedEvents, StopsEvents, StopsEnd, HasServedAll, HasUnseen, HasServedPiece, HasServed, server_with, last_line};
 
 use crate::cutter::{Cutter, OnBadLine};
 use crate::decorator::Decorator;
@@ -53,7 +55,7 @@ fn send<P: Peer>(peer: &mut P, text: &[u8]) -> Result<(), TurnFault>
 
 /// Plays these events, and appends the answers. A line of ticks is played in steps if the decorator shows these.
 /// If memory runs out, the text answers the first events.
-#[tactic(auto, using(crate::proofs::StepLemmas::nothing_answered))]
+#[tactic(auto, using(crate::proofs::StepLemmas::played_texts))]
 fn play<W: Wheel + Drop, D: Decorator<W>>(
     session: &mut Session<W>,
     decorator: &D,
@@ -61,9 +63,9 @@ fn play<W: Wheel + Drop, D: Decorator<W>>(
     text: &mut Vec<u8>,
 ) -> Result<(), OutOfMemory>
     requires { text.old.items ≡ [] }
-    ensures whole { OnOk result (HasAnswered D.adds session.old.player events.now session.new.player
+    ensures whole { OnOk result (HasPlayedText D.adds session.old.player events.now session.new.player
         text.new.items) }
-    ensures part { OnErr result (HasAnsweredPart D.adds session.old.player events.now text.new.items) }
+    ensures part { OnErr result (AddsFirstLines session.old.player events.now [] text.new.items) }
 {
     if decorator.shows_steps()
         && let Some(count) = only_ticks(events)
@@ -81,7 +83,8 @@ fn answer<W: Wheel + Drop, D: Decorator<W>>(
     events: &[Event],
     text: &mut Vec<u8>,
 ) -> Result<(), OutOfMemory>
-    requires { text.old.items ≡ [] }
+    requires none { text.old.items ≡ [] }
+    requires few { MayServe D.adds events.now }
     ensures whole { OnOk result (HasAnswered D.adds session.old.player events.now session.new.player
         text.new.items) }
     ensures part { OnErr result (HasAnsweredPart D.adds session.old.player events.now text.new.items) }
@@ -109,9 +112,10 @@ fn serve_some<P: Peer, W: Wheel + Drop, D: Decorator<W>>(
     events: &[Event],
     text: &mut Vec<u8>,
 ) -> Result<(), TurnFault>
-    requires { AreGood (P.state peer.old) }
+    requires good { AreGood (P.state peer.old) }
+    requires few { MayServe D.adds events.now }
     ensures served { OnOk result (HasServedEvents D.adds session.old.player events.now session.new.player
-        (P.state peer.old) (P.state peer.new) [] true) }
+        (P.state peer.old) (P.state peer.new)) }
     ensures good { OnOk result (AreGood (P.state peer.new)) }
     ensures fault { IfErr result (λ fault. StopsEvents D.adds fault session.old.player events.now
         (P.state peer.old) (P.state peer.new)) }
@@ -133,7 +137,7 @@ fn serve_events<P: Peer, W: Wheel + Drop, D: Decorator<W>>(
 ) -> Result<(), TurnFault>
     requires { AreGood (P.state peer.old) }
     ensures served { OnOk result (HasServedEvents D.adds session.old.player events.now session.new.player
-        (P.state peer.old) (P.state peer.new) [] true) }
+        (P.state peer.old) (P.state peer.new)) }
     ensures good { OnOk result (AreGood (P.state peer.new)) }
     ensures fault { IfErr result (λ fault. StopsEvents D.adds fault session.old.player events.now
         (P.state peer.old) (P.state peer.new)) }

@@ -5,8 +5,7 @@
 ghost use Rattle.std.specs.Prelude.{◌≡◌, ◌<◌, ◌≤◌, ◌⊎◌, ◌∷◌, [], IfSome, OnErr, OnOk};
 ghost use Rattle.timer_facility.specs.State.{IsSound};
 ghost use Rattle.timer_facility.specs.Played.{ticks_left};
-ghost use Rattle.timer_script.specs.Decorator.{JoinsTicks};
-ghost use Rattle.timer_script.specs.Service.{HasAnswered};
+ghost use Rattle.timer_script.specs.Decorator.{HasAnsweredWithin};
 ghost use Rattle.timer_script.specs.Steps.{HasGrownByAnswer};
 
 use crate::decorator::Decorator;
@@ -35,9 +34,8 @@ pub fn play_steps<W: Wheel + Drop, D: Decorator<W>>(
     count: u64,
     text: &mut Vec<u8>,
 ) -> Result<(), OutOfMemory>
-    requires joins { JoinsTicks D.adds }
-    requires none { text.old.items ≡ [] }
-    ensures whole { OnOk result (HasAnswered D.adds session.old.player (Event.Ticks count ∷ [])
+    requires { text.old.items ≡ [] }
+    ensures whole { OnOk result (HasAnsweredWithin D.adds session.old.player (Event.Ticks count ∷ [])
         session.new.player text.new.items) }
     ensures nothing { OnErr result (text.new.items ≡ []) }
 {

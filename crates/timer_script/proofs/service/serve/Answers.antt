@@ -10,14 +10,13 @@ use Rattle.timer_script.proofs.service.serve.Goals as goal
 
 -- nothing was read or written
 pub returns-in_default : goal.returns-in_default
-returns-in_default g c = served_nothing (server_with c.args.on_bad g.D.Decorator.adds c.args.facility.state g.F.Write.contents)
-    g.met.D.Decorator.is_lawful (g.P.Peer.state c.args.peer.now) c.args.faults.now c.requires.good
+returns-in_default g c = served_nothing (server_with c.args.on_bad g.D.Decorator.adds c.args.facility.state g.F.Write.contents) (g.P.Peer.state c.args.peer.now) c.args.faults.now c.requires.good
 
 pub loop-turned-init : goal.loop-turned-init
 loop-turned-init g c =
     let e = c.new-cutter.ensures in record {
       on_bad = e.on_bad;
-      often = often_none _ g.met.D.Decorator.is_lawful _ _ c.new-cutter.result c.open-session.result.player e.held e.number e.clean
+      often = often_none _ _ _ c.new-cutter.result c.open-session.result.player e.held e.number e.clean
           c.open-session.ensures;
       good = c.requires.good;
       room = c.in-Ok.ensures.len;

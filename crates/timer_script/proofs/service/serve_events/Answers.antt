@@ -5,7 +5,7 @@ use Rattle.timer_script.proofs.service.serve_events.Goals as goal
 
 pub loop-rest-init : goal.loop-rest-init
 loop-rest-init g c = record {
-  served = up_to_none g.D.Decorator.adds g.met.D.Decorator.is_lawful c.args.session.now.player (g.P.Peer.state c.args.peer.now)
+  served = up_to_none g.D.Decorator.adds c.args.session.now.player (g.P.Peer.state c.args.peer.now)
       c.args.events.now;
   good = c.requires;
 }
@@ -15,13 +15,13 @@ returns-in_err-serve_some-clause-fault g c =
     let parts : c.loop-rest.rest.now ≡ c.split_at.result.0.now ++ c.split_at.result.1.now = search rules in
     let fault = c.in_err-serve_some.field-0.0 in
     handed_on _ c.from_residual.result fault c.from_residual.ensures.1
-    (up_to_stops _ g.met.D.Decorator.is_lawful fault _ _ _ _ _ _ _ _ _ c.loop-rest.invariant.served parts c.in_err-serve_some.ensures.fault)
+    (up_to_stops _ fault _ _ _ _ _ _ _ _ _ c.loop-rest.invariant.served parts c.in_err-serve_some.ensures.fault)
 
 pub loop-rest-preserved : goal.loop-rest-preserved
 loop-rest-preserved g c =
     let parts : c.loop-rest.rest.now ≡ c.split_at.result.0.now ++ c.split_at.result.1.now = search rules in
     record {
-      served = up_to_more _ g.met.D.Decorator.is_lawful _ _ _ _ _ _ _ _ _ _ c.loop-rest.invariant.served parts
+      served = up_to_more _ _ _ _ _ _ _ _ _ _ _ c.loop-rest.invariant.served parts
           c.in_ok-serve_some.ensures.served;
       good = c.in_ok-serve_some.ensures.good;
     }

@@ -7,7 +7,7 @@ use Rattle.timer_script.proofs.steps.play_steps.Goals as goal
 pub loop-left-init : goal.loop-left-init
 loop-left-init g c = record {
   played = steps_none g.D.Decorator.adds g.met.D.Decorator.is_lawful c.args.session.now.player c.args.count
-      c.args.text.now.items c.requires.none;
+      c.args.text.now.items c.requires;
   within = omega arith;
 }
 
@@ -25,7 +25,7 @@ loop-left-preserved g c =
     subst (λ f. (n ≡ c.loop-left.left) ⊎ (n ≤ ticks_left f)) here c.step_of-step.ensures.accepted in
     let some : 0 < c.loop-left.left = search rules in
     record {
-      played = steps_more _ g.met.D.Decorator.is_lawful c.requires.joins s m _ c.args.count c.loop-left.left n _ _ before now
+      played = steps_more _ g.met.D.Decorator.is_lawful s m _ c.args.count c.loop-left.left n _ _ before now
           c.loop-left.invariant.within some c.step_of-step.ensures.within accepted c.loop-left.invariant.played c.in-Ok.ensures;
       within = omega (arith, c.loop-left.invariant.within);
     }

@@ -1,0 +1,67 @@
+-- The lines that a decorator adds are those with a mark.
+use Rattle.std.proofs.Common.{ℕ, List, [], ◌∷◌, ◌++◌, decimal, codes, refl, sym, subst, ◌∙◌, append-nil}
+use Rattle.std.specs.Prelude.{Option, None, Some}
+use Rattle.timer_facility.specs.declared.event.Event.{Event}
+use Rattle.timer_facility.specs.declared.event.Out.{Out}
+use Rattle.timer_facility.specs.State.{FacilityState}
+use Rattle.timer_script.specs.Text.{lines_of}
+use Rattle.timer_script.specs.Splitter.{HasNoFeed}
+use Rattle.timer_script.specs.Service.{last_line}
+use Rattle.timer_script.specs.Decorator.{Decoration, AreDecorated}
+use Rattle.timer_script.proofs.SplitterLemmas.{no_feed-append, bare, decimal_bare}
+use Rattle.timer_commands.specs.Indented.{AddsMarked, AddsIndented}
+use Rattle.timer_commands.specs.IndentedLaws.{IsUnused, adds_nothing, adds_join, adds_outs, adds_end}
+use Rattle.timer_commands.specs.Wakeups.{wakeup_line, AddsWakeups}
+
+-- what is added to a line is marked
+record AreMarked (mark : ℕ) (A : Decoration) : Type 0 where
+  pub within : (outs : List Out) (text : List ℕ) → A.Within (lines_of outs) text → AddsMarked mark (lines_of outs) text
+  pub after : (s : FacilityState) (added : List ℕ) → A.After s added → AddsMarked mark [] added
+
+marked_lines : (mark : ℕ) (A : Decoration) → AreMarked mark A → (s t : FacilityState) (events : List Event) (answer text : List ℕ)
+    → AreDecorated A s events t answer text → AddsMarked mark answer text
+marked_lines mark A m s t [] answer text h =
+    subst (λ z. AddsMarked mark z text) (sym h.1) (subst (AddsMarked mark []) (sym h.2) (adds_nothing mark))
+marked_lines mark A m s t (event ∷ events) answer text h =
+    let line = h.5 in
+    let own = m.within line.answered.outs line.line line.answered.within in
+    let one = adds_join mark (lines_of line.answered.outs) [] line.line line.added own (m.after h.0 line.added line.comes_after) in
+    let here : AddsMarked mark h.1 h.2 = subst (λ z. AddsMarked mark z h.2) (append-nil _ ∙ sym line.answer_is)
+    (subst (AddsMarked mark (lines_of line.answered.outs ++ [])) (sym line.text_is) one) in
+    subst (λ z. AddsMarked mark z text) (sym h.7) (subst (AddsMarked mark (h.1 ++ h.3)) (sym h.8)
+    (adds_join mark h.1 h.3 h.2 h.4 here (marked_lines mark A m h.0 t events h.3 h.4 h.6)))
+
+-- and the end line is not
+whole_text : (mark : ℕ) (A : Decoration) → IsUnused mark → AreMarked mark A → (s t : FacilityState) (events : List Event)
+    (answer text : List ℕ) → AreDecorated A s events t answer text → AddsMarked mark (answer ++ last_line t) (text ++ last_line t)
+whole_text mark A u m s t events answer text h = adds_join mark answer (last_line t) text (last_line t)
+    (marked_lines mark A m s t events answer text h) (adds_end mark u t.now _)
+
+-- ---- the line of a wake-up
+
+wakeup_marked : (front : List ℕ) → HasNoFeed front → AddsMarked 119 [] (119 ∷ front ++ 10 ∷ [])
+wakeup_marked front free = record {
+  lines = (119 ∷ front ++ 10 ∷ []) ∷ [];
+  each = (record { front = 119 ∷ front; is = refl; no_feed = (λ e. absurd cc, free) }, tt);
+  text_is = sym (append-nil (119 ∷ front ++ 10 ∷ []));
+  answer_is = refl;
+}
+
+wakeup_is_marked : (quiet : Option ℕ) → AddsMarked 119 [] (wakeup_line quiet)
+wakeup_is_marked None = wakeup_marked (codes "akeup never") (bare (codes "akeup never") refl)
+wakeup_is_marked (Some tick) = wakeup_marked (codes "akeup " ++ decimal tick)
+    (no_feed-append (codes "akeup ") (decimal tick) (bare (codes "akeup ") refl) (decimal_bare tick))
+
+unused_w : IsUnused 119
+unused_w = record { s = refl; r = refl; e = refl; c = refl; t = refl }
+
+pub wakeups_marked : (s t : FacilityState) (events : List Event) (answer text : List ℕ) → AreDecorated AddsWakeups s events t answer text
+    → AddsMarked 119 (answer ++ last_line t) (text ++ last_line t)
+wakeups_marked = whole_text 119 AddsWakeups unused_w (record {
+  within = λ outs text is. subst (AddsMarked 119 (lines_of outs)) (sym is) (adds_outs 119 unused_w outs);
+  after = λ s added h. subst (AddsMarked 119 []) (sym h.2) (wakeup_is_marked h.0);
+})
+
+pub pictures_marked : (s t : FacilityState) (events : List Event) (answer text : List ℕ) → AreDecorated AddsIndented s events t answer text
+    → AddsMarked 32 (answer ++ last_line t) (text ++ last_line t)
+pictures_marked = whole_text 32 AddsIndented (record { s = refl; r = refl; e = refl; c = refl; t = refl }) (record { within = λ outs text h. h; after = λ s added h. h.2 })
