@@ -12,16 +12,10 @@
 //! A module's definitions are in the file of its name in `specs/`.
 #![tactic(auto)]
 
-#[cfg(test)]
-mod argument_tests;
 mod arguments;
 mod argv;
 mod command;
 mod help;
-#[cfg(test)]
-mod row_tests;
-#[cfg(test)]
-mod support;
 
 use argv::{after_name, end_without_arguments};
 use command::command;
