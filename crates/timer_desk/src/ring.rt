@@ -138,7 +138,8 @@ impl ClientEnd {
         self.looks.none_comes(&mut self.words)
     }
 
-    /// Ends the client's requests. The first result is None only if the owner's end was dropped.
+    /// Ends the client's requests. The first result is None if the owner's end was dropped: that is the ring's
+    /// answer, of which no clause speaks.
     pub fn finish(self) -> (Option<RequestsEnded>, ClientReader)
         ensures ended { IfSome result.0 (λ e. (requests_ring_of e ≡ (line_of_end self).0)
             × (all_submitted e ≡ submitted self)) }

@@ -204,8 +204,8 @@ impl Links {
     /// Makes room for `most` nodes at one time, those that are here among them. No list changes.
     ///
     /// While fewer nodes are here, `push_back` then does not fail, also after others were removed. The
-    /// error is out of memory, as that of `push_back`. What was allocated is kept, after an error too. Room
-    /// that an earlier call made is not looked at again: then nothing is allocated.
+    /// error is out of memory, as that of `push_back`: the room is then what it was. Room that an earlier call
+    /// made is not looked at again: then nothing is allocated.
     ///
     /// It may copy the nodes and the links, and takes time for the most nodes that were ever here at one time.
     /// The room itself is only allocated: nothing is written to it.

@@ -5,7 +5,7 @@ use timer_desk::{ClientReader, RequestsEnded};
 /// What is left of a client that has finished.
 #[derive(Drop)]
 pub struct Worked {
-    /// What is left of its requests. None only if the owner's end was dropped.
+    /// What is left of its requests. None if the owner's end was dropped, by the ring's answer.
     pub ended: Option<RequestsEnded>,
     /// The reader of its words.
     pub reader: ClientReader,

@@ -113,7 +113,7 @@ impl<W: Wheel + Drop> Timers<W> {
     }
 
     /// Makes room for `most` timers at one time, pending ones and those that expired and were not yet taken.
-    /// No timer changes. The only error is out of memory, and what was allocated is kept then too.
+    /// No timer changes. The only error is out of memory, and then there is as much room as before.
     ///
     /// While fewer are held, a start then finds memory, also after others were removed.
     pub fn reserve(&mut self, most: usize) -> Result<(), OutOfMemory>
