@@ -99,9 +99,10 @@
  *     other function meets the contract stated in crates/timer_desk_c/src/desk_exports.rt or line_exports.rt, for
  *     every call that keeps the rules below. Nothing checks that a caller keeps them. Nothing is proved about time: when a thread runs, and
  *     when a word arrives. Nor is it proved that timers_desk_line_freed and timers_line_abandoned return true
- *     exactly if the other end was freed. It is proved that they change nothing, and test in the right order:
- *     first whether the desk is gone, and then whether a word is left in the line. So no word that was put before
- *     is missed. The same holds for a client's requests before its line is opened again.
+ *     exactly if the other end was freed. It is proved that they change nothing, and record their tests in the right
+ *     order: first whether the desk is gone, and then whether a word is left in the line. That each test reads the
+ *     ring, so that no word that was put before is missed, is tested. The same holds for a client's requests before
+ *     its line is opened again.
  *
  * RULES
  *     1. A `struct timers_desk` begins as TIMERS_DESK_INIT and a `struct timers_line` as TIMERS_LINE_INIT,
