@@ -236,7 +236,8 @@ module _ {n last_tick now last : ℕ} {lists : KeyedLists} (a : AreBuckets n las
 
   each_after : EachRow (StaysIn n last_tick (now + 1) last) n new
   each_after t h = elim (cases_eq t tick_slot) [
-    | inl e ↦ rw (e, at_this) (stays-later n now bucket swept_rows last_tick last tick_slot (stays n last_tick now last lists a.pending b tick_slot below))
+    | inl e ↦ rw (e, at_this) (stays-later n now bucket swept_rows last_tick last tick_slot
+        (stays n last_tick now last lists a.pending b tick_slot below))
     | inr x ↦ rw (at_other t h x) (staying_rows t h x)
   ]
 

@@ -26,7 +26,8 @@ pub record IsEmptying (table : List ℕ) (l tick moves : ℕ) (old lists : Keyed
   pub moves_are : moves + length (left_rows tick (list_at l lists)) ≡ length (left_rows tick (list_at l old))
   pub few : moves + length (list_at l lists) ≤ length (list_at l old)
 
-module _ (table : List ℕ) (l tick : ℕ) (lists : KeyedLists) (row : Row) (rest : Rows) (b : l < length lists) (at : list_at l lists ≡ row ∷ rest) (n : target table tick row ≢ l) where
+module _ (table : List ℕ) (l tick : ℕ) (lists : KeyedLists) (row : Row) (rest : Rows) (b : l < length lists)
+    (at : list_at l lists ≡ row ∷ rest) (n : target table tick row ≢ l) where
   abbrev to : ℕ
   to = target table tick row
 

@@ -9,4 +9,5 @@ loop-list-preserved c =
     let r : c.args.count < length c.args.links.now.lists = c.requires in
     let t : c.loop-list.list < c.args.count = c.loop-list-test.true in
     least-more c.loop-list.list c.args.links.now.lists c.loop-list.least c.known.result c.earlier-least.result
-    (omega arith) c.loop-list.invariant (c.known.ensures (timers_in (list_at c.loop-list.list c.args.links.now.lists)) c.first_in.ensures) c.earlier-least.ensures
+    (omega arith) c.loop-list.invariant (c.known.ensures (timers_in (list_at c.loop-list.list c.args.links.now.lists))
+    c.first_in.ensures) c.earlier-least.ensures

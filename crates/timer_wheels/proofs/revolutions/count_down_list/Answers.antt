@@ -34,7 +34,8 @@ loop-step-preserved c =
       room = c.set_rounds.ensures.room ∙ s.invariant.room;
       rows = counting-one c.args.list s.step c.args.rounds c.args.links.now.lists s.links.lists c.requires.list c.in-Some.key
           s.at s.invariant.rows c.in-Some.is c.step-here.result.rounds (c.step-here.result.rounds - c.args.rounds)
-          c.set_rounds.new.self.lists c.step-here.result.next c.lemma_keys_unique.ensures c.step-here.ensures.rounds refl c.set_rounds.ensures.set c.step-here.ensures.next;
+          c.set_rounds.new.self.lists c.step-here.result.next c.lemma_keys_unique.ensures c.step-here.ensures.rounds refl
+          c.set_rounds.ensures.set c.step-here.ensures.next;
     }
 
 pub returns-after-loop-step-clause-counted : goal.returns-after-loop-step-clause-counted

@@ -31,7 +31,8 @@ pub returns-clause-skipped : goal.returns-clause-skipped
 returns-clause-skipped c =
     let b = c.args.buckets.now in
     let n = c.fewest_rounds-revolutions.result in
-    rw c.count_down_lists.ensures.room (ap (with_room b.links.room) (skipped b.sound n (b.tick + n * b.slots) c.count_down_lists.new.links.lists c.requires.has_slots refl
+    rw c.count_down_lists.ensures.room (ap (with_room b.links.room)
+    (skipped b.sound n (b.tick + n * b.slots) c.count_down_lists.new.links.lists c.requires.has_slots refl
     c.count_down_lists.ensures.length c.requires.in_buckets c.fewest_rounds-revolutions.ensures.fewest
     c.count_down_lists.ensures.counted (c.count_down_lists.ensures.others b.slots (omega arith))))
 

@@ -19,7 +19,8 @@ overflow_add-moves c =
     search rules
 
 pub returns-then-has_due-clause-leaps : goal.returns-then-has_due-clause-leaps
-returns-then-has_due-clause-leaps c = leaps_all c.loop-self.invariant c.leap_to_visit-moves.result c.leap_to_visit-moves.new.self c.leap_to_visit-moves.ensures.leaps
+returns-then-has_due-clause-leaps c = leaps_all c.loop-self.invariant c.leap_to_visit-moves.result
+    c.leap_to_visit-moves.new.self c.leap_to_visit-moves.ensures.leaps
 
 passed_on : (a p b c : ℕ) → b ≡ a + p → b < c → a < c
 passed_on a p b c e h = omega arith
@@ -29,12 +30,14 @@ returns-then-has_due-clause-advances c =
     let w = c.loop-self.invariant in
     let n = c.leap_to_visit-moves.new.self.buckets in
     advancing_ends (radices c.args.self.now.table) c.args.most (c.loop-self.moves + c.leap_to_visit-moves.result)
-    (state_of c.args.self.now.buckets) (state_of n) (leaps_all w c.leap_to_visit-moves.result c.leap_to_visit-moves.new.self c.leap_to_visit-moves.ensures.leaps)
+    (state_of c.args.self.now.buckets) (state_of n) (leaps_all w c.leap_to_visit-moves.result c.leap_to_visit-moves.new.self
+    c.leap_to_visit-moves.ensures.leaps)
     (passed_on c.args.self.now.buckets.tick w.leaps.passed c.loop-self.self.buckets.tick n.tick w.leaps.now_is
     c.leap_to_visit-moves.ensures.later) c.leap_to_visit-moves.ensures.end (λ h. c.has_due.ensures.0 c.if-has_due.true)
 
 pub loop-self-preserved : goal.loop-self-preserved
-loop-self-preserved c = advancing_leap c.loop-self.invariant c.leap_to_visit-moves.result c.leap_to_visit-moves.new.self c.leap_to_visit-moves.ensures.leaps c.leap_to_visit-moves.ensures.table
+loop-self-preserved c = advancing_leap c.loop-self.invariant c.leap_to_visit-moves.result c.leap_to_visit-moves.new.self
+    c.leap_to_visit-moves.ensures.leaps c.leap_to_visit-moves.ensures.table
     (not_due (state_of c.leap_to_visit-moves.new.self.buckets).due c.has_due.result c.has_due.ensures c.if-has_due.false)
     c.leap_to_visit-moves.ensures.end
 
