@@ -7,8 +7,8 @@
  * action of each. The owner passes a tick a turn. With a mutex a client starts its timers itself, and the owner hands out
  * what expires by a queue for each client, which has a mutex of its own.
  *
- * Prints one line of numbers: words (an answer and an expiry a timer), seconds, then in nanoseconds the median, the 99.9th
- * percentile and the most of a call to start, and the same of the time from a request to its answer. A desk's call is timed
+ * Prints one line of numbers: words (an answer and an expiry a timer), seconds, then in nanoseconds the median, the 99.9th and
+ * 99.99th percentiles and the most of a call to start, and the same of the time from a request to its answer. A desk's call is timed
  * if its line had room; a request begins at its first call, so it has the time in which the line was full. With a mutex the
  * call is the answer. */
 #include "desk_clients.h"

@@ -121,7 +121,7 @@ public:
 		using ratio = std::ratio_divide<Period, typename Tick::period>;
 		constexpr std::uint64_t num = ratio::num, den = ratio::den;
 		constexpr std::uint64_t most = std::numeric_limits<std::uint64_t>::max();
-		static_assert(num <= most / den, "the lengths of a tick and of the interval's unit are too far apart");
+		static_assert(num < most / den, "the lengths of a tick and of the interval's unit are too far apart");
 		if (interval.count() <= 0)
 			return ticks::zero();
 		const std::uint64_t count = static_cast<std::uint64_t>(interval.count());

@@ -124,7 +124,8 @@ public:
 		timers_desk_config made = {};
 		made.size = sizeof made;
 		made.capacity = capacity;
-		made.room = timers + requests + 1;
+		const std::size_t most = std::numeric_limits<std::size_t>::max();       /* which timers_desk_new refuses */
+		made.room = requests < most && timers < most - requests ? timers + requests + 1 : most;
 		made.line = requests;
 		return made;
 	}
@@ -134,6 +135,8 @@ public:
 	desk(std::vector<line> &lines, std::size_t clients, const timers_desk_config &config) : raw_ TIMERS_DESK_INIT
 	{
 		raw_.lives = count();           /* so that a line of another desk is refused */
+		if (clients > TIMERS_DESK_CLIENTS)
+			throw desk_error(TIMERS_DESK_OUT_OF_RANGE);
 		std::vector<timers_line> raw(clients + 1, timers_line TIMERS_LINE_INIT);
 		std::vector<line> ends(clients);
 		check(timers_desk_new(&raw_, raw.data(), clients, &config));

@@ -268,7 +268,7 @@ class Timers:
         return self._call["now"](self._held)
 
     def wakeup(self):
-        """The tick until which to sleep, or None if nothing is pending."""
+        """The tick until which to sleep, or None if no timer is held."""
         tick = self._call["wakeup"](self._held)
         return None if tick == NEVER else tick
 

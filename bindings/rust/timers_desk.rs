@@ -610,7 +610,7 @@ impl Line {
     }
 
     /// Whether the desk was dropped, and all words that it had put into the line were received. False if the words were
-    /// ended by [`Desk::end`]: then [`Line::ended`] is true. A client's loop ends if either is.
+    /// ended by [`Desk::end`]: then [`Line::ended`] is true once all were received. A client's loop ends if either is.
     #[must_use]
     pub fn abandoned(&mut self) -> bool {
         unsafe { timers_line_abandoned(&mut self.held) }

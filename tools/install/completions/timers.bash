@@ -8,6 +8,7 @@ _timers() {
             words=$(sed -nE "s/^ +$3 <.*\[possible values: (.*)\]\$/\1/p" <<< "$help" | tr -d ,)
         fi
     else
+        [ "$COMP_CWORD" -eq 1 ] || option=   # help takes no option
         words=$("$1" -h 2> /dev/null | sed -nE "/^Commands:/,/^\$/s/^  ([a-z]+) .*/\1/p; $option")
     fi
     mapfile -t COMPREPLY < <(compgen -W "$words" -- "$2")
