@@ -33,7 +33,7 @@ pub const CLOSED: u32 = 11;
 /// The facility is at its capacity of pending timers.
 pub const CAPACITY: u32 = 12;
 
-/// There is no such client, or as many can't be served.
+/// There is no such client.
 pub const NO_CLIENT: u32 = 13;
 
 /// The client's request numbers are used up.

@@ -74,7 +74,7 @@ IsDigitAt bytes at = (at < length bytes) × IsDigit (slice_index bytes at)
 abbrev pub IsAfterZero : List ℕ → ℕ → Type 0
 IsAfterZero bytes at = IsBefore 48 bytes at × IsBefore 32 bytes (at - 1)
 
--- a digit with which a number leaves its range
+-- a digit after the word, and not after a single zero: a number may leave its range with it
 abbrev pub LeavesRange : List ℕ → ℕ → Type 0
 LeavesRange bytes at = IsDigitAt bytes at × IsAfterSpace bytes at × ¬ (IsAfterZero bytes at)
 

@@ -262,7 +262,7 @@ HasServed server old new (Err faults.Write) =
     × HasAnsweredAll server new.peer events (sent ++ unsent)
     × HasTalked server old.peer new.peer came sent flushed))
     × (new.peer.read_failed ≡ false) × (new.peer.write_failed ≡ true)
--- more bytes came than a u64 counts, and each complete line of them is answered, or was reported
+-- 2^64 - 1 bytes came or more, and each complete line of them is answered, or was reported
 HasServed server old new (Err faults.TooLong) = (s : FacilityState)
     × (served : HasServedAll server (HasPassed server.on_bad AreSoFar server.contents old.faults new.faults)
     old.peer new.peer s)

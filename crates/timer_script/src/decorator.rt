@@ -27,7 +27,8 @@ pub trait Decorator<W: Wheel + Drop> {
         ensures kept { HasGrown text.old.items text.new.items };
 
     /// Whether the ticks of a line are played in steps, and what comes after each of them is added. A step ends at
-    /// the latest at the tick until which the facility is quiet. It has an effect only beside `sends_each_line`.
+    /// the latest at the tick until which the facility is quiet. Without `sends_each_line` it has an
+    /// effect only if a read has that one line.
     fn shows_steps(&self) -> bool {
         false
     }

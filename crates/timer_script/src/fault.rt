@@ -103,7 +103,7 @@ pub enum ServeFault {
     /// A write or a flush failed.
     #[error("write failed")]
     Write,
-    /// More bytes came than 64 bits count.
+    /// 2^64 - 1 bytes came, or more.
     #[error("too long")]
     TooLong,
 }

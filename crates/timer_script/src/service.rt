@@ -238,8 +238,8 @@ fn end_stream<P: Peer, W: Wheel + Drop, D: Decorator<W>, F: Write>(
 ///
 /// With `OnBadLine::Stop` a bad line ends it as an error, and nothing is written to `faults`. With `Report`
 /// what is written to the peer is the answer to the good lines alone, and a bad line is reported to `faults` by
-/// its number, counted from 1 over all lines (2^64 - 1 stands for any later one), with the column and the reason
-/// of `check`. The reports of one read are written before its answers: no clause says so. An error in reporting is
+/// its number, counted from 1 over all lines (2^64 - 1 stands for any later one), with a column and a reason that
+/// `check` may give. The reports of one read are written before its answers: no clause says so. An error in reporting is
 /// ignored, and ends the reports.
 ///
 /// The peer may not have failed before, and nothing may be pending in the facility or wait in it.
