@@ -75,8 +75,8 @@
  *         set_at                  as restart_at if the handle names a timer, else as start_at
  *         stop, look, expire      constant
  *         expire_batch            each timer that it takes
- *         tick                    constant; at a multiple of 64 (60), one bucket
- *         advance, advance_to     each bucket with timers on the way, each move
+ *         tick                    constant; at a multiple of 64 (60), each timer of one bucket
+ *         advance, advance_to     each bucket with timers on the way; above the lowest wheel each timer in it
  *         take                    as advance_to
  *         clear                   each timer that is held, and the buckets
  *         wakeup, has_due, now    constant

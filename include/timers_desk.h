@@ -97,7 +97,8 @@
  *
  *     The library is proved, but for the few lines of C that allocate and the inline function of this header. Each
  *     other function meets the contract stated in crates/timer_desk_c/src/desk_exports.rt or line_exports.rt, for
- *     every call that keeps the rules below. Nothing checks that a caller keeps them. Nothing is proved about time: when a thread runs, and
+ *     every call that keeps the rules below. Nothing checks them, but that a settled line has the client and the life of
+ *     rule 5. Nothing is proved about time: when a thread runs, and
  *     when a word arrives. Nor is it proved that timers_desk_line_freed and timers_line_abandoned return true
  *     exactly if the other end was freed. It is proved that they change nothing, and record their tests in the right
  *     order: first whether the desk is gone, and then whether a word is left in the line. That each test reads the
@@ -390,7 +391,7 @@ enum timers_desk_status timers_desk_open(struct timers_desk *d, size_t client, s
 /* Makes room for as many timers as may be pending, and for the list of them that a close makes. From then on no serve
  * and no timers_desk_close allocates or runs out of memory. Takes 104 bytes for each of `capacity`. A second call
  * allocates nothing.
- * TIMERS_DESK_NOT_OPEN, TIMERS_DESK_NO_MEMORY: nothing has changed. */
+ * TIMERS_DESK_NOT_OPEN, TIMERS_DESK_NO_MEMORY: no timer and no word has changed, and part of the memory may be kept. */
 TIMERS_CHECKED
 enum timers_desk_status timers_desk_reserve(struct timers_desk *d);
 

@@ -66,11 +66,12 @@ function digitTable(timer, now) {
 function historyRow(event, step) {
   const past = event.step <= step;
   const line = play.steps[event.step - 1].line + 1;
+  const by = event.tick === undefined && play.whole.includes(line - 1) ? "by " : "";
   const tick = event.tick === undefined ? play.now(event.step) : event.tick;
   const state = `${past ? "is-past" : ""} ${event.step === step ? "is-now" : ""}`;
   return make("li", {class: state.trim()},
       make("button", {type: "button", onclick: () => go(event.step)}, words.event(event),
-          make("small", {}, `tick ${tick}, line ${line}`)));
+          make("small", {}, `${by}tick ${tick}, line ${line}`)));
 }
 
 // A timer's history. Of the rounds only the present one is listed.

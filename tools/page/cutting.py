@@ -4,7 +4,7 @@ The cuts follow from the deadlines alone. They decide at which ticks the program
 stand, and nothing of what it answers."""
 from dataclasses import dataclass
 
-MAX_PIECES = 500  # of one line; a line with more is one step
+MAX_PIECES = 500  # of one line; a line with as many stops is one step
 MAX_STEPS = 5_000
 
 
@@ -73,13 +73,14 @@ def cut(line, text, now, then, ticks):
 
 
 def pieces(scheme, first_tick, lines, steps):
-    """The script's lines, cut, and the lines that would have had too many pieces."""
+    """The script's lines, cut, and the lines of ticks that are not: they would have too many pieces, or are refused."""
     made, uncut, deadlines, now = [], [], {}, first_tick
     for step in steps:
         text = lines[step.line]
-        is_tick = text.startswith("tick ") and not any(a.startswith("tick refused") for a in step.answers)
+        is_refused = any(a.startswith("tick refused") for a in step.answers)
+        is_tick = text.startswith("tick ") and not is_refused
         ticks = stops(scheme, now, step.now, deadlines.values()) if is_tick else []
-        if ticks is None or len(made) > MAX_STEPS:
+        if ticks is None or is_refused and step.now != now or is_tick and len(made) > MAX_STEPS:
             uncut.append(step.line)
             ticks = []
         if is_tick:

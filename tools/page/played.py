@@ -82,7 +82,7 @@ def play(program, script, options, whole):
     text, error = show(program, options, script)
     bad = int(error.removeprefix("bad line ")) - 1 if error else None
     steps = steps_of(text, [(line, 0) for line in range(len(lines))])
-    uncut = []
+    uncut = [line for line, text in enumerate(lines) if text.startswith("tick ")]
     if not whole:
         good = lines[:bad]
         pieces, uncut = cutting.pieces(scheme, first_tick, good, steps)
