@@ -7,8 +7,8 @@
 //!
 //! A number goes wrong at the digit with which it leaves its range: `tick 1000001` at its last one.
 //!
-//! It is proved which bytes have a fault, and that its reason is that of its column and no other. That no earlier
-//! byte is at fault, and which of its word's fields is named, is only tested.
+//! It is proved which bytes have a fault, and that its reason is that of its column and no other (of the two ranges,
+//! one). That no earlier byte is at fault, and which of its word's fields is named, is only tested.
 ghost use Rattle.std.specs.Prelude.{◌≡◌, ◌↔◌, ◌+◌, ◌<◌, ◌≤◌, ℕ, None, Some, false, IsTrue, IfSome, length, take, slice_index, Option};
 ghost use Rattle.timer_base.specs.declared.limits.TheConstants.{LAST};
 ghost use Rattle.timer_script.specs.Diagnosis.{IsLine, IsReasonAt, NamesField, IsFaultOf, IsVerdict, IsDigit, IsLetter, IsWord, IsAt, IsBefore, AreBefore, IsDigitAt, IsBehind, IsEndOf, IsInNumber};
