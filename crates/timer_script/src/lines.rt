@@ -118,8 +118,8 @@ fn read_stop(bytes: &[u8]) -> Option<(Event, &[u8])>
     Some((event, rest))
 }
 
-/// What follows `restart `.
-#[inline(always)]
+/// What follows `restart `. A call, as that of `tick ` is: with both inside, `read_line` is too large to be inlined.
+#[inline(never)]
 #[tactic(auto, unfolding(crate::specs::Lines::restart_at))]
 fn read_restart(bytes: &[u8]) -> Option<(Event, &[u8])>
     ensures { read_view (λ e. e) result ≡ restart_at bytes.now }
@@ -140,7 +140,7 @@ fn read_restart(bytes: &[u8]) -> Option<(Event, &[u8])>
 }
 
 /// What follows `tick `.
-#[inline(always)]
+#[inline(never)]
 #[tactic(auto, unfolding(crate::specs::Lines::tick_at))]
 fn read_tick(bytes: &[u8]) -> Option<(Event, &[u8])>
     ensures { read_view (λ e. e) result ≡ tick_at bytes.now }
