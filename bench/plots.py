@@ -205,6 +205,8 @@ def lines(folder):
 
 def main():
     folder = sys.argv[1] if len(sys.argv) > 1 else os.path.join(figures.HERE, "..", "docs")
+    if not os.path.isdir(folder):
+        figures.fail(__doc__, 2)
     for plot in (bench, scale, tail, lines):
         plot(folder)
 

@@ -95,7 +95,7 @@ inline uint64_t op_ticks(uint64_t k) { return OP_TICKS | k << 2; }
 inline uint64_t op_advance(uint64_t k) { return OP_ADVANCE | k << 2; }
 
 // Time-outs of n connections. At each tick 32 random ones show life: each stops its timer and starts it anew.
-// The mean interval is three mean times between two signs of life, so one in twenty is not stopped in time.
+// Intervals are 1.5 to 4.5 mean times between two signs of life, so that 7 % are not stopped in time.
 // `pushes`: in one operation, a push-back.
 inline Workload churn(uint64_t n, uint64_t touches, bool pushes, std::string name) {
   Random r{n * 77 + 1};

@@ -5,7 +5,8 @@
  *
  * A `timing::timers<Tick, Action>` owns timers and frees them. It can be moved and not copied. timers.h
  * says what each call does; this header says what differs. It allocates nothing and takes no lock: the owner
- * is a `struct timers` and the last tick of its clock, 32 bytes. Each call but catch_up is one of C.
+ * is a `struct timers` and the last tick of its clock, 32 bytes. Each call is one of C, but for catch_up and each,
+ * which make several, and in_ticks and at_least, which make none.
  *
  * TICKS. `Tick` is the length of a tick, a std::chrono::duration. The clock and deadlines are `ticks`,
  * counted from tick 0. An interval is any duration of whole numbers, and is rounded up to ticks. An
@@ -87,7 +88,7 @@ public:
 		Action action;
 	};
 
-	/* Throws error: TIMERS_NO_TABLE, TIMERS_TOO_LATE; std::bad_alloc. */
+	/* Throws error: TIMERS_TOO_LATE; std::bad_alloc. */
 	explicit timers(enum timers_table table = TIMERS_WIDE, ticks first_tick = ticks::zero())
 		: last_tick_(table == TIMERS_CLOCK ? TIMERS_CLOCK_LAST : TIMERS_LAST)
 	{

@@ -370,7 +370,8 @@ enum timers_desk_status timers_desk_end_all(struct timers_desk *d, struct timers
  *
  * Serve the client before, until that returns TIMERS_DESK_IDLE, or TIMERS_DESK_NO_ROOM because its timers take all
  * room. A request that is still in its line may be refused afterwards, since a stop took its number: it then starts and
- * stops nothing. After TIMERS_DESK_NO_ROOM repeat both calls, until a serve returns TIMERS_DESK_IDLE.
+ * stops nothing. After TIMERS_DESK_NO_ROOM flush the client, which drops its words, and repeat all three calls until a
+ * serve returns TIMERS_DESK_IDLE.
  *
  * Takes time for each place in which there ever was a timer, of any client. Does not allocate.
  * TIMERS_DESK_NOT_OPEN, TIMERS_DESK_NO_CLIENT, TIMERS_DESK_NOT_FREED, TIMERS_DESK_CLOSED (the close has returned its

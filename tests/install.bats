@@ -259,6 +259,7 @@ with Timers() as timers:
 
 @test "from the tarball: each file, mode and link, and folders that all can read" {
     cd "$work/dist/share/doc/timers"
+    [ "$(stat -c %a BUILT CITATION.cff PROVENANCE README SECURITY.md | sort -u)" = 644 ]
     rm BUILT CITATION.cff PROVENANCE README SECURITY.md
     cd "$top"
     names_only_what_is_there "$work/dist"

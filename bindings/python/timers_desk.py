@@ -207,11 +207,11 @@ class Desk:
             self.free()
 
     def serve(self, client):
-        """The status: OK, IDLE, NO_ROOM, NO_MEMORY or NO_CLIENT."""
+        """The status: OK, IDLE, NO_ROOM, NO_MEMORY or NO_CLIENT; NOT_OPEN after free()."""
         return self._library.timers_desk_serve(byref(self._held), number(client))
 
     def serve_all(self, most=64):
-        """The status: OK, IDLE or NO_MEMORY."""
+        """The status: OK, IDLE or NO_MEMORY; NOT_OPEN after free()."""
         return self._library.timers_desk_serve_all(byref(self._held), number(most))
 
     def flush(self, client):

@@ -36,7 +36,7 @@ static struct connection {
 static struct timers_desk desk = TIMERS_DESK_INIT;
 static struct sockaddr_in address = { .sin_family = AF_INET };
 static int owners_bell;
-static atomic_int peers = PEERS, answered, opened;
+static atomic_int peers = PEERS, answered, opened, admitted;
 static void need(bool fact, const char *what) { if (!fact) perror(what), exit(1); }
 static void ring(int bell) { need(write(bell, &(uint64_t){ 1 }, 8) == 8, "the bell"); }
 static void hush(int bell) { uint64_t count; ssize_t n = read(bell, &count, 8); (void)n; }
@@ -85,8 +85,8 @@ static void *connected(void *at)
 			ring(owners_bell);              /* the line has room again */
 		struct pollfd p[2] = { { me->bell, POLLIN, 0 }, { me->socket, me->timers < MOST ? POLLIN : 0, 0 } };
 		poll(p, 2, some ? 0 : -1);
-		if (p[1].revents)
-			there = take_byte(me);
+		if (p[1].revents)               /* without POLLIN: the peer is gone, whatever it sent before */
+			there = me->timers < MOST && take_byte(me);
 	}
 	close(me->socket);
 	timers_line_free(&me->line);
@@ -103,6 +103,7 @@ static void admit(int listener, struct connection *c)
 	atomic_store(&c->gone, false);
 	pthread_t thread;
 	need(c->socket >= 0 && !pthread_create(&thread, NULL, connected, c) && !pthread_detach(thread), "no connection");
+	admitted++;
 }
 
 /* Stops the time-outs of each client that is gone, and opens its line again. */
@@ -142,7 +143,7 @@ static void own(int listener, uint64_t began)
 				at_work++;
 			else
 				free_one = &connections[c];
-		if (last && at_work == 0)
+		if (last && at_work == 0 && admitted == PEERS)
 			return;
 		struct pollfd p[2] = { { owners_bell, POLLIN, 0 }, { listener, POLLIN, 0 } };
 		uint64_t wakeup = timers_desk_wakeup(&desk), rest = wakeup <= now ? 0 : wakeup - now;
