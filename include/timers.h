@@ -286,7 +286,7 @@ struct timers_expired {
 struct timers_counters {
 	uint64_t starts;     /* timers that were started or restarted */
 	uint64_t moves;      /* how often a timer moved to a lower wheel */
-	uint64_t visits;     /* buckets that ticks came to, also those that were known to be empty */
+	uint64_t visits;     /* buckets that ticks came to, empty ones too: see timers_counts */
 };
 
 /* From now on the library calls these functions instead of malloc, realloc and free, and they must behave alike.

@@ -7,7 +7,7 @@ pub record WheelCounts : Type 0 where
   pub starts : ℕ
   -- how often a timer moved to a lower wheel
   pub moves : ℕ
-  -- buckets that were visited, counting those that were known to be empty
+  -- buckets that ticks came to, empty ones too: one for each single tick; each wheel says what a jump adds
   pub visits : ℕ
 
 -- those of a new wheel, and of one that counts nothing

@@ -30,6 +30,6 @@ pub struct Counts {
     pub starts: u64,
     /// How often a timer moved to a lower wheel.
     pub moves: u64,
-    /// Buckets that were visited, counting those that were known to be empty.
+    /// Buckets that ticks came to, empty ones too.
     pub visits: u64,
 }

@@ -27,8 +27,8 @@ pub record IsForwarded (s : FacilityState) (client : ℕ) (numbered : Numbered) 
   pub left : new ≡ with_nothing_waiting (request_step s client numbered word).state
   pub not_out_of_memory : IsNotOutOfMemory word
 
--- the line ran out of memory, or the request that is now held did: a start that would be accepted, at a facility in
--- which no room was made
+-- memory can have run out: of a line that may refuse, or of the request that is now held, which is a start that would
+-- be accepted, at a facility in which no room was made
 abbrev pub RanOutOfMemory : Bool → ℕ → FacilityState → Option Numbered → Type 0
 RanOutOfMemory line_may_refuse client s None = line_may_refuse ≡ true
 RanOutOfMemory line_may_refuse client s (Some numbered) =
