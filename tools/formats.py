@@ -66,4 +66,5 @@ if __name__ == "__main__":
     for name, value in NUMBERS.items():
         print(f"#define {name} UINT64_C({value})")
     print(f'#define TOO_LONG "{ERRORS[1]}"')
-    print("#define REASONS_OF_A_LINE", ", ".join(f'"{reason}"' for reason in REASONS_OF_A_LINE))
+    for name, words in [("REASONS_OF_A_LINE", REASONS_OF_A_LINE), ("REFUSALS", reasons())]:
+        print(f"#define {name}", ", ".join(f'"{word}"' for word in words))

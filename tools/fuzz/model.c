@@ -10,6 +10,12 @@
 
 enum kind { START, STOP, RESTART, TICKS, CLOSE };
 
+/* Why requests and ticks are refused, in the order of the page's tables. */
+enum refusal {
+	CLOSED, NO_CLIENT, REPEATED, NUMBERS_SPENT, AHEAD, ZERO_INTERVAL, TOO_LATE, SERIALS_SPENT, FULL, NO_SUCH, CLOCK_END, NONE
+};
+static const char *const WORDS[NONE] = {REFUSALS};
+
 struct event {
 	enum kind kind;
 	uint64_t client, number, serial, interval, action, count;
@@ -121,47 +127,47 @@ static size_t named(const struct facility *f, uint64_t client, uint64_t serial)
 	return i;
 }
 
-static const char *not_taken(const struct facility *f, const struct event *e)
+static enum refusal not_taken(const struct facility *f, const struct event *e)
 {
 	if (f->closed)
-		return "closed";
+		return CLOSED;
 	if (e->client >= f->is.clients)
-		return "no-client";
+		return NO_CLIENT;
 	if (e->number < f->numbers[e->client])
-		return "repeated";
+		return REPEATED;
 	if (f->numbers[e->client] > LAST)
-		return "numbers-spent";
+		return NUMBERS_SPENT;
 	if (e->number > f->numbers[e->client])
-		return "ahead";
-	return NULL;
+		return AHEAD;
+	return NONE;
 }
 
-static const char *refused(const struct facility *f, const struct event *e)
+static enum refusal refused(const struct facility *f, const struct event *e)
 {
 	if (e->kind != START && named(f, e->client, e->serial) == f->len)
-		return "no-such";
+		return NO_SUCH;
 	if (e->kind == STOP)
-		return NULL;
+		return NONE;
 	if (e->interval == 0)
-		return "zero-interval";
+		return ZERO_INTERVAL;
 	if (e->interval > f->is.last_tick - f->now)
-		return "too-late";
+		return TOO_LATE;
 	if (f->next_serial > LAST)
-		return "serials-spent";
+		return SERIALS_SPENT;
 	if (e->kind == START && f->len == f->is.capacity)
-		return "full";
-	return NULL;
+		return FULL;
+	return NONE;
 }
 
 static void request(struct facility *f, const struct event *e, struct text *out)
 {
-	const char *why = not_taken(f, e);
-	if (!why) {
+	enum refusal why = not_taken(f, e);
+	if (why == NONE) {
 		f->numbers[e->client]++;
 		why = refused(f, e);
 	}
-	if (why) {
-		add(out, "refused %" PRIu64 " %" PRIu64 " %s\n", e->client, e->number, why);
+	if (why != NONE) {
+		add(out, "refused %" PRIu64 " %" PRIu64 " %s\n", e->client, e->number, WORDS[why]);
 		return;
 	}
 	if (e->kind != START)
@@ -226,7 +232,7 @@ static void expire(struct facility *f, uint64_t tick, struct text *out)
 static void ticks(struct facility *f, uint64_t count, struct text *out)
 {
 	if (f->closed) {
-		add(out, "tick refused closed\n");
+		add(out, "tick refused %s\n", WORDS[CLOSED]);
 		return;
 	}
 	uint64_t left = f->is.last_tick - f->now;
@@ -239,13 +245,13 @@ static void ticks(struct facility *f, uint64_t count, struct text *out)
 	expire(f, tick, out);
 	f->now = tick;
 	if (count > left)
-		add(out, "tick refused clock-end\n");
+		add(out, "tick refused %s\n", WORDS[CLOCK_END]);
 }
 
 static void close_all(struct facility *f, struct text *out)
 {
 	if (f->closed) {
-		add(out, "close refused closed\n");
+		add(out, "close refused %s\n", WORDS[CLOSED]);
 		return;
 	}
 	f->closed = true;
