@@ -3,7 +3,7 @@
  * NAME
  *     timers_desk_new, timers_desk_free - make and free a desk with its clients' lines
  *     timers_desk_serve, timers_desk_serve_all - take requests
- *     timers_desk_flush, timers_desk_flush_all - hand out words
+ *     timers_desk_flush, timers_desk_flush_all - put words into their lines
  *     timers_desk_tick, timers_desk_advance - pass ticks
  *     timers_desk_close, timers_desk_settle - close, settle a finished line
  *     timers_desk_end, timers_desk_end_all - end the words of finished lines
