@@ -122,7 +122,7 @@ module _ {I : Type 0} (kind : LineKind I) where
     pub step : steps_of more ≡ taken ∷ []
     pub holds : ReportHolds more old new
 
-  -- nothing was taken from a line, and all else is unchanged
+  -- nothing was taken from a line, and facility and outboxes are unchanged; more may be known of a line
   pub record TakesNothing (old new : DeskState I) : Type 0 where
     pub same_facility : new.facility ≡ old.facility
     pub same_backlogs : new.backlogs ≡ old.backlogs

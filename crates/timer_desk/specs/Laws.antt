@@ -27,9 +27,9 @@ abbrev pub pending_after : ℕ → FacilityState → List Done → ℕ
 pending_after c s past = pending_of (run s (events past)).state c
 
 -- When a member is right for client c, whose account was a before the report and is b after it. A serve's result
--- accords with the room. It runs out of memory only if the request that is then held (the next one done,
--- or the one held at the end) allocates. After the member the outbox has room for a notice of each pending
--- timer.
+-- accords with the room. It runs out of memory only if the line may, or if the request that is then held (the
+-- next one done, or the one held at the end) allocates. After the member the outbox has room for a notice of
+-- each pending timer.
 pub record RespectsRoom (may_refuse : Bool) (c : ℕ) (s : FacilityState) (a b : Account) (past : List Done)
     (done : Done) (later : List Done) : Type 0 where
   pub served : (result : Served) → done ≡ Dones.Served c result

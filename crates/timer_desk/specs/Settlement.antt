@@ -13,7 +13,8 @@ pub record HasSettled (old new : RingInlet) (submitted : List Numbered) (count :
   pub got_stays : got_of new ≡ got_of old
   pub given_stays : given_of new ≡ given_of old
 
--- only more slots of the line may be known to be free
+-- the line, what was got, what is known to stand and what was given are the same; more slots may be known to be
+-- free, and of its looks nothing is said
 pub record HasLooked (old new : RingInlet) : Type 0 where
   pub same_line : line_of_inlet new ≡ line_of_inlet old
   pub same_settled : is_settled new ≡ is_settled old

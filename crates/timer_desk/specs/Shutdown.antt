@@ -38,7 +38,7 @@ abbrev pub AllReadOut : List RingInlet → List ClientReader → List ClientRead
 AllReadOut inlets before after = (c : ℕ) (i : RingInlet) (r : ClientReader) → c < length inlets
     → IsReadOut (get_or inlets c i) (get_or before c r) (get_or after c r)
 
--- the lines, what was got and given, and all else are the same
+-- the lines, what was got and given, the facility and the outboxes are the same; what is known of a line may change
 pub record KeepsLines (old new : DeskState RingInlet) : Type 0 where
   pub same_clients : clients_of new ≡ clients_of old
   pub same_facility : new.facility ≡ old.facility

@@ -1,4 +1,4 @@
--- A slot after its timers were lent.
+-- A slot after its desk was lent.
 use denote.RattleType.{RattleType}
 use Rattle.timer_desk_c.specs.DeskSlots.{DeskState}
 use Rattle.timer_desk_c.specs.declared.desk_cell.DeskCell.{DeskCell}

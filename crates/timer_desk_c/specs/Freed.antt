@@ -11,7 +11,7 @@ use Rattle.timer_desk_c.specs.declared.line.Line.{Line}
 use Rattle.timer_desk_c.specs.DeskSlots.{DeskState}
 use Rattle.timer_desk_c.specs.Lines.{is_ended_line, seen_on}
 
--- only more slots of this client's line may be known to be free
+-- nothing changes but what is known of this client's line
 pub record OnlyLooks (client : ℕ) (old new : DeskState) : Type 0 where
   pub same_clients : clients_of new ≡ clients_of old
   pub same_facility : new.facility ≡ old.facility

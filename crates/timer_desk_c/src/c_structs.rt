@@ -9,7 +9,7 @@ use crate::line_cell::LineCell;
 #[repr(C)]
 pub struct CDesk {
     pub slot: DeskCell,
-    /// How many desks were made in this struct. A free keeps it.
+    /// How many desks were made in this struct, from the number that its owner set. A free keeps it.
     pub lives: u64,
 }
 

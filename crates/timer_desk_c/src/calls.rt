@@ -79,7 +79,7 @@ pub(crate) fn next<W: Wheel + Drop>(desk: &Desk<W, RingInlet>) -> u64
     }
 }
 
-/// Whether a client's line was freed. Nothing changes.
+/// Whether a client's line was freed. Nothing changes but what is known of the line.
 pub(crate) fn line_freed<W: Wheel + Drop>(desk: &mut Desk<W, RingInlet>, client: usize) -> bool
     ensures looked { client < clients_of desk.old → OnlyLooks client desk.old desk.new }
     ensures freed { client < clients_of desk.old → IsSeenFreed result client desk.old desk.new }

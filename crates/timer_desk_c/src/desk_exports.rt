@@ -1,8 +1,8 @@
 //! The functions that C calls in the owner's thread. None of them waits for a client.
 //!
-//! The contracts have the same parts as those of `line_exports`. What a call did to the desk is a report, as
-//! in `timer_desk`: each member with its exact result, the words for each client in order, and the facility
-//! before and after.
+//! The contracts have the same parts as those of `line_exports`. What a serve, a tick or a close did to the desk
+//! is a report, as in `timer_desk`: each member with its exact result, the words for each client in order, and the
+//! facility before and after. A flush is a report too, and then drops the words to a line that was freed.
 ghost use Rattle.std.specs.Prelude.{◌≡◌, ◌≢◌, ◌<◌, ◌≤◌, ◌⊎◌, [], length, get_or, true, false};
 ghost use Rattle.timer_facility.specs.State.{FacilityState, pending_of};
 ghost use Rattle.timer_desk.specs.declared.ring.RingInlet.{RingInlet};

@@ -234,7 +234,8 @@ pub record HasAnsweredAll {F : Type 0} (server : Server F) (peer : PeerState) (e
 -- what serving did, by how it ended; in each case every complete line that passes was answered, and its answer
 -- flushed, before more was read
 abbrev pub HasServed : {F : Type 0} → Server F → (old new : Sides F) → Result Bool ServeFault → Type 0
--- the whole answer, with what is added, was written and flushed, and nothing else; all bad lines were reported
+-- the whole answer, with what is added, was written and flushed, and nothing else; all bad lines were reported, up to
+-- the first failure of the writer of reports
 HasServed server old new (Ok clean) = (came : List ℕ) × (events : List Event) × (text : List ℕ)
     × HasEnded server.on_bad clean server.contents old.faults new.faults came events
     × HasAnsweredAll server new.peer events text × HasTalked server old.peer new.peer came text true

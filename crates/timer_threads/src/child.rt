@@ -1,6 +1,6 @@
 //! A client's thread, which has to be joined.
 //!
-//! If the handle of a thread is dropped, the thread runs on. A `Child` is not `Drop`: the prover rejects a
+//! If the handle of a thread is dropped, the thread runs on. A `Child` is not `Drop`: the compiler rejects a
 //! function that neither passes it on nor joins it. So no path leaves a thread unjoined, even if memory
 //! runs out.
 ghost use Rattle.std.specs.Prelude.{◌≡◌, ◌≤◌, IfOk};
