@@ -1,5 +1,5 @@
-// One row a candidate: symbol, name in the tables, whether its ADVANCE jumps over ticks, whether it takes intervals of 2^36 and
-// more, for a hashed wheel its number of slots (a workload in which it would look at too many timers is left out),
+// One row a candidate: symbol, name in the tables, whether it is timed at long jumps (a hashed wheel visits slots and timers
+// in each), whether it takes intervals of 2^36 and more, for a hashed wheel its number of slots (a workload in which it would look at too many timers is left out),
 // and how many timers an owner may have. The first row is the reference. A peer that this
 // machine lacks is left out.
 CANDIDATE_ROW(run_ref_hier, "ref-hier", ANY, true, 0, MANY)

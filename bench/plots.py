@@ -198,9 +198,10 @@ def lines(folder):
     axes.set_yticks(range(len(rows)), [name for name, _ in rows])
     axes.set_ylim(len(rows) - 0.4, -0.6)
     ratio_axis(axes, 0.15, 10, [0.2, 0.5, 1, 2, 5, 10])
-    under(figure, f"ratio to the row's peer in C++ (1); less is better\n{MARKS}\n{machine('lines')}")
+    under(figure, f"ratio to the row's peer (1): the facility alone, or C++; less is better\n{MARKS}\n{machine('lines')}")
     save(figure, folder, "lines", "The desk, its flushes and client threads beside their peers",
-         "Ratios of time with the least and the greatest of five runs. bench/results/lines.csv and threads.csv have the numbers.")
+         "Ratios of time; of the desk and its flushes with the least and the greatest of five runs. bench/results/lines.csv and "
+         "threads.csv have the numbers.")
 
 
 def main():

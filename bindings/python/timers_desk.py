@@ -11,7 +11,7 @@ each call does.
 The owner's thread calls the desk, and each client's thread its line, one call at a time. A line is freed by free() or at
 the end of its `with`. Numbers are whole and from 0 to 2^64 - 1, that of a table to 2^32 - 1: any other is refused by
 OverflowError or TypeError. So is a sum of `timers` and `requests` that leaves no room for one more word. A call that the
-library refuses raises DeskError. If the library is in no folder that the loader searches, give its path:
+library refuses raises DeskError, but those of serve and serve_all, which return their status. If the library is in no folder that the loader searches, give its path:
 Desk(.., library="lib/libtimers.so.1"). With the package of pip: from timers.timers_desk import Desk.
 """
 # SPDX-License-Identifier: MIT OR Apache-2.0
@@ -64,11 +64,17 @@ class Handle(Structure):
     def __hash__(self):
         return hash((self.place, self.serial))
 
+    def __repr__(self):
+        return f"Handle({self.place}, {self.serial})"
+
 
 class Word(Structure):
     """A message to a client. A field that its kind does not set is 0."""
     _fields_ = [("kind", c_uint32), ("reason", c_uint32), ("number", c_uint64), ("handle", Handle), ("deadline", c_uint64),
                 ("action", c_uint64), ("other", c_uint64)]
+
+    def __repr__(self):
+        return f"Word({', '.join(f'{name}={getattr(self, name)!r}' for name, _ in self._fields_)})"
 
 
 class Config(Structure):
@@ -258,6 +264,10 @@ class Desk:
     @property
     def now(self):
         return self._library.timers_desk_now(byref(self._held))
+
+    def __bool__(self):
+        # True also if no timer is pending: `__len__` would say no.
+        return True
 
     def __len__(self):
         return self._library.timers_desk_len(byref(self._held))

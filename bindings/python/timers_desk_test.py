@@ -28,6 +28,7 @@ def agrees(seed):
     model = {}                          # by (deadline, serial): handle, number, action
     with Desk(1, 20, 20, 1, library=LIBRARY) as desk:
         line, sent, serial = desk.lines[0], 0, 0
+        assert desk and len(desk) == 0
         for _ in range(4000):
             interval, action = draw.randrange(200), draw.randrange(2**64)
             chosen = draw.choice(sorted(model)) if model and draw.random() < .9 else None
@@ -44,6 +45,7 @@ def agrees(seed):
                 turn(desk)
                 word = line.receive()
                 assert word.number == sent and line.receive() is None
+                assert repr(word).startswith(f"Word(kind={word.kind}, reason={word.reason}, number={sent}, handle=Handle(")
             if choice < 2:
                 reason = td.ZERO_INTERVAL if interval == 0 else td.CAPACITY if len(model) == 20 else 0
                 assert (word.kind, word.reason) == (td.REFUSED if reason else td.STARTED, reason)

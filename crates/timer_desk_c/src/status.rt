@@ -18,7 +18,7 @@ pub const NOT_PENDING: u32 = 6;
 /// The interval is 0.
 pub const ZERO_INTERVAL: u32 = 7;
 
-/// The deadline, or the first tick, is after the last tick.
+/// The deadline is after the last tick.
 pub const TOO_LATE: u32 = 8;
 
 /// The serials are used up.
