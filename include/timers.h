@@ -109,8 +109,8 @@
  *
  *     timers_new allocates some 15 KB for the buckets, and the first start some 5 KB more, unless timers_reserve
  *     made room (with TIMERS_CLOCK 6 KB and 2 KB). A timer takes 64 bytes, in two arrays. An array that is full
- *     grows, the larger one to twice its length. So above some 1,000 timers there are 64 to 130 bytes for each,
- *     of the most that were ever held. With timers_reserve there are 64.
+ *     grows, the larger one to twice its length. So above some 1,000 timers they have 64 to 132 bytes for each, of
+ *     the most that were ever held. With timers_reserve they have 64 for each, up to its room.
  *
  *     Memory is kept for later starts until timers_free. It can't be given back in part, since a timer stays
  *     at the place that its handle has. A caller that wants it back starts what is left in a second `struct
@@ -139,9 +139,10 @@
  *        given uninitialised memory: it could not tell whether that owns timers.
  *     2. A pointer argument points to an object of its type that this call alone uses. No two arguments of
  *        one call overlap. It is NULL only where nobody wants the answer: the handle or restarted of a start
- *        or restart (not of timers_set_at, which reads its handle), action, passed, out of timers_expire and timers_take, handle and out of timers_each. And
- *        timers_free(NULL) does nothing. (That is done by inline functions at the end of this header. The
- *        symbols of the library, with which other languages link, need an object.)
+ *        or restart (not of timers_set_at, which reads its handle), action, passed, out of timers_expire and
+ *        timers_take, handle and out of timers_each. And timers_free(NULL) does nothing. (That is done by inline
+ *        functions at the end of this header. The symbols of the library, with which other languages link, need
+ *        an object.)
  *     3. If an argument is only written (handle, restarted, action, passed, out, counts), the object may be
  *        uninitialised. It has only integers, so any bits are a value, and no function reads it. It is
  *        written exactly if the function's description says so, and otherwise unchanged. The handle of

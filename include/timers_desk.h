@@ -57,7 +57,7 @@
  *     Clients come and go. If a client's line was freed, timers_desk_open opens one for another client under the
  *     same number. It requires that every request was taken, no word waits, and no timer is pending. The owner need
  *     not wait until the timers expire: timers_desk_stop_pending stops all of them in one call. The request numbers
- *     of the new client continue those of the client before, since the desk counts them. The new line shares nothing
+ *     of the new client begin after the last one that was taken, since the desk counts them. The new line shares nothing
  *     with the old one, which was freed together with the words in it. So no word to the old client reaches the new
  *     one, and each word that the new one receives is about its own requests.
  *
@@ -198,7 +198,7 @@ enum timers_desk_status {
 	TIMERS_DESK_LINE_FULL = 17,      /* the line has no room for another request now */
 	TIMERS_DESK_FINISHED = 18,       /* the line has finished */
 	TIMERS_DESK_OUT_OF_RANGE = 19,   /* a number of the configuration, or the number of lines */
-	TIMERS_DESK_IDLE = 20,           /* no request was known to be in the line */
+	TIMERS_DESK_IDLE = 20,           /* no request was served */
 	TIMERS_DESK_NO_ROOM = 21,        /* the outbox has no room for the words of another request */
 	TIMERS_DESK_OTHER_LINE = 22,     /* the line is another client's, or of an earlier life of the desk's struct */
 	TIMERS_DESK_NOT_FINISHED = 23,   /* the line has not finished */
@@ -295,7 +295,7 @@ enum timers_desk_status timers_desk_serve(struct timers_desk *d, size_t client);
  * TIMERS_DESK_NOT_OPEN.
  * TIMERS_DESK_NO_MEMORY: a request of at least one client failed with out of memory and is held; others may have been
  * done.
- * TIMERS_DESK_OK: at least one request was done. TIMERS_DESK_IDLE: none was. */
+ * TIMERS_DESK_OK: at least one request was done. TIMERS_DESK_IDLE: none was, for want of requests or of room. */
 enum timers_desk_status timers_desk_serve_all(struct timers_desk *d, uint64_t most);
 
 /* Moves words from each client's outbox into its line, in order, until the outbox is empty or the line
@@ -504,7 +504,7 @@ static TIMERS_INLINE const char *timers_desk_message(enum timers_desk_status sta
 	case TIMERS_DESK_LINE_FULL: return "the line is full";
 	case TIMERS_DESK_FINISHED: return "the line has finished";
 	case TIMERS_DESK_OUT_OF_RANGE: return "a number of clients, room or configuration is out of range";
-	case TIMERS_DESK_IDLE: return "no request was found";
+	case TIMERS_DESK_IDLE: return "no request was served";
 	case TIMERS_DESK_NO_ROOM: return "the outbox has no room";
 	case TIMERS_DESK_OTHER_LINE: return "the line is another client's, or of another desk";
 	case TIMERS_DESK_NOT_FINISHED: return "the line has not finished";

@@ -294,7 +294,11 @@ function toggle() {
 
 function key(event) {
   const {target} = event;
-  if (event.ctrlKey || event.metaKey || event.altKey || target.matches("select, input[type=text]")) return;
+  if (event.ctrlKey || event.metaKey || event.altKey || target.matches("select")) return;
+  if (target.matches("input[type=text]")) {
+    if (event.key === "Enter" || event.key === "Escape") target.blur();
+    return;
+  }
   const acts = {
     ArrowLeft: () => go(shown.step - 1),
     ArrowRight: () => go(shown.step + 1),
@@ -370,7 +374,7 @@ function fill() {
   $("opening").textContent = OPENING[play.scheme];
   const keys = make("p", {class: "keys"}, "Keys: ", make("kbd", {}, "←"), " ", make("kbd", {}, "→"), " a step, ",
       make("kbd", {}, "space"), " play and pause, ", make("kbd", {}, "Home"), " ", make("kbd", {}, "End"),
-      " first and last, ", make("kbd", {}, "f"), " another timer to follow.");
+      " first and last, ", make("kbd", {}, "f"), " another timer to follow, up to ", make("kbd", {}, "Enter"), ".");
   const folded = cards.size < play.wheels.length ? ["Wheels that are not drawn are empty at every step."] : [];
   $("guide").replaceChildren(...[...words.guide(), ...folded].map((said) => make("p", {}, said)), keys);
   if (play.scheme !== "plain") $("legend").replaceChildren(...LEGEND.filter(isDrawn).map(legendRow));

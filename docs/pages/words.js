@@ -256,7 +256,7 @@ class Words {
       said.push(this.isHierarchy ? "Only empty slots were reached, so nothing moves, and nothing expires." :
                                    "Nothing expires.");
     if (this.play.whole.includes(step.line))
-      more.push("This line is shown as one step, in which timers may have moved more than once.");
+      more.push(`This line is shown as one step${this.isHierarchy ? ", in which timers may have moved more than once" : ""}.`);
     return [...said, ...more];
   }
 

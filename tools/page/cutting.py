@@ -4,7 +4,7 @@ The cuts follow from the deadlines alone. They decide at which ticks the program
 stand, and nothing of what it answers."""
 from dataclasses import dataclass
 
-MAX_PIECES = 500  # of one line; a line with as many stops is one step
+MAX_PIECES = 500  # of one line; a line with as many stops before its end is one step
 MAX_STEPS = 5_000
 
 

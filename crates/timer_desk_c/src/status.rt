@@ -54,7 +54,7 @@ pub const FINISHED: u32 = 18;
 /// A number of the configuration is out of its range.
 pub const OUT_OF_RANGE: u32 = 19;
 
-/// Nothing was known to stand in the line.
+/// No request was served.
 pub const IDLE: u32 = 20;
 
 /// The outbox had no room for one more answer and one more notice.

@@ -1,8 +1,10 @@
 //! Which buckets of a hierarchy of wheels have a timer: a bit for each of them.
 //!
-//!     word 0   bit s: slot s of wheel 0 has a timer     lists   0 to  63
-//!     word 1   bit s: slot s of wheel 1 has a timer     lists  64 to 127
+//!     word 0   bit b: list      b has a timer
+//!     word 1   bit b: list 64 + b has a timer
 //!       ..
+//!
+//! With `Table::Wide`, whose wheels have 64 slots, word k is wheel k, and bit s its slot s.
 //!
 //! The lowest bit that is set is that of the bucket that the clock empties next, of those with a timer:
 //! a lower wheel comes before a higher one, and in a wheel the slots come in turn.
