@@ -6,8 +6,9 @@
 #define rattle_realloc timers_heap_realloc
 #define rattle_dealloc timers_heap_dealloc
 
-/* After each function of the API. A shared object that embeds the library doesn't export its functions. The shared
- * object that is the library is compiled with -DTIMERS_SHARED, and exports them. */
+/* After each function of the API. A shared object that embeds the library doesn't export its functions, unless they were
+ * compiled with -DTIMERS_SHARED. So is the shared object that is the library, and with it the archive that Meson makes of
+ * both kinds. */
 #ifdef TIMERS_SHARED
 #define API(function)
 #else

@@ -117,7 +117,8 @@
  *     timers`, and frees the first.
  *
  *     timers_set_allocator gives the library other functions than malloc, realloc and free, once for the
- *     process: for all its timers, and for its desks (timers_desk.h).
+ *     process: for all its timers, and for its desks (timers_desk.h). A plug-in that embeds the archive has a
+ *     copy of the library, with functions of its own.
  *
  * PORTING
  *     What stands for the calls of a heap or of libuv's timers, if `now` is the real time in ticks:

@@ -13,7 +13,7 @@ setup_file() {
     export version packed architecture work=$BATS_FILE_TMPDIR root=$BATS_FILE_TMPDIR/root
 }
 
-needs_debian() { needs dpkg-buildpackage dh fakeroot; }
+needs_debian() { needs dpkg-buildpackage dh; }
 needs_cross() {
     [ "$architecture" != arm64 ] || skip "this is that machine"
     needs_debian
@@ -21,6 +21,7 @@ needs_cross() {
 }
 needs_root() {
     needs_debian
+    needs chroot
     [ -e "$root/usr/bin/dpkg" ] || skip "no clean root"
 }
 
