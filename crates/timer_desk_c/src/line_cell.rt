@@ -4,7 +4,7 @@
 //! type argument in an exported function, so C's struct has this one.
 ghost use Rattle.std.specs.Prelude.{◌≡◌};
 ghost use Rattle.std.specs.Borrow.{Lends, sem};
-ghost use Rattle.timer_desk_c.specs.LineSlots.{LineState};
+ghost use Rattle.timer_desk_c.specs.declared.line.Line.{Line};
 
 use crate::line::Line;
 use std::marker::Model;
@@ -15,12 +15,12 @@ use timer_ffi_base::HeapCell;
 pub struct LineCell {
     at: *mut u8,
     pub mark: u64,
-    pub ghost state: { LineState },
+    pub ghost state: { Line },
 }
 
 impl Model for LineCell {
     ghost use Rattle.timer_ffi_base.specs.Cells.{owned_at};
-    ghost use Rattle.timer_desk_c.specs.LineSlots.{the_line};
+    ghost use Rattle.timer_desk_c.specs.contracts.line.Line.{the_row as the_line};
 
     ghost also_owns = { λ s. owned_at the_line s.mark s.at s.state };
 }

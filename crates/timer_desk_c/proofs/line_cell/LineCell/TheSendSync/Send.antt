@@ -6,14 +6,11 @@ use Rattle.std_alloc.proofs.SendSync.{quiet}
 use Rattle.timer_desk_c.proofs.line.Line.TheSendSync as line'
 use Rattle.timer_ffi_base.specs.Cells.{is_open}
 use Rattle.timer_ffi_base.proofs.Sends.{keyless}
-use Rattle.timer_desk_c.specs.LineSlots.{the_line}
+use Rattle.timer_desk_c.specs.LineLent.{the_line}
 use Rattle.timer_desk_c.specs.contracts.line_cell.LineCell.{the_row, the_type}
-
-line_send : IsSend the_line
-line_send = line'.the_send
 
 pub send : IsSend the_row
 send =
     let words : AllSend (fields the_type) = (search sendable, (search sendable, tt)) in
-    owning_send the_type words (λ s. keyless the_line line_send (is_open s.mark) s.at s.state)
+    owning_send the_type words (λ s. keyless the_line line'.the_send (is_open s.mark) s.at s.state)
     (λ k. quiet (to the_type) (exits_of k (fields the_type)) ((struct_send (shape the_type) words).leaving k))

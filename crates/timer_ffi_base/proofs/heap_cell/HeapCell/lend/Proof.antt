@@ -19,7 +19,7 @@ use types.ByLocal.{alloc_all, pass_all, free_all, look_at, get, through, sets, e
 use denote.Exit.{no}
 use denote.Memory.{part_at, mem, cell_at, part_of, lone}
 use denote.Param.{param, layouts}
-use denote.Param.Laws.{Laws, param_laws}
+use denote.Param.Laws.{param_laws}
 use denote.RattleType.{RattleType}
 use denote.RawPtr.{Ptr, block_ptr, null_ptr, in_a_block}
 use denote.Laws.{shows}
