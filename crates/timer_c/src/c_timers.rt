@@ -1,7 +1,10 @@
 //! What C holds: `struct timers` of `include/timers.h`.
-ghost use Rattle.std.specs.Prelude.{◌≡◌};
+ghost use Rattle.std.specs.Prelude.{◌≡◌, None, IfSome};
+ghost use Rattle.std.specs.Borrow.{LendsIf, sem};
 
 use crate::owned_cell::OwnedCell;
+use timer_total::Timers;
+use timer_wheels::HierWheel;
 
 /// A slot for timers, and the last serial that its earlier timers used.
 #[repr(C)]
@@ -10,6 +13,22 @@ pub struct CTimers {
     /// If the slot is empty, the last serial of the timers that it held before, or 0 if there were
     /// none: serials continue, so that no handle ever names a timer of a later `timers_new`.
     pub last_serial: u64,
+}
+
+impl CTimers {
+    ghost use Rattle.timer_c.specs.Frames.{IsOpen, IsShut, with_timers};
+    ghost use Rattle.timer_c.specs.Lent.{c_timers, the_timers};
+
+    /// Lends the timers, if there are any.
+    pub(crate) fn timers(&mut self) -> Option<&mut Timers<HierWheel>>
+        ensures* writes_back { sem 𝓛 (LendsIf c_timers the_timers self.entry result
+            (with_timers self.entry.now) self.entry.now) }
+        ensures held { IfSome result (λ timers. IsOpen self.old × (timers.now ≡ self.old.slot.state)) }
+        ensures same { IfSome result (λ timers. with_timers self.old timers.now ≡ self.old) }
+        ensures none { result ≡ None → IsShut self.old }
+    {
+        self.slot.cell().get()
+    }
 }
 
 /// It may be sent to another thread: here the `Send` of `OwnedCell` is proved.

@@ -44,7 +44,7 @@ pub extern "C" fn timers_new(alloc: Global, t: &mut CTimers, table: u32, first_t
     ensures kept { 0 < result → t.new ≡ t.old }
     ensures serial { t.new.last_serial ≡ t.old.last_serial }
 {
-    if t.slot.holds() {
+    if let Some(_) = t.timers() {
         return OPEN;
     }
     let wheel = match wheel_of(alloc, table, first_tick) {
@@ -53,7 +53,7 @@ pub extern "C" fn timers_new(alloc: Global, t: &mut CTimers, table: u32, first_t
     };
     match Box::new(alloc, Timers::new(wheel, t.last_serial)) {
         Ok(timers) => {
-            t.slot.put(RawBox::park(timers));
+            t.slot.cell().put(RawBox::park(timers));
             OK
         }
         Err(_) => NO_MEMORY,
@@ -67,9 +67,9 @@ pub extern "C" fn timers_free(alloc: Global, t: &mut CTimers)
     ensures serial { IsOpen t.old → t.new.last_serial ≡ t.old.slot.state.last_serial }
     ensures kept { IsShut t.old → t.new ≡ t.old }
 {
-    if t.slot.holds() {
-        t.last_serial = t.slot.timers().last_serial();
-        drop(t.slot.take(alloc).unpark());
+    if let Some(timers) = t.timers() {
+        t.last_serial = timers.last_serial();
+        drop(t.slot.cell().take(alloc).unpark());
     }
 }
 
@@ -81,8 +81,8 @@ pub extern "C" fn timers_clear(t: &mut CTimers)
     ensures not_open { IsShut t.old → t.new ≡ t.old }
     ensures only { t.new ≡ with_timers t.old t.new.slot.state }
 {
-    if t.slot.holds() {
-        t.slot.timers().clear();
+    if let Some(timers) = t.timers() {
+        timers.clear();
     }
 }
 
@@ -97,10 +97,10 @@ pub extern "C" fn timers_reserve(t: &mut CTimers, most: usize) -> u32
     ensures kept { 0 < result → t.new ≡ t.old }
     ensures only { t.new ≡ with_timers t.old t.new.slot.state }
 {
-    if !t.slot.holds() {
-        return NOT_OPEN;
+    match t.timers() {
+        Some(timers) => calls::reserve(timers, most),
+        None => NOT_OPEN,
     }
-    calls::reserve(t.slot.timers(), most)
 }
 
 /// Starts a timer that expires after `interval` ticks, and writes its handle.
@@ -118,10 +118,10 @@ pub extern "C" fn timers_start(
     ensures kept { 0 < result → (t.new ≡ t.old) × (handle.new ≡ handle.old) }
     ensures only { t.new ≡ with_timers t.old t.new.slot.state }
 {
-    if !t.slot.holds() {
-        return NOT_OPEN;
+    match t.timers() {
+        Some(timers) => calls::start(timers, interval, action, handle),
+        None => NOT_OPEN,
     }
-    calls::start(t.slot.timers(), interval, action, handle)
 }
 
 /// Starts a timer that expires at the tick `deadline`, and writes its handle. If that is not after the
@@ -141,10 +141,10 @@ pub extern "C" fn timers_start_at(
     ensures kept { 0 < result → (t.new ≡ t.old) × (handle.new ≡ handle.old) }
     ensures only { t.new ≡ with_timers t.old t.new.slot.state }
 {
-    if !t.slot.holds() {
-        return NOT_OPEN;
+    match t.timers() {
+        Some(timers) => calls::start_at(timers, deadline, action, handle),
+        None => NOT_OPEN,
     }
-    calls::start_at(t.slot.timers(), deadline, action, handle)
 }
 
 /// Stops the timer with exactly this handle, pending or expired and not yet taken, and starts another in its
@@ -164,10 +164,10 @@ pub extern "C" fn timers_restart(
     ensures kept { 0 < result → (t.new ≡ t.old) × (restarted.new ≡ restarted.old) }
     ensures only { t.new ≡ with_timers t.old t.new.slot.state }
 {
-    if !t.slot.holds() {
-        return NOT_OPEN;
+    match t.timers() {
+        Some(timers) => calls::restart(timers, handle, interval, action, restarted),
+        None => NOT_OPEN,
     }
-    calls::restart(t.slot.timers(), handle, interval, action, restarted)
 }
 
 /// Stops the timer with exactly this handle as `timers_restart`, and starts one as `timers_start_at`.
@@ -186,10 +186,10 @@ pub extern "C" fn timers_restart_at(
     ensures kept { 0 < result → (t.new ≡ t.old) × (restarted.new ≡ restarted.old) }
     ensures only { t.new ≡ with_timers t.old t.new.slot.state }
 {
-    if !t.slot.holds() {
-        return NOT_OPEN;
+    match t.timers() {
+        Some(timers) => calls::restart_at(timers, handle, deadline, action, restarted),
+        None => NOT_OPEN,
     }
-    calls::restart_at(t.slot.timers(), handle, deadline, action, restarted)
 }
 
 /// Starts a timer as `timers_start_at`, in place of the one with exactly this handle, if there is one, and writes
@@ -208,10 +208,10 @@ pub extern "C" fn timers_set_at(
     ensures kept { 0 < result → (t.new ≡ t.old) × (handle.new ≡ handle.old) }
     ensures only { t.new ≡ with_timers t.old t.new.slot.state }
 {
-    if !t.slot.holds() {
-        return NOT_OPEN;
+    match t.timers() {
+        Some(timers) => calls::set_at(timers, handle, deadline, action),
+        None => NOT_OPEN,
     }
-    calls::set_at(t.slot.timers(), handle, deadline, action)
 }
 
 /// Writes the timer with exactly this handle, pending or expired and not yet taken, and changes nothing.
@@ -223,10 +223,10 @@ pub extern "C" fn timers_look(t: &mut CTimers, handle: CHandle, out: &mut Expire
     ensures kept { 0 < result → out.new ≡ out.old }
     ensures same { t.new ≡ t.old }
 {
-    if !t.slot.holds() {
-        return NOT_OPEN;
+    match t.timers() {
+        Some(timers) => calls::look(timers, handle, out),
+        None => NOT_OPEN,
     }
-    calls::look(t.slot.timers(), handle, out)
 }
 
 /// Stops the timer with exactly this handle, pending or expired and not yet taken, and writes its action.
@@ -239,10 +239,10 @@ pub extern "C" fn timers_stop(t: &mut CTimers, handle: CHandle, action: &mut u64
     ensures kept { 0 < result → (t.new ≡ t.old) × (action.new ≡ action.old) }
     ensures only { t.new ≡ with_timers t.old t.new.slot.state }
 {
-    if !t.slot.holds() {
-        return NOT_OPEN;
+    match t.timers() {
+        Some(timers) => calls::stop(timers, handle, action),
+        None => NOT_OPEN,
     }
-    calls::stop(t.slot.timers(), handle, action)
 }
 
 /// Advances the clock by one tick. The timers that expire wait for `timers_expire`.
@@ -254,10 +254,10 @@ pub extern "C" fn timers_tick(t: &mut CTimers) -> u32
     ensures kept { 0 < result → t.new ≡ t.old }
     ensures only { t.new ≡ with_timers t.old t.new.slot.state }
 {
-    if !t.slot.holds() {
-        return NOT_OPEN;
+    match t.timers() {
+        Some(timers) => calls::tick(timers),
+        None => NOT_OPEN,
     }
-    calls::tick(t.slot.timers())
 }
 
 /// Passes at most `most` ticks, stops at the first at which a timer expires, and writes how many were
@@ -271,10 +271,10 @@ pub extern "C" fn timers_advance(t: &mut CTimers, most: u64, passed: &mut u64) -
     ensures kept { 0 < result → (t.new ≡ t.old) × (passed.new ≡ passed.old) }
     ensures only { t.new ≡ with_timers t.old t.new.slot.state }
 {
-    if !t.slot.holds() {
-        return NOT_OPEN;
+    match t.timers() {
+        Some(timers) => calls::advance(timers, most, passed),
+        None => NOT_OPEN,
     }
-    calls::advance(t.slot.timers(), most, passed)
 }
 
 /// Passes ticks up to this one, and stops at the first at which a timer expires. For a tick that is not after the
@@ -288,10 +288,10 @@ pub extern "C" fn timers_advance_to(t: &mut CTimers, tick: u64) -> u32
     ensures kept { 0 < result → t.new ≡ t.old }
     ensures only { t.new ≡ with_timers t.old t.new.slot.state }
 {
-    if !t.slot.holds() {
-        return NOT_OPEN;
+    match t.timers() {
+        Some(timers) => calls::advance_to(timers, tick),
+        None => NOT_OPEN,
     }
-    calls::advance_to(t.slot.timers(), tick)
 }
 
 /// Takes the next timer that is due by this tick, and passes the ticks up to it. Returns whether there was one:
@@ -306,10 +306,10 @@ pub extern "C" fn timers_take(t: &mut CTimers, tick: u64, out: &mut Expired) -> 
     ensures kept { result ≡ false → out.new ≡ out.old }
     ensures only { t.new ≡ with_timers t.old t.new.slot.state }
 {
-    if !t.slot.holds() {
-        return false;
+    match t.timers() {
+        Some(timers) => calls::take(timers, tick, out),
+        None => false,
     }
-    calls::take(t.slot.timers(), tick, out)
 }
 
 /// Takes the first of the expired timers. Returns whether there was one.
@@ -322,10 +322,10 @@ pub extern "C" fn timers_expire(t: &mut CTimers, out: &mut Expired) -> bool
         ≡ with_wheel (after_expiry t.old.slot.state.wheel) t.old.slot.state }
     ensures only { t.new ≡ with_timers t.old t.new.slot.state }
 {
-    if !t.slot.holds() {
-        return false;
+    match t.timers() {
+        Some(timers) => calls::expire(timers, out),
+        None => false,
     }
-    calls::expire(t.slot.timers(), out)
 }
 
 /// Takes the first of the expired timers, as many as fit into `out`. Returns how many.
@@ -339,10 +339,10 @@ pub extern "C" fn timers_expire_batch(t: &mut CTimers, out: &mut [Expired]) -> u
     ensures not_open { IsShut t.old → (result ≡ 0) × (t.new ≡ t.old) × (out.new ≡ out.old) }
     ensures only { t.new ≡ with_timers t.old t.new.slot.state }
 {
-    if !t.slot.holds() {
-        return 0;
+    match t.timers() {
+        Some(timers) => calls::expire_batch(timers, out),
+        None => 0,
     }
-    calls::expire_batch(t.slot.timers(), out)
 }
 
 /// Whether a timer expired and was not yet taken.
@@ -352,10 +352,10 @@ pub extern "C" fn timers_has_due(t: &mut CTimers) -> bool
     ensures not_open { IsShut t.old → result ≡ false }
     ensures same { t.new ≡ t.old }
 {
-    if !t.slot.holds() {
-        return false;
+    match t.timers() {
+        Some(timers) => timers.has_due(),
+        None => false,
     }
-    t.slot.timers().has_due()
 }
 
 /// The present tick, or 0 if `t` is not open.
@@ -365,10 +365,10 @@ pub extern "C" fn timers_now(t: &mut CTimers) -> u64
     ensures not_open { IsShut t.old → result ≡ 0 }
     ensures same { t.new ≡ t.old }
 {
-    if !t.slot.holds() {
-        return 0;
+    match t.timers() {
+        Some(timers) => timers.now(),
+        None => 0,
     }
-    t.slot.timers().now()
 }
 
 /// How many timers are pending, or 0 if `t` is not open. Expired timers that were not yet taken are
@@ -379,10 +379,10 @@ pub extern "C" fn timers_len(t: &mut CTimers) -> usize
     ensures not_open { IsShut t.old → result ≡ 0 }
     ensures same { t.new ≡ t.old }
 {
-    if !t.slot.holds() {
-        return 0;
+    match t.timers() {
+        Some(timers) => timers.len(),
+        None => 0,
     }
-    t.slot.timers().len()
 }
 
 /// The tick until which C may sleep: the present one if an expired timer waits, `NEVER` if
@@ -394,10 +394,10 @@ pub extern "C" fn timers_wakeup(t: &mut CTimers) -> u64
     ensures not_open { IsShut t.old → result ≡ NEVER }
     ensures same { t.new ≡ t.old }
 {
-    if !t.slot.holds() {
-        return NEVER;
+    match t.timers() {
+        Some(timers) => calls::wakeup(timers),
+        None => NEVER,
     }
-    calls::wakeup(t.slot.timers())
 }
 
 /// The deadline of the timer that is handed out next: the present tick when an expired one waits, `NEVER`
@@ -408,10 +408,10 @@ pub extern "C" fn timers_next(t: &mut CTimers) -> u64
     ensures not_open { IsShut t.old → result ≡ NEVER }
     ensures same { t.new ≡ t.old }
 {
-    if !t.slot.holds() {
-        return NEVER;
+    match t.timers() {
+        Some(timers) => calls::next(timers),
+        None => NEVER,
     }
-    calls::next(t.slot.timers())
 }
 
 /// The same as `timers_next`. The wheel keeps what it found, so that the next call needs no walk until the last
@@ -422,10 +422,10 @@ pub extern "C" fn timers_find_next(t: &mut CTimers) -> u64
     ensures not_open { IsShut t.old → result ≡ NEVER }
     ensures same { t.new ≡ t.old }
 {
-    if !t.slot.holds() {
-        return NEVER;
+    match t.timers() {
+        Some(timers) => calls::find_next(timers),
+        None => NEVER,
     }
-    calls::find_next(t.slot.timers())
 }
 
 /// Writes the first timer from the cursor's place on, pending or expired and not yet taken, with its handle,
@@ -444,10 +444,10 @@ pub extern "C" fn timers_each(
         → (cursor.new ≡ cursor.old) × (handle.new ≡ handle.old) × (out.new ≡ out.old) }
     ensures same { t.new ≡ t.old }
 {
-    if !t.slot.holds() {
-        return false;
+    match t.timers() {
+        Some(timers) => calls::each(timers, cursor, handle, out),
+        None => false,
     }
-    calls::each(t.slot.timers(), cursor, handle, out)
 }
 
 /// Writes what the wheels counted since `timers_new`, and changes nothing. What each call adds to the counts is in
@@ -461,9 +461,11 @@ pub extern "C" fn timers_counts(t: &mut CTimers, counts: &mut Counts) -> u32
     ensures kept { 0 < result → counts.new ≡ counts.old }
     ensures same { t.new ≡ t.old }
 {
-    if !t.slot.holds() {
-        return NOT_OPEN;
+    match t.timers() {
+        Some(timers) => {
+            *counts = calls::counts(timers);
+            OK
+        }
+        None => NOT_OPEN,
     }
-    *counts = calls::counts(t.slot.timers());
-    OK
 }

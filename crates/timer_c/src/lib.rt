@@ -7,8 +7,7 @@
 //!     calls        the calls, with C's statuses and structs
 //!     wheel_maker  a wheel by C's number for its table
 //!     c_timers     `struct timers`: the slot, and the last serial while the slot is empty
-//!     owned_cell   the slot: the two machine words by which it owns the timers on the heap; its four methods
-//!                  are proved by hand
+//!     owned_cell   the slot: the two machine words by which it owns the timers on the heap
 //!     layout       the structs of the header
 //!     status       the statuses of the header
 #![tactic(auto)]

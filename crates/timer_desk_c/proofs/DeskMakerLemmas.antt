@@ -1,10 +1,10 @@
 -- New lines, one after another.
-use Rattle.std.proofs.Common.{◌≡◌, ◌++◌, ℕ, List, [], ◌∷◌, length, get_or, map, refl, sym, ◌∙◌, subst, arith, length-append, inl, inr, Box, Global}
-use Rattle.std.proofs.lemmas.List.{get_or_push, get_or_append_left, map-append}
+use Rattle.std.proofs.Common.{◌≡◌, ◌<◌, ◌++◌, ℕ, List, [], ◌∷◌, length, get_or, refl, sym, subst, arith, length-append}
+use Rattle.std.proofs.lemmas.List.{get_or_push, get_or_append_left}
 use Rattle.timer_desk.specs.declared.ring.RingInlet.{RingInlet}
 use Rattle.timer_desk_c.specs.declared.line.Line.{Line}
 use Rattle.timer_desk_c.specs.Desks.{AreNewLines, IsNewInlet, IsNewEnd, IsEndOf}
-use Rattle.timer_desk_c.proofs.SmallFacts.{none_below, below_or_same}
+use Rattle.timer_desk_c.proofs.SmallFacts.{none_below, holds_more}
 
 pub no_lines : (room : ℕ) → AreNewLines room [] []
 no_lines room = record {
@@ -20,27 +20,13 @@ pub one_more : (room : ℕ) (inlets : List RingInlet) (ends : List Line) (i : Ri
 one_more room inlets ends i l was inlet end tied =
     let n = length-append inlets (i ∷ []) in
     let m = length-append ends (l ∷ []) in
-    let same = was.as_many in record {
+    let same : length ends ≡ length inlets = was.as_many in
+    let under : (k : ℕ) → k < length ends → k < length inlets = λ k low. omega (arith, same, low) in record {
       as_many = omega (arith, n, m, same);
-      inlet = λ k j low. elim (below_or_same k (length inlets) (omega (arith, n, low))) [
-        | inl under ↦ subst (IsNewInlet room) (sym (get_or_append_left inlets (i ∷ []) j k under)) (was.inlet k j under)
-        | inr last ↦ subst (IsNewInlet room) (sym (get_or_push inlets i j k (sym last))) inlet
-      ];
-      end = λ k e low. elim (below_or_same k (length inlets) (omega (arith, n, low))) [
-        | inl under ↦ subst (IsNewEnd room) (sym (get_or_append_left ends (l ∷ []) e k (omega (arith, same, under)))) (was.end k e under)
-        | inr last ↦ subst (IsNewEnd room) (sym (get_or_push ends l e k (same ∙ sym last))) end
-      ];
-      tied = λ k j e low. elim (below_or_same k (length inlets) (omega (arith, n, low))) [
-        | inl under ↦
-            subst (λ (x : RingInlet). IsEndOf x (get_or (ends ++ l ∷ []) k e)) (sym (get_or_append_left inlets (i ∷ []) j k under))
-            (subst (IsEndOf (get_or inlets k j)) (sym (get_or_append_left ends (l ∷ []) e k (omega (arith, same, under))))
-            (was.tied k j e under))
-        | inr last ↦
-            subst (λ (x : RingInlet). IsEndOf x (get_or (ends ++ l ∷ []) k e)) (sym (get_or_push inlets i j k (sym last)))
-            (subst (IsEndOf i) (sym (get_or_push ends l e k (same ∙ sym last))) tied)
-      ];
+      inlet = λ k j low. holds_more (λ _. IsNewInlet room) inlets i was.inlet inlet k j (omega (arith, n, low));
+      end = λ k e low. holds_more (λ _. IsNewEnd room) ends l (λ k e low. was.end k e (under k low)) end k e (omega (arith, n, same, low));
+      tied = λ k j e low. holds_more (λ k x. IsEndOf x (get_or (ends ++ l ∷ []) k e)) inlets i
+          (λ k j low. subst (IsEndOf (get_or inlets k j)) (sym (get_or_append_left ends (l ∷ []) e k (omega (arith, same, low))))
+          (was.tied k j e low))
+          (subst (IsEndOf i) (sym (get_or_push ends l e (length inlets) same)) tied) k j (omega (arith, n, low));
     }
-
-pub values_push : (bs : List (Box Line Global)) (b : Box Line Global)
-    → map (λ (x : Box Line Global). x.value) (bs ++ b ∷ []) ≡ map (λ (x : Box Line Global). x.value) bs ++ b.value ∷ []
-values_push bs b = map-append (λ (x : Box Line Global). x.value) bs (b ∷ [])

@@ -1,7 +1,4 @@
-pub mod DeskParts
-pub mod LineParts
 pub mod SmallFacts
-pub mod FrameSteps
 pub mod DeskMakerLemmas
 pub mod RoundLemmas
 pub mod PlacementLemmas

@@ -18,8 +18,8 @@ use Rattle.timer_desk.specs.Flush.{Flushes, without_words}
 use Rattle.timer_desk.proofs.Members.{ReportHolds-joined, ReportHolds-nothing}
 use Rattle.timer_desk_c.specs.DeskSlots.{DeskState}
 use Rattle.timer_desk_c.specs.Desks.{Says}
-use Rattle.timer_desk_c.specs.Rounds.{report_of, did, starved, serves_of, AllDid, IsServedOut, HasServedClient, round_status, HasServedAll, flush_of, IsFlushedOut, HasFlushedEach}
-use Rattle.timer_desk_c.specs.Dropped.{IsDropped, HasDropped, HasDroppedEach, waiting_at}
+use Rattle.timer_desk_c.specs.Rounds.{report_of, did, starved, serves_of, AllDid, IsServedOut, HasServedClient, round_status, HasServedAll, flush_of, IsFlushedOut, HasFlushedFirst}
+use Rattle.timer_desk_c.specs.Dropped.{IsDropped, HasDropped, HasDroppedFirst, waiting_at}
 use Rattle.timer_desk_c.proofs.SmallFacts.{none_below, below_or_same, less_is_other, more_is_other, or_true, or_false}
 
 -- One more client.
@@ -185,15 +185,7 @@ flush_others k count y z f = record {
       ∙ get_or-set_other y.backlogs k c (without_words count (backlog_at y k)) (empty_backlog 0) other;
 }
 
--- each client below k was flushed
-pub record IsFlushing (k : ℕ) (moved : Bool) (old now : DeskState) : Type 0 where
-  pub counts : List ℕ
-  pub as_many : length counts ≡ k
-  pub says : Says (report_of flush_of 0 counts) old now
-  pub flushed_out : (c : ℕ) (i : RingInlet) → c < k → IsFlushedOut (get_or now.inlets c i) (backlog_at now c)
-  pub moved_is : moved ≡ list_any (nat_lt 0) counts
-
-pub flushing_nothing : (x : DeskState) → IsKept ring_lines (at_rest x) → IsFlushing 0 false x x
+pub flushing_nothing : (x : DeskState) → IsKept ring_lines (at_rest x) → HasFlushedFirst 0 false x x
 flushing_nothing x kept = record {
   counts = [];
   as_many = refl;
@@ -208,9 +200,9 @@ ring_stopped (inl none) = inl none
 ring_stopped (inr (inl full)) = inr full
 ring_stopped (inr (inr refuses)) = absurd (cc)
 
-pub flushing_more : (k count : ℕ) (moved b : Bool) (x y z : DeskState) → IsFlushing k moved x y → Says (Dones.Flushed k count ∷ []) y z
+pub flushing_more : (k count : ℕ) (moved b : Bool) (x y z : DeskState) → HasFlushedFirst k moved x y → Says (Dones.Flushed k count ∷ []) y z
     → b ≡ nat_lt 0 count → Flushes ring_lines k count y z
-    → ((i : RingInlet) → IsFlushedOut (get_or z.inlets k i) (backlog_at z k)) → IsFlushing (k + 1) (moved || b) x z
+    → ((i : RingInlet) → IsFlushedOut (get_or z.inlets k i) (backlog_at z k)) → HasFlushedFirst (k + 1) (moved || b) x z
 flushing_more k count moved b x y z f says e g stopped = record {
   counts = f.counts ++ count ∷ [];
   as_many = one_more k f.counts count f.as_many;
@@ -222,15 +214,6 @@ flushing_more k count moved b x y z f says e g stopped = record {
   moved_is = any_more (nat_lt 0) f.counts count moved b f.moved_is e;
 }
 
-pub flushing_done : (k : ℕ) (moved : Bool) (x y : DeskState) → IsFlushing k moved x y → k ≡ clients_of x → HasFlushedEach moved x y
-flushing_done k moved x y f all = record {
-  counts = f.counts;
-  as_many = f.as_many ∙ all;
-  says = f.says;
-  flushed_out = λ c i low. f.flushed_out c i (omega (arith, all, low));
-  moved_is = f.moved_is;
-}
-
 -- A round that drops the words to clients that are gone.
 
 drop_others : (k : ℕ) (y z : DeskState) → HasDropped k y z → KeepsOthers k y z
@@ -238,28 +221,22 @@ drop_others k y z g = record { inlets = g.other_inlets; backlogs = λ c other. g
 
 -- so for each client below k, and the others are as they were
 pub record IsDropping (k : ℕ) (dropped : Bool) (old now : DeskState) : Type 0 where
-  pub counts : List ℕ
-  pub as_many : length counts ≡ k
-  pub same_facility : now.facility ≡ old.facility
-  pub same_clients : clients_of now ≡ clients_of old
-  pub as_many_backlogs : length now.backlogs ≡ length old.backlogs
-  pub each : (c : ℕ) (i : RingInlet) → c < k
-      → IsDropped (get_or old.inlets c i) (get_or now.inlets c i) (backlog_at old c) (backlog_at now c)
-  pub counted : (c : ℕ) → c < k → get_or counts c 0 + waiting_at now c ≡ waiting_at old c
-  pub dropped_is : dropped ≡ list_any (nat_lt 0) counts
+  pub first : HasDroppedFirst k dropped old now
   pub later_inlets : (c : ℕ) (i : RingInlet) → k ≤ c → get_or now.inlets c i ≡ get_or old.inlets c i
   pub later_backlogs : (c : ℕ) → k ≤ c → backlog_at now c ≡ backlog_at old c
 
 pub dropping_nothing : (x : DeskState) → IsDropping 0 false x x
 dropping_nothing x = record {
-  counts = [];
-  as_many = refl;
-  same_facility = refl;
-  same_clients = refl;
-  as_many_backlogs = refl;
-  each = λ c i low. absurd (none_below c low);
-  counted = λ c low. absurd (none_below c low);
-  dropped_is = refl;
+  first = record {
+    counts = [];
+    as_many = refl;
+    same_facility = refl;
+    same_clients = refl;
+    as_many_backlogs = refl;
+    each = λ c i low. absurd (none_below c low);
+    counted = λ c low. absurd (none_below c low);
+    dropped_is = refl;
+  };
   later_inlets = λ c i high. refl;
   later_backlogs = λ c high. refl;
 }
@@ -280,35 +257,25 @@ counted_more k count counts x y z many o e was before c below = elim (below_or_s
 
 pub dropping_more : (k count : ℕ) (dropped b : Bool) (x y z : DeskState) → IsDropping k dropped x y → HasDropped k y z
     → count + waiting_at z k ≡ waiting_at y k → b ≡ nat_lt 0 count → IsDropping (k + 1) (dropped || b) x z
-dropping_more k count dropped b x y z f g e is = let o = drop_others k y z g in record {
-  counts = f.counts ++ count ∷ [];
-  as_many = one_more k f.counts count f.as_many;
-  same_facility = g.same_facility ∙ f.same_facility;
-  same_clients = g.same_clients ∙ f.same_clients;
-  as_many_backlogs = g.as_many_backlogs ∙ f.as_many_backlogs;
-  each = λ c i below. elim (below_or_same c k below) [
-    | inl under ↦ still (λ (j : RingInlet) (d : BacklogState). IsDropped (get_or x.inlets c i) j (backlog_at x c) d) k c i y z o
-        (less_is_other c k under) (f.each c i under)
-    | inr same ↦ subst (λ n. IsDropped (get_or x.inlets n i) (get_or z.inlets n i) (backlog_at x n) (backlog_at z n)) (sym same)
-        (subst (λ (j : RingInlet). IsDropped j (get_or z.inlets k i) (backlog_at x k) (backlog_at z k)) (f.later_inlets k i (omega arith))
-        (subst (λ (d : BacklogState). IsDropped (get_or y.inlets k i) (get_or z.inlets k i) d (backlog_at z k))
-        (f.later_backlogs k (omega arith)) (g.at i)))
-  ];
-  counted = counted_more k count f.counts x y z f.as_many o e
-      (ap (λ (d : BacklogState). length d.outbox) (f.later_backlogs k (omega arith))) f.counted;
-  dropped_is = any_more (nat_lt 0) f.counts count dropped b f.dropped_is is;
+dropping_more k count dropped b x y z f g e is = let o = drop_others k y z g in let so_far = f.first in record {
+  first = record {
+    counts = so_far.counts ++ count ∷ [];
+    as_many = one_more k so_far.counts count so_far.as_many;
+    same_facility = g.same_facility ∙ so_far.same_facility;
+    same_clients = g.same_clients ∙ so_far.same_clients;
+    as_many_backlogs = g.as_many_backlogs ∙ so_far.as_many_backlogs;
+    each = λ c i below. elim (below_or_same c k below) [
+      | inl under ↦ still (λ (j : RingInlet) (d : BacklogState). IsDropped (get_or x.inlets c i) j (backlog_at x c) d) k c i y z o
+          (less_is_other c k under) (so_far.each c i under)
+      | inr same ↦ subst (λ n. IsDropped (get_or x.inlets n i) (get_or z.inlets n i) (backlog_at x n) (backlog_at z n)) (sym same)
+          (subst (λ (j : RingInlet). IsDropped j (get_or z.inlets k i) (backlog_at x k) (backlog_at z k)) (f.later_inlets k i (omega arith))
+          (subst (λ (d : BacklogState). IsDropped (get_or y.inlets k i) (get_or z.inlets k i) d (backlog_at z k))
+          (f.later_backlogs k (omega arith)) (g.at i)))
+    ];
+    counted = counted_more k count so_far.counts x y z so_far.as_many o e
+        (ap (λ (d : BacklogState). length d.outbox) (f.later_backlogs k (omega arith))) so_far.counted;
+    dropped_is = any_more (nat_lt 0) so_far.counts count dropped b so_far.dropped_is is;
+  };
   later_inlets = λ c i high. o.inlets c i (more_is_other c k high) ∙ f.later_inlets c i (omega (arith, high));
   later_backlogs = λ c high. o.backlogs c (more_is_other c k high) ∙ f.later_backlogs c (omega (arith, high));
-}
-
-pub dropping_done : (k : ℕ) (dropped : Bool) (x y : DeskState) → IsDropping k dropped x y → k ≡ clients_of x → HasDroppedEach dropped x y
-dropping_done k dropped x y f all = record {
-  counts = f.counts;
-  as_many = f.as_many ∙ all;
-  same_facility = f.same_facility;
-  same_clients = f.same_clients;
-  as_many_backlogs = f.as_many_backlogs;
-  each = λ c i low. f.each c i (omega (arith, all, low));
-  counted = λ c low. f.counted c (omega (arith, all, low));
-  dropped_is = f.dropped_is;
 }

@@ -1,5 +1,6 @@
 -- Small facts of indexes, Booleans and lists.
-use Rattle.std.proofs.Common.{◌≡◌, ◌≢◌, ◌<◌, ◌≤◌, ◌+◌, ◌==◌, ◌||◌, ◌⊎◌, ℕ, Bool, true, false, List, [], ◌∷◌, refl, arith}
+use Rattle.std.proofs.Common.{◌≡◌, ◌≢◌, ◌<◌, ◌≤◌, ◌+◌, ◌==◌, ◌||◌, ◌⊎◌, ◌++◌, ℕ, Bool, true, false, List, [], ◌∷◌, length, get_or, refl, sym, subst, inl, inr, arith}
+use Rattle.std.proofs.lemmas.List.{get_or_push, get_or_append_left}
 use Rattle.std.specs.List.{AllByRecursion}
 use Rattle.std.proofs.lemmas.Bool.Decides.{nat_tests}
 
@@ -41,3 +42,11 @@ or_false false = refl
 pub all_weaken : {X : Type 0} (P Q : X → Type 0) → ((x : X) → P x → Q x) → (xs : List X) → AllByRecursion P xs → AllByRecursion Q xs
 all_weaken P Q h [] a = tt
 all_weaken P Q h (x ∷ xs) a = (h x a.0, all_weaken P Q h xs a.1)
+
+-- what holds of each item of a list, and of one more, holds of each of the longer list
+pub holds_more : {X : Type 0} (P : ℕ → X → Type 0) (xs : List X) (x : X) → ((k : ℕ) (y : X) → k < length xs → P k (get_or xs k y))
+    → P (length xs) x → (k : ℕ) (y : X) → k < length xs + 1 → P k (get_or (xs ++ x ∷ []) k y)
+holds_more P xs x each last k y low = elim (below_or_same k (length xs) low) [
+  | inl under ↦ subst (P k) (sym (get_or_append_left xs (x ∷ []) y k under)) (each k y under)
+  | inr same ↦ subst (P k) (sym (get_or_push xs x y k (sym same))) (subst (λ n. P n x) (sym same) last)
+]

@@ -31,14 +31,18 @@ pub record HasDropped (client : ℕ) (old new : DeskState) : Type 0 where
 abbrev pub waiting_at : DeskState → ℕ → ℕ
 waiting_at d c = length (backlog_at d c).outbox
 
--- so for each client, of which this many words were dropped; and whether any was
-pub record HasDroppedEach (dropped : Bool) (old new : DeskState) : Type 0 where
+-- so for each of the first `many` clients, of which so many words were dropped; and whether any was
+pub record HasDroppedFirst (many : ℕ) (dropped : Bool) (old new : DeskState) : Type 0 where
   pub counts : List ℕ
-  pub as_many : length counts ≡ clients_of old
+  pub as_many : length counts ≡ many
   pub same_facility : new.facility ≡ old.facility
   pub same_clients : clients_of new ≡ clients_of old
   pub as_many_backlogs : length new.backlogs ≡ length old.backlogs
-  pub each : (c : ℕ) (i : RingInlet) → c < clients_of old → IsDropped (get_or old.inlets c i)
-      (get_or new.inlets c i) (backlog_at old c) (backlog_at new c)
-  pub counted : (c : ℕ) → c < clients_of old → get_or counts c 0 + waiting_at new c ≡ waiting_at old c
+  pub each : (c : ℕ) (i : RingInlet) → c < many → IsDropped (get_or old.inlets c i) (get_or new.inlets c i)
+      (backlog_at old c) (backlog_at new c)
+  pub counted : (c : ℕ) → c < many → get_or counts c 0 + waiting_at new c ≡ waiting_at old c
   pub dropped_is : dropped ≡ list_any (nat_lt 0) counts
+
+-- so for each client
+abbrev pub HasDroppedEach : Bool → DeskState → DeskState → Type 0
+HasDroppedEach dropped old = HasDroppedFirst (clients_of old) dropped old

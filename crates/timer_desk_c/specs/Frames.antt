@@ -3,7 +3,7 @@ use Rattle.std.specs.Prelude.{◌≡◌, ◌==◌, ◌&&◌, ◌+◌, ◌%◌, �
 use Rattle.timer_desk_c.specs.declared.c_structs.CDesk.{CDesk}
 use Rattle.timer_desk_c.specs.declared.c_structs.CLine.{CLine}
 use Rattle.timer_desk_c.specs.DeskSlots.{DeskState}
-use Rattle.timer_desk_c.specs.LineSlots.{LineState}
+use Rattle.timer_desk_c.specs.declared.line.Line.{Line}
 use Rattle.timer_ffi_base.specs.Cells.{is_open}
 
 -- it holds a desk
@@ -39,5 +39,5 @@ abbrev pub HasNoLine : CLine → Type 0
 HasNoLine l = is_open l.slot.mark ≡ false
 
 -- the same, with a line of this state
-abbrev pub with_line : CLine → LineState → CLine
+abbrev pub with_line : CLine → Line → CLine
 with_line l state = record l { slot = record l.slot { state = state } }

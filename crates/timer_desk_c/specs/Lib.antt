@@ -2,7 +2,6 @@ pub mod Messages
 pub mod Lines
 pub mod DeskSlots
 pub mod DeskLent
-pub mod LineSlots
 pub mod LineLent
 pub mod Frames
 pub mod Desks

@@ -82,14 +82,17 @@ flush_of client count = Dones.Flushed client count ∷ []
 abbrev pub IsFlushedOut : RingInlet → BacklogState → Type 0
 IsFlushedOut i b = (b.outbox ≡ []) ⊎ (free_of_inlet i ≡ 0)
 
--- each client was flushed, in order, as far as its line had room; and whether a word was moved
-pub record HasFlushedEach (moved : Bool) (old new : DeskState) : Type 0 where
+-- the first `many` clients were flushed, in order, as far as their lines had room; and whether a word was moved
+pub record HasFlushedFirst (many : ℕ) (moved : Bool) (old new : DeskState) : Type 0 where
   pub counts : List ℕ
-  pub as_many : length counts ≡ clients_of old
+  pub as_many : length counts ≡ many
   pub says : Says (report_of flush_of 0 counts) old new
-  pub flushed_out : (c : ℕ) (i : RingInlet) → c < clients_of old
-      → IsFlushedOut (get_or new.inlets c i) (backlog_at new c)
+  pub flushed_out : (c : ℕ) (i : RingInlet) → c < many → IsFlushedOut (get_or new.inlets c i) (backlog_at new c)
   pub moved_is : moved ≡ list_any (nat_lt 0) counts
+
+-- each client was
+abbrev pub HasFlushedEach : Bool → DeskState → DeskState → Type 0
+HasFlushedEach moved old = HasFlushedFirst (clients_of old) moved old
 
 -- each client was flushed, and the words that its line did not take were dropped if the client is gone
 pub record HasFlushedAll (moved : Bool) (old new : DeskState) : Type 0 where

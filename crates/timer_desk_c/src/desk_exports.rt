@@ -51,7 +51,7 @@ pub extern "C" fn timers_desk_new(
         ⊎ (IsShut d.old × AllEmpty lines.old × WhyNotMade (length lines.old) config.now result) }
     ensures kept { 0 < result → (d.new ≡ d.old) × (lines.new ≡ lines.old) }
 {
-    if d.slot.holds() {
+    if let Some(_) = d.desk() {
         return OPEN;
     }
     if !are_empty(lines) {
@@ -60,7 +60,7 @@ pub extern "C" fn timers_desk_new(
     match make(alloc, lines.len(), *config) {
         Ok(made) => {
             let Made { desk, ends } = made;
-            d.slot.put(RawBox::park(desk));
+            d.slot.cell().put(RawBox::park(desk));
             d.lives = next_life(d.lives);
             place(ends, lines, d.lives);
             OK
@@ -77,8 +77,8 @@ pub extern "C" fn timers_desk_free(alloc: Global, d: &mut CDesk)
     ensures lives { d.new.lives ≡ d.old.lives }
     ensures kept { IsShut d.old → d.new ≡ d.old }
 {
-    if d.slot.holds() {
-        drop(d.slot.take(alloc).unpark());
+    if let Some(_) = d.desk() {
+        drop(d.slot.cell().take(alloc).unpark());
     }
 }
 
@@ -92,10 +92,10 @@ pub extern "C" fn timers_desk_serve(d: &mut CDesk, client: usize) -> u32
     ensures not_open { IsShut d.old → (result ≡ NOT_OPEN) × (d.new ≡ d.old) }
     ensures only { d.new ≡ with_desk d.old d.new.slot.state }
 {
-    if !d.slot.holds() {
-        return NOT_OPEN;
+    match d.desk() {
+        Some(desk) => calls::serve(desk, client),
+        None => NOT_OPEN,
     }
-    calls::serve(d.slot.desk(), client)
 }
 
 /// Serves each client in turn, each up to `most` times. Returns `NO_MEMORY` if a serve failed with out of memory,
@@ -106,10 +106,10 @@ pub extern "C" fn timers_desk_serve_all(d: &mut CDesk, most: u64) -> u32
     ensures not_open { IsShut d.old → (result ≡ NOT_OPEN) × (d.new ≡ d.old) }
     ensures only { d.new ≡ with_desk d.old d.new.slot.state }
 {
-    if !d.slot.holds() {
-        return NOT_OPEN;
+    match d.desk() {
+        Some(desk) => rounds::serve_all(desk, most),
+        None => NOT_OPEN,
     }
-    rounds::serve_all(d.slot.desk(), most)
 }
 
 /// Moves words from each client's outbox into its line, as many as it takes. Those that are left of a client whose
@@ -120,10 +120,10 @@ pub extern "C" fn timers_desk_flush_all(d: &mut CDesk) -> bool
     ensures not_open { IsShut d.old → (result ≡ false) × (d.new ≡ d.old) }
     ensures only { d.new ≡ with_desk d.old d.new.slot.state }
 {
-    if !d.slot.holds() {
-        return false;
+    match d.desk() {
+        Some(desk) => rounds::flush_all(desk),
+        None => false,
     }
-    rounds::flush_all(d.slot.desk())
 }
 
 /// Advances the clock by one tick. The notices of the timers that expire wait in the outboxes.
@@ -133,10 +133,10 @@ pub extern "C" fn timers_desk_tick(d: &mut CDesk) -> u32
     ensures not_open { IsShut d.old → (result ≡ NOT_OPEN) × (d.new ≡ d.old) }
     ensures only { d.new ≡ with_desk d.old d.new.slot.state }
 {
-    if !d.slot.holds() {
-        return NOT_OPEN;
+    match d.desk() {
+        Some(desk) => calls::tick(desk),
+        None => NOT_OPEN,
     }
-    calls::tick(d.slot.desk())
 }
 
 /// Passes at most `most` ticks, up to the first at which a timer expires, and writes how many were passed: 0
@@ -150,10 +150,10 @@ pub extern "C" fn timers_desk_advance(d: &mut CDesk, most: u64, passed: &mut u64
     ensures kept { 0 < result → (d.new ≡ d.old) × (passed.new ≡ passed.old) }
     ensures only { d.new ≡ with_desk d.old d.new.slot.state }
 {
-    if !d.slot.holds() {
-        return NOT_OPEN;
+    match d.desk() {
+        Some(desk) => ticks::advance(desk, most, passed),
+        None => NOT_OPEN,
     }
-    ticks::advance(d.slot.desk(), most, passed)
 }
 
 /// Moves words from a client's outbox into its line, as many as it takes, and drops those that are left if the line
@@ -166,10 +166,10 @@ pub extern "C" fn timers_desk_flush(d: &mut CDesk, client: usize) -> usize
     ensures not_open { IsShut d.old → (result ≡ 0) × (d.new ≡ d.old) }
     ensures only { d.new ≡ with_desk d.old d.new.slot.state }
 {
-    if !d.slot.holds() {
-        return 0;
+    match d.desk() {
+        Some(desk) => ticks::flush(desk, client),
+        None => 0,
     }
-    ticks::flush(d.slot.desk(), client)
 }
 
 /// Closes the facility: each pending timer is returned to its client, and no request is accepted from then
@@ -181,10 +181,10 @@ pub extern "C" fn timers_desk_close(d: &mut CDesk, returned: &mut u64) -> u32
     ensures kept { 0 < result → returned.new ≡ returned.old }
     ensures only { d.new ≡ with_desk d.old d.new.slot.state }
 {
-    if !d.slot.holds() {
-        return NOT_OPEN;
+    match d.desk() {
+        Some(desk) => calls::close(desk, returned),
+        None => NOT_OPEN,
     }
-    calls::close(d.slot.desk(), returned)
 }
 
 /// The present tick, or 0 if there is no desk.
@@ -194,10 +194,10 @@ pub extern "C" fn timers_desk_now(d: &mut CDesk) -> u64
     ensures not_open { IsShut d.old → result ≡ 0 }
     ensures same { d.new ≡ d.old }
 {
-    if !d.slot.holds() {
-        return 0;
+    match d.desk() {
+        Some(desk) => desk.facility().now(),
+        None => 0,
     }
-    d.slot.desk().facility().now()
 }
 
 /// How many timers are pending, or 0 if there is no desk.
@@ -207,10 +207,10 @@ pub extern "C" fn timers_desk_len(d: &mut CDesk) -> usize
     ensures not_open { IsShut d.old → result ≡ 0 }
     ensures same { d.new ≡ d.old }
 {
-    if !d.slot.holds() {
-        return 0;
+    match d.desk() {
+        Some(desk) => desk.facility().pending(),
+        None => 0,
     }
-    d.slot.desk().facility().pending()
 }
 
 /// The first tick at which a timer expires or moves to a lower wheel; `NEVER` if nothing is pending or there is no
@@ -221,10 +221,10 @@ pub extern "C" fn timers_desk_wakeup(d: &mut CDesk) -> u64
     ensures not_open { IsShut d.old → result ≡ NEVER }
     ensures same { d.new ≡ d.old }
 {
-    if !d.slot.holds() {
-        return NEVER;
+    match d.desk() {
+        Some(desk) => calls::wakeup(desk),
+        None => NEVER,
     }
-    calls::wakeup(d.slot.desk())
 }
 
 /// The first pending deadline; `NEVER` if nothing is pending or there is no desk.
@@ -234,10 +234,10 @@ pub extern "C" fn timers_desk_next(d: &mut CDesk) -> u64
     ensures not_open { IsShut d.old → result ≡ NEVER }
     ensures same { d.new ≡ d.old }
 {
-    if !d.slot.holds() {
-        return NEVER;
+    match d.desk() {
+        Some(desk) => calls::next(desk),
+        None => NEVER,
     }
-    calls::next(d.slot.desk())
 }
 
 /// Whether a client's line was freed. False if there is no such client or no desk.
@@ -255,10 +255,10 @@ pub extern "C" fn timers_desk_line_freed(d: &mut CDesk, client: usize) -> bool
     ensures not_open { IsShut d.old → (result ≡ false) × (d.new ≡ d.old) }
     ensures only { d.new ≡ with_desk d.old d.new.slot.state }
 {
-    if !d.slot.holds() {
-        return false;
+    match d.desk() {
+        Some(desk) => calls::line_freed(desk, client),
+        None => false,
     }
-    calls::line_freed(d.slot.desk(), client)
 }
 
 /// Opens a new line for a client whose line was freed and of which nothing is left at the desk. `line` holds the
@@ -282,15 +282,16 @@ pub extern "C" fn timers_desk_open(
         ⊎ OnlyLooks client d.old.slot.state d.new.slot.state) }
     ensures only { d.new ≡ with_desk d.old d.new.slot.state }
 {
-    if !d.slot.holds() {
+    let lives = d.lives;
+    let Some(desk) = d.desk() else {
         return NOT_OPEN;
-    }
-    if line.slot.holds() {
+    };
+    if let Some(_) = line.line() {
         return OPEN;
     }
-    match open(alloc, d.slot.desk(), client, room) {
+    match open(alloc, desk, client, room) {
         Ok(end) => {
-            hold(line, end, client, d.lives);
+            hold(line, end, client, lives);
             OK
         }
         Err(status) => status,
@@ -309,10 +310,10 @@ pub extern "C" fn timers_desk_stop_pending(d: &mut CDesk, client: usize, stopped
         ⊎ OnlyLooks client d.old.slot.state d.new.slot.state) }
     ensures only { d.new ≡ with_desk d.old d.new.slot.state }
 {
-    if !d.slot.holds() {
-        return NOT_OPEN;
+    match d.desk() {
+        Some(desk) => stop_pending(desk, client, stopped),
+        None => NOT_OPEN,
     }
-    stop_pending(d.slot.desk(), client, stopped)
 }
 
 /// Makes room for as many timers as may be pending: no serve and no close runs out of memory from then on.
@@ -324,10 +325,10 @@ pub extern "C" fn timers_desk_reserve(d: &mut CDesk) -> u32
     ensures kept { 0 < result → d.new.slot.state ≡ d.old.slot.state }
     ensures only { d.new ≡ with_desk d.old d.new.slot.state }
 {
-    if !d.slot.holds() {
-        return NOT_OPEN;
+    match d.desk() {
+        Some(desk) => calls::reserve(desk),
+        None => NOT_OPEN,
     }
-    calls::reserve(d.slot.desk())
 }
 
 /// How many timers of a client are pending. 0 if there is no such client or no desk.
@@ -339,10 +340,10 @@ pub extern "C" fn timers_desk_pending(d: &mut CDesk, client: usize) -> usize
     ensures not_open { IsShut d.old → result ≡ 0 }
     ensures same { d.new ≡ d.old }
 {
-    if !d.slot.holds() {
-        return 0;
+    match d.desk() {
+        Some(desk) => calls::pending(desk, client),
+        None => 0,
     }
-    calls::pending(d.slot.desk(), client)
 }
 
 /// How many words wait in a client's outbox. 0 if there is no such client or no desk.
@@ -354,10 +355,10 @@ pub extern "C" fn timers_desk_outbox(d: &mut CDesk, client: usize) -> usize
     ensures not_open { IsShut d.old → result ≡ 0 }
     ensures same { d.new ≡ d.old }
 {
-    if !d.slot.holds() {
-        return 0;
+    match d.desk() {
+        Some(desk) => calls::outbox(desk, client),
+        None => 0,
     }
-    calls::outbox(d.slot.desk(), client)
 }
 
 /// Settles the line of a client that has finished, and writes how many of its requests still stand in it.
@@ -381,14 +382,14 @@ pub extern "C" fn timers_desk_settle(
     ensures only { (d.new ≡ with_desk d.old d.new.slot.state)
         × (line.new ≡ with_line line.old line.new.slot.state) }
 {
-    if !d.slot.holds() {
-        return NOT_OPEN;
-    }
-    if !line.slot.holds() {
-        return NOT_OPEN;
-    }
     let own = is_line_of(line.client, line.life, client, d.lives);
-    settle(d.slot.desk(), client, own, line.slot.line(), standing)
+    let Some(desk) = d.desk() else {
+        return NOT_OPEN;
+    };
+    let Some(line) = line.line() else {
+        return NOT_OPEN;
+    };
+    settle(desk, client, own, line, standing)
 }
 
 /// Ends the words of a client that has finished, unless something of it is left at the desk, and writes how
@@ -415,14 +416,14 @@ pub extern "C" fn timers_desk_end(
     ensures only { (d.new ≡ with_desk d.old d.new.slot.state)
         × (line.new ≡ with_line line.old line.new.slot.state) }
 {
-    if !d.slot.holds() {
-        return NOT_OPEN;
-    }
-    if !line.slot.holds() {
-        return NOT_OPEN;
-    }
     let own = is_line_of(line.client, line.life, client, d.lives);
-    end(d.slot.desk(), client, own, line.slot.line(), unread)
+    let Some(desk) = d.desk() else {
+        return NOT_OPEN;
+    };
+    let Some(line) = line.line() else {
+        return NOT_OPEN;
+    };
+    end(desk, client, own, line, unread)
 }
 
 /// Ends the words of each client, unless something of it is left at the desk. `lines` has the line of each
@@ -453,9 +454,9 @@ pub extern "C" fn timers_desk_end_all(d: &mut CDesk, lines: &mut [CLine], client
     ensures desk { KeepsLines d.old.slot.state d.new.slot.state }
     ensures only { (d.new ≡ with_desk d.old d.new.slot.state) × OnlyStates lines.old lines.new }
 {
-    if !d.slot.holds() {
-        return NOT_OPEN;
-    }
     let lives = d.lives;
-    end_all(d.slot.desk(), lives, lines, client)
+    match d.desk() {
+        Some(desk) => end_all(desk, lives, lines, client),
+        None => NOT_OPEN,
+    }
 }

@@ -12,7 +12,7 @@
 //!     messages       words as C's struct
 //!     desk_maker, placement    a new desk, and its lines put into C's structs
 //!     c_structs      the two structs
-//!     desk_cell, line_cell    the machine words by which they own something on the heap, proved by hand
+//!     desk_cell, line_cell    the machine words by which they own something on the heap
 //!     layout, status    the other structs and the numbers of the header
 #![tactic(auto)]
 

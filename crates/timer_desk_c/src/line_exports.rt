@@ -108,10 +108,10 @@ fn send(line: &mut CLine, request: Request, number: &mut u64) -> u32
     ensures line { IsSameLine line.old.slot.state line.new.slot.state }
     ensures only { line.new ≡ with_line line.old line.new.slot.state }
 {
-    if !line.slot.holds() {
-        return NOT_OPEN;
+    match line.line() {
+        Some(line) => line.send(request, number),
+        None => NOT_OPEN,
     }
-    line.slot.line().send(request, number)
 }
 
 /// Receives the next word. Returns whether there was one.
@@ -130,10 +130,10 @@ pub extern "C" fn timers_line_receive(line: &mut CLine, out: &mut Message) -> bo
     ensures line { IsSameLine line.old.slot.state line.new.slot.state }
     ensures only { line.new ≡ with_line line.old line.new.slot.state }
 {
-    if !line.slot.holds() {
-        return false;
+    match line.line() {
+        Some(line) => line.receive(out),
+        None => false,
     }
-    line.slot.line().receive(out)
 }
 
 /// Whether no further word will arrive: the owner has ended the words, and all of them were received.
@@ -143,10 +143,10 @@ pub extern "C" fn timers_line_ended(line: &mut CLine) -> bool
     ensures no { result ≡ false → HasLine line.old → MayReceive line.old.slot.state }
     ensures same { line.new ≡ line.old }
 {
-    if !line.slot.holds() {
-        return false;
+    match line.line() {
+        Some(line) => line.is_read_to_end(),
+        None => false,
     }
-    line.slot.line().is_read_to_end()
 }
 
 /// Whether the desk was freed before it had ended the words, and all words that it put into the line were received.
@@ -164,10 +164,10 @@ pub extern "C" fn timers_line_abandoned(line: &mut CLine) -> bool
     ensures line { IsSameLine line.old.slot.state line.new.slot.state }
     ensures only { line.new ≡ with_line line.old line.new.slot.state }
 {
-    if !line.slot.holds() {
-        return false;
+    match line.line() {
+        Some(line) => line.is_abandoned(),
+        None => false,
     }
-    line.slot.line().is_abandoned()
 }
 
 /// Ends the requests of this line. Words are still received.
@@ -180,10 +180,10 @@ pub extern "C" fn timers_line_finish(line: &mut CLine) -> u32
     ensures received { received_on line.new.slot.state ≡ received_on line.old.slot.state }
     ensures only { line.new ≡ with_line line.old line.new.slot.state }
 {
-    if !line.slot.holds() {
-        return NOT_OPEN;
+    match line.line() {
+        Some(line) => line.finish(),
+        None => NOT_OPEN,
     }
-    line.slot.line().finish()
 }
 
 /// Frees the end of the line, if there is one.
@@ -192,7 +192,7 @@ pub extern "C" fn timers_line_free(alloc: Global, line: &mut CLine)
     ensures shut { HasNoLine line.new }
     ensures kept { HasNoLine line.old → line.new ≡ line.old }
 {
-    if line.slot.holds() {
-        drop(line.slot.take(alloc).unpark());
+    if let Some(_) = line.line() {
+        drop(line.slot.cell().take(alloc).unpark());
     }
 }

@@ -14,7 +14,7 @@ pub(crate) fn are_empty(lines: &mut [CLine]) -> bool
     ensures same { lines.new ≡ lines.old }
 {
     for k in 0..lines.len() {
-        if lines[k].slot.holds() {
+        if let Some(_) = lines[k].line() {
             return false;
         }
     }
@@ -42,7 +42,7 @@ pub(crate) fn hold(line: &mut CLine, end: Box<Line>, client: usize, life: u64)
     ensures client { line.new.client ≡ client }
     ensures life { line.new.life ≡ life }
 {
-    line.slot.put(RawBox::park(end));
+    line.slot.cell().put(RawBox::park(end));
     line.client = client as u64;
     line.life = life;
 }

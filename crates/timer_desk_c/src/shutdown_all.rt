@@ -98,12 +98,12 @@ fn end_held<W: Wheel + Drop>(
     ensures desk { OnlySettles client desk.old desk.new }
     ensures only { line.new ≡ with_line line.old line.new.slot.state }
 {
-    if !line.slot.holds() {
-        return freed(desk, client);
-    }
     let own = is_line_of(line.client, line.life, client, lives);
     let mut unread = 0;
-    end(desk, client, own, line.slot.line(), &mut unread)
+    match line.line() {
+        Some(line) => end(desk, client, own, line, &mut unread),
+        None => freed(desk, client),
+    }
 }
 
 /// `OK` if the line of a client was freed.

@@ -1,2 +1,5 @@
 pub mod RawBoxParts
 pub mod CellParts
+pub mod Casts
+pub mod Sends
+pub mod Loans

@@ -309,14 +309,15 @@ passed_counted start c h r good = subst (λ ws. ArePassed (next_of start) c.coun
     (subst (λ n. ArePassed n c.count h.words) h.first (subst (λ b. AreChecked b c.first c.count h.words) good h.checked))
 
 -- a client that is not over goes on
-pub goes_on : (start : ClientEnd) (limit idle : ℕ) (c : Client) → IsSound c → IsAtWork start c → IsRecorded start c
-    → c.failed || is_complete c ≡ false → idle ≡ idle_at_end (turns_by c) → idle < limit → GoesOn (next_of start) c.count limit (turns_by c)
-goes_on start limit idle c sound h r not_over is few =
+pub goes_on : (start : ClientEnd) (count limit idle : ℕ) (c : Client) → c.count ≡ count → IsSound c → IsAtWork start c → IsRecorded start c
+    → c.failed || is_complete c ≡ false → idle ≡ idle_at_end (turns_by c) → idle < limit → GoesOn (next_of start) count limit (turns_by c)
+goes_on start count limit idle c is_count sound h r not_over is few =
     let both = or_false c.failed (is_complete c) not_over in
     let same = words_counted start c h r in
     let sent : c.sent ≡ length (requests_of (turns_by c)) =
     sym (ap length (requests_counted start c h r) ∙ length-map-range_with_len (request_of (next_of start)) 1 c.sent) in
-    let started : c.started ≡ length (started_by (words_of (turns_by c))) = sym h.started ∙ ap (λ ws. length (started_by ws)) same in record {
+    let started : c.started ≡ length (started_by (words_of (turns_by c))) = sym h.started ∙ ap (λ ws. length (started_by ws)) same in
+    subst (λ n. GoesOn (next_of start) n limit (turns_by c)) is_count (record {
       passed = passed_counted start c h r both.0;
       short = subst (λ n. (n < c.count) ⊎ ((length (started_by (words_of (turns_by c))) < c.count)
           ⊎ (length (expired_by (words_of (turns_by c))) < c.count))) sent
@@ -324,7 +325,7 @@ goes_on start limit idle c sound h r not_over is few =
           (subst (λ n. (c.sent < c.count) ⊎ ((c.started < c.count) ⊎ (n < c.count))) (expired_counted start c h r)
           (short_means c.sent c.started c.expired c.count sound.sent (sound.started both.0) (sound.expired both.0) both.1)));
       idle = subst (λ n. n < limit) is few;
-    }
+    })
 
 -- the request of a turn was let go if the gate was asked with the client's count
 pub IsLetGo-counted : (lets_go : ℕ → ℕ → Type 0) (start : ClientEnd) (c : Client) (t : Turn) → IsAtWork start c → IsRecorded start c

@@ -17,33 +17,24 @@ use Rattle.timer_threads.specs.Results.{has_failed, NoneFailed, AllEnded, IsFirs
 use Rattle.timer_threads.specs.Threads.{AreOfLines, AllRead, NoneUnread, AreSettled, IsFirstWithWords, IsFirstToRead, IsServed, AllServed, IsWoundUp, IsUnfinished, IsFirstClient, IsFirstFault, drive_fault}
 use Rattle.timer_threads.proofs.ResultsLemmas.{unzipped_lengths, unzipped_at, ended_at, reader_at, all_ended}
 
+-- a list with this index has an item
+some_item : {X : Type 0} (xs : List X) (k : ℕ) → k < length xs → X
+some_item [] k l = absurd (omega arith)
+some_item (x ∷ xs) k l = x
+
 pub ends_of : (inlets : List RingInlet) (ws : List Worked) (es : List RequestsEnded) (rs : List ClientReader) → AreUnzipped ws es rs
     → AreOfLines inlets ws → AreEndsOf inlets es
 ends_of inlets ws es rs p a =
     let n = unzipped_lengths ws es rs p in
     let m : length ws ≡ length inlets = a.as_many in record {
       as_many = n.0 ∙ m;
-      of_lines = λ k i e l. by_reader rs p k i e l;
+      of_lines = λ k i e l.
+          let w : Worked = some_item ws k (omega (arith, l, m)) in
+          let r : ClientReader = some_item rs k (let z = n.1 in omega (arith, l, m, z)) in
+          let at = unzipped_at ws es rs p k w e r (omega (arith, l, m)) in
+          subst (λ (o : Option RequestsEnded). IfSome o (λ x. requests_ring_of x ≡ (line_of_inlet (get_or inlets k i)).0)) at.0
+          (a.each k i w l).ended;
     }
-  where
-    some_reader : (ys : List ClientReader) → (j : ℕ) → j < length ys → ClientReader
-    some_reader [] j l = absurd (omega arith)
-    some_reader (y ∷ ys) j l = y
-
-    some_worked : (xs : List Worked) → (j : ℕ) → j < length xs → Worked
-    some_worked [] j l = absurd (omega arith)
-    some_worked (x ∷ xs) j l = x
-
-    by_reader : (ys : List ClientReader) → AreUnzipped ws es ys → (k : ℕ) (i : RingInlet) (e : RequestsEnded) → k < length inlets
-        → requests_ring_of (get_or es k e) ≡ (line_of_inlet (get_or inlets k i)).0
-    by_reader ys q k i e l =
-        let m : length ws ≡ length inlets = a.as_many in
-        let n = unzipped_lengths ws es ys q in
-        let w : Worked = some_worked ws k (omega arith) in
-        let r : ClientReader = some_reader ys k (let z = n.1 in omega arith) in
-        let at = unzipped_at ws es ys q k w e r (omega arith) in
-        subst (λ (o : Option RequestsEnded). IfSome o (λ x. requests_ring_of x ≡ (line_of_inlet (get_or inlets k i)).0)) at.0
-        (a.each k i w l).ended
 
 pub readers_of : (inlets : List RingInlet) (ws : List Worked) (es : List RequestsEnded) (rs : List ClientReader) → AreUnzipped ws es rs
     → AreOfLines inlets ws → AreReadersOf inlets rs
@@ -51,26 +42,12 @@ readers_of inlets ws es rs p a =
     let n = unzipped_lengths ws es rs p in
     let m : length ws ≡ length inlets = a.as_many in record {
       as_many = n.1 ∙ m;
-      of_lines = λ k i r l. by_end k i r l;
+      of_lines = λ k i r l.
+          let w : Worked = some_item ws k (omega (arith, l, m)) in
+          let e : RequestsEnded = some_item es k (let z = n.0 in omega (arith, l, m, z)) in
+          let at = unzipped_at ws es rs p k w e r (omega (arith, l, m)) in
+          ap words_ring_of_reader (sym at.1) ∙ (a.each k i w l).reader;
     }
-  where
-    some_end : (ys : List RequestsEnded) → (j : ℕ) → j < length ys → RequestsEnded
-    some_end [] j l = absurd (omega arith)
-    some_end (y ∷ ys) j l = y
-
-    some_worked : (xs : List Worked) → (j : ℕ) → j < length xs → Worked
-    some_worked [] j l = absurd (omega arith)
-    some_worked (x ∷ xs) j l = x
-
-    by_end : (k : ℕ) (i : RingInlet) (r : ClientReader) → k < length inlets
-        → words_ring_of_reader (get_or rs k r) ≡ (line_of_inlet (get_or inlets k i)).1
-    by_end k i r l =
-        let m : length ws ≡ length inlets = a.as_many in
-        let n = unzipped_lengths ws es rs p in
-        let w : Worked = some_worked ws k (omega arith) in
-        let e : RequestsEnded = some_end es k (let z = n.0 in omega arith) in
-        let at = unzipped_at ws es rs p k w e r (omega arith) in
-        ap words_ring_of_reader (sym at.1) ∙ (a.each k i w l).reader
 
 pub all_served : (desk : DeskState RingInlet) (ws : List Worked) (es : List RequestsEnded) (rs : List ClientReader) → AreUnzipped ws es rs
     → AreOfLines desk.inlets ws
@@ -87,21 +64,11 @@ pub wound_up : (desk : DeskState RingInlet) (ws : List Worked) (es : List Reques
     → AllIdle desk → AllGot desk.inlets es → AllRead desk.inlets rs → IsWoundUp desk ws
 wound_up desk ws es rs p a idle got read = record {
   served = all_served desk ws es rs p a idle got;
-  read = λ c i w l. read_all c i w l rs p read;
+  read = λ c i w l.
+      let m : length ws ≡ length desk.inlets = a.as_many in
+      let r : ClientReader = some_item rs c (let z = (unzipped_lengths ws es rs p).1 in omega (arith, z, l)) in
+      ap read_by (reader_at ws es rs p c w r l) ∙ read c i r (omega (arith, l, m));
 }
-  where
-    some_reader : (ys : List ClientReader) → (j : ℕ) → j < length ys → ClientReader
-    some_reader [] j l = absurd (omega arith)
-    some_reader (y ∷ ys) j l = y
-
-    read_all : (c : ℕ) (i : RingInlet) (w : Worked) → c < length ws → (ys : List ClientReader) → AreUnzipped ws es ys
-        → AllRead desk.inlets ys
-        → read_by (get_or ws c w).reader ≡ given_of (get_or desk.inlets c i)
-    read_all c i w l ys q h =
-        let m : length ws ≡ length desk.inlets = a.as_many in
-        let n = unzipped_lengths ws es ys q in
-        let r : ClientReader = some_reader ys c (let z = n.1 in omega (arith, z, l)) in
-        ap read_by (reader_at ws es ys q c w r l) ∙ h c i r (omega (arith, l, m))
 
 -- readers that were settled, and for which no word is left, had read all that was given
 pub read_out : (inlets : List RingInlet) (before after : List ClientReader) → AllReadOut inlets before after → length after ≡ length inlets
@@ -114,14 +81,8 @@ read_out inlets before after told long none c i r l =
 -- readers that were read out are settled
 pub are_settled : (inlets : List RingInlet) (before after : List ClientReader) → AllReadOut inlets before after
     → length after ≡ length inlets → AreSettled after
-are_settled inlets before after told long c r l = (told c (some_inlet inlets c low) r low).settled
-  where
-    low : c < length inlets
-    low = omega (arith, l, long)
-
-    some_inlet : (ys : List RingInlet) → (j : ℕ) → j < length ys → RingInlet
-    some_inlet [] j h = absurd (omega arith)
-    some_inlet (y ∷ ys) j h = y
+are_settled inlets before after told long c r l =
+    let low : c < length inlets = omega (arith, l, long) in (told c (some_item inlets c low) r low).settled
 
 -- of settled readers the first for which a word is left is the first that had not read all that was given
 pub first_to_read : (desk : DeskState RingInlet) (ended : List RequestsEnded) (before after : List ClientReader) (c : ℕ)

@@ -1,25 +1,31 @@
--- A struct of one field, and what it owns.
+-- A log by value: a struct of one field, which has no bytes. Assumes `Logic`.
+--     none, one      the field and the struct, as they are stored
+--     log_made       a log of these items: it owns nothing, and they are no more than a name for it
 use Rattle.std.proofs.Common.{List, [], ◌∷◌, refl}
 use seplogic.Ra.Ura.{Ura}
 use mir.Val.{Val, vstruct, vcons, vnil}
 use types.Logic.{Logic}
 use types.Kit.{Goal, Step, step, Item, ‵, ◌$◌, move, fjoin, fpack, feq_i}
 use denote.RattleType.{RattleType, Valss}
-use denote.Steps.{nothing}
-use denote.Struct.Struct.{Struct, within}
-
--- a struct by its fields alone: what it owns does not read its name
-abbrev plainly : List RattleType → RattleType
-plainly Rs = Struct (record { name = []; args = []; types = []; fields = Rs })
+use denote.Laws.{Is}
+use denote.Steps.{nothing, owned}
+use denote.Struct.Laws.{makes}
+use denote.Struct.Struct.{within}
+use denote.Struct.Owning.{shape}
+use Rattle.std.specs.contracts.marker.PhantomData as Mark
+use Rattle.timer_threads.specs.contracts.log.Log as Log
 
 abbrev pub none : Val
 none = vstruct vnil
 
-abbrev pub one : Val → Val
-one u = vstruct (vcons u vnil)
+abbrev pub one : Val
+one = vstruct (vcons none vnil)
 
-module _ {M : Type 1} {𝓤 : Ura M} {𝓛 : Logic 𝓤} {K : Type 0} {Γ : List (Item 𝓤)} {G : Goal 𝓤 𝓛.H} where
-  pub one_made : K → (R : RattleType) (x : R.Denot) (u : Val) → Step K 𝓛 (‵ ((plainly (R ∷ [])).own_val (x, tt) (one u ∷ [])) ∷ Γ) G (‵ (R.own_val x (u ∷ [])) ∷ Γ) G
-  one_made t R x u = step (λ s.
-      nothing t $ move t (1 ∷ 0 ∷ []) $ fjoin t $ feq_i t (List Val) (one u ∷ []) (one u ∷ []) refl $ fjoin t $
-      fpack t (Valss (R ∷ [])) (within (record { name = []; args = []; types = []; fields = R ∷ [] }) (x, tt) (one u ∷ [])) (u ∷ [], tt) $ s)
+module _ (R : RattleType) {M : Type 1} {𝓤 : Ura M} {𝓛 : Logic 𝓤} {K : Type 0} {Γ : List (Item 𝓤)} {G : Goal 𝓤 𝓛.H} where
+  pub log_made : K → (items : List R.Denot)
+      → Step K 𝓛 (‵ ((Log.the_row R).own_val (record { of = record {}; items = items }) (one ∷ [])) ∷ Γ) G Γ G
+  log_made t items = step (λ rest.
+      nothing t $ owned t (Mark.the_row R) (Is (Mark.the_row R)) (makes (Mark.the_type R) tt 𝓛) (record {}) (none ∷ []) (tt, (refl, tt)) $
+      nothing t $ move t (1 ∷ 0 ∷ []) $ fjoin t $ feq_i t (List Val) (one ∷ []) (one ∷ []) refl $ fjoin t $
+      fpack t (Valss (Mark.the_row R ∷ [])) (within (shape (Log.the_type R)) (record {}, tt) (one ∷ [])) (none ∷ [], tt) $
+      fjoin t $ rest)

@@ -16,58 +16,43 @@ use Rattle.timer_threads.specs.declared.outcome.Worked.{Worked}
 use Rattle.timer_threads.specs.Children.{promise_of, HaveLeft}
 use Rattle.timer_threads.specs.Work.{IsOfLine, HasWorked, IsNewEnd, IsWork}
 use Rattle.timer_threads.specs.Results.{NoneFailed}
-use Rattle.timer_threads.specs.Threads.{IsNewInlet, AreNewInlets, IsNewFacility, IsNewDesk, AreTied, AreOfLines, AllWhole, HasSucceeded, IsRun, IsExplained, IsFirstFault, clients_text, client_line, whole_lines}
+use Rattle.timer_threads.specs.Threads.{IsNewInlet, IsNewFacility, IsNewDesk, AreTied, AreOfLines, AllWhole, HasSucceeded, IsRun, IsExplained, IsFirstFault, clients_text, client_line, whole_lines}
 
-before_or_last : (k n : ℕ) → k < n + 1 → (k < n) ⊎ (k ≡ n)
-before_or_last k n h = grind (arith)
+-- what holds of each item of a list and of one more, holds of each of the longer list
+holds_more : {X : Type 0} (P : ℕ → X → Type 0) (xs : List X) (x : X) → ((k : ℕ) (y : X) → k < length xs → P k (get_or xs k y))
+    → P (length xs) x → (k : ℕ) (y : X) → k < length (xs ++ x ∷ []) → P k (get_or (xs ++ x ∷ []) k y)
+holds_more P xs x each last k y l = elim (before_or_last k (length xs) (let a = length-append xs (x ∷ []) in omega arith)) [
+  | inl low ↦ subst (P k) (sym (get_or_append_left xs (x ∷ []) y k low)) (each k y low)
+  | inr is ↦ subst (P k) (sym (get_or_push xs x y k (sym is))) (subst (λ n. P n x) (sym is) last)
+]
+  where
+    before_or_last : (k n : ℕ) → k < n + 1 → (k < n) ⊎ (k ≡ n)
+    before_or_last k n h = grind (arith)
 
 pub AreTied-more : (count limit : ℕ) (inlets : List RingInlet) (children : List Child) (i : RingInlet) (h : Child)
     → AreTied count limit inlets children
     → line_of_inlet i ≡ line_of_end (promise_of h).end.value → (promise_of h).count ≡ count → (promise_of h).limit ≡ limit
     → IsNewInlet i → IsNewEnd (promise_of h).end.value
     → AreTied count limit (inlets ++ i ∷ []) (children ++ h ∷ [])
-AreTied-more count limit inlets children i h was line is_count is_limit new_inlet new_end = record {
-  as_many = let a = was.as_many in omega (arith, length-append children (h ∷ []), length-append inlets (i ∷ []), a);
-  lines = λ k j g l. elim (before_or_last k (length inlets) (let a = length-append inlets (i ∷ []) in omega arith)) [
-    | inl low ↦
-        ap line_of_inlet (get_or_append_left inlets (i ∷ []) j k low)
-        ∙ was.lines k j g low
-        ∙ ap (λ (x : Child). line_of_end (promise_of x).end.value)
-        (sym (get_or_append_left children (h ∷ []) g k (let a = was.as_many in omega (arith, a, low))))
-    | inr is ↦
-        ap line_of_inlet (get_or_push inlets i j k (sym is))
-        ∙ line
-        ∙ ap (λ (x : Child). line_of_end (promise_of x).end.value) (sym (get_or_push children h g k (was.as_many ∙ sym is)))
-  ];
-  counts = λ k g l. elim (before_or_last k (length inlets) (let a = length-append inlets (i ∷ []) in omega arith)) [
-    | inl low ↦
-        ap (λ (x : Child). (promise_of x).count) (get_or_append_left children (h ∷ []) g k (let a = was.as_many in omega (arith, a, low)))
-        ∙ was.counts k g low
-    | inr is ↦ ap (λ (x : Child). (promise_of x).count) (get_or_push children h g k (was.as_many ∙ sym is)) ∙ is_count
-  ];
-  limits = λ k g l. elim (before_or_last k (length inlets) (let a = length-append inlets (i ∷ []) in omega arith)) [
-    | inl low ↦
-        ap (λ (x : Child). (promise_of x).limit) (get_or_append_left children (h ∷ []) g k (let a = was.as_many in omega (arith, a, low)))
-        ∙ was.limits k g low
-    | inr is ↦ ap (λ (x : Child). (promise_of x).limit) (get_or_push children h g k (was.as_many ∙ sym is)) ∙ is_limit
-  ];
-  inlets_new = λ k j l. elim (before_or_last k (length inlets) (let a = length-append inlets (i ∷ []) in omega arith)) [
-    | inl low ↦ subst IsNewInlet (sym (get_or_append_left inlets (i ∷ []) j k low)) (was.inlets_new k j low)
-    | inr is ↦ subst IsNewInlet (sym (get_or_push inlets i j k (sym is))) new_inlet
-  ];
-  ends_new = λ k g l. elim (before_or_last k (length inlets) (let a = length-append inlets (i ∷ []) in omega arith)) [
-    | inl low ↦ subst (λ (x : Child). IsNewEnd (promise_of x).end.value)
-        (sym (get_or_append_left children (h ∷ []) g k (let a = was.as_many in omega (arith, a, low)))) (was.ends_new k g low)
-    | inr is ↦ subst (λ (x : Child). IsNewEnd (promise_of x).end.value)
-        (sym (get_or_push children h g k (was.as_many ∙ sym is))) new_end
-  ];
-}
-
--- a desk that was opened over new lines
-pub new_desk : (clients room : ℕ) (s : FacilityState) (inlets : List RingInlet) (desk : DeskState RingInlet)
-    → desk ≡ opened_desk s inlets room → IsNewFacility clients s → AreNewInlets inlets → IsNewDesk clients desk
-new_desk clients room s inlets desk is facility lines =
-    subst (IsNewDesk clients) (sym is) (record { facility = facility; lines = lines; room = room; is = refl })
+AreTied-more count limit inlets children i h was line is_count is_limit new_inlet new_end =
+    let many : length children ≡ length inlets = was.as_many in
+    let more = length-append inlets (i ∷ []) in
+    let more' = length-append children (h ∷ []) in
+    let at : (k : ℕ) → k < length (inlets ++ i ∷ []) → k < length (children ++ h ∷ []) = λ k l. omega (arith, l, many, more, more') in
+    let at_first : (k : ℕ) → k < length children → k < length inlets = λ k l. omega (arith, l, many) in record {
+      as_many = omega (arith, many, more, more');
+      lines = λ k j g l. holds_more (λ n x. line_of_inlet x ≡ line_of_end (promise_of (get_or (children ++ h ∷ []) n g)).end.value) inlets i
+          (λ n x low. was.lines n x g low ∙ ap (λ (y : Child). line_of_end (promise_of y).end.value)
+          (sym (get_or_append_left children (h ∷ []) g n (omega (arith, low, many)))))
+          (line ∙ ap (λ (y : Child). line_of_end (promise_of y).end.value) (sym (get_or_push children h g (length inlets) many))) k j l;
+      counts = λ k g l. holds_more (λ n x. (promise_of x).count ≡ count) children h (λ n x low. was.counts n x (at_first n low)) is_count
+          k g (at k l);
+      limits = λ k g l. holds_more (λ n x. (promise_of x).limit ≡ limit) children h (λ n x low. was.limits n x (at_first n low)) is_limit
+          k g (at k l);
+      inlets_new = λ k j l. holds_more (λ n x. IsNewInlet x) inlets i was.inlets_new new_inlet k j l;
+      ends_new = λ k g l. holds_more (λ n x. IsNewEnd (promise_of x).end.value) children h (λ n x low. was.ends_new n x (at_first n low))
+          new_end k g (at k l);
+    }
 
 pub clients_text-last : (n : ℕ) (ws : List Worked) (w : Worked)
     → clients_text n (ws ++ w ∷ []) ≡ clients_text n ws ++ client_line (n + length ws) w.sent w.started w.expired
@@ -164,25 +149,33 @@ pub all_left : (count limit : ℕ) (inlets : List RingInlet) (children : List Ch
     → HaveLeft children all → length all ≡ length inlets
 all_left count limit inlets children all tied left = left_as_many children all left ∙ tied.as_many
 
--- a run that ended well, or with its first error
-module _ (clients timers limit : ℕ) (opened desk : DeskState RingInlet) (outcome : DriveEnd) (all : List Worked)
-    (new : IsNewDesk clients opened) (as_many : length all ≡ clients) (lines : AreOfLines desk.inlets all)
-    (driven : Drives ring_lines Tick timers limit opened desk outcome)
-    (worked : (k : ℕ) (w : Worked) → k < length all → IsWork timers limit (get_or all k w)) where
+-- a desk that was opened over new lines and driven, and what the threads of its clients left
+module _ (clients room timers limit : ℕ) (s : FacilityState) (inlets : List RingInlet) (opened desk : DeskState RingInlet)
+    (outcome : DriveEnd) (children : List Child) (all : List Worked) (is : opened ≡ opened_desk s inlets room)
+    (facility : IsNewFacility clients s) (many : clients ≡ length inlets) (tied : AreTied timers limit inlets children)
+    (driven : Drives ring_lines Tick timers limit opened desk outcome) (left : HaveLeft children all) where
+  pub driven_lines : AreOfLines desk.inlets all
+  driven_lines =
+      let same : opened.inlets ≡ inlets = ap (λ (d : DeskState RingInlet). d.inlets) is in
+      lines_kept timers limit inlets desk.inlets children all tied (driven.holds.same_clients ∙ ap (λ is. length is) same)
+      (λ k i l. ap (λ is. line_of_inlet (get_or is k i)) (sym same) ∙ (driven.holds.lines k i
+      (omega (arith, l, ap (λ is. length is) same))).line) left
+
   is_run : (Ends : DeskState RingInlet → DriveEnd → List Worked → Type 0) → Ends desk outcome all → IsRun clients timers limit Ends
   is_run Ends h = record {
     opened = opened;
-    new = new;
+    new = subst (IsNewDesk clients) (sym is) (record { facility = facility; lines = tied.inlets_new; room = room; is = refl });
     desk = desk;
     outcome = outcome;
     all = all;
-    as_many = as_many;
-    lines = lines;
+    as_many = all_left timers limit inlets children all tied left ∙ sym many;
+    lines = driven_lines;
     driven = driven;
-    worked = worked;
+    worked = work_kept timers limit inlets children all tied left;
     ends = h;
   }
 
+  -- it ended well, or with its first error
   pub run_succeeded : {A : Type 0} (result : Result A ThreadsFault) → IfOk result (λ _. HasSucceeded desk outcome all)
       → IfOk result (λ _. IsRun clients timers limit HasSucceeded)
   run_succeeded (Ok x) h = is_run HasSucceeded h

@@ -3,9 +3,10 @@ use Rattle.std.specs.Prelude.{Some}
 use Rattle.timer_desk.specs.Ring.{Ring}
 use Rattle.timer_desk_c.specs.declared.line.Line.{Line}
 use Rattle.std.proofs.lemmas.Grind.{common_steps}
+use Rattle.std.proofs.lemmas.List.{map-append}
 use Rattle.timer_desk_c.specs.Desks.{AreNewLines}
 use Rattle.timer_desk_c.specs.declared.line.Line.TheVariants.{Open}
-use Rattle.timer_desk_c.proofs.DeskMakerLemmas.{no_lines, one_more, values_push}
+use Rattle.timer_desk_c.proofs.DeskMakerLemmas.{no_lines, one_more}
 use Rattle.timer_desk_c.proofs.desk_maker.new_lines.Goals as goal
 
 pub loop-init : goal.loop-init
@@ -30,7 +31,7 @@ loop-preserved c =
     (record { open_yet = refl; submitted = made.end.0; received = made.end.1; next = made.end.2; free = made.room.0 })
     (ap (λ (l : Ring × Ring). Some l.0) made.line, ap (λ (l : Ring × Ring). Some l.1) made.line) in
     let now = ap (map (λ (b : Box Line Global). b.value)) c.push_reserved-in-loop.ensures.items
-    ∙ values_push c.loop.ends.items c.in-Ok-new.end
+    ∙ map-append (λ (b : Box Line Global). b.value) c.loop.ends.items (c.in-Ok-new.end ∷ [])
     ∙ ap (λ (l : Line). ends ++ l ∷ []) c.in-Ok-new.ensures.ok in record {
       lines = subst (λ is. AreNewLines room is (map (λ (b : Box Line Global). b.value) c.push_reserved-in-loop.new.self.items))
           (sym c.push_reserved.ensures.items)

@@ -1,5 +1,6 @@
 use Rattle.std.proofs.Common.{◌+◌, Bool, sym, subst, arith}
-use Rattle.timer_desk_c.proofs.RoundLemmas.{IsDropping, dropping_nothing, dropping_more, dropping_done}
+use Rattle.timer_desk_c.specs.Dropped.{HasDroppedFirst}
+use Rattle.timer_desk_c.proofs.RoundLemmas.{IsDropping, dropping_nothing, dropping_more}
 use Rattle.timer_desk_c.proofs.rounds.drop_each.Goals as goal
 
 pub loop-client-init : goal.loop-client-init
@@ -17,7 +18,6 @@ loop-client-preserved g c =
 
 pub returns : goal.returns
 returns g c =
-    let was = c.loop-client.invariant in
-    let all = was.all in
-    dropping_done c.loop-client.client c.loop-client.dropped c.args.desk.now c.loop-client.desk was.done
-    (omega (arith, all, c.loop-client-test.false, c.loop-client.auto.client-end))
+    let all = c.loop-client.invariant.all in
+    subst (λ k. HasDroppedFirst k c.loop-client.dropped c.args.desk.now c.loop-client.desk)
+    (omega (arith, all, c.loop-client-test.false, c.loop-client.auto.client-end)) c.loop-client.invariant.done.first

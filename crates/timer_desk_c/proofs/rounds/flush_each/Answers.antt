@@ -1,5 +1,6 @@
 use Rattle.std.proofs.Common.{◌∙◌, ◌+◌, Bool, refl, sym, subst, arith}
-use Rattle.timer_desk_c.proofs.RoundLemmas.{IsFlushing, ring_stopped, flushing_nothing, flushing_more, flushing_done}
+use Rattle.timer_desk_c.specs.Rounds.{HasFlushedFirst}
+use Rattle.timer_desk_c.proofs.RoundLemmas.{ring_stopped, flushing_nothing, flushing_more}
 use Rattle.timer_desk_c.proofs.rounds.flush_each.Goals as goal
 
 pub loop-client-init : goal.loop-client-init
@@ -13,7 +14,7 @@ pub loop-client-preserved : goal.loop-client-preserved
 loop-client-preserved g c =
     let was = c.loop-client.invariant in
     let k = c.loop-client.client in record {
-      done = subst (λ (b : Bool). IsFlushing (k + 1) b c.args.desk.now c.flush.new.self) (sym c.either-busy.ensures)
+      done = subst (λ (b : Bool). HasFlushedFirst (k + 1) b c.args.desk.now c.flush.new.self) (sym c.either-busy.ensures)
           (flushing_more k c.flush.result c.loop-client.busy c.is_some.result c.args.desk.now c.loop-client.desk c.flush.new.self was.done
           c.flush.ensures.report c.is_some.ensures c.flush.ensures.flushes (λ i. ring_stopped (c.flush.ensures.stopped i)));
       clients = c.flush.ensures.report.same_clients ∙ was.clients;
@@ -22,7 +23,6 @@ loop-client-preserved g c =
 
 pub returns : goal.returns
 returns g c =
-    let was = c.loop-client.invariant in
-    let all = was.all in
-    flushing_done c.loop-client.client c.loop-client.busy c.args.desk.now c.loop-client.desk was.done
-    (omega (arith, all, c.loop-client-test.false, c.loop-client.auto.client-end))
+    let all = c.loop-client.invariant.all in
+    subst (λ k. HasFlushedFirst k c.loop-client.busy c.args.desk.now c.loop-client.desk)
+    (omega (arith, all, c.loop-client-test.false, c.loop-client.auto.client-end)) c.loop-client.invariant.done

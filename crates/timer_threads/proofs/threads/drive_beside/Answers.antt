@@ -1,21 +1,15 @@
-use Rattle.std.proofs.Common.{◌≡◌, length, vec_len, get_or, sym, subst, ◌∙◌, ap, arith, rules}
+use Rattle.std.proofs.Common.{◌≡◌, vec_len, subst, arith}
 use Rattle.std.specs.Prelude.{IfOk}
-use Rattle.timer_desk.specs.Ring.{line_of_inlet}
 use Rattle.timer_threads.specs.Children.{threads_of}
 use Rattle.timer_threads.specs.Threads.{whole_text}
-use Rattle.timer_threads.proofs.ThreadLemmas.{new_desk, lines_kept, work_kept, whole_kept, all_left, run_succeeded, run_failed}
+use Rattle.timer_threads.proofs.ThreadLemmas.{driven_lines, work_kept, whole_kept, all_left, run_succeeded, run_failed}
 use Rattle.timer_threads.proofs.threads.drive_beside.Goals as goal
 
 pub end_all-requires-clause-lines : goal.end_all-requires-clause-lines
 end_all-requires-clause-lines g c =
-    let driven = c.drive-desk.ensures in
-    let inlets : c.in-Ok.desk.inlets ≡ c.args.inlets.items = search rules in
-    lines_kept c.args.timers c.args.limit c.args.inlets.items c.drive-desk.result.desk.inlets
-    (threads_of c.args.children) c.join-2.result.items c.requires.tied
-    (driven.holds.same_clients ∙ ap (λ is. length is) inlets)
-    (λ k i l. ap (λ is. line_of_inlet (get_or is k i)) (sym inlets) ∙ (driven.holds.lines k i
-    (omega (arith, l, ap (λ is. length is) inlets))).line)
-    c.join-2.ensures
+    driven_lines (vec_len c.args.inlets) 1024 c.args.timers c.args.limit c.args.facility.state c.args.inlets.items c.in-Ok.desk
+    c.drive-desk.result.desk c.drive-desk.result.outcome (threads_of c.args.children) c.join-2.result.items c.in-Ok.ensures.ok
+    c.requires.new c.args.inlets.ok.0 c.requires.tied c.drive-desk.ensures c.join-2.ensures
 
 pub end_all-requires-clause-counts : goal.end_all-requires-clause-counts
 end_all-requires-clause-counts g c =
@@ -32,40 +26,12 @@ returns-clause-text g c =
 
 pub returns-clause-ended : goal.returns-clause-ended
 returns-clause-ended g c =
-    let driven = c.drive-desk.ensures in
-    let inlets : c.in-Ok.desk.inlets ≡ c.args.inlets.items = search rules in
-    let lines = lines_kept c.args.timers c.args.limit c.args.inlets.items c.drive-desk.result.desk.inlets
-    (threads_of c.args.children) c.join-2.result.items c.requires.tied
-    (driven.holds.same_clients ∙ ap (λ is. length is) inlets)
-    (λ k i l. ap (λ is. line_of_inlet (get_or is k i)) (sym inlets) ∙ (driven.holds.lines k i
-    (omega (arith, l, ap (λ is. length is) inlets))).line)
-    c.join-2.ensures in
-    let left = all_left c.args.timers c.args.limit c.args.inlets.items (threads_of c.args.children) c.join-2.result.items c.requires.tied
-    c.join-2.ensures in
-    let as_many : length c.join-2.result.items ≡ vec_len c.args.inlets = omega (arith, left, c.args.inlets.ok) in
-    let new = new_desk (vec_len c.args.inlets) 1024 c.args.facility.state c.args.inlets.items c.in-Ok.desk c.in-Ok.ensures.ok c.requires.new
-    c.requires.tied.inlets_new in
-    run_succeeded (vec_len c.args.inlets) c.args.timers c.args.limit c.in-Ok.desk c.drive-desk.result.desk c.drive-desk.result.outcome
-    c.join-2.result.items new as_many lines c.drive-desk.ensures
-    (work_kept c.args.timers c.args.limit c.args.inlets.items (threads_of c.args.children) c.join-2.result.items c.requires.tied
-    c.join-2.ensures) c.end_all.result c.end_all.ensures.ended
+    run_succeeded (vec_len c.args.inlets) 1024 c.args.timers c.args.limit c.args.facility.state c.args.inlets.items c.in-Ok.desk
+    c.drive-desk.result.desk c.drive-desk.result.outcome (threads_of c.args.children) c.join-2.result.items c.in-Ok.ensures.ok
+    c.requires.new c.args.inlets.ok.0 c.requires.tied c.drive-desk.ensures c.join-2.ensures c.end_all.result c.end_all.ensures.ended
 
 pub returns-clause-failed : goal.returns-clause-failed
 returns-clause-failed g c =
-    let driven = c.drive-desk.ensures in
-    let inlets : c.in-Ok.desk.inlets ≡ c.args.inlets.items = search rules in
-    let lines = lines_kept c.args.timers c.args.limit c.args.inlets.items c.drive-desk.result.desk.inlets
-    (threads_of c.args.children) c.join-2.result.items c.requires.tied
-    (driven.holds.same_clients ∙ ap (λ is. length is) inlets)
-    (λ k i l. ap (λ is. line_of_inlet (get_or is k i)) (sym inlets) ∙ (driven.holds.lines k i
-    (omega (arith, l, ap (λ is. length is) inlets))).line)
-    c.join-2.ensures in
-    let left = all_left c.args.timers c.args.limit c.args.inlets.items (threads_of c.args.children) c.join-2.result.items c.requires.tied
-    c.join-2.ensures in
-    let as_many : length c.join-2.result.items ≡ vec_len c.args.inlets = omega (arith, left, c.args.inlets.ok) in
-    let new = new_desk (vec_len c.args.inlets) 1024 c.args.facility.state c.args.inlets.items c.in-Ok.desk c.in-Ok.ensures.ok c.requires.new
-    c.requires.tied.inlets_new in
-    run_failed (vec_len c.args.inlets) c.args.timers c.args.limit c.in-Ok.desk c.drive-desk.result.desk c.drive-desk.result.outcome
-    c.join-2.result.items new as_many lines c.drive-desk.ensures
-    (work_kept c.args.timers c.args.limit c.args.inlets.items (threads_of c.args.children) c.join-2.result.items c.requires.tied
-    c.join-2.ensures) c.end_all.result c.end_all.ensures.fault
+    run_failed (vec_len c.args.inlets) 1024 c.args.timers c.args.limit c.args.facility.state c.args.inlets.items c.in-Ok.desk
+    c.drive-desk.result.desk c.drive-desk.result.outcome (threads_of c.args.children) c.join-2.result.items c.in-Ok.ensures.ok
+    c.requires.new c.args.inlets.ok.0 c.requires.tied c.drive-desk.ensures c.join-2.ensures c.end_all.result c.end_all.ensures.fault

@@ -1,7 +1,7 @@
 use Rattle.std.proofs.Common.{◌∙◌, sym, subst, arith}
 use Rattle.timer_desk.specs.Ring.{next_of}
 use Rattle.timer_threads.specs.Client.{left_of, turns_by}
-use Rattle.timer_threads.specs.Work.{HasWorked, GoesOn, AreTurns}
+use Rattle.timer_threads.specs.Work.{HasWorked, AreTurns}
 use Rattle.timer_threads.proofs.ClientLemmas.{less_to_do, nearer_the_limit, goes_on}
 use Rattle.timer_threads.proofs.TurnLemmas.{idle_at_start, AreTurns-none, AreLetGo-none, AreTurns-more, busy_at_end, idle_once_more}
 use Rattle.timer_threads.proofs.work.client_work.Goals as goal
@@ -27,10 +27,8 @@ pub loop-idle-preserved-then-work_once : goal.loop-idle-preserved-then-work_once
 loop-idle-preserved-then-work_once g c =
     let was = c.loop-idle.invariant in
     let turn = c.if-work_once.ensures.turn in
-    let on : GoesOn (next_of c.args.end) c.args.count c.args.limit (turns_by c.loop-idle.client) =
-    subst (λ n. GoesOn (next_of c.args.end) n c.args.limit (turns_by c.loop-idle.client)) was.count
-    (goes_on c.args.end c.args.limit c.loop-idle.idle c.loop-idle.client was.sound was.at_work was.recorded
-    (sym c.is_over.ensures ∙ c.if-is_over.false) was.idle_is c.loop-idle-test.true) in record {
+    let on = goes_on c.args.end c.args.count c.args.limit c.loop-idle.idle c.loop-idle.client was.count was.sound was.at_work
+    was.recorded (sym c.is_over.ensures ∙ c.if-is_over.false) was.idle_is c.loop-idle-test.true in record {
       sound = c.work_once.ensures.sound;
       at_work = c.work_once.ensures.at_work c.args.end was.at_work;
       recorded = c.work_once.ensures.recorded c.args.end was.recorded;
@@ -51,10 +49,8 @@ pub loop-idle-preserved : goal.loop-idle-preserved
 loop-idle-preserved g c =
     let was = c.loop-idle.invariant in
     let turn = c.if-work_once.ensures.turn in
-    let on : GoesOn (next_of c.args.end) c.args.count c.args.limit (turns_by c.loop-idle.client) =
-    subst (λ n. GoesOn (next_of c.args.end) n c.args.limit (turns_by c.loop-idle.client)) was.count
-    (goes_on c.args.end c.args.limit c.loop-idle.idle c.loop-idle.client was.sound was.at_work was.recorded
-    (sym c.is_over.ensures ∙ c.if-is_over.false) was.idle_is c.loop-idle-test.true) in record {
+    let on = goes_on c.args.end c.args.count c.args.limit c.loop-idle.idle c.loop-idle.client was.count was.sound was.at_work
+    was.recorded (sym c.is_over.ensures ∙ c.if-is_over.false) was.idle_is c.loop-idle-test.true in record {
       sound = c.work_once.ensures.sound;
       at_work = c.work_once.ensures.at_work c.args.end was.at_work;
       recorded = c.work_once.ensures.recorded c.args.end was.recorded;

@@ -1,14 +1,8 @@
 -- A slot may go to another thread: the desk may, and their block may be freed anywhere.
-use Rattle.std.specs.Prelude.{Bool, true, false}
-use base.Shift.{Keyless}
-use mir.Raw.{raw}
-use denote.Memory.{lone}
-use denote.RawPtr.{Ptr}
 use denote.Struct.Struct.{exits_of}
 use denote.Struct.Owning.{shape, fields, to}
 use denote.Param.Send.{IsSend, AllSend, owning_send, struct_send, sendable}
-use Rattle.std.proofs.Crossing as free
-use Rattle.std_alloc.proofs.SendSync.{quiet, lies}
+use Rattle.std_alloc.proofs.SendSync.{quiet}
 use Rattle.timer_wheels.specs.contracts.hier.HierWheel as hier
 use Rattle.timer_wheels.specs.contracts.hier.HierWheelWheel.TheImpl as wheel
 use Rattle.timer_wheels.proofs.hier.HierWheel.TheSendSync as hier'
@@ -16,19 +10,16 @@ use Rattle.timer_desk.specs.contracts.ring.RingInlet as ring
 use Rattle.timer_desk.specs.contracts.ring.RingInletInlet.TheImpl as inlet
 use Rattle.timer_desk.proofs.ring.RingInlet.TheSendSync as ring'
 use Rattle.timer_desk.proofs.desk.Desk.TheSendSync as desk'
-use Rattle.timer_ffi_base.specs.Cells.{is_open, owned_if, heap}
-use Rattle.timer_desk_c.specs.DeskSlots.{the_desk, DeskState}
+use Rattle.timer_ffi_base.specs.Cells.{is_open}
+use Rattle.timer_ffi_base.proofs.Sends.{keyless}
+use Rattle.timer_desk_c.specs.DeskSlots.{the_desk}
 use Rattle.timer_desk_c.specs.contracts.desk_cell.DeskCell.{the_row, the_type}
 
 desk_send : IsSend the_desk
 desk_send = desk'.the_send hier.the_row ring.the_row wheel.ghosts inlet.ghosts hier'.the_send ring'.the_send
 
-keyless : (held : Bool) (at : Ptr) (state : DeskState) → Keyless (owned_if the_desk held at state)
-keyless true at state = (lies the_desk desk_send at state, free.frees.frees heap (raw (lone the_desk.mir)) at)
-keyless false at state = tt
-
 pub send : IsSend the_row
 send =
     let words : AllSend (fields the_type) = (search sendable, (search sendable, tt)) in
-    owning_send the_type words (λ s. keyless (is_open s.mark) s.at s.state)
+    owning_send the_type words (λ s. keyless the_desk desk_send (is_open s.mark) s.at s.state)
     (λ k. quiet (to the_type) (exits_of k (fields the_type)) ((struct_send (shape the_type) words).leaving k))

@@ -1,0 +1,24 @@
+-- `cell` casts the reference: the slot has the words of the cell, and owns what the cell owns.
+use Rattle.std.proofs.Common.{refl}
+use prog.Wp.{WpFn}
+use Rattle.timer_ffi_base.proofs.Casts.{Cast, casts}
+use Rattle.timer_c.specs.Lent.{the_slot, the_timers, as_cell, as_slot}
+use Rattle.timer_c.specs.contracts.owned_cell.OwnedCell.cell.Key.{name}
+use Rattle.timer_c.proofs.owned_cell.OwnedCell.cell.Statement.{statement}
+use Rattle.timer_c.proofs.owned_cell.OwnedCell.cell.Code as code
+
+abbrev slot_cast : Cast
+slot_cast = record {
+  S = the_slot;
+  R = the_timers;
+  as_cell = as_cell;
+  as_slot = as_slot;
+  one = tt;
+  words = λ us b o. refl;
+  there = λ s us. refl;
+  back = λ w us. refl;
+}
+
+pub cell_spec : {M : Type 1} → statement M
+unfolding WpFn
+cell_spec 𝓤 𝓛 𝓜 𝓡 wired = casts slot_cast _ _ 𝓤 𝓛 𝓜 𝓡 name (code.unfolded 𝓤 𝓛.H 𝓜 𝓡 wired)

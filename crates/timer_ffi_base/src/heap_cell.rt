@@ -1,0 +1,94 @@
+//! The two machine words by which a struct of C owns a value on the heap.
+//!
+//! All code that touches a raw pointer is here and in `RawBox`. A cell whose mark is `HELD` owns the value at its
+//! address and the right to free its block; a cell with any other mark owns nothing, so that a struct whose bytes are
+//! all 0 is an empty cell. Its ghost field is the value's state.
+ghost use Rattle.std.specs.Prelude.{◌≡◌, true, false, None, IfSome};
+ghost use Rattle.std.specs.Borrow.{Lends, LendsIf, sem};
+ghost use Rattle.timer_ffi_base.specs.Cells.{is_open};
+
+use crate::raw_box::RawBox;
+use std::alloc::Global;
+use std::marker::Model;
+
+/// The mark of a cell that holds a value.
+pub const HELD: u64 = 1;
+
+/// A value on the heap, if it holds any.
+#[repr(C)]
+pub struct HeapCell<T> {
+    at: *mut T,
+    pub mark: u64,
+    pub ghost state: { T },
+}
+
+impl<T> Model for HeapCell<T> {
+    ghost use Rattle.timer_ffi_base.specs.Cells.{owned_at};
+
+    ghost also_owns = { λ s. owned_at T.row s.mark s.at s.state };
+}
+
+impl<T> HeapCell<T> {
+    /// Whether it holds one.
+    pub fn holds(&mut self) -> bool
+        ensures value { result ≡ is_open self.old.mark }
+        ensures same { self.new ≡ self.old }
+    {
+        // Any other number means empty: C may begin with zero bytes.
+        self.mark == HELD
+    }
+
+    /// Keeps it. What the cell owned before would be lost, so it must be empty.
+    pub fn put(&mut self, parked: RawBox<T, Global>)
+        requires { is_open self.old.mark ≡ false }
+        ensures open { self.new.mark ≡ HELD }
+        ensures state { self.new.state ≡ parked.value }
+    {
+        // Ownership of the value moves with its address. The allocator is always the heap.
+        let RawBox { alloc: _, at } = parked;
+        // The cell was empty, so its old address pointed to nothing.
+        self.at = at;
+        // From here on the cell owns what is at that address.
+        self.mark = HELD;
+    }
+
+    /// Gives it back, and is empty.
+    pub fn take(&mut self, alloc: Global) -> RawBox<T, Global>
+        requires { is_open self.old.mark ≡ true }
+        ensures shut { self.new.mark ≡ 0 }
+        ensures state { result.value ≡ self.old.state }
+    {
+        // From here on the cell owns nothing, and the address that stays in it is never followed.
+        self.mark = 0;
+        // The raw box owns what the cell owned.
+        RawBox { alloc, at: self.at }
+    }
+
+    ghost use Rattle.timer_ffi_base.specs.Lent.{cell_of, with_state};
+
+    /// Lends it. Its state at the end of the loan is the cell's state.
+    pub fn lend(&mut self) -> &mut T
+        requires { is_open self.old.mark ≡ true }
+        ensures* writes_back { sem 𝓛 (Lends (cell_of T.row) T.row self.entry result
+            (with_state self.entry.now)) }
+        ensures value { result.now ≡ self.old.state }
+    {
+        // The cell owns one at this address, since its mark says so. It is lent no longer than the cell
+        // itself is, so nothing can free it meanwhile.
+        let at = self.at;
+        unsafe { &mut *at }
+    }
+
+    /// Lends it, if it holds one.
+    pub fn get(&mut self) -> Option<&mut T>
+        ensures* writes_back { sem 𝓛 (LendsIf (cell_of T.row) T.row self.entry result
+            (with_state self.entry.now) self.entry.now) }
+        ensures held { IfSome result (λ r. (is_open self.old.mark ≡ true) × (r.now ≡ self.old.state)) }
+        ensures none { result ≡ None → is_open self.old.mark ≡ false }
+    {
+        if !self.holds() {
+            return None;
+        }
+        Some(self.lend())
+    }
+}
