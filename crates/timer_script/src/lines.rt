@@ -14,6 +14,7 @@ ghost use Rattle.std.specs.Prelude.{◌≡◌, ◌≤◌, IsTrue, length, take, 
 ghost use Rattle.std.specs.Char.{digit_value};
 ghost use Rattle.std.specs.Int.{from_le_bytes, w32};
 ghost use Rattle.std.specs.Str.Parse.{AllDigits, digits_value};
+ghost use Rattle.timer_script.specs.declared.lines.TheConstants.{MOST_DIGITS};
 ghost use Rattle.timer_script.specs.Lines.{read_view, has_word, number_at, field_at, start_at, stop_at, restart_at, tick_at, other_at, line_at};
 
 use timer_base::LAST;
@@ -25,14 +26,14 @@ pub const MAX_TICKS: u64 = 1000000;
 /// The most digits of a number.
 const MOST_DIGITS: usize = 19;
 
-/// The value of the digits at the front, and their number. Of more than `MOST_DIGITS` the value is not exact: a test
-/// at each digit would take a third of the time. Inlined, as what calls it: a call would return through memory.
+/// The value of the digits at the front, and their number. Of more than `MOST_DIGITS` the value wraps around, so that
+/// the value is not tested at each digit. Inlined, as what calls it: a call would return through memory.
 #[inline(always)]
 fn read_digits(bytes: &[u8]) -> (u64, usize)
     ensures digits { AllDigits 10 (take result.1 bytes.now) }
     ensures within { result.1 ≤ length bytes.now }
     ensures stop { 10 ≤ digit_value (get_or bytes.now result.1 0) }
-    ensures value { result.1 ≤ 19 → result.0 ≡ digits_value 10 (take result.1 bytes.now) }
+    ensures value { result.1 ≤ MOST_DIGITS → result.0 ≡ digits_value 10 (take result.1 bytes.now) }
 {
     let mut value = 0u64;
     let mut len = 0;
