@@ -1,5 +1,5 @@
 -- What is read from the front of the bytes is their spelling, and what is spelled so is read.
-use Rattle.std.proofs.Common.{◌≡◌, ◌≢◌, [], lt_irrefl, ℕ, ◌^◌, ◌<◌, ◌≤◌, ◌==◌, nat_lt, true, false, ◌&&◌, Bool, cond, List, ◌∷◌, ◌++◌, length, get_or, take, drop, Option, Some, None, decimal, codes, refl, sym, ap, subst, ◌∙◌, arith, inl, inr, drop_at, take_at, take-append-drop, append_assoc, lit≤, le-ltb, lt-ltb, ne_eqb, eq-eqb, get_or-take}
+use Rattle.std.proofs.Common.{◌≡◌, ◌≢◌, [], ℕ, ◌^◌, ◌<◌, ◌≤◌, ◌==◌, nat_lt, true, false, ◌&&◌, Bool, cond, List, ◌∷◌, ◌++◌, length, get_or, take, drop, Option, Some, None, decimal, codes, refl, sym, ap, subst, ◌∙◌, arith, ◌⊎◌, inl, inr, drop_at, take_at, take-append-drop, append_assoc, lit≤, le-ltb, lt-ltb, ne_eqb, eq-eqb, get_or-take}
 use Rattle.std.specs.Cmp.Lexicographic.{bytes_decides}
 use Rattle.std.proofs.lemmas.Bool.{and_left, and_right, and_from, and_parts, both_ways, cases_lt, leb-true, le-leb}
 use Rattle.std.proofs.lemmas.List.{get_or_append_left, nil_from_length}
@@ -14,36 +14,56 @@ use Rattle.timer_script.specs.declared.lines.TheConstants.{MAX_TICKS}
 use Rattle.timer_facility.specs.declared.event.Event.{Event}
 use Rattle.timer_facility.specs.declared.event.Event.TheVariants.{Start, Stop, Restart, Ticks, Close}
 use Rattle.timer_script.specs.Script.{IsInRange, line}
-use Rattle.timer_script.specs.Lines.{◌>>=◌, or_try, strip, digits_at, number_at, field_at, start_at, stop_at, restart_at, tick_at, line_at}
+use Rattle.timer_script.specs.Lines.{◌>>=◌, or_try, has_word, strip, digits_at, number_at, field_at, start_at, stop_at, restart_at, tick_at, other_at, line_at}
 
 -- ---- a word
 
-pub strip_sound : (word bytes rest : List ℕ) → strip word bytes ≡ Some rest → bytes ≡ word ++ rest
-unfolding strip
+pub has_word_sound : (word bytes : List ℕ) → has_word word bytes ≡ true → bytes ≡ word ++ drop (length word) bytes
+unfolding has_word
+has_word_sound word bytes same =
+    sym (take-append-drop (length word) bytes)
+    ∙ ap (λ t. t ++ drop (length word) bytes) (sym ((bytes_decides word (take (length word) bytes)).0 same))
+
+strip_sound : (word bytes rest : List ℕ) → strip word bytes ≡ Some rest → bytes ≡ word ++ rest
 strip_sound word bytes rest e =
     let (same, tail) = cond_some _ _ _ e in
-    let front : take (length word) bytes ≡ word = (bytes_decides (take (length word) bytes) word).0 same in
-    sym (take-append-drop (length word) bytes) ∙ ap (λ t. t ++ drop (length word) bytes) front ∙ ap (λ t. word ++ t) tail
+    has_word_sound word bytes same ∙ ap (λ t. word ++ t) tail
 
-pub strip_again : (word rest : List ℕ) → strip word (word ++ rest) ≡ Some rest
-unfolding strip
+strip_again : (word rest : List ℕ) → strip word (word ++ rest) ≡ Some rest
+unfolding has_word
 strip_again word rest = rw (
   take_at word rest (length word) refl,
   (bytes_decides word word).1 refl,
   drop_at word rest (length word) refl,
 ) refl
 
--- bytes that are empty, or begin with another byte, don't begin with the word
-pub strip_none : (word bytes : List ℕ) → 0 < length word → length bytes ≡ 0 → strip word bytes ≡ None
-unfolding strip
-strip_none [] bytes some none = absurd (lt_irrefl 0 some)
-strip_none (w ∷ ws) bytes some none = rw (nil_from_length bytes none) refl
+either : (b : Bool) → (b ≡ true) ⊎ (b ≡ false)
+either true = inl refl
+either false = inr refl
 
-pub strip_other : (word bytes : List ℕ) → 0 < length word → get_or bytes 0 0 ≢ get_or word 0 0 → strip word bytes ≡ None
-unfolding strip
-strip_other [] bytes some other = absurd (lt_irrefl 0 some)
-strip_other (w ∷ ws) [] some other = refl
-strip_other (w ∷ ws) (b ∷ bs) some other = rw (ne_eqb b w other) refl
+pub has_word_other : (word bytes : List ℕ) → ¬ (has_word word bytes ≡ true) → has_word word bytes ≡ false
+has_word_other word bytes not = elim (either (has_word word bytes)) [
+  | inl begins ↦ absurd (not begins)
+  | inr not_so ↦ not_so
+]
+
+-- behind a common front the rest decides
+pub has_word_after : (front word bytes : List ℕ) → has_word (front ++ word) (front ++ bytes) ≡ has_word word bytes
+unfolding has_word
+has_word_after [] word bytes = refl
+has_word_after (x ∷ xs) word bytes = rw (eq-eqb x x refl) (has_word_after xs word bytes)
+
+-- one byte
+pub byte_none : (end : ℕ) (bytes : List ℕ) → length bytes ≡ 0 → strip (end ∷ []) bytes ≡ None
+unfolding has_word
+byte_none end bytes none = rw (nil_from_length bytes none) refl
+
+pub byte_other : (end b : ℕ) (bs : List ℕ) → b ≢ end → strip (end ∷ []) (b ∷ bs) ≡ None
+unfolding has_word
+byte_other end b bs other = rw (ne_eqb end b (λ e. other (sym e))) refl
+
+pub byte_same : (end : ℕ) (bs : List ℕ) → strip (end ∷ []) (end ∷ bs) ≡ Some bs
+byte_same end bs = strip_again (end ∷ []) bs
 
 -- ---- a number
 
@@ -87,22 +107,22 @@ number_sound bytes rest n e =
 
 -- ---- a field
 
-spaced : (n : ℕ) (rest : List ℕ) → n ≤ LAST → field_at (codes " ") (decimal n ++ (32 ∷ rest)) ≡ Some (n, rest)
+spaced : (n : ℕ) (rest : List ℕ) → n ≤ LAST → field_at 32 (decimal n ++ (32 ∷ rest)) ≡ Some (n, rest)
 unfolding field_at
-spaced n rest fits = rw (number_again n (32 ∷ rest) fits (lit≤ tt), strip_again (codes " ") rest) refl
+spaced n rest fits = rw (number_again n (32 ∷ rest) fits (lit≤ tt), strip_again (32 ∷ []) rest) refl
 
-ended : (n : ℕ) (rest : List ℕ) → n ≤ LAST → field_at (codes "\n") (decimal n ++ (10 ∷ rest)) ≡ Some (n, rest)
+ended : (n : ℕ) (rest : List ℕ) → n ≤ LAST → field_at 10 (decimal n ++ (10 ∷ rest)) ≡ Some (n, rest)
 unfolding field_at
-ended n rest fits = rw (number_again n (10 ∷ rest) fits (lit≤ tt), strip_again (codes "\n") rest) refl
+ended n rest fits = rw (number_again n (10 ∷ rest) fits (lit≤ tt), strip_again (10 ∷ []) rest) refl
 
-field_sound : (end bytes rest : List ℕ) (n : ℕ) → field_at end bytes ≡ Some (n, rest) → (n ≤ LAST) × (bytes ≡ decimal n ++ (end ++ rest))
+field_sound : (end : ℕ) (bytes rest : List ℕ) (n : ℕ) → field_at end bytes ≡ Some (n, rest) → (n ≤ LAST) × (bytes ≡ decimal n ++ end ∷ rest)
 unfolding field_at
 field_sound end bytes rest n e =
     and_then_some _ (number_at bytes) _ e λ m read e₁.
-    and_then_some _ (strip end m.1) _ e₁ λ after found e₂.
+    and_then_some _ (strip (end ∷ []) m.1) _ e₁ λ after found e₂.
     let (value_is, rest_is) = same_parts m.0 n after rest e₂ in
     let is = number_sound bytes m.1 m.0 read in
-    (rw (← value_is) is.0, rw (← value_is, ← rest_is) (is.1 ∙ ap (λ t. decimal m.0 ++ t) (strip_sound end m.1 after found)))
+    (rw (← value_is) is.0, rw (← value_is, ← rest_is) (is.1 ∙ ap (λ t. decimal m.0 ++ t) (strip_sound (end ∷ []) m.1 after found)))
 
 -- ---- a line
 
@@ -128,7 +148,7 @@ unfolding tick_at
 tick_again k rest fits = rw (ended k _ (omega arith), and_from _ _ (le-leb 1 k fits.0) (le-leb k MAX_TICKS fits.1)) refl
 
 pub line_again : (event : Event) (rest : List ℕ) → IsInRange event → line_at (line event ++ rest) ≡ Some (event, rest)
-unfolding line_at line strip
+unfolding line_at other_at line has_word
 line_again (Start c n i a) rest fits = simp append_assoc (start_again c n i a rest fits)
 line_again (Stop c n s) rest fits = simp append_assoc (stop_again c n s rest fits)
 line_again (Restart c n s i a) rest fits = simp append_assoc (restart_again c n s i a rest fits)
@@ -145,8 +165,8 @@ same_line word bytes rest after event read e fits is =
     (subst (λ (r : List ℕ). IsInRange read × (word ++ bytes ≡ line read ++ r)) rest_is (fits, is))
 
 -- what was read after a field
-field_then : {A P : Type 0} (end bytes : List ℕ) (f : ℕ × List ℕ → Option A) (y : A) → (field_at end bytes >>= f) ≡ Some y
-    → ((n : ℕ) (rest : List ℕ) → n ≤ LAST → bytes ≡ decimal n ++ (end ++ rest) → f (n, rest) ≡ Some y → P) → P
+field_then : {A P : Type 0} (end : ℕ) (bytes : List ℕ) (f : ℕ × List ℕ → Option A) (y : A) → (field_at end bytes >>= f) ≡ Some y
+    → ((n : ℕ) (rest : List ℕ) → n ≤ LAST → bytes ≡ decimal n ++ end ∷ rest → f (n, rest) ≡ Some y → P) → P
 field_then end bytes f y e more =
     and_then_some _ (field_at end bytes) _ e λ m read e₁.
     let is = field_sound end bytes m.1 m.0 read in
@@ -156,10 +176,10 @@ start_sound : (bytes rest : List ℕ) (event : Event) → start_at bytes ≡ Som
     → IsInRange event × (codes "start " ++ bytes ≡ line event ++ rest)
 unfolding start_at line
 start_sound bytes rest event e =
-    field_then (codes " ") bytes _ _ e λ c r₁ fit_c is_c e₁.
-    field_then (codes " ") r₁ _ _ e₁ λ n r₂ fit_n is_n e₂.
-    field_then (codes " ") r₂ _ _ e₂ λ i r₃ fit_i is_i e₃.
-    field_then (codes "\n") r₃ _ _ e₃ λ a r₄ fit_a is_a e₄.
+    field_then 32 bytes _ _ e λ c r₁ fit_c is_c e₁.
+    field_then 32 r₁ _ _ e₁ λ n r₂ fit_n is_n e₂.
+    field_then 32 r₂ _ _ e₂ λ i r₃ fit_i is_i e₃.
+    field_then 10 r₃ _ _ e₃ λ a r₄ fit_a is_a e₄.
     same_line (codes "start ") bytes rest r₄ event (Start c n i a) e₄ (fit_c, fit_n, fit_i, fit_a)
     (rw (is_c, is_n, is_i, is_a) (simp append_assoc))
 
@@ -167,20 +187,20 @@ stop_sound : (bytes rest : List ℕ) (event : Event) → stop_at bytes ≡ Some 
     → IsInRange event × (codes "stop " ++ bytes ≡ line event ++ rest)
 unfolding stop_at line
 stop_sound bytes rest event e =
-    field_then (codes " ") bytes _ _ e λ c r₁ fit_c is_c e₁.
-    field_then (codes " ") r₁ _ _ e₁ λ n r₂ fit_n is_n e₂.
-    field_then (codes "\n") r₂ _ _ e₂ λ s r₃ fit_s is_s e₃.
+    field_then 32 bytes _ _ e λ c r₁ fit_c is_c e₁.
+    field_then 32 r₁ _ _ e₁ λ n r₂ fit_n is_n e₂.
+    field_then 10 r₂ _ _ e₂ λ s r₃ fit_s is_s e₃.
     same_line (codes "stop ") bytes rest r₃ event (Stop c n s) e₃ (fit_c, fit_n, fit_s) (rw (is_c, is_n, is_s) (simp append_assoc))
 
 restart_sound : (bytes rest : List ℕ) (event : Event) → restart_at bytes ≡ Some (event, rest)
     → IsInRange event × (codes "restart " ++ bytes ≡ line event ++ rest)
 unfolding restart_at line
 restart_sound bytes rest event e =
-    field_then (codes " ") bytes _ _ e λ c r₁ fit_c is_c e₁.
-    field_then (codes " ") r₁ _ _ e₁ λ n r₂ fit_n is_n e₂.
-    field_then (codes " ") r₂ _ _ e₂ λ s r₃ fit_s is_s e₃.
-    field_then (codes " ") r₃ _ _ e₃ λ i r₄ fit_i is_i e₄.
-    field_then (codes "\n") r₄ _ _ e₄ λ a r₅ fit_a is_a e₅.
+    field_then 32 bytes _ _ e λ c r₁ fit_c is_c e₁.
+    field_then 32 r₁ _ _ e₁ λ n r₂ fit_n is_n e₂.
+    field_then 32 r₂ _ _ e₂ λ s r₃ fit_s is_s e₃.
+    field_then 32 r₃ _ _ e₃ λ i r₄ fit_i is_i e₄.
+    field_then 10 r₄ _ _ e₄ λ a r₅ fit_a is_a e₅.
     same_line (codes "restart ") bytes rest r₅ event (Restart c n s i a) e₅ (fit_c, fit_n, fit_s, fit_i, fit_a)
     (rw (is_c, is_n, is_s, is_i, is_a) (simp append_assoc))
 
@@ -192,34 +212,38 @@ tick_sound : (bytes rest : List ℕ) (event : Event) → tick_at bytes ≡ Some 
     → IsInRange event × (codes "tick " ++ bytes ≡ line event ++ rest)
 unfolding tick_at line
 tick_sound bytes rest event e =
-    field_then (codes "\n") bytes _ _ e λ k r₁ fit_k is_k e₁.
+    field_then 10 bytes _ _ e λ k r₁ fit_k is_k e₁.
     let (test, e₂) = cond_both _ _ _ e₁ in
     let (low, high) = and_parts _ _ test in
     same_line (codes "tick ") bytes rest r₁ event (Ticks k) e₂ (leb-true 1 k low, leb-true k MAX_TICKS high)
     (rw (is_k) (simp append_assoc))
 
 -- a word is at the front, or not
-by_word : {A P : Type 0} (o : Option (List ℕ)) (f : List ℕ → Option A) (other : Option A) (y : A) → or_try o f other ≡ Some y
-    → ((s : List ℕ) → o ≡ Some s → f s ≡ Some y → P) → (other ≡ Some y → P) → P
-by_word None f other y e some none = none e
-by_word (Some s) f other y e some none = some s refl e
+by_word : (word bytes rest : List ℕ) (event : Event) (f : List ℕ → Option (Event × List ℕ)) (other : Option (Event × List ℕ))
+    → or_try (strip word bytes) f other ≡ Some (event, rest)
+    → ((s : List ℕ) → f s ≡ Some (event, rest) → IsInRange event × (word ++ s ≡ line event ++ rest))
+    → (other ≡ Some (event, rest) → IsInRange event × (bytes ≡ line event ++ rest)) → IsInRange event × (bytes ≡ line event ++ rest)
+by_word word bytes rest event f other e some none = elim (either (has_word word bytes)) [
+  | inl begins ↦
+      let (fits, is) = some (drop (length word) bytes) (rw begins at e) in
+      (fits, has_word_sound word bytes begins ∙ is)
+  | inr not_so ↦ none (rw not_so at e)
+]
 
-close_line : (bytes s : List ℕ) → bytes ≡ codes "close\n" ++ s → bytes ≡ line Close ++ s
+close_sound : (bytes rest : List ℕ) (event : Event) → ◌≡◌ {A = Option (Event × List ℕ)} (Some (Close, bytes)) (Some (event, rest))
+    → IsInRange event × (codes "close\n" ++ bytes ≡ line event ++ rest)
 unfolding line
-close_line bytes s e = e
+close_sound bytes rest event e = same_line (codes "close\n") bytes rest bytes event Close e tt refl
+
+other_sound : (bytes rest : List ℕ) (event : Event) → other_at bytes ≡ Some (event, rest) → IsInRange event × (bytes ≡ line event ++ rest)
+unfolding other_at
+other_sound bytes rest event e =
+    by_word (codes "tick ") bytes rest event tick_at _ e (λ s. tick_sound s rest event) λ e₁.
+    by_word (codes "restart ") bytes rest event restart_at _ e₁ (λ s. restart_sound s rest event) λ e₂. absurd (none-some _ e₂)
 
 pub line_sound : (bytes rest : List ℕ) (event : Event) → line_at bytes ≡ Some (event, rest) → IsInRange event × (bytes ≡ line event ++ rest)
 unfolding line_at
 line_sound bytes rest event e =
-    by_word (strip (codes "start ") bytes) start_at _ _ e (λ s found e₁. let (fits, is) = start_sound s rest event e₁
-    in (fits, strip_sound _ bytes s found ∙ is)) λ e'.
-    by_word (strip (codes "stop ") bytes) stop_at _ _ e' (λ s found e₁. let (fits, is) = stop_sound s rest event e₁
-    in (fits, strip_sound _ bytes s found ∙ is)) λ e''.
-    by_word (strip (codes "restart ") bytes) restart_at _ _ e'' (λ s found e₁. let (fits, is) = restart_sound s rest event e₁
-    in (fits, strip_sound _ bytes s found ∙ is)) λ e'''.
-    by_word (strip (codes "tick ") bytes) tick_at _ _ e''' (λ s found e₁. let (fits, is) = tick_sound s rest event e₁
-    in (fits, strip_sound _ bytes s found ∙ is)) λ e''''.
-    and_then_some _ (strip (codes "close\n") bytes) _ e'''' λ s found e₁.
-    let (event_is, rest_is) = same_parts Close event s rest e₁ in
-    subst (λ (x : Event). IsInRange x × (bytes ≡ line x ++ rest)) event_is
-    (subst (λ (r : List ℕ). IsInRange Close × (bytes ≡ line Close ++ r)) rest_is (tt, close_line bytes s (strip_sound _ bytes s found)))
+    by_word (codes "start ") bytes rest event start_at _ e (λ s. start_sound s rest event) λ e₁.
+    by_word (codes "stop ") bytes rest event stop_at _ e₁ (λ s. stop_sound s rest event) λ e₂.
+    by_word (codes "close\n") bytes rest event (λ s. Some (Close, s)) _ e₂ (λ s. close_sound s rest event) (other_sound bytes rest event)

@@ -1,6 +1,6 @@
 -- What the readers of one line compute, on lists. No public clause cites this file: it is proved that they
 -- read exactly the lines of events.
-use Rattle.std.specs.Prelude.{ℕ, ◌&&◌, List, length, take, drop, slice_index, codes, Option, Some, None, option_map, option_and_then, ◌==◌, nat_eq, nat_lt, nat_le, if◌then◌else◌}
+use Rattle.std.specs.Prelude.{ℕ, ◌&&◌, Bool, List, [], ◌∷◌, length, take, drop, slice_index, codes, Option, Some, None, option_map, option_and_then, ◌==◌, nat_eq, nat_lt, nat_le, if◌then◌else◌}
 use Rattle.std.specs.Cmp.Lexicographic.{pointwise}
 use Rattle.std.specs.Net.Reader.{read_number}
 use Rattle.std.specs.Borrow.{Bor}
@@ -27,10 +27,13 @@ abbrev pub or_try : {A B : Type 0} → Option A → (A → B) → B → B
 or_try None f other = other
 or_try (Some x) f other = f x
 
+-- whether the bytes begin with the word
+unfoldable pub has_word : List ℕ → List ℕ → Bool
+has_word word bytes = pointwise nat_eq word (take (length word) bytes)
+
 -- what follows the word
-unfoldable pub strip : List ℕ → List ℕ → Option (List ℕ)
-strip word bytes = if pointwise nat_eq (take (length word) bytes) word then Some
-    (drop (length word) bytes) else None
+abbrev pub strip : List ℕ → List ℕ → Option (List ℕ)
+strip word bytes = if has_word word bytes then Some (drop (length word) bytes) else None
 
 -- the value of the digits at the front, and how many they are
 abbrev pub digits_at : List ℕ → Option (ℕ × ℕ)
@@ -41,48 +44,53 @@ unfoldable pub number_at : List ℕ → Read ℕ
 number_at bytes = digits_at bytes >>= λ n. if nat_lt 1 n.1 && (slice_index bytes 0 == 48) then None else Some
     (n.0, drop n.1 bytes)
 
--- a number, and what follows the word that ends its field
-unfoldable pub field_at : List ℕ → List ℕ → Read ℕ
-field_at end bytes = number_at bytes >>= λ n. strip end n.1 >>= λ rest. Some (n.0, rest)
+-- a number, and what follows the byte that ends its field
+unfoldable pub field_at : ℕ → List ℕ → Read ℕ
+field_at end bytes = number_at bytes >>= λ n. strip (end ∷ []) n.1 >>= λ rest. Some (n.0, rest)
 
 -- the fields after the word `start`
 unfoldable pub start_at : List ℕ → Read Event
 start_at bytes =
-    field_at (codes " ") bytes >>= λ client.
-    field_at (codes " ") client.1 >>= λ number.
-    field_at (codes " ") number.1 >>= λ interval.
-    field_at (codes "\n") interval.1 >>= λ action.
+    field_at 32 bytes >>= λ client.
+    field_at 32 client.1 >>= λ number.
+    field_at 32 number.1 >>= λ interval.
+    field_at 10 interval.1 >>= λ action.
     Some (Start client.0 number.0 interval.0 action.0, action.1)
 
 -- the fields after the word `stop`
 unfoldable pub stop_at : List ℕ → Read Event
 stop_at bytes =
-    field_at (codes " ") bytes >>= λ client.
-    field_at (codes " ") client.1 >>= λ number.
-    field_at (codes "\n") number.1 >>= λ serial.
+    field_at 32 bytes >>= λ client.
+    field_at 32 client.1 >>= λ number.
+    field_at 10 number.1 >>= λ serial.
     Some (Stop client.0 number.0 serial.0, serial.1)
 
 -- the fields after the word `restart`
 unfoldable pub restart_at : List ℕ → Read Event
 restart_at bytes =
-    field_at (codes " ") bytes >>= λ client.
-    field_at (codes " ") client.1 >>= λ number.
-    field_at (codes " ") number.1 >>= λ serial.
-    field_at (codes " ") serial.1 >>= λ interval.
-    field_at (codes "\n") interval.1 >>= λ action.
+    field_at 32 bytes >>= λ client.
+    field_at 32 client.1 >>= λ number.
+    field_at 32 number.1 >>= λ serial.
+    field_at 32 serial.1 >>= λ interval.
+    field_at 10 interval.1 >>= λ action.
     Some (Restart client.0 number.0 serial.0 interval.0 action.0, action.1)
 
 -- the field after the word `tick`
 unfoldable pub tick_at : List ℕ → Read Event
 tick_at bytes =
-    field_at (codes "\n") bytes >>= λ count.
+    field_at 10 bytes >>= λ count.
     if (nat_le 1 count.0 && nat_le count.0 MAX_TICKS) then Some (Ticks count.0, count.1) else None
+
+-- the event of a line of `tick` or `restart`
+unfoldable pub other_at : List ℕ → Read Event
+other_at bytes =
+    or_try (strip (codes "tick ") bytes) tick_at
+    (or_try (strip (codes "restart ") bytes) restart_at None)
 
 -- the event whose line is at the front
 unfoldable pub line_at : List ℕ → Read Event
 line_at bytes =
     or_try (strip (codes "start ") bytes) start_at
     (or_try (strip (codes "stop ") bytes) stop_at
-    (or_try (strip (codes "restart ") bytes) restart_at
-    (or_try (strip (codes "tick ") bytes) tick_at
-    (strip (codes "close\n") bytes >>= λ rest. Some (Close, rest)))))
+    (or_try (strip (codes "close\n") bytes) (λ rest. Some (Close, rest))
+    (other_at bytes)))

@@ -10,9 +10,12 @@
 //! Fields are separated by one space, and a line feed ends the line. A number is at most `LAST` and
 //! has no sign and no leading zero. Each reader returns what it read and the bytes after it, so the
 //! bytes are read once and no line is copied.
-ghost use Rattle.std.specs.Prelude.{◌≡◌, ◌<◌, ◌≤◌, length, IfSome, option_copied};
-ghost use Rattle.timer_base.specs.declared.limits.TheConstants.{LAST};
-ghost use Rattle.timer_script.specs.Lines.{read_view, strip, digits_at, number_at, field_at, start_at, stop_at, restart_at, tick_at, line_at};
+ghost use Rattle.std.specs.Prelude.{◌≡◌, ◌≤◌, IsTrue, length, take, get_or};
+ghost use Rattle.std.specs.Char.{digit_value};
+ghost use Rattle.std.specs.Int.{from_le_bytes, w32};
+ghost use Rattle.std.specs.Str.Parse.{AllDigits, digits_value};
+ghost use Rattle.timer_script.specs.declared.lines.TheConstants.{MOST_DIGITS};
+ghost use Rattle.timer_script.specs.Lines.{read_view, has_word, number_at, field_at, start_at, stop_at, restart_at, tick_at, other_at, line_at};
 
 use timer_base::LAST;
 use timer_facility::Event;
@@ -20,12 +23,17 @@ use timer_facility::Event;
 /// The most ticks of one line.
 pub const MAX_TICKS: u64 = 1000000;
 
-/// The value of the digits at the front and their number, if there is one and the value is at most LAST.
-/// Inlined, as `read_number` is: a call would return its result through memory.
+/// The most digits of a number.
+const MOST_DIGITS: usize = 19;
+
+/// The value of the digits at the front, and their number. Of more than `MOST_DIGITS` the value wraps around, so that
+/// the value is not tested at each digit. Inlined, as what calls it: a call would return through memory.
 #[inline(always)]
-fn read_digits(bytes: &[u8]) -> Option<(u64, usize)>
-    ensures value { result ≡ digits_at bytes.now }
-    ensures fits { IfSome result (λ n. (n.0 ≤ LAST) × (0 < n.1) × (n.1 ≤ length bytes.now)) }
+fn read_digits(bytes: &[u8]) -> (u64, usize)
+    ensures digits { AllDigits 10 (take result.1 bytes.now) }
+    ensures within { result.1 ≤ length bytes.now }
+    ensures stop { 10 ≤ digit_value (get_or bytes.now result.1 0) }
+    ensures value { result.1 ≤ MOST_DIGITS → result.0 ≡ digits_value 10 (take result.1 bytes.now) }
 {
     let mut value = 0u64;
     let mut len = 0;
@@ -33,53 +41,63 @@ fn read_digits(bytes: &[u8]) -> Option<(u64, usize)>
         let Some(digit) = char::from(*b).to_digit(10) else {
             break;
         };
-        let next = value * 10 + digit as u64;
-        if next > LAST {
-            return None;
-        }
-        value = next;
+        value = value.wrapping_mul(10).wrapping_add(digit as u64);
         len += 1;
     }
-    if len == 0 { None } else { Some((value, len)) }
+    (value, len)
 }
 
 /// A number with no leading zero, and the bytes after it.
 #[inline(always)]
-#[tactic(auto, unfolding(crate::specs::Lines::number_at))]
-pub fn read_number(bytes: &[u8]) -> Option<(u64, &[u8])>
+fn read_number(bytes: &[u8]) -> Option<(u64, &[u8])>
     ensures { read_view (λ n. n) result ≡ number_at bytes.now }
 {
-    let (value, len) = read_digits(bytes)?;
+    let (value, len) = read_digits(bytes);
+    if len == 0 {
+        return None;
+    }
     if len > 1 && bytes[0] == b'0' {
+        return None;
+    }
+    if len > MOST_DIGITS || value > LAST {
         return None;
     }
     Some((value, &bytes[len..]))
 }
 
-/// The bytes after this word, if they begin with it. The first byte alone distinguishes most words, so the
-/// whole word is compared only if that byte is the same.
-#[inline(always)]
-#[tactic(auto, unfolding(crate::specs::Lines::strip))]
-fn after_word<'a>(bytes: &'a [u8], word: &[u8]) -> Option<&'a [u8]>
-    requires { 0 < length word.now }
-    ensures { option_copied result ≡ strip word.now bytes.now }
-{
-    if bytes.is_empty() || bytes[0] != word[0] {
-        return None;
-    }
-    bytes.strip_prefix(word)
-}
-
-/// A number, and what follows the word that ends its field.
+/// A number, and what follows the byte that ends its field.
 #[inline(always)]
 #[tactic(auto, unfolding(crate::specs::Lines::field_at))]
-fn read_field<'a>(bytes: &'a [u8], end: &[u8]) -> Option<(u64, &'a [u8])>
-    requires { 0 < length end.now }
-    ensures { read_view (λ n. n) result ≡ field_at end.now bytes.now }
+fn read_field(bytes: &[u8], end: u8) -> Option<(u64, &[u8])>
+    ensures { read_view (λ n. n) result ≡ field_at end bytes.now }
 {
     let (value, rest) = read_number(bytes)?;
-    let rest = after_word(rest, end)?;
-    Some((value, rest))
+    if rest.is_empty() || rest[0] != end {
+        return None;
+    }
+    Some((value, &rest[1..]))
+}
+
+/// The first four bytes as one number.
+#[inline(always)]
+fn front(bytes: &[u8]) -> u32
+    requires { 4 ≤ length bytes.now }
+    ensures { result ≡ from_le_bytes w32 (take 4 bytes.now) }
+{
+    u32::from_le_bytes([bytes[0], bytes[1], bytes[2], bytes[3]])
+}
+
+/// Whether the bytes begin with this word. Its first four bytes alone distinguish it from the others.
+#[inline(always)]
+fn has_word(bytes: &[u8], word: &[u8]) -> bool
+    requires { 4 ≤ length word.now }
+    ensures value { result ≡ has_word word.now bytes.now }
+    ensures within { IsTrue result → length word.now ≤ length bytes.now }
+{
+    if bytes.len() < word.len() || front(bytes) != front(word) {
+        return false;
+    }
+    bytes[4..].starts_with(&word[4..])
 }
 
 /// What follows `start `.
@@ -88,10 +106,10 @@ fn read_field<'a>(bytes: &'a [u8], end: &[u8]) -> Option<(u64, &'a [u8])>
 fn read_start(bytes: &[u8]) -> Option<(Event, &[u8])>
     ensures { read_view (λ e. e) result ≡ start_at bytes.now }
 {
-    let (client, rest) = read_field(bytes, b" ")?;
-    let (number, rest) = read_field(rest, b" ")?;
-    let (interval, rest) = read_field(rest, b" ")?;
-    let (action, rest) = read_field(rest, b"\n")?;
+    let (client, rest) = read_field(bytes, b' ')?;
+    let (number, rest) = read_field(rest, b' ')?;
+    let (interval, rest) = read_field(rest, b' ')?;
+    let (action, rest) = read_field(rest, b'\n')?;
     let event = Event::Start {
         client,
         number,
@@ -107,9 +125,9 @@ fn read_start(bytes: &[u8]) -> Option<(Event, &[u8])>
 fn read_stop(bytes: &[u8]) -> Option<(Event, &[u8])>
     ensures { read_view (λ e. e) result ≡ stop_at bytes.now }
 {
-    let (client, rest) = read_field(bytes, b" ")?;
-    let (number, rest) = read_field(rest, b" ")?;
-    let (serial, rest) = read_field(rest, b"\n")?;
+    let (client, rest) = read_field(bytes, b' ')?;
+    let (number, rest) = read_field(rest, b' ')?;
+    let (serial, rest) = read_field(rest, b'\n')?;
     let event = Event::Stop {
         client,
         number,
@@ -124,11 +142,11 @@ fn read_stop(bytes: &[u8]) -> Option<(Event, &[u8])>
 fn read_restart(bytes: &[u8]) -> Option<(Event, &[u8])>
     ensures { read_view (λ e. e) result ≡ restart_at bytes.now }
 {
-    let (client, rest) = read_field(bytes, b" ")?;
-    let (number, rest) = read_field(rest, b" ")?;
-    let (serial, rest) = read_field(rest, b" ")?;
-    let (interval, rest) = read_field(rest, b" ")?;
-    let (action, rest) = read_field(rest, b"\n")?;
+    let (client, rest) = read_field(bytes, b' ')?;
+    let (number, rest) = read_field(rest, b' ')?;
+    let (serial, rest) = read_field(rest, b' ')?;
+    let (interval, rest) = read_field(rest, b' ')?;
+    let (action, rest) = read_field(rest, b'\n')?;
     let event = Event::Restart {
         client,
         number,
@@ -145,11 +163,27 @@ fn read_restart(bytes: &[u8]) -> Option<(Event, &[u8])>
 fn read_tick(bytes: &[u8]) -> Option<(Event, &[u8])>
     ensures { read_view (λ e. e) result ≡ tick_at bytes.now }
 {
-    let (count, rest) = read_field(bytes, b"\n")?;
+    let (count, rest) = read_field(bytes, b'\n')?;
     if count == 0 || count > MAX_TICKS {
         return None;
     }
     Some((Event::Ticks { count }, rest))
+}
+
+/// The event of a line of another kind. Inlined as a function of its own, so that the results of its calls take no time
+/// in lines of those kinds.
+#[inline(always)]
+#[tactic(auto, unfolding(crate::specs::Lines::other_at))]
+fn read_other(bytes: &[u8]) -> Option<(Event, &[u8])>
+    ensures { read_view (λ e. e) result ≡ other_at bytes.now }
+{
+    if has_word(bytes, b"tick ") {
+        return read_tick(&bytes[5..]);
+    }
+    if has_word(bytes, b"restart ") {
+        return read_restart(&bytes[8..]);
+    }
+    None
 }
 
 /// The event whose line is at the front, and the bytes after the line. Inlined: an event that is returned through
@@ -159,18 +193,14 @@ fn read_tick(bytes: &[u8]) -> Option<(Event, &[u8])>
 pub fn read_line(bytes: &[u8]) -> Option<(Event, &[u8])>
     ensures { read_view (λ e. e) result ≡ line_at bytes.now }
 {
-    if let Some(rest) = after_word(bytes, b"start ") {
-        return read_start(rest);
+    if has_word(bytes, b"start ") {
+        return read_start(&bytes[6..]);
     }
-    if let Some(rest) = after_word(bytes, b"stop ") {
-        return read_stop(rest);
+    if has_word(bytes, b"stop ") {
+        return read_stop(&bytes[5..]);
     }
-    if let Some(rest) = after_word(bytes, b"restart ") {
-        return read_restart(rest);
+    if has_word(bytes, b"close\n") {
+        return Some((Event::Close, &bytes[6..]));
     }
-    if let Some(rest) = after_word(bytes, b"tick ") {
-        return read_tick(rest);
-    }
-    let rest = after_word(bytes, b"close\n")?;
-    Some((Event::Close, rest))
+    read_other(bytes)
 }

@@ -57,7 +57,7 @@ pub fn play_event<W: Wheel + Drop>(
             interval,
             action,
         } => play_restart(player, client, number, serial, interval, action, text),
-        Event::Ticks { count } => play_outs(player, Event::Ticks { count }, outs, text),
+        Event::Ticks { count } => play_ticks(player, count, outs, text),
         Event::Close => play_close(player, outs, text),
     }
 }
@@ -113,7 +113,20 @@ fn play_restart<W: Wheel + Drop>(
     push_out(text, &out)
 }
 
-/// Plays a close, and adds its lines.
+/// Plays ticks, and adds the line of each out. Takes their number: an event would be in memory.
+#[inline(never)]
+fn play_ticks<W: Wheel + Drop>(
+    player: &mut Player<W>,
+    count: u64,
+    outs: &mut Vec<Out>,
+    text: &mut Vec<u8>,
+) -> Result<(), OutOfMemory>
+    ensures { OnOk result (AddsLines player.old (Event.Ticks count ∷ []) text.old.items text.new.items player.new) }
+{
+    play_outs(player, Event::Ticks { count }, outs, text)
+}
+
+/// Plays a close, and adds its lines. A refused one has no event in memory.
 #[inline(never)]
 fn play_close<W: Wheel + Drop>(
     player: &mut Player<W>,
@@ -125,11 +138,22 @@ fn play_close<W: Wheel + Drop>(
     if let Some(out) = player.refused_close() {
         return push_out(text, &out);
     }
+    play_first_close(player, outs, text)
+}
+
+/// Plays the first close, and adds its lines.
+#[inline(never)]
+fn play_first_close<W: Wheel + Drop>(
+    player: &mut Player<W>,
+    outs: &mut Vec<Out>,
+    text: &mut Vec<u8>,
+) -> Result<(), OutOfMemory>
+    ensures { OnOk result (AddsLines player.old (Event.Close ∷ []) text.old.items text.new.items player.new) }
+{
     play_outs(player, Event::Close, outs, text)
 }
 
 /// Plays an event that may have many outs, and adds the line of each.
-#[inline(never)]
 fn play_outs<W: Wheel + Drop>(
     player: &mut Player<W>,
     event: Event,

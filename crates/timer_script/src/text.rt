@@ -14,7 +14,7 @@
 //!
 //! The text is built in one `Vec`, with no formatting machinery for each line.
 ghost use Rattle.std.specs.Prelude.{◌≡◌, ◌≤◌, ◌+◌, ◌∷◌, [], ◌++◌, length, drop, IfOk, OnOk, codes, decimal};
-ghost use Rattle.timer_script.specs.declared.text.TheConstants.{MAX_NUMBERS, MAX_DIGITS};
+ghost use Rattle.timer_script.specs.declared.text.TheConstants.{MAX_NUMBERS, MAX_DIGITS, MAX_WORD};
 ghost use Rattle.std.specs.List.{flat_map};
 ghost use Rattle.timer_script.specs.Text.{numbers, reason_word, refusal_word, fault_word, out_line, end_line, text};
 
@@ -66,8 +66,11 @@ const MAX_NUMBERS: usize = 5;
 /// The most bytes of a number and the space before it.
 const MAX_DIGITS: usize = 21;
 
-/// The most bytes of the numbers of a line, and of the byte after them.
-const ROOM: usize = 106;
+/// The most bytes of a line's first word.
+const MAX_WORD: usize = 12;
+
+/// The most bytes of a line's first word, its numbers and the byte after them.
+const ROOM: usize = 118;
 
 /// Writes a space and a number so that they end at `end`, and returns where they start.
 #[inline(always)]
@@ -84,11 +87,25 @@ fn put_number(n: u64, buffer: &mut [u8], end: usize) -> usize
     at
 }
 
-/// Writes numbers, each after a space, and the byte that follows them: from the last to the first into a piece of
-/// memory, which is then copied at once.
-fn push_numbers(out: &mut Vec<u8>, all: &[u64], last: u8) -> Result<(), OutOfMemory>
-    requires { length all.now ≤ MAX_NUMBERS }
-    ensures { OnOk result (out.new.items ≡ out.old.items ++ numbers all.now ++ last ∷ []) }
+/// Writes a word so that it ends at `end`, and returns where it starts.
+#[inline(always)]
+fn put_word(word: &[u8], buffer: &mut [u8], end: usize) -> usize
+    requires { (length word.now ≤ end) × (end ≤ length buffer.old) }
+    ensures written { drop result buffer.new ≡ word.now ++ drop end buffer.old }
+    ensures within { result ≤ end }
+    ensures same { length buffer.new ≡ length buffer.old }
+{
+    let at = end - word.len();
+    buffer[at..end].copy_from_slice(word);
+    at
+}
+
+/// Writes a word, numbers, each after a space, and the byte that follows them: from the last to the first into a piece
+/// of memory, which is then copied at once. Inlined, so that it is known how long the word is, and which number is where.
+#[inline(always)]
+fn push_words(out: &mut Vec<u8>, word: &[u8], all: &[u64], last: u8) -> Result<(), OutOfMemory>
+    requires { (length word.now ≤ MAX_WORD) × (length all.now ≤ MAX_NUMBERS) }
+    ensures { OnOk result (out.new.items ≡ out.old.items ++ word.now ++ numbers all.now ++ last ∷ []) }
 {
     let mut buffer = [0u8; ROOM];
     let mut at = ROOM - 1;
@@ -98,18 +115,18 @@ fn push_numbers(out: &mut Vec<u8>, all: &[u64], last: u8) -> Result<(), OutOfMem
         i -= 1;
         at = put_number(all[i], &mut buffer, at);
     }
+    at = put_word(word, &mut buffer, at);
     out.extend_from_slice(&buffer[at..])?;
     Ok(())
 }
 
-/// Writes a word and numbers as a line. Inlined, so that the length of the word is known.
+/// Writes a word and numbers as a line.
 #[inline(always)]
 fn push_line(out: &mut Vec<u8>, word: &[u8], all: &[u64]) -> Result<(), OutOfMemory>
-    requires { length all.now ≤ MAX_NUMBERS }
+    requires { (length word.now ≤ MAX_WORD) × (length all.now ≤ MAX_NUMBERS) }
     ensures { OnOk result (out.new.items ≡ out.old.items ++ word.now ++ numbers all.now ++ codes "\n") }
 {
-    out.extend_from_slice(word)?;
-    push_numbers(out, all, b'\n')
+    push_words(out, word, all, b'\n')
 }
 
 /// Writes a word, numbers and a reason as a line.
@@ -120,12 +137,11 @@ fn push_refused(
     all: &[u64],
     reason: &[u8],
 ) -> Result<(), OutOfMemory>
-    requires { length all.now ≤ MAX_NUMBERS }
+    requires { (length word.now ≤ MAX_WORD) × (length all.now ≤ MAX_NUMBERS) }
     ensures { OnOk result (out.new.items ≡ out.old.items ++ word.now ++ numbers all.now ++ codes " "
         ++ reason.now ++ codes "\n") }
 {
-    out.extend_from_slice(word)?;
-    push_numbers(out, all, b' ')?;
+    push_words(out, word, all, b' ')?;
     out.extend_from_slice(reason)?;
     out.push(b'\n')?;
     Ok(())
