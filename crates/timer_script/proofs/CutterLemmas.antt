@@ -247,13 +247,16 @@ pub seen_whole : {F : Type 0} (contents : F → Option (List ℕ)) (w v : Watche
 seen_whole contents w v o came events h = record { seen = came; unseen = []; parts = sym (append-nil came); passed = h }
 
 -- however a piece was taken in, all of it was looked at
-pub piece_seen : {F : Type 0} (contents : F → Option (List ℕ)) (w v u : Watched F) (old new : Cutter) (stop : Option ℕ)
-    (came piece : List ℕ) (events : List Event) → new.on_bad ≡ old.on_bad → TakesPiece stop contents piece old v new u
-    → HasTakenIn old contents w v came events → HasSeen old.on_bad contents w u (came ++ piece) (events ++ new.events.items)
-piece_seen contents w v u old new None came piece events same takes h =
-    inl (passed_first contents w u old.on_bad (came ++ piece) (events ++ new.events.items)
-    (taken_passed contents w u new old.on_bad same (came ++ piece) (events ++ new.events.items) (takes w came events h)))
-piece_seen contents w v u old new (Some n) came piece events same takes h = inr (n, takes w came events h)
+pub piece_seen : {F : Type 0} (contents : F → Option (List ℕ)) (w v u : Watched F) (old new : Cutter) (stop : Option ℕ) (o : OnBadLine)
+    (came piece : List ℕ) (events : List Event) → old.on_bad ≡ o → new.on_bad ≡ old.on_bad → TakesPiece stop contents piece old v new u
+    → HasTakenIn old contents w v came events → HasSeen o contents w u (came ++ piece) (events ++ new.events.items)
+piece_seen contents w v u old new None o came piece events is same takes h =
+    inl (passed_first contents w u o (came ++ piece) (events ++ new.events.items)
+    (taken_passed contents w u new o (same ∙ is) (came ++ piece) (events ++ new.events.items) (takes w came events h)))
+piece_seen contents w v u old new (Some n) o came piece events is same takes h = inr (
+  n,
+  subst (λ x. HasStopped x w u (came ++ piece) (events ++ new.events.items) n) is (takes w came events h),
+)
 
 -- so it was at the end
 pub ended_seen : {F : Type 0} (contents : F → Option (List ℕ)) (w v : Watched F) (o : OnBadLine) (clean : Bool)

@@ -104,28 +104,6 @@ written_none p = record {
   reading = refl;
 }
 
--- one text after another
-pub written_join : (p q r : PeerState) (text more : List ℕ) → HasWritten p text q → HasWritten q more r → HasWritten p (text ++ more) r
-written_join p q r text more v w = record {
-  moments = v.moments ++ w.moments;
-  grows = grows_join p.moments q.moments r.moments v.moments w.moments v.grows w.grows;
-  writes = writes_join v.moments w.moments v.writes w.writes;
-  gone_is = gone_join v.moments w.moments ∙ ap (λ x. x ++ gone_of w.moments) v.gone_is ∙ ap (λ y. text ++ y) w.gone_is;
-  written = Appends-trans p.contents q.contents r.contents text more v.written w.written;
-  remaining = w.remaining ∙ v.remaining;
-  reading = w.reading ∙ v.reading;
-}
-
--- whether the texts are flushed
-pub flushed_none : (p : PeerState) → is_flushed true (written_none p).moments ≡ true
-unfolding written_none
-flushed_none p = refl
-
-pub flushed_both : (p q r : PeerState) (text more : List ℕ) (v : HasWritten p text q) (w : HasWritten q more r)
-    → is_flushed true (written_join p q r text more v w).moments ≡ is_flushed (is_flushed true v.moments) w.moments
-unfolding written_join
-flushed_both p q r text more v w = flushed_join true v.moments w.moments
-
 -- one more write that took some of the rest
 pub written_more : {E : Type 0} (p q r : PeerState) (text : List ℕ) (i n : ℕ) → HasWritten p (take i text) q
     → Takes {E = E} q (Ok n) (take (length text - i) (drop i text)) r → HasWritten p (take (i + n) text) r

@@ -3,15 +3,17 @@
 //! A turn reads once, plays the lines that came, and writes and flushes their answers. So whenever more
 //! is read, each whole line that came has been answered. A decorator may add text after an answer. A cutter
 //! makes events of the bytes: a bad line ends the stream, or is reported to a second writer.
-ghost use Rattle.std.specs.Prelude.{◌≡◌, [], length, false, true, IfErr, OnErr, OnOk};
+ghost use Rattle.std.specs.Prelude.{◌≡◌, ◌++◌, [], ℕ, List, false, IfErr, OnErr, OnOk};
 ghost use Rattle.std.specs.Io.KnownBytes.{IsAtEnd};
+ghost use Rattle.timer_facility.specs.declared.event.Event.{Event};
 ghost use Rattle.timer_facility.specs.State.{FacilityState, IsSound};
+ghost use Rattle.timer_script.specs.declared.cutter.OnBadLine.{OnBadLine};
 ghost use Rattle.timer_script.specs.declared.watched.Watched.{Watched};
 ghost use Rattle.timer_script.specs.Peer.{PeerState};
 ghost use Rattle.timer_script.specs.ScriptRun.{AddsFirstLines};
 ghost use Rattle.timer_script.specs.Steps.{HasPlayedText};
 ghost use Rattle.timer_script.specs.Cutter.{HasTakenIn};
-ghost use Rattle.timer_script.specs.Service.{AreGood, HasSent, HasSentPart, HasAnswered, HasAnsweredPart, MayServe, HasServedEvents, StopsEvents, StopsEnd, HasServedAll, HasUnseen, HasServedPiece, HasServed, server_with, last_line};
+ghost use Rattle.timer_script.specs.Service.{AreGood, HasSent, HasSentPart, HasAnswered, HasAnsweredPart, MayServe, AnswersMore, StopsTurn, StopsEnd, HasAnsweredSoFar, HasServedPiece, HasServed, server_with, last_line};
 
 use crate::cutter::{Cutter, OnBadLine};
 use crate::decorator::Decorator;
@@ -114,10 +116,11 @@ fn serve_some<P: Peer, W: Wheel + Drop, D: Decorator<W>>(
 ) -> Result<(), TurnFault>
     requires good { AreGood (P.state peer.old) }
     requires few { MayServe D.adds events.now }
-    ensures served { OnOk result (HasServedEvents D.adds session.old.player events.now session.new.player
+    ensures served { OnOk result (AnswersMore D.adds events.now session.old.player session.new.player
         (P.state peer.old) (P.state peer.new)) }
     ensures good { OnOk result (AreGood (P.state peer.new)) }
-    ensures fault { IfErr result (λ fault. StopsEvents D.adds fault session.old.player events.now
+    ensures unread { OnOk result ((P.state peer.new).remaining ≡ (P.state peer.old).remaining) }
+    ensures fault { IfErr result (λ fault. StopsTurn D.adds fault events.now session.old.player
         (P.state peer.old) (P.state peer.new)) }
 {
     text.clear();
@@ -136,10 +139,11 @@ fn serve_events<P: Peer, W: Wheel + Drop, D: Decorator<W>>(
     text: &mut Vec<u8>,
 ) -> Result<(), TurnFault>
     requires { AreGood (P.state peer.old) }
-    ensures served { OnOk result (HasServedEvents D.adds session.old.player events.now session.new.player
+    ensures served { OnOk result (AnswersMore D.adds events.now session.old.player session.new.player
         (P.state peer.old) (P.state peer.new)) }
     ensures good { OnOk result (AreGood (P.state peer.new)) }
-    ensures fault { IfErr result (λ fault. StopsEvents D.adds fault session.old.player events.now
+    ensures unread { OnOk result ((P.state peer.new).remaining ≡ (P.state peer.old).remaining) }
+    ensures fault { IfErr result (λ fault. StopsTurn D.adds fault events.now session.old.player
         (P.state peer.old) (P.state peer.new)) }
 {
     if !decorator.sends_each_line() {
@@ -168,12 +172,13 @@ fn serve_piece<P: Peer, W: Wheel + Drop, D: Decorator<W>, F: Write>(
     ensures kept { cutter.new.on_bad ≡ cutter.old.on_bad }
     ensures good { OnOk result (AreGood (P.state peer.new)) }
     ensures unread { OnOk result ((P.state peer.new).remaining ≡ (P.state peer.old).remaining) }
-    ensures served { (before : FacilityState) (p : PeerState) (w : Watched F)
-        → (all : HasServedAll (server_with cutter.old.on_bad D.adds before F.contents)
-        (HasUnseen cutter.old F.contents w faults.old piece.now) p (P.state peer.old) session.old.player)
-        → HasServedPiece (server_with cutter.old.on_bad D.adds before F.contents)
+    ensures served { (on_bad : OnBadLine) (before : FacilityState) (p : PeerState) (w : Watched F) (came : List ℕ)
+        (events : List Event) → cutter.old.on_bad ≡ on_bad
+        → HasTakenIn cutter.old F.contents w faults.old came events
+        → HasAnsweredSoFar on_bad D.adds before (came ++ piece.now) events p (P.state peer.old) session.old.player
+        → HasServedPiece (server_with on_bad D.adds before F.contents) (came ++ piece.now)
         (record { peer = p; faults = w }) cutter.new session.new.player
-        (record { peer = P.state peer.new; faults = faults.new }) (length all.came) result }
+        (record { peer = P.state peer.new; faults = faults.new }) result }
 {
     let Ok(bad) = cutter.take_in(piece, faults) else {
         return Err(ServeFault::OutOfMemory);
@@ -211,10 +216,11 @@ fn end_stream<P: Peer, W: Wheel + Drop, D: Decorator<W>, F: Write>(
 ) -> Result<bool, ServeFault>
     requires good { AreGood (P.state peer.old) }
     requires ended { IsAtEnd (P.state peer.old).remaining }
-    ensures { (before : FacilityState) (p : PeerState) (w : Watched F) → IsSound before
-        → HasServedAll (server_with cutter.old.on_bad D.adds before F.contents)
-        (HasTakenIn cutter.old F.contents w faults.old) p (P.state peer.old) session.now.player
-        → HasServed (server_with cutter.old.on_bad D.adds before F.contents)
+    ensures { (on_bad : OnBadLine) (before : FacilityState) (p : PeerState) (w : Watched F) (came : List ℕ)
+        (events : List Event) → cutter.old.on_bad ≡ on_bad → IsSound before
+        → HasTakenIn cutter.old F.contents w faults.old came events
+        → HasAnsweredSoFar on_bad D.adds before came events p (P.state peer.old) session.now.player
+        → HasServed (server_with on_bad D.adds before F.contents)
         (record { peer = p; faults = w }) (record { peer = P.state peer.new; faults = faults.new }) result }
 {
     let Ok(bad) = cutter.end(faults) else {
