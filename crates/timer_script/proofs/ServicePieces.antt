@@ -1,80 +1,22 @@
 -- The answers to some events, and what is added to them: played and written.
 use Rattle.std.proofs.Common.{◌≡◌, ℕ, ◌≤◌, true, false, List, [], ◌∷◌, ◌++◌, length, take, drop, inl, inr, refl, sym, ap, subst, ◌∙◌, arith, append_assoc, append-nil, take-append-drop}
 use Rattle.std.specs.Prelude.{Bool, Result, Ok, Err, OnOk, OnErr}
-use Rattle.std.proofs.Math.Seq.{take-append_seam}
 use Rattle.std.proofs.lemmas.Grind.{flat_map-append}
 use Rattle.timer_base.specs.declared.fault.OutOfMemory.{OutOfMemory}
 use Rattle.timer_facility.specs.declared.event.Event.{Event}
-use Rattle.timer_facility.specs.declared.event.Out.{Out}
 use Rattle.timer_facility.specs.State.{FacilityState}
-use Rattle.timer_facility.specs.Step.{step}
-use Rattle.timer_facility.specs.Run.{PlacedEvent, state_after, run}
-use Rattle.timer_facility.specs.Played.{IsRun}
 use Rattle.timer_facility.proofs.PlayedLemmas.{IsRun-none, IsRun-join}
 use Rattle.timer_script.specs.declared.fault.TurnFault.{TurnFault}
 use Rattle.timer_script.specs.declared.fault.TurnFault.TheVariants as turns
 use Rattle.timer_script.specs.Text.{out_line, lines_of}
-use Rattle.timer_script.specs.ScriptRun.{AddsLines, AddsFirstLines}
-use Rattle.timer_script.specs.Decorator.{Decoration, IsLawful, MayAddNothing, HasGrown, HasGrownAfter, HasAnsweredWithin, AreDecorated}
+use Rattle.timer_script.specs.Decorator.{Decoration, HasGrownAfter, HasAnsweredWithin, AreDecorated}
 use Rattle.timer_script.specs.declared.service.TheConstants.{PIECE}
 use Rattle.timer_script.specs.declared.cutter.OnBadLine.{OnBadLine}
 use Rattle.timer_script.specs.Cutter.{Passes}
 use Rattle.timer_script.specs.Peer.{PeerState, Gives}
-use Rattle.timer_script.specs.Service.{AreGood, HasWritten, HasSent, HasSentPart, is_flushed, HasAnswered, IsBegun, HasAnsweredPart, MayServe, IsAnsweredWith, HasAnsweredSoFar, HasAnsweredSome, AnswersMore, HasStoppedTurn, StopsTurn}
-use Rattle.timer_script.specs.Steps.{HasPlayedText}
+use Rattle.timer_script.specs.Service.{AreGood, HasWritten, HasSent, HasSentPart, is_flushed, HasAnswered, IsBegun, HasAnsweredPart, IsAnsweredWith, HasAnsweredSoFar, HasAnsweredSome, AnswersMore, HasStoppedTurn, StopsTurn}
+use Rattle.timer_script.specs.Steps.{HasGrownByAnswer}
 use Rattle.timer_script.proofs.PeerLemmas.{flushed_anyway, talked_nothing, talked_wrote, talked_sent, came_after, failed_after}
-
--- ---- a run, event by event
-
-state_after-append : (s : FacilityState) (xs ys : List PlacedEvent) → state_after s (xs ++ ys) ≡ state_after (state_after s xs) ys
-state_after-append s [] ys = refl
-state_after-append s (x ∷ xs) ys = state_after-append (step s x.event x.place).state xs ys
-
-run-append : (s : FacilityState) (xs ys : List PlacedEvent) → (run s (xs ++ ys)).outs ≡ (run s xs).outs ++ (run (state_after s xs) ys).outs
-run-append s [] ys = refl
-run-append s (x ∷ xs) ys =
-    let first = step s x.event x.place in
-    ap (λ outs. first.outs ++ outs) (run-append first.state xs ys)
-    ∙ sym (append_assoc first.outs (run first.state xs).outs (run (state_after first.state xs) ys).outs)
-
--- a run of events, as that of the first and that of the others
-record IsRunInParts (s : FacilityState) (event : Event) (events : List Event) (outs : List Out) (after : FacilityState) : Type 0 where
-  pub next : FacilityState
-  pub first : List Out
-  pub others : List Out
-  pub parts : outs ≡ first ++ others
-  pub runs : IsRun s (event ∷ []) first next
-  pub more : IsRun next events others after
-
-run_parts : (s : FacilityState) (event : Event) (events : List Event) (outs : List Out) (after : FacilityState)
-    → IsRun s (event ∷ events) outs after → IsRunInParts s event events outs after
-run_parts s event events outs after r =
-    let one : List PlacedEvent = r.singles.0 in
-    let left : List PlacedEvent = r.singles.1 in
-    record {
-      next = state_after s one;
-      first = (run s one).outs;
-      others = (run (state_after s one) left).outs;
-      parts = r.outs_are ∙ ap (λ placed. (run s placed).outs) r.singles.2 ∙ run-append s one left;
-      runs = record {
-        placed = one;
-        singles = (one, [], sym (append-nil one), r.singles.3, refl);
-        outs_are = refl;
-        after_is = refl;
-      };
-      more = record {
-        placed = left;
-        singles = r.singles.4;
-        outs_are = refl;
-        after_is = r.after_is ∙ ap (λ placed. (run s placed).state) r.singles.2 ∙ state_after-append s one left;
-      };
-    }
-
-run_none : (s after : FacilityState) (outs : List Out) → IsRun s [] outs after → (after ≡ s) × (outs ≡ [])
-run_none s after outs r = (
-  r.after_is ∙ ap (λ placed. (run s placed).state) r.singles,
-  r.outs_are ∙ ap (λ placed. (run s placed).outs) r.singles,
-)
 
 -- ---- some events
 
@@ -82,7 +24,7 @@ pub answered_none : (A : Decoration) (s : FacilityState) → HasAnswered A s [] 
 answered_none A s = record { outs = []; runs = IsRun-none s; added = (refl, refl, refl) }
 
 -- the answer to one line, and what comes after it
-pub decorated : (A : Decoration) (s t : FacilityState) (event : Event) (line text : List ℕ)
+decorated : (A : Decoration) (s t : FacilityState) (event : Event) (line text : List ℕ)
     → HasAnsweredWithin A s (event ∷ []) t line → HasGrownAfter A t line text → HasAnswered A s (event ∷ []) t text
 decorated A s t event line text h grown = record {
   outs = h.outs;
@@ -100,82 +42,6 @@ decorated A s t event line text h grown = record {
   );
 }
 
-kept_line : (A : Decoration) (d : IsLawful A) (s t : FacilityState) (event : Event) (outs : List Out) → IsRun s (event ∷ []) outs t
-    → HasAnsweredWithin A s (event ∷ []) t (lines_of outs)
-kept_line A d s t event outs runs = record { outs = outs; runs = runs; within = d.kept outs }
-
--- lines of which only the last has something after it
-decorated_last : (A : Decoration) (d : IsLawful A) (none : MayAddNothing A) (s t : FacilityState) (events : List Event) (outs : List Out)
-    (text : List ℕ) → IsRun s events outs t → 1 ≤ length events → HasGrownAfter A t (lines_of outs) text
-    → AreDecorated A s events t (lines_of outs) text
-unfolding decorated kept_line
-decorated_last A d none s t [] outs text runs some grown = absurd (omega arith)
-decorated_last A d none s t (event ∷ []) outs text runs some grown =
-    (decorated A s t event (lines_of outs) text (kept_line A d s t event outs runs) grown).added
-decorated_last A d none s t (event ∷ other ∷ events) outs text runs some grown =
-    let r = run_parts s event (other ∷ events) outs t runs in
-    let first : List ℕ = lines_of r.first in
-    let others : List ℕ = lines_of r.others in
-    let both : lines_of outs ≡ first ++ others = ap lines_of r.parts ∙ flat_map-append out_line r.first r.others in (
-      r.next,
-      first,
-      first,
-      others,
-      others ++ grown.0,
-      record {
-        line = first;
-        answered = kept_line A d s r.next event r.first r.runs;
-        answer_is = refl;
-        added = [];
-        comes_after = none r.next;
-        text_is = sym (append-nil first);
-      },
-      decorated_last A d none r.next t (other ∷ events) r.others (others ++ grown.0) r.more (omega arith) (grown.0, refl, grown.2),
-      both,
-      grown.1 ∙ ap (λ z. z ++ grown.0) both ∙ append_assoc first others grown.0,
-    )
-
--- lines after which nothing has to come
-kept : (A : Decoration) (d : IsLawful A) (none : MayAddNothing A) (s t : FacilityState) (events : List Event) (text : List ℕ)
-    → AddsLines s events [] text t → HasAnswered A s events t text
-kept A d none s t [] text h =
-    let is = run_none s t h.outs h.runs in
-    subst (λ z. HasAnswered A s [] z text) (sym is.0)
-    (subst (HasAnswered A s [] s) (sym (h.lines ∙ ap lines_of is.1)) (answered_none A s))
-kept A d none s t (event ∷ events) text h = record {
-  outs = h.outs;
-  runs = h.runs;
-  added = decorated_last A d none s t (event ∷ events) h.outs text h.runs (omega arith)
-      ([], h.lines ∙ sym (append-nil (lines_of h.outs)), none t);
-}
-
--- what comes after lines that are served at once
-pub answered_after : (A : Decoration) (d : IsLawful A) (s t : FacilityState) (events : List Event) (text text' : List ℕ)
-    → MayServe A events → 1 ≤ length events → HasPlayedText A s events t text → HasGrownAfter A t text text'
-    → HasAnswered A s events t text'
-answered_after A d s t [] text text' may some h grown = absurd (omega arith)
-answered_after A d s t (event ∷ events) text text' may some (inr h) grown =
-    subst (λ es. HasAnswered A s es t text') (sym h.1) (decorated A s t h.0 text text' h.2 grown)
-answered_after A d s t (event ∷ []) text text' may some (inl h) grown =
-    decorated A s t event text text' (subst (HasAnsweredWithin A s (event ∷ []) t) (sym h.lines) (kept_line A d s t event h.outs h.runs)) grown
-answered_after A d s t (event ∷ other ∷ events) text text' (inl few) some (inl h) grown = absurd (omega arith)
-answered_after A d s t (event ∷ other ∷ events) text text' (inr none) some (inl h) grown = record {
-  outs = h.outs;
-  runs = h.runs;
-  added = decorated_last A d none s t (event ∷ other ∷ events) h.outs text' h.runs (omega arith)
-      (subst (λ z. HasGrownAfter A t z text') h.lines grown);
-}
-
--- no event needs no answer
-pub answered_nothing : (A : Decoration) (s t : FacilityState) (events : List Event) (text : List ℕ) → events ≡ []
-    → HasPlayedText A s events t text → HasAnswered A s events t text
-answered_nothing A s t [] text e (inl h) =
-    let is = run_none s t h.outs h.runs in
-    subst (λ z. HasAnswered A s [] z text) (sym is.0)
-    (subst (HasAnswered A s [] s) (sym (h.lines ∙ ap lines_of is.1)) (answered_none A s))
-answered_nothing A s t [] text e (inr h) = absurd cc
-answered_nothing A s t (event ∷ events) text e h = absurd cc
-
 -- ---- the first of some events
 
 pub answered_whole : (A : Decoration) (s t : FacilityState) (events : List Event) (text : List ℕ) → HasAnswered A s events t text
@@ -192,23 +58,8 @@ answered_whole A s t events text h = record {
   text_is = sym (append-nil text);
 }
 
--- none of them, or the first without what comes after it
-begun_part : (A : Decoration) (s : FacilityState) (events : List Event) (text : List ℕ) → IsBegun A s events text
-    → HasAnsweredPart A s events text
-begun_part A s events text h = record {
-  done = [];
-  rest = events;
-  parts = refl;
-  after = s;
-  decorated = [];
-  answered = answered_none A s;
-  last = text;
-  begun = h;
-  text_is = refl;
-}
-
 -- and then others, of which not all are
-part_more : (A : Decoration) (s : FacilityState) (events more : List Event) (text : List ℕ) → HasAnsweredPart A s events text
+pub part_more : (A : Decoration) (s : FacilityState) (events more : List Event) (text : List ℕ) → HasAnsweredPart A s events text
     → HasAnsweredPart A s (events ++ more) text
 part_more A s events more text h = record {
   done = h.done;
@@ -225,36 +76,6 @@ part_more A s events more text h = record {
     later : IsBegun A h.after h.rest h.last → IsBegun A h.after (h.rest ++ more) h.last
     later (inl none) = inl none
     later (inr x) = inr (x.0, x.1 ++ more, ap (λ z. z ++ more) x.2, x.3, x.4)
-
--- lines that are served at once were played in part
-pub part_played : (A : Decoration) (d : IsLawful A) (s : FacilityState) (events : List Event) (text : List ℕ) → MayServe A events
-    → AddsFirstLines s events [] text → HasAnsweredPart A s events text
-part_played A d s events text may h =
-    subst (λ es. HasAnsweredPart A s es text) (sym h.parts) (parts h.played h.unplayed h.after (subst (MayServe A) h.parts may) h.adds)
-  where
-    parts : (played unplayed : List Event) (t : FacilityState) → MayServe A (played ++ unplayed) → AddsLines s played [] text t
-        → HasAnsweredPart A s (played ++ unplayed) text
-    parts [] unplayed t may a =
-        let is = run_none s t a.outs a.runs in
-        begun_part A s unplayed text (inl (a.lines ∙ ap lines_of is.1))
-    parts (event ∷ []) unplayed t may a = begun_part A s (event ∷ unplayed) text (inr (
-      event,
-      unplayed,
-      refl,
-      t,
-      subst (HasAnsweredWithin A s (event ∷ []) t) (sym a.lines) (kept_line A d s t event a.outs a.runs),
-    ))
-    parts (event ∷ other ∷ events) unplayed t (inl few) a = absurd (omega arith)
-    parts (event ∷ other ∷ events) unplayed t (inr none) a =
-        part_more A s (event ∷ other ∷ events) unplayed text
-        (answered_whole A s t (event ∷ other ∷ events) text (kept A d none s t (event ∷ other ∷ events) text a))
-
--- all of them were played, and nothing comes after them
-pub part_bare : (A : Decoration) (d : IsLawful A) (s t : FacilityState) (events : List Event) (text : List ℕ) → MayServe A events
-    → HasPlayedText A s events t text → HasAnsweredPart A s events text
-part_bare A d s t events text may (inl h) = part_played A d s events text may
-    (record { played = events; unplayed = []; parts = sym (append-nil events); after = t; adds = h })
-part_bare A d s t events text may (inr h) = begun_part A s events text (inr (h.0, [], h.1, t, h.2))
 
 -- ---- one text after another
 
@@ -297,9 +118,31 @@ part_join A a b x y t u f g = record {
   text_is = ap (λ z. t ++ z) g.text_is ∙ sym (append_assoc t g.decorated g.last);
 }
 
--- text that grew, cut back to where it was
-pub cut_back : (text grown cut : List ℕ) → HasGrown text grown → cut ≡ take (length text) grown → cut ≡ text
-cut_back text grown cut h e = e ∙ ap (take (length text)) h.1 ∙ take-append_seam text h.0
+-- one more event was played, and decorated
+pub answered_more : (A : Decoration) (before s t : FacilityState) (earlier : List Event) (event : Event) (a b text : List ℕ)
+    → HasGrownByAnswer A s (event ∷ []) t a b → HasGrownAfter A t b text → HasAnswered A before earlier s a
+    → HasAnswered A before (earlier ++ event ∷ []) t text
+answered_more A before s t earlier event a b text grown after h =
+    let line : List ℕ = grown.0 ++ after.0 in
+    let parts : text ≡ a ++ line = after.1 ∙ ap (λ z. z ++ after.0) grown.1 ∙ append_assoc a grown.0 after.0 in
+    subst (HasAnswered A before (earlier ++ event ∷ []) t) (sym parts)
+    (answered_join A before s t earlier (event ∷ []) a line h
+    (decorated A s t event grown.0 line grown.2 (after.0, refl, after.2)))
+
+-- it was not, or not decorated
+pub part_begun : (A : Decoration) (before s : FacilityState) (earlier events : List Event) (a last text : List ℕ) → text ≡ a ++ last
+    → IsBegun A s events last → HasAnswered A before earlier s a → HasAnsweredPart A before (earlier ++ events) text
+part_begun A before s earlier events a last text is begun h = record {
+  done = earlier;
+  rest = events;
+  parts = refl;
+  after = s;
+  decorated = a;
+  answered = h;
+  last = last;
+  begun = begun;
+  text_is = is;
+}
 
 -- ---- text that is sent
 

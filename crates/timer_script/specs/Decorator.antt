@@ -19,10 +19,6 @@ pub record IsLawful (Adds : Decoration) : Type 0 where
   pub kept : (outs : List Out) → Adds.Within (lines_of outs) (lines_of outs)
   pub joined : (a b x y : List ℕ) → Adds.Within a x → Adds.Within b y → Adds.Within (a ++ b) (x ++ y)
 
--- nothing may come after an answer
-abbrev pub MayAddNothing : Decoration → Type 0
-MayAddNothing Adds = (s : FacilityState) → Adds.After s []
-
 -- the text grew
 abbrev pub HasGrown : List ℕ → List ℕ → Type 0
 HasGrown old new = (added : List ℕ) × (new ≡ old ++ added)

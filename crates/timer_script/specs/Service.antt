@@ -16,7 +16,7 @@ use Rattle.timer_script.specs.declared.cutter.Cutter.{Cutter}
 use Rattle.timer_script.specs.declared.watched.Watched.{Watched}
 use Rattle.timer_script.specs.Text.{lines_of, end_line}
 use Rattle.timer_script.specs.ScriptRun.{IsAnswer}
-use Rattle.timer_script.specs.Decorator.{Decoration, HasAnsweredWithin, MayAddNothing, AreDecorated}
+use Rattle.timer_script.specs.Decorator.{Decoration, HasAnsweredWithin, AreDecorated}
 use Rattle.timer_script.specs.Cutter.{Passes, AreSoFar, HasPassed, HasSeen, HasSeenPart, HasEnded, IsStoppedAt, HasTakenIn}
 use Rattle.timer_script.specs.Peer.{PeerState, Moment, Came, Went, Flush, Grows}
 
@@ -125,10 +125,6 @@ pub record HasAnsweredPart (Adds : Decoration) (before : FacilityState) (events 
   pub last : List ℕ
   pub begun : IsBegun Adds after rest last
   pub text_is : text ≡ decorated ++ last
-
--- so many lines are served at once: one, or any if nothing may come after an answer
-abbrev pub MayServe : Decoration → List Event → Type 0
-MayServe Adds events = (length events ≤ 1) ⊎ MayAddNothing Adds
 
 -- the end line of a facility
 abbrev pub last_line : FacilityState → List ℕ
