@@ -60,6 +60,7 @@ pub trait Placement {
     /// memory.
     fn push_moves(&self, _text: &mut Vec<u8>, _bucket: usize) -> Result<(), OutOfMemory>
         ensures indented { OnOk result (HasGrownByIndented _text.old.items _text.new.items) }
+        ensures kept { HasGrown _text.old.items _text.new.items }
     {
         Ok(())
     }
@@ -154,7 +155,8 @@ fn push_move(
     naming: Naming,
 ) -> Result<(), OutOfMemory>
     requires { to < length links.now.lists }
-    ensures { OnOk result (HasGrownByEnd text.old.items text.new.items) }
+    ensures ended { OnOk result (HasGrownByEnd text.old.items text.new.items) }
+    ensures kept { HasGrown text.old.items text.new.items }
 {
     text.extend_from_slice(b" from")?;
     push_name(text, from as u64, naming)?;
