@@ -126,26 +126,32 @@ often_passes : {F : Type 0} (S : Server F) (cutter : Cutter) (w v : Watched F) (
     → cutter.on_bad ≡ S.on_bad → (h : HasServedOften S cutter w v p q s turns) → Passes S.on_bad h.came h.events
 often_passes {F} S cutter w v p q s turns is h = (taken_passed S.contents w v cutter S.on_bad is h.came h.events h.taken).passes
 
--- one more turn: a piece was read, of which nothing was taken in
+-- the first bytes of a buffer, of which a slice was written
+front_of : (n len : ℕ) (new rest now : List ℕ) → n ≤ len → n ≤ length new → now ≡ take len (new ++ rest) → take n now ≡ take n new
+front_of n len new rest now a b e = ap (take n) e ∙ take-take n len (new ++ rest) a ∙ take-append-le n new rest b
+
+-- one more turn: bytes were read into a buffer, of which none was taken in
 pub often_read : {E F : Type 0} (S : Server F) (cutter : Cutter) (w v : Watched F) (p q r : PeerState) (s : FacilityState)
-    (turns n : ℕ) (x piece : List ℕ) → cutter.on_bad ≡ S.on_bad → n ≤ length piece → length piece ≤ PIECE → x ≡ take n piece
-    → (h : HasServedOften S cutter w v p q s turns) → Gives {E = E} q (Ok n) piece r → SoFar S (h.came ++ x) h.events p r s
-often_read {E} {F} S cutter w v p q r s turns n x piece is within short same h gives =
-    subst (λ z. SoFar S (h.came ++ z) h.events p r s) (sym same)
-    (so_read {E = E} S.on_bad S.Adds S.before s h.came h.events p q r n piece within short
+    (turns n len : ℕ) (new rest now : List ℕ) → cutter.on_bad ≡ S.on_bad → len ≡ PIECE → length new ≡ len
+    → now ≡ take len (new ++ rest) → (h : HasServedOften S cutter w v p q s turns) → Gives {E = E} q (Ok n) new r
+    → SoFar S (h.came ++ take n now) h.events p r s
+often_read {E} {F} S cutter w v p q r s turns n len new rest now is room all same h gives =
+    let within : n ≤ length new = gives.within.0 in
+    subst (λ z. SoFar S (h.came ++ z) h.events p r s) (sym (front_of n len new rest now (omega arith) within same))
+    (so_read {E = E} S.on_bad S.Adds S.before s h.came h.events p q r n new within (omega arith)
     (often_passes S cutter w v p q s turns is h) h.so gives)
 
--- and it was served
+-- and they were taken in, and answered
 pub often_more : {F : Type 0} (S : Server F) (new : Cutter) (w u : Watched F) (p t : PeerState) (s : FacilityState) (turns n : ℕ)
-    (came x piece : List ℕ) → turns ≤ length came → n ≤ length piece → x ≡ take n piece → (n ≡ 0 → ⊥)
-    → HasServedPiece S (came ++ x) (record { peer = p; faults = w }) new s (record { peer = t; faults = u }) (Ok tt)
+    (came bytes : List ℕ) → turns ≤ length came → n ≤ length bytes → (n ≡ 0 → ⊥)
+    → HasServedPiece S (came ++ take n bytes) (record { peer = p; faults = w }) new s (record { peer = t; faults = u }) (Ok tt)
     → HasServedOften S new w u p t s (turns + 1)
-often_more {F} S new w u p t s turns n came x piece many within same some served = record {
-  came = came ++ x;
+often_more {F} S new w u p t s turns n came bytes many within some served = record {
+  came = came ++ take n bytes;
   events = served.0;
   taken = served.1;
   so = served.2;
-  many = omega (arith, some_count n some, length-append came x, ap length same, length-take-le n piece within);
+  many = omega (arith, some_count n some, length-append came (take n bytes), length-take-le n bytes within);
 }
   where
     some_count : (n : ℕ) → (n ≡ 0 → ⊥) → 1 ≤ n
@@ -186,10 +192,6 @@ often_ended {F} S cutter w v p q s turns is long good h =
       (let l : 2 ^ 64 - 1 ≤ length h.came = omega arith in l),
       good,
     )
-
--- the first bytes of a buffer, of which a slice was written
-pub front_of : (n len : ℕ) (new rest now : List ℕ) → n ≤ len → n ≤ length new → now ≡ take len (new ++ rest) → take n now ≡ take n new
-front_of n len new rest now a b e = ap (take n) e ∙ take-take n len (new ++ rest) a ∙ take-append-le n new rest b
 
 -- ---- how serving ends
 

@@ -8,7 +8,7 @@
 //!     "start 0 1"                                                                   "start 0 1"
 //!     " 3 7\ntikc 3\ntick"  start 0 1 3 7   "bad line 2, column 3: unknown word\n"  "tick"
 //!     " 3\n"                tick 3
-ghost use Rattle.std.specs.Prelude.{◌≡◌, ◌↔◌, ◌+◌, ◌-◌, ◌^◌, ◌<◌, ◌≤◌, ◌++◌, ◌∷◌, [], ℕ, List, length, take, min, true, IfOk, IfErr, OnOk, OnErr};
+ghost use Rattle.std.specs.Prelude.{◌≡◌, ◌↔◌, ◌<◌, ◌≤◌, ◌++◌, ◌∷◌, [], ℕ, List, length, take, true, IfOk, IfErr, OnOk, OnErr};
 ghost use Rattle.timer_facility.specs.declared.event.Event.{Event};
 ghost use Rattle.timer_script.specs.declared.splitter.TheConstants.{MAX_LINE};
 ghost use Rattle.timer_script.specs.Splitter.{HasNoFeed};
@@ -214,36 +214,19 @@ impl Cutter {
         let room = MAX_LINE.saturating_sub(self.held.len());
         self.held.extend_from_slice(&bytes[..len.min(room)])?;
         if bytes[len - 1] == b'\n' {
-            self.end_line()?;
+            sort_line(
+                self.on_bad,
+                &self.held,
+                self.number,
+                &mut self.events,
+                &mut self.reports,
+            )?;
+            self.held.clear();
+            self.number = self.number.saturating_add(1);
         } else if self.is_too_long() {
             return Err(ScriptFault::Bad { line: self.number });
         }
         Ok(len)
-    }
-
-    /// Ends the line whose bytes are held.
-    fn end_line(&mut self) -> Result<(), ScriptFault>
-        ensures ended { OnOk result ((front : List ℕ) → HasNoFeed front
-            → self.old.held.items ≡ take MAX_LINE (front ++ 10 ∷ [])
-            → HasEndedLine self.old.on_bad (front ++ 10 ∷ []) self.old.number self.old.events.items
-            self.new.events.items self.old.reports.items self.new.reports.items) }
-        ensures stopped { IfErr result (λ fault. StopsLine fault self.old.on_bad self.old.number
-            self.old.held.items self.old.events.items self.new.events.items) }
-        ensures held { OnOk result (self.new.held.items ≡ []) }
-        ensures number { OnOk result (self.new.number ≡ min (self.old.number + 1) (2 ^ 64 - 1)) }
-        ensures kept { self.new.on_bad ≡ self.old.on_bad }
-        ensures clean { self.new.clean ≡ self.old.clean }
-    {
-        sort_line(
-            self.on_bad,
-            &self.held,
-            self.number,
-            &mut self.events,
-            &mut self.reports,
-        )?;
-        self.held.clear();
-        self.number = self.number.saturating_add(1);
-        Ok(())
     }
 
     /// Whether so many bytes are held that the line is bad, and ends the stream.

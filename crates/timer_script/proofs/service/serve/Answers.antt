@@ -1,10 +1,9 @@
-use Rattle.std.proofs.Common.{◌≡◌, ◌≤◌, ◌∙◌, ◌||◌, true, length, vec_len, drop, ap, sym, subst, arith, rules}
+use Rattle.std.proofs.Common.{◌∙◌, ◌||◌, true, ap, sym, subst, arith, rules}
 use Rattle.std.specs.Prelude.{Ok, Err}
 use Rattle.std.specs.Io.KnownBytes.{IsAtEnd}
-use Rattle.timer_script.specs.declared.service.TheConstants.{PIECE}
 use Rattle.timer_script.specs.Service.{server_with, HasServed}
 use Rattle.timer_script.proofs.Results.{passed_on}
-use Rattle.timer_script.proofs.ServiceLemmas.{served_nothing, often_none, often_read, often_more, often_failed, often_ended, front_of}
+use Rattle.timer_script.proofs.ServiceLemmas.{served_nothing, often_none, often_read, often_more, often_failed, often_ended}
 use Rattle.timer_script.proofs.service.serve.Goals as goal
 
 -- nothing was read or written
@@ -31,17 +30,12 @@ returns-in_default-read g c =
 pub returns-in_err-serve_piece : goal.returns-in_err-serve_piece
 returns-in_err-serve_piece g c =
     let i = c.loop-turned.invariant in
-    let n = c.in-Ok-read.n in
-    let piece = c.read.new.piece in
-    let room : vec_len c.loop-turned.piece ≡ PIECE = i.room in
-    let within : n ≤ length piece = search rules in
-    let short : length piece ≤ PIECE = search rules in
-    let same = front_of n (vec_len c.loop-turned.piece) piece (drop (length piece) c.loop-turned.piece.items) c.deref.result.now (omega arith)
-    within c.deref.ensures.value in
     let h = i.often in
+    let read = often_read _ c.loop-turned.cutter _ _ _ _ _ _ _ c.in-Ok-read.n _ c.read.new.piece _ c.deref.result.now i.on_bad i.room
+    (search rules) c.deref.ensures.value h c.in-Ok-read.ensures in
     subst (HasServed _ _ _) (sym (passed_on c.from_residual.result c.in_err-serve_piece.field-0.0 c.from_residual.ensures.1))
     (c.in_err-serve_piece.ensures.served c.args.on_bad c.args.facility.state (g.P.Peer.state c.args.peer.now) c.args.faults.now h.came h.events
-    i.on_bad h.taken (often_read _ c.loop-turned.cutter _ _ _ _ _ _ _ n _ piece i.on_bad within short same h c.in-Ok-read.ensures))
+    i.on_bad h.taken read)
 
 pub end_stream-requires-clause-ended : goal.end_stream-requires-clause-ended
 end_stream-requires-clause-ended g c =
@@ -53,36 +47,24 @@ returns-then-n-eq0 g c =
     let before = c.args.facility.state in
     let p = g.P.Peer.state c.args.peer.now in
     let w = c.args.faults.now in
-    let n = c.in-Ok-read.n in
-    let piece = c.read.new.piece in
-    let room : vec_len c.loop-turned.piece ≡ PIECE = i.room in
-    let within : n ≤ length piece = search rules in
-    let short : length piece ≤ PIECE = search rules in
-    let same = front_of n (vec_len c.loop-turned.piece) piece (drop (length piece) c.loop-turned.piece.items) c.deref.result.now (omega arith)
-    within c.deref.ensures.value in
     let h = i.often in
-    let served = c.in_ok-serve_piece.ensures.served c.args.on_bad before p w h.came h.events i.on_bad h.taken
-    (often_read _ c.loop-turned.cutter _ _ _ _ _ _ _ n _ piece i.on_bad within short same h c.in-Ok-read.ensures) in
+    let read = often_read _ c.loop-turned.cutter _ _ _ _ _ _ _ c.in-Ok-read.n _ c.read.new.piece _ c.deref.result.now i.on_bad i.room
+    (search rules) c.deref.ensures.value h c.in-Ok-read.ensures in
+    let served = c.in_ok-serve_piece.ensures.served c.args.on_bad before p w h.came h.events i.on_bad h.taken read in
     c.end_stream.ensures c.args.on_bad before p w _ served.0 (c.serve_piece.ensures.kept ∙ i.on_bad) c.now-now.ensures.sound served.1 served.2
 
 pub loop-turned-preserved : goal.loop-turned-preserved
 loop-turned-preserved g c =
     let i = c.loop-turned.invariant in
-    let n = c.in-Ok-read.n in
-    let piece = c.read.new.piece in
-    let room : vec_len c.loop-turned.piece ≡ PIECE = i.room in
-    let within : n ≤ length piece = search rules in
-    let short : length piece ≤ PIECE = search rules in
-    let same = front_of n (vec_len c.loop-turned.piece) piece (drop (length piece) c.loop-turned.piece.items) c.deref.result.now (omega arith)
-    within c.deref.ensures.value in
     let h = i.often in
+    let read = often_read _ c.loop-turned.cutter _ _ _ _ _ _ _ c.in-Ok-read.n _ c.read.new.piece _ c.deref.result.now i.on_bad i.room
+    (search rules) c.deref.ensures.value h c.in-Ok-read.ensures in
     let served = c.in_ok-serve_piece.ensures.served c.args.on_bad c.args.facility.state (g.P.Peer.state c.args.peer.now) c.args.faults.now
-    h.came h.events i.on_bad h.taken
-    (often_read _ c.loop-turned.cutter _ _ _ _ _ _ _ n _ piece i.on_bad within short same h c.in-Ok-read.ensures) in
+    h.came h.events i.on_bad h.taken read in
     record {
       on_bad = c.serve_piece.ensures.kept ∙ i.on_bad;
-      often = often_more _ c.serve_piece.new.cutter _ _ _ _ c.serve_piece.new.session.player _ n h.came _ piece h.many within same
-          c.if-n-eq0.false served;
+      often = often_more _ c.serve_piece.new.cutter _ _ _ _ c.serve_piece.new.session.player _ c.in-Ok-read.n h.came
+          c.deref.result.now h.many (search rules) c.if-n-eq0.false served;
       good = c.in_ok-serve_piece.ensures.good;
       room = search rules;
     }

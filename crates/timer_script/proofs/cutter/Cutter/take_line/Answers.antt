@@ -1,27 +1,28 @@
-use Rattle.std.proofs.Common.{rules, ◌++◌, ◌-◌, take, refl}
+use Rattle.std.proofs.Common.{rules, ◌++◌, ◌-◌, ◌∙◌, take, refl}
 use Rattle.timer_script.proofs.Results.{handed_on, true_false}
 use Rattle.timer_script.proofs.CutterLines.{held_sorted, line_front, line_sorted, line_stops, long_stops}
 use Rattle.timer_script.proofs.SplitterLemmas.{no_feed-append}
 use Rattle.timer_script.proofs.cutter.Cutter.take_line.Goals as goal
 
-pub returns-in_ok-end_line-clause-cut : goal.returns-in_ok-end_line-clause-cut
-returns-in_ok-end_line-clause-cut c = λ came events bad h.
+pub returns-in_ok-sort_line-clause-cut : goal.returns-in_ok-sort_line-clause-cut
+returns-in_ok-sort_line-clause-cut c = λ came events bad h.
     let l = c.line_len-len.ensures in
     let n = c.line_len-len.result in
     let bytes = c.args.bytes.now in
     let p = h.sorted.passes in
-    line_sorted c.args.self.now c.end_line.new.self came bytes n events bad l.some l.within (search rules) (search rules)
-    c.in_ok-end_line.ensures.held c.in_ok-end_line.ensures.number h
-    (c.in_ok-end_line.ensures.ended (p.left ++ take (n - 1) bytes) (no_feed-append p.left (take (n - 1) bytes) p.cut.unended l.no_feed)
-    (line_front p.left c.args.self.now.held.items bytes _ n h.sorted.held l.some l.within (search rules) (search rules)))
+    let held = c.extend_from_slice.new.self.items in
+    let whole = line_front p.left c.args.self.now.held.items bytes held n h.sorted.held l.some l.within (search rules) (search rules) in
+    line_sorted c.args.self.now _ came bytes n events bad l.some l.within (search rules) refl (search rules) (search rules) h
+    (c.in_ok-sort_line.ensures.ended (p.left ++ take (n - 1) bytes)
+    (no_feed-append p.left (take (n - 1) bytes) p.cut.unended l.no_feed) (c.deref.ensures.value ∙ whole))
 
-pub returns-in_err-end_line-clause-stopped : goal.returns-in_err-end_line-clause-stopped
-returns-in_err-end_line-clause-stopped c =
+pub returns-in_err-sort_line-clause-stopped : goal.returns-in_err-sort_line-clause-stopped
+returns-in_err-sort_line-clause-stopped c =
     let l = c.line_len-len.ensures in
-    let fault = c.in_err-end_line.field-0.0 in
-    handed_on _ c.from_residual-in_err-end_line.result fault c.from_residual-in_err-end_line.ensures.1
-    (λ came events bad. line_stops fault c.args.self.now c.end_line.new.self c.extend_from_slice.new.self.items came c.args.bytes.now
-    c.line_len-len.result events bad l.some l.within l.no_feed (search rules) (search rules) c.in_err-end_line.ensures.stopped)
+    let fault = c.in_err-sort_line.field-0.0 in
+    handed_on _ c.from_residual-in_err-sort_line.result fault c.from_residual-in_err-sort_line.ensures.1
+    (λ came events bad. line_stops fault c.args.self.now (record c.args.self.now { events = c.sort_line.new.events }) c.deref.result.now came
+    c.args.bytes.now c.line_len-len.result events bad l.some l.within l.no_feed (search rules) (search rules) c.in_err-sort_line.ensures.stopped)
 
 pub returns-then-is_too_long-clause-stopped : goal.returns-then-is_too_long-clause-stopped
 returns-then-is_too_long-clause-stopped c = λ came events bad.
