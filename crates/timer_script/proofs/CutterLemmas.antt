@@ -1,6 +1,5 @@
 -- What passes of the bytes of a stream, piece after piece.
-use Rattle.std.proofs.Common.{◌≡◌, ℕ, ◌+◌, ◌-◌, ◌^◌, ◌≤◌, Bool, true, false, List, [], ◌∷◌, ◌++◌, length, take, refl, sym, ap, subst, ◌∙◌, arith, inl, inr, lit≤, append_assoc, append-nil, length-append}
-use Rattle.std.specs.Prelude.{◌↔◌, Option, None, Some, min}
+use Rattle.std.proofs.Common.{◌≡◌, ℕ, ◌+◌, ◌-◌, ◌^◌, ◌≤◌, Bool, true, false, List, [], ◌∷◌, ◌++◌, length, take, refl, sym, ap, subst, ◌∙◌, arith, inl, inr, lit≤, append_assoc, append-nil, length-append, ◌↔◌, Option, None, Some, min}
 use Rattle.std.specs.List.{flat_map, AllByRecursion}
 use Rattle.std.proofs.lemmas.List.{take-append-le, take_all}
 use Rattle.std.proofs.Math.Seq.{take-append_seam, take-append-add}
@@ -8,14 +7,9 @@ use Rattle.std.proofs.lemmas.Grind.{flat_map-append}
 use Rattle.std.proofs.KnownBytes.{Appends-nil, Appends-trans}
 use Rattle.std.specs.Io.KnownBytes.{Appends}
 use Rattle.timer_base.specs.OrderLaws.{either}
-use Rattle.timer_facility.specs.declared.event.Event.{Event}
-use Rattle.timer_script.specs.declared.cutter.OnBadLine.{OnBadLine}
+use Rattle.timer_script.specs.Types.{Event, OnBadLine, Cutter, Watched, LineFault, MAX_LINE}
 use Rattle.timer_script.specs.declared.cutter.OnBadLine.TheVariants.{Stop, Report}
-use Rattle.timer_script.specs.declared.cutter.Cutter.{Cutter}
-use Rattle.timer_script.specs.declared.watched.Watched.{Watched}
-use Rattle.timer_script.specs.declared.line_fault.LineFault.{LineFault}
 use Rattle.timer_script.specs.declared.line_fault.LineReason.TheVariants.{NoLineEnd}
-use Rattle.timer_script.specs.declared.splitter.TheConstants.{MAX_LINE}
 use Rattle.timer_script.specs.Watched.{inner_of, has_failed}
 use Rattle.timer_script.specs.Script.{IsInRange, spelling, BeginsNoLine}
 use Rattle.timer_script.specs.Diagnosis.{IsFaultOf}

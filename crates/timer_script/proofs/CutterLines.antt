@@ -1,22 +1,15 @@
 -- The lines of an input, one after another, as a cutter takes them.
-use Rattle.std.proofs.Common.{◌≡◌, lit≤, zero, suc, ℕ, ◌+◌, ◌-◌, ◌^◌, ◌<◌, ◌≤◌, List, [], ◌∷◌, ◌++◌, length, get_or, take, drop, Some, None, refl, sym, ap, subst, ◌∙◌, arith, append_assoc, append-nil, length-append, take-append-drop, take_all}
-use Rattle.std.specs.Prelude.{min}
+use Rattle.std.proofs.Common.{◌≡◌, lit≤, zero, suc, ℕ, ◌+◌, ◌-◌, ◌^◌, ◌<◌, ◌≤◌, List, [], ◌∷◌, ◌++◌, length, get_or, take, drop, Some, None, refl, sym, ap, subst, ◌∙◌, arith, append_assoc, append-nil, length-append, take-append-drop, take_all, min, take-add}
 use Rattle.std.specs.List.{flat_map, enumerate_from, AllByRecursion}
 use Rattle.std.proofs.lemmas.Grind.{flat_map-append}
 use Rattle.std.proofs.lemmas.List.{take_rest, length-take, nil_from_length}
-use Rattle.std.proofs.Math.Seq.{take-add}
-use Rattle.timer_facility.specs.declared.event.Event.{Event}
-use Rattle.timer_script.specs.declared.splitter.TheConstants.{MAX_LINE}
+use Rattle.timer_script.specs.Types.{Event, MAX_LINE, LineFault, OnBadLine, Cutter, ScriptFault}
 use Rattle.timer_script.specs.Splitter.{HasNoFeed}
 use Rattle.timer_script.specs.Script.{IsInRange, line, spelling, BeginsNoLine}
 use Rattle.timer_script.specs.Lines.{line_at}
 use Rattle.timer_script.specs.Diagnosis.{IsFaultOf}
-use Rattle.timer_script.specs.declared.line_fault.LineFault.{LineFault}
-use Rattle.timer_script.specs.declared.cutter.OnBadLine.{OnBadLine}
 use Rattle.timer_script.specs.declared.cutter.OnBadLine.TheVariants.{Stop, Report}
-use Rattle.timer_script.specs.declared.cutter.Cutter.{Cutter}
 use Rattle.timer_script.specs.Cutter.{Line, Good, Bad, bytes_of, IsGoodOrBad, events_of, number_next, Complaint, complaint_of, bad_among, IsLastBad, complaint_line, complaints, Passes, IsStoppedAt, HasEndedLine, StopsLine, HasSorted, HasSortedSince, StopsAt}
-use Rattle.timer_script.specs.declared.fault.ScriptFault.{ScriptFault}
 use Rattle.timer_script.specs.declared.fault.ScriptFault.TheVariants as faults
 use Rattle.timer_script.proofs.LineLemmas.{line_sound}
 use Rattle.timer_script.proofs.DiagnosisLemmas.{unread_no_line}

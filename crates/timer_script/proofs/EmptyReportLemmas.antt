@@ -1,8 +1,7 @@
 -- If no line is bad, the bytes are a script, and a script has no bad line.
 use Rattle.std.proofs.Common.{◌≡◌, ◌==◌, ◌+◌, Bool, true, false, if◌then◌else◌, ℕ, List, [], ◌∷◌, ◌++◌, Option, Some, None, refl, sym, ap, subst, ◌∙◌, arith, append_assoc}
 use Rattle.std.specs.List.{AllByRecursion}
-use Rattle.timer_facility.specs.declared.event.Event.{Event}
-use Rattle.timer_script.specs.declared.line_fault.LineFault.{LineFault}
+use Rattle.timer_script.specs.Types.{Event, LineFault}
 use Rattle.timer_script.specs.Script.{IsInRange, line, spelling, IsScript}
 use Rattle.timer_script.specs.ScriptReport.{push_front, cut_lines, AreVerdicts, IsReport}
 use Rattle.timer_script.proofs.SplitterLemmas.{IsFed, line_fed}

@@ -1,19 +1,12 @@
 -- What serving did, turn after turn, and how it ends.
-use Rattle.std.proofs.Common.{◌≡◌, zero, suc, ℕ, ◌+◌, ◌-◌, ◌^◌, ◌≤◌, Bool, true, false, List, [], ◌++◌, length, take, drop, inl, inr, refl, sym, ap, subst, ◌∙◌, arith, append_assoc, append-nil, length-append, take-append-drop}
-use Rattle.std.specs.Prelude.{Option, Result, Ok, Err, Some}
+use Rattle.std.proofs.Common.{◌≡◌, zero, suc, ℕ, ◌+◌, ◌-◌, ◌^◌, ◌≤◌, Bool, true, false, List, [], ◌++◌, length, take, drop, inl, inr, refl, sym, ap, subst, ◌∙◌, arith, append_assoc, append-nil, length-append, take-append-drop, Option, Result, Ok, Err, Some}
 use Rattle.std.specs.Io.KnownBytes.{IsAtEnd}
 use Rattle.std.proofs.lemmas.List.{length-take-le, take-append-le, take-take}
-use Rattle.timer_facility.specs.declared.event.Event.{Event}
+use Rattle.timer_script.specs.Types.{Event, TurnFault, ServeFault, PIECE, OnBadLine, Cutter, Watched}
 use Rattle.timer_facility.specs.State.{FacilityState, IsSound}
 use Rattle.timer_facility.proofs.PlayedLemmas.{IsPlayed-run}
-use Rattle.timer_script.specs.declared.fault.TurnFault.{TurnFault}
 use Rattle.timer_script.specs.declared.fault.TurnFault.TheVariants as turns
-use Rattle.timer_script.specs.declared.fault.ServeFault.{ServeFault}
 use Rattle.timer_script.specs.declared.fault.ServeFault.TheVariants as faults
-use Rattle.timer_script.specs.declared.service.TheConstants.{PIECE}
-use Rattle.timer_script.specs.declared.cutter.OnBadLine.{OnBadLine}
-use Rattle.timer_script.specs.declared.cutter.Cutter.{Cutter}
-use Rattle.timer_script.specs.declared.watched.Watched.{Watched}
 use Rattle.timer_script.specs.Fault.{serve_fault}
 use Rattle.timer_script.specs.Text.{lines_of}
 use Rattle.timer_script.specs.Cutter.{Passes, HasEnded, HasStopped, HasTakenIn, TakesPiece}

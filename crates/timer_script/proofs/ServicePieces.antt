@@ -1,17 +1,11 @@
 -- The answers to some events, and what is added to them: played and written.
-use Rattle.std.proofs.Common.{◌≡◌, ℕ, ◌≤◌, true, false, List, [], ◌∷◌, ◌++◌, length, take, drop, inl, inr, refl, sym, ap, subst, ◌∙◌, arith, append_assoc, append-nil, take-append-drop}
-use Rattle.std.specs.Prelude.{Bool, Result, Ok, Err, OnOk, OnErr}
+use Rattle.std.proofs.Common.{◌≡◌, ℕ, ◌≤◌, true, false, List, [], ◌∷◌, ◌++◌, length, take, drop, inl, inr, refl, sym, ap, subst, ◌∙◌, arith, append_assoc, append-nil, take-append-drop, Bool, Result, Ok, Err, OnOk, OnErr}
 use Rattle.std.proofs.lemmas.Grind.{flat_map-append}
-use Rattle.timer_base.specs.declared.fault.OutOfMemory.{OutOfMemory}
-use Rattle.timer_facility.specs.declared.event.Event.{Event}
-use Rattle.timer_facility.specs.State.{FacilityState}
+use Rattle.timer_script.specs.Types.{OutOfMemory, Event, FacilityState, TurnFault, PIECE, OnBadLine}
 use Rattle.timer_facility.proofs.PlayedLemmas.{IsRun-none, IsRun-join}
-use Rattle.timer_script.specs.declared.fault.TurnFault.{TurnFault}
 use Rattle.timer_script.specs.declared.fault.TurnFault.TheVariants as turns
 use Rattle.timer_script.specs.Text.{out_line, lines_of}
 use Rattle.timer_script.specs.Decorator.{Decoration, HasGrownAfter, HasAnsweredWithin, AreDecorated}
-use Rattle.timer_script.specs.declared.service.TheConstants.{PIECE}
-use Rattle.timer_script.specs.declared.cutter.OnBadLine.{OnBadLine}
 use Rattle.timer_script.specs.Cutter.{Passes}
 use Rattle.timer_script.specs.Peer.{PeerState, Gives}
 use Rattle.timer_script.specs.Service.{AreGood, HasWritten, HasSent, HasSentPart, is_flushed, HasAnswered, IsBegun, HasAnsweredPart, IsAnsweredWith, HasAnsweredSoFar, HasAnsweredSome, AnswersMore, HasStoppedTurn, StopsTurn}

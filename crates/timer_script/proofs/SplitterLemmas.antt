@@ -3,11 +3,8 @@ use Rattle.std.proofs.Common.{◌==◌, ◌&&◌, not, Bool, true, false, cond, 
 use Rattle.std.specs.Fmt.{digits, digits_onto, digit_glyph}
 use Rattle.std.proofs.lemmas.Fmt.{length-decimal-le}
 use Rattle.std.proofs.lemmas.List.{take_more}
-use Rattle.timer_base.specs.declared.limits.TheConstants.{LAST}
+use Rattle.timer_script.specs.Types.{LAST, MAX_LINE, MAX_TICKS, Event}
 use Rattle.timer_base.specs.OrderLaws.{either}
-use Rattle.timer_script.specs.declared.splitter.TheConstants.{MAX_LINE}
-use Rattle.timer_script.specs.declared.lines.TheConstants.{MAX_TICKS}
-use Rattle.timer_facility.specs.declared.event.Event.{Event}
 use Rattle.timer_facility.specs.declared.event.Event.TheVariants.{Start, Stop, Restart, Ticks, Close}
 use Rattle.timer_script.specs.Script.{IsInRange, line, BeginsNoLine}
 use Rattle.timer_script.specs.Splitter.{HasNoFeed}

@@ -1,9 +1,7 @@
 -- The text that is written for lines: the answer to each, and what a decorator adds to it.
 use Rattle.std.specs.Prelude.{◌≡◌, ℕ, List, [], ◌∷◌, ◌++◌, refl}
 use Rattle.std.proofs.Common.{ap, ◌∙◌}
-use Rattle.timer_facility.specs.declared.event.Event.{Event}
-use Rattle.timer_facility.specs.declared.event.Out.{Out}
-use Rattle.timer_facility.specs.State.{FacilityState}
+use Rattle.timer_script.specs.Types.{Event, Out, FacilityState}
 use Rattle.timer_facility.specs.Played.{IsRun}
 use Rattle.timer_script.specs.Text.{lines_of}
 

@@ -1,3 +1,4 @@
+pub mod Types
 pub mod Lines
 pub mod Script
 pub mod Text

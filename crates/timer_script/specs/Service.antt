@@ -1,19 +1,11 @@
 -- A server and its peer: what was played, what went to the peer, and when.
 use Rattle.std.specs.Prelude.{◌≡◌, ℕ, ◌≤◌, ◌⊎◌, ◌-◌, ◌^◌, Bool, true, false, List, [], ◌∷◌, ◌++◌, length, take, Option, Result, Ok, Err}
 use Rattle.std.specs.Io.KnownBytes.{Consumes, Appends, IsAtEnd}
-use Rattle.timer_facility.specs.declared.event.Event.{Event}
-use Rattle.timer_facility.specs.declared.event.Out.{Out}
-use Rattle.timer_facility.specs.State.{FacilityState}
+use Rattle.timer_script.specs.Types.{Event, Out, FacilityState, TurnFault, ServeFault, PIECE, OnBadLine, Cutter, Watched}
 use Rattle.timer_facility.specs.Played.{IsRun}
-use Rattle.timer_script.specs.declared.fault.TurnFault.{TurnFault}
 use Rattle.timer_script.specs.declared.fault.TurnFault.TheVariants as turns
-use Rattle.timer_script.specs.declared.fault.ServeFault.{ServeFault}
 use Rattle.timer_script.specs.declared.fault.ServeFault.TheVariants as faults
-use Rattle.timer_script.specs.declared.service.TheConstants.{PIECE}
-use Rattle.timer_script.specs.declared.cutter.OnBadLine.{OnBadLine}
 use Rattle.timer_script.specs.declared.cutter.OnBadLine.TheVariants.{Stop}
-use Rattle.timer_script.specs.declared.cutter.Cutter.{Cutter}
-use Rattle.timer_script.specs.declared.watched.Watched.{Watched}
 use Rattle.timer_script.specs.Text.{lines_of, end_line}
 use Rattle.timer_script.specs.ScriptRun.{IsAnswer}
 use Rattle.timer_script.specs.Decorator.{Decoration, HasAnsweredWithin, AreDecorated}

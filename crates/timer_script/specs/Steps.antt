@@ -1,7 +1,6 @@
 -- Text that grows by the answer to ticks, which may be played in steps.
 use Rattle.std.specs.Prelude.{◌≡◌, ◌++◌, List, ℕ}
-use Rattle.timer_facility.specs.declared.event.Event.{Event}
-use Rattle.timer_facility.specs.State.{FacilityState}
+use Rattle.timer_script.specs.Types.{Event, FacilityState}
 use Rattle.timer_script.specs.Decorator.{Decoration, HasAnsweredWithin}
 
 -- these events were played, and the text grew by the answer to them, with what may stand within it

@@ -9,8 +9,7 @@
 //!     " 3 7\ntikc 3\ntick"  start 0 1 3 7   "bad line 2, column 3: unknown word\n"  "tick"
 //!     " 3\n"                tick 3
 ghost use Rattle.std.specs.Prelude.{◌≡◌, ◌↔◌, ◌<◌, ◌≤◌, ◌++◌, ◌∷◌, [], ℕ, List, length, take, true, IfOk, IfErr, OnOk, OnErr};
-ghost use Rattle.timer_facility.specs.declared.event.Event.{Event};
-ghost use Rattle.timer_script.specs.declared.splitter.TheConstants.{MAX_LINE};
+ghost use Rattle.timer_script.specs.Types.{Event, MAX_LINE};
 ghost use Rattle.timer_script.specs.Splitter.{HasNoFeed};
 ghost use Rattle.timer_script.specs.Cutter.{Complaint, complaint_line, HasEndedLine, StopsLine, HasSorted, HasSortedSince, StopsAt, HasReported, TakesPiece, TakesEnd};
 

@@ -5,10 +5,8 @@
 //! makes events of the bytes: a bad line ends the stream, or is reported to a second writer.
 ghost use Rattle.std.specs.Prelude.{◌≡◌, ◌++◌, ◌∷◌, [], ℕ, List, false, IfErr, OnErr, OnOk};
 ghost use Rattle.std.specs.Io.KnownBytes.{IsAtEnd};
-ghost use Rattle.timer_facility.specs.declared.event.Event.{Event};
+ghost use Rattle.timer_script.specs.Types.{Event, OnBadLine, Watched};
 ghost use Rattle.timer_facility.specs.State.{FacilityState, IsSound};
-ghost use Rattle.timer_script.specs.declared.cutter.OnBadLine.{OnBadLine};
-ghost use Rattle.timer_script.specs.declared.watched.Watched.{Watched};
 ghost use Rattle.timer_script.specs.Peer.{PeerState};
 ghost use Rattle.timer_script.specs.Steps.{HasGrownByAnswer};
 ghost use Rattle.timer_script.specs.Cutter.{HasTakenIn};

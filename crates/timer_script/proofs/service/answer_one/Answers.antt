@@ -1,6 +1,5 @@
 use Rattle.std.proofs.Common.{List, [], ◌∷◌, ◌++◌, ◌∙◌, inl, inr, refl, sym, subst, append-nil, rules}
-use Rattle.timer_facility.specs.declared.event.Event.{Event}
-use Rattle.timer_facility.specs.State.{FacilityState}
+use Rattle.timer_script.specs.Types.{Event, FacilityState}
 use Rattle.timer_script.specs.Decorator.{HasGrownAfter}
 use Rattle.timer_script.specs.Service.{HasAnswered, HasAnsweredPart}
 use Rattle.timer_script.proofs.Results.{on_err}

@@ -1,5 +1,4 @@
-use Rattle.std.proofs.Common.{◌≡◌, [], ◌++◌, true, refl, subst}
-use Rattle.std.specs.Prelude.{◌↔◌}
+use Rattle.std.proofs.Common.{◌≡◌, [], ◌++◌, true, refl, subst, ◌↔◌}
 use Rattle.timer_script.specs.Cutter.{HasReported, StopsAt}
 use Rattle.timer_script.proofs.CutterLemmas.{taken_more}
 use Rattle.timer_script.proofs.cutter.Cutter.take_in.Goals as goal
