@@ -1,6 +1,8 @@
 -- The lines that a decorator adds are those with a mark.
 use Rattle.std.proofs.Common.{ℕ, List, [], ◌∷◌, ◌++◌, decimal, codes, refl, sym, subst, ◌∙◌, append-nil, Option, None, Some}
-use Rattle.timer_script.specs.Types.{Event, Out, FacilityState}
+use Rattle.timer_facility.specs.declared.event.Event.{Event}
+use Rattle.timer_facility.specs.declared.event.Out.{Out}
+use Rattle.timer_facility.specs.State.{FacilityState}
 use Rattle.timer_script.specs.Text.{lines_of}
 use Rattle.timer_script.specs.Splitter.{HasNoFeed}
 use Rattle.timer_script.specs.Service.{last_line}

@@ -1,6 +1,7 @@
 -- The options of `play`, `serve` and `show`, and when they are refused.
 use Rattle.std.specs.Prelude.{◌≡◌, ℕ, ◌<◌, ◌≤◌, ◌⊎◌, List, codes, None, Some}
-use Rattle.timer_script.specs.Types.{LAST, Config}
+use Rattle.timer_base.specs.declared.limits.TheConstants.{LAST}
+use Rattle.timer_facility.specs.declared.config.Config.{Config}
 use Rattle.timer_facility.specs.Config.{config_fault}
 use Rattle.timer_wheels.specs.declared.table.TheConstants.{LAST_OF_CLOCK}
 use Rattle.timer_wheels.specs.declared.table.Table.TheVariants as table

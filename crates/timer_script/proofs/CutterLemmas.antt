@@ -1,7 +1,7 @@
 -- What passes of the bytes of a stream, piece after piece.
-use Rattle.std.proofs.Common.{◌≡◌, ℕ, ◌+◌, ◌-◌, ◌^◌, ◌≤◌, Bool, true, false, List, [], ◌∷◌, ◌++◌, length, take, refl, sym, ap, subst, ◌∙◌, arith, inl, inr, lit≤, append_assoc, append-nil, length-append, ◌↔◌, Option, None, Some, min}
+use Rattle.std.proofs.Common.{◌≡◌, ℕ, ◌+◌, ◌-◌, ◌≤◌, Bool, true, false, List, [], ◌∷◌, ◌++◌, length, take, refl, sym, ap, subst, ◌∙◌, arith, inl, inr, lit≤, append-nil, length-append, ◌↔◌, Option, None, Some}
 use Rattle.std.specs.List.{flat_map, AllByRecursion}
-use Rattle.std.proofs.lemmas.List.{take-append-le, take_all}
+use Rattle.std.proofs.lemmas.List.{take-append-le, take_all, nil_from_length}
 use Rattle.std.proofs.Math.Seq.{take-append_seam, take-append-add}
 use Rattle.std.proofs.lemmas.Grind.{flat_map-append}
 use Rattle.std.proofs.KnownBytes.{Appends-nil, Appends-trans}
@@ -11,9 +11,9 @@ use Rattle.timer_script.specs.Types.{Event, OnBadLine, Cutter, Watched, LineFaul
 use Rattle.timer_script.specs.declared.cutter.OnBadLine.TheVariants.{Stop, Report}
 use Rattle.timer_script.specs.declared.line_fault.LineReason.TheVariants.{NoLineEnd}
 use Rattle.timer_script.specs.Watched.{inner_of, has_failed}
-use Rattle.timer_script.specs.Script.{IsInRange, spelling, BeginsNoLine}
+use Rattle.timer_script.specs.Script.{IsInRange, spelling}
 use Rattle.timer_script.specs.Diagnosis.{IsFaultOf}
-use Rattle.timer_script.specs.Cutter.{Line, bytes_of, number_next, Complaint, bad_among, IsLastBad, complaint_line, complaints, HasSorted, HasSortedSince, HasReported, AreSoFar, AreFirst, HasPassed, HasSeen, HasSeenPart, HasEnded, HasTakenIn, HasStopped, TakesPiece}
+use Rattle.timer_script.specs.Cutter.{bytes_of, number_next, Complaint, bad_among, IsLastBad, complaint_line, complaints, HasSortedSince, HasReported, AreSoFar, AreFirst, HasPassed, HasSeen, HasSeenPart, HasEnded, HasTakenIn, HasStopped, TakesPiece}
 use Rattle.timer_script.proofs.Results.{true_false}
 use Rattle.timer_script.proofs.SplitterLemmas.{no_feed_no_line}
 use Rattle.timer_script.proofs.CutterLines.{stop_report, good_script, nil_left, all_good, some_left, none_left, last_some, stopped_at, sorted_as}
@@ -61,8 +61,7 @@ no_complaint [] e = refl
 no_complaint (x ∷ xs) e = absurd cc
 
 nil_right : (xs ys : List Complaint) → xs ++ ys ≡ [] → ys ≡ []
-nil_right [] ys e = e
-nil_right (x ∷ xs) ys e = absurd cc
+nil_right xs ys e = nil_from_length ys (omega (arith, ap length e, length-append xs ys))
 
 pub passed_none : {F : Type 0} (o : OnBadLine) (contents : F → Option (List ℕ)) (w : Watched F) → HasPassed o AreSoFar contents w w [] []
 passed_none o contents w = record {
@@ -157,10 +156,6 @@ ended_stopped {F} contents w v cutter came events h some stop =
           (some_left MAX_LINE cutter.held.items q.left h.sorted.held some) (no_feed_no_line q.left q.cut.unended) h.sorted.counted;
     }
 
-some_complaint : (xs : List Complaint) (c : Complaint) → xs ++ c ∷ [] ≡ [] → ⊥
-some_complaint [] c e = cc
-some_complaint (x ∷ xs) c e = cc
-
 -- it is reported
 pub ended_bad : {F : Type 0} (contents : F → Option (List ℕ)) (w u v : Watched F) (cutter : Cutter) (fault : LineFault)
     (came : List ℕ) (events : List Event) (said : List ℕ) → HasTakenIn cutter contents w u came events
@@ -181,7 +176,7 @@ ended_bad {F} contents w u v cutter fault came events said h some report wrong i
           subst (λ m. IsLastBad m q.left last) h.sorted.counted
               (last_some cutter.number fault q.left left (subst (IsFaultOf fault) h.sorted.held wrong)),
           ap (λ t. t ++ last) h.sorted.bad_is,
-          (λ e. absurd cc, λ e. absurd (some_complaint h.bad (cutter.number, fault) e)),
+          (λ e. absurd cc, λ e. absurd (let none : last ≡ [] = nil_right h.bad last e in cc)),
         );
         reported = subst (λ t. HasReported contents w v t)
             (ap (λ t. complaints h.bad ++ t) said_is ∙ sym (flat_map-append complaint_line h.bad last))

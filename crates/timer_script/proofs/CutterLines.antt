@@ -68,8 +68,7 @@ all_good xs e = all_from 1 xs e
 -- ---- the end of a line
 
 pub nil_left : {A : Type 0} (xs ys : List A) → xs ++ ys ≡ [] → xs ≡ []
-nil_left [] ys e = refl
-nil_left (x ∷ xs) ys e = absurd cc
+nil_left xs ys e = nil_from_length xs (omega (arith, ap length e, length-append xs ys))
 
 -- what can be read of the front of a line is all of it
 read_all : (front held after : List ℕ) (event : Event) → HasNoFeed front → held ≡ take MAX_LINE (front ++ 10 ∷ [])
@@ -178,11 +177,7 @@ held_more (suc m) n (x ∷ xs) bytes =
     ap (λ k. x ∷ (take m xs ++ take (min n k) bytes)) e ∙ ap (λ t. x ∷ t) (held_more m n xs bytes)
 
 short_front : (m : ℕ) (front : List ℕ) → (length (take m front) ≡ m → ⊥) → length front < m
-short_front zero [] not = absurd (not refl)
-short_front zero (x ∷ xs) not = absurd (not refl)
-short_front (suc m) [] not = omega arith
-short_front (suc m) (x ∷ xs) not = let h = short_front m xs (λ e. not (let k : length (take (suc m) (x ∷ xs)) ≡ suc m = omega arith in k))
-    in omega arith
+short_front m front not = omega (arith, length-take m front, not)
 
 -- bytes that end no line
 pub held_sorted : (old new : Cutter) (came bytes : List ℕ) (n : ℕ) (events : List Event) (bad : List Complaint) → 0 < n

@@ -1,27 +1,23 @@
 -- If no line is bad, the bytes are a script, and a script has no bad line.
 use Rattle.std.proofs.Common.{◌≡◌, ◌==◌, ◌+◌, Bool, true, false, if◌then◌else◌, ℕ, List, [], ◌∷◌, ◌++◌, Option, Some, None, refl, sym, ap, subst, ◌∙◌, arith, append_assoc}
-use Rattle.std.specs.List.{AllByRecursion}
+use Rattle.std.specs.List.{AllByRecursion, concat}
 use Rattle.timer_script.specs.Types.{Event, LineFault}
 use Rattle.timer_script.specs.Script.{IsInRange, line, spelling, IsScript}
 use Rattle.timer_script.specs.ScriptReport.{push_front, cut_lines, AreVerdicts, IsReport}
 use Rattle.timer_script.proofs.SplitterLemmas.{IsFed, line_fed}
 use Rattle.timer_script.proofs.ScriptReportLemmas.{cut_line, report_from, bad_lines, bad-more}
 
--- the lines one after another
-abbrev join : List (List ℕ) → List ℕ
-join [] = []
-join (first ∷ rest) = first ++ join rest
-
-join_front : (b : ℕ) (lines : List (List ℕ)) → join (push_front b lines) ≡ b ∷ join lines
+-- the lines one after another are the bytes
+join_front : (b : ℕ) (lines : List (List ℕ)) → concat (push_front b lines) ≡ b ∷ concat lines
 join_front b [] = refl
 join_front b (first ∷ rest) = refl
 
-join_step : (t : Bool) (b : ℕ) (rest : List ℕ) (lines : List (List ℕ)) → join lines ≡ rest
-    → join (if t then (b ∷ []) ∷ lines else push_front b lines) ≡ b ∷ rest
+join_step : (t : Bool) (b : ℕ) (rest : List ℕ) (lines : List (List ℕ)) → concat lines ≡ rest
+    → concat (if t then (b ∷ []) ∷ lines else push_front b lines) ≡ b ∷ rest
 join_step true b rest lines is = ap (λ r. b ∷ r) is
 join_step false b rest lines is = join_front b lines ∙ ap (λ r. b ∷ r) is
 
-join_cut : (bytes : List ℕ) → join (cut_lines bytes) ≡ bytes
+join_cut : (bytes : List ℕ) → concat (cut_lines bytes) ≡ bytes
 join_cut [] = refl
 join_cut (b ∷ rest) = join_step (b == 10) b rest (cut_lines rest) (join_cut rest)
 
@@ -29,7 +25,7 @@ join_cut (b ∷ rest) = join_step (b == 10) b rest (cut_lines rest) (join_cut re
 record AreGood (n : ℕ) (verdicts : List (Option LineFault)) (lines : List (List ℕ)) : Type 0 where
   pub empty : report_from n verdicts ≡ []
   pub events : List Event
-  pub joined : join lines ≡ spelling events
+  pub joined : concat lines ≡ spelling events
   pub in_range : AllByRecursion IsInRange events
 
 all_good : (n : ℕ) (verdicts : List (Option LineFault)) (lines : List (List ℕ)) → AreVerdicts verdicts lines → 0 ≡ bad_lines verdicts
@@ -43,7 +39,7 @@ all_good n (None ∷ verdicts) (first ∷ rest) right none =
     record {
       empty = h.empty;
       events = event ∷ h.events;
-      joined = ap (λ t. t ++ join rest) is ∙ ap (λ t. line event ++ t) h.joined;
+      joined = ap (λ t. t ++ concat rest) is ∙ ap (λ t. line event ++ t) h.joined;
       in_range = (fits, h.in_range);
     }
 all_good n (Some fault ∷ verdicts) (first ∷ rest) right none = absurd (omega (arith, none, bad-more (Some fault) verdicts))

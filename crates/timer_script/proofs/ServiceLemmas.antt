@@ -1,5 +1,5 @@
 -- What serving did, turn after turn, and how it ends.
-use Rattle.std.proofs.Common.{◌≡◌, zero, suc, ℕ, ◌+◌, ◌-◌, ◌^◌, ◌≤◌, Bool, true, false, List, [], ◌++◌, length, take, drop, inl, inr, refl, sym, ap, subst, ◌∙◌, arith, append_assoc, append-nil, length-append, take-append-drop, Option, Result, Ok, Err, Some}
+use Rattle.std.proofs.Common.{◌≡◌, zero, suc, ℕ, ◌+◌, ◌-◌, ◌^◌, ◌≤◌, Bool, true, false, List, [], ◌++◌, length, take, drop, inl, inr, refl, sym, ap, subst, ◌∙◌, arith, append_assoc, length-append, take-append-drop, Option, None, Result, Ok, Err, Some}
 use Rattle.std.specs.Io.KnownBytes.{IsAtEnd}
 use Rattle.std.proofs.lemmas.List.{length-take-le, take-append-le, take-take}
 use Rattle.timer_script.specs.Types.{Event, TurnFault, ServeFault, PIECE, OnBadLine, Cutter, Watched}
@@ -9,9 +9,9 @@ use Rattle.timer_script.specs.declared.fault.TurnFault.TheVariants as turns
 use Rattle.timer_script.specs.declared.fault.ServeFault.TheVariants as faults
 use Rattle.timer_script.specs.Fault.{serve_fault}
 use Rattle.timer_script.specs.Text.{lines_of}
-use Rattle.timer_script.specs.Cutter.{Passes, HasEnded, HasStopped, HasTakenIn, TakesPiece}
+use Rattle.timer_script.specs.Cutter.{Passes, HasEnded, HasStopped, HasTakenIn, TakesPiece, TakesEnd}
 use Rattle.timer_script.specs.Peer.{PeerState, Moment, Gives}
-use Rattle.timer_script.specs.Service.{AreGood, HasSent, is_flushed, StopsEnd, last_line, HasStoppedTurn, IsAnsweredWith, IsPrompt, HasTalked, Server, Sides, HasAnsweredSoFar, HasAnsweredAll, HasServed, HasServedPiece}
+use Rattle.timer_script.specs.Service.{AreGood, HasSent, HasSentPart, is_flushed, last_line, HasStoppedTurn, IsAnsweredWith, IsPrompt, HasTalked, Server, Sides, HasAnsweredSoFar, HasAnsweredAll, HasServed, HasServedPiece}
 use Rattle.timer_script.proofs.CutterLemmas.{seen_part, seen_whole, piece_seen, ended_seen, passed_none, taken_none, taken_passed}
 use Rattle.timer_script.proofs.PeerLemmas.{known_prompt, talked_wrote, talked_sent}
 use Rattle.timer_script.proofs.ServicePieces.{so_none, so_some, so_read, so_failed, sent_good}
@@ -188,6 +188,13 @@ often_ended {F} S cutter w v p q s turns is long good h =
 
 -- ---- how serving ends
 
+-- nothing is left of the stream, or a line that is reported
+pub ended_as : {F : Type 0} (old new : Cutter) (stop : Option ℕ) (contents : F → Option (List ℕ)) (w v u : Watched F) (o : OnBadLine)
+    (came : List ℕ) (events : List Event) → old.on_bad ≡ o → stop ≡ None → TakesEnd stop contents old v new u
+    → HasTakenIn old contents w v came events → HasEnded o new.clean contents w u came events
+ended_as {F} old new stop contents w v u o came events is none takes taken = subst (λ x. HasEnded x new.clean contents w u came events) is
+    (subst (λ z. TakesEnd z contents old v new u) none takes w came events taken)
+
 -- what was sent and the end line are the whole answer, with what is added
 whole : {F : Type 0} (S : Server F) (p q r : PeerState) (s : FacilityState) (came : List ℕ) (events : List Event)
     → (h : SoFar S came events p q s) → IsSound S.before → IsAtEnd q.remaining → r.remaining ≡ q.remaining
@@ -208,22 +215,26 @@ whole {F} S p q r s came events h sound at_end same =
       text_is = refl;
     }
 
--- the end line was not written, or not completely
-pub end_stopped : {F : Type 0} (S : Server F) (fault : TurnFault) (clean : Bool) (w u : Watched F) (p q r : PeerState)
-    (s : FacilityState) (came : List ℕ) (events : List Event) → AreGood q → IsAtEnd q.remaining → IsSound S.before
-    → HasEnded S.on_bad clean S.contents w u came events → SoFar S came events p q s → StopsEnd fault s q r
-    → HasServed S (record { peer = p; faults = w }) (record { peer = r; faults = u }) (Err (serve_fault fault))
-end_stopped {F} S turns.OutOfMemory clean w u p q r s came events good at_end sound ended h same =
-    subst (λ x. HasServed S (record { peer = p; faults = w }) (record { peer = x; faults = u }) (Err faults.OutOfMemory)) (sym same) (
-      record {
-        came = came;
-        events = events;
-        passed = ended_seen S.contents w u S.on_bad clean came events ended;
-        some = so_some S.on_bad S.Adds S.before s came events p q h;
-      },
-      good,
-    )
-end_stopped {F} S turns.Write clean w u p q r s came events good at_end sound ended h part =
+-- the end line was not made
+pub end_lost : {F : Type 0} (S : Server F) (clean : Bool) (w u : Watched F) (p q : PeerState) (s : FacilityState) (came : List ℕ)
+    (events : List Event) → AreGood q → HasEnded S.on_bad clean S.contents w u came events → SoFar S came events p q s
+    → HasServed S (record { peer = p; faults = w }) (record { peer = q; faults = u }) (Err faults.OutOfMemory)
+end_lost {F} S clean w u p q s came events good ended h = (
+  record {
+    came = came;
+    events = events;
+    passed = ended_seen S.contents w u S.on_bad clean came events ended;
+    some = so_some S.on_bad S.Adds S.before s came events p q h;
+  },
+  good,
+)
+
+-- it was not written completely
+pub end_unsent : {F : Type 0} (S : Server F) (clean : Bool) (w u : Watched F) (p q r : PeerState) (s : FacilityState)
+    (came : List ℕ) (events : List Event) → AreGood q → IsAtEnd q.remaining → IsSound S.before
+    → HasEnded S.on_bad clean S.contents w u came events → SoFar S came events p q s → HasSentPart q (last_line s) r
+    → HasServed S (record { peer = p; faults = w }) (record { peer = r; faults = u }) (Err faults.Write)
+end_unsent {F} S clean w u p q r s came events good at_end sound ended h part =
     let front : List ℕ = take part.count (last_line s) in
     let rest : List ℕ = drop part.count (last_line s) in
     let cut : h.sent ++ last_line s ≡ (h.sent ++ front) ++ rest =

@@ -1,5 +1,5 @@
 -- The answers to some events, and what is added to them: played and written.
-use Rattle.std.proofs.Common.{◌≡◌, ℕ, ◌≤◌, true, false, List, [], ◌∷◌, ◌++◌, length, take, drop, inl, inr, refl, sym, ap, subst, ◌∙◌, arith, append_assoc, append-nil, take-append-drop, Bool, Result, Ok, Err, OnOk, OnErr}
+use Rattle.std.proofs.Common.{◌≡◌, ℕ, ◌≤◌, true, false, List, [], ◌∷◌, ◌++◌, length, take, drop, inl, inr, refl, sym, ap, subst, ◌∙◌, append_assoc, append-nil, take-append-drop, Bool, Result, Ok, Err, OnOk, OnErr}
 use Rattle.std.proofs.lemmas.Grind.{flat_map-append}
 use Rattle.timer_script.specs.Types.{OutOfMemory, Event, FacilityState, TurnFault, PIECE, OnBadLine}
 use Rattle.timer_facility.proofs.PlayedLemmas.{IsRun-none, IsRun-join}

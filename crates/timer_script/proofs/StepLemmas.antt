@@ -1,6 +1,6 @@
 -- Ticks that are played in steps: a run of some ticks, and then of others, is a run of all of them.
 use Rattle.std.proofs.Common.{◌≡◌, ◌<◌, ◌≤◌, ◌+◌, ◌-◌, ℕ, zero, suc, List, [], ◌∷◌, ◌++◌, refl, sym, ◌∙◌, ap, subst, arith, append-nil, append_assoc, inl, inr, ◌⊎◌, replicate, map, min, take, length, Option, Some, None, Result, Ok, Err, OnOk}
-use Rattle.std.proofs.lemmas.List.{map-append}
+use Rattle.std.proofs.lemmas.List.{map-append, replicate-append-replicate}
 use Rattle.std.proofs.lemmas.Grind.{flat_map-append}
 use Rattle.std.proofs.Math.Seq.{take-append_seam}
 use Rattle.timer_script.specs.Types.{TickFault, Event, Out}
@@ -64,12 +64,6 @@ left_run s m n outs i h run =
 
 -- ---- ticks that join
 
-replicate-add : (a b : ℕ) → replicate a Tick ++ replicate b Tick ≡ replicate (a + b) Tick
-replicate-add zero b = let e : b ≡ 0 + b = omega arith in ap (λ n. replicate n Tick) e
-replicate-add (suc a) b =
-    let e : suc (a + b) ≡ suc a + b = omega arith in
-    ap (λ es. Tick ∷ es) (replicate-add a b) ∙ ap (λ n. replicate n Tick) e
-
 placed_join : (s : FacilityState) (a b : ℕ) (placed : List PlacedEvent) → s.now ≤ s.last → a ≤ ticks_left s
     → ArePlaced s (Ticks a ∷ Ticks b ∷ []) placed → ArePlaced s (Ticks (a + b) ∷ []) placed
 placed_join s a b placed i h p =
@@ -85,7 +79,7 @@ placed_join s a b placed i h p =
       sym (append-nil placed),
       ap (map (λ p. p.event)) p.2 ∙ map-append (λ p. p.event) one p.1 ∙ ap (λ es. es ++ map (λ p. p.event) p.1) first
           ∙ ap (λ es. replicate a Tick ++ es) second
-          ∙ replicate-add a k
+          ∙ replicate-append-replicate a k Tick
           ∙ ap (λ n. replicate n Tick) count,
       refl,
     )

@@ -18,14 +18,6 @@ pub record AddsLines (before : FacilityState) (events : List Event) (old new : L
   pub runs : IsRun before events outs after
   pub lines : new ≡ old ++ lines_of outs
 
--- so it was for the first of the events
-pub record AddsFirstLines (before : FacilityState) (events : List Event) (old new : List ℕ) : Type 0 where
-  pub played : List Event
-  pub unplayed : List Event
-  pub parts : events ≡ played ++ unplayed
-  pub after : FacilityState
-  pub adds : AddsLines before played old new after
-
 -- the bytes are the script of some events, which were played, and the line of each of their outs was added
 pub record HasPlayedLines (before : FacilityState) (bytes old new : List ℕ)
     (after : FacilityState) : Type 0 where

@@ -122,11 +122,6 @@ pub record HasAnsweredPart (Adds : Decoration) (before : FacilityState) (events 
 abbrev pub last_line : FacilityState → List ℕ
 last_line s = end_line s.now (length s.pending)
 
--- why the end line was not written completely
-abbrev pub StopsEnd : TurnFault → FacilityState → PeerState → PeerState → Type 0
-StopsEnd turns.OutOfMemory s peer peer' = peer' ≡ peer
-StopsEnd turns.Write s peer peer' = HasSentPart peer (last_line s) peer'
-
 -- ---- the whole stream
 
 -- a server: what it does at a bad line, what it adds to the answers, the facility before the first line, and how the

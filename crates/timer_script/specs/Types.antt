@@ -2,7 +2,6 @@
 pub use Rattle.timer_base.specs.declared.fault.OutOfMemory.{OutOfMemory}
 pub use Rattle.timer_base.specs.declared.limits.TheConstants.{LAST}
 pub use Rattle.timer_facility.specs.State.{FacilityState}
-pub use Rattle.timer_facility.specs.declared.config.Config.{Config}
 pub use Rattle.timer_facility.specs.declared.event.Event.{Event}
 pub use Rattle.timer_facility.specs.declared.event.Out.{Out}
 pub use Rattle.timer_facility.specs.declared.request.NotTaken.{NotTaken}

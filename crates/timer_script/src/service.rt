@@ -10,7 +10,7 @@ ghost use Rattle.timer_facility.specs.State.{FacilityState, IsSound};
 ghost use Rattle.timer_script.specs.Peer.{PeerState};
 ghost use Rattle.timer_script.specs.Steps.{HasGrownByAnswer};
 ghost use Rattle.timer_script.specs.Cutter.{HasTakenIn};
-ghost use Rattle.timer_script.specs.Service.{AreGood, HasSent, HasSentPart, HasAnswered, HasAnsweredPart, AnswersMore, StopsTurn, StopsEnd, HasAnsweredSoFar, HasServedPiece, HasServed, server_with, last_line};
+ghost use Rattle.timer_script.specs.Service.{AreGood, HasSent, HasSentPart, HasAnswered, HasAnsweredPart, AnswersMore, StopsTurn, HasAnsweredSoFar, HasServedPiece, HasServed, server_with};
 
 use crate::cutter::{Cutter, OnBadLine};
 use crate::decorator::Decorator;
@@ -201,22 +201,6 @@ fn serve_piece<P: Peer, W: Wheel + Drop, D: Decorator<W>, F: Write>(
     }
 }
 
-/// Writes and flushes the end line.
-fn finish<P: Peer, W: Wheel + Drop>(
-    session: &Session<W>,
-    peer: &mut P,
-    line: &mut Vec<u8>,
-) -> Result<(), TurnFault>
-    requires { AreGood (P.state peer.old) }
-    ensures sent { OnOk result (HasSent (P.state peer.old) (last_line session.now.player) (P.state peer.new)) }
-    ensures fault { IfErr result (λ fault. StopsEnd fault session.now.player (P.state peer.old)
-        (P.state peer.new)) }
-{
-    line.clear();
-    session.write_end(line)?;
-    send(peer, line)
-}
-
 /// The stream ended: writes and flushes the end line, unless a line that has not ended is bad.
 fn end_stream<P: Peer, W: Wheel + Drop, D: Decorator<W>, F: Write>(
     session: &Session<W>,
@@ -240,7 +224,11 @@ fn end_stream<P: Peer, W: Wheel + Drop, D: Decorator<W>, F: Write>(
     match bad {
         Some(line) => Err(ServeFault::Bad { line }),
         None => {
-            finish(session, peer, text)?;
+            text.clear();
+            let Ok(()) = session.write_end(text) else {
+                return Err(ServeFault::OutOfMemory);
+            };
+            send(peer, text)?;
             Ok(cutter.clean)
         }
     }

@@ -1,4 +1,4 @@
-use Rattle.std.proofs.Common.{◌+◌, ◌++◌, take, drop, sym, subst, take-append-drop}
+use Rattle.std.proofs.Common.{◌+◌, take, drop, sym, subst, take-append-drop}
 use Rattle.std.proofs.lemmas.List.{take_more}
 use Rattle.timer_script.specs.Service.{HasAnswered, HasAnsweredPart}
 use Rattle.timer_script.proofs.Results.{on_err}

@@ -1,4 +1,4 @@
-use Rattle.std.proofs.Common.{◌∙◌, ◌||◌, true, ap, sym, subst, arith, rules, Ok, Err}
+use Rattle.std.proofs.Common.{◌∙◌, ◌||◌, true, ap, sym, subst, arith, rules}
 use Rattle.std.specs.Io.KnownBytes.{IsAtEnd}
 use Rattle.timer_script.specs.Service.{server_with, HasServed}
 use Rattle.timer_script.proofs.Results.{passed_on}

@@ -1,5 +1,5 @@
 use Rattle.std.proofs.Common.{◌++◌, refl, sym, subst}
-use Rattle.timer_script.specs.Cutter.{HasStopped, HasTakenIn, TakesPiece}
+use Rattle.timer_script.specs.Cutter.{TakesPiece}
 use Rattle.timer_script.specs.Service.{HasAnsweredSoFar, HasStoppedTurn, HasServedPiece}
 use Rattle.timer_script.proofs.Results.{passed_on}
 use Rattle.timer_script.proofs.ServiceLemmas.{piece_lost, piece_stopped, bad_at}

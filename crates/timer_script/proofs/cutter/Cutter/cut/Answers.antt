@@ -1,4 +1,4 @@
-use Rattle.std.proofs.Common.{◌++◌, ◌∙◌, ap, rules, arith, refl, subst, take_all}
+use Rattle.std.proofs.Common.{◌++◌, ◌∙◌, rules, arith, refl, subst, take_all}
 use Rattle.timer_script.specs.Cutter.{HasSortedSince}
 use Rattle.timer_script.proofs.Results.{handed_on}
 use Rattle.timer_script.proofs.CutterLines.{since_none, piece_more, piece_stops}
