@@ -5,11 +5,10 @@ use Rattle.timer_script.specs.Types.{OutOfMemory, Event, FacilityState, TurnFaul
 use Rattle.timer_facility.proofs.PlayedLemmas.{IsRun-none, IsRun-join}
 use Rattle.timer_script.specs.declared.fault.TurnFault.TheVariants as turns
 use Rattle.timer_script.specs.Text.{out_line, lines_of}
-use Rattle.timer_script.specs.Decorator.{Decoration, HasGrownAfter, HasAnsweredWithin, AreDecorated}
+use Rattle.timer_script.specs.Decorator.{Decoration, HasGrownAfter, HasAnsweredWithin, AreDecorated, HasGrownByAnswer}
 use Rattle.timer_script.specs.Cutter.{Passes}
 use Rattle.timer_script.specs.Peer.{PeerState, Gives}
 use Rattle.timer_script.specs.Service.{AreGood, HasWritten, HasSent, HasSentPart, is_flushed, HasAnswered, IsBegun, HasAnsweredPart, IsAnsweredWith, HasAnsweredSoFar, HasAnsweredSome, AnswersMore, HasStoppedTurn, StopsTurn}
-use Rattle.timer_script.specs.Steps.{HasGrownByAnswer}
 use Rattle.timer_script.proofs.PeerLemmas.{flushed_anyway, talked_nothing, talked_wrote, talked_sent, came_after, failed_after}
 
 -- ---- some events

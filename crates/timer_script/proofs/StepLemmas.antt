@@ -14,8 +14,7 @@ use Rattle.timer_facility.proofs.PlayedTicks.{ticks_left-refused, ticks_left-acc
 use Rattle.timer_facility.proofs.PlayedLemmas.{IsRun-join}
 use Rattle.timer_script.specs.Text.{out_line, lines_of}
 use Rattle.timer_script.specs.ScriptRun.{AddsLines}
-use Rattle.timer_script.specs.Decorator.{Decoration, IsLawful, HasGrown, HasGrownWithin, HasAnsweredWithin}
-use Rattle.timer_script.specs.Steps.{HasGrownByAnswer}
+use Rattle.timer_script.specs.Decorator.{Decoration, IsLawful, HasGrown, HasGrownWithin, HasAnsweredWithin, HasGrownByAnswer}
 
 -- ---- how many ticks are left
 

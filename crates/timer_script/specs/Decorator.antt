@@ -36,6 +36,11 @@ pub record HasAnsweredWithin (Adds : Decoration) (before : FacilityState) (event
   pub runs : IsRun before events outs after
   pub within : Adds.Within (lines_of outs) text
 
+-- the text grew by such an answer
+abbrev pub HasGrownByAnswer : Decoration → FacilityState → List Event → FacilityState → (old new : List ℕ) → Type 0
+HasGrownByAnswer Adds before events after old new =
+    (added : List ℕ) × (new ≡ old ++ added) × HasAnsweredWithin Adds before events after added
+
 -- one line was played; its answer, and the text for it, at the end of which is what comes after the answer
 pub record IsDecorated (Adds : Decoration) (before : FacilityState) (event : Event) (after : FacilityState)
     (answer text : List ℕ) : Type 0 where

@@ -15,4 +15,3 @@ pub mod Streams
 pub mod Decorator
 pub mod Cutter
 pub mod Service
-pub mod Steps

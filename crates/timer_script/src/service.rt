@@ -8,7 +8,7 @@ ghost use Rattle.std.specs.Io.KnownBytes.{IsAtEnd};
 ghost use Rattle.timer_script.specs.Types.{Event, OnBadLine, Watched};
 ghost use Rattle.timer_facility.specs.State.{FacilityState, IsSound};
 ghost use Rattle.timer_script.specs.Peer.{PeerState};
-ghost use Rattle.timer_script.specs.Steps.{HasGrownByAnswer};
+ghost use Rattle.timer_script.specs.Decorator.{HasGrownByAnswer};
 ghost use Rattle.timer_script.specs.Cutter.{HasTakenIn};
 ghost use Rattle.timer_script.specs.Service.{AreGood, HasSent, HasSentPart, HasAnswered, HasAnsweredPart, AnswersMore, StopsTurn, HasAnsweredSoFar, HasServedPiece, HasServed, server_with};
 

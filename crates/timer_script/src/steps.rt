@@ -5,8 +5,7 @@
 ghost use Rattle.std.specs.Prelude.{◌≡◌, ◌<◌, ◌≤◌, ◌⊎◌, ◌∷◌, [], OnErr, OnOk};
 ghost use Rattle.timer_facility.specs.State.{IsSound};
 ghost use Rattle.timer_facility.specs.Played.{ticks_left};
-ghost use Rattle.timer_script.specs.Decorator.{HasGrown};
-ghost use Rattle.timer_script.specs.Steps.{HasGrownByAnswer};
+ghost use Rattle.timer_script.specs.Decorator.{HasGrown, HasGrownByAnswer};
 
 use crate::decorator::Decorator;
 use crate::session::Session;
