@@ -1,6 +1,5 @@
 -- Text that grows by indented lines.
-use Rattle.std.proofs.Common.{◌≡◌, ℕ, true, List, [], ◌∷◌, ◌++◌, decimal, codes, refl, sym, ap, subst, ◌∙◌, append_assoc, append-nil}
-use Rattle.std.specs.Prelude.{Result, Ok, Err, OnOk}
+use Rattle.std.proofs.Common.{◌≡◌, ℕ, true, List, [], ◌∷◌, ◌++◌, decimal, codes, refl, sym, ap, subst, ◌∙◌, append_assoc, append-nil, Result, Ok, Err, OnOk}
 use Rattle.timer_script.specs.Splitter.{HasNoFeed}
 use Rattle.timer_script.proofs.SplitterLemmas.{no_feed-append, is_bare, bare, decimal_bare}
 use Rattle.timer_commands.specs.Indented.{AddsMarked, clock_line, HasGrownByPicture, HasGrownByIndented, HasGrownByBare, HasGrownByEnd}

@@ -1,6 +1,5 @@
 -- The lines that a decorator adds are those with a mark.
-use Rattle.std.proofs.Common.{ℕ, List, [], ◌∷◌, ◌++◌, decimal, codes, refl, sym, subst, ◌∙◌, append-nil}
-use Rattle.std.specs.Prelude.{Option, None, Some}
+use Rattle.std.proofs.Common.{ℕ, List, [], ◌∷◌, ◌++◌, decimal, codes, refl, sym, subst, ◌∙◌, append-nil, Option, None, Some}
 use Rattle.timer_facility.specs.declared.event.Event.{Event}
 use Rattle.timer_facility.specs.declared.event.Out.{Out}
 use Rattle.timer_facility.specs.State.{FacilityState}

@@ -1,15 +1,14 @@
 -- How serving ends, as an exit status.
-use Rattle.std.proofs.Common.{◌≡◌, ℕ, true, false, [], refl, sym, subst, arith, inl, inr}
-use Rattle.std.specs.Prelude.{Result, Ok, Err, OnOk, Bool, true}
+use Rattle.std.proofs.Common.{◌≡◌, ℕ, true, false, [], refl, sym, subst, arith, inl, inr, Result, Ok, Err, OnOk, Bool}
 use Rattle.timer_script.specs.declared.fault.ServeFault.{ServeFault}
-use Rattle.std.proofs.KnownBytes.{Consumes-nil}
 use Rattle.timer_facility.specs.State.{FacilityState}
-use Rattle.timer_script.specs.declared.fault.RunFault.TheVariants as runs
-use Rattle.timer_script.specs.declared.fault.ServeFault.TheVariants as serves
 use Rattle.timer_script.specs.declared.cutter.OnBadLine.{OnBadLine}
-use Rattle.timer_script.specs.declared.cutter.OnBadLine.TheVariants.{Stop}
 use Rattle.timer_script.specs.declared.streams.Streams.{Streams}
 use Rattle.timer_script.specs.declared.watched.Watched.{Watched}
+use Rattle.std.proofs.KnownBytes.{Consumes-nil}
+use Rattle.timer_script.specs.declared.fault.RunFault.TheVariants as runs
+use Rattle.timer_script.specs.declared.fault.ServeFault.TheVariants as serves
+use Rattle.timer_script.specs.declared.cutter.OnBadLine.TheVariants.{Stop}
 use Rattle.timer_script.specs.Watched.{inner_of, has_failed}
 use Rattle.timer_script.specs.Decorator.{Decoration, AddsNothing}
 use Rattle.timer_script.specs.Streams.{streams_state}

@@ -1,22 +1,22 @@
 -- The laws of text to which marked lines are added. They are in specs/ since the decorator of `show` cites them.
-use Rattle.std.proofs.Common.{◌≡◌, ℕ, true, cond, List, [], ◌∷◌, ◌++◌, decimal, codes, refl, sym, ap, ◌∙◌, append-nil}
+use Rattle.std.proofs.Common.{◌≡◌, ℕ, true, cond, List, [], ◌∷◌, ◌++◌, codes, refl, sym, ap, ◌∙◌, append-nil}
 use Rattle.std.specs.List.{filter, concat}
 use Rattle.std.proofs.lemmas.List.Elements.{filter-append}
 use Rattle.std.proofs.lemmas.List.Folds.{concat-append}
 use Rattle.timer_facility.specs.declared.request.Reason.{Reason}
-use Rattle.timer_facility.specs.declared.request.Reason.TheVariants as reason
 use Rattle.timer_facility.specs.declared.request.NotTaken.{NotTaken}
+use Rattle.timer_facility.specs.declared.event.Out.{Out}
+use Rattle.timer_facility.specs.declared.request.Reason.TheVariants as reason
 use Rattle.timer_facility.specs.declared.request.NotTaken.TheVariants as refusal
 use Rattle.timer_facility.specs.declared.request.TickFault.TheVariants as fault
 use Rattle.timer_facility.specs.declared.request.Answer.TheVariants.{Started, Stopped, Restarted, Refused}
 use Rattle.timer_facility.specs.declared.request.Notice.TheVariants.{Expired, Returned}
-use Rattle.timer_facility.specs.declared.event.Out.{Out}
 use Rattle.timer_facility.specs.declared.event.Out.TheVariants as out
 use Rattle.timer_script.specs.Splitter.{HasNoFeed}
 use Rattle.timer_script.specs.Decorator.{IsLawful}
 use Rattle.timer_script.specs.Text.{numbers, reason_word, refusal_word, out_line, lines_of, end_line}
 use Rattle.timer_script.proofs.Results.{all_append}
-use Rattle.timer_script.proofs.SplitterLemmas.{no_feed-append, is_bare, bare, decimal_bare}
+use Rattle.timer_script.proofs.SplitterLemmas.{no_feed-append, is_bare, bare, numbers_bare}
 use Rattle.timer_commands.specs.Indented.{EndsWithFeed, is_unmarked, AddsMarked, AddsIndented}
 
 -- ---- lines that are added
@@ -36,11 +36,6 @@ adds_join mark a b x y f g = record {
 }
 
 -- ---- the lines of an answer, none of which begins with a space
-
-numbers_bare : (all : List ℕ) → HasNoFeed (numbers all)
-numbers_bare [] = tt
-numbers_bare (n ∷ all) =
-    no_feed-append (32 ∷ decimal n) (numbers all) (λ e. absurd cc, decimal_bare n) (numbers_bare all)
 
 -- with none of these letters a line is marked that is added: s, r, e, c, t
 pub record IsUnused (mark : ℕ) : Type 0 where

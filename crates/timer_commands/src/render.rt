@@ -60,6 +60,7 @@ pub trait Placement {
     /// memory.
     fn push_moves(&self, _text: &mut Vec<u8>, _bucket: usize) -> Result<(), OutOfMemory>
         ensures indented { OnOk result (HasGrownByIndented _text.old.items _text.new.items) }
+        ensures kept { HasGrown _text.old.items _text.new.items }
     {
         Ok(())
     }
@@ -154,7 +155,8 @@ fn push_move(
     naming: Naming,
 ) -> Result<(), OutOfMemory>
     requires { to < length links.now.lists }
-    ensures { OnOk result (HasGrownByEnd text.old.items text.new.items) }
+    ensures ended { OnOk result (HasGrownByEnd text.old.items text.new.items) }
+    ensures kept { HasGrown text.old.items text.new.items }
 {
     text.extend_from_slice(b" from")?;
     push_name(text, from as u64, naming)?;
@@ -251,23 +253,6 @@ fn push_number(text: &mut Vec<u8>, word: &[u8], n: u64) -> Result<(), OutOfMemor
     Ok(())
 }
 
-/// Appends a line of what the wheel counted, if it counts, and if that is wanted.
-#[tactic(auto, using(crate::proofs::IndentedLemmas::grown_none))]
-fn push_wanted_counts<W: Placement>(
-    text: &mut Vec<u8>,
-    wheel: &W,
-    wanted: bool,
-) -> Result<(), OutOfMemory>
-    ensures indented { OnOk result (HasGrownByIndented text.old.items text.new.items) }
-    ensures kept { HasGrown text.old.items text.new.items }
-{
-    if wanted {
-        wheel.push_counts(text)
-    } else {
-        Ok(())
-    }
-}
-
 /// Appends the line of the clock, that of the counts if they are wanted, and a line for each bucket that has a
 /// timer.
 pub fn push_shown<W: Wheel + Placement>(
@@ -280,7 +265,9 @@ pub fn push_shown<W: Wheel + Placement>(
 {
     push_number(text, b"  now ", wheel.now())?;
     text.push(b'\n')?;
-    push_wanted_counts(text, wheel, counts)?;
+    if counts {
+        wheel.push_counts(text)?;
+    }
     wheel.push_placement(text)
 }
 

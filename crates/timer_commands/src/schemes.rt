@@ -9,14 +9,15 @@ ghost use Rattle.timer_commands.specs.Options.{scheme_last, scheme_slots, config
 ghost use Rattle.timer_commands.specs.Subcommands.{opened_by, HasDone, HasEnded};
 ghost use Rattle.timer_script.specs.Watched.{has_failed};
 
+use crate::error_report::report;
 use crate::options::{RunOptions, Scheme};
 use crate::render::Placement;
-use crate::verbs::{Verb, do_verb, no_memory};
+use crate::verbs::{Verb, do_verb};
 use std::alloc::Global;
 use std::io::{Read, Write};
 use timer_base::{MakeFault, OutOfMemory, PlainWheel, Wheel};
 use timer_facility::{Checked, Facility};
-use timer_script::{Streams, Watched};
+use timer_script::{RunFault, Streams, Watched};
 use timer_wheels::{HashedWheel, HierWheel, Table};
 
 /// A wheel that the options can name.
@@ -179,6 +180,6 @@ fn over_wheel<R: Read, S: Write, F: Write, W: Wheel + Placement + OfScheme + Dro
             streams,
             faults,
         ),
-        Err(OutOfMemory) => no_memory(streams, faults),
+        Err(OutOfMemory) => report(RunFault::OutOfMemory, faults),
     }
 }

@@ -2,7 +2,6 @@
 //!
 //! It is done over any wheel: `schemes` makes the wheel, and hands the facility over.
 ghost use Rattle.std.specs.Prelude.{◌≡◌, [], false, OnOk};
-ghost use Rattle.timer_facility.specs.State.{FacilityState};
 ghost use Rattle.timer_script.specs.Watched.{has_failed};
 ghost use Rattle.timer_commands.specs.Subcommands.{HasAnswered, HasDone, serving_status};
 
@@ -12,9 +11,7 @@ use std::alloc::Global;
 use std::io::{Read, Write};
 use timer_base::{OutOfMemory, Wheel};
 use timer_facility::Facility;
-use timer_script::{
-    Decorator, OnBadLine, RunFault, ServeFault, Streams, Undecorated, Watched, run, serve,
-};
+use timer_script::{Decorator, OnBadLine, ServeFault, Streams, Undecorated, Watched, run, serve};
 
 /// What is done with a facility.
 #[derive(Clone, Copy, Debug, PartialEq, Eq)]
@@ -179,19 +176,4 @@ fn end_serving<F: Write>(served: Result<bool, ServeFault>, faults: &mut Watched<
         Ok(false) => 1,
         Err(fault) => report(fault, faults),
     }
-}
-
-/// Reports that there was no memory for a wheel, and returns the exit status. Nothing was read or written.
-pub fn no_memory<R: Read, S: Write, F: Write>(
-    streams: &Streams<R, S>,
-    faults: &mut Watched<F>,
-) -> u8
-    requires reader_good { has_failed streams.now.reader ≡ false }
-    requires writer_good { has_failed streams.now.writer ≡ false }
-    ensures { (verb : Verb) (before : FacilityState) → HasDone verb before
-        (record { remaining = R.remaining; contents = S.contents; reports = F.contents })
-        (record { streams = streams.now; faults = faults.old })
-        (record { streams = streams.now; faults = faults.new }) result }
-{
-    report(RunFault::OutOfMemory, faults)
 }

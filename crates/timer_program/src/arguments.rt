@@ -13,7 +13,7 @@
 ghost use Rattle.std.specs.Prelude.{◌≡◌, IfSome, IfOk, IfErr, IsTrue, Any, codes};
 ghost use Rattle.clap.specs.Words.{kind_of, found_of};
 ghost use Rattle.timer_commands.specs.Options.{name_of};
-ghost use Rattle.timer_program.specs.Arguments.{first_or_play, subcommand_name, IsShown, IsShortOfText, AsksForText, IsNumberOf, IsGiven, reports, AreRunOptions, HasOptions};
+ghost use Rattle.timer_program.specs.Arguments.{first_or_play, subcommand_name, IsShown, AsksForText, IsNumberOf, IsGiven, reports, AreRunOptions, HasOptions};
 
 use crate::help::{
     ABOUT, CHECK_ABOUT, CHECK_USAGE, CHECKS, NAME, PLACEMENTS, PLAY_ABOUT, PLAY_USAGE, SCHEMES,
@@ -319,21 +319,17 @@ fn refusal(alloc: Global) -> Result<Error, AllocError>
     )
 }
 
-/// Whether an argument is `-h` or `-V`, alone or before other letters.
-fn is_short_of_text(argument: &str) -> bool
-    ensures { IsTrue result → IsShortOfText argument.now }
-{
-    let bytes = argument.as_bytes();
-    bytes.starts_with(b"-h") || bytes.starts_with(b"-V")
-}
-
 /// Whether an argument asks for help or for the version.
 fn is_of_text(argument: &str) -> bool
     ensures { IsTrue result → AsksForText argument.now }
 {
     match argument {
         "help" | "--help" | "--version" => true,
-        _ => is_short_of_text(argument),
+        // Each may be alone or before other letters.
+        _ => {
+            let bytes = argument.as_bytes();
+            bytes.starts_with(b"-h") || bytes.starts_with(b"-V")
+        }
     }
 }
 

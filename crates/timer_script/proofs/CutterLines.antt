@@ -1,22 +1,15 @@
 -- The lines of an input, one after another, as a cutter takes them.
-use Rattle.std.proofs.Common.{◌≡◌, lit≤, zero, suc, ℕ, ◌+◌, ◌-◌, ◌^◌, ◌<◌, ◌≤◌, List, [], ◌∷◌, ◌++◌, length, get_or, take, drop, Some, None, refl, sym, ap, subst, ◌∙◌, arith, append_assoc, append-nil, length-append, take-append-drop, take_all}
-use Rattle.std.specs.Prelude.{min}
+use Rattle.std.proofs.Common.{◌≡◌, lit≤, zero, suc, ℕ, ◌+◌, ◌-◌, ◌^◌, ◌<◌, ◌≤◌, List, [], ◌∷◌, ◌++◌, length, get_or, take, drop, Some, None, refl, sym, ap, subst, ◌∙◌, arith, append_assoc, append-nil, length-append, take-append-drop, take_all, min, take-add}
 use Rattle.std.specs.List.{flat_map, enumerate_from, AllByRecursion}
 use Rattle.std.proofs.lemmas.Grind.{flat_map-append}
 use Rattle.std.proofs.lemmas.List.{take_rest, length-take, nil_from_length}
-use Rattle.std.proofs.Math.Seq.{take-add}
-use Rattle.timer_facility.specs.declared.event.Event.{Event}
-use Rattle.timer_script.specs.declared.splitter.TheConstants.{MAX_LINE}
+use Rattle.timer_script.specs.Types.{Event, MAX_LINE, LineFault, OnBadLine, Cutter, ScriptFault}
 use Rattle.timer_script.specs.Splitter.{HasNoFeed}
 use Rattle.timer_script.specs.Script.{IsInRange, line, spelling, BeginsNoLine}
 use Rattle.timer_script.specs.Lines.{line_at}
 use Rattle.timer_script.specs.Diagnosis.{IsFaultOf}
-use Rattle.timer_script.specs.declared.line_fault.LineFault.{LineFault}
-use Rattle.timer_script.specs.declared.cutter.OnBadLine.{OnBadLine}
 use Rattle.timer_script.specs.declared.cutter.OnBadLine.TheVariants.{Stop, Report}
-use Rattle.timer_script.specs.declared.cutter.Cutter.{Cutter}
-use Rattle.timer_script.specs.Cutter.{Line, Good, Bad, bytes_of, IsGoodOrBad, events_of, number_after_line, number_after, number_next, Complaint, complaint_of, bad_among, bad_of, IsLastBad, IsCut, complaint_line, complaints, IsFrontOf, HasEndedLine, StopsLine, HasCut, HasStoppedCut, StopsCut}
-use Rattle.timer_script.specs.declared.fault.ScriptFault.{ScriptFault}
+use Rattle.timer_script.specs.Cutter.{Line, Good, Bad, bytes_of, IsGoodOrBad, events_of, number_next, Complaint, complaint_of, bad_among, IsLastBad, complaint_line, complaints, Passes, IsStoppedAt, HasEndedLine, StopsLine, HasSorted, HasSortedSince, StopsAt}
 use Rattle.timer_script.specs.declared.fault.ScriptFault.TheVariants as faults
 use Rattle.timer_script.proofs.LineLemmas.{line_sound}
 use Rattle.timer_script.proofs.DiagnosisLemmas.{unread_no_line}
@@ -25,52 +18,31 @@ use Rattle.timer_script.proofs.SplitterLemmas.{IsFed, line_fed, at_feed, first_f
 
 -- ---- lists of lines
 
-pub events-append : (xs ys : List Line) → events_of (xs ++ ys) ≡ events_of xs ++ events_of ys
+events-append : (xs ys : List Line) → events_of (xs ++ ys) ≡ events_of xs ++ events_of ys
 events-append [] ys = refl
 events-append (Good event ∷ xs) ys = ap (λ t. event ∷ t) (events-append xs ys)
 events-append (Bad front fault ∷ xs) ys = events-append xs ys
 
-pub number-append : (n : ℕ) (xs ys : List Line) → number_after n (xs ++ ys) ≡ number_after (number_after n xs) ys
-number-append n [] ys = refl
-number-append n (x ∷ xs) ys = number-append (number_after_line n) xs ys
+-- what is reported of lines from the n-th on
+abbrev among : ℕ → List Line → List Complaint
+among n xs = flat_map (λ numbered. complaint_of (min numbered.0 (2 ^ 64 - 1)) numbered.1) (enumerate_from n xs)
 
-pub bad-append : (n : ℕ) (xs ys : List Line) → bad_of n (xs ++ ys) ≡ bad_of n xs ++ bad_of (number_after n xs) ys
-bad-append n [] ys = refl
-bad-append n (Good event ∷ xs) ys = bad-append (number_after_line n) xs ys
-bad-append n (Bad front fault ∷ xs) ys = ap (λ t. (n, fault) ∷ t) (bad-append (number_after_line n) xs ys)
+among_more : (n : ℕ) (xs : List Line) (x : Line)
+    → among n (xs ++ x ∷ []) ≡ among n xs ++ complaint_of (min (length xs + n) (2 ^ 64 - 1)) x
+among_more n [] x =
+    let e : n ≡ length {A = Line} [] + n = omega arith in
+    append-nil (complaint_of (min n (2 ^ 64 - 1)) x) ∙ ap (λ k. complaint_of (min k (2 ^ 64 - 1)) x) e
+among_more n (y ∷ ys) x =
+    let first : List Complaint = complaint_of (min n (2 ^ 64 - 1)) y in
+    let e : length ys + (n + 1) ≡ length (y ∷ ys) + n = omega arith in
+    ap (λ t. first ++ t) (among_more (n + 1) ys x ∙ ap (λ k. among (n + 1) ys ++ complaint_of (min k (2 ^ 64 - 1)) x) e)
+    ∙ sym (append_assoc first (among (n + 1) ys) (complaint_of (min (length (y ∷ ys) + n) (2 ^ 64 - 1)) x))
 
--- the lines of an input one after another are reported as all of them are
+bad_more : (xs : List Line) (x : Line) → bad_among (xs ++ x ∷ []) ≡ bad_among xs ++ complaint_of (number_next xs) x
+bad_more xs x = among_more 1 xs x
 
-same_complaint : (k m : ℕ) (fault : LineFault) (xs ys : List Complaint) → k ≡ m → xs ≡ ys → (k, fault) ∷ xs ≡ (m, fault) ∷ ys
-same_complaint k m fault xs ys e h = cc
-
-among_from : (n m : ℕ) (xs : List Line) → min n (2 ^ 64 - 1) ≡ m
-    → flat_map (λ numbered. complaint_of numbered.0 numbered.1) (enumerate_from n xs) ≡ bad_of m xs
-among_from n m [] e = refl
-among_from n m (Good event ∷ xs) e =
-    among_from (n + 1) (number_after_line m) xs (let h : min (n + 1) (2 ^ 64 - 1) ≡ min (m + 1) (2 ^ 64 - 1) = omega arith in h)
-among_from n m (Bad front fault ∷ xs) e =
-    let h : min (n + 1) (2 ^ 64 - 1) ≡ min (m + 1) (2 ^ 64 - 1) = omega arith in
-    same_complaint (min n (2 ^ 64 - 1)) m fault
-    (flat_map (λ numbered. complaint_of numbered.0 numbered.1) (enumerate_from (n + 1) xs)) (bad_of (number_after_line m) xs) e
-    (among_from (n + 1) (number_after_line m) xs h)
-
-next_from : (n m : ℕ) (xs : List Line) → min n (2 ^ 64 - 1) ≡ m → min (length xs + n) (2 ^ 64 - 1) ≡ number_after m xs
-next_from n m [] e = omega arith
-next_from n m (x ∷ xs) e =
-    let h : min (n + 1) (2 ^ 64 - 1) ≡ min (m + 1) (2 ^ 64 - 1) = omega arith in
-    let k : length (x ∷ xs) + n ≡ length xs + (n + 1) = omega arith in
-    ap (λ j. min j (2 ^ 64 - 1)) k ∙ next_from (n + 1) (number_after_line m) xs h
-
-pub among_is : (xs : List Line) → bad_among xs ≡ bad_of 1 xs
-among_is xs = among_from 1 1 xs (omega arith)
-
-pub next_is : (xs : List Line) → number_next xs ≡ number_after 1 xs
-next_is xs = next_from 1 1 xs (omega arith)
-
-complaints-append : (n : ℕ) (xs ys : List Line) → complaints (bad_of n (xs ++ ys))
-    ≡ complaints (bad_of n xs) ++ complaints (bad_of (number_after n xs) ys)
-complaints-append n xs ys = ap complaints (bad-append n xs ys) ∙ flat_map-append complaint_line (bad_of n xs) (bad_of (number_after n xs) ys)
+next_more : (xs : List Line) (x : Line) → number_next (xs ++ x ∷ []) ≡ min (number_next xs + 1) (2 ^ 64 - 1)
+next_more xs x = omega (arith, length-append xs (x ∷ []))
 
 -- the good lines are a script
 pub good_script : (xs : List Line) → AllByRecursion IsGoodOrBad xs → AllByRecursion IsInRange (events_of xs)
@@ -79,21 +51,24 @@ good_script (Good event ∷ xs) a = (a.0, good_script xs a.1)
 good_script (Bad front fault ∷ xs) a = good_script xs a.1
 
 -- lines of which none is bad are the spelling of their events
-pub all_good : (n : ℕ) (xs : List Line) → bad_of n xs ≡ []
+all_from : (n : ℕ) (xs : List Line) → among n xs ≡ []
     → (flat_map bytes_of xs ≡ spelling (events_of xs)) × (length xs ≡ length (events_of xs))
-all_good n [] e = (refl, refl)
-all_good n (Good event ∷ xs) e =
-    let h = all_good (number_after_line n) xs e in
+all_from n [] e = (refl, refl)
+all_from n (Good event ∷ xs) e =
+    let h = all_from (n + 1) xs e in
     let k = h.1 in
     let longer : length (Good event ∷ xs) ≡ length (events_of (Good event ∷ xs)) = omega arith in
     (ap (λ t. line event ++ t) h.0, longer)
-all_good n (Bad front fault ∷ xs) e = absurd cc
+all_from n (Bad front fault ∷ xs) e = absurd cc
+
+pub all_good : (xs : List Line) → bad_among xs ≡ []
+    → (flat_map bytes_of xs ≡ spelling (events_of xs)) × (length xs ≡ length (events_of xs))
+all_good xs e = all_from 1 xs e
 
 -- ---- the end of a line
 
 pub nil_left : {A : Type 0} (xs ys : List A) → xs ++ ys ≡ [] → xs ≡ []
-nil_left [] ys e = refl
-nil_left (x ∷ xs) ys e = absurd cc
+nil_left xs ys e = nil_from_length xs (omega (arith, ap length e, length-append xs ys))
 
 -- what can be read of the front of a line is all of it
 read_all : (front held after : List ℕ) (event : Event) → HasNoFeed front → held ≡ take MAX_LINE (front ++ 10 ∷ [])
@@ -202,37 +177,40 @@ held_more (suc m) n (x ∷ xs) bytes =
     ap (λ k. x ∷ (take m xs ++ take (min n k) bytes)) e ∙ ap (λ t. x ∷ t) (held_more m n xs bytes)
 
 short_front : (m : ℕ) (front : List ℕ) → (length (take m front) ≡ m → ⊥) → length front < m
-short_front zero [] not = absurd (not refl)
-short_front zero (x ∷ xs) not = absurd (not refl)
-short_front (suc m) [] not = omega arith
-short_front (suc m) (x ∷ xs) not = let h = short_front m xs (λ e. not (let k : length (take (suc m) (x ∷ xs)) ≡ suc m = omega arith in k))
-    in omega arith
+short_front m front not = omega (arith, length-take m front, not)
 
 -- bytes that end no line
-pub cut_held : (front bytes : List ℕ) (n : ℕ) (events : List Event) (said : List ℕ) (old new : Cutter) → IsFrontOf old front → 0 < n
+pub held_sorted : (old new : Cutter) (came bytes : List ℕ) (n : ℕ) (events : List Event) (bad : List Complaint) → 0 < n
     → n ≤ length bytes → HasNoFeed (take (n - 1) bytes) → (get_or bytes (n - 1) 0 ≡ 10 → ⊥)
     → new.held.items ≡ old.held.items ++ take (min n (MAX_LINE - length old.held.items)) bytes
-    → new.events.items ≡ events → new.reports.items ≡ said → new.number ≡ old.number → new.on_bad ≡ old.on_bad
-    → (old.on_bad ≡ Stop → length new.held.items ≡ MAX_LINE → ⊥)
-    → HasCut events said front (take n bytes) old new
-cut_held front bytes n events said old new h some within b not joined same_events same_said same_number same_policy short =
-    let m : ℕ = MAX_LINE in
-    let kept : new.held.items ≡ take MAX_LINE (front ++ take n bytes) =
-    joined ∙ ap (λ t. t ++ take (min n (MAX_LINE - length t)) bytes) h.kept ∙ held_more MAX_LINE n front bytes in
+    → new.events.items ≡ old.events.items → new.reports.items ≡ old.reports.items → new.number ≡ old.number
+    → new.on_bad ≡ old.on_bad → (old.on_bad ≡ Stop → length new.held.items ≡ MAX_LINE → ⊥)
+    → HasSortedSince old came events bad → HasSortedSince new (came ++ take n bytes) events bad
+held_sorted old new came bytes n events bad some within free not joined same_events same_said same_number same short h =
+    let p = h.sorted.passes in
+    let kept : new.held.items ≡ take MAX_LINE (p.left ++ take n bytes) =
+    joined ∙ ap (λ t. t ++ take (min n (MAX_LINE - length t)) bytes) h.sorted.held ∙ held_more MAX_LINE n p.left bytes in
     record {
-      lines = [];
-      left = front ++ take n bytes;
-      parts = refl;
-      each = tt;
-      rest = record {
-        no_feed = no_feed-take front bytes n some within h.no_feed b not;
-        kept = kept;
-        short = λ stop. short_front MAX_LINE (front ++ take n bytes) (λ full. short (sym same_policy ∙ stop) (ap length kept ∙ full));
+      more = h.more;
+      reports = same_said ∙ h.reports;
+      sorted = record {
+        passes = record {
+          lines = p.lines;
+          left = p.left ++ take n bytes;
+          cut = record {
+            parts = ap (λ t. t ++ take n bytes) p.cut.parts ∙ append_assoc (flat_map bytes_of p.lines) p.left (take n bytes);
+            each = p.cut.each;
+            unended = no_feed-take p.left bytes n some within p.cut.unended free not;
+          };
+          events_are = ap (λ t. events ++ t) same_events ∙ p.events_are;
+          good = λ stop. p.good (sym same ∙ stop);
+          short = λ stop. short_front MAX_LINE (p.left ++ take n bytes)
+              (λ full. short (sym same ∙ stop) (ap length kept ∙ full));
+        };
+        held = kept;
+        counted = same_number ∙ h.sorted.counted;
+        bad_is = h.sorted.bad_is;
       };
-      events_are = same_events ∙ sym (append-nil events);
-      said_is = same_said ∙ sym (append-nil said);
-      counted = same_number;
-      good = λ stop. refl;
     }
 
 -- bytes up to the end of a line, as it is held
@@ -244,190 +222,176 @@ line_front front held bytes held' n old some within is joined =
     ∙ ap (λ t. take MAX_LINE t) (feed-take front bytes n some within is)
 
 -- bytes that end one line
-pub cut_line : (front bytes : List ℕ) (n : ℕ) (events : List Event) (said : List ℕ) (old new : Cutter) → 0 < n → n ≤ length bytes
-    → get_or bytes (n - 1) 0 ≡ 10
-    → HasEndedLine old.on_bad ((front ++ take (n - 1) bytes) ++ 10 ∷ []) old.number events new.events.items said new.reports.items
-    → new.held.items ≡ [] → new.number ≡ number_after_line old.number
-    → HasCut events said front (take n bytes) old new
-cut_line front bytes n events said old new some within is e none counted = record {
-  lines = e.line ∷ [];
-  left = [];
-  parts = feed-take front bytes n some within is ∙ sym e.bytes_is ∙ sym (append-nil (bytes_of e.line))
-      ∙ sym (append-nil (bytes_of e.line ++ []));
-  each = (e.is_line, tt);
-  rest = record { no_feed = tt; kept = none ∙ sym (take_nil MAX_LINE); short = λ stop. lit≤ tt };
-  events_are = e.events_are;
-  said_is = e.said_is;
-  counted = counted;
-  good = e.good;
+pub line_sorted : (old new : Cutter) (came bytes : List ℕ) (n : ℕ) (events : List Event) (bad : List Complaint) → 0 < n
+    → n ≤ length bytes → get_or bytes (n - 1) 0 ≡ 10 → new.on_bad ≡ old.on_bad → new.held.items ≡ []
+    → new.number ≡ min (old.number + 1) (2 ^ 64 - 1) → (h : HasSortedSince old came events bad)
+    → HasEndedLine old.on_bad ((h.sorted.passes.left ++ take (n - 1) bytes) ++ 10 ∷ []) old.number
+    old.events.items new.events.items old.reports.items new.reports.items
+    → HasSortedSince new (came ++ take n bytes) events bad
+line_sorted old new came bytes n events bad some within is same none next h e =
+    let p = h.sorted.passes in
+    let one : List Line = e.line ∷ [] in
+    let before : List ℕ = flat_map bytes_of p.lines in
+    let said : List Complaint = complaint_of old.number e.line in
+    let counted = h.sorted.counted in
+    record {
+      more = h.more ++ said;
+      reports = e.said_is ∙ ap (λ t. t ++ complaints said) h.reports ∙ sym (flat_map-append complaint_line h.more said);
+      sorted = record {
+        passes = record {
+          lines = p.lines ++ one;
+          left = [];
+          cut = record {
+            parts = ap (λ t. t ++ take n bytes) p.cut.parts ∙ append_assoc before p.left (take n bytes)
+                ∙ ap (λ t. before ++ t) (feed-take p.left bytes n some within is ∙ sym e.bytes_is ∙ sym (append-nil (bytes_of e.line)))
+                ∙ sym (flat_map-append bytes_of p.lines one) ∙ sym (append-nil (flat_map bytes_of (p.lines ++ one)));
+            each = all_append IsGoodOrBad p.lines one p.cut.each (e.is_line, tt);
+            unended = tt;
+          };
+          events_are = ap (λ t. events ++ t) e.events_are ∙ sym (append_assoc events old.events.items (events_of one))
+              ∙ ap (λ t. t ++ events_of one) p.events_are ∙ sym (events-append p.lines one);
+          good = λ stop. bad_more p.lines e.line
+              ∙ ap (λ t. t ++ complaint_of (number_next p.lines) e.line) (p.good (sym same ∙ stop))
+              ∙ ap (λ k. complaint_of k e.line) (sym counted) ∙ e.good (sym same ∙ stop);
+          short = λ stop. lit≤ tt;
+        };
+        held = none ∙ sym (take_nil MAX_LINE);
+        counted = next ∙ ap (λ k. min (k + 1) (2 ^ 64 - 1)) counted ∙ sym (next_more p.lines e.line);
+        bad_is = sym (append_assoc bad h.more said) ∙ ap (λ t. t ++ said) h.sorted.bad_is
+            ∙ ap (λ k. bad_among p.lines ++ complaint_of k e.line) counted ∙ sym (bad_more p.lines e.line);
+      };
+    }
+
+-- a cutter that has the same of all but what passed and the reports
+pub sorted_as : (old new : Cutter) (came : List ℕ) (events : List Event) (bad : List Complaint) → new.on_bad ≡ old.on_bad
+    → new.held.items ≡ old.held.items → new.number ≡ old.number → HasSorted old came events bad → HasSorted new came events bad
+sorted_as old new came events bad same same_held same_number h =
+    let p = h.passes in
+    record {
+      passes = record {
+        lines = p.lines;
+        left = p.left;
+        cut = p.cut;
+        events_are = p.events_are;
+        good = λ stop. p.good (sym same ∙ stop);
+        short = λ stop. p.short (sym same ∙ stop);
+      };
+      held = same_held ∙ h.held;
+      counted = same_number ∙ h.counted;
+      bad_is = h.bad_is;
+    }
+
+-- a piece of which nothing was taken yet
+pub since_none : (old new : Cutter) (came piece : List ℕ) (events : List Event) (bad : List Complaint) → new.on_bad ≡ old.on_bad
+    → new.held.items ≡ old.held.items → new.number ≡ old.number → new.events.items ≡ [] → new.reports.items ≡ []
+    → HasSorted old came events bad → HasSortedSince new (came ++ take 0 piece) events bad
+since_none old new came piece events bad same same_held same_number no_events no_reports h = record {
+  more = [];
+  reports = no_reports;
+  sorted = subst (λ z. HasSorted new z (events ++ new.events.items) (bad ++ [])) (sym (append-nil came))
+      (subst (λ es. HasSorted new came es (bad ++ [])) (sym (ap (λ t. events ++ t) no_events ∙ append-nil events))
+      (subst (HasSorted new came events) (sym (append-nil bad)) (sorted_as old new came events bad same same_held same_number h)));
 }
 
-pub cut_none : (front : List ℕ) (old new : Cutter) → IsFrontOf old front → new.held.items ≡ old.held.items
-    → new.on_bad ≡ old.on_bad → new.events.items ≡ [] → new.reports.items ≡ [] → new.number ≡ old.number
-    → HasCut [] [] front [] old new
-cut_none front old new h same same_policy no_events no_reports same_number = record {
-  lines = [];
-  left = front;
-  parts = append-nil front;
-  each = tt;
-  rest = record { no_feed = h.no_feed; kept = same ∙ h.kept; short = λ stop. h.short (sym same_policy ∙ stop) };
-  events_are = no_events;
-  said_is = no_reports;
-  counted = same_number;
-  good = λ stop. refl;
-}
+-- ---- a line that ends the stream
 
--- a line that ends the stream
-stopped_now : (front bytes rest : List ℕ) (n : ℕ) (old new : Cutter) → old.on_bad ≡ Stop → front ++ bytes ≡ rest → 1 ≤ length rest
-    → BeginsNoLine rest → new.events.items ≡ old.events.items → n ≡ old.number
-    → HasStoppedCut old.events.items front bytes old new n
-stopped_now front bytes rest n old new stop parts some bad same is = record {
-  stop = stop;
-  lines = [];
-  rest = rest;
-  parts = parts;
-  each = tt;
-  some = some;
-  bad = bad;
-  events_are = same ∙ sym (append-nil old.events.items);
-  counted = is;
-  good = refl;
-}
+-- after lines of which none is bad come bytes that begin no line
+pub stopped_at : (on_bad : OnBadLine) (came all rest : List ℕ) (n : ℕ) (events : List Event) (p : Passes on_bad came events)
+    → on_bad ≡ Stop → all ≡ flat_map bytes_of p.lines ++ rest → 1 ≤ length rest → BeginsNoLine rest → n ≡ number_next p.lines
+    → IsStoppedAt all events n
+stopped_at on_bad came all rest n events p stop parts some bad counted =
+    let good = all_good p.lines (p.good stop) in
+    record {
+      line = length (events_of p.lines) + 1;
+      bad = record {
+        before = events_of p.lines;
+        rest = rest;
+        parts = parts ∙ ap (λ t. t ++ rest) good.0;
+        in_range = good_script p.lines p.cut.each;
+        some = some;
+        bad = bad;
+        counted = refl;
+      };
+      events_are = p.events_are;
+      counted = counted ∙ ap (λ k. min (k + 1) (2 ^ 64 - 1)) good.1;
+    }
 
--- the front and the rest of bytes after what is held
-around : (front bytes : List ℕ) (n : ℕ) → front ++ bytes ≡ (front ++ take n bytes) ++ drop n bytes
-around front bytes n = ap (λ t. front ++ t) (sym (take-append-drop n bytes)) ∙ sym (append_assoc front (take n bytes) (drop n bytes))
+-- it begins with what is held, as far as a line may go, and then these bytes
+stopped_now : (fault n : ℕ) (old new : Cutter) (came bytes front : List ℕ) (events : List Event) (bad : List Complaint)
+    → (h : HasSortedSince old came events bad) → old.on_bad ≡ Stop → h.sorted.passes.left ++ take n bytes ≡ front
+    → 1 ≤ length (front ++ drop n bytes) → BeginsNoLine (front ++ drop n bytes) → new.events.items ≡ old.events.items → fault ≡ old.number
+    → IsStoppedAt (came ++ bytes) (events ++ new.events.items) fault
+stopped_now fault n old new came bytes front events bad h stop is some none same counted =
+    let p = h.sorted.passes in
+    let before : List ℕ = flat_map bytes_of p.lines in
+    let around : p.left ++ bytes ≡ front ++ drop n bytes = ap (λ t. p.left ++ t) (sym (take-append-drop n bytes))
+    ∙ sym (append_assoc p.left (take n bytes) (drop n bytes)) ∙ ap (λ t. t ++ drop n bytes) is in
+    subst (λ es. IsStoppedAt (came ++ bytes) (events ++ es) fault) (sym same)
+    (stopped_at old.on_bad came (came ++ bytes) (front ++ drop n bytes) fault (events ++ old.events.items) p stop
+    (ap (λ t. t ++ bytes) p.cut.parts ∙ append_assoc before p.left bytes ∙ ap (λ t. before ++ t) around) some none
+    (counted ∙ h.sorted.counted))
 
-stopped_line : (front held bytes : List ℕ) (n number : ℕ) (old new : Cutter) → IsFrontOf old front → old.on_bad ≡ Stop → 0 < n
-    → n ≤ length bytes → HasNoFeed (take (n - 1) bytes) → get_or bytes (n - 1) 0 ≡ 10
-    → held ≡ old.held.items ++ take (min n (MAX_LINE - length old.held.items)) bytes → line_at held ≡ None
-    → new.events.items ≡ old.events.items → number ≡ old.number
-    → HasStoppedCut old.events.items front bytes old new number
-stopped_line front held bytes n number old new h stop some within b is joined unread_none same counted =
-    let rest : List ℕ = drop n bytes in
-    let whole : List ℕ = front ++ take (n - 1) bytes in
-    let free : HasNoFeed whole = no_feed-append front (take (n - 1) bytes) h.no_feed b in
-    let parts : front ++ bytes ≡ (whole ++ 10 ∷ []) ++ rest =
-    around front bytes n ∙ ap (λ t. t ++ rest) (feed-take front bytes n some within is) in
-    let long : length ((whole ++ 10 ∷ []) ++ rest) ≡ length whole + 1 + length rest =
-    length-append (whole ++ 10 ∷ []) rest ∙ ap (λ k. k + length rest) (length-append whole (10 ∷ [])) in
-    stopped_now front bytes ((whole ++ 10 ∷ []) ++ rest) number old new stop parts (omega arith)
-    (read_none whole held rest free
-    (line_front front old.held.items bytes held n h.kept some within is joined) unread_none)
-    same counted
-
--- why a line was not taken, and why a cut stopped at it
-pub line_stops : (fault : ScriptFault) (front held bytes : List ℕ) (n : ℕ) (old new : Cutter) → IsFrontOf old front → 0 < n
-    → n ≤ length bytes → HasNoFeed (take (n - 1) bytes) → get_or bytes (n - 1) 0 ≡ 10
+-- why a line was not taken
+pub line_stops : (fault : ScriptFault) (old new : Cutter) (held came bytes : List ℕ) (n : ℕ) (events : List Event)
+    (bad : List Complaint) → 0 < n → n ≤ length bytes → HasNoFeed (take (n - 1) bytes) → get_or bytes (n - 1) 0 ≡ 10
     → held ≡ old.held.items ++ take (min n (MAX_LINE - length old.held.items)) bytes
-    → StopsLine fault old.on_bad old.number held old.events.items new.events.items
-    → StopsCut fault old.events.items front bytes old new
-line_stops (faults.Bad number) front held bytes n old new h some within b is joined stops =
-    stopped_line front held bytes n number old new h stops.0 some within b is joined stops.2 stops.3 stops.1
-line_stops faults.OutOfMemory front held bytes n old new h some within b is joined stops = tt
+    → StopsLine fault old.on_bad old.number held old.events.items new.events.items → HasSortedSince old came events bad
+    → StopsAt fault old.on_bad (came ++ bytes) (events ++ new.events.items)
+line_stops faults.OutOfMemory old new held came bytes n events bad some within free is joined stops h = tt
+line_stops (faults.Bad number) old new held came bytes n events bad some within free is joined stops h =
+    let left : List ℕ = h.sorted.passes.left in
+    let whole : List ℕ = left ++ take (n - 1) bytes in
+    let long : length ((whole ++ 10 ∷ []) ++ drop n bytes) ≡ length whole + 1 + length (drop n bytes) =
+    length-append (whole ++ 10 ∷ []) (drop n bytes) ∙ ap (λ k. k + length (drop n bytes)) (length-append whole (10 ∷ [])) in (
+      stops.0,
+      stopped_now number n old new came bytes (whole ++ 10 ∷ []) events bad h stops.0 (feed-take left bytes n some within is)
+          (omega arith)
+          (read_none whole held (drop n bytes) (no_feed-append left (take (n - 1) bytes) h.sorted.passes.cut.unended free)
+          (line_front left old.held.items bytes held n h.sorted.held some within is joined) stops.2)
+          stops.3 stops.1,
+    )
 
-pub stopped_long : (front bytes : List ℕ) (n number : ℕ) (old new : Cutter) → IsFrontOf old front → old.on_bad ≡ Stop → 0 < n
-    → n ≤ length bytes → HasNoFeed (take (n - 1) bytes) → (get_or bytes (n - 1) 0 ≡ 10 → ⊥)
+pub long_stops : (old new : Cutter) (number : ℕ) (came bytes : List ℕ) (n : ℕ) (events : List Event) (bad : List Complaint)
+    → old.on_bad ≡ Stop → 0 < n → n ≤ length bytes → HasNoFeed (take (n - 1) bytes) → (get_or bytes (n - 1) 0 ≡ 10 → ⊥)
     → new.held.items ≡ old.held.items ++ take (min n (MAX_LINE - length old.held.items)) bytes → length new.held.items ≡ MAX_LINE
-    → new.events.items ≡ old.events.items → number ≡ old.number
-    → HasStoppedCut old.events.items front bytes old new number
-stopped_long front bytes n number old new h stop some within b not joined long same counted =
-    let rest : List ℕ = drop n bytes in
-    let all : List ℕ = front ++ take n bytes in
-    let kept : new.held.items ≡ take MAX_LINE all =
-    joined ∙ ap (λ t. t ++ take (min n (MAX_LINE - length t)) bytes) h.kept ∙ held_more MAX_LINE n front bytes in
-    let free : HasNoFeed all = no_feed-take front bytes n some within h.no_feed b not in
-    let cut : all ++ rest ≡ take MAX_LINE all ++ (drop MAX_LINE all ++ rest) =
-    ap (λ t. t ++ rest) (sym (take-append-drop MAX_LINE all)) ∙ append_assoc (take MAX_LINE all) (drop MAX_LINE all) rest in
-    let parts : front ++ bytes ≡ take MAX_LINE all ++ (drop MAX_LINE all ++ rest) = around front bytes n ∙ cut in
-    let full : length (take MAX_LINE all) ≡ MAX_LINE = ap length (sym kept) ∙ long in
-    let count : length (take MAX_LINE all ++ (drop MAX_LINE all ++ rest)) ≡ length (take MAX_LINE all) + length (drop MAX_LINE all ++ rest) =
-    length-append (take MAX_LINE all) (drop MAX_LINE all ++ rest) in
-    stopped_now front bytes (take MAX_LINE all ++ (drop MAX_LINE all ++ rest)) number old new stop parts (omega arith)
-    (too_long (take MAX_LINE all) (drop MAX_LINE all ++ rest) (no_feed-front MAX_LINE all free) full) same counted
+    → new.events.items ≡ old.events.items → number ≡ old.number → HasSortedSince old came events bad
+    → StopsAt (faults.Bad number) old.on_bad (came ++ bytes) (events ++ new.events.items)
+long_stops old new number came bytes n events bad stop some within free not joined long same counted h =
+    let all : List ℕ = h.sorted.passes.left ++ take n bytes in
+    let seen : List ℕ = take MAX_LINE all in
+    let more : List ℕ = drop MAX_LINE all ++ drop n bytes in
+    let kept : new.held.items ≡ seen = joined ∙ ap (λ t. t ++ take (min n (MAX_LINE - length t)) bytes) h.sorted.held
+    ∙ held_more MAX_LINE n h.sorted.passes.left bytes in
+    let bare : HasNoFeed all = no_feed-take h.sorted.passes.left bytes n some within h.sorted.passes.cut.unended free not in
+    let cut : all ++ drop n bytes ≡ seen ++ more = ap (λ t. t ++ drop n bytes) (sym (take-append-drop MAX_LINE all))
+    ∙ append_assoc seen (drop MAX_LINE all) (drop n bytes) in
+    let full : length seen ≡ MAX_LINE = ap length (sym kept) ∙ long in
+    let count : length (all ++ drop n bytes) ≡ length seen + length more = ap length cut ∙ length-append seen more in (
+      stop,
+      stopped_now number n old new came bytes all events bad h stop refl (omega arith)
+          (subst BeginsNoLine (sym cut) (too_long seen more (no_feed-front MAX_LINE all bare) full)) same counted,
+    )
   where
     no_feed-front : (m : ℕ) (xs : List ℕ) → HasNoFeed xs → HasNoFeed (take m xs)
     no_feed-front zero xs h = tt
     no_feed-front (suc m) [] h = tt
     no_feed-front (suc m) (x ∷ xs) h = (h.0, no_feed-front m xs h.1)
 
-lines_parts : (xs ys : List Line) (left : List ℕ) → flat_map bytes_of xs ++ (flat_map bytes_of ys ++ left)
-    ≡ flat_map bytes_of (xs ++ ys) ++ left
-lines_parts xs ys left = sym (append_assoc (flat_map bytes_of xs) (flat_map bytes_of ys) left)
-    ∙ ap (λ t. t ++ left) (sym (flat_map-append bytes_of xs ys))
+-- ---- a piece, line after line
 
-bad_none : (n m : ℕ) (xs ys : List Line) → m ≡ number_after n xs → bad_of n xs ≡ [] → bad_of m ys ≡ [] → bad_of n (xs ++ ys) ≡ []
-bad_none n m xs ys is a b = bad-append n xs ys ∙ ap (λ t. t ++ bad_of (number_after n xs) ys) a ∙ ap (λ k. bad_of k ys) (sym is) ∙ b
+-- its first bytes, and some of the others
+pub piece_more : (came piece : List ℕ) (i m k : ℕ) → k ≡ i + m
+    → (came ++ take i piece) ++ take m (take (length piece - i) (drop i piece)) ≡ came ++ take k piece
+piece_more came piece i m k is =
+    append_assoc came (take i piece) (take m (take (length piece - i) (drop i piece)))
+    ∙ ap (λ t. came ++ t) (ap (λ t. take i piece ++ take m t) (take_rest piece i) ∙ sym (take-add i m piece) ∙ ap (λ j. take j piece) (sym is))
 
-cut_join : (events : List Event) (said front x y : List ℕ) (a b c : Cutter) → b.on_bad ≡ a.on_bad → (h : HasCut events said front x a b)
-    → HasCut b.events.items b.reports.items h.left y b c → HasCut events said front (x ++ y) a c
-cut_join events said front x y a b c same h k = record {
-  lines = h.lines ++ k.lines;
-  left = k.left;
-  parts = sym (append_assoc front x y) ∙ ap (λ t. t ++ y) h.parts ∙ append_assoc (flat_map bytes_of h.lines) h.left y
-      ∙ ap (λ t. flat_map bytes_of h.lines ++ t) k.parts ∙ lines_parts h.lines k.lines k.left;
-  each = all_append IsGoodOrBad h.lines k.lines h.each k.each;
-  rest = k.rest;
-  events_are = k.events_are ∙ ap (λ t. t ++ events_of k.lines) h.events_are
-      ∙ append_assoc events (events_of h.lines) (events_of k.lines) ∙ ap (λ t. events ++ t) (sym (events-append h.lines k.lines));
-  said_is = k.said_is ∙ ap (λ t. t ++ complaints (bad_of b.number k.lines)) h.said_is
-      ∙ append_assoc said (complaints (bad_of a.number h.lines)) (complaints (bad_of b.number k.lines))
-      ∙ ap (λ m. said ++ (complaints (bad_of a.number h.lines) ++ complaints (bad_of m k.lines))) h.counted
-      ∙ ap (λ t. said ++ t) (sym (complaints-append a.number h.lines k.lines));
-  counted = k.counted ∙ ap (λ m. number_after m k.lines) h.counted ∙ sym (number-append a.number h.lines k.lines);
-  good = λ stop. bad_none a.number b.number h.lines k.lines h.counted (h.good stop) (k.good (same ∙ stop));
-}
-
-piece_parts : (piece : List ℕ) (i m k : ℕ) → k ≡ i + m → take i piece ++ take m (take (length piece - i) (drop i piece)) ≡ take k piece
-piece_parts piece i m k is = ap (λ t. take i piece ++ take m t) (take_rest piece i) ∙ sym (take-add i m piece) ∙ ap (λ j. take j piece) (sym is)
-
--- a prefix of a piece, and then some bytes of the rest
-pub cut_more : (front piece : List ℕ) (i m k : ℕ) (a b c : Cutter) → k ≡ i + m → b.on_bad ≡ a.on_bad
-    → HasCut [] [] front (take i piece) a b
-    → ((left : List ℕ) → IsFrontOf b left
-    → HasCut b.events.items b.reports.items left (take m (take (length piece - i) (drop i piece))) b c)
-    → HasCut [] [] front (take k piece) a c
-cut_more front piece i m k a b c is same h later =
-    subst (λ t. HasCut [] [] front t a c) (piece_parts piece i m k is)
-    (cut_join [] [] front (take i piece) (take m (take (length piece - i) (drop i piece))) a b c same h (later h.left h.rest))
-
--- and then a line that ends the stream
-cut_stopped : (front piece : List ℕ) (i n : ℕ) (a b c : Cutter) → b.on_bad ≡ a.on_bad → HasCut [] [] front (take i piece) a b
-    → ((left : List ℕ) → IsFrontOf b left → HasStoppedCut b.events.items left (take (length piece - i) (drop i piece)) b c n)
-    → HasStoppedCut [] front piece a c n
-cut_stopped front piece i n a b c same h later =
-    let k = later h.left h.rest in
-    let stop : a.on_bad ≡ Stop = sym same ∙ k.stop in
-    let rest : List ℕ = take (length piece - i) (drop i piece) in
-    let whole : take i piece ++ rest ≡ piece = ap (λ t. take i piece ++ t) (take_rest piece i) ∙ take-append-drop i piece in
-    record {
-      stop = stop;
-      lines = h.lines ++ k.lines;
-      rest = k.rest;
-      parts = ap (λ t. front ++ t) (sym whole) ∙ sym (append_assoc front (take i piece) rest) ∙ ap (λ t. t ++ rest) h.parts
-          ∙ append_assoc (flat_map bytes_of h.lines) h.left rest ∙ ap (λ t. flat_map bytes_of h.lines ++ t) k.parts
-          ∙ lines_parts h.lines k.lines k.rest;
-      each = all_append IsGoodOrBad h.lines k.lines h.each k.each;
-      some = k.some;
-      bad = k.bad;
-      events_are = k.events_are ∙ ap (λ t. t ++ events_of k.lines) h.events_are ∙ sym (events-append h.lines k.lines);
-      counted = k.counted ∙ ap (λ m. number_after m k.lines) h.counted ∙ sym (number-append a.number h.lines k.lines);
-      good = bad_none a.number b.number h.lines k.lines h.counted (h.good stop) k.good;
-    }
-
-pub cut_stops : (fault : ScriptFault) (front piece : List ℕ) (i : ℕ) (a b c : Cutter) → b.on_bad ≡ a.on_bad
-    → HasCut [] [] front (take i piece) a b
-    → ((left : List ℕ) → IsFrontOf b left → StopsCut fault b.events.items left (take (length piece - i) (drop i piece)) b c)
-    → StopsCut fault [] front piece a c
-cut_stops (faults.Bad n) front piece i a b c same h later = cut_stopped front piece i n a b c same h later
-cut_stops faults.OutOfMemory front piece i a b c same h later = tt
-
--- an input of which more came
-pub input_more : (bytes : List ℕ) (lines : List Line) (left more : List ℕ) (a b : Cutter) → IsCut bytes lines left
-    → (h : HasCut [] [] left more a b) → IsCut (bytes ++ more) (lines ++ h.lines) h.left
-input_more bytes lines left more a b cut h = record {
-  parts = ap (λ t. t ++ more) cut.parts ∙ append_assoc (flat_map bytes_of lines) left more ∙ ap (λ t. flat_map bytes_of lines ++ t) h.parts
-      ∙ lines_parts lines h.lines h.left;
-  each = all_append IsGoodOrBad lines h.lines cut.each h.each;
-  unended = h.rest.no_feed;
-}
+-- and all others, of which a line ends the stream
+pub piece_stops : (fault : ScriptFault) (old old' : OnBadLine) (came piece : List ℕ) (i : ℕ) (events : List Event) → old' ≡ old
+    → StopsAt fault old' ((came ++ take i piece) ++ take (length piece - i) (drop i piece)) events
+    → StopsAt fault old (came ++ piece) events
+piece_stops fault old old' came piece i events same h =
+    subst (λ o. StopsAt fault o (came ++ piece) events) same
+    (subst (λ z. StopsAt fault old' z events)
+    (append_assoc came (take i piece) (take (length piece - i) (drop i piece))
+    ∙ ap (λ t. came ++ t) (ap (λ t. take i piece ++ t) (take_rest piece i) ∙ take-append-drop i piece)) h)

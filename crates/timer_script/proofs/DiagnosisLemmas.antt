@@ -1,14 +1,11 @@
 -- Bytes are the line of an event exactly if the reader reads all of them.
-use Rattle.std.proofs.Common.{◌≡◌, ◌⊎◌, ◌==◌, ◌+◌, ◌-◌, ◌≤◌, false, zero, suc, ℕ, List, [], ◌++◌, length, drop, get_or-drop, Some, None, refl, sym, ap, subst, ◌∙◌, arith, append-nil, eq-eqb}
-use Rattle.std.specs.Prelude.{slice_index}
-use Rattle.std.proofs.lemmas.List.{length-drop}
+use Rattle.std.proofs.Common.{◌≡◌, ◌⊎◌, ◌==◌, ◌+◌, ◌-◌, ◌≤◌, false, zero, suc, ℕ, List, [], ◌++◌, length, drop, get_or-drop, Some, None, refl, sym, ap, subst, ◌∙◌, arith, append-nil, eq-eqb, slice_index, length-drop}
 use Rattle.std.proofs.lemmas.Bool.{both_ways}
 use Rattle.std.proofs.lemmas.Option.{none-some}
 use Rattle.std.proofs.NetLemmas.Options.{same_parts}
-use Rattle.timer_facility.specs.declared.event.Event.{Event}
+use Rattle.timer_script.specs.Types.{Event, Field}
 use Rattle.timer_script.specs.Script.{IsInRange, line}
 use Rattle.timer_script.specs.Lines.{line_at}
-use Rattle.timer_script.specs.declared.line_fault.Field.{Field}
 use Rattle.timer_script.specs.Diagnosis.{IsLine, IsDigit, IsAt, AreBefore, IsDigitAt, IsAfterZero, LeavesRange, IsEndOf, IsInNumber}
 use Rattle.timer_script.proofs.Results.{emptied}
 use Rattle.timer_script.proofs.LineLemmas.{line_again, line_sound}

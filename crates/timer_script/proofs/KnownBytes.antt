@@ -1,11 +1,9 @@
 -- Known bytes after one more piece.
-use Rattle.std.proofs.Common.{ℕ, ◌+◌, ◌-◌, ◌≤◌, Bool, List, ◌++◌, length, take, drop, Option, sym, ap, subst, ◌∙◌, arith}
+use Rattle.std.proofs.Common.{ℕ, ◌+◌, ◌-◌, ◌≤◌, Bool, List, ◌++◌, length, take, drop, Option, sym, ap, subst, ◌∙◌, arith, take-add}
 use Rattle.std.proofs.lemmas.List.{take_rest, length-append}
 use Rattle.std.specs.Io.KnownBytes.{Consumes, Appends}
 use Rattle.std.proofs.KnownBytes.{Consumes-kept, Consumes-trans, Appends-trans}
-use Rattle.std.proofs.Math.Seq.{take-add}
-use Rattle.timer_script.specs.declared.input.TheConstants.{MAX_BYTES}
-use Rattle.timer_script.specs.declared.fault.ReadFault.{ReadFault}
+use Rattle.timer_script.specs.Types.{MAX_BYTES, ReadFault}
 use Rattle.timer_script.specs.declared.fault.ReadFault.TheVariants as reads
 use Rattle.timer_script.specs.Input.{HasRead, FailsToRead, StopsReading}
 

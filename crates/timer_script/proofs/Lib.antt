@@ -1,5 +1,4 @@
 pub mod Results
-pub mod EmptyReportLemmas
 pub mod ScriptReportLemmas
 pub mod DiagnosisLemmas
 pub mod LineLemmas

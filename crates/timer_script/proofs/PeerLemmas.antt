@@ -1,12 +1,8 @@
 -- The result of a peer's calls, one after another.
-use Rattle.std.proofs.Common.{inl, inr, eqb-true, ◌≡◌, ℕ, ◌+◌, ◌-◌, ◌<◌, ◌≤◌, ◌==◌, ◌&&◌, ◌||◌, not, Bool, true, false, List, [], ◌∷◌, ◌++◌, length, take, drop, Option, None, Some, refl, sym, ap, subst, ◌∙◌, arith, append_assoc, append-nil}
-use Rattle.std.specs.Prelude.{Result, Ok, Err}
+use Rattle.std.proofs.Common.{◌≡◌, ℕ, ◌+◌, ◌-◌, ◌<◌, ◌≤◌, ◌==◌, ◌&&◌, ◌||◌, not, Bool, true, false, List, [], ◌∷◌, ◌++◌, length, take, drop, Option, None, Some, refl, sym, ap, subst, ◌∙◌, arith, append_assoc, append-nil, eq-eqb, ne_eqb, Result, Ok, Err, take-add}
 use Rattle.std.specs.Io.KnownBytes.{Consumes, Appends, Keeps}
 use Rattle.std.proofs.KnownBytes.{Consumes-nil, Consumes-trans, Consumes-kept, Appends-nil, Appends-trans}
 use Rattle.std.proofs.lemmas.List.{take_rest, length-drop, length-take-le}
-use Rattle.std.proofs.Math.Seq.{take-add}
-use Rattle.std.proofs.lemmas.Bool.Decides.{nat_tests}
-use Rattle.timer_base.specs.OrderLaws.{either}
 use Rattle.timer_script.specs.declared.service.TheConstants.{PIECE}
 use Rattle.timer_script.specs.Peer.{PeerState, Moment, Came, Went, Flush, Grows, Gives, Takes, Flushes}
 use Rattle.timer_script.specs.Service.{came_of, gone_of, is_flushed, IsPromptBy, HasTalkedBy, AreWrites, HasWritten, HasSent}
@@ -104,28 +100,6 @@ written_none p = record {
   reading = refl;
 }
 
--- one text after another
-pub written_join : (p q r : PeerState) (text more : List ℕ) → HasWritten p text q → HasWritten q more r → HasWritten p (text ++ more) r
-written_join p q r text more v w = record {
-  moments = v.moments ++ w.moments;
-  grows = grows_join p.moments q.moments r.moments v.moments w.moments v.grows w.grows;
-  writes = writes_join v.moments w.moments v.writes w.writes;
-  gone_is = gone_join v.moments w.moments ∙ ap (λ x. x ++ gone_of w.moments) v.gone_is ∙ ap (λ y. text ++ y) w.gone_is;
-  written = Appends-trans p.contents q.contents r.contents text more v.written w.written;
-  remaining = w.remaining ∙ v.remaining;
-  reading = w.reading ∙ v.reading;
-}
-
--- whether the texts are flushed
-pub flushed_none : (p : PeerState) → is_flushed true (written_none p).moments ≡ true
-unfolding written_none
-flushed_none p = refl
-
-pub flushed_both : (p q r : PeerState) (text more : List ℕ) (v : HasWritten p text q) (w : HasWritten q more r)
-    → is_flushed true (written_join p q r text more v w).moments ≡ is_flushed (is_flushed true v.moments) w.moments
-unfolding written_join
-flushed_both p q r text more v w = flushed_join true v.moments w.moments
-
 -- one more write that took some of the rest
 pub written_more : {E : Type 0} (p q r : PeerState) (text : List ℕ) (i n : ℕ) → HasWritten p (take i text) q
     → Takes {E = E} q (Ok n) (take (length text - i) (drop i text)) r → HasWritten p (take (i + n) text) r
@@ -179,36 +153,27 @@ sent_all {E} p q r text u w f good = record {
   good = good;
 }
 
-is_zero : (n : ℕ) → n ≡ 0 → (n == 0) ≡ true
-is_zero n h = grind (arith, nat_tests)
-
-not_zero : (n : ℕ) → (n ≡ 0 → ⊥) → (n == 0) ≡ false
-not_zero n h = elim (either (n == 0)) [ inl k ↦ absurd (h (eqb-true n 0 k)) | inr k ↦ k ]
-
 -- a peer that took some bytes has not failed
 pub still_good : {E : Type 0} (q r : PeerState) (n : ℕ) (piece : List ℕ) → q.write_failed ≡ false → (n ≡ 0 → ⊥)
     → Takes {E = E} q (Ok n) piece r → r.write_failed ≡ false
 still_good {E} q r n piece good some t = t.failed ∙ ap (λ b. b || (n == 0 && not (length piece == 0))) good
-    ∙ ap (λ b. b && not (length piece == 0)) (not_zero n some)
+    ∙ ap (λ b. b && not (length piece == 0)) (ne_eqb n 0 some)
 
 -- one that took no byte has, and so has one whose write failed
 pub took_none : {E : Type 0} (q r : PeerState) (n : ℕ) (piece : List ℕ) → q.write_failed ≡ false → n ≡ 0 → 0 < length piece
     → Takes {E = E} q (Ok n) piece r → r.write_failed ≡ true
 took_none {E} q r n piece good none some t =
-    t.failed ∙ ap (λ b. b || (n == 0 && not (length piece == 0))) good ∙ ap (λ b. b && not (length piece == 0)) (is_zero n none)
-    ∙ ap not (not_zero (length piece) (λ e. omega arith))
+    t.failed ∙ ap (λ b. b || (n == 0 && not (length piece == 0))) good ∙ ap (λ b. b && not (length piece == 0)) (eq-eqb n 0 none)
+    ∙ ap not (ne_eqb (length piece) 0 (λ e. omega arith))
+
+rest_long : (text : List ℕ) (i : ℕ) → length (take (length text - i) (drop i text)) ≡ length text - i
+rest_long text i = ap length (take_rest text i) ∙ length-drop i text
 
 pub rest_some : (text : List ℕ) (i : ℕ) → i < length text → 0 < length (take (length text - i) (drop i text))
-rest_some text i l =
-    let e : length (take (length text - i) (drop i text)) ≡ length (drop i text) = ap length (take_rest text i) in
-    let d : length (drop i text) ≡ length text - i = length-drop i text in
-    omega arith
+rest_some text i l = omega (arith, rest_long text i)
 
 pub within_more : (text : List ℕ) (i n : ℕ) → i ≤ length text → n ≤ length (take (length text - i) (drop i text)) → i + n ≤ length text
-within_more text i n l m =
-    let e : length (take (length text - i) (drop i text)) ≡ length (drop i text) = ap length (take_rest text i) in
-    let d : length (drop i text) ≡ length text - i = length-drop i text in
-    omega arith
+within_more text i n l m = omega (arith, rest_long text i)
 
 -- ---- a session and its peer
 

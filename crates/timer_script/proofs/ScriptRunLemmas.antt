@@ -1,5 +1,5 @@
 -- Texts that grow as events are played.
-use Rattle.std.proofs.Common.{◌≡◌, ◌≤◌, ◌+◌, ℕ, List, [], ◌∷◌, ◌++◌, length, take, drop, Some, None, refl, sym, ap, subst, ◌∙◌, arith, append_assoc, append-nil, take-append-drop}
+use Rattle.std.proofs.Common.{◌≡◌, ◌≤◌, ◌+◌, ℕ, List, [], ◌∷◌, ◌++◌, length, Some, None, refl, sym, ap, subst, ◌∙◌, arith, append_assoc, append-nil}
 use Rattle.std.specs.Prelude.{Result, Ok, Err, OnOk}
 use Rattle.std.specs.List.{flat_map}
 use Rattle.std.proofs.lemmas.List.{length-append}
@@ -12,7 +12,7 @@ use Rattle.timer_facility.proofs.PlayedLemmas.{IsRun-none, IsRun-join, IsPlayed-
 use Rattle.timer_script.specs.Text.{out_line, end_line}
 use Rattle.timer_script.specs.Script.{IsBadLine}
 use Rattle.timer_script.specs.Lines.{line_at}
-use Rattle.timer_script.specs.ScriptRun.{AddsLines, AddsFirstLines, HasPlayedLines, IsAnswer}
+use Rattle.timer_script.specs.ScriptRun.{AddsLines, HasPlayedLines, IsAnswer}
 use Rattle.timer_script.proofs.Results.{emptied}
 use Rattle.timer_script.proofs.ScriptLemmas.{HasReadTo, read_nothing, read_more, read_all, read_bad, line_shorter}
 
@@ -83,21 +83,6 @@ added_answer s after events lines answer sound adds is = record {
   after = after;
   played = IsPlayed-run s events adds.outs after sound adds.runs;
   lines = is ∙ ap (λ t. t ++ end_line after.now (length after.pending)) adds.lines;
-}
-
--- nothing was played
-pub adds_none : (s : FacilityState) (text : List ℕ) → AddsLines s [] text text s
-adds_none s text = record { outs = []; runs = IsRun-none s; lines = sym (append-nil text) }
-
--- the first events were played, and the text is as it was then
-pub adds_first : (a b : FacilityState) (events : List Event) (i : ℕ) (x y z : List ℕ) → AddsLines a (take i events) x y b → z ≡ y
-    → AddsFirstLines a events x z
-adds_first a b events i x y z h same = record {
-  played = take i events;
-  unplayed = drop i events;
-  parts = sym (take-append-drop i events);
-  after = b;
-  adds = subst (λ t. AddsLines a (take i events) x t b) (sym same) h;
 }
 
 -- the steps of a script that is played

@@ -1,77 +1,15 @@
 -- The answers to some events, and what is added to them: played and written.
-use Rattle.std.proofs.Common.{◌≡◌, ℕ, ◌≤◌, true, false, List, [], ◌∷◌, ◌++◌, length, take, drop, inl, inr, refl, sym, ap, subst, ◌∙◌, arith, append_assoc, append-nil, take-append-drop}
-use Rattle.std.specs.Prelude.{Bool, Result, Ok, Err, OnOk, OnErr}
-use Rattle.std.proofs.Math.Seq.{take-append_seam}
+use Rattle.std.proofs.Common.{◌≡◌, ℕ, ◌≤◌, true, false, List, [], ◌∷◌, ◌++◌, length, take, drop, inl, inr, refl, sym, ap, subst, ◌∙◌, append_assoc, append-nil, take-append-drop, Bool, Result, Ok, Err, OnOk, OnErr}
 use Rattle.std.proofs.lemmas.Grind.{flat_map-append}
-use Rattle.timer_base.specs.declared.fault.OutOfMemory.{OutOfMemory}
-use Rattle.timer_facility.specs.declared.event.Event.{Event}
-use Rattle.timer_facility.specs.declared.event.Out.{Out}
-use Rattle.timer_facility.specs.State.{FacilityState}
-use Rattle.timer_facility.specs.Step.{step}
-use Rattle.timer_facility.specs.Run.{PlacedEvent, state_after, run}
-use Rattle.timer_facility.specs.Played.{IsRun}
+use Rattle.timer_script.specs.Types.{OutOfMemory, Event, FacilityState, TurnFault, PIECE, OnBadLine}
 use Rattle.timer_facility.proofs.PlayedLemmas.{IsRun-none, IsRun-join}
-use Rattle.timer_script.specs.declared.fault.TurnFault.{TurnFault}
 use Rattle.timer_script.specs.declared.fault.TurnFault.TheVariants as turns
 use Rattle.timer_script.specs.Text.{out_line, lines_of}
-use Rattle.timer_script.specs.ScriptRun.{AddsLines, AddsFirstLines}
-use Rattle.timer_script.specs.Decorator.{Decoration, IsLawful, MayAddNothing, HasGrown, HasGrownAfter, HasAnsweredWithin, AreDecorated}
-use Rattle.timer_script.specs.Peer.{PeerState}
-use Rattle.timer_script.specs.Service.{AreGood, HasSent, HasSentPart, is_flushed, HasAnswered, IsBegun, HasAnsweredPart, MayServe, HasServedEvents, HasServedSome, StopsEvents}
-use Rattle.timer_script.specs.Steps.{HasPlayedText}
-use Rattle.timer_script.proofs.PeerLemmas.{flushed_none, flushed_both, flushed_anyway, written_none, written_join}
-
--- ---- a run, event by event
-
-state_after-append : (s : FacilityState) (xs ys : List PlacedEvent) → state_after s (xs ++ ys) ≡ state_after (state_after s xs) ys
-state_after-append s [] ys = refl
-state_after-append s (x ∷ xs) ys = state_after-append (step s x.event x.place).state xs ys
-
-run-append : (s : FacilityState) (xs ys : List PlacedEvent) → (run s (xs ++ ys)).outs ≡ (run s xs).outs ++ (run (state_after s xs) ys).outs
-run-append s [] ys = refl
-run-append s (x ∷ xs) ys =
-    let first = step s x.event x.place in
-    ap (λ outs. first.outs ++ outs) (run-append first.state xs ys)
-    ∙ sym (append_assoc first.outs (run first.state xs).outs (run (state_after first.state xs) ys).outs)
-
--- a run of events, as that of the first and that of the others
-record IsRunInParts (s : FacilityState) (event : Event) (events : List Event) (outs : List Out) (after : FacilityState) : Type 0 where
-  pub next : FacilityState
-  pub first : List Out
-  pub others : List Out
-  pub parts : outs ≡ first ++ others
-  pub runs : IsRun s (event ∷ []) first next
-  pub more : IsRun next events others after
-
-run_parts : (s : FacilityState) (event : Event) (events : List Event) (outs : List Out) (after : FacilityState)
-    → IsRun s (event ∷ events) outs after → IsRunInParts s event events outs after
-run_parts s event events outs after r =
-    let one : List PlacedEvent = r.singles.0 in
-    let left : List PlacedEvent = r.singles.1 in
-    record {
-      next = state_after s one;
-      first = (run s one).outs;
-      others = (run (state_after s one) left).outs;
-      parts = r.outs_are ∙ ap (λ placed. (run s placed).outs) r.singles.2 ∙ run-append s one left;
-      runs = record {
-        placed = one;
-        singles = (one, [], sym (append-nil one), r.singles.3, refl);
-        outs_are = refl;
-        after_is = refl;
-      };
-      more = record {
-        placed = left;
-        singles = r.singles.4;
-        outs_are = refl;
-        after_is = r.after_is ∙ ap (λ placed. (run s placed).state) r.singles.2 ∙ state_after-append s one left;
-      };
-    }
-
-run_none : (s after : FacilityState) (outs : List Out) → IsRun s [] outs after → (after ≡ s) × (outs ≡ [])
-run_none s after outs r = (
-  r.after_is ∙ ap (λ placed. (run s placed).state) r.singles,
-  r.outs_are ∙ ap (λ placed. (run s placed).outs) r.singles,
-)
+use Rattle.timer_script.specs.Decorator.{Decoration, HasGrownAfter, HasAnsweredWithin, AreDecorated, HasGrownByAnswer}
+use Rattle.timer_script.specs.Cutter.{Passes}
+use Rattle.timer_script.specs.Peer.{PeerState, Gives}
+use Rattle.timer_script.specs.Service.{AreGood, HasWritten, HasSent, HasSentPart, is_flushed, HasAnswered, IsBegun, HasAnsweredPart, IsAnsweredWith, HasAnsweredSoFar, HasAnsweredSome, AnswersMore, HasStoppedTurn, StopsTurn}
+use Rattle.timer_script.proofs.PeerLemmas.{flushed_anyway, talked_nothing, talked_wrote, talked_sent, came_after, failed_after}
 
 -- ---- some events
 
@@ -79,7 +17,7 @@ pub answered_none : (A : Decoration) (s : FacilityState) → HasAnswered A s [] 
 answered_none A s = record { outs = []; runs = IsRun-none s; added = (refl, refl, refl) }
 
 -- the answer to one line, and what comes after it
-pub decorated : (A : Decoration) (s t : FacilityState) (event : Event) (line text : List ℕ)
+decorated : (A : Decoration) (s t : FacilityState) (event : Event) (line text : List ℕ)
     → HasAnsweredWithin A s (event ∷ []) t line → HasGrownAfter A t line text → HasAnswered A s (event ∷ []) t text
 decorated A s t event line text h grown = record {
   outs = h.outs;
@@ -97,82 +35,6 @@ decorated A s t event line text h grown = record {
   );
 }
 
-kept_line : (A : Decoration) (d : IsLawful A) (s t : FacilityState) (event : Event) (outs : List Out) → IsRun s (event ∷ []) outs t
-    → HasAnsweredWithin A s (event ∷ []) t (lines_of outs)
-kept_line A d s t event outs runs = record { outs = outs; runs = runs; within = d.kept outs }
-
--- lines of which only the last has something after it
-decorated_last : (A : Decoration) (d : IsLawful A) (none : MayAddNothing A) (s t : FacilityState) (events : List Event) (outs : List Out)
-    (text : List ℕ) → IsRun s events outs t → 1 ≤ length events → HasGrownAfter A t (lines_of outs) text
-    → AreDecorated A s events t (lines_of outs) text
-unfolding decorated kept_line
-decorated_last A d none s t [] outs text runs some grown = absurd (omega arith)
-decorated_last A d none s t (event ∷ []) outs text runs some grown =
-    (decorated A s t event (lines_of outs) text (kept_line A d s t event outs runs) grown).added
-decorated_last A d none s t (event ∷ other ∷ events) outs text runs some grown =
-    let r = run_parts s event (other ∷ events) outs t runs in
-    let first : List ℕ = lines_of r.first in
-    let others : List ℕ = lines_of r.others in
-    let both : lines_of outs ≡ first ++ others = ap lines_of r.parts ∙ flat_map-append out_line r.first r.others in (
-      r.next,
-      first,
-      first,
-      others,
-      others ++ grown.0,
-      record {
-        line = first;
-        answered = kept_line A d s r.next event r.first r.runs;
-        answer_is = refl;
-        added = [];
-        comes_after = none r.next;
-        text_is = sym (append-nil first);
-      },
-      decorated_last A d none r.next t (other ∷ events) r.others (others ++ grown.0) r.more (omega arith) (grown.0, refl, grown.2),
-      both,
-      grown.1 ∙ ap (λ z. z ++ grown.0) both ∙ append_assoc first others grown.0,
-    )
-
--- lines after which nothing has to come
-kept : (A : Decoration) (d : IsLawful A) (none : MayAddNothing A) (s t : FacilityState) (events : List Event) (text : List ℕ)
-    → AddsLines s events [] text t → HasAnswered A s events t text
-kept A d none s t [] text h =
-    let is = run_none s t h.outs h.runs in
-    subst (λ z. HasAnswered A s [] z text) (sym is.0)
-    (subst (HasAnswered A s [] s) (sym (h.lines ∙ ap lines_of is.1)) (answered_none A s))
-kept A d none s t (event ∷ events) text h = record {
-  outs = h.outs;
-  runs = h.runs;
-  added = decorated_last A d none s t (event ∷ events) h.outs text h.runs (omega arith)
-      ([], h.lines ∙ sym (append-nil (lines_of h.outs)), none t);
-}
-
--- what comes after lines that are served at once
-pub answered_after : (A : Decoration) (d : IsLawful A) (s t : FacilityState) (events : List Event) (text text' : List ℕ)
-    → MayServe A events → 1 ≤ length events → HasPlayedText A s events t text → HasGrownAfter A t text text'
-    → HasAnswered A s events t text'
-answered_after A d s t [] text text' may some h grown = absurd (omega arith)
-answered_after A d s t (event ∷ events) text text' may some (inr h) grown =
-    subst (λ es. HasAnswered A s es t text') (sym h.1) (decorated A s t h.0 text text' h.2 grown)
-answered_after A d s t (event ∷ []) text text' may some (inl h) grown =
-    decorated A s t event text text' (subst (HasAnsweredWithin A s (event ∷ []) t) (sym h.lines) (kept_line A d s t event h.outs h.runs)) grown
-answered_after A d s t (event ∷ other ∷ events) text text' (inl few) some (inl h) grown = absurd (omega arith)
-answered_after A d s t (event ∷ other ∷ events) text text' (inr none) some (inl h) grown = record {
-  outs = h.outs;
-  runs = h.runs;
-  added = decorated_last A d none s t (event ∷ other ∷ events) h.outs text' h.runs (omega arith)
-      (subst (λ z. HasGrownAfter A t z text') h.lines grown);
-}
-
--- no event needs no answer
-pub answered_nothing : (A : Decoration) (s t : FacilityState) (events : List Event) (text : List ℕ) → events ≡ []
-    → HasPlayedText A s events t text → HasAnswered A s events t text
-answered_nothing A s t [] text e (inl h) =
-    let is = run_none s t h.outs h.runs in
-    subst (λ z. HasAnswered A s [] z text) (sym is.0)
-    (subst (HasAnswered A s [] s) (sym (h.lines ∙ ap lines_of is.1)) (answered_none A s))
-answered_nothing A s t [] text e (inr h) = absurd cc
-answered_nothing A s t (event ∷ events) text e h = absurd cc
-
 -- ---- the first of some events
 
 pub answered_whole : (A : Decoration) (s t : FacilityState) (events : List Event) (text : List ℕ) → HasAnswered A s events t text
@@ -189,23 +51,8 @@ answered_whole A s t events text h = record {
   text_is = sym (append-nil text);
 }
 
--- none of them, or the first without what comes after it
-begun_part : (A : Decoration) (s : FacilityState) (events : List Event) (text : List ℕ) → IsBegun A s events text
-    → HasAnsweredPart A s events text
-begun_part A s events text h = record {
-  done = [];
-  rest = events;
-  parts = refl;
-  after = s;
-  decorated = [];
-  answered = answered_none A s;
-  last = text;
-  begun = h;
-  text_is = refl;
-}
-
 -- and then others, of which not all are
-part_more : (A : Decoration) (s : FacilityState) (events more : List Event) (text : List ℕ) → HasAnsweredPart A s events text
+pub part_more : (A : Decoration) (s : FacilityState) (events more : List Event) (text : List ℕ) → HasAnsweredPart A s events text
     → HasAnsweredPart A s (events ++ more) text
 part_more A s events more text h = record {
   done = h.done;
@@ -222,36 +69,6 @@ part_more A s events more text h = record {
     later : IsBegun A h.after h.rest h.last → IsBegun A h.after (h.rest ++ more) h.last
     later (inl none) = inl none
     later (inr x) = inr (x.0, x.1 ++ more, ap (λ z. z ++ more) x.2, x.3, x.4)
-
--- lines that are served at once were played in part
-pub part_played : (A : Decoration) (d : IsLawful A) (s : FacilityState) (events : List Event) (text : List ℕ) → MayServe A events
-    → AddsFirstLines s events [] text → HasAnsweredPart A s events text
-part_played A d s events text may h =
-    subst (λ es. HasAnsweredPart A s es text) (sym h.parts) (parts h.played h.unplayed h.after (subst (MayServe A) h.parts may) h.adds)
-  where
-    parts : (played unplayed : List Event) (t : FacilityState) → MayServe A (played ++ unplayed) → AddsLines s played [] text t
-        → HasAnsweredPart A s (played ++ unplayed) text
-    parts [] unplayed t may a =
-        let is = run_none s t a.outs a.runs in
-        begun_part A s unplayed text (inl (a.lines ∙ ap lines_of is.1))
-    parts (event ∷ []) unplayed t may a = begun_part A s (event ∷ unplayed) text (inr (
-      event,
-      unplayed,
-      refl,
-      t,
-      subst (HasAnsweredWithin A s (event ∷ []) t) (sym a.lines) (kept_line A d s t event a.outs a.runs),
-    ))
-    parts (event ∷ other ∷ events) unplayed t (inl few) a = absurd (omega arith)
-    parts (event ∷ other ∷ events) unplayed t (inr none) a =
-        part_more A s (event ∷ other ∷ events) unplayed text
-        (answered_whole A s t (event ∷ other ∷ events) text (kept A d none s t (event ∷ other ∷ events) text a))
-
--- all of them were played, and nothing comes after them
-pub part_bare : (A : Decoration) (d : IsLawful A) (s t : FacilityState) (events : List Event) (text : List ℕ) → MayServe A events
-    → HasPlayedText A s events t text → HasAnsweredPart A s events text
-part_bare A d s t events text may (inl h) = part_played A d s events text may
-    (record { played = events; unplayed = []; parts = sym (append-nil events); after = t; adds = h })
-part_bare A d s t events text may (inr h) = begun_part A s events text (inr (h.0, [], h.1, t, h.2))
 
 -- ---- one text after another
 
@@ -294,116 +111,173 @@ part_join A a b x y t u f g = record {
   text_is = ap (λ z. t ++ z) g.text_is ∙ sym (append_assoc t g.decorated g.last);
 }
 
--- text that grew, cut back to where it was
-pub cut_back : (text grown cut : List ℕ) → HasGrown text grown → cut ≡ take (length text) grown → cut ≡ text
-cut_back text grown cut h e = e ∙ ap (take (length text)) h.1 ∙ take-append_seam text h.0
+-- one more event was played, and decorated
+pub answered_more : (A : Decoration) (before s t : FacilityState) (earlier : List Event) (event : Event) (a b text : List ℕ)
+    → HasGrownByAnswer A s (event ∷ []) t a b → HasGrownAfter A t b text → HasAnswered A before earlier s a
+    → HasAnswered A before (earlier ++ event ∷ []) t text
+answered_more A before s t earlier event a b text grown after h =
+    let line : List ℕ = grown.0 ++ after.0 in
+    let parts : text ≡ a ++ line = after.1 ∙ ap (λ z. z ++ after.0) grown.1 ∙ append_assoc a grown.0 after.0 in
+    subst (HasAnswered A before (earlier ++ event ∷ []) t) (sym parts)
+    (answered_join A before s t earlier (event ∷ []) a line h
+    (decorated A s t event grown.0 line grown.2 (after.0, refl, after.2)))
+
+-- it was not, or not decorated
+pub part_begun : (A : Decoration) (before s : FacilityState) (earlier events : List Event) (a last text : List ℕ) → text ≡ a ++ last
+    → IsBegun A s events last → HasAnswered A before earlier s a → HasAnsweredPart A before (earlier ++ events) text
+part_begun A before s earlier events a last text is begun h = record {
+  done = earlier;
+  rest = events;
+  parts = refl;
+  after = s;
+  decorated = a;
+  answered = h;
+  last = last;
+  begun = begun;
+  text_is = is;
+}
 
 -- ---- text that is sent
 
 pub sent_good : (q r : PeerState) (txt : List ℕ) → q.read_failed ≡ false → HasSent q txt r → AreGood r
 sent_good q r txt good h = record { reading = h.written.reading ∙ good; writing = h.good }
 
-pub events_sent : (A : Decoration) (a b : FacilityState) (q r : PeerState) (events : List Event) (text : List ℕ)
-    → HasAnswered A a events b text → HasSent q text r → HasServedEvents A a events b q r
-events_sent A a b q r events text h s = record {
-  sent = text;
-  answered = h;
-  written = s.written;
-  flush = flushed_anyway true s.written.moments s.flushed;
+-- ---- what is answered so far
+
+pub so_none : (o : OnBadLine) (A : Decoration) (before : FacilityState) (p : PeerState)
+    → HasAnsweredSoFar o A before [] [] p p before
+so_none o A before p =
+    record { sent = []; talked = talked_nothing (IsAnsweredWith o A before) p; answered = answered_none A before }
+
+-- the events that are answered are the first of these
+pub so_some : (o : OnBadLine) (A : Decoration) (before s : FacilityState) (came : List ℕ) (events : List Event)
+    (p q : PeerState) → HasAnsweredSoFar o A before came events p q s → HasAnsweredSome o A before came events p q [] true
+so_some o A before s came events p q h = record {
+  sent = h.sent;
+  talked = h.talked;
+  answered = answered_whole A before s events (h.sent ++ [])
+      (subst (HasAnswered A before events s) (sym (append-nil h.sent)) h.answered);
 }
 
--- not all events were answered, and the text so far was sent
-pub sent_part : (A : Decoration) (a : FacilityState) (q r : PeerState) (events : List Event) (text : List ℕ)
-    → HasAnsweredPart A a events text → q.read_failed ≡ false → HasSent q text r → StopsEvents A turns.OutOfMemory a events q r
-sent_part A a q r events text h good s = (
-  record {
-    sent = text;
-    answered = subst (HasAnsweredPart A a events) (sym (append-nil text)) h;
-    written = s.written;
-    flush = flushed_anyway true s.written.moments s.flushed;
-  },
-  sent_good q r text good s,
-)
+-- whether a read gave some bytes or failed, all was answered before
+pub so_read : {E : Type 0} (o : OnBadLine) (A : Decoration) (before s : FacilityState) (came : List ℕ) (events : List Event)
+    (p q r : PeerState) (n : ℕ) (piece : List ℕ) → n ≤ length piece → length piece ≤ PIECE → Passes o came events
+    → HasAnsweredSoFar o A before came events p q s → Gives {E = E} q (Ok n) piece r
+    → HasAnsweredSoFar o A before (came ++ take n piece) events p r s
+so_read {E} o A before s came events p q r n piece within short passes h gives = record {
+  sent = h.sent;
+  talked = came_after (IsAnsweredWith o A before) p q r came h.sent n piece within short h.talked
+      (record { events = events; after = s; passes = passes; answered = h.answered }) gives;
+  answered = h.answered;
+}
 
--- however they were answered, the peer failed while the text was sent
-pub unsent : (A : Decoration) (fault : TurnFault) (result : Result Unit OutOfMemory) (a b : FacilityState) (q r : PeerState)
-    (events : List Event) (text : List ℕ) → fault ≡ turns.Write → OnOk result (HasAnswered A a events b text)
-    → OnErr result (HasAnsweredPart A a events text) → q.read_failed ≡ false → HasSentPart q text r → StopsEvents A fault a events q r
-unsent A fault result a b q r events text is whole part good s =
-    subst (λ f. StopsEvents A f a events q r) (sym is) (
-      drop s.count text,
-      is_flushed true s.written.moments,
-      record {
-        sent = take s.count text;
-        answered = subst (HasAnsweredPart A a events) (sym (take-append-drop s.count text)) (some result whole part);
-        written = s.written;
-        flush = refl;
-      },
-      s.written.reading ∙ good,
-      s.failed,
-    )
-  where
-    some : (result : Result Unit OutOfMemory) → OnOk result (HasAnswered A a events b text)
-        → OnErr result (HasAnsweredPart A a events text) → HasAnsweredPart A a events text
-    some (Ok u) h k = answered_whole A a b events text h
-    some (Err e) h k = k
+pub so_failed : {E : Type 0} (o : OnBadLine) (A : Decoration) (before s : FacilityState) (came : List ℕ) (events : List Event)
+    (p q r : PeerState) (e : E) (piece : List ℕ) → Passes o came events
+    → HasAnsweredSoFar o A before came events p q s → Gives {E = E} q (Err e) piece r
+    → HasAnsweredSoFar o A before came events p r s
+so_failed {E} o A before s came events p q r e piece passes h gives = record {
+  sent = h.sent;
+  talked = failed_after (IsAnsweredWith o A before) p q r came h.sent e piece h.talked
+      (record { events = events; after = s; passes = passes; answered = h.answered }) gives;
+  answered = h.answered;
+}
 
 -- ---- events after events
 
--- the first of some events were served
-pub record HasServedUpTo (A : Decoration) (old : FacilityState) (events : List Event) (peer peer' : PeerState) (new : FacilityState)
-    (rest : List Event) : Type 0 where
-  pub front : List Event
-  pub parts : events ≡ front ++ rest
-  pub served : HasServedEvents A old front new peer peer'
-
-pub up_to_none : (A : Decoration) (s : FacilityState) (p : PeerState) (events : List Event) → HasServedUpTo A s events p p s events
-up_to_none A s p events = record {
-  front = [];
-  parts = refl;
-  served = record { sent = []; answered = answered_none A s; written = written_none p; flush = flushed_none p };
+-- the answer to more events was sent
+pub answers_more : (A : Decoration) (s t : FacilityState) (events : List Event) (text : List ℕ) (q r : PeerState)
+    → HasAnswered A s events t text → HasSent q text r → AnswersMore A events s t q r
+answers_more A s t events text q r answered sent = λ o before came earlier p h. record {
+  sent = h.sent ++ text;
+  talked = talked_sent (IsAnsweredWith o A before) p q r came h.sent text true h.talked sent;
+  answered = answered_join A before s t earlier events h.sent text h.answered answered;
 }
 
-pub up_to_more : (A : Decoration) (a b c : FacilityState) (p q r : PeerState) (events rest first after : List Event)
-    → HasServedUpTo A a events p q b rest → rest ≡ first ++ after → HasServedEvents A b first c q r
-    → HasServedUpTo A a events p r c after
-up_to_more A a b c p q r events rest first after f parts g =
-    let s = f.served in
-    record {
-      front = f.front ++ first;
-      parts = f.parts ∙ ap (λ z. f.front ++ z) parts ∙ sym (append_assoc f.front first after);
-      served = record {
-        sent = s.sent ++ g.sent;
-        answered = answered_join A a b c f.front first s.sent g.sent s.answered g.answered;
-        written = written_join p q r s.sent g.sent s.written g.written;
-        flush = flushed_both p q r s.sent g.sent s.written g.written ∙ ap (λ z. is_flushed z g.written.moments) s.flush ∙ g.flush;
-      };
-    }
+-- not all of them were answered, or not all of the text was sent
+some_more : (A : Decoration) (s : FacilityState) (events : List Event) (text unsent : List ℕ) (q r : PeerState)
+    → HasAnsweredPart A s events (text ++ unsent) → (w : HasWritten q text r) → (o : OnBadLine) (before : FacilityState)
+    (came : List ℕ) (earlier : List Event) (p : PeerState) → HasAnsweredSoFar o A before came earlier p q s
+    → HasAnsweredSome o A before came (earlier ++ events) p r unsent (is_flushed true w.moments)
+some_more A s events text unsent q r part w o before came earlier p h = record {
+  sent = h.sent ++ text;
+  talked = talked_wrote (IsAnsweredWith o A before) p q r came h.sent text true h.talked w;
+  answered = subst (HasAnsweredPart A before (earlier ++ events)) (sym (append_assoc h.sent text unsent))
+      (part_join A before s earlier events h.sent (text ++ unsent) h.answered part);
+}
 
-up_to_some : (A : Decoration) (a b : FacilityState) (p q r : PeerState) (events rest first after : List Event)
-    (unsent : List ℕ) (flushed : Bool) → HasServedUpTo A a events p q b rest → rest ≡ first ++ after
-    → HasServedSome A b first q r unsent flushed → HasServedSome A a events p r unsent flushed
-up_to_some A a b p q r events rest first after unsent flushed f parts g =
-    let s = f.served in
-    record {
-      sent = s.sent ++ g.sent;
-      answered = subst (λ es. HasAnsweredPart A a es ((s.sent ++ g.sent) ++ unsent)) (sym (f.parts ∙ ap (λ z. f.front ++ z) parts))
-          (subst (HasAnsweredPart A a (f.front ++ (first ++ after))) (sym (append_assoc s.sent g.sent unsent))
-          (part_join A a b f.front (first ++ after) s.sent (g.sent ++ unsent) s.answered
-          (part_more A b first after (g.sent ++ unsent) g.answered)));
-      written = written_join p q r s.sent g.sent s.written g.written;
-      flush = flushed_both p q r s.sent g.sent s.written g.written ∙ ap (λ z. is_flushed z g.written.moments) s.flush ∙ g.flush;
-    }
+-- out of memory, and the text so far was sent
+pub stops_sent : (A : Decoration) (s : FacilityState) (events : List Event) (text : List ℕ) (q r : PeerState)
+    → HasAnsweredPart A s events text → q.read_failed ≡ false → HasSent q text r → StopsTurn A turns.OutOfMemory events s q r
+stops_sent A s events text q r part good sent = λ o before came earlier p h. (
+  subst (HasAnsweredSome o A before came (earlier ++ events) p r []) (flushed_anyway true sent.written.moments sent.flushed)
+      (some_more A s events text [] q r (subst (HasAnsweredPart A s events) (sym (append-nil text)) part) sent.written o before came
+      earlier p h),
+  sent_good q r text good sent,
+)
 
-pub up_to_stops : (A : Decoration) (fault : TurnFault) (a b : FacilityState) (p q r : PeerState)
-    (events rest first after : List Event) → HasServedUpTo A a events p q b rest → rest ≡ first ++ after
-    → StopsEvents A fault b first q r → StopsEvents A fault a events p r
-up_to_stops A turns.OutOfMemory a b p q r events rest first after f parts h =
-    (up_to_some A a b p q r events rest first after [] true f parts h.0, h.1)
-up_to_stops A turns.Write a b p q r events rest first after f parts h =
-    (h.0, h.1, up_to_some A a b p q r events rest first after h.0 h.1 f parts h.2, h.3, h.4)
+-- however they were answered, the peer failed while the text was sent
+pub stops_unsent : (A : Decoration) (fault : TurnFault) (result : Result Unit OutOfMemory) (s t : FacilityState)
+    (events : List Event) (text : List ℕ) (q r : PeerState) → fault ≡ turns.Write → OnOk result (HasAnswered A s events t text)
+    → OnErr result (HasAnsweredPart A s events text) → q.read_failed ≡ false → HasSentPart q text r → StopsTurn A fault events s q r
+stops_unsent A fault result s t events text q r is whole part good sent =
+    subst (λ f. StopsTurn A f events s q r) (sym is) (λ o before came earlier p h. (
+      drop sent.count text,
+      is_flushed true sent.written.moments,
+      some_more A s events (take sent.count text) (drop sent.count text) q r
+          (subst (HasAnsweredPart A s events) (sym (take-append-drop sent.count text)) (some result whole part)) sent.written o before
+          came earlier p h,
+      sent.written.reading ∙ good,
+      sent.failed,
+    ))
+  where
+    some : (result : Result Unit OutOfMemory) → OnOk result (HasAnswered A s events t text)
+        → OnErr result (HasAnsweredPart A s events text) → HasAnsweredPart A s events text
+    some (Ok u) h k = answered_whole A s t events text h
+    some (Err e) h k = k
 
-pub up_to_all : (A : Decoration) (a b : FacilityState) (p q : PeerState) (events rest : List Event) → HasServedUpTo A a events p q b rest
-    → rest ≡ [] → HasServedEvents A a events b p q
-up_to_all A a b p q events rest f none = subst (λ z. HasServedEvents A a z b p q)
-    (sym (f.parts ∙ ap (λ z. f.front ++ z) none ∙ append-nil f.front)) f.served
+-- the first of some events were answered, and these are left
+pub record HasAnsweredFirst (A : Decoration) (events rest : List Event) (s t : FacilityState) (p q : PeerState) : Type 0 where
+  pub done : List Event
+  pub parts : events ≡ done ++ rest
+  pub more : AnswersMore A done s t p q
+
+pub first_none : (A : Decoration) (events : List Event) (s : FacilityState) (p : PeerState) → HasAnsweredFirst A events events s s p p
+first_none A events s p = record {
+  done = [];
+  parts = refl;
+  more = λ o before came earlier old h. subst (λ es. HasAnsweredSoFar o A before came es old p s) (sym (append-nil earlier)) h;
+}
+
+pub first_more : (A : Decoration) (events rest one after : List Event) (s t u : FacilityState) (p q r : PeerState)
+    → HasAnsweredFirst A events rest s t p q → rest ≡ one ++ after → AnswersMore A one t u q r
+    → HasAnsweredFirst A events after s u p r
+first_more A events rest one after s t u p q r f parts g = record {
+  done = f.done ++ one;
+  parts = f.parts ∙ ap (λ z. f.done ++ z) parts ∙ sym (append_assoc f.done one after);
+  more = λ o before came earlier old h. subst (λ es. HasAnsweredSoFar o A before came es old r u) (append_assoc earlier f.done one)
+      (g o before came (earlier ++ f.done) old (f.more o before came earlier old h));
+}
+
+pub first_all : (A : Decoration) (events rest : List Event) (s t : FacilityState) (p q : PeerState)
+    → HasAnsweredFirst A events rest s t p q → rest ≡ [] → AnswersMore A events s t p q
+first_all A events rest s t p q f none = subst (λ es. AnswersMore A es s t p q)
+    (sym (f.parts ∙ ap (λ z. f.done ++ z) none ∙ append-nil f.done)) f.more
+
+pub first_stops : (A : Decoration) (fault : TurnFault) (events rest one after : List Event) (s t : FacilityState) (p q r : PeerState)
+    → HasAnsweredFirst A events rest s t p q → rest ≡ one ++ after → StopsTurn A fault one t q r → StopsTurn A fault events s p r
+first_stops A fault events rest one after s t p q r f parts g = λ o before came earlier old h.
+    subst (λ es. HasStoppedTurn o A before fault came es old r)
+    (append_assoc (earlier ++ f.done) one after ∙ append_assoc earlier f.done (one ++ after)
+    ∙ ap (λ z. earlier ++ z) (sym (f.parts ∙ ap (λ z. f.done ++ z) parts)))
+    (longer o before came ((earlier ++ f.done) ++ one) old fault
+    (g o before came (earlier ++ f.done) old (f.more o before came earlier old h)))
+  where
+    some : (o : OnBadLine) (before : FacilityState) (came : List ℕ) (es : List Event) (old : PeerState) (unsent : List ℕ) (flushed : Bool)
+        → HasAnsweredSome o A before came es old r unsent flushed → HasAnsweredSome o A before came (es ++ after) old r unsent flushed
+    some o before came es old unsent flushed h =
+        record { sent = h.sent; talked = h.talked; answered = part_more A before es after (h.sent ++ unsent) h.answered }
+
+    longer : (o : OnBadLine) (before : FacilityState) (came : List ℕ) (es : List Event) (old : PeerState) (fault : TurnFault)
+        → HasStoppedTurn o A before fault came es old r → HasStoppedTurn o A before fault came (es ++ after) old r
+    longer o before came es old turns.OutOfMemory h = (some o before came es old [] true h.0, h.1)
+    longer o before came es old turns.Write h = (h.0, h.1, some o before came es old h.0 h.1 h.2, h.3, h.4)

@@ -1,16 +1,15 @@
 -- The positions of line feeds in lines.
-use Rattle.std.proofs.Common.{◌==◌, ◌&&◌, not, Bool, true, false, cond, inl, inr, ◌≡◌, zero, suc, ℕ, ◌+◌, ◌-◌, ◌/◌, ◌%◌, ◌<◌, ◌≤◌, nat_lt, List, [], ◌∷◌, ◌++◌, length, get_or, take, decimal, codes, refl, sym, ap, subst, ◌∙◌, arith, append_assoc, append-nil, length-append, lit≤}
+use Rattle.std.proofs.Common.{◌==◌, ◌&&◌, not, Bool, true, false, cond, inl, inr, ◌≡◌, zero, suc, ℕ, ◌+◌, ◌-◌, ◌*◌, ◌/◌, ◌%◌, ◌<◌, ◌≤◌, nat_lt, List, [], ◌∷◌, ◌++◌, length, get_or, take, decimal, codes, refl, sym, ap, subst, ◌∙◌, arith, append_assoc, append-nil, length-append, lit≤}
+use Rattle.std.specs.List.{AllByRecursion}
 use Rattle.std.specs.Fmt.{digits, digits_onto, digit_glyph}
 use Rattle.std.proofs.lemmas.Fmt.{length-decimal-le}
 use Rattle.std.proofs.lemmas.List.{take_more}
-use Rattle.timer_base.specs.declared.limits.TheConstants.{LAST}
+use Rattle.timer_script.specs.Types.{LAST, MAX_LINE, Event}
 use Rattle.timer_base.specs.OrderLaws.{either}
-use Rattle.timer_script.specs.declared.splitter.TheConstants.{MAX_LINE}
-use Rattle.timer_script.specs.declared.lines.TheConstants.{MAX_TICKS}
-use Rattle.timer_facility.specs.declared.event.Event.{Event}
 use Rattle.timer_facility.specs.declared.event.Event.TheVariants.{Start, Stop, Restart, Ticks, Close}
 use Rattle.timer_script.specs.Script.{IsInRange, line, BeginsNoLine}
 use Rattle.timer_script.specs.Splitter.{HasNoFeed}
+use Rattle.timer_script.specs.Text.{numbers}
 
 pub no_feed-append : (xs ys : List ℕ) → HasNoFeed xs → HasNoFeed ys → HasNoFeed (xs ++ ys)
 no_feed-append [] ys a b = b
@@ -54,9 +53,16 @@ pub decimal_bare : (n : ℕ) → HasNoFeed (decimal n)
 unfolding digits
 decimal_bare n = onto_bare 64 n [] tt
 
--- and at most 19 digits
-number_short : (n : ℕ) → n ≤ LAST → length (decimal n) ≤ 19
-number_short n fits = length-decimal-le 19 n (lit≤ tt) (omega arith) (omega arith)
+-- a space and a number, for each of these: so many bytes at most
+pub numbers_bare : (ns : List ℕ) → HasNoFeed (numbers ns)
+numbers_bare [] = tt
+numbers_bare (n ∷ ns) = no_feed-append (32 ∷ decimal n) (numbers ns) (λ e. absurd cc, decimal_bare n) (numbers_bare ns)
+
+numbers_short : (ns : List ℕ) → AllByRecursion (λ n. n ≤ LAST) ns → length (numbers ns) ≤ 20 * length ns
+numbers_short [] fit = omega arith
+numbers_short (n ∷ ns) fit =
+    let digits : length (decimal n) ≤ 19 = length-decimal-le 19 n (lit≤ tt) (omega (arith, fit.0)) (omega arith) in
+    omega (arith, digits, length-append (32 ∷ decimal n) (numbers ns), numbers_short ns fit.1)
 
 -- a line is some bytes with no line feed, and then one
 pub record IsFed (bytes : List ℕ) : Type 0 where
@@ -65,54 +71,38 @@ pub record IsFed (bytes : List ℕ) : Type 0 where
   pub no_feed : HasNoFeed front
   pub short : length front < MAX_LINE
 
--- a word or a number, as the beginning of a line
-record IsBare (most : ℕ) (bytes : List ℕ) : Type 0 where
-  pub no_feed : HasNoFeed bytes
-  pub short : length bytes ≤ most
+-- numbers up to the end of a line
+abbrev ended : List ℕ → List ℕ
+ended [] = 10 ∷ []
+ended (n ∷ ns) = 32 ∷ (decimal n ++ ended ns)
 
-join : (m n : ℕ) (xs ys : List ℕ) → IsBare m xs → IsBare n ys → IsBare (m + n) (xs ++ ys)
-join m n xs ys a b = record {
-  no_feed = no_feed-append xs ys a.no_feed b.no_feed;
-  short = (let h = length-append xs ys in let k = a.short in let l = b.short in omega arith);
+ended_is : (ns : List ℕ) → ended ns ≡ numbers ns ++ 10 ∷ []
+ended_is [] = refl
+ended_is (n ∷ ns) =
+    ap (λ t. 32 ∷ (decimal n ++ t)) (ended_is ns) ∙ ap (λ t. 32 ∷ t) (sym (append_assoc (decimal n) (numbers ns) (10 ∷ [])))
+
+-- a word and numbers
+fed : (word ns bytes : List ℕ) → is_bare word ≡ true → length word + 20 * length ns < MAX_LINE
+    → AllByRecursion (λ n. n ≤ LAST) ns → bytes ≡ word ++ ended ns → IsFed bytes
+fed word ns bytes free small fit is = record {
+  front = word ++ numbers ns;
+  is = is ∙ ap (λ t. word ++ t) (ended_is ns) ∙ sym (append_assoc word (numbers ns) (10 ∷ []));
+  no_feed = no_feed-append word (numbers ns) (bare word free) (numbers_bare ns);
+  short = omega (arith, small, length-append word (numbers ns), numbers_short ns fit);
 }
-
-number : (n : ℕ) → n ≤ LAST → IsBare 19 (decimal n)
-number n fits = record { no_feed = decimal_bare n; short = number_short n fits }
-
-word : (most : ℕ) (bytes : List ℕ) → is_bare bytes ≡ true → length bytes ≤ most → IsBare most bytes
-word most bytes free short = record { no_feed = bare bytes free; short = short }
-
--- a number and a space
-spaced : (n : ℕ) → n ≤ LAST → IsBare 20 (decimal n ++ codes " ")
-spaced n fits = join 19 1 (decimal n) (codes " ") (number n fits) (word 1 (codes " ") refl (omega arith))
-
-few_ticks : (k : ℕ) → k ≤ MAX_TICKS → k ≤ LAST
-few_ticks k few = omega arith
-
-fed : (most : ℕ) (bytes front : List ℕ) → most < MAX_LINE → IsBare most front → bytes ≡ front ++ 10 ∷ [] → IsFed bytes
-fed most bytes front small h is = record { front = front; is = is; no_feed = h.no_feed; short = (let k = h.short in omega arith) }
 
 pub line_fed : (event : Event) → IsInRange event → IsFed (line event)
 unfolding line
 line_fed (Start c n i a) fits =
-    fed 85 _ (codes "start " ++ ((decimal c ++ codes " ") ++ ((decimal n ++ codes " ") ++ ((decimal i ++ codes " ") ++ decimal a))))
-    (lit≤ tt)
-    (join 6 79 _ _ (word 6 (codes "start ") refl (omega arith)) (join 20 59 _ _ (spaced c fits.0)
-    (join 20 39 _ _ (spaced n fits.1) (join 20 19 _ _ (spaced i fits.2) (number a fits.3)))))
-    (simp append_assoc refl)
+    fed (codes "start") (c ∷ n ∷ i ∷ a ∷ []) (line (Start c n i a)) refl (lit≤ tt) (fits.0, (fits.1, (fits.2, (fits.3, tt)))) (simp append_assoc refl)
 line_fed (Stop c n s) fits =
-    fed 64 _ (codes "stop " ++ ((decimal c ++ codes " ") ++ ((decimal n ++ codes " ") ++ decimal s))) (lit≤ tt)
-    (join 5 59 _ _ (word 5 (codes "stop ") refl (omega arith)) (join 20 39 _ _ (spaced c fits.0) (join 20 19 _ _ (spaced n fits.1) (number s fits.2))))
-    (simp append_assoc refl)
+    fed (codes "stop") (c ∷ n ∷ s ∷ []) (line (Stop c n s)) refl (lit≤ tt) (fits.0, (fits.1, (fits.2, tt))) (simp append_assoc refl)
 line_fed (Restart c n s i a) fits =
-    fed 107 _ (codes "restart " ++ ((decimal c ++ codes " ") ++ ((decimal n ++ codes " ")
-    ++ ((decimal s ++ codes " ") ++ ((decimal i ++ codes " ") ++ decimal a))))) (lit≤ tt)
-    (join 8 99 _ _ (word 8 (codes "restart ") refl (omega arith)) (join 20 79 _ _ (spaced c fits.0)
-    (join 20 59 _ _ (spaced n fits.1) (join 20 39 _ _ (spaced s fits.2) (join 20 19 _ _ (spaced i fits.3) (number a fits.4))))))
-    (simp append_assoc refl)
+    fed (codes "restart") (c ∷ n ∷ s ∷ i ∷ a ∷ []) (line (Restart c n s i a)) refl (lit≤ tt)
+    (fits.0, (fits.1, (fits.2, (fits.3, (fits.4, tt))))) (simp append_assoc refl)
 line_fed (Ticks k) fits =
-    fed 24 _ (codes "tick " ++ decimal k) (lit≤ tt) (join 5 19 _ _ (word 5 (codes "tick ") refl (omega arith)) (number k (few_ticks k fits.1))) (simp append_assoc refl)
-line_fed Close fits = fed 5 _ (codes "close") (lit≤ tt) (word 5 (codes "close") refl (omega arith)) refl
+    fed (codes "tick") (k ∷ []) (line (Ticks k)) refl (lit≤ tt) (omega (arith, fits.1), tt) (simp append_assoc refl)
+line_fed Close fits = fed (codes "close") [] (line Close) refl (lit≤ tt) tt refl
 
 -- bytes split at their first line feed in one way
 pub first_feed : (xs ys more other : List ℕ) → HasNoFeed xs → HasNoFeed ys → xs ++ 10 ∷ more ≡ ys ++ 10 ∷ other → (xs ≡ ys) × (more ≡ other)

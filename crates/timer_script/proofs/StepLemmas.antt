@@ -1,24 +1,20 @@
 -- Ticks that are played in steps: a run of some ticks, and then of others, is a run of all of them.
-use Rattle.std.proofs.Common.{◌≡◌, ◌<◌, ◌≤◌, ◌+◌, ◌-◌, ℕ, zero, suc, List, [], ◌∷◌, ◌++◌, refl, sym, ◌∙◌, ap, subst, arith, append-nil, append_assoc, inl, inr, ◌⊎◌}
-use Rattle.std.specs.Prelude.{replicate, map, min, Option, Some, None, Result, Ok, Err, OnOk, OnErr}
-use Rattle.std.proofs.lemmas.List.{map-append}
+use Rattle.std.proofs.Common.{◌≡◌, ◌<◌, ◌≤◌, ◌+◌, ◌-◌, ℕ, zero, suc, List, [], ◌∷◌, ◌++◌, refl, sym, ◌∙◌, ap, subst, arith, append-nil, append_assoc, inl, inr, ◌⊎◌, replicate, map, min, take, length, Option, Some, None, Result, Ok, Err, OnOk}
+use Rattle.std.proofs.lemmas.List.{map-append, replicate-append-replicate}
 use Rattle.std.proofs.lemmas.Grind.{flat_map-append}
-use Rattle.timer_base.specs.declared.fault.OutOfMemory.{OutOfMemory}
-use Rattle.timer_facility.specs.declared.request.TickFault.{TickFault}
-use Rattle.timer_facility.specs.declared.event.Event.{Event}
+use Rattle.std.proofs.Math.Seq.{take-append_seam}
+use Rattle.timer_script.specs.Types.{TickFault, Event, Out}
 use Rattle.timer_facility.specs.declared.event.Event.TheVariants.{Ticks}
-use Rattle.timer_facility.specs.declared.event.Out.{Out}
 use Rattle.timer_facility.specs.State.{FacilityState, Tick}
 use Rattle.timer_facility.specs.Verdict.{tick_refusal}
 use Rattle.timer_facility.specs.Step.{step, step_of_tick}
 use Rattle.timer_facility.specs.Run.{PlacedEvent, state_after}
 use Rattle.timer_facility.specs.Played.{ticks_left, singles_of, ArePlaced, IsRun}
 use Rattle.timer_facility.proofs.PlayedTicks.{ticks_left-refused, ticks_left-accepted}
-use Rattle.timer_facility.proofs.PlayedLemmas.{IsRun-none, IsRun-join}
+use Rattle.timer_facility.proofs.PlayedLemmas.{IsRun-join}
 use Rattle.timer_script.specs.Text.{out_line, lines_of}
-use Rattle.timer_script.specs.ScriptRun.{AddsLines, AddsFirstLines}
-use Rattle.timer_script.specs.Decorator.{Decoration, IsLawful, HasGrownWithin, HasAnsweredWithin}
-use Rattle.timer_script.specs.Steps.{HasGrownByAnswer, HasPlayedText}
+use Rattle.timer_script.specs.ScriptRun.{AddsLines}
+use Rattle.timer_script.specs.Decorator.{Decoration, IsLawful, HasGrown, HasGrownWithin, HasAnsweredWithin, HasGrownByAnswer}
 
 -- ---- how many ticks are left
 
@@ -67,12 +63,6 @@ left_run s m n outs i h run =
 
 -- ---- ticks that join
 
-replicate-add : (a b : ℕ) → replicate a Tick ++ replicate b Tick ≡ replicate (a + b) Tick
-replicate-add zero b = let e : b ≡ 0 + b = omega arith in ap (λ n. replicate n Tick) e
-replicate-add (suc a) b =
-    let e : suc (a + b) ≡ suc a + b = omega arith in
-    ap (λ es. Tick ∷ es) (replicate-add a b) ∙ ap (λ n. replicate n Tick) e
-
 placed_join : (s : FacilityState) (a b : ℕ) (placed : List PlacedEvent) → s.now ≤ s.last → a ≤ ticks_left s
     → ArePlaced s (Ticks a ∷ Ticks b ∷ []) placed → ArePlaced s (Ticks (a + b) ∷ []) placed
 placed_join s a b placed i h p =
@@ -88,7 +78,7 @@ placed_join s a b placed i h p =
       sym (append-nil placed),
       ap (map (λ p. p.event)) p.2 ∙ map-append (λ p. p.event) one p.1 ∙ ap (λ es. es ++ map (λ p. p.event) p.1) first
           ∙ ap (λ es. replicate a Tick ++ es) second
-          ∙ replicate-add a k
+          ∙ replicate-append-replicate a k Tick
           ∙ ap (λ n. replicate n Tick) count,
       refl,
     )
@@ -116,13 +106,13 @@ answers_join A d s m t a b x y i h f g = record {
 -- ---- one step after another
 
 -- so many ticks of a line were played in steps, and so many are left; a refused tick was in the last step
-pub record HasPlayedSteps (A : Decoration) (s : FacilityState) (done left : ℕ) (m : FacilityState) (text : List ℕ) : Type 0 where
-  pub answered : HasAnsweredWithin A s (Ticks done ∷ []) m text
+pub record HasPlayedSteps (A : Decoration) (s : FacilityState) (done left : ℕ) (m : FacilityState) (old new : List ℕ) : Type 0 where
+  pub grown : HasGrownByAnswer A s (Ticks done ∷ []) m old new
   pub rest : (left ≡ 0) ⊎ (done + ticks_left m ≡ ticks_left s)
 
-pub steps_none : (A : Decoration) (d : IsLawful A) (s : FacilityState) (count : ℕ) (text : List ℕ) → text ≡ []
-    → HasPlayedSteps A s (count - count) count s text
-steps_none A d s count text none =
+pub steps_none : (A : Decoration) (d : IsLawful A) (s : FacilityState) (count : ℕ) (text : List ℕ)
+    → HasPlayedSteps A s (count - count) count s text text
+steps_none A d s count text =
     let zero_is : 0 ≡ count - count = omega arith in
     let least : 0 ≡ min 0 (ticks_left s + 1) = omega arith in
     let run : IsRun s (Ticks 0 ∷ []) [] s = record {
@@ -131,12 +121,8 @@ steps_none A d s count text none =
       outs_are = refl;
       after_is = refl;
     } in
-    subst (λ n. HasPlayedSteps A s n count s text) zero_is (record {
-      answered = record {
-        outs = [];
-        runs = run;
-        within = subst (λ z. A.Within [] z) (sym none) (d.kept []);
-      };
+    subst (λ n. HasPlayedSteps A s n count s text text) zero_is (record {
+      grown = ([], sym (append-nil text), record { outs = []; runs = run; within = d.kept [] });
       rest = inr (omega arith);
     })
 
@@ -150,20 +136,29 @@ open_rest : (P : Type 0) (left : ℕ) → 0 < left → (left ≡ 0) ⊎ P → P
 open_rest P left some (inl none) = absurd (omega arith)
 open_rest P left some (inr rest) = rest
 
-pub steps_more : (A : Decoration) (d : IsLawful A) (s m t : FacilityState) (count left n : ℕ) (x y : List ℕ)
+pub steps_more : (A : Decoration) (d : IsLawful A) (s m t : FacilityState) (count left n : ℕ) (x y z : List ℕ)
     → s.now ≤ s.last → m.now ≤ m.last → left ≤ count → 0 < left → n ≤ left → (n ≡ left) ⊎ (n ≤ ticks_left m)
-    → HasPlayedSteps A s (count - left) left m x → HasGrownByAnswer A m (Ticks n ∷ []) t x y
-    → HasPlayedSteps A s (count - (left - n)) (left - n) t y
-steps_more A d s m t count left n x y i k all some within few f g =
+    → HasPlayedSteps A s (count - left) left m x y → HasGrownByAnswer A m (Ticks n ∷ []) t y z
+    → HasPlayedSteps A s (count - (left - n)) (left - n) t x z
+steps_more A d s m t count left n x y z i k all some within few f g =
     let done : ℕ = count - left in
     let rest : done + ticks_left m ≡ ticks_left s = open_rest (done + ticks_left m ≡ ticks_left s) left some f.rest in
     let accepted : done ≤ ticks_left s = omega (arith, rest) in
-    let both = answers_join A d s m t done n x g.0 i accepted f.answered g.2 in
+    let h = f.grown in
     let sum : done + n ≡ count - (left - n) = omega arith in
-    subst (λ z. HasPlayedSteps A s z (left - n) t y) sum (record {
-      answered = subst (HasAnsweredWithin A s (Ticks (done + n) ∷ []) t) (sym g.1) both;
+    subst (λ j. HasPlayedSteps A s j (left - n) t x z) sum (record {
+      grown = (
+        h.0 ++ g.0,
+        g.1 ∙ ap (λ w. w ++ g.0) h.1 ∙ append_assoc x h.0 g.0,
+        answers_join A d s m t done n h.0 g.0 i accepted h.2 g.2,
+      );
       rest = rest_more s m t done left n g.2.outs k few rest g.2.runs;
     })
+
+pub steps_all : (A : Decoration) (s t : FacilityState) (count left : ℕ) (x y : List ℕ) → left ≤ 0
+    → HasPlayedSteps A s (count - left) left t x y → HasGrownByAnswer A s (Ticks count ∷ []) t x y
+steps_all A s t count left x y none f =
+    let all : count - left ≡ count = omega arith in subst (λ n. HasGrownByAnswer A s (Ticks n ∷ []) t x y) all f.grown
 
 -- the answer to a step, and what is added after it
 pub grown_answer : {E : Type 0} (A : Decoration) (d : IsLawful A) (result : Result Unit E) (s t : FacilityState)
@@ -181,33 +176,16 @@ grown_answer {E} A d (Ok u) s t events x y z adds h =
       },
     )
 
--- lines that were played in steps or at once
-pub stepped_text : (A : Decoration) (result : Result Unit OutOfMemory) (s t : FacilityState) (events : List Event) (count : ℕ)
-    (text : List ℕ) → events ≡ Ticks count ∷ [] → OnOk result (HasAnsweredWithin A s (Ticks count ∷ []) t text)
-    → OnOk result (HasPlayedText A s events t text)
-stepped_text A (Ok u) s t events count text is h = inr (Ticks count, is, h)
-stepped_text A (Err e) s t events count text is h = tt
+-- the answer to an event that was played at once
+pub kept_answer : {E : Type 0} (A : Decoration) (d : IsLawful A) (result : Result Unit E) (s t : FacilityState)
+    (events : List Event) (x y : List ℕ) → OnOk result (AddsLines s events x y t) → OnOk result (HasGrownByAnswer A s events t x y)
+kept_answer {E} A d (Err e) s t events x y h = tt
+kept_answer {E} A d (Ok u) s t events x y h =
+    (lines_of h.outs, h.lines, record { outs = h.outs; runs = h.runs; within = d.kept h.outs })
 
-pub played_text : (A : Decoration) (result : Result Unit OutOfMemory) (s t : FacilityState) (events : List Event)
-    (before text : List ℕ) → before ≡ [] → OnOk result (AddsLines s events before text t) → OnOk result (HasPlayedText A s events t text)
-played_text A (Ok u) s t events before text none h = inl (subst (λ z. AddsLines s events z text t) none h)
-played_text A (Err e) s t events before text none h = tt
+-- text that grew, cut back to where it was
+pub grown_join : (a b c : List ℕ) → HasGrown a b → HasGrown b c → HasGrown a c
+grown_join a b c f g = (f.0 ++ g.0, g.1 ∙ ap (λ w. w ++ g.0) f.1 ∙ append_assoc a f.0 g.0)
 
--- the steps of a line were not all played, and no answer is left
-pub nothing_played : (result : Result Unit OutOfMemory) (s : FacilityState) (events : List Event) (text : List ℕ)
-    → OnErr result (text ≡ []) → OnErr result (AddsFirstLines s events [] text)
-nothing_played (Ok u) s events text h = tt
-nothing_played (Err e) s events text h = record {
-  played = [];
-  unplayed = events;
-  parts = refl;
-  after = s;
-  adds = record { outs = []; runs = IsRun-none s; lines = h };
-}
-
-pub first_played : (result : Result Unit OutOfMemory) (s : FacilityState) (events : List Event) (before text : List ℕ) → before ≡ []
-    → OnErr result (AddsFirstLines s events before text) → OnErr result (AddsFirstLines s events [] text)
-first_played (Ok u) s events before text none h = tt
-first_played (Err e) s events before text none h = subst (λ z. AddsFirstLines s events z text) none h
-
-pub ruleset played_texts = (stepped_text, played_text, nothing_played, first_played)
+pub cut_back : (text grown cut : List ℕ) → HasGrown text grown → cut ≡ take (length text) grown → cut ≡ text
+cut_back text grown cut h e = e ∙ ap (take (length text)) h.1 ∙ take-append_seam text h.0

@@ -2,15 +2,9 @@
 use Rattle.std.specs.Prelude.{◌≡◌, ◌↔◌, ℕ, ◌+◌, ◌-◌, ◌^◌, ◌<◌, ◌≤◌, ◌⊎◌, Bool, true, false, List, [], ◌∷◌, ◌++◌, length, take, min, codes, Option, None, Some}
 use Rattle.std.specs.List.{flat_map, enumerate_from, AllByRecursion}
 use Rattle.std.specs.Io.KnownBytes.{Appends}
-use Rattle.timer_facility.specs.declared.event.Event.{Event}
-use Rattle.timer_script.specs.declared.line_fault.LineFault.{LineFault}
-use Rattle.timer_script.specs.declared.splitter.TheConstants.{MAX_LINE}
-use Rattle.timer_script.specs.declared.fault.ScriptFault.{ScriptFault}
+use Rattle.timer_script.specs.Types.{Event, LineFault, MAX_LINE, ScriptFault, OnBadLine, Cutter, Watched}
 use Rattle.timer_script.specs.declared.fault.ScriptFault.TheVariants as faults
-use Rattle.timer_script.specs.declared.cutter.OnBadLine.{OnBadLine}
 use Rattle.timer_script.specs.declared.cutter.OnBadLine.TheVariants.{Stop}
-use Rattle.timer_script.specs.declared.cutter.Cutter.{Cutter}
-use Rattle.timer_script.specs.declared.watched.Watched.{Watched}
 use Rattle.timer_script.specs.Watched.{inner_of, has_failed}
 use Rattle.timer_script.specs.Splitter.{HasNoFeed}
 use Rattle.timer_script.specs.Script.{IsInRange, line, BeginsNoLine, IsScript, IsBadLine}
@@ -57,14 +51,15 @@ pub record IsCut (bytes : List ℕ) (lines : List Line) (left : List ℕ) : Type
 abbrev pub Complaint : Type 0
 Complaint = ℕ × LineFault
 
--- what is reported of a line under this number, of which 2^64 - 1 stands for any later one: nothing of a good one
+-- what is reported of a line under this number: nothing of a good one
 abbrev pub complaint_of : ℕ → Line → List Complaint
 complaint_of n (Good event) = []
-complaint_of n (Bad front fault) = (min n (2 ^ 64 - 1), fault) ∷ []
+complaint_of n (Bad front fault) = (n, fault) ∷ []
 
--- what is reported of the lines of an input, each under its number, counted from 1
+-- what is reported of the lines of an input, each under its number, counted from 1; 2^64 - 1 stands for any later one
 abbrev pub bad_among : List Line → List Complaint
-bad_among lines = flat_map (λ numbered. complaint_of numbered.0 numbered.1) (enumerate_from 1 lines)
+bad_among lines =
+    flat_map (λ numbered. complaint_of (min numbered.0 (2 ^ 64 - 1)) numbered.1) (enumerate_from 1 lines)
 
 -- the number of the line after those of an input
 abbrev pub number_next : List Line → ℕ
@@ -168,28 +163,7 @@ pub record HasSeenPart {F : Type 0} (on_bad : OnBadLine) (contents : F → Optio
   pub parts : came ≡ seen ++ unseen
   pub passed : HasSeen on_bad contents writer writer' seen events
 
--- ---- the same, line by line: what a piece of the input adds, of whose lines the first is the n-th
-
--- the number of the line after the n-th; 2^64 - 1 stands for any later one
-abbrev pub number_after_line : ℕ → ℕ
-number_after_line n = min (n + 1) (2 ^ 64 - 1)
-
--- what is reported of the bad ones
-abbrev pub bad_of : ℕ → List Line → List Complaint
-bad_of n [] = []
-bad_of n (Good event ∷ lines) = bad_of (number_after_line n) lines
-bad_of n (Bad front fault ∷ lines) = (n, fault) ∷ bad_of (number_after_line n) lines
-
--- the number of the line after them
-abbrev pub number_after : ℕ → List Line → ℕ
-number_after n [] = n
-number_after n (line ∷ lines) = number_after (number_after_line n) lines
-
--- of the front of a line as much is held as a line may have; all of it, if a bad line ends the stream
-pub record IsFrontOf (cutter : Cutter) (front : List ℕ) : Type 0 where
-  pub no_feed : HasNoFeed front
-  pub kept : cutter.held.items ≡ take MAX_LINE front
-  pub short : cutter.on_bad ≡ Stop → length front < MAX_LINE
+-- ---- line by line
 
 -- a line of these bytes, the n-th, was ended: its event is kept if it is good, and else it is reported
 pub record HasEndedLine (on_bad : OnBadLine) (bytes : List ℕ) (n : ℕ) (events events' : List Event)
@@ -198,8 +172,8 @@ pub record HasEndedLine (on_bad : OnBadLine) (bytes : List ℕ) (n : ℕ) (event
   pub bytes_is : bytes_of line ≡ bytes
   pub is_line : IsGoodOrBad line
   pub events_are : events' ≡ events ++ events_of (line ∷ [])
-  pub said_is : said' ≡ said ++ complaints (bad_of n (line ∷ []))
-  pub good : on_bad ≡ Stop → bad_of n (line ∷ []) ≡ []
+  pub said_is : said' ≡ said ++ complaints (complaint_of n line)
+  pub good : on_bad ≡ Stop → complaint_of n line ≡ []
 
 -- why it was not: it is bad, and ends the stream; or out of memory
 abbrev pub StopsLine : ScriptFault → OnBadLine → ℕ → (held : List ℕ) → (events events' : List Event) → Type 0
@@ -207,43 +181,33 @@ StopsLine (faults.Bad line) on_bad n held events events' =
     (on_bad ≡ Stop) × (line ≡ n) × (line_at held ≡ None) × (events' ≡ events)
 StopsLine faults.OutOfMemory on_bad n held events events' = Unit {0}
 
--- bytes came after the front of a line: of the lines that they end the events of the good ones are kept after
--- those before, and the others reported
-pub record HasCut (events : List Event) (said front bytes : List ℕ) (old new : Cutter) : Type 0 where
-  pub lines : List Line
-  pub left : List ℕ
-  pub parts : front ++ bytes ≡ flat_map bytes_of lines ++ left
-  pub each : AllByRecursion IsGoodOrBad lines
-  pub rest : IsFrontOf new left
-  pub events_are : new.events.items ≡ events ++ events_of lines
-  pub said_is : new.reports.items ≡ said ++ complaints (bad_of old.number lines)
-  pub counted : new.number ≡ number_after old.number lines
-  pub good : old.on_bad ≡ Stop → bad_of old.number lines ≡ []
+-- these bytes came, these events passed, and this is reported; of the line that has not ended as much is held as a
+-- line may have
+pub record HasSorted (cutter : Cutter) (came : List ℕ) (events : List Event) (bad : List Complaint) : Type 0 where
+  pub passes : Passes cutter.on_bad came events
+  pub held : cutter.held.items ≡ take MAX_LINE passes.left
+  pub counted : cutter.number ≡ number_next passes.lines
+  pub bad_is : bad ≡ bad_among passes.lines
 
--- after some good lines comes the n-th, which is bad whatever follows, and ends the stream
-pub record HasStoppedCut (events : List Event) (front bytes : List ℕ) (old new : Cutter) (n : ℕ) : Type 0 where
-  pub stop : old.on_bad ≡ Stop
-  pub lines : List Line
-  pub rest : List ℕ
-  pub parts : front ++ bytes ≡ flat_map bytes_of lines ++ rest
-  pub each : AllByRecursion IsGoodOrBad lines
-  pub some : 1 ≤ length rest
-  pub bad : BeginsNoLine rest
-  pub events_are : new.events.items ≡ events ++ events_of lines
-  pub counted : n ≡ number_after old.number lines
-  pub good : bad_of old.number lines ≡ []
+-- so it is after some lines of a piece: it keeps what passed, and reports, since these events and reports
+pub record HasSortedSince (cutter : Cutter) (came : List ℕ) (events : List Event) (bad : List Complaint) : Type 0 where
+  pub more : List Complaint
+  pub reports : cutter.reports.items ≡ complaints more
+  pub sorted : HasSorted cutter came (events ++ cutter.events.items) (bad ++ more)
 
-abbrev pub StopsCut : ScriptFault → List Event → (front bytes : List ℕ) → (old new : Cutter) → Type 0
-StopsCut (faults.Bad n) events front bytes old new = HasStoppedCut events front bytes old new n
-StopsCut faults.OutOfMemory events front bytes old new = Unit {0}
+-- why not all bytes that came were sorted: a bad line ends the stream, or out of memory
+abbrev pub StopsAt : ScriptFault → OnBadLine → (came : List ℕ) → (events : List Event) → Type 0
+StopsAt (faults.Bad n) on_bad came events = (on_bad ≡ Stop) × IsStoppedAt came events n
+StopsAt faults.OutOfMemory on_bad came events = Unit {0}
 
 -- these bytes were taken in, and those events passed
 pub record HasTakenIn {F : Type 0} (cutter : Cutter) (contents : F → Option (List ℕ)) (writer writer' : Watched F)
     (came : List ℕ) (events : List Event) : Type 0 where
-  pub passed : HasPassed cutter.on_bad AreSoFar contents writer writer' came events
-  pub front : IsFrontOf cutter passed.passes.left
-  pub counted : cutter.number ≡ number_after 1 passed.passes.lines
-  pub clean_is : (cutter.clean ≡ true) ↔ (passed.bad ≡ [])
+  pub bad : List Complaint
+  pub sorted : HasSorted cutter came events bad
+  pub reported : HasReported contents writer writer' (complaints bad)
+  pub untouched : cutter.on_bad ≡ Stop → writer' ≡ writer
+  pub clean_is : (cutter.clean ≡ true) ↔ (bad ≡ [])
 
 -- after all that was taken in before, one more piece was, or a bad line in it ends the stream
 abbrev pub TakesPiece : {F : Type 0} → Option ℕ → (contents : F → Option (List ℕ)) → (piece : List ℕ) → (old : Cutter)

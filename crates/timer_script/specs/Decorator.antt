@@ -1,9 +1,7 @@
 -- The text that is written for lines: the answer to each, and what a decorator adds to it.
 use Rattle.std.specs.Prelude.{◌≡◌, ℕ, List, [], ◌∷◌, ◌++◌, refl}
 use Rattle.std.proofs.Common.{ap, ◌∙◌}
-use Rattle.timer_facility.specs.declared.event.Event.{Event}
-use Rattle.timer_facility.specs.declared.event.Out.{Out}
-use Rattle.timer_facility.specs.State.{FacilityState}
+use Rattle.timer_script.specs.Types.{Event, Out, FacilityState}
 use Rattle.timer_facility.specs.Played.{IsRun}
 use Rattle.timer_script.specs.Text.{lines_of}
 
@@ -18,10 +16,6 @@ pub record Decoration : Type 1 where
 pub record IsLawful (Adds : Decoration) : Type 0 where
   pub kept : (outs : List Out) → Adds.Within (lines_of outs) (lines_of outs)
   pub joined : (a b x y : List ℕ) → Adds.Within a x → Adds.Within b y → Adds.Within (a ++ b) (x ++ y)
-
--- nothing may come after an answer
-abbrev pub MayAddNothing : Decoration → Type 0
-MayAddNothing Adds = (s : FacilityState) → Adds.After s []
 
 -- the text grew
 abbrev pub HasGrown : List ℕ → List ℕ → Type 0
@@ -41,6 +35,11 @@ pub record HasAnsweredWithin (Adds : Decoration) (before : FacilityState) (event
   pub outs : List Out
   pub runs : IsRun before events outs after
   pub within : Adds.Within (lines_of outs) text
+
+-- the text grew by such an answer
+abbrev pub HasGrownByAnswer : Decoration → FacilityState → List Event → FacilityState → (old new : List ℕ) → Type 0
+HasGrownByAnswer Adds before events after old new =
+    (added : List ℕ) × (new ≡ old ++ added) × HasAnsweredWithin Adds before events after added
 
 -- one line was played; its answer, and the text for it, at the end of which is what comes after the answer
 pub record IsDecorated (Adds : Decoration) (before : FacilityState) (event : Event) (after : FacilityState)

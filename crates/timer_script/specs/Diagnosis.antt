@@ -1,12 +1,9 @@
 -- Why bytes are not the line of an event, and from which column on.
 use Rattle.std.specs.Prelude.{◌≡◌, ◌≢◌, ◌⊎◌, ℕ, ◌+◌, ◌-◌, ◌<◌, ◌≤◌, List, [], ◌∷◌, length, take, slice_index, Option, Some, None, codes}
-use Rattle.timer_facility.specs.declared.event.Event.{Event}
+use Rattle.timer_script.specs.Types.{Event, Field, LineReason, LineFault}
 use Rattle.timer_script.specs.Script.{IsInRange, line}
-use Rattle.timer_script.specs.declared.line_fault.Field.{Field}
 use Rattle.timer_script.specs.declared.line_fault.Field.TheVariants as fields
-use Rattle.timer_script.specs.declared.line_fault.LineReason.{LineReason}
 use Rattle.timer_script.specs.declared.line_fault.LineReason.TheVariants as reasons
-use Rattle.timer_script.specs.declared.line_fault.LineFault.{LineFault}
 
 -- the bytes are the line of an event
 abbrev pub IsLine : List ℕ → Type 0

@@ -1,17 +1,11 @@
 -- The errors of one step as those of the whole.
-use Rattle.timer_script.specs.declared.fault.ScriptFault.{ScriptFault}
+use Rattle.timer_script.specs.Types.{ScriptFault, ReadFault, RunFault, CheckFault, AnswerFault, TurnFault, ServeFault}
 use Rattle.timer_script.specs.declared.fault.ScriptFault.TheVariants as scripts
-use Rattle.timer_script.specs.declared.fault.ReadFault.{ReadFault}
 use Rattle.timer_script.specs.declared.fault.ReadFault.TheVariants as reads
-use Rattle.timer_script.specs.declared.fault.RunFault.{RunFault}
 use Rattle.timer_script.specs.declared.fault.RunFault.TheVariants as runs
-use Rattle.timer_script.specs.declared.fault.CheckFault.{CheckFault}
 use Rattle.timer_script.specs.declared.fault.CheckFault.TheVariants as checks
-use Rattle.timer_script.specs.declared.fault.AnswerFault.{AnswerFault}
 use Rattle.timer_script.specs.declared.fault.AnswerFault.TheVariants as answers
-use Rattle.timer_script.specs.declared.fault.TurnFault.{TurnFault}
 use Rattle.timer_script.specs.declared.fault.TurnFault.TheVariants as turns
-use Rattle.timer_script.specs.declared.fault.ServeFault.{ServeFault}
 use Rattle.timer_script.specs.declared.fault.ServeFault.TheVariants as serves
 
 abbrev pub run_read_fault : ReadFault → RunFault

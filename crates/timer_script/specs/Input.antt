@@ -1,8 +1,7 @@
 -- What reading a script to its end does to the reader, whose remaining bytes may be known.
 use Rattle.std.specs.Prelude.{◌≡◌, ℕ, ◌+◌, ◌≤◌, Bool, true, false, List, length, ◌++◌, Option}
 use Rattle.std.specs.Io.KnownBytes.{Keeps, Consumes, IsAtEnd}
-use Rattle.timer_script.specs.declared.input.TheConstants.{MAX_BYTES}
-use Rattle.timer_script.specs.declared.fault.ReadFault.{ReadFault}
+use Rattle.timer_script.specs.Types.{MAX_BYTES, ReadFault}
 use Rattle.timer_script.specs.declared.fault.ReadFault.TheVariants as reads
 
 -- the reader had these bytes left, and has none now

@@ -1,3 +1,4 @@
+pub mod Types
 pub mod Lines
 pub mod Script
 pub mod Text
@@ -14,4 +15,3 @@ pub mod Streams
 pub mod Decorator
 pub mod Cutter
 pub mod Service
-pub mod Steps

@@ -4,9 +4,7 @@ use Rattle.std.specs.Prelude.{ℕ, ◌&&◌, Bool, List, [], ◌∷◌, length, 
 use Rattle.std.specs.Cmp.Lexicographic.{pointwise}
 use Rattle.std.specs.Net.Reader.{read_number}
 use Rattle.std.specs.Borrow.{Bor}
-use Rattle.timer_base.specs.declared.limits.TheConstants.{LAST}
-use Rattle.timer_script.specs.declared.lines.TheConstants.{MAX_TICKS}
-use Rattle.timer_facility.specs.declared.event.Event.{Event}
+use Rattle.timer_script.specs.Types.{LAST, MAX_TICKS, Event}
 use Rattle.timer_facility.specs.declared.event.Event.TheVariants.{Start, Stop, Restart, Ticks, Close}
 
 -- a value and the bytes after it

@@ -1,11 +1,8 @@
 -- The unique spelling of a list of events, and the first bad line.
 use Rattle.std.specs.Prelude.{◌≡◌, ℕ, ◌+◌, ◌≤◌, List, ◌++◌, length, codes, decimal}
 use Rattle.std.specs.List.{flat_map, AllByRecursion}
-use Rattle.timer_base.specs.declared.limits.TheConstants.{LAST}
-use Rattle.timer_script.specs.declared.lines.TheConstants.{MAX_TICKS}
-use Rattle.timer_facility.specs.declared.event.Event.{Event}
+use Rattle.timer_script.specs.Types.{LAST, MAX_TICKS, Event, ScriptFault}
 use Rattle.timer_facility.specs.declared.event.Event.TheVariants.{Start, Stop, Restart, Ticks, Close}
-use Rattle.timer_script.specs.declared.fault.ScriptFault.{ScriptFault}
 use Rattle.timer_script.specs.declared.fault.ScriptFault.TheVariants.{Bad, OutOfMemory}
 
 -- the numbers of a line are at most LAST, and its ticks are 1 to MAX_TICKS

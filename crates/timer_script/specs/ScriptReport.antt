@@ -2,12 +2,8 @@
 use Rattle.std.specs.Prelude.{◌≡◌, ◌==◌, ℕ, ◌+◌, ◌<◌, ◌≤◌, Bool, true, false, if◌then◌else◌, List, [], ◌∷◌, ◌++◌, length, take, Option, None, Some, Result, Ok, Err, codes, decimal}
 use Rattle.std.specs.Io.KnownBytes.{Appends}
 use Rattle.std.specs.List.{flat_map, enumerate_from, count_by}
-use Rattle.timer_script.specs.declared.line_fault.Field.{Field}
-use Rattle.timer_script.specs.declared.line_fault.LineFault.{LineFault}
-use Rattle.timer_script.specs.declared.input.TheConstants.{MAX_BYTES}
-use Rattle.timer_script.specs.declared.fault.CheckFault.{CheckFault}
+use Rattle.timer_script.specs.Types.{Field, LineFault, MAX_BYTES, CheckFault, Streams}
 use Rattle.timer_script.specs.declared.fault.CheckFault.TheVariants as faults
-use Rattle.timer_script.specs.declared.streams.Streams.{Streams}
 use Rattle.timer_script.specs.Watched.{has_failed}
 use Rattle.timer_script.specs.Streams.{Known, left_of, taken_by}
 use Rattle.timer_script.specs.Input.{ReadsWhole, ReadsUpTo, ReadsTooMany}

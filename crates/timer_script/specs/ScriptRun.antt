@@ -1,16 +1,10 @@
 -- What a run reads and writes: from the bytes of a script to those of the text that answers it.
 use Rattle.std.specs.Prelude.{◌≡◌, ℕ, ◌+◌, ◌<◌, ◌≤◌, true, false, List, ◌++◌, length, take, Option, Result, Ok, Err}
 use Rattle.std.specs.Io.KnownBytes.{Appends}
-use Rattle.timer_facility.specs.declared.event.Event.{Event}
-use Rattle.timer_facility.specs.declared.event.Out.{Out}
-use Rattle.timer_facility.specs.State.{FacilityState}
+use Rattle.timer_script.specs.Types.{Event, Out, FacilityState, MAX_BYTES, RunFault, AnswerFault, Streams}
 use Rattle.timer_facility.specs.Played.{IsRun, IsPlayed}
-use Rattle.timer_script.specs.declared.input.TheConstants.{MAX_BYTES}
-use Rattle.timer_script.specs.declared.fault.RunFault.{RunFault}
 use Rattle.timer_script.specs.declared.fault.RunFault.TheVariants as faults
-use Rattle.timer_script.specs.declared.fault.AnswerFault.{AnswerFault}
 use Rattle.timer_script.specs.declared.fault.AnswerFault.TheVariants as answers
-use Rattle.timer_script.specs.declared.streams.Streams.{Streams}
 use Rattle.timer_script.specs.Watched.{has_failed}
 use Rattle.timer_script.specs.Streams.{Known, left_of, taken_by}
 use Rattle.timer_script.specs.Script.{IsScript, IsBadLine}
@@ -23,14 +17,6 @@ pub record AddsLines (before : FacilityState) (events : List Event) (old new : L
   pub outs : List Out
   pub runs : IsRun before events outs after
   pub lines : new ≡ old ++ lines_of outs
-
--- so it was for the first of the events
-pub record AddsFirstLines (before : FacilityState) (events : List Event) (old new : List ℕ) : Type 0 where
-  pub played : List Event
-  pub unplayed : List Event
-  pub parts : events ≡ played ++ unplayed
-  pub after : FacilityState
-  pub adds : AddsLines before played old new after
 
 -- the bytes are the script of some events, which were played, and the line of each of their outs was added
 pub record HasPlayedLines (before : FacilityState) (bytes old new : List ℕ)

@@ -1,22 +1,14 @@
 -- A server and its peer: what was played, what went to the peer, and when.
 use Rattle.std.specs.Prelude.{◌≡◌, ℕ, ◌≤◌, ◌⊎◌, ◌-◌, ◌^◌, Bool, true, false, List, [], ◌∷◌, ◌++◌, length, take, Option, Result, Ok, Err}
 use Rattle.std.specs.Io.KnownBytes.{Consumes, Appends, IsAtEnd}
-use Rattle.timer_facility.specs.declared.event.Event.{Event}
-use Rattle.timer_facility.specs.declared.event.Out.{Out}
-use Rattle.timer_facility.specs.State.{FacilityState}
+use Rattle.timer_script.specs.Types.{Event, Out, FacilityState, TurnFault, ServeFault, PIECE, OnBadLine, Cutter, Watched}
 use Rattle.timer_facility.specs.Played.{IsRun}
-use Rattle.timer_script.specs.declared.fault.TurnFault.{TurnFault}
 use Rattle.timer_script.specs.declared.fault.TurnFault.TheVariants as turns
-use Rattle.timer_script.specs.declared.fault.ServeFault.{ServeFault}
 use Rattle.timer_script.specs.declared.fault.ServeFault.TheVariants as faults
-use Rattle.timer_script.specs.declared.service.TheConstants.{PIECE}
-use Rattle.timer_script.specs.declared.cutter.OnBadLine.{OnBadLine}
 use Rattle.timer_script.specs.declared.cutter.OnBadLine.TheVariants.{Stop}
-use Rattle.timer_script.specs.declared.cutter.Cutter.{Cutter}
-use Rattle.timer_script.specs.declared.watched.Watched.{Watched}
 use Rattle.timer_script.specs.Text.{lines_of, end_line}
 use Rattle.timer_script.specs.ScriptRun.{IsAnswer}
-use Rattle.timer_script.specs.Decorator.{Decoration, HasAnsweredWithin, MayAddNothing, AreDecorated}
+use Rattle.timer_script.specs.Decorator.{Decoration, HasAnsweredWithin, AreDecorated}
 use Rattle.timer_script.specs.Cutter.{Passes, AreSoFar, HasPassed, HasSeen, HasSeenPart, HasEnded, IsStoppedAt, HasTakenIn}
 use Rattle.timer_script.specs.Peer.{PeerState, Moment, Came, Went, Flush, Grows}
 
@@ -126,44 +118,9 @@ pub record HasAnsweredPart (Adds : Decoration) (before : FacilityState) (events 
   pub begun : IsBegun Adds after rest last
   pub text_is : text ≡ decorated ++ last
 
--- so many lines are served at once: one, or any if nothing may come after an answer
-abbrev pub MayServe : Decoration → List Event → Type 0
-MayServe Adds events = (length events ≤ 1) ⊎ MayAddNothing Adds
-
--- the text for these events was written and flushed, and nothing was read
-pub record HasServedEvents (Adds : Decoration) (before : FacilityState) (events : List Event)
-    (after : FacilityState) (peer peer' : PeerState) : Type 0 where
-  pub sent : List ℕ
-  pub answered : HasAnswered Adds before events after sent
-  pub written : HasWritten peer sent peer'
-  pub flush : is_flushed true written.moments ≡ true
-
--- that for the first of the events was written except for its last part
-pub record HasServedSome (Adds : Decoration) (before : FacilityState) (events : List Event)
-    (peer peer' : PeerState) (unsent : List ℕ) (flushed : Bool) : Type 0 where
-  pub sent : List ℕ
-  pub answered : HasAnsweredPart Adds before events (sent ++ unsent)
-  pub written : HasWritten peer sent peer'
-  pub flush : is_flushed true written.moments ≡ flushed
-
--- why not all of these events were served
-abbrev pub StopsEvents : Decoration → TurnFault → FacilityState → List Event → (peer peer' : PeerState) → Type 0
--- out of memory: all the text so far was written
-StopsEvents Adds turns.OutOfMemory before events peer peer' =
-    HasServedSome Adds before events peer peer' [] true × AreGood peer'
--- a write failed
-StopsEvents Adds turns.Write before events peer peer' = (unsent : List ℕ) × (flushed : Bool)
-    × HasServedSome Adds before events peer peer' unsent flushed
-    × (peer'.read_failed ≡ false) × (peer'.write_failed ≡ true)
-
 -- the end line of a facility
 abbrev pub last_line : FacilityState → List ℕ
 last_line s = end_line s.now (length s.pending)
-
--- why the end line was not written completely
-abbrev pub StopsEnd : TurnFault → FacilityState → PeerState → PeerState → Type 0
-StopsEnd turns.OutOfMemory s peer peer' = peer' ≡ peer
-StopsEnd turns.Write s peer peer' = HasSentPart peer (last_line s) peer'
 
 -- ---- the whole stream
 
@@ -201,25 +158,35 @@ IsPrompt on_bad Adds before = IsPromptBy (IsAnsweredWith on_bad Adds before) [] 
 abbrev pub HasTalked : {F : Type 0} → Server F → (old new : PeerState) → (came gone : List ℕ) → Bool → Type 0
 HasTalked server = HasTalkedBy (IsAnsweredWith server.on_bad server.Adds server.before)
 
+-- these bytes came from the peer, and all that went to it is the answer to these events, with what is added, flushed
+pub record HasAnsweredSoFar (on_bad : OnBadLine) (Adds : Decoration) (before : FacilityState) (came : List ℕ)
+    (events : List Event) (old new : PeerState) (after : FacilityState) : Type 0 where
+  pub sent : List ℕ
+  pub talked : HasTalkedBy (IsAnsweredWith on_bad Adds before) old new came sent true
+  pub answered : HasAnswered Adds before events after sent
+
+-- the first of the events are answered, and the last of the text for them has not been sent
+pub record HasAnsweredSome (on_bad : OnBadLine) (Adds : Decoration) (before : FacilityState) (came : List ℕ)
+    (events : List Event) (old new : PeerState) (unsent : List ℕ) (flushed : Bool) : Type 0 where
+  pub sent : List ℕ
+  pub talked : HasTalkedBy (IsAnsweredWith on_bad Adds before) old new came sent flushed
+  pub answered : HasAnsweredPart Adds before events (sent ++ unsent)
+
 -- of the bytes that came from the peer events passed, and all of them are answered
 pub record HasServedAll {F : Type 0} (server : Server F) (Passed : List ℕ → List Event → Type 0)
     (old new : PeerState) (after : FacilityState) : Type 0 where
   pub came : List ℕ
   pub events : List Event
-  pub sent : List ℕ
   pub passed : Passed came events
-  pub talked : HasTalked server old new came sent true
-  pub answered : HasAnswered server.Adds server.before events after sent
+  pub so_far : HasAnsweredSoFar server.on_bad server.Adds server.before came events old new after
 
--- the first of them are, and the last of the text for them has not been sent
+-- the first of them are
 pub record HasServedPart {F : Type 0} (server : Server F) (Passed : List ℕ → List Event → Type 0)
     (old new : PeerState) (unsent : List ℕ) (flushed : Bool) : Type 0 where
   pub came : List ℕ
   pub events : List Event
-  pub sent : List ℕ
   pub passed : Passed came events
-  pub talked : HasTalked server old new came sent flushed
-  pub answered : HasAnsweredPart server.Adds server.before events (sent ++ unsent)
+  pub some : HasAnsweredSome server.on_bad server.Adds server.before came events old new unsent flushed
 
 -- the peer was read to its end, and this is the whole answer to the events, with what is added, and the end line
 pub record HasAnsweredAll {F : Type 0} (server : Server F) (peer : PeerState) (events : List Event)
@@ -271,17 +238,33 @@ HasServed server old new (Err faults.TooLong) = (s : FacilityState)
 
 -- ---- one turn
 
--- the last piece of the bytes that came has not been taken in
-pub record HasUnseen {F : Type 0} (cutter : Cutter) (contents : F → Option (List ℕ)) (writer writer' : Watched F)
-    (piece came : List ℕ) (events : List Event) : Type 0 where
-  pub seen : List ℕ
-  pub parts : came ≡ seen ++ piece
-  pub taken : HasTakenIn cutter contents writer writer' seen events
+-- after all that was answered before, these events are
+abbrev pub AnswersMore : Decoration → List Event → (s t : FacilityState) → (peer peer' : PeerState) → Type 0
+AnswersMore Adds events s t peer peer' = (on_bad : OnBadLine) (before : FacilityState) (came : List ℕ)
+    (earlier : List Event) (old : PeerState) → HasAnsweredSoFar on_bad Adds before came earlier old peer s
+    → HasAnsweredSoFar on_bad Adds before came (earlier ++ events) old peer' t
 
--- the piece was taken in and answered, so that at least so many bytes came, or serving ended
-abbrev pub HasServedPiece : {F : Type 0} → Server F → (old : Sides F) → Cutter → FacilityState → (new : Sides F)
-    → (least : ℕ) → Result Unit ServeFault → Type 0
-HasServedPiece server old cutter s new least (Ok u) =
-    (all : HasServedAll server (HasTakenIn cutter server.contents old.faults new.faults) old.peer new.peer s)
-    × (least ≤ length all.came)
-HasServedPiece server old cutter s new least (Err fault) = HasServed server old new (Err fault)
+-- why not all events were answered
+abbrev pub HasStoppedTurn : OnBadLine → Decoration → FacilityState → TurnFault → List ℕ → List Event
+    → (old new : PeerState) → Type 0
+-- out of memory: all the text so far was written
+HasStoppedTurn on_bad Adds before turns.OutOfMemory came events old new =
+    HasAnsweredSome on_bad Adds before came events old new [] true × AreGood new
+-- a write failed
+HasStoppedTurn on_bad Adds before turns.Write came events old new = (unsent : List ℕ) × (flushed : Bool)
+    × HasAnsweredSome on_bad Adds before came events old new unsent flushed
+    × (new.read_failed ≡ false) × (new.write_failed ≡ true)
+
+-- so it was with these, after all that was answered before
+abbrev pub StopsTurn : Decoration → TurnFault → List Event → FacilityState → (peer peer' : PeerState) → Type 0
+StopsTurn Adds fault events s peer peer' = (on_bad : OnBadLine) (before : FacilityState) (came : List ℕ)
+    (earlier : List Event) (old : PeerState) → HasAnsweredSoFar on_bad Adds before came earlier old peer s
+    → HasStoppedTurn on_bad Adds before fault came (earlier ++ events) old peer'
+
+-- all bytes that came were taken in, and the events that passed are answered; or serving ended
+abbrev pub HasServedPiece : {F : Type 0} → Server F → (came : List ℕ) → (old : Sides F) → Cutter → FacilityState
+    → (new : Sides F) → Result Unit ServeFault → Type 0
+HasServedPiece server came old cutter s new (Ok u) = (events : List Event)
+    × HasTakenIn cutter server.contents old.faults new.faults came events
+    × HasAnsweredSoFar server.on_bad server.Adds server.before came events old.peer new.peer s
+HasServedPiece server came old cutter s new (Err fault) = HasServed server old new (Err fault)

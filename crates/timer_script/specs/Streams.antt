@@ -1,7 +1,6 @@
 -- A reader and a writer, as the two directions of a peer.
 use Rattle.std.specs.Prelude.{ℕ, List, Option, None}
-use Rattle.timer_script.specs.declared.streams.Streams.{Streams}
-use Rattle.timer_script.specs.declared.watched.Watched.{Watched}
+use Rattle.timer_script.specs.Types.{Streams, Watched}
 use Rattle.timer_script.specs.Watched.{inner_of, has_failed}
 use Rattle.timer_script.specs.Peer.{PeerState}
 

@@ -9,10 +9,9 @@
 //!     " 3 7\ntikc 3\ntick"  start 0 1 3 7   "bad line 2, column 3: unknown word\n"  "tick"
 //!     " 3\n"                tick 3
 ghost use Rattle.std.specs.Prelude.{◌≡◌, ◌↔◌, ◌<◌, ◌≤◌, ◌++◌, ◌∷◌, [], ℕ, List, length, take, true, IfOk, IfErr, OnOk, OnErr};
-ghost use Rattle.timer_facility.specs.declared.event.Event.{Event};
-ghost use Rattle.timer_script.specs.declared.splitter.TheConstants.{MAX_LINE};
+ghost use Rattle.timer_script.specs.Types.{Event, MAX_LINE};
 ghost use Rattle.timer_script.specs.Splitter.{HasNoFeed};
-ghost use Rattle.timer_script.specs.Cutter.{number_after_line, complaint_line, IsFrontOf, HasEndedLine, StopsLine, HasCut, StopsCut, HasReported, TakesPiece, TakesEnd};
+ghost use Rattle.timer_script.specs.Cutter.{Complaint, complaint_line, HasEndedLine, StopsLine, HasSorted, HasSortedSince, StopsAt, HasReported, TakesPiece, TakesEnd};
 
 use crate::diagnosis::fault_of_bad;
 use crate::fault::ScriptFault;
@@ -179,10 +178,11 @@ impl Cutter {
     ///
     /// `Bad` names the bad line at which the stream ends. After `OutOfMemory` some bytes may be lost.
     fn cut(&mut self, piece: &[u8]) -> Result<(), ScriptFault>
-        ensures cut { OnOk result ((front : List ℕ) → IsFrontOf self.old front
-            → HasCut [] [] front piece.now self.old self.new) }
-        ensures stopped { IfErr result (λ fault. (front : List ℕ) → IsFrontOf self.old front
-            → StopsCut fault [] front piece.now self.old self.new) }
+        ensures cut { OnOk result ((came : List ℕ) (events : List Event) (bad : List Complaint)
+            → HasSorted self.old came events bad → HasSortedSince self.new (came ++ piece.now) events bad) }
+        ensures stopped { IfErr result (λ fault. (came : List ℕ) (events : List Event) (bad : List Complaint)
+            → HasSorted self.old came events bad
+            → StopsAt fault self.old.on_bad (came ++ piece.now) (events ++ self.new.events.items)) }
         ensures kept { self.new.on_bad ≡ self.old.on_bad }
         ensures clean { self.new.clean ≡ self.old.clean }
     {
@@ -200,10 +200,12 @@ impl Cutter {
         requires some { 0 < length bytes.now }
         ensures some { IfOk result (λ n. 0 < n) }
         ensures within { IfOk result (λ n. n ≤ length bytes.now) }
-        ensures cut { IfOk result (λ n. (front : List ℕ) → IsFrontOf self.old front
-            → HasCut self.old.events.items self.old.reports.items front (take n bytes.now) self.old self.new) }
-        ensures stopped { IfErr result (λ fault. (front : List ℕ) → IsFrontOf self.old front
-            → StopsCut fault self.old.events.items front bytes.now self.old self.new) }
+        ensures cut { IfOk result (λ n. (came : List ℕ) (events : List Event) (bad : List Complaint)
+            → HasSortedSince self.old came events bad
+            → HasSortedSince self.new (came ++ take n bytes.now) events bad) }
+        ensures stopped { IfErr result (λ fault. (came : List ℕ) (events : List Event) (bad : List Complaint)
+            → HasSortedSince self.old came events bad
+            → StopsAt fault self.old.on_bad (came ++ bytes.now) (events ++ self.new.events.items)) }
         ensures kept { self.new.on_bad ≡ self.old.on_bad }
         ensures clean { self.new.clean ≡ self.old.clean }
     {
@@ -211,36 +213,19 @@ impl Cutter {
         let room = MAX_LINE.saturating_sub(self.held.len());
         self.held.extend_from_slice(&bytes[..len.min(room)])?;
         if bytes[len - 1] == b'\n' {
-            self.end_line()?;
+            sort_line(
+                self.on_bad,
+                &self.held,
+                self.number,
+                &mut self.events,
+                &mut self.reports,
+            )?;
+            self.held.clear();
+            self.number = self.number.saturating_add(1);
         } else if self.is_too_long() {
             return Err(ScriptFault::Bad { line: self.number });
         }
         Ok(len)
-    }
-
-    /// Ends the line whose bytes are held.
-    fn end_line(&mut self) -> Result<(), ScriptFault>
-        ensures ended { OnOk result ((front : List ℕ) → HasNoFeed front
-            → self.old.held.items ≡ take MAX_LINE (front ++ 10 ∷ [])
-            → HasEndedLine self.old.on_bad (front ++ 10 ∷ []) self.old.number self.old.events.items
-            self.new.events.items self.old.reports.items self.new.reports.items) }
-        ensures stopped { IfErr result (λ fault. StopsLine fault self.old.on_bad self.old.number
-            self.old.held.items self.old.events.items self.new.events.items) }
-        ensures held { OnOk result (self.new.held.items ≡ []) }
-        ensures number { OnOk result (self.new.number ≡ number_after_line self.old.number) }
-        ensures kept { self.new.on_bad ≡ self.old.on_bad }
-        ensures clean { self.new.clean ≡ self.old.clean }
-    {
-        sort_line(
-            self.on_bad,
-            &self.held,
-            self.number,
-            &mut self.events,
-            &mut self.reports,
-        )?;
-        self.held.clear();
-        self.number = self.number.saturating_add(1);
-        Ok(())
     }
 
     /// Whether so many bytes are held that the line is bad, and ends the stream.

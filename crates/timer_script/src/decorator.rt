@@ -4,8 +4,8 @@
 //!
 //!     one that       started 0 1 1 4
 //!     shows ticks      now 0
-ghost use Rattle.std.specs.Prelude.{◌≡◌, false, OnOk};
-ghost use Rattle.timer_script.specs.Decorator.{Decoration, IsLawful, MayAddNothing, HasGrown, HasGrownAfter, HasGrownWithin};
+ghost use Rattle.std.specs.Prelude.{OnOk};
+ghost use Rattle.timer_script.specs.Decorator.{Decoration, IsLawful, HasGrown, HasGrownAfter, HasGrownWithin};
 
 use timer_base::{OutOfMemory, Wheel};
 use timer_facility::Facility;
@@ -17,9 +17,8 @@ pub trait Decorator<W: Wheel + Drop> {
     ghost adds: { Decoration };
 
     /// Whether the text for each line is written before the next line is played. If not, that for all lines
-    /// of one read is written at once, and only the last of them is decorated.
-    fn sends_each_line(&self) -> bool
-        ensures { result ≡ false → MayAddNothing adds };
+    /// of one read is written at once.
+    fn sends_each_line(&self) -> bool;
 
     /// Appends what comes after the answer to a line. The only error is out of memory.
     fn decorate(&self, text: &mut Vec<u8>, facility: &Facility<W>) -> Result<(), OutOfMemory>
@@ -27,8 +26,7 @@ pub trait Decorator<W: Wheel + Drop> {
         ensures kept { HasGrown text.old.items text.new.items };
 
     /// Whether the ticks of a line are played in steps, and what comes after each of them is added. A step ends at
-    /// the latest at the tick until which the facility is quiet. Without `sends_each_line` it has an
-    /// effect only if a read has that one line.
+    /// the latest at the tick until which the facility is quiet.
     fn shows_steps(&self) -> bool {
         false
     }
@@ -45,7 +43,8 @@ pub trait Decorator<W: Wheel + Drop> {
         _text: &mut Vec<u8>,
         _facility: &Facility<W>,
     ) -> Result<(), OutOfMemory>
-        ensures { OnOk result (HasGrownWithin adds _text.old.items _text.new.items) }
+        ensures added { OnOk result (HasGrownWithin adds _text.old.items _text.new.items) }
+        ensures kept { HasGrown _text.old.items _text.new.items }
     {
         Ok(())
     }

@@ -1,15 +1,9 @@
 //! Lemmas about scripts and the text that answers them, each the contract of a function that does nothing.
 ghost use Rattle.std.specs.Prelude.{◌≡◌, ◌++◌, ℕ, List, [], length, true, Bool, Some, Result};
-ghost use Rattle.timer_base.specs.declared.limits.TheConstants.{LAST};
-ghost use Rattle.timer_facility.specs.declared.event.Event.{Event};
-ghost use Rattle.timer_facility.specs.State.{FacilityState};
+ghost use Rattle.timer_script.specs.Types.{LAST, Event, FacilityState, MAX_BYTES, MAX_TICKS, ServeFault, OnBadLine};
 ghost use Rattle.timer_facility.specs.Run.{bare_state};
-ghost use Rattle.timer_script.specs.declared.input.TheConstants.{MAX_BYTES};
-ghost use Rattle.timer_script.specs.declared.lines.TheConstants.{MAX_TICKS};
 ghost use Rattle.timer_script.specs.Script.{IsScript, IsBadLine};
 ghost use Rattle.timer_script.specs.ScriptRun.{IsAnswer};
-ghost use Rattle.timer_script.specs.declared.fault.ServeFault.{ServeFault};
-ghost use Rattle.timer_script.specs.declared.cutter.OnBadLine.{OnBadLine};
 ghost use Rattle.timer_script.specs.Decorator.{AddsNothing, AreDecorated};
 ghost use Rattle.timer_script.specs.Peer.{Moment};
 ghost use Rattle.timer_script.specs.Service.{Sides, IsPrompt, HasServed, server_with};

@@ -3,15 +3,14 @@
 //! A turn reads once, plays the lines that came, and writes and flushes their answers. So whenever more
 //! is read, each whole line that came has been answered. A decorator may add text after an answer. A cutter
 //! makes events of the bytes: a bad line ends the stream, or is reported to a second writer.
-ghost use Rattle.std.specs.Prelude.{◌≡◌, [], length, false, true, IfErr, OnErr, OnOk};
+ghost use Rattle.std.specs.Prelude.{◌≡◌, ◌++◌, ◌∷◌, [], ℕ, List, false, IfErr, OnErr, OnOk};
 ghost use Rattle.std.specs.Io.KnownBytes.{IsAtEnd};
+ghost use Rattle.timer_script.specs.Types.{Event, OnBadLine, Watched};
 ghost use Rattle.timer_facility.specs.State.{FacilityState, IsSound};
-ghost use Rattle.timer_script.specs.declared.watched.Watched.{Watched};
 ghost use Rattle.timer_script.specs.Peer.{PeerState};
-ghost use Rattle.timer_script.specs.ScriptRun.{AddsFirstLines};
-ghost use Rattle.timer_script.specs.Steps.{HasPlayedText};
+ghost use Rattle.timer_script.specs.Decorator.{HasGrownByAnswer};
 ghost use Rattle.timer_script.specs.Cutter.{HasTakenIn};
-ghost use Rattle.timer_script.specs.Service.{AreGood, HasSent, HasSentPart, HasAnswered, HasAnsweredPart, MayServe, HasServedEvents, StopsEvents, StopsEnd, HasServedAll, HasUnseen, HasServedPiece, HasServed, server_with, last_line};
+ghost use Rattle.timer_script.specs.Service.{AreGood, HasSent, HasSentPart, HasAnswered, HasAnsweredPart, AnswersMore, StopsTurn, HasAnsweredSoFar, HasServedPiece, HasServed, server_with};
 
 use crate::cutter::{Cutter, OnBadLine};
 use crate::decorator::Decorator;
@@ -19,7 +18,7 @@ use crate::fault::{ServeFault, TurnFault};
 use crate::input::zeroed_buffer;
 use crate::peer::Peer;
 use crate::session::Session;
-use crate::steps::{only_ticks, play_steps};
+use crate::steps::play_steps;
 use crate::watched::Watched;
 use std::alloc::Global;
 use std::io::Write;
@@ -53,46 +52,42 @@ fn send<P: Peer>(peer: &mut P, text: &[u8]) -> Result<(), TurnFault>
     }
 }
 
-/// Plays these events, and appends the answers. A line of ticks is played in steps if the decorator shows these.
-/// If memory runs out, the text answers the first events.
-#[tactic(auto, using(crate::proofs::StepLemmas::played_texts))]
+/// Plays an event, and appends its answer. Ticks are played in steps if the decorator shows these. If memory runs
+/// out, the text is unchanged.
+#[tactic(auto, using(crate::proofs::StepLemmas::kept_answer))]
 fn play<W: Wheel + Drop, D: Decorator<W>>(
     session: &mut Session<W>,
     decorator: &D,
-    events: &[Event],
+    event: Event,
     text: &mut Vec<u8>,
 ) -> Result<(), OutOfMemory>
-    requires { text.old.items ≡ [] }
-    ensures whole { OnOk result (HasPlayedText D.adds session.old.player events.now session.new.player
-        text.new.items) }
-    ensures part { OnErr result (AddsFirstLines session.old.player events.now [] text.new.items) }
+    ensures whole { OnOk result (HasGrownByAnswer D.adds session.old.player (event ∷ []) session.new.player
+        text.old.items text.new.items) }
+    ensures nothing { OnErr result (text.new.items ≡ text.old.items) }
 {
     if decorator.shows_steps()
-        && let Some(count) = only_ticks(events)
+        && let Event::Ticks { count } = event
     {
         return play_steps(session, decorator, count, text);
     }
-    session.play(events, text)
+    session.play_one(event, text)
 }
 
-/// Plays these events, and appends the answers and what is added after them. After no event nothing is added.
-/// If memory runs out, the text answers the first events.
-fn answer<W: Wheel + Drop, D: Decorator<W>>(
+/// Plays an event, and appends its answer and what is added to it. If memory runs out, at most the answer is appended.
+fn answer_one<W: Wheel + Drop, D: Decorator<W>>(
     session: &mut Session<W>,
     decorator: &D,
-    events: &[Event],
+    event: Event,
     text: &mut Vec<u8>,
 ) -> Result<(), OutOfMemory>
-    requires none { text.old.items ≡ [] }
-    requires few { MayServe D.adds events.now }
-    ensures whole { OnOk result (HasAnswered D.adds session.old.player events.now session.new.player
-        text.new.items) }
-    ensures part { OnErr result (HasAnsweredPart D.adds session.old.player events.now text.new.items) }
+    ensures whole { OnOk result ((before : FacilityState) (earlier : List Event)
+        → HasAnswered D.adds before earlier session.old.player text.old.items
+        → HasAnswered D.adds before (earlier ++ event ∷ []) session.new.player text.new.items) }
+    ensures part { OnErr result ((before : FacilityState) (earlier : List Event)
+        → HasAnswered D.adds before earlier session.old.player text.old.items
+        → HasAnsweredPart D.adds before (earlier ++ event ∷ []) text.new.items) }
 {
-    play(session, decorator, events, text)?;
-    if events.is_empty() {
-        return Ok(());
-    }
+    play(session, decorator, event, text)?;
     let answered = text.len();
     match decorator.decorate(text, session.player.facility()) {
         Ok(()) => Ok(()),
@@ -104,6 +99,25 @@ fn answer<W: Wheel + Drop, D: Decorator<W>>(
     }
 }
 
+/// Plays these events, and appends the answers and what is added to each. If memory runs out, the text answers the
+/// first events.
+fn answer<W: Wheel + Drop, D: Decorator<W>>(
+    session: &mut Session<W>,
+    decorator: &D,
+    events: &[Event],
+    text: &mut Vec<u8>,
+) -> Result<(), OutOfMemory>
+    requires { text.old.items ≡ [] }
+    ensures whole { OnOk result (HasAnswered D.adds session.old.player events.now session.new.player
+        text.new.items) }
+    ensures part { OnErr result (HasAnsweredPart D.adds session.old.player events.now text.new.items) }
+{
+    for event in events {
+        answer_one(session, decorator, *event, text)?;
+    }
+    Ok(())
+}
+
 /// Plays these events, and writes and flushes the answers and what is added after them.
 fn serve_some<P: Peer, W: Wheel + Drop, D: Decorator<W>>(
     session: &mut Session<W>,
@@ -113,11 +127,11 @@ fn serve_some<P: Peer, W: Wheel + Drop, D: Decorator<W>>(
     text: &mut Vec<u8>,
 ) -> Result<(), TurnFault>
     requires good { AreGood (P.state peer.old) }
-    requires few { MayServe D.adds events.now }
-    ensures served { OnOk result (HasServedEvents D.adds session.old.player events.now session.new.player
+    ensures served { OnOk result (AnswersMore D.adds events.now session.old.player session.new.player
         (P.state peer.old) (P.state peer.new)) }
     ensures good { OnOk result (AreGood (P.state peer.new)) }
-    ensures fault { IfErr result (λ fault. StopsEvents D.adds fault session.old.player events.now
+    ensures unread { OnOk result ((P.state peer.new).remaining ≡ (P.state peer.old).remaining) }
+    ensures fault { IfErr result (λ fault. StopsTurn D.adds fault events.now session.old.player
         (P.state peer.old) (P.state peer.new)) }
 {
     text.clear();
@@ -136,10 +150,11 @@ fn serve_events<P: Peer, W: Wheel + Drop, D: Decorator<W>>(
     text: &mut Vec<u8>,
 ) -> Result<(), TurnFault>
     requires { AreGood (P.state peer.old) }
-    ensures served { OnOk result (HasServedEvents D.adds session.old.player events.now session.new.player
+    ensures served { OnOk result (AnswersMore D.adds events.now session.old.player session.new.player
         (P.state peer.old) (P.state peer.new)) }
     ensures good { OnOk result (AreGood (P.state peer.new)) }
-    ensures fault { IfErr result (λ fault. StopsEvents D.adds fault session.old.player events.now
+    ensures unread { OnOk result ((P.state peer.new).remaining ≡ (P.state peer.old).remaining) }
+    ensures fault { IfErr result (λ fault. StopsTurn D.adds fault events.now session.old.player
         (P.state peer.old) (P.state peer.new)) }
 {
     if !decorator.sends_each_line() {
@@ -168,12 +183,13 @@ fn serve_piece<P: Peer, W: Wheel + Drop, D: Decorator<W>, F: Write>(
     ensures kept { cutter.new.on_bad ≡ cutter.old.on_bad }
     ensures good { OnOk result (AreGood (P.state peer.new)) }
     ensures unread { OnOk result ((P.state peer.new).remaining ≡ (P.state peer.old).remaining) }
-    ensures served { (before : FacilityState) (p : PeerState) (w : Watched F)
-        → (all : HasServedAll (server_with cutter.old.on_bad D.adds before F.contents)
-        (HasUnseen cutter.old F.contents w faults.old piece.now) p (P.state peer.old) session.old.player)
-        → HasServedPiece (server_with cutter.old.on_bad D.adds before F.contents)
+    ensures served { (on_bad : OnBadLine) (before : FacilityState) (p : PeerState) (w : Watched F) (came : List ℕ)
+        (events : List Event) → cutter.old.on_bad ≡ on_bad
+        → HasTakenIn cutter.old F.contents w faults.old came events
+        → HasAnsweredSoFar on_bad D.adds before (came ++ piece.now) events p (P.state peer.old) session.old.player
+        → HasServedPiece (server_with on_bad D.adds before F.contents) (came ++ piece.now)
         (record { peer = p; faults = w }) cutter.new session.new.player
-        (record { peer = P.state peer.new; faults = faults.new }) (length all.came) result }
+        (record { peer = P.state peer.new; faults = faults.new }) result }
 {
     let Ok(bad) = cutter.take_in(piece, faults) else {
         return Err(ServeFault::OutOfMemory);
@@ -183,22 +199,6 @@ fn serve_piece<P: Peer, W: Wheel + Drop, D: Decorator<W>, F: Write>(
         Some(line) => Err(ServeFault::Bad { line }),
         None => Ok(()),
     }
-}
-
-/// Writes and flushes the end line.
-fn finish<P: Peer, W: Wheel + Drop>(
-    session: &Session<W>,
-    peer: &mut P,
-    line: &mut Vec<u8>,
-) -> Result<(), TurnFault>
-    requires { AreGood (P.state peer.old) }
-    ensures sent { OnOk result (HasSent (P.state peer.old) (last_line session.now.player) (P.state peer.new)) }
-    ensures fault { IfErr result (λ fault. StopsEnd fault session.now.player (P.state peer.old)
-        (P.state peer.new)) }
-{
-    line.clear();
-    session.write_end(line)?;
-    send(peer, line)
 }
 
 /// The stream ended: writes and flushes the end line, unless a line that has not ended is bad.
@@ -211,10 +211,11 @@ fn end_stream<P: Peer, W: Wheel + Drop, D: Decorator<W>, F: Write>(
 ) -> Result<bool, ServeFault>
     requires good { AreGood (P.state peer.old) }
     requires ended { IsAtEnd (P.state peer.old).remaining }
-    ensures { (before : FacilityState) (p : PeerState) (w : Watched F) → IsSound before
-        → HasServedAll (server_with cutter.old.on_bad D.adds before F.contents)
-        (HasTakenIn cutter.old F.contents w faults.old) p (P.state peer.old) session.now.player
-        → HasServed (server_with cutter.old.on_bad D.adds before F.contents)
+    ensures { (on_bad : OnBadLine) (before : FacilityState) (p : PeerState) (w : Watched F) (came : List ℕ)
+        (events : List Event) → cutter.old.on_bad ≡ on_bad → IsSound before
+        → HasTakenIn cutter.old F.contents w faults.old came events
+        → HasAnsweredSoFar on_bad D.adds before came events p (P.state peer.old) session.now.player
+        → HasServed (server_with on_bad D.adds before F.contents)
         (record { peer = p; faults = w }) (record { peer = P.state peer.new; faults = faults.new }) result }
 {
     let Ok(bad) = cutter.end(faults) else {
@@ -223,7 +224,11 @@ fn end_stream<P: Peer, W: Wheel + Drop, D: Decorator<W>, F: Write>(
     match bad {
         Some(line) => Err(ServeFault::Bad { line }),
         None => {
-            finish(session, peer, text)?;
+            text.clear();
+            let Ok(()) = session.write_end(text) else {
+                return Err(ServeFault::OutOfMemory);
+            };
+            send(peer, text)?;
             Ok(cutter.clean)
         }
     }

@@ -1,6 +1,6 @@
 //! A session: events are played one after another, and answered in text.
 ghost use Rattle.std.specs.Prelude.{◌≡◌, ◌++◌, ◌∷◌, [], length, OnErr, OnOk};
-ghost use Rattle.timer_script.specs.ScriptRun.{AddsLines, AddsFirstLines};
+ghost use Rattle.timer_script.specs.ScriptRun.{AddsLines};
 ghost use Rattle.timer_script.specs.Text.{end_line};
 
 use crate::script_run::play_event;
@@ -31,21 +31,6 @@ impl<W: Wheel + Drop> Session<W> {
             outs: Vec::new(alloc),
             lines: Vec::new(alloc),
         }
-    }
-
-    /// Plays the events, and appends the line of each of their outs.
-    ///
-    /// The only error is out of memory, after which the text answers the events before. One more may have been
-    /// played.
-    pub fn play(&mut self, events: &[Event], text: &mut Vec<u8>) -> Result<(), OutOfMemory>
-        ensures played { OnOk result (AddsLines self.old.player events.now text.old.items text.new.items
-            self.new.player) }
-        ensures part { OnErr result (AddsFirstLines self.old.player events.now text.old.items text.new.items) }
-    {
-        for event in events {
-            self.play_one(*event, text)?;
-        }
-        Ok(())
     }
 
     /// Plays one event, and appends its lines. The only error is out of memory, and then the text is unchanged.

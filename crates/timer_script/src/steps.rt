@@ -2,50 +2,37 @@
 //!
 //! No bucket with a timer is emptied before the tick until which a facility is quiet. A step ends there, or
 //! at the end of the line: then timers moved at most at its last tick.
-ghost use Rattle.std.specs.Prelude.{◌≡◌, ◌<◌, ◌≤◌, ◌⊎◌, ◌∷◌, [], IfSome, OnErr, OnOk};
+ghost use Rattle.std.specs.Prelude.{◌≡◌, ◌<◌, ◌≤◌, ◌⊎◌, ◌∷◌, [], OnErr, OnOk};
 ghost use Rattle.timer_facility.specs.State.{IsSound};
 ghost use Rattle.timer_facility.specs.Played.{ticks_left};
-ghost use Rattle.timer_script.specs.Decorator.{HasAnsweredWithin};
-ghost use Rattle.timer_script.specs.Steps.{HasGrownByAnswer};
+ghost use Rattle.timer_script.specs.Decorator.{HasGrown, HasGrownByAnswer};
 
 use crate::decorator::Decorator;
 use crate::session::Session;
 use timer_base::{OutOfMemory, Wheel};
 use timer_facility::{Event, Facility};
 
-/// The ticks of a line, if these are the events of one line of ticks.
-pub fn only_ticks(events: &[Event]) -> Option<u64>
-    ensures { IfSome result (λ count. events.now ≡ Event.Ticks count ∷ []) }
-{
-    if events.len() == 1
-        && let Event::Ticks { count } = events[0]
-    {
-        return Some(count);
-    }
-    None
-}
-
 /// Plays the ticks of a line in steps, and appends the answers and what is added after each step.
 ///
-/// The only error is out of memory, and then the text is empty. Some of the ticks may have been played.
+/// The only error is out of memory, and then the text is unchanged. Some of the ticks may have been played.
 pub fn play_steps<W: Wheel + Drop, D: Decorator<W>>(
     session: &mut Session<W>,
     decorator: &D,
     count: u64,
     text: &mut Vec<u8>,
 ) -> Result<(), OutOfMemory>
-    requires { text.old.items ≡ [] }
-    ensures whole { OnOk result (HasAnsweredWithin D.adds session.old.player (Event.Ticks count ∷ [])
-        session.new.player text.new.items) }
-    ensures nothing { OnErr result (text.new.items ≡ []) }
+    ensures whole { OnOk result (HasGrownByAnswer D.adds session.old.player (Event.Ticks count ∷ [])
+        session.new.player text.old.items text.new.items) }
+    ensures nothing { OnErr result (text.new.items ≡ text.old.items) }
 {
     // Brings into scope for the prover that the clock is in its range.
     let _now = session.player.facility().now();
+    let before = text.len();
     let mut left = count;
     while left > 0 {
         let step = step_of(session.player.facility(), left);
         let Ok(()) = play_step(session, decorator, step, text) else {
-            text.clear();
+            text.truncate(before);
             return Err(OutOfMemory);
         };
         left -= step;
@@ -77,8 +64,9 @@ fn play_step<W: Wheel + Drop, D: Decorator<W>>(
     count: u64,
     text: &mut Vec<u8>,
 ) -> Result<(), OutOfMemory>
-    ensures { OnOk result (HasGrownByAnswer D.adds session.old.player (Event.Ticks count ∷ [])
+    ensures answer { OnOk result (HasGrownByAnswer D.adds session.old.player (Event.Ticks count ∷ [])
         session.new.player text.old.items text.new.items) }
+    ensures kept { HasGrown text.old.items text.new.items }
 {
     let before = decorator.before_step(session.player.facility());
     session.play_one(Event::Ticks { count }, text)?;

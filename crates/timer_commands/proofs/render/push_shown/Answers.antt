@@ -1,8 +1,14 @@
-use Rattle.timer_commands.proofs.IndentedLemmas.{pictured}
+use Rattle.std.proofs.Common.{subst, rules}
+use Rattle.timer_commands.specs.Indented.{HasGrownByIndented}
+use Rattle.timer_commands.proofs.IndentedLemmas.{grown_none, pictured}
 use Rattle.timer_commands.proofs.render.push_shown.Goals as goal
+use Rattle.timer_commands.proofs.render.push_shown.Goals.{then-counts+in_ok-push_counts, else-counts}
 
 pub returns-clause-picture : goal.returns-clause-picture
 returns-clause-picture g c =
-    pictured c.push_placement.result _ _ c.push.new.self.items c.push_wanted_counts.new.text.items _ _ _ c.now.ensures
-    c.in_ok-push_number.ensures.text c.in_ok-push.ensures.items c.in_ok-push_wanted_counts.ensures.indented
-    c.push_placement.ensures.indented
+    let counted : HasGrownByIndented c.push.new.self.items c.if-counts.text.items = elim c.if-counts.branch [
+      | then-counts+in_ok-push_counts w ↦ subst (HasGrownByIndented c.push.new.self.items) (search rules) w.in_ok-push_counts.ensures.indented
+      | else-counts w ↦ subst (HasGrownByIndented c.push.new.self.items) (search rules) (grown_none c.push.new.self.items)
+    ] in
+    pictured c.push_placement.result _ _ c.push.new.self.items c.if-counts.text.items _ _ _ c.now.ensures
+    c.in_ok-push_number.ensures.text c.in_ok-push.ensures.items counted c.push_placement.ensures.indented

@@ -1,6 +1,5 @@
 use Rattle.std.proofs.Common.{◌≡◌, ℕ, List, [], ◌∷◌, ◌++◌, sym, ap, ◌∙◌, append-nil}
-use Rattle.timer_facility.specs.declared.event.Event.{Event}
-use Rattle.timer_facility.specs.State.{FacilityState}
+use Rattle.timer_script.specs.Types.{Event, FacilityState}
 use Rattle.timer_script.specs.Decorator.{AddsNothing, AreDecorated}
 use Rattle.timer_script.proofs.laws.undecorated_text_is_the_answer.Goals as goal
 

@@ -1,4 +1,4 @@
-use Rattle.timer_script.proofs.EmptyReportLemmas.{no_bad_lines, script_has_none}
+use Rattle.timer_script.proofs.ScriptReportLemmas.{no_bad_lines, script_has_none}
 use Rattle.timer_script.proofs.script_report.scripts_have_no_bad_line.Goals as goal
 
 pub returns-clause-script : goal.returns-clause-script

@@ -1,33 +1,30 @@
-use Rattle.std.proofs.Common.{sym, ◌∙◌, subst, rules}
-use Rattle.timer_script.specs.Decorator.{HasGrownAfter}
-use Rattle.timer_script.specs.Steps.{HasPlayedText}
-use Rattle.timer_script.proofs.Results.{emptied, not_emptied, on_err}
-use Rattle.timer_script.proofs.ServicePieces.{answered_nothing, answered_after, part_played, part_bare, cut_back}
+use Rattle.std.proofs.Common.{◌+◌, take, drop, sym, subst, take-append-drop}
+use Rattle.std.proofs.lemmas.List.{take_more}
+use Rattle.timer_script.specs.Service.{HasAnswered, HasAnsweredPart}
+use Rattle.timer_script.proofs.Results.{on_err}
+use Rattle.timer_script.proofs.ServicePieces.{answered_none, part_more}
 use Rattle.timer_script.proofs.service.answer.Goals as goal
 
-pub returns-in_err-play-clause-part : goal.returns-in_err-play-clause-part
-returns-in_err-play-clause-part g c = on_err _
-    (part_played g.D.Decorator.adds g.met.D.Decorator.is_lawful _ _ _ c.requires.few c.in_err-play.ensures.part)
+pub loop-event-init : goal.loop-event-init
+loop-event-init g c =
+    let s = c.args.session.now.player in
+    subst (HasAnswered g.D.Decorator.adds s (take 0 c.args.events.now) s) (sym c.requires) (answered_none g.D.Decorator.adds s)
 
-pub returns-then-is_empty-clause-whole : goal.returns-then-is_empty-clause-whole
-returns-then-is_empty-clause-whole g c =
-    answered_nothing g.D.Decorator.adds _ _ c.args.events.now _ (emptied c.args.events.now (sym c.is_empty.ensures ∙ c.if-is_empty.true))
-    c.in_ok-play.ensures.whole
+pub loop-event-preserved : goal.loop-event-preserved
+loop-event-preserved g c =
+    let s = c.args.session.now.player in
+    let more = take_more c.args.events.now c.loop-event.event-index _ c.loop-event-test.true in
+    subst (λ es. HasAnswered g.D.Decorator.adds s es c.answer_one.new.session.player c.answer_one.new.text.items) (sym more)
+    (c.in_ok-answer_one.ensures.whole s (take c.loop-event.event-index c.args.events.now) c.loop-event.invariant)
 
-pub returns-in-Ok-clause-whole : goal.returns-in-Ok-clause-whole
-returns-in-Ok-clause-whole g c =
-    answered_after g.D.Decorator.adds g.met.D.Decorator.is_lawful _ _ c.args.events.now _ _ c.requires.few
-    (not_emptied c.args.events.now (sym c.is_empty.ensures ∙ c.if-is_empty.false)) c.in_ok-play.ensures.whole
-    (subst (λ z. HasGrownAfter g.D.Decorator.adds z c.play.new.text.items c.decorate.new.text.items) c.facility.ensures.state
-    c.in-Ok.ensures.added)
-
-pub returns-in-Err-clause-part : goal.returns-in-Err-clause-part
-returns-in-Err-clause-part g c =
+pub returns-in_err-answer_one-clause-part : goal.returns-in_err-answer_one-clause-part
+returns-in_err-answer_one-clause-part g c =
     let A = g.D.Decorator.adds in
     let s = c.args.session.now.player in
-    let t = c.play.new.session.player in
-    let x = c.play.new.text.items in
-    part_bare A g.met.D.Decorator.is_lawful s t c.args.events.now c.truncate.new.self.items c.requires.few
-    (subst (HasPlayedText A s c.args.events.now t)
-    (sym (cut_back x c.decorate.new.text.items c.truncate.new.self.items c.decorate.ensures.kept (search rules)))
-    c.in_ok-play.ensures.whole)
+    let events = c.args.events.now in
+    let i = c.loop-event.event-index in
+    let text = c.answer_one.new.text.items in
+    let first = subst (λ es. HasAnsweredPart A s es text) (sym (take_more events i _ c.loop-event-test.true))
+    (c.in_err-answer_one.ensures.part s (take i events) c.loop-event.invariant) in
+    on_err _ (subst (λ es. HasAnsweredPart A s es text) (take-append-drop (i + 1) events)
+    (part_more A s (take (i + 1) events) (drop (i + 1) events) text first))

@@ -1,5 +1,4 @@
-use Rattle.std.proofs.Common.{◌∙◌, ◌||◌, true, false, ap, subst, rules}
-use Rattle.std.proofs.lemmas.List.{take_all}
+use Rattle.std.proofs.Common.{◌∙◌, ◌||◌, true, false, ap, subst, rules, take_all}
 use Rattle.timer_script.specs.Service.{HasWritten}
 use Rattle.timer_script.proofs.PeerLemmas.{written_none, written_more, written_failed, written_flush, sent_all, still_good, took_none, rest_some, within_more}
 use Rattle.timer_script.proofs.service.send.Goals as goal

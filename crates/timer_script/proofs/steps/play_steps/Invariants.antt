@@ -5,7 +5,8 @@ use Rattle.timer_script.proofs.steps.play_steps.Given as goal
 -- the ticks that are no longer left were played
 abbrev pub invariant-loop-left : goal.invariant-loop-left
 invariant-loop-left g l = record {
-  played : HasPlayedSteps g.D.Decorator.adds l.fn.session.player (l.fn.count - l.left) l.left l.session.player l.text.items;
+  played : HasPlayedSteps g.D.Decorator.adds l.fn.session.player (l.fn.count - l.left) l.left l.session.player l.fn.text.items
+      l.text.items;
   within : l.left ≤ l.fn.count;
 }
 

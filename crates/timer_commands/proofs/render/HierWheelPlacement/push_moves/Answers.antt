@@ -12,7 +12,7 @@ loop-list-preserved c =
         | then-not-is_empty+in_ok-push_number+in_ok-push_move w ↦
             let at = begun _ _ (codes " moved at ") _ refl w.in_ok-push_number.ensures.text in
             subst (HasGrownByIndented c.args.text.now.items) (search rules)
-            (grown_join _ _ w.push_move.new.text.items before (line_joined _ _ w.push_move.new.text.items at w.in_ok-push_move.ensures))
+            (grown_join _ _ w.push_move.new.text.items before (line_joined _ _ w.push_move.new.text.items at w.in_ok-push_move.ensures.ended))
         | else-not-is_empty w ↦ subst (HasGrownByIndented c.args.text.now.items) (search rules) before
       ];
     }

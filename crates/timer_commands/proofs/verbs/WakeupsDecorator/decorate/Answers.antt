@@ -1,5 +1,4 @@
-use Rattle.std.proofs.Common.{◌≡◌, ℕ, List, ◌++◌, refl, subst}
-use Rattle.std.specs.Prelude.{Option, Result, Ok, Err, OnOk}
+use Rattle.std.proofs.Common.{◌≡◌, ℕ, List, ◌++◌, refl, subst, Option, Result, Ok, Err, OnOk}
 use Rattle.timer_base.specs.WakeUps.{IsQuietUntil}
 use Rattle.timer_facility.specs.State.{FacilityState}
 use Rattle.timer_script.specs.Decorator.{HasGrownAfter}
