@@ -7,7 +7,7 @@ use Rattle.timer_facility.specs.declared.request.NotTaken.{NotTaken}
 use Rattle.timer_facility.specs.declared.request.NotTaken.TheVariants.{Closed, NoClient, Repeated, NumbersSpent, Ahead, OutOfMemory}
 use Rattle.timer_facility.specs.State.{FacilityState, number_of}
 use Rattle.timer_facility.specs.Verdict.{not_taken}
-use Rattle.timer_facility.specs.Facility.{FacilityView, model_of, IsNotTaken, NeedsMemory}
+use Rattle.timer_facility.specs.Facility.{FacilityView, model_of, WhyNotTaken, NeedsMemory}
 use Rattle.timer_facility.proofs.ClockLemmas.{clients-asked}
 use Rattle.timer_desk.specs.declared.word.Numbered.{Numbered}
 use Rattle.timer_desk.specs.declared.word.Word.{Word}
@@ -30,12 +30,12 @@ no_want s client number h =
     first_of s.is_closed (not (nat_lt client (length s.numbers))) (nat_lt number (number_of s client)) (nat_lt LAST (number_of s client))
     (nat_lt (number_of s client) number) (number_of s client) h
 
--- if an allocation failed, the request allocates
+-- if an allocation failed, the request allocates, and no room was made
 pub needs_memory : (s : FacilityState) (client number : ℕ) (request : Request) (reason : NotTaken) → reason ≡ OutOfMemory
-    → IsNotTaken s client number request reason → NeedsMemory s client number request
+    → WhyNotTaken s client number request reason → NeedsMemory s client number request × (s.has_room ≡ false)
 needs_memory s client number request reason e n = elim n [
   | inl h ↦ absurd (no_want s client number (cc))
-  | inr h ↦ h.1
+  | inr h ↦ (h.1, h.2)
 ]
 
 -- and it adds no client

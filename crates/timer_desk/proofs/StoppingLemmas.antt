@@ -1,6 +1,6 @@
 -- A timer that is stopped in the name of a client: the step, and the desk after it.
 use Rattle.std.proofs.Common.{◌≡◌, ℕ, ◌+◌, ◌≤◌, Bool, true, false, ◌⊎◌, not, List, [], ◌∷◌, length, get_or, refl, sym, ◌∙◌, ap, subst, inl, inr, arith}
-use Rattle.std.specs.Prelude.{Option, Some, None, Ok, Err, Result, IfOk, IfErr, OnErr, filter, slice_get, slice_index, unwrap_or}
+use Rattle.std.specs.Prelude.{Option, Some, None, Ok, Err, Result, MatchResult, filter, slice_get, slice_index, unwrap_or}
 use Rattle.std.proofs.lemmas.List.{length-set}
 use Rattle.std.proofs.lemmas.Option.{unwrap_or-slice_get}
 use Rattle.timer_base.specs.declared.timer.Timer.{Timer}
@@ -14,7 +14,7 @@ use Rattle.timer_facility.specs.State.{FacilityState, number_of, count_of, pendi
 use Rattle.timer_facility.specs.Verdict.{timer_named, verdict}
 use Rattle.timer_facility.specs.Step.{StepResult, answered, answer_to, without_timer, step_by, step}
 use Rattle.timer_facility.specs.Run.{notices_in}
-use Rattle.timer_facility.specs.Facility.{FacilityView, with_nothing_waiting, view_after, place_in, IsTaken, IsNotTaken}
+use Rattle.timer_facility.specs.Facility.{FacilityView, with_nothing_waiting, view_after, place_in, IsTaken, WhyNotTaken, IsNotTaken}
 use Rattle.timer_facility.proofs.StepLemmas.{by_verdict, step-not_taken}
 use Rattle.timer_desk.specs.Inlet.{LineKind}
 use Rattle.timer_desk.specs.Backlog.{BacklogState, notices_for}
@@ -61,7 +61,7 @@ taken_step s client handle answer new t =
     }
 
 not_taken_step : (s : FacilityState) (client : ℕ) (handle : Handle) (reason : NotTaken) (new : FacilityView)
-    → IsNotTaken s client (number_of s client) (Requests.Stop handle) reason → new ≡ with_nothing_waiting s
+    → WhyNotTaken s client (number_of s client) (Requests.Stop handle) reason → new ≡ with_nothing_waiting s
     → IsStopStep s client handle (Err reason) new
 not_taken_step s client handle reason new (inl h) same =
     let e : stop_step s client handle ≡ record { outs = Outs.NotTaken client (number_of s client) reason ∷ []; state = s } =
@@ -78,16 +78,16 @@ next_is numbers client next e = ap (λ o. unwrap_or o 0) e ∙ unwrap_or-slice_g
 -- what `take` ensures of the request under the client's next number
 pub stop_is : (f : FacilityView) (client number : ℕ) (next : Option ℕ) (handle : Handle) (result : Result Answer NotTaken)
     (new : FacilityView) → f.waiting ≡ [] → next ≡ slice_get f.state.numbers client → number ≡ unwrap_or next 0
-    → IfOk result (λ answer. IsTaken f.state client number (Requests.Stop handle) answer new)
-    → IfErr result (IsNotTaken f.state client number (Requests.Stop handle)) → OnErr result (new ≡ f)
+    → MatchResult result (λ answer. IsTaken f.state client number (Requests.Stop handle) answer new)
+    (λ reason. IsNotTaken f client number (Requests.Stop handle) reason new)
     → IsStopStep f.state client handle result new
-stop_is f client number next handle (Ok answer) new q e m t n u =
+stop_is f client number next handle (Ok answer) new q e m t =
     taken_step f.state client handle answer new
     (subst (λ k. IsTaken f.state client k (Requests.Stop handle) answer new) (m ∙ next_is f.state.numbers client next e) t)
-stop_is f client number next handle (Err reason) new q e m t n u =
+stop_is f client number next handle (Err reason) new q e m n =
     not_taken_step f.state client handle reason new
-    (subst (λ k. IsNotTaken f.state client k (Requests.Stop handle) reason) (m ∙ next_is f.state.numbers client next e) n)
-    (u ∙ still f q)
+    (subst (λ k. WhyNotTaken f.state client k (Requests.Stop handle) reason) (m ∙ next_is f.state.numbers client next e) n.why)
+    (n.left ∙ still f q)
 
 -- The desk.
 

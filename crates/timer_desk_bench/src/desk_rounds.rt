@@ -1,4 +1,4 @@
-//! Rounds at a desk over lines in memory.
+//! Rounds at a desk over lines in memory, whose words are read.
 //!
 //! A turn serves each client once, flushes each client and passes a tick. So every tick has a start of
 //! each client, and in the middle of a round an expired timer of each client as well.
@@ -6,21 +6,22 @@ ghost use Rattle.std.specs.Prelude.{◌≡◌, All, IfSome};
 ghost use Rattle.timer_desk.specs.Desk.{InRange, clients_of};
 
 use crate::counts::Counts;
+use crate::read_line::ReadLine;
 use crate::requests::{LONGEST, REQUESTS, new_facility, requests};
 use std::alloc::Global;
-use timer_desk::{Desk, MemoryInlet, Served, Step};
+use timer_desk::{Desk, Served, Step};
 use timer_wheels::HierWheel;
 
 /// How many words an outbox has room for: as in a run of clients in threads.
 const ROOM: usize = 1024;
 
 /// A desk of `clients` clients, with `each` requests in each of their lines.
-fn new_desk(alloc: Global, clients: u64, each: u64) -> Option<Desk<HierWheel, MemoryInlet>> {
+fn new_desk(alloc: Global, clients: u64, each: u64) -> Option<Desk<HierWheel, ReadLine>> {
     let facility = new_facility(alloc, clients).ok()?;
     let mut inlets = Vec::new(alloc);
     for _ in 0..clients {
         let requests = requests(alloc, each).ok()?;
-        let inlet = MemoryInlet::new(alloc, requests, 2 * REQUESTS as usize);
+        let inlet = ReadLine::new(alloc, requests);
         inlets.push(inlet).ok()?;
     }
     if inlets.len() as u64 != clients {
@@ -68,7 +69,7 @@ fn round_by_turns(alloc: Global, clients: u64, each: u64, counts: &mut Counts) -
 
 /// One turn.
 fn take_steps(
-    desk: &mut Desk<HierWheel, MemoryInlet>,
+    desk: &mut Desk<HierWheel, ReadLine>,
     steps: &[Step],
     counts: &mut Counts,
 ) -> Option<()>
@@ -107,7 +108,7 @@ fn round_by_calls(alloc: Global, clients: u64, each: u64, counts: &mut Counts) -
 }
 
 /// One turn by single calls.
-fn take_turn(desk: &mut Desk<HierWheel, MemoryInlet>, counts: &mut Counts) {
+fn take_turn(desk: &mut Desk<HierWheel, ReadLine>, counts: &mut Counts) {
     for client in 0..desk.clients() {
         if client < desk.clients() {
             if let Served::Did { .. } = desk.serve(client) {

@@ -17,6 +17,7 @@ mod desk_rounds;
 mod facility_rounds;
 mod flushes;
 mod lines;
+mod read_line;
 mod requests;
 
 use counts::Counts;

@@ -19,7 +19,7 @@ use Rattle.timer_facility.specs.State.{FacilityState, IsSound, After, ByHandle, 
 use Rattle.timer_facility.specs.Verdict.{not_taken}
 use Rattle.timer_facility.specs.Step.{StepResult, step}
 use Rattle.timer_facility.specs.Run.{PlacedEvent, HistoryEntry, history, state_after, outs_of}
-use Rattle.timer_facility.specs.Facility.{FacilityView, model_of, place_in, event_of_request, IsTaken, IsNotTaken}
+use Rattle.timer_facility.specs.Facility.{FacilityView, model_of, place_in, event_of_request, IsTaken, WhyNotTaken}
 use Rattle.timer_facility.specs.Played.{singles_of, ArePlaced, IsRun, IsPlayed, MakesStep, AddsRun}
 
 state_after-append : (s : FacilityState) (xs ys : List PlacedEvent) → state_after s (xs ++ ys) ≡ state_after (state_after s xs) ys
@@ -181,7 +181,7 @@ MakesStep-not_taken s client number request reason before outs after r o e =
 
 -- a request that is not taken for another reason than memory is not taken for the reason of the verdict
 pub reason-verdict : (s : FacilityState) (client number : ℕ) (request : Request) (reason : NotTaken)
-    → IsNotTaken s client number request reason → (reason ≡ NotTakens.OutOfMemory → ⊥)
+    → WhyNotTaken s client number request reason → (reason ≡ NotTakens.OutOfMemory → ⊥)
     → not_taken s client number ≡ Some reason
 reason-verdict s client number request reason (inl h) n = h
 reason-verdict s client number request reason (inr h) n = absurd (n h.0)

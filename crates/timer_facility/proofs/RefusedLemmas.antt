@@ -1,23 +1,20 @@
--- The verdict on an event, read from its outs and from the results of the facility's calls.
-use Rattle.std.proofs.Common.{◌≡◌, ℕ, Bool, true, false, not, List, [], ◌∷◌, length, refl, ap}
-use Rattle.std.specs.Prelude.{map, nat_lt, if◌then◌else◌, Option, Some, None}
-use Rattle.timer_base.specs.declared.limits.TheConstants.{LAST}
+-- The verdict on an event, read from its outs.
+use Rattle.std.proofs.Common.{◌≡◌, ℕ, Bool, true, false, List, [], ◌∷◌, refl, ap}
+use Rattle.std.specs.Prelude.{map, if◌then◌else◌, Option, Some, None}
 use Rattle.timer_base.specs.declared.timer.Timer.{Timer}
 use Rattle.timer_base.specs.Pending.{timers_of}
 use Rattle.timer_facility.specs.declared.request.NotTaken.{NotTaken}
-use Rattle.timer_facility.specs.declared.request.NotTaken.TheVariants as NotTakens
 use Rattle.timer_facility.specs.declared.request.Notice.{Notice}
 use Rattle.timer_facility.specs.declared.request.Notice.TheVariants.{Expired, Returned}
 use Rattle.timer_facility.specs.declared.request.Reason.{Reason}
 use Rattle.timer_facility.specs.declared.request.TickFault.{TickFault}
 use Rattle.timer_facility.specs.declared.event.Out.TheVariants as Outs
-use Rattle.timer_facility.specs.State.{FacilityState, number_of, ModelRequest, SingleEvent, Asked, Tick, Close}
+use Rattle.timer_facility.specs.State.{FacilityState, ModelRequest, SingleEvent, Asked, Tick, Close}
 use Rattle.timer_facility.specs.Verdict.{not_taken, refusal, tick_refusal, CloseRefused, verdict_on_request, verdict_on_tick, verdict, closed_refusal}
 use Rattle.timer_facility.specs.Step.{timer_stopped, timer_started, answer_to, accepted, expired_next, step_by, step, step_of_tick, step_of_close}
-use Rattle.timer_facility.specs.Refused.{refusals_in, refusals_of, verdict_on_not_taken}
-use Rattle.timer_facility.specs.Facility.{NoRoomWasMade}
+use Rattle.timer_facility.specs.Refused.{refusals_in, refusals_of}
 use Rattle.timer_facility.proofs.VerdictLemmas.{not_taken-closed, tick_refusal-closed}
-use Rattle.timer_facility.proofs.StepLemmas.{accepted-some, verdict-not_taken}
+use Rattle.timer_facility.proofs.StepLemmas.{accepted-some}
 
 -- a closed facility refuses each event as such
 pub verdict-closed : (s : FacilityState) (event : SingleEvent) → s.is_closed ≡ true → verdict s event ≡ Some (closed_refusal event)
@@ -64,41 +61,3 @@ outs-verdict s (Asked client number request) place =
     (accepted-some s client number request)
 outs-verdict s Tick place = told_tick s (tick_refusal s)
 outs-verdict s Close place = told_close s s.is_closed
-
--- From a call of a facility.
-
-no_memory : (a b c d e : Bool) (next : ℕ)
-    → (if a then Some NotTakens.Closed else if b then Some NotTakens.NoClient else if c then Some
-    (NotTakens.Repeated next) else if d then Some NotTakens.NumbersSpent else if e then Some (NotTakens.Ahead next) else None)
-    ≡ Some NotTakens.OutOfMemory → ⊥
-no_memory true b c d e next h = absurd (cc)
-no_memory false true c d e next h = absurd (cc)
-no_memory false false true d e next h = absurd (cc)
-no_memory false false false true e next h = absurd (cc)
-no_memory false false false false true next h = absurd (cc)
-no_memory false false false false false next h = absurd (cc)
-
-not_for_memory : (s : FacilityState) (client number : ℕ) → not_taken s client number ≡ Some NotTakens.OutOfMemory → ⊥
-unfolding not_taken
-not_for_memory s client number h =
-    no_memory s.is_closed (not (nat_lt client (length s.numbers))) (nat_lt number (number_of s client)) (nat_lt LAST (number_of s client))
-    (nat_lt (number_of s client) number) (number_of s client) h
-
--- no rule of the verdict is about memory
-pub not_short : (s : FacilityState) (client number : ℕ) (reason : NotTaken) → not_taken s client number ≡ Some reason → NoRoomWasMade s reason
-not_short s client number NotTakens.OutOfMemory h = absurd (not_for_memory s client number h)
-not_short s client number NotTakens.Closed h = tt
-not_short s client number NotTakens.NoClient h = tt
-not_short s client number (NotTakens.Repeated next) h = tt
-not_short s client number NotTakens.NumbersSpent h = tt
-not_short s client number (NotTakens.Ahead next) h = tt
-
--- of a request that is not taken
-pub verdict-reason : (s : FacilityState) (client number : ℕ) (request : ModelRequest) (reason : NotTaken)
-    → not_taken s client number ≡ Some reason → verdict s (Asked client number request) ≡ verdict_on_not_taken reason
-verdict-reason s client number request NotTakens.OutOfMemory h = absurd (not_for_memory s client number h)
-verdict-reason s client number request NotTakens.Closed h = verdict-not_taken s client number request NotTakens.Closed h
-verdict-reason s client number request NotTakens.NoClient h = verdict-not_taken s client number request NotTakens.NoClient h
-verdict-reason s client number request (NotTakens.Repeated next) h = verdict-not_taken s client number request (NotTakens.Repeated next) h
-verdict-reason s client number request NotTakens.NumbersSpent h = verdict-not_taken s client number request NotTakens.NumbersSpent h
-verdict-reason s client number request (NotTakens.Ahead next) h = verdict-not_taken s client number request (NotTakens.Ahead next) h

@@ -76,16 +76,17 @@ abbrev pub NeedsMemory : FacilityState → ℕ → ℕ → Request → Type 0
 NeedsMemory s client number request =
     (not_taken s client number ≡ None) × (refusal s client (model_of request) ≡ None) × IsStart (model_of request)
 
--- the request is not taken, for the reason of the verdict; or it allocates, and the allocation failed
-abbrev pub IsNotTaken : FacilityState → ℕ → ℕ → Request → NotTaken → Type 0
-IsNotTaken s client number request reason =
+-- why a request is not taken: for the reason of the verdict; or it allocates without room, and the allocation failed
+abbrev pub WhyNotTaken : FacilityState → ℕ → ℕ → Request → NotTaken → Type 0
+WhyNotTaken s client number request reason =
     (not_taken s client number ≡ Some reason) ⊎ ((reason ≡ NotTakens.OutOfMemory)
-    × NeedsMemory s client number request)
+    × NeedsMemory s client number request × (s.has_room ≡ false))
 
--- a request for which memory ran out was made of a facility without room
-abbrev pub NoRoomWasMade : FacilityState → NotTaken → Type 0
-NoRoomWasMade s NotTakens.OutOfMemory = s.has_room ≡ false
-NoRoomWasMade s _ = Unit {0}
+-- the request is not taken, for this reason, and nothing changes
+pub record IsNotTaken (old : FacilityView) (client number : ℕ) (request : Request) (reason : NotTaken)
+    (new : FacilityView) : Type 0 where
+  pub why : WhyNotTaken old.state client number request reason
+  pub left : new ≡ old
 
 -- a request that is taken, by why it is refused: its answer and the view after it, but for its number
 abbrev pub IsAnswered : Option Reason → Option Timer → Option Timer → FacilityState → Answer → FacilityView → Type 0

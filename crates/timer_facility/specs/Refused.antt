@@ -1,9 +1,6 @@
--- How the verdict on an event can be read from its outs, and from the results of the facility's calls.
+-- How the verdict on an event can be read from its outs, and from the result of a close.
 use Rattle.std.specs.Prelude.{List, [], ◌∷◌, ◌++◌, Option, Some, None}
-use Rattle.timer_facility.specs.declared.request.Answer.{Answer}
-use Rattle.timer_facility.specs.declared.request.Answer.TheVariants.{Started, Stopped, Restarted, Refused}
-use Rattle.timer_facility.specs.declared.request.NotTaken.{NotTaken}
-use Rattle.timer_facility.specs.declared.request.NotTaken.TheVariants as NotTakens
+use Rattle.timer_facility.specs.declared.request.Answer.TheVariants.{Refused}
 use Rattle.timer_facility.specs.declared.request.CloseFault.{CloseFault}
 use Rattle.timer_facility.specs.declared.request.CloseFault.TheVariants as CloseFaults
 use Rattle.timer_facility.specs.declared.event.Out.{Out}
@@ -27,18 +24,6 @@ refusals_in (out ∷ outs) = refusal_in out ++ refusals_in outs
 abbrev pub refusals_of : Option Refusal → List Refusal
 refusals_of None = []
 refusals_of (Some refusal) = refusal ∷ []
-
--- the verdict given by the answer to a request
-abbrev pub verdict_in : Answer → Option Refusal
-verdict_in (Refused reason) = Some (RequestRefused reason)
-verdict_in (Started handle deadline) = None
-verdict_in (Stopped serial) = None
-verdict_in (Restarted handle deadline old) = None
-
--- the verdict on a request that was not taken: one whose allocation failed would be accepted
-abbrev pub verdict_on_not_taken : NotTaken → Option Refusal
-verdict_on_not_taken NotTakens.OutOfMemory = None
-verdict_on_not_taken reason = Some (RequestNotTaken reason)
 
 -- the verdict on a close that failed: one whose allocation failed would be accepted
 abbrev pub verdict_on_close : CloseFault → Option Refusal

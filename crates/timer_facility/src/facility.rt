@@ -10,13 +10,13 @@ ghost use Rattle.timer_base.specs.WakeUps.{IsQuietUntil, next_deadline};
 ghost use Rattle.timer_facility.specs.declared.limits.TheConstants.{MAX_CLIENTS};
 ghost use Rattle.timer_facility.specs.State.{FacilityState, IsSound, After, At, ByHandle, Start, Stop, Restart, Tick, Close, number_of, pending_of, ticks_until};
 ghost use Rattle.timer_facility.specs.Verdict.{not_taken, timer_named, start_refusal, interval_refusal, refusal, tick_refusal, TickRefused, verdict};
-ghost use Rattle.timer_facility.specs.Refused.{verdict_in, verdict_on_not_taken, verdict_on_close};
+ghost use Rattle.timer_facility.specs.Refused.{verdict_on_close};
 ghost use Rattle.timer_facility.specs.Step.{step, new_timer};
 ghost use Rattle.timer_facility.specs.Owed.{timer_handed};
 ghost use Rattle.timer_facility.specs.Opened.{opened};
 ghost use Rattle.timer_facility.specs.Handles.{is_pending};
 ghost use Rattle.timer_facility.specs.Ticked.{AreTicked};
-ghost use Rattle.timer_facility.specs.Facility.{FacilityView, view_of, view_after, view_with_room, with_nothing_waiting, NoRoomToClose, event_of_request, IsTaken, IsNotTaken, Fields, IsFacility, NoRoomWasMade, model_of, IsStart, HasAnswered};
+ghost use Rattle.timer_facility.specs.Facility.{FacilityView, view_of, view_after, view_with_room, with_nothing_waiting, NoRoomToClose, IsTaken, IsNotTaken, Fields, IsFacility, model_of, IsStart, HasAnswered};
 
 use crate::config::Checked;
 use crate::limits::CLIENTS;
@@ -223,14 +223,9 @@ impl<W: Wheel + Drop> Facility<W> {
     #[inline(always)]
     pub fn take(&mut self, client: u64, number: u64, request: Request) -> Result<Answer, NotTaken>
         requires { self.old.waiting ≡ [] }
-        ensures taken { IfOk result (λ answer. IsTaken self.old.state client number request answer self.new) }
-        ensures not_taken { IfErr result (IsNotTaken self.old.state client number request) }
-        ensures verdict { MatchResult result
-            (λ answer. verdict self.old.state (event_of_request client number request) ≡ verdict_in answer)
-            (λ reason. verdict self.old.state (event_of_request client number request)
-            ≡ verdict_on_not_taken reason) }
-        ensures room { IfErr result (NoRoomWasMade self.old.state) }
-        ensures err { OnErr result (self.new ≡ self.old) }
+        ensures { MatchResult result
+            (λ answer. IsTaken self.old.state client number request answer self.new)
+            (λ reason. IsNotTaken self.old client number request reason self.new) }
     {
         if let Err(reason) = self.admit(client, number) {
             return Err(reason);

@@ -4,16 +4,8 @@ use Rattle.timer_facility.specs.Step.{with_number}
 use Rattle.timer_facility.specs.Facility.{FacilityView, model_of}
 use Rattle.timer_facility.proofs.FacilityFields.{clients_are, view-used, facility-used}
 use Rattle.timer_facility.proofs.VerdictLemmas.{IsTakable, takable}
-use Rattle.timer_facility.proofs.RefusedLemmas.{verdict-reason, not_short}
 use Rattle.timer_facility.proofs.StepLemmas.{LeavesClients, answered-leaves, taken-answered}
 use Rattle.timer_facility.proofs.facility.Facility.take.Goals as goal
-
-pub returns-in-Err-clause-verdict : goal.returns-in-Err-clause-verdict
-returns-in-Err-clause-verdict g c = verdict-reason c.args.self.now.state c.args.client c.args.number (model_of c.args.request)
-    c.in-Err.reason c.in-Err.ensures.verdict
-
-pub returns-in-Err-clause-room : goal.returns-in-Err-clause-room
-returns-in-Err-clause-room g c = not_short c.args.self.now.state c.args.client c.args.number c.in-Err.reason c.in-Err.ensures.verdict
 
 pub answer-requires-clause-client : goal.answer-requires-clause-client
 answer-requires-clause-client g c = (takable c.args.self.now.state c.args.client c.args.number c.in_default.ensures.verdict).is_client
@@ -38,8 +30,8 @@ invariant_of-self g c =
     let in_range = t.in_range in
     facility-used c.self.invariant c.args.client c.args.number (omega arith)
 
-pub returns-clause-taken : goal.returns-clause-taken
-returns-clause-taken g c =
+pub returns : goal.returns
+returns g c =
     let s : FacilityState = c.args.self.now.state in
     let v : FacilityView = c.answer.new.self in
     let t : IsTakable s c.args.client c.args.number = takable s c.args.client c.args.number c.in_default.ensures.verdict in

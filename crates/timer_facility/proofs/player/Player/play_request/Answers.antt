@@ -15,7 +15,7 @@ forget-requires g c =
     let before : HandleList = c.self.inside.handles.list.items in
     let kept : StaysRecorded c.take.new.self (with_answer c.in-Ok.answer before) =
     recorded-taken s c.take.new.self before c.args.client c.args.number c.args.request c.in-Ok.answer
-    c.self.invariant.recorded c.in-Ok.ensures.taken in
+    c.self.invariant.recorded c.in-Ok.ensures in
     subst (λ (handles : HandleList). AreRecorded handles c.take.new.self.state)
     (sym (c.record.ensures ∙ ap (with_answer c.in-Ok.answer) c.make_room.ensures.list)) kept.recorded
 
@@ -25,7 +25,7 @@ invariant_of-self-in-Ok g c =
     let before : HandleList = c.self.inside.handles.list.items in
     let kept : StaysRecorded c.take.new.self (with_answer c.in-Ok.answer before) =
     recorded-taken s c.take.new.self before c.args.client c.args.number c.args.request c.in-Ok.answer
-    c.self.invariant.recorded c.in-Ok.ensures.taken in
+    c.self.invariant.recorded c.in-Ok.ensures in
     record { waiting = kept.waiting; recorded = c.forget.ensures.recorded; few = c.forget.ensures.few }
 
 pub returns-in-Ok-clause-ok : goal.returns-in-Ok-clause-ok
@@ -34,7 +34,7 @@ returns-in-Ok-clause-ok g c =
     let event : SingleEvent = event_of_request c.args.client c.args.number c.args.request in
     let outs = Outs.Answered c.args.client c.args.number c.in-Ok.answer ∷ [] in
     subst (λ a. MakesStep a event [] outs c.take.new.self.state) c.self.view_is
-    (MakesStep-taken s c.args.client c.args.number c.args.request c.in-Ok.answer [] outs c.take.new.self c.in-Ok.ensures.taken refl)
+    (MakesStep-taken s c.args.client c.args.number c.args.request c.in-Ok.answer [] outs c.take.new.self c.in-Ok.ensures refl)
 
 pub returns-in_default-clause-ok : goal.returns-in_default-clause-ok
 returns-in_default-clause-ok g c =
@@ -42,8 +42,8 @@ returns-in_default-clause-ok g c =
     let event : SingleEvent = event_of_request c.args.client c.args.number c.args.request in
     let outs = Outs.NotTaken c.args.client c.args.number c.in-Err.reason ∷ [] in
     let reason : not_taken s c.args.client c.args.number ≡ Some c.in-Err.reason =
-    reason-verdict s c.args.client c.args.number c.args.request c.in-Err.reason c.in-Err.ensures.not_taken
+    reason-verdict s c.args.client c.args.number c.args.request c.in-Err.reason c.in-Err.ensures.why
     c.in_default.not-OutOfMemory in
     subst (λ a. MakesStep a event [] outs c.take.new.self.state) c.self.view_is
     (MakesStep-not_taken s c.args.client c.args.number c.args.request c.in-Err.reason [] outs c.take.new.self.state reason refl
-    (ap (λ (v : FacilityView). v.state) c.in-Err.ensures.err))
+    (ap (λ (v : FacilityView). v.state) c.in-Err.ensures.left))
