@@ -1,4 +1,5 @@
-//! Fault-injection scenarios: each survives a refused allocation. And handles that name no timer.
+//! Fault-injection scenarios: each survives a refused allocation. Those of C programs, a desk over ring lines among
+//! them, are in tests/c, and those of the program are in tools/refused_growths.
 //!
 //!     timer_hostile           plays each scenario, and prints its name
 //!     timer_hostile NAME      plays the one with this name
@@ -14,14 +15,10 @@ mod desks;
 mod drives;
 mod facilities;
 mod fault;
-mod handles;
 mod lines;
 mod links;
-mod plays;
-mod rings;
 mod room;
 mod scenario;
-mod texts;
 mod wheels;
 
 use fault::Fault;
