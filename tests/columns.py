@@ -1,7 +1,7 @@
 """tests/columns.py PROGRAM   what `check` reports of a bad line, for tests/program.bats
 
-The column is that of the first byte with which no good line begins: of lines that are changed at each place, where a byte is
-put in, added or taken away. The field and the reason are those of a table, for each field of each form.
+The column is that of the first byte with which no good line begins: of lines that are changed at each place, where a
+byte is put in, added or taken away. The field and the reason are those of a table, for each field of each form.
 """
 import os
 import re
@@ -20,18 +20,21 @@ FORMS = {
     "close": [],
 }
 # What stands in place of a field and of the rest of the line, at which of its bytes it goes wrong, and why.
-OF_A_FIELD = [(b"\n", 0, "MissingField")]
-OF_A_FIELD += [(text, at, "NotANumber") for text, at in ((b"x\n", 0), (b"-1\n", 0), (b"+1\n", 0), (b"1x\n", 1), (b"1.5\n", 1))]
-OF_A_NUMBER = [(b"01\n", 1, "LeadingZero"), (b"%d\n" % (LAST + 1), 18, "OutOfRange"), (b"%d1\n" % LAST, 19, "OutOfRange")]
+OF_A_FIELD = [(b"\n", 0, "MissingField"), (b"x\n", 0, "NotANumber"), (b"-1\n", 0, "NotANumber")]
+OF_A_FIELD += [(b"+1\n", 0, "NotANumber"), (b"1x\n", 1, "NotANumber"), (b"1.5\n", 1, "NotANumber")]
+OF_A_NUMBER = [(b"01\n", 1, "LeadingZero"), (b"%d\n" % (LAST + 1), 18, "OutOfRange")]
+OF_A_NUMBER += [(b"%d1\n" % LAST, 19, "OutOfRange")]
 OF_TICKS = [(b"01\n", 0, "OutOfTicks"), (b"1000001\n", 6, "OutOfTicks"), (b"10000000\n", 7, "OutOfTicks")]
 OF_NO_FIELD = [(b" 1\n", 0, "Space"), (b"\t1\n", 0, "Tab"), (b"\r\n", 0, "CarriageReturn"), (b"", 0, "NoLineEnd")]
-OF_NO_FIELD += [(b"1\t\n", 1, "Tab"), (b"1\r\n", 1, "CarriageReturn"), (b"1\r", 1, "CarriageReturn"), (b"1", 1, "NoLineEnd")]
+OF_NO_FIELD += [(b"1\t\n", 1, "Tab"), (b"1\r\n", 1, "CarriageReturn"), (b"1\r", 1, "CarriageReturn")]
+OF_NO_FIELD += [(b"1", 1, "NoLineEnd")]
 AFTER_ALL = [(b" \n", 0, "Space"), (b" ", 0, "Space"), (b" \r\n", 0, "Space"), (b" 1\n", 0, "TooManyFields")]
 AFTER_ALL += [(b"  \n", 0, "TooManyFields")]
 # Whole lines, of which no field is at fault.
 WHOLE = [(b"\r\n", 1, "CarriageReturn"), (b"\ttick 1\n", 1, "Tab"), (b" close\n", 1, "Space"), (b"\n", 1, "EmptyLine")]
-WHOLE += [(b"\xef\xbb\xbfclose\n", 1, "ByteOrderMark"), (b"\xef\xbbclose\n", 1, "UnknownWord"), (b"close5\n", 6, "UnknownWord")]
-WHOLE += [(b"stat 0 1 5 7\n", 4, "UnknownWord"), (b"starts 0 1 5 7\n", 6, "UnknownWord"), (b"tic", 4, "NoLineEnd")]
+WHOLE += [(b"\xef\xbb\xbfclose\n", 1, "ByteOrderMark"), (b"\xef\xbbclose\n", 1, "UnknownWord")]
+WHOLE += [(b"close5\n", 6, "UnknownWord"), (b"stat 0 1 5 7\n", 4, "UnknownWord")]
+WHOLE += [(b"starts 0 1 5 7\n", 6, "UnknownWord"), (b"tic", 4, "NoLineEnd")]
 CHANGED = [b"start 0 1 5 7\n", b"start 10 1 1152921504606846975 7\n", b"stop 0 12 1\n", b"restart 0 1 10 5 9\n"]
 CHANGED += [b"tick 1\n", b"tick 1000000\n", b"tick 999999\n", b"close\n"]
 BYTES = b"\x00\t\r 0159:/-+aeorstSz\x7f\xef\xff"
@@ -45,7 +48,9 @@ def is_number(text, field):
 def is_good(line):
     word, *texts = line[:-1].decode("latin-1").split(" ")
     fields = FORMS.get(word)
-    return line[-1:] == b"\n" and fields is not None and len(fields) == len(texts) and all(map(is_number, texts, fields))
+    if line[-1:] != b"\n" or fields is None or len(fields) != len(texts):
+        return False
+    return all(map(is_number, texts, fields))
 
 
 def begins_line(front):

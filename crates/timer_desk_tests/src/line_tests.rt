@@ -8,8 +8,8 @@ use std::sync::Wait;
 use std::test::Fail;
 use timer_desk::{Inlet, Put, Taken, Unsent, locked_line, ring_line};
 
-/// Fills a line with as many requests and as many words as its capacity, after which it takes no more of either. Each comes
-/// out at the other end, in order.
+/// Fills a line with as many requests and as many words as its capacity, after which it takes no more of either. Each
+/// comes out at the other end, in order.
 fn fill<L: Line, I: Inlet>(rt: &impl Abort, end: &mut L, inlet: &mut I, capacity: u64) {
     for number in 1..=capacity {
         same(rt, end.submit(start(number)), Ok(number));

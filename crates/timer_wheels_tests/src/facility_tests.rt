@@ -38,8 +38,8 @@ fn made<W: Wheel + Drop>(
     }
 }
 
-/// Starts five timers, of which the first is replaced twice.
-fn start_five<W: Wheel + Drop>(rt: &impl Abort, facility: &mut Facility<W>) -> Handle {
+/// Starts three timers, and replaces the first of them twice. Returns the handle that it had.
+fn start_and_replace<W: Wheel + Drop>(rt: &impl Abort, facility: &mut Facility<W>) -> Handle {
     let action = 7;
     let interval = 5;
     let (first, at) = made(rt, facility, 0, Request::Start { interval, action });
@@ -116,7 +116,7 @@ fn is_closed<W: Wheel + Drop>(rt: &impl Abort, facility: &mut Facility<W>) {
 fn a_facility_starts_restarts_expires_and_closes(rt: HostRuntime) -> Result<(), Fail> {
     let mut facility = facility(rt.alloc())?;
     same(&rt, facility.reserve(), Ok(()));
-    let old = start_five(&rt, &mut facility);
+    let old = start_and_replace(&rt, &mut facility);
     finds_nothing(&rt, &mut facility, old);
     end(&rt, &mut facility);
     Ok(())

@@ -1,9 +1,9 @@
-//! The tests of timer_base, timer_links, timer_wheels, timer_facility and timer_total, over their public calls: a whole use
-//! of each wheel, of a facility and of a player, and the texts of errors.
+//! The tests of timer_base, timer_links, timer_wheels, timer_facility and timer_total, over their public calls: a
+//! whole use of each wheel, of a facility and of a player, and the texts of errors.
 //!
-//! What each call returns is proved. That it returns no out of memory while there is some is seen here, and in
-//! timer_limits and timer_hostile, which use lists of nodes and total calls over each wheel, too. The worked examples are
-//! played by the program, in tests/program.bats.
+//! What each call returns is proved. That it succeeds while there is memory is seen here, and in timer_limits and
+//! timer_hostile, which use lists of nodes and total calls over each wheel, too. The worked examples are played by
+//! the program, in tests/program.bats.
 #![tactic(auto)]
 
 #[cfg(test)]
