@@ -49,7 +49,7 @@ const OF_ZERO: [Said; 3] = [('A', 1, 5), ('R', 1, 5), ('N', 0, 0)];
 const OF_ONE: [Said; 2] = [('A', 2, 3), ('R', 2, 3)];
 
 /// A desk with a client for each of these lines, at the second try if the first is refused.
-pub fn open<I: Inlet + Drop>(alloc: Global, inlets: Vec<I>) -> Result<Desk<HierWheel, I>, Fault> {
+fn open<I: Inlet + Drop>(alloc: Global, inlets: Vec<I>) -> Result<Desk<HierWheel, I>, Fault> {
     let wheel = hier(alloc, Table::Wide)?;
     let Ok(checked) = numbers(inlets.len() as u64, 1024).check() else {
         return Err(Fault::Wrong("the number of lines"));
