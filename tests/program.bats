@@ -206,6 +206,65 @@ clock_row() {
     shows "--counts --moves" '  starts 1 moves 0 visits 0\n  wheel 0 slot 11: 1'
 }
 
+# shown OPTIONS SCRIPT LINE..: show writes these lines
+shown() { gives 0 "show $1" "$2" "$(printf '%s\\n' "${@:3}")"; }
+
+@test "show has a line for each hand of the clock, at its first and its last slot that a timer can be in" {
+    local ticks=(1 59 60 3599 3600 86399 86400 8639999) script='' lines=() left=() i
+    local places=('second 1' 'second 59' 'minute 1' 'minute 59' 'hour 1' 'hour 23' 'day 1' 'day 99')
+    for i in {1..8}; do
+        script+="start 0 $i ${ticks[i - 1]} 0\\n"
+        left+=("  ${places[i - 1]}: $i")
+        lines+=("started 0 $i $i ${ticks[i - 1]}" '  now 0' "${left[@]}")
+    done
+    lines+=('closed 8')
+    for i in {1..8}; do lines+=("returned 0 $i ${ticks[i - 1]} 0"); done
+    shown "--scheme clock" "${script}close\\n" "${lines[@]}" '  now 0' 'end 0 0'
+}
+
+@test "show has the one list of the plain wheel, by deadline" {
+    shown "--scheme plain" \
+        'start 0 1 5 0\nstart 0 2 3 0\nstart 0 3 5 0\ntick 3\nstop 0 4 1\nrestart 0 5 3 9 0\nstop 0 6 3\nstop 0 7 4\n' \
+        'started 0 1 1 5' '  now 0' '  pending: 1:5' 'started 0 2 2 3' '  now 0' '  pending: 2:3 1:5' \
+        'started 0 3 3 5' '  now 0' '  pending: 2:3 1:5 3:5' 'expired 3 0 2 0' '  now 3' '  pending: 1:5 3:5' \
+        'stopped 0 4 1' '  now 3' '  pending: 3:5' 'restarted 0 5 3 4 12' '  now 3' '  pending: 4:12' \
+        'refused 0 6 no-such' '  now 3' '  pending: 4:12' 'stopped 0 7 4' '  now 3' 'end 3 0'
+}
+
+@test "show --counts counts the visits of a clock: 36 minutes up to 11 o'clock, and 15 more up to 11:15" {
+    shown "--counts --scheme clock --first-tick 987870" 'start 0 1 3045 5\ntick 2130\ntick 900\ntick 15\n' \
+        'started 0 1 1 990915' '  now 987870' '  starts 1 moves 0 visits 0' '  hour 11: 1' \
+        '  now 990000' '  starts 1 moves 1 visits 36' '  minute 15: 1' \
+        '  now 990900' '  starts 1 moves 2 visits 51' '  second 15: 1' \
+        'expired 990915 0 1 5' '  now 990915' '  starts 1 moves 2 visits 52' 'end 990915 0'
+    shown "--counts" 'start 0 1 130 1\nstart 0 2 130 2\nrestart 0 3 2 130 3\n' \
+        'started 0 1 1 130' '  now 0' '  starts 1 moves 0 visits 0' '  wheel 1 slot 2: 1' \
+        'started 0 2 2 130' '  now 0' '  starts 2 moves 0 visits 0' '  wheel 1 slot 2: 1 2' \
+        'restarted 0 3 2 3 130' '  now 0' '  starts 3 moves 0 visits 0' '  wheel 1 slot 2: 1 3' 'end 0 2'
+    shown "--counts --scheme plain" 'start 0 1 1 0\n' 'started 0 1 1 1' '  now 0' '  pending: 1:1' 'end 0 1'
+}
+
+@test "show --moves has each move at its tick, after what expires then, and those from bucket to bucket in one line" {
+    shown "--moves" 'start 0 1 4161 1\nstart 0 2 4097 2\nstart 0 3 4161 3\nstart 0 4 4096 4\ntick 4161\n' \
+        'started 0 1 1 4161' '  now 0' '  wheel 2 slot 1: 1' 'started 0 2 2 4097' '  now 0' '  wheel 2 slot 1: 1 2' \
+        'started 0 3 3 4161' '  now 0' '  wheel 2 slot 1: 1 2 3' 'started 0 4 4 4096' '  now 0' '  wheel 2 slot 1: 1 2 3 4' \
+        'expired 4096 0 4 4' '  moved at 4096 from wheel 2 slot 1 to wheel 0 slot 1: 2' \
+        '  moved at 4096 from wheel 2 slot 1 to wheel 1 slot 1: 1 3' 'expired 4097 0 2 2' \
+        '  moved at 4160 from wheel 1 slot 1 to wheel 0 slot 1: 1 3' 'expired 4161 0 1 1' 'expired 4161 0 3 3' \
+        '  now 4161' 'end 4161 0'
+    # Ticks of which the last ones are refused, and a move at the last tick of a line.
+    shown "--moves --scheme clock --first-tick 8639939" 'start 0 1 59 1\ntick 1\ntick 100\nclose\ntick 9\n' \
+        'started 0 1 1 8639998' '  now 8639939' '  minute 59: 1' \
+        '  moved at 8639940 from minute 59 to second 58: 1' '  now 8639940' '  second 58: 1' \
+        'expired 8639998 0 1 1' 'tick refused clock-end' '  now 8639999' 'closed 0' '  now 8639999' \
+        'tick refused closed' '  now 8639999' 'end 8639999 0'
+    shown "--moves --scheme hashed --slots 8" 'start 0 1 17 0\ntick 17\n' \
+        'started 0 1 1 17' '  now 0' '  slot 1: 1:2' 'expired 17 0 1 0' '  now 17' 'end 17 0'
+    shown "--moves --scheme plain" 'start 0 1 1 0\ntick 1\n' \
+        'started 0 1 1 1' '  now 0' '  pending: 1:1' 'expired 1 0 1 0' '  now 1' 'end 1 0'
+    shown "--moves" '' 'end 0 0'
+}
+
 @test "each subcommand reports a bad line in its way" {
     local reason='count: out of range 1 to 1000000'
     gives 1 "serve" 'close\ntick 0\nclose\n' 'closed 0\n' 'bad line 2\n'
@@ -214,6 +273,11 @@ clock_row() {
     gives 1 "serve --wakeups --keep-going" 'close\ntick 0\nclose\n' \
         'closed 0\nwakeup never\nclose refused closed\nwakeup never\nend 0 0\n' "bad line 2, column 6: $reason\n"
     gives 1 "check" 'close\ntick 0\nclose\n' "line 2, column 6: $reason\n"
+}
+
+@test "check names the first byte with which no line begins, and each field of each form" {
+    command -v python3 > /dev/null || skip "no python3"
+    python3 -B "$BATS_TEST_DIRNAME/columns.py" "$TIMERS"
 }
 
 # A help is written to standard output, and nothing is read.

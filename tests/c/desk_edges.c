@@ -165,8 +165,8 @@ static void frees(void)
 }
 
 #ifdef REFUSE
-/* A client's calls ask for no memory, and the owner's asks and looks don't either. */
-static void clients_ask_for_nothing(void)
+/* Once room was made, neither a client's calls nor the owner's turns ask for memory: starts, restarts, stops and ticks. */
+static void turns_ask_for_nothing(void)
 {
 	struct timers_desk d = TIMERS_DESK_INIT;
 	struct timers_line l = TIMERS_LINE_INIT;
@@ -174,7 +174,7 @@ static void clients_ask_for_nothing(void)
 	struct timers_word w = { 0, 0, 0, { 0, 0 }, 0, 0, 0 };
 	uint64_t n;
 	size_t unread;
-	CHECK(timers_desk_new(&d, &l, 1, &config) == TIMERS_DESK_OK);
+	CHECK(timers_desk_new(&d, &l, 1, &config) == TIMERS_DESK_OK && timers_desk_reserve(&d) == TIMERS_DESK_OK);
 	for (int round = 0; round < 100; round++) {
 		long before = asked, held = blocks;
 		for (int i = 0; i < 6; i++) {       /* more than the line takes */
@@ -183,9 +183,7 @@ static void clients_ask_for_nothing(void)
 			CHECK(sent == TIMERS_DESK_LINE_FULL || (sent == TIMERS_DESK_OK && i < 4));
 		}
 		CHECK(!timers_line_ended(&l) && !timers_line_abandoned(&l) && !timers_desk_line_freed(&d, 0));
-		CHECK(asked == before && blocks == held);
 		owner_turn(&d);
-		before = asked, held = blocks;
 		CHECK(timers_desk_next(&d) >= timers_desk_wakeup(&d) && timers_desk_tick(&d) == TIMERS_DESK_OK);
 		timers_desk_flush_all(&d);
 		while (timers_line_receive(&l, &w))
@@ -778,7 +776,7 @@ int main(void)
 	CHECK(!story());
 #ifdef REFUSE
 	CHECK(blocks == 0);
-	clients_ask_for_nothing();
+	turns_ask_for_nothing();
 	asked = 0;
 	CHECK(!story());
 	long all = asked, runs = 0;

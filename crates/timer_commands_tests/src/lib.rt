@@ -3,10 +3,6 @@
 #![tactic(auto)]
 
 #[cfg(test)]
-mod long_tests;
-#[cfg(test)]
-mod show_tests;
-#[cfg(test)]
 mod stream_tests;
 #[cfg(test)]
 mod support;

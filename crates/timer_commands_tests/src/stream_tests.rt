@@ -1,17 +1,14 @@
 //! Readers and writers that pass bytes on in pieces of many sizes, and fail once: nothing is tried again, and
 //! what went out is the front of the text that the writer took.
 use crate::support::{
-    Fault, MIGRATION, MIGRATION_TEXT, Reading, SCHEMES, SIZES, Sink, Source, USUAL, call, filled,
-    has_left, same, same_in,
+    Fault, MIGRATION, MIGRATION_TEXT, Reading, SIZES, Sink, Source, call, filled, has_left, same,
+    same_in,
 };
 use std::alloc::Global;
 use std::io::ErrorKind;
 use std::process::Abort;
-use timer_base::MakeFault;
-use timer_commands::{OptionsFault, RunOptions, Scheme};
+use timer_commands::OptionsFault;
 use timer_facility::ConfigFault;
-
-static ONE_TIMER: &str = "start 0 1 1 7\ntick 1\n";
 
 static KINDS: [ErrorKind; 3] = [
     ErrorKind::Interrupted,
@@ -103,7 +100,7 @@ fn pieces_of_any_size_change_nothing(rt: HostRuntime) {
             for written in SIZES {
                 let source = Source::of(script.as_bytes()).in_pieces(read);
                 let sink = Sink::new(rt.alloc()).in_pieces(written);
-                let ended = call(rt.alloc(), subcommand, USUAL, source, sink);
+                let ended = call(rt.alloc(), subcommand, source, sink);
                 let row = (script, read, written);
                 has_left(&rt, row, &ended, status, text.as_bytes(), faults.as_bytes());
             }
@@ -116,7 +113,6 @@ fn read_fails(
     rt: &impl Abort,
     alloc: Global,
     (subcommand, script, status, text, faults): Row,
-    options: RunOptions,
     room: usize,
 ) {
     let faults = filled(rt, alloc, faults);
@@ -124,7 +120,7 @@ fn read_fails(
         let source = Source::of(script.as_bytes())
             .in_pieces(5)
             .failing_after(room, kind);
-        let ended = call(alloc, subcommand, options, source, Sink::new(alloc));
+        let ended = call(alloc, subcommand, source, Sink::new(alloc));
         has_left(rt, room, &ended, status, text.as_bytes(), faults.as_bytes());
         same_in(rt, room, ended.reader_failed, true);
     }
@@ -180,12 +176,12 @@ static FAILED_READS: [(usize, Row); 7] = [
 #[test]
 fn a_reader_that_fails_once_ends_the_call(rt: HostRuntime) {
     for (room, row) in FAILED_READS {
-        read_fails(&rt, rt.alloc(), row, USUAL, room);
+        read_fails(&rt, rt.alloc(), row, room);
     }
     // After the last byte of a script the reader fails in place of its end.
     for room in 0..=MIGRATION.len() {
         let row = (Reading::Play, MIGRATION, 1, "", "read failed\n");
-        read_fails(&rt, rt.alloc(), row, USUAL, room);
+        read_fails(&rt, rt.alloc(), row, room);
     }
 }
 
@@ -195,7 +191,6 @@ fn write_fails(
     rt: &impl Abort,
     alloc: Global,
     (subcommand, script, size): (Reading, &str, usize),
-    options: RunOptions,
     front: &[u8],
 ) {
     let room = front.len();
@@ -204,7 +199,7 @@ fn write_fails(
             .in_pieces(size)
             .with_fault_after(room, fault);
         let source = Source::of(script.as_bytes()).in_pieces(7);
-        let ended = call(alloc, subcommand, options, source, sink);
+        let ended = call(alloc, subcommand, source, sink);
         let status = match subcommand {
             Reading::Check => 2,
             _ => 1,
@@ -230,90 +225,7 @@ fn a_writer_that_fails_once_at_any_byte_ends_the_call(rt: HostRuntime) {
         let text = text.as_bytes();
         for room in 0..text.len() {
             let call = (subcommand, script, size);
-            write_fails(&rt, rt.alloc(), call, USUAL, &text[..room]);
-        }
-    }
-}
-
-#[test]
-fn a_fault_behind_the_last_byte_is_never_met(rt: HostRuntime) {
-    let text = MIGRATION_TEXT.as_bytes();
-    for fault in FAULTS {
-        let sink = Sink::new(rt.alloc()).with_fault_after(text.len(), fault);
-        let source = Source::of(MIGRATION.as_bytes());
-        let ended = call(rt.alloc(), Reading::Play, USUAL, source, sink);
-        has_left(&rt, "the whole text", &ended, 0, text, b"");
-    }
-}
-
-#[test]
-fn io_faults_end_the_run_with_each_scheme(rt: HostRuntime) {
-    let row = (Reading::Play, ONE_TIMER, 1, "", "read failed\n");
-    let front = b"started 0 1 1 1\nexpi";
-    for scheme in SCHEMES {
-        let options = RunOptions { scheme, ..USUAL };
-        read_fails(&rt, rt.alloc(), row, options, 3);
-        let call = (Reading::Play, ONE_TIMER, 5);
-        write_fails(&rt, rt.alloc(), call, options, front.as_slice());
-    }
-}
-
-/// The lengths of the fronts of `MIGRATION` that end at a line, and the last line of the text of each.
-static ENDS: [(usize, &str); 5] = [
-    (0, "end 0 0\n"),
-    (16, "end 0 1\n"),
-    (25, "end 128 1\n"),
-    (39, "end 128 2\n"),
-    (46, "end 130 0\n"),
-];
-
-/// Whether the front of this length ends at a line.
-fn ends_at_a_line(len: usize) -> bool {
-    for (end, _) in ENDS {
-        if end == len {
-            return true;
-        }
-    }
-    false
-}
-
-/// Plays a front of the script that ends within a line, the one of this number.
-fn cut_line_is_bad(rt: &impl Abort, alloc: Global, front: &[u8], number: u64) {
-    let ended = call(
-        alloc,
-        Reading::Play,
-        USUAL,
-        Source::of(front),
-        Sink::new(alloc),
-    );
-    let Ok(wanted) = format!(in alloc; "bad line {number}\n") else {
-        panic!(rt; "out of memory");
-    };
-    has_left(rt, front.len(), &ended, 1, b"", wanted.as_bytes());
-}
-
-#[test]
-fn cut_scripts_end_at_a_line_or_name_the_cut_one(rt: HostRuntime) {
-    let script = MIGRATION.as_bytes();
-    same(&rt, script.len(), 46);
-    for (len, line) in ENDS {
-        let (front, _) = script.split_at(len);
-        let source = Source::of(front);
-        let ended = call(
-            rt.alloc(),
-            Reading::Play,
-            USUAL,
-            source,
-            Sink::new(rt.alloc()),
-        );
-        let ends = (ended.status, ended.output.ends_with(line.as_bytes()));
-        same_in(&rt, len, ends, (0, true));
-    }
-    for len in 0..script.len() {
-        let front = &script[..len];
-        let lines = front.iter().filter(|b| **b == b'\n').count();
-        if !ends_at_a_line(len) {
-            cut_line_is_bad(&rt, rt.alloc(), front, lines as u64 + 1);
+            write_fails(&rt, rt.alloc(), call, &text[..room]);
         }
     }
 }
@@ -334,42 +246,8 @@ fn a_stream_ends_at_the_flush_that_fails(rt: HostRuntime) {
         let sink = Sink::new(rt.alloc()).failing_to_flush_after(len, ErrorKind::BrokenPipe);
         let (front, _) = MIGRATION_TEXT.as_bytes().split_at(answered);
         let source = Source::of(MIGRATION.as_bytes()).in_pieces(7);
-        let ended = call(rt.alloc(), Reading::Serve, USUAL, source, sink);
+        let ended = call(rt.alloc(), Reading::Serve, source, sink);
         has_left(&rt, len, &ended, 1, front, b"write failed\n");
-    }
-}
-
-#[test]
-fn each_line_that_is_shown_is_flushed(rt: HostRuntime) {
-    let source = Source::of(b"tick 1\nclose\ntick 1\n").in_pieces(100);
-    let ended = call(
-        rt.alloc(),
-        Reading::Show,
-        USUAL,
-        source,
-        Sink::new(rt.alloc()),
-    );
-    same(&rt, (ended.status, ended.flushes), (0, 4));
-}
-
-#[test]
-fn refused_options_read_nothing(rt: HostRuntime) {
-    let late = RunOptions {
-        scheme: Scheme::Clock,
-        first_tick: 8640000,
-        ..USUAL
-    };
-    for subcommand in [
-        Reading::Play,
-        Reading::Serve,
-        Reading::ServeGood,
-        Reading::Show,
-    ] {
-        let source = Source::of(b"tick 0\n");
-        let ended = call(rt.alloc(), subcommand, late, source, Sink::new(rt.alloc()));
-        let line = b"first tick above 8639999\n";
-        has_left(&rt, subcommand, &ended, 2, b"", line.as_slice());
-        same_in(&rt, subcommand, ended.asks, 0);
     }
 }
 
@@ -402,20 +280,6 @@ fn each_refusal_of_options_has_its_text(rt: HostRuntime) {
             OptionsFault::FirstTick { last: 8639999 },
             "first tick above 8639999",
         ),
-    ] {
-        let Ok(found) = format!(in rt.alloc(); "{fault}") else {
-            panic!(&rt; "out of memory");
-        };
-        same_in(&rt, text, found.as_str(), text);
-    }
-}
-
-#[test]
-fn each_refusal_of_a_wheel_has_its_text(rt: HostRuntime) {
-    for (fault, text) in [
-        (MakeFault::Slots, "the number of slots is out of range"),
-        (MakeFault::FirstTick, "the first tick is out of range"),
-        (MakeFault::OutOfMemory, "out of memory"),
     ] {
         let Ok(found) = format!(in rt.alloc(); "{fault}") else {
             panic!(&rt; "out of memory");

@@ -46,17 +46,14 @@ pub const MIGRATION_TEXT: &str =
 /// Sizes of pieces, from a byte at a time to more than the whole text.
 pub static SIZES: [usize; 12] = [1, 2, 3, 5, 7, 8, 13, 21, 34, 55, 82, 100];
 
-/// The options if none is given, with the tenth part of the slots.
-pub const USUAL: RunOptions = RunOptions {
+/// The options of each call, with the tenth part of the usual slots.
+const USUAL: RunOptions = RunOptions {
     scheme: Scheme::Hier,
     slots: 25,
     clients: 64,
     capacity: 1024,
     first_tick: 0,
 };
-
-/// The schemes.
-pub const SCHEMES: [Scheme; 4] = [Scheme::Plain, Scheme::Hashed, Scheme::Hier, Scheme::Clock];
 
 /// What a reader or a writer does once, after the bytes that it passes on. Then it would go on.
 #[derive(Clone, Copy)]
@@ -74,7 +71,6 @@ pub struct Source<'a> {
     size: usize,
     room: usize,
     fault: Fault,
-    asks: u64,
 }
 
 impl<'a> Source<'a> {
@@ -85,7 +81,6 @@ impl<'a> Source<'a> {
             size: 3,
             room: usize::MAX,
             fault: Fault::Nothing,
-            asks: 0,
         }
     }
 
@@ -104,7 +99,6 @@ impl<'a> Source<'a> {
 
 impl Read for Source<'_> {
     fn read(&mut self, buf: &mut [u8]) -> io::Result<usize> {
-        self.asks = self.asks.saturating_add(1);
         if self.room == 0 {
             self.room = usize::MAX;
             if let Fault::Fails(kind) = self.fault {
@@ -120,7 +114,7 @@ impl Read for Source<'_> {
     }
 }
 
-/// Takes bytes in pieces of `size`, and has its fault after `room` of them. Counts its flushes.
+/// Takes bytes in pieces of `size`, and has its fault after `room` of them.
 #[derive(Drop)]
 pub struct Sink {
     pub bytes: Vec<u8>,
@@ -129,7 +123,6 @@ pub struct Sink {
     fault: Fault,
     /// The error of the first flush at which at least this many bytes are here.
     unflushed: Option<(usize, ErrorKind)>,
-    pub flushes: u64,
 }
 
 impl Sink {
@@ -141,7 +134,6 @@ impl Sink {
             room: usize::MAX,
             fault: Fault::Nothing,
             unflushed: None,
-            flushes: 0,
         }
     }
 
@@ -183,7 +175,6 @@ impl Write for Sink {
     }
 
     fn flush(&mut self) -> io::Result<()> {
-        self.flushes = self.flushes.saturating_add(1);
         if let Some((len, kind)) = self.unflushed
             && self.bytes.len() >= len
         {
@@ -202,8 +193,6 @@ pub enum Reading {
     ServeGood,
     ServeWakeups,
     Show,
-    ShowCounts,
-    ShowMoves,
     Check,
 }
 
@@ -213,27 +202,12 @@ pub struct Ended {
     pub status: u8,
     pub output: Vec<u8>,
     pub faults: Vec<u8>,
-    /// How often the reader was asked.
-    pub asks: u64,
-    /// How often the writer was flushed.
-    pub flushes: u64,
     pub reader_failed: bool,
     pub writer_failed: bool,
 }
 
-/// The verb of `show`, with these options.
-const fn show(counts: bool, moves: bool) -> Verb {
-    Verb::Show { counts, moves }
-}
-
 /// Runs a subcommand.
-pub fn call(
-    alloc: Global,
-    subcommand: Reading,
-    options: RunOptions,
-    source: Source,
-    sink: Sink,
-) -> Ended {
+pub fn call(alloc: Global, subcommand: Reading, source: Source, sink: Sink) -> Ended {
     let mut streams = Streams::new(source, sink);
     let mut faults = Watched::new(Vec::new(alloc));
     let verb = match subcommand {
@@ -250,25 +224,23 @@ pub fn call(
             on_bad: OnBadLine::Stop,
             wakeups: true,
         }),
-        Reading::Show => Some(show(false, false)),
-        Reading::ShowCounts => Some(show(true, false)),
-        Reading::ShowMoves => Some(show(false, true)),
+        Reading::Show => Some(Verb::Show {
+            counts: false,
+            moves: false,
+        }),
         Reading::Check => None,
     };
     let status = match verb {
-        Some(verb) => run_verb(alloc, verb, options, &mut streams, &mut faults),
+        Some(verb) => run_verb(alloc, verb, USUAL, &mut streams, &mut faults),
         None => check_script(alloc, &mut streams, &mut faults),
     };
     let Streams { reader, writer } = streams;
     let reader_failed = reader.failed();
     let writer_failed = writer.failed();
-    let sink = writer.into_inner();
     Ended {
         status,
-        flushes: sink.flushes,
-        output: sink.bytes,
+        output: writer.into_inner().bytes,
         faults: faults.into_inner(),
-        asks: reader.into_inner().asks,
         reader_failed,
         writer_failed,
     }

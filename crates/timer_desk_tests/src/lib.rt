@@ -1,27 +1,14 @@
-//! Tests of `timer_desk` over its public calls: lines, desks over every wheel, and drives.
-//!
-//! `support` has the desks, requests and words that they share.
+//! Tests of `timer_desk` and `timer_threads` over their public calls: ring lines and locked lines, drives, the work
+//! of one client, and clients in threads beside a desk. Those of the same calls by C programs are in tests/c.
 #![tactic(auto)]
 
 #[cfg(test)]
+mod client_tests;
+#[cfg(test)]
 mod drive_tests;
-#[cfg(test)]
-mod freed_tests;
-#[cfg(test)]
-mod full_tests;
 #[cfg(test)]
 mod line_tests;
 #[cfg(test)]
-mod locked_tests;
-#[cfg(test)]
-mod reader_tests;
-#[cfg(test)]
-mod ring_tests;
-#[cfg(test)]
-mod row_tests;
-#[cfg(test)]
 mod support;
 #[cfg(test)]
-mod ticks_tests;
-#[cfg(test)]
-mod wind_tests;
+mod thread_tests;

@@ -1,20 +1,16 @@
-//! Desks over lines of each kind: a start, the close or a report is refused for memory.
+//! Desks over lines in memory and over locked lines: a start, the close or a report is refused for memory. Over ring
+//! lines C programs do the same, in tests/c.
 //!
 //! Each step is taken by a call of its own, or by a turn of one step, and a step that is refused is taken
 //! again.
 use crate::facilities::numbers;
 use crate::fault::{Fault, same, see};
-use crate::lines::{locked, request, ring};
-use crate::rings::serve_in_room;
+use crate::lines::{in_memory, locked, request};
 use crate::wheels::hier;
 use std::alloc::Global;
 use std::sync::Wait;
-use timer_base::{Handle, Timer};
-use timer_desk::{
-    ClientEnd, Desk, Done, Inlet, LockedEnd, MemoryInlet, Numbered, OpenFault, RingInlet, Served,
-    Step, Word,
-};
-use timer_facility::{Answer, CloseFault, Facility, NotTaken, Notice, Request};
+use timer_desk::{Desk, Done, Inlet, LockedEnd, MemoryInlet, OpenFault, Served, Step, Word};
+use timer_facility::{Answer, CloseFault, Facility, Notice};
 use timer_wheels::{HierWheel, Table};
 
 /// How a step is taken.
@@ -29,11 +25,33 @@ pub enum By {
 /// How many words an outbox has room for.
 const ROOM: usize = 4;
 
+/// What a word says: of an accepted start A, the serial and the deadline; of a timer that expired E, or that was
+/// returned R, the same; N of a request that was not taken.
+pub type Said = (char, u64, u64);
+
+/// What a word says, without the place of a handle, which is a free choice of the wheel.
+pub fn said(word: Word) -> Said {
+    match word {
+        Word::Answered {
+            answer: Answer::Started { handle, deadline },
+            ..
+        } => ('A', handle.serial, deadline),
+        Word::Notice(Notice::Expired(timer)) => ('E', timer.serial, timer.deadline),
+        Word::Notice(Notice::Returned(timer)) => ('R', timer.serial, timer.deadline),
+        _ => ('N', 0, 0),
+    }
+}
+
+/// What client 0 is told, whose start of five ticks comes first, and whose second one comes after the close.
+const OF_ZERO: [Said; 3] = [('A', 1, 5), ('R', 1, 5), ('N', 0, 0)];
+
+/// What client 1 is told.
+const OF_ONE: [Said; 2] = [('A', 2, 3), ('R', 2, 3)];
+
 /// A desk with a client for each of these lines, at the second try if the first is refused.
-pub fn open<I: Inlet + Drop>(alloc: Global, inlets: Vec<I>) -> Result<Desk<HierWheel, I>, Fault> {
+fn open<I: Inlet + Drop>(alloc: Global, inlets: Vec<I>) -> Result<Desk<HierWheel, I>, Fault> {
     let wheel = hier(alloc, Table::Wide)?;
-    let clients = inlets.len();
-    let Ok(checked) = numbers(clients as u64, 1024).check() else {
+    let Ok(checked) = numbers(inlets.len() as u64, 1024).check() else {
         return Err(Fault::Wrong("the number of lines"));
     };
     let facility = Facility::open(alloc, checked, wheel);
@@ -41,8 +59,6 @@ pub fn open<I: Inlet + Drop>(alloc: Global, inlets: Vec<I>) -> Result<Desk<HierW
         Ok(desk) => Ok(desk),
         Err(OpenFault::Room(_, _)) => Err(Fault::Wrong("the room of an outbox")),
         Err(OpenFault::OutOfMemory(facility, inlets)) => {
-            let back = (inlets.len(), facility.now(), facility.pending());
-            same(back, (clients, 0, 0), "what comes back")?;
             match Desk::open(alloc, facility, inlets, ROOM) {
                 Ok(desk) => Ok(desk),
                 Err(_) => Err(Fault::RefusedTwice),
@@ -51,37 +67,43 @@ pub fn open<I: Inlet + Drop>(alloc: Global, inlets: Vec<I>) -> Result<Desk<HierW
     }
 }
 
-/// What the readers show: the tick, how many timers are pending, and the words in the first two outboxes.
-fn shown<I: Inlet + Drop>(desk: &Desk<HierWheel, I>) -> (u64, usize, usize, usize) {
-    let facility = desk.facility();
-    let zero = if desk.clients() > 0 {
-        desk.outbox_len(0)
-    } else {
-        0
-    };
-    let one = if desk.clients() > 1 {
-        desk.outbox_len(1)
-    } else {
-        0
-    };
-    (facility.now(), facility.pending(), zero, one)
+/// A desk over two lines in memory, in which starts with these intervals stand.
+pub fn open_in_memory(
+    alloc: Global,
+    zero: &[u64],
+    one: &[u64],
+) -> Result<Desk<HierWheel, MemoryInlet>, Fault> {
+    let mut inlets = Vec::new(alloc);
+    inlets.push(in_memory(alloc, zero)?)?;
+    inlets.push(in_memory(alloc, one)?)?;
+    open(alloc, inlets)
 }
 
-/// Serves the client once.
+/// Serves the client once. False if that is refused for memory.
 fn try_serve<I: Inlet + Drop>(
     desk: &mut Desk<HierWheel, I>,
     c: usize,
     by: By,
-) -> Result<Served, Fault> {
+) -> Result<bool, Fault> {
     if c >= desk.clients() {
         return Err(Fault::Wrong("a client"));
     }
-    if by == By::Call {
-        return Ok(desk.serve(c));
-    }
-    let Ok(report) = desk.turn(&[Step::Serve(c)]) else {
-        return Ok(Served::NoMemory);
+    let served = match by {
+        By::Call => desk.serve(c),
+        By::Turn => match desk.turn(&[Step::Serve(c)]) {
+            Ok(report) => served_in(&report, c)?,
+            Err(_) => Served::NoMemory,
+        },
     };
+    match served {
+        Served::NoMemory => Ok(false),
+        Served::Did { .. } => Ok(true),
+        _ => Err(Fault::Wrong("a serve")),
+    }
+}
+
+/// What a serve of this client did, which is the only member of the report.
+fn served_in(report: &[Done], c: usize) -> Result<Served, Fault> {
     match report.first() {
         Some(Done::Served { client, served }) if *client == c && report.len() == 1 => Ok(*served),
         _ => Err(Fault::Wrong("the report of a serve")),
@@ -89,465 +111,173 @@ fn try_serve<I: Inlet + Drop>(
 }
 
 /// Serves the client, at the second try if the first is refused for memory.
-fn serve<I: Inlet + Drop>(
-    desk: &mut Desk<HierWheel, I>,
-    c: usize,
-    by: By,
-) -> Result<Served, Fault> {
+fn serve<I: Inlet + Drop>(desk: &mut Desk<HierWheel, I>, c: usize, by: By) -> Result<(), Fault> {
     for _ in 0..2 {
-        let before = shown(desk);
-        match try_serve(desk, c, by)? {
-            Served::NoMemory => {}
-            served => return Ok(bare_served(served)),
+        if try_serve(desk, c, by)? {
+            return Ok(());
         }
-        same(shown(desk), before, "a desk after a refused serve")?;
     }
     Err(Fault::RefusedTwice)
 }
 
-/// The word without the place of a handle, which is a free choice of the wheel.
-pub fn bare(word: Word) -> Word {
-    match word {
-        Word::Answered {
-            number,
-            answer: Answer::Started { handle, deadline },
-        } => Word::Answered {
-            number,
-            answer: Answer::Started {
-                handle: Handle { place: 0, ..handle },
-                deadline,
-            },
+/// Closes once. None if that is refused for memory.
+fn try_close<I: Inlet + Drop>(desk: &mut Desk<HierWheel, I>, by: By) -> Result<Option<u64>, Fault> {
+    let closed = match by {
+        By::Call => desk.close(),
+        By::Turn => match desk.turn(&[Step::Close]) {
+            Ok(report) => closed_in(&report)?,
+            Err(_) => Err(CloseFault::OutOfMemory),
         },
-        word => word,
-    }
-}
-
-fn bare_served(served: Served) -> Served {
-    match served {
-        Served::Did { numbered, word } => Served::Did {
-            numbered,
-            word: bare(word),
-        },
-        served => served,
-    }
-}
-
-/// Closes once. By a turn, the report has the returned timers behind the close.
-fn try_close<I: Inlet + Drop>(
-    desk: &mut Desk<HierWheel, I>,
-    by: By,
-) -> Result<Result<u64, CloseFault>, Fault> {
-    if by == By::Call {
-        return Ok(desk.close());
-    }
-    let Ok(report) = desk.turn(&[Step::Close]) else {
-        return Ok(Err(CloseFault::OutOfMemory));
     };
-    match report.first() {
-        Some(Done::Closed(result)) => {
-            let returned = match result {
-                Ok(count) => *count,
-                Err(_) => 0,
-            };
-            let members = returned.wrapping_add(1);
-            same(report.len() as u64, members, "the report of a close")?;
-            Ok(*result)
-        }
-        _ => Err(Fault::Wrong("the report of a close")),
+    match closed {
+        Ok(count) => Ok(Some(count)),
+        Err(CloseFault::OutOfMemory) => Ok(None),
+        Err(CloseFault::Closed) => Err(Fault::Wrong("an open desk")),
     }
+}
+
+/// What a close did, behind which the report has the returned timers.
+fn closed_in(report: &[Done]) -> Result<Result<u64, CloseFault>, Fault> {
+    let Some(Done::Closed(closed)) = report.first() else {
+        return Err(Fault::Wrong("the report of a close"));
+    };
+    let returned = (*closed).unwrap_or(0).wrapping_add(1);
+    same(report.len() as u64, returned, "the timers in a report")?;
+    Ok(*closed)
 }
 
 /// Closes, at the second try if the first is refused for memory.
 fn close<I: Inlet + Drop>(desk: &mut Desk<HierWheel, I>, by: By) -> Result<u64, Fault> {
     for _ in 0..2 {
-        let before = shown(desk);
-        match try_close(desk, by)? {
-            Ok(count) => return Ok(count),
-            Err(CloseFault::Closed) => return Err(Fault::Wrong("an open desk")),
-            Err(CloseFault::OutOfMemory) => {}
+        if let Some(count) = try_close(desk, by)? {
+            return Ok(count);
         }
-        same(shown(desk), before, "a desk after a refused close")?;
     }
     Err(Fault::RefusedTwice)
 }
 
-/// Puts `wanted` words of the client into its line, all that its outbox has: at the second try if a put is
-/// refused for memory.
-fn flush<I: Inlet + Drop>(
-    desk: &mut Desk<HierWheel, I>,
-    c: usize,
-    wanted: usize,
-) -> Result<(), Fault> {
-    let mut count = 0usize;
+/// Puts all words of the client into its line, at the second try if a put is refused for memory.
+fn flush<I: Inlet + Drop>(desk: &mut Desk<HierWheel, I>, c: usize) -> Result<(), Fault> {
     for _ in 0..2 {
         if c >= desk.clients() {
             return Err(Fault::Wrong("a client"));
         }
-        count = count.wrapping_add(desk.flush(c));
-    }
-    same(count, wanted, "how many words went")
-}
-
-/// A step of the row on a close, and what comes of it.
-#[derive(Clone, Copy)]
-enum RowStep {
-    Serve(usize, Served),
-    Close(u64),
-}
-
-/// The steps of the row on a close, over two lines.
-static CLOSE_AT_DESK: [RowStep; 4] = [
-    RowStep::Serve(
-        0,
-        Served::Did {
-            numbered: Numbered {
-                number: 1,
-                request: Request::Start {
-                    interval: 5,
-                    action: 1,
-                },
-            },
-            word: Word::Answered {
-                number: 1,
-                answer: Answer::Started {
-                    handle: Handle {
-                        place: 0,
-                        serial: 1,
-                    },
-                    deadline: 5,
-                },
-            },
-        },
-    ),
-    RowStep::Serve(
-        1,
-        Served::Did {
-            numbered: Numbered {
-                number: 1,
-                request: Request::Start {
-                    interval: 3,
-                    action: 2,
-                },
-            },
-            word: Word::Answered {
-                number: 1,
-                answer: Answer::Started {
-                    handle: Handle {
-                        place: 0,
-                        serial: 2,
-                    },
-                    deadline: 3,
-                },
-            },
-        },
-    ),
-    RowStep::Close(2),
-    RowStep::Serve(
-        0,
-        Served::Did {
-            numbered: Numbered {
-                number: 2,
-                request: Request::Start {
-                    interval: 1,
-                    action: 3,
-                },
-            },
-            word: Word::NotTaken {
-                number: 2,
-                reason: NotTaken::Closed,
-            },
-        },
-    ),
-];
-
-/// The words of client 0 at the close.
-static OF_ZERO: [Word; 3] = [
-    Word::Answered {
-        number: 1,
-        answer: Answer::Started {
-            handle: Handle {
-                place: 0,
-                serial: 1,
-            },
-            deadline: 5,
-        },
-    },
-    Word::Notice(Notice::Returned(Timer {
-        serial: 1,
-        client: 0,
-        number: 1,
-        deadline: 5,
-        action: 1,
-    })),
-    Word::NotTaken {
-        number: 2,
-        reason: NotTaken::Closed,
-    },
-];
-
-/// The words of client 1 at the close.
-static OF_ONE: [Word; 2] = [
-    Word::Answered {
-        number: 1,
-        answer: Answer::Started {
-            handle: Handle {
-                place: 0,
-                serial: 2,
-            },
-            deadline: 3,
-        },
-    },
-    Word::Notice(Notice::Returned(Timer {
-        serial: 2,
-        client: 1,
-        number: 1,
-        deadline: 3,
-        action: 2,
-    })),
-];
-
-/// Takes the steps of the row on a close.
-fn close_at_desk<I: Inlet + Drop>(desk: &mut Desk<HierWheel, I>, by: By) -> Result<(), Fault> {
-    for step in CLOSE_AT_DESK {
-        match step {
-            RowStep::Serve(c, wanted) => same(serve(desk, c, by)?, wanted, "a serve")?,
-            RowStep::Close(count) => same(close(desk, by)?, count, "a close")?,
-        }
-    }
-    same(shown(desk), (0, 0, 3, 2), "what waits at the end")?;
-    flush(desk, 0, 3)?;
-    flush(desk, 1, 2)
-}
-
-/// Sends a request, which goes out under this number.
-fn submit(end: &mut ClientEnd, number: u64, interval: u64, action: u64) -> Result<(), Fault> {
-    let sent = end.submit(request(interval, action));
-    same(sent, Ok(number), "a request that is sent")
-}
-
-/// Goes on only if the client receives just these words, but for places.
-fn see_words(end: &mut ClientEnd, words: &[Word]) -> Result<(), Fault> {
-    for word in words {
-        same(end.receive().map(bare), Some(*word), "a word")?;
-    }
-    same(end.receive(), None, "a word too many")
-}
-
-/// A ring line, over which these requests for an interval and an action were sent.
-fn ring_with(alloc: Global, requests: &[(u64, u64)]) -> Result<(ClientEnd, RingInlet), Fault> {
-    let (mut end, inlet) = ring(alloc)?;
-    submit_all(&mut end, requests)?;
-    Ok((end, inlet))
-}
-
-/// Sends these requests, which go out under the numbers from 1 on.
-fn submit_all(end: &mut ClientEnd, requests: &[(u64, u64)]) -> Result<(), Fault> {
-    let mut number = 0u64;
-    for (interval, action) in requests {
-        number = number.wrapping_add(1);
-        submit(end, number, *interval, *action)?;
+        desk.flush(c);
     }
     Ok(())
 }
 
-/// A close over ring lines, after many calls in the room of a desk.
-pub fn close_over_rings(alloc: Global, by: By) -> Result<(), Fault> {
-    serve_in_room(alloc)?;
-    let (mut zero, inlet) = ring_with(alloc, &[(5, 1), (1, 3)])?;
-    let (mut one, other) = ring_with(alloc, &[(3, 2)])?;
+/// Starts a timer of each of two clients, closes, and takes a request after the close.
+fn close_at_desk<I: Inlet + Drop>(desk: &mut Desk<HierWheel, I>, by: By) -> Result<(), Fault> {
+    serve(desk, 0, by)?;
+    serve(desk, 1, by)?;
+    same(close(desk, by)?, 2, "a close")?;
+    serve(desk, 0, by)?;
+    flush(desk, 0)?;
+    flush(desk, 1)
+}
+
+/// A close over lines in memory.
+pub fn close_in_memory(alloc: Global, by: By) -> Result<(), Fault> {
+    let mut desk = open_in_memory(alloc, &[5, 1], &[3])?;
+    close_at_desk(&mut desk, by)?;
+    see_given(desk, &OF_ZERO, &OF_ONE)
+}
+
+/// Goes on only if nothing is left at the desk, and each of its two lines was given these words.
+pub fn see_given(
+    desk: Desk<HierWheel, MemoryInlet>,
+    zero: &[Said],
+    one: &[Said],
+) -> Result<(), Fault> {
+    same(desk.facility().pending(), 0, "a timer that is pending")?;
+    let inlets = end_desk(desk)?;
+    match (inlets.first(), inlets.last()) {
+        (Some(first), Some(last)) => {
+            are_said(first.given(), zero)?;
+            are_said(last.given(), one)
+        }
+        _ => Err(Fault::Wrong("the lines of a desk")),
+    }
+}
+
+/// Ends a desk of two clients of whom nothing is left, and returns their lines.
+fn end_desk(desk: Desk<HierWheel, MemoryInlet>) -> Result<Vec<MemoryInlet>, Fault> {
+    if desk.clients() != 2 {
+        return Err(Fault::Wrong("the number of lines"));
+    }
+    see(desk.held(0).is_none(), "a request that is held")?;
+    see(desk.held(1).is_none(), "the other client's held request")?;
+    see(desk.outbox_len(0) == 0, "a word that is left")?;
+    see(desk.outbox_len(1) == 0, "the other client's word")?;
+    let (_, inlets) = desk.end();
+    Ok(inlets)
+}
+
+/// Goes on only if these words say just this.
+fn are_said(words: &[Word], wanted: &[Said]) -> Result<(), Fault> {
+    same(words.len(), wanted.len(), "how many words there are")?;
+    for (word, want) in words.iter().zip(wanted.iter()) {
+        same(said(*word), *want, "a word")?;
+    }
+    Ok(())
+}
+
+/// A close over locked lines.
+pub fn close_over_locks<R: Wait>(rt: &R, alloc: Global) -> Result<(), Fault> {
+    let (mut zero, inlet) = locked(rt, alloc)?;
+    let (mut one, other) = locked(rt, alloc)?;
+    for interval in [5, 1] {
+        submit(rt, &mut zero, interval)?;
+    }
+    submit(rt, &mut one, 3)?;
     let mut desk = open(alloc, vec![in alloc; inlet, other]?)?;
-    close_and_receive(&mut desk, by, &mut zero, &mut one)
+    close_at_desk(&mut desk, By::Call)?;
+    receive(rt, &mut zero, &OF_ZERO)?;
+    receive(rt, &mut one, &OF_ONE)
 }
 
-/// Closes, and goes on only if each client receives its words.
-fn close_and_receive(
-    desk: &mut Desk<HierWheel, RingInlet>,
-    by: By,
-    zero: &mut ClientEnd,
-    one: &mut ClientEnd,
-) -> Result<(), Fault> {
-    close_at_desk(desk, by)?;
-    see_words(zero, &OF_ZERO)?;
-    see_words(one, &OF_ONE)
+/// Sends a start.
+fn submit(rt: &impl Wait, end: &mut LockedEnd, interval: u64) -> Result<(), Fault> {
+    let sent = end.submit(rt, request(interval));
+    see(sent.is_ok(), "a request that is sent")
 }
 
-/// Sends a request over a locked line.
-fn submit_locked(
-    rt: &impl Wait,
-    end: &mut LockedEnd,
-    number: u64,
-    interval: u64,
-    action: u64,
-) -> Result<(), Fault> {
-    let sent = end.submit(rt, request(interval, action));
-    same(sent, Ok(number), "a request that is sent")
-}
-
-fn see_locked_words(rt: &impl Wait, end: &mut LockedEnd, words: &[Word]) -> Result<(), Fault> {
-    for word in words {
-        same(end.receive(rt).map(bare), Some(*word), "a word")?;
+/// Goes on only if the client receives words that say just this.
+fn receive(rt: &impl Wait, end: &mut LockedEnd, wanted: &[Said]) -> Result<(), Fault> {
+    for want in wanted {
+        same(end.receive(rt).map(said), Some(*want), "a word")?;
     }
     same(end.receive(rt), None, "a word too many")
 }
 
-/// A close over locked lines.
-pub fn close_over_locks<R: Wait>(rt: &R, alloc: Global, by: By) -> Result<(), Fault> {
-    let (mut zero, inlet) = locked(rt, alloc)?;
-    let (mut one, other) = locked(rt, alloc)?;
-    submit_three(rt, &mut zero, &mut one)?;
-    let mut desk = open(alloc, vec![in alloc; inlet, other]?)?;
-    close_and_receive_locked(rt, &mut desk, by, &mut zero, &mut one)
-}
+/// What the client of a start of one tick is told.
+const ON_TIME: [Said; 2] = [('A', 1, 1), ('E', 1, 1)];
 
-/// Sends two requests of the first client, and one of the other.
-fn submit_three(rt: &impl Wait, zero: &mut LockedEnd, one: &mut LockedEnd) -> Result<(), Fault> {
-    submit_locked(rt, zero, 1, 5, 1)?;
-    submit_locked(rt, zero, 2, 1, 3)?;
-    submit_locked(rt, one, 1, 3, 2)
-}
-
-/// Closes, and goes on only if each client receives its words.
-fn close_and_receive_locked<I: Inlet + Drop>(
-    rt: &impl Wait,
-    desk: &mut Desk<HierWheel, I>,
-    by: By,
-    zero: &mut LockedEnd,
-    one: &mut LockedEnd,
-) -> Result<(), Fault> {
-    close_at_desk(desk, by)?;
-    see_locked_words(rt, zero, &OF_ZERO)?;
-    see_locked_words(rt, one, &OF_ONE)
-}
-
-/// The requests of the two clients.
-static REQUESTS_OF_ZERO: [Numbered; 2] = [
-    Numbered {
-        number: 1,
-        request: Request::Start {
-            interval: 5,
-            action: 1,
-        },
-    },
-    Numbered {
-        number: 2,
-        request: Request::Start {
-            interval: 1,
-            action: 3,
-        },
-    },
-];
-
-static REQUESTS_OF_ONE: [Numbered; 1] = [Numbered {
-    number: 1,
-    request: Request::Start {
-        interval: 3,
-        action: 2,
-    },
-}];
-
-/// A close over lines in memory.
-pub fn close_in_memory(alloc: Global, by: By) -> Result<(), Fault> {
-    let mut desk = open(
-        alloc,
-        in_memory(alloc, &REQUESTS_OF_ZERO, &REQUESTS_OF_ONE)?,
-    )?;
-    close_at_desk(&mut desk, by)
-}
-
-/// Two lines in memory, in which these requests stand.
-pub fn in_memory(
-    alloc: Global,
-    zero: &[Numbered],
-    one: &[Numbered],
-) -> Result<Vec<MemoryInlet>, Fault> {
-    let mut inlets = Vec::new(alloc);
-    for requests in [zero, one] {
-        let mut standing = Vec::new(alloc);
-        standing.extend_from_slice(requests)?;
-        inlets.push(MemoryInlet::new(alloc, standing, 10))?;
-    }
-    Ok(inlets)
-}
-
-/// What a serve of the start does that is held over a tick, or not.
-static HELD_BEFORE: Served = Served::Did {
-    numbered: Numbered {
-        number: 1,
-        request: Request::Start {
-            interval: 1,
-            action: 7,
-        },
-    },
-    word: Word::Answered {
-        number: 1,
-        answer: Answer::Started {
-            handle: Handle {
-                place: 0,
-                serial: 1,
-            },
-            deadline: 1,
-        },
-    },
-};
-
-static HELD_AFTER: Served = Served::Did {
-    numbered: Numbered {
-        number: 1,
-        request: Request::Start {
-            interval: 1,
-            action: 7,
-        },
-    },
-    word: Word::Answered {
-        number: 1,
-        answer: Answer::Started {
-            handle: Handle {
-                place: 0,
-                serial: 1,
-            },
-            deadline: 2,
-        },
-    },
-};
-
-static HELD_WORDS: [Word; 1] = [Word::Answered {
-    number: 1,
-    answer: Answer::Started {
-        handle: Handle {
-            place: 0,
-            serial: 1,
-        },
-        deadline: 2,
-    },
-}];
+/// The same if the start was held over a tick.
+const LATE: [Said; 2] = [('A', 1, 2), ('E', 1, 2)];
 
 /// A start that was refused for memory is held over a tick, and its deadline is counted from the tick at
 /// which it is accepted. Returns whether it was held.
-pub fn hold_over_tick(alloc: Global, by: By) -> Result<bool, Fault> {
-    let (mut end, inlet) = ring_with(alloc, &[(1, 7)])?;
-    let mut desk = open(alloc, vec![in alloc; inlet]?)?;
-    let first = try_serve(&mut desk, 0, by)?;
-    let is_held = desk.clients() > 0 && desk.held(0).is_some();
-    let is_refused = matches!(first, Served::NoMemory);
-    see(
-        is_held == (is_refused && by == By::Call) || by == By::Turn,
-        "what is held",
-    )?;
-    see(desk.tick().is_ok(), "a tick")?;
-    if bare_served(first) == HELD_BEFORE {
-        return Ok(false);
+pub fn hold_over_tick(alloc: Global) -> Result<bool, Fault> {
+    let mut desk = open_in_memory(alloc, &[1], &[])?;
+    let is_done = try_serve(&mut desk, 0, By::Call)?;
+    same(is_held(&desk), !is_done, "what is held")?;
+    tick(&mut desk)?;
+    if !is_done {
+        serve(&mut desk, 0, By::Call)?;
+        tick(&mut desk)?;
     }
-    serve_after_tick(&mut desk, &mut end, by)?;
-    Ok(is_held)
+    flush(&mut desk, 0)?;
+    see_given(desk, if is_done { &ON_TIME } else { &LATE }, &[])?;
+    Ok(!is_done)
 }
 
-/// Serves the start that was refused before the first tick.
-fn serve_after_tick(
-    desk: &mut Desk<HierWheel, RingInlet>,
-    end: &mut ClientEnd,
-    by: By,
-) -> Result<(), Fault> {
-    same(serve(desk, 0, by)?, HELD_AFTER, "the start after the tick")?;
-    flush(desk, 0, 1)?;
-    see_words(end, &HELD_WORDS)
+/// Whether a request of client 0 is held.
+pub fn is_held(desk: &Desk<HierWheel, MemoryInlet>) -> bool {
+    desk.clients() > 0 && desk.held(0).is_some()
+}
+
+fn tick(desk: &mut Desk<HierWheel, MemoryInlet>) -> Result<(), Fault> {
+    see(desk.tick().is_ok(), "a tick")
 }

@@ -1,9 +1,9 @@
-//! A facility: a start or the close is refused for memory.
+//! A facility: a start or the close is refused for memory. And one with room, of which nothing is refused.
 ghost use Rattle.std.specs.Prelude.{◌≡◌, [], OnOk};
 
 use crate::fault::{Fault, same, see};
 use std::alloc::Global;
-use timer_base::{Handle, Wheel};
+use timer_base::{Handle, LAST, Wheel};
 use timer_facility::{Answer, CloseFault, Config, Facility, NotTaken, Notice, Reason, Request};
 
 /// The numbers of every scenario's facility.
@@ -25,27 +25,21 @@ pub fn numbers(clients: u64, capacity: u64) -> Config
     }
 }
 
-/// What the readers show.
-#[derive(Clone, Copy, PartialEq, Eq)]
-struct Shown {
-    now: u64,
-    pending: usize,
-    pending_of: [usize; 2],
-    next_serial: u64,
-    next_numbers: [Option<u64>; 2],
-    is_closed: bool,
-}
-
-fn readers_of<W: Wheel + Drop>(facility: &Facility<W>) -> Shown
-    requires { facility.now.waiting ≡ [] }
+/// A facility over this wheel.
+fn open<W: Wheel + Drop>(
+    alloc: Global,
+    wheel: W,
+    clients: u64,
+    capacity: u64,
+) -> Result<Facility<W>, Fault>
+    requires pending { (W.state wheel).pending ≡ [] }
+    requires due { (W.state wheel).due ≡ [] }
+    requires now { (W.state wheel).now ≡ 0 }
+    requires serial { (W.state wheel).last_serial ≡ 0 }
 {
-    Shown {
-        now: facility.now(),
-        pending: facility.pending(),
-        pending_of: [facility.pending_of(0), facility.pending_of(1)],
-        next_serial: facility.next_serial(),
-        next_numbers: [facility.next_number(0), facility.next_number(1)],
-        is_closed: facility.is_closed(),
+    match numbers(clients, capacity).check() {
+        Ok(checked) => Ok(Facility::open(alloc, checked, wheel)),
+        Err(_) => Err(Fault::Wrong("the numbers of a facility")),
     }
 }
 
@@ -53,120 +47,178 @@ fn readers_of<W: Wheel + Drop>(facility: &Facility<W>) -> Shown
 fn settle<W: Wheel + Drop>(facility: &Facility<W>) -> Result<(), Fault>
     ensures { OnOk result (facility.now.waiting ≡ []) }
 {
-    if facility.has_out() {
-        return Err(Fault::Wrong("a timer that waits"));
-    }
-    Ok(())
+    see(!facility.has_out(), "a timer that waits")
 }
 
-/// Takes a request, at the second try if the first is refused for memory.
-pub fn take<W: Wheel + Drop>(
+/// The answer to the client's next request, at the second try if the first is refused for memory.
+fn ask<W: Wheel + Drop>(
     facility: &mut Facility<W>,
     client: u64,
-    number: u64,
     request: Request,
-) -> Result<Result<Answer, NotTaken>, Fault> {
+) -> Result<Answer, Fault> {
+    let Some(number) = facility.next_number(client) else {
+        return Err(Fault::Wrong("a client"));
+    };
     for _ in 0..2 {
         settle(facility)?;
-        let before = readers_of(facility);
         match facility.take(client, number, request) {
+            Ok(answer) => return Ok(answer),
             Err(NotTaken::OutOfMemory) => {}
-            taken => return Ok(taken),
+            Err(_) => return Err(Fault::Wrong("a request that is taken")),
         }
-        settle(facility)?;
-        let after = readers_of(facility);
-        same(after, before, "a facility after a refused start")?;
     }
     Err(Fault::RefusedTwice)
 }
 
-/// Closes, at the second try if the first is refused for memory.
-pub fn close<W: Wheel + Drop>(facility: &mut Facility<W>) -> Result<u64, Fault> {
-    for _ in 0..2 {
-        settle(facility)?;
-        let before = readers_of(facility);
-        match facility.close() {
-            Ok(count) => return Ok(count),
-            Err(CloseFault::Closed) => return Err(Fault::Wrong("an open facility")),
-            Err(CloseFault::OutOfMemory) => {}
-        }
-        settle(facility)?;
-        let after = readers_of(facility);
-        same(after, before, "a facility after a refused close")?;
-    }
-    Err(Fault::RefusedTwice)
-}
-
-pub fn tick<W: Wheel + Drop>(facility: &mut Facility<W>) -> Result<(), Fault> {
-    settle(facility)?;
-    see(facility.tick().is_ok(), "a tick")
-}
-
-/// Starts a timer that is accepted under this serial.
+/// Asks for a timer of this interval, and returns its handle.
 fn start<W: Wheel + Drop>(
     facility: &mut Facility<W>,
     client: u64,
-    number: u64,
     interval: u64,
-    wanted: u64,
-) -> Result<(), Fault> {
-    let request = Request::Start {
-        interval,
-        action: wanted,
-    };
-    match take(facility, client, number, request)? {
-        Ok(Answer::Started { handle, .. }) => same(handle.serial, wanted, "the serial of a start"),
-        _ => Err(Fault::Wrong("a start")),
+) -> Result<Handle, Fault> {
+    let action = 0;
+    made(ask(facility, client, Request::Start { interval, action })?)
+}
+
+/// The handle of a timer that is started or restarted.
+fn made(answer: Answer) -> Result<Handle, Fault> {
+    match answer {
+        Answer::Started { handle, .. } | Answer::Restarted { handle, .. } => Ok(handle),
+        _ => Err(Fault::Wrong("a start or a restart")),
     }
 }
 
-/// Goes on only if the timer with this serial is handed out next: by a close, or expired.
+/// Goes on only if client 0 stops and restarts no timer by this handle.
+fn see_no_such<W: Wheel + Drop>(facility: &mut Facility<W>, handle: Handle) -> Result<(), Fault> {
+    let no_such = Answer::Refused(Reason::NoSuch);
+    same(ask(facility, 0, Request::Stop(handle))?, no_such, "a stop")?;
+    let restart = Request::Restart {
+        handle,
+        interval: 1,
+        action: 0,
+    };
+    same(ask(facility, 0, restart)?, no_such, "a restart")
+}
+
+/// Goes on only if the timer with this serial is handed out next, returned by a close or expired.
 fn see_handed<W: Wheel + Drop>(
     facility: &mut Facility<W>,
     serial: u64,
     by_close: bool,
 ) -> Result<(), Fault> {
-    match facility.next_out() {
-        Some(Notice::Returned(timer)) => same(
-            (by_close, timer.serial),
-            (true, serial),
-            "what is returned",
-        ),
-        Some(Notice::Expired(timer)) => same(
-            (by_close, timer.serial),
-            (false, serial),
-            "what expired",
-        ),
-        None => Err(Fault::Wrong("a timer that isn't handed out")),
+    let handed = match facility.next_out() {
+        Some(Notice::Returned(timer)) => (timer.serial, true),
+        Some(Notice::Expired(timer)) => (timer.serial, false),
+        None => (0, by_close),
+    };
+    same(handed, (serial, by_close), "what is handed out")
+}
+
+/// Starts up to the capacity, asks by handles that name no timer, lets one timer expire, and closes.
+pub fn start_and_close<W: Wheel + Drop>(alloc: Global, wheel: W) -> Result<(), Fault>
+    requires pending { (W.state wheel).pending ≡ [] }
+    requires due { (W.state wheel).due ≡ [] }
+    requires now { (W.state wheel).now ≡ 0 }
+    requires serial { (W.state wheel).last_serial ≡ 0 }
+{
+    let mut facility = open(alloc, wheel, 2, 4)?;
+    let dead = fill(&mut facility)?;
+    let others = start(&mut facility, 1, 1)?;
+    for handle in strange_handles(dead, others) {
+        see_no_such(&mut facility, handle)?;
     }
+    close_full(&mut facility)
+}
+
+/// Starts three timers, of which one was stopped before. Returns the handle of that one.
+fn fill<W: Wheel + Drop>(facility: &mut Facility<W>) -> Result<Handle, Fault> {
+    let dead = start(facility, 0, 9)?;
+    let stopped = Answer::Stopped { serial: 1 };
+    same(ask(facility, 0, Request::Stop(dead))?, stopped, "a stop")?;
+    for interval in [5, 3, 5] {
+        start(facility, 0, interval)?;
+    }
+    Ok(dead)
+}
+
+/// Handles that were never given, one that is dead, and another client's.
+fn strange_handles(dead: Handle, others: Handle) -> [Handle; 6] {
+    let at = |place, serial| Handle { place, serial };
+    [
+        at(usize::MAX, 2),
+        at(dead.place, 0),
+        at(dead.place, LAST + 1),
+        at(usize::MAX, u64::MAX),
+        dead,
+        others,
+    ]
+}
+
+/// Lets one of four timers expire, and closes. Another start was refused before, and used no serial.
+fn close_full<W: Wheel + Drop>(facility: &mut Facility<W>) -> Result<(), Fault> {
+    let one_more = Request::Start {
+        interval: 1,
+        action: 0,
+    };
+    let full = Answer::Refused(Reason::Full);
+    same(ask(facility, 0, one_more)?, full, "a full facility")?;
+    settle(facility)?;
+    same(facility.ticks(2), Ok(1), "the ticks up to a timer")?;
+    see_handed(facility, 5, false)?;
+    same(close(facility)?, 3, "how many are returned")?;
+    for serial in [3, 2, 4] {
+        see_handed(facility, serial, true)?;
+    }
+    same(facility.next_out(), None, "a timer too many")?;
+    let end = (facility.is_closed(), facility.pending());
+    same(end, (true, 0), "a closed facility")
+}
+
+/// Closes, at the second try if the first is refused for memory.
+fn close<W: Wheel + Drop>(facility: &mut Facility<W>) -> Result<u64, Fault> {
+    for _ in 0..2 {
+        settle(facility)?;
+        match facility.close() {
+            Ok(count) => return Ok(count),
+            Err(CloseFault::Closed) => return Err(Fault::Wrong("an open facility")),
+            Err(CloseFault::OutOfMemory) => {}
+        }
+    }
+    Err(Fault::RefusedTwice)
 }
 
 /// How many timers a facility with room may hold.
 const ROOM: u64 = 1000;
 
-/// Makes room for all timers, at the second try if the first is refused. Starts this many of them, lets them expire,
-/// replaces others as often, and closes.
+/// Makes room for all timers. Starts this many of them, lets them expire, replaces others as often, and closes: it
+/// allocates no more often, however many they are.
 pub fn start_with_room<W: Wheel + Drop>(alloc: Global, wheel: W, starts: u64) -> Result<(), Fault>
     requires pending { (W.state wheel).pending ≡ [] }
     requires due { (W.state wheel).due ≡ [] }
     requires now { (W.state wheel).now ≡ 0 }
     requires serial { (W.state wheel).last_serial ≡ 0 }
 {
-    let Ok(checked) = numbers(1, ROOM).check() else {
-        return Err(Fault::Wrong("the numbers of a facility"));
-    };
-    let mut facility = Facility::open(alloc, checked, wheel);
+    let mut facility = open(alloc, wheel, 1, ROOM)?;
     reserve(&mut facility)?;
-    for number in 1..=starts {
-        start(&mut facility, 0, number, number, number)?;
+    for interval in 1..=starts {
+        start(&mut facility, 0, interval)?;
     }
-    same(facility.pending() as u64, starts, "how many are pending")?;
     expire_in_room(&mut facility, starts)?;
     replace_in_room(&mut facility, starts)?;
     close_in_room(&mut facility, starts)
 }
 
-/// Lets the timers with the serials up to `starts` expire, one at each tick. No call allocates.
+/// Makes room, at the second try if the first is refused.
+fn reserve<W: Wheel + Drop>(facility: &mut Facility<W>) -> Result<(), Fault> {
+    for _ in 0..2 {
+        if facility.reserve().is_ok() {
+            return Ok(());
+        }
+    }
+    Err(Fault::RefusedTwice)
+}
+
+/// Lets the timers with the serials up to `starts` expire, one at each tick.
 fn expire_in_room<W: Wheel + Drop>(facility: &mut Facility<W>, starts: u64) -> Result<(), Fault> {
     for serial in 1..=starts {
         settle(facility)?;
@@ -178,25 +230,21 @@ fn expire_in_room<W: Wheel + Drop>(facility: &mut Facility<W>, starts: u64) -> R
     same(facility.next_out(), None, "a timer too many")
 }
 
-/// Starts, restarts and stops a timer, this many times. No request is refused for memory.
+/// Starts, restarts and stops a timer, this many times.
 fn replace_in_room<W: Wheel + Drop>(facility: &mut Facility<W>, rounds: u64) -> Result<(), Fault> {
     for _ in 0..rounds {
-        let start = Request::Start {
-            interval: 9,
-            action: 0,
-        };
-        let handle = made(ask(facility, start)?)?;
+        let handle = start(facility, 0, 9)?;
         let restart = Request::Restart {
             handle,
             interval: 5,
             action: 0,
         };
-        let restarted = made(ask(facility, restart)?)?;
-        let no_such = Answer::Refused(Reason::NoSuch);
-        same(ask(facility, Request::Stop(handle))?, no_such, "a stop")?;
+        let restarted = made(ask(facility, 0, restart)?)?;
+        see_no_such(facility, handle)?;
         let serial = restarted.serial;
         let stopped = Answer::Stopped { serial };
-        same(ask(facility, Request::Stop(restarted))?, stopped, "a stop")?;
+        let answer = ask(facility, 0, Request::Stop(restarted))?;
+        same(answer, stopped, "a stop")?;
     }
     same(facility.pending(), 0, "what is left")
 }
@@ -204,92 +252,13 @@ fn replace_in_room<W: Wheel + Drop>(facility: &mut Facility<W>, rounds: u64) -> 
 /// Starts this many timers again, and closes at once: the close is not refused for memory.
 fn close_in_room<W: Wheel + Drop>(facility: &mut Facility<W>, starts: u64) -> Result<(), Fault> {
     for _ in 0..starts {
-        let start = Request::Start {
-            interval: 9,
-            action: 0,
-        };
-        made(ask(facility, start)?)?;
+        start(facility, 0, 9)?;
     }
     settle(facility)?;
-    same(
-        facility.close(),
-        Ok(starts),
-        "a close in the room that was made",
-    )?;
+    same(facility.close(), Ok(starts), "a close in its room")?;
     for _ in 0..starts {
         let is_returned = matches!(facility.next_out(), Some(Notice::Returned(_)));
         see(is_returned, "a timer that is returned")?;
     }
     same(facility.next_out(), None, "a timer too many")
-}
-
-/// The answer to the next request of client 0, which is taken at once.
-fn ask<W: Wheel + Drop>(facility: &mut Facility<W>, request: Request) -> Result<Answer, Fault> {
-    settle(facility)?;
-    let Some(number) = facility.next_number(0) else {
-        return Err(Fault::Wrong("a client"));
-    };
-    match facility.take(0, number, request) {
-        Ok(answer) => Ok(answer),
-        Err(_) => Err(Fault::Wrong("a request that is taken")),
-    }
-}
-
-/// The handle of a timer that is started or restarted.
-pub fn made(answer: Answer) -> Result<Handle, Fault> {
-    match answer {
-        Answer::Started { handle, .. } | Answer::Restarted { handle, .. } => Ok(handle),
-        _ => Err(Fault::Wrong("a start or a restart")),
-    }
-}
-
-fn reserve<W: Wheel + Drop>(facility: &mut Facility<W>) -> Result<(), Fault> {
-    for _ in 0..2 {
-        if facility.reserve().is_ok() {
-            return Ok(());
-        }
-    }
-    Err(Fault::RefusedTwice)
-}
-
-/// Starts up to the capacity, lets one timer expire, and closes.
-pub fn start_and_close<W: Wheel + Drop>(alloc: Global, wheel: W) -> Result<(), Fault>
-    requires pending { (W.state wheel).pending ≡ [] }
-    requires due { (W.state wheel).due ≡ [] }
-    requires now { (W.state wheel).now ≡ 0 }
-    requires serial { (W.state wheel).last_serial ≡ 0 }
-{
-    let Ok(checked) = numbers(2, 4).check() else {
-        return Err(Fault::Wrong("the numbers of a facility"));
-    };
-    let mut facility = Facility::open(alloc, checked, wheel);
-    fill(&mut facility)?;
-    close_full(&mut facility)
-}
-
-/// Starts up to the capacity, after which a start is refused.
-fn fill<W: Wheel + Drop>(facility: &mut Facility<W>) -> Result<(), Fault> {
-    start(facility, 0, 1, 5, 1)?;
-    start(facility, 1, 1, 3, 2)?;
-    start(facility, 0, 2, 5, 3)?;
-    start(facility, 1, 2, 1, 4)?;
-    let request = Request::Start {
-        interval: 1,
-        action: 0,
-    };
-    let full = Ok(Answer::Refused(Reason::Full));
-    same(take(facility, 0, 3, request)?, full, "a full facility")
-}
-
-/// Lets one of four timers expire, and closes.
-fn close_full<W: Wheel + Drop>(facility: &mut Facility<W>) -> Result<(), Fault> {
-    tick(facility)?;
-    see_handed(facility, 4, false)?;
-    same(close(facility)?, 3, "how many are returned")?;
-    for serial in [2, 1, 3] {
-        see_handed(facility, serial, true)?;
-    }
-    same(facility.next_out(), None, "a timer too many")?;
-    let end = (facility.is_closed(), facility.pending());
-    same(end, (true, 0), "a closed facility")
 }

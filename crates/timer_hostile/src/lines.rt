@@ -1,37 +1,35 @@
-//! Lines of each kind: their makers, `take` or `put` are refused.
+//! Lines in memory and under a lock: their makers, `take` or `put` are refused.
 use crate::fault::{Fault, same};
 use std::alloc::Global;
 use std::sync::Wait;
 use timer_desk::{
-    ClientEnd, Inlet, LockedEnd, LockedInlet, MemoryInlet, Numbered, Put, RingInlet, Taken, Word,
-    locked_line, ring_line,
+    Inlet, LockedEnd, LockedInlet, MemoryInlet, Numbered, Put, Taken, Word, locked_line,
 };
 use timer_facility::{Answer, Request};
 
 /// How many items a line has room for, each way.
 const ROOM: usize = 8;
 
-/// The request under this number.
-pub fn request(interval: u64, action: u64) -> Request {
-    Request::Start { interval, action }
-}
-
-/// A word that no other number has.
-fn word(number: u64) -> Word {
-    Word::Answered {
-        number,
-        answer: Answer::Stopped { serial: number },
+/// A start with this interval.
+pub fn request(interval: u64) -> Request {
+    Request::Start {
+        interval,
+        action: 7,
     }
 }
 
-/// A ring line, at the second try if the first is refused.
-pub fn ring(alloc: Global) -> Result<(ClientEnd, RingInlet), Fault> {
-    for _ in 0..2 {
-        if let Ok(ends) = ring_line(alloc, ROOM, 1) {
-            return Ok(ends);
-        }
+/// A line in memory, in which starts with these intervals stand under the numbers from 1 on.
+pub fn in_memory(alloc: Global, intervals: &[u64]) -> Result<MemoryInlet, Fault> {
+    let mut requests = Vec::new(alloc);
+    let mut number = 0u64;
+    for interval in intervals {
+        number = number.wrapping_add(1);
+        requests.push(Numbered {
+            number,
+            request: request(*interval),
+        })?;
     }
-    Err(Fault::RefusedTwice)
+    Ok(MemoryInlet::new(alloc, requests, ROOM))
 }
 
 /// A locked line, at the second try if the first is refused.
@@ -47,109 +45,73 @@ pub fn locked<'a, R: Wait>(
     Err(Fault::RefusedTwice)
 }
 
-/// What a put returns, at the second try if the first is refused for memory.
-fn put<I: Inlet>(inlet: &mut I, word: Word) -> Result<Put, Fault> {
+/// A word that no other number has.
+fn word(number: u64) -> Word {
+    Word::Answered {
+        number,
+        answer: Answer::Stopped { serial: number },
+    }
+}
+
+/// Puts a word, at the second try if the first is refused for memory.
+fn put<I: Inlet>(inlet: &mut I, word: Word) -> Result<(), Fault> {
     for _ in 0..2 {
         match inlet.put(word) {
             Put::NoMemory(back) => same(back, word, "the word that is handed back")?,
-            put => return Ok(put),
+            put => return same(put, Put::Done, "a line with room"),
         }
     }
     Err(Fault::RefusedTwice)
 }
 
-/// What a take returns, at the second try if the first is refused for memory.
-fn take<I: Inlet>(inlet: &mut I) -> Result<Taken, Fault> {
+/// Takes the start with this number and interval, at the second try if the first is refused for memory.
+fn take<I: Inlet>(inlet: &mut I, number: u64) -> Result<(), Fault> {
+    let wanted = Numbered {
+        number,
+        request: request(number),
+    };
     for _ in 0..2 {
         match inlet.take() {
             Taken::NoMemory => {}
-            taken => return Ok(taken),
+            taken => return same(taken, Taken::Got(wanted), "a request"),
         }
     }
     Err(Fault::RefusedTwice)
 }
 
-/// Passes requests and words through a line, until neither way has room or anything left.
-fn see_line<I: Inlet>(inlet: &mut I, numbers: u64) -> Result<(), Fault> {
-    for number in 1..=numbers {
-        let wanted = Numbered {
-            number,
-            request: request(number, 7),
-        };
-        same(take(inlet)?, Taken::Got(wanted), "a request")?;
-        same(put(inlet, word(number))?, Put::Done, "a line with room")?;
+/// Passes eight requests and words, after which neither way has room or anything left.
+fn pass<I: Inlet>(inlet: &mut I) -> Result<(), Fault> {
+    for number in 1..=8 {
+        take(inlet, number)?;
+        put(inlet, word(number))?;
     }
     // Both are said before out of memory.
     same(inlet.take(), Taken::Empty, "an empty line")?;
-    let more = word(numbers);
-    same(inlet.put(more), Put::Full(more), "a full line")
+    same(inlet.put(word(9)), Put::Full(word(9)), "a full line")
 }
 
-/// A line in memory takes words.
+/// A line in memory takes and puts.
 pub fn use_memory_line(alloc: Global) -> Result<(), Fault> {
-    let mut inlet = MemoryInlet::new(alloc, Vec::new(alloc), ROOM);
-    fill(&mut inlet)?;
-    see_given(inlet.given())
-}
-
-/// Puts words into a line in memory until it has no room.
-fn fill(inlet: &mut MemoryInlet) -> Result<(), Fault> {
-    for number in 1..=8 {
-        same(put(inlet, word(number))?, Put::Done, "a line with room")?;
-    }
-    let more = word(9);
-    same(inlet.put(more), Put::Full(more), "a full line")
-}
-
-/// Goes on only if these words filled a line.
-fn see_given(words: &[Word]) -> Result<(), Fault> {
-    same(words.len(), ROOM, "how many words were given")?;
-    let mut number = 0u64;
-    for given in words {
-        number = number.wrapping_add(1);
-        same(*given, word(number), "a word that was given")?;
-    }
-    Ok(())
+    let mut inlet = in_memory(alloc, &[1, 2, 3, 4, 5, 6, 7, 8])?;
+    pass(&mut inlet)?;
+    let last = inlet.given().last().copied();
+    same(
+        (inlet.given().len(), last),
+        (ROOM, Some(word(8))),
+        "what was given",
+    )
 }
 
 /// A locked line takes and puts.
 pub fn use_locked_line<R: Wait>(rt: &R, alloc: Global) -> Result<(), Fault> {
     let (mut end, mut inlet) = locked(rt, alloc)?;
-    pass_over_lock(rt, &mut end, &mut inlet)
-}
-
-/// Fills a locked line both ways, and empties it.
-fn pass_over_lock<R: Wait, I: Inlet>(
-    rt: &R,
-    end: &mut LockedEnd,
-    inlet: &mut I,
-) -> Result<(), Fault> {
     for number in 1..=8 {
-        let sent = end.submit(rt, request(number, 7));
+        let sent = end.submit(rt, request(number));
         same(sent, Ok(number), "a request that is sent")?;
     }
-    see_line(inlet, 8)?;
+    pass(&mut inlet)?;
     for number in 1..=8 {
         same(end.receive(rt), Some(word(number)), "a word")?;
     }
     same(end.receive(rt), None, "a word too many")
-}
-
-/// A ring line is made, and takes and puts.
-pub fn use_ring_line(alloc: Global) -> Result<(), Fault> {
-    let (mut end, mut inlet) = ring(alloc)?;
-    pass_over_ring(&mut end, &mut inlet)
-}
-
-/// Fills a ring line both ways, and empties it.
-fn pass_over_ring(end: &mut ClientEnd, inlet: &mut RingInlet) -> Result<(), Fault> {
-    for number in 1..=8 {
-        let sent = end.submit(request(number, 7));
-        same(sent, Ok(number), "a request that is sent")?;
-    }
-    see_line(inlet, 8)?;
-    for number in 1..=8 {
-        same(end.receive(), Some(word(number)), "a word")?;
-    }
-    same(end.receive(), None, "a word too many")
 }

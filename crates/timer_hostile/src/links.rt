@@ -49,28 +49,15 @@ fn has_serials(links: &Links, count: u64) -> bool {
     at.is_none()
 }
 
-/// Pushes the node with this serial, after all those before it. False if that is refused.
-fn try_push(links: &mut Links, serial: u64) -> Result<bool, Fault> {
-    if links.lists() == 0 || serial == 0 {
-        return Err(Fault::Wrong("no list"));
-    }
-    match links.push_back(0, node(serial)) {
-        Ok(key) => {
-            same(links.get(key), Some(node(serial)), "a pushed node")?;
-            Ok(true)
-        }
-        Err((back, OutOfMemory)) => {
-            same(back, node(serial), "the node that is handed back")?;
-            see(has_serials(links, serial - 1), "lists after a refused push")?;
-            Ok(false)
-        }
-    }
-}
-
+/// Pushes the node with this serial, at the second try if the first is refused.
 fn push(links: &mut Links, serial: u64) -> Result<(), Fault> {
     for _ in 0..2 {
-        if try_push(links, serial)? {
-            return Ok(());
+        if links.lists() == 0 {
+            return Err(Fault::Wrong("no list"));
+        }
+        match links.push_back(0, node(serial)) {
+            Ok(_) => return Ok(()),
+            Err((back, OutOfMemory)) => same(back, node(serial), "the node that is handed back")?,
         }
     }
     Err(Fault::RefusedTwice)

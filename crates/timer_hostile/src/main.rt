@@ -1,12 +1,12 @@
-//! Fault-injection scenarios: each survives a refused allocation. And handles that name no timer.
+//! Fault-injection scenarios: each survives a refused allocation. Those of C programs, a desk over ring lines among
+//! them, are in tests/c, and those of the program are in tools/refused_growths.
 //!
 //!     timer_hostile           plays each scenario, and prints its name
 //!     timer_hostile NAME      plays the one with this name
 //!
-//! A scenario makes a call that may run out of memory a second time if the first was refused, sees that
-//! the refusal changed nothing (a drive: no more than it may), and carries on. So it ends in the same way
-//! whichever allocation is refused: tools/refused_growths plays it with the first one refused, then with the
-//! second, and so on to the last. The exit status is 1 if an allocation of the scenario's own was refused,
+//! A scenario makes a call that may run out of memory a second time if the first was refused, and carries on. It
+//! ends in the same way whichever allocation is refused: tools/refused_growths plays it with the first one refused,
+//! then with the second, and so on to the last. The exit status is 1 if an allocation of the scenario's own was refused,
 //! and 2 if a call did something else.
 #![tactic(auto)]
 
@@ -14,14 +14,10 @@ mod desks;
 mod drives;
 mod facilities;
 mod fault;
-mod handles;
 mod lines;
 mod links;
-mod plays;
-mod rings;
 mod room;
 mod scenario;
-mod texts;
 mod wheels;
 
 use fault::Fault;

@@ -139,7 +139,8 @@ fn expire_at_next_tick<W: Wheel + Drop>(timers: &mut Timers<W>) -> Result<(), Fa
     same(timers.expire(), None, "a timer too many")
 }
 
-/// Starts a hundred timers, and lets each of them expire. In their room, each call is made that doesn't allocate.
+/// Starts a hundred timers, lists them, and lets each of them expire. In their room, each call is made that doesn't
+/// allocate.
 pub fn start_a_hundred<W: Wheel + Drop>(wheel: W) -> Result<(), Fault>
     requires { (W.state wheel).last_serial ≡ 0 }
 {
@@ -147,21 +148,10 @@ pub fn start_a_hundred<W: Wheel + Drop>(wheel: W) -> Result<(), Fault>
     for _ in 0..STARTS {
         start(&mut timers)?;
     }
+    see_pending(&timers, STARTS)?;
     for _ in 0..STARTS {
         expire_at_next_tick(&mut timers)?;
     }
     same((timers.len(), timers.now()), (0, STARTS), "the end")?;
     call_in_room(&mut timers)
-}
-
-/// Starts a few timers, and lists them.
-pub fn list_a_few<W: Wheel + Drop>(wheel: W) -> Result<(), Fault>
-    requires { (W.state wheel).last_serial ≡ 0 }
-{
-    let mut timers = Timers::new(wheel, 0);
-    for last in 1..=5 {
-        start(&mut timers)?;
-        see_pending(&timers, last)?;
-    }
-    Ok(())
 }

@@ -2,7 +2,10 @@
 use crate::support::same_in;
 use std::fmt::Display;
 use std::process::Abort;
-use timer_script::{AnswerFault, CheckFault, RunFault, ScriptFault, ServeFault, WriteFault};
+use timer_script::{
+    AnswerFault, CheckFault, Field, LineFault, LineReason, RunFault, ScriptFault, ServeFault,
+    WriteFault,
+};
 
 /// Compares the text of an error.
 fn shows<T: AllocGlobal + Abort>(rt: &T, fault: impl Display + Drop, text: &str) {
@@ -39,4 +42,16 @@ fn each_error_has_its_text(rt: HostRuntime) {
     shows(&rt, AnswerFault::Bad { line: 12 }, "bad line 12");
     shows(&rt, AnswerFault::OutOfMemory, "out of memory");
     shows(&rt, WriteFault { written: 3 }, "write failed");
+    let fault = LineFault {
+        column: 12,
+        field: Some(Field::Interval),
+        reason: LineReason::LeadingZero,
+    };
+    shows(&rt, fault, "column 12: interval: leading zero");
+    let fault = LineFault {
+        column: 1,
+        field: None,
+        reason: LineReason::EmptyLine,
+    };
+    shows(&rt, fault, "column 1: empty line");
 }

@@ -1,26 +1,11 @@
-//! Tests of `timer_script` over its public calls: scripts, texts, streams and reports of bad lines.
+//! Tests of `timer_script` over its public calls: texts, and what a peer, a reader and a writer are asked. Readers and
+//! writers that fail are in timer_commands_tests, and the columns of bad lines in tests/columns.py.
 #![tactic(auto)]
 
 #[cfg(test)]
 mod fault_tests;
 #[cfg(test)]
-mod fields_tests;
-#[cfg(test)]
-mod good_lines_tests;
-#[cfg(test)]
-mod pieces_tests;
-#[cfg(test)]
 mod prompt_tests;
-#[cfg(test)]
-mod recorded_peer;
-#[cfg(test)]
-mod report_order_tests;
-#[cfg(test)]
-mod script_report_tests;
-#[cfg(test)]
-mod script_tests;
-#[cfg(test)]
-mod service_tests;
 #[cfg(test)]
 mod support;
 #[cfg(test)]

@@ -106,7 +106,7 @@ fn the_calls_of_a_peer_that_keeps_them_are_prompt(rt: HostRuntime) {
         size: 14,
         calls: Vec::new(alloc),
     };
-    let facility = plain_facility(&rt, alloc, 1, 10);
+    let facility = plain_facility(&rt, alloc);
     same(&rt, serve_known(alloc, &mut peer, facility), Ok(true));
     let wanted: [&[u8]; 10] = [
         b"<start 0 1 3 7\n",

@@ -24,38 +24,25 @@ pub fn same_in<R: Debug + Drop, T: PartialEq + Debug + Drop>(
     assert_eq!(rt; found, expected, "{row:?}");
 }
 
-/// A facility over the plain wheel, with nothing in it.
-pub fn facility(rt: &impl Abort, alloc: Global, config: Config) -> Facility<PlainWheel>
-    ensures pending { result.state.pending ≡ [] }
-    ensures waiting { result.waiting ≡ [] }
-{
-    let Ok(checked) = config.check() else {
-        panic!(rt; "out of range");
-    };
-    let Ok(wheel) = PlainWheel::new(alloc, config.first_tick) else {
-        panic!(rt; "out of memory");
-    };
-    Facility::open(alloc, checked, wheel)
-}
-
-/// The same, whose first tick is 0, and whose first numbers are 1.
-pub fn plain_facility(
-    rt: &impl Abort,
-    alloc: Global,
-    clients: u64,
-    capacity: u64,
-) -> Facility<PlainWheel>
+/// A facility of one client over the plain wheel, with nothing in it.
+pub fn plain_facility(rt: &impl Abort, alloc: Global) -> Facility<PlainWheel>
     ensures pending { result.state.pending ≡ [] }
     ensures waiting { result.waiting ≡ [] }
 {
     let config = Config {
-        clients,
-        capacity,
+        clients: 1,
+        capacity: 10,
         first_tick: 0,
         first_serial: 1,
         first_number: 1,
     };
-    facility(rt, alloc, config)
+    let Ok(checked) = config.check() else {
+        panic!(rt; "out of range");
+    };
+    let Ok(wheel) = PlainWheel::new(alloc, 0) else {
+        panic!(rt; "out of memory");
+    };
+    Facility::open(alloc, checked, wheel)
 }
 
 /// Takes all bytes, and keeps none.

@@ -10,7 +10,7 @@ fn shows<T: AllocGlobal + Abort>(rt: &T, fault: impl Display + Drop, text: &str)
     let Ok(found) = format!(in rt.alloc(); "{fault}") else {
         panic!(rt; "out of memory");
     };
-    same(rt, text, found.as_str(), text);
+    same(rt, found.as_str(), text);
 }
 
 #[test]

@@ -1,24 +1,18 @@
-//! The tests of timer_base, timer_links, timer_wheels and timer_total, over their public calls.
+//! The tests of timer_base, timer_links, timer_wheels, timer_facility and timer_total, over their public calls: a
+//! whole use of each wheel, of a facility and of a player, and the texts of errors.
 //!
-//! `tests` has the worked rows, which run on every wheel. They are a crate of their own, so that no code is
-//! proved again with its tests.
+//! What each call returns is proved. That it succeeds while there is memory is seen here, and in timer_limits and
+//! timer_hostile, which use lists of nodes and total calls over each wheel, too. The worked examples are played by
+//! the program, in tests/program.bats.
 #![tactic(auto)]
 
 #[cfg(test)]
+mod facility_tests;
+#[cfg(test)]
 mod fault_tests;
 #[cfg(test)]
-mod hashed_tests;
-#[cfg(test)]
-mod hier_tests;
-#[cfg(test)]
-mod links_tests;
-#[cfg(test)]
-mod next_tests;
-#[cfg(test)]
-mod plain_tests;
+mod player_tests;
 #[cfg(test)]
 mod support;
 #[cfg(test)]
-mod tests;
-#[cfg(test)]
-mod total_tests;
+mod wheel_tests;
