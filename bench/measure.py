@@ -17,8 +17,8 @@ import time
 
 import figures
 
-CRATES = os.path.join(figures.HERE, "..", "crates")
-WORK, TIMERS = (os.path.join(CRATES, name, "out", name) for name in ("timer_desk_bench", "timer_program"))
+TOP = os.path.join(figures.HERE, "..")
+WORK, TIMERS = os.path.join(TOP, "crates/timer_desk_bench/out/timer_desk_bench"), os.path.join(TOP, "timers")
 SHORT = (
     "churn-1k,churn-10k,churn-100k,churn-1M,push-back-1k,push-back-10k,push-back-100k,push-back-1M,"
     "expire-1000,expire-log20,expire-log30,expire-log40,steady-1M,burst-1000,burst-5000"
