@@ -13,7 +13,6 @@ mod fault;
 mod limit;
 mod links;
 mod players;
-mod scripts;
 mod totals;
 mod wheels;
 

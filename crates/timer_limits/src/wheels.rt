@@ -35,23 +35,8 @@ pub fn hashed(alloc: Global) -> Result<HashedWheel, Fault>
     }
 }
 
-/// A hierarchy of wheels, with the table for every deadline.
-pub fn hier(alloc: Global) -> Result<HierWheel, Fault>
-    ensures { IfOk result (λ wheel. ⟦<HierWheel as Wheel>⟧.state wheel
-        ≡ empty_wheel (slots_of_table Table.Wide) (last_of_table Table.Wide) 0) }
-{
-    of_table(alloc, Table::Wide)
-}
-
-/// A hierarchy of wheels, with the table of a clock.
-pub fn clock(alloc: Global) -> Result<HierWheel, Fault>
-    ensures { IfOk result (λ wheel. ⟦<HierWheel as Wheel>⟧.state wheel
-        ≡ empty_wheel (slots_of_table Table.Clock) (last_of_table Table.Clock) 0) }
-{
-    of_table(alloc, Table::Clock)
-}
-
-fn of_table(alloc: Global, table: Table) -> Result<HierWheel, Fault>
+/// A hierarchy of wheels.
+pub fn hier(alloc: Global, table: Table) -> Result<HierWheel, Fault>
     ensures { IfOk result (λ wheel. ⟦<HierWheel as Wheel>⟧.state wheel
         ≡ empty_wheel (slots_of_table table) (last_of_table table) 0) }
 {
@@ -66,13 +51,14 @@ pub const FEW: usize = 8;
 
 /// Makes room for the most timers and starts them, lists them, and takes this many after one tick, at which
 /// all of them expire.
-pub fn fill<W: Wheel>(wheel: &mut W, taken: usize) -> Result<(), Fault> {
+pub fn fill<W: Wheel + Drop>(wheel: W, taken: usize) -> Result<(), Fault> {
+    let mut wheel = wheel;
     see(wheel.reserve(MOST).is_ok(), "room for 1,048,576 timers")?;
     for serial in 1..=MOST as u64 {
-        start(wheel, serial)?;
+        start(&mut wheel, serial)?;
     }
-    see_list(wheel)?;
-    expire(wheel, taken)?;
+    see_list(&wheel)?;
+    expire(&mut wheel, taken)?;
     see(
         wheel.has_due() == (taken < MOST),
         "what is left after a tick",
