@@ -101,8 +101,14 @@ fn end<W: Wheel + Drop>(rt: &impl Abort, facility: &mut Facility<W>) {
     same(rt, facility.close(), Ok(2));
     same(rt, next_out(facility), (2, false));
     same(rt, next_out(facility), (4, false));
+    is_closed(rt, facility);
+}
+
+/// Sees that neither a tick nor a close is accepted any more.
+fn is_closed<W: Wheel + Drop>(rt: &impl Abort, facility: &mut Facility<W>) {
     assert!(rt; !facility.has_out());
     same(rt, facility.tick(), Err(TickFault::Closed));
+    assert!(rt; !facility.has_out());
     same(rt, facility.close(), Err(CloseFault::Closed));
 }
 

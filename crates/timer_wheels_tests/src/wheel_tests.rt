@@ -1,4 +1,6 @@
 //! A whole use of each wheel: the schemes and their sizes are the rows.
+ghost use Rattle.std.specs.Prelude.{◌≡◌};
+
 use crate::support::same;
 use std::alloc::Global;
 use std::process::Abort;
