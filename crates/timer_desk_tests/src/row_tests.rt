@@ -1,5 +1,5 @@
-//! Rows of a desk's steps, over each wheel and over lines of two kinds: by single calls, and by one turn. What is refused
-//! for memory, `held_request` and `held_over_tick`, is played by timer_hostile.
+//! Rows of a desk's steps, over each wheel and over lines of two kinds: by single calls, and by one turn. What is
+//! refused for memory, `held_request` and `held_over_tick`, is played by timer_hostile.
 ghost use Rattle.std.specs.Prelude.{◌≡◌, [], All};
 ghost use Rattle.timer_desk.specs.Desk.{clients_of, InRange};
 

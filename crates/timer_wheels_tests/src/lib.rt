@@ -2,8 +2,8 @@
 //! of each wheel, of a facility and of a player, and the texts of errors.
 //!
 //! What each call returns is proved. That it returns no out of memory while there is some is seen here, and in
-//! timer_limits and timer_hostile, which use lists of nodes and total calls over each wheel, too. Worked examples of calls
-//! are tests under their names; those that are scripts are played by the program, in tests/program.bats.
+//! timer_limits and timer_hostile, which use lists of nodes and total calls over each wheel, too. Worked examples of
+//! calls are tests under their names; those that are scripts are played by the program, in tests/program.bats.
 #![tactic(auto)]
 
 #[cfg(test)]
