@@ -8,14 +8,21 @@ setup() {
     cd "$BATS_TEST_TMPDIR" || return
 }
 
-# gives STATUS ARGUMENTS INPUT OUTPUT [ERRORS]: a call with this input has this status and writes these texts
-gives() {
+# leaves STATUS ARGUMENTS OUTPUT ERRORS: a call that reads the file has this status and writes these texts
+leaves() {
     local status=0
-    printf '%b' "$3" > input
     # shellcheck disable=SC2086  # words
     "$TIMERS" $2 < input > output 2> errors || status=$?
-    [ "$status" -eq "$1" ] && cmp output <(printf '%b' "$4") && cmp errors <(printf '%b' "${5:-}") && return
-    echo "timers $2: status $status for $3"
+    [ "$status" -eq "$1" ] && cmp output <(printf '%b' "$3") && cmp errors <(printf '%b' "$4") && return
+    echo "timers $2: status $status"
+    return 1
+}
+
+# gives STATUS ARGUMENTS INPUT OUTPUT [ERRORS]: the same with this input
+gives() {
+    printf '%b' "$3" > input
+    leaves "$1" "$2" "$4" "${5:-}" && return
+    echo "for $3"
     return 1
 }
 
@@ -91,7 +98,7 @@ clock_row() {
         'started 0 1 1 86400\nexpired 86400 0 1 1\nend 86400 0\n'
 }
 
-@test "a bad line is named and nothing is written, with each scheme" {
+@test "bad_lines: a bad line is named and nothing is written, with each scheme" {
     local scheme
     bad() {
         for scheme in plain hashed hier clock; do gives 1 "play --scheme $scheme" "$2" "" "bad line $1\n"; done
@@ -117,7 +124,32 @@ clock_row() {
     bad 2 'close\nclose'
 }
 
-@test "clients in threads: 4 of 1000 timers if nothing else is asked for" {
+@test "cut_scripts: the front of a script ends at a line, or its last line is bad, with each scheme" {
+    local one='started 0 1 1 130\n' two='started 1 1 2 130\n' scheme length
+    local -A ends=([0]='end 0 0\n' [16]="${one}end 0 1\n" [25]="${one}end 128 1\n" [39]="$one${two}end 128 2\n"
+        [46]="$one${two}expired 130 0 1 1\nexpired 130 1 2 2\nend 130 0\n")
+    printf 'start 0 1 130 1\ntick 128\nstart 1 1 2 2\ntick 2\n' > whole
+    for scheme in plain hashed hier clock; do
+        for length in {0..46}; do
+            head -c "$length" whole > input
+            if [ -n "${ends[$length]:-}" ]; then
+                leaves 0 "play --scheme $scheme" "${ends[$length]}" ""
+            else
+                leaves 1 "play --scheme $scheme" "" "bad line $(($(wc -l < input) + 1))\n"
+            fi
+        done
+    done
+}
+
+@test "io_faults: a script of 1,048,577 bytes is too long whatever stands in it, with each scheme" {
+    local scheme line
+    for line in 'close' 'x' '' $'\001\377' 'tick 0'; do
+        { yes "$line" || true; } | head -c 1048577 > input
+        for scheme in plain hashed hier clock; do leaves 1 "play --scheme $scheme" "" "too long\n"; done
+    done
+}
+
+@test "threads: 4 clients of 1000 timers if nothing else is asked for" {
     local text
     text="$(printf 'client %s sent 1000 started 1000 expired 1000\\n' 0 1 2 3)end\n"
     gives 0 "threads" "" "$text"
@@ -231,7 +263,53 @@ shown() { gives 0 "show $1" "$2" "$(printf '%s\\n' "${@:3}")"; }
         'refused 0 6 no-such' '  now 3' '  pending: 4:12' 'stopped 0 7 4' '  now 3' 'end 3 0'
 }
 
-@test "show --counts counts the visits of a clock: 36 minutes up to 11 o'clock, and 15 more up to 11:15" {
+@test "rounds: each bucket of 8 slots holds its timers with the rounds that are left" {
+    local first='  slot 0: 2:0 4:1' starts='start 0 1 1 11\nstart 0 2 8 12\nstart 0 3 9 13\nstart 0 4 16 14\nstart 0 5 8 15\n'
+    shown "--scheme hashed --slots 8" "${starts}tick 1\ntick 7\ntick 1\ntick 7\n" \
+        'started 0 1 1 1' '  now 0' '  slot 1: 1:0' 'started 0 2 2 8' '  now 0' '  slot 0: 2:0' '  slot 1: 1:0' \
+        'started 0 3 3 9' '  now 0' '  slot 0: 2:0' '  slot 1: 1:0 3:1' \
+        'started 0 4 4 16' '  now 0' "$first" '  slot 1: 1:0 3:1' \
+        'started 0 5 5 8' '  now 0' "$first 5:0" '  slot 1: 1:0 3:1' \
+        'expired 1 0 1 11' '  now 1' "$first 5:0" '  slot 1: 3:0' \
+        'expired 8 0 2 12' 'expired 8 0 5 15' '  now 8' '  slot 0: 4:0' '  slot 1: 3:0' \
+        'expired 9 0 3 13' '  now 9' '  slot 0: 4:0' 'expired 16 0 4 14' '  now 16' 'end 16 0'
+}
+
+@test "rollover, migration, clock_face, clock_end, two_moves: each timer stands in its bucket" {
+    shown "" 'start 0 1 4096 1\ntick 4090\nstart 1 1 6 2\ntick 5\nstart 0 2 1 3\ntick 1\n' \
+        'started 0 1 1 4096' '  now 0' '  wheel 2 slot 1: 1' '  now 4090' '  wheel 2 slot 1: 1' \
+        'started 1 1 2 4096' '  now 4090' '  wheel 2 slot 1: 1 2' '  now 4095' '  wheel 2 slot 1: 1 2' \
+        'started 0 2 3 4096' '  now 4095' '  wheel 2 slot 1: 1 2 3' \
+        'expired 4096 0 1 1' 'expired 4096 1 2 2' 'expired 4096 0 3 3' '  now 4096' 'end 4096 0'
+    shown "" 'start 0 1 130 1\ntick 64\ntick 64\nstart 1 1 2 2\ntick 2\n' \
+        'started 0 1 1 130' '  now 0' '  wheel 1 slot 2: 1' '  now 64' '  wheel 1 slot 2: 1' \
+        '  now 128' '  wheel 0 slot 2: 1' 'started 1 1 2 130' '  now 128' '  wheel 0 slot 2: 1 2' \
+        'expired 130 0 1 1' 'expired 130 1 2 2' '  now 130' 'end 130 0'
+    shown "--first-tick 987870" 'start 0 1 3045 5\ntick 3041\ntick 1\ntick 3\n' \
+        'started 0 1 1 990915' '  now 987870' '  wheel 1 slot 59: 1' '  now 990911' '  wheel 1 slot 59: 1' \
+        '  now 990912' '  wheel 0 slot 3: 1' 'expired 990915 0 1 5' '  now 990915' 'end 990915 0'
+    shown "--first-tick 1152921504606846974" 'start 0 1 1 5\ntick 1\n' \
+        'started 0 1 1 1152921504606846975' '  now 1152921504606846974' '  wheel 0 slot 63: 1' \
+        'expired 1152921504606846975 0 1 5' '  now 1152921504606846975' 'end 1152921504606846975 0'
+    shown "" 'start 0 1 4161 1\ntick 4096\ntick 64\ntick 1\n' \
+        'started 0 1 1 4161' '  now 0' '  wheel 2 slot 1: 1' '  now 4096' '  wheel 1 slot 1: 1' \
+        '  now 4160' '  wheel 0 slot 1: 1' 'expired 4161 0 1 1' '  now 4161' 'end 4161 0'
+}
+
+@test "spread: a timer moves once for each wheel that it leaves, with both tables" {
+    shown "--counts --scheme clock" 'start 0 1 3661 1\ntick 3600\nstart 1 1 61 2\ntick 61\n' \
+        'started 0 1 1 3661' '  now 0' '  starts 1 moves 0 visits 0' '  hour 1: 1' \
+        '  now 3600' '  starts 1 moves 1 visits 60' '  minute 1: 1' \
+        'started 1 1 2 3661' '  now 3600' '  starts 2 moves 1 visits 60' '  minute 1: 1 2' \
+        'expired 3661 0 1 1' 'expired 3661 1 2 2' '  now 3661' '  starts 2 moves 3 visits 62' 'end 3661 0'
+    shown "--counts" 'start 0 1 3661 1\ntick 3600\nstart 1 1 61 2\ntick 61\n' \
+        'started 0 1 1 3661' '  now 0' '  starts 1 moves 0 visits 0' '  wheel 1 slot 57: 1' \
+        '  now 3600' '  starts 1 moves 0 visits 56' '  wheel 1 slot 57: 1' \
+        'started 1 1 2 3661' '  now 3600' '  starts 2 moves 0 visits 56' '  wheel 1 slot 57: 1 2' \
+        'expired 3661 0 1 1' 'expired 3661 1 2 2' '  now 3661' '  starts 2 moves 2 visits 58' 'end 3661 0'
+}
+
+@test "clock_face: show --counts counts the visits of a clock: 36 minutes up to 11 o'clock, and 15 more up to 11:15" {
     shown "--counts --scheme clock --first-tick 987870" 'start 0 1 3045 5\ntick 2130\ntick 900\ntick 15\n' \
         'started 0 1 1 990915' '  now 987870' '  starts 1 moves 0 visits 0' '  hour 11: 1' \
         '  now 990000' '  starts 1 moves 1 visits 36' '  minute 15: 1' \

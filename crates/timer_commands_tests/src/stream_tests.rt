@@ -7,7 +7,7 @@ use crate::support::{
 use std::alloc::Global;
 use std::io::ErrorKind;
 use std::process::Abort;
-use timer_commands::OptionsFault;
+use timer_commands::{OptionsFault, Scheme};
 use timer_facility::ConfigFault;
 
 static KINDS: [ErrorKind; 3] = [
@@ -227,6 +227,33 @@ fn a_writer_that_fails_once_at_any_byte_ends_the_call(rt: HostRuntime) {
             let call = (subcommand, script, size);
             write_fails(&rt, rt.alloc(), call, &text[..room]);
         }
+    }
+}
+
+#[test]
+fn a_fault_behind_the_last_byte_is_never_met(rt: HostRuntime) {
+    let text = MIGRATION_TEXT.as_bytes();
+    for fault in FAULTS {
+        let sink = Sink::new(rt.alloc()).with_fault_after(text.len(), fault);
+        let source = Source::of(MIGRATION.as_bytes());
+        let ended = call(rt.alloc(), Reading::Play, source, sink);
+        has_left(&rt, "the whole text", &ended, 0, text, b"");
+    }
+}
+
+static SCHEMES: [Scheme; 4] = [Scheme::Plain, Scheme::Hashed, Scheme::Hier, Scheme::Clock];
+
+/// The script of the row `one_timer`, whose text has 40 bytes.
+const ONE_TIMER: &str = "start 0 1 1 7\ntick 1\n";
+
+#[test]
+fn io_faults(rt: HostRuntime) {
+    for scheme in SCHEMES {
+        let play = Reading::PlayBy(scheme);
+        let row = (play, ONE_TIMER, 1, "", "read failed\n");
+        read_fails(&rt, rt.alloc(), row, 3);
+        let front = b"started 0 1 1 1\nexpi";
+        write_fails(&rt, rt.alloc(), (play, ONE_TIMER, 5), front.as_slice());
     }
 }
 

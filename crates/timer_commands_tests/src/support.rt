@@ -189,6 +189,8 @@ impl Write for Sink {
 #[derive(Clone, Copy, Debug)]
 pub enum Reading {
     Play,
+    /// The same with this scheme.
+    PlayBy(Scheme),
     Serve,
     ServeGood,
     ServeWakeups,
@@ -211,7 +213,7 @@ pub fn call(alloc: Global, subcommand: Reading, source: Source, sink: Sink) -> E
     let mut streams = Streams::new(source, sink);
     let mut faults = Watched::new(Vec::new(alloc));
     let verb = match subcommand {
-        Reading::Play => Some(Verb::Play),
+        Reading::Play | Reading::PlayBy(_) => Some(Verb::Play),
         Reading::Serve => Some(Verb::Serve {
             on_bad: OnBadLine::Stop,
             wakeups: false,
@@ -230,8 +232,12 @@ pub fn call(alloc: Global, subcommand: Reading, source: Source, sink: Sink) -> E
         }),
         Reading::Check => None,
     };
+    let options = match subcommand {
+        Reading::PlayBy(scheme) => RunOptions { scheme, ..USUAL },
+        _ => USUAL,
+    };
     let status = match verb {
-        Some(verb) => run_verb(alloc, verb, USUAL, &mut streams, &mut faults),
+        Some(verb) => run_verb(alloc, verb, options, &mut streams, &mut faults),
         None => check_script(alloc, &mut streams, &mut faults),
     };
     let Streams { reader, writer } = streams;

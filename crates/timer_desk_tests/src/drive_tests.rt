@@ -1,18 +1,11 @@
 //! A drive to its goal, by single ticks and by many at once.
 ghost use Rattle.std.specs.Prelude.{◌<◌};
 
-use crate::support::{desk, said, same, start};
+use crate::support::{desk, receives, same, submits};
 use std::alloc::Global;
 use std::process::Abort;
 use std::test::Fail;
-use timer_desk::{ClientEnd, DriveEnd, drive, drive_by, ring_line};
-
-/// Goes on only if the client receives just the words of the only timer that it has started.
-fn receives(rt: &impl Abort, end: &mut ClientEnd, serial: u64, deadline: u64) {
-    same(rt, end.receive().map(said), Some(('A', serial, deadline)));
-    same(rt, end.receive().map(said), Some(('E', serial, deadline)));
-    same(rt, end.receive(), None);
-}
+use timer_desk::{DriveEnd, drive, drive_by, ring_line};
 
 /// Drives a desk of two clients, with timers of 700 and 1,000 ticks, until each has its two words: by up to
 /// `ticks` ticks a turn, or by `drive` if that is 1. Returns the present tick after the last turn.
@@ -21,8 +14,8 @@ fn drive_two(rt: &impl Abort, alloc: Global, ticks: u64) -> Result<u64, Fail>
 {
     let (mut zero, first) = ring_line(alloc, 4, 1)?;
     let (mut one, second) = ring_line(alloc, 4, 1)?;
-    same(rt, zero.submit(start(700)), Ok(1));
-    same(rt, one.submit(start(1000)), Ok(1));
+    submits(rt, &mut zero, &[700]);
+    submits(rt, &mut one, &[1000]);
     let desk = desk(rt, alloc, vec![in alloc; first, second]?);
     let driven = if ticks == 1 {
         drive(alloc, desk, 1, 1000)
@@ -30,8 +23,8 @@ fn drive_two(rt: &impl Abort, alloc: Global, ticks: u64) -> Result<u64, Fail>
         drive_by(alloc, desk, 1, 1, ticks)
     };
     same(rt, driven.outcome, DriveEnd::Done);
-    receives(rt, &mut zero, 1, 700);
-    receives(rt, &mut one, 2, 1000);
+    receives(rt, &mut zero, &[('A', 1, 700), ('E', 1, 700)]);
+    receives(rt, &mut one, &[('A', 2, 1000), ('E', 2, 1000)]);
     Ok(driven.desk.facility().now())
 }
 
@@ -43,5 +36,15 @@ fn a_drive_that_passes_many_ticks_at_once_hands_out_the_same_words(
     same(&rt, drive_two(&rt, rt.alloc(), 1)?, 1001);
     // A turn serves both and ends at tick 700, the next at 1,000, and the one that flushes at 2,000.
     same(&rt, drive_two(&rt, rt.alloc(), 1000)?, 2000);
+    Ok(())
+}
+
+#[test]
+fn a_drive_over_an_empty_line_comes_to_its_limit(rt: HostRuntime) -> Result<(), Fail> {
+    let alloc = rt.alloc();
+    let (_end, inlet) = ring_line(alloc, 8, 1)?;
+    let driven = drive(alloc, desk(&rt, alloc, vec![in alloc; inlet]?), 1, 1000);
+    let end = (driven.outcome, driven.desk.facility().now());
+    same(&rt, end, (DriveEnd::Limit, 1000));
     Ok(())
 }

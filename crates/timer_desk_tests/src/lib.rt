@@ -9,6 +9,10 @@ mod drive_tests;
 #[cfg(test)]
 mod line_tests;
 #[cfg(test)]
+mod ring_tests;
+#[cfg(test)]
+mod row_tests;
+#[cfg(test)]
 mod support;
 #[cfg(test)]
 mod thread_tests;

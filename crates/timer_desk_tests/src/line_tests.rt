@@ -6,7 +6,9 @@ use std::alloc::Global;
 use std::process::Abort;
 use std::sync::Wait;
 use std::test::Fail;
-use timer_desk::{Inlet, Put, Taken, Unsent, locked_line, ring_line};
+use timer_base::{LAST, PlainWheel};
+use timer_desk::{Desk, Inlet, OpenFault, Put, Taken, Unsent, locked_line, ring_line};
+use timer_facility::{Config, Facility};
 
 /// Fills a line with as many requests and as many words as its capacity, after which it takes no more of either. Each
 /// comes out at the other end, in order.
@@ -61,4 +63,37 @@ fn a_locked_line_has_room_for_its_capacity_each_way(rt: HostRuntime) -> Result<(
     fill_locked(&rt, rt.alloc(), 3)?;
     fill_locked(&rt, rt.alloc(), 1000)?;
     fill_locked(&rt, rt.alloc(), 65536)
+}
+
+#[test]
+fn spent(rt: HostRuntime) -> Result<(), Fail> {
+    let (mut end, _inlet) = ring_line(rt.alloc(), 2, LAST)?;
+    same(&rt, end.submit(start(1)), Ok(LAST));
+    same(&rt, end.submit(start(1)), Err(Unsent::Spent(start(1))));
+    same(&rt, end.next_number(), LAST + 1);
+    Ok(())
+}
+
+/// Whether a desk with outboxes of this room is refused for the room.
+fn is_refused(alloc: Global, room: usize) -> Result<bool, Fail> {
+    let config = Config {
+        clients: 1,
+        capacity: 1024,
+        first_tick: 0,
+        first_serial: 1,
+        first_number: 1,
+    };
+    let wheel = PlainWheel::new(alloc, 0)?;
+    let facility = Facility::open(alloc, config.check()?, wheel);
+    let (_end, inlet) = ring_line(alloc, 2, 1)?;
+    let opened = Desk::open(alloc, facility, vec![in alloc; inlet]?, room);
+    Ok(matches!(opened, Err(OpenFault::Room(_, _))))
+}
+
+#[test]
+fn outboxes_have_room_for_2_to_65536_words(rt: HostRuntime) -> Result<(), Fail> {
+    for (room, refused) in [(1, true), (2, false), (65_536, false), (65_537, true)] {
+        same(&rt, is_refused(rt.alloc(), room)?, refused);
+    }
+    Ok(())
 }

@@ -1,7 +1,7 @@
 //! Clients in threads: beside each other, held back by their gates, and behind a lock.
 ghost use Rattle.std.specs.Prelude.{◌≡◌, IfOk, vec_len};
 
-use crate::support::{Counts, Line, Locked, Said, desk, said, same, start};
+use crate::support::{Counts, Line, Locked, Said, desk, has_clients, said, same, start, submits};
 use std::alloc::{AllocError, Global};
 use std::process::Abort;
 use std::sync::Arc;
@@ -9,8 +9,8 @@ use std::sync::atomic::{AtomicU64, Ordering};
 use std::test::Fail;
 use std::thread;
 use std::thread::Threads;
-use timer_desk::{Desk, Inlet, Step, locked_line};
-use timer_threads::{Gate, InTurn, ThreadsFault, threads_run};
+use timer_desk::{ClientEnd, Desk, Inlet, RingInlet, Step, locked_line, ring_line};
+use timer_threads::{Gate, InTurn, Open, ThreadsFault, client_work, threads_run};
 use timer_wheels::HierWheel;
 
 /// Idle turns, one after another, before a side gives up.
@@ -116,7 +116,7 @@ fn each_gate_is_asked_in_every_turn_up_to_the_limit(rt: HostRuntime) -> Result<(
         asks: Arc::try_clone(&two)?,
         every: 0,
     };
-    match threads_run(&rt, alloc, vec![in alloc; first, second]?, 1, 1000) {
+    match threads_run(&rt, alloc, vec![in alloc; first, second]?, 100, 1000) {
         Ok(_) => panic!(rt; "came to an end"),
         Err(fault) => same(&rt, fault, ThreadsFault::Client(0)),
     }
@@ -175,22 +175,92 @@ fn turn_until_four<I: Inlet + Drop>(rt: &impl Abort, desk: &mut Desk<HierWheel, 
     }
 }
 
-#[test]
-fn a_client_behind_a_lock_starts_a_timer_after_the_other(rt: HostRuntime) -> Result<(), Fail> {
-    let alloc = rt.alloc();
-    let (end, inlet) = locked_line(rt, alloc, 4, 1)?;
-    let mut desk = desk(&rt, alloc, vec![in alloc; inlet]?);
-    let line = Locked { rt, end };
-    let Ok(child) = thread::spawn(&rt, move || start_two(line)) else {
+/// A client in a thread that starts a timer after the other: the row `threads`, over one line.
+fn run_paced<I: Inlet + Drop, L: Line + Send + Drop + 'static>(
+    rt: &(impl Threads + Abort),
+    desk: &mut Desk<HierWheel, I>,
+    line: L,
+) {
+    let Ok(child) = thread::spawn(rt, move || start_two(line)) else {
         panic!(rt; "no thread");
     };
-    turn_until_four(&rt, &mut desk);
-    let Some((first, second)) = child.join(&rt) else {
+    turn_until_four(rt, desk);
+    let Some((first, second)) = child.join(rt) else {
         panic!(rt; "the client gave up");
     };
     let (at, later) = (first.0.2, second.0.2);
-    same(&rt, first, (('A', 1, at), ('E', 1, at)));
-    same(&rt, second, (('A', 2, later), ('E', 2, later)));
+    same(rt, first, (('A', 1, at), ('E', 1, at)));
+    same(rt, second, (('A', 2, later), ('E', 2, later)));
     assert!(rt; at < later);
+}
+
+#[test]
+fn threads_over_a_locked_line(rt: HostRuntime) -> Result<(), Fail> {
+    let alloc = rt.alloc();
+    let (end, inlet) = locked_line(rt, alloc, 4, 1)?;
+    let mut desk = desk(&rt, alloc, vec![in alloc; inlet]?);
+    run_paced(&rt, &mut desk, Locked { rt, end });
+    Ok(())
+}
+
+#[test]
+fn threads_over_a_ring_line(rt: HostRuntime) -> Result<(), Fail> {
+    let alloc = rt.alloc();
+    let (end, inlet) = ring_line(alloc, 4, 1)?;
+    let mut desk = desk(&rt, alloc, vec![in alloc; inlet]?);
+    run_paced(&rt, &mut desk, end);
+    Ok(())
+}
+
+/// Sends three starts for the same tick, and drops the end of the line.
+fn send_three(rt: &impl Abort, end: ClientEnd) {
+    let mut end = end;
+    submits(rt, &mut end, &[5, 5, 5]);
+}
+
+/// One turn of two clients. Returns how many words of each were flushed.
+fn turn_of_two(rt: &impl Abort, desk: &mut Desk<HierWheel, RingInlet>) -> (usize, usize) {
+    has_clients(rt, desk, 2);
+    let Ok(_) = desk.turn(&[Step::Serve(0), Step::Serve(1)]) else {
+        panic!(rt; "out of memory");
+    };
+    has_clients(rt, desk, 2);
+    let zero = desk.flush(0);
+    has_clients(rt, desk, 2);
+    let one = desk.flush(1);
+    let _ = desk.tick();
+    (zero, one)
+}
+
+/// Takes turns until client 1 has so many words. Returns how many client 0 has, and how many wait for it.
+fn turn_until(rt: &impl Abort, desk: &mut Desk<HierWheel, RingInlet>, words: usize) -> usize {
+    let mut flushed = (0usize, 0usize);
+    for _ in 0..LIMIT {
+        if flushed.1 >= words {
+            break;
+        }
+        let (zero, one) = turn_of_two(rt, desk);
+        flushed.0 = flushed.0.saturating_add(zero);
+        flushed.1 = flushed.1.saturating_add(one);
+        thread::yield_now();
+    }
+    has_clients(rt, desk, 2);
+    flushed.0.saturating_add(desk.outbox_len(0))
+}
+
+#[test]
+fn a_client_that_drops_its_end_holds_up_no_other(rt: HostRuntime) -> Result<(), Fail> {
+    let alloc = rt.alloc();
+    let (zero, first) = ring_line(alloc, 4, 1)?;
+    let (end, second) = ring_line(alloc, 4, 1)?;
+    let mut desk = desk(&rt, alloc, vec![in alloc; first, second]?);
+    send_three(&rt, zero);
+    let Ok(child) = thread::spawn(&rt, move || client_work(end, 50, LIMIT, Open)) else {
+        panic!(rt; "no thread");
+    };
+    same(&rt, turn_until(&rt, &mut desk, 100), 6);
+    let worked = child.join(&rt);
+    let counts = (worked.sent, worked.started, worked.expired, worked.failed);
+    same(&rt, counts, (50, 50, 50, false));
     Ok(())
 }

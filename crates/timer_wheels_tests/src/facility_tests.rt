@@ -1,8 +1,8 @@
-//! A whole use of a facility, call by call, and handles that name no timer of the client that gives them.
+//! A whole use of a facility, call by call.
 use crate::support::{facility, same};
 use std::process::Abort;
 use std::test::Fail;
-use timer_base::{Handle, LAST, Wheel};
+use timer_base::{Handle, Wheel};
 use timer_facility::{Answer, CloseFault, Facility, Notice, Reason, Request, TickFault};
 
 /// The answer to the client's next request, which is taken.
@@ -119,32 +119,5 @@ fn a_facility_starts_restarts_expires_and_closes(rt: HostRuntime) -> Result<(), 
     let old = start_and_replace(&rt, &mut facility);
     finds_nothing(&rt, &mut facility, old);
     end(&rt, &mut facility);
-    Ok(())
-}
-
-#[test]
-fn a_handle_of_no_timer_or_of_another_client_finds_nothing(rt: HostRuntime) -> Result<(), Fail> {
-    let mut facility = facility(rt.alloc())?;
-    let start = Request::Start {
-        interval: 5,
-        action: 7,
-    };
-    let (own, _) = made(&rt, &mut facility, 0, start);
-    let (others, _) = made(&rt, &mut facility, 1, start);
-    let handles = [
-        others,
-        Handle { serial: 0, ..own },
-        Handle {
-            serial: LAST + 1,
-            ..own
-        },
-        Handle {
-            place: usize::MAX,
-            ..own
-        },
-    ];
-    for handle in handles {
-        finds_nothing(&rt, &mut facility, handle);
-    }
     Ok(())
 }

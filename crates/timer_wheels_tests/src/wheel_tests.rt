@@ -27,7 +27,11 @@ fn timer(serial: u64, deadline: u64) -> Timer
 }
 
 /// Starts the next timer.
-fn start<W: Wheel>(rt: &impl Abort, wheel: &mut W, deadline: u64) -> Result<Handle, OutOfMemory> {
+pub fn start<W: Wheel>(
+    rt: &impl Abort,
+    wheel: &mut W,
+    deadline: u64,
+) -> Result<Handle, OutOfMemory> {
     assert!(rt; wheel.now() <= deadline);
     assert!(rt; deadline <= wheel.last_tick());
     assert!(rt; wheel.last_serial() < LAST);
@@ -51,7 +55,7 @@ fn restart<W: Wheel>(
 }
 
 /// Goes on by at most this many ticks, and returns by how many.
-fn advance<W: Wheel>(rt: &impl Abort, wheel: &mut W, most: u64) -> u64 {
+pub fn advance<W: Wheel>(rt: &impl Abort, wheel: &mut W, most: u64) -> u64 {
     assert!(rt; !wheel.has_due());
     assert!(rt; most > 0);
     assert!(rt; wheel.now() <= wheel.last_tick());
@@ -60,7 +64,7 @@ fn advance<W: Wheel>(rt: &impl Abort, wheel: &mut W, most: u64) -> u64 {
 }
 
 /// Takes the due timers, whose serials are these.
-fn expire<W: Wheel>(rt: &impl Abort, wheel: &mut W, serials: &[u64]) {
+pub fn expire<W: Wheel>(rt: &impl Abort, wheel: &mut W, serials: &[u64]) {
     for serial in serials {
         same(rt, wheel.expire().map(|timer| timer.serial), Some(*serial));
     }
