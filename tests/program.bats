@@ -264,7 +264,8 @@ shown() { gives 0 "show $1" "$2" "$(printf '%s\\n' "${@:3}")"; }
 }
 
 @test "rounds: each bucket of 8 slots holds its timers with the rounds that are left" {
-    local first='  slot 0: 2:0 4:1' starts='start 0 1 1 11\nstart 0 2 8 12\nstart 0 3 9 13\nstart 0 4 16 14\nstart 0 5 8 15\n'
+    local first='  slot 0: 2:0 4:1'
+    local starts='start 0 1 1 11\nstart 0 2 8 12\nstart 0 3 9 13\nstart 0 4 16 14\nstart 0 5 8 15\n'
     shown "--scheme hashed --slots 8" "${starts}tick 1\ntick 7\ntick 1\ntick 7\n" \
         'started 0 1 1 1' '  now 0' '  slot 1: 1:0' 'started 0 2 2 8' '  now 0' '  slot 0: 2:0' '  slot 1: 1:0' \
         'started 0 3 3 9' '  now 0' '  slot 0: 2:0' '  slot 1: 1:0 3:1' \
