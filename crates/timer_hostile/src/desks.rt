@@ -257,19 +257,20 @@ const ON_TIME: [Said; 2] = [('A', 1, 1), ('E', 1, 1)];
 /// The same if the start was held over a tick.
 const LATE: [Said; 2] = [('A', 1, 2), ('E', 1, 2)];
 
-/// A start that was refused for memory is held over a tick, and its deadline is counted from the tick at
-/// which it is accepted. Returns whether it was held.
-pub fn hold_over_tick(alloc: Global) -> Result<bool, Fault> {
+/// A start that was refused for memory is held over so many ticks, and its deadline is counted from the tick at which it
+/// is accepted. Returns whether it was held.
+pub fn hold(alloc: Global, ticks: u64) -> Result<bool, Fault> {
     let mut desk = open_in_memory(alloc, &[1], &[])?;
     let is_done = try_serve(&mut desk, 0, By::Call)?;
     same(is_held(&desk), !is_done, "what is held")?;
-    tick(&mut desk)?;
     if !is_done {
+        pass(&mut desk, ticks)?;
         serve(&mut desk, 0, By::Call)?;
-        tick(&mut desk)?;
     }
+    pass(&mut desk, 1)?;
     flush(&mut desk, 0)?;
-    see_given(desk, if is_done { &ON_TIME } else { &LATE }, &[])?;
+    let is_late = !is_done && ticks > 0;
+    see_given(desk, if is_late { &LATE } else { &ON_TIME }, &[])?;
     Ok(!is_done)
 }
 
@@ -278,6 +279,9 @@ pub fn is_held(desk: &Desk<HierWheel, MemoryInlet>) -> bool {
     desk.clients() > 0 && desk.held(0).is_some()
 }
 
-fn tick(desk: &mut Desk<HierWheel, MemoryInlet>) -> Result<(), Fault> {
-    see(desk.tick().is_ok(), "a tick")
+fn pass(desk: &mut Desk<HierWheel, MemoryInlet>, ticks: u64) -> Result<(), Fault> {
+    for _ in 0..ticks {
+        see(desk.tick().is_ok(), "a tick")?;
+    }
+    Ok(())
 }

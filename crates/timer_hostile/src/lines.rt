@@ -1,9 +1,10 @@
-//! Lines in memory and under a lock: their makers, `take` or `put` are refused.
+//! Lines in memory, under a lock and of rings: their makers, `take` or `put` are refused.
 use crate::fault::{Fault, same};
 use std::alloc::Global;
 use std::sync::Wait;
 use timer_desk::{
-    Inlet, LockedEnd, LockedInlet, MemoryInlet, Numbered, Put, Taken, Word, locked_line,
+    ClientEnd, Inlet, LockedEnd, LockedInlet, MemoryInlet, Numbered, Put, RingInlet, Taken, Word,
+    locked_line, ring_line,
 };
 use timer_facility::{Answer, Request};
 
@@ -114,4 +115,28 @@ pub fn use_locked_line<R: Wait>(rt: &R, alloc: Global) -> Result<(), Fault> {
         same(end.receive(rt), Some(word(number)), "a word")?;
     }
     same(end.receive(rt), None, "a word too many")
+}
+
+/// A ring line, at the second try if the first is refused.
+fn ring(alloc: Global) -> Result<(ClientEnd, RingInlet), Fault> {
+    for _ in 0..2 {
+        if let Ok(ends) = ring_line(alloc, ROOM, 1) {
+            return Ok(ends);
+        }
+    }
+    Err(Fault::RefusedTwice)
+}
+
+/// A ring line takes and puts.
+pub fn use_ring_line(alloc: Global) -> Result<(), Fault> {
+    let (mut end, mut inlet) = ring(alloc)?;
+    for number in 1..=8 {
+        let sent = end.submit(request(number));
+        same(sent, Ok(number), "a request that is sent")?;
+    }
+    pass(&mut inlet)?;
+    for number in 1..=8 {
+        same(end.receive(), Some(word(number)), "a word")?;
+    }
+    same(end.receive(), None, "a word too many")
 }

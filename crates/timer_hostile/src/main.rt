@@ -16,6 +16,7 @@ mod facilities;
 mod fault;
 mod lines;
 mod links;
+mod plays;
 mod room;
 mod scenario;
 mod wheels;

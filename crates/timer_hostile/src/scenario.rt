@@ -1,12 +1,13 @@
 //! The scenarios under their names.
 ghost use Rattle.std.specs.Prelude.{◌≡◌, []};
 
-use crate::desks::{By, close_in_memory, close_over_locks, hold_over_tick};
+use crate::desks::{By, close_in_memory, close_over_locks, hold};
 use crate::drives::drive_two;
 use crate::facilities::{start_and_close, start_with_room};
 use crate::fault::Fault;
-use crate::lines::{use_locked_line, use_memory_line};
+use crate::lines::{use_locked_line, use_memory_line, use_ring_line};
 use crate::links::{push_a_hundred, push_to_vec};
+use crate::plays::{Row, play_row};
 use crate::wheels::{hashed, hier, plain, start_a_hundred};
 use std::alloc::Global;
 use std::sync::Wait;
@@ -28,6 +29,7 @@ pub enum OverWheel {
     Facility,
     /// So many starts at a facility that has room for a thousand timers.
     Room(u64),
+    Play(Row),
 }
 
 /// What is played.
@@ -40,9 +42,11 @@ pub enum Scenario {
     Over(Kind, OverWheel),
     MemoryLine,
     LockedLine,
+    RingLine,
     DeskInMemory(By),
     DeskOverLocks,
-    HeldOverTick,
+    /// A start that is held over so many ticks.
+    Held(u64),
     Drive,
 }
 
@@ -53,7 +57,7 @@ const WIDE: Kind = Kind::Hier(Table::Wide);
 const CLOCK: Kind = Kind::Hier(Table::Clock);
 
 /// Each scenario with its name.
-pub static SCENARIOS: [(&str, Scenario); 29] = [
+pub static SCENARIOS: [(&str, Scenario); 34] = [
     ("pushes-vec", Scenario::VecPushes),
     ("pushes-9", Scenario::Pushes(9)),
     ("pushes-257", Scenario::Pushes(257)),
@@ -103,12 +107,23 @@ pub static SCENARIOS: [(&str, Scenario); 29] = [
         "room-clock-1000",
         Scenario::Over(CLOCK, OverWheel::Room(1000)),
     ),
+    (
+        "migration",
+        Scenario::Over(WIDE, OverWheel::Play(Row::Migration)),
+    ),
+    (
+        "stop_middle",
+        Scenario::Over(WIDE, OverWheel::Play(Row::StopMiddle)),
+    ),
+    ("close", Scenario::Over(WIDE, OverWheel::Play(Row::Close))),
     ("memory-line", Scenario::MemoryLine),
     ("locked-line", Scenario::LockedLine),
+    ("ring-line", Scenario::RingLine),
     ("memory-by-calls", Scenario::DeskInMemory(By::Call)),
     ("memory-by-turns", Scenario::DeskInMemory(By::Turn)),
     ("locks-by-calls", Scenario::DeskOverLocks),
-    ("held-over-tick", Scenario::HeldOverTick),
+    ("held_request", Scenario::Held(0)),
+    ("held_over_tick", Scenario::Held(1)),
     ("drive", Scenario::Drive),
 ];
 
@@ -121,9 +136,10 @@ pub fn play<R: AllocGlobal + Wait>(rt: &R, scenario: Scenario) -> Result<bool, F
         Scenario::Over(kind, what) => play_of_kind(alloc, kind, what)?,
         Scenario::MemoryLine => use_memory_line(alloc)?,
         Scenario::LockedLine => use_locked_line(rt, alloc)?,
+        Scenario::RingLine => use_ring_line(alloc)?,
         Scenario::DeskInMemory(by) => close_in_memory(alloc, by)?,
         Scenario::DeskOverLocks => close_over_locks(rt, alloc)?,
-        Scenario::HeldOverTick => return hold_over_tick(alloc),
+        Scenario::Held(ticks) => return hold(alloc, ticks),
         Scenario::Drive => return drive_two(alloc),
     }
     Ok(false)
@@ -147,5 +163,6 @@ fn play_over<W: Wheel + Drop>(alloc: Global, wheel: W, what: OverWheel) -> Resul
         OverWheel::Starts => start_a_hundred(wheel),
         OverWheel::Facility => start_and_close(alloc, wheel),
         OverWheel::Room(starts) => start_with_room(alloc, wheel, starts),
+        OverWheel::Play(row) => play_row(alloc, wheel, row),
     }
 }
