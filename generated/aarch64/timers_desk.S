@@ -4526,66 +4526,63 @@ timers_desk_close:
 	.type	timers_desk_end,@function
 timers_desk_end:
 	.cfi_startproc
-	ldr	x8, [x0, #8]
-	cmp	x8, #1
-	b.ne	.LBB29_11
-	ldr	x8, [x2, #8]
-	cmp	x8, #1
-	b.ne	.LBB29_11
+	ldp	x8, x9, [x2, #16]
+	ldp	x11, x10, [x0, #8]
+	cmp	x8, x1
+	ccmp	x9, x10, #0, eq
+	cset	w8, eq
+	cmp	x11, #1
+	b.ne	.LBB29_9
+	ldr	x9, [x2, #8]
+	cmp	x9, #1
+	b.ne	.LBB29_9
 	ldr	x9, [x0]
-	ldr	x11, [x2, #16]
-	mov	w12, #13
-	mov	w13, #22
-	mov	x10, x0
-	ldr	x8, [x9, #1360]
-	cmp	x8, x1
-	csel	w0, w13, w12, hi
-	cmp	x11, x1
-	b.ne	.LBB29_12
-	ldr	x11, [x2, #24]
-	ldr	x10, [x10, #16]
-	cmp	x11, x10
-	b.ne	.LBB29_12
-	cmp	x8, x1
-	b.ls	.LBB29_12
+	mov	w11, #22
+	ldr	x10, [x9, #1360]
+	cmp	x10, x1
+	mov	w10, #13
+	csel	w8, wzr, w8, ls
+	csel	w0, w11, w10, hi
+	cmp	w8, #1
+	b.ne	.LBB29_10
 	ldr	x8, [x2]
 	ldrb	w10, [x8]
-	cbz	w10, .LBB29_14
+	cbz	w10, .LBB29_12
 	cmp	w10, #2
-	b.eq	.LBB29_13
+	b.eq	.LBB29_11
 	ldrb	w10, [x8, #8]
 	cmp	w10, #1
-	b.ne	.LBB29_13
+	b.ne	.LBB29_11
 	mov	w10, #88
 	ldr	x11, [x9, #1376]
 	mul	x10, x1, x10
 	add	x11, x11, x10
 	ldrb	w12, [x11, #32]
 	cmp	w12, #1
-	b.eq	.LBB29_10
+	b.eq	.LBB29_8
 	ldr	x11, [x11, #16]
-	cbz	x11, .LBB29_15
-.LBB29_10:
+	cbz	x11, .LBB29_13
+.LBB29_8:
 	mov	w0, #24
 	ret
-.LBB29_11:
+.LBB29_9:
 	mov	w0, #1
-.LBB29_12:
+.LBB29_10:
 	ret
-.LBB29_13:
+.LBB29_11:
 	mov	w0, #22
 	ret
-.LBB29_14:
+.LBB29_12:
 	mov	w0, #23
 	ret
-.LBB29_15:
+.LBB29_13:
 	ldr	x11, [x9, #264]
 	cmp	x11, x1
-	b.ls	.LBB29_17
+	b.ls	.LBB29_15
 	add	x11, x9, x1, lsl #3
 	ldr	x11, [x11, #800]
-	cbnz	x11, .LBB29_10
-.LBB29_17:
+	cbnz	x11, .LBB29_8
+.LBB29_15:
 	ldr	x9, [x9, #1352]
 	add	x10, x9, x10
 	mov	w9, #1
@@ -4603,7 +4600,7 @@ timers_desk_end:
 	subs	x13, x11, x13
 	csneg	x12, xzr, x12, hs
 	cmp	x13, x12
-	b.ne	.LBB29_10
+	b.ne	.LBB29_8
 	ldr	x10, [x8, #32]
 	strb	w9, [x8, #72]
 	mov	w0, wzr
@@ -6482,17 +6479,18 @@ timers_desk_open:
 	.cfi_offset w30, -88
 	.cfi_offset w29, -96
 	.cfi_remember_state
-	sub	sp, sp, #448
-	ldr	x21, [x0]
+	sub	sp, sp, #432
+	ldr	x22, [x0]
 	movi	v0.2d, #0000000000000000
-	stp	xzr, xzr, [sp, #224]
+	ldr	x21, [x0, #16]
 	stp	xzr, xzr, [sp, #208]
-	ldr	x8, [x21, #1360]
-	str	xzr, [sp, #192]
+	ldr	x8, [x22, #1360]
+	stp	xzr, xzr, [sp, #192]
+	str	xzr, [sp, #176]
 	cmp	x8, x1
-	stp	q0, q0, [sp, #112]
-	stp	q0, q0, [sp, #144]
-	str	q0, [sp, #176]
+	stp	q0, q0, [sp, #96]
+	stp	q0, q0, [sp, #128]
+	str	q0, [sp, #160]
 	b.ls	.LBB39_7
 	sub	x8, x3, #16, lsl #12
 	sub	x8, x8, #1
@@ -6503,7 +6501,7 @@ timers_desk_open:
 .LBB39_7:
 	mov	w0, #13
 .LBB39_8:
-	add	sp, sp, #448
+	add	sp, sp, #432
 	.cfi_def_cfa wsp, 96
 	ldp	x20, x19, [sp, #80]
 	ldp	x22, x21, [sp, #64]
@@ -6528,9 +6526,9 @@ timers_desk_open:
 .LBB39_9:
 	.cfi_restore_state
 	mov	w8, #88
-	mul	x22, x1, x8
-	ldr	x8, [x21, #1352]
-	add	x8, x8, x22
+	mul	x24, x1, x8
+	ldr	x8, [x22, #1352]
+	add	x8, x8, x24
 	ldrb	w9, [x8, #81]
 	cbnz	w9, .LBB39_13
 	ldr	x9, [x8, #40]
@@ -6548,8 +6546,8 @@ timers_desk_open:
 	ldrb	w8, [x8, #81]
 	cbz	w8, .LBB39_50
 .LBB39_13:
-	ldr	x8, [x21, #1376]
-	add	x8, x8, x22
+	ldr	x8, [x22, #1376]
+	add	x8, x8, x24
 	ldrb	w9, [x8, #32]
 	cmp	w9, #1
 	b.eq	.LBB39_15
@@ -6558,8 +6556,8 @@ timers_desk_open:
 .LBB39_15:
 	mov	w8, #1
 .LBB39_16:
-	ldr	x9, [x21, #1352]
-	add	x9, x9, x22
+	ldr	x9, [x22, #1352]
+	add	x9, x9, x24
 	ldrb	w10, [x9, #81]
 	cbnz	w10, .LBB39_19
 	ldr	x10, [x9, #40]
@@ -6593,10 +6591,10 @@ timers_desk_open:
 	csinc	w8, w8, wzr, eq
 	tbnz	w8, #0, .LBB39_25
 .LBB39_21:
-	ldr	x8, [x21, #264]
+	ldr	x8, [x22, #264]
 	cmp	x1, x8
 	b.hs	.LBB39_26
-	add	x8, x21, x1, lsl #3
+	add	x8, x22, x1, lsl #3
 	ldr	x8, [x8, #288]
 	lsr	x9, x8, #60
 	cbz	x9, .LBB39_27
@@ -6632,11 +6630,10 @@ timers_desk_open:
 .LBB39_26:
 	mov	x8, xzr
 .LBB39_27:
-	stp	x0, x2, [sp, #88]
+	stp	x2, x1, [sp, #80]
 	sub	x0, x29, #208
-	mov	x2, x8
-	str	x1, [sp, #104]
 	mov	x1, x3
+	mov	x2, x8
 	stp	q0, q0, [x29, #-208]
 	stp	q0, q0, [x29, #-176]
 	stp	q0, q0, [x29, #-144]
@@ -6650,102 +6647,103 @@ timers_desk_open:
 	mov	w0, #4
 	b	.LBB39_8
 .LBB39_29:
-	ldr	x8, [x21, #264]
+	ldr	x8, [x22, #264]
 	cmp	x8, x1
 	b.ls	.LBB39_33
-	add	x8, x21, x1, lsl #3
+	add	x8, x22, x1, lsl #3
 	ldr	x8, [x8, #800]
 	cmp	x8, #0
 	cset	w8, ne
 	b	.LBB39_16
 .LBB39_31:
 	sub	x8, x29, #208
-	ldp	x28, x19, [x29, #-200]
+	ldp	x28, x26, [x29, #-200]
 	ldur	q0, [x8, #24]
-	ldur	x8, [x29, #-104]
+	ldp	x8, x25, [x29, #-136]
+	ldp	x20, x23, [x29, #-168]
 	mov	w0, #104
-	ldp	x24, x26, [x29, #-168]
+	ldp	x19, x27, [x29, #-152]
 	mov	w1, #8
-	str	x8, [sp, #48]
-	ldur	x8, [x29, #-96]
-	ldp	x20, x27, [x29, #-152]
+	str	x8, [sp]
+	ldur	x8, [x29, #-104]
 	str	q0, [sp, #16]
 	str	x8, [sp, #40]
+	ldur	x8, [x29, #-96]
+	str	x8, [sp, #32]
 	ldur	x8, [x29, #-88]
-	ldp	x23, x25, [x29, #-136]
-	str	x8, [sp, #56]
+	str	x8, [sp, #48]
 	ldur	x8, [x29, #-64]
-	str	x8, [sp, #64]
+	str	x8, [sp, #56]
 	ldur	x8, [x29, #-56]
-	str	x8, [sp, #80]
-	ldur	x8, [x29, #-48]
 	str	x8, [sp, #72]
+	ldur	x8, [x29, #-48]
+	str	x8, [sp, #64]
 	ldur	x8, [x29, #-24]
 	str	x8, [sp, #8]
 	bl	rattle_alloc
 	tbz	w0, #0, .LBB39_34
 	ldr	q0, [sp, #16]
 	sub	x9, x29, #208
+	ldr	x8, [sp]
 	stp	xzr, x28, [x1]
-	str	x19, [x1, #16]
 	ldur	q1, [x9, #168]
-	add	x0, sp, #112
+	add	x0, sp, #96
 	stur	q0, [x1, #24]
 	ldur	q0, [x9, #88]
+	str	x26, [x1, #16]
+	stp	x20, x23, [x1, #40]
+	stp	x19, x27, [x1, #56]
 	mov	x19, x1
-	stp	x24, x26, [x1, #40]
-	stp	x20, x27, [x1, #56]
-	stp	x23, x25, [x1, #72]
+	stp	x8, x25, [x1, #72]
 	stur	q0, [x1, #88]
 	ldur	q0, [x29, #-80]
-	ldr	x8, [x21, #1352]
-	stp	q1, q0, [sp, #208]
-	add	x8, x8, x22
+	ldr	x8, [x22, #1352]
+	stp	q1, q0, [sp, #192]
+	add	x8, x8, x24
 	ldr	x9, [x8, #80]
 	ldp	q2, q0, [x8]
-	str	x9, [sp, #192]
-	ldr	x9, [sp, #48]
-	stp	q2, q0, [sp, #112]
+	str	x9, [sp, #176]
+	ldr	x9, [sp, #40]
+	stp	q2, q0, [sp, #96]
 	ldp	q1, q0, [x8, #48]
 	str	x9, [x8]
-	ldr	x9, [sp, #40]
+	ldr	x9, [sp, #32]
 	ldr	q2, [x8, #32]
 	str	x9, [x8, #8]
-	ldr	x9, [sp, #56]
-	stp	q1, q0, [sp, #160]
-	ldr	q0, [sp, #224]
-	str	x9, [x8, #16]
-	ldr	x9, [sp, #64]
-	stur	q0, [x8, #24]
+	ldr	x9, [sp, #48]
+	stp	q1, q0, [sp, #144]
 	ldr	q0, [sp, #208]
+	str	x9, [x8, #16]
+	ldr	x9, [sp, #56]
+	stur	q0, [x8, #24]
+	ldr	q0, [sp, #192]
 	str	x9, [x8, #40]
-	ldr	x9, [sp, #80]
-	str	q2, [sp, #144]
-	str	x9, [x8, #48]
 	ldr	x9, [sp, #72]
+	str	q2, [sp, #128]
+	str	x9, [x8, #48]
+	ldr	x9, [sp, #64]
 	str	q0, [x8, #64]
 	str	x9, [x8, #56]
 	ldr	x9, [sp, #8]
 	str	x9, [x8, #80]
 	bl	core.mem.drop.f7c2f2b1c759d23d
-	ldp	x8, x20, [sp, #88]
-	mov	w0, wzr
-	ldr	x9, [x8, #16]
+	ldr	x23, [sp, #80]
 	mov	w8, #1
-	stp	x19, x8, [x20]
-	ldr	x8, [sp, #104]
-	stp	x8, x9, [x20, #16]
+	mov	w0, wzr
+	stp	x19, x8, [x23]
+	ldr	x8, [sp, #88]
+	stp	x8, x21, [x23, #16]
 	b	.LBB39_8
 .LBB39_33:
 	mov	w8, wzr
 	b	.LBB39_16
 .LBB39_34:
-	ldp	x25, x24, [sp, #40]
-	mov	x22, x20
-	ldp	x23, x21, [sp, #56]
+	mov	x22, x19
+	ldp	x25, x24, [sp, #32]
+	ldp	x19, x21, [sp, #48]
 	add	x9, x28, #256
 	ldr	q0, [sp, #16]
-	ldr	x20, [sp, #72]
+	ldr	x20, [sp, #64]
 	//APP
 	//NO_APP
 .LBB39_35:
@@ -6758,12 +6756,12 @@ timers_desk_open:
 	cbz	x8, .LBB39_38
 	fmov	x2, d0
 	mov	x0, x28
-	mov	x1, x19
+	mov	x1, x26
 	bl	rtrb.release.drop_slow.c7651cc25abcf7c3
 .LBB39_38:
 	//APP
 	//NO_APP
-	add	x9, x26, #256
+	add	x9, x23, #256
 .LBB39_39:
 	ldaxr	x8, [x9]
 	mov	w10, #1
@@ -6772,7 +6770,7 @@ timers_desk_open:
 	//APP
 	//NO_APP
 	cbz	x8, .LBB39_42
-	mov	x0, x26
+	mov	x0, x23
 	mov	x1, x22
 	mov	x2, x27
 	bl	rtrb.release.drop_slow.f92e75bf9f13c442
@@ -6789,7 +6787,7 @@ timers_desk_open:
 	//APP
 	//NO_APP
 	cbz	x8, .LBB39_46
-	mov	x2, x23
+	mov	x2, x19
 	mov	x1, x25
 	bl	rtrb.release.drop_slow.c7651cc25abcf7c3
 .LBB39_46:
@@ -6804,7 +6802,7 @@ timers_desk_open:
 	cbnz	w11, .LBB39_47
 	//APP
 	//NO_APP
-	ldr	x1, [sp, #80]
+	ldr	x1, [sp, #72]
 	cbz	x8, .LBB39_28
 	mov	x2, x20
 	bl	rtrb.release.drop_slow.f92e75bf9f13c442
@@ -8430,36 +8428,33 @@ timers_desk_serve_all:
 	.type	timers_desk_settle,@function
 timers_desk_settle:
 	.cfi_startproc
-	ldr	x8, [x0, #8]
+	ldp	x8, x9, [x2, #16]
+	cmp	x8, x1
+	ldp	x8, x10, [x0, #8]
+	ccmp	x9, x10, #0, eq
+	cset	w9, eq
 	cmp	x8, #1
-	b.ne	.LBB45_9
+	b.ne	.LBB45_7
 	ldr	x8, [x2, #8]
 	cmp	x8, #1
-	b.ne	.LBB45_9
+	b.ne	.LBB45_7
 	ldr	x8, [x0]
-	ldr	x11, [x2, #16]
-	mov	w12, #13
-	mov	w13, #22
-	mov	x10, x0
-	ldr	x9, [x8, #1360]
-	cmp	x9, x1
-	csel	w0, w13, w12, hi
-	cmp	x11, x1
-	b.ne	.LBB45_10
-	ldr	x11, [x2, #24]
-	ldr	x10, [x10, #16]
-	cmp	x11, x10
-	b.ne	.LBB45_10
-	cmp	x9, x1
-	b.ls	.LBB45_10
+	mov	w11, #22
+	ldr	x10, [x8, #1360]
+	cmp	x10, x1
+	mov	w10, #13
+	csel	w9, wzr, w9, ls
+	csel	w0, w11, w10, hi
+	cmp	w9, #1
+	b.ne	.LBB45_8
 	ldr	x9, [x2]
 	ldrb	w10, [x9]
-	cbz	w10, .LBB45_12
+	cbz	w10, .LBB45_10
 	cmp	w10, #2
-	b.eq	.LBB45_11
+	b.eq	.LBB45_9
 	ldrb	w9, [x9, #8]
 	cmp	w9, #1
-	b.ne	.LBB45_11
+	b.ne	.LBB45_9
 	mov	w9, #88
 	ldr	x8, [x8, #1352]
 	mov	w0, wzr
@@ -8481,14 +8476,14 @@ timers_desk_settle:
 	add	x8, x11, x10
 	str	x8, [x3]
 	ret
-.LBB45_9:
+.LBB45_7:
 	mov	w0, #1
-.LBB45_10:
+.LBB45_8:
 	ret
-.LBB45_11:
+.LBB45_9:
 	mov	w0, #22
 	ret
-.LBB45_12:
+.LBB45_10:
 	mov	w0, #23
 	ret
 .Lfunc_end45:

@@ -4714,23 +4714,23 @@ timers_desk_close:
 	.type	timers_desk_end,@function
 timers_desk_end:
 	.cfi_startproc
-	movl	$1, %eax
-	cmpq	$1, 8(%rdi)
-	jne	.LBB29_15
-	cmpq	$1, 8(%rdx)
-	jne	.LBB29_15
 	movq	24(%rdx), %rax
 	movq	16(%rdx), %r8
 	xorq	%rsi, %r8
 	xorq	16(%rdi), %rax
 	orq	%r8, %rax
-	sete	%r9b
+	sete	%r8b
+	movl	$1, %eax
+	cmpq	$1, 8(%rdi)
+	jne	.LBB29_15
+	cmpq	$1, 8(%rdx)
+	jne	.LBB29_15
 	movq	(%rdi), %rdi
 	xorl	%eax, %eax
 	cmpq	%rsi, 1360(%rdi)
-	seta	%r8b
-	andb	%r8b, %r9b
-	cmpb	$1, %r9b
+	seta	%r9b
+	andb	%r9b, %r8b
+	cmpb	$1, %r8b
 	jne	.LBB29_3
 	movq	(%rdx), %rdx
 	movzbl	(%rdx), %eax
@@ -4741,7 +4741,7 @@ timers_desk_end:
 	movl	$22, %eax
 	retq
 .LBB29_3:
-	movb	%r8b, %al
+	movb	%r9b, %al
 	leal	(%rax,%rax,8), %eax
 	addl	$13, %eax
 	retq
@@ -4845,19 +4845,20 @@ timers_desk_end_all:
 	shll	$12, %r10d
 	movq	16(%rdi), %rdi
 	leaq	-1(%rdx), %r11
-	addq	%r10, %rsi
-	addq	$24, %rsi
-	movb	$1, %r10b
+	addq	%rsi, %r10
+	addq	$24, %r10
+	movb	$1, %sil
 	xorl	%ebp, %ebp
 	xorl	%r9d, %r9d
 	xorl	%r14d, %r14d
 	xorl	%ebx, %ebx
 .LBB30_4:
-	movl	%r9d, -12(%rsp)
+	movl	%r9d, -16(%rsp)
+	movl	%esi, -12(%rsp)
 	imulq	$88, %rbp, %r12
 	movq	%rbp, %r13
 	shlq	$5, %r13
-	addq	%rsi, %r13
+	addq	%r10, %r13
 	movq	%rbp, %r15
 	jmp	.LBB30_8
 	.p2align	4
@@ -4902,13 +4903,13 @@ timers_desk_end_all:
 	movq	1352(%r8), %rax
 	cmpb	$0, 81(%rax,%r12)
 	jne	.LBB30_7
-	movq	40(%rax,%r12), %r9
+	movq	40(%rax,%r12), %rsi
 	#APP
 	#NO_APP
-	movq	256(%r9), %r9
+	movq	256(%rsi), %rsi
 	#APP
 	#NO_APP
-	testq	%r9, %r9
+	testq	%rsi, %rsi
 	je	.LBB30_24
 	movb	$1, 81(%rax,%r12)
 	jmp	.LBB30_7
@@ -4932,7 +4933,6 @@ timers_desk_end_all:
 .LBB30_22:
 	movq	1352(%r8), %r9
 	movb	$1, 80(%r9,%r12)
-	movq	%rsi, -8(%rsp)
 	movq	(%r9,%r12), %rsi
 	#APP
 	#NO_APP
@@ -4940,16 +4940,15 @@ timers_desk_end_all:
 	#APP
 	#NO_APP
 	movq	%rsi, 32(%r9,%r12)
-	movl	%r10d, -16(%rsp)
+	movq	%r10, -8(%rsp)
 	movq	16(%r9,%r12), %r10
 	addq	%r10, %r10
 	negq	%r10
 	xorl	%r11d, %r11d
 	subq	24(%r9,%r12), %rsi
 	cmovbq	%r10, %r11
-	movl	-16(%rsp), %r10d
+	movq	-8(%rsp), %r10
 	cmpq	%r11, %rsi
-	movq	-8(%rsp), %rsi
 	leaq	-1(%rdx), %r11
 	jne	.LBB30_6
 	movb	$1, 72(%rbp)
@@ -4969,7 +4968,7 @@ timers_desk_end_all:
 .LBB30_26:
 	leaq	1(%r15), %rbp
 	movb	$1, %bl
-	xorl	%r10d, %r10d
+	xorl	%esi, %esi
 	movl	%eax, %r9d
 	movq	%r15, %r14
 	cmpq	%r15, %r11
@@ -4977,8 +4976,8 @@ timers_desk_end_all:
 	jmp	.LBB30_30
 .LBB30_27:
 	movq	%r14, %r15
-	movl	-12(%rsp), %eax
-	testb	$1, %r10b
+	movl	-16(%rsp), %eax
+	testb	$1, -12(%rsp)
 	je	.LBB30_30
 .LBB30_29:
 	xorl	%eax, %eax
@@ -6703,7 +6702,8 @@ timers_desk_open:
 	.cfi_offset %r14, -32
 	.cfi_offset %r15, -24
 	.cfi_offset %rbp, -16
-	movq	(%rdi), %rbp
+	movq	16(%rdi), %rbp
+	movq	(%rdi), %rbx
 	xorps	%xmm0, %xmm0
 	movaps	%xmm0, 144(%rsp)
 	movaps	%xmm0, 128(%rsp)
@@ -6714,98 +6714,98 @@ timers_desk_open:
 	movaps	%xmm0, 416(%rsp)
 	movq	$0, 432(%rsp)
 	movl	$13, %eax
-	cmpq	%rsi, 1360(%rbp)
+	cmpq	%rsi, 1360(%rbx)
 	jbe	.LBB39_36
-	leaq	-65537(%rcx), %r8
+	leaq	-65537(%rcx), %rdi
 	movl	$19, %eax
-	cmpq	$-65536, %r8
+	cmpq	$-65536, %rdi
 	jb	.LBB39_36
-	movq	1352(%rbp), %rax
-	imulq	$88, %rsi, %rbx
-	cmpb	$0, 81(%rax,%rbx)
+	movq	1352(%rbx), %rax
+	imulq	$88, %rsi, %r15
+	cmpb	$0, 81(%rax,%r15)
 	jne	.LBB39_7
-	movq	40(%rax,%rbx), %r8
+	movq	40(%rax,%r15), %rdi
+	#APP
+	#NO_APP
+	movq	256(%rdi), %rdi
+	#APP
+	#NO_APP
+	testq	%rdi, %rdi
+	je	.LBB39_11
+	movb	$1, 81(%rax,%r15)
+	jmp	.LBB39_7
+.LBB39_11:
+	cmpb	$0, 81(%rax,%r15)
+	je	.LBB39_12
+.LBB39_7:
+	movq	1376(%rbx), %rdi
+	movb	$1, %al
+	testb	$1, 32(%rdi,%r15)
+	jne	.LBB39_14
+	cmpq	$0, 16(%rdi,%r15)
+	jne	.LBB39_14
+	cmpq	%rsi, 264(%rbx)
+	jbe	.LBB39_10
+	cmpq	$0, 800(%rbx,%rsi,8)
+	setne	%al
+	jmp	.LBB39_14
+.LBB39_10:
+	xorl	%eax, %eax
+.LBB39_14:
+	movq	1352(%rbx), %rdi
+	cmpb	$0, 81(%rdi,%r15)
+	jne	.LBB39_17
+	movq	40(%rdi,%r15), %r8
 	#APP
 	#NO_APP
 	movq	256(%r8), %r8
 	#APP
 	#NO_APP
 	testq	%r8, %r8
-	je	.LBB39_11
-	movb	$1, 81(%rax,%rbx)
-	jmp	.LBB39_7
-.LBB39_11:
-	cmpb	$0, 81(%rax,%rbx)
-	je	.LBB39_12
-.LBB39_7:
-	movq	1376(%rbp), %r8
-	movb	$1, %al
-	testb	$1, 32(%r8,%rbx)
-	jne	.LBB39_14
-	cmpq	$0, 16(%r8,%rbx)
-	jne	.LBB39_14
-	cmpq	%rsi, 264(%rbp)
-	jbe	.LBB39_10
-	cmpq	$0, 800(%rbp,%rsi,8)
-	setne	%al
-	jmp	.LBB39_14
-.LBB39_10:
-	xorl	%eax, %eax
-.LBB39_14:
-	movq	1352(%rbp), %r8
-	cmpb	$0, 81(%r8,%rbx)
-	jne	.LBB39_17
-	movq	40(%r8,%rbx), %r9
-	#APP
-	#NO_APP
-	movq	256(%r9), %r9
-	#APP
-	#NO_APP
-	testq	%r9, %r9
 	je	.LBB39_17
-	movb	$1, 81(%r8,%rbx)
+	movb	$1, 81(%rdi,%r15)
 .LBB39_17:
-	cmpb	$1, 80(%r8,%rbx)
+	cmpb	$1, 80(%rdi,%r15)
 	jne	.LBB39_19
-	movq	16(%r8,%rbx), %r9
-	movq	32(%r8,%rbx), %r10
-	addq	%r9, %r9
-	negq	%r9
-	xorl	%r11d, %r11d
-	subq	24(%r8,%rbx), %r10
-	cmovaeq	%r11, %r9
-	cmpq	%r9, %r10
+	movq	16(%rdi,%r15), %r8
+	movq	32(%rdi,%r15), %r9
+	addq	%r8, %r8
+	negq	%r8
+	xorl	%r10d, %r10d
+	subq	24(%rdi,%r15), %r9
+	cmovaeq	%r10, %r8
+	cmpq	%r8, %r9
 	jmp	.LBB39_20
 .LBB39_19:
-	movq	(%r8,%rbx), %r9
+	movq	(%rdi,%r15), %r8
 	#APP
 	#NO_APP
-	movq	128(%r9), %r9
+	movq	128(%r8), %r8
 	#APP
 	#NO_APP
-	movq	%r9, 32(%r8,%rbx)
-	movq	16(%r8,%rbx), %r10
-	addq	%r10, %r10
-	negq	%r10
-	xorl	%r11d, %r11d
-	subq	24(%r8,%rbx), %r9
-	cmovaeq	%r11, %r10
-	cmpq	%r10, %r9
+	movq	%r8, 32(%rdi,%r15)
+	movq	16(%rdi,%r15), %r9
+	addq	%r9, %r9
+	negq	%r9
+	xorl	%r10d, %r10d
+	subq	24(%rdi,%r15), %r8
+	cmovaeq	%r10, %r9
+	cmpq	%r9, %r8
 .LBB39_20:
-	sete	%r9b
-	incb	%r9b
-	cmpb	$0, 81(%r8,%rbx)
-	movzbl	%r9b, %r9d
-	cmovel	%r11d, %r9d
-	movb	%r9b, 81(%r8,%rbx)
-	cmpb	$2, %r9b
-	setne	%r8b
-	orb	%r8b, %al
+	sete	%r8b
+	incb	%r8b
+	cmpb	$0, 81(%rdi,%r15)
+	movzbl	%r8b, %r8d
+	cmovel	%r10d, %r8d
+	movb	%r8b, 81(%rdi,%r15)
+	cmpb	$2, %r8b
+	setne	%dil
+	orb	%dil, %al
 	movl	$24, %eax
 	jne	.LBB39_36
-	cmpq	264(%rbp), %rsi
+	cmpq	264(%rbx), %rsi
 	jae	.LBB39_22
-	movq	288(%rbp,%rsi,8), %r8
+	movq	288(%rbx,%rsi,8), %r8
 	movq	%r8, %rax
 	shrq	$60, %rax
 	movl	$14, %eax
@@ -6814,7 +6814,6 @@ timers_desk_open:
 .LBB39_22:
 	xorl	%r8d, %r8d
 .LBB39_24:
-	movq	%rdi, 112(%rsp)
 	movq	%rsi, 8(%rsp)
 	movq	%rdx, 120(%rsp)
 	movaps	%xmm0, 336(%rsp)
@@ -6869,36 +6868,37 @@ timers_desk_open:
 	.cfi_offset %r14, -32
 	.cfi_offset %r15, -24
 	movq	168(%rsp), %rax
+	movq	%rax, 24(%rsp)
+	movq	176(%rsp), %rax
 	movq	%rax, 16(%rsp)
-	movq	176(%rsp), %r14
 	movups	184(%rsp), %xmm0
 	movaps	%xmm0, 464(%rsp)
 	movq	184(%rsp), %rax
-	movq	%rax, 72(%rsp)
+	movq	%rax, 80(%rsp)
 	movq	200(%rsp), %rax
-	movq	%rax, 96(%rsp)
+	movq	%rax, 104(%rsp)
 	movq	208(%rsp), %r13
-	movq	216(%rsp), %r15
+	movq	216(%rsp), %r14
 	movaps	224(%rsp), %xmm0
 	movaps	%xmm0, 448(%rsp)
 	movq	224(%rsp), %rax
-	movq	%rax, 80(%rsp)
-	movq	240(%rsp), %rax
 	movq	%rax, 88(%rsp)
+	movq	240(%rsp), %rax
+	movq	%rax, 96(%rsp)
 	movq	264(%rsp), %rax
-	movq	%rax, 24(%rsp)
-	movq	272(%rsp), %rax
-	movq	%rax, 40(%rsp)
-	movq	280(%rsp), %rax
 	movq	%rax, 32(%rsp)
-	movq	304(%rsp), %rax
+	movq	272(%rsp), %rax
 	movq	%rax, 48(%rsp)
-	movq	312(%rsp), %rax
-	movq	%rax, 64(%rsp)
-	movq	320(%rsp), %rax
+	movq	280(%rsp), %rax
+	movq	%rax, 40(%rsp)
+	movq	304(%rsp), %rax
 	movq	%rax, 56(%rsp)
+	movq	312(%rsp), %rax
+	movq	%rax, 72(%rsp)
+	movq	320(%rsp), %rax
+	movq	%rax, 64(%rsp)
 	movq	344(%rsp), %rax
-	movq	%rax, 104(%rsp)
+	movq	%rax, 112(%rsp)
 	movl	$104, %edi
 	movl	$8, %esi
 	callq	rattle_alloc@PLT
@@ -6906,18 +6906,19 @@ timers_desk_open:
 	je	.LBB39_26
 	movq	%rdx, %r12
 	movq	$0, (%rdx)
-	movq	16(%rsp), %rax
+	movq	24(%rsp), %rax
 	movq	%rax, 8(%rdx)
-	movq	%r14, 16(%rdx)
+	movq	16(%rsp), %rax
+	movq	%rax, 16(%rdx)
 	movaps	464(%rsp), %xmm0
 	movups	%xmm0, 24(%rdx)
-	movq	96(%rsp), %rax
+	movq	104(%rsp), %rax
 	movq	%rax, 40(%rdx)
 	movq	%r13, 48(%rdx)
-	movq	%r15, 56(%rdx)
+	movq	%r14, 56(%rdx)
 	movaps	448(%rsp), %xmm0
 	movups	%xmm0, 64(%rdx)
-	movq	88(%rsp), %rax
+	movq	96(%rsp), %rax
 	movq	%rax, 80(%rdx)
 	movups	248(%rsp), %xmm0
 	movups	%xmm0, 88(%rdx)
@@ -6925,66 +6926,64 @@ timers_desk_open:
 	movaps	%xmm0, 144(%rsp)
 	movups	328(%rsp), %xmm0
 	movaps	%xmm0, 128(%rsp)
-	movq	1352(%rbp), %rax
-	movq	80(%rax,%rbx), %rcx
+	movq	1352(%rbx), %rax
+	movq	80(%rax,%r15), %rcx
 	movq	%rcx, 432(%rsp)
-	movups	64(%rax,%rbx), %xmm0
+	movups	64(%rax,%r15), %xmm0
 	movaps	%xmm0, 416(%rsp)
-	movups	(%rax,%rbx), %xmm0
-	movups	16(%rax,%rbx), %xmm1
-	movups	32(%rax,%rbx), %xmm2
-	movups	48(%rax,%rbx), %xmm3
+	movups	(%rax,%r15), %xmm0
+	movups	16(%rax,%r15), %xmm1
+	movups	32(%rax,%r15), %xmm2
+	movups	48(%rax,%r15), %xmm3
 	movaps	%xmm3, 400(%rsp)
 	movaps	%xmm2, 384(%rsp)
 	movaps	%xmm1, 368(%rsp)
 	movaps	%xmm0, 352(%rsp)
-	movq	24(%rsp), %rcx
-	movq	%rcx, (%rax,%rbx)
-	movq	40(%rsp), %rcx
-	movq	%rcx, 8(%rax,%rbx)
 	movq	32(%rsp), %rcx
-	movq	%rcx, 16(%rax,%rbx)
-	movaps	144(%rsp), %xmm0
-	movups	%xmm0, 24(%rax,%rbx)
+	movq	%rcx, (%rax,%r15)
 	movq	48(%rsp), %rcx
-	movq	%rcx, 40(%rax,%rbx)
-	movq	64(%rsp), %rcx
-	movq	%rcx, 48(%rax,%rbx)
+	movq	%rcx, 8(%rax,%r15)
+	movq	40(%rsp), %rcx
+	movq	%rcx, 16(%rax,%r15)
+	movaps	144(%rsp), %xmm0
+	movups	%xmm0, 24(%rax,%r15)
 	movq	56(%rsp), %rcx
-	movq	%rcx, 56(%rax,%rbx)
+	movq	%rcx, 40(%rax,%r15)
+	movq	72(%rsp), %rcx
+	movq	%rcx, 48(%rax,%r15)
+	movq	64(%rsp), %rcx
+	movq	%rcx, 56(%rax,%r15)
 	movaps	128(%rsp), %xmm0
-	movups	%xmm0, 64(%rax,%rbx)
-	movq	104(%rsp), %rcx
-	movq	%rcx, 80(%rax,%rbx)
+	movups	%xmm0, 64(%rax,%r15)
+	movq	112(%rsp), %rcx
+	movq	%rcx, 80(%rax,%r15)
 	leaq	352(%rsp), %rdi
 	callq	core.mem.drop.f7c2f2b1c759d23d
-	movq	112(%rsp), %rax
-	movq	16(%rax), %rcx
-	movq	120(%rsp), %rdx
-	movq	%r12, (%rdx)
-	movq	$1, 8(%rdx)
+	movq	120(%rsp), %rcx
+	movq	%r12, (%rcx)
+	movq	$1, 8(%rcx)
 	movq	8(%rsp), %rax
-	movq	%rax, 16(%rdx)
-	movq	%rcx, 24(%rdx)
+	movq	%rax, 16(%rcx)
+	movq	%rbp, 24(%rcx)
 	xorl	%eax, %eax
 	jmp	.LBB39_36
 .LBB39_26:
-	movq	%r15, 8(%rsp)
-	movq	24(%rsp), %rbp
-	movq	40(%rsp), %r15
-	movq	32(%rsp), %r12
+	movq	16(%rsp), %rsi
+	movq	%r14, 8(%rsp)
+	movq	32(%rsp), %rbp
+	movq	48(%rsp), %r15
+	movq	40(%rsp), %r12
 	#APP
 	#NO_APP
 	movl	$1, %eax
-	movq	16(%rsp), %rdi
+	movq	24(%rsp), %rdi
 	xchgq	%rax, 256(%rdi)
 	movl	$1, %ebx
 	#APP
 	#NO_APP
 	testq	%rax, %rax
 	je	.LBB39_28
-	movq	%r14, %rsi
-	movq	72(%rsp), %rdx
+	movq	80(%rsp), %rdx
 	callq	rtrb.release.drop_slow.c7651cc25abcf7c3
 .LBB39_28:
 	#APP
@@ -6996,7 +6995,7 @@ timers_desk_open:
 	je	.LBB39_30
 	movq	%r13, %rdi
 	movq	8(%rsp), %rsi
-	movq	80(%rsp), %rdx
+	movq	88(%rsp), %rdx
 	callq	rtrb.release.drop_slow.f92e75bf9f13c442
 .LBB39_30:
 	#APP
@@ -7015,13 +7014,13 @@ timers_desk_open:
 .LBB39_32:
 	#APP
 	#NO_APP
-	movq	48(%rsp), %rdi
+	movq	56(%rsp), %rdi
 	xchgq	%rbx, 256(%rdi)
 	#APP
 	#NO_APP
 	testq	%rbx, %rbx
-	movq	56(%rsp), %rdx
-	movq	64(%rsp), %rsi
+	movq	64(%rsp), %rdx
+	movq	72(%rsp), %rsi
 	je	.LBB39_34
 	callq	rtrb.release.drop_slow.f92e75bf9f13c442
 	jmp	.LBB39_34
@@ -8692,23 +8691,23 @@ timers_desk_serve_all:
 	.type	timers_desk_settle,@function
 timers_desk_settle:
 	.cfi_startproc
-	movl	$1, %eax
-	cmpq	$1, 8(%rdi)
-	jne	.LBB45_10
-	cmpq	$1, 8(%rdx)
-	jne	.LBB45_10
 	movq	24(%rdx), %rax
 	movq	16(%rdx), %r8
 	xorq	%rsi, %r8
 	xorq	16(%rdi), %rax
 	orq	%r8, %rax
-	sete	%r9b
+	sete	%r8b
+	movl	$1, %eax
+	cmpq	$1, 8(%rdi)
+	jne	.LBB45_10
+	cmpq	$1, 8(%rdx)
+	jne	.LBB45_10
 	movq	(%rdi), %rdi
 	xorl	%eax, %eax
 	cmpq	%rsi, 1360(%rdi)
-	seta	%r8b
-	andb	%r8b, %r9b
-	cmpb	$1, %r9b
+	seta	%r9b
+	andb	%r9b, %r8b
+	cmpb	$1, %r8b
 	jne	.LBB45_6
 	movq	(%rdx), %rdx
 	movzbl	(%rdx), %eax
@@ -8720,7 +8719,7 @@ timers_desk_settle:
 .LBB45_10:
 	retq
 .LBB45_6:
-	movb	%r8b, %al
+	movb	%r9b, %al
 	leal	(%rax,%rax,8), %eax
 	addl	$13, %eax
 	retq
