@@ -1,8 +1,8 @@
 //! The two machine words by which a struct of C owns a value on the heap.
 //!
-//! All code that touches a raw pointer is here and in `RawBox`. A cell whose mark is `HELD` owns the value at its
-//! address and the right to free its block; a cell with any other mark owns nothing, so that a struct whose bytes are
-//! all 0 is an empty cell. Its ghost field is the value's state.
+//! Code that touches a raw pointer is here, in `RawBox`, and in the cast by which each struct of C lends its cell. A
+//! cell whose mark is `HELD` owns the value at its address and the right to free its block. One with any other mark
+//! owns nothing, so a struct whose bytes are all 0 is an empty cell. The ghost field is the value's state.
 ghost use Rattle.std.specs.Prelude.{◌≡◌, true, false, None, IfSome};
 ghost use Rattle.std.specs.Borrow.{Lends, LendsIf, sem};
 ghost use Rattle.timer_ffi_base.specs.Cells.{is_open};

@@ -39,7 +39,7 @@ Fields are separated by exactly one space. Every line ends with LF, the last one
 included. There is no CR, no tab, no comment and no empty line, and no space at either
 end of a line. Words are in lower case. A number is decimal, 0 to 1152921504606846975,
 with no sign and no leading zero. A script has at most 1048576 bytes. The first line
-that breaks a rule is reported as `bad line L`, counted from 1, and nothing is played.
+that breaks a rule is reported as `bad line L`, counted from 1, and nothing is written.
 `timers check` reports every bad line, with its column and the reason.
 A well-formed line that is refused, such as a start with interval 0, is played, and
 its refusal is written.
