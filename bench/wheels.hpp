@@ -59,8 +59,8 @@ struct Nodes {
   void release(uint32_t at) { Node &n = nodes[at]; n.timer.serial = 0; n.after = vacant; vacant = at; --count; }
 };
 
-// The product's layout: links in one array of 8 bytes a place, which begins with the roots of the lists, and timers
-// of 40 bytes in an array of their own. Free places are linked through the same array. 48 bytes a timer.
+// As the product, links in one array of 8 bytes a place, which begins with the roots of the lists, and timers in an
+// array of their own, of 40 bytes (the product's: 56). Free places are linked through the first. 48 bytes a timer.
 template <uint32_t LISTS> struct Apart {
   struct Side { uint32_t before, after; };
   std::vector<Side> sides;

@@ -6,9 +6,8 @@
 #define rattle_realloc timers_heap_realloc
 #define rattle_dealloc timers_heap_dealloc
 
-/* After each function of the API. A shared object that embeds the library doesn't export its functions, unless they were
- * compiled with -DTIMERS_SHARED. So is the shared object that is the library, and with it the archive that Meson makes of
- * both kinds. */
+/* After each function of the API. A shared object that embeds the library exports them only if they were compiled with
+ * -DTIMERS_SHARED, as are those of the library's own shared object, and of Meson's archive of both kinds. */
 #ifdef TIMERS_SHARED
 #define API(function)
 #else

@@ -67,9 +67,9 @@ def column(line):
 def changed():
     """The changed lines."""
     for line in CHANGED:
-        for at in range(1, len(line)):
+        for at in range(len(line)):
             front, rest = line[:at], line[at:]
-            yield from (front, front + rest[1:])
+            yield from (front or rest, front + rest[1:])
             for byte in BYTES:
                 yield from (front + bytes([byte]) + rest, front + bytes([byte]) + rest[1:])
 

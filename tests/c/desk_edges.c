@@ -166,6 +166,17 @@ static void frees(void)
 
 #ifdef REFUSE
 /* Once room was made, neither a client's calls nor the owner's turns ask for memory: starts, restarts, stops and ticks. */
+static enum timers_desk_status request(struct timers_line *l, int kind, struct timers_handle handle, uint64_t now, uint64_t *n)
+{
+	switch (kind % 5) {
+	case 0: return timers_line_start(l, 3, 1, n);
+	case 1: return timers_line_restart(l, handle, 5, 2, n);
+	case 2: return timers_line_start_at(l, now + 3, 1, n);
+	case 3: return timers_line_restart_at(l, handle, now + 5, 2, n);
+	default: return timers_line_stop(l, handle, n);
+	}
+}
+
 static void turns_ask_for_nothing(void)
 {
 	struct timers_desk d = TIMERS_DESK_INIT;
@@ -178,8 +189,7 @@ static void turns_ask_for_nothing(void)
 	for (int round = 0; round < 100; round++) {
 		long before = asked, held = blocks;
 		for (int i = 0; i < 6; i++) {       /* more than the line takes */
-			enum timers_desk_status sent = i % 3 == 0 ? timers_line_start(&l, 3, 1, &n)
-				: i % 3 == 1 ? timers_line_restart(&l, w.handle, 5, 2, &n) : timers_line_stop(&l, w.handle, &n);
+			enum timers_desk_status sent = request(&l, i + round, w.handle, timers_desk_now(&d), &n);
 			CHECK(sent == TIMERS_DESK_LINE_FULL || (sent == TIMERS_DESK_OK && i < 4));
 		}
 		CHECK(!timers_line_ended(&l) && !timers_line_abandoned(&l) && !timers_desk_line_freed(&d, 0));

@@ -72,7 +72,7 @@ static void *read_all(void *unused)
 	wrong += timers_wakeup(t) != 10 || timers_next(t) != 10;
 	wrong += timers_counts(t, &counts) != TIMERS_OK || counts.starts != TIMERS;
 	wrong += timers_version() != TIMERS_VERSION_NUMBER;
-	wrong += timers_desk_now(&all->desk) != 7 || timers_desk_len(&all->desk) != 3;
+	wrong += timers_desk_now(&all->desk) != 7 || timers_desk_len(&all->desk) != 3 || timers_desk_pending(&all->desk, 0) != 3;
 	wrong += timers_desk_wakeup(&all->desk) != 12 || timers_desk_next(&all->desk) != 12;
 	wrong += timers_desk_outbox(&all->desk, 0) != 3 || timers_desk_outbox(&all->desk, 1) != 0;
 	wrong += timers_line_ended(&all->lines[0]) || timers_line_ended(&all->lines[1]);
