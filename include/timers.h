@@ -170,7 +170,8 @@
  *
  *     A call has to run to its end. One that is left by a longjmp out of a signal handler, or by an
  *     asynchronous cancellation, may leave the timers half changed: then no call may use them any more,
- *     timers_free included. No call calls back, so that no other longjmp and no exception leaves one.
+ *     timers_free included. So does one that an allocator's function (timers_set_allocator) leaves by a longjmp
+ *     or an exception: they must return. No call calls back otherwise.
  *
  *     A forked child has a copy of the timers, with the same handles. If the process had a single thread, the
  *     child may make all calls. If it had more, the child may make those that neither allocate nor free, on
@@ -291,10 +292,10 @@ struct timers_counters {
 	uint64_t visits;     /* buckets that ticks came to, empty ones too: see timers_counts */
 };
 
-/* From now on the library calls these functions instead of malloc, realloc and free, and they must behave alike.
- * Each returns a block that is aligned for every type, or NULL if there is no memory, and then leaves the one that
- * it was given as it was. `resize` may be NULL: a block that grows is then a new one, into
- * which the bytes are copied. No function is given NULL, a size of 0, or a block that another made. None may call
+/* From now on the library calls these functions instead of malloc, realloc and free, and they must behave alike, and
+ * return: no exception and no longjmp may leave one. Each returns a block that is aligned for every type, or NULL if
+ * there is no memory, and then leaves the one that it was given as it was. `resize` may be NULL: a block that grows is
+ * then a new one, into which the bytes are copied. No function is given NULL, a size of 0, or a block that another made. None may call
  * the library. `allocate` and `release` must not be NULL.
  * Comes before the library first allocates in this process, and may be called again until then. Afterwards it
  * returns TIMERS_OPEN and changes nothing. Does not allocate. */

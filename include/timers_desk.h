@@ -137,7 +137,8 @@
  *
  *     No call waits for another thread, unless the allocator does. malloc, realloc and free are called only by
  *     timers_desk_new, timers_desk_open, timers_desk_reserve, timers_desk_close, the serves, timers_line_finish
- *     and the frees. No call is a cancellation point, and none calls back.
+ *     and the frees. No call is a cancellation point, and none calls back but for the functions of
+ *     timers_set_allocator, which must return.
  *
  *     A call has to run to its end. One that is left by a longjmp out of a signal handler, or by an
  *     asynchronous cancellation, may leave its struct half changed: then it must not be used again, not even
