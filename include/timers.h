@@ -295,8 +295,8 @@ struct timers_counters {
 /* From now on the library calls these functions instead of malloc, realloc and free, and they must behave alike, and
  * return: no exception and no longjmp may leave one. Each returns a block that is aligned for every type, or NULL if
  * there is no memory, and then leaves the one that it was given as it was. `resize` may be NULL: a block that grows is
- * then a new one, into which the bytes are copied. No function is given NULL, a size of 0, or a block that another made. None may call
- * the library. `allocate` and `release` must not be NULL.
+ * then a new one, into which the bytes are copied. No function is given NULL, a size of 0, or a block that another
+ * made. None may call the library. `allocate` and `release` must not be NULL.
  * Comes before the library first allocates in this process, and may be called again until then. Afterwards it
  * returns TIMERS_OPEN and changes nothing. Does not allocate. */
 TIMERS_CHECKED
