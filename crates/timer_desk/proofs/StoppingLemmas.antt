@@ -1,29 +1,26 @@
 -- A timer that is stopped in the name of a client: the step, and the desk after it.
-use Rattle.std.proofs.Common.{◌≡◌, ℕ, ◌+◌, ◌≤◌, Bool, true, false, ◌⊎◌, not, List, [], ◌∷◌, length, get_or, refl, sym, ◌∙◌, ap, subst, inl, inr, arith}
-use Rattle.std.specs.Prelude.{Option, Some, None, Ok, Err, Result, MatchResult, filter, slice_get, slice_index, unwrap_or}
+use Rattle.std.proofs.Common.{◌≡◌, ℕ, ◌+◌, ◌≤◌, List, [], ◌∷◌, length, get_or, refl, sym, ◌∙◌, ap, subst, inl, inr, arith}
+use Rattle.std.specs.Prelude.{Option, Some, None, Ok, Err, Result, MatchResult, slice_get, slice_index, unwrap_or}
 use Rattle.std.proofs.lemmas.List.{length-set}
 use Rattle.std.proofs.lemmas.Option.{unwrap_or-slice_get}
 use Rattle.timer_base.specs.declared.timer.Timer.{Timer}
 use Rattle.timer_base.specs.declared.timer.Handle.{Handle}
-use Rattle.timer_base.specs.Pending.{Entry, timers_of, has_serial, without_found}
 use Rattle.timer_facility.specs.declared.request.Answer.{Answer}
 use Rattle.timer_facility.specs.declared.request.NotTaken.{NotTaken}
 use Rattle.timer_facility.specs.declared.request.Request.TheVariants as Requests
 use Rattle.timer_facility.specs.declared.event.Out.TheVariants as Outs
-use Rattle.timer_facility.specs.State.{FacilityState, number_of, count_of, pending_of, Name, ByHandle, Stop, SingleEvent, Asked}
+use Rattle.timer_facility.specs.State.{FacilityState, number_of, pending_of, Name, ByHandle, Stop, SingleEvent, Asked}
 use Rattle.timer_facility.specs.Verdict.{timer_named, verdict}
 use Rattle.timer_facility.specs.Step.{StepResult, answered, answer_to, without_timer, step_by, step}
 use Rattle.timer_facility.specs.Run.{notices_in}
 use Rattle.timer_facility.specs.Facility.{FacilityView, with_nothing_waiting, view_after, place_in, IsTaken, WhyNotTaken, IsNotTaken}
+use Rattle.timer_facility.proofs.HandedOverLemmas.{adds_stop}
 use Rattle.timer_facility.proofs.StepLemmas.{by_verdict, step-not_taken}
 use Rattle.timer_desk.specs.Inlet.{LineKind}
 use Rattle.timer_desk.specs.Backlog.{BacklogState, notices_for}
 use Rattle.timer_desk.specs.Desk.{DeskState, IsDesk}
 use Rattle.timer_desk.specs.Stopping.{stop_step, stop_outs}
 use Rattle.timer_desk.proofs.DeskLemmas.{desk_of, still, none_for}
-
-either : (b : Bool) → (b ≡ true) ⊎ (b ≡ false)
-either b = elim b as (λ v. (v ≡ true) ⊎ (v ≡ false)) [ true ↦ inl refl | false ↦ inr refl ]
 
 -- The step.
 
@@ -91,17 +88,6 @@ stop_is f client number next handle (Err reason) new q e m n =
 
 -- The desk.
 
-filter_fewer : (c : ℕ) (p : Entry → Bool) (es : List Entry) → count_of c (timers_of (filter p es)) ≤ count_of c (timers_of es)
-filter_fewer c p [] = omega arith
-filter_fewer c p (e ∷ es) = elim (either (p e)) [
-  | inl h ↦ rw h (let n = filter_fewer c p es in omega arith)
-  | inr h ↦ rw h (let n = filter_fewer c p es in omega arith)
-]
-
-found_fewer : (c : ℕ) (found : Option Timer) (es : List Entry) → count_of c (timers_of (without_found found es)) ≤ count_of c (timers_of es)
-found_fewer c None es = omega arith
-found_fewer c (Some t) es = filter_fewer c (λ e. not (has_serial t.serial e.timer)) es
-
 pub record HasFewer (s t : FacilityState) : Type 0 where
   pub as_many : length t.numbers ≡ length s.numbers
   pub fewer : (c : ℕ) → pending_of t c ≤ pending_of s c
@@ -112,7 +98,7 @@ stop_fewer s client number name = by_verdict (λ st. HasFewer s st.state) s clie
     (λ reason taken. record { as_many = length-set s.numbers client (number + 1); fewer = λ c. omega arith })
     (λ taken ok. record {
       as_many = length-set s.numbers client (number + 1);
-      fewer = λ c. found_fewer c (timer_named s client name) s.pending;
+      fewer = λ c. (adds_stop s (timer_named s client name)).of_client c;
     })
 
 module _ {I : Type 0} (kind : LineKind I) where

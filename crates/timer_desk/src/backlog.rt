@@ -80,7 +80,9 @@ impl Backlog {
         requires { length self.old.outbox < self.old.room }
         ensures { self.new ≡ with_word word (record self.old { held = None }) }
     {
-        self.held = None;
+        if self.held.is_some() {
+            self.held = None;
+        }
         let _ = self.outbox.try_push_back(word);
     }
 
@@ -116,16 +118,25 @@ impl Backlog {
         if self.outbox.is_empty() {
             return 0;
         }
-        let count = put_words(&self.outbox, inlet);
-        let left = self.outbox.len() - count;
-        if left == 0 {
+        let (count, is_all) = put_words(&self.outbox, inlet);
+        if is_all {
             // Unlike a pop, this leaves the front where it is: an outbox that is emptied each time stays in
             // the cache.
             self.outbox.clear();
         } else {
-            self.outbox.truncate_front(left);
+            self.remove(count);
         }
         count
+    }
+
+    /// Removes the first `count` words of the outbox.
+    #[inline(never)]
+    fn remove(&mut self, count: usize)
+        requires { count ≤ length self.old.outbox }
+        ensures { self.new ≡ without_words count self.old }
+    {
+        let left = self.outbox.len() - count;
+        self.outbox.truncate_front(left);
     }
 
     /// Drops all words of the outbox, and returns how many.
@@ -191,21 +202,26 @@ impl Backlog {
     }
 }
 
-/// Puts the words of an outbox into the line until it does not take one, and returns how many it took.
-fn put_words<I: Inlet>(outbox: &HeapCircularBuffer<Word>, inlet: &mut I) -> usize
+/// Puts the words of an outbox into the line until it does not take one, and returns how many it took. True comes
+/// with them only if these are all.
+fn put_words<I: Inlet>(outbox: &HeapCircularBuffer<Word>, inlet: &mut I) -> (usize, bool)
     ensures line { I.kind.same inlet.old inlet.new }
     ensures got { ((I.kind.state inlet.new).got ≡ (I.kind.state inlet.old).got)
         × ((I.kind.state inlet.new).standing ≡ (I.kind.state inlet.old).standing) }
     ensures given { (I.kind.state inlet.new).given
-        ≡ (I.kind.state inlet.old).given ++ take result outbox.now.items }
-    ensures count { result ≤ length outbox.now.items }
-    ensures stopped { result < length outbox.now.items → I.kind.is_full inlet.new
+        ≡ (I.kind.state inlet.old).given ++ take result.0 outbox.now.items }
+    ensures count { result.0 ≤ length outbox.now.items }
+    ensures all { result.1 ≡ true → result.0 ≡ length outbox.now.items }
+    ensures stopped { result.0 < length outbox.now.items → I.kind.is_full inlet.new
         ⊎ (I.kind.put_may_refuse ≡ true) }
 {
     let (first, rest) = outbox.as_slices();
     let count = inlet.put_slice(first);
-    if rest.is_empty() || count < first.len() {
-        return count;
+    if count < first.len() {
+        return (count, false);
     }
-    count + inlet.put_slice(rest)
+    if rest.is_empty() {
+        return (count, true);
+    }
+    (count + inlet.put_slice(rest), false)
 }

@@ -4,9 +4,9 @@
 //!     ClientEnd     submit  --> ring of requests -->   take     RingInlet
 //!                   receive <-- ring of words    <--   put
 //!
-//! Each ring has one producer and one consumer, so each call here is one push or one pop: it takes no
-//! lock, does not allocate, and returns. Neither end knows what the other has done meanwhile. Once one
-//! end has finished, the other settles the line, and from then on knows all that stands in the ring.
+//! Each ring has one producer and one consumer, and no call waits for the other end: it takes no lock, does not
+//! allocate, and returns. Neither end knows what the other has done meanwhile. Once one end has finished, the
+//! other settles the line, and from then on knows all that stands in the ring.
 use crate::inlet::{Inlet, Put, Taken};
 use crate::looks::Looks;
 use crate::word::{Numbered, Word};

@@ -22,9 +22,9 @@ use Rattle.timer_facility.proofs.StepLemmas.{by_verdict, started-new}
 -- Requests.
 
 -- no client has more pending timers
-record AddsNone (s t : FacilityState) : Type 0 where
-  of_client : (c : ℕ) → pending_of t c ≤ pending_of s c
-  all : length t.pending ≤ length s.pending
+pub record AddsNone (s t : FacilityState) : Type 0 where
+  pub of_client : (c : ℕ) → pending_of t c ≤ pending_of s c
+  pub all : length t.pending ≤ length s.pending
 
 filter_fewer : (c : ℕ) (p : Entry → Bool) (es : List Entry) → count_of c (timers_of (filter p es)) ≤ count_of c (timers_of es)
 filter_fewer c p [] = omega arith
@@ -33,7 +33,7 @@ filter_fewer c p (e ∷ es) = elim (either (p e)) [
   | inr h ↦ rw h (let n = filter_fewer c p es in omega arith)
 ]
 
-adds_stop : (s : FacilityState) (old : Option Timer) → AddsNone s (without_timer old s)
+pub adds_stop : (s : FacilityState) (old : Option Timer) → AddsNone s (without_timer old s)
 adds_stop s None = record { of_client = λ c. omega arith; all = omega arith }
 adds_stop s (Some t) = record {
   of_client = λ c. filter_fewer c (λ e. not (has_serial t.serial e.timer)) s.pending;

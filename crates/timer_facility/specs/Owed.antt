@@ -1,5 +1,5 @@
--- What is owed for a history: the notices that must have been handed out, computed from its requests and
--- answers alone.
+-- What is owed for a history: the notices that must have been handed out, computed from its events and their
+-- outs.
 --
 -- A history is a list of events, each with its outs. `owed s h`, for a history h that begins in state s, is
 -- for each accepted tick in turn the timers due at it, as `Expired`; then, if h has an accepted close, all

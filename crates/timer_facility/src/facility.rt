@@ -214,7 +214,7 @@ impl<W: Wheel + Drop> Facility<W> {
     }
 
     /// Takes a request under a number. Refusals are tested in the order of `NotTaken`, then of
-    /// `Reason`.
+    /// `Reason` as it says, and memory comes last.
     ///
     /// A request that is not taken changes nothing. One that is refused with a `Reason` uses up its
     /// number and nothing else. Only an accepted start allocates, and after a `reserve` that returned Ok none
@@ -401,14 +401,14 @@ impl<W: Wheel + Drop> Facility<W> {
                 handle,
                 interval,
                 action,
-            } => Ok(self.take_restart(client, number, handle, interval, action)),
+            } => Ok(self.restart(client, number, handle, interval, action)),
             Request::RestartAt {
                 handle,
                 deadline,
                 action,
             } => {
                 let interval = self.ticks_until(deadline);
-                Ok(self.take_restart(client, number, handle, interval, action))
+                Ok(self.restart(client, number, handle, interval, action))
             }
         }
     }
@@ -528,6 +528,23 @@ impl<W: Wheel + Drop> Facility<W> {
                 }
             }
         }
+    }
+
+    /// As `take_restart`. Inlined, it has the memory of the answer for itself, so that no start clears it.
+    #[inline(always)]
+    fn restart(
+        &mut self,
+        client: u64,
+        number: u64,
+        handle: Handle,
+        interval: u64,
+        action: u64,
+    ) -> Answer
+        requires { self.old.waiting ≡ [] }
+        ensures { HasAnswered self.old.state client number (Restart (ByHandle handle) (After interval) action)
+            result self.new }
+    {
+        self.take_restart(client, number, handle, interval, action)
     }
 
     /// A restart that is taken. Does not allocate.

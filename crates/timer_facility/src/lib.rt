@@ -4,7 +4,7 @@
 //! facility by its state and by the notices that wait in it: read `specs/State.antt`, then
 //! `specs/Verdict.antt` (which events are accepted) and `specs/Step.antt` (the outs of an event and the
 //! state after it), then `facility`, which implements them, and `player`, which plays whole lists of
-//! events. What a history of requests and answers must have handed out is `owed`, in `specs/Owed.antt`;
+//! events. What a history of events and their outs must have handed out is `owed`, in `specs/Owed.antt`;
 //! the lemma `notices_are_owed` in `laws` states that it has.
 #![tactic(auto)]
 

@@ -153,7 +153,7 @@ impl<W: Wheel + Drop> Player<W> {
 
     /// Plays a start, and returns its out. The only error is out of memory, and then nothing changes.
     ///
-    /// This and the next two are inlined, as all that they call: an out that is returned through memory is read
+    /// This and the next two are inlined, with most of what they call: an out that is returned through memory is read
     /// in other pieces than it was written in, and such a read waits for the writes.
     #[inline(always)]
     pub fn play_start(
