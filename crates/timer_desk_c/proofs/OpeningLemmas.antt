@@ -1,5 +1,5 @@
 -- A line that is opened again.
-use Rattle.std.proofs.Common.{◌≡◌, ◌<◌, ◌≤◌, ℕ, List, length, get_or, ◌∙◌, ap, subst, inl, inr, arith}
+use Rattle.std.proofs.Common.{◌≡◌, ◌<◌, ◌≤◌, ℕ, List, length, get_or, ◌∙◌, ap, subst, arith}
 use Rattle.std.specs.Prelude.{slice_set}
 use Rattle.std.proofs.lemmas.List.{get_or-set_same, get_or-set_other, length-set}
 use Rattle.timer_base.specs.declared.limits.TheConstants.{LAST}
@@ -11,11 +11,10 @@ use Rattle.timer_desk.specs.Desk.{clients_of, IsIdle}
 use Rattle.timer_desk.specs.Ring.{found_by_inlet}
 use Rattle.timer_desk.specs.Settlement.{HasLooked}
 use Rattle.timer_desk_c.specs.declared.line.Line.{Line}
-use Rattle.timer_desk_c.specs.declared.status.TheConstants.{OK}
 use Rattle.timer_desk_c.specs.DeskSlots.{DeskState}
-use Rattle.timer_desk_c.specs.Desks.{IsNewInlet, IsEndOf}
+use Rattle.timer_desk_c.specs.Desks.{IsNewLine}
 use Rattle.timer_desk_c.specs.Freed.{OnlyLooks}
-use Rattle.timer_desk_c.specs.Opening.{IsRoom, IsEndFrom, IsClear, HasOpened, WhyNotOpened}
+use Rattle.timer_desk_c.specs.Opening.{IsRoom, IsClear, HasOpened}
 
 looked_then : (a b d : RingInlet) → HasLooked a b → HasLooked b d → HasLooked a d
 looked_then a b d p q = record {
@@ -47,9 +46,9 @@ pub has_opened : (client room number : ℕ) (old mid now new : DeskState) (inlet
     → IsRoom room → OnlyLooks client old mid → OnlyLooks client mid now → IsClear client mid
     → ((i : RingInlet) → found_by_inlet (get_or now.inlets client i) ≡ GoneThenEmpty)
     → number ≡ number_of now.facility client → number ≤ LAST
-    → IsNewInlet room inlet → IsEndFrom number room end → IsEndOf inlet end
+    → IsNewLine number room inlet end
     → new ≡ record now { inlets = slice_set now.inlets client inlet } → HasOpened client room old new end
-has_opened client room number old mid now new inlet end low fit first second clear over numbered few new_inlet new_end tied is = record {
+has_opened client room number old mid now new inlet end low fit first second clear over numbered few new_line is = record {
   client_in_range = low;
   room_in_range = fit;
   clear = clear_before client old mid first clear;
@@ -58,9 +57,7 @@ has_opened client room number old mid now new inlet end low fit first second cle
   over = over;
   number_in_range = subst (λ n. n ≤ LAST) number_is few;
   inlet = inlet;
-  new_inlet = new_inlet;
-  new_end = subst (λ n. IsEndFrom n room end) number_is new_end;
-  tied = tied;
+  new_line = subst (λ n. IsNewLine n room inlet end) number_is new_line;
   same_clients = ap (λ (w : DeskState). length w.inlets) is ∙ length-set now.inlets client inlet ∙ looked.same_clients;
   same_facility = ap (λ (w : DeskState). w.facility) is ∙ looked.same_facility;
   same_backlogs = ap (λ (w : DeskState). w.backlogs) is ∙ looked.same_backlogs;
@@ -75,12 +72,3 @@ has_opened client room number old mid now new inlet end low fit first second cle
 
     number_is : number ≡ number_of old.facility client
     number_is = numbered ∙ ap (λ (s : FacilityState). number_of s client) looked.same_facility
-
--- a line that was not opened has a reason
-pub not_opened : (client room : ℕ) (old new : DeskState) (status : ℕ) → WhyNotOpened client room old new status → status ≡ OK → ⊥
-not_opened client room old new status (inl h) ok = let is = h.0 in absurd (omega (arith, is, ok))
-not_opened client room old new status (inr (inl h)) ok = let is = h.0 in absurd (omega (arith, is, ok))
-not_opened client room old new status (inr (inr (inl h))) ok = let is = h.0 in absurd (omega (arith, is, ok))
-not_opened client room old new status (inr (inr (inr (inl h)))) ok = let is = h.0 in absurd (omega (arith, is, ok))
-not_opened client room old new status (inr (inr (inr (inr (inl h))))) ok = let is = h.0 in absurd (omega (arith, is, ok))
-not_opened client room old new status (inr (inr (inr (inr (inr h))))) ok = let is = h.0 in absurd (omega (arith, is, ok))

@@ -1,7 +1,8 @@
 -- The places of the pending timers of a hierarchy: no two timers have the same one.
-use Rattle.std.proofs.Common.{◌≡◌, ◌<◌, ◌≤◌, ◌+◌, ◌==◌, ℕ, true, false, List, [], ◌∷◌, ◌++◌, length, map, refl, sym, ◌∙◌, ap, subst, inl, inr, arith, append_assoc}
+use Rattle.std.proofs.Common.{◌≡◌, ◌<◌, ◌≤◌, ◌+◌, ◌==◌, ℕ, true, List, [], ◌∷◌, ◌++◌, length, map, refl, sym, ◌∙◌, ap, subst, inl, inr, arith, append_assoc}
 use Rattle.std.specs.Prelude.{Option, Some, None, filter, IsSome}
 use Rattle.std.specs.List.{AllByRecursion}
+use Rattle.std.proofs.lemmas.Bool.Decides.{nat_tests}
 use Rattle.timer_base.specs.Basics.{either, some_same}
 use Rattle.timer_base.specs.declared.timer.Timer.{Timer}
 use Rattle.timer_base.specs.declared.timer.Handle.{Handle}
@@ -22,7 +23,7 @@ use Rattle.timer_wheels.specs.Tables.{radices}
 use Rattle.timer_wheels.proofs.DigitLaws.{bucket_at_tick, digits_down}
 use Rattle.timer_wheels.proofs.TableLaws.{of_table}
 use Rattle.timer_desk_c.specs.Stopping.{IsFirstAt, IsFirstPending}
-use Rattle.timer_desk_c.proofs.SmallFacts.{is_equal, equal_to, all_weaken}
+use Rattle.timer_desk_c.proofs.SmallFacts.{equal_to, all_weaken}
 
 -- What holds of all members in another order, holds of all of them.
 
@@ -86,10 +87,7 @@ all_under n bucket_of rounds_of w lists shows apart in_range =
 -- The timer that a handle names is alone at its place.
 
 found_place : (handle : Handle) (e : Entry) → has_handle handle e ≡ true → e.place ≡ handle.place
-found_place handle e h = elim (either (e.place == handle.place)) [
-  | inl k ↦ is_equal e.place handle.place k
-  | inr k ↦ absurd (let g : false ≡ true = rw k at h in cc)
-]
+found_place handle e h = grind (arith, nat_tests)
 
 under_handle : (rounds_of : Timer → ℕ) (lists : KeyedLists) (handle : Handle) (t : Timer) (es : List Entry)
     → AllByRecursion (IsUnder rounds_of lists) es → first_timer (has_handle handle) es ≡ Some t

@@ -31,20 +31,16 @@ value_at all k l b low =
 
 pub all_held : (life : ℕ) (all : List (Box Line Global)) (before : List CLine) (left : List (Box Line Global)) (lines : List CLine)
     → IsPlaced life all before left lines → length left ≡ 0 → AreHeld life (map (λ (x : Box Line Global). x.value) all) lines
-all_held life [] before left lines p e = record {
-  as_many = p.as_many ∙ p.long;
-  open_each = λ k x low. absurd (none_below k low);
-  state = λ k x l low. absurd (none_below k low);
-  client = λ k x low. absurd (none_below k low);
-  life_is = λ k x low. absurd (none_below k low);
-}
+all_held life [] before left lines p e = record { as_many = p.as_many ∙ p.long; each = λ k x l low. absurd (none_below k low) }
 all_held life (b ∷ bs) before left lines p e =
     let all = b ∷ bs in
     let long = length-map all (λ (x : Box Line Global). x.value) in record {
       as_many = p.as_many ∙ p.long ∙ sym long;
-      open_each = λ k x low. p.open_each k x (omega (arith, e)) (omega (arith, long, low));
-      state = λ k x l low. p.state k x b (omega (arith, e)) (omega (arith, long, low))
-          ∙ sym (value_at all k l b (omega (arith, long, low)));
-      client = λ k x low. p.client k x (omega (arith, e)) (omega (arith, long, low));
-      life_is = λ k x low. p.life_is k x (omega (arith, e)) (omega (arith, long, low));
+      each = λ k x l low.
+          let within : k < length all = omega (arith, long, low) in record {
+            held = p.open_each k x (omega (arith, e)) within;
+            state_is = p.state k x b (omega (arith, e)) within ∙ sym (value_at all k l b within);
+            client_is = p.client k x (omega (arith, e)) within;
+            life_is = p.life_is k x (omega (arith, e)) within;
+          };
     }

@@ -1,8 +1,9 @@
 -- The rounds of the owner, client after client.
-use Rattle.std.proofs.Common.{◌≡◌, ◌≢◌, ◌<◌, ◌≤◌, ◌+◌, ◌++◌, ◌||◌, ◌⊎◌, ℕ, Bool, true, false, List, [], ◌∷◌, length, append-nil, append_assoc, refl, sym, ◌∙◌, ap, subst, inl, inr, arith}
-use Rattle.std.specs.Prelude.{All, nat_lt, get_or}
-use Rattle.std.specs.List.{list_any}
-use Rattle.std.proofs.lemmas.List.{get_or_append_left, get_or_push, get_or-set_other, length_push, map-append}
+use Rattle.std.proofs.Common.{◌≡◌, ◌≢◌, ◌<◌, ◌≤◌, ◌+◌, ◌++◌, ◌||◌, ◌⊎◌, ℕ, Bool, true, false, List, [], ◌∷◌, length, append-nil, refl, sym, ◌∙◌, ap, subst, inl, inr, arith}
+use Rattle.std.specs.Prelude.{nat_lt, get_or}
+use Rattle.std.specs.List.{list_any, flat_map, enumerate_from}
+use Rattle.std.proofs.lemmas.Grind.{flat_map-append}
+use Rattle.std.proofs.lemmas.List.{get_or_append_left, get_or_push, get_or-set_other, length_push, map_push}
 use Rattle.std.proofs.lemmas.List.Elements.{All-nil, All-push, All-weaker}
 use Rattle.std.proofs.lemmas.List.Folds.{list_any-append, list_any_none}
 use Rattle.timer_desk.specs.declared.report.Served.{Served}
@@ -13,14 +14,14 @@ use Rattle.timer_desk.specs.declared.ring.RingInlet.{RingInlet}
 use Rattle.timer_desk.specs.Backlog.{BacklogState, empty_backlog}
 use Rattle.timer_desk.specs.Member.{IsKept}
 use Rattle.timer_desk.specs.Ring.{ring_lines}
-use Rattle.timer_desk.specs.Desk.{clients_of, at_rest, backlog_at}
+use Rattle.timer_desk.specs.Desk.{at_rest, backlog_at}
 use Rattle.timer_desk.specs.Flush.{Flushes, without_words}
 use Rattle.timer_desk.proofs.Members.{ReportHolds-joined, ReportHolds-nothing}
 use Rattle.timer_desk_c.specs.DeskSlots.{DeskState}
 use Rattle.timer_desk_c.specs.Desks.{Says}
-use Rattle.timer_desk_c.specs.Rounds.{report_of, did, starved, serves_of, AllDid, IsServedOut, HasServedClient, round_status, HasServedAll, flush_of, IsFlushedOut, HasFlushedFirst}
+use Rattle.timer_desk_c.specs.Rounds.{report_of, did, starved, serves_of, AllDid, IsServedOut, HasServedClient, HasServedFirst, flush_of, IsFlushedOut, HasFlushedFirst}
 use Rattle.timer_desk_c.specs.Dropped.{IsDropped, HasDropped, HasDroppedFirst, waiting_at}
-use Rattle.timer_desk_c.proofs.SmallFacts.{none_below, below_or_same, less_is_other, more_is_other, or_true, or_false}
+use Rattle.timer_desk_c.proofs.SmallFacts.{enumerate-push, none_below, below_or_same, less_is_other, more_is_other, or_true, or_false}
 
 -- One more client.
 
@@ -32,22 +33,15 @@ any_more : {X : Type 0} (p : X → Bool) (parts : List X) (part : X) (a b : Bool
 any_more p parts part a b e f =
     ap (λ v. v || b) e ∙ ap (λ v. list_any p parts || v) (f ∙ sym (or_false (p part))) ∙ sym (list_any-append p parts (part ∷ []))
 
-report_more : {X : Type 0} (members : ℕ → X → List Done) (first : ℕ) (parts : List X) (part : X)
-    → report_of members first (parts ++ part ∷ []) ≡ report_of members first parts ++ members (first + length parts) part
-report_more members first [] part =
-    let e : first ≡ first + 0 = omega arith in append-nil (members first part) ∙ ap (λ n. members n part) e
-report_more members first (p ∷ parts) part =
-    let e : first + 1 + length parts ≡ first + length (p ∷ parts) = omega arith in
-    ap (λ r. members first p ++ r) (report_more members (first + 1) parts part
-    ∙ ap (λ n. report_of members (first + 1) parts ++ members n part) e)
-    ∙ sym (append_assoc (members first p) (report_of members (first + 1) parts) (members (first + length (p ∷ parts)) part))
-
 says_more : {X : Type 0} (members : ℕ → X → List Done) (k : ℕ) (parts : List X) (part : X) (x y z : DeskState) → length parts ≡ k
-    → Says (report_of members 0 parts) x y → Says (members k part) y z → Says (report_of members 0 (parts ++ part ∷ [])) x z
-says_more members k parts part x y z many f g =
-    let e : k ≡ 0 + length parts = omega (arith, many) in
-    subst (λ r. Says r x z) (ap (λ n. report_of members 0 parts ++ members n part) e ∙ sym (report_more members 0 parts part))
-    (ReportHolds-joined ring_lines (report_of members 0 parts) (members k part) x y z f g)
+    → Says (report_of members parts) x y → Says (members k part) y z → Says (report_of members (parts ++ part ∷ [])) x z
+says_more {X} members k parts part x y z many f g =
+    let of = λ (p : ℕ × X). members p.0 p.1 in
+    let e : 0 + length parts ≡ k = omega (arith, many) in
+    let more : report_of members (parts ++ part ∷ []) ≡ report_of members parts ++ members k part =
+    ap (flat_map of) (enumerate-push 0 parts part) ∙ flat_map-append of (enumerate_from 0 parts) ((0 + length parts, part) ∷ [])
+    ∙ ap (λ r. report_of members parts ++ r) (append-nil (members (0 + length parts) part) ∙ ap (λ n. members n part) e) in
+    subst (λ r. Says r x z) (sym more) (ReportHolds-joined ring_lines (report_of members parts) (members k part) x y z f g)
 
 -- The serves of one client.
 
@@ -63,7 +57,7 @@ none_starved results all =
 
 serves_more : (c : ℕ) (results : List Served) (s : Served) (x y z : DeskState) → Says (serves_of c results) x y
     → Says (Dones.Served c s ∷ []) y z → Says (serves_of c (results ++ s ∷ [])) x z
-serves_more c results s x y z f g = subst (λ r. Says r x z) (sym (map-append (Dones.Served c) results (s ∷ [])))
+serves_more c results s x y z f g = subst (λ r. Says r x z) (sym (map_push (Dones.Served c) results s))
     (ReportHolds-joined ring_lines (serves_of c results) (Dones.Served c s ∷ []) x y z f g)
 
 -- so many serves of client c so far, each of which did a request
@@ -121,16 +115,7 @@ serving_full c most busy x y f = record {
 
 -- A round of serves.
 
--- each client below k was served
-pub record IsRound (most k : ℕ) (busy out : Bool) (old now : DeskState) : Type 0 where
-  pub results : List (List Served)
-  pub as_many : length results ≡ k
-  pub says : Says (report_of serves_of 0 results) old now
-  pub served_out : All (IsServedOut most) results
-  pub busy_is : busy ≡ list_any (list_any did) results
-  pub memory_is : out ≡ list_any (list_any starved) results
-
-pub round_nothing : (most : ℕ) (x : DeskState) → IsKept ring_lines (at_rest x) → IsRound most 0 false false x x
+pub round_nothing : (most : ℕ) (x : DeskState) → IsKept ring_lines (at_rest x) → HasServedFirst most 0 false false x x
 round_nothing most x kept = record {
   results = [];
   as_many = refl;
@@ -140,27 +125,15 @@ round_nothing most x kept = record {
   memory_is = refl;
 }
 
-pub round_more : (most k : ℕ) (busy out b o : Bool) (x y z : DeskState) → IsRound most k busy out x y → HasServedClient k most b o y z
-    → IsRound most (k + 1) (busy || b) (out || o) x z
-round_more most k busy out b o x y z f g = record {
+pub round_more : (most k : ℕ) (busy out b o busy' out' : Bool) (x y z : DeskState) → HasServedFirst most k busy out x y
+    → HasServedClient k most b o y z → busy' ≡ busy || b → out' ≡ out || o → HasServedFirst most (k + 1) busy' out' x z
+round_more most k busy out b o busy' out' x y z f g busy_is out_is = record {
   results = f.results ++ g.results ∷ [];
   as_many = one_more k f.results g.results f.as_many;
   says = says_more serves_of k f.results g.results x y z f.as_many f.says g.says;
   served_out = All-push (IsServedOut most) f.results g.results f.served_out g.served_out;
-  busy_is = any_more (list_any did) f.results g.results busy b f.busy_is g.busy_is;
-  memory_is = any_more (list_any starved) f.results g.results out o f.memory_is g.memory_is;
-}
-
-pub round_done : (most k status : ℕ) (busy out : Bool) (x y : DeskState) → IsRound most k busy out x y → k ≡ clients_of x
-    → status ≡ round_status out busy
-    → HasServedAll most status x y
-round_done most k status busy out x y f all e = record {
-  results = f.results;
-  as_many = f.as_many ∙ all;
-  says = f.says;
-  served_out = f.served_out;
-  status_is = e ∙ ap (λ v. round_status v busy) f.memory_is
-      ∙ ap (λ v. round_status (list_any (list_any starved) f.results) v) f.busy_is;
+  busy_is = busy_is ∙ any_more (list_any did) f.results g.results busy b f.busy_is g.busy_is;
+  memory_is = out_is ∙ any_more (list_any starved) f.results g.results out o f.memory_is g.memory_is;
 }
 
 -- The clients that a step leaves alone.
@@ -200,10 +173,10 @@ ring_stopped (inl none) = inl none
 ring_stopped (inr (inl full)) = inr full
 ring_stopped (inr (inr refuses)) = absurd (cc)
 
-pub flushing_more : (k count : ℕ) (moved b : Bool) (x y z : DeskState) → HasFlushedFirst k moved x y → Says (Dones.Flushed k count ∷ []) y z
-    → b ≡ nat_lt 0 count → Flushes ring_lines k count y z
-    → ((i : RingInlet) → IsFlushedOut (get_or z.inlets k i) (backlog_at z k)) → HasFlushedFirst (k + 1) (moved || b) x z
-flushing_more k count moved b x y z f says e g stopped = record {
+pub flushing_more : (k count : ℕ) (moved b moved' : Bool) (x y z : DeskState) → HasFlushedFirst k moved x y
+    → Says (Dones.Flushed k count ∷ []) y z → b ≡ nat_lt 0 count → moved' ≡ moved || b → Flushes ring_lines k count y z
+    → ((i : RingInlet) → IsFlushedOut (get_or z.inlets k i) (backlog_at z k)) → HasFlushedFirst (k + 1) moved' x z
+flushing_more k count moved b moved' x y z f says e moved_is g stopped = record {
   counts = f.counts ++ count ∷ [];
   as_many = one_more k f.counts count f.as_many;
   says = says_more flush_of k f.counts count x y z f.as_many f.says says;
@@ -211,7 +184,7 @@ flushing_more k count moved b x y z f says e g stopped = record {
     | inl under ↦ still IsFlushedOut k c i y z (flush_others k count y z g) (less_is_other c k under) (f.flushed_out c i under)
     | inr same ↦ subst (λ n. IsFlushedOut (get_or z.inlets n i) (backlog_at z n)) (sym same) (stopped i)
   ];
-  moved_is = any_more (nat_lt 0) f.counts count moved b f.moved_is e;
+  moved_is = moved_is ∙ any_more (nat_lt 0) f.counts count moved b f.moved_is e;
 }
 
 -- A round that drops the words to clients that are gone.
@@ -255,9 +228,9 @@ counted_more k count counts x y z many o e was before c below = elim (below_or_s
       (let n = get_or_push counts count 0 k many in omega (arith, n, e, was))
 ]
 
-pub dropping_more : (k count : ℕ) (dropped b : Bool) (x y z : DeskState) → IsDropping k dropped x y → HasDropped k y z
-    → count + waiting_at z k ≡ waiting_at y k → b ≡ nat_lt 0 count → IsDropping (k + 1) (dropped || b) x z
-dropping_more k count dropped b x y z f g e is = let o = drop_others k y z g in let so_far = f.first in record {
+pub dropping_more : (k count : ℕ) (dropped b dropped' : Bool) (x y z : DeskState) → IsDropping k dropped x y → HasDropped k y z
+    → count + waiting_at z k ≡ waiting_at y k → b ≡ nat_lt 0 count → dropped' ≡ dropped || b → IsDropping (k + 1) dropped' x z
+dropping_more k count dropped b dropped' x y z f g e is dropped_is = let o = drop_others k y z g in let so_far = f.first in record {
   first = record {
     counts = so_far.counts ++ count ∷ [];
     as_many = one_more k so_far.counts count so_far.as_many;
@@ -274,7 +247,7 @@ dropping_more k count dropped b x y z f g e is = let o = drop_others k y z g in 
     ];
     counted = counted_more k count so_far.counts x y z so_far.as_many o e
         (ap (λ (d : BacklogState). length d.outbox) (f.later_backlogs k (omega arith))) so_far.counted;
-    dropped_is = any_more (nat_lt 0) so_far.counts count dropped b so_far.dropped_is is;
+    dropped_is = dropped_is ∙ any_more (nat_lt 0) so_far.counts count dropped b so_far.dropped_is is;
   };
   later_inlets = λ c i high. o.inlets c i (more_is_other c k high) ∙ f.later_inlets c i (omega (arith, high));
   later_backlogs = λ c high. o.backlogs c (more_is_other c k high) ∙ f.later_backlogs c (omega (arith, high));

@@ -50,42 +50,38 @@ IsFit clients c =
     × ((table : Table) × IsTableFor c.table c.first_tick table) × (MIN_ROOM ≤ c.room) × (c.room ≤ MAX_ROOM)
     × (MIN_LINE ≤ c.line) × (c.line ≤ MAX_LINE)
 
--- the client's end is of this inlet's line
-abbrev pub IsEndOf : RingInlet → Line → Type 0
-IsEndOf i l = (requests_ring_on l ≡ Some (line_of_inlet i).0) × (words_ring_on l ≡ Some (line_of_inlet i).1)
-
--- a new end: nothing was sent or received, and there is room for this many requests
-pub record IsNewEnd (room : ℕ) (l : Line) : Type 0 where
-  pub open_yet : is_open_line l ≡ true
-  pub submitted : submitted_on l ≡ []
-  pub received : received_on l ≡ []
-  pub next : next_on l ≡ 1
-  pub free : free_on l ≡ room
-
--- a new inlet: nothing was got or given, and there is room for this many words
-pub record IsNewInlet (room : ℕ) (i : RingInlet) : Type 0 where
+-- the two ends of a new line: nothing was sent or received, got or given. The first request has this number, and there
+-- is room for this many items each way.
+pub record IsNewLine (number room : ℕ) (i : RingInlet) (l : Line) : Type 0 where
+  pub requests_ring : requests_ring_on l ≡ Some (line_of_inlet i).0
+  pub words_ring : words_ring_on l ≡ Some (line_of_inlet i).1
   pub got : got_of i ≡ []
   pub given : given_of i ≡ []
   pub unsettled : is_settled i ≡ false
-  pub free : free_of_inlet i ≡ room
+  pub free_words : free_of_inlet i ≡ room
+  pub open_yet : is_open_line l ≡ true
+  pub submitted : submitted_on l ≡ []
+  pub received : received_on l ≡ []
+  pub next : next_on l ≡ number
+  pub free_requests : free_on l ≡ room
 
--- new lines, with room for this many items each way: at each index the two ends of one line
+-- at each index the two ends of a new line, with room for this many items each way
 pub record AreNewLines (room : ℕ) (inlets : List RingInlet) (ends : List Line) : Type 0 where
   pub as_many : length ends ≡ length inlets
-  pub inlet : (k : ℕ) (i : RingInlet) → k < length inlets → IsNewInlet room (get_or inlets k i)
-  pub end : (k : ℕ) (l : Line) → k < length inlets → IsNewEnd room (get_or ends k l)
-  pub tied : (k : ℕ) (i : RingInlet) (l : Line) → k < length inlets
-      → IsEndOf (get_or inlets k i) (get_or ends k l)
+  pub each : (k : ℕ) (i : RingInlet) (l : Line) → k < length inlets
+      → IsNewLine 1 room (get_or inlets k i) (get_or ends k l)
+
+-- C's line holds this end of a client, in this life of the desk's struct
+pub record IsHeld (life client : ℕ) (end : Line) (line : CLine) : Type 0 where
+  pub held : HasLine line
+  pub state_is : line.slot.state ≡ end
+  pub client_is : line.client ≡ client
+  pub life_is : line.life ≡ life
 
 -- each of C's lines holds the end at its index
 pub record AreHeld (life : ℕ) (ends : List Line) (lines : List CLine) : Type 0 where
   pub as_many : length lines ≡ length ends
-  pub open_each : (k : ℕ) (x : CLine) → k < length ends → HasLine (get_or lines k x)
-  pub state : (k : ℕ) (x : CLine) (l : Line) → k < length ends
-      → (get_or lines k x).slot.state ≡ get_or ends k l
-  -- and has its number, and this life
-  pub client : (k : ℕ) (x : CLine) → k < length ends → (get_or lines k x).client ≡ k
-  pub life_is : (k : ℕ) (x : CLine) → k < length ends → (get_or lines k x).life ≡ life
+  pub each : (k : ℕ) (x : CLine) (l : Line) → k < length ends → IsHeld life k (get_or ends k l) (get_or lines k x)
 
 -- none of C's lines holds one
 abbrev pub AllEmpty : List CLine → Type 0
@@ -197,11 +193,11 @@ IsGivenAs client d l = (i : RingInlet) → (requests_ring_on l ≡ None)
 abbrev pub IsAsBefore : Line → Line → Type 0
 IsAsBefore old new = IsSameLine old new × SameTraffic old new
 
--- why no line was settled: the first that holds. `own` says whether the line is the client's, in this life of the
--- desk's struct.
-abbrev pub WhyNotSettled : ℕ → Bool → DeskState → Line → ℕ → Type 0
-WhyNotSettled client own d l status =
-    ((status ≡ NO_CLIENT) × (clients_of d ≤ client))
-    ⊎ ((status ≡ OTHER_LINE) × (client < clients_of d) × (own ≡ false))
-    ⊎ ((status ≡ NOT_FINISHED) × (client < clients_of d) × (own ≡ true) × (is_open_line l ≡ true))
-    ⊎ ((status ≡ OTHER_LINE) × (client < clients_of d) × (own ≡ true) × (requests_ring_on l ≡ None))
+-- why no line of this client, of so many, was settled: the first that holds. `own` says whether the line is the
+-- client's, in this life of the desk's struct.
+abbrev pub WhyNotSettled : ℕ → ℕ → Bool → Line → ℕ → Type 0
+WhyNotSettled client clients own l status =
+    ((status ≡ NO_CLIENT) × (clients ≤ client))
+    ⊎ ((status ≡ OTHER_LINE) × (client < clients) × (own ≡ false))
+    ⊎ ((status ≡ NOT_FINISHED) × (client < clients) × (own ≡ true) × (is_open_line l ≡ true))
+    ⊎ ((status ≡ OTHER_LINE) × (client < clients) × (own ≡ true) × (requests_ring_on l ≡ None))

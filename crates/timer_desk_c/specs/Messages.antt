@@ -58,36 +58,31 @@ message_of_answer number (Answers.Restarted handle deadline old) =
 message_of_answer number (Answers.Refused reason) =
     record blank { kind = REFUSED; reason = reason_of reason; number = number }
 
+-- why a request was not taken, and the number that was to come next, or 0
+abbrev pub why_not_taken : NotTaken → ℕ × ℕ
+why_not_taken NotTakens.Closed = (CLOSED, 0)
+why_not_taken NotTakens.NoClient = (NO_CLIENT, 0)
+why_not_taken (NotTakens.Repeated next) = (REPEATED, next)
+why_not_taken NotTakens.NumbersSpent = (NUMBERS_SPENT, 0)
+why_not_taken (NotTakens.Ahead next) = (AHEAD, next)
+why_not_taken NotTakens.OutOfMemory = (NO_MEMORY, 0)
+
 abbrev pub message_of_not_taken : ℕ → NotTaken → Message
-message_of_not_taken number NotTakens.Closed = record blank {
+message_of_not_taken number reason = record blank {
   kind = NOT_TAKEN;
-  reason = CLOSED;
+  reason = (why_not_taken reason).0;
   number = number;
+  other = (why_not_taken reason).1;
 }
-message_of_not_taken number NotTakens.NoClient = record blank {
-  kind = NOT_TAKEN;
-  reason = NO_CLIENT;
-  number = number;
-}
-message_of_not_taken number (NotTakens.Repeated next) =
-    record blank { kind = NOT_TAKEN; reason = REPEATED; number = number; other = next }
-message_of_not_taken number NotTakens.NumbersSpent =
-    record blank { kind = NOT_TAKEN; reason = NUMBERS_SPENT; number = number }
-message_of_not_taken number (NotTakens.Ahead next) =
-    record blank { kind = NOT_TAKEN; reason = AHEAD; number = number; other = next }
-message_of_not_taken number NotTakens.OutOfMemory =
-    record blank { kind = NOT_TAKEN; reason = NO_MEMORY; number = number }
 
 -- a timer that is handed out, under the number of the request that started it
 abbrev pub message_of_timer : ℕ → Timer → Message
-message_of_timer kind t = record {
+message_of_timer kind t = record blank {
   kind = kind;
-  reason = 0;
   number = t.number;
   handle = record { place = 0; serial = t.serial };
   deadline = t.deadline;
   action = t.action;
-  other = 0;
 }
 
 abbrev pub message_of : Word → Message

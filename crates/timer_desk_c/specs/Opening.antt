@@ -1,5 +1,5 @@
 -- The line of a client that is gone, opened again.
-use Rattle.std.specs.Prelude.{ℕ, ◌≡◌, ◌≢◌, ◌<◌, ◌≤◌, ◌⊎◌, true, [], get_or}
+use Rattle.std.specs.Prelude.{ℕ, ◌≡◌, ◌≢◌, ◌<◌, ◌≤◌, ◌⊎◌, get_or}
 use Rattle.timer_base.specs.declared.limits.TheConstants.{LAST}
 use Rattle.timer_facility.specs.State.{number_of, pending_of}
 use Rattle.timer_desk.specs.declared.ring.RingInlet.{RingInlet}
@@ -10,21 +10,12 @@ use Rattle.timer_desk_c.specs.declared.line.Line.{Line}
 use Rattle.timer_desk_c.specs.declared.desk_maker.TheConstants.{MIN_LINE, MAX_LINE}
 use Rattle.timer_desk_c.specs.declared.status.TheConstants.{NO_CLIENT, OUT_OF_RANGE, NOT_FREED, LEFT, NUMBERS_SPENT, NO_MEMORY}
 use Rattle.timer_desk_c.specs.DeskSlots.{DeskState}
-use Rattle.timer_desk_c.specs.Desks.{IsNewInlet, IsEndOf}
+use Rattle.timer_desk_c.specs.Desks.{IsNewLine}
 use Rattle.timer_desk_c.specs.Freed.{OnlyLooks}
-use Rattle.timer_desk_c.specs.Lines.{submitted_on, received_on, next_on, free_on, is_open_line}
 
 -- a line has room for this many items each way
 abbrev pub IsRoom : ℕ → Type 0
 IsRoom room = (MIN_LINE ≤ room) × (room ≤ MAX_LINE)
-
--- a new end whose first request has this number, with room for this many requests
-pub record IsEndFrom (number room : ℕ) (l : Line) : Type 0 where
-  pub open_yet : is_open_line l ≡ true
-  pub submitted : submitted_on l ≡ []
-  pub received : received_on l ≡ []
-  pub next : next_on l ≡ number
-  pub free : free_on l ≡ room
 
 -- nothing is held of the client, no word waits for it, and no timer of it is pending
 pub record IsClear (client : ℕ) (d : DeskState) : Type 0 where
@@ -47,9 +38,7 @@ pub record HasOpened (client room : ℕ) (old new : DeskState) (line : Line) : T
   pub over : IsSeenOver client between
   pub number_in_range : number_of old.facility client ≤ LAST
   pub inlet : RingInlet
-  pub new_inlet : IsNewInlet room inlet
-  pub new_end : IsEndFrom (number_of old.facility client) room line
-  pub tied : IsEndOf inlet line
+  pub new_line : IsNewLine (number_of old.facility client) room inlet line
   pub same_clients : clients_of new ≡ clients_of old
   pub same_facility : new.facility ≡ old.facility
   pub same_backlogs : new.backlogs ≡ old.backlogs

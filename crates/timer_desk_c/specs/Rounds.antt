@@ -1,6 +1,6 @@
 -- Rounds of the owner over all clients, in order: each is served, each outbox is flushed.
-use Rattle.std.specs.Prelude.{ℕ, ◌≡◌, ◌+◌, ◌<◌, ◌⊎◌, ◌||◌, ◌++◌, Bool, true, false, List, [], ◌∷◌, length, get_or, map, All, nat_lt, if◌then◌else◌}
-use Rattle.std.specs.List.{list_any}
+use Rattle.std.specs.Prelude.{ℕ, ◌≡◌, ◌<◌, ◌⊎◌, ◌||◌, ◌++◌, Bool, true, false, List, [], ◌∷◌, length, get_or, map, All, nat_lt, if◌then◌else◌}
+use Rattle.std.specs.List.{list_any, flat_map, enumerate_from}
 use Rattle.timer_desk.specs.declared.report.Served.{Served}
 use Rattle.timer_desk.specs.declared.report.Served.TheVariants.{NoMemory, Did}
 use Rattle.timer_desk.specs.declared.report.Done.{Done}
@@ -14,10 +14,9 @@ use Rattle.timer_desk_c.specs.DeskSlots.{DeskState}
 use Rattle.timer_desk_c.specs.Desks.{Says}
 use Rattle.timer_desk_c.specs.Dropped.{HasDroppedEach}
 
--- the report of a round: for each client, in order from this one on, the members of its part
-abbrev pub report_of : {X : Type 0} → (ℕ → X → List Done) → ℕ → List X → List Done
-report_of members client [] = []
-report_of members client (part ∷ later) = members client part ++ report_of members (client + 1) later
+-- the report of a round: for each client, in order, the members of its part
+abbrev pub report_of : {X : Type 0} → (ℕ → X → List Done) → List X → List Done
+report_of {X} members parts = flat_map (λ (part : ℕ × X). members part.0 part.1) (enumerate_from 0 parts)
 
 -- Serves.
 
@@ -64,13 +63,22 @@ pub record HasServedClient (c most : ℕ) (busy out_of_memory : Bool) (old new :
 abbrev pub round_status : Bool → Bool → ℕ
 round_status out_of_memory busy = if out_of_memory then NO_MEMORY else if busy then OK else IDLE
 
--- each client was served, in order, up to `most` times; and this is the status of the round
-pub record HasServedAll (most status : ℕ) (old new : DeskState) : Type 0 where
+-- the first `many` clients were served, in order, up to `most` times: whether a request was done, and whether a serve
+-- failed with out of memory
+pub record HasServedFirst (most many : ℕ) (busy out_of_memory : Bool) (old new : DeskState) : Type 0 where
   pub results : List (List Served)
-  pub as_many : length results ≡ clients_of old
-  pub says : Says (report_of serves_of 0 results) old new
+  pub as_many : length results ≡ many
+  pub says : Says (report_of serves_of results) old new
   pub served_out : All (IsServedOut most) results
-  pub status_is : status ≡ round_status (list_any (list_any starved) results) (list_any (list_any did) results)
+  pub busy_is : busy ≡ list_any (list_any did) results
+  pub memory_is : out_of_memory ≡ list_any (list_any starved) results
+
+-- each client was, and this is the status of the round
+pub record HasServedAll (most status : ℕ) (old new : DeskState) : Type 0 where
+  pub busy : Bool
+  pub out_of_memory : Bool
+  pub each : HasServedFirst most (clients_of old) busy out_of_memory old new
+  pub status_is : status ≡ round_status out_of_memory busy
 
 -- Flushes.
 
@@ -86,7 +94,7 @@ IsFlushedOut i b = (b.outbox ≡ []) ⊎ (free_of_inlet i ≡ 0)
 pub record HasFlushedFirst (many : ℕ) (moved : Bool) (old new : DeskState) : Type 0 where
   pub counts : List ℕ
   pub as_many : length counts ≡ many
-  pub says : Says (report_of flush_of 0 counts) old new
+  pub says : Says (report_of flush_of counts) old new
   pub flushed_out : (c : ℕ) (i : RingInlet) → c < many → IsFlushedOut (get_or new.inlets c i) (backlog_at new c)
   pub moved_is : moved ≡ list_any (nat_lt 0) counts
 

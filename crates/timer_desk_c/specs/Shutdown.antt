@@ -1,5 +1,5 @@
 -- The end of one client's words at the owner's desk.
-use Rattle.std.specs.Prelude.{ℕ, ◌≡◌, ◌≢◌, ◌<◌, ◌≤◌, ◌⊎◌, ◌++◌, Bool, true, false, List, length, get_or, Some, None}
+use Rattle.std.specs.Prelude.{ℕ, ◌≡◌, ◌≢◌, ◌<◌, ◌⊎◌, ◌++◌, Bool, true, List, length, get_or, Some}
 use Rattle.timer_facility.specs.State.{pending_of}
 use Rattle.timer_desk.specs.declared.word.Numbered.{Numbered}
 use Rattle.timer_desk.specs.declared.ring.RingInlet.{RingInlet}
@@ -7,10 +7,10 @@ use Rattle.timer_desk.specs.Desk.{clients_of, backlog_at, IsIdle}
 use Rattle.timer_desk.specs.Ring.{line_of_inlet, got_of, given_of}
 use Rattle.timer_desk.specs.Shutdown.{IsWaiting}
 use Rattle.timer_desk_c.specs.declared.line.Line.{Line}
-use Rattle.timer_desk_c.specs.declared.status.TheConstants.{NO_CLIENT, NOT_FINISHED, OTHER_LINE, LEFT}
+use Rattle.timer_desk_c.specs.declared.status.TheConstants.{LEFT}
 use Rattle.timer_desk_c.specs.DeskSlots.{DeskState}
-use Rattle.timer_desk_c.specs.Lines.{requests_ring_on, words_ring_on, submitted_on, received_on, unread_on, is_open_line, is_ended_line}
-use Rattle.timer_desk_c.specs.Desks.{IsGivenAs}
+use Rattle.timer_desk_c.specs.Lines.{requests_ring_on, words_ring_on, submitted_on, received_on, unread_on, is_ended_line}
+use Rattle.timer_desk_c.specs.Desks.{IsGivenAs, WhyNotSettled}
 
 -- nothing of the client is left at the desk: all that it submitted was got, and no timer of it is pending
 pub record IsGone (client : ℕ) (d : DeskState) (submitted : List Numbered) : Type 0 where
@@ -56,9 +56,5 @@ pub record HasEnded (client unread : ℕ) (d : DeskState) (old new : Line) : Typ
 -- why no words were ended: the first that holds. `own` says whether the line is the client's, in this life of the
 -- desk's struct.
 abbrev pub WhyNotEnded : ℕ → Bool → DeskState → Line → ℕ → Type 0
-WhyNotEnded client own d l status =
-    ((status ≡ NO_CLIENT) × (clients_of d ≤ client))
-    ⊎ ((status ≡ OTHER_LINE) × (client < clients_of d) × (own ≡ false))
-    ⊎ ((status ≡ NOT_FINISHED) × (client < clients_of d) × (own ≡ true) × (is_open_line l ≡ true))
-    ⊎ ((status ≡ OTHER_LINE) × (client < clients_of d) × (own ≡ true) × (requests_ring_on l ≡ None))
+WhyNotEnded client own d l status = WhyNotSettled client (clients_of d) own l status
     ⊎ ((status ≡ LEFT) × (client < clients_of d) × (own ≡ true) × IsLeft client d (submitted_on l))

@@ -1,12 +1,13 @@
 -- The end of every client's words at the owner's desk.
-use Rattle.std.specs.Prelude.{ℕ, ◌≡◌, ◌≢◌, ◌<◌, ◌⊎◌, true, List, length, get_or}
+use Rattle.std.specs.Prelude.{ℕ, ◌≡◌, ◌≢◌, ◌<◌, ◌+◌, ◌==◌, ◌⊎◌, true, List, [], ◌∷◌, length, get_or, if◌then◌else◌, Option, Some, None}
 use Rattle.timer_desk.specs.declared.ring.RingInlet.{RingInlet}
 use Rattle.timer_desk.specs.declared.looks.Found.TheVariants.{Nothing}
 use Rattle.timer_desk.specs.Desk.{clients_of}
 use Rattle.timer_desk.specs.Ring.{found_by_inlet}
 use Rattle.timer_desk.specs.Settlement.{HasLooked}
 use Rattle.timer_desk_c.specs.declared.c_structs.CLine.{CLine}
-use Rattle.timer_desk_c.specs.declared.status.TheConstants.{LEFT, OUT_OF_RANGE, NOT_FREED}
+use Rattle.timer_desk_c.specs.declared.shutdown_all.Left.{Left}
+use Rattle.timer_desk_c.specs.declared.status.TheConstants.{OK, LEFT, OUT_OF_RANGE, NOT_FREED}
 use Rattle.timer_desk_c.specs.DeskSlots.{DeskState}
 use Rattle.timer_desk_c.specs.Frames.{HasLine, HasNoLine, with_line, is_own}
 use Rattle.timer_desk_c.specs.Lines.{unread_on}
@@ -30,14 +31,10 @@ pub record IsEndedAt (lives c : ℕ) (d : DeskState) (old new : CLine) : Type 0 
   pub own : is_own c lives old ≡ true
   pub ended : HasEnded c (length (unread_on new.slot.state)) d old.slot.state new.slot.state
 
--- C's line holds none, and the client was seen to have freed its end
-pub record IsFreedAt (c : ℕ) (d' : DeskState) (old : CLine) : Type 0 where
+-- C's line holds none, and the client was seen to have freed its end: j is the owner's
+pub record IsFreedAt (j : RingInlet) (old : CLine) : Type 0 where
   pub none_held : HasNoLine old
-  pub gone : (i : RingInlet) → found_by_inlet (get_or d'.inlets c i) ≢ Nothing
-
--- the line was freed, so that nobody reads the client's words; or these have ended
-abbrev pub IsOverAt : ℕ → ℕ → DeskState → DeskState → CLine → CLine → Type 0
-IsOverAt lives c d d' old new = IsFreedAt c d' old ⊎ IsEndedAt lives c d old new
+  pub gone : found_by_inlet j ≢ Nothing
 
 -- this is why the words of C's line were not ended, and the line is as it was
 pub record IsHeldBackAt (lives c status : ℕ) (d : DeskState) (old new : CLine) : Type 0 where
@@ -46,52 +43,47 @@ pub record IsHeldBackAt (lives c status : ℕ) (d : DeskState) (old new : CLine)
   pub as_before : IsAsBefore old.slot.state new.slot.state
 
 -- C's line holds none, and the client was not seen to have freed its end: it is elsewhere
-pub record IsElsewhereAt (c status : ℕ) (d' : DeskState) (old new : CLine) : Type 0 where
+pub record IsElsewhereAt (status : ℕ) (j : RingInlet) (old new : CLine) : Type 0 where
   pub none_held : HasNoLine old
   pub not_freed : status ≡ NOT_FREED
-  pub there : (i : RingInlet) → found_by_inlet (get_or d'.inlets c i) ≡ Nothing
+  pub there : found_by_inlet j ≡ Nothing
   pub same : new ≡ old
 
--- why the words of the client have not ended
-abbrev pub IsLeftAt : ℕ → ℕ → ℕ → DeskState → DeskState → CLine → CLine → Type 0
-IsLeftAt lives c status d d' old new = IsHeldBackAt lives c status d old new ⊎ IsElsewhereAt c status d' old new
+-- client c of the desk d was tried, with this status. The owner's end of its line is i before and j after.
+pub record IsTriedAt (lives c status : ℕ) (d : DeskState) (i j : RingInlet) (old new : CLine) : Type 0 where
+  -- its line was freed, so that nobody reads its words; or these have ended
+  pub over : status ≡ OK → IsFreedAt j old ⊎ IsEndedAt lives c d old new
+  -- or this is why its words have not ended
+  pub left : 0 < status → IsHeldBackAt lives c status d old new ⊎ IsElsewhereAt status j old new
+  pub same_inlet : 0 < status → status ≢ LEFT → HasLine old → j ≡ i
+  pub looked : HasNoLine old → HasLooked i j
 
--- C's line holds none, and of the owner's end of it in the desk d' only more is known
-pub record IsSkippedAt (c : ℕ) (d d' : DeskState) (old : CLine) : Type 0 where
-  pub none_held : HasNoLine old
-  pub looked : (i : RingInlet) → HasLooked (get_or d.inlets c i) (get_or d'.inlets c i)
+-- the first of these statuses, from client c on, that is not `OK`, and whose it is
+abbrev pub first_left : ℕ → List ℕ → Option Left
+first_left c [] = None
+first_left c (status ∷ later) =
+    if status == OK then first_left (c + 1) later else Some (record { client = c; status = status })
 
--- for some reason its words were not ended, and the line is as it was; so is the owner's end of it in the
--- desk d', unless something of the client is left
-pub record IsKeptAt (lives c : ℕ) (d d' : DeskState) (old new : CLine) : Type 0 where
-  pub status : ℕ
-  pub refused : 0 < status
-  pub left : IsHeldBackAt lives c status d old new
-  pub same_inlet : status ≢ LEFT → (i : RingInlet) → get_or d'.inlets c i ≡ get_or d.inlets c i
+-- the first client that was left, after this one
+abbrev pub next_left : Option Left → ℕ → ℕ → Option Left
+next_left (Some left) c status = Some left
+next_left None c status = first_left c (status ∷ [])
 
--- the client was skipped, since it has no line, or its words have ended, or else there is a reason and its
--- line is as it was; the desk is d before and d' after
-abbrev pub IsTriedAt : ℕ → ℕ → DeskState → DeskState → CLine → CLine → Type 0
-IsTriedAt lives c d d' old new = IsSkippedAt c d d' old ⊎ IsEndedAt lives c d old new ⊎ IsKeptAt lives c d d' old new
-
--- so for each client
-abbrev pub AllTried : ℕ → DeskState → DeskState → List CLine → List CLine → Type 0
-AllTried lives d d' old new = (c : ℕ) (x : CLine) → c < clients_of d
-    → IsTriedAt lives c d d' (get_or old c x) (get_or new c x)
-
--- there is one of C's lines for each client, and each was freed or its words have ended
-pub record AllEnded (lives : ℕ) (d d' : DeskState) (old new : List CLine) : Type 0 where
+-- there is one of C's lines for each client, and each client was tried; this one is the first that was left
+pub record AllTried (lives : ℕ) (left : Option Left) (d d' : DeskState) (old new : List CLine) : Type 0 where
   pub as_many : length old ≡ clients_of d
-  pub each : (c : ℕ) (x : CLine) → c < clients_of d → IsOverAt lives c d d' (get_or old c x) (get_or new c x)
+  pub statuses : List ℕ
+  pub one_each : length statuses ≡ clients_of d
+  pub each : (c : ℕ) (i : RingInlet) (x : CLine) → c < clients_of d → IsTriedAt lives c (get_or statuses c OK) d
+      (get_or d.inlets c i) (get_or d'.inlets c i) (get_or old c x) (get_or new c x)
+  pub left_is : left ≡ first_left 0 statuses
 
--- each client before this one has freed its line, or its words have ended; and this is why its own have not
-pub record IsFirstLeft (lives client status : ℕ) (d d' : DeskState) (old new : List CLine) : Type 0 where
-  pub as_many : length old ≡ clients_of d
-  pub client_in_range : client < clients_of d
-  pub before : (c : ℕ) (x : CLine) → c < client → IsOverAt lives c d d' (get_or old c x) (get_or new c x)
-  pub left : (x : CLine) → IsLeftAt lives client status d d' (get_or old client x) (get_or new client x)
+-- each client was tried, with `OK`
+abbrev pub AllEnded : ℕ → DeskState → DeskState → List CLine → List CLine → Type 0
+AllEnded lives d d' old new = AllTried lives None d d' old new
 
 -- why the words of not all clients have ended: the first that holds
 abbrev pub WhyNotAllEnded : ℕ → ℕ → ℕ → DeskState → DeskState → List CLine → List CLine → Type 0
 WhyNotAllEnded lives client status d d' old new =
-    ((status ≡ OUT_OF_RANGE) × (length old ≢ clients_of d)) ⊎ IsFirstLeft lives client status d d' old new
+    ((status ≡ OUT_OF_RANGE) × (length old ≢ clients_of d))
+    ⊎ AllTried lives (Some (record { client = client; status = status })) d d' old new

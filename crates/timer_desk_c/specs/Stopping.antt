@@ -1,6 +1,6 @@
 -- The pending timers of a client that is gone: the owner stops all of them.
-use Rattle.std.specs.Prelude.{ℕ, ◌≡◌, ◌≢◌, ◌+◌, ◌<◌, ◌≤◌, ◌⊎◌, ◌==◌, not, true, false, List, [], ◌∷◌, Option, Some, None, filter, length, get_or, slice_set}
-use Rattle.std.specs.List.{AllByRecursion}
+use Rattle.std.specs.Prelude.{ℕ, ◌≡◌, ◌≢◌, ◌+◌, ◌<◌, ◌≤◌, ◌⊎◌, ◌==◌, not, true, false, List, Option, Some, None, filter, map, length, get_or, slice_set}
+use Rattle.std.specs.List.{AllByRecursion, enumerate_from}
 use Rattle.timer_base.specs.declared.limits.TheConstants.{LAST}
 use Rattle.timer_base.specs.declared.timer.Timer.{Timer}
 use Rattle.timer_base.specs.declared.timer.Handle.{Handle}
@@ -20,16 +20,21 @@ use Rattle.timer_desk_c.specs.declared.status.TheConstants.{NO_CLIENT, NOT_FREED
 use Rattle.timer_desk_c.specs.DeskSlots.{DeskState}
 use Rattle.timer_desk_c.specs.Freed.{OnlyLooks}
 
+-- the client's request, under this number, to stop the timer with this handle
+abbrev pub stop_of : ℕ → ℕ × Handle → PlacedEvent
+stop_of client numbered = placed (Asked client numbered.0 (Stop (ByHandle numbered.1))) 0
+
+-- its out, if it is accepted
+abbrev pub stop_out : ℕ → ℕ × Handle → Out
+stop_out client numbered = Outs.Answered client numbered.0 (Stopped numbered.1.serial)
+
 -- the client's requests to stop the timers with these handles, from this number on
 abbrev pub stops : ℕ → ℕ → List Handle → List PlacedEvent
-stops client number [] = []
-stops client number (handle ∷ handles) = placed (Asked client number (Stop (ByHandle handle))) 0 ∷ stops client (number + 1) handles
+stops client number handles = map (stop_of client) (enumerate_from number handles)
 
--- their outs, if each is accepted
+-- their outs
 abbrev pub stops_outs : ℕ → ℕ → List Handle → List Out
-stops_outs client number [] = []
-stops_outs client number (handle ∷ handles) =
-    Outs.Answered client number (Stopped handle.serial) ∷ stops_outs client (number + 1) handles
+stops_outs client number handles = map (stop_out client) (enumerate_from number handles)
 
 -- the entries of other clients
 abbrev pub of_others : ℕ → List Entry → List Entry

@@ -3,18 +3,16 @@
 //! The contracts have the same parts as those of `line_exports`. What a serve, a tick or a close did to the desk
 //! is a report, as in `timer_desk`: each member with its exact result, the words for each client in order, and the
 //! facility before and after. A flush is a report too, and then drops the words to a line that was freed.
-ghost use Rattle.std.specs.Prelude.{◌≡◌, ◌≢◌, ◌<◌, ◌≤◌, ◌⊎◌, [], length, get_or, true, false};
-ghost use Rattle.timer_facility.specs.State.{FacilityState, pending_of};
-ghost use Rattle.timer_desk.specs.declared.ring.RingInlet.{RingInlet};
+ghost use Rattle.std.specs.Prelude.{◌≡◌, ◌≢◌, ◌<◌, ◌≤◌, ◌⊎◌, length, true, false};
+ghost use Rattle.timer_facility.specs.State.{pending_of};
 ghost use Rattle.timer_desk.specs.Desk.{clients_of, backlog_at};
-ghost use Rattle.timer_desk.specs.Ring.{line_of_inlet};
 ghost use Rattle.timer_desk.specs.Shutdown.{KeepsLines};
 ghost use Rattle.timer_desk_c.specs.Frames.{IsOpen, IsShut, with_desk, HasLine, HasNoLine, with_line, is_own, next_life};
 ghost use Rattle.timer_desk_c.specs.Desks.{IsFit, IsMade, AllEmpty, IsOneHeld, WhyNotMade, with_reserve, HasServed, HasTicked, HasClosed, IsNextTick, IsFirstDeadline, IsSettled, IsGivenAs, IsAsBefore, WhyNotSettled};
 ghost use Rattle.timer_desk_c.specs.Rounds.{HasServedAll, HasFlushedAll};
 ghost use Rattle.timer_desk_c.specs.Ticks.{HasAdvanced, WhyNotAdvanced, HasFlushed};
 ghost use Rattle.timer_desk_c.specs.Shutdown.{IsTied, OnlySettles, HasEnded, WhyNotEnded};
-ghost use Rattle.timer_desk_c.specs.ShutdownAll.{AreTied, OnlyStates, AllTried, AllEnded, WhyNotAllEnded};
+ghost use Rattle.timer_desk_c.specs.ShutdownAll.{AreTied, OnlyStates, AllEnded, WhyNotAllEnded};
 ghost use Rattle.timer_desk_c.specs.Freed.{OnlyLooks, IsSeenFreed};
 ghost use Rattle.timer_desk_c.specs.Opening.{HasOpened, WhyNotOpened};
 ghost use Rattle.timer_desk_c.specs.Stopping.{HasStopped, WhyNotStopped};
@@ -22,16 +20,20 @@ ghost use Rattle.timer_desk_c.specs.declared.status.TheConstants.{OK, NOT_OPEN, 
 
 use crate::c_structs::{CDesk, CLine, is_line_of, next_life};
 use crate::desk_maker::{Made, make};
+use crate::dropping::drop_rest;
 use crate::layout::DeskConfig;
+use crate::line::Line;
 use crate::opening::open;
 use crate::placement::{are_empty, hold, place};
-use crate::settlement::settle;
 use crate::shutdown::end;
 use crate::shutdown_all::end_all;
-use crate::status::{NEVER, NOT_OPEN, OK, OPEN};
+use crate::status::{
+    CLOCK_END, CLOSED, NEVER, NO_CLIENT, NO_MEMORY, NOT_FINISHED, NOT_OPEN, OK, OPEN, OTHER_LINE,
+};
 use crate::stopping::stop_pending;
-use crate::{calls, rounds, ticks};
+use crate::{calls, rounds};
 use std::alloc::Global;
+use timer_facility::TickFault;
 use timer_ffi_base::RawBox;
 
 /// Makes a desk with a client for each of `lines`, which hold the clients' ends from then on. The struct begins another
@@ -93,7 +95,8 @@ pub extern "C" fn timers_desk_serve(d: &mut CDesk, client: usize) -> u32
     ensures only { d.new ≡ with_desk d.old d.new.slot.state }
 {
     match d.desk() {
-        Some(desk) => calls::serve(desk, client),
+        Some(desk) if client < desk.clients() => calls::status_of(desk.serve(client)),
+        Some(_) => NO_CLIENT,
         None => NOT_OPEN,
     }
 }
@@ -150,9 +153,20 @@ pub extern "C" fn timers_desk_advance(d: &mut CDesk, most: u64, passed: &mut u64
     ensures kept { 0 < result → (d.new ≡ d.old) × (passed.new ≡ passed.old) }
     ensures only { d.new ≡ with_desk d.old d.new.slot.state }
 {
-    match d.desk() {
-        Some(desk) => ticks::advance(desk, most, passed),
-        None => NOT_OPEN,
+    let Some(desk) = d.desk() else {
+        return NOT_OPEN;
+    };
+    if most == 0 {
+        *passed = 0;
+        return OK;
+    }
+    match desk.ticks(most) {
+        Ok(ticks) => {
+            *passed = ticks;
+            OK
+        }
+        Err(TickFault::Closed) => CLOSED,
+        Err(TickFault::ClockEnd) => CLOCK_END,
     }
 }
 
@@ -167,8 +181,13 @@ pub extern "C" fn timers_desk_flush(d: &mut CDesk, client: usize) -> usize
     ensures only { d.new ≡ with_desk d.old d.new.slot.state }
 {
     match d.desk() {
-        Some(desk) => ticks::flush(desk, client),
-        None => 0,
+        Some(desk) if client < desk.clients() => {
+            let before = desk.outbox_len(client);
+            desk.flush(client);
+            drop_rest(desk, client);
+            before - desk.outbox_len(client)
+        }
+        _ => 0,
     }
 }
 
@@ -235,7 +254,7 @@ pub extern "C" fn timers_desk_next(d: &mut CDesk) -> u64
     ensures same { d.new ≡ d.old }
 {
     match d.desk() {
-        Some(desk) => calls::next(desk),
+        Some(desk) => desk.facility().next_deadline().unwrap_or(NEVER),
         None => NEVER,
     }
 }
@@ -256,8 +275,8 @@ pub extern "C" fn timers_desk_line_freed(d: &mut CDesk, client: usize) -> bool
     ensures only { d.new ≡ with_desk d.old d.new.slot.state }
 {
     match d.desk() {
-        Some(desk) => calls::line_freed(desk, client),
-        None => false,
+        Some(desk) if client < desk.clients() => desk.is_abandoned(client),
+        _ => false,
     }
 }
 
@@ -326,7 +345,10 @@ pub extern "C" fn timers_desk_reserve(d: &mut CDesk) -> u32
     ensures only { d.new ≡ with_desk d.old d.new.slot.state }
 {
     match d.desk() {
-        Some(desk) => calls::reserve(desk),
+        Some(desk) => match desk.reserve() {
+            Ok(()) => OK,
+            Err(_) => NO_MEMORY,
+        },
         None => NOT_OPEN,
     }
 }
@@ -341,8 +363,8 @@ pub extern "C" fn timers_desk_pending(d: &mut CDesk, client: usize) -> usize
     ensures same { d.new ≡ d.old }
 {
     match d.desk() {
-        Some(desk) => calls::pending(desk, client),
-        None => 0,
+        Some(desk) if client < desk.clients() => desk.facility().pending_of(client as u64),
+        _ => 0,
     }
 }
 
@@ -356,8 +378,8 @@ pub extern "C" fn timers_desk_outbox(d: &mut CDesk, client: usize) -> usize
     ensures same { d.new ≡ d.old }
 {
     match d.desk() {
-        Some(desk) => calls::outbox(desk, client),
-        None => 0,
+        Some(desk) if client < desk.clients() => desk.outbox_len(client),
+        _ => 0,
     }
 }
 
@@ -375,8 +397,8 @@ pub extern "C" fn timers_desk_settle(
     ensures settled { result ≡ OK → IsOpen d.old × HasLine line.old × (is_own client d.old.lives line.old ≡ true)
         × IsSettled client standing.new line.old.slot.state d.old.slot.state d.new.slot.state }
     ensures refused { 0 < result → ((result ≡ NOT_OPEN) × (IsShut d.old ⊎ HasNoLine line.old))
-        ⊎ (IsOpen d.old × HasLine line.old × WhyNotSettled client (is_own client d.old.lives line.old)
-        d.old.slot.state line.old.slot.state result) }
+        ⊎ (IsOpen d.old × HasLine line.old × WhyNotSettled client (clients_of d.old.slot.state)
+        (is_own client d.old.lives line.old) line.old.slot.state result) }
     ensures kept { 0 < result → (d.new ≡ d.old) × (standing.new ≡ standing.old) }
     ensures line { IsAsBefore line.old.slot.state line.new.slot.state }
     ensures only { (d.new ≡ with_desk d.old d.new.slot.state)
@@ -389,7 +411,21 @@ pub extern "C" fn timers_desk_settle(
     let Some(line) = line.line() else {
         return NOT_OPEN;
     };
-    settle(desk, client, own, line, standing)
+    if client >= desk.clients() {
+        return NO_CLIENT;
+    }
+    if !own {
+        return OTHER_LINE;
+    }
+    match line {
+        Line::Open(_) => NOT_FINISHED,
+        Line::Finished(Some(ended), _) => {
+            *standing = desk.settle(client, ended);
+            OK
+        }
+        Line::Finished(None, _) => OTHER_LINE,
+        Line::Gone => OTHER_LINE,
+    }
 }
 
 /// Ends the words of a client that has finished, unless something of it is left at the desk, and writes how
@@ -442,8 +478,6 @@ pub extern "C" fn timers_desk_end_all(d: &mut CDesk, lines: &mut [CLine], client
     ensures refused { 0 < result → ((result ≡ NOT_OPEN) × IsShut d.old)
         ⊎ (IsOpen d.old × WhyNotAllEnded d.old.lives client.new result d.old.slot.state d.new.slot.state lines.old
         lines.new) }
-    ensures tried { IsOpen d.old → length lines.old ≡ clients_of d.old.slot.state
-        → AllTried d.old.lives d.old.slot.state d.new.slot.state lines.old lines.new }
 
     // The number is written only if a client is to blame.
     ensures client { result ≡ OK → client.new ≡ client.old }

@@ -1,8 +1,7 @@
 //! A desk and the lines of its clients.
-ghost use Rattle.std.specs.Prelude.{◌≡◌, ◌<◌, ◌≤◌, ◌⊎◌, [], map, length, vec_len, IfOk, IfErr, IfSome, IsNone};
+ghost use Rattle.std.specs.Prelude.{◌≡◌, ◌<◌, ◌≤◌, map, vec_len, IfOk, IfErr, IfSome};
 ghost use Rattle.timer_facility.specs.Facility.{with_nothing_waiting};
 ghost use Rattle.timer_facility.specs.Opened.{opened};
-ghost use Rattle.timer_desk.specs.Desk.{clients_of};
 ghost use Rattle.timer_wheels.specs.Tables.{last_of_table, slots_of_table};
 ghost use Rattle.timer_wheels.specs.TableNumbers.{IsTableFor};
 ghost use Rattle.timer_desk_c.specs.Desks.{config_of, IsFit, AreNewLines, IsNewDesk, WhyNotMade};

@@ -6,7 +6,7 @@
 //!
 //!     desk_exports   the owner's calls: each tests whether a desk is held, and passes the call on
 //!     line_exports   a client's calls, the same for its line
-//!     calls, rounds, ticks, dropping, stopping, settlement, shutdown, shutdown_all, opening
+//!     calls, rounds, dropping, stopping, shutdown, shutdown_all, opening
 //!                    what they do to a desk, with C's statuses
 //!     line           a client's end, before and after it has finished
 //!     messages       words as C's struct
@@ -30,12 +30,10 @@ mod messages;
 mod opening;
 mod placement;
 mod rounds;
-mod settlement;
 mod shutdown;
 mod shutdown_all;
 mod status;
 mod stopping;
-mod ticks;
 
 pub use c_structs::{CDesk, CLine};
 pub use desk_cell::DeskCell;

@@ -5,7 +5,7 @@ use crate::layout::Message;
 use crate::messages::message_of;
 use crate::status::{FINISHED, LINE_FULL, NUMBERS_SPENT, OK};
 use std::mem;
-use timer_desk::{ClientEnd, ClientReader, RequestsEnded, Unsent, Word};
+use timer_desk::{ClientEnd, ClientReader, RequestsEnded, Unsent};
 use timer_facility::Request;
 
 /// The client's end of a line.
@@ -20,7 +20,7 @@ pub enum Line {
 }
 
 impl Line {
-    ghost use Rattle.std.specs.Prelude.{◌≡◌, ◌<◌, ◌↔◌, ◌++◌, [], ◌∷◌, true, false, IfSome, IsNone};
+    ghost use Rattle.std.specs.Prelude.{◌≡◌, ◌<◌, ◌↔◌, ◌++◌, [], true, false};
     ghost use Rattle.timer_desk.specs.declared.looks.Found.TheVariants as Found;
     ghost use Rattle.timer_desk_c.specs.Lines.{HasSent, WhyNotSent, HasReceived, IsSameLine, SameTraffic, HasFinished, IsReadToEnd, MayReceive, is_open_line, is_ended_line, seen_on, unread_on, received_on, submitted_on, next_on, found_on};
     ghost use Rattle.timer_desk_c.specs.Freed.{HasNoWord};
@@ -48,24 +48,6 @@ impl Line {
         }
     }
 
-    /// Receives the next word.
-    fn next_word(&mut self) -> Option<Word>
-        ensures some { IfSome result (λ w. received_on self.new ≡ received_on self.old ++ w ∷ []) }
-        ensures none { IsNone result → (received_on self.new ≡ received_on self.old) × (seen_on self.old ≡ [])
-            × (unread_on self.old ≡ []) }
-        ensures all { is_ended_line self.old ≡ true
-            → received_on self.new ++ unread_on self.new ≡ received_on self.old ++ unread_on self.old }
-        ensures line { IsSameLine self.old self.new }
-        ensures sent { (submitted_on self.new ≡ submitted_on self.old)
-            × (next_on self.new ≡ next_on self.old) }
-    {
-        match self {
-            Line::Open(end) => end.receive(),
-            Line::Finished(_, reader) => reader.receive(),
-            Line::Gone => None,
-        }
-    }
-
     /// Receives the next word, and writes it.
     pub(crate) fn receive(&mut self, out: &mut Message) -> bool
         ensures received { result ≡ true → HasReceived self.old self.new out.new }
@@ -78,7 +60,12 @@ impl Line {
         ensures sent { (submitted_on self.new ≡ submitted_on self.old)
             × (next_on self.new ≡ next_on self.old) }
     {
-        match self.next_word() {
+        let next = match self {
+            Line::Open(end) => end.receive(),
+            Line::Finished(_, reader) => reader.receive(),
+            Line::Gone => None,
+        };
+        match next {
             Some(word) => {
                 *out = message_of(word);
                 true

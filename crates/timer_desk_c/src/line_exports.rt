@@ -1,7 +1,7 @@
 //! The functions that C calls in a client's thread. None of them waits or allocates. `timers_line_free` frees
 //! memory, and so may `timers_line_finish`.
 //!
-//! The contracts have the same parts: what the call did if it returns `OK`; the first reason that holds if it
+//! Most contracts have the same parts: what the call did if it returns `OK`; the first reason that holds if it
 //! returns another status; what is unchanged then; and that of C's structs only the state of the line changes.
 ghost use Rattle.std.specs.Prelude.{◌≡◌, ◌<◌, ◌⊎◌, ◌↔◌, ◌++◌, [], true, false};
 ghost use Rattle.timer_facility.specs.declared.request.Request.TheVariants.{Start, StartAt, Stop, Restart, RestartAt};

@@ -2,7 +2,7 @@
 //!
 //! Nothing of the client that is gone is left then: so each request and each word of the new line is the new
 //! client's. The numbers of its requests go on from those of the one that is gone, since the facility counts them.
-ghost use Rattle.std.specs.Prelude.{◌≡◌, ◌<◌, ◌≤◌, ◌≢◌, ℕ, true, false, get_or, IfOk, IfErr};
+ghost use Rattle.std.specs.Prelude.{◌≡◌, ◌<◌, ◌≤◌, ◌≢◌, true, false, get_or, IfOk, IfErr};
 ghost use Rattle.timer_base.specs.declared.limits.TheConstants.{LAST};
 ghost use Rattle.timer_facility.specs.State.{number_of};
 ghost use Rattle.timer_desk.specs.declared.ring.RingInlet.{RingInlet};
@@ -10,8 +10,8 @@ ghost use Rattle.timer_desk.specs.declared.looks.Found.TheVariants as Found;
 ghost use Rattle.timer_desk.specs.Desk.{clients_of};
 ghost use Rattle.timer_desk.specs.Ring.{found_by_inlet};
 ghost use Rattle.timer_desk_c.specs.Freed.{OnlyLooks};
-ghost use Rattle.timer_desk_c.specs.Desks.{IsNewInlet, IsEndOf};
-ghost use Rattle.timer_desk_c.specs.Opening.{IsClear, IsRoom, IsEndFrom, HasOpened, WhyNotOpened};
+ghost use Rattle.timer_desk_c.specs.Desks.{IsNewLine};
+ghost use Rattle.timer_desk_c.specs.Opening.{IsClear, IsRoom, HasOpened, WhyNotOpened};
 
 use crate::desk_maker::{MAX_LINE, MIN_LINE};
 use crate::line::Line;
@@ -36,6 +36,7 @@ pub(crate) fn open<W: Wheel + Drop>(
 ) -> Result<Box<Line>, u32>
     ensures opened { IfOk result (λ end. HasOpened client room desk.old desk.new end.value) }
     ensures refused { IfErr result (WhyNotOpened client room desk.old desk.new) }
+    ensures status { IfErr result (λ status. 0 < status) }
     ensures kept { IfErr result (λ _. OnlyLooks client desk.old desk.new) }
 {
     if client >= desk.clients() {
@@ -73,9 +74,7 @@ pub(crate) fn next_number<W: Wheel + Drop>(desk: &Desk<W, RingInlet>, client: us
 fn new_ends(alloc: Global, room: usize, number: u64) -> Result<NewEnds, OutOfMemory>
     requires room { IsRoom room }
     requires number { number ≤ LAST }
-    ensures inlet { IfOk result (λ ends. IsNewInlet room ends.inlet) }
-    ensures end { IfOk result (λ ends. IsEndFrom number room ends.end.value) }
-    ensures tied { IfOk result (λ ends. IsEndOf ends.inlet ends.end.value) }
+    ensures { IfOk result (λ ends. IsNewLine number room ends.inlet ends.end.value) }
 {
     let Ok((end, inlet)) = ring_line(alloc, room, number) else {
         return Err(OutOfMemory);

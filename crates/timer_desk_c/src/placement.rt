@@ -1,7 +1,7 @@
 //! Puts the clients' ends of new lines into C's structs.
 ghost use Rattle.std.specs.Prelude.{◌≡◌, map, length, vec_len, true, false};
-ghost use Rattle.timer_desk_c.specs.Desks.{AllEmpty, IsOneHeld, AreHeld};
-ghost use Rattle.timer_desk_c.specs.Frames.{HasLine, HasNoLine};
+ghost use Rattle.timer_desk_c.specs.Desks.{AllEmpty, IsOneHeld, IsHeld, AreHeld};
+ghost use Rattle.timer_desk_c.specs.Frames.{HasNoLine};
 
 use crate::c_structs::CLine;
 use crate::line::Line;
@@ -37,10 +37,7 @@ pub(crate) fn place(ends: Vec<Box<Line>>, lines: &mut [CLine], life: u64)
 /// Puts the end of a client into a line that holds none, in this life of its desk's struct.
 pub(crate) fn hold(line: &mut CLine, end: Box<Line>, client: usize, life: u64)
     requires { HasNoLine line.old }
-    ensures held { HasLine line.new }
-    ensures state { line.new.slot.state ≡ end.value }
-    ensures client { line.new.client ≡ client }
-    ensures life { line.new.life ≡ life }
+    ensures { IsHeld life client end.value line.new }
 {
     line.slot.cell().put(RawBox::park(end));
     line.client = client as u64;

@@ -1,10 +1,8 @@
 //! Ends the words of a client that has finished, once nothing of it is left at the desk.
-ghost use Rattle.std.specs.Prelude.{◌≡◌, ◌<◌, ◌≢◌, ◌⊎◌, ℕ, length, get_or, true, false};
-ghost use Rattle.timer_facility.specs.State.{pending_of};
+ghost use Rattle.std.specs.Prelude.{◌≡◌, ◌<◌, ◌≢◌, get_or, true, false};
 ghost use Rattle.timer_desk.specs.declared.ring.RingInlet.{RingInlet};
-ghost use Rattle.timer_desk.specs.Desk.{clients_of, backlog_at, IsIdle};
-ghost use Rattle.timer_desk.specs.Ring.{line_of_inlet, got_of, requests_ring_of, words_ring_of_reader, all_submitted, read_by, unread_by, is_settled_reader};
-ghost use Rattle.timer_desk.specs.Shutdown.{IsReadOut};
+ghost use Rattle.timer_desk.specs.Desk.{clients_of};
+ghost use Rattle.timer_desk.specs.Ring.{line_of_inlet, requests_ring_of, all_submitted};
 ghost use Rattle.timer_desk_c.specs.Desks.{IsAsBefore};
 ghost use Rattle.timer_desk_c.specs.Shutdown.{IsGone, IsLeft, IsTied, OnlySettles, HasEnded, WhyNotEnded};
 ghost use Rattle.timer_desk_c.specs.declared.status.TheConstants.{OK, LEFT};
@@ -12,7 +10,7 @@ ghost use Rattle.timer_desk_c.specs.declared.status.TheConstants.{OK, LEFT};
 use crate::line::Line;
 use crate::status::{LEFT, NO_CLIENT, NOT_FINISHED, OK, OTHER_LINE};
 use timer_base::Wheel;
-use timer_desk::{ClientReader, Desk, RequestsEnded, RingInlet};
+use timer_desk::{Desk, RequestsEnded, RingInlet};
 
 /// Ends the words of a client, and writes how many stand in its line. `own` says whether the line is the client's, in
 /// this life of the desk's struct.
@@ -39,45 +37,17 @@ pub(crate) fn end<W: Wheel + Drop>(
     match line {
         Line::Open(_) => NOT_FINISHED,
         Line::Finished(requests, reader) => match requests {
-            Some(ended) => end_words(desk, client, ended, reader, unread),
+            Some(ended) => {
+                if is_left(desk, client, ended) {
+                    return LEFT;
+                }
+                *unread = desk.settle_reader(client, reader);
+                OK
+            }
             None => OTHER_LINE,
         },
         Line::Gone => OTHER_LINE,
     }
-}
-
-/// Ends the words of a client, unless something of it is left at the desk.
-fn end_words<W: Wheel + Drop>(
-    desk: &mut Desk<W, RingInlet>,
-    client: usize,
-    ended: &mut RequestsEnded,
-    reader: &mut ClientReader,
-    unread: &mut usize,
-) -> u32
-    requires client { client < clients_of desk.old }
-    requires requests { (i : RingInlet) → requests_ring_of ended.old
-        ≡ (line_of_inlet (get_or desk.old.inlets client i)).0 }
-    requires words { (i : RingInlet) → words_ring_of_reader reader.old
-        ≡ (line_of_inlet (get_or desk.old.inlets client i)).1 }
-    ensures status { (result ≡ OK) ⊎ (result ≡ LEFT) }
-    ensures gone { result ≡ OK → IsGone client desk.old (all_submitted ended.old) }
-    ensures read_out { result ≡ OK → (i : RingInlet)
-        → IsReadOut (get_or desk.old.inlets client i) reader.old reader.new }
-    ensures count { result ≡ OK → unread.new ≡ length (unread_by reader.new) }
-    ensures settled { result ≡ OK → is_settled_reader reader.new ≡ true }
-    ensures reader { (words_ring_of_reader reader.new ≡ words_ring_of_reader reader.old)
-        × (read_by reader.new ≡ read_by reader.old) }
-    ensures left { result ≡ LEFT → IsLeft client desk.old (all_submitted ended.old) }
-    ensures kept { result ≡ LEFT → (unread.new ≡ unread.old) × (reader.new ≡ reader.old) }
-    ensures desk { OnlySettles client desk.old desk.new }
-    ensures ended { (requests_ring_of ended.new ≡ requests_ring_of ended.old)
-        × (all_submitted ended.new ≡ all_submitted ended.old) }
-{
-    if is_left(desk, client, ended) {
-        return LEFT;
-    }
-    *unread = desk.settle_reader(client, reader);
-    OK
 }
 
 /// Settles the requests of a client, and returns whether something of it is left at the desk.

@@ -1,15 +1,12 @@
 //! Ends the words of every client: each is tried in turn, and the first that is left is reported.
-ghost use Rattle.std.specs.Prelude.{◌≡◌, ◌≢◌, ◌<◌, ◌⊎◌, length, get_or, true, Some, None, IsNone, IfSome};
+ghost use Rattle.std.specs.Prelude.{◌≡◌, ◌≢◌, ◌<◌, ◌⊎◌, length, get_or, true, Some, None, IfSome};
 ghost use Rattle.timer_desk.specs.Desk.{clients_of};
 ghost use Rattle.timer_desk.specs.declared.ring.RingInlet.{RingInlet};
-ghost use Rattle.timer_desk.specs.declared.looks.Found.TheVariants as Found;
-ghost use Rattle.timer_desk.specs.Ring.{found_by_inlet};
 ghost use Rattle.timer_desk.specs.Settlement.{HasLooked};
 ghost use Rattle.timer_desk.specs.Shutdown.{KeepsLines};
 ghost use Rattle.timer_desk_c.specs.Frames.{HasLine, HasNoLine, with_line, is_own};
-ghost use Rattle.timer_desk_c.specs.Freed.{OnlyLooks};
 ghost use Rattle.timer_desk_c.specs.Shutdown.{IsTied, OnlySettles};
-ghost use Rattle.timer_desk_c.specs.ShutdownAll.{AreTied, OnlyStates, IsOverAt, IsLeftAt, AllTried, AllEnded, IsFirstLeft, WhyNotAllEnded};
+ghost use Rattle.timer_desk_c.specs.ShutdownAll.{AreTied, OnlyStates, IsFreedAt, IsEndedAt, IsHeldBackAt, IsElsewhereAt, next_left, AllTried, AllEnded, WhyNotAllEnded};
 ghost use Rattle.timer_desk_c.specs.declared.status.TheConstants.{OK, LEFT, NOT_FREED};
 
 use crate::c_structs::{CLine, is_line_of};
@@ -37,7 +34,6 @@ pub(crate) fn end_all<W: Wheel + Drop>(
     requires lines { length lines.old ≡ clients_of desk.old → AreTied lives desk.old lines.old }
     ensures ended { result ≡ OK → AllEnded lives desk.old desk.new lines.old lines.new }
     ensures refused { 0 < result → WhyNotAllEnded lives client.new result desk.old desk.new lines.old lines.new }
-    ensures tried { length lines.old ≡ clients_of desk.old → AllTried lives desk.old desk.new lines.old lines.new }
     ensures client { result ≡ OK → client.new ≡ client.old }
     ensures kept { length lines.old ≢ clients_of desk.old → (desk.new ≡ desk.old) × (lines.new ≡ lines.old)
         × (client.new ≡ client.old) }
@@ -64,10 +60,8 @@ fn end_each<W: Wheel + Drop>(
 ) -> Option<Left>
     requires as_many { length lines.old ≡ clients_of desk.old }
     requires lines { AreTied lives desk.old lines.old }
-    ensures none { IsNone result → AllEnded lives desk.old desk.new lines.old lines.new }
-    ensures some { IfSome result (λ left. (0 < left.status)
-        × IsFirstLeft lives left.client left.status desk.old desk.new lines.old lines.new) }
-    ensures tried { AllTried lives desk.old desk.new lines.old lines.new }
+    ensures tried { AllTried lives result desk.old desk.new lines.old lines.new }
+    ensures refused { IfSome result (λ left. 0 < left.status) }
     ensures desk { KeepsLines desk.old desk.new }
     ensures only { OnlyStates lines.old lines.new }
 {
@@ -90,11 +84,13 @@ fn end_held<W: Wheel + Drop>(
     requires client { client < clients_of desk.old }
     requires line { HasLine line.old → client < clients_of desk.old → is_own client lives line.old ≡ true
         → IsTied client desk.old line.old.slot.state }
-    ensures ended { result ≡ OK → IsOverAt lives client desk.old desk.new line.old line.new }
-    ensures skipped { HasNoLine line.old → (i : RingInlet) → HasLooked (get_or desk.old.inlets client i)
-        (get_or desk.new.inlets client i) }
-    ensures left { 0 < result → IsLeftAt lives client result desk.old desk.new line.old line.new }
+    ensures over { result ≡ OK → (i : RingInlet) → IsFreedAt (get_or desk.new.inlets client i) line.old
+        ⊎ IsEndedAt lives client desk.old line.old line.new }
+    ensures left { 0 < result → (i : RingInlet) → IsHeldBackAt lives client result desk.old line.old line.new
+        ⊎ IsElsewhereAt result (get_or desk.new.inlets client i) line.old line.new }
     ensures same { 0 < result → result ≢ LEFT → HasLine line.old → desk.new ≡ desk.old }
+    ensures looked { HasNoLine line.old → (i : RingInlet) → HasLooked (get_or desk.old.inlets client i)
+        (get_or desk.new.inlets client i) }
     ensures desk { OnlySettles client desk.old desk.new }
     ensures only { line.new ≡ with_line line.old line.new.slot.state }
 {
@@ -102,31 +98,15 @@ fn end_held<W: Wheel + Drop>(
     let mut unread = 0;
     match line.line() {
         Some(line) => end(desk, client, own, line, &mut unread),
-        None => freed(desk, client),
+        None if desk.is_abandoned(client) => OK,
+        None => NOT_FREED,
     }
-}
-
-/// `OK` if the line of a client was freed.
-fn freed<W: Wheel + Drop>(desk: &mut Desk<W, RingInlet>, client: usize) -> u32
-    requires { client < clients_of desk.old }
-    ensures status { (result ≡ OK) ⊎ (result ≡ NOT_FREED) }
-    ensures gone { result ≡ OK → (i : RingInlet) → found_by_inlet (get_or desk.new.inlets client i)
-        ≢ Found.Nothing }
-    ensures there { 0 < result → (i : RingInlet) → found_by_inlet (get_or desk.new.inlets client i)
-        ≡ Found.Nothing }
-    ensures looked { OnlyLooks client desk.old desk.new }
-{
-    if desk.is_abandoned(client) {
-        return OK;
-    }
-    NOT_FREED
 }
 
 /// The first client that was left, after this one.
 fn first_left(left: Option<Left>, client: usize, status: u32) -> Option<Left>
-    ensures before { left ≢ None → result ≡ left }
-    ensures ended { left ≡ None → status ≡ OK → result ≡ None }
-    ensures refused { left ≡ None → 0 < status → result ≡ Some (record { client = client; status = status }) }
+    ensures next { result ≡ next_left left client status }
+    ensures still { IfSome left (λ l. 0 < l.status) → IfSome result (λ l. 0 < l.status) }
 {
     if left.is_some() || status == OK {
         return left;

@@ -7,7 +7,7 @@
 //!     client     1   0   1   1   -   0      client 1 is gone
 //!     place      0   1   2   3   4   5
 //!     stopped    *       *   *              three requests, under the next three numbers of client 1
-ghost use Rattle.std.specs.Prelude.{◌≡◌, ◌≢◌, ◌+◌, ◌<◌, ◌≤◌, ℕ, true, false, get_or, IfSome, Some, None, OnOk, IfErr};
+ghost use Rattle.std.specs.Prelude.{◌≡◌, ◌≢◌, ◌+◌, ◌<◌, ◌≤◌, false, get_or, IfSome, Some, None};
 ghost use Rattle.timer_base.specs.declared.limits.TheConstants.{LAST};
 ghost use Rattle.timer_facility.specs.State.{number_of, pending_of, ByHandle};
 ghost use Rattle.timer_facility.specs.Verdict.{timer_named};
@@ -46,28 +46,13 @@ pub(crate) fn stop_pending(
         return CLOSED;
     }
     let count = desk.facility().pending_of(client as u64);
-    if !has_numbers(desk, client, count) {
+    let next = next_number(desk, client);
+    if next > LAST + 1 || count as u64 > LAST + 1 - next {
         return NUMBERS_SPENT;
     }
     stop_each(desk, client);
     *stopped = count;
     OK
-}
-
-/// Whether a client has numbers for so many requests.
-fn has_numbers(desk: &Desk<HierWheel, RingInlet>, client: usize, count: usize) -> bool
-    requires client { client < clients_of desk.now }
-    ensures yes { result ≡ true → number_of desk.now.facility client + count ≤ LAST + 1 }
-    ensures no { result ≡ false → LAST + 1 < number_of desk.now.facility client + count }
-{
-    let next = next_number(desk, client);
-    if next > LAST + 1 {
-        return false;
-    }
-    if count as u64 > LAST + 1 - next {
-        return false;
-    }
-    true
 }
 
 /// Stops each pending timer of a client that is gone.

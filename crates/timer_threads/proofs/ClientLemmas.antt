@@ -1,9 +1,10 @@
 -- One more word among those that a client received, and one more request among those that it sent.
-use Rattle.std.proofs.Common.{◌≡◌, ◌+◌, ◌-◌, ◌*◌, ◌%◌, ◌<◌, ◌≤◌, ◌==◌, ◌&&◌, ◌||◌, nat_lt, not, ℕ, zero, suc, Bool, true, false, List, map, [], ◌∷◌, ◌++◌, length, get_or, refl, sym, ◌∙◌, ap, subst, arith, append_assoc, append-nil, length-append, ◌⊎◌, inl, inr}
+use Rattle.std.proofs.Common.{◌≡◌, ◌+◌, ◌-◌, ◌*◌, ◌%◌, ◌<◌, ◌≤◌, ◌==◌, ◌&&◌, ◌||◌, nat_lt, not, ℕ, Bool, true, false, List, [], ◌∷◌, ◌++◌, length, get_or, refl, sym, ◌∙◌, ap, subst, arith, append_assoc, append-nil, length-append, ◌⊎◌, inl, inr}
 use Rattle.std.specs.Prelude.{Option, Some, None, IfSome}
 use Rattle.std.specs.List.{range_with_len, last_or}
 use Rattle.std.proofs.lemmas.Grind.{flat_map-append}
-use Rattle.std.proofs.lemmas.List.{get_or_push, append_cancel_left}
+use Rattle.std.proofs.lemmas.List.{get_or_push, append_cancel_left, map-id}
+use Rattle.std.proofs.lemmas.Option.{IfSome_then}
 use Rattle.std.proofs.lemmas.List.FromFn.{map-range_with_len_more, get_or-range_with_len, length-map-range_with_len}
 use Rattle.std.proofs.lemmas.Bool.Decides.{nat_tests}
 use Rattle.timer_base.specs.declared.timer.Timer.{Timer}
@@ -14,14 +15,17 @@ use Rattle.timer_desk.specs.declared.word.Word.{Word}
 use Rattle.timer_desk.specs.declared.word.Word.TheVariants as Words
 use Rattle.timer_desk.specs.declared.ring.ClientEnd.{ClientEnd}
 use Rattle.timer_desk.specs.declared.ring.RequestsEnded.{RequestsEnded}
+use Rattle.timer_desk.specs.declared.ring.ClientReader.{ClientReader}
+use Rattle.timer_threads.specs.declared.log.Log.{Log}
 use Rattle.timer_desk.specs.Ring.{line_of_end, next_of, submitted, received_by_end, numbered, all_submitted, read_by}
 use Rattle.timer_facility.specs.declared.request.Request.TheVariants.{Start}
 use Rattle.timer_threads.specs.declared.client.Client.{Client}
+use Rattle.timer_threads.proofs.ResultsLemmas.{or_false}
 use Rattle.timer_threads.specs.declared.outcome.Worked.{Worked}
 use Rattle.timer_threads.specs.declared.turn.Turn.{Turn}
 use Rattle.timer_threads.specs.Turns.{requests_of, words_of, idle_at_end}
-use Rattle.timer_threads.specs.Work.{HasWorked, request_of, requests_from, started_in, expired_in, started_by, expired_by, follows, AreAscending, ArePassed, IsStopped, GoesOn, AreTurns, IsLetGo, turns_of, WasAtEnd}
-use Rattle.timer_threads.specs.Client.{is_next_start, passes, AreChecked, IsAtWork, IsRecorded, turns_by, IsSound, is_complete}
+use Rattle.timer_threads.specs.Work.{HasWorked, request_of, requests_from, started_in, expired_in, started_by, expired_by, follows, AreAscending, ArePassed, IsStopped, GoesOn, AreTurns, IsLetGo}
+use Rattle.timer_threads.specs.Client.{is_next_start, passes, counted, AreChecked, IsAtWork, IsRecorded, turns_by, IsSound, is_complete}
 
 -- The requests.
 
@@ -37,12 +41,8 @@ requests_from-more first sent action is =
 -- The numbers of the answers.
 
 range_with_len-more : (first n : ℕ) → range_with_len first (n + 1) ≡ range_with_len first n ++ (first + n) ∷ []
-range_with_len-more first n = map_id (n + 1) first ∙ map-range_with_len_more (λ k. k) first n (first + n) refl
-    ∙ ap (λ xs. xs ++ (first + n) ∷ []) (sym (map_id n first))
-  where
-    map_id : (n a : ℕ) → range_with_len a n ≡ map (λ k. k) (range_with_len a n)
-    map_id zero a = refl
-    map_id (suc n) a = ap (λ xs. a ∷ xs) (map_id n (a + 1))
+range_with_len-more first n = sym (map-id (range_with_len first (n + 1))) ∙ map-range_with_len_more (λ k. k) first n (first + n) refl
+    ∙ ap (λ xs. xs ++ (first + n) ∷ []) (map-id (range_with_len first n))
 
 next_number : (first n : ℕ) (numbers : List ℕ) → numbers ≡ range_with_len first (length numbers) → n ≡ first + length numbers
     → numbers ++ n ∷ [] ≡ range_with_len first (length (numbers ++ n ∷ []))
@@ -135,11 +135,18 @@ expiry_passed first count ws w t more now = (
   was_after None (expired_by ws) t (subst (AreAscending None) more.expired now.order),
 )
 
-other_fails : (first count : ℕ) (ws : List Word) (w : Word) → AreWith ws w [] [] → ArePassed first count ws
-    → ¬ (ArePassed first count (ws ++ w ∷ []))
-other_fails first count ws w more was now =
-    let a = more.long in let b = more.starts in let c = more.expiries in let d = was.each in let e = now.each
-    in absurd (omega (arith, a, b, c, d, e))
+other_fails : (first count : ℕ) (ws : List Word) (w : Word) → length (started_in w) ≡ 0 → length (expired_in w) ≡ 0
+    → ArePassed first count ws → IsStopped first count (ws ++ w ∷ [])
+other_fails first count ws w no_start no_expiry was = record {
+  passed = ws;
+  last = w;
+  are = refl;
+  pass = was;
+  fails = λ now.
+      let more = are_with ws w in
+      let a = more.long in let b = more.starts in let c = more.expiries in let d = was.each in let e = now.each
+      in absurd (omega (arith, a, b, c, d, e, no_start, no_expiry));
+}
 
 -- if a word is tested, it and those before it are checked
 checked_by : (passed : Bool) (first count : ℕ) (ws : List Word) (w : Word) → ArePassed first count ws
@@ -147,12 +154,6 @@ checked_by : (passed : Bool) (first count : ℕ) (ws : List Word) (w : Word) →
     → AreChecked (not passed) first count (ws ++ w ∷ [])
 checked_by true first count ws w was pass fail = pass refl
 checked_by false first count ws w was pass fail = record { passed = ws; last = w; are = refl; pass = was; fails = fail refl }
-
-both : (a b : ℕ) (n m : ℕ) → nat_lt a b && (n == m) ≡ true → (a < b) × (n ≡ m)
-both a b n m h = grind (arith, nat_tests)
-
-not_both : (a b : ℕ) (n m : ℕ) → nat_lt a b && (n == m) ≡ false → a < b → n ≡ m → ⊥
-not_both a b n m h l e = grind (arith, nat_tests)
 
 both_test : (a b : ℕ) (q : Bool) → nat_lt a b && q ≡ true → (a < b) × (q ≡ true)
 both_test a b true h = grind (arith, nat_tests)
@@ -168,25 +169,23 @@ AreChecked-more : (c : Client) (ws : List Word) (w : Word) → ArePassed c.first
 AreChecked-more c ws (Words.Answered number (Answers.Started handle deadline)) was started expired last =
     let w : Word = Words.Answered number (Answers.Started handle deadline) in
     checked_by (is_next_start c number) c.first c.count ws w was
-    (λ p. let b = both c.started c.count number (c.first + c.started) p
-    in start_passes c.first c.count ws w number (are_with ws w) was (omega (arith, started, b.0)) (omega (arith, started, b.1)))
-    (λ p now. let b = start_passed c.first c.count ws w number (are_with ws w) now
-    in not_both c.started c.count number (c.first + c.started) p (omega (arith, started, b.0)) (omega (arith, started, b.1)))
+    (λ p.
+    let b = both_test c.started c.count (number == c.first + c.started) p in
+    let is : number ≡ c.first + length (started_by ws) = grind (arith, nat_tests, b.1, started) in
+    start_passes c.first c.count ws w number (are_with ws w) was (omega (arith, started, b.0)) is)
+    (λ p now.
+    let b = start_passed c.first c.count ws w number (are_with ws w) now in
+    not_both_test c.started c.count (number == c.first + c.started) p (omega (arith, started, b.0)) (grind (arith, nat_tests, b.1, started)))
 AreChecked-more c ws (Words.Answered number (Answers.Stopped serial)) was started expired last =
-    let w : Word = Words.Answered number (Answers.Stopped serial) in
-    record { passed = ws; last = w; are = refl; pass = was; fails = other_fails c.first c.count ws w (are_with ws w) was }
+    other_fails c.first c.count ws (Words.Answered number (Answers.Stopped serial)) refl refl was
 AreChecked-more c ws (Words.Answered number (Answers.Restarted handle deadline old)) was started expired last =
-    let w : Word = Words.Answered number (Answers.Restarted handle deadline old) in
-    record { passed = ws; last = w; are = refl; pass = was; fails = other_fails c.first c.count ws w (are_with ws w) was }
+    other_fails c.first c.count ws (Words.Answered number (Answers.Restarted handle deadline old)) refl refl was
 AreChecked-more c ws (Words.Answered number (Answers.Refused reason)) was started expired last =
-    let w : Word = Words.Answered number (Answers.Refused reason) in
-    record { passed = ws; last = w; are = refl; pass = was; fails = other_fails c.first c.count ws w (are_with ws w) was }
+    other_fails c.first c.count ws (Words.Answered number (Answers.Refused reason)) refl refl was
 AreChecked-more c ws (Words.NotTaken number reason) was started expired last =
-    let w : Word = Words.NotTaken number reason in
-    record { passed = ws; last = w; are = refl; pass = was; fails = other_fails c.first c.count ws w (are_with ws w) was }
+    other_fails c.first c.count ws (Words.NotTaken number reason) refl refl was
 AreChecked-more c ws (Words.Notice (Notices.Returned timer)) was started expired last =
-    let w : Word = Words.Notice (Notices.Returned timer) in
-    record { passed = ws; last = w; are = refl; pass = was; fails = other_fails c.first c.count ws w (are_with ws w) was }
+    other_fails c.first c.count ws (Words.Notice (Notices.Returned timer)) refl refl was
 AreChecked-more c ws (Words.Notice (Notices.Expired timer)) was started expired last =
     let w : Word = Words.Notice (Notices.Expired timer) in
     checked_by (nat_lt c.expired c.count && follows c.last timer) c.first c.count ws w was
@@ -196,77 +195,54 @@ AreChecked-more c ws (Words.Notice (Notices.Expired timer)) was started expired 
     not_both_test c.expired c.count (follows c.last timer) p (omega (arith, expired, b.0)) (ap (λ o. follows o timer) last ∙ b.1))
 
 -- a word was received, counted and checked, and nothing else changed
-pub IsAtWork-read : (start : ClientEnd) (old new : Client) (w : Word)
-    → line_of_end new.end ≡ line_of_end old.end → submitted new.end ≡ submitted old.end → next_of new.end ≡ next_of old.end
-    → received_by_end new.end ≡ received_by_end old.end ++ w ∷ []
-    → new.count ≡ old.count → new.first ≡ old.first → new.sent ≡ old.sent
-    → new.started ≡ old.started + length (started_in w) → new.expired ≡ old.expired + length (expired_in w)
-    → new.last ≡ last_or old.last (expired_in w)
-    → new.failed ≡ not (passes old w) → old.failed ≡ false
-    → IsAtWork start old → IsAtWork start new
-IsAtWork-read start old new w line same_sent same_next received count first sent started expired last failed good h =
+pub IsAtWork-read : (start : ClientEnd) (c : Client) (end : ClientEnd) (w : Word)
+    → line_of_end end ≡ line_of_end c.end → submitted end ≡ submitted c.end → next_of end ≡ next_of c.end
+    → received_by_end end ≡ received_by_end c.end ++ w ∷ [] → c.failed ≡ false
+    → IsAtWork start c → IsAtWork start (counted (record c { end = end }) w)
+IsAtWork-read start c end w line same_sent same_next received good h =
     let more = are_with h.words w in
-    let was : ArePassed old.first old.count h.words = subst (λ b. AreChecked b old.first old.count h.words) good h.checked in record {
+    let was : ArePassed c.first c.count h.words = subst (λ b. AreChecked b c.first c.count h.words) good h.checked in record {
       line = line ∙ h.line;
-      first = first ∙ h.first;
-      next = same_next ∙ h.next ∙ ap (λ n. n + old.sent) (sym first) ∙ ap (λ n. new.first + n) (sym sent);
-      sends = same_sent ∙ h.sends ∙ ap (λ n. submitted start ++ requests_from n old.sent) (sym first)
-          ∙ ap (λ n. submitted start ++ requests_from new.first n) (sym sent);
+      first = h.first;
+      next = same_next ∙ h.next;
+      sends = same_sent ∙ h.sends;
       words = h.words ++ w ∷ [];
       received = received ∙ ap (λ ws. ws ++ w ∷ []) h.received ∙ append_assoc (received_by_end start) h.words (w ∷ []);
-      started = more.starts ∙ ap (λ n. n + length (started_in w)) h.started ∙ sym started;
-      expired = more.expiries ∙ ap (λ n. n + length (expired_in w)) h.expired ∙ sym expired;
-      last = last ∙ ap (λ o. last_or o (expired_in w)) h.last ∙ sym (last_or-append None (expired_by h.words) (expired_in w))
+      started = more.starts ∙ ap (λ n. n + length (started_in w)) h.started;
+      expired = more.expiries ∙ ap (λ n. n + length (expired_in w)) h.expired;
+      last = ap (λ o. last_or o (expired_in w)) h.last ∙ sym (last_or-append None (expired_by h.words) (expired_in w))
           ∙ ap (last_or None) (sym more.expired);
-      checked = subst (λ b. AreChecked b new.first new.count (h.words ++ w ∷ [])) (sym failed)
-          (subst (λ n. AreChecked (not (passes old w)) n new.count (h.words ++ w ∷ [])) (sym first)
-          (subst (λ n. AreChecked (not (passes old w)) old.first n (h.words ++ w ∷ [])) (sym count)
-          (AreChecked-more old h.words w was h.started h.expired h.last)));
+      checked = AreChecked-more c h.words w was h.started h.expired h.last;
     }
 
 -- a request was sent, and nothing else changed
-pub IsAtWork-sent : (start : ClientEnd) (old new : Client) (number : ℕ)
-    → line_of_end new.end ≡ line_of_end old.end → received_by_end new.end ≡ received_by_end old.end
-    → number ≡ next_of old.end → next_of new.end ≡ number + 1
-    → submitted new.end ≡ submitted old.end ++ numbered number (Start (1 + (old.sent + 1) % 97) (old.sent + 1)) ∷ []
-    → new.first ≡ old.first → new.count ≡ old.count → new.sent ≡ old.sent + 1
-    → new.started ≡ old.started → new.expired ≡ old.expired → new.last ≡ old.last → new.failed ≡ old.failed
-    → IsAtWork start old → IsAtWork start new
-IsAtWork-sent start old new number line received is next sent first count counted started expired last failed h =
-    let at : number ≡ old.first + old.sent = is ∙ h.next in
-    let one : (old.first + old.sent) + 1 ≡ old.first + (old.sent + 1) = omega arith in record {
+pub IsAtWork-sent : (start : ClientEnd) (c : Client) (end : ClientEnd) (number : ℕ)
+    → line_of_end end ≡ line_of_end c.end → received_by_end end ≡ received_by_end c.end
+    → number ≡ next_of c.end → next_of end ≡ number + 1
+    → submitted end ≡ submitted c.end ++ numbered number (Start (1 + (c.sent + 1) % 97) (c.sent + 1)) ∷ []
+    → IsAtWork start c → IsAtWork start (record c { end = end; sent = c.sent + 1 })
+IsAtWork-sent start c end number line received is next sent h =
+    let at : number ≡ c.first + c.sent = is ∙ h.next in
+    let request = λ (n : ℕ). numbered n (Start (1 + (c.sent + 1) % 97) (c.sent + 1)) in
+    let one : (c.first + c.sent) + 1 ≡ c.first + (c.sent + 1) = omega arith in record {
       line = line ∙ h.line;
-      first = first ∙ h.first;
-      next = next ∙ ap (λ n. n + 1) at ∙ one ∙ ap (λ n. n + (old.sent + 1)) (sym first) ∙ ap (λ n. new.first + n) (sym counted);
+      first = h.first;
+      next = next ∙ ap (λ n. n + 1) at ∙ one;
       sends =
           sent
-          ∙ ap (λ xs. xs ++ numbered number (Start (1 + (old.sent + 1) % 97) (old.sent + 1)) ∷ []) h.sends
-          ∙ append_assoc (submitted start) (requests_from old.first old.sent)
-          (numbered number (Start (1 + (old.sent + 1) % 97) (old.sent + 1)) ∷ [])
-          ∙ ap (λ n. submitted start ++ (requests_from old.first old.sent
-          ++ numbered n (Start (1 + (old.sent + 1) % 97) (old.sent + 1)) ∷ [])) at
-          ∙ ap (λ xs. submitted start ++ xs) (sym (requests_from-more old.first old.sent (old.sent + 1) refl))
-          ∙ ap (λ n. submitted start ++ requests_from n (old.sent + 1)) (sym first)
-          ∙ ap (λ n. submitted start ++ requests_from new.first n) (sym counted);
+          ∙ ap (λ xs. xs ++ request number ∷ []) h.sends
+          ∙ append_assoc (submitted start) (requests_from c.first c.sent) (request number ∷ [])
+          ∙ ap (λ n. submitted start ++ (requests_from c.first c.sent ++ request n ∷ [])) at
+          ∙ ap (λ xs. submitted start ++ xs) (sym (requests_from-more c.first c.sent (c.sent + 1) refl));
       words = h.words;
       received = received ∙ h.received;
-      started = h.started ∙ sym started;
-      expired = h.expired ∙ sym expired;
-      last = last ∙ h.last;
-      checked = subst (λ b. AreChecked b new.first new.count h.words) (sym failed)
-          (subst (λ n. AreChecked old.failed n new.count h.words) (sym first)
-          (subst (λ n. AreChecked old.failed old.first n h.words) (sym count) h.checked));
+      started = h.started;
+      expired = h.expired;
+      last = h.last;
+      checked = h.checked;
     }
 
 -- The end of the work.
-
-pub ended_so : (P Q : RequestsEnded → Type 0) (o : Option RequestsEnded) → ((e : RequestsEnded) → P e → Q e) → IfSome o P → IfSome o Q
-ended_so P Q None f h = h
-ended_so P Q (Some e) f h = f e h
-
-or_false : (a b : Bool) → a || b ≡ false → (a ≡ false) × (b ≡ false)
-or_false true b h = absurd (cc)
-or_false false b h = (refl, h)
 
 not_false : (b : Bool) → not b ≡ false → b ≡ true
 not_false true h = refl
@@ -283,8 +259,9 @@ or_else false b f h = h
 complete_means : (s t e n : ℕ) → (s == n) && ((t == n) && (e == n)) ≡ true → (s ≡ n) × (t ≡ n) × (e ≡ n)
 complete_means s t e n h = grind (arith, nat_tests)
 
-short_means : (s t e n : ℕ) → s ≤ n → t ≤ n → e ≤ n → (s == n) && ((t == n) && (e == n)) ≡ false → (s < n) ⊎ ((t < n) ⊎ (e < n))
-short_means s t e n a b d h = grind (arith, nat_tests)
+short_means : (s t e s' t' e' n : ℕ) → s ≡ s' → t ≡ t' → e ≡ e' → s ≤ n → t ≤ n → e ≤ n
+    → (s == n) && ((t == n) && (e == n)) ≡ false → (s' < n) ⊎ ((t' < n) ⊎ (e' < n))
+short_means s t e s' t' e' n h k m a b d f = grind (arith, nat_tests)
 
 neither : (a b : Bool) → a ≡ false → b ≡ false → a || b ≡ false
 neither true b h k = h
@@ -319,11 +296,9 @@ goes_on start count limit idle c is_count sound h r not_over is few =
     let started : c.started ≡ length (started_by (words_of (turns_by c))) = sym h.started ∙ ap (λ ws. length (started_by ws)) same in
     subst (λ n. GoesOn (next_of start) n limit (turns_by c)) is_count (record {
       passed = passed_counted start c h r both.0;
-      short = subst (λ n. (n < c.count) ⊎ ((length (started_by (words_of (turns_by c))) < c.count)
-          ⊎ (length (expired_by (words_of (turns_by c))) < c.count))) sent
-          (subst (λ n. (c.sent < c.count) ⊎ ((n < c.count) ⊎ (length (expired_by (words_of (turns_by c))) < c.count))) started
-          (subst (λ n. (c.sent < c.count) ⊎ ((c.started < c.count) ⊎ (n < c.count))) (expired_counted start c h r)
-          (short_means c.sent c.started c.expired c.count sound.sent (sound.started both.0) (sound.expired both.0) both.1)));
+      short = short_means c.sent c.started c.expired (length (requests_of (turns_by c))) (length (started_by (words_of (turns_by c))))
+          (length (expired_by (words_of (turns_by c)))) c.count sent started (expired_counted start c h r)
+          sound.sent (sound.started both.0) (sound.expired both.0) both.1;
       idle = subst (λ n. n < limit) is few;
     })
 
@@ -333,50 +308,53 @@ pub IsLetGo-counted : (lets_go : ℕ → ℕ → Type 0) (start : ClientEnd) (c 
 IsLetGo-counted lets_go start c t h r asked =
     subst (λ n. IfSome t.sent (λ request. lets_go request.number n)) (expired_counted start c h r) asked
 
-pub HasWorked-finished : (start : ClientEnd) (limit : ℕ) (c : Client) (w : Worked) → IsSound c → IsAtWork start c → IsRecorded start c
-    → AreTurns (next_of start) c.count limit (turns_by c) → w.idle ≡ idle_at_end (turns_by c)
-    → turns_of w ≡ turns_by c → WasAtEnd w c.end
-    → IfSome w.ended (λ e. all_submitted e ≡ submitted c.end) → read_by w.reader ≡ received_by_end c.end
-    → w.sent ≡ c.sent → w.started ≡ c.started → w.expired ≡ c.expired → w.failed ≡ c.failed || not (is_complete c)
-    → (c.failed || is_complete c ≡ false → w.idle ≡ limit)
-    → HasWorked c.count limit start w
-HasWorked-finished start limit c w sound h r taken idle turns last ended reader sent started expired failed gave_up =
-    let submits : submitted c.end ≡ submitted start ++ requests_from (next_of start) w.sent =
-    h.sends ∙ ap (λ n. submitted start ++ requests_from n c.sent) h.first
-    ∙ ap (λ n. submitted start ++ requests_from (next_of start) n) (sym sent) in
-    let same : h.words ≡ words_of (turns_of w) = words_counted start c h r ∙ ap words_of (sym turns) in
-    let passed : c.failed ≡ false → ArePassed (next_of start) c.count (words_of (turns_of w)) =
-    λ good. subst (λ ts. ArePassed (next_of start) c.count (words_of ts)) (sym turns) (passed_counted start c h r good) in record {
-      sent = ended_so (λ e. all_submitted e ≡ submitted c.end) (λ e. all_submitted e
-          ≡ submitted start ++ requests_from (next_of start) w.sent) w.ended
-          (λ e is. is ∙ submits) ended;
-      most = let a = sound.sent in omega (arith, a, sent);
+-- what a client leaves when it finishes
+abbrev pub finished : Client → Option RequestsEnded → ClientReader → Bool → ℕ → Log ClientEnd → Worked
+finished c ended reader failed idle last = record {
+  ended = ended;
+  reader = reader;
+  sent = c.sent;
+  started = c.started;
+  expired = c.expired;
+  failed = failed;
+  idle = idle;
+  history = record { turns = c.turns; last = last };
+}
+
+pub HasWorked-finished : (start : ClientEnd) (limit : ℕ) (c : Client) (ended : Option RequestsEnded) (reader : ClientReader) (failed : Bool)
+    (idle : ℕ) (last : Log ClientEnd) → IsSound c → IsAtWork start c → IsRecorded start c
+    → AreTurns (next_of start) c.count limit (turns_by c) → idle ≡ idle_at_end (turns_by c) → last.items ≡ c.end ∷ []
+    → IfSome ended (λ e. all_submitted e ≡ submitted c.end) → read_by reader ≡ received_by_end c.end
+    → failed ≡ c.failed || not (is_complete c) → (c.failed || is_complete c ≡ false → idle ≡ limit)
+    → HasWorked c.count limit start (finished c ended reader failed idle last)
+HasWorked-finished start limit c ended reader failed idle last sound h r taken idle_is last_is submitted_is read failed_is gave_up =
+    let submits : submitted c.end ≡ submitted start ++ requests_from (next_of start) c.sent =
+    h.sends ∙ ap (λ n. submitted start ++ requests_from n c.sent) h.first in
+    let same : h.words ≡ words_of (turns_by c) = words_counted start c h r in record {
+      sent = IfSome_then ended submitted_is (λ e is. is ∙ submits);
+      most = sound.sent;
       last = c.end;
-      last_is = last;
+      last_is = last_is;
       same_line = h.line;
-      next = h.next ∙ ap (λ n. n + c.sent) h.first ∙ ap (λ n. next_of start + n) (sym sent);
+      next = h.next ∙ ap (λ n. n + c.sent) h.first;
       submits = submits;
-      requests = ap requests_of turns ∙ requests_counted start c h r ∙ ap (requests_from (next_of start)) (sym sent);
-      received = reader ∙ h.received ∙ ap (λ ws. received_by_end start ++ ws) same;
-      started = ap (λ ws. length (started_by ws)) (sym same) ∙ h.started ∙ sym started;
-      expired = ap (λ ws. length (expired_by ws)) (sym same) ∙ h.expired ∙ sym expired;
-      taken = subst (AreTurns (next_of start) c.count limit) (sym turns) taken;
-      idle = idle ∙ ap idle_at_end (sym turns);
-      passed = λ good. passed (or_false c.failed (not (is_complete c)) (sym failed ∙ good)).0;
-      complete = λ good.
-          let all = complete_means c.sent c.started c.expired c.count
-          (not_false (is_complete c) (or_false c.failed (not (is_complete c)) (sym failed ∙ good)).1) in
-          (sent ∙ all.0, started ∙ all.1, expired ∙ all.2);
+      requests = requests_counted start c h r;
+      received = read ∙ h.received ∙ ap (λ ws. received_by_end start ++ ws) same;
+      started = ap (λ ws. length (started_by ws)) (sym same) ∙ h.started;
+      expired = ap (λ ws. length (expired_by ws)) (sym same) ∙ h.expired;
+      taken = taken;
+      idle = idle_is;
+      passed = λ good. passed_counted start c h r (or_false c.failed (not (is_complete c)) (sym failed_is ∙ good)).0;
+      complete = λ good. complete_means c.sent c.started c.expired c.count
+          (not_false (is_complete c) (or_false c.failed (not (is_complete c)) (sym failed_is ∙ good)).1);
       failed = λ bad. elim (either c.failed) [
         | inl k ↦ inl (subst (IsStopped (next_of start) c.count) same
             (subst (λ n. IsStopped n c.count h.words) h.first (subst (λ b. AreChecked b c.first c.count h.words) k h.checked)))
         | inr k ↦
-            let short : is_complete c ≡ false = not_true (is_complete c) (or_else c.failed (not (is_complete c)) k (sym failed ∙ bad)) in inr (
-              passed k,
-              subst (λ n. (n < c.count) ⊎ ((w.started < c.count) ⊎ (w.expired < c.count))) (sym sent)
-                  (subst (λ n. (c.sent < c.count) ⊎ ((n < c.count) ⊎ (w.expired < c.count))) (sym started)
-                  (subst (λ n. (c.sent < c.count) ⊎ ((c.started < c.count) ⊎ (n < c.count))) (sym expired)
-                  (short_means c.sent c.started c.expired c.count sound.sent (sound.started k) (sound.expired k) short))),
+            let short : is_complete c ≡ false = not_true (is_complete c) (or_else c.failed (not (is_complete c)) k (sym failed_is ∙ bad)) in inr (
+              passed_counted start c h r k,
+              short_means c.sent c.started c.expired c.sent c.started c.expired c.count refl refl refl
+                  sound.sent (sound.started k) (sound.expired k) short,
               gave_up (neither c.failed (is_complete c) k short),
             )
       ];
@@ -384,20 +362,14 @@ HasWorked-finished start limit c w sound h r taken idle turns last ended reader 
 
 -- The measure of a client's work.
 
-more_of : (b d l : ℕ) → b * (l + 1) + (l + 1) ≤ (b + 1 + d) * (l + 1)
-more_of b d l = omega arith
-
-pub less_to_do : (a b l i : ℕ) → b < a → b * (l + 1) + (l - 0) < a * (l + 1) + (l - i)
-less_to_do a b l i h =
-    let is : a ≡ b + 1 + (a - (b + 1)) = omega arith in
-    let m = subst (λ n. b * (l + 1) + (l + 1) ≤ n * (l + 1)) (sym is) (more_of b (a - (b + 1)) l) in
-    omega arith
-
 as_much : (b d l : ℕ) → b * (l + 1) ≤ (b + d) * (l + 1)
 as_much b d l = omega arith
 
+scaled : (a b l : ℕ) → b ≤ a → b * (l + 1) ≤ a * (l + 1)
+scaled a b l h = let is : a ≡ b + (a - b) = omega arith in subst (λ n. b * (l + 1) ≤ n * (l + 1)) (sym is) (as_much b (a - b) l)
+
+pub less_to_do : (a b l i : ℕ) → b < a → b * (l + 1) + (l - 0) < a * (l + 1) + (l - i)
+less_to_do a b l i h = let m : (b + 1) * (l + 1) ≤ a * (l + 1) = scaled a (b + 1) l (omega arith) in omega arith
+
 pub nearer_the_limit : (a b l i : ℕ) → i < l → b ≤ a → b * (l + 1) + (l - (i + 1)) < a * (l + 1) + (l - i)
-nearer_the_limit a b l i near h =
-    let is : a ≡ b + (a - b) = omega arith in
-    let m = subst (λ n. b * (l + 1) ≤ n * (l + 1)) (sym is) (as_much b (a - b) l) in
-    omega arith
+nearer_the_limit a b l i near h = let m = scaled a b l h in omega arith

@@ -1,43 +1,23 @@
 -- The ends and the readers that clients left.
-use Rattle.std.proofs.Common.{◌≡◌, ◌<◌, ◌++◌, ◌||◌, ℕ, zero, suc, Bool, true, false, List, [], ◌∷◌, length, get_or, refl, sym, ◌∙◌, ap, arith, append-nil, append_assoc}
-use Rattle.std.specs.Prelude.{Option, Some, None, is_none}
+use Rattle.std.proofs.Common.{◌≡◌, ◌<◌, ◌++◌, ◌||◌, ℕ, Bool, true, false, List, [], ◌∷◌, length, get_or, map, refl, sym, ◌∙◌, ap, arith, append-nil, append_assoc}
+use Rattle.std.specs.Prelude.{Some, is_none}
+use Rattle.std.proofs.lemmas.List.{map_push, get_or-map, length-map}
+use Rattle.timer_base.specs.Basics.{some_same}
 use Rattle.timer_desk.specs.declared.ring.RequestsEnded.{RequestsEnded}
 use Rattle.timer_desk.specs.declared.ring.ClientReader.{ClientReader}
 use Rattle.timer_threads.specs.declared.outcome.Worked.{Worked}
 use Rattle.timer_threads.specs.Results.{NoneFailed, AllEnded, AreUnzipped}
 
 pub AreUnzipped-more : (ws : List Worked) (es : List RequestsEnded) (rs : List ClientReader) (w : Worked) (e : RequestsEnded)
-    (r : ClientReader)
-    → AreUnzipped ws es rs → w.ended ≡ Some e → w.reader ≡ r → AreUnzipped (ws ++ w ∷ []) (es ++ e ∷ []) (rs ++ r ∷ [])
-AreUnzipped-more [] [] [] w e r h a b = (a, b, tt)
-AreUnzipped-more [] [] (y ∷ ys) w e r h a b = absurd h
-AreUnzipped-more [] (x ∷ xs) rs w e r h a b = absurd h
-AreUnzipped-more (v ∷ ws) [] rs w e r h a b = absurd h
-AreUnzipped-more (v ∷ ws) (x ∷ xs) [] w e r h a b = absurd h
-AreUnzipped-more (v ∷ ws) (x ∷ xs) (y ∷ ys) w e r h a b = (h.0, h.1, AreUnzipped-more ws xs ys w e r h.2 a b)
-
-pub unzipped_lengths : (ws : List Worked) (es : List RequestsEnded) (rs : List ClientReader) → AreUnzipped ws es rs
-    → (length es ≡ length ws) × (length rs ≡ length ws)
-unzipped_lengths [] [] [] h = (refl, refl)
-unzipped_lengths [] [] (y ∷ ys) h = absurd h
-unzipped_lengths [] (x ∷ xs) rs h = absurd h
-unzipped_lengths (v ∷ ws) [] rs h = absurd h
-unzipped_lengths (v ∷ ws) (x ∷ xs) [] h = absurd h
-unzipped_lengths (v ∷ ws) (x ∷ xs) (y ∷ ys) h = let n = unzipped_lengths ws xs ys h.2 in (ap suc n.0, ap suc n.1)
-
-pub unzipped_at : (ws : List Worked) (es : List RequestsEnded) (rs : List ClientReader) → AreUnzipped ws es rs
-    → (k : ℕ) (w : Worked) (e : RequestsEnded) (r : ClientReader) → k < length ws
-    → ((get_or ws k w).ended ≡ Some (get_or es k e)) × ((get_or ws k w).reader ≡ get_or rs k r)
-unzipped_at [] es rs h k w e r l = absurd (omega arith)
-unzipped_at (v ∷ ws) [] rs h k w e r l = absurd h
-unzipped_at (v ∷ ws) (x ∷ xs) [] h k w e r l = absurd h
-unzipped_at (v ∷ ws) (x ∷ xs) (y ∷ ys) h zero w e r l = (h.0, h.1)
-unzipped_at (v ∷ ws) (x ∷ xs) (y ∷ ys) h (suc k) w e r l = unzipped_at ws xs ys h.2 k w e r (omega arith)
+    → AreUnzipped ws es rs → w.ended ≡ Some e → AreUnzipped (ws ++ w ∷ []) (es ++ e ∷ []) (rs ++ w.reader ∷ [])
+AreUnzipped-more ws es rs w e h is = record {
+  ends_are = map_push (λ (v : Worked). v.ended) ws w ∙ ap (λ os. os ++ w.ended ∷ []) h.ends_are
+      ∙ ap (λ o. map Some es ++ o ∷ []) is ∙ sym (map_push Some es e);
+  readers_are = map_push (λ (v : Worked). v.reader) ws w ∙ ap (λ xs. xs ++ w.reader ∷ []) h.readers_are;
+}
 
 pub unzipped_none : (es : List RequestsEnded) (rs : List ClientReader) → es ≡ [] → rs ≡ [] → AreUnzipped [] es rs
-unzipped_none [] [] a b = tt
-unzipped_none [] (y ∷ ys) a b = absurd (cc)
-unzipped_none (x ∷ xs) rs a b = absurd (cc)
+unzipped_none es rs a b = record { ends_are = ap (map Some) (sym a); readers_are = sym b }
 
 pub nothing_left : (ws more all : List Worked) → length more ≡ 0 → ws ++ more ≡ all → ws ≡ all
 nothing_left ws [] all n h = sym (append-nil ws) ∙ h
@@ -46,33 +26,29 @@ nothing_left ws (m ∷ more) all n h = absurd (omega arith)
 pub one_less : (ws rest new all : List Worked) (w : Worked) → ws ++ rest ≡ all → rest ≡ w ∷ new → (ws ++ w ∷ []) ++ new ≡ all
 one_less ws rest new all w h e = append_assoc ws (w ∷ []) new ∙ ap (λ xs. ws ++ xs) (sym e) ∙ h
 
-abbrev from_some : Option RequestsEnded → RequestsEnded → RequestsEnded
-from_some None e = e
-from_some (Some x) e = x
+module _ (ws : List Worked) (es : List RequestsEnded) (rs : List ClientReader) (h : AreUnzipped ws es rs) where
+  pub ends_many : length es ≡ length ws
+  ends_many = sym (length-map es Some) ∙ ap (λ os. length os) (sym h.ends_are) ∙ length-map ws (λ (w : Worked). w.ended)
 
-pub ended_at : (ws : List Worked) (es : List RequestsEnded) (rs : List ClientReader) → AreUnzipped ws es rs
-    → (k : ℕ) (w : Worked) (e d : RequestsEnded) → k < length ws
-    → (get_or ws k w).ended ≡ Some e → get_or es k d ≡ e
-ended_at [] es rs h k w e d l is = absurd (omega arith)
-ended_at (v ∷ ws) [] rs h k w e d l is = absurd h
-ended_at (v ∷ ws) (x ∷ xs) [] h k w e d l is = absurd h
-ended_at (v ∷ ws) (x ∷ xs) (y ∷ ys) h zero w e d l is = ap (λ o. from_some o d) (sym h.0 ∙ is)
-ended_at (v ∷ ws) (x ∷ xs) (y ∷ ys) h (suc k) w e d l is = ended_at ws xs ys h.2 k w e d (omega arith) is
+  pub readers_many : length rs ≡ length ws
+  readers_many = ap (λ xs. length xs) (sym h.readers_are) ∙ length-map ws (λ (w : Worked). w.reader)
 
-pub reader_at : (ws : List Worked) (es : List RequestsEnded) (rs : List ClientReader) → AreUnzipped ws es rs
-    → (k : ℕ) (w : Worked) (r : ClientReader) → k < length ws
-    → (get_or ws k w).reader ≡ get_or rs k r
-reader_at [] es rs h k w r l = absurd (omega arith)
-reader_at (v ∷ ws) [] rs h k w r l = absurd h
-reader_at (v ∷ ws) (x ∷ xs) [] h k w r l = absurd h
-reader_at (v ∷ ws) (x ∷ xs) (y ∷ ys) h zero w r l = h.1
-reader_at (v ∷ ws) (x ∷ xs) (y ∷ ys) h (suc k) w r l = reader_at ws xs ys h.2 k w r (omega arith)
+  -- what each client left
+  pub ended_is : (k : ℕ) (w : Worked) (e : RequestsEnded) → k < length ws → (get_or ws k w).ended ≡ Some (get_or es k e)
+  ended_is k w e l =
+      sym (get_or-map (λ (v : Worked). v.ended) ws k w (Some e) l) ∙ ap (λ os. get_or os k (Some e)) h.ends_are
+      ∙ get_or-map Some es k e (Some e) (let n = ends_many in omega (arith, l, n))
+
+  pub ended_at : (k : ℕ) (w : Worked) (e : RequestsEnded) → k < length ws → (get_or ws k w).ended ≡ Some e → get_or es k e ≡ e
+  ended_at k w e l is = some_same (get_or es k e) e (sym (ended_is k w e l) ∙ is)
+
+  pub reader_at : (k : ℕ) (w : Worked) (r : ClientReader) → k < length ws → (get_or ws k w).reader ≡ get_or rs k r
+  reader_at k w r l = sym (get_or-map (λ (v : Worked). v.reader) ws k w r l) ∙ ap (λ xs. get_or xs k r) h.readers_are
+
+pub or_false : (a b : Bool) → a || b ≡ false → (a ≡ false) × (b ≡ false)
+or_false true b h = absurd (cc)
+or_false false b h = (refl, h)
 
 -- a client whose requests could not be ended has failed
-
-or_false : (a b : Bool) → a || b ≡ false → b ≡ false
-or_false false b h = h
-or_false true b h = absurd (cc)
-
 pub all_ended : (all : List Worked) → NoneFailed all → AllEnded all
-all_ended all good k w l = or_false (get_or all k w).failed (is_none (get_or all k w).ended) (good k w l)
+all_ended all good k w l = (or_false (get_or all k w).failed (is_none (get_or all k w).ended) (good k w l)).1

@@ -1,10 +1,13 @@
 -- Threads that are started one after another, and the lines of their clients.
-use Rattle.std.proofs.Common.{◌≡◌, ◌<◌, ◌+◌, ◌++◌, ℕ, List, [], ◌∷◌, length, get_or, take, refl, sym, ◌∙◌, ap, subst, arith, append_assoc, append-nil, length-append, ◌⊎◌, inl, inr, zero, suc, Bool, true, false, ◌||◌}
+use Rattle.std.proofs.Common.{◌≡◌, ◌<◌, ◌+◌, ◌++◌, ℕ, List, [], ◌∷◌, length, get_or, take, refl, sym, ◌∙◌, ap, subst, arith, append-nil, length-append, ◌⊎◌, inl, inr, zero, suc}
 use Rattle.std.specs.Prelude.{is_none, Result, Ok, Err, IfOk, IfErr}
-use Rattle.std.proofs.lemmas.List.{get_or_push, get_or_append_left, take_more, length-take-le}
+use Rattle.std.specs.List.{flat_map, enumerate_from}
+use Rattle.std.proofs.lemmas.Grind.{flat_map-append}
+use Rattle.std.proofs.lemmas.List.{get_or_push, get_or_append_left, take_more}
+use Rattle.std.proofs.lemmas.List.FromFn.{length-enumerate_from, get_or-enumerate_from}
 use Rattle.timer_desk.specs.declared.ring.RingInlet.{RingInlet}
 use Rattle.timer_desk.specs.Driver.{Drives}
-use Rattle.timer_desk.specs.Ring.{line_of_end, line_of_inlet, ring_lines}
+use Rattle.timer_desk.specs.Ring.{line_of_inlet, ring_lines}
 use Rattle.timer_desk.specs.declared.report.Step.TheVariants.{Tick}
 use Rattle.timer_desk.specs.declared.driver.DriveEnd.{DriveEnd}
 use Rattle.timer_facility.specs.State.{FacilityState}
@@ -13,88 +16,61 @@ use Rattle.timer_threads.specs.declared.child.Child.{Child}
 use Rattle.timer_threads.specs.declared.fault.ThreadsFault.{ThreadsFault}
 use Rattle.timer_threads.specs.declared.fault.ThreadsFault.TheVariants as Faults
 use Rattle.timer_threads.specs.declared.outcome.Worked.{Worked}
-use Rattle.timer_threads.specs.Children.{promise_of, HaveLeft}
-use Rattle.timer_threads.specs.Work.{IsOfLine, HasWorked, IsNewEnd, IsWork}
+use Rattle.timer_threads.specs.Children.{promise_of, HasLeft, HaveLeft}
+use Rattle.timer_threads.specs.Work.{IsOfLine, HasWorked, IsWork}
 use Rattle.timer_threads.specs.Results.{NoneFailed}
-use Rattle.timer_threads.specs.Threads.{IsNewInlet, IsNewFacility, IsNewDesk, AreTied, AreOfLines, AllWhole, HasSucceeded, IsRun, IsExplained, IsFirstFault, clients_text, client_line, whole_lines}
+use Rattle.timer_threads.specs.Threads.{IsNewFacility, IsNewDesk, IsTied, AreTied, AreOfLines, AllWhole, HasSucceeded, IsRun, IsExplained, IsFirstFault, client_text, clients_text, client_line, whole_lines}
+use Rattle.timer_threads.proofs.ResultsLemmas.{or_false}
+use Rattle.timer_threads.proofs.EndedLines.{some_item}
 
--- what holds of each item of a list and of one more, holds of each of the longer list
-holds_more : {X : Type 0} (P : ℕ → X → Type 0) (xs : List X) (x : X) → ((k : ℕ) (y : X) → k < length xs → P k (get_or xs k y))
-    → P (length xs) x → (k : ℕ) (y : X) → k < length (xs ++ x ∷ []) → P k (get_or (xs ++ x ∷ []) k y)
-holds_more P xs x each last k y l = elim (before_or_last k (length xs) (let a = length-append xs (x ∷ []) in omega arith)) [
-  | inl low ↦ subst (P k) (sym (get_or_append_left xs (x ∷ []) y k low)) (each k y low)
-  | inr is ↦ subst (P k) (sym (get_or_push xs x y k (sym is))) (subst (λ n. P n x) (sym is) last)
-]
+-- one more line, and the thread that was started with its end
+pub AreTied-more : (count limit : ℕ) (inlets : List RingInlet) (children : List Child) (i : RingInlet) (h : Child)
+    → AreTied count limit inlets children → IsTied count limit i h → AreTied count limit (inlets ++ i ∷ []) (children ++ h ∷ [])
+AreTied-more count limit inlets children i h was one =
+    let many : length children ≡ length inlets = was.as_many in
+    let more = length-append inlets (i ∷ []) in
+    let more' = length-append children (h ∷ []) in record {
+      as_many = omega (arith, many, more, more');
+      each = λ k j g l. elim (before_or_last k (length inlets) (omega (arith, l, more))) [
+        | inl low ↦
+            subst (λ x. IsTied count limit x (get_or (children ++ h ∷ []) k g)) (sym (get_or_append_left inlets (i ∷ []) j k low))
+            (subst (λ x. IsTied count limit (get_or inlets k j) x)
+            (sym (get_or_append_left children (h ∷ []) g k (omega (arith, low, many)))) (was.each k j g low))
+        | inr is ↦
+            subst (λ x. IsTied count limit x (get_or (children ++ h ∷ []) k g)) (sym (get_or_push inlets i j k (sym is)))
+            (subst (λ x. IsTied count limit i x) (sym (get_or_push children h g k (many ∙ sym is))) one)
+      ];
+    }
   where
     before_or_last : (k n : ℕ) → k < n + 1 → (k < n) ⊎ (k ≡ n)
     before_or_last k n h = grind (arith)
 
-pub AreTied-more : (count limit : ℕ) (inlets : List RingInlet) (children : List Child) (i : RingInlet) (h : Child)
-    → AreTied count limit inlets children
-    → line_of_inlet i ≡ line_of_end (promise_of h).end.value → (promise_of h).count ≡ count → (promise_of h).limit ≡ limit
-    → IsNewInlet i → IsNewEnd (promise_of h).end.value
-    → AreTied count limit (inlets ++ i ∷ []) (children ++ h ∷ [])
-AreTied-more count limit inlets children i h was line is_count is_limit new_inlet new_end =
-    let many : length children ≡ length inlets = was.as_many in
-    let more = length-append inlets (i ∷ []) in
-    let more' = length-append children (h ∷ []) in
-    let at : (k : ℕ) → k < length (inlets ++ i ∷ []) → k < length (children ++ h ∷ []) = λ k l. omega (arith, l, many, more, more') in
-    let at_first : (k : ℕ) → k < length children → k < length inlets = λ k l. omega (arith, l, many) in record {
-      as_many = omega (arith, many, more, more');
-      lines = λ k j g l. holds_more (λ n x. line_of_inlet x ≡ line_of_end (promise_of (get_or (children ++ h ∷ []) n g)).end.value) inlets i
-          (λ n x low. was.lines n x g low ∙ ap (λ (y : Child). line_of_end (promise_of y).end.value)
-          (sym (get_or_append_left children (h ∷ []) g n (omega (arith, low, many)))))
-          (line ∙ ap (λ (y : Child). line_of_end (promise_of y).end.value) (sym (get_or_push children h g (length inlets) many))) k j l;
-      counts = λ k g l. holds_more (λ n x. (promise_of x).count ≡ count) children h (λ n x low. was.counts n x (at_first n low)) is_count
-          k g (at k l);
-      limits = λ k g l. holds_more (λ n x. (promise_of x).limit ≡ limit) children h (λ n x low. was.limits n x (at_first n low)) is_limit
-          k g (at k l);
-      inlets_new = λ k j l. holds_more (λ n x. IsNewInlet x) inlets i was.inlets_new new_inlet k j l;
-      ends_new = λ k g l. holds_more (λ n x. IsNewEnd (promise_of x).end.value) children h (λ n x low. was.ends_new n x (at_first n low))
-          new_end k g (at k l);
-    }
-
-pub clients_text-last : (n : ℕ) (ws : List Worked) (w : Worked)
-    → clients_text n (ws ++ w ∷ []) ≡ clients_text n ws ++ client_line (n + length ws) w.sent w.started w.expired
-clients_text-last n [] w = let z : n + 0 ≡ n = omega arith in append-nil (client_line n w.sent w.started w.expired)
-    ∙ ap (λ k. client_line k w.sent w.started w.expired) (sym z)
-clients_text-last n (x ∷ ws) w =
-    let z : n + 1 + length ws ≡ n + length (x ∷ ws) = omega arith in
-    ap (λ t. client_line n x.sent x.started x.expired ++ t) (clients_text-last (n + 1) ws w)
-    ∙ sym (append_assoc (client_line n x.sent x.started x.expired) (clients_text (n + 1) ws)
-    (client_line (n + 1 + length ws) w.sent w.started w.expired))
-    ∙ ap (λ k. (client_line n x.sent x.started x.expired ++ clients_text (n + 1) ws) ++ client_line k w.sent w.started w.expired) z
-
 pub clients_text-next : (ws : List Worked) (n : ℕ) (w : Worked) → n < length ws → w ≡ get_or ws n w
-    → clients_text 0 (take (n + 1) ws) ≡ clients_text 0 (take n ws) ++ client_line n w.sent w.started w.expired
+    → flat_map client_text (take (n + 1) (enumerate_from 0 ws))
+    ≡ flat_map client_text (take n (enumerate_from 0 ws)) ++ client_line n w.sent w.started w.expired
 clients_text-next ws n w low is =
-    let more : take (n + 1) ws ≡ take n ws ++ w ∷ [] = take_more ws n w low ∙ ap (λ x. take n ws ++ x ∷ []) (sym is) in
-    let long : length (take n ws) ≡ n = length-take-le n ws (omega (arith, low)) in
-    let len : 0 + length (take n ws) ≡ n = omega (arith, long) in
-    ap (λ xs. clients_text 0 xs) more
-    ∙ clients_text-last 0 (take n ws) w
-    ∙ ap (λ k. clients_text 0 (take n ws) ++ client_line k w.sent w.started w.expired) len
+    let all : List (ℕ × Worked) = enumerate_from 0 ws in
+    let long = length-enumerate_from 0 ws in
+    let e : 0 + n ≡ n = omega arith in
+    ap (flat_map client_text) (take_more all n (0, w) (omega (arith, long, low)))
+    ∙ flat_map-append client_text (take n all) (get_or all n (0, w) ∷ [])
+    ∙ ap (λ t. flat_map client_text (take n all) ++ t) (append-nil (client_text (get_or all n (0, w)))
+    ∙ ap client_text (get_or-enumerate_from 0 ws n (0, w) low ∙ ap {B = ℕ × Worked} (λ k. (k, get_or ws n w)) e
+    ∙ ap {B = ℕ × Worked} (λ v. (n, v)) (sym is)))
 
 -- what the thread with this number left
-pub record IsKept (children : List Child) (k : ℕ) (w : Worked) : Type 0 where
-  pub child : Child
-  pub at : child ≡ get_or children k child
-  pub line : IsOfLine (line_of_end (promise_of child).end.value) w
-  pub worked : HasWorked (promise_of child).count (promise_of child).limit (promise_of child).end.value w
-
-left_at : (children : List Child) (all : List Worked) (k : ℕ) (w : Worked) → HaveLeft children all → k < length children
-    → IsKept children k (get_or all k w)
-left_at [] all k w h l = absurd (omega arith)
-left_at (c ∷ cs) [] k w h l = absurd h
-left_at (c ∷ cs) (v ∷ vs) zero w h l = record { child = c; at = refl; line = h.0; worked = h.1 }
-left_at (c ∷ cs) (v ∷ vs) (suc k) w h l =
-    let is = left_at cs vs k w h.2 (omega arith) in record { child = is.child; at = is.at; line = is.line; worked = is.worked }
+left_at : (children : List Child) (all : List Worked) (k : ℕ) (h : Child) (w : Worked) → HaveLeft children all → k < length children
+    → HasLeft (get_or children k h) (get_or all k w)
+left_at [] all k h w left l = absurd (omega arith)
+left_at (c ∷ cs) [] k h w left l = absurd left
+left_at (c ∷ cs) (v ∷ vs) zero h w left l = left.0
+left_at (c ∷ cs) (v ∷ vs) (suc k) h w left l = left_at cs vs k h w left.1 (omega arith)
 
 pub left_as_many : (children : List Child) (all : List Worked) → HaveLeft children all → length all ≡ length children
 left_as_many [] [] h = refl
 left_as_many [] (v ∷ vs) h = absurd h
 left_as_many (c ∷ cs) [] h = absurd h
-left_as_many (c ∷ cs) (v ∷ vs) h = ap suc (left_as_many cs vs h.2)
+left_as_many (c ∷ cs) (v ∷ vs) h = ap suc (left_as_many cs vs h.1)
 
 -- whatever the threads that are left will leave, all have left that after what was left so far
 abbrev pub LeadsTo : List Child → List Child → List Worked → Type 0
@@ -105,43 +81,32 @@ leads_end children rest all leads none =
     subst (λ xs. HaveLeft children xs) (append-nil all) (leads [] (subst (λ cs. HaveLeft cs []) (sym none) tt))
 
 pub lines_kept : (count limit : ℕ) (first now : List RingInlet) (children : List Child) (all : List Worked)
-    → AreTied count limit first children
-    → length now ≡ length first
+    → AreTied count limit first children → length now ≡ length first
     → ((k : ℕ) (i : RingInlet) → k < length first → line_of_inlet (get_or first k i) ≡ line_of_inlet (get_or now k i))
     → HaveLeft children all → AreOfLines now all
 lines_kept count limit first now children all tied as_many same left = record {
   as_many = left_as_many children all left ∙ tied.as_many ∙ sym as_many;
   each = λ k i w l.
       let low : k < length first = omega (arith, as_many, l) in
-      let is = left_at children all k w left (let a = tied.as_many in omega (arith, a, low)) in
-      let line : line_of_end (promise_of is.child).end.value ≡ line_of_inlet (get_or now k i) =
-      ap (λ (x : Child). line_of_end (promise_of x).end.value) is.at ∙ sym (tied.lines k i is.child low) ∙ same k i low in
-      subst (λ l. IsOfLine l (get_or all k w)) line is.line;
+      let low' : k < length children = let a = tied.as_many in omega (arith, a, low) in
+      let h : Child = some_item children k low' in
+      subst (λ l. IsOfLine l (get_or all k w)) (sym (tied.each k i h low).line ∙ same k i low) (left_at children all k h w left low').0;
 }
 
 pub work_kept : (count limit : ℕ) (first : List RingInlet) (children : List Child) (all : List Worked)
-    → AreTied count limit first children
-    → HaveLeft children all → (k : ℕ) (w : Worked) → k < length all → IsWork count limit (get_or all k w)
+    → AreTied count limit first children → HaveLeft children all
+    → (k : ℕ) (w : Worked) → k < length all → IsWork count limit (get_or all k w)
 work_kept count limit first children all tied left k w l =
     let joined = left_as_many children all left in
-    let is = left_at children all k w left (omega (arith, joined, l)) in
-    let low : k < length first = let a = tied.as_many in omega (arith, a, joined, l) in
-    let n : (promise_of is.child).count ≡ count = ap (λ (x : Child). (promise_of x).count) is.at ∙ tied.counts k is.child low in
-    let m : (promise_of is.child).limit ≡ limit = ap (λ (x : Child). (promise_of x).limit) is.at ∙ tied.limits k is.child low in record {
-      start = (promise_of is.child).end.value;
-      new = subst (λ (x : Child). IsNewEnd (promise_of x).end.value) (sym is.at) (tied.ends_new k is.child low);
-      worked = subst (λ i. HasWorked i limit (promise_of is.child).end.value (get_or all k w)) n
-          (subst (λ j. HasWorked (promise_of is.child).count j (promise_of is.child).end.value (get_or all k w)) m is.worked);
-    }
-
--- each that did not fail is whole
-pub whole_kept : (count limit : ℕ) (all : List Worked) → ((k : ℕ) (w : Worked) → k < length all → IsWork count limit (get_or all k w))
-    → AllWhole count all
-whole_kept count limit all work k w l =
-    let is = (work k w l).worked in record {
-      sent = λ good. (is.complete good).0;
-      started = λ good. (is.complete good).1;
-      expired = λ good. (is.complete good).2;
+    let low' : k < length children = omega (arith, joined, l) in
+    let low : k < length first = let a = tied.as_many in omega (arith, a, low') in
+    let child : Child = get_or children k (some_item children k low') in
+    let t = tied.each k (some_item first k low) (some_item children k low') low in record {
+      start = (promise_of child).end.value;
+      new = t.end_new;
+      worked = subst (λ i. HasWorked i limit (promise_of child).end.value (get_or all k w)) t.count_is
+          (subst (λ j. HasWorked (promise_of child).count j (promise_of child).end.value (get_or all k w)) t.limit_is
+          (left_at children all k (some_item children k low') w left low').1);
     }
 
 pub all_left : (count limit : ℕ) (inlets : List RingInlet) (children : List Child) (all : List Worked)
@@ -164,7 +129,12 @@ module _ (clients room timers limit : ℕ) (s : FacilityState) (inlets : List Ri
   is_run : (Ends : DeskState RingInlet → DriveEnd → List Worked → Type 0) → Ends desk outcome all → IsRun clients timers limit Ends
   is_run Ends h = record {
     opened = opened;
-    new = subst (IsNewDesk clients) (sym is) (record { facility = facility; lines = tied.inlets_new; room = room; is = refl });
+    new = subst (IsNewDesk clients) (sym is) (record {
+      facility = facility;
+      lines = λ k i l. (tied.each k i (some_item children k (let a = tied.as_many in omega (arith, a, l))) l).inlet_new;
+      room = room;
+      is = refl;
+    });
     desk = desk;
     outcome = outcome;
     all = all;
@@ -188,20 +158,16 @@ module _ (clients room timers limit : ℕ) (s : FacilityState) (inlets : List Ri
   run_failed (Err (Faults.Client c)) h = is_run (λ d o ws. IsFirstFault d o ws (Faults.Client c)) h
   run_failed (Err Faults.Desk) h = is_run (λ d o ws. IsFirstFault d o ws Faults.Desk) h
 
-not_failed : (a b : Bool) → a || b ≡ false → a ≡ false
-not_failed true b h = h
-not_failed false b h = refl
-
 -- if none failed, the text is that of whole clients
 pub clients_text-whole : (n timers : ℕ) (ws : List Worked) → AllWhole timers ws → NoneFailed ws
     → clients_text n ws ≡ whole_lines n (length ws) timers
 clients_text-whole n timers [] a f = refl
 clients_text-whole n timers (w ∷ ws) a f =
     let low : 0 < length (w ∷ ws) = omega arith in
-    let good = not_failed w.failed (is_none w.ended) (f 0 w low) in
-    let is = a 0 w low in
+    let good = (or_false w.failed (is_none w.ended) (f 0 w low)).0 in
+    let is = a 0 w low good in
     ap (λ t. client_line n w.sent w.started w.expired ++ t) (clients_text-whole (n + 1) timers ws (λ k v l. a (suc k) v (omega arith))
     (λ k v l. f (suc k) v (omega arith)))
-    ∙ ap (λ k. client_line n k w.started w.expired ++ whole_lines (n + 1) (length ws) timers) (is.sent good)
-    ∙ ap (λ k. client_line n timers k w.expired ++ whole_lines (n + 1) (length ws) timers) (is.started good)
-    ∙ ap (λ k. client_line n timers timers k ++ whole_lines (n + 1) (length ws) timers) (is.expired good)
+    ∙ ap (λ k. client_line n k w.started w.expired ++ whole_lines (n + 1) (length ws) timers) is.0
+    ∙ ap (λ k. client_line n timers k w.expired ++ whole_lines (n + 1) (length ws) timers) is.1
+    ∙ ap (λ k. client_line n timers timers k ++ whole_lines (n + 1) (length ws) timers) is.2

@@ -11,23 +11,15 @@ use Rattle.timer_threads.specs.Work.{GoesOn, AreTurns, IsLetGo, AreLetGo}
 idle_at_end-more : (ts : List Turn) (t : Turn) → idle_at_end (ts ++ t ∷ []) ≡ cond (is_idle t) (1 + idle_at_end ts) 0
 idle_at_end-more ts t = ap (prefix_len is_idle) (reverse-append ts (t ∷ []))
 
-pub busy_at_end : (ts us : List Turn) (t : Turn) → us ≡ ts ++ t ∷ [] → true ≡ not (is_idle t) → 0 ≡ idle_at_end us
-busy_at_end ts us t more busy =
-    sym (ap idle_at_end more ∙ idle_at_end-more ts t ∙ ap (λ b. cond b (1 + idle_at_end ts) 0) (is_false (is_idle t) busy))
+pub idle_after : (ts us : List Turn) (t : Turn) (busy : Bool) (idle : ℕ) → us ≡ ts ++ t ∷ [] → busy ≡ not (is_idle t) → idle ≡ idle_at_end ts
+    → cond busy 0 (idle + 1) ≡ idle_at_end us
+idle_after ts us t busy idle more is before = sym (ap idle_at_end more ∙ idle_at_end-more ts t ∙ same (is_idle t) busy is)
   where
-    is_false : (b : Bool) → true ≡ not b → b ≡ false
-    is_false true h = absurd (cc)
-    is_false false h = refl
-
-pub idle_once_more : (ts us : List Turn) (t : Turn) (idle : ℕ) → us ≡ ts ++ t ∷ [] → false ≡ not (is_idle t) → idle ≡ idle_at_end ts
-    → idle + 1 ≡ idle_at_end us
-idle_once_more ts us t idle more is_so before =
-    let one : 1 + idle_at_end ts ≡ idle + 1 = omega (arith, before) in
-    sym (ap idle_at_end more ∙ idle_at_end-more ts t ∙ ap (λ b. cond b (1 + idle_at_end ts) 0) (is_true (is_idle t) is_so) ∙ one)
-  where
-    is_true : (b : Bool) → false ≡ not b → b ≡ true
-    is_true true h = refl
-    is_true false h = absurd (cc)
+    same : (b a : Bool) → a ≡ not b → cond b (1 + idle_at_end ts) 0 ≡ cond a 0 (idle + 1)
+    same true true h = absurd (cc)
+    same true false h = omega (arith, before)
+    same false true h = refl
+    same false false h = absurd (cc)
 
 -- before the first turn
 pub idle_at_start : (ts : List Turn) → ts ≡ [] → 0 ≡ idle_at_end ts

@@ -1,5 +1,6 @@
 -- The threads that were started for the clients, and what these left.
-use Rattle.std.specs.Prelude.{ℕ, List, [], ◌∷◌, vec_capacity}
+use Rattle.std.specs.Prelude.{ℕ, List, vec_capacity}
+use Rattle.std.specs.List.{AllZip}
 use Rattle.timer_desk.specs.Ring.{line_of_end}
 use Rattle.timer_threads.specs.declared.child.Child.{Child}
 use Rattle.timer_threads.specs.declared.children.Children.{Children}
@@ -19,9 +20,11 @@ threads_of children = children.threads.items
 abbrev pub room_of : Children → ℕ
 room_of children = vec_capacity children.threads
 
--- each thread has left this, and kept its promise
+-- a thread has left this, and kept its promise
+abbrev pub HasLeft : Child → Worked → Type 0
+HasLeft child w = IsOfLine (line_of_end (promise_of child).end.value) w
+    × HasWorked (promise_of child).count (promise_of child).limit (promise_of child).end.value w
+
+-- so each
 abbrev pub HaveLeft : List Child → List Worked → Type 0
-HaveLeft [] [] = Unit {0}
-HaveLeft (child ∷ children) (w ∷ ws) = IsOfLine (line_of_end (promise_of child).end.value) w
-    × HasWorked (promise_of child).count (promise_of child).limit (promise_of child).end.value w × HaveLeft children ws
-HaveLeft _ _ = ⊥
+HaveLeft children ws = AllZip HasLeft children ws

@@ -13,7 +13,7 @@ use Rattle.timer_desk.specs.Ring.{line_of_end, next_of, submitted, received_by_e
 use Rattle.timer_threads.specs.declared.client.Client.{Client}
 use Rattle.timer_threads.specs.declared.turn.Turn.{Turn}
 use Rattle.timer_threads.specs.Turns.{requests_of, words_of, is_idle}
-use Rattle.timer_threads.specs.Work.{requests_from, started_by, expired_by, follows, ArePassed, IsStopped}
+use Rattle.timer_threads.specs.Work.{requests_from, started_in, expired_in, started_by, expired_by, follows, ArePassed, IsStopped}
 
 -- whether a `Started` answer with this number is the next one
 abbrev pub is_next_start : Client → ℕ → Bool
@@ -32,6 +32,15 @@ abbrev pub passes : Client → Word → Bool
 passes c (Words.Answered number answer) = answer_passes c number answer
 passes c (Words.NotTaken number reason) = false
 passes c (Words.Notice notice) = notice_passes c notice
+
+-- the client once it has counted and checked this word
+abbrev pub counted : Client → Word → Client
+counted c word = record c {
+  started = c.started + length (started_in word);
+  expired = c.expired + length (expired_in word);
+  last = last_or c.last (expired_in word);
+  failed = not (passes c word);
+}
 
 -- all words satisfy the checks, or all but the last
 abbrev pub AreChecked : Bool → ℕ → ℕ → List Word → Type 0

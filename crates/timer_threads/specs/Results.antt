@@ -1,5 +1,5 @@
 -- What clients leave behind, and which of them failed.
-use Rattle.std.specs.Prelude.{◌≡◌, ◌<◌, ◌||◌, ℕ, Bool, true, false, List, [], ◌∷◌, length, get_or, min, Option, Some, None, is_none}
+use Rattle.std.specs.Prelude.{◌≡◌, ◌<◌, ◌||◌, ℕ, Bool, true, false, List, length, get_or, map, min, Option, Some, None, is_none}
 use Rattle.timer_desk.specs.declared.ring.RequestsEnded.{RequestsEnded}
 use Rattle.timer_desk.specs.declared.ring.ClientReader.{ClientReader}
 use Rattle.timer_threads.specs.declared.outcome.Worked.{Worked}
@@ -29,7 +29,6 @@ lower_of (Some a) None = Some a
 lower_of (Some a) (Some b) = Some (min a b)
 
 -- each has ended, and these are its end and its reader
-abbrev pub AreUnzipped : List Worked → List RequestsEnded → List ClientReader → Type 0
-AreUnzipped [] [] [] = Unit {0}
-AreUnzipped (w ∷ ws) (e ∷ es) (r ∷ rs) = (w.ended ≡ Some e) × (w.reader ≡ r) × AreUnzipped ws es rs
-AreUnzipped _ _ _ = ⊥
+pub record AreUnzipped (all : List Worked) (ends : List RequestsEnded) (readers : List ClientReader) : Type 0 where
+  pub ends_are : map (λ w. w.ended) all ≡ map Some ends
+  pub readers_are : map (λ w. w.reader) all ≡ readers

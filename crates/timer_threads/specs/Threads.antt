@@ -1,5 +1,6 @@
 -- Clients in threads of their own, and the text of their counts.
-use Rattle.std.specs.Prelude.{◌≡◌, ◌<◌, ◌+◌, ◌++◌, ◌⊎◌, ℕ, zero, suc, true, false, List, [], ◌∷◌, length, get_or, replicate, Option, Some, None, codes, decimal}
+use Rattle.std.specs.Prelude.{◌≡◌, ◌<◌, ◌+◌, ◌++◌, ◌⊎◌, ℕ, zero, suc, true, false, List, [], length, get_or, replicate, Some, codes, decimal}
+use Rattle.std.specs.List.{flat_map, enumerate_from}
 use Rattle.timer_desk.specs.declared.ring.RingInlet.{RingInlet}
 use Rattle.timer_desk.specs.declared.ring.RequestsEnded.{RequestsEnded}
 use Rattle.timer_desk.specs.declared.ring.ClientReader.{ClientReader}
@@ -7,9 +8,9 @@ use Rattle.timer_desk.specs.declared.report.Step.TheVariants.{Tick}
 use Rattle.timer_desk.specs.declared.driver.DriveEnd.{DriveEnd}
 use Rattle.timer_desk.specs.declared.driver.DriveEnd.TheVariants as DriveEnds
 use Rattle.timer_facility.specs.State.{FacilityState}
-use Rattle.timer_desk.specs.Desk.{DeskState, opened_desk, IsIdle, AllIdle, backlog_at}
+use Rattle.timer_desk.specs.Desk.{DeskState, opened_desk, IsIdle, backlog_at}
 use Rattle.timer_desk.specs.Driver.{Drives}
-use Rattle.timer_desk.specs.Shutdown.{IsWaiting, AllGot}
+use Rattle.timer_desk.specs.Shutdown.{IsWaiting}
 use Rattle.timer_desk.specs.Ring.{line_of_end, line_of_inlet, got_of, given_of, is_settled, all_submitted, read_by, unread_by, is_settled_reader, ring_lines}
 use Rattle.timer_threads.specs.declared.child.Child.{Child}
 use Rattle.timer_threads.specs.declared.fault.ThreadsFault.{ThreadsFault}
@@ -17,7 +18,7 @@ use Rattle.timer_threads.specs.declared.fault.ThreadsFault.TheVariants as Faults
 use Rattle.timer_threads.specs.declared.outcome.Worked.{Worked}
 use Rattle.timer_threads.specs.Children.{promise_of}
 use Rattle.timer_threads.specs.Work.{IsOfLine, IsNewEnd, IsWork, IsWhole}
-use Rattle.timer_threads.specs.Results.{has_failed, NoneFailed, AllEnded}
+use Rattle.timer_threads.specs.Results.{has_failed, NoneFailed, AllEnded, AreUnzipped}
 
 -- nothing was taken from this inlet or given to it
 pub record IsNewInlet (inlet : RingInlet) : Type 0 where
@@ -43,16 +44,19 @@ pub record IsNewDesk (clients : ℕ) (desk : DeskState RingInlet) : Type 0 where
   pub room : ℕ
   pub is : desk ≡ opened_desk desk.facility desk.inlets room
 
--- the thread at each index was started with the new end of the new line at that index, with this many requests to send
--- and with this limit
+-- the thread was started with the new end of this new line, with this many requests to send and with this limit
+pub record IsTied (count limit : ℕ) (inlet : RingInlet) (child : Child) : Type 0 where
+  pub line : line_of_inlet inlet ≡ line_of_end (promise_of child).end.value
+  pub count_is : (promise_of child).count ≡ count
+  pub limit_is : (promise_of child).limit ≡ limit
+  pub inlet_new : IsNewInlet inlet
+  pub end_new : IsNewEnd (promise_of child).end.value
+
+-- so at each index
 pub record AreTied (count limit : ℕ) (inlets : List RingInlet) (children : List Child) : Type 0 where
   pub as_many : length children ≡ length inlets
-  pub lines : (k : ℕ) (i : RingInlet) (h : Child) → k < length inlets
-      → line_of_inlet (get_or inlets k i) ≡ line_of_end (promise_of (get_or children k h)).end.value
-  pub counts : (k : ℕ) (h : Child) → k < length inlets → (promise_of (get_or children k h)).count ≡ count
-  pub limits : (k : ℕ) (h : Child) → k < length inlets → (promise_of (get_or children k h)).limit ≡ limit
-  pub inlets_new : AreNewInlets inlets
-  pub ends_new : (k : ℕ) (h : Child) → k < length inlets → IsNewEnd (promise_of (get_or children k h)).end.value
+  pub each : (k : ℕ) (i : RingInlet) (h : Child) → k < length inlets
+      → IsTied count limit (get_or inlets k i) (get_or children k h)
 
 -- what the client at each index left is of the line of the inlet at that index
 pub record AreOfLines (inlets : List RingInlet) (all : List Worked) : Type 0 where
@@ -66,19 +70,17 @@ client_line client sent started expired =
     codes "client " ++ decimal client ++ codes " sent " ++ decimal sent
     ++ codes " started " ++ decimal started ++ codes " expired " ++ decimal expired ++ codes "\n"
 
+-- the line of a client, by its number and what it left
+abbrev pub client_text : ℕ × Worked → List ℕ
+client_text client = client_line client.0 client.1.sent client.1.started client.1.expired
+
 -- the lines of the clients from this number on
 abbrev pub clients_text : ℕ → List Worked → List ℕ
-clients_text client [] = []
-clients_text client (w ∷ ws) = client_line client w.sent w.started w.expired ++ clients_text (client + 1) ws
+clients_text client all = flat_map client_text (enumerate_from client all)
 
 -- each that did not fail sent all its requests, and as many timers started and expired
 abbrev pub AllWhole : ℕ → List Worked → Type 0
 AllWhole timers all = (k : ℕ) (w : Worked) → k < length all → IsWhole timers (get_or all k w)
-
--- what each reader has read is all that was given
-abbrev pub AllRead : List RingInlet → List ClientReader → Type 0
-AllRead inlets readers = (c : ℕ) (i : RingInlet) (r : ClientReader) → c < length inlets
-    → read_by (get_or readers c r) ≡ given_of (get_or inlets c i)
 
 -- no word is left for any of these readers
 abbrev pub NoneUnread : List ClientReader → Type 0
@@ -93,17 +95,6 @@ pub record IsFirstWithWords (readers : List ClientReader) (c : ℕ) : Type 0 whe
   pub client : c < length readers
   pub unread : (r : ClientReader) → 0 < length (unread_by (get_or readers c r))
   pub before : (k : ℕ) (r : ClientReader) → k < c → unread_by (get_or readers k r) ≡ []
-
--- nothing of any client waits at the desk, and this is the first whose reader has not read all that was given
-pub record IsFirstToRead (desk : DeskState RingInlet) (ended : List RequestsEnded)
-    (readers : List ClientReader) (c : ℕ) : Type 0 where
-  pub client : c < length desk.inlets
-  pub idle : AllIdle desk
-  pub got : AllGot desk.inlets ended
-  pub unread : (i : RingInlet) (r : ClientReader)
-      → length (read_by (get_or readers c r)) < length (given_of (get_or desk.inlets c i))
-  pub before : (k : ℕ) (i : RingInlet) (r : ClientReader) → k < c
-      → read_by (get_or readers k r) ≡ given_of (get_or desk.inlets k i)
 
 -- no request of this client is held, all that it submitted was taken from its line, and its outbox is empty
 pub record IsServed (desk : DeskState RingInlet) (all : List Worked) (c : ℕ) : Type 0 where
@@ -142,6 +133,18 @@ IsUnfinished desk all c =
     → IsWaiting (backlog_at desk c) (got_of (get_or desk.inlets c i)) (all_submitted e))
     ⊎ IsFirstUnread desk all c
 
+-- this client is unfinished, and each before it is served
+pub record IsFirstHeld (desk : DeskState RingInlet) (all : List Worked) (c : ℕ) : Type 0 where
+  pub client : c < length all
+  pub back : IsUnfinished desk all c
+  pub before : (k : ℕ) → k < c → IsServed desk all k
+
+-- these ends and readers are those of what the clients of the desk left
+pub record AreParts (desk : DeskState RingInlet) (all : List Worked) (ends : List RequestsEnded)
+    (readers : List ClientReader) : Type 0 where
+  pub lines : AreOfLines desk.inlets all
+  pub unzipped : AreUnzipped all ends readers
+
 -- this client failed or is unfinished. None before it failed; and if the requests of each client could be
 -- ended, each before it is served.
 pub record IsFirstClient (desk : DeskState RingInlet) (all : List Worked) (c : ℕ) : Type 0 where
@@ -156,13 +159,6 @@ IsFirstFault desk outcome all Faults.OutOfMemory = Unit {0}
 IsFirstFault desk outcome all (Faults.Client c) = ¬ (outcome ≡ DriveEnds.OutOfMemory)
     × IsFirstClient desk all c
 IsFirstFault desk outcome all Faults.Desk = (outcome ≡ DriveEnds.Limit) × NoneFailed all × IsWoundUp desk all
-
--- the error of a drive with this end, after which this client failed or was unfinished, if there is one
-abbrev pub drive_fault : DriveEnd → Option ℕ → Option ThreadsFault
-drive_fault outcome (Some c) = Some (Faults.Client c)
-drive_fault DriveEnds.Done None = None
-drive_fault DriveEnds.Limit None = Some Faults.Desk
-drive_fault DriveEnds.OutOfMemory None = Some Faults.OutOfMemory
 
 -- a new desk was driven beside the clients, each did its work, and of the desk and of what they left this holds
 pub record IsRun (clients timers limit : ℕ)

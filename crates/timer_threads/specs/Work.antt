@@ -131,6 +131,10 @@ pub record IsOfLine (line : Line) (w : Worked) : Type 0 where
 abbrev pub IsIncomplete : ℕ → Worked → Type 0
 IsIncomplete count w = (w.sent < count) ⊎ ((w.started < count) ⊎ (w.expired < count))
 
+-- if nothing failed, all requests were sent, and as many timers started and expired
+abbrev pub IsWhole : ℕ → Worked → Type 0
+IsWhole count w = w.failed ≡ false → (w.sent ≡ count) × (w.started ≡ count) × (w.expired ≡ count)
+
 -- What was sent and received by a client with `count` requests that began its work with this end, turn by turn, and
 -- whether it failed. If no word is at fault, it failed only after `limit` turns in a row in which it neither sent nor
 -- received.
@@ -149,7 +153,7 @@ pub record HasWorked (count limit : ℕ) (start : ClientEnd) (w : Worked) : Type
   pub taken : AreTurns (next_of start) count limit (turns_of w)
   pub idle : w.idle ≡ idle_at_end (turns_of w)
   pub passed : w.failed ≡ false → ArePassed (next_of start) count (words_of (turns_of w))
-  pub complete : w.failed ≡ false → (w.sent ≡ count) × (w.started ≡ count) × (w.expired ≡ count)
+  pub complete : IsWhole count w
   pub failed : w.failed ≡ true → IsStopped (next_of start) count (words_of (turns_of w))
       ⊎ (ArePassed (next_of start) count (words_of (turns_of w)) × IsIncomplete count w × (w.idle ≡ limit))
 
@@ -164,9 +168,3 @@ pub record IsWork (count limit : ℕ) (w : Worked) : Type 0 where
   pub start : ClientEnd
   pub new : IsNewEnd start
   pub worked : HasWorked count limit start w
-
--- if nothing failed, all requests were sent, and as many timers started and expired
-pub record IsWhole (count : ℕ) (w : Worked) : Type 0 where
-  pub sent : w.failed ≡ false → w.sent ≡ count
-  pub started : w.failed ≡ false → w.started ≡ count
-  pub expired : w.failed ≡ false → w.expired ≡ count

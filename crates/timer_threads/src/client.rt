@@ -5,13 +5,12 @@
 //!
 //! Each turn is recorded, so that contracts can name what a client did and in which order. Only the functions here
 //! write that record, and it has no bytes.
-ghost use Rattle.std.specs.Prelude.{◌≡◌, ◌+◌, ◌<◌, ◌≤◌, ◌==◌, ◌||◌, ◌++◌, [], ℕ, not, false, true, length, is_some, IsNone, IfSome, option_to_list};
-ghost use Rattle.std.specs.List.{last_or};
+ghost use Rattle.std.specs.Prelude.{◌≡◌, ◌+◌, ◌<◌, ◌≤◌, ◌==◌, ◌||◌, ◌++◌, [], ℕ, false, true, is_some, IsNone, IfSome, option_to_list};
 ghost use Rattle.timer_base.specs.declared.limits.TheConstants.{LAST};
 ghost use Rattle.timer_desk.specs.Ring.{line_of_end, next_of, submitted, received_by_end, seen_by_end};
 ghost use Rattle.timer_desk.specs.declared.ring.ClientEnd.{ClientEnd};
 ghost use Rattle.timer_threads.specs.Turns.{idle_at_end};
-ghost use Rattle.timer_threads.specs.Work.{started_in, expired_in, follows, AreTurns, AreLetGo, turns_of, IsOfLine, HasWorked};
+ghost use Rattle.timer_threads.specs.Work.{follows, AreTurns, AreLetGo, turns_of, IsOfLine, HasWorked};
 
 use crate::gate::Gate;
 use crate::log::Log;
@@ -48,7 +47,7 @@ pub struct History {
 }
 
 impl Client {
-    ghost use Rattle.timer_threads.specs.Client.{is_complete, passes, IsSound, IsAtWork, IsRecorded, TakesTurn, turns_by, left_of, IsLess};
+    ghost use Rattle.timer_threads.specs.Client.{is_complete, counted, IsSound, IsAtWork, IsRecorded, TakesTurn, turns_by, left_of, IsLess};
 
     /// A client that has sent and received nothing yet, of `count` requests.
     pub fn new(end: ClientEnd, count: u64) -> Client
@@ -165,14 +164,8 @@ impl Client {
         requires sound { IsSound self.old }
         requires good { self.old.failed ≡ false }
         ensures sound { IsSound self.new }
-        ensures started { self.new.started ≡ self.old.started + length (started_in word) }
-        ensures expired { self.new.expired ≡ self.old.expired + length (expired_in word) }
-        ensures last { self.new.last ≡ last_or self.old.last (expired_in word) }
-        ensures failed { self.new.failed ≡ not (passes self.old word) }
+        ensures counted { self.new ≡ counted self.old word }
         ensures fewer { left_of self.new < left_of self.old }
-        ensures others { (self.new.end ≡ self.old.end) × (self.new.count ≡ self.old.count)
-            × (self.new.first ≡ self.old.first) × (self.new.sent ≡ self.old.sent)
-            × (self.new.turns ≡ self.old.turns) }
     {
         match word {
             Word::Answered {

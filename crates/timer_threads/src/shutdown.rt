@@ -1,9 +1,8 @@
 //! The end of a run of clients in threads, once each of them has finished.
-ghost use Rattle.std.specs.Prelude.{◌≡◌, ◌⊎◌, IfOk, IfErr, IfSome, IsNone, vec_len};
-ghost use Rattle.timer_desk.specs.Desk.{AllIdle};
-ghost use Rattle.timer_desk.specs.Shutdown.{AreEndsOf, AreReadersOf, AllGot, IsFirstUnfinished};
-ghost use Rattle.timer_threads.specs.Threads.{AreOfLines, AllWhole, AllRead, NoneUnread, AreSettled, IsFirstWithWords, IsFirstToRead, HasSucceeded, IsFirstFault, drive_fault, whole_text};
-ghost use Rattle.timer_threads.specs.Results.{lower_of};
+ghost use Rattle.std.specs.Prelude.{◌≡◌, List, IfOk, IfErr, IfSome, IsNone, vec_len};
+ghost use Rattle.timer_desk.specs.Shutdown.{AreEndsOf, AreReadersOf};
+ghost use Rattle.timer_threads.specs.declared.outcome.Worked.{Worked};
+ghost use Rattle.timer_threads.specs.Threads.{AreOfLines, AllWhole, NoneUnread, AreSettled, IsFirstWithWords, IsFirstHeld, AreParts, IsWoundUp, HasSucceeded, IsFirstFault, whole_text};
 
 use crate::fault::ThreadsFault;
 use crate::outcome::Worked;
@@ -20,7 +19,7 @@ use timer_wheels::HierWheel;
 /// it is left: a held request, a request in its line or a word in its outbox. If nothing is left of any
 /// client, it is the first whose words were not all read. No client before it failed, and nothing of one before
 /// it is left. If the requests of a client could not be ended, the desk is not
-/// wound up, and the error names the first client that failed.
+/// wound up, nothing is looked for, and the error names the first client that failed.
 pub fn end_all(
     alloc: Global,
     desk: Desk<HierWheel, RingInlet>,
@@ -45,26 +44,12 @@ pub fn end_all(
         return Err(ThreadsFault::OutOfMemory);
     };
     let held = first_unfinished(desk, parts);
-    match first_fault(failed, held, outcome) {
-        Some(fault) => Err(fault),
-        None => Ok(text),
-    }
-}
-
-/// The first fault: of a client that failed, of one that is unfinished, or of the drive.
-fn first_fault(
-    failed: Option<usize>,
-    held: Option<usize>,
-    outcome: DriveEnd,
-) -> Option<ThreadsFault>
-    ensures { result ≡ drive_fault outcome (lower_of failed held) }
-{
     match lower(failed, held) {
-        Some(c) => Some(ThreadsFault::Client(c)),
+        Some(c) => Err(ThreadsFault::Client(c)),
         None => match outcome {
-            DriveEnd::Done => None,
-            DriveEnd::Limit => Some(ThreadsFault::Desk),
-            DriveEnd::OutOfMemory => Some(ThreadsFault::OutOfMemory),
+            DriveEnd::Done => Ok(text),
+            DriveEnd::Limit => Err(ThreadsFault::Desk),
+            DriveEnd::OutOfMemory => Err(ThreadsFault::OutOfMemory),
         },
     }
 }
@@ -78,11 +63,10 @@ fn first_unfinished(
 ) -> Option<usize>
     requires ends { IfSome parts (λ p. AreEndsOf desk.inlets p.0.items) }
     requires readers { IfSome parts (λ p. AreReadersOf desk.inlets p.1.items) }
-    ensures some { IfSome result (λ c. IfSome parts (λ p. IsFirstUnfinished desk p.0.items c
-        ⊎ IsFirstToRead desk p.0.items p.1.items c)) }
-    ensures no_parts { IsNone parts → IsNone result }
-    ensures none { IsNone result → IfSome parts (λ p. AllIdle desk × AllGot desk.inlets p.0.items
-        × AllRead desk.inlets p.1.items) }
+    ensures held { (all : List Worked) → IfSome parts (λ p. AreParts desk all p.0.items p.1.items)
+        → IfSome result (λ c. IsFirstHeld desk all c) }
+    ensures wound { (all : List Worked) → IfSome parts (λ p. AreParts desk all p.0.items p.1.items)
+        → IsNone result → IfSome parts (λ _. IsWoundUp desk all) }
 {
     match parts {
         Some((ends, readers)) => match wind_up(desk, ends, readers) {

@@ -2,7 +2,7 @@
 //!
 //!     client CLIENT sent SENT started STARTED expired EXPIRED
 //!     end
-ghost use Rattle.std.specs.Prelude.{◌≡◌, ◌++◌, ℕ, length, codes, decimal, IfOk, OnOk};
+ghost use Rattle.std.specs.Prelude.{◌≡◌, ◌++◌, codes, decimal, IfOk, OnOk};
 ghost use Rattle.timer_threads.specs.Threads.{client_line, clients_text};
 
 use crate::outcome::Worked;

@@ -27,9 +27,19 @@ loop-preserved c =
     let room = c.args.room in
     let ends = map (λ (b : Box Line Global). b.value) c.loop.ends.items in
     let more = one_more room c.loop.inlets.items ends i (Open e) was.lines
-    (record { got = made.inlet.0; given = made.inlet.1; unsettled = made.inlet.2; free = made.room.1 })
-    (record { open_yet = refl; submitted = made.end.0; received = made.end.1; next = made.end.2; free = made.room.0 })
-    (ap (λ (l : Ring × Ring). Some l.0) made.line, ap (λ (l : Ring × Ring). Some l.1) made.line) in
+    (record {
+      requests_ring = ap (λ (l : Ring × Ring). Some l.0) made.line;
+      words_ring = ap (λ (l : Ring × Ring). Some l.1) made.line;
+      got = made.inlet.0;
+      given = made.inlet.1;
+      unsettled = made.inlet.2;
+      free_words = made.room.1;
+      open_yet = refl;
+      submitted = made.end.0;
+      received = made.end.1;
+      next = made.end.2;
+      free_requests = made.room.0;
+    }) in
     let now = ap (map (λ (b : Box Line Global). b.value)) c.push_reserved-in-loop.ensures.items
     ∙ map-append (λ (b : Box Line Global). b.value) c.loop.ends.items (c.in-Ok-new.end ∷ [])
     ∙ ap (λ (l : Line). ends ++ l ∷ []) c.in-Ok-new.ensures.ok in record {

@@ -22,4 +22,4 @@ returns-clause-opened g c =
     low
     (omega (arith, c.if-room-lt-MIN_LINE.false), omega (arith, c.if-room-gt-MAX_LINE.false)) first c.is_left.ensures.looked
     (c.is_left.ensures.no c.if-is_left.false) (c.is_left.ensures.over c.if-is_left.false) c.next_number-number.ensures
-    (omega (arith, c.if-number-gt-LAST.false)) c.in-Ok.ensures.inlet c.in-Ok.ensures.end c.in-Ok.ensures.tied c.replace_line.ensures.desk
+    (omega (arith, c.if-number-gt-LAST.false)) c.in-Ok.ensures c.replace_line.ensures.desk

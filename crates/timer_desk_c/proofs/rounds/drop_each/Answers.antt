@@ -1,6 +1,6 @@
-use Rattle.std.proofs.Common.{◌+◌, Bool, sym, subst, arith}
+use Rattle.std.proofs.Common.{subst, arith}
 use Rattle.timer_desk_c.specs.Dropped.{HasDroppedFirst}
-use Rattle.timer_desk_c.proofs.RoundLemmas.{IsDropping, dropping_nothing, dropping_more}
+use Rattle.timer_desk_c.proofs.RoundLemmas.{dropping_nothing, dropping_more}
 use Rattle.timer_desk_c.proofs.rounds.drop_each.Goals as goal
 
 pub loop-client-init : goal.loop-client-init
@@ -10,9 +10,9 @@ pub loop-client-preserved : goal.loop-client-preserved
 loop-client-preserved g c =
     let was = c.loop-client.invariant in
     let k = c.loop-client.client in record {
-      done = subst (λ (b : Bool). IsDropping (k + 1) b c.args.desk.now c.drop_rest.new.desk) (sym c.either-dropped.ensures)
-          (dropping_more k c.drop_rest.result c.loop-client.dropped c.is_some.result c.args.desk.now c.loop-client.desk
-          c.drop_rest.new.desk was.done c.drop_rest.ensures.dropped c.drop_rest.ensures.count c.is_some.ensures);
+      done = dropping_more k c.drop_rest.result c.loop-client.dropped c.is_some.result c.either-dropped.result c.args.desk.now
+          c.loop-client.desk c.drop_rest.new.desk was.done c.drop_rest.ensures.dropped c.drop_rest.ensures.count c.is_some.ensures
+          c.either-dropped.ensures;
       all = was.all;
     }
 

@@ -1,4 +1,4 @@
-use Rattle.std.proofs.Common.{◌∙◌, ◌+◌, Bool, refl, sym, subst, arith}
+use Rattle.std.proofs.Common.{◌∙◌, refl, subst, arith}
 use Rattle.timer_desk_c.specs.Rounds.{HasFlushedFirst}
 use Rattle.timer_desk_c.proofs.RoundLemmas.{ring_stopped, flushing_nothing, flushing_more}
 use Rattle.timer_desk_c.proofs.rounds.flush_each.Goals as goal
@@ -14,9 +14,9 @@ pub loop-client-preserved : goal.loop-client-preserved
 loop-client-preserved g c =
     let was = c.loop-client.invariant in
     let k = c.loop-client.client in record {
-      done = subst (λ (b : Bool). HasFlushedFirst (k + 1) b c.args.desk.now c.flush.new.self) (sym c.either-busy.ensures)
-          (flushing_more k c.flush.result c.loop-client.busy c.is_some.result c.args.desk.now c.loop-client.desk c.flush.new.self was.done
-          c.flush.ensures.report c.is_some.ensures c.flush.ensures.flushes (λ i. ring_stopped (c.flush.ensures.stopped i)));
+      done = flushing_more k c.flush.result c.loop-client.busy c.is_some.result c.either-busy.result c.args.desk.now c.loop-client.desk
+          c.flush.new.self was.done c.flush.ensures.report c.is_some.ensures c.either-busy.ensures c.flush.ensures.flushes
+          (λ i. ring_stopped (c.flush.ensures.stopped i));
       clients = c.flush.ensures.report.same_clients ∙ was.clients;
       all = was.all;
     }

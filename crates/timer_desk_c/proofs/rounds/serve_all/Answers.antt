@@ -1,5 +1,6 @@
-use Rattle.std.proofs.Common.{◌∙◌, ◌+◌, ◌||◌, Bool, refl, sym, subst, arith}
-use Rattle.timer_desk_c.proofs.RoundLemmas.{IsRound, round_nothing, round_more, round_done}
+use Rattle.std.proofs.Common.{◌∙◌, refl, subst, arith}
+use Rattle.timer_desk_c.specs.Rounds.{HasServedFirst}
+use Rattle.timer_desk_c.proofs.RoundLemmas.{round_nothing, round_more}
 use Rattle.timer_desk_c.proofs.rounds.serve_all.Goals as goal
 
 pub loop-client-init : goal.loop-client-init
@@ -13,14 +14,10 @@ pub loop-client-preserved : goal.loop-client-preserved
 loop-client-preserved g c =
     let was = c.loop-client.invariant in
     let did = c.serve_up_to-round.ensures in
-    let k = c.loop-client.client in
-    let old = c.args.desk.now in
-    let now = c.serve_up_to-round.new.desk in record {
-      done = subst (λ (b : Bool). IsRound c.args.most (k + 1) b c.either-starved.result old now) (sym c.either-busy.ensures)
-          (subst (λ (o : Bool). IsRound c.args.most (k + 1) (c.loop-client.busy || c.serve_up_to-round.result.busy) o old now)
-          (sym c.either-starved.ensures)
-          (round_more c.args.most k c.loop-client.busy c.loop-client.starved c.serve_up_to-round.result.busy
-          c.serve_up_to-round.result.starved old c.loop-client.desk now was.done did));
+    let k = c.loop-client.client in record {
+      done = round_more c.args.most k c.loop-client.busy c.loop-client.starved c.serve_up_to-round.result.busy
+          c.serve_up_to-round.result.starved c.either-busy.result c.either-starved.result c.args.desk.now c.loop-client.desk
+          c.serve_up_to-round.new.desk was.done did c.either-busy.ensures c.either-starved.ensures;
       clients = did.says.same_clients ∙ was.clients;
       all = was.all;
     }
@@ -28,6 +25,10 @@ loop-client-preserved g c =
 pub returns : goal.returns
 returns g c =
     let was = c.loop-client.invariant in
-    let all = was.all in
-    round_done c.args.most c.loop-client.client c.round_status.result c.loop-client.busy c.loop-client.starved c.args.desk.now
-    c.loop-client.desk was.done (omega (arith, all, c.loop-client-test.false, c.loop-client.auto.client-end)) c.round_status.ensures
+    let all = was.all in record {
+      busy = c.loop-client.busy;
+      out_of_memory = c.loop-client.starved;
+      each = subst (λ k. HasServedFirst c.args.most k c.loop-client.busy c.loop-client.starved c.args.desk.now c.loop-client.desk)
+          (omega (arith, all, c.loop-client-test.false, c.loop-client.auto.client-end)) was.done;
+      status_is = c.round_status.ensures;
+    }

@@ -1,5 +1,5 @@
 use Rattle.std.proofs.Common.{arith, refl}
-use Rattle.timer_desk_c.proofs.StoppingLemmas.{MayStop, stopping-none, stopping-next, stopping-done, only_then}
+use Rattle.timer_desk_c.proofs.StoppingLemmas.{MayStop, stopping-none, stopping-next, stopping-done}
 use Rattle.timer_desk_c.proofs.stopping.stop_each.Goals as goal
 
 pub loop-handle-init : goal.loop-handle-init
@@ -18,10 +18,11 @@ loop-handle-preserved c =
       few = c.requires.numbers;
     } in
     let was = c.loop-handle.invariant in
-    let next = stopping-next c.args.client c.loop-handle.place s c.loop-handle.desk c.stop_own.new.desk c.in-Some.handle may was.stopping
-    c.lemma_invariant-in-Some.ensures.sound.distinct c.in-Some.ensures.first c.stop_own.ensures.own c.stop_own.ensures.other in record {
+    let next = stopping-next c.args.client c.loop-handle.place s c.args.desk.now c.loop-handle.desk c.stop_own.new.desk c.in-Some.handle may
+    was.stopping was.only c.lemma_invariant-in-Some.ensures.sound.distinct c.in-Some.ensures.first c.stop_own.ensures.own
+    c.stop_own.ensures.other in record {
       stopping = next.0;
-      only = only_then c.args.desk.now c.loop-handle.desk c.stop_own.new.desk was.only next.1;
+      only = next.1;
       place_in_range = let h = c.in-Some.ensures.in_range in omega (arith, h);
     }
 

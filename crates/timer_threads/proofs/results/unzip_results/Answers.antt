@@ -21,8 +21,7 @@ loop-worked-preserved c =
     let e = c.in-Some.ensures in record {
       unzipped = rw (c.push_reserved.ensures.items, c.push_reserved-in-loop-worked.ensures.items)
           (AreUnzipped-more c.loop-worked.yielded c.loop-worked.ends.items c.loop-worked.readers.items c.in-Some.worked
-          c.in-Some-ended.ended
-          c.in-Some.worked.reader was.unzipped c.in-Some-ended.is refl);
+          c.in-Some-ended.ended was.unzipped c.in-Some-ended.is);
       whole = one_less c.loop-worked.yielded c.loop-worked.worked-iterator.rest.items c.next.new.self.rest.items c.args.all.items
           c.in-Some.worked was.whole e.steps.0;
       ends = grind (arith, common_steps);

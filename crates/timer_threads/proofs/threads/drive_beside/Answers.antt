@@ -2,7 +2,7 @@ use Rattle.std.proofs.Common.{◌≡◌, vec_len, subst, arith}
 use Rattle.std.specs.Prelude.{IfOk}
 use Rattle.timer_threads.specs.Children.{threads_of}
 use Rattle.timer_threads.specs.Threads.{whole_text}
-use Rattle.timer_threads.proofs.ThreadLemmas.{driven_lines, work_kept, whole_kept, all_left, run_succeeded, run_failed}
+use Rattle.timer_threads.proofs.ThreadLemmas.{driven_lines, work_kept, all_left, run_succeeded, run_failed}
 use Rattle.timer_threads.proofs.threads.drive_beside.Goals as goal
 
 pub end_all-requires-clause-lines : goal.end_all-requires-clause-lines
@@ -12,10 +12,9 @@ end_all-requires-clause-lines g c =
     c.requires.new c.args.inlets.ok.0 c.requires.tied c.drive-desk.ensures c.join-2.ensures
 
 pub end_all-requires-clause-counts : goal.end_all-requires-clause-counts
-end_all-requires-clause-counts g c =
-    whole_kept c.args.timers c.args.limit c.join-2.result.items
+end_all-requires-clause-counts g c = λ k w l.
     (work_kept c.args.timers c.args.limit c.args.inlets.items (threads_of c.args.children) c.join-2.result.items c.requires.tied
-    c.join-2.ensures)
+    c.join-2.ensures k w l).worked.complete
 
 pub returns-clause-text : goal.returns-clause-text
 returns-clause-text g c =

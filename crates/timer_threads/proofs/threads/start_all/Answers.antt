@@ -14,11 +14,14 @@ loop-gate-preserved g c =
     let line = c.in-Ok-ring_line.ensures in
     let child = c.in-Ok-start.ensures in record {
       tied = rw (inlets.items, children.threads)
-          (AreTied-more c.args.count c.args.limit c.loop-gate.inlets.items (threads_of c.loop-gate.children) c.in-Ok-ring_line.inlet c.in-Ok-start.child
-          was.tied
-          (sym line.line ∙ ap line_of_end (sym child.end)) child.count child.limit
-          (record { none_got = line.inlet.0; none_given = line.inlet.1; unsettled = line.inlet.2 })
-          (subst IsNewEnd (sym child.end) (record { none_sent = line.end.0; none_received = line.end.1; first = line.end.2 })));
+          (AreTied-more c.args.count c.args.limit c.loop-gate.inlets.items (threads_of c.loop-gate.children) c.in-Ok-ring_line.inlet
+          c.in-Ok-start.child was.tied (record {
+            line = sym line.line ∙ ap line_of_end (sym child.end);
+            count_is = child.count;
+            limit_is = child.limit;
+            inlet_new = record { none_got = line.inlet.0; none_given = line.inlet.1; unsettled = line.inlet.2 };
+            end_new = subst IsNewEnd (sym child.end) (record { none_sent = line.end.0; none_received = line.end.1; first = line.end.2 });
+          }));
       each = grind (arith, common_steps);
       inlets_room = grind (arith, common_steps);
       children_room = grind (arith, common_steps);

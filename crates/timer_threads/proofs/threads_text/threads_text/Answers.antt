@@ -1,6 +1,8 @@
-use Rattle.std.proofs.Common.{◌≡◌, ◌≤◌, ◌++◌, length, take, sym, ◌∙◌, ap, arith, codes}
+use Rattle.std.proofs.Common.{◌≤◌, ◌++◌, length, sym, ◌∙◌, ap, arith, codes}
+use Rattle.std.specs.List.{flat_map, enumerate_from}
 use Rattle.std.proofs.lemmas.List.{take_all}
-use Rattle.timer_threads.specs.Threads.{clients_text, client_line}
+use Rattle.std.proofs.lemmas.List.FromFn.{length-enumerate_from}
+use Rattle.timer_threads.specs.Threads.{client_text, client_line}
 use Rattle.timer_threads.proofs.ThreadLemmas.{clients_text-next}
 use Rattle.timer_threads.proofs.threads_text.threads_text.Goals as goal
 
@@ -14,7 +16,8 @@ loop-client-preserved c =
 
 pub returns : goal.returns
 returns c =
-    let all : c.loop-client.client ≡ length c.args.all.now = omega (arith, c.loop-client-test.false, c.loop-client.auto.client-end) in
+    let all : length c.args.all.now ≤ c.loop-client.client = omega (arith, c.loop-client-test.false, c.loop-client.auto.client-end) in
+    let long = length-enumerate_from 0 c.args.all.now in
     c.in_ok-extend_from_slice.ensures.items
-    ∙ ap (λ t. t ++ codes "end\n") (c.loop-client.invariant ∙ ap (λ ws. clients_text 0 ws) (ap (λ n. take n c.args.all.now) all
-    ∙ take_all (length c.args.all.now) c.args.all.now (let n : length c.args.all.now ≤ length c.args.all.now = omega arith in n)))
+    ∙ ap (λ t. t ++ codes "end\n") (c.loop-client.invariant
+    ∙ ap (flat_map client_text) (take_all c.loop-client.client (enumerate_from 0 c.args.all.now) (omega (arith, all, long))))

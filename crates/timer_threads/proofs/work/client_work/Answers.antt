@@ -1,9 +1,9 @@
-use Rattle.std.proofs.Common.{◌∙◌, sym, subst, arith}
+use Rattle.std.proofs.Common.{true, false, ◌∙◌, sym, subst, arith}
 use Rattle.timer_desk.specs.Ring.{next_of}
 use Rattle.timer_threads.specs.Client.{left_of, turns_by}
 use Rattle.timer_threads.specs.Work.{HasWorked, AreTurns}
 use Rattle.timer_threads.proofs.ClientLemmas.{less_to_do, nearer_the_limit, goes_on}
-use Rattle.timer_threads.proofs.TurnLemmas.{idle_at_start, AreTurns-none, AreLetGo-none, AreTurns-more, busy_at_end, idle_once_more}
+use Rattle.timer_threads.proofs.TurnLemmas.{idle_at_start, AreTurns-none, AreLetGo-none, AreTurns-more, idle_after}
 use Rattle.timer_threads.proofs.work.client_work.Goals as goal
 
 pub loop-idle-init : goal.loop-idle-init
@@ -35,7 +35,8 @@ loop-idle-preserved-then-work_once g c =
       count = c.work_once.ensures.count ∙ was.count;
       taken = AreTurns-more (next_of c.args.end) c.args.count c.args.limit (turns_by c.loop-idle.client) (turns_by c.work_once.new.self)
           turn.turn turn.added was.taken on;
-      idle_is = busy_at_end (turns_by c.loop-idle.client) (turns_by c.work_once.new.self) turn.turn turn.added turn.busy_is;
+      idle_is = idle_after (turns_by c.loop-idle.client) (turns_by c.work_once.new.self) turn.turn true c.loop-idle.idle turn.added
+          turn.busy_is was.idle_is;
       asked = c.work_once.ensures.asked c.args.end was.at_work was.recorded was.asked;
       within = omega arith;
     }
@@ -57,8 +58,8 @@ loop-idle-preserved g c =
       count = c.work_once.ensures.count ∙ was.count;
       taken = AreTurns-more (next_of c.args.end) c.args.count c.args.limit (turns_by c.loop-idle.client) (turns_by c.work_once.new.self)
           turn.turn turn.added was.taken on;
-      idle_is = idle_once_more (turns_by c.loop-idle.client) (turns_by c.work_once.new.self) turn.turn c.loop-idle.idle turn.added turn.busy_is
-          was.idle_is;
+      idle_is = idle_after (turns_by c.loop-idle.client) (turns_by c.work_once.new.self) turn.turn false c.loop-idle.idle turn.added
+          turn.busy_is was.idle_is;
       asked = c.work_once.ensures.asked c.args.end was.at_work was.recorded was.asked;
       within = omega (arith, c.loop-idle-test.true);
     }
