@@ -1,17 +1,9 @@
 -- Text that grows by indented lines.
-use Rattle.std.proofs.Common.{◌≡◌, ℕ, true, List, [], ◌∷◌, ◌++◌, decimal, codes, refl, sym, ap, subst, ◌∙◌, append_assoc, append-nil, Result, Ok, Err, OnOk}
-use Rattle.timer_script.specs.Splitter.{HasNoFeed}
+use Rattle.std.proofs.Common.{◌≡◌, ℕ, true, List, [], ◌∷◌, ◌++◌, decimal, codes, refl, sym, ap, subst, ◌∙◌, append_assoc, append-nil, Result, OnOk}
+use Rattle.std.proofs.lemmas.Result.{on_ok_weaker}
 use Rattle.timer_script.proofs.SplitterLemmas.{no_feed-append, is_bare, bare, decimal_bare}
-use Rattle.timer_commands.specs.Indented.{AddsMarked, clock_line, HasGrownByPicture, HasGrownByIndented, HasGrownByBare, HasGrownByEnd}
-use Rattle.timer_commands.specs.IndentedLaws.{adds_nothing, adds_join}
-
-adds_line : (front : List ℕ) → HasNoFeed front → AddsMarked 32 [] (32 ∷ front ++ 10 ∷ [])
-adds_line front free = record {
-  lines = (32 ∷ front ++ 10 ∷ []) ∷ [];
-  each = (record { front = 32 ∷ front; is = refl; no_feed = (λ e. absurd cc, free) }, tt);
-  text_is = sym (append-nil (32 ∷ front ++ 10 ∷ []));
-  answer_is = refl;
-}
+use Rattle.timer_commands.specs.Indented.{clock_line, HasGrownByPicture, HasGrownByIndented, HasGrownByBare, HasGrownByEnd}
+use Rattle.timer_commands.specs.IndentedLaws.{adds_nothing, adds_join, adds_line}
 
 -- nothing was added
 pub grown_none : (text : List ℕ) → HasGrownByIndented text text
@@ -39,25 +31,23 @@ numbered a b word n free e = (
 
 pub numbered_ok : {E : Type 0} (result : Result Unit E) (a b word : List ℕ) (n : ℕ) → is_bare word ≡ true
     → OnOk result (b ≡ a ++ word ++ decimal n) → OnOk result (HasGrownByBare a b)
-numbered_ok {E} (Ok u) a b word n free h = numbered a b word n free h
-numbered_ok {E} (Err e) a b word n free h = tt
+numbered_ok {E} result a b word n free = on_ok_weaker result (numbered a b word n free)
+
+pub bare_ok : {E : Type 0} (result : Result Unit E) (a b c : List ℕ) → HasGrownByBare a b → OnOk result (HasGrownByBare b c)
+    → OnOk result (HasGrownByBare a c)
+bare_ok {E} result a b c f = on_ok_weaker result (bare_join a b c f)
+
+-- words and numbers without a line feed
+pub ruleset bare_numbers = (numbered, numbered_ok, bare_ok)
 
 -- ---- lines
 
 -- the front of a line that is indented
 abbrev pub HasGrownByFront : List ℕ → List ℕ → Type 0
-HasGrownByFront old new = (front : List ℕ) × (new ≡ old ++ 32 ∷ front) × HasNoFeed front
+HasGrownByFront old new = HasGrownByBare (old ++ 32 ∷ []) new
 
 pub begun : (a b word : List ℕ) (n : ℕ) → is_bare word ≡ true → b ≡ a ++ (32 ∷ word) ++ decimal n → HasGrownByFront a b
-begun a b word n free e = (
-  word ++ decimal n,
-  e ∙ append_assoc a (32 ∷ word) (decimal n),
-  no_feed-append word (decimal n) (bare word free) (decimal_bare n),
-)
-
-pub front_grown : (a b c : List ℕ) → HasGrownByFront a b → HasGrownByBare b c → HasGrownByFront a c
-front_grown a b c f g =
-    (f.0 ++ g.0, g.1 ∙ ap (λ t. t ++ g.0) f.1 ∙ append_assoc a (32 ∷ f.0) g.0, no_feed-append f.0 g.0 f.2 g.2)
+begun a b word n free e = numbered (a ++ 32 ∷ []) b word n free (e ∙ ap (λ t. t ++ decimal n) (sym (append_assoc a (32 ∷ []) word)))
 
 pub end_join : (a b c : List ℕ) → HasGrownByBare a b → HasGrownByEnd b c → HasGrownByEnd a c
 end_join a b c f g = (
@@ -69,48 +59,28 @@ end_join a b c f g = (
 pub bare_ended : (a b c : List ℕ) → HasGrownByBare a b → c ≡ b ++ 10 ∷ [] → HasGrownByEnd a c
 bare_ended a b c f e = (f.0, e ∙ ap (λ t. t ++ 10 ∷ []) f.1, f.2)
 
+pub indented : (a c : List ℕ) → HasGrownByEnd (a ++ 32 ∷ []) c → HasGrownByIndented a c
+indented a c f = (
+  32 ∷ f.0 ++ 10 ∷ [],
+  f.1 ∙ ap (λ t. t ++ 10 ∷ []) (append_assoc a (32 ∷ []) f.0) ∙ append_assoc a (32 ∷ f.0) (10 ∷ []),
+  adds_line 32 f.0 (λ e. absurd cc) f.2,
+)
+
 pub line_joined : (a b c : List ℕ) → HasGrownByFront a b → HasGrownByEnd b c → HasGrownByIndented a c
-line_joined a b c f g =
-    let front : List ℕ = f.0 ++ g.0 in (
-      32 ∷ front ++ 10 ∷ [],
-      g.1 ∙ ap (λ t. t ++ g.0 ++ 10 ∷ []) f.1 ∙ ap (λ t. t ++ 10 ∷ []) (append_assoc a (32 ∷ f.0) g.0)
-          ∙ append_assoc a (32 ∷ front) (10 ∷ []),
-      adds_line front (no_feed-append f.0 g.0 f.2 g.2),
-    )
+line_joined a b c f g = indented a c (end_join (a ++ 32 ∷ []) b c f g)
 
 pub line_ended : (a b c : List ℕ) → HasGrownByFront a b → c ≡ b ++ 10 ∷ [] → HasGrownByIndented a c
-line_ended a b c f e = line_joined a b c f ([], e ∙ ap (λ t. t ++ 10 ∷ []) (sym (append-nil b)), tt)
+line_ended a b c f e = indented a c (bare_ended (a ++ 32 ∷ []) b c f e)
 
 -- the line of the clock, and then indented lines
-pub pictured : {E : Type 0} (result : Result Unit E) (a x b c d : List ℕ) (n now : ℕ) → n ≡ now → x ≡ a ++ codes "  now " ++ decimal n
-    → b ≡ x ++ 10 ∷ [] → HasGrownByIndented b c → OnOk result (HasGrownByIndented c d) → OnOk result (HasGrownByPicture now a d)
-pictured {E} (Err e) a x b c d n now is number line f g = tt
-pictured {E} (Ok u) a x b c d n now is number line f g =
+pub pictured : (a x b d : List ℕ) (n now : ℕ) → n ≡ now → x ≡ a ++ codes "  now " ++ decimal n → b ≡ x ++ 10 ∷ []
+    → HasGrownByIndented b d → HasGrownByPicture now a d
+pictured a x b d n now is number line f =
     let front : List ℕ = codes " now " ++ decimal n in
     let clock : List ℕ = clock_line n in
     let begin : b ≡ a ++ clock = line ∙ ap (λ t. t ++ 10 ∷ []) (number ∙ append_assoc a (codes "  now ") (decimal n))
     ∙ append_assoc a (32 ∷ front) (10 ∷ []) in
-    subst (λ k. HasGrownByPicture k a d) is (
-      clock ++ (f.0 ++ g.0),
-      g.1 ∙ ap (λ t. t ++ g.0) (f.1 ∙ ap (λ t. t ++ f.0) begin) ∙ append_assoc (a ++ clock) f.0 g.0 ∙ append_assoc a clock (f.0 ++ g.0),
-      (
-        f.0 ++ g.0,
-        refl,
-        adds_join 32 [] [] clock (f.0 ++ g.0)
-            (adds_line front (no_feed-append (codes " now ") (decimal n) (bare (codes " now ") refl) (decimal_bare n)))
-            (adds_join 32 [] [] f.0 g.0 f.2 g.2),
-      ),
-    )
-
-pub end_ok : {E : Type 0} (result : Result Unit E) (a b c : List ℕ) → HasGrownByBare a b → OnOk result (HasGrownByEnd b c)
-    → OnOk result (HasGrownByEnd a c)
-end_ok {E} (Ok u) a b c f g = end_join a b c f g
-end_ok {E} (Err e) a b c f g = tt
-
-pub bare_ok : {E : Type 0} (result : Result Unit E) (a b c : List ℕ) → HasGrownByBare a b → OnOk result (HasGrownByBare b c)
-    → OnOk result (HasGrownByBare a c)
-bare_ok {E} (Ok u) a b c f g = bare_join a b c f g
-bare_ok {E} (Err e) a b c f g = tt
-
--- words and numbers without a line feed
-pub ruleset bare_numbers = (numbered, numbered_ok, bare_ok)
+    let free = no_feed-append (codes " now ") (decimal n) (bare (codes " now ") refl) (decimal_bare n) in
+    let added = adds_join 32 [] [] clock f.0 (adds_line 32 front (λ e. absurd cc) free) f.2 in
+    subst (λ k. HasGrownByPicture k a d) is
+    (clock ++ f.0, f.1 ∙ ap (λ t. t ++ f.0) begin ∙ append_assoc a clock f.0, (f.0, refl, added))

@@ -1,15 +1,12 @@
 -- The lines that a decorator adds are those with a mark.
 use Rattle.std.proofs.Common.{ℕ, List, [], ◌∷◌, ◌++◌, decimal, codes, refl, sym, subst, ◌∙◌, append-nil, Option, None, Some}
-use Rattle.timer_facility.specs.declared.event.Event.{Event}
-use Rattle.timer_facility.specs.declared.event.Out.{Out}
-use Rattle.timer_facility.specs.State.{FacilityState}
+use Rattle.timer_script.specs.Types.{Event, Out, FacilityState}
 use Rattle.timer_script.specs.Text.{lines_of}
-use Rattle.timer_script.specs.Splitter.{HasNoFeed}
 use Rattle.timer_script.specs.Service.{last_line}
 use Rattle.timer_script.specs.Decorator.{Decoration, AreDecorated}
 use Rattle.timer_script.proofs.SplitterLemmas.{no_feed-append, bare, decimal_bare}
 use Rattle.timer_commands.specs.Indented.{AddsMarked, AddsIndented}
-use Rattle.timer_commands.specs.IndentedLaws.{IsUnused, adds_nothing, adds_join, adds_outs, adds_end}
+use Rattle.timer_commands.specs.IndentedLaws.{IsUnused, adds_nothing, adds_join, adds_line, adds_outs, adds_end}
 use Rattle.timer_commands.specs.Wakeups.{wakeup_line, AddsWakeups}
 
 -- what is added to a line is marked
@@ -38,17 +35,9 @@ whole_text mark A u m s t events answer text h = adds_join mark answer (last_lin
 
 -- ---- the line of a wake-up
 
-wakeup_marked : (front : List ℕ) → HasNoFeed front → AddsMarked 119 [] (119 ∷ front ++ 10 ∷ [])
-wakeup_marked front free = record {
-  lines = (119 ∷ front ++ 10 ∷ []) ∷ [];
-  each = (record { front = 119 ∷ front; is = refl; no_feed = (λ e. absurd cc, free) }, tt);
-  text_is = sym (append-nil (119 ∷ front ++ 10 ∷ []));
-  answer_is = refl;
-}
-
 wakeup_is_marked : (quiet : Option ℕ) → AddsMarked 119 [] (wakeup_line quiet)
-wakeup_is_marked None = wakeup_marked (codes "akeup never") (bare (codes "akeup never") refl)
-wakeup_is_marked (Some tick) = wakeup_marked (codes "akeup " ++ decimal tick)
+wakeup_is_marked None = adds_line 119 (codes "akeup never") (λ e. absurd cc) (bare (codes "akeup never") refl)
+wakeup_is_marked (Some tick) = adds_line 119 (codes "akeup " ++ decimal tick) (λ e. absurd cc)
     (no_feed-append (codes "akeup ") (decimal tick) (bare (codes "akeup ") refl) (decimal_bare tick))
 
 unused_w : IsUnused 119

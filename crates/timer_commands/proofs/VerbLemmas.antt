@@ -1,6 +1,5 @@
--- How serving ends, as an exit status.
-use Rattle.std.proofs.Common.{◌≡◌, ℕ, true, false, [], refl, sym, subst, arith, inl, inr, Result, Ok, Err, OnOk, Bool}
-use Rattle.timer_script.specs.declared.fault.ServeFault.{ServeFault}
+-- What was done if nothing was read or written.
+use Rattle.std.proofs.Common.{◌≡◌, true, false, [], refl, arith, inr}
 use Rattle.timer_facility.specs.State.{FacilityState}
 use Rattle.timer_script.specs.declared.cutter.OnBadLine.{OnBadLine}
 use Rattle.timer_script.specs.declared.streams.Streams.{Streams}
@@ -18,7 +17,7 @@ use Rattle.timer_commands.specs.declared.verbs.Verb.{Verb}
 use Rattle.timer_commands.specs.declared.verbs.Verb.TheVariants as verbs
 use Rattle.timer_commands.specs.Indented.{AddsIndented}
 use Rattle.timer_commands.specs.Wakeups.{AddsWakeups}
-use Rattle.timer_commands.specs.Subcommands.{Bytes, Channels, HasServedStreams, serving_status, HasAnswered, HasDone}
+use Rattle.timer_commands.specs.Subcommands.{Bytes, HasAnswered, HasDone}
 
 unserved : {R S F : Type 0} (on_bad : OnBadLine) (A : Decoration) (before : FacilityState) (bytes : Bytes R S F)
     (streams : Streams R S) (faults faults' : Watched F) → has_failed streams.reader ≡ false → has_failed streams.writer ≡ false
@@ -49,28 +48,3 @@ undone bytes streams faults faults' reading writing (verbs.Serve on_bad false) b
     unserved on_bad AddsNothing before bytes streams faults faults' reading writing
 undone bytes streams faults faults' reading writing (verbs.Show counts moves) before =
     unserved Stop AddsIndented before bytes streams faults faults' reading writing
-
--- serving ended, and then its failure may have been reported
-pub ended_serving : {R S F : Type 0} (on_bad : OnBadLine) (A : Decoration) (before : FacilityState) (bytes : Bytes R S F)
-    (old : Channels R S F) (streams : Streams R S) (told faults : Watched F) (served : Result Bool ServeFault) (status : ℕ)
-    → HasServedStreams on_bad A before bytes old (record { streams = streams; faults = told }) served
-    → OnOk served (faults ≡ told) → status ≡ serving_status served
-    → HasAnswered on_bad A before bytes old (record { streams = streams; faults = faults }) status
-ended_serving {R} {S} {F} on_bad A before bytes old streams told faults served status h same is =
-    subst (λ n. HasAnswered on_bad A before bytes old (record { streams = streams; faults = faults }) n) (sym is) (go served h same)
-  where
-    go : (r : Result Bool ServeFault) → HasServedStreams on_bad A before bytes old (record { streams = streams; faults = told }) r
-        → OnOk r (faults ≡ told)
-        → HasAnswered on_bad A before bytes old (record { streams = streams; faults = faults }) (serving_status r)
-    go (Ok true) h same = record {
-      in_range = omega arith;
-      good = λ e. subst (λ w. HasServedStreams on_bad A before bytes old (record { streams = streams; faults = w }) (Ok true)) (sym same) h;
-      bad = λ e. absurd cc;
-    }
-    go (Ok false) h same = record {
-      in_range = omega arith;
-      good = λ e. absurd cc;
-      bad = λ e. inl (subst (λ w. HasServedStreams on_bad A before bytes old (record { streams = streams; faults = w }) (Ok false))
-          (sym same) h);
-    }
-    go (Err fault) h same = record { in_range = omega arith; good = λ e. absurd cc; bad = λ e. inr (fault, told, h) }

@@ -1,11 +1,9 @@
 -- The laws of text to which marked lines are added. They are in specs/ since the decorator of `show` cites them.
-use Rattle.std.proofs.Common.{◌≡◌, ℕ, true, cond, List, [], ◌∷◌, ◌++◌, codes, refl, sym, ap, ◌∙◌, append-nil}
+use Rattle.std.proofs.Common.{◌≡◌, ◌≢◌, ℕ, true, not, cond, eq-eqb, List, [], ◌∷◌, ◌++◌, codes, refl, sym, ap, ◌∙◌, append-nil}
 use Rattle.std.specs.List.{filter, concat}
 use Rattle.std.proofs.lemmas.List.Elements.{filter-append}
 use Rattle.std.proofs.lemmas.List.Folds.{concat-append}
-use Rattle.timer_facility.specs.declared.request.Reason.{Reason}
-use Rattle.timer_facility.specs.declared.request.NotTaken.{NotTaken}
-use Rattle.timer_facility.specs.declared.event.Out.{Out}
+use Rattle.timer_script.specs.Types.{Reason, NotTaken, Out}
 use Rattle.timer_facility.specs.declared.request.Reason.TheVariants as reason
 use Rattle.timer_facility.specs.declared.request.NotTaken.TheVariants as refusal
 use Rattle.timer_facility.specs.declared.request.TickFault.TheVariants as fault
@@ -34,6 +32,16 @@ adds_join mark a b x y f g = record {
       ∙ sym (concat-append (filter (is_unmarked mark) f.lines) (filter (is_unmarked mark) g.lines))
       ∙ ap concat (sym (filter-append (is_unmarked mark) f.lines g.lines));
 }
+
+pub adds_line : (mark : ℕ) (front : List ℕ) → mark ≢ 10 → HasNoFeed front → AddsMarked mark [] (mark ∷ front ++ 10 ∷ [])
+adds_line mark front other free =
+    let line : List ℕ = mark ∷ front ++ 10 ∷ [] in
+    record {
+      lines = line ∷ [];
+      each = (record { front = mark ∷ front; is = refl; no_feed = (other, free) }, tt);
+      text_is = sym (append-nil line);
+      answer_is = ap (λ t. concat (cond (not t) (line ∷ []) [])) (sym (eq-eqb mark mark refl));
+    }
 
 -- ---- the lines of an answer, none of which begins with a space
 

@@ -1,5 +1,4 @@
 pub mod Options
-pub mod Schemes
 pub mod Clients
 pub mod Indented
 pub mod IndentedLaws

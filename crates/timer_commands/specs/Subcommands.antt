@@ -13,7 +13,7 @@ use Rattle.timer_script.specs.ScriptRun.{HasRun}
 use Rattle.timer_script.specs.ScriptReport.{HasChecked}
 use Rattle.timer_script.specs.Decorator.{Decoration, AddsNothing}
 use Rattle.timer_script.specs.Service.{HasServed, server_with}
-use Rattle.timer_script.specs.Streams.{streams_state}
+use Rattle.timer_script.specs.Streams.{Known, streams_state}
 use Rattle.timer_commands.specs.declared.options.RunOptions.{RunOptions}
 use Rattle.timer_commands.specs.declared.options.OptionsFault.{OptionsFault}
 use Rattle.timer_commands.specs.declared.verbs.Verb.{Verb}
@@ -64,12 +64,6 @@ HasServedStreams on_bad Adds before bytes old new result =
       faults = new.faults;
     }) result
 
--- the exit status of serving
-abbrev pub serving_status : Result Bool ServeFault → ℕ
-serving_status (Ok true) = 0
-serving_status (Ok false) = 1
-serving_status (Err fault) = 1
-
 -- 0: the input came to its end, no line was bad, and the whole text was written; 1: some line was bad, each bad
 -- one was reported, and the whole text of the others was written; or serving failed, and `told` is the writer of
 -- reports before the failure's own report, which no clause describes
@@ -101,15 +95,10 @@ pub record HasEnded {R S F : Type 0} (verb : Verb) (options : RunOptions) (bytes
   pub done : status ≤ 1 → IsPlayable options × HasDone verb (opened_by options) bytes old new status
   pub refused : status ≡ 2 → ((fault : OptionsFault) × IsRefused fault options) × (new.streams ≡ old.streams)
 
--- what checking a script did
-abbrev pub HasCheckedStreams : {R S F : Type 0} → Bytes R S F → (old new : Streams R S) → Result ℕ CheckFault → Type 0
-HasCheckedStreams bytes = HasChecked (record { remaining = bytes.remaining; contents = bytes.contents })
-
 -- a script was checked: 0: no line is bad, and the report, which is empty, was written; 1: some line is bad, and
 -- the whole report was written; 2: the check failed, by its input, its output or memory
-pub record HasCheckedScript {R S F : Type 0} (bytes : Bytes R S F) (streams streams' : Streams R S) (status : ℕ)
-    : Type 0 where
+pub record HasCheckedScript {R S : Type 0} (known : Known R S) (old new : Streams R S) (status : ℕ) : Type 0 where
   pub in_range : status ≤ 2
-  pub good : status ≡ 0 → HasCheckedStreams bytes streams streams' (Ok 0)
-  pub bad : status ≡ 1 → (lines : ℕ) × (1 ≤ lines) × HasCheckedStreams bytes streams streams' (Ok lines)
-  pub failed : status ≡ 2 → (fault : CheckFault) × HasCheckedStreams bytes streams streams' (Err fault)
+  pub good : status ≡ 0 → HasChecked known old new (Ok 0)
+  pub bad : status ≡ 1 → (lines : ℕ) × (1 ≤ lines) × HasChecked known old new (Ok lines)
+  pub failed : status ≡ 2 → (fault : CheckFault) × HasChecked known old new (Err fault)

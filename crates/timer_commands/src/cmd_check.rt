@@ -18,8 +18,7 @@ pub fn check_script<R: Read, W: Write, F: Write>(
 ) -> u8
     requires reader_good { has_failed streams.old.reader ≡ false }
     requires writer_good { has_failed streams.old.writer ≡ false }
-    ensures { HasCheckedScript
-        (record { remaining = R.remaining; contents = W.contents; reports = F.contents })
+    ensures { HasCheckedScript (record { remaining = R.remaining; contents = W.contents })
         streams.old streams.new result }
 {
     match check(alloc, &mut streams.reader, &mut streams.writer) {

@@ -1,7 +1,6 @@
 //! Lemmas about what the subcommands write, each the contract of a function that does nothing.
 ghost use Rattle.std.specs.Prelude.{List, ℕ, ◌++◌};
-ghost use Rattle.timer_facility.specs.declared.event.Event.{Event};
-ghost use Rattle.timer_facility.specs.State.{FacilityState};
+ghost use Rattle.timer_script.specs.Types.{Event, FacilityState};
 ghost use Rattle.timer_script.specs.Decorator.{AreDecorated};
 ghost use Rattle.timer_script.specs.Service.{last_line};
 ghost use Rattle.timer_commands.specs.Indented.{AddsMarked, AddsIndented};

@@ -6,8 +6,9 @@
 //! `cmd_check` and `cmd_threads`; `error_report` reports an error, and `render` draws where the timers are.
 //! `laws` has what is known of the lines that `serve` and `show` add.
 //!
-//! A module's definitions are in the file of its name in `specs/`; those of the subcommands are in
-//! `specs/Subcommands.antt`, and of clients in threads in `specs/Clients.antt`.
+//! The definitions of `options` are in `specs/Options.antt`, those of the subcommands in `Subcommands.antt`,
+//! of clients in threads in `Clients.antt`, and of the lines that `serve` and `show` add in `Wakeups.antt`
+//! and `Indented.antt`.
 #![tactic(auto)]
 
 mod cmd_check;

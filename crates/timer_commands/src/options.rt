@@ -24,7 +24,7 @@ pub enum Scheme {
 #[derive(Clone, Copy, Debug, PartialEq, Eq)]
 pub struct RunOptions {
     pub scheme: Scheme,
-    /// The buckets of the hashed wheel: 1 to 65,536. The other schemes ignore it.
+    /// The buckets of the hashed wheel: 1 to 65,536. Its range is checked with every scheme, and only `hashed` uses it.
     pub slots: u64,
     pub clients: u64,
     pub capacity: u64,

@@ -1,10 +1,10 @@
 //! Makes the wheel of a scheme, and does over it what a verb says.
-ghost use Rattle.std.specs.Prelude.{◌≡◌, ◌≤◌, false, IfOk};
-ghost use Rattle.timer_base.specs.declared.limits.TheConstants.{LAST};
+ghost use Rattle.std.specs.Prelude.{◌≡◌, ◌⊎◌, false, IfErr, IfOk};
 ghost use Rattle.timer_base.specs.WheelState.{empty_wheel};
 ghost use Rattle.timer_wheels.specs.HashedWheel.{slots_of};
 ghost use Rattle.timer_wheels.specs.HierWheel.{table_of};
-ghost use Rattle.timer_wheels.specs.Tables.{last_of_table, slots_of_table};
+ghost use Rattle.timer_wheels.specs.declared.table.Table.TheVariants as tables;
+ghost use Rattle.timer_commands.specs.declared.options.Scheme.TheVariants as schemes;
 ghost use Rattle.timer_commands.specs.Options.{scheme_last, scheme_slots, config_of, IsPlayable};
 ghost use Rattle.timer_commands.specs.Subcommands.{opened_by, HasDone, HasEnded};
 ghost use Rattle.timer_script.specs.Watched.{has_failed};
@@ -15,9 +15,9 @@ use crate::render::Placement;
 use crate::verbs::{Verb, do_verb};
 use std::alloc::Global;
 use std::io::{Read, Write};
-use timer_base::{MakeFault, OutOfMemory, PlainWheel, Wheel};
+use timer_base::{MakeFault, PlainWheel, Wheel};
 use timer_facility::{Checked, Facility};
-use timer_script::{RunFault, Streams, Watched};
+use timer_script::{Streams, Watched};
 use timer_wheels::{HashedWheel, HierWheel, Table};
 
 /// A wheel that the options can name.
@@ -29,60 +29,16 @@ trait OfScheme {
 }
 
 impl OfScheme for PlainWheel {
-    ghost use Rattle.timer_commands.specs.Schemes.{IsPlainOf};
-
-    ghost is_wheel_of = { IsPlainOf };
+    ghost is_wheel_of = { λ options _. options.scheme ≡ schemes.Plain };
 }
 
 impl OfScheme for HashedWheel {
-    ghost use Rattle.timer_commands.specs.Schemes.{IsHashedOf};
-
-    ghost is_wheel_of = { IsHashedOf };
+    ghost is_wheel_of = { λ options wheel. (options.scheme ≡ schemes.Hashed) × (slots_of wheel ≡ options.slots) };
 }
 
 impl OfScheme for HierWheel {
-    ghost use Rattle.timer_commands.specs.Schemes.{IsHierOf};
-
-    ghost is_wheel_of = { IsHierOf };
-}
-
-/// The hashed wheel with the slots of the options. Fails only by memory, since they are in their ranges.
-fn hashed_wheel(alloc: Global, options: RunOptions) -> Result<HashedWheel, OutOfMemory>
-    requires { IsPlayable options }
-    ensures state { IfOk result (λ wheel. ⟦<HashedWheel as Wheel>⟧.state wheel
-        ≡ empty_wheel options.slots LAST options.first_tick) }
-    ensures slots { IfOk result (λ wheel. slots_of wheel ≡ options.slots) }
-{
-    match HashedWheel::new(alloc, options.slots as usize, options.first_tick) {
-        Ok(wheel) => Ok(wheel),
-        Err(MakeFault::OutOfMemory) => Err(OutOfMemory),
-        Err(MakeFault::Slots | MakeFault::FirstTick) => unreachable!(),
-    }
-}
-
-/// The hierarchical wheel of a table. Fails only by memory.
-fn hier_wheel(alloc: Global, table: Table, first_tick: u64) -> Result<HierWheel, OutOfMemory>
-    requires { first_tick ≤ last_of_table table }
-    ensures state { IfOk result (λ wheel. ⟦<HierWheel as Wheel>⟧.state wheel
-        ≡ empty_wheel (slots_of_table table) (last_of_table table) first_tick) }
-    ensures table { IfOk result (λ wheel. table_of wheel ≡ table) }
-{
-    match HierWheel::with_table(alloc, table, first_tick) {
-        Ok(wheel) => Ok(wheel),
-        Err(MakeFault::OutOfMemory) => Err(OutOfMemory),
-        Err(MakeFault::Slots | MakeFault::FirstTick) => unreachable!(),
-    }
-}
-
-/// The plain wheel at a first tick.
-fn plain_wheel(alloc: Global, first_tick: u64) -> PlainWheel
-    requires { first_tick ≤ LAST }
-    ensures { ⟦<PlainWheel as Wheel>⟧.state result ≡ empty_wheel 0 LAST first_tick }
-{
-    match PlainWheel::new(alloc, first_tick) {
-        Ok(wheel) => wheel,
-        Err(_) => unreachable!(),
-    }
+    ghost is_wheel_of = { λ options wheel. ((options.scheme ≡ schemes.Hier) × (table_of wheel ≡ tables.Wide))
+        ⊎ ((options.scheme ≡ schemes.Clock) × (table_of wheel ≡ tables.Clock)) };
 }
 
 /// Does what the verb says over a new wheel of the scheme that the options name, and returns the exit status.
@@ -132,19 +88,19 @@ fn over_scheme<R: Read, S: Write, F: Write>(
     let first_tick = options.first_tick;
     match options.scheme {
         Scheme::Plain => {
-            let made = Ok(plain_wheel(alloc, first_tick));
+            let made = PlainWheel::new(alloc, first_tick);
             over_wheel(alloc, verb, options, checked, made, streams, faults)
         }
         Scheme::Hashed => {
-            let made = hashed_wheel(alloc, options);
+            let made = HashedWheel::new(alloc, options.slots as usize, first_tick);
             over_wheel(alloc, verb, options, checked, made, streams, faults)
         }
         Scheme::Hier => {
-            let made = hier_wheel(alloc, Table::Wide, first_tick);
+            let made = HierWheel::with_table(alloc, Table::Wide, first_tick);
             over_wheel(alloc, verb, options, checked, made, streams, faults)
         }
         Scheme::Clock => {
-            let made = hier_wheel(alloc, Table::Clock, first_tick);
+            let made = HierWheel::with_table(alloc, Table::Clock, first_tick);
             over_wheel(alloc, verb, options, checked, made, streams, faults)
         }
     }
@@ -152,18 +108,20 @@ fn over_scheme<R: Read, S: Write, F: Write>(
 
 /// Does what the verb says over a facility with this wheel, the one that the options name, if there was memory
 /// for it.
+#[tactic(auto, using(crate::proofs::VerbLemmas::undone))]
 fn over_wheel<R: Read, S: Write, F: Write, W: Wheel + Placement + OfScheme + Drop>(
     alloc: Global,
     verb: Verb,
     _options: RunOptions,
     checked: Checked,
-    made: Result<W, OutOfMemory>,
+    made: Result<W, MakeFault>,
     streams: &mut Streams<R, S>,
     faults: &mut Watched<F>,
 ) -> u8
     requires wheel { IfOk made (λ wheel. W.is_wheel_of _options wheel) }
     requires state { IfOk made (λ wheel. W.state wheel
         ≡ empty_wheel (scheme_slots _options.scheme _options.slots) (scheme_last _options.scheme) _options.first_tick) }
+    requires memory { IfErr made (λ fault. fault ≡ MakeFault.OutOfMemory) }
     requires config { checked ≡ config_of _options }
     requires reader_good { has_failed streams.old.reader ≡ false }
     requires writer_good { has_failed streams.old.writer ≡ false }
@@ -180,6 +138,6 @@ fn over_wheel<R: Read, S: Write, F: Write, W: Wheel + Placement + OfScheme + Dro
             streams,
             faults,
         ),
-        Err(OutOfMemory) => report(RunFault::OutOfMemory, faults),
+        Err(fault) => report(fault, faults),
     }
 }

@@ -1,9 +1,9 @@
 //! What is done with a facility: play a script, answer lines, or show where their timers are.
 //!
 //! It is done over any wheel: `schemes` makes the wheel, and hands the facility over.
-ghost use Rattle.std.specs.Prelude.{◌≡◌, [], false, OnOk};
+ghost use Rattle.std.specs.Prelude.{◌≡◌, [], false};
 ghost use Rattle.timer_script.specs.Watched.{has_failed};
-ghost use Rattle.timer_commands.specs.Subcommands.{HasAnswered, HasDone, serving_status};
+ghost use Rattle.timer_commands.specs.Subcommands.{HasAnswered, HasDone};
 
 use crate::error_report::report;
 use crate::render::{Placement, push_shown, push_wakeup};
@@ -11,7 +11,7 @@ use std::alloc::Global;
 use std::io::{Read, Write};
 use timer_base::{OutOfMemory, Wheel};
 use timer_facility::Facility;
-use timer_script::{Decorator, OnBadLine, ServeFault, Streams, Undecorated, Watched, run, serve};
+use timer_script::{Decorator, OnBadLine, Streams, Undecorated, Watched, run, serve};
 
 /// What is done with a facility.
 #[derive(Clone, Copy, Debug, PartialEq, Eq)]
@@ -162,16 +162,7 @@ fn serve_with<R: Read, S: Write, F: Write, W: Wheel + Drop, D: Decorator<W>>(
         (record { streams = streams.old; faults = faults.old })
         (record { streams = streams.new; faults = faults.new }) result }
 {
-    let served = serve(alloc, streams, facility, decorator, on_bad, faults);
-    end_serving(served, faults)
-}
-
-/// The exit status of serving. An error is reported in one line.
-fn end_serving<F: Write>(served: Result<bool, ServeFault>, faults: &mut Watched<F>) -> u8
-    ensures status { result ≡ serving_status served }
-    ensures told { OnOk served (faults.new ≡ faults.old) }
-{
-    match served {
+    match serve(alloc, streams, facility, decorator, on_bad, faults) {
         Ok(true) => 0,
         Ok(false) => 1,
         Err(fault) => report(fault, faults),

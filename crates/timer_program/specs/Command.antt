@@ -13,13 +13,11 @@ use Rattle.timer_program.specs.declared.arguments.Subcommand.{Subcommand}
 use Rattle.timer_program.specs.declared.arguments.Subcommand.TheVariants as calls
 use Rattle.timer_program.specs.Arguments.{first_or_play, subcommand_name, IsShown, AsksForText}
 
--- no script was played, and nothing was read, for an error of this kind: help or the version is asked for,
--- the arguments are refused, or out of memory
-pub record HasNotPlayed {R S : Type 0} (kind : ErrorKind) (contents : S
-    → Option (List ℕ)) (reader reader' : Watched R)
-    (writer writer' : Watched S) (status : ℕ) : Type 0 where
+-- no script was played, for an error of this kind: help or the version is asked for, the arguments are refused, or
+-- out of memory
+pub record HasNotPlayed {S : Type 0} (kind : ErrorKind) (contents : S → Option (List ℕ)) (writer writer' : Watched S)
+    (status : ℕ) : Type 0 where
   pub in_range : status ≤ 2
-  pub unread : reader' ≡ reader
   -- 0: help or the version was asked for, and a whole text was written
   pub written : status ≡ 0
       → IsShown kind × (((text : List ℕ) × Appends (contents (inner_of writer))
@@ -39,10 +37,11 @@ HasCalled (Ok (calls.Run verb options)) bytes old new status = HasEnded verb opt
 HasCalled (Ok (calls.Threads options)) bytes old new status =
     (new.streams.reader ≡ old.streams.reader)
     × HasRunClients options bytes.contents old.streams.writer new.streams.writer status
-HasCalled (Ok calls.Check) bytes old new status = HasCheckedScript bytes old.streams new.streams status
+HasCalled (Ok calls.Check) bytes old new status = HasCheckedScript
+    (record { remaining = bytes.remaining; contents = bytes.contents }) old.streams new.streams status
 HasCalled (Err error) bytes old new status =
-    HasNotPlayed (kind_of error) bytes.contents old.streams.reader new.streams.reader old.streams.writer
-    new.streams.writer status
+    (new.streams.reader ≡ old.streams.reader)
+    × HasNotPlayed (kind_of error) bytes.contents old.streams.writer new.streams.writer status
 
 -- the arguments were read as a call of the subcommand that they name, or as an error, which is help or the
 -- version only if an argument asks for it; and that was done

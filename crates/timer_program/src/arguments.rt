@@ -45,82 +45,20 @@ static SCHEME_NAMES: [&str; 4] = ["plain", "hashed", "hier", "clock"];
 static PLAY: [&str; 1] = ["play"];
 
 /// An option that takes a number in a range.
-#[derive(Clone, Copy)]
-struct NumberOption {
-    name: &'static str,
-    value_name: &'static str,
-    range: (i64, i64),
-    default: &'static str,
-    help: &'static str,
-}
-
-/// The numbers of `play`, `serve` and `show`.
-static RUN_NUMBERS: [NumberOption; 4] = [
-    NumberOption {
-        name: "slots",
-        value_name: "SLOTS",
-        range: (1, 65536),
-        default: "256",
-        help: "The buckets of `hashed`, 1 to 65536; the other schemes do not use it",
-    },
-    NumberOption {
-        name: "clients",
-        value_name: "CLIENTS",
-        range: (1, 64),
-        default: "64",
-        help: "The number of clients, 1 to 64; they are numbered from 0",
-    },
-    NumberOption {
-        name: "capacity",
-        value_name: "TIMERS",
-        range: (1, 1048576),
-        default: "1024",
-        help: "The most timers that may be pending at a time, 1 to 1048576",
-    },
-    NumberOption {
-        name: "first-tick",
-        value_name: "TICK",
-        range: (0, 1152921504606846975),
-        default: "0",
-        help: "The tick at which the clock begins, 0 to the last tick of the scheme",
-    },
-];
-
-/// The numbers of `threads`.
-static THREADS_NUMBERS: [NumberOption; 2] = [
-    NumberOption {
-        name: "clients",
-        value_name: "CLIENTS",
-        range: (1, 64),
-        default: "4",
-        help: "The number of clients, 1 to 64, each in a thread of its own",
-    },
-    NumberOption {
-        name: "timers",
-        value_name: "TIMERS",
-        range: (1, 10000),
-        default: "1000",
-        help: "The number of timers that each client starts, 1 to 10000",
-    },
-];
-
-/// Adds options that take numbers.
-fn add_numbers<'a>(
+fn number<'a>(
     alloc: Global,
-    command: Command<'a>,
-    numbers: &[NumberOption],
-) -> Result<Command<'a>, AllocError> {
-    let mut command = command;
-    for number in numbers {
-        let option = Arg::new(alloc, number.name)
-            .long(number.name)
-            .value_name(number.value_name)
-            .value_parser(value_parser!(u64).range(number.range.0..=number.range.1))
-            .default_value(number.default)
-            .help(number.help);
-        command = command.arg(option)?;
-    }
-    Ok(command)
+    name: &'a str,
+    value_name: &'a str,
+    range: (i64, i64),
+    default: &'a str,
+    help: &'a str,
+) -> Arg<'a> {
+    Arg::new(alloc, name)
+        .long(name)
+        .value_name(value_name)
+        .value_parser(value_parser!(u64).range(range.0..=range.1))
+        .default_value(default)
+        .help(help)
 }
 
 /// A subcommand with the options of `play`.
@@ -137,12 +75,20 @@ fn playing_command<'a>(
         .value_parser(SCHEME_NAMES.as_slice())
         .default_value("hier")
         .help("How timers are kept; each scheme gives the same text up to its last tick");
-    let command = Command::new(alloc, name)
+    let slots = "The buckets of `hashed`, 1 to 65536; the other schemes do not use it";
+    let clients = "The number of clients, 1 to 64; they are numbered from 0";
+    let capacity = "The most timers that may be pending at a time, 1 to 1048576";
+    let first_tick = "The tick at which the clock begins, 0 to the last tick of the scheme";
+    let ticks = (0, 1152921504606846975);
+    Command::new(alloc, name)
         .override_usage(usage)
         .about(about)
         .after_long_help(after_help)
-        .arg(scheme)?;
-    add_numbers(alloc, command, &RUN_NUMBERS)
+        .arg(scheme)?
+        .arg(number(alloc, "slots", "SLOTS", (1, 65536), "256", slots))?
+        .arg(number(alloc, "clients", "CLIENTS", (1, 64), "64", clients))?
+        .arg(number(alloc, "capacity", "TIMERS", (1, 1048576), "1024", capacity))?
+        .arg(number(alloc, "first-tick", "TICK", ticks, "0", first_tick))
 }
 
 /// An option without a value.
@@ -173,10 +119,13 @@ fn show_command<'a>(alloc: Global) -> Result<Command<'a>, AllocError> {
 
 /// The subcommand `threads` with its options.
 fn threads_command<'a>(alloc: Global) -> Result<Command<'a>, AllocError> {
-    let command = Command::new(alloc, "threads")
+    let clients = "The number of clients, 1 to 64, each in a thread of its own";
+    let timers = "The number of timers that each client starts, 1 to 10000";
+    Command::new(alloc, "threads")
         .about(THREADS_ABOUT)
-        .after_long_help(THREADS);
-    add_numbers(alloc, command, &THREADS_NUMBERS)
+        .after_long_help(THREADS)
+        .arg(number(alloc, "clients", "CLIENTS", (1, 64), "4", clients))?
+        .arg(number(alloc, "timers", "TIMERS", (1, 10000), "1000", timers))
 }
 
 /// The subcommand `check`, which has no options.
@@ -337,12 +286,10 @@ fn is_of_text(argument: &str) -> bool
 fn any_of_text<S: AsStr>(arguments: &[S]) -> bool
     ensures { IsTrue result → Any (λ argument. AsksForText (S.text argument)) arguments.now }
 {
-    let mut rest = arguments;
-    while let Some((first, others)) = rest.split_first() {
-        if is_of_text(first.as_str()) {
+    for argument in arguments {
+        if is_of_text(argument.as_str()) {
             return true;
         }
-        rest = others;
     }
     false
 }

@@ -3,7 +3,7 @@ ghost use Rattle.std.specs.Prelude.{◌≡◌, ◌≢◌, drop};
 
 use std::io::{ErrorKind, Write};
 use timer_commands::report;
-use timer_script::RunFault;
+use timer_script::ScriptFault;
 
 /// The arguments after the program's name.
 pub fn after_name<S>(arguments: &[S]) -> &[S]
@@ -22,7 +22,7 @@ pub fn end_without_arguments<F: Write>(kind: ErrorKind, faults: &mut F) -> u8
     ensures not_utf8 { kind ≢ ErrorKind.OutOfMemory → result ≡ 2 }
 {
     if kind == ErrorKind::OutOfMemory {
-        return report(RunFault::OutOfMemory, faults);
+        return report(ScriptFault::OutOfMemory, faults);
     }
     let _ = writeln!(faults, "error: an argument is not UTF-8");
     2

@@ -1,9 +1,8 @@
 //! The whole program, over its arguments, its input and its outputs.
-ghost use Rattle.std.specs.Prelude.{◌≡◌, ◌≢◌, ◌≤◌, ◌⊎◌, ℕ, List, false, true};
-ghost use Rattle.std.specs.Io.KnownBytes.{Appends};
+ghost use Rattle.std.specs.Prelude.{◌≡◌, false};
 ghost use Rattle.clap.specs.Values.{kind_of};
-ghost use Rattle.timer_program.specs.Command.{HasCalled, HasRunProgram};
-ghost use Rattle.timer_script.specs.Watched.{inner_of, has_failed};
+ghost use Rattle.timer_program.specs.Command.{HasCalled, HasNotPlayed, HasRunProgram};
+ghost use Rattle.timer_script.specs.Watched.{has_failed};
 
 use crate::arguments::{Subcommand, read_arguments};
 use clap::Error;
@@ -13,7 +12,7 @@ use std::convert::AsStr;
 use std::io::{Read, Write};
 use std::thread::Threads;
 use timer_commands::{check_script, report, run_clients, run_verb};
-use timer_script::{RunFault, Streams, Watched, write_text};
+use timer_script::{ScriptFault, Streams, Watched, write_text};
 
 /// Runs the program on the arguments after its name, and returns its exit status.
 ///
@@ -78,27 +77,17 @@ fn end_unplayed<W: Write, F: Write>(
     faults: &mut F,
 ) -> u8
     requires { has_failed writer.old ≡ false }
-    ensures in_range { result ≤ 2 }
-    ensures out_of_memory { kind_of error.now ≡ ErrorKind.OutOfMemory → result ≡ 1 }
-    ensures help { ((kind_of error.now ≡ ErrorKind.DisplayHelp)
-        ⊎ (kind_of error.now ≡ ErrorKind.DisplayVersion)) → result ≤ 1 }
-    ensures refused { kind_of error.now ≢ ErrorKind.OutOfMemory → kind_of error.now ≢ ErrorKind.DisplayHelp
-        → kind_of error.now ≢ ErrorKind.DisplayVersion → result ≡ 2 }
-    ensures written { result ≡ 0 → ((text : List ℕ)
-        × Appends (W.contents (inner_of writer.old)) (W.contents (inner_of writer.new)) text)
-        × (has_failed writer.new ≡ false) }
-    ensures failed { result ≡ 1 → (has_failed writer.new ≡ true) ⊎ (writer.new ≡ writer.old) }
-    ensures unwritten { result ≡ 2 → writer.new ≡ writer.old }
+    ensures { HasNotPlayed (kind_of error.now) W.contents writer.old writer.new result }
 {
     if error.kind() == ErrorKind::OutOfMemory {
-        return report(RunFault::OutOfMemory, faults);
+        return report(ScriptFault::OutOfMemory, faults);
     }
     if error.use_stderr() {
         let _ = write!(faults, "{error}");
         return 2;
     }
     let Ok(text) = format!(in alloc; "{error}") else {
-        return report(RunFault::OutOfMemory, faults);
+        return report(ScriptFault::OutOfMemory, faults);
     };
     if let Err(fault) = write_text(writer, text.as_bytes()) {
         return report(fault, faults);

@@ -104,9 +104,9 @@ For example, another program writes to the input and reads the output of `timers
 
 The schemes are those of `timers play`. The exit status is 0 if the input came to its
 end and every line was answered. It is 1 after an error, which is one line on
-standard error (`bad line L`, `read failed`, `write failed` or `out of memory`). It is
-2 if the arguments are refused. `man timers` and docs/formats.md say what may have
-been written then.";
+standard error (`bad line L`, `too long`, `read failed`, `write failed` or
+`out of memory`). It is 2 if the arguments are refused. `man timers` and
+docs/formats.md say what may have been written then.";
 
 pub static SHOW_ABOUT: &str =
     "Answers lines as `serve` does, and shows after each where the pending timers are";
@@ -167,9 +167,9 @@ pub static CHECK_ABOUT: &str =
 
 /// The text below the help of `check`.
 pub static CHECKS: &str = "\
-For each bad line the number of the line, the column, the field and the reason are
-written. The bytes before the column can begin a line, and with the byte at the column
-they no longer can. Columns are counted in bytes, from 1. For example:
+For each bad line the number of the line, the column, the field if the error is in one,
+and the reason are written. The bytes before the column can begin a line, and with the
+byte at the column they no longer can. Columns are counted in bytes, from 1. For example:
   $ printf 'tick 1\\nstart 0 1 05 7\\nstart 0 2 5\\ntick 0\\n' | timers check
   line 2, column 12: interval: leading zero
   line 3, column 12: action: missing field
@@ -179,5 +179,6 @@ they no longer can. Columns are counted in bytes, from 1. For example:
 such as a start with interval 0, is good.
 
 The exit status is 0 if no line is bad, and then nothing is written. It is 1 if a line is
-bad. It is 2 after an error, which is one line on standard error (`too long`,
-`read failed`, `write failed` or `out of memory`), and if the arguments are refused.";
+bad, and after an error before the script is read. It is 2 after any other error, which
+is one line on standard error (`too long`, `read failed`, `write failed` or
+`out of memory`), and if the arguments are refused.";

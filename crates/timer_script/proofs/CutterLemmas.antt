@@ -1,11 +1,10 @@
 -- What passes of the bytes of a stream, piece after piece.
 use Rattle.std.proofs.Common.{◌≡◌, ℕ, ◌+◌, ◌-◌, ◌≤◌, Bool, true, false, List, [], ◌∷◌, ◌++◌, length, take, refl, sym, ap, subst, ◌∙◌, arith, inl, inr, lit≤, append-nil, length-append, ◌↔◌, Option, None, Some}
 use Rattle.std.specs.List.{flat_map, AllByRecursion}
-use Rattle.std.proofs.lemmas.List.{take-append-le, take_all, nil_from_length}
-use Rattle.std.proofs.Math.Seq.{take-append_seam, take-append-add}
+use Rattle.std.proofs.lemmas.List.{take-append-le, nil_from_length, length-take}
+use Rattle.std.proofs.Math.Seq.{take-append_seam, take-append-add, take-length}
 use Rattle.std.proofs.lemmas.Grind.{flat_map-append}
 use Rattle.std.proofs.KnownBytes.{Appends-nil, Appends-trans}
-use Rattle.std.specs.Io.KnownBytes.{Appends}
 use Rattle.timer_base.specs.OrderLaws.{either}
 use Rattle.timer_script.specs.Types.{Event, OnBadLine, Cutter, Watched, LineFault, MAX_LINE}
 use Rattle.timer_script.specs.declared.cutter.OnBadLine.TheVariants.{Stop, Report}
@@ -13,10 +12,10 @@ use Rattle.timer_script.specs.declared.line_fault.LineReason.TheVariants.{NoLine
 use Rattle.timer_script.specs.Watched.{inner_of, has_failed}
 use Rattle.timer_script.specs.Script.{IsInRange, spelling}
 use Rattle.timer_script.specs.Diagnosis.{IsFaultOf}
-use Rattle.timer_script.specs.Cutter.{bytes_of, number_next, Complaint, bad_among, IsLastBad, complaint_line, complaints, HasSortedSince, HasReported, AreSoFar, AreFirst, HasPassed, HasSeen, HasSeenPart, HasEnded, HasTakenIn, HasStopped, TakesPiece}
+use Rattle.timer_script.specs.Cutter.{bytes_of, number_next, Complaint, bad_among, IsLastBad, complaint_line, complaints, HasSorted, HasSortedSince, HasReported, BadLines, AreSoFar, AreFirst, HasPassed, HasSeen, HasSeenPart, HasEnded, HasTakenIn, IsStoppedAt, HasStopped, UnlessStopped}
 use Rattle.timer_script.proofs.Results.{true_false}
-use Rattle.timer_script.proofs.SplitterLemmas.{no_feed_no_line}
-use Rattle.timer_script.proofs.CutterLines.{stop_report, good_script, nil_left, all_good, some_left, none_left, last_some, stopped_at, sorted_as}
+use Rattle.timer_script.proofs.SplitterLemmas.{bare_no_line}
+use Rattle.timer_script.proofs.CutterLines.{stop_report, good_script, nil_left, all_good, last_some, stopped_at}
 
 -- ---- reports
 
@@ -36,19 +35,15 @@ reported_join {F} contents u v w xs ys a b = elim (either (has_failed v)) [
   | inl bad ↦ subst (λ z. HasReported contents u z (xs ++ ys)) (sym (b.failed bad)) (record {
     count = a.count;
     within = (let h = a.within in let l = length-append xs ys in omega arith);
-    written = subst (λ t. Appends (contents (inner_of u)) (contents (inner_of v)) t)
-        (sym (take-append-le a.count xs ys a.within)) a.written;
+    written = rw (take-append-le a.count xs ys a.within) a.written;
     whole = λ good. absurd (true_false (has_failed v) bad good);
     failed = a.failed;
   })
   | inr good ↦ record {
     count = length xs + b.count;
     within = (let h = b.within in let l = length-append xs ys in omega arith);
-    written = subst (λ t. Appends (contents (inner_of u)) (contents (inner_of w)) t)
-        (sym (take-append-add xs ys b.count))
-        (Appends-trans (contents (inner_of u)) (contents (inner_of v)) (contents (inner_of w)) xs (take b.count ys)
-        (subst (λ t. Appends (contents (inner_of u)) (contents (inner_of v)) t)
-        (ap (λ k. take k xs) (a.whole good) ∙ take_all (length xs) xs (omega arith)) a.written) b.written);
+    written = rw (take-append-add xs ys b.count) (Appends-trans (contents (inner_of u)) (contents (inner_of v)) (contents (inner_of w))
+        xs (take b.count ys) (simp (a.whole good, take-length) at a.written) b.written);
     whole = λ fine. ap (λ k. length xs + k) (b.whole fine) ∙ sym (length-append xs ys);
     failed = λ bad. absurd (true_false (has_failed v) (ap has_failed (a.failed bad) ∙ bad) good);
   }
@@ -79,112 +74,118 @@ passed_none o contents w = record {
   untouched = λ stop. refl;
 }
 
-pub taken_none : {F : Type 0} (contents : F → Option (List ℕ)) (w : Watched F) (cutter : Cutter)
-    → cutter.held.items ≡ [] → cutter.number ≡ 1 → cutter.clean ≡ true
-    → HasTakenIn cutter contents w w [] []
+pub taken_none : {F : Type 0} (o : OnBadLine) (contents : F → Option (List ℕ)) (w : Watched F) (cutter : Cutter) → cutter.on_bad ≡ o
+    → cutter.held.items ≡ [] → cutter.number ≡ 1 → cutter.clean ≡ true → HasTakenIn o cutter contents w w [] []
 unfolding passed_none
-taken_none contents w cutter none first clean = record {
-  bad = [];
-  sorted = record { passes = (passed_none cutter.on_bad contents w).passes; held = none; counted = first; bad_is = refl };
-  reported = reported_none contents w;
-  untouched = λ stop. refl;
+taken_none o contents w cutter kept none first clean = record {
+  kept = kept;
+  passed = passed_none o contents w;
+  held_is = none;
+  counted = first;
   clean_is = (λ h. refl, λ h. clean);
 }
 
+pub taken_sorted : {F : Type 0} {o : OnBadLine} {contents : F → Option (List ℕ)} {w v : Watched F} {cutter : Cutter} {came : List ℕ}
+    {events : List Event} → (h : HasTakenIn o cutter contents w v came events)
+    → HasSorted o cutter.held.items cutter.number came events h.passed.bad
+taken_sorted h = record { passes = h.passed.passes; held_is = h.held_is; counted = h.counted; bad_is = h.passed.are }
+
 -- a piece was sorted, and its bad lines reported
-pub taken_more : {F : Type 0} (contents : F → Option (List ℕ)) (w u v : Watched F) (old new : Cutter) (clean : Bool) (came : List ℕ)
-    (events : List Event) (piece said : List ℕ) → new.on_bad ≡ old.on_bad → (h : HasTakenIn old contents w u came events)
-    → HasSortedSince new (came ++ piece) events h.bad → said ≡ new.reports.items
-    → HasReported contents u v said → (said ≡ [] → v ≡ u) → ((clean ≡ true) ↔ ((old.clean ≡ true) × (said ≡ [])))
-    → HasTakenIn (record new { clean = clean }) contents w v (came ++ piece) (events ++ new.events.items)
-taken_more {F} contents w u v old new clean came events piece said same h s is reports quiet both =
+pub taken_more : {F : Type 0} {o : OnBadLine} {contents : F → Option (List ℕ)} {w u : Watched F} {old : Cutter} {came : List ℕ}
+    {events : List Event} (v : Watched F) (new : Cutter) (clean : Bool) (piece said : List ℕ)
+    → (h : HasTakenIn o old contents w u came events) → HasSortedSince o new (came ++ piece) events h.passed.bad
+    → said ≡ new.reports.items → HasReported contents u v said → (said ≡ [] → v ≡ u)
+    → ((clean ≡ true) ↔ ((old.clean ≡ true) × (said ≡ [])))
+    → HasTakenIn o (record new { clean = clean }) contents w v (came ++ piece) (events ++ new.events.items)
+taken_more {contents = contents} {w = w} {u = u} v new clean piece said h s is reports quiet both =
+    let bad : List Complaint = h.passed.bad in
     let said_is : said ≡ complaints s.more = is ∙ s.reports in
     record {
-      bad = h.bad ++ s.more;
-      sorted = sorted_as new (record new { clean = clean }) (came ++ piece) (events ++ new.events.items) (h.bad ++ s.more) refl refl refl
-          s.sorted;
-      reported = subst (λ t. HasReported contents w v t)
-          (ap (λ t. complaints h.bad ++ t) said_is ∙ sym (flat_map-append complaint_line h.bad s.more))
-          (reported_join contents w u v (complaints h.bad) said h.reported reports);
-      untouched = λ stop. quiet (said_is ∙ ap complaints (nil_right h.bad s.more (s.sorted.bad_is ∙ s.sorted.passes.good stop)))
-          ∙ h.untouched (sym same ∙ stop);
+      kept = s.kept;
+      passed = record {
+        passes = s.sorted.passes;
+        bad = bad ++ s.more;
+        are = s.sorted.bad_is;
+        reported = rw (flat_map-append complaint_line bad s.more, ← said_is)
+            (reported_join contents w u v (complaints bad) said h.passed.reported reports);
+        untouched = λ stop. quiet (said_is ∙ ap complaints (nil_right bad s.more (s.sorted.bad_is ∙ s.sorted.passes.good stop)))
+            ∙ h.passed.untouched stop;
+      };
+      held_is = s.sorted.held_is;
+      counted = s.sorted.counted;
       clean_is = (
         λ e. ap (λ t. t ++ s.more) (h.clean_is.0 (both.0 e).0) ∙ no_complaint s.more (sym said_is ∙ (both.0 e).1),
-        λ e. both.1 (h.clean_is.1 (nil_left h.bad s.more e), said_is ∙ ap complaints (nil_right h.bad s.more e)),
+        λ e. both.1 (h.clean_is.1 (nil_left bad s.more e), said_is ∙ ap complaints (nil_right bad s.more e)),
       );
     }
 
--- the end came, and no line is left
-pub ended_none : {F : Type 0} (contents : F → Option (List ℕ)) (w v : Watched F) (cutter : Cutter) (came : List ℕ)
-    (events : List Event) → HasTakenIn cutter contents w v came events → cutter.held.items ≡ []
-    → HasEnded cutter.on_bad cutter.clean contents w v came events
-ended_none {F} contents w v cutter came events h none =
-    let q = h.sorted.passes in
-    let gone : q.left ≡ [] = none_left cutter.held.items q.left h.sorted.held none in
+-- the end came, and this is reported of what is left
+ended : {F : Type 0} {o : OnBadLine} {contents : F → Option (List ℕ)} {w u : Watched F} {cutter : Cutter} {came : List ℕ}
+    {events : List Event} (v : Watched F) (clean : Bool) (last : List Complaint) (h : HasTakenIn o cutter contents w u came events)
+    → IsLastBad (number_next h.passed.passes.lines) h.passed.passes.left last → HasReported contents u v (complaints last)
+    → (o ≡ Stop → (v ≡ u) × (h.passed.passes.left ≡ [])) → ((clean ≡ true) ↔ (h.passed.bad ++ last ≡ []))
+    → HasEnded o clean contents w v came events
+ended {contents = contents} {w = w} {u = u} v clean last h is_last reports stops clean_is =
+    let q = h.passed.passes in
+    let bad : List Complaint = h.passed.bad in
     record {
       passed = record {
         passes = q;
-        bad = h.bad;
-        are = (
-          [],
-          subst (λ t. IsLastBad (number_next q.lines) t []) (sym gone) refl,
-          h.sorted.bad_is ∙ sym (append-nil (bad_among q.lines)),
-          h.clean_is,
-        );
-        reported = h.reported;
-        untouched = h.untouched;
+        bad = bad ++ last;
+        are = (last, is_last, ap (λ t. t ++ last) h.passed.are, clean_is);
+        reported = subst (HasReported contents w v) (sym (flat_map-append complaint_line bad last))
+            (reported_join contents w u v (complaints bad) (complaints last) h.passed.reported reports);
+        untouched = λ stop. (stops stop).0 ∙ h.passed.untouched stop;
       };
       script = λ stop.
-          let all = all_good q.lines (q.good stop) in
+          let all = all_good 1 q.lines (q.good stop) in
           record {
-            lines = q.cut.parts ∙ ap (λ t. flat_map bytes_of q.lines ++ t) gone ∙ append-nil (flat_map bytes_of q.lines) ∙ all.0
+            lines = q.cut.parts ∙ ap (λ t. flat_map bytes_of q.lines ++ t) (stops stop).1 ∙ append-nil (flat_map bytes_of q.lines) ∙ all.0
                 ∙ ap spelling (sym q.events_are);
             in_range = subst (AllByRecursion IsInRange) (sym q.events_are) (good_script q.lines q.cut.each);
           };
     }
 
+-- no line is left
+pub ended_none : {F : Type 0} {o : OnBadLine} {contents : F → Option (List ℕ)} {w v : Watched F} {cutter : Cutter} {came : List ℕ}
+    {events : List Event} → HasTakenIn o cutter contents w v came events → cutter.held.items ≡ []
+    → HasEnded o cutter.clean contents w v came events
+ended_none {contents = contents} {v = v} {cutter = cutter} h none =
+    let q = h.passed.passes in
+    let gone : q.left ≡ [] = nil_from_length q.left (omega (arith, ap length (sym h.held_is ∙ none), length-take MAX_LINE q.left)) in
+    ended v cutter.clean [] h (subst (λ t. IsLastBad (number_next q.lines) t []) (sym gone) refl) (reported_none contents v)
+    (λ stop. (refl, gone)) (subst (λ t. (cutter.clean ≡ true) ↔ (t ≡ [])) (sym (append-nil h.passed.bad)) h.clean_is)
+
 -- the end came, and a line that has not ended ends the stream
-pub ended_stopped : {F : Type 0} (contents : F → Option (List ℕ)) (w v : Watched F) (cutter : Cutter) (came : List ℕ)
-    (events : List Event) → HasTakenIn cutter contents w v came events → 1 ≤ length cutter.held.items → cutter.on_bad ≡ Stop
-    → HasStopped cutter.on_bad w v came events cutter.number
-ended_stopped {F} contents w v cutter came events h some stop =
-    let q = h.sorted.passes in
+pub ended_stopped : {F : Type 0} {o : OnBadLine} {contents : F → Option (List ℕ)} {w v : Watched F} {cutter : Cutter} {came : List ℕ}
+    {events : List Event} → HasTakenIn o cutter contents w v came events → 1 ≤ length cutter.held.items → cutter.on_bad ≡ Stop
+    → HasStopped o w v came events cutter.number
+ended_stopped {o} {cutter = cutter} {came = came} {events = events} h some is =
+    let q = h.passed.passes in
+    let stop : o ≡ Stop = sym h.kept ∙ is in
     record {
       stop = stop;
-      untouched = h.untouched stop;
-      stopped = stopped_at cutter.on_bad came came q.left cutter.number events q stop q.cut.parts
-          (some_left MAX_LINE cutter.held.items q.left h.sorted.held some) (no_feed_no_line q.left q.cut.unended) h.sorted.counted;
+      untouched = h.passed.untouched stop;
+      stopped = subst (λ z. IsStoppedAt z events cutter.number) (append-nil came)
+          (stopped_at q [] (q.left ++ []) cutter.number stop refl
+          (omega (arith, ap length h.held_is, length-take MAX_LINE q.left, length-append q.left []))
+          (bare_no_line q.left [] q.cut.unended (inl refl)) h.counted);
     }
 
 -- it is reported
-pub ended_bad : {F : Type 0} (contents : F → Option (List ℕ)) (w u v : Watched F) (cutter : Cutter) (fault : LineFault)
-    (came : List ℕ) (events : List Event) (said : List ℕ) → HasTakenIn cutter contents w u came events
+pub ended_bad : {F : Type 0} {o : OnBadLine} {contents : F → Option (List ℕ)} {w u : Watched F} {cutter : Cutter} {came : List ℕ}
+    {events : List Event} (v : Watched F) (fault : LineFault) (said : List ℕ) → HasTakenIn o cutter contents w u came events
     → 1 ≤ length cutter.held.items → cutter.on_bad ≡ Report → IsFaultOf fault cutter.held.items
-    → said ≡ complaint_line (cutter.number, fault) → HasReported contents u v said
-    → HasEnded cutter.on_bad false contents w v came events
-ended_bad {F} contents w u v cutter fault came events said h some report wrong is reports =
-    let q = h.sorted.passes in
+    → said ≡ complaint_line (cutter.number, fault) → HasReported contents u v said → HasEnded o false contents w v came events
+ended_bad {o} {contents} {u = u} {cutter = cutter} v fault said h some report wrong is reports =
+    let q = h.passed.passes in
     let last : List Complaint = (cutter.number, fault) ∷ [] in
-    let left : 1 ≤ length q.left = some_left MAX_LINE cutter.held.items q.left h.sorted.held some in
+    let left : 1 ≤ length q.left = omega (arith, ap length h.held_is, length-take MAX_LINE q.left) in
     let said_is : said ≡ complaints last = is ∙ sym (append-nil (complaint_line (cutter.number, fault))) in
-    record {
-      passed = record {
-        passes = q;
-        bad = h.bad ++ last;
-        are = (
-          last,
-          subst (λ m. IsLastBad m q.left last) h.sorted.counted
-              (last_some cutter.number fault q.left left (subst (IsFaultOf fault) h.sorted.held wrong)),
-          ap (λ t. t ++ last) h.sorted.bad_is,
-          (λ e. absurd cc, λ e. absurd (let none : last ≡ [] = nil_right h.bad last e in cc)),
-        );
-        reported = subst (λ t. HasReported contents w v t)
-            (ap (λ t. complaints h.bad ++ t) said_is ∙ sym (flat_map-append complaint_line h.bad last))
-            (reported_join contents w u v (complaints h.bad) said h.reported reports);
-        untouched = λ stop. absurd (stop_report cutter.on_bad stop report);
-      };
-      script = λ stop. absurd (stop_report cutter.on_bad stop report);
-    }
+    ended v false last h (subst (λ m. IsLastBad m q.left last) h.counted
+    (last_some cutter.number fault q.left left (subst (IsFaultOf fault) h.held_is wrong))) (subst (HasReported contents u v) said_is reports)
+    (λ stop. absurd (stop_report o stop (sym h.kept ∙ report)))
+    (λ e. absurd cc, λ e. absurd (let none : last ≡ [] = nil_right h.passed.bad last e in cc))
 
 -- ---- what passed, as callers see it
 
@@ -196,72 +197,43 @@ some_last n (b ∷ left) =
     let fault : LineFault = record { column = length seen + 1; field = None; reason = NoLineEnd } in
     ((n, fault) ∷ [], (fault, record { some = omega arith; within = omega arith; reason = omega arith; field = refl }, refl))
 
-pub taken_passed : {F : Type 0} (contents : F → Option (List ℕ)) (w v : Watched F) (cutter : Cutter) (o : OnBadLine)
-    → cutter.on_bad ≡ o → (came : List ℕ) (events : List Event) → HasTakenIn cutter contents w v came events
-    → HasPassed o AreSoFar contents w v came events
-taken_passed contents w v cutter o is came events h = subst (λ x. HasPassed x AreSoFar contents w v came events) is (record {
-  passes = h.sorted.passes;
-  bad = h.bad;
-  are = h.sorted.bad_is;
-  reported = h.reported;
-  untouched = h.untouched;
-})
-
-pub passed_first : {F : Type 0} (contents : F → Option (List ℕ)) (w v : Watched F) (o : OnBadLine)
-    (came : List ℕ) (events : List Event) → HasPassed o AreSoFar contents w v came events → HasPassed o AreFirst contents w v came events
-passed_first contents w v o came events p = record {
+-- the bad lines that were reported are the first of all, if others come after them
+first_of : {F : Type 0} {o : OnBadLine} {Are : BadLines} {contents : F → Option (List ℕ)} {w v : Watched F} {came : List ℕ}
+    {events : List Event} (p : HasPassed o Are contents w v came events) (last rest : List Complaint)
+    → IsLastBad (number_next p.passes.lines) p.passes.left last → bad_among p.passes.lines ++ last ≡ p.bad ++ rest
+    → HasPassed o AreFirst contents w v came events
+first_of p last rest is_last is = record {
   passes = p.passes;
   bad = p.bad;
-  are =
-      let (last, is_last) = some_last (number_next p.passes.lines) p.passes.left in (
-        last,
-        is_last,
-        length p.bad,
-        p.are ∙ sym (take-append_seam (bad_among p.passes.lines) last)
-            ∙ ap (λ t. take (length t) (bad_among p.passes.lines ++ last)) (sym p.are),
-      );
+  are = (last, is_last, length p.bad, sym (ap (take (length p.bad)) is ∙ take-append_seam p.bad rest));
   reported = p.reported;
   untouched = p.untouched;
 }
 
--- what was seen, and then bytes that were not looked at
-pub seen_part : {F : Type 0} (contents : F → Option (List ℕ)) (w v : Watched F) (o : OnBadLine) (came seen unseen : List ℕ)
-    (events : List Event) → came ≡ seen ++ unseen → HasPassed o AreSoFar contents w v seen events
-    → HasSeenPart o contents w v came events
-seen_part contents w v o came seen unseen events is h =
-    record { seen = seen; unseen = unseen; parts = is; passed = inl (passed_first contents w v o seen events h) }
+passed_first : {F : Type 0} {o : OnBadLine} {contents : F → Option (List ℕ)} {w v : Watched F} {came : List ℕ} {events : List Event}
+    → HasPassed o AreSoFar contents w v came events → HasPassed o AreFirst contents w v came events
+passed_first p =
+    let (last, is_last) = some_last (number_next p.passes.lines) p.passes.left in
+    first_of p last last is_last (ap (λ t. t ++ last) (sym p.are))
 
-pub seen_whole : {F : Type 0} (contents : F → Option (List ℕ)) (w v : Watched F) (o : OnBadLine) (came : List ℕ) (events : List Event)
+-- what was seen, and then bytes that were not looked at
+pub seen_part : {F : Type 0} {o : OnBadLine} {contents : F → Option (List ℕ)} {w v : Watched F} {came seen : List ℕ} {events : List Event}
+    (unseen : List ℕ) → seen ++ unseen ≡ came → HasPassed o AreSoFar contents w v seen events → HasSeenPart o contents w v came events
+seen_part {seen = seen} unseen is h = record { seen = seen; unseen = unseen; parts = sym is; passed = inl (passed_first h) }
+
+pub seen_whole : {F : Type 0} {o : OnBadLine} {contents : F → Option (List ℕ)} {w v : Watched F} {came : List ℕ} {events : List Event}
     → HasSeen o contents w v came events → HasSeenPart o contents w v came events
-seen_whole contents w v o came events h = record { seen = came; unseen = []; parts = sym (append-nil came); passed = h }
+seen_whole {came = came} h = record { seen = came; unseen = []; parts = sym (append-nil came); passed = h }
 
 -- however a piece was taken in, all of it was looked at
-pub piece_seen : {F : Type 0} (contents : F → Option (List ℕ)) (w v u : Watched F) (old new : Cutter) (stop : Option ℕ) (o : OnBadLine)
-    (came piece : List ℕ) (events : List Event) → old.on_bad ≡ o → new.on_bad ≡ old.on_bad → TakesPiece stop contents piece old v new u
-    → HasTakenIn old contents w v came events → HasSeen o contents w u (came ++ piece) (events ++ new.events.items)
-piece_seen contents w v u old new None o came piece events is same takes h =
-    inl (passed_first contents w u o (came ++ piece) (events ++ new.events.items)
-    (taken_passed contents w u new o (same ∙ is) (came ++ piece) (events ++ new.events.items) (takes w came events h)))
-piece_seen contents w v u old new (Some n) o came piece events is same takes h = inr (
-  n,
-  subst (λ x. HasStopped x w u (came ++ piece) (events ++ new.events.items) n) is (takes w came events h),
-)
+pub piece_seen : {F : Type 0} {contents : F → Option (List ℕ)} {w u : Watched F} {o : OnBadLine} (new : Cutter) (stop : Option ℕ)
+    (came : List ℕ) (events : List Event) → UnlessStopped stop (HasTakenIn o new contents w u) o w u came events
+    → HasSeen o contents w u came events
+piece_seen new None came events h = inl (passed_first h.passed)
+piece_seen new (Some n) came events h = inr (n, h)
 
 -- so it was at the end
-pub ended_seen : {F : Type 0} (contents : F → Option (List ℕ)) (w v : Watched F) (o : OnBadLine) (clean : Bool)
-    (came : List ℕ) (events : List Event) → HasEnded o clean contents w v came events → HasSeenPart o contents w v came events
-ended_seen contents w v o clean came events h =
-    let p = h.passed in
-    let all : List Complaint = bad_among p.passes.lines ++ p.are.0 in
-    seen_whole contents w v o came events (inl (record {
-      passes = p.passes;
-      bad = p.bad;
-      are = (
-        p.are.0,
-        p.are.1,
-        length p.bad,
-        p.are.2 ∙ sym (take_all (length all) all (omega arith)) ∙ ap (λ t. take (length t) all) (sym p.are.2),
-      );
-      reported = p.reported;
-      untouched = p.untouched;
-    }))
+pub ended_seen : {F : Type 0} {o : OnBadLine} {clean : Bool} {contents : F → Option (List ℕ)} {w v : Watched F} {came : List ℕ}
+    {events : List Event} → HasEnded o clean contents w v came events → HasSeenPart o contents w v came events
+ended_seen h =
+    let p = h.passed in seen_whole (inl (first_of p p.are.0 [] p.are.1 (sym p.are.2 ∙ sym (append-nil p.bad))))

@@ -1,48 +1,35 @@
 -- The lines of an input, one after another, as a cutter takes them.
-use Rattle.std.proofs.Common.{◌≡◌, lit≤, zero, suc, ℕ, ◌+◌, ◌-◌, ◌^◌, ◌<◌, ◌≤◌, List, [], ◌∷◌, ◌++◌, length, get_or, take, drop, Some, None, refl, sym, ap, subst, ◌∙◌, arith, append_assoc, append-nil, length-append, take-append-drop, take_all, min, take-add}
+use Rattle.std.proofs.Common.{◌≡◌, lit≤, zero, suc, ℕ, ◌+◌, ◌-◌, ◌^◌, ◌<◌, ◌≤◌, List, [], ◌∷◌, ◌++◌, length, get_or, take, drop, Some, None, refl, sym, ap, subst, ◌∙◌, arith, append_assoc, append-nil, length-append, take-append-drop, take_all, min, take-add, inr}
 use Rattle.std.specs.List.{flat_map, enumerate_from, AllByRecursion}
 use Rattle.std.proofs.lemmas.Grind.{flat_map-append}
-use Rattle.std.proofs.lemmas.List.{take_rest, length-take, nil_from_length}
+use Rattle.std.proofs.lemmas.List.{take_rest, length-take, nil_from_length, take-take, take_min}
 use Rattle.timer_script.specs.Types.{Event, MAX_LINE, LineFault, OnBadLine, Cutter, ScriptFault}
 use Rattle.timer_script.specs.Splitter.{HasNoFeed}
 use Rattle.timer_script.specs.Script.{IsInRange, line, spelling, BeginsNoLine}
 use Rattle.timer_script.specs.Lines.{line_at}
 use Rattle.timer_script.specs.Diagnosis.{IsFaultOf}
 use Rattle.timer_script.specs.declared.cutter.OnBadLine.TheVariants.{Stop, Report}
-use Rattle.timer_script.specs.Cutter.{Line, Good, Bad, bytes_of, IsGoodOrBad, events_of, number_next, Complaint, complaint_of, bad_among, IsLastBad, complaint_line, complaints, Passes, IsStoppedAt, HasEndedLine, StopsLine, HasSorted, HasSortedSince, StopsAt}
+use Rattle.timer_script.specs.Cutter.{Line, Good, Bad, bytes_of, IsGoodOrBad, event_in, events_of, number_next, Complaint, complaint_of, bad_among, IsLastBad, complaint_line, complaints, Passes, IsStoppedAt, HasEndedLine, StopsLine, HasSorted, HasSortedSince, StopsAt}
 use Rattle.timer_script.specs.declared.fault.ScriptFault.TheVariants as faults
 use Rattle.timer_script.proofs.LineLemmas.{line_sound}
 use Rattle.timer_script.proofs.DiagnosisLemmas.{unread_no_line}
 use Rattle.timer_script.proofs.Results.{all_append}
-use Rattle.timer_script.proofs.SplitterLemmas.{IsFed, line_fed, at_feed, first_feed, no_feed-append, no_feed-take, feed-take, too_long}
+use Rattle.timer_script.proofs.SplitterLemmas.{IsFed, line_fed, at_feed, first_feed, no_feed-append, no_feed-take, feed-take, bare_no_line}
 
 -- ---- lists of lines
 
-events-append : (xs ys : List Line) → events_of (xs ++ ys) ≡ events_of xs ++ events_of ys
-events-append [] ys = refl
-events-append (Good event ∷ xs) ys = ap (λ t. event ∷ t) (events-append xs ys)
-events-append (Bad front fault ∷ xs) ys = events-append xs ys
-
 -- what is reported of lines from the n-th on
-abbrev among : ℕ → List Line → List Complaint
+abbrev pub among : ℕ → List Line → List Complaint
 among n xs = flat_map (λ numbered. complaint_of (min numbered.0 (2 ^ 64 - 1)) numbered.1) (enumerate_from n xs)
 
-among_more : (n : ℕ) (xs : List Line) (x : Line)
-    → among n (xs ++ x ∷ []) ≡ among n xs ++ complaint_of (min (length xs + n) (2 ^ 64 - 1)) x
-among_more n [] x =
-    let e : n ≡ length {A = Line} [] + n = omega arith in
-    append-nil (complaint_of (min n (2 ^ 64 - 1)) x) ∙ ap (λ k. complaint_of (min k (2 ^ 64 - 1)) x) e
-among_more n (y ∷ ys) x =
+among_more : (n k : ℕ) (xs : List Line) (x : Line) → k ≡ length xs + n
+    → among n (xs ++ x ∷ []) ≡ among n xs ++ complaint_of (min k (2 ^ 64 - 1)) x
+among_more n k [] x is =
+    let first : n ≡ k = omega arith in append-nil (complaint_of (min n (2 ^ 64 - 1)) x) ∙ ap (λ j. complaint_of (min j (2 ^ 64 - 1)) x) first
+among_more n k (y ∷ ys) x is =
     let first : List Complaint = complaint_of (min n (2 ^ 64 - 1)) y in
-    let e : length ys + (n + 1) ≡ length (y ∷ ys) + n = omega arith in
-    ap (λ t. first ++ t) (among_more (n + 1) ys x ∙ ap (λ k. among (n + 1) ys ++ complaint_of (min k (2 ^ 64 - 1)) x) e)
-    ∙ sym (append_assoc first (among (n + 1) ys) (complaint_of (min (length (y ∷ ys) + n) (2 ^ 64 - 1)) x))
-
-bad_more : (xs : List Line) (x : Line) → bad_among (xs ++ x ∷ []) ≡ bad_among xs ++ complaint_of (number_next xs) x
-bad_more xs x = among_more 1 xs x
-
-next_more : (xs : List Line) (x : Line) → number_next (xs ++ x ∷ []) ≡ min (number_next xs + 1) (2 ^ 64 - 1)
-next_more xs x = omega (arith, length-append xs (x ∷ []))
+    ap (λ t. first ++ t) (among_more (n + 1) k ys x (omega arith))
+    ∙ sym (append_assoc first (among (n + 1) ys) (complaint_of (min k (2 ^ 64 - 1)) x))
 
 -- the good lines are a script
 pub good_script : (xs : List Line) → AllByRecursion IsGoodOrBad xs → AllByRecursion IsInRange (events_of xs)
@@ -51,19 +38,15 @@ good_script (Good event ∷ xs) a = (a.0, good_script xs a.1)
 good_script (Bad front fault ∷ xs) a = good_script xs a.1
 
 -- lines of which none is bad are the spelling of their events
-all_from : (n : ℕ) (xs : List Line) → among n xs ≡ []
+pub all_good : (n : ℕ) (xs : List Line) → among n xs ≡ []
     → (flat_map bytes_of xs ≡ spelling (events_of xs)) × (length xs ≡ length (events_of xs))
-all_from n [] e = (refl, refl)
-all_from n (Good event ∷ xs) e =
-    let h = all_from (n + 1) xs e in
+all_good n [] e = (refl, refl)
+all_good n (Good event ∷ xs) e =
+    let h = all_good (n + 1) xs e in
     let k = h.1 in
     let longer : length (Good event ∷ xs) ≡ length (events_of (Good event ∷ xs)) = omega arith in
     (ap (λ t. line event ++ t) h.0, longer)
-all_from n (Bad front fault ∷ xs) e = absurd cc
-
-pub all_good : (xs : List Line) → bad_among xs ≡ []
-    → (flat_map bytes_of xs ≡ spelling (events_of xs)) × (length xs ≡ length (events_of xs))
-all_good xs e = all_from 1 xs e
+all_good n (Bad front fault ∷ xs) e = absurd cc
 
 -- ---- the end of a line
 
@@ -133,16 +116,6 @@ ended_bad on_bad front held n fault events said said' report none is unread_none
 
 -- ---- a line that has not ended
 
-take_nil : (m : ℕ) → take {A = ℕ} m [] ≡ []
-take_nil zero = refl
-take_nil (suc m) = refl
-
-pub some_left : (m : ℕ) (held front : List ℕ) → held ≡ take m front → 1 ≤ length held → 1 ≤ length front
-some_left m held front is some = omega (arith, ap length is, length-take m front)
-
-pub none_left : (held front : List ℕ) → held ≡ take MAX_LINE front → held ≡ [] → front ≡ []
-none_left held front is none = nil_from_length front (omega (arith, ap length (sym is ∙ none), length-take MAX_LINE front))
-
 -- what is left at the end is a bad line
 pub last_some : (n : ℕ) (fault : LineFault) (front : List ℕ) → 1 ≤ length front → IsFaultOf fault (take MAX_LINE front)
     → IsLastBad n front ((n, fault) ∷ [])
@@ -152,16 +125,10 @@ last_some n fault (b ∷ front) some wrong = (fault, wrong, refl)
 -- ---- pieces of a line
 
 take_take : (m n : ℕ) (xs : List ℕ) → take (min n m) xs ≡ take m (take n xs)
-take_take m zero xs =
-    let e : min zero m ≡ zero = omega arith in
-    ap (λ k. take k xs) e ∙ sym (take_nil m)
-take_take zero (suc n) xs =
-    let e : min (suc n) zero ≡ zero = omega arith in
-    ap (λ k. take k xs) e
-take_take (suc m) (suc n) [] = take_nil (min (suc n) (suc m))
-take_take (suc m) (suc n) (x ∷ xs) =
-    let e : min (suc n) (suc m) ≡ suc (min n m) = omega arith in
-    ap (λ k. take k (x ∷ xs)) e ∙ ap (λ t. x ∷ t) (take_take m n xs)
+take_take m n xs =
+    let front : List ℕ = take n xs in
+    let e : min (min n m) (length front) ≡ min m (length front) = omega (arith, length-take n xs) in
+    sym (take-take (min n m) n xs (omega arith)) ∙ sym (take_min (min n m) front) ∙ ap (λ k. take k front) e ∙ take_min m front
 
 -- no more of a line is held than a line may have
 pub held_more : (m n : ℕ) (front bytes : List ℕ) → take m front ++ take (min n (m - length (take m front))) bytes
@@ -176,21 +143,19 @@ held_more (suc m) n (x ∷ xs) bytes =
     let e : suc m - length (x ∷ take m xs) ≡ m - length (take m xs) = omega arith in
     ap (λ k. x ∷ (take m xs ++ take (min n k) bytes)) e ∙ ap (λ t. x ∷ t) (held_more m n xs bytes)
 
-short_front : (m : ℕ) (front : List ℕ) → (length (take m front) ≡ m → ⊥) → length front < m
-short_front m front not = omega (arith, length-take m front, not)
-
 -- bytes that end no line
-pub held_sorted : (old new : Cutter) (came bytes : List ℕ) (n : ℕ) (events : List Event) (bad : List Complaint) → 0 < n
-    → n ≤ length bytes → HasNoFeed (take (n - 1) bytes) → (get_or bytes (n - 1) 0 ≡ 10 → ⊥)
+pub held_sorted : {o : OnBadLine} {old : Cutter} {came : List ℕ} {events : List Event} {bad : List Complaint} (new : Cutter)
+    (bytes : List ℕ) (n : ℕ) → 0 < n → n ≤ length bytes → HasNoFeed (take (n - 1) bytes) → (get_or bytes (n - 1) 0 ≡ 10 → ⊥)
     → new.held.items ≡ old.held.items ++ take (min n (MAX_LINE - length old.held.items)) bytes
     → new.events.items ≡ old.events.items → new.reports.items ≡ old.reports.items → new.number ≡ old.number
     → new.on_bad ≡ old.on_bad → (old.on_bad ≡ Stop → length new.held.items ≡ MAX_LINE → ⊥)
-    → HasSortedSince old came events bad → HasSortedSince new (came ++ take n bytes) events bad
-held_sorted old new came bytes n events bad some within free not joined same_events same_said same_number same short h =
+    → HasSortedSince o old came events bad → HasSortedSince o new (came ++ take n bytes) events bad
+held_sorted {events = events} new bytes n some within free not joined same_events same_said same_number same short h =
     let p = h.sorted.passes in
     let kept : new.held.items ≡ take MAX_LINE (p.left ++ take n bytes) =
-    joined ∙ ap (λ t. t ++ take (min n (MAX_LINE - length t)) bytes) h.sorted.held ∙ held_more MAX_LINE n p.left bytes in
+    joined ∙ ap (λ t. t ++ take (min n (MAX_LINE - length t)) bytes) h.sorted.held_is ∙ held_more MAX_LINE n p.left bytes in
     record {
+      kept = same ∙ h.kept;
       more = h.more;
       reports = same_said ∙ h.reports;
       sorted = record {
@@ -203,11 +168,10 @@ held_sorted old new came bytes n events bad some within free not joined same_eve
             unended = no_feed-take p.left bytes n some within p.cut.unended free not;
           };
           events_are = ap (λ t. events ++ t) same_events ∙ p.events_are;
-          good = λ stop. p.good (sym same ∙ stop);
-          short = λ stop. short_front MAX_LINE (p.left ++ take n bytes)
-              (λ full. short (sym same ∙ stop) (ap length kept ∙ full));
+          good = p.good;
+          short = λ stop. omega (arith, length-take MAX_LINE (p.left ++ take n bytes), ap length kept, short (h.kept ∙ stop));
         };
-        held = kept;
+        held_is = kept;
         counted = same_number ∙ h.sorted.counted;
         bad_is = h.sorted.bad_is;
       };
@@ -222,19 +186,20 @@ line_front front held bytes held' n old some within is joined =
     ∙ ap (λ t. take MAX_LINE t) (feed-take front bytes n some within is)
 
 -- bytes that end one line
-pub line_sorted : (old new : Cutter) (came bytes : List ℕ) (n : ℕ) (events : List Event) (bad : List Complaint) → 0 < n
-    → n ≤ length bytes → get_or bytes (n - 1) 0 ≡ 10 → new.on_bad ≡ old.on_bad → new.held.items ≡ []
-    → new.number ≡ min (old.number + 1) (2 ^ 64 - 1) → (h : HasSortedSince old came events bad)
+pub line_sorted : {o : OnBadLine} {old : Cutter} {came : List ℕ} {events : List Event} {bad : List Complaint} (new : Cutter)
+    (bytes : List ℕ) (n : ℕ) → 0 < n → n ≤ length bytes → get_or bytes (n - 1) 0 ≡ 10 → new.on_bad ≡ old.on_bad
+    → new.held.items ≡ [] → new.number ≡ min (old.number + 1) (2 ^ 64 - 1) → (h : HasSortedSince o old came events bad)
     → HasEndedLine old.on_bad ((h.sorted.passes.left ++ take (n - 1) bytes) ++ 10 ∷ []) old.number
     old.events.items new.events.items old.reports.items new.reports.items
-    → HasSortedSince new (came ++ take n bytes) events bad
-line_sorted old new came bytes n events bad some within is same none next h e =
+    → HasSortedSince o new (came ++ take n bytes) events bad
+line_sorted {old = old} {events = events} {bad = bad} new bytes n some within is same none next h e =
     let p = h.sorted.passes in
     let one : List Line = e.line ∷ [] in
     let before : List ℕ = flat_map bytes_of p.lines in
     let said : List Complaint = complaint_of old.number e.line in
     let counted = h.sorted.counted in
     record {
+      kept = same ∙ h.kept;
       more = h.more ++ said;
       reports = e.said_is ∙ ap (λ t. t ++ complaints said) h.reports ∙ sym (flat_map-append complaint_line h.more said);
       sorted = record {
@@ -249,64 +214,41 @@ line_sorted old new came bytes n events bad some within is same none next h e =
             unended = tt;
           };
           events_are = ap (λ t. events ++ t) e.events_are ∙ sym (append_assoc events old.events.items (events_of one))
-              ∙ ap (λ t. t ++ events_of one) p.events_are ∙ sym (events-append p.lines one);
-          good = λ stop. bad_more p.lines e.line
-              ∙ ap (λ t. t ++ complaint_of (number_next p.lines) e.line) (p.good (sym same ∙ stop))
-              ∙ ap (λ k. complaint_of k e.line) (sym counted) ∙ e.good (sym same ∙ stop);
+              ∙ ap (λ t. t ++ events_of one) p.events_are ∙ sym (flat_map-append event_in p.lines one);
+          good = λ stop. among_more 1 (length p.lines + 1) p.lines e.line refl
+              ∙ ap (λ t. t ++ complaint_of (number_next p.lines) e.line) (p.good stop)
+              ∙ ap (λ k. complaint_of k e.line) (sym counted) ∙ e.good (h.kept ∙ stop);
           short = λ stop. lit≤ tt;
         };
-        held = none ∙ sym (take_nil MAX_LINE);
-        counted = next ∙ ap (λ k. min (k + 1) (2 ^ 64 - 1)) counted ∙ sym (next_more p.lines e.line);
+        held_is = none;
+        counted = omega (arith, next, counted, length-append p.lines one);
         bad_is = sym (append_assoc bad h.more said) ∙ ap (λ t. t ++ said) h.sorted.bad_is
-            ∙ ap (λ k. bad_among p.lines ++ complaint_of k e.line) counted ∙ sym (bad_more p.lines e.line);
+            ∙ ap (λ k. bad_among p.lines ++ complaint_of k e.line) counted ∙ sym (among_more 1 (length p.lines + 1) p.lines e.line refl);
       };
-    }
-
--- a cutter that has the same of all but what passed and the reports
-pub sorted_as : (old new : Cutter) (came : List ℕ) (events : List Event) (bad : List Complaint) → new.on_bad ≡ old.on_bad
-    → new.held.items ≡ old.held.items → new.number ≡ old.number → HasSorted old came events bad → HasSorted new came events bad
-sorted_as old new came events bad same same_held same_number h =
-    let p = h.passes in
-    record {
-      passes = record {
-        lines = p.lines;
-        left = p.left;
-        cut = p.cut;
-        events_are = p.events_are;
-        good = λ stop. p.good (sym same ∙ stop);
-        short = λ stop. p.short (sym same ∙ stop);
-      };
-      held = same_held ∙ h.held;
-      counted = same_number ∙ h.counted;
-      bad_is = h.bad_is;
     }
 
 -- a piece of which nothing was taken yet
-pub since_none : (old new : Cutter) (came piece : List ℕ) (events : List Event) (bad : List Complaint) → new.on_bad ≡ old.on_bad
-    → new.held.items ≡ old.held.items → new.number ≡ old.number → new.events.items ≡ [] → new.reports.items ≡ []
-    → HasSorted old came events bad → HasSortedSince new (came ++ take 0 piece) events bad
-since_none old new came piece events bad same same_held same_number no_events no_reports h = record {
-  more = [];
-  reports = no_reports;
-  sorted = subst (λ z. HasSorted new z (events ++ new.events.items) (bad ++ [])) (sym (append-nil came))
-      (subst (λ es. HasSorted new came es (bad ++ [])) (sym (ap (λ t. events ++ t) no_events ∙ append-nil events))
-      (subst (HasSorted new came events) (sym (append-nil bad)) (sorted_as old new came events bad same same_held same_number h)));
-}
+pub since_none : {o : OnBadLine} {came : List ℕ} {events : List Event} {bad : List Complaint} (new : Cutter) (piece : List ℕ)
+    → new.on_bad ≡ o → new.events.items ≡ [] → new.reports.items ≡ [] → HasSorted o new.held.items new.number came events bad
+    → HasSortedSince o new (came ++ take 0 piece) events bad
+since_none new piece kept no_events no_reports h =
+    record { kept = kept; more = []; reports = no_reports; sorted = simp (no_events, append-nil) h }
 
 -- ---- a line that ends the stream
 
--- after lines of which none is bad come bytes that begin no line
-pub stopped_at : (on_bad : OnBadLine) (came all rest : List ℕ) (n : ℕ) (events : List Event) (p : Passes on_bad came events)
-    → on_bad ≡ Stop → all ≡ flat_map bytes_of p.lines ++ rest → 1 ≤ length rest → BeginsNoLine rest → n ≡ number_next p.lines
-    → IsStoppedAt all events n
-stopped_at on_bad came all rest n events p stop parts some bad counted =
-    let good = all_good p.lines (p.good stop) in
+-- after lines of which none is bad, and what is left after them, come bytes, so that no line begins there
+pub stopped_at : {o : OnBadLine} {came : List ℕ} {events : List Event} (p : Passes o came events) (more rest : List ℕ) (n : ℕ)
+    → o ≡ Stop → p.left ++ more ≡ rest → 1 ≤ length rest → BeginsNoLine rest → n ≡ number_next p.lines
+    → IsStoppedAt (came ++ more) events n
+stopped_at p more rest n stop parts some bad counted =
+    let good = all_good 1 p.lines (p.good stop) in
     record {
       line = length (events_of p.lines) + 1;
       bad = record {
         before = events_of p.lines;
         rest = rest;
-        parts = parts ∙ ap (λ t. t ++ rest) good.0;
+        parts = ap (λ t. t ++ more) p.cut.parts ∙ append_assoc (flat_map bytes_of p.lines) p.left more
+            ∙ ap (λ t. flat_map bytes_of p.lines ++ t) parts ∙ ap (λ t. t ++ rest) good.0;
         in_range = good_script p.lines p.cut.each;
         some = some;
         bad = bad;
@@ -316,82 +258,54 @@ stopped_at on_bad came all rest n events p stop parts some bad counted =
       counted = counted ∙ ap (λ k. min (k + 1) (2 ^ 64 - 1)) good.1;
     }
 
--- it begins with what is held, as far as a line may go, and then these bytes
-stopped_now : (fault n : ℕ) (old new : Cutter) (came bytes front : List ℕ) (events : List Event) (bad : List Complaint)
-    → (h : HasSortedSince old came events bad) → old.on_bad ≡ Stop → h.sorted.passes.left ++ take n bytes ≡ front
-    → 1 ≤ length (front ++ drop n bytes) → BeginsNoLine (front ++ drop n bytes) → new.events.items ≡ old.events.items → fault ≡ old.number
-    → IsStoppedAt (came ++ bytes) (events ++ new.events.items) fault
-stopped_now fault n old new came bytes front events bad h stop is some none same counted =
-    let p = h.sorted.passes in
-    let before : List ℕ = flat_map bytes_of p.lines in
-    let around : p.left ++ bytes ≡ front ++ drop n bytes = ap (λ t. p.left ++ t) (sym (take-append-drop n bytes))
-    ∙ sym (append_assoc p.left (take n bytes) (drop n bytes)) ∙ ap (λ t. t ++ drop n bytes) is in
-    subst (λ es. IsStoppedAt (came ++ bytes) (events ++ es) fault) (sym same)
-    (stopped_at old.on_bad came (came ++ bytes) (front ++ drop n bytes) fault (events ++ old.events.items) p stop
-    (ap (λ t. t ++ bytes) p.cut.parts ∙ append_assoc before p.left bytes ∙ ap (λ t. before ++ t) around) some none
-    (counted ∙ h.sorted.counted))
+-- what is left, the first bytes, and the others
+around : (left bytes front : List ℕ) (n : ℕ) → left ++ take n bytes ≡ front → left ++ bytes ≡ front ++ drop n bytes
+around left bytes front n is = rw (← is) (simp (append_assoc, take-append-drop) refl)
 
 -- why a line was not taken
-pub line_stops : (fault : ScriptFault) (old new : Cutter) (held came bytes : List ℕ) (n : ℕ) (events : List Event)
-    (bad : List Complaint) → 0 < n → n ≤ length bytes → HasNoFeed (take (n - 1) bytes) → get_or bytes (n - 1) 0 ≡ 10
-    → held ≡ old.held.items ++ take (min n (MAX_LINE - length old.held.items)) bytes
-    → StopsLine fault old.on_bad old.number held old.events.items new.events.items → HasSortedSince old came events bad
-    → StopsAt fault old.on_bad (came ++ bytes) (events ++ new.events.items)
-line_stops faults.OutOfMemory old new held came bytes n events bad some within free is joined stops h = tt
-line_stops (faults.Bad number) old new held came bytes n events bad some within free is joined stops h =
+pub line_stops : {o : OnBadLine} {old : Cutter} {came : List ℕ} {events : List Event} {bad : List Complaint} (fault : ScriptFault)
+    (held bytes : List ℕ) (n : ℕ) (events' : List Event) → 0 < n → n ≤ length bytes → HasNoFeed (take (n - 1) bytes)
+    → get_or bytes (n - 1) 0 ≡ 10 → held ≡ old.held.items ++ take (min n (MAX_LINE - length old.held.items)) bytes
+    → StopsLine fault old.on_bad old.number held old.events.items events' → HasSortedSince o old came events bad
+    → StopsAt fault o (came ++ bytes) (events ++ events')
+line_stops faults.OutOfMemory held bytes n events' some within free is joined stops h = tt
+line_stops {o} {old} {came} {events} (faults.Bad number) held bytes n events' some within free is joined stops h =
     let left : List ℕ = h.sorted.passes.left in
     let whole : List ℕ = left ++ take (n - 1) bytes in
-    let long : length ((whole ++ 10 ∷ []) ++ drop n bytes) ≡ length whole + 1 + length (drop n bytes) =
-    length-append (whole ++ 10 ∷ []) (drop n bytes) ∙ ap (λ k. k + length (drop n bytes)) (length-append whole (10 ∷ [])) in (
-      stops.0,
-      stopped_now number n old new came bytes (whole ++ 10 ∷ []) events bad h stops.0 (feed-take left bytes n some within is)
-          (omega arith)
+    let rest : List ℕ = (whole ++ 10 ∷ []) ++ drop n bytes in
+    let stop : o ≡ Stop = sym h.kept ∙ stops.0 in (
+      stop,
+      subst (λ es. IsStoppedAt (came ++ bytes) (events ++ es) number) (sym stops.3)
+          (stopped_at h.sorted.passes bytes rest number stop (around left bytes (whole ++ 10 ∷ []) n (feed-take left bytes n some within is))
+          (omega (arith, length-append (whole ++ 10 ∷ []) (drop n bytes), length-append whole (10 ∷ [])))
           (read_none whole held (drop n bytes) (no_feed-append left (take (n - 1) bytes) h.sorted.passes.cut.unended free)
-          (line_front left old.held.items bytes held n h.sorted.held some within is joined) stops.2)
-          stops.3 stops.1,
+          (line_front left old.held.items bytes held n h.sorted.held_is some within is joined) stops.2) (stops.1 ∙ h.sorted.counted)),
     )
 
-pub long_stops : (old new : Cutter) (number : ℕ) (came bytes : List ℕ) (n : ℕ) (events : List Event) (bad : List Complaint)
+pub long_stops : {o : OnBadLine} {old : Cutter} {came : List ℕ} {events : List Event} {bad : List Complaint} (held bytes : List ℕ) (n : ℕ)
     → old.on_bad ≡ Stop → 0 < n → n ≤ length bytes → HasNoFeed (take (n - 1) bytes) → (get_or bytes (n - 1) 0 ≡ 10 → ⊥)
-    → new.held.items ≡ old.held.items ++ take (min n (MAX_LINE - length old.held.items)) bytes → length new.held.items ≡ MAX_LINE
-    → new.events.items ≡ old.events.items → number ≡ old.number → HasSortedSince old came events bad
-    → StopsAt (faults.Bad number) old.on_bad (came ++ bytes) (events ++ new.events.items)
-long_stops old new number came bytes n events bad stop some within free not joined long same counted h =
-    let all : List ℕ = h.sorted.passes.left ++ take n bytes in
-    let seen : List ℕ = take MAX_LINE all in
-    let more : List ℕ = drop MAX_LINE all ++ drop n bytes in
-    let kept : new.held.items ≡ seen = joined ∙ ap (λ t. t ++ take (min n (MAX_LINE - length t)) bytes) h.sorted.held
-    ∙ held_more MAX_LINE n h.sorted.passes.left bytes in
-    let bare : HasNoFeed all = no_feed-take h.sorted.passes.left bytes n some within h.sorted.passes.cut.unended free not in
-    let cut : all ++ drop n bytes ≡ seen ++ more = ap (λ t. t ++ drop n bytes) (sym (take-append-drop MAX_LINE all))
-    ∙ append_assoc seen (drop MAX_LINE all) (drop n bytes) in
-    let full : length seen ≡ MAX_LINE = ap length (sym kept) ∙ long in
-    let count : length (all ++ drop n bytes) ≡ length seen + length more = ap length cut ∙ length-append seen more in (
+    → held ≡ old.held.items ++ take (min n (MAX_LINE - length old.held.items)) bytes → length held ≡ MAX_LINE
+    → HasSortedSince o old came events bad → StopsAt (faults.Bad old.number) o (came ++ bytes) (events ++ old.events.items)
+long_stops {o} {old} held bytes n stops some within free not joined long h =
+    let p = h.sorted.passes in
+    let all : List ℕ = p.left ++ take n bytes in
+    let stop : o ≡ Stop = sym h.kept ∙ stops in
+    let kept : held ≡ take MAX_LINE all = joined ∙ ap (λ t. t ++ take (min n (MAX_LINE - length t)) bytes) h.sorted.held_is
+    ∙ held_more MAX_LINE n p.left bytes in
+    let many : MAX_LINE ≤ length all = omega (arith, ap length kept, length-take MAX_LINE all) in (
       stop,
-      stopped_now number n old new came bytes all events bad h stop refl (omega arith)
-          (subst BeginsNoLine (sym cut) (too_long seen more (no_feed-front MAX_LINE all bare) full)) same counted,
+      stopped_at p bytes (all ++ drop n bytes) old.number stop (around p.left bytes all n refl)
+          (omega (arith, length-append all (drop n bytes)))
+          (bare_no_line all (drop n bytes) (no_feed-take p.left bytes n some within p.cut.unended free not) (inr many)) h.sorted.counted,
     )
-  where
-    no_feed-front : (m : ℕ) (xs : List ℕ) → HasNoFeed xs → HasNoFeed (take m xs)
-    no_feed-front zero xs h = tt
-    no_feed-front (suc m) [] h = tt
-    no_feed-front (suc m) (x ∷ xs) h = (h.0, no_feed-front m xs h.1)
 
 -- ---- a piece, line after line
 
 -- its first bytes, and some of the others
 pub piece_more : (came piece : List ℕ) (i m k : ℕ) → k ≡ i + m
     → (came ++ take i piece) ++ take m (take (length piece - i) (drop i piece)) ≡ came ++ take k piece
-piece_more came piece i m k is =
-    append_assoc came (take i piece) (take m (take (length piece - i) (drop i piece)))
-    ∙ ap (λ t. came ++ t) (ap (λ t. take i piece ++ take m t) (take_rest piece i) ∙ sym (take-add i m piece) ∙ ap (λ j. take j piece) (sym is))
+piece_more came piece i m k is = simp (append_assoc, take_rest, is, take-add) refl
 
--- and all others, of which a line ends the stream
-pub piece_stops : (fault : ScriptFault) (old old' : OnBadLine) (came piece : List ℕ) (i : ℕ) (events : List Event) → old' ≡ old
-    → StopsAt fault old' ((came ++ take i piece) ++ take (length piece - i) (drop i piece)) events
-    → StopsAt fault old (came ++ piece) events
-piece_stops fault old old' came piece i events same h =
-    subst (λ o. StopsAt fault o (came ++ piece) events) same
-    (subst (λ z. StopsAt fault old' z events)
-    (append_assoc came (take i piece) (take (length piece - i) (drop i piece))
-    ∙ ap (λ t. came ++ t) (ap (λ t. take i piece ++ t) (take_rest piece i) ∙ take-append-drop i piece)) h)
+-- and all others
+pub piece_rest : (came piece : List ℕ) (i : ℕ) → (came ++ take i piece) ++ take (length piece - i) (drop i piece) ≡ came ++ piece
+piece_rest came piece i = simp (append_assoc, take_rest, take-append-drop) refl

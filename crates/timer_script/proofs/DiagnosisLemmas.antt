@@ -82,3 +82,5 @@ end_of_number bytes rest at (suc k) field is space within are some last = record
       let low = digit.0 in omega arith;
   behind = ((at, omega arith, space.1), last);
 }
+
+pub ruleset digit_reasons = (after_zero, leaves_range)

@@ -1,20 +1,21 @@
 -- What is read from the front of the bytes is their spelling, and what is spelled so is read.
-use Rattle.std.proofs.Common.{◌≡◌, ◌≢◌, [], ℕ, ◌^◌, ◌<◌, ◌≤◌, ◌==◌, nat_lt, true, false, ◌&&◌, Bool, cond, List, ◌∷◌, ◌++◌, length, get_or, take, drop, Option, Some, None, decimal, codes, refl, sym, ap, subst, ◌∙◌, arith, ◌⊎◌, inl, inr, drop_at, take_at, take-append-drop, append_assoc, lit≤, le-ltb, lt-ltb, ne_eqb, eq-eqb, get_or-take}
+use Rattle.std.proofs.Common.{◌≡◌, ◌≢◌, [], ℕ, ◌^◌, ◌<◌, ◌≤◌, ◌==◌, nat_lt, true, false, ◌&&◌, List, ◌∷◌, ◌++◌, length, get_or, take, drop, slice_index, lt_irrefl, ◌-◌, Option, Some, None, decimal, codes, refl, sym, ap, subst, ◌∙◌, arith, inl, inr, drop_at, take_at, take-append-drop, append_assoc, lit≤, le-ltb, lt-ltb, ne_eqb, eq-eqb, get_or-take, get_or-drop, add-zero, le_refl}
 use Rattle.std.specs.Cmp.Lexicographic.{bytes_decides}
-use Rattle.std.proofs.lemmas.Bool.{and_left, and_right, and_from, and_parts, both_ways, cases_lt, leb-true, le-leb}
-use Rattle.std.proofs.lemmas.List.{get_or_append_left, nil_from_length}
+use Rattle.std.proofs.lemmas.Bool.{and_left, and_right, and_from, and_parts, or_from, or_parts, both_ways, cases_lt, cases_Bool, leb-true, le-leb, ltb-false, eqb-false}
+use Rattle.std.proofs.lemmas.List.{get_or_append_left, nil_from_length, length-take-le, take_rest}
+use Rattle.std.proofs.lemmas.Bool.Decides.{nat_tests}
 use Rattle.std.proofs.lemmas.Option.{none-some}
-use Rattle.std.proofs.lemmas.Fmt.{decimal_is_IsNumeral, decimal_digit, first_decimal, decimal-digits_value}
+use Rattle.std.proofs.lemmas.Fmt.{decimal_is_IsNumeral, decimal_digit, first_decimal, decimal-digits_value, length-decimal-le}
 use Rattle.std.proofs.lemmas.Str.Parse.{numerals_by_value, tells_digits}
-use Rattle.std.specs.Str.Parse.{digits_value}
-use Rattle.std.proofs.NetLemmas.Numbers.{NoDigit, read_number_some, read_number_sound}
+use Rattle.std.specs.Char.{digit_value}
+use Rattle.std.specs.Str.Parse.{AllDigits, digits_value}
+use Rattle.std.specs.Net.Reader.{digit_count, read_number}
+use Rattle.std.proofs.NetLemmas.Numbers.{NoDigit, digit_count-append, digit_count_none, read_number_sound}
 use Rattle.std.proofs.NetLemmas.Options.{cond_some, cond_none, and_then_some, same_parts}
-use Rattle.timer_base.specs.declared.limits.TheConstants.{LAST}
-use Rattle.timer_script.specs.declared.lines.TheConstants.{MAX_TICKS}
-use Rattle.timer_facility.specs.declared.event.Event.{Event}
+use Rattle.timer_script.specs.Types.{LAST, MAX_TICKS, Event}
 use Rattle.timer_facility.specs.declared.event.Event.TheVariants.{Start, Stop, Restart, Ticks, Close}
 use Rattle.timer_script.specs.Script.{IsInRange, line}
-use Rattle.timer_script.specs.Lines.{◌>>=◌, or_try, has_word, strip, digits_at, number_at, field_at, start_at, stop_at, restart_at, tick_at, other_at, line_at}
+use Rattle.timer_script.specs.Lines.{◌>>=◌, or_try, has_word, strip, number_at, field_at, start_at, stop_at, restart_at, tick_at, other_at, line_at}
 
 -- ---- a word
 
@@ -29,23 +30,13 @@ strip_sound word bytes rest e =
     let (same, tail) = cond_some _ _ _ e in
     has_word_sound word bytes same ∙ ap (λ t. word ++ t) tail
 
-strip_again : (word rest : List ℕ) → strip word (word ++ rest) ≡ Some rest
+pub strip_again : (word rest : List ℕ) → strip word (word ++ rest) ≡ Some rest
 unfolding has_word
 strip_again word rest = rw (
   take_at word rest (length word) refl,
   (bytes_decides word word).1 refl,
   drop_at word rest (length word) refl,
 ) refl
-
-either : (b : Bool) → (b ≡ true) ⊎ (b ≡ false)
-either true = inl refl
-either false = inr refl
-
-pub has_word_other : (word bytes : List ℕ) → ¬ (has_word word bytes ≡ true) → has_word word bytes ≡ false
-has_word_other word bytes not = elim (either (has_word word bytes)) [
-  | inl begins ↦ absurd (not begins)
-  | inr not_so ↦ not_so
-]
 
 -- behind a common front the rest decides
 pub has_word_after : (front word bytes : List ℕ) → has_word (front ++ word) (front ++ bytes) ≡ has_word word bytes
@@ -58,12 +49,17 @@ pub byte_none : (end : ℕ) (bytes : List ℕ) → length bytes ≡ 0 → strip 
 unfolding has_word
 byte_none end bytes none = rw (nil_from_length bytes none) refl
 
-pub byte_other : (end b : ℕ) (bs : List ℕ) → b ≢ end → strip (end ∷ []) (b ∷ bs) ≡ None
+pub byte_other : (end : ℕ) (bytes : List ℕ) → slice_index bytes 0 ≢ end → 0 < length bytes → strip (end ∷ []) bytes ≡ None
 unfolding has_word
-byte_other end b bs other = rw (ne_eqb end b (λ e. other (sym e))) refl
+byte_other end [] other some = absurd (lt_irrefl 0 some)
+byte_other end (b ∷ bs) other some = rw (ne_eqb end b (λ e. other (sym e))) refl
 
-pub byte_same : (end : ℕ) (bs : List ℕ) → strip (end ∷ []) (end ∷ bs) ≡ Some bs
-byte_same end bs = strip_again (end ∷ []) bs
+pub byte_same : (end : ℕ) (bytes : List ℕ) → slice_index bytes 0 ≡ end → 0 < length bytes
+    → strip (end ∷ []) bytes ≡ Some (take (length bytes - 1) (drop 1 bytes))
+byte_same end [] is some = absurd (lt_irrefl 0 some)
+byte_same end (b ∷ bs) is some = rw (← is, take_rest (b ∷ bs) 1) (strip_again (b ∷ []) bs)
+
+pub ruleset bytes_of_fields = (byte_none, byte_other, byte_same, nat_tests)
 
 -- ---- a number
 
@@ -79,41 +75,65 @@ no_leading_zero n rest fits =
           and_right _ _ (ne_eqb (get_or (decimal n ++ rest) 0 0) 48 (omega arith))
     ]
 
+-- digits that no digit follows are all those at the front
+pub digit_count_at : (s : List ℕ) (len : ℕ) → AllDigits 10 (take len s) → len ≤ length s → 10 ≤ digit_value (get_or s len 0)
+    → digit_count 10 s ≡ len
+digit_count_at s len all within stop =
+    let next : NoDigit 10 (drop len s) = rw (get_or-drop len s 0 0, add-zero) stop in
+    let count = rw (take-append-drop len s) at (digit_count-append 10 (take len s) (drop len s) all) in
+    omega (arith, count, digit_count_none 10 (drop len s) next, length-take-le len s within)
+
 pub number_again : (n : ℕ) (rest : List ℕ) → n ≤ LAST → NoDigit 10 rest → number_at (decimal n ++ rest) ≡ Some (n, rest)
 unfolding number_at
 number_again n rest fits stop =
     let (numeral, value) = decimal_is_IsNumeral n (omega arith) in
-    let read = read_number_some 10 LAST (decimal n) rest numeral (omega arith) stop in
-    rw (read, no_leading_zero n rest fits, drop_at (decimal n) rest _ refl, value) refl
+    let len : ℕ = length (decimal n) in
+    let count : digit_count 10 (decimal n ++ rest) ≡ len =
+    omega (arith, digit_count-append 10 (decimal n) rest numeral.1, digit_count_none 10 rest stop) in
+    let short : len ≤ 19 = length-decimal-le 19 n (lit≤ tt) (omega arith) (omega arith) in
+    let none : (len == 0) ≡ false = ne_eqb len 0 (omega (arith, numeral.0)) in
+    rw (
+      count,
+      take_at (decimal n) rest len refl,
+      value,
+      or_from _ _ none (or_from _ _ (no_leading_zero n rest fits) (or_from _ _ (le-ltb 19 len short) (le-ltb LAST n fits))),
+      drop_at (decimal n) rest len refl,
+    ) refl
 
 pub number_sound : (bytes rest : List ℕ) (n : ℕ) → number_at bytes ≡ Some (n, rest) → (n ≤ LAST) × (bytes ≡ decimal n ++ rest)
-unfolding number_at
+unfolding number_at read_number
 number_sound bytes rest n e =
-    and_then_some _ (digits_at bytes) _ e λ m read kept.
-    let (test, some) = cond_none _ _ _ kept in
-    let (value_is, rest_is) = same_parts m.0 n (drop m.1 bytes) rest some in
-    let (number, fits, len, stop) = read_number_sound 10 LAST bytes m.0 m.1 (lit≤ tt) read in
-    let ds = take m.1 bytes in
-    let some_digit : 0 < m.1 = omega (arith, number.0.0) in
-    let alone : get_or ds 0 0 ≡ 48 → length ds ≡ 1 = λ zero_first.
-    elim (cases_lt 1 m.1) [
-      | inl more ↦ absurd (both_ways _ test (and_from _ _ (lt-ltb _ _ more)
-          (eq-eqb _ _ (sym (get_or-take m.1 bytes 0 0 some_digit) ∙ zero_first))))
-      | inr one ↦ omega arith
+    let len : ℕ = digit_count 10 bytes in
+    let ds : List ℕ = take len bytes in
+    let v : ℕ = digits_value 10 ds in
+    let (tests, some) = cond_none _ _ _ e in
+    let (none, more) = or_parts _ _ tests in
+    let (zero_first, range) = or_parts _ _ more in
+    let (value_is, rest_is) = same_parts v n (drop len bytes) rest some in
+    let fits : v ≤ LAST = ltb-false LAST v (or_parts _ _ range).1 in
+    let read : read_number 10 v bytes ≡ Some (v, len) = rw (lt-ltb 0 len (omega (arith, eqb-false len 0 none)), le-leb v v (le_refl v)) refl in
+    let (number, _, size, _) = read_number_sound 10 v bytes v len (lit≤ tt) read in
+    let alone : get_or ds 0 0 ≡ 48 → length ds ≡ 1 = λ first.
+    elim (cases_lt 1 len) [
+      | inl longer ↦ absurd (both_ways _ zero_first (and_from _ _ (lt-ltb _ _ longer)
+          (eq-eqb _ _ (sym (get_or-take len bytes 0 0 (omega arith)) ∙ first))))
+      | inr one ↦ omega (arith, number.0.0)
     ] in
-    let small : digits_value 10 ds < 2 ^ 64 = omega (arith, number.1) in
-    let spelled = decimal-digits_value (numerals_by_value _ tells_digits) ds number.0.1 number.0.0 alone small in
-    (omega arith, rw (← value_is, ← number.1, spelled, ← rest_is) (sym (take-append-drop m.1 bytes)))
+    let spelled = decimal-digits_value (numerals_by_value _ tells_digits) ds number.0.1 number.0.0 alone (omega arith) in
+    (omega arith, rw (← value_is, spelled, ← rest_is) (sym (take-append-drop len bytes)))
 
 -- ---- a field
 
-spaced : (n : ℕ) (rest : List ℕ) → n ≤ LAST → field_at 32 (decimal n ++ (32 ∷ rest)) ≡ Some (n, rest)
+field_again : (end n : ℕ) (rest : List ℕ) → n ≤ LAST → NoDigit 10 (end ∷ rest)
+    → field_at end (decimal n ++ (end ∷ rest)) ≡ Some (n, rest)
 unfolding field_at
-spaced n rest fits = rw (number_again n (32 ∷ rest) fits (lit≤ tt), strip_again (32 ∷ []) rest) refl
+field_again end n rest fits stop = rw (number_again n (end ∷ rest) fits stop, strip_again (end ∷ []) rest) refl
+
+spaced : (n : ℕ) (rest : List ℕ) → n ≤ LAST → field_at 32 (decimal n ++ (32 ∷ rest)) ≡ Some (n, rest)
+spaced n rest fits = field_again 32 n rest fits (lit≤ tt)
 
 ended : (n : ℕ) (rest : List ℕ) → n ≤ LAST → field_at 10 (decimal n ++ (10 ∷ rest)) ≡ Some (n, rest)
-unfolding field_at
-ended n rest fits = rw (number_again n (10 ∷ rest) fits (lit≤ tt), strip_again (10 ∷ []) rest) refl
+ended n rest fits = field_again 10 n rest fits (lit≤ tt)
 
 field_sound : (end : ℕ) (bytes rest : List ℕ) (n : ℕ) → field_at end bytes ≡ Some (n, rest) → (n ≤ LAST) × (bytes ≡ decimal n ++ end ∷ rest)
 unfolding field_at
@@ -126,33 +146,15 @@ field_sound end bytes rest n e =
 
 -- ---- a line
 
-start_again : (c n i a : ℕ) (rest : List ℕ) → IsInRange (Start c n i a)
-    → start_at (decimal c ++ (32 ∷ (decimal n ++ (32 ∷ (decimal i ++ (32 ∷ (decimal a ++ (10 ∷ rest)))))))) ≡ Some (Start c n i a, rest)
-unfolding start_at
-start_again c n i a rest fits = rw (spaced c _ fits.0, spaced n _ fits.1, spaced i _ fits.2, ended a _ fits.3) refl
-
-stop_again : (c n s : ℕ) (rest : List ℕ) → IsInRange (Stop c n s)
-    → stop_at (decimal c ++ (32 ∷ (decimal n ++ (32 ∷ (decimal s ++ (10 ∷ rest)))))) ≡ Some (Stop c n s, rest)
-unfolding stop_at
-stop_again c n s rest fits = rw (spaced c _ fits.0, spaced n _ fits.1, ended s _ fits.2) refl
-
-restart_again : (c n s i a : ℕ) (rest : List ℕ) → IsInRange (Restart c n s i a)
-    → restart_at (decimal c ++ (32 ∷ (decimal n ++ (32 ∷ (decimal s ++ (32 ∷ (decimal i ++ (32 ∷ (decimal a ++ (10 ∷ rest))))))))))
-    ≡ Some (Restart c n s i a, rest)
-unfolding restart_at
-restart_again c n s i a rest fits =
-    rw (spaced c _ fits.0, spaced n _ fits.1, spaced s _ fits.2, spaced i _ fits.3, ended a _ fits.4) refl
-
-tick_again : (k : ℕ) (rest : List ℕ) → IsInRange (Ticks k) → tick_at (decimal k ++ (10 ∷ rest)) ≡ Some (Ticks k, rest)
-unfolding tick_at
-tick_again k rest fits = rw (ended k _ (omega arith), and_from _ _ (le-leb 1 k fits.0) (le-leb k MAX_TICKS fits.1)) refl
-
 pub line_again : (event : Event) (rest : List ℕ) → IsInRange event → line_at (line event ++ rest) ≡ Some (event, rest)
-unfolding line_at other_at line has_word
-line_again (Start c n i a) rest fits = simp append_assoc (start_again c n i a rest fits)
-line_again (Stop c n s) rest fits = simp append_assoc (stop_again c n s rest fits)
-line_again (Restart c n s i a) rest fits = simp append_assoc (restart_again c n s i a rest fits)
-line_again (Ticks k) rest fits = simp append_assoc (tick_again k rest fits)
+unfolding line_at other_at start_at stop_at restart_at tick_at line has_word
+line_again (Start c n i a) rest fits =
+    simp append_assoc (rw (spaced c _ fits.0, spaced n _ fits.1, spaced i _ fits.2, ended a _ fits.3) refl)
+line_again (Stop c n s) rest fits = simp append_assoc (rw (spaced c _ fits.0, spaced n _ fits.1, ended s _ fits.2) refl)
+line_again (Restart c n s i a) rest fits = simp append_assoc
+    (rw (spaced c _ fits.0, spaced n _ fits.1, spaced s _ fits.2, spaced i _ fits.3, ended a _ fits.4) refl)
+line_again (Ticks k) rest fits = simp append_assoc
+    (rw (ended k _ (omega arith), and_from _ _ (le-leb 1 k fits.0) (le-leb k MAX_TICKS fits.1)) refl)
 line_again Close rest fits = refl
 
 -- what was read of a line is the event and the rest that were wanted
@@ -204,18 +206,14 @@ restart_sound bytes rest event e =
     same_line (codes "restart ") bytes rest r₅ event (Restart c n s i a) e₅ (fit_c, fit_n, fit_s, fit_i, fit_a)
     (rw (is_c, is_n, is_s, is_i, is_a) (simp append_assoc))
 
-cond_both : {A : Type 0} (b : Bool) (o : Option A) (y : A) → cond b o None ≡ Some y → (b ≡ true) × (o ≡ Some y)
-cond_both true o y e = (refl, e)
-cond_both false o y e = absurd (none-some y e)
-
 tick_sound : (bytes rest : List ℕ) (event : Event) → tick_at bytes ≡ Some (event, rest)
     → IsInRange event × (codes "tick " ++ bytes ≡ line event ++ rest)
 unfolding tick_at line
 tick_sound bytes rest event e =
     field_then 10 bytes _ _ e λ k r₁ fit_k is_k e₁.
-    let (test, e₂) = cond_both _ _ _ e₁ in
+    let (test, e₂) = cond_some _ _ _ e₁ in
     let (low, high) = and_parts _ _ test in
-    same_line (codes "tick ") bytes rest r₁ event (Ticks k) e₂ (leb-true 1 k low, leb-true k MAX_TICKS high)
+    same_line (codes "tick ") bytes rest r₁ event (Ticks k) (ap Some e₂) (leb-true 1 k low, leb-true k MAX_TICKS high)
     (rw (is_k) (simp append_assoc))
 
 -- a word is at the front, or not
@@ -223,27 +221,22 @@ by_word : (word bytes rest : List ℕ) (event : Event) (f : List ℕ → Option 
     → or_try (strip word bytes) f other ≡ Some (event, rest)
     → ((s : List ℕ) → f s ≡ Some (event, rest) → IsInRange event × (word ++ s ≡ line event ++ rest))
     → (other ≡ Some (event, rest) → IsInRange event × (bytes ≡ line event ++ rest)) → IsInRange event × (bytes ≡ line event ++ rest)
-by_word word bytes rest event f other e some none = elim (either (has_word word bytes)) [
+by_word word bytes rest event f other e some none = elim (cases_Bool (has_word word bytes)) [
   | inl begins ↦
       let (fits, is) = some (drop (length word) bytes) (rw begins at e) in
       (fits, has_word_sound word bytes begins ∙ is)
   | inr not_so ↦ none (rw not_so at e)
 ]
 
-close_sound : (bytes rest : List ℕ) (event : Event) → ◌≡◌ {A = Option (Event × List ℕ)} (Some (Close, bytes)) (Some (event, rest))
-    → IsInRange event × (codes "close\n" ++ bytes ≡ line event ++ rest)
-unfolding line
-close_sound bytes rest event e = same_line (codes "close\n") bytes rest bytes event Close e tt refl
-
-other_sound : (bytes rest : List ℕ) (event : Event) → other_at bytes ≡ Some (event, rest) → IsInRange event × (bytes ≡ line event ++ rest)
-unfolding other_at
-other_sound bytes rest event e =
-    by_word (codes "tick ") bytes rest event tick_at _ e (λ s. tick_sound s rest event) λ e₁.
-    by_word (codes "restart ") bytes rest event restart_at _ e₁ (λ s. restart_sound s rest event) λ e₂. absurd (none-some _ e₂)
-
 pub line_sound : (bytes rest : List ℕ) (event : Event) → line_at bytes ≡ Some (event, rest) → IsInRange event × (bytes ≡ line event ++ rest)
-unfolding line_at
+unfolding line_at other_at line
 line_sound bytes rest event e =
     by_word (codes "start ") bytes rest event start_at _ e (λ s. start_sound s rest event) λ e₁.
     by_word (codes "stop ") bytes rest event stop_at _ e₁ (λ s. stop_sound s rest event) λ e₂.
-    by_word (codes "close\n") bytes rest event (λ s. Some (Close, s)) _ e₂ (λ s. close_sound s rest event) (other_sound bytes rest event)
+    by_word (codes "close\n") bytes rest event (λ s. Some (Close, s)) _ e₂
+    (λ s is. same_line (codes "close\n") s rest s event Close is tt refl) λ e₃.
+    by_word (codes "tick ") bytes rest event tick_at _ e₃ (λ s. tick_sound s rest event) λ e₄.
+    by_word (codes "restart ") bytes rest event restart_at _ e₄ (λ s. restart_sound s rest event) λ e₅. absurd (none-some _ e₅)
+
+-- the tests of a number
+pub ruleset number_tests = (digit_count_at, nat_tests, take_rest)

@@ -26,54 +26,39 @@ line_long (Restart c n s i a) = omega arith
 line_long (Ticks k) = omega arith
 line_long Close = omega arith
 
-line_some : (event : Event) (more : List ℕ) → 1 ≤ length (line event ++ more)
-line_some event more = let h = line_long event in omega (arith, length-append (line event) more)
+end_is_no_line : BeginsNoLine []
+end_is_no_line event more fits e = let h = line_long event in absurd (omega (arith, ap length e, length-append (line event) more))
 
--- bytes that begin with lines and continue with no line have no more lines
-front : (xs ys : List Event) (rest other : List ℕ) → AllByRecursion IsInRange xs → AllByRecursion IsInRange ys → BeginsNoLine rest
-    → spelling xs ++ rest ≡ spelling ys ++ other → length ys ≤ length xs
-front xs [] rest other fx fy bad e = omega arith
-front [] (y ∷ ys) rest other fx fy bad e = absurd (bad y (spelling ys ++ other) fy.0 (e ∙ append_assoc (line y) (spelling ys) other))
-front (x ∷ xs) (y ∷ ys) rest other fx fy bad e =
+-- lines, and bytes after them that begin with none, are read in one way
+same_lines : (xs ys : List Event) (rest other : List ℕ) → AllByRecursion IsInRange xs → AllByRecursion IsInRange ys → BeginsNoLine rest
+    → BeginsNoLine other → spelling xs ++ rest ≡ spelling ys ++ other → (xs ≡ ys) × (rest ≡ other)
+same_lines [] [] rest other fx fy bad worse e = (refl, e)
+same_lines [] (y ∷ ys) rest other fx fy bad worse e =
+    absurd (bad y (spelling ys ++ other) fy.0 (e ∙ append_assoc (line y) (spelling ys) other))
+same_lines (x ∷ xs) [] rest other fx fy bad worse e =
+    absurd (worse x (spelling xs ++ rest) fx.0 (sym e ∙ append_assoc (line x) (spelling xs) rest))
+same_lines (x ∷ xs) (y ∷ ys) rest other fx fy bad worse e =
     let (first, others) = one_line x y (spelling xs ++ rest) (spelling ys ++ other) fx.0 fy.0
     (sym (append_assoc (line x) (spelling xs) rest) ∙ e ∙ append_assoc (line y) (spelling ys) other) in
-    let h = front xs ys rest other fx.1 fy.1 bad others in
-    omega arith
-
-one_spelling_is : (xs ys : List Event) → AllByRecursion IsInRange xs → AllByRecursion IsInRange ys → spelling xs ≡ spelling ys → xs ≡ ys
-one_spelling_is [] [] fx fy e = refl
-one_spelling_is [] (y ∷ ys) fx fy e = let h = line_some y (spelling ys) in absurd (omega (arith, ap length e))
-one_spelling_is (x ∷ xs) [] fx fy e = let h = line_some x (spelling xs) in absurd (omega (arith, ap length e))
-one_spelling_is (x ∷ xs) (y ∷ ys) fx fy e =
-    let (first, others) = one_line x y (spelling xs) (spelling ys) fx.0 fy.0 e in
-    rw (first, one_spelling_is xs ys fx.1 fy.1 others) refl
+    let (events, after) = same_lines xs ys rest other fx.1 fy.1 bad worse others in
+    (rw (first, events) refl, after)
 
 pub one_spelling : (xs ys : List Event) (bytes : List ℕ) → IsScript xs bytes → IsScript ys bytes → xs ≡ ys
-one_spelling xs ys bytes a b = one_spelling_is xs ys a.in_range b.in_range (sym a.lines ∙ b.lines)
-
--- the empty rest is no line
-end_is_no_line : BeginsNoLine []
-end_is_no_line event more fits e = let h = line_some event more in absurd (omega (arith, ap length e))
+one_spelling xs ys bytes a b = (same_lines xs ys [] [] a.in_range b.in_range end_is_no_line end_is_no_line
+    (ap (λ t. t ++ []) (sym a.lines ∙ b.lines))).0
 
 -- nothing follows a whole script
 pub no_bad_line : (xs : List Event) (bytes : List ℕ) (n : ℕ) → IsScript xs bytes → IsBadLine bytes n → ⊥
-no_bad_line xs bytes n script bad = rest_of xs bad.before bad.rest script.in_range bad.in_range bad.bad bad.some (sym script.lines
-    ∙ bad.parts)
-  where
-    rest_of : (xs ys : List Event) (rest : List ℕ) → AllByRecursion IsInRange xs → AllByRecursion IsInRange ys → BeginsNoLine rest
-        → 1 ≤ length rest → spelling xs ≡ spelling ys ++ rest → ⊥
-    rest_of [] [] rest fx fy bad some e = omega (arith, ap length e)
-    rest_of [] (y ∷ ys) rest fx fy bad some e = end_is_no_line y (spelling ys ++ rest) fy.0 (e ∙ append_assoc (line y) (spelling ys) rest)
-    rest_of (x ∷ xs) [] rest fx fy bad some e = bad x (spelling xs) fx.0 (sym e)
-    rest_of (x ∷ xs) (y ∷ ys) rest fx fy bad some e =
-        let (first, others) = one_line x y (spelling xs) (spelling ys ++ rest) fx.0 fy.0 (e ∙ append_assoc (line y) (spelling ys) rest) in
-        rest_of xs ys rest fx.1 fy.1 bad some others
+no_bad_line xs bytes n script bad =
+    let (_, none) = same_lines xs bad.before [] bad.rest script.in_range bad.in_range end_is_no_line bad.bad
+    (append-nil (spelling xs) ∙ sym script.lines ∙ bad.parts) in
+    let some = bad.some in
+    omega (arith, ap length none)
 
 pub one_bad_line_is : (bytes : List ℕ) (m n : ℕ) → IsBadLine bytes m → IsBadLine bytes n → m ≡ n
 one_bad_line_is bytes m n a b =
-    let up = front a.before b.before a.rest b.rest a.in_range b.in_range a.bad (sym a.parts ∙ b.parts) in
-    let down = front b.before a.before b.rest a.rest b.in_range a.in_range b.bad (sym b.parts ∙ a.parts) in
-    omega (arith, a.counted, b.counted)
+    let (same, _) = same_lines a.before b.before a.rest b.rest a.in_range b.in_range a.bad b.bad (sym a.parts ∙ b.parts) in
+    a.counted ∙ ap (λ xs. length xs + 1) same ∙ sym b.counted
 
 -- ---- steps of the loop
 

@@ -1,19 +1,15 @@
 -- Texts that grow as events are played.
-use Rattle.std.proofs.Common.{◌≡◌, ◌≤◌, ◌+◌, ℕ, List, [], ◌∷◌, ◌++◌, length, Some, None, refl, sym, ap, subst, ◌∙◌, arith, append_assoc, append-nil}
-use Rattle.std.specs.Prelude.{Result, Ok, Err, OnOk}
+use Rattle.std.proofs.Common.{◌≡◌, ◌≤◌, ◌+◌, ℕ, List, [], ◌∷◌, ◌++◌, length, Some, refl, sym, ap, ◌∙◌, arith, append_assoc, append-nil}
 use Rattle.std.specs.List.{flat_map}
 use Rattle.std.proofs.lemmas.List.{length-append}
 use Rattle.std.proofs.lemmas.Grind.{flat_map-append}
-use Rattle.timer_facility.specs.declared.event.Event.{Event}
-use Rattle.timer_facility.specs.declared.event.Out.{Out}
+use Rattle.timer_script.specs.Types.{Event}
 use Rattle.timer_facility.specs.State.{FacilityState, IsSound}
-use Rattle.timer_facility.specs.Played.{IsRun}
 use Rattle.timer_facility.proofs.PlayedLemmas.{IsRun-none, IsRun-join, IsPlayed-run}
 use Rattle.timer_script.specs.Text.{out_line, end_line}
-use Rattle.timer_script.specs.Script.{IsBadLine}
 use Rattle.timer_script.specs.Lines.{line_at}
-use Rattle.timer_script.specs.ScriptRun.{AddsLines, HasPlayedLines, IsAnswer}
-use Rattle.timer_script.proofs.Results.{emptied}
+use Rattle.timer_script.specs.ScriptRun.{AddsLines, HasPlayedLines, IsAnswerTo}
+use Rattle.timer_script.proofs.Results.{emptied, not_emptied}
 use Rattle.timer_script.proofs.ScriptLemmas.{HasReadTo, read_nothing, read_more, read_all, read_bad, line_shorter}
 
 pub adds_join : (a b c : FacilityState) (es fs : List Event) (x y z : List ℕ) → AddsLines a es x y b → AddsLines b fs y z c
@@ -24,17 +20,6 @@ adds_join a b c es fs x y z f g = record {
   lines = g.lines ∙ ap (λ t. t ++ flat_map out_line g.outs) f.lines ∙ append_assoc x (flat_map out_line f.outs) (flat_map out_line g.outs)
       ∙ ap (λ t. x ++ t) (sym (flat_map-append out_line f.outs g.outs));
 }
-
--- events were played, and then their outs written
-pub adds_chunk : {E : Type 0} (r : Result Unit E) (s c : FacilityState) (es all : List Event) (outs written : List Out) (x y : List ℕ)
-    → IsRun s es outs c → es ≡ all → written ≡ outs
-    → OnOk r (y ≡ x ++ flat_map out_line written) → OnOk r (AddsLines s all x y c)
-adds_chunk {E} (Ok u) s c es all outs written x y run whole same h = record {
-  outs = outs;
-  runs = subst (λ fs. IsRun s fs outs c) whole run;
-  lines = h ∙ ap (λ os. x ++ flat_map out_line os) same;
-}
-adds_chunk {E} (Err e) s c es all outs written x y run whole same h = tt
 
 -- the lines before the rest were played, and there were this many
 pub record HasPlayedTo (before : FacilityState) (bytes rest : List ℕ) (lines : ℕ) (old new : List ℕ) (after : FacilityState) : Type 0 where
@@ -69,21 +54,21 @@ pub played_all : (a b : FacilityState) (bytes rest : List ℕ) (n : ℕ) (x y : 
 played_all a b bytes rest n x y h none =
     record { events = h.events; script = read_all bytes rest h.events h.read none; adds = h.adds }
 
-pub played_bad : (a b : FacilityState) (bytes rest : List ℕ) (n : ℕ) (x y : List ℕ) → HasPlayedTo a bytes rest n x y b → 1 ≤ length rest
-    → line_at rest ≡ None → IsBadLine bytes (n + 1)
-played_bad a b bytes rest n x y h some none =
-    read_bad bytes rest h.events (n + 1) h.read some none (ap (λ k. k + 1) h.counted)
-
 -- the lines of all events, and the end line, are the answer to them
-pub added_answer : (s after : FacilityState) (events : List Event) (lines answer : List ℕ) → IsSound s → AddsLines s events [] lines after
-    → answer ≡ lines ++ end_line after.now (length after.pending)
-    → IsAnswer s events answer
-added_answer s after events lines answer sound adds is = record {
-  outs = adds.outs;
-  after = after;
-  played = IsPlayed-run s events adds.outs after sound adds.runs;
-  lines = is ∙ ap (λ t. t ++ end_line after.now (length after.pending)) adds.lines;
-}
+pub answered : (s player after : FacilityState) (script start lines answer : List ℕ) (now pending : ℕ) → IsSound s
+    → HasPlayedLines player script start lines after → player ≡ s → start ≡ [] → now ≡ after.now → pending ≡ length after.pending
+    → answer ≡ lines ++ end_line now pending → IsAnswerTo s script answer
+answered s player after script start lines answer now pending sound h is none now_is pending_is ends =
+    let played = rw (is, none) at h in (
+      played.events,
+      played.script,
+      record {
+        outs = played.adds.outs;
+        after = after;
+        played = IsPlayed-run s played.events played.adds.outs after sound played.adds.runs;
+        lines = rw (← now_is, ← pending_is, ← played.adds.lines) ends;
+      },
+    )
 
 -- the steps of a script that is played
-pub ruleset playing = (played_none, played_more, played_all, line_shorter, emptied)
+pub ruleset playing = (played_none, played_more, played_all, read_bad, line_shorter, emptied, not_emptied)

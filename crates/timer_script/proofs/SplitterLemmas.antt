@@ -1,5 +1,5 @@
 -- The positions of line feeds in lines.
-use Rattle.std.proofs.Common.{◌==◌, ◌&&◌, not, Bool, true, false, cond, inl, inr, ◌≡◌, zero, suc, ℕ, ◌+◌, ◌-◌, ◌*◌, ◌/◌, ◌%◌, ◌<◌, ◌≤◌, nat_lt, List, [], ◌∷◌, ◌++◌, length, get_or, take, decimal, codes, refl, sym, ap, subst, ◌∙◌, arith, append_assoc, append-nil, length-append, lit≤}
+use Rattle.std.proofs.Common.{rules, ◌⊎◌, ◌==◌, ◌&&◌, not, Bool, true, false, cond, inl, inr, ◌≡◌, zero, suc, ℕ, ◌+◌, ◌-◌, ◌*◌, ◌/◌, ◌%◌, ◌<◌, ◌≤◌, nat_lt, List, [], ◌∷◌, ◌++◌, length, get_or, take, decimal, codes, refl, sym, ap, subst, ◌∙◌, arith, append_assoc, length-append, lit≤}
 use Rattle.std.specs.List.{AllByRecursion}
 use Rattle.std.specs.Fmt.{digits, digits_onto, digit_glyph}
 use Rattle.std.proofs.lemmas.Fmt.{length-decimal-le}
@@ -23,12 +23,8 @@ is_bare (b ∷ bytes) = not (b == 10) && is_bare bytes
 pub bare : (bytes : List ℕ) → is_bare bytes ≡ true → HasNoFeed bytes
 bare [] e = tt
 bare (b ∷ bytes) e = elim (either (b == 10)) [
-  | inl k ↦ (let h : false ≡ true = ap (λ t. not t && is_bare bytes) (sym k) ∙ e in absurd cc)
-  | inr k ↦ (
-    λ is. (let h : (10 == 10) ≡ false = subst (λ t. (t == 10) ≡ false) is k
-        in absurd cc),
-    bare bytes (ap (λ t. not t && is_bare bytes) (sym k) ∙ e),
-  )
+  | inl k ↦ (let h : false ≡ true = rw k at e in absurd cc)
+  | inr k ↦ (λ is. (let h : (10 == 10) ≡ false = rw is at k in absurd cc), bare bytes (rw k at e))
 ]
 
 -- a number has no line feed
@@ -44,9 +40,8 @@ onto_bare (suc k) n acc h =
     let front : List ℕ = digit_glyph false (n % 10) ∷ acc in
     let more : HasNoFeed front = (digit_bare (n % 10), h) in
     elim (either (n / 10 == 0)) [
-      | inl z ↦ subst (λ t. HasNoFeed (cond t front (digits_onto k 10 false (n / 10) front))) (sym z) more
-      | inr z ↦ subst (λ t. HasNoFeed (cond t front (digits_onto k 10 false (n / 10) front))) (sym z)
-          (onto_bare k (n / 10) front more)
+      | inl z ↦ rw z more
+      | inr z ↦ rw z (onto_bare k (n / 10) front more)
     ]
 
 pub decimal_bare : (n : ℕ) → HasNoFeed (decimal n)
@@ -82,27 +77,28 @@ ended_is (n ∷ ns) =
     ap (λ t. 32 ∷ (decimal n ++ t)) (ended_is ns) ∙ ap (λ t. 32 ∷ t) (sym (append_assoc (decimal n) (numbers ns) (10 ∷ [])))
 
 -- a word and numbers
-fed : (word ns bytes : List ℕ) → is_bare word ≡ true → length word + 20 * length ns < MAX_LINE
+fed : (word ns bytes : List ℕ) → HasNoFeed word → length word + 20 * length ns < MAX_LINE
     → AllByRecursion (λ n. n ≤ LAST) ns → bytes ≡ word ++ ended ns → IsFed bytes
 fed word ns bytes free small fit is = record {
   front = word ++ numbers ns;
   is = is ∙ ap (λ t. word ++ t) (ended_is ns) ∙ sym (append_assoc word (numbers ns) (10 ∷ []));
-  no_feed = no_feed-append word (numbers ns) (bare word free) (numbers_bare ns);
+  no_feed = no_feed-append word (numbers ns) free (numbers_bare ns);
   short = omega (arith, small, length-append word (numbers ns), numbers_short ns fit);
 }
 
 pub line_fed : (event : Event) → IsInRange event → IsFed (line event)
 unfolding line
 line_fed (Start c n i a) fits =
-    fed (codes "start") (c ∷ n ∷ i ∷ a ∷ []) (line (Start c n i a)) refl (lit≤ tt) (fits.0, (fits.1, (fits.2, (fits.3, tt)))) (simp append_assoc refl)
+    fed (codes "start") (c ∷ n ∷ i ∷ a ∷ []) (line (Start c n i a)) (search rules) (lit≤ tt)
+    (fits.0, (fits.1, (fits.2, (fits.3, tt)))) (simp append_assoc refl)
 line_fed (Stop c n s) fits =
-    fed (codes "stop") (c ∷ n ∷ s ∷ []) (line (Stop c n s)) refl (lit≤ tt) (fits.0, (fits.1, (fits.2, tt))) (simp append_assoc refl)
+    fed (codes "stop") (c ∷ n ∷ s ∷ []) (line (Stop c n s)) (search rules) (lit≤ tt) (fits.0, (fits.1, (fits.2, tt))) (simp append_assoc refl)
 line_fed (Restart c n s i a) fits =
-    fed (codes "restart") (c ∷ n ∷ s ∷ i ∷ a ∷ []) (line (Restart c n s i a)) refl (lit≤ tt)
+    fed (codes "restart") (c ∷ n ∷ s ∷ i ∷ a ∷ []) (line (Restart c n s i a)) (search rules) (lit≤ tt)
     (fits.0, (fits.1, (fits.2, (fits.3, (fits.4, tt))))) (simp append_assoc refl)
 line_fed (Ticks k) fits =
-    fed (codes "tick") (k ∷ []) (line (Ticks k)) refl (lit≤ tt) (omega (arith, fits.1), tt) (simp append_assoc refl)
-line_fed Close fits = fed (codes "close") [] (line Close) refl (lit≤ tt) tt refl
+    fed (codes "tick") (k ∷ []) (line (Ticks k)) (search rules) (lit≤ tt) (omega (arith, fits.1), tt) (simp append_assoc refl)
+line_fed Close fits = fed (codes "close") [] (line Close) (search rules) (lit≤ tt) tt refl
 
 -- bytes split at their first line feed in one way
 pub first_feed : (xs ys more other : List ℕ) → HasNoFeed xs → HasNoFeed ys → xs ++ 10 ∷ more ≡ ys ++ 10 ∷ other → (xs ≡ ys) × (more ≡ other)
@@ -123,44 +119,32 @@ no_feed_long (x ∷ xs) (y ∷ ys) more other a e = let h = no_feed_long xs ys m
 pub at_feed : (xs more : List ℕ) → (xs ++ 10 ∷ []) ++ more ≡ xs ++ 10 ∷ more
 at_feed xs more = append_assoc xs (10 ∷ []) more
 
--- bytes with no line feed that are too many for a line begin no line
-pub too_long : (xs more : List ℕ) → HasNoFeed xs → length xs ≡ MAX_LINE → BeginsNoLine (xs ++ more)
-too_long xs more none long event rest fits e =
+-- bytes with no line feed begin no line, if they are all, or too many for a line
+pub bare_no_line : (xs more : List ℕ) → HasNoFeed xs → (more ≡ []) ⊎ (MAX_LINE ≤ length xs) → BeginsNoLine (xs ++ more)
+bare_no_line xs more none why event rest fits e =
     let f : IsFed (line event) = line_fed event fits in
+    let whole : xs ++ more ≡ f.front ++ 10 ∷ rest = e ∙ ap (λ t. t ++ rest) f.is ∙ at_feed f.front rest in
+    let long = no_feed_long xs f.front more rest none whole in
     let short = f.short in
-    let h = no_feed_long xs f.front more rest none (e ∙ ap (λ t. t ++ rest) f.is ∙ at_feed f.front rest) in
-    absurd (omega arith)
+    elim why [
+      | inl all ↦ absurd (omega (arith, ap length whole, ap length all, length-append xs more, length-append f.front (10 ∷ rest)))
+      | inr many ↦ absurd (omega arith)
+    ]
 
--- what has no line feed is no line
-pub no_feed_no_line : (xs : List ℕ) → HasNoFeed xs → BeginsNoLine xs
-no_feed_no_line xs none event rest fits e =
-    let f : IsFed (line event) = line_fed event fits in
-    let whole : xs ++ [] ≡ f.front ++ 10 ∷ rest = append-nil xs ∙ e ∙ ap (λ t. t ++ rest) f.is ∙ at_feed f.front rest in
-    no_feed_none xs f.front rest none (sym (append-nil xs) ∙ whole)
-  where
-    no_feed_none : (xs ys rest : List ℕ) → HasNoFeed xs → xs ≡ ys ++ 10 ∷ rest → ⊥
-    no_feed_none [] [] rest a e = absurd cc
-    no_feed_none [] (y ∷ ys) rest a e = absurd cc
-    no_feed_none (x ∷ xs) [] rest a e = a.0 cc
-    no_feed_none (x ∷ xs) (y ∷ ys) rest a e = no_feed_none xs ys rest a.1 cc
+-- one more byte
+last_byte : (bytes : List ℕ) (n : ℕ) → 0 < n → n ≤ length bytes → take n bytes ≡ take (n - 1) bytes ++ get_or bytes (n - 1) 0 ∷ []
+last_byte bytes n some within =
+    let same : n - 1 + 1 ≡ n = omega arith in
+    subst (λ k. take k bytes ≡ take (n - 1) bytes ++ get_or bytes (n - 1) 0 ∷ []) same (take_more bytes (n - 1) 0 (omega arith))
 
--- one more byte, which is no line feed
+-- which is no line feed
 pub no_feed-take : (old bytes : List ℕ) (n : ℕ) → 0 < n → n ≤ length bytes → HasNoFeed old → HasNoFeed (take (n - 1) bytes)
     → (get_or bytes (n - 1) 0 ≡ 10 → ⊥) → HasNoFeed (old ++ take n bytes)
-no_feed-take old bytes n some within a b c =
-    let less : n - 1 < length bytes = omega arith in
-    let same : n - 1 + 1 ≡ n = omega arith in
-    let cut : take (n - 1 + 1) bytes ≡ take (n - 1) bytes ++ get_or bytes (n - 1) 0 ∷ [] = take_more bytes (n - 1) 0 less in
-    let all : HasNoFeed (take (n - 1) bytes ++ get_or bytes (n - 1) 0 ∷ []) =
-    no_feed-append (take (n - 1) bytes) (get_or bytes (n - 1) 0 ∷ []) b (c, tt) in
-    no_feed-append old (take n bytes) a (subst HasNoFeed (sym cut ∙ ap (λ k. take k bytes) same) all)
+no_feed-take old bytes n some within a b c = no_feed-append old (take n bytes) a (subst HasNoFeed (sym (last_byte bytes n some within))
+    (no_feed-append (take (n - 1) bytes) (get_or bytes (n - 1) 0 ∷ []) b (c, tt)))
 
--- one more byte, which is one
+-- which is one
 pub feed-take : (old bytes : List ℕ) (n : ℕ) → 0 < n → n ≤ length bytes → get_or bytes (n - 1) 0 ≡ 10
     → old ++ take n bytes ≡ (old ++ take (n - 1) bytes) ++ 10 ∷ []
 feed-take old bytes n some within is =
-    let less : n - 1 < length bytes = omega arith in
-    let same : n - 1 + 1 ≡ n = omega arith in
-    let cut : take (n - 1 + 1) bytes ≡ take (n - 1) bytes ++ get_or bytes (n - 1) 0 ∷ [] = take_more bytes (n - 1) 0 less in
-    ap (λ k. old ++ take k bytes) (sym same) ∙ ap (λ t. old ++ t) (cut ∙ ap (λ b. take (n - 1) bytes ++ b ∷ []) is)
-    ∙ sym (append_assoc old (take (n - 1) bytes) (10 ∷ []))
+    rw (last_byte bytes n some within, is) (sym (append_assoc old (take (n - 1) bytes) (10 ∷ [])))

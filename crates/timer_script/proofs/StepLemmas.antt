@@ -3,13 +3,13 @@ use Rattle.std.proofs.Common.{◌≡◌, ◌<◌, ◌≤◌, ◌+◌, ◌-◌, �
 use Rattle.std.proofs.lemmas.List.{map-append, replicate-append-replicate}
 use Rattle.std.proofs.lemmas.Grind.{flat_map-append}
 use Rattle.std.proofs.Math.Seq.{take-append_seam}
-use Rattle.timer_script.specs.Types.{TickFault, Event, Out}
+use Rattle.timer_script.specs.Types.{TickFault, Event}
 use Rattle.timer_facility.specs.declared.event.Event.TheVariants.{Ticks}
 use Rattle.timer_facility.specs.State.{FacilityState, Tick}
 use Rattle.timer_facility.specs.Verdict.{tick_refusal}
 use Rattle.timer_facility.specs.Step.{step, step_of_tick}
 use Rattle.timer_facility.specs.Run.{PlacedEvent, state_after}
-use Rattle.timer_facility.specs.Played.{ticks_left, singles_of, ArePlaced, IsRun}
+use Rattle.timer_facility.specs.Played.{ticks_left, ArePlaced, IsRun}
 use Rattle.timer_facility.proofs.PlayedTicks.{ticks_left-refused, ticks_left-accepted}
 use Rattle.timer_facility.proofs.PlayedLemmas.{IsRun-join}
 use Rattle.timer_script.specs.Text.{out_line, lines_of}
@@ -23,13 +23,6 @@ accepted : (s : FacilityState) (refusal : Option TickFault) → tick_refusal s �
 accepted s None e i h = refl
 accepted s (Some fault) e i h = let none = ticks_left-refused s fault i e in absurd (omega arith)
 
--- the state after an accepted tick
-abbrev after_tick : FacilityState → FacilityState
-after_tick s = (step_of_tick s None).state
-
-stepped : (s : FacilityState) (place : ℕ) → tick_refusal s ≡ None → (step s Tick place).state ≡ after_tick s
-stepped s place h = ap (λ refusal. (step_of_tick s refusal).state) h
-
 -- accepted ticks leave fewer
 left_after : (n : ℕ) (s : FacilityState) (placed : List PlacedEvent) → map (λ p. p.event) placed ≡ replicate n Tick
     → n ≤ ticks_left s → s.now ≤ s.last
@@ -42,24 +35,11 @@ left_after (suc n) s (p ∷ placed) e h i =
     let rest : map (λ p. p.event) placed ≡ replicate n Tick = cc in
     let taken : tick_refusal s ≡ None = accepted s (tick_refusal s) refl i (omega arith) in
     let l = ticks_left-accepted s i taken in
-    let next : (step s p.event p.place).state ≡ after_tick s =
-    ap (λ e. (step s e p.place).state) first ∙ stepped s p.place taken in
-    let more = left_after n (after_tick s) placed rest (omega (arith, l.0)) l.1 in
+    let after : FacilityState = (step_of_tick s None).state in
+    let next : (step s p.event p.place).state ≡ after =
+    ap (λ e. (step s e p.place).state) first ∙ ap (λ refusal. (step_of_tick s refusal).state) taken in
+    let more = left_after n after placed rest (omega (arith, l.0)) l.1 in
     subst (λ c. suc n + ticks_left (state_after c placed) ≡ ticks_left s) (sym next) (omega (arith, l.0, more))
-
--- the single events of one line of ticks
-only_placed : (s : FacilityState) (n : ℕ) (placed : List PlacedEvent) → ArePlaced s (Ticks n ∷ []) placed
-    → map (λ p. p.event) placed ≡ singles_of s (Ticks n)
-only_placed s n placed h = ap (map (λ p. p.event)) (h.2 ∙ ap (λ rest. h.0 ++ rest) h.4 ∙ append-nil h.0) ∙ h.3
-
-all_accepted : (s : FacilityState) (n : ℕ) → n ≤ ticks_left s → singles_of s (Ticks n) ≡ replicate n Tick
-all_accepted s n h = let e : min n (ticks_left s + 1) ≡ n = omega arith in ap (λ k. replicate k Tick) e
-
-left_run : (s m : FacilityState) (n : ℕ) (outs : List Out) → s.now ≤ s.last → n ≤ ticks_left s → IsRun s (Ticks n ∷ []) outs m
-    → n + ticks_left m ≡ ticks_left s
-left_run s m n outs i h run =
-    let all = only_placed s n run.placed run.singles ∙ all_accepted s n h in
-    subst (λ c. n + ticks_left c ≡ ticks_left s) (sym run.after_is) (left_after n s run.placed all h i)
 
 -- ---- ticks that join
 
@@ -68,97 +48,79 @@ placed_join : (s : FacilityState) (a b : ℕ) (placed : List PlacedEvent) → s.
 placed_join s a b placed i h p =
     let one : List PlacedEvent = p.0 in
     let m : FacilityState = state_after s one in
-    let first : map (λ p. p.event) one ≡ replicate a Tick = p.3 ∙ all_accepted s a h in
+    let whole : min a (ticks_left s + 1) ≡ a = omega arith in
+    let first : map (λ p. p.event) one ≡ replicate a Tick = p.3 ∙ ap (λ n. replicate n Tick) whole in
     let l : a + ticks_left m ≡ ticks_left s = left_after a s one first h i in
     let k : ℕ = min b (ticks_left m + 1) in
-    let second : map (λ p. p.event) p.1 ≡ replicate k Tick = only_placed m b p.1 p.4 in
+    let second : map (λ p. p.event) p.1 ≡ replicate k Tick =
+    ap (map (λ p. p.event)) (p.4.2 ∙ ap (λ rest. p.4.0 ++ rest) p.4.4 ∙ append-nil p.4.0) ∙ p.4.3 in
     let count : a + k ≡ min (a + b) (ticks_left s + 1) = omega (arith, l) in (
       placed,
       [],
       sym (append-nil placed),
-      ap (map (λ p. p.event)) p.2 ∙ map-append (λ p. p.event) one p.1 ∙ ap (λ es. es ++ map (λ p. p.event) p.1) first
-          ∙ ap (λ es. replicate a Tick ++ es) second
-          ∙ replicate-append-replicate a k Tick
-          ∙ ap (λ n. replicate n Tick) count,
+      rw (p.2, map-append (λ p. p.event) one p.1, first, second, replicate-append-replicate a k Tick, count),
       refl,
     )
-
-ticks_join : (s t : FacilityState) (a b : ℕ) (outs : List Out) → s.now ≤ s.last → a ≤ ticks_left s
-    → IsRun s (Ticks a ∷ Ticks b ∷ []) outs t
-    → IsRun s (Ticks (a + b) ∷ []) outs t
-ticks_join s t a b outs i h run = record {
-  placed = run.placed;
-  singles = placed_join s a b run.placed i h run.singles;
-  outs_are = run.outs_are;
-  after_is = run.after_is;
-}
 
 answers_join : (A : Decoration) (d : IsLawful A) (s m t : FacilityState) (a b : ℕ) (x y : List ℕ) → s.now ≤ s.last
     → a ≤ ticks_left s → HasAnsweredWithin A s (Ticks a ∷ []) m x → HasAnsweredWithin A m (Ticks b ∷ []) t y
     → HasAnsweredWithin A s (Ticks (a + b) ∷ []) t (x ++ y)
-answers_join A d s m t a b x y i h f g = record {
-  outs = f.outs ++ g.outs;
-  runs = ticks_join s t a b (f.outs ++ g.outs) i h (IsRun-join s m t (Ticks a ∷ []) (Ticks b ∷ []) f.outs g.outs f.runs g.runs);
-  within = subst (λ z. A.Within z (x ++ y)) (sym (flat_map-append out_line f.outs g.outs))
-      (d.joined (lines_of f.outs) (lines_of g.outs) x y f.within g.within);
-}
+answers_join A d s m t a b x y i h f g =
+    let run = IsRun-join s m t (Ticks a ∷ []) (Ticks b ∷ []) f.outs g.outs f.runs g.runs in
+    record {
+      outs = f.outs ++ g.outs;
+      runs = record {
+        placed = run.placed;
+        singles = placed_join s a b run.placed i h run.singles;
+        outs_are = run.outs_are;
+        after_is = run.after_is;
+      };
+      within = rw (flat_map-append out_line f.outs g.outs) (d.joined (lines_of f.outs) (lines_of g.outs) x y f.within g.within);
+    }
 
 -- ---- one step after another
 
--- so many ticks of a line were played in steps, and so many are left; a refused tick was in the last step
-pub record HasPlayedSteps (A : Decoration) (s : FacilityState) (done left : ℕ) (m : FacilityState) (old new : List ℕ) : Type 0 where
-  pub grown : HasGrownByAnswer A s (Ticks done ∷ []) m old new
-  pub rest : (left ≡ 0) ⊎ (done + ticks_left m ≡ ticks_left s)
+pub grown_join : (a b c : List ℕ) → HasGrown a b → HasGrown b c → HasGrown a c
+grown_join a b c f g = (f.0 ++ g.0, g.1 ∙ ap (λ w. w ++ g.0) f.1 ∙ append_assoc a f.0 g.0)
 
-pub steps_none : (A : Decoration) (d : IsLawful A) (s : FacilityState) (count : ℕ) (text : List ℕ)
-    → HasPlayedSteps A s (count - count) count s text text
-steps_none A d s count text =
-    let zero_is : 0 ≡ count - count = omega arith in
-    let least : 0 ≡ min 0 (ticks_left s + 1) = omega arith in
-    let run : IsRun s (Ticks 0 ∷ []) [] s = record {
-      placed = [];
-      singles = ([], [], refl, ap (λ n. replicate n Tick) least, refl);
-      outs_are = refl;
-      after_is = refl;
-    } in
-    subst (λ n. HasPlayedSteps A s n count s text text) zero_is (record {
-      grown = ([], sym (append-nil text), record { outs = []; runs = run; within = d.kept [] });
-      rest = inr (omega arith);
-    })
+-- of the ticks of a line so many are left: either all were played, or what these still lead to, all lead to
+pub record HasPlayedSteps (A : Decoration) (s : FacilityState) (count left : ℕ) (m : FacilityState) (old new : List ℕ) : Type 0 where
+  pub whole : left ≡ 0 → HasGrownByAnswer A s (Ticks count ∷ []) m old new
+  pub rest : 0 < left → (t : FacilityState) (text : List ℕ) → HasGrownByAnswer A m (Ticks left ∷ []) t new text
+      → HasGrownByAnswer A s (Ticks count ∷ []) t old text
+  pub kept : HasGrown old new
 
-rest_more : (s m t : FacilityState) (done left n : ℕ) (outs : List Out) → m.now ≤ m.last → (n ≡ left) ⊎ (n ≤ ticks_left m)
-    → done + ticks_left m ≡ ticks_left s → IsRun m (Ticks n ∷ []) outs t
-    → (left - n ≡ 0) ⊎ ((done + n) + ticks_left t ≡ ticks_left s)
-rest_more s m t done left n outs i (inl all) h run = inl (omega (arith, all))
-rest_more s m t done left n outs i (inr few) h run = let l = left_run m t n outs i few run in inr (omega (arith, h, l))
+pub steps_none : (A : Decoration) (d : IsLawful A) (s : FacilityState) (count : ℕ) (text : List ℕ) → HasPlayedSteps A s count count s text text
+steps_none A d s count text = record {
+  whole = λ none.
+      let least : 0 ≡ min count (ticks_left s + 1) = omega (arith, none) in
+      let run : IsRun s (Ticks count ∷ []) [] s = record {
+        placed = [];
+        singles = ([], [], refl, ap (λ n. replicate n Tick) least, refl);
+        outs_are = refl;
+        after_is = refl;
+      } in
+      ([], sym (append-nil text), record { outs = []; runs = run; within = d.kept [] });
+  rest = λ some t z h. h;
+  kept = ([], sym (append-nil text));
+}
 
-open_rest : (P : Type 0) (left : ℕ) → 0 < left → (left ≡ 0) ⊎ P → P
-open_rest P left some (inl none) = absurd (omega arith)
-open_rest P left some (inr rest) = rest
-
-pub steps_more : (A : Decoration) (d : IsLawful A) (s m t : FacilityState) (count left n : ℕ) (x y z : List ℕ)
-    → s.now ≤ s.last → m.now ≤ m.last → left ≤ count → 0 < left → n ≤ left → (n ≡ left) ⊎ (n ≤ ticks_left m)
-    → HasPlayedSteps A s (count - left) left m x y → HasGrownByAnswer A m (Ticks n ∷ []) t y z
-    → HasPlayedSteps A s (count - (left - n)) (left - n) t x z
-steps_more A d s m t count left n x y z i k all some within few f g =
-    let done : ℕ = count - left in
-    let rest : done + ticks_left m ≡ ticks_left s = open_rest (done + ticks_left m ≡ ticks_left s) left some f.rest in
-    let accepted : done ≤ ticks_left s = omega (arith, rest) in
-    let h = f.grown in
-    let sum : done + n ≡ count - (left - n) = omega arith in
-    subst (λ j. HasPlayedSteps A s j (left - n) t x z) sum (record {
-      grown = (
-        h.0 ++ g.0,
-        g.1 ∙ ap (λ w. w ++ g.0) h.1 ∙ append_assoc x h.0 g.0,
-        answers_join A d s m t done n h.0 g.0 i accepted h.2 g.2,
-      );
-      rest = rest_more s m t done left n g.2.outs k few rest g.2.runs;
-    })
-
-pub steps_all : (A : Decoration) (s t : FacilityState) (count left : ℕ) (x y : List ℕ) → left ≤ 0
-    → HasPlayedSteps A s (count - left) left t x y → HasGrownByAnswer A s (Ticks count ∷ []) t x y
-steps_all A s t count left x y none f =
-    let all : count - left ≡ count = omega arith in subst (λ n. HasGrownByAnswer A s (Ticks n ∷ []) t x y) all f.grown
+pub steps_more : {A : Decoration} {s m : FacilityState} {count left : ℕ} {x y : List ℕ} (d : IsLawful A) (t : FacilityState) (n : ℕ)
+    (z : List ℕ) → m.now ≤ m.last → 0 < left → n ≤ left → (n ≡ left) ⊎ (n ≤ ticks_left m) → HasPlayedSteps A s count left m x y
+    → HasGrownByAnswer A m (Ticks n ∷ []) t y z → HasPlayedSteps A s count (left - n) t x z
+steps_more {A} {s} {m} {count} {left} {x} {y} d t n z i some within accepted f g = record {
+  whole = λ none.
+      let all : n ≡ left = omega (arith, none) in f.rest some t z (subst (λ j. HasGrownByAnswer A m (Ticks j ∷ []) t y z) all g);
+  rest = λ more u w h.
+      let few : n ≤ ticks_left m = elim accepted [ inl all ↦ absurd (omega (arith, all, more)) | inr few ↦ few ] in
+      let sum : n + (left - n) ≡ left = omega arith in
+      f.rest some u w (subst (λ j. HasGrownByAnswer A m (Ticks j ∷ []) u y w) sum (
+        g.0 ++ h.0,
+        h.1 ∙ ap (λ v. v ++ h.0) g.1 ∙ append_assoc y g.0 h.0,
+        answers_join A d m t u n (left - n) g.0 h.0 i few g.2 h.2,
+      ));
+  kept = grown_join x y z f.kept (g.0, g.1);
+}
 
 -- the answer to a step, and what is added after it
 pub grown_answer : {E : Type 0} (A : Decoration) (d : IsLawful A) (result : Result Unit E) (s t : FacilityState)
@@ -184,8 +146,5 @@ kept_answer {E} A d (Ok u) s t events x y h =
     (lines_of h.outs, h.lines, record { outs = h.outs; runs = h.runs; within = d.kept h.outs })
 
 -- text that grew, cut back to where it was
-pub grown_join : (a b c : List ℕ) → HasGrown a b → HasGrown b c → HasGrown a c
-grown_join a b c f g = (f.0 ++ g.0, g.1 ∙ ap (λ w. w ++ g.0) f.1 ∙ append_assoc a f.0 g.0)
-
 pub cut_back : (text grown cut : List ℕ) → HasGrown text grown → cut ≡ take (length text) grown → cut ≡ text
 cut_back text grown cut h e = e ∙ ap (take (length text)) h.1 ∙ take-append_seam text h.0

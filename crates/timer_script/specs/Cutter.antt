@@ -33,11 +33,13 @@ IsGoodOrBad (Good event) = IsInRange event
 IsGoodOrBad (Bad front fault) =
     HasNoFeed front × BeginsNoLine (front ++ 10 ∷ []) × IsFaultIn fault (front ++ 10 ∷ [])
 
--- the events of the good lines, in order
+-- the event of a good line, and those of many, in order
+abbrev pub event_in : Line → List Event
+event_in (Good event) = event ∷ []
+event_in (Bad front fault) = []
+
 abbrev pub events_of : List Line → List Event
-events_of [] = []
-events_of (Good event ∷ lines) = event ∷ events_of lines
-events_of (Bad front fault ∷ lines) = events_of lines
+events_of lines = flat_map event_in lines
 
 -- the bytes are these lines and the front of one more
 pub record IsCut (bytes : List ℕ) (lines : List Line) (left : List ℕ) : Type 0 where
@@ -181,19 +183,22 @@ StopsLine (faults.Bad line) on_bad n held events events' =
     (on_bad ≡ Stop) × (line ≡ n) × (line_at held ≡ None) × (events' ≡ events)
 StopsLine faults.OutOfMemory on_bad n held events events' = Unit {0}
 
--- these bytes came, these events passed, and this is reported; of the line that has not ended as much is held as a
--- line may have
-pub record HasSorted (cutter : Cutter) (came : List ℕ) (events : List Event) (bad : List Complaint) : Type 0 where
-  pub passes : Passes cutter.on_bad came events
-  pub held : cutter.held.items ≡ take MAX_LINE passes.left
-  pub counted : cutter.number ≡ number_next passes.lines
+-- these bytes came, these events passed, and this is reported; of the line that has not ended, the one of this number,
+-- as much is held as a line may have
+pub record HasSorted (on_bad : OnBadLine) (held : List ℕ) (number : ℕ) (came : List ℕ) (events : List Event)
+    (bad : List Complaint) : Type 0 where
+  pub passes : Passes on_bad came events
+  pub held_is : held ≡ take MAX_LINE passes.left
+  pub counted : number ≡ number_next passes.lines
   pub bad_is : bad ≡ bad_among passes.lines
 
--- so it is after some lines of a piece: it keeps what passed, and reports, since these events and reports
-pub record HasSortedSince (cutter : Cutter) (came : List ℕ) (events : List Event) (bad : List Complaint) : Type 0 where
+-- so it is after some lines of a piece: the cutter has what passed, and the reports, since these events and reports
+pub record HasSortedSince (on_bad : OnBadLine) (cutter : Cutter) (came : List ℕ) (events : List Event)
+    (bad : List Complaint) : Type 0 where
+  pub kept : cutter.on_bad ≡ on_bad
   pub more : List Complaint
   pub reports : cutter.reports.items ≡ complaints more
-  pub sorted : HasSorted cutter came (events ++ cutter.events.items) (bad ++ more)
+  pub sorted : HasSorted on_bad cutter.held.items cutter.number came (events ++ cutter.events.items) (bad ++ more)
 
 -- why not all bytes that came were sorted: a bad line ends the stream, or out of memory
 abbrev pub StopsAt : ScriptFault → OnBadLine → (came : List ℕ) → (events : List Event) → Type 0
@@ -201,29 +206,16 @@ StopsAt (faults.Bad n) on_bad came events = (on_bad ≡ Stop) × IsStoppedAt cam
 StopsAt faults.OutOfMemory on_bad came events = Unit {0}
 
 -- these bytes were taken in, and those events passed
-pub record HasTakenIn {F : Type 0} (cutter : Cutter) (contents : F → Option (List ℕ)) (writer writer' : Watched F)
-    (came : List ℕ) (events : List Event) : Type 0 where
-  pub bad : List Complaint
-  pub sorted : HasSorted cutter came events bad
-  pub reported : HasReported contents writer writer' (complaints bad)
-  pub untouched : cutter.on_bad ≡ Stop → writer' ≡ writer
-  pub clean_is : (cutter.clean ≡ true) ↔ (bad ≡ [])
+pub record HasTakenIn {F : Type 0} (on_bad : OnBadLine) (cutter : Cutter) (contents : F → Option (List ℕ))
+    (writer writer' : Watched F) (came : List ℕ) (events : List Event) : Type 0 where
+  pub kept : cutter.on_bad ≡ on_bad
+  pub passed : HasPassed on_bad AreSoFar contents writer writer' came events
+  pub held_is : cutter.held.items ≡ take MAX_LINE passed.passes.left
+  pub counted : cutter.number ≡ number_next passed.passes.lines
+  pub clean_is : (cutter.clean ≡ true) ↔ (passed.bad ≡ [])
 
--- after all that was taken in before, one more piece was, or a bad line in it ends the stream
-abbrev pub TakesPiece : {F : Type 0} → Option ℕ → (contents : F → Option (List ℕ)) → (piece : List ℕ) → (old : Cutter)
-    → Watched F → (new : Cutter) → Watched F → Type 0
-TakesPiece {F} None contents piece old told new told' = (writer : Watched F) (came : List ℕ) (events : List Event)
-    → HasTakenIn old contents writer told came events
-    → HasTakenIn new contents writer told' (came ++ piece) (events ++ new.events.items)
-TakesPiece {F} (Some n) contents piece old told new told' = (writer : Watched F) (came : List ℕ) (events : List Event)
-    → HasTakenIn old contents writer told came events
-    → HasStopped old.on_bad writer told' (came ++ piece) (events ++ new.events.items) n
-
--- no more comes after it, or the line that has not ended does
-abbrev pub TakesEnd : {F : Type 0} → Option ℕ → (contents : F → Option (List ℕ)) → (old : Cutter) → Watched F
-    → (new : Cutter) → Watched F → Type 0
-TakesEnd {F} None contents old told new told' = (writer : Watched F) (came : List ℕ) (events : List Event)
-    → HasTakenIn old contents writer told came events
-    → HasEnded old.on_bad new.clean contents writer told' came events
-TakesEnd {F} (Some n) contents old told new told' = (writer : Watched F) (came : List ℕ) (events : List Event)
-    → HasTakenIn old contents writer told came events → HasStopped old.on_bad writer told' came events n
+-- this holds of them, or a bad line ends the stream
+abbrev pub UnlessStopped : {F : Type 0} → Option ℕ → (List ℕ → List Event → Type 0) → OnBadLine
+    → (writer writer' : Watched F) → List ℕ → List Event → Type 0
+UnlessStopped None Holds on_bad writer writer' came events = Holds came events
+UnlessStopped (Some n) Holds on_bad writer writer' came events = HasStopped on_bad writer writer' came events n

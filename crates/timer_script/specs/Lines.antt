@@ -1,10 +1,12 @@
 -- What the readers of one line compute, on lists. No public clause cites this file: it is proved that they
 -- read exactly the lines of events.
-use Rattle.std.specs.Prelude.{ℕ, ◌&&◌, Bool, List, [], ◌∷◌, length, take, drop, slice_index, codes, Option, Some, None, option_map, option_and_then, ◌==◌, nat_eq, nat_lt, nat_le, if◌then◌else◌}
+use Rattle.std.specs.Prelude.{ℕ, ◌&&◌, ◌||◌, Bool, List, [], ◌∷◌, length, take, drop, slice_index, codes, Option, Some, None, option_map, option_and_then, ◌==◌, nat_eq, nat_lt, nat_le, if◌then◌else◌}
 use Rattle.std.specs.Cmp.Lexicographic.{pointwise}
-use Rattle.std.specs.Net.Reader.{read_number}
+use Rattle.std.specs.Net.Reader.{digit_count}
+use Rattle.std.specs.Str.Parse.{digits_value}
 use Rattle.std.specs.Borrow.{Bor}
 use Rattle.timer_script.specs.Types.{LAST, MAX_TICKS, Event}
+use Rattle.timer_script.specs.declared.lines.TheConstants.{MOST_DIGITS}
 use Rattle.timer_facility.specs.declared.event.Event.TheVariants.{Start, Stop, Restart, Ticks, Close}
 
 -- a value and the bytes after it
@@ -33,14 +35,13 @@ has_word word bytes = pointwise nat_eq word (take (length word) bytes)
 abbrev pub strip : List ℕ → List ℕ → Option (List ℕ)
 strip word bytes = if has_word word bytes then Some (drop (length word) bytes) else None
 
--- the value of the digits at the front, and how many they are
-abbrev pub digits_at : List ℕ → Option (ℕ × ℕ)
-digits_at bytes = read_number 10 LAST bytes
-
--- a number with no leading zero
+-- the number of all the digits at the front, with no leading zero; more than `MOST_DIGITS` are one above LAST
 unfoldable pub number_at : List ℕ → Read ℕ
-number_at bytes = digits_at bytes >>= λ n. if nat_lt 1 n.1 && (slice_index bytes 0 == 48) then None else Some
-    (n.0, drop n.1 bytes)
+number_at bytes =
+    let len = digit_count 10 bytes in
+    let value = digits_value 10 (take len bytes) in
+    if len == 0 || ((nat_lt 1 len && (slice_index bytes 0 == 48)) || (nat_lt MOST_DIGITS len || nat_lt LAST value))
+    then None else Some (value, drop len bytes)
 
 -- a number, and what follows the byte that ends its field
 unfoldable pub field_at : ℕ → List ℕ → Read ℕ

@@ -1,12 +1,13 @@
 -- The report of a script: one line for each of its bad lines.
-use Rattle.std.specs.Prelude.{◌≡◌, ◌==◌, ℕ, ◌+◌, ◌<◌, ◌≤◌, Bool, true, false, if◌then◌else◌, List, [], ◌∷◌, ◌++◌, length, take, Option, None, Some, Result, Ok, Err, codes, decimal}
+use Rattle.std.specs.Prelude.{◌≡◌, ◌==◌, ℕ, ◌+◌, ◌<◌, Bool, true, false, if◌then◌else◌, List, [], ◌∷◌, ◌++◌, length, take, Option, None, Some, Result, Ok, Err, codes, decimal}
 use Rattle.std.specs.Io.KnownBytes.{Appends}
 use Rattle.std.specs.List.{flat_map, enumerate_from, count_by}
 use Rattle.timer_script.specs.Types.{Field, LineFault, MAX_BYTES, CheckFault, Streams}
 use Rattle.timer_script.specs.declared.fault.CheckFault.TheVariants as faults
 use Rattle.timer_script.specs.Watched.{has_failed}
 use Rattle.timer_script.specs.Streams.{Known, left_of, taken_by}
-use Rattle.timer_script.specs.Input.{ReadsWhole, ReadsUpTo, ReadsTooMany}
+use Rattle.timer_script.specs.Input.{ReadsUpTo, ReadsTooMany}
+use Rattle.timer_script.specs.ScriptRun.{ReadsAs}
 use Rattle.timer_script.specs.Diagnosis.{IsVerdict, field_words, reason_words}
 
 -- a byte at the front of the first line
@@ -57,18 +58,12 @@ pub record IsReport (bytes text : List ℕ) (bad : ℕ) : Type 0 where
   pub text_is : text ≡ flat_map (λ numbered. verdict_line numbered.0 numbered.1) (enumerate_from 1 verdicts)
   pub counted : bad ≡ count_by is_bad verdicts
 
--- the reader was read to its end, its bytes are within the limit, and this reports their bad lines
-pub record IsReported (old new : Option (List ℕ)) (text : List ℕ) (bad : ℕ) : Type 0 where
-  pub bytes : List ℕ
-  pub whole : ReadsWhole old new bytes
-  pub short : length bytes ≤ MAX_BYTES
-  pub report : IsReport bytes text bad
-
 -- what a check did to its reader and its writer, by how it ended
 abbrev pub HasChecked : {R S : Type 0} → Known R S → (old new : Streams R S) → Result ℕ CheckFault → Type 0
 -- the whole report was written, and nothing else
 HasChecked known old new (Ok bad) = (text : List ℕ)
-    × IsReported (left_of known old) (left_of known new) text bad × (has_failed new.reader ≡ false)
+    × ReadsAs (λ bytes. IsReport bytes text bad) (left_of known old) (left_of known new)
+    × (has_failed new.reader ≡ false)
     × Appends (taken_by known old) (taken_by known new) text × (has_failed new.writer ≡ false)
 -- the reader failed in this call, after at most `MAX_BYTES` bytes, and nothing was written
 HasChecked known old new (Err faults.Read) = ReadsUpTo MAX_BYTES (left_of known old) (left_of known new)
@@ -82,6 +77,7 @@ HasChecked known old new (Err faults.OutOfMemory) =
     × (new.writer ≡ old.writer)
 -- the writer failed in this call, and a prefix of the report was written, of this length, and nothing else
 HasChecked known old new (Err (faults.Write written)) = (text : List ℕ) × (bad : ℕ)
-    × IsReported (left_of known old) (left_of known new) text bad × (has_failed new.reader ≡ false)
+    × ReadsAs (λ bytes. IsReport bytes text bad) (left_of known old) (left_of known new)
+    × (has_failed new.reader ≡ false)
     × (written < length text) × Appends (taken_by known old) (taken_by known new) (take written text)
     × (has_failed new.writer ≡ true)

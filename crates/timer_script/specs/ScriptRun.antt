@@ -32,22 +32,16 @@ pub record IsAnswer (before : FacilityState) (events : List Event) (answer : Lis
   pub played : IsPlayed before events outs after
   pub lines : answer ≡ text outs after.now (length after.pending)
 
--- the reader was read to its end, its bytes are the script of some events and within the limit, and this is
--- the answer
-pub record IsAnswered (before : FacilityState) (old new : Option (List ℕ)) (answer : List ℕ) : Type 0 where
-  pub bytes : List ℕ
-  pub events : List Event
-  pub whole : ReadsWhole old new bytes
-  pub short : length bytes ≤ MAX_BYTES
-  pub script : IsScript events bytes
-  pub answered : IsAnswer before events answer
+-- the bytes are the script of some events, and this is the answer to them
+abbrev pub IsAnswerTo : FacilityState → (bytes answer : List ℕ) → Type 0
+IsAnswerTo before bytes answer = (events : List Event) × IsScript events bytes × IsAnswer before events answer
 
--- the reader was read to its end, its bytes are within the limit, and this is their first bad line
-pub record IsBad (old new : Option (List ℕ)) (line : ℕ) : Type 0 where
+-- the reader was read to its end, its bytes are within the limit, and this holds of them
+pub record ReadsAs (Holds : List ℕ → Type 0) (old new : Option (List ℕ)) : Type 0 where
   pub bytes : List ℕ
   pub whole : ReadsWhole old new bytes
   pub short : length bytes ≤ MAX_BYTES
-  pub bad : IsBadLine bytes line
+  pub holds : Holds bytes
 
 -- why bytes in memory have no answer
 abbrev pub HasNoAnswer : AnswerFault → List ℕ → Type 0
@@ -60,7 +54,8 @@ abbrev pub HasRun : {R S : Type 0} → FacilityState → Known R S → (old new 
     → Type 0
 -- the whole answer was written, and nothing else
 HasRun before known old new (Ok u) = (answer : List ℕ)
-    × IsAnswered before (left_of known old) (left_of known new) answer × (has_failed new.reader ≡ false)
+    × ReadsAs (λ bytes. IsAnswerTo before bytes answer) (left_of known old) (left_of known new)
+    × (has_failed new.reader ≡ false)
     × Appends (taken_by known old) (taken_by known new) answer × (has_failed new.writer ≡ false)
 -- the reader failed in this call, after at most `MAX_BYTES` bytes, and nothing was written
 HasRun before known old new (Err faults.Read) = ReadsUpTo MAX_BYTES (left_of known old) (left_of known new)
@@ -69,7 +64,8 @@ HasRun before known old new (Err faults.Read) = ReadsUpTo MAX_BYTES (left_of kno
 HasRun before known old new (Err faults.TooLong) = ReadsTooMany (left_of known old) (left_of known new)
     × (has_failed new.reader ≡ false) × (new.writer ≡ old.writer)
 -- the input is not a script, this is its first bad line, and nothing was written
-HasRun before known old new (Err (faults.Bad line)) = IsBad (left_of known old) (left_of known new) line
+HasRun before known old new (Err (faults.Bad line)) =
+    ReadsAs (λ bytes. IsBadLine bytes line) (left_of known old) (left_of known new)
     × (has_failed new.reader ≡ false) × (new.writer ≡ old.writer)
 -- nothing was written, and at most one byte more than `MAX_BYTES` was read
 HasRun before known old new (Err faults.OutOfMemory) =
@@ -77,6 +73,7 @@ HasRun before known old new (Err faults.OutOfMemory) =
     × (new.writer ≡ old.writer)
 -- the writer failed in this call, and a prefix of the answer was written, of this length, and nothing else
 HasRun before known old new (Err (faults.Write written)) = (answer : List ℕ)
-    × IsAnswered before (left_of known old) (left_of known new) answer × (has_failed new.reader ≡ false)
+    × ReadsAs (λ bytes. IsAnswerTo before bytes answer) (left_of known old) (left_of known new)
+    × (has_failed new.reader ≡ false)
     × (written < length answer) × Appends (taken_by known old) (taken_by known new) (take written answer)
     × (has_failed new.writer ≡ true)

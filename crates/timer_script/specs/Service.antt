@@ -1,5 +1,6 @@
 -- A server and its peer: what was played, what went to the peer, and when.
 use Rattle.std.specs.Prelude.{◌≡◌, ℕ, ◌≤◌, ◌⊎◌, ◌-◌, ◌^◌, Bool, true, false, List, [], ◌∷◌, ◌++◌, length, take, Option, Result, Ok, Err}
+use Rattle.std.specs.List.{flat_map, AllByRecursion}
 use Rattle.std.specs.Io.KnownBytes.{Consumes, Appends, IsAtEnd}
 use Rattle.timer_script.specs.Types.{Event, Out, FacilityState, TurnFault, ServeFault, PIECE, OnBadLine, Cutter, Watched}
 use Rattle.timer_facility.specs.Played.{IsRun}
@@ -12,19 +13,23 @@ use Rattle.timer_script.specs.Decorator.{Decoration, HasAnsweredWithin, AreDecor
 use Rattle.timer_script.specs.Cutter.{Passes, AreSoFar, HasPassed, HasSeen, HasSeenPart, HasEnded, IsStoppedAt, HasTakenIn}
 use Rattle.timer_script.specs.Peer.{PeerState, Moment, Came, Went, Flush, Grows}
 
--- the bytes that came from a peer
+-- the bytes that came from a peer in one call, and in all
+abbrev pub came_in : Moment → List ℕ
+came_in (Came bytes) = bytes
+came_in (Went bytes) = []
+came_in Flush = []
+
 abbrev pub came_of : List Moment → List ℕ
-came_of [] = []
-came_of (Came bytes ∷ moments) = bytes ++ came_of moments
-came_of (Went bytes ∷ moments) = came_of moments
-came_of (Flush ∷ moments) = came_of moments
+came_of moments = flat_map came_in moments
 
 -- the bytes that went to it
+abbrev pub gone_in : Moment → List ℕ
+gone_in (Came bytes) = []
+gone_in (Went bytes) = bytes
+gone_in Flush = []
+
 abbrev pub gone_of : List Moment → List ℕ
-gone_of [] = []
-gone_of (Came bytes ∷ moments) = gone_of moments
-gone_of (Went bytes ∷ moments) = bytes ++ gone_of moments
-gone_of (Flush ∷ moments) = gone_of moments
+gone_of moments = flat_map gone_in moments
 
 -- whether what went to it was flushed, if it was before
 abbrev pub is_flushed : Bool → List Moment → Bool
@@ -62,33 +67,31 @@ pub record AreGood (peer : PeerState) : Type 0 where
   pub reading : peer.read_failed ≡ false
   pub writing : peer.write_failed ≡ false
 
--- no read is among the calls
-abbrev pub AreWrites : List Moment → Type 0
-AreWrites [] = Unit {0}
-AreWrites (Came bytes ∷ moments) = ⊥
-AreWrites (Went bytes ∷ moments) = AreWrites moments
-AreWrites (Flush ∷ moments) = AreWrites moments
+-- the call is no read
+abbrev pub IsWrite : Moment → Type 0
+IsWrite (Came bytes) = ⊥
+IsWrite (Went bytes) = Unit {0}
+IsWrite Flush = Unit {0}
 
 -- the text was written, and nothing was read
 pub record HasWritten (old : PeerState) (text : List ℕ) (new : PeerState) : Type 0 where
   pub moments : List Moment
   pub grows : Grows old.moments new.moments moments
-  pub writes : AreWrites moments
+  pub writes : AllByRecursion IsWrite moments
   pub gone_is : gone_of moments ≡ text
   pub written : Appends old.contents new.contents text
   pub remaining : new.remaining ≡ old.remaining
   pub reading : new.read_failed ≡ old.read_failed
 
--- the text was written and flushed
+-- the text was written, and it is flushed if what was written before is
 pub record HasSent (old : PeerState) (text : List ℕ) (new : PeerState) : Type 0 where
   pub written : HasWritten old text new
-  pub flushed : is_flushed false written.moments ≡ true
+  pub flushed : is_flushed true written.moments ≡ true
   pub good : new.write_failed ≡ false
 
 -- a prefix of the text was written, and then the peer failed
 pub record HasSentPart (old : PeerState) (text : List ℕ) (new : PeerState) : Type 0 where
   pub count : ℕ
-  pub within : count ≤ length text
   pub written : HasWritten old (take count text) new
   pub failed : new.write_failed ≡ true
 
@@ -238,33 +241,31 @@ HasServed server old new (Err faults.TooLong) = (s : FacilityState)
 
 -- ---- one turn
 
--- after all that was answered before, these events are
-abbrev pub AnswersMore : Decoration → List Event → (s t : FacilityState) → (peer peer' : PeerState) → Type 0
-AnswersMore Adds events s t peer peer' = (on_bad : OnBadLine) (before : FacilityState) (came : List ℕ)
-    (earlier : List Event) (old : PeerState) → HasAnsweredSoFar on_bad Adds before came earlier old peer s
-    → HasAnsweredSoFar on_bad Adds before came (earlier ++ events) old peer' t
+-- the text grew by one of which this holds
+abbrev pub GrowsBy : (List ℕ → Type 0) → (old new : List ℕ) → Type 0
+GrowsBy Is old new = (added : List ℕ) × (new ≡ old ++ added) × Is added
 
--- why not all events were answered
-abbrev pub HasStoppedTurn : OnBadLine → Decoration → FacilityState → TurnFault → List ℕ → List Event
-    → (old new : PeerState) → Type 0
--- out of memory: all the text so far was written
-HasStoppedTurn on_bad Adds before turns.OutOfMemory came events old new =
-    HasAnsweredSome on_bad Adds before came events old new [] true × AreGood new
+-- of a text of which this holds all was sent but the last bytes
+pub record HasSentBut (Is : List ℕ → Type 0) (unsent : List ℕ) (flushed : Bool) (old new : PeerState) : Type 0 where
+  pub sent : List ℕ
+  pub written : HasWritten old sent new
+  pub flush : is_flushed true written.moments ≡ flushed
+  pub all : Is (sent ++ unsent)
+
+-- why not all of these events were answered
+abbrev pub StopsTurn : Decoration → TurnFault → List Event → FacilityState → (old new : PeerState) → Type 0
+-- out of memory: all the text so far was sent
+StopsTurn Adds turns.OutOfMemory events s old new =
+    HasSentBut (HasAnsweredPart Adds s events) [] true old new × AreGood new
 -- a write failed
-HasStoppedTurn on_bad Adds before turns.Write came events old new = (unsent : List ℕ) × (flushed : Bool)
-    × HasAnsweredSome on_bad Adds before came events old new unsent flushed
+StopsTurn Adds turns.Write events s old new = (unsent : List ℕ) × (flushed : Bool)
+    × HasSentBut (HasAnsweredPart Adds s events) unsent flushed old new
     × (new.read_failed ≡ false) × (new.write_failed ≡ true)
 
--- so it was with these, after all that was answered before
-abbrev pub StopsTurn : Decoration → TurnFault → List Event → FacilityState → (peer peer' : PeerState) → Type 0
-StopsTurn Adds fault events s peer peer' = (on_bad : OnBadLine) (before : FacilityState) (came : List ℕ)
-    (earlier : List Event) (old : PeerState) → HasAnsweredSoFar on_bad Adds before came earlier old peer s
-    → HasStoppedTurn on_bad Adds before fault came (earlier ++ events) old peer'
-
--- all bytes that came were taken in, and the events that passed are answered; or serving ended
-abbrev pub HasServedPiece : {F : Type 0} → Server F → (came : List ℕ) → (old : Sides F) → Cutter → FacilityState
-    → (new : Sides F) → Result Unit ServeFault → Type 0
-HasServedPiece server came old cutter s new (Ok u) = (events : List Event)
-    × HasTakenIn cutter server.contents old.faults new.faults came events
-    × HasAnsweredSoFar server.on_bad server.Adds server.before came events old.peer new.peer s
-HasServedPiece server came old cutter s new (Err fault) = HasServed server old new (Err fault)
+-- the bytes that came were taken in, and the events that passed are answered
+pub record HasServedSoFar {F : Type 0} (server : Server F) (cutter : Cutter) (old new : Sides F) (state : FacilityState)
+    : Type 0 where
+  pub came : List ℕ
+  pub events : List Event
+  pub taken : HasTakenIn server.on_bad cutter server.contents old.faults new.faults came events
+  pub so_far : HasAnsweredSoFar server.on_bad server.Adds server.before came events old.peer new.peer state

@@ -1,9 +1,7 @@
 //! A run over memory.
-ghost use Rattle.std.specs.Prelude.{◌≡◌, ◌≤◌, List, [], length, IfOk, IfErr, OnOk};
-ghost use Rattle.timer_facility.specs.declared.event.Event.{Event};
+ghost use Rattle.std.specs.Prelude.{◌≡◌, ◌≤◌, [], length, IfOk, IfErr, OnOk};
 ghost use Rattle.timer_script.specs.declared.input.TheConstants.{MAX_BYTES};
-ghost use Rattle.timer_script.specs.Script.{IsScript};
-ghost use Rattle.timer_script.specs.ScriptRun.{IsAnswer, HasNoAnswer};
+ghost use Rattle.timer_script.specs.ScriptRun.{IsAnswerTo, HasNoAnswer};
 
 use crate::fault::AnswerFault;
 use crate::input::MAX_BYTES;
@@ -23,14 +21,12 @@ pub fn answer_of<W: Wheel + Drop>(
 ) -> Result<Vec<u8>, AnswerFault>
     requires pending { facility.state.pending ≡ [] }
     requires waiting { facility.waiting ≡ [] }
-    ensures ok { IfOk result (λ answer. (events : List Event) × IsScript events script.now
-        × IsAnswer facility.state events answer.items) }
+    ensures ok { IfOk result (λ answer. IsAnswerTo facility.state script.now answer.items) }
     ensures short { OnOk result (length script.now ≤ MAX_BYTES) }
     ensures fault { IfErr result (λ fault. HasNoAnswer fault script.now) }
 {
     if script.len() > MAX_BYTES {
         return Err(AnswerFault::TooLong);
     }
-    let answer = answer_to(alloc, script, facility)?;
-    Ok(answer)
+    Ok(answer_to(alloc, script, facility)?)
 }

@@ -9,9 +9,9 @@
 //!     " 3 7\ntikc 3\ntick"  start 0 1 3 7   "bad line 2, column 3: unknown word\n"  "tick"
 //!     " 3\n"                tick 3
 ghost use Rattle.std.specs.Prelude.{◌≡◌, ◌↔◌, ◌<◌, ◌≤◌, ◌++◌, ◌∷◌, [], ℕ, List, length, take, true, IfOk, IfErr, OnOk, OnErr};
-ghost use Rattle.timer_script.specs.Types.{Event, MAX_LINE};
+ghost use Rattle.timer_script.specs.Types.{Event, OnBadLine, Watched, MAX_LINE};
 ghost use Rattle.timer_script.specs.Splitter.{HasNoFeed};
-ghost use Rattle.timer_script.specs.Cutter.{Complaint, complaint_line, HasEndedLine, StopsLine, HasSorted, HasSortedSince, StopsAt, HasReported, TakesPiece, TakesEnd};
+ghost use Rattle.timer_script.specs.Cutter.{Complaint, complaint_line, HasEndedLine, StopsLine, HasSorted, HasSortedSince, StopsAt, HasReported, HasEnded, HasTakenIn, UnlessStopped};
 
 use crate::diagnosis::fault_of_bad;
 use crate::fault::ScriptFault;
@@ -134,9 +134,10 @@ impl Cutter {
         piece: &[u8],
         faults: &mut Watched<F>,
     ) -> Result<Option<u64>, OutOfMemory>
-        ensures kept { self.new.on_bad ≡ self.old.on_bad }
-        ensures taken { IfOk result (λ stop. TakesPiece stop F.contents piece.now self.old faults.old self.new
-            faults.new) }
+        ensures taken { IfOk result (λ stop. (on_bad : OnBadLine) (writer : Watched F) (came : List ℕ)
+            (events : List Event) → HasTakenIn on_bad self.old F.contents writer faults.old came events
+            → UnlessStopped stop (HasTakenIn on_bad self.new F.contents writer faults.new) on_bad writer faults.new
+            (came ++ piece.now) (events ++ self.new.events.items)) }
         ensures unreported { OnErr result (faults.new ≡ faults.old) }
     {
         match self.cut(piece) {
@@ -155,7 +156,10 @@ impl Cutter {
     /// The stream ended: reports a line that has not, or returns its number. The only error is out of memory,
     /// and then nothing is reported.
     pub fn end<F: Write>(&mut self, faults: &mut Watched<F>) -> Result<Option<u64>, OutOfMemory>
-        ensures ended { IfOk result (λ stop. TakesEnd stop F.contents self.old faults.old self.new faults.new) }
+        ensures ended { IfOk result (λ stop. (on_bad : OnBadLine) (writer : Watched F) (came : List ℕ)
+            (events : List Event) → HasTakenIn on_bad self.old F.contents writer faults.old came events
+            → UnlessStopped stop (HasEnded on_bad self.new.clean F.contents writer faults.new) on_bad writer faults.new
+            came events) }
         ensures unreported { OnErr result (faults.new ≡ faults.old) }
     {
         if self.held.is_empty() {
@@ -178,12 +182,13 @@ impl Cutter {
     ///
     /// `Bad` names the bad line at which the stream ends. After `OutOfMemory` some bytes may be lost.
     fn cut(&mut self, piece: &[u8]) -> Result<(), ScriptFault>
-        ensures cut { OnOk result ((came : List ℕ) (events : List Event) (bad : List Complaint)
-            → HasSorted self.old came events bad → HasSortedSince self.new (came ++ piece.now) events bad) }
-        ensures stopped { IfErr result (λ fault. (came : List ℕ) (events : List Event) (bad : List Complaint)
-            → HasSorted self.old came events bad
-            → StopsAt fault self.old.on_bad (came ++ piece.now) (events ++ self.new.events.items)) }
-        ensures kept { self.new.on_bad ≡ self.old.on_bad }
+        ensures cut { OnOk result ((on_bad : OnBadLine) (came : List ℕ) (events : List Event) (bad : List Complaint)
+            → self.old.on_bad ≡ on_bad → HasSorted on_bad self.old.held.items self.old.number came events bad
+            → HasSortedSince on_bad self.new (came ++ piece.now) events bad) }
+        ensures stopped { IfErr result (λ fault. (on_bad : OnBadLine) (came : List ℕ) (events : List Event)
+            (bad : List Complaint) → self.old.on_bad ≡ on_bad
+            → HasSorted on_bad self.old.held.items self.old.number came events bad
+            → StopsAt fault on_bad (came ++ piece.now) (events ++ self.new.events.items)) }
         ensures clean { self.new.clean ≡ self.old.clean }
     {
         self.events.clear();
@@ -200,13 +205,12 @@ impl Cutter {
         requires some { 0 < length bytes.now }
         ensures some { IfOk result (λ n. 0 < n) }
         ensures within { IfOk result (λ n. n ≤ length bytes.now) }
-        ensures cut { IfOk result (λ n. (came : List ℕ) (events : List Event) (bad : List Complaint)
-            → HasSortedSince self.old came events bad
-            → HasSortedSince self.new (came ++ take n bytes.now) events bad) }
-        ensures stopped { IfErr result (λ fault. (came : List ℕ) (events : List Event) (bad : List Complaint)
-            → HasSortedSince self.old came events bad
-            → StopsAt fault self.old.on_bad (came ++ bytes.now) (events ++ self.new.events.items)) }
-        ensures kept { self.new.on_bad ≡ self.old.on_bad }
+        ensures cut { IfOk result (λ n. (on_bad : OnBadLine) (came : List ℕ) (events : List Event)
+            (bad : List Complaint) → HasSortedSince on_bad self.old came events bad
+            → HasSortedSince on_bad self.new (came ++ take n bytes.now) events bad) }
+        ensures stopped { IfErr result (λ fault. (on_bad : OnBadLine) (came : List ℕ) (events : List Event)
+            (bad : List Complaint) → HasSortedSince on_bad self.old came events bad
+            → StopsAt fault on_bad (came ++ bytes.now) (events ++ self.new.events.items)) }
         ensures clean { self.new.clean ≡ self.old.clean }
     {
         let len = line_len(bytes);

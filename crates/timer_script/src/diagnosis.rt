@@ -265,7 +265,7 @@ fn fault_in_number(line: &[u8], at: usize, len: usize, field: Field) -> LineFaul
 }
 
 /// Why a digit may not follow `len` others.
-#[tactic(auto, using(crate::proofs::DiagnosisLemmas::after_zero))]
+#[tactic(auto, using(crate::proofs::DiagnosisLemmas::digit_reasons))]
 fn reason_of_digit(line: &[u8], at: usize, len: usize, field: Field) -> LineReason
     requires number { IsInNumber line.now at len }
     requires digit { IsDigitAt line.now at }

@@ -6,7 +6,7 @@
 //! `script` and `text` first, with `specs/Script.antt` and `specs/Text.antt`: which bytes are a script,
 //! and which text answers it.
 //!
-//! A module's definitions are in the file of its name in `specs/`, and their lemmas in `proofs/`:
+//! Most modules have their definitions in the file of that name in `specs/`, and lemmas in `proofs/`:
 //!
 //!     bytes       digits and lines (`lines`, `splitter`), scripts (`script`)
 //!     runs        `input`, `output`, `script_run`, `answer` (the same in memory), `text`

@@ -49,6 +49,7 @@ fn read_digits(bytes: &[u8]) -> (u64, usize)
 
 /// A number with no leading zero, and the bytes after it.
 #[inline(always)]
+#[tactic(auto, using(crate::proofs::LineLemmas::number_tests), unfolding(crate::specs::Lines::number_at))]
 fn read_number(bytes: &[u8]) -> Option<(u64, &[u8])>
     ensures { read_view (λ n. n) result ≡ number_at bytes.now }
 {
@@ -67,7 +68,7 @@ fn read_number(bytes: &[u8]) -> Option<(u64, &[u8])>
 
 /// A number, and what follows the byte that ends its field.
 #[inline(always)]
-#[tactic(auto, unfolding(crate::specs::Lines::field_at))]
+#[tactic(auto, using(crate::proofs::LineLemmas::bytes_of_fields), unfolding(crate::specs::Lines::field_at))]
 fn read_field(bytes: &[u8], end: u8) -> Option<(u64, &[u8])>
     ensures { read_view (λ n. n) result ≡ field_at end bytes.now }
 {

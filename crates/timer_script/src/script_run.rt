@@ -6,10 +6,10 @@
 //! An event and an out are much longer than their lines, so those of a whole script are never in memory
 //! together. Nothing is written before the last line was played. So a script with a bad line is rejected as
 //! a whole, and what is written is the whole answer or a prefix of it.
-ghost use Rattle.std.specs.Prelude.{◌≡◌, ◌↔◌, ◌∷◌, ℕ, List, [], false, IsTrue, IfOk, IfErr, OnOk, IsErrOf};
+ghost use Rattle.std.specs.Prelude.{◌≡◌, ◌↔◌, ◌∷◌, ℕ, [], false, IsTrue, IfOk, IfErr, OnOk, IsErrOf};
 ghost use Rattle.timer_facility.specs.declared.event.Event.{Event};
-ghost use Rattle.timer_script.specs.Script.{IsScript, IsFault};
-ghost use Rattle.timer_script.specs.ScriptRun.{AddsLines, HasPlayedLines, IsAnswer, HasRun};
+ghost use Rattle.timer_script.specs.Script.{IsFault};
+ghost use Rattle.timer_script.specs.ScriptRun.{AddsLines, HasPlayedLines, IsAnswerTo, HasRun};
 ghost use Rattle.timer_script.specs.Watched.{has_failed};
 
 use crate::fault::{RunFault, ScriptFault};
@@ -200,16 +200,13 @@ pub fn answer_to<W: Wheel + Drop>(
 ) -> Result<Vec<u8>, ScriptFault>
     requires pending { facility.state.pending ≡ [] }
     requires waiting { facility.waiting ≡ [] }
-    ensures ok { IfOk result (λ answer. (events : List Event) × IsScript events script.now
-        × IsAnswer facility.state events answer.items) }
+    ensures ok { IfOk result (λ answer. IsAnswerTo facility.state script.now answer.items) }
     ensures fault { IfErr result (λ fault. IsFault fault script.now) }
 {
     // Brings what `owed` rests on into scope for the prover.
     let _now = facility.now();
     let mut player = Player::open(alloc, facility);
-    let Ok(mut answer) = Vec::with_capacity(alloc, script.len().saturating_mul(GROWTH)) else {
-        return Err(ScriptFault::OutOfMemory);
-    };
+    let mut answer = Vec::with_capacity(alloc, script.len().saturating_mul(GROWTH))?;
     play_lines(alloc, &mut player, script, &mut answer)?;
     let now = player.facility().now();
     let pending = player.facility().pending() as u64;

@@ -3,14 +3,12 @@
 //! A turn reads once, plays the lines that came, and writes and flushes their answers. So whenever more
 //! is read, each whole line that came has been answered. A decorator may add text after an answer. A cutter
 //! makes events of the bytes: a bad line ends the stream, or is reported to a second writer.
-ghost use Rattle.std.specs.Prelude.{◌≡◌, ◌++◌, ◌∷◌, [], ℕ, List, false, IfErr, OnErr, OnOk};
+ghost use Rattle.std.specs.Prelude.{◌≡◌, ◌∷◌, [], List, true, false, IfErr, OnErr, OnOk};
 ghost use Rattle.std.specs.Io.KnownBytes.{IsAtEnd};
-ghost use Rattle.timer_script.specs.Types.{Event, OnBadLine, Watched};
+ghost use Rattle.timer_script.specs.Types.{Event, OnBadLine};
 ghost use Rattle.timer_facility.specs.State.{FacilityState, IsSound};
-ghost use Rattle.timer_script.specs.Peer.{PeerState};
 ghost use Rattle.timer_script.specs.Decorator.{HasGrownByAnswer};
-ghost use Rattle.timer_script.specs.Cutter.{HasTakenIn};
-ghost use Rattle.timer_script.specs.Service.{AreGood, HasSent, HasSentPart, HasAnswered, HasAnsweredPart, AnswersMore, StopsTurn, HasAnsweredSoFar, HasServedPiece, HasServed, server_with};
+ghost use Rattle.timer_script.specs.Service.{AreGood, HasSent, HasSentPart, HasAnswered, HasAnsweredPart, GrowsBy, HasSentBut, StopsTurn, Sides, HasServedSoFar, HasServed, server_with};
 
 use crate::cutter::{Cutter, OnBadLine};
 use crate::decorator::Decorator;
@@ -80,12 +78,10 @@ fn answer_one<W: Wheel + Drop, D: Decorator<W>>(
     event: Event,
     text: &mut Vec<u8>,
 ) -> Result<(), OutOfMemory>
-    ensures whole { OnOk result ((before : FacilityState) (earlier : List Event)
-        → HasAnswered D.adds before earlier session.old.player text.old.items
-        → HasAnswered D.adds before (earlier ++ event ∷ []) session.new.player text.new.items) }
-    ensures part { OnErr result ((before : FacilityState) (earlier : List Event)
-        → HasAnswered D.adds before earlier session.old.player text.old.items
-        → HasAnsweredPart D.adds before (earlier ++ event ∷ []) text.new.items) }
+    ensures whole { OnOk result (GrowsBy (HasAnswered D.adds session.old.player (event ∷ []) session.new.player)
+        text.old.items text.new.items) }
+    ensures part { OnErr result ((later : List Event) → GrowsBy (HasAnsweredPart D.adds session.old.player
+        (event ∷ later)) text.old.items text.new.items) }
 {
     play(session, decorator, event, text)?;
     let answered = text.len();
@@ -99,49 +95,8 @@ fn answer_one<W: Wheel + Drop, D: Decorator<W>>(
     }
 }
 
-/// Plays these events, and appends the answers and what is added to each. If memory runs out, the text answers the
-/// first events.
-fn answer<W: Wheel + Drop, D: Decorator<W>>(
-    session: &mut Session<W>,
-    decorator: &D,
-    events: &[Event],
-    text: &mut Vec<u8>,
-) -> Result<(), OutOfMemory>
-    requires { text.old.items ≡ [] }
-    ensures whole { OnOk result (HasAnswered D.adds session.old.player events.now session.new.player
-        text.new.items) }
-    ensures part { OnErr result (HasAnsweredPart D.adds session.old.player events.now text.new.items) }
-{
-    for event in events {
-        answer_one(session, decorator, *event, text)?;
-    }
-    Ok(())
-}
-
-/// Plays these events, and writes and flushes the answers and what is added after them.
-fn serve_some<P: Peer, W: Wheel + Drop, D: Decorator<W>>(
-    session: &mut Session<W>,
-    peer: &mut P,
-    decorator: &D,
-    events: &[Event],
-    text: &mut Vec<u8>,
-) -> Result<(), TurnFault>
-    requires good { AreGood (P.state peer.old) }
-    ensures served { OnOk result (AnswersMore D.adds events.now session.old.player session.new.player
-        (P.state peer.old) (P.state peer.new)) }
-    ensures good { OnOk result (AreGood (P.state peer.new)) }
-    ensures unread { OnOk result ((P.state peer.new).remaining ≡ (P.state peer.old).remaining) }
-    ensures fault { IfErr result (λ fault. StopsTurn D.adds fault events.now session.old.player
-        (P.state peer.old) (P.state peer.new)) }
-{
-    text.clear();
-    let played = answer(session, decorator, events, text);
-    send(peer, text)?;
-    played?;
-    Ok(())
-}
-
-/// Serves the events of one read: at once, or one by one if the decorator asks for that.
+/// Plays the events of one read, and writes and flushes the answers and what is added after each: at once, or one by
+/// one if the decorator asks for that. If memory runs out, what is answered is written all the same.
 fn serve_events<P: Peer, W: Wheel + Drop, D: Decorator<W>>(
     session: &mut Session<W>,
     peer: &mut P,
@@ -150,55 +105,29 @@ fn serve_events<P: Peer, W: Wheel + Drop, D: Decorator<W>>(
     text: &mut Vec<u8>,
 ) -> Result<(), TurnFault>
     requires { AreGood (P.state peer.old) }
-    ensures served { OnOk result (AnswersMore D.adds events.now session.old.player session.new.player
-        (P.state peer.old) (P.state peer.new)) }
+    ensures served { OnOk result (HasSentBut (HasAnswered D.adds session.old.player events.now session.new.player) []
+        true (P.state peer.old) (P.state peer.new)) }
     ensures good { OnOk result (AreGood (P.state peer.new)) }
-    ensures unread { OnOk result ((P.state peer.new).remaining ≡ (P.state peer.old).remaining) }
     ensures fault { IfErr result (λ fault. StopsTurn D.adds fault events.now session.old.player
         (P.state peer.old) (P.state peer.new)) }
 {
-    if !decorator.sends_each_line() {
-        return serve_some(session, peer, decorator, events, text);
+    let each_line = decorator.sends_each_line();
+    text.clear();
+    for event in events {
+        let Ok(()) = answer_one(session, decorator, *event, text) else {
+            send(peer, text)?;
+            return Err(TurnFault::OutOfMemory);
+        };
+        if !each_line {
+            continue;
+        }
+        send(peer, text)?;
+        text.clear();
     }
-    let mut rest = events;
-    while !rest.is_empty() {
-        let (first, after) = rest.split_at(1);
-        serve_some(session, peer, decorator, first, text)?;
-        rest = after;
+    if !each_line {
+        send(peer, text)?;
     }
     Ok(())
-}
-
-/// Takes a piece in, and serves the events of its lines.
-fn serve_piece<P: Peer, W: Wheel + Drop, D: Decorator<W>, F: Write>(
-    session: &mut Session<W>,
-    peer: &mut P,
-    decorator: &D,
-    cutter: &mut Cutter,
-    faults: &mut Watched<F>,
-    piece: &[u8],
-    text: &mut Vec<u8>,
-) -> Result<(), ServeFault>
-    requires { AreGood (P.state peer.old) }
-    ensures kept { cutter.new.on_bad ≡ cutter.old.on_bad }
-    ensures good { OnOk result (AreGood (P.state peer.new)) }
-    ensures unread { OnOk result ((P.state peer.new).remaining ≡ (P.state peer.old).remaining) }
-    ensures served { (on_bad : OnBadLine) (before : FacilityState) (p : PeerState) (w : Watched F) (came : List ℕ)
-        (events : List Event) → cutter.old.on_bad ≡ on_bad
-        → HasTakenIn cutter.old F.contents w faults.old came events
-        → HasAnsweredSoFar on_bad D.adds before (came ++ piece.now) events p (P.state peer.old) session.old.player
-        → HasServedPiece (server_with on_bad D.adds before F.contents) (came ++ piece.now)
-        (record { peer = p; faults = w }) cutter.new session.new.player
-        (record { peer = P.state peer.new; faults = faults.new }) result }
-{
-    let Ok(bad) = cutter.take_in(piece, faults) else {
-        return Err(ServeFault::OutOfMemory);
-    };
-    serve_events(session, peer, decorator, &cutter.events, text)?;
-    match bad {
-        Some(line) => Err(ServeFault::Bad { line }),
-        None => Ok(()),
-    }
 }
 
 /// The stream ended: writes and flushes the end line, unless a line that has not ended is bad.
@@ -211,12 +140,11 @@ fn end_stream<P: Peer, W: Wheel + Drop, D: Decorator<W>, F: Write>(
 ) -> Result<bool, ServeFault>
     requires good { AreGood (P.state peer.old) }
     requires ended { IsAtEnd (P.state peer.old).remaining }
-    ensures { (on_bad : OnBadLine) (before : FacilityState) (p : PeerState) (w : Watched F) (came : List ℕ)
-        (events : List Event) → cutter.old.on_bad ≡ on_bad → IsSound before
-        → HasTakenIn cutter.old F.contents w faults.old came events
-        → HasAnsweredSoFar on_bad D.adds before came events p (P.state peer.old) session.now.player
-        → HasServed (server_with on_bad D.adds before F.contents)
-        (record { peer = p; faults = w }) (record { peer = P.state peer.new; faults = faults.new }) result }
+    ensures { (on_bad : OnBadLine) (before : FacilityState) (start : Sides F) → IsSound before
+        → HasServedSoFar (server_with on_bad D.adds before F.contents) cutter.old start
+        (record { peer = P.state peer.old; faults = faults.old }) session.now.player
+        → HasServed (server_with on_bad D.adds before F.contents) start
+        (record { peer = P.state peer.new; faults = faults.new }) result }
 {
     let Ok(bad) = cutter.end(faults) else {
         return Err(ServeFault::OutOfMemory);
@@ -275,15 +203,13 @@ pub fn serve<P: Peer, W: Wheel + Drop, D: Decorator<W>, F: Write>(
         let Ok(n) = peer.read(&mut piece) else {
             return Err(ServeFault::Read);
         };
-        serve_piece(
-            &mut session,
-            peer,
-            decorator,
-            &mut cutter,
-            faults,
-            &piece[..n],
-            &mut text,
-        )?;
+        let Ok(bad) = cutter.take_in(&piece[..n], faults) else {
+            return Err(ServeFault::OutOfMemory);
+        };
+        serve_events(&mut session, peer, decorator, &cutter.events, &mut text)?;
+        if let Some(line) = bad {
+            return Err(ServeFault::Bad { line });
+        }
         if n == 0 {
             return end_stream::<P, W, D, F>(&session, peer, &mut cutter, faults, &mut text);
         }

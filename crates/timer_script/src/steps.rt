@@ -25,8 +25,6 @@ pub fn play_steps<W: Wheel + Drop, D: Decorator<W>>(
         session.new.player text.old.items text.new.items) }
     ensures nothing { OnErr result (text.new.items ≡ text.old.items) }
 {
-    // Brings into scope for the prover that the clock is in its range.
-    let _now = session.player.facility().now();
     let before = text.len();
     let mut left = count;
     while left > 0 {

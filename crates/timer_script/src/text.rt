@@ -74,7 +74,7 @@ const ROOM: usize = 118;
 
 /// Writes a space and a number so that they end at `end`, and returns where they start.
 #[inline(always)]
-#[tactic(auto, using(crate::proofs::TextLemmas::short_decimal))]
+#[tactic(auto, using(crate::proofs::TextLemmas::spaced_decimal))]
 fn put_number(n: u64, buffer: &mut [u8], end: usize) -> usize
     requires { (MAX_DIGITS ≤ end) × (end ≤ length buffer.old) }
     ensures written { drop result buffer.new ≡ 32 ∷ decimal n ++ drop end buffer.old }

@@ -3,6 +3,4 @@ use Rattle.timer_commands.proofs.render.push_list.Given as goal
 
 -- the line has not ended
 abbrev pub invariant-loop : goal.invariant-loop
-invariant-loop l = record {
-  bare : HasGrownByBare l.fn.text.items l.text.items;
-}
+invariant-loop l = HasGrownByBare l.fn.text.items l.text.items

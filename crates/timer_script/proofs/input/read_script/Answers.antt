@@ -1,7 +1,7 @@
 use Rattle.std.proofs.Common.{rules, sym, subst, arith}
 use Rattle.std.specs.Io.KnownBytes.{Consumes}
 use Rattle.std.proofs.KnownBytes.{Consumes-nil}
-use Rattle.timer_script.proofs.KnownBytes.{reads_more, stops_reading}
+use Rattle.timer_script.proofs.KnownBytes.{stops_reading}
 use Rattle.timer_script.proofs.input.read_script.Goals as goal
 
 pub loop-bytes-init : goal.loop-bytes-init
@@ -11,22 +11,6 @@ loop-bytes-init g c = record {
   within = omega (arith, c.new-bytes.ensures.len);
   room = c.in_ok-piece.ensures.len;
 }
-
-pub returns-then-n-eq0-clause-whole : goal.returns-then-n-eq0-clause-whole
-returns-then-n-eq0-clause-whole g c =
-    let h = c.in_ok-n.ensures.ok in
-    (reads_more _ _ _ _ _ _ _ c.loop-bytes.invariant.got h, h.at_end c.if-n-eq0.true)
-
-pub loop-bytes-preserved : goal.loop-bytes-preserved
-loop-bytes-preserved g c =
-    let h = c.in_ok-n.ensures.ok in
-    let i = c.loop-bytes.invariant in
-    record {
-      got = reads_more _ _ _ _ _ _ _ i.got h;
-      good = h.good;
-      within = search rules;
-      room = i.room;
-    }
 
 pub returns-in_err-n-clause-fault : goal.returns-in_err-n-clause-fault
 returns-in_err-n-clause-fault g c =

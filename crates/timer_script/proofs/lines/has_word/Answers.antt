@@ -1,10 +1,10 @@
-use Rattle.std.proofs.lemmas.Bool.{cases_lt}
+use Rattle.std.proofs.lemmas.Bool.{cases_lt, false_from_ne_true}
 use Rattle.std.proofs.Common.{◌≡◌, ◌<◌, ◌≤◌, ◌+◌, ◌++◌, inl, inr, ℕ, List, length, take, drop, get_or, arith, sym, ap, ◌∙◌, lit≤, take-append-drop, get_or-take}
 use Rattle.std.proofs.lemmas.List.{get_or_past, length-take-le, length-append, take-append-le, take_rest}
 use Rattle.std.proofs.lemmas.Nat.{le_bytes_4}
 use Rattle.std.specs.Int.{from_le_bytes, to_le_bytes, w32}
 use Rattle.timer_script.specs.Lines.{has_word}
-use Rattle.timer_script.proofs.LineLemmas.{has_word_sound, has_word_other, has_word_after}
+use Rattle.timer_script.proofs.LineLemmas.{has_word_sound, has_word_after}
 use Rattle.timer_script.proofs.lines.has_word.Goals.{then-bytes-word-via-then-bytes-word, then-bytes-word-via-else-bytes-word+then-front}
 use Rattle.timer_script.proofs.lines.has_word.Goals as goal
 
@@ -30,7 +30,7 @@ pub returns-then-bytes-word-clause-value : goal.returns-then-bytes-word-clause-v
 returns-then-bytes-word-clause-value c =
     let word = c.args.word.now in
     let bytes = c.args.bytes.now in
-    sym (has_word_other word bytes λ begins.
+    sym (false_from_ne_true (has_word word bytes) λ begins.
     let is = has_word_sound word bytes begins in
     elim c.then-bytes-word.branch [
       | then-bytes-word-via-then-bytes-word w ↦

@@ -1,41 +1,40 @@
 use Rattle.std.proofs.Common.{[], Err, ◌∙◌, ap, sym, subst, append-nil, rules}
-use Rattle.timer_script.specs.Cutter.{TakesEnd}
 use Rattle.timer_script.specs.Fault.{serve_fault}
 use Rattle.timer_script.specs.Service.{HasSent, HasSentPart, HasServed}
 use Rattle.timer_script.proofs.Results.{passed_on}
-use Rattle.timer_script.proofs.ServiceLemmas.{piece_lost, bad_at, ended_as, end_lost, end_unsent, end_served}
+use Rattle.timer_script.proofs.CutterLemmas.{ended_seen}
+use Rattle.timer_script.proofs.ServicePieces.{so_some}
+use Rattle.timer_script.proofs.ServiceLemmas.{piece_lost, bad_at, unstopped, end_unsent, end_served}
 use Rattle.timer_script.proofs.service.end_stream.Goals as goal
 
 pub returns-in_default : goal.returns-in_default
-returns-in_default g c = λ o before p w came events is sound taken so.
-    piece_lost _ c.args.cutter.now _ _ _ _ _ _ came came [] events (sym (append-nil came)) c.in_default.ensures.unreported c.requires.good is
-    taken so
+returns-in_default g c = λ o before start sound h.
+    piece_lost h.came [] _ h (append-nil h.came) h.so_far c.in_default.ensures.unreported c.requires.good
 
 pub returns-in-Some : goal.returns-in-Some
-returns-in-Some g c = λ o before p w came events is sound taken so.
-    let old = c.args.cutter.now in
-    let takes = subst (λ z. TakesEnd z g.F.Write.contents old c.args.faults.now c.end.new.self c.end.new.faults) c.in-Some.is
-    c.in-Ok.ensures.ended in
-    bad_at _ old.on_bad w _ p _ _ c.in-Some.line came events is (takes w came events taken) c.requires.good so
+returns-in-Some g c = λ o before start sound h.
+    bad_at h c.in-Ok.bad c.in-Some.line (record { peer = g.P.Peer.state c.args.peer.now; faults = c.end.new.faults }) _ c.in-Some.is
+    (c.in-Ok.ensures.ended o start.faults h.came h.events h.taken) c.requires.good h.so_far
 
 pub returns-in_default-write_end : goal.returns-in_default-write_end
-returns-in_default-write_end g c = λ o before p w came events is sound taken so.
-    end_lost _ c.end.new.self.clean w _ p _ _ came events c.requires.good
-    (ended_as c.args.cutter.now c.end.new.self c.in-Ok.bad _ _ _ _ o came events is c.in-None.is c.in-Ok.ensures.ended taken) so
+returns-in_default-write_end g c = λ o before start sound h.
+    let ended = unstopped _ o start.faults c.end.new.faults h.came h.events c.in-Ok.bad c.in-None.is
+    (c.in-Ok.ensures.ended o start.faults h.came h.events h.taken) in
+    (record { came = h.came; events = h.events; passed = ended_seen ended; some = so_some h.so_far }, c.requires.good)
 
 pub returns-in_err-send-in-None : goal.returns-in_err-send-in-None
-returns-in_err-send-in-None g c = λ o before p w came events is sound taken so.
-    let q = g.P.Peer.state c.args.peer.now in
+returns-in_err-send-in-None g c = λ o before start sound h.
     let r = g.P.Peer.state c.send.new.peer in
+    let ended = unstopped _ o start.faults c.end.new.faults h.came h.events c.in-Ok.bad c.in-None.is
+    (c.in-Ok.ensures.ended o start.faults h.came h.events h.taken) in
     subst (HasServed _ _ _) (sym (passed_on c.from_residual.result _ c.from_residual.ensures.1 ∙ ap (λ f. Err (serve_fault f)) c.in_err-send-in-None.ensures.fault))
-    (end_unsent _ c.end.new.self.clean w _ p q r _ came events c.requires.good c.requires.ended sound
-    (ended_as c.args.cutter.now c.end.new.self c.in-Ok.bad _ _ _ _ o came events is c.in-None.is c.in-Ok.ensures.ended taken) so
-    (subst (λ t. HasSentPart q t r) (search rules) c.in_err-send-in-None.ensures.part))
+    (end_unsent h ended c.requires.good c.requires.ended sound
+    (subst (λ t. HasSentPart (g.P.Peer.state c.args.peer.now) t r) (search rules) c.in_err-send-in-None.ensures.part))
 
 pub returns-in_ok-send-in-None : goal.returns-in_ok-send-in-None
-returns-in_ok-send-in-None g c = λ o before p w came events is sound taken so.
-    let q = g.P.Peer.state c.args.peer.now in
+returns-in_ok-send-in-None g c = λ o before start sound h.
     let r = g.P.Peer.state c.send.new.peer in
-    end_served _ c.end.new.self.clean w _ p q r _ came events c.requires.good c.requires.ended sound
-    (ended_as c.args.cutter.now c.end.new.self c.in-Ok.bad _ _ _ _ o came events is c.in-None.is c.in-Ok.ensures.ended taken) so
-    (subst (λ t. HasSent q t r) (search rules) c.in_ok-send-in-None.ensures.ok)
+    let ended = unstopped _ o start.faults c.end.new.faults h.came h.events c.in-Ok.bad c.in-None.is
+    (c.in-Ok.ensures.ended o start.faults h.came h.events h.taken) in
+    end_served h ended c.requires.good c.requires.ended sound
+    (subst (λ t. HasSent (g.P.Peer.state c.args.peer.now) t r) (search rules) c.in_ok-send-in-None.ensures.ok)

@@ -1,17 +1,17 @@
-use Rattle.std.proofs.Common.{◌∙◌, ◌||◌, true, false, ap, subst, rules, take_all}
+use Rattle.std.proofs.Common.{◌∙◌, ◌||◌, true, false, ap, subst, take_all, arith, eq-eqb, ne_eqb, length, ◌-◌}
+use Rattle.std.proofs.lemmas.List.{take_rest, length-drop}
 use Rattle.timer_script.specs.Service.{HasWritten}
-use Rattle.timer_script.proofs.PeerLemmas.{written_none, written_more, written_failed, written_flush, sent_all, still_good, took_none, rest_some, within_more}
+use Rattle.timer_script.proofs.PeerLemmas.{written_none, written_more, written_failed, written_flush, sent_all}
 use Rattle.timer_script.proofs.service.send.Goals as goal
 
 pub loop-written-init : goal.loop-written-init
-loop-written-init g c = record { sent = written_none (g.P.Peer.state c.args.peer.now); good = c.requires; within = search rules }
+loop-written-init g c = record { sent = written_none (g.P.Peer.state c.args.peer.now); good = c.requires }
 
 pub returns-in_default-clause-part : goal.returns-in_default-clause-part
 returns-in_default-clause-part g c =
     let i = c.loop-written.invariant in
     record {
       count = c.loop-written.written;
-      within = i.within;
       written = written_failed _ _ _ _ _ _ i.sent c.in_default.ensures;
       failed = c.in_default.ensures.failed ∙ ap (λ b. b || true) i.good;
     }
@@ -21,10 +21,14 @@ returns-then-n-eq0-clause-part g c =
     let i = c.loop-written.invariant in
     record {
       count = _;
-      within = within_more c.args.text.now c.loop-written.written c.in-Ok.n i.within c.in-Ok.ensures.within;
       written = written_more _ _ _ c.args.text.now c.loop-written.written c.in-Ok.n i.sent c.in-Ok.ensures;
-      failed = took_none _ _ c.in-Ok.n _ i.good c.if-n-eq0.true
-          (rest_some c.args.text.now c.loop-written.written c.loop-written-test.true) c.in-Ok.ensures;
+      failed = simp (
+        i.good,
+        eq-eqb c.in-Ok.n 0 c.if-n-eq0.true,
+        take_rest,
+        length-drop,
+        ne_eqb (length c.args.text.now - c.loop-written.written) 0 (λ e. omega arith),
+      ) at c.in-Ok.ensures.failed;
     }
 
 pub loop-written-preserved : goal.loop-written-preserved
@@ -32,8 +36,7 @@ loop-written-preserved g c =
     let i = c.loop-written.invariant in
     record {
       sent = written_more _ _ _ c.args.text.now c.loop-written.written c.in-Ok.n i.sent c.in-Ok.ensures;
-      good = still_good _ _ c.in-Ok.n _ i.good c.if-n-eq0.false c.in-Ok.ensures;
-      within = within_more c.args.text.now c.loop-written.written c.in-Ok.n i.within c.in-Ok.ensures.within;
+      good = simp (i.good, ne_eqb c.in-Ok.n 0 c.if-n-eq0.false) at c.in-Ok.ensures.failed;
     }
 
 pub returns-in-Ok-flush-clause-ok : goal.returns-in-Ok-flush-clause-ok
@@ -48,7 +51,6 @@ returns-in-Err-clause-part g c =
     let i = c.loop-written.invariant in
     record {
       count = c.loop-written.written;
-      within = i.within;
       written = written_flush _ _ _ _ _ i.sent c.in-Err.ensures;
       failed = c.in-Err.ensures.failed ∙ ap (λ b. b || true) i.good;
     }

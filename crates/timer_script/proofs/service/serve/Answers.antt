@@ -1,20 +1,33 @@
-use Rattle.std.proofs.Common.{◌∙◌, ◌||◌, true, ap, sym, subst, arith, rules}
+use Rattle.std.proofs.Common.{◌≡◌, ◌≤◌, ◌++◌, ◌∙◌, ◌||◌, true, [], length, take, ap, refl, sym, subst, arith, rules, length-append}
+use Rattle.std.proofs.lemmas.List.{length-take}
 use Rattle.std.specs.Io.KnownBytes.{IsAtEnd}
-use Rattle.timer_script.specs.Service.{server_with, HasServed}
+use Rattle.timer_script.specs.Service.{server_with, HasAnsweredSoFar, HasServed}
 use Rattle.timer_script.proofs.Results.{passed_on}
-use Rattle.timer_script.proofs.ServiceLemmas.{served_nothing, often_none, often_read, often_more, often_failed, often_ended}
+use Rattle.timer_script.proofs.CutterLemmas.{taken_none}
+use Rattle.timer_script.proofs.ServicePieces.{so_none, so_more}
+use Rattle.timer_script.proofs.ServiceLemmas.{served_nothing, read_failed, turn_read, piece_lost, piece_stopped, bad_at, unstopped}
 use Rattle.timer_script.proofs.service.serve.Goals as goal
 
 -- nothing was read or written
 pub returns-in_default : goal.returns-in_default
-returns-in_default g c = served_nothing (server_with c.args.on_bad g.D.Decorator.adds c.args.facility.state g.F.Write.contents) (g.P.Peer.state c.args.peer.now) c.args.faults.now c.requires.good
+returns-in_default g c = served_nothing (server_with c.args.on_bad g.D.Decorator.adds c.args.facility.state g.F.Write.contents)
+    (g.P.Peer.state c.args.peer.now) c.args.faults.now c.requires.good
 
 pub loop-turned-init : goal.loop-turned-init
 loop-turned-init g c =
-    let e = c.new-cutter.ensures in record {
-      on_bad = e.on_bad;
-      often = often_none _ _ _ c.new-cutter.result c.open-session.result.player e.held e.number e.clean
-          c.open-session.ensures;
+    let e = c.new-cutter.ensures in
+    let o = c.args.on_bad in
+    let A = g.D.Decorator.adds in
+    let before = c.args.facility.state in
+    let p = g.P.Peer.state c.args.peer.now in
+    record {
+      so = record {
+        came = [];
+        events = [];
+        taken = taken_none o g.F.Write.contents c.args.faults.now c.new-cutter.result e.on_bad e.held e.number e.clean;
+        so_far = subst (HasAnsweredSoFar o A before [] [] p p) (sym c.open-session.ensures) (so_none o A before p);
+      };
+      many = omega arith;
       good = c.requires.good;
       room = c.in-Ok.ensures.len;
     }
@@ -23,53 +36,88 @@ pub returns-in_default-read : goal.returns-in_default-read
 returns-in_default-read g c =
     let i = c.loop-turned.invariant in
     let e = c.in_default-read.ensures in
-    often_failed _ c.loop-turned.cutter _ _ _ _ _ c.loop-turned.session.player c.loop-turned.turned c.in_default-read.field-0
-    c.read.new.piece i.on_bad (e.failed ∙ ap (λ b. b || true) i.good.reading) (e.writing ∙ i.good.writing) i.often e
+    read_failed (g.P.Peer.state c.read.new.self) _ i.so i.room (search rules) (e.failed ∙ ap (λ b. b || true) i.good.reading)
+    (e.writing ∙ i.good.writing) e
 
-pub returns-in_err-serve_piece : goal.returns-in_err-serve_piece
-returns-in_err-serve_piece g c =
+pub returns-in_default-take_in : goal.returns-in_default-take_in
+returns-in_default-take_in g c =
     let i = c.loop-turned.invariant in
-    let h = i.often in
-    let read = often_read _ c.loop-turned.cutter _ _ _ _ _ _ _ c.in-Ok-read.n _ c.read.new.piece _ c.deref.result.now i.on_bad i.room
-    (search rules) c.deref.ensures.value h c.in-Ok-read.ensures in
-    subst (HasServed _ _ _) (sym (passed_on c.from_residual.result c.in_err-serve_piece.field-0.0 c.from_residual.ensures.1))
-    (c.in_err-serve_piece.ensures.served c.args.on_bad c.args.facility.state (g.P.Peer.state c.args.peer.now) c.args.faults.now h.came h.events
-    i.on_bad h.taken read)
+    let h = i.so in
+    let read = turn_read _ _ c.deref.result.now i.room (search rules) c.deref.ensures.value h c.in-Ok-read.ensures in
+    piece_lost _ (take c.in-Ok-read.n c.deref.result.now)
+    (record { peer = g.P.Peer.state c.read.new.self; faults = c.take_in.new.faults }) h refl read c.in_default-take_in.ensures.unreported
+    (search rules)
+
+pub returns-in_err-serve_events : goal.returns-in_err-serve_events
+returns-in_err-serve_events g c =
+    let i = c.loop-turned.invariant in
+    let h = i.so in
+    let read = turn_read _ _ c.deref.result.now i.room (search rules) c.deref.ensures.value h c.in-Ok-read.ensures in
+    let taken = c.in-Ok-take_in.ensures.taken c.args.on_bad c.args.faults.now h.came h.events h.taken in
+    subst (HasServed _ _ _) (sym (passed_on c.from_residual.result _ c.from_residual.ensures.1))
+    (piece_stopped h c.in_err-serve_events.field-0.0 c.take_in.new.self c.in-Ok-take_in.bad
+    (record { peer = g.P.Peer.state c.serve_events.new.peer; faults = c.take_in.new.faults }) c.deref-in-loop-turned.result.now _
+    c.deref-in-loop-turned.ensures.value read taken c.in_err-serve_events.ensures.fault)
+
+pub returns-in-Some : goal.returns-in-Some
+returns-in-Some g c =
+    let i = c.loop-turned.invariant in
+    let h = i.so in
+    let read = turn_read _ _ c.deref.result.now i.room (search rules) c.deref.ensures.value h c.in-Ok-read.ensures in
+    let taken = c.in-Ok-take_in.ensures.taken c.args.on_bad c.args.faults.now h.came h.events h.taken in
+    bad_at h c.in-Ok-take_in.bad c.in-Some.line
+    (record { peer = g.P.Peer.state c.serve_events.new.peer; faults = c.take_in.new.faults }) _ c.in-Some.is taken
+    c.in_ok-serve_events.ensures.good (so_more c.deref-in-loop-turned.ensures.value read c.in_ok-serve_events.ensures.served)
 
 pub end_stream-requires-clause-ended : goal.end_stream-requires-clause-ended
-end_stream-requires-clause-ended g c =
-    subst IsAtEnd (sym c.in_ok-serve_piece.ensures.unread) (c.in-Ok-read.ensures.bytes.1 c.if-n-eq0.true (search rules))
+end_stream-requires-clause-ended g c = subst IsAtEnd (sym c.in_ok-serve_events.ensures.served.written.remaining)
+    (c.in-Ok-read.ensures.bytes.1 c.if-n-eq0.true (search rules))
 
 pub returns-then-n-eq0 : goal.returns-then-n-eq0
 returns-then-n-eq0 g c =
     let i = c.loop-turned.invariant in
-    let before = c.args.facility.state in
-    let p = g.P.Peer.state c.args.peer.now in
-    let w = c.args.faults.now in
-    let h = i.often in
-    let read = often_read _ c.loop-turned.cutter _ _ _ _ _ _ _ c.in-Ok-read.n _ c.read.new.piece _ c.deref.result.now i.on_bad i.room
-    (search rules) c.deref.ensures.value h c.in-Ok-read.ensures in
-    let served = c.in_ok-serve_piece.ensures.served c.args.on_bad before p w h.came h.events i.on_bad h.taken read in
-    c.end_stream.ensures c.args.on_bad before p w _ served.0 (c.serve_piece.ensures.kept ∙ i.on_bad) c.now-now.ensures.sound served.1 served.2
+    let h = i.so in
+    let read = turn_read _ _ c.deref.result.now i.room (search rules) c.deref.ensures.value h c.in-Ok-read.ensures in
+    let taken = c.in-Ok-take_in.ensures.taken c.args.on_bad c.args.faults.now h.came h.events h.taken in
+    c.end_stream.ensures c.args.on_bad c.args.facility.state (record { peer = g.P.Peer.state c.args.peer.now; faults = c.args.faults.now })
+    c.now-now.ensures.sound (record {
+      came = h.came ++ take c.in-Ok-read.n c.deref.result.now;
+      events = h.events ++ c.take_in.new.self.events.items;
+      taken = unstopped _ c.args.on_bad _ _ _ _ c.in-Ok-take_in.bad (search rules) taken;
+      so_far = so_more c.deref-in-loop-turned.ensures.value read c.in_ok-serve_events.ensures.served;
+    })
 
 pub loop-turned-preserved : goal.loop-turned-preserved
 loop-turned-preserved g c =
     let i = c.loop-turned.invariant in
-    let h = i.often in
-    let read = often_read _ c.loop-turned.cutter _ _ _ _ _ _ _ c.in-Ok-read.n _ c.read.new.piece _ c.deref.result.now i.on_bad i.room
-    (search rules) c.deref.ensures.value h c.in-Ok-read.ensures in
-    let served = c.in_ok-serve_piece.ensures.served c.args.on_bad c.args.facility.state (g.P.Peer.state c.args.peer.now) c.args.faults.now
-    h.came h.events i.on_bad h.taken read in
+    let h = i.so in
+    let read = turn_read _ _ c.deref.result.now i.room (search rules) c.deref.ensures.value h c.in-Ok-read.ensures in
+    let taken = c.in-Ok-take_in.ensures.taken c.args.on_bad c.args.faults.now h.came h.events h.taken in
+    let n = c.in-Ok-read.n in
+    let now = c.deref.result.now in
+    let within : n ≤ length now = search rules in
+    let some : n ≡ 0 → ⊥ = c.if-n-eq0.false in
+    let many = i.many in
     record {
-      on_bad = c.serve_piece.ensures.kept ∙ i.on_bad;
-      often = often_more _ c.serve_piece.new.cutter _ _ _ _ c.serve_piece.new.session.player _ c.in-Ok-read.n h.came
-          c.deref.result.now h.many (search rules) c.if-n-eq0.false served;
-      good = c.in_ok-serve_piece.ensures.good;
+      so = record {
+        came = h.came ++ take n now;
+        events = h.events ++ c.take_in.new.self.events.items;
+        taken = unstopped _ c.args.on_bad _ _ _ _ c.in-Ok-take_in.bad (search rules) taken;
+        so_far = so_more c.deref-in-loop-turned.ensures.value read c.in_ok-serve_events.ensures.served;
+      };
+      many = omega (arith, length-append h.came (take n now), length-take n now, many, within, some);
+      good = c.in_ok-serve_events.ensures.good;
       room = search rules;
     }
 
+-- more bytes came than are counted
 pub returns : goal.returns
 returns g c =
-    let i = c.loop-turned.invariant in
-    let all = c.loop-turned-test.false in
-    often_ended _ c.loop-turned.cutter _ _ _ _ c.loop-turned.session.player c.loop-turned.turned i.on_bad (omega arith) i.good i.often
+    let h = c.loop-turned.invariant.so in
+    let many = c.loop-turned.invariant.many in
+    let all = c.loop-turned-test.false in (
+      c.loop-turned.session.player,
+      record { came = h.came; events = h.events; passed = h.taken.passed; so_far = h.so_far },
+      omega arith,
+      c.loop-turned.invariant.good,
+    )

@@ -1,15 +1,15 @@
-use Rattle.std.proofs.Common.{◌≡◌, vec_len}
+use Rattle.std.proofs.Common.{◌≡◌, ◌≤◌, length, vec_len}
 use Rattle.timer_script.specs.declared.service.TheConstants.{PIECE}
-use Rattle.timer_script.specs.Service.{AreGood, server_with}
-use Rattle.timer_script.proofs.ServiceLemmas.{HasServedOften}
+use Rattle.timer_script.specs.Service.{AreGood, HasServedSoFar, server_with}
 use Rattle.timer_script.proofs.service.serve.Given as goal
 
--- each complete line that came and passed is answered
+-- each complete line that came and passed is answered, and each turn brought some bytes
 abbrev pub invariant-loop-turned : goal.invariant-loop-turned
 invariant-loop-turned g l = record {
-  on_bad : l.cutter.on_bad ≡ l.fn.on_bad;
-  often : HasServedOften (server_with l.fn.on_bad g.D.Decorator.adds l.fn.facility.state g.F.Write.contents) l.cutter
-      l.fn.faults l.faults (g.P.Peer.state l.fn.peer) (g.P.Peer.state l.peer) l.session.player l.turned;
+  so : HasServedSoFar (server_with l.fn.on_bad g.D.Decorator.adds l.fn.facility.state g.F.Write.contents) l.cutter
+      (record { peer = g.P.Peer.state l.fn.peer; faults = l.fn.faults }) (record { peer = g.P.Peer.state l.peer; faults = l.faults })
+      l.session.player;
+  many : l.turned ≤ length so.came;
   good : AreGood (g.P.Peer.state l.peer);
   room : vec_len l.piece ≡ PIECE;
 }

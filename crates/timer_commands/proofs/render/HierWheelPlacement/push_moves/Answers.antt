@@ -6,13 +6,11 @@ use Rattle.timer_commands.proofs.render.HierWheelPlacement.push_moves.Goals.{the
 
 pub loop-list-preserved : goal.loop-list-preserved
 loop-list-preserved c =
-    let before = c.loop-list.invariant.indented in
-    record {
-      indented = elim c.if-not-is_empty.branch [
-        | then-not-is_empty+in_ok-push_number+in_ok-push_move w ↦
-            let at = begun _ _ (codes " moved at ") _ refl w.in_ok-push_number.ensures.text in
-            subst (HasGrownByIndented c.args.text.now.items) (search rules)
-            (grown_join _ _ w.push_move.new.text.items before (line_joined _ _ w.push_move.new.text.items at w.in_ok-push_move.ensures.ended))
-        | else-not-is_empty w ↦ subst (HasGrownByIndented c.args.text.now.items) (search rules) before
-      ];
-    }
+    let before = c.loop-list.invariant in
+    elim c.if-not-is_empty.branch [
+      | then-not-is_empty+in_ok-push_number+in_ok-push_move w ↦
+          let at = begun _ _ (codes " moved at ") _ refl w.in_ok-push_number.ensures.text in
+          subst (HasGrownByIndented c.args.text.now.items) (search rules)
+          (grown_join _ _ w.push_move.new.text.items before (line_joined _ _ w.push_move.new.text.items at w.in_ok-push_move.ensures.ended))
+      | else-not-is_empty w ↦ subst (HasGrownByIndented c.args.text.now.items) (search rules) before
+    ]

@@ -3,6 +3,4 @@ use Rattle.timer_commands.proofs.render.PlainWheelPlacement.push_placement.Given
 
 -- the line has begun
 abbrev pub invariant-loop-timer : goal.invariant-loop-timer
-invariant-loop-timer l = record {
-  front : HasGrownByFront l.fn.text.items l.text.items;
-}
+invariant-loop-timer l = HasGrownByFront l.fn.text.items l.text.items

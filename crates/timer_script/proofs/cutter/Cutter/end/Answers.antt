@@ -5,22 +5,17 @@ use Rattle.timer_script.proofs.CutterLemmas.{ended_none, ended_stopped, ended_ba
 use Rattle.timer_script.proofs.cutter.Cutter.end.Goals as goal
 
 pub returns-then-is_empty-clause-ended : goal.returns-then-is_empty-clause-ended
-returns-then-is_empty-clause-ended g c = λ writer came events h.
-    ended_none _ _ _ _ _ _ h (search rules)
+returns-then-is_empty-clause-ended g c = λ o writer came events h. ended_none h (search rules)
 
 pub returns-in-Stop-clause-ended : goal.returns-in-Stop-clause-ended
-returns-in-Stop-clause-ended g c = λ writer came events h.
-    ended_stopped _ _ _ _ _ _ h (search rules) c.in-Stop.is
+returns-in-Stop-clause-ended g c = λ o writer came events h. ended_stopped h (search rules) c.in-Stop.is
 
 pub returns-in_ok-push_complaint-in-Report-clause-ended : goal.returns-in_ok-push_complaint-in-Report-clause-ended
-returns-in_ok-push_complaint-in-Report-clause-ended g c = λ writer came events h.
-    let C = g.F.Write.contents in
+returns-in_ok-push_complaint-in-Report-clause-ended g c = λ o writer came events h.
     let self = c.args.self.now in
-    let w = c.args.faults.now in
     let v = c.write_report.new.writer in
     let fault = c.fault_of_bad-fault.result in
-    let told = c.push_complaint.new.reports.items in
-    ended_bad C writer w v self fault came events told h (search rules) c.in-Report.is
+    ended_bad v fault c.push_complaint.new.reports.items h (search rules) c.in-Report.is
     (subst (IsFaultOf fault) c.deref.ensures.value c.fault_of_bad-fault.ensures)
     (c.in_ok-push_complaint-in-Report.ensures ∙ ap (λ t. t ++ complaint_line (self.number, fault)) c.clear.ensures.items)
-    (subst (λ x. HasReported C w v x) c.deref-in-Report.ensures.value c.write_report.ensures.reported)
+    (subst (λ x. HasReported g.F.Write.contents c.args.faults.now v x) c.deref-in-Report.ensures.value c.write_report.ensures.reported)
