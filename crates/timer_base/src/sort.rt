@@ -1,7 +1,7 @@
 //! Sorts timers, for every wheel that lists them.
 //!
-//! A wheel copies its timers bucket by bucket and then sorts them. Serials are distinct, so the order
-//! is unique, and it doesn't matter in which order the buckets were copied.
+//! A wheel copies its timers in the order in which it keeps them, and then sorts them. Serials are distinct, so
+//! the order is unique.
 ghost use Rattle.std.specs.Prelude.{◌≡◌, vec_capacity};
 ghost use Rattle.timer_base.specs.Order.{AreDistinct, in_order, itself};
 

@@ -1,8 +1,8 @@
-//! The functions that C calls. Each checks that `t` is open, then forwards the call.
+//! The functions that C calls. Each that takes a struct checks whether it is open, then forwards the call.
 //!
-//! The contracts have the same parts: what the call did if it returns `OK`; the first reason that holds
+//! Most contracts have the same parts: what the call did if it returns `OK`; the first reason that holds
 //! if it returns another status; that nothing changed then; and that nothing but the state of the timers
-//! ever changes in what C holds.
+//! changes in what C holds. `timers_new` and `timers_free` change the struct itself.
 ghost use Rattle.std.specs.Prelude.{◌≡◌, ◌*◌, ◌<◌, ◌≤◌, ◌⊎◌, ◌↔◌, ◌++◌, true, false, Some, None, [], map, take, drop, length, min, IsTrue};
 ghost use Rattle.timer_base.specs.Pending.{timers_of};
 ghost use Rattle.timer_base.specs.WheelState.{first_due, after_reserve, after_expiry};
@@ -414,8 +414,8 @@ pub extern "C" fn timers_next(t: &mut CTimers) -> u64
     }
 }
 
-/// The same as `timers_next`. The wheel keeps what it found, so that the next call needs no walk until the last
-/// timer with that deadline is gone. C sees no other change.
+/// The same as `timers_next`. The wheel keeps what it found, so that the next call needs no walk until the first
+/// deadline of the bucket changes. C sees no other change.
 #[unsafe(no_mangle)]
 pub extern "C" fn timers_find_next(t: &mut CTimers) -> u64
     ensures deadline { IsOpen t.old → IsNextDeadline result t.old.slot.state.wheel }

@@ -3,7 +3,7 @@
 //! C keeps a `struct timers` (`CTimers`), which owns the timers on the heap. A call requires nothing of C but
 //! the rules of that header; if it can't be done it returns a status that says why, and nothing changes.
 //!
-//!     exports      the functions that C calls: each checks that the struct is open, then forwards the call
+//!     exports      the functions that C calls: each checks the struct, if it takes one, and then forwards the call
 //!     calls        the calls, with C's statuses and structs
 //!     wheel_maker  a wheel by C's number for its table
 //!     c_timers     `struct timers`: the slot, and the last serial while the slot is empty

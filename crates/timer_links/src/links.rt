@@ -238,7 +238,7 @@ impl Links {
     /// allocation failed, or the number of lists plus the key would be 4,294,967,296, which is more
     /// than a link of 32 bits can name. There is none while fewer nodes are here than `reserve` made room
     /// for. Which unused key the node gets is a free choice.
-    // Inlined with all that it calls: a key that comes back through memory costs a start up to a half.
+    // Inlined, but for the growth: a key that comes back through memory costs a start up to a half.
     #[inline(always)]
     pub fn push_back(&mut self, list: usize, node: Node) -> Result<usize, (Node, OutOfMemory)>
         requires { list < length self.old.lists }

@@ -27,7 +27,8 @@
 //! In a ring of no nodes the root is its own neighbour on both sides. The links at the index of a key
 //! that is not in use mean nothing.
 //!
-//! Memory may be reserved for more indexes than there are. One is added when its key is used for the first time.
+//! Memory may be reserved for more indexes than there are. They are added before their keys are used, up to 64 at a
+//! time.
 ghost use Rattle.std.specs.Prelude.{◌<◌, ◌≤◌, ◌≡◌, ◌+◌, max, IsOk, OnOk, OnErr, length};
 ghost use Rattle.std.specs.Vec.{vec_capacity};
 ghost use Rattle.timer_links.specs.declared.ring.TheConstants.{INDEXES};

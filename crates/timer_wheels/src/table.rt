@@ -8,7 +8,7 @@
 //!     Clock   990915 = 11 days 11:15:15                        digits  11 11 15 15
 //!
 //! How a digit is found is each table's own matter. All that depends on it is in the table's file (`wide`, `clock`),
-//! whose functions have the names of those here, and in its row of the two macros.
+//! whose public functions are called by those here, and in its row of the two macros.
 ghost use Rattle.std.specs.Prelude.{◌≡◌, ◌==◌, ◌<◌, ◌≤◌, ◌/◌, ◌%◌};
 ghost use Rattle.timer_base.specs.declared.limits.TheConstants.{LAST};
 ghost use Rattle.timer_wheels.specs.declared.table.TheConstants.{MOST_BUCKETS};
