@@ -9,8 +9,8 @@ bench/desk_ring.cpp what the owner of the rings does. Each row is one number of 
 turns. Rates are medians of the repeats, with the least and the greatest in parentheses. Percentiles are medians too, and
 `most` is the most of all repeats.
 
---limit is for all runs together, 170 seconds by default. Rows that are not reached by then are left out, and a line says how
-many; a run that is not done after 30 seconds ends the measurement. Status 1: a run failed; 2: wrong arguments.
+--limit is for all runs together, 170 seconds by default. What is not reached by then is left out, and a line says how
+many rounds that is; a run that is not done after 30 seconds ends the measurement. Status 1: a run failed; 2: wrong arguments.
 """
 import argparse
 import os

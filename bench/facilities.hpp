@@ -1,4 +1,4 @@
-// The facilities that scale.cpp and tail.cpp measure, each behind the same calls. Owner i has one timer at
+// The facilities that scale.cpp, tail.cpp and next.cpp measure, each behind the same calls. Owner i has one timer at
 // most.
 //   start(i, interval); stop(i); restart(i, interval); tick(); drain(): how many have expired; pass(k): k
 //   ticks, with all that expires, and how many these are

@@ -3,9 +3,9 @@
 
     lines.py PROGRAM [--only desk,flush] [--repeats N]
 
-PROGRAM is that of crates/timer_desk_bench. The peers are the same facility without a desk, and C++ rings with one
-store for all words or with one for each (build/flush_ref). Programs take turns: each repeat gives one ratio, and a row has
-their median, the least and the greatest.
+PROGRAM is that of crates/timer_desk_bench. The peers are the same facility without a desk, and a desk and
+rings in C++ (build/desk_ref). Programs take turns: each repeat gives one ratio, and a row has their median, the least and
+the greatest.
 
 Status 1: an output differs from the peer's; 2: wrong arguments, or a program is not built.
 """
@@ -17,7 +17,7 @@ import subprocess
 import figures
 from figures import fail, number, spread
 
-FLUSH_REF = os.path.join(figures.HERE, "build", "flush_ref")
+DESK_REF = os.path.join(figures.HERE, "build", "desk_ref")
 ROUND = 65536  # requests in a round at a desk
 ROUNDS, FIRST_ROUNDS = 20, 5
 RUNS = [1, 8, 16, 64]  # words in an outbox that is flushed
@@ -46,18 +46,23 @@ def row(title, mine, peer, count):
 def desk(work, repeats):
     """Requests and words at a desk, by processor time, less that of the first rounds."""
     for clients in (1, 8, 64):
-        took, outputs = {"calls": [], "desk": [], "facility": []}, set()
+        took = {(program, mode): [] for program in (work, DESK_REF) for mode in ("calls", "desk", "facility")}
+        outputs = set()
         for _ in range(repeats):
-            for mode, times in took.items():
-                base = run(work, mode, clients, FIRST_ROUNDS)[0]
-                used, out = run(work, mode, clients, FIRST_ROUNDS + ROUNDS)
+            for (program, mode), times in took.items():
+                base = run(program, mode, clients, FIRST_ROUNDS)[0]
+                used, out = run(program, mode, clients, FIRST_ROUNDS + ROUNDS)
                 times.append(max(used - base, 1e-9))
                 outputs.add(out.split(b" ", 1)[1])
         if len(outputs) != 1:
             fail(f"desk of {clients}: outputs differ: {outputs}")
+        count = 2 * ROUNDS * (ROUND // clients * clients)
         for mode, name in (("calls", "single calls"), ("desk", "turns")):
             title = f"desk, {clients} client{'s' if clients > 1 else ''}, {name}"
-            yield row(title, took[mode], took["facility"], 2 * ROUNDS * (ROUND // clients * clients))
+            yield row(title, took[work, mode], took[work, "facility"], count)
+            yield row(f"{title}, against C++", took[work, mode], took[DESK_REF, mode], count)
+        yield row(f"facility alone, {clients} client{'s' if clients > 1 else ''}, against C++",
+                  took[work, "facility"], took[DESK_REF, "facility"], count)
 
 
 def flush(work, repeats):
@@ -65,17 +70,15 @@ def flush(work, repeats):
     for words in RUNS:
         rounds = FLUSHED // (OUTBOXES * words)
         count = OUTBOXES * words * rounds
-        took = {"flush": [], "batch": [], "item": []}
+        took = {work: [], DESK_REF: []}
         for _ in range(repeats):
-            for mode, times in took.items():
-                _, out = run(work if mode == "flush" else FLUSH_REF, mode, words, rounds)
+            for program, times in took.items():
+                _, out = run(program, "flush", words, rounds)
                 text, ns = out.decode().rsplit(" ns ", 1)
-                if text != f"{mode} served {count} words {count}":
+                if text != f"flush served {count} words {count}":
                     fail(f"flush of {words}: {out!r}")
                 times.append(max(int(ns), 1) / 1e9)
-        title = f"flush, {words} word{'s' if words > 1 else ''}"
-        yield row(title, took["flush"], took["batch"], count)
-        yield row(f"{title}, against a store a word", took["flush"], took["item"], count)
+        yield row(f"flush, {words} word{'s' if words > 1 else ''}", took[work], took[DESK_REF], count)
 
 
 def main():
@@ -85,7 +88,7 @@ def main():
     parser.add_argument("--only", default=",".join(parts))
     parser.add_argument("--repeats", type=int, default=5)
     options = parser.parse_args()
-    for program in (options.program, FLUSH_REF):
+    for program in (options.program, DESK_REF):
         if not os.access(program, os.X_OK):
             fail(f"{program} is not there", 2)
     rows = [made for name in options.only.split(",") for made in parts[name](options.program, options.repeats)]

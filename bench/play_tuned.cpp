@@ -1,10 +1,11 @@
-// The program `timers play` once more, in C++ over the hand-tuned hierarchy of wheels, and tuned as a process:
-// a stronger peer than play_ref.cpp. Buffers get their size once, each line is played as soon as it is parsed,
-// numbers are written two digits at a time straight into the output, and room is made once for each line of it.
+// The program `timers play` again, in C++ over the hand-tuned hierarchy of wheels, and tuned as a process: the peer of
+// the whole program. Buffers get their size once, each line is played as soon as it is parsed, numbers are written two
+// digits at a time straight into the output, and room is made once for each line of it.
 //
 // It keeps the promise of `timers play`: the whole script is read, parsed and played before a byte is written;
-// a bad line, an input that is too long or a lack of memory writes nothing. Options: --clients N, --capacity N,
-// --first-tick T; others are passed over.
+// a bad line, an input that is too long or a lack of memory writes nothing. With --line it answers the lines of each
+// read before it reads on, as `timers serve` does. Options: --clients N, --capacity N, --first-tick T; others are
+// passed over.
 #include "wheels.hpp"
 #include "formats.h"
 #include <algorithm>
@@ -14,7 +15,8 @@
 #include <new>
 #include <unistd.h>
 
-static const size_t LINE = 128;      // no line of output is longer
+static const size_t LINE = 128;      // no line of input or output is longer
+static const size_t PIECE = 65536;   // what is read of a stream at once
 
 static int fail(const char *text) {
   fputs(text, stderr);
@@ -205,34 +207,35 @@ struct Reader {
   }
 };
 
-static int play(const char *script, size_t length, Facility &facility) {
-  out.room(4 * length + 4096);  // pages that are not written cost nothing
-  Reader reader{script};
-  for (size_t line = 1; reader.at < script + length; ++line)
-    if (!reader.play(facility)) {
-      fprintf(stderr, "bad line %zu\n", line);
-      return 1;
-    }
-  facility.end();
-  for (const char *from = out.base; from < out.at;) {
-    ssize_t count = write(1, from, (size_t)(out.at - from));
-    if (count <= 0) return fail("write failed\n");
-    from += count;
-  }
-  return 0;
+// Plays the lines up to `end`, or up to the first bad one, and returns whether all are good. Counts those that it plays.
+static bool play_lines(Reader &reader, const char *end, Facility &facility, size_t &played) {
+  for (; reader.at < end; ++played)
+    if (!reader.play(facility)) return false;
+  return true;
 }
 
-int main(int argc, char **argv) {
-  uint64_t clients = 64, capacity = 1024, first = 0;
-  for (int i = 1; i < argc; ++i) {
-    const char *value = i + 1 < argc ? argv[i + 1] : "0";
-    if (!strcmp(argv[i], "--clients")) clients = strtoull(value, nullptr, 10);
-    if (!strcmp(argv[i], "--capacity")) capacity = strtoull(value, nullptr, 10);
-    if (!strcmp(argv[i], "--first-tick")) first = strtoull(value, nullptr, 10);
+static int bad_line(size_t number) {
+  fprintf(stderr, "bad line %zu\n", number);
+  return 1;
+}
+
+static bool write_out() {
+  for (const char *from = out.base; from < out.at;) {
+    ssize_t count = write(1, from, (size_t)(out.at - from));
+    if (count <= 0) return false;
+    from += count;
   }
-  char *script = (char *)malloc(MAX_SCRIPT + 64);
-  if (!script) return fail("out of memory\n");
-  size_t length = 0;
+  out.at = out.base;
+  return true;
+}
+
+static int end(Facility &facility) {
+  facility.end();
+  return write_out() ? 0 : fail("write failed\n");
+}
+
+static int play_whole(char *script, Facility &facility) {
+  size_t length = 0, played = 0;
   for (ssize_t count; length <= MAX_SCRIPT; length += (size_t)count) {
     count = read(0, script + length, MAX_SCRIPT + 1 - length);
     if (count < 0) return fail("read failed\n");
@@ -240,10 +243,45 @@ int main(int argc, char **argv) {
   }
   if (length > MAX_SCRIPT) return fail("too long\n");
   memset(script + length, 0, 16);
+  out.room(4 * length + 4096);  // pages that are not written cost nothing
+  Reader reader{script};
+  return play_lines(reader, script + length, facility, played) ? end(facility) : bad_line(played + 1);
+}
+
+static int play_stream(char *text, Facility &facility) {
+  size_t held = 0, played = 0;
+  for (;;) {
+    ssize_t count = read(0, text + held, PIECE);
+    if (count < 0) return fail("read failed\n");
+    if (count == 0) break;
+    held += (size_t)count;
+    size_t whole = held;
+    while (whole && text[whole - 1] != '\n') --whole;
+    Reader reader{text};
+    bool is_good = play_lines(reader, text + whole, facility, played);
+    if (!write_out()) return fail("write failed\n");
+    if (!is_good || held - whole > LINE) return bad_line(played + 1);
+    memmove(text, text + whole, held -= whole);
+  }
+  return held ? bad_line(played + 1) : end(facility);
+}
+
+int main(int argc, char **argv) {
+  uint64_t clients = 64, capacity = 1024, first = 0;
+  bool is_stream = false;
+  for (int i = 1; i < argc; ++i) {
+    const char *value = i + 1 < argc ? argv[i + 1] : "0";
+    if (!strcmp(argv[i], "--line")) is_stream = true;
+    if (!strcmp(argv[i], "--clients")) clients = strtoull(value, nullptr, 10);
+    if (!strcmp(argv[i], "--capacity")) capacity = strtoull(value, nullptr, 10);
+    if (!strcmp(argv[i], "--first-tick")) first = strtoull(value, nullptr, 10);
+  }
+  char *script = (char *)malloc(MAX_SCRIPT + 64);
+  if (!script) return fail("out of memory\n");
   try {
     Facility facility(clients, capacity, first);
     // The process ends here, and nothing is freed one by one.
-    _exit(play(script, length, facility));
+    _exit(is_stream ? play_stream(script, facility) : play_whole(script, facility));
   } catch (const std::bad_alloc &) {
     return fail("out of memory\n");
   }

@@ -3,9 +3,8 @@
 
     programs.py PROGRAM [--runs N] [--only play,jumps,serve,threads]
 
-The peers are build/play_ref, the same with --reserve, build/play_tuned and build/threads_ref. A script comes from a
-file, and the output has to be the same bytes as each peer's. The last row of `serve` is 20,000 requests down a pipe, each
-after the answer to the one before.
+The peers are build/play_tuned and build/threads_ref. A script comes from a file, and the output has to be the same bytes
+as the peer's. The last row of `serve` is 20,000 requests down a pipe, each after the answer to the one before.
 
 Status 1: an output differs, or a program failed; 2: hyperfine or a program is not there.
 """
@@ -24,8 +23,7 @@ from figures import fail, number, spread
 
 BUILD = os.path.join(figures.HERE, "build")
 OPTIONS = ["--capacity", "1048576"]
-REF, TUNED, THREADS = (os.path.join(BUILD, name) for name in ("play_ref", "play_tuned", "threads_ref"))
-PEERS = {"play_ref": [REF], "play_ref --reserve": [REF, "--reserve"], "play_tuned": [TUNED]}
+TUNED, THREADS = (os.path.join(BUILD, name) for name in ("play_tuned", "threads_ref"))
 REQUESTS = 20_000
 MASK = 2**64 - 1
 
@@ -129,13 +127,11 @@ def ratios(times):
     return [number(mine / other) for other in others]
 
 
-def play(program, runs, schemes, scripts, peers):
+def play(program, runs, schemes, scripts):
     for scheme, words in schemes.items():
         for title, script in scripts.items():
-            commands = [[program, "play", "--scheme", *words, *OPTIONS], *([*peer, *OPTIONS] for peer in peers.values())]
-            times = timed(commands, script, runs)
-            missing = [""] * (len(PEERS) - len(peers))
-            yield [title, f"play, {scheme}", *map(spread, times), *missing, *ratios(times), *missing]
+            times = timed([[program, "play", "--scheme", *words, *OPTIONS], [TUNED, *OPTIONS]], script, runs)
+            yield [title, f"play, {scheme}", *map(spread, times), *ratios(times)]
 
 
 def one_by_one(command, lines):
@@ -160,14 +156,14 @@ def serve(program, runs):
         yield [title, *map(spread, times), "timers play", *ratios(times)]
     lines = (line.encode() for line in mixed() if not line.startswith("tick"))
     given = [next(lines) for _ in range(REQUESTS)]
-    commands, times = [[program, "serve", *OPTIONS], [REF, "--line", *OPTIONS]], ([], [])
+    commands, times = [[program, "serve", *OPTIONS], [TUNED, "--line", *OPTIONS]], ([], [])
     for _ in range(runs):
         ended = [one_by_one(command, given) for command in commands]
         if ended[0][1] != ended[1][1]:
             fail("one by one: outputs differ")
         for of, (elapsed, _) in zip(times, ended):
             of.append(elapsed)
-    yield [f"{REQUESTS:,} starts and stops down a pipe, one by one", *map(spread, times), "play_ref --line", *ratios(times)]
+    yield [f"{REQUESTS:,} starts and stops down a pipe, one by one", *map(spread, times), "play_tuned --line", *ratios(times)]
 
 
 def threads(program, runs):
@@ -187,16 +183,16 @@ def main():
     parser.add_argument("--only", default="play,jumps,serve,threads")
     options = parser.parse_args()
     program, parts = os.path.abspath(options.program), options.only.split(",")
-    for needed in ("hyperfine", program, REF, TUNED, THREADS):
+    for needed in ("hyperfine", program, TUNED, THREADS):
         if not shutil.which(needed):
             fail(f"{needed} is not there", 2)
     rows = []
     if "play" in parts:
-        rows += play(program, options.runs, {"hierarchy": ["hier"]}, SCRIPTS, PEERS)
+        rows += play(program, options.runs, {"hierarchy": ["hier"]}, SCRIPTS)
     if "jumps" in parts:
-        rows += play(program, options.runs, SCHEMES, JUMPS, {"play_ref": [REF]})
+        rows += play(program, options.runs, SCHEMES, JUMPS)
     if rows:
-        figures.write("programs", ["script", "command", "timers", *PEERS, *(f"to {peer}" for peer in PEERS)], rows)
+        figures.write("programs", ["script", "command", "timers", "play_tuned", "to play_tuned"], rows)
     if "serve" in parts:
         figures.write("serve", ["stream", "serve", "peer", "which peer", "ratio"], serve(program, options.runs))
     if "threads" in parts:

@@ -155,7 +155,7 @@ inline Workload expire_log(uint64_t starts, unsigned bits, unsigned jump_bits, S
   return w;
 }
 
-// About n timers are pending all the time: 64 starts a tick, of intervals up to 2 n / 64, and all expire. It
+// About n timers are pending all the time: 64 starts a tick, of intervals up to 2 n / 64, and none is stopped. It
 // begins with n timers that have as long to go as the pending ones of such a stream. Owners are no more than
 // numbers here.
 inline Workload steady(uint64_t n, uint64_t starts, std::string name) {
