@@ -15,7 +15,9 @@
 # make bench-next  measures turns of an event loop that asks for its next deadline (bench/build/results)
 # make bench-desk  measures client threads over a desk, over C++ rings and around a mutex (bench/build/results)
 # make ports       libuv, nginx and lwIP on these timers: their tests, traces, memory, instructions (ports/README.md)
-# make clean       removes what was built
+# make docs        makes docs/pages/plays.js and moving.svg from the scripts of examples/ and docs/formats.md, and counts
+#                  lines for docs/proofs.md
+# make clean       removes what make built
 #
 # CC is the C compiler, by default cc: CC=aarch64-linux-gnu-gcc builds for another processor. CPPFLAGS, CFLAGS and LDFLAGS are
 # its flags.
@@ -28,8 +30,6 @@
 # make soak        64 clients of 10,000 timers each in threads, 100 times; prints progress
 # make bench       measures the wheels against others (bench/README.md)
 # make bench-lines measures the owner's desk, its flushes and clients in threads against others
-# make docs        makes docs/pages/plays.js and moving.svg from the scripts of examples/ and docs/formats.md, and counts
-#                  lines for docs/proofs.md
 
 PROCESSOR := $(shell uname -m)
 GENERATED := $(wildcard generated/* generated/*/*)

@@ -80,7 +80,8 @@
  *         take                    as advance_to
  *         clear                   each timer that is held, and the buckets
  *         wakeup, has_due, now    constant
- *         counts, version         constant
+ *         counts, message         constant
+ *         version, set_allocator  constant
  *         next, find_next         constant, or each timer of one bucket
  *         len                     each expired timer that waits
  *         each                    each place up to the next timer
@@ -91,7 +92,8 @@
  *
  *     From the first timers_find_next that walks a bucket on, the first deadline of each bucket above the lowest
  *     wheel is kept, and how many timers have it. A start, a restart, a stop and a move update that in constant
- *     time. A bucket that has timers by then is walked once before its first deadline is known. The deadline is
+ *     time. A bucket that has timers by then is walked once before its first deadline is known, unless it becomes
+ *     empty before. The deadline is
  *     forgotten once the last timer that has it is stopped or restarted, and others are left in the bucket. If
  *     the bucket of the next deadline has none that is known, both calls look at each of its timers.
  *     timers_find_next keeps what it found, timers_next does not. So a loop that asks in each turn calls
@@ -110,7 +112,7 @@
  *     timers_new allocates some 15 KB for the buckets, and the first start some 5 KB more, unless timers_reserve
  *     made room (with TIMERS_CLOCK 6 KB and 2 KB). A timer takes 64 bytes, in two arrays. An array that is full
  *     grows, the larger one to twice its length. So above some 1,000 timers they have 64 to 132 bytes for each, of
- *     the most that were ever held. With timers_reserve they have 64 for each, up to its room.
+ *     the most that were ever held. With a timers_reserve before the first start they have 64 for each, up to its room.
  *
  *     Memory is kept for later starts until timers_free. It can't be given back in part, since a timer stays
  *     at the place that its handle has. A caller that wants it back starts what is left in a second `struct
@@ -153,8 +155,8 @@
  *        and align as C requires. The timers are freed in a process that has the allocator which they came from.
  *     6. No call comes from a signal handler. THREADS says which calls a forked child may make.
  *
- *     Nothing else is required. A call before timers_new, after timers_free, or in the wrong order returns
- *     a status and changes nothing.
+ *     Nothing else is required. A call before timers_new, after timers_free, or in the wrong order changes
+ *     nothing, and returns a status, 0, false or TIMERS_NEVER.
  *
  * THREADS
  *     Calls with a const pointer only read the timers. So they may run beside each other, each with objects
@@ -244,7 +246,7 @@ extern "C" {
 enum timers_status {
 	TIMERS_OK = 0,
 	TIMERS_NOT_OPEN = 1,       /* not open: timers_new was not called, or timers_free was since */
-	TIMERS_OPEN = 2,           /* already open; of timers_set_allocator, memory is in use already */
+	TIMERS_OPEN = 2,           /* already open; of timers_set_allocator, memory was asked for already */
 	TIMERS_NO_TABLE = 3,       /* the table is none of enum timers_table */
 	TIMERS_NO_MEMORY = 4,      /* no memory for it: malloc or realloc returned NULL, or some 4.29 billion are held */
 	TIMERS_DUE = 5,            /* an expired timer was not yet taken: call timers_expire */
@@ -297,8 +299,8 @@ struct timers_counters {
  * there is no memory, and then leaves the one that it was given as it was. `resize` may be NULL: a block that grows is
  * then a new one, into which the bytes are copied. No function is given NULL, a size of 0, or a block that another
  * made. None may call the library. `allocate` and `release` must not be NULL.
- * Comes before the library first allocates in this process, and may be called again until then. Afterwards it
- * returns TIMERS_OPEN and changes nothing. Does not allocate. */
+ * Comes before the library first asks for memory in this process, and may be called again until then. Afterwards it
+ * returns TIMERS_OPEN and changes nothing, also if no memory was given. Does not allocate. */
 TIMERS_CHECKED
 enum timers_status timers_set_allocator(void *(*allocate)(size_t size),
                                         void *(*resize)(void *block, size_t size),
@@ -322,8 +324,9 @@ void timers_clear(struct timers *t);
 /* Makes room for `most` timers held at once, pending or expired and not yet taken, those that are held
  * already among them. While fewer are held, a start then allocates nothing and does not return
  * TIMERS_NO_MEMORY, whatever was started, stopped and taken before. The timers and the clock don't change.
- * Takes 64 bytes for each timer, and time for the most that were ever held at once, which it may move. The rest
- * is allocated and not written. The memory is kept until timers_free. After TIMERS_NO_MEMORY it is as much as before.
+ * Takes 64 bytes for each timer, of four at least; if it has to grow, of up to twice the most that were ever held.
+ * Takes time for these, which it may move. The rest is allocated and not written. The memory is kept until
+ * timers_free. After TIMERS_NO_MEMORY it is as much as before.
  * If an earlier timers_reserve made as much room, it allocates nothing and returns TIMERS_OK.
  * TIMERS_NO_MEMORY is also returned if `most` is above some 4.29 billion.
  * TIMERS_NOT_OPEN, TIMERS_NO_MEMORY. */

@@ -6,7 +6,7 @@
  * A `timing::timers<Tick, Action>` owns timers and frees them. It can be moved and not copied. timers.h
  * says what each call does; this header says what differs. It takes no lock, and allocates nothing but what it
  * throws: the owner is a `struct timers` and the last tick of its clock, 32 bytes. Each call is one of C, but for
- * catch_up and each, which make several, and in_ticks and at_least, which make none.
+ * catch_up and each, which make several, and in_ticks, at_least and raw, which make none.
  *
  * TICKS. `Tick` is the length of a tick, a std::chrono::duration. The clock and deadlines are `ticks`,
  * counted from tick 0. An interval is any duration of whole numbers, and is rounded up to ticks. An

@@ -32,8 +32,10 @@
  *     carries requests to the owner and words back, each first in, first out.
  *
  *     No call waits for another thread. There is no lock: the two ends of a line share nothing but two
- *     rings. A client's calls take constant time and do not allocate. If its line is full, a request is
- *     refused with TIMERS_DESK_LINE_FULL. Nothing has changed then, and it may be sent again.
+ *     rings. A client's calls do not allocate. They take constant time, but after the desk was freed
+ *     timers_line_finish and timers_line_free take time for each request or word that stands in the line. If
+ *     its line is full, a request is refused with TIMERS_DESK_LINE_FULL. Nothing has changed then, and it may
+ *     be sent again.
  *
  *     Each request has a number, one above that of the client's request before it, from 1 on. The owner
  *     takes requests by timers_desk_serve or timers_desk_serve_all, and each gets one word as its answer,
@@ -352,7 +354,7 @@ enum timers_desk_status timers_desk_end(struct timers_desk *d, size_t client, st
                                         size_t *unread);
 
 /* Ends the words of every client, each as timers_desk_end does: lines[0] to lines[clients - 1] are the
- * clients' lines, all of them handed over. Those that can be ended are ended, whatever is left of the
+ * clients' lines, all of them handed over until it returns TIMERS_DESK_OK. Those that can be ended are ended, whatever is left of the
  * others, and the call may be repeated. A line that was freed is skipped, since no one reads its words.
  * Does not allocate.
  * TIMERS_DESK_OK: each line was freed, or its words have ended.
@@ -391,8 +393,8 @@ TIMERS_CHECKED
 enum timers_desk_status timers_desk_open(struct timers_desk *d, size_t client, struct timers_line *line, size_t room);
 
 /* Makes room for as many timers as may be pending, and for the list of them that a close makes. From then on no serve
- * and no timers_desk_close allocates or runs out of memory. Takes 104 bytes for each of `capacity`. A second call
- * allocates nothing.
+ * and no timers_desk_close allocates or runs out of memory. Before the first start it takes 104 bytes for each
+ * of `capacity`, or a little more if that is below 4, and afterwards up to 168. A second call allocates nothing.
  * TIMERS_DESK_NOT_OPEN, TIMERS_DESK_NO_MEMORY: no timer and no word has changed, and part of the memory may be kept. */
 TIMERS_CHECKED
 enum timers_desk_status timers_desk_reserve(struct timers_desk *d);

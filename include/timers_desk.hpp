@@ -5,8 +5,8 @@
  *
  * A `timing::desk` is the owner's, and a `timing::line` a client's end, for the client's thread. Both can be moved and
  * not copied, and free what they hold, in any order. timers_desk.h says what each call does; this header says what
- * differs. A call that is refused throws `timing::desk_error` with the status of C, and nothing has changed. What may
- * well happen is a result: a line is full, no word has come, nothing of a client was done. */
+ * differs. A call that is refused throws `timing::desk_error` with the status of C, and nothing has changed; but `serve`
+ * and `serve_all` return it. What may well happen is a result: a line is full, no word has come, nothing was done. */
 /* SPDX-License-Identifier: MIT OR Apache-2.0 */
 #ifndef TIMERS_DESK_HPP
 #define TIMERS_DESK_HPP

@@ -232,7 +232,7 @@ class Timers:
         """Passes this many ticks, and returns what expired on the way as a list of (deadline, serial, action).
 
         These are taken, and can't be stopped any more. It passes fewer ticks if the clock comes to its last
-        one. There it is refused (CLOCK_END) if nothing was left to take.
+        one. There it is refused (CLOCK_END) if nothing was left to take, unless `most` is 0.
         """
         most = word(most)
         self._do("advance_to", 0)  # refused if they are closed

@@ -96,7 +96,7 @@ class Words {
     this.hasDigits = this.isHierarchy && this.levels.length > 1;
   }
 
-  // A place as `timers show` names it.
+    // A slot as `timers show` names it.
   place(key) {
     const {wheel, slot} = placeOf(key);
     if (this.play.scheme === "plain") return "pending";

@@ -8,7 +8,7 @@
  *     connection: frees its line, and ends
  *     owner:      takes what it had sent, stops its timers, drops the words to it, and opens the line again
  *
- * The owner sleeps until the next deadline, a request, or a peer for whom a line is free. A connection has at most MOST
+ * The owner sleeps until the next wake-up, a request, or a peer for whom a line is free. A connection has at most MOST
  * time-outs, and so at most MOST requests without an answer: with room 2 * MOST + 1 none is ever held back. */
 #define _POSIX_C_SOURCE 200809L
 #include <arpa/inet.h>

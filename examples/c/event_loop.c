@@ -1,5 +1,6 @@
 /* An event loop: it sleeps in poll until a file descriptor is ready or the next wake-up has come. One tick is
- * one millisecond of CLOCK_MONOTONIC. It reads what comes on standard input, and ends with the last timer.
+ * one millisecond of CLOCK_MONOTONIC. It reads what comes on standard input, says how many bytes,
+ * and ends with the last timer.
  *
  *     cc event_loop.c $(pkg-config --cflags --libs timers) && ./a.out
  */

@@ -1,5 +1,5 @@
 // The shortest whole use in Rust: three timers, of which one is stopped. Put timers.rs of bindings/rust
-// beside it.
+// (installed: share/timers/rust) beside it.
 //
 //     rustc --edition 2021 -L PREFIX/lib first.rs
 mod timers;
