@@ -46,24 +46,21 @@ now_ticked : (s : FacilityState) (o : Option TickFault) → (step_of_tick s o).s
 now_ticked s (Some fault) = omega arith
 now_ticked s None = ap (λ b. s.now + (if b then 0 else 1)) (sym (refusal-map (λ t. Expired t) (expired_next s)))
 
-now_closed : (s : FacilityState) (b : Bool) → (step_of_close s b).state.now ≡ s.now
-now_closed s true = refl
-now_closed s false = refl
+clock_closed : (s : FacilityState) (b : Bool) → IsSameClock s (step_of_close s b).state
+clock_closed s true = record { now_is = refl; clients_are = refl }
+clock_closed s false = record { now_is = refl; clients_are = refl }
 
 now_step : (s : FacilityState) (event : SingleEvent) (place : ℕ)
     → (step s event place).state.now ≡ s.now + ticks_by event (step s event place).outs
-now_step s (Asked client number request) place = let h = (clock_asked s client number request place).now_is
-    in omega arith
+now_step s (Asked client number request) place = omega (arith, (clock_asked s client number request place).now_is)
 now_step s Tick place = now_ticked s (tick_refusal s)
-now_step s Close place = let h = now_closed s s.is_closed in omega arith
+now_step s Close place = omega (arith, (clock_closed s s.is_closed).now_is)
 
 -- each accepted tick, and nothing else, brings the clock one tick on
 pub now-run : (s : FacilityState) (ps : List PlacedEvent) → (state_after s ps).now ≡ s.now + accepted_ticks (history s ps)
 now-run s [] = omega arith
 now-run s (p ∷ ps) =
-    let one = now_step s p.event p.place in
-    let rest = now-run (step s p.event p.place).state ps in
-    omega arith
+    omega (arith, now_step s p.event p.place, now-run (step s p.event p.place).state ps)
 
 -- The clients that there are not.
 
@@ -84,10 +81,6 @@ clients_ticked : (s : FacilityState) (o : Option TickFault) → length (step_of_
 clients_ticked s (Some fault) = refl
 clients_ticked s None = refl
 
-clients_closed : (s : FacilityState) (b : Bool) → length (step_of_close s b).state.numbers ≡ length s.numbers
-clients_closed s true = refl
-clients_closed s false = refl
-
 none_asked : (s : FacilityState) (client c number : ℕ) (request : ModelRequest) (place : ℕ) → HasNone c s → (b : Bool) → (client == c) ≡ b
     → HasNone c (step s (Asked client number request) place).state
 none_asked s client c number request place h true e =
@@ -98,25 +91,21 @@ none_asked s client c number request place h false e =
     let after : FacilityState = (step s (Asked client number request) place).state in
     let n : pending_of after c ≤ pending_of s c + 0 = subst (λ b. pending_of after c ≤ pending_of s c + (if b then 1 else 0)) e
     ((adds_at_most_one s client number request place).of_client c) in
-    let z = h.none in
-    let l = h.no_client in
-    let m = (clock_asked s client number request place).clients_are in
-    record { no_client = omega arith; none = omega arith }
+    record {
+      no_client = omega (arith, h.no_client, (clock_asked s client number request place).clients_are);
+      none = omega (arith, h.none, n);
+    }
 
 none_step : (s : FacilityState) (c : ℕ) (event : SingleEvent) (place : ℕ) → HasNone c s → HasNone c (step s event place).state
 none_step s c (Asked client number request) place h = none_asked s client c number request place h (client == c) refl
-none_step s c Tick place h =
-    let n = (hands_over_tick s place).of_client c in
-    let z = h.none in
-    let l = h.no_client in
-    let m = clients_ticked s (tick_refusal s) in
-    record { no_client = omega arith; none = omega arith }
-none_step s c Close place h =
-    let n = (hands_over_close s place).of_client c in
-    let z = h.none in
-    let l = h.no_client in
-    let m = clients_closed s s.is_closed in
-    record { no_client = omega arith; none = omega arith }
+none_step s c Tick place h = record {
+  no_client = omega (arith, h.no_client, clients_ticked s (tick_refusal s));
+  none = omega (arith, h.none, (hands_over_tick s place).of_client c);
+}
+none_step s c Close place h = record {
+  no_client = omega (arith, h.no_client, (clock_closed s s.is_closed).clients_are);
+  none = omega (arith, h.none, (hands_over_close s place).of_client c);
+}
 
 none_run : (s : FacilityState) (c : ℕ) (ps : List PlacedEvent) → HasNone c s → HasNone c (state_after s ps)
 none_run s c [] h = h

@@ -1,17 +1,18 @@
 -- How many timers each client has: the counts after each call of a facility.
-use Rattle.std.proofs.Common.{◌≡◌, ◌≢◌, ◌<◌, ◌≤◌, ◌+◌, ◌-◌, ℕ, true, false, ◌==◌, ◌⊎◌, List, [], ◌∷◌, ◌++◌, length, refl, sym, ◌∙◌, ap, subst, inl, inr, arith}
-use Rattle.std.specs.Prelude.{if◌then◌else◌, nat_lt, drop, Some, slice_get, slice_index, slice_set, replicate}
-use Rattle.std.proofs.lemmas.Bool.Decides.{nat_tests}
+use Rattle.std.proofs.Common.{◌≡◌, ◌≢◌, ◌<◌, ◌≤◌, ◌+◌, ◌-◌, ℕ, ◌==◌, List, [], ◌∷◌, ◌++◌, length, refl, sym, ◌∙◌, ap, subst, inl, inr, arith}
+use Rattle.std.specs.Prelude.{nat_lt, drop, Some, slice_get, slice_index, slice_set, replicate}
+use Rattle.std.proofs.lemmas.Bool.{cases_eq, cases_lt, eq-eqb, ne_eqb}
 use Rattle.std.proofs.lemmas.List.{get_or-set_same, get_or-set_other, get_or_past, get_or-replicate, length-set}
-use Rattle.timer_base.specs.OrderLaws.{either}
+use Rattle.timer_base.specs.Basics.{either, none_some, some_same}
+use Rattle.timer_base.specs.HeldLaws.{no_serial}
 use Rattle.timer_base.specs.OneOrder.{IsMember}
 use Rattle.timer_base.specs.declared.timer.Timer.{Timer}
-use Rattle.timer_base.specs.Order.{IsNotAmong, AreDistinct}
-use Rattle.timer_base.specs.Pending.{Entry, timers_of, put, has_serial, is_due_at, without_serial, entries_due, entries_left}
+use Rattle.timer_base.specs.Order.{AreDistinct}
+use Rattle.timer_base.specs.Pending.{Entry, timers_of, put, is_due_at, without_serial, entries_due, entries_left}
 use Rattle.timer_base.specs.WheelState.{WheelState}
 use Rattle.timer_facility.specs.State.{one_of, count_of}
 use Rattle.timer_facility.specs.Facility.{kept_in, AreCounted}
-use Rattle.timer_facility.proofs.TimerLists.{not_among, is_equal, is_same}
+use Rattle.timer_facility.proofs.TimerLists.{at_member}
 
 pub count-append : (client : ℕ) (xs ys : List Timer) → count_of client (xs ++ ys) ≡ count_of client xs + count_of client ys
 count-append client [] ys = omega arith
@@ -20,8 +21,7 @@ count-append client (x ∷ xs) ys = let n = count-append client xs ys in omega a
 pub count-kept : (client : ℕ) (w : WheelState) (returned : List Timer) → count_of client (kept_in w returned)
     ≡ count_of client (timers_of w.pending) + (count_of client (timers_of w.due) + count_of client returned)
 count-kept client w returned =
-    count-append client (timers_of w.pending) (timers_of w.due ++ returned)
-    ∙ ap (λ n. count_of client (timers_of w.pending) + n) (count-append client (timers_of w.due) returned)
+    rw (count-append client (timers_of w.pending) (timers_of w.due ++ returned), count-append client (timers_of w.due) returned) refl
 
 -- Pending timers.
 
@@ -34,73 +34,30 @@ count-put client e (x ∷ xs) = elim (either (nat_lt e.timer.deadline x.timer.de
       count-put client e xs in omega arith)
 ]
 
-tick_step : (client tick : ℕ) (x : Entry) (xs : List Entry) → (is_due_at tick x.timer ≡ true) ⊎ (is_due_at tick x.timer ≡ false)
-    → count_of client (timers_of (entries_left tick xs)) + count_of client (timers_of (entries_due tick xs))
-    ≡ count_of client (timers_of xs)
-    → count_of client (timers_of (entries_left tick (x ∷ xs))) + count_of client (timers_of (entries_due tick (x ∷ xs)))
-    ≡ count_of client (timers_of (x ∷ xs))
-tick_step client tick x xs (inl h) n =
-    let left : entries_left tick (x ∷ xs) ≡ entries_left tick xs = rw h refl in
-    let due : entries_due tick (x ∷ xs) ≡ x ∷ entries_due tick xs = rw h refl in
-    let a : count_of client (timers_of (entries_left tick (x ∷ xs))) ≡ count_of client (timers_of (entries_left tick xs)) =
-    ap (λ es. count_of client (timers_of es)) left in
-    let b : count_of client (timers_of (entries_due tick (x ∷ xs)))
-    ≡ one_of client x.timer + count_of client (timers_of (entries_due tick xs)) = ap (λ es. count_of client (timers_of es)) due in
-    omega arith
-tick_step client tick x xs (inr h) n =
-    let left : entries_left tick (x ∷ xs) ≡ x ∷ entries_left tick xs = rw h refl in
-    let due : entries_due tick (x ∷ xs) ≡ entries_due tick xs = rw h refl in
-    let a : count_of client (timers_of (entries_left tick (x ∷ xs)))
-    ≡ one_of client x.timer + count_of client (timers_of (entries_left tick xs)) = ap (λ es. count_of client (timers_of es)) left in
-    let b : count_of client (timers_of (entries_due tick (x ∷ xs))) ≡ count_of client (timers_of (entries_due tick xs)) =
-    ap (λ es. count_of client (timers_of es)) due in
-    omega arith
-
 pub count-tick : (client tick : ℕ) (es : List Entry) → count_of client (timers_of (entries_left tick es)) + count_of client
     (timers_of (entries_due tick es)) ≡ count_of client (timers_of es)
 count-tick client tick [] = refl
-count-tick client tick (x ∷ xs) = tick_step client tick x xs (either (is_due_at tick x.timer)) (count-tick client tick xs)
-
-serial_is : (serial : ℕ) (t : Timer) → t.serial ≡ serial → has_serial serial t ≡ true
-serial_is serial t h = grind (arith, nat_tests)
-
-serial_is_not : (serial : ℕ) (t : Timer) → t.serial ≢ serial → has_serial serial t ≡ false
-serial_is_not serial t h = grind (arith, nat_tests)
-
-without-none : (serial : ℕ) (es : List Entry) → IsNotAmong serial (timers_of es) → without_serial serial es ≡ es
-without-none serial [] n = refl
-without-none serial (x ∷ xs) n = rw (serial_is_not serial x.timer n.0) (ap (λ r. x ∷ r) (without-none serial xs n.1))
-
-count_without_first : (client : ℕ) (t : Timer) (x : Entry) (xs : List Entry) → IsNotAmong x.timer.serial (timers_of xs) → t ≡ x.timer
-    → one_of client t + count_of client (timers_of (without_serial t.serial (x ∷ xs))) ≡ count_of client (timers_of (x ∷ xs))
-count_without_first client t x xs n h =
-    let serial : ℕ = x.timer.serial in
-    let rest : without_serial serial (x ∷ xs) ≡ without_serial serial xs = rw (serial_is serial x.timer refl) refl in
-    let here : one_of client x.timer + count_of client (timers_of (without_serial serial (x ∷ xs))) ≡ count_of client (timers_of (x ∷ xs)) =
-    ap (λ r. one_of client x.timer + count_of client (timers_of r)) (rest ∙ without-none serial xs n) in
-    subst (λ (u : Timer). one_of client u + count_of client (timers_of (without_serial u.serial (x ∷ xs)))
-    ≡ count_of client (timers_of (x ∷ xs))) (sym h) here
+count-tick client tick (x ∷ xs) = elim (either (is_due_at tick x.timer)) [
+  | inl h ↦ rw h (let n = count-tick client tick xs in omega arith)
+  | inr h ↦ rw h (let n = count-tick client tick xs in omega arith)
+]
 
 pub count-without : (client : ℕ) (t : Timer) (es : List Entry) → AreDistinct (timers_of es) → IsMember t (timers_of es)
     → one_of client t + count_of client (timers_of (without_serial t.serial es)) ≡ count_of client (timers_of es)
 count-without client t [] d a = absurd a
-count-without client t (x ∷ xs) d a = elim a [
-  | inl h ↦ count_without_first client t x xs d.0 (sym h)
-  | inr h ↦
-      let other : x.timer.serial ≢ t.serial = λ e. not_among x.timer.serial t (timers_of xs) d.0 h (sym e) in
-      let rest : without_serial t.serial (x ∷ xs) ≡ x ∷ without_serial t.serial xs = rw (serial_is_not t.serial x.timer other) refl in
-      let a : count_of client (timers_of (without_serial t.serial (x ∷ xs)))
-      ≡ one_of client x.timer + count_of client (timers_of (without_serial t.serial xs)) =
-      ap (λ es. count_of client (timers_of es)) rest in
-      let n = count-without client t xs d.1 h in
-      omega arith
-]
+count-without client t (x ∷ xs) d (inl h) =
+    subst (λ (u : Timer). one_of client u + count_of client (timers_of (without_serial u.serial (x ∷ xs)))
+    ≡ count_of client (timers_of (x ∷ xs))) h
+    (rw (eq-eqb x.timer.serial x.timer.serial refl, no_serial x.timer.serial xs d.0) refl)
+count-without client t (x ∷ xs) d (inr a) =
+    let other : x.timer.serial ≢ t.serial = λ e. at_member (λ u. u.serial ≢ x.timer.serial) t (timers_of xs) d.0 a (sym e) in
+    rw (ne_eqb x.timer.serial t.serial other) (let n = count-without client t xs d.1 a in omega arith)
 
 -- what is handed out comes from the front
 pub count-front : (client : ℕ) (t : Timer) (ts : List Timer) → slice_get ts 0 ≡ Some t
     → count_of client ts ≡ one_of client t + count_of client (drop 1 ts)
-count-front client t [] h = absurd (cc)
-count-front client t (x ∷ xs) h = let e : x ≡ t = cc in ap (λ u. one_of client u + count_of client xs) e
+count-front client t [] h = absurd (none_some t h)
+count-front client t (x ∷ xs) h = ap (λ u. one_of client u + count_of client xs) (some_same x t h)
 
 -- The counts.
 
@@ -111,49 +68,43 @@ counted-none clients = record {
   no_others = λ client h. none client;
 } where
   none : (client : ℕ) → slice_index (replicate 64 0) client ≡ 0
-  none client = elim (either (nat_lt client 64)) [
-    | inl h ↦ get_or-replicate 64 client 0 0 (grind (arith, nat_tests))
-    | inr h ↦ get_or_past (replicate 64 0) client 0 (grind (arith, nat_tests))
+  none client = elim (cases_lt client 64) [
+    | inl h ↦ get_or-replicate 64 client 0 0 h
+    | inr h ↦ get_or_past (replicate 64 0) client 0 h
   ]
 
 pub counted-as : {clients : ℕ} {counts : List ℕ} {ts : List Timer} → AreCounted clients counts ts → (us : List Timer)
     → ((client : ℕ) → count_of client us ≡ count_of client ts) → AreCounted clients counts us
 counted-as a us h = record { all_counts = a.all_counts; each = λ client. a.each client ∙ sym (h client); no_others = a.no_others }
 
-is_other : (n k : ℕ) → (n == k) ≡ false → k ≢ n
-is_other n k h = grind (arith, nat_tests)
+one_same : (t : Timer) → one_of t.client t ≡ 1
+one_same t = rw (eq-eqb t.client t.client refl) refl
+
+one_other : (t : Timer) (client : ℕ) → client ≢ t.client → one_of client t ≡ 0
+one_other t client o = rw (ne_eqb t.client client (λ e. o (sym e))) refl
+
+-- the count of one client changes
+counted-with : {clients : ℕ} {counts : List ℕ} {ts : List Timer} → AreCounted clients counts ts → (k n : ℕ) (us : List Timer)
+    → k < clients → k < 64 → n ≡ count_of k us → ((client : ℕ) → client ≢ k → count_of client us ≡ count_of client ts)
+    → AreCounted clients (slice_set counts k n) us
+counted-with {clients} {counts} {ts} a k n us l low here others = record {
+  all_counts = length-set counts k n ∙ a.all_counts;
+  each = λ client. elim (cases_eq client k) [
+    | inl e ↦ subst (λ j. slice_index (slice_set counts k n) j ≡ count_of j us) (sym e)
+        (get_or-set_same counts k n 0 (omega (arith, a.all_counts, low)) ∙ here)
+    | inr o ↦ get_or-set_other counts k client n 0 o ∙ a.each client ∙ sym (others client o)
+  ];
+  no_others = λ client m. get_or-set_other counts k client n 0 (λ e. omega (arith, l, m, e)) ∙ a.no_others client m;
+}
 
 -- one more timer
 pub counted-more : {clients : ℕ} {counts : List ℕ} {ts : List Timer} → AreCounted clients counts ts → (t : Timer) (us : List Timer)
     → t.client < clients → clients ≤ 64
     → ((client : ℕ) → count_of client us ≡ one_of client t + count_of client ts)
     → AreCounted clients (slice_set counts t.client (slice_index counts t.client + 1)) us
-counted-more {clients} {counts} {ts} a t us l few h =
-    let all : length counts ≡ 64 = a.all_counts in
-    let within : t.client < length counts = omega arith in record {
-      all_counts = length-set counts t.client (slice_index counts t.client + 1) ∙ a.all_counts;
-      each = λ client. elim (either (t.client == client)) [
-        | inl k ↦
-            let same : client ≡ t.client = sym (is_equal t.client client k) in
-            let one : count_of client us ≡ 1 + count_of client ts = h client ∙ ap (λ b. (if b then 1 else 0) + count_of client ts) k in
-            let was : slice_index counts client ≡ count_of client ts = a.each client in
-            ap (slice_index (slice_set counts t.client (slice_index counts t.client + 1))) same
-            ∙ get_or-set_same counts t.client (slice_index counts t.client + 1) 0 within
-            ∙ ap (λ n. slice_index counts n + 1) (sym same)
-            ∙ (let m : slice_index counts client + 1 ≡ count_of client us = omega arith in m)
-        | inr k ↦
-            let zero_more : count_of client us ≡ 0 + count_of client ts = h client ∙ ap (λ b. (if b then 1 else 0) + count_of client ts) k
-            in
-            let none : count_of client us ≡ count_of client ts = omega arith in
-            get_or-set_other counts t.client client (slice_index counts t.client + 1) 0 (is_other t.client client k) ∙ a.each client
-            ∙ sym none
-      ];
-      no_others = λ client m. get_or-set_other counts t.client client (slice_index counts t.client + 1) 0
-          (λ (e : client ≡ t.client). let x : clients ≤ client = m in absurd (omega arith)) ∙ a.no_others client m;
-    }
-
-not_le : {m n : ℕ} → ¬ (m ≤ n) → n < m
-not_le {m} {n} h = grind (arith)
+counted-more {clients} {counts} a t us l few h =
+    counted-with a t.client (slice_index counts t.client + 1) us l (omega arith)
+    (omega (arith, h t.client, one_same t, a.each t.client)) (λ client o. omega (arith, h client, one_other t client o))
 
 -- a timer that is counted
 pub record IsCounted (clients : ℕ) (counts : List ℕ) (t : Timer) : Type 0 where
@@ -163,47 +114,24 @@ pub record IsCounted (clients : ℕ) (counts : List ℕ) (t : Timer) : Type 0 wh
 
 pub is_counted : {clients : ℕ} {counts : List ℕ} {ts : List Timer} → AreCounted clients counts ts → (t : Timer) (us : List Timer)
     → ((client : ℕ) → count_of client ts ≡ one_of client t + count_of client us) → IsCounted clients counts t
-is_counted {clients} {counts} {ts} a t us h =
-    let one : count_of t.client ts ≡ 1 + count_of t.client us =
-    h t.client ∙ ap (λ b. (if b then 1 else 0) + count_of t.client us) (is_same t.client) in
-    let each : slice_index counts t.client ≡ count_of t.client ts = a.each t.client in
-    let all : length counts ≡ 64 = a.all_counts in
-    let some : 0 < slice_index counts t.client = omega arith in
-    let past : length counts ≤ t.client → slice_index counts t.client ≡ 0 = get_or_past counts t.client 0 in
-    let other : clients ≤ t.client → slice_index counts t.client ≡ 0 = a.no_others t.client in
-    let contrary : ¬ (clients ≤ t.client) = λ x. let y = other x in omega arith in
-    let outside : ¬ (64 ≤ t.client) = λ x. let y : slice_index counts t.client ≡ 0 = past (omega arith) in omega arith in
-    record { some = some; is_client = not_le contrary; within = not_le outside }
+is_counted {clients} {counts} a t us h =
+    let some : 0 < slice_index counts t.client = omega (arith, h t.client, one_same t, a.each t.client) in record {
+      some = some;
+      is_client = elim (cases_lt t.client clients) [ inl l ↦ l | inr m ↦ absurd (omega (arith, some, a.no_others t.client m)) ];
+      within = elim (cases_lt t.client 64) [
+        | inl l ↦ l
+        | inr m ↦ absurd (omega (arith, some, get_or_past counts t.client 0 (omega (arith, a.all_counts, m))))
+      ];
+    }
 
 -- one fewer timer
 pub counted-less : {clients : ℕ} {counts : List ℕ} {ts : List Timer} → AreCounted clients counts ts → (t : Timer) (us : List Timer)
     → ((client : ℕ) → count_of client ts ≡ one_of client t + count_of client us)
-    → AreCounted clients (slice_set counts t.client (slice_index counts t.client - 1)) us
-counted-less {clients} {counts} {ts} a t us h =
-    let all : length counts ≡ 64 = a.all_counts in
+    → {less : List ℕ} → less ≡ slice_set counts t.client (slice_index counts t.client - 1) → AreCounted clients less us
+counted-less {clients} {counts} a t us h e =
     let there = is_counted a t us h in
-    let low : t.client < 64 = there.within in
-    let within : t.client < length counts = omega arith in record {
-      all_counts = length-set counts t.client (slice_index counts t.client - 1) ∙ a.all_counts;
-      each = λ client. elim (either (t.client == client)) [
-        | inl k ↦
-            let same : client ≡ t.client = sym (is_equal t.client client k) in
-            let one : count_of client ts ≡ 1 + count_of client us = h client ∙ ap (λ b. (if b then 1 else 0) + count_of client us) k in
-            let was : slice_index counts client ≡ count_of client ts = a.each client in
-            ap (slice_index (slice_set counts t.client (slice_index counts t.client - 1))) same
-            ∙ get_or-set_same counts t.client (slice_index counts t.client - 1) 0 within
-            ∙ ap (λ n. slice_index counts n - 1) (sym same)
-            ∙ (let m : slice_index counts client - 1 ≡ count_of client us = omega arith in m)
-        | inr k ↦
-            let zero_more : count_of client ts ≡ 0 + count_of client us = h client ∙ ap (λ b. (if b then 1 else 0) + count_of client us) k
-            in
-            let none : count_of client ts ≡ count_of client us = omega arith in
-            get_or-set_other counts t.client client (slice_index counts t.client - 1) 0 (is_other t.client client k) ∙ a.each client ∙ none
-      ];
-      no_others = λ client m. get_or-set_other counts t.client client (slice_index counts t.client - 1) 0
-          (λ (e : client ≡ t.client). let x : clients ≤ client = m in let y : t.client < clients = there.is_client in absurd (omega arith))
-          ∙ a.no_others client m;
-    }
+    subst (λ ns. AreCounted clients ns us) (sym e) (counted-with a t.client (slice_index counts t.client - 1) us there.is_client there.within
+    (omega (arith, h t.client, one_same t, a.each t.client)) (λ client o. omega (arith, h client, one_other t client o)))
 
 pub count_in_range : (client : ℕ) (ts : List Timer) → count_of client ts ≤ length ts
 count_in_range client [] = omega arith

@@ -1,9 +1,10 @@
 -- How many timers of a client are pending after an event, and what the event hands out.
 use Rattle.std.proofs.Common.{◌≡◌, ◌≤◌, ◌+◌, ℕ, Bool, true, false, not, ◌==◌, List, [], ◌∷◌, length, refl, ◌∙◌, ap, inl, inr, arith}
 use Rattle.std.specs.Prelude.{map, filter, if◌then◌else◌, Option, Some, None}
+use Rattle.std.proofs.lemmas.List.{length-map}
 use Rattle.timer_base.specs.OrderLaws.{either}
 use Rattle.timer_base.specs.declared.timer.Timer.{Timer}
-use Rattle.timer_base.specs.Pending.{Entry, timers_of, put, is_due_at, has_serial, without_found, entries_due, entries_left}
+use Rattle.timer_base.specs.Pending.{Entry, timer_of, timers_of, is_due_at, has_serial, without_found}
 use Rattle.timer_facility.specs.declared.request.TickFault.{TickFault}
 use Rattle.timer_facility.specs.declared.request.Notice.{Notice}
 use Rattle.timer_facility.specs.declared.request.Notice.TheVariants.{Expired, Returned}
@@ -15,7 +16,7 @@ use Rattle.timer_facility.specs.Run.{notices_in}
 use Rattle.timer_facility.specs.Owed.{timer_handed}
 use Rattle.timer_facility.specs.HandedOver.{timers_handed, AddsAtMostOne, HandsOver}
 use Rattle.timer_facility.proofs.FacilityCounts.{count-put, count-tick}
-use Rattle.timer_facility.proofs.TimerLists.{length-filter, timers_of-filter, length-put, length_timers}
+use Rattle.timer_facility.proofs.TimerLists.{length-filter, length-parts, timers_of-filter, length-put}
 use Rattle.timer_facility.proofs.OwedLemmas.{notices_in-map}
 use Rattle.timer_facility.proofs.StepLemmas.{by_verdict, started-new}
 
@@ -45,17 +46,14 @@ adds_request : (s : FacilityState) (client number place : ℕ) (old new : Option
     → AddsAtMostOne client s (with_number client number (after_request old new place s))
 adds_request s client number place old None h =
     let less = adds_stop s old in
-    record { of_client = λ c. let n = less.of_client c in omega arith; all = let n = less.all in omega arith }
+    record { of_client = λ c. omega (arith, less.of_client c); all = omega (arith, less.all) }
 adds_request s client number place old (Some t) h =
     let left : List Entry = without_found old s.pending in
     let less = adds_stop s old in record {
       of_client = λ c.
-          let n : count_of c (timers_of (put (record { place = place; timer = t }) left)) ≡ one_of c t + count_of c (timers_of left) =
-          count-put c (record { place = place; timer = t }) left in
-          let m : one_of c t ≡ (if client == c then 1 else 0) = ap (λ k. if k == c then 1 else 0) (h t refl) in
-          let k = less.of_client c in
-          omega arith;
-      all = let n = length-put (record { place = place; timer = t }) left in let k = less.all in omega arith;
+          let same : one_of c t ≡ (if client == c then 1 else 0) = ap (λ k. if k == c then 1 else 0) (h t refl) in
+          omega (arith, same, less.of_client c, count-put c (record { place = place; timer = t }) left);
+      all = omega (arith, less.all, length-put (record { place = place; timer = t }) left);
     }
 
 pub adds_at_most_one : (s : FacilityState) (client number : ℕ) (request : ModelRequest) (place : ℕ)
@@ -69,36 +67,26 @@ adds_at_most_one s client number request place =
 
 -- Ticks and closes.
 
-unwrapped : (f : Timer → Notice) → ((t : Timer) → timer_handed (f t) ≡ t) → (ts : List Timer) → map timer_handed (map f ts) ≡ ts
+pub unwrapped : (f : Timer → Notice) → ((t : Timer) → timer_handed (f t) ≡ t) → (ts : List Timer) → map timer_handed (map f ts) ≡ ts
 unwrapped f h [] = refl
-unwrapped f h (t ∷ ts) = ap (λ u. u ∷ map timer_handed (map f ts)) (h t) ∙ ap (λ us. t ∷ us) (unwrapped f h ts)
+unwrapped f h (t ∷ ts) = rw (h t, unwrapped f h ts) refl
 
 handed_are : (f : Timer → Notice) → ((t : Timer) → timer_handed (f t) ≡ t) → (ts : List Timer)
     → map timer_handed (notices_in (map (λ t. Outs.Notice (f t)) ts)) ≡ ts
 handed_are f h ts = ap (map timer_handed) (notices_in-map f ts) ∙ unwrapped f h ts
-
-length_tick : (tick : ℕ) (es : List Entry) → length (entries_left tick es) + length (filter (is_due_at tick) (timers_of es)) ≡ length es
-length_tick tick [] = refl
-length_tick tick (e ∷ es) = elim (either (is_due_at tick e.timer)) [
-  | inl h ↦ rw h (let n = length_tick tick es in omega arith)
-  | inr h ↦ rw h (let n = length_tick tick es in omega arith)
-]
 
 hands_tick : (s : FacilityState) (o : Option TickFault) → HandsOver s (step_of_tick s o)
 hands_tick s (Some fault) = record { of_client = λ c. omega arith; all = omega arith }
 hands_tick s None =
     let ts : List Timer = expired_next s in
     let handed : timers_handed (step_of_tick s None) ≡ ts = handed_are (λ t. Expired t) (λ t. refl) ts in record {
-      of_client = λ c.
-          let a : count_of c (timers_handed (step_of_tick s None)) ≡ count_of c ts = ap (count_of c) handed in
-          let b : count_of c (timers_of (entries_due (s.now + 1) s.pending)) ≡ count_of c ts =
-          ap (count_of c) (timers_of-filter (is_due_at (s.now + 1)) s.pending) in
-          let n = count-tick c (s.now + 1) s.pending in
-          omega arith;
-      all =
-          let a : length (timers_handed (step_of_tick s None)) ≡ length ts = ap (λ us. length us) handed in
-          let n = length_tick (s.now + 1) s.pending in
-          omega arith;
+      of_client = λ c. omega (
+        arith,
+        ap (count_of c) handed,
+        ap (count_of c) (timers_of-filter (is_due_at (s.now + 1)) s.pending),
+        count-tick c (s.now + 1) s.pending,
+      );
+      all = omega (arith, ap length handed, length-parts (is_due_at (s.now + 1)) s.pending);
     }
 
 hands_close : (s : FacilityState) (closed : Bool) → HandsOver s (step_of_close s closed)
@@ -106,11 +94,8 @@ hands_close s true = record { of_client = λ c. omega arith; all = omega arith }
 hands_close s false =
     let ts : List Timer = timers_of s.pending in
     let handed : timers_handed (step_of_close s false) ≡ ts = handed_are (λ t. Returned t) (λ t. refl) ts in record {
-      of_client = λ c. let a : count_of c (timers_handed (step_of_close s false)) ≡ count_of c ts = ap (count_of c) handed in omega arith;
-      all =
-          let a : length (timers_handed (step_of_close s false)) ≡ length ts = ap (λ us. length us) handed in
-          let n = length_timers s.pending in
-          omega arith;
+      of_client = λ c. omega (arith, ap (count_of c) handed);
+      all = omega (arith, ap length handed, length-map s.pending timer_of);
     }
 
 pub hands_over_tick : (s : FacilityState) (place : ℕ) → HandsOver s (step s Tick place)

@@ -1,7 +1,8 @@
 -- The handles that a player keeps, and the pending entries.
 use Rattle.std.proofs.Common.{◌≡◌, ◌<◌, ◌+◌, ℕ, zero, suc, Bool, true, false, ◌==◌, ◌&&◌, List, [], ◌∷◌, ◌++◌, refl, sym, ◌∙◌, ap, subst, arith, inl, inr}
-use Rattle.std.specs.Prelude.{nat_lt, if◌then◌else◌, Option, Some, None}
+use Rattle.std.specs.Prelude.{filter, nat_lt, if◌then◌else◌, Option, Some, None}
 use Rattle.std.specs.List.{AllByRecursion}
+use Rattle.std.proofs.lemmas.Bool.{and_right, eq-eqb, eqb-true}
 use Rattle.std.proofs.lemmas.Bool.Decides.{nat_tests}
 use Rattle.timer_base.specs.declared.timer.Timer.{Timer}
 use Rattle.timer_base.specs.declared.timer.Handle.{Handle}
@@ -10,7 +11,6 @@ use Rattle.timer_base.specs.Pending.{Entry, put, has_handle, has_serial, first_t
 use Rattle.timer_facility.specs.declared.request.TickFault.{TickFault}
 use Rattle.timer_facility.specs.declared.request.Request.{Request}
 use Rattle.timer_facility.specs.declared.request.Answer.{Answer}
-use Rattle.timer_facility.specs.declared.request.Answer.TheVariants.{Refused}
 use Rattle.timer_facility.specs.declared.event.Out.TheVariants as Outs
 use Rattle.timer_facility.specs.State.{FacilityState, ByHandle, BySerial, ModelRequest, Asked, Tick}
 use Rattle.timer_facility.specs.Verdict.{tick_refusal, of_client, timer_named}
@@ -19,30 +19,27 @@ use Rattle.timer_facility.specs.Run.{notices_in, state_after}
 use Rattle.timer_facility.specs.Ticked.{ticks, AreTicked}
 use Rattle.timer_facility.specs.Facility.{FacilityView, model_of, place_in, IsTaken}
 use Rattle.timer_facility.specs.Handles.{HandleList, place_at, AreSorted, IsRecorded, with_answer, AreRecorded}
-use Rattle.timer_facility.proofs.TimerLists.{is_equal, is_same}
+use Rattle.timer_facility.proofs.TimerLists.{All-join}
 use Rattle.timer_facility.proofs.StepLemmas.{by_verdict, started-new}
 
+-- the pending entries that a test keeps are recorded too
+each_kept : {handles : HandleList} {s : FacilityState} (test : Entry → Bool) → AreRecorded handles s
+    → AllByRecursion (IsRecorded handles) (filter test s.pending)
+each_kept {handles} {s} test a = All-filter (IsRecorded handles) (IsRecorded handles) test s.pending (λ e _ r. r) a.each
+
+-- a tick removes entries, and adds none
 recorded_tick : (handles : HandleList) (s : FacilityState) (refusal : Option TickFault) → AreRecorded handles s
     → AreRecorded handles (step_of_tick s refusal).state
 recorded_tick handles s (Some fault) a = a
-recorded_tick handles s None a = record {
-  sorted = a.sorted;
-  used = a.used;
-  each = All-filter (IsRecorded handles) (IsRecorded handles) _ s.pending (λ e _ r. r) a.each;
-}
+recorded_tick handles s None a = record { sorted = a.sorted; used = a.used; each = each_kept _ a }
 
--- a tick removes entries, and adds none
-pub AreRecorded-tick : (handles : HandleList) (s : FacilityState) → AreRecorded handles s → AreRecorded handles (step s Tick 0).state
-AreRecorded-tick handles s a = recorded_tick handles s (tick_refusal s) a
-
--- nor do many
 AreRecorded-run : (handles : HandleList) (n : ℕ) (s : FacilityState) → AreRecorded handles s → AreRecorded handles (state_after s (ticks n))
 AreRecorded-run handles zero s a = a
-AreRecorded-run handles (suc n) s a = AreRecorded-run handles n (step s Tick 0).state (AreRecorded-tick handles s a)
+AreRecorded-run handles (suc n) s a = AreRecorded-run handles n (step s Tick 0).state (recorded_tick handles s (tick_refusal s) a)
 
-pub AreRecorded-ticks : (handles : HandleList) (limit passed : ℕ) (s : FacilityState) (v : FacilityView) → AreTicked limit passed s v
+pub AreRecorded-ticks : {handles : HandleList} {limit passed : ℕ} {s : FacilityState} {v : FacilityView} → AreTicked limit passed s v
     → AreRecorded handles s → AreRecorded handles v.state
-AreRecorded-ticks handles limit passed s v t a = subst (λ (u : FacilityView). AreRecorded handles u.state) (sym t.ticked)
+AreRecorded-ticks {handles} {passed = passed} {s = s} t a = subst (λ (u : FacilityView). AreRecorded handles u.state) (sym t.ticked)
     (AreRecorded-run handles passed s a)
 
 All-put : (P : Entry → Type 0) (e : Entry) (es : List Entry) → P e → AllByRecursion P es → AllByRecursion P (put e es)
@@ -57,8 +54,8 @@ place_at-more : (hs : HandleList) (h : Handle) (serial place : ℕ) → place_at
     → place_at serial (hs ++ h ∷ []) ≡ Some place
 place_at-more [] h serial place e = absurd cc
 place_at-more (x ∷ xs) h serial place e = elim (either (x.serial == serial)) [
-  | inl k ↦ rw k (sym (ap (λ b. if b then Some x.place else place_at serial xs) k) ∙ e)
-  | inr k ↦ rw k (place_at-more xs h serial place (sym (ap (λ b. if b then Some x.place else place_at serial xs) k) ∙ e))
+  | inl k ↦ rw k (rw k at e)
+  | inr k ↦ rw k (place_at-more xs h serial place (rw k at e))
 ]
 
 pub is_less : (m n : ℕ) → m < n → (m == n) ≡ false
@@ -67,58 +64,46 @@ is_less m n l = grind (arith, nat_tests)
 -- the last handle is found by its serial, if the others have lower ones
 place_at-last : (hs : HandleList) (h : Handle) (serial : ℕ) → h.serial ≡ serial → AllByRecursion (λ k. k.serial < serial) hs
     → place_at serial (hs ++ h ∷ []) ≡ Some h.place
-place_at-last [] h serial e a = let same : (h.serial == serial) ≡ true = ap (λ n. n == serial) e ∙ is_same serial in rw same refl
+place_at-last [] h serial e a = rw (eq-eqb h.serial serial e) refl
 place_at-last (x ∷ xs) h serial e a = rw (is_less x.serial serial a.0) (place_at-last xs h serial e a.1)
-
-All-last : (P : Handle → Type 0) (hs : HandleList) (h : Handle) → AllByRecursion P hs → P h → AllByRecursion P (hs ++ h ∷ [])
-All-last P [] h a p = (p, tt)
-All-last P (x ∷ xs) h a p = (a.0, All-last P xs h a.1 p)
 
 AreSorted-last : (hs : HandleList) (h : Handle) → AreSorted hs → AllByRecursion (λ k. k.serial < h.serial) hs → AreSorted (hs ++ h ∷ [])
 AreSorted-last [] h a b = (tt, tt)
-AreSorted-last (x ∷ xs) h a b = (All-last (λ k. x.serial < k.serial) xs h a.0 b.0, AreSorted-last xs h a.1 b.1)
+AreSorted-last (x ∷ xs) h a b = (All-join (λ k. x.serial < k.serial) xs (h ∷ []) a.0 (b.0, tt), AreSorted-last xs h a.1 b.1)
 
-AreRecorded-stop : (handles : HandleList) (s : FacilityState) (old : Option Timer) → AreRecorded handles s
+AreRecorded-stop : {handles : HandleList} {s : FacilityState} (old : Option Timer) → AreRecorded handles s
     → AreRecorded handles (without_timer old s)
-AreRecorded-stop handles s None a = a
-AreRecorded-stop handles s (Some t) a = record {
-  sorted = a.sorted;
-  used = a.used;
-  each = All-filter (IsRecorded handles) (IsRecorded handles) _ s.pending (λ e _ r. r) a.each;
-}
+AreRecorded-stop None a = a
+AreRecorded-stop (Some t) a = record { sorted = a.sorted; used = a.used; each = each_kept _ a }
 
-AreRecorded-start : (handles : HandleList) (s : FacilityState) (place : ℕ) (t : Timer) → t.serial ≡ s.next_serial
+AreRecorded-start : {handles : HandleList} {s : FacilityState} (place : ℕ) (t : Timer) → t.serial ≡ s.next_serial
     → AreRecorded handles s → AreRecorded (handles ++ handle_of place t ∷ []) (with_timer (Some t) place s)
-AreRecorded-start handles s place t n a =
+AreRecorded-start {handles} {s} place t n a =
     let h : Handle = handle_of place t in
     let below : AllByRecursion (λ k. k.serial < t.serial) handles = subst (λ m. AllByRecursion (λ k. k.serial < m) handles) (sym n) a.used
     in
     record {
       sorted = AreSorted-last handles h a.sorted below;
-      used = All-last (λ k. k.serial < s.next_serial + 1) handles h
-          (All-weaken (λ k. k.serial < s.next_serial) (λ k. k.serial < s.next_serial + 1) handles (λ k l. omega arith) a.used)
-          (omega arith);
-      each = All-put (IsRecorded (handles ++ h ∷ [])) (record {
-        place = place;
-        timer = t;
-      }) s.pending (place_at-last handles h t.serial refl below)
+      used = All-join (λ k. k.serial < s.next_serial + 1) handles (h ∷ [])
+          (All-weaken (λ k. k.serial < s.next_serial) _ handles (λ k l. omega (arith, l)) a.used) (omega (arith, n), tt);
+      each = All-put (IsRecorded (handles ++ h ∷ [])) (record { place = place; timer = t }) s.pending
+          (place_at-last handles h t.serial refl below)
           (All-weaken (IsRecorded handles) (IsRecorded (handles ++ h ∷ [])) s.pending
           (λ e r. place_at-more handles h e.timer.serial e.place r) a.each);
     }
 
-recorded_numbered : (handles : HandleList) (s : FacilityState) (client number : ℕ) → AreRecorded handles s
+recorded_numbered : {handles : HandleList} {s : FacilityState} (client number : ℕ) → AreRecorded handles s
     → AreRecorded handles (with_number client number s)
-recorded_numbered handles s client number a = record { sorted = a.sorted; used = a.used; each = a.each }
+recorded_numbered client number a = record { sorted = a.sorted; used = a.used; each = a.each }
 
 -- an accepted request
-recorded_request : (handles : HandleList) (s : FacilityState) (place : ℕ) (old new : Option Timer)
+recorded_request : {handles : HandleList} {s : FacilityState} (place : ℕ) (old new : Option Timer)
     → ((t : Timer) → new ≡ Some t → t.serial ≡ s.next_serial) → AreRecorded handles s
     → AreRecorded (with_answer (answer_to old new place) handles) (after_request old new place s)
-recorded_request handles s place None None n a = a
-recorded_request handles s place (Some old) None n a = AreRecorded-stop handles s (Some old) a
-recorded_request handles s place None (Some t) n a = AreRecorded-start handles s place t (n t refl) a
-recorded_request handles s place (Some old) (Some t) n a =
-    AreRecorded-start handles (without_timer (Some old) s) place t (n t refl) (AreRecorded-stop handles s (Some old) a)
+recorded_request place None None n a = a
+recorded_request place (Some old) None n a = AreRecorded-stop (Some old) a
+recorded_request place None (Some t) n a = AreRecorded-start place t (n t refl) a
+recorded_request place (Some old) (Some t) n a = AreRecorded-start place t (n t refl) (AreRecorded-stop (Some old) a)
 
 -- the handles with that of the answer, if the step has this answer
 abbrev WithAnswer : HandleList → ℕ → ℕ → Answer → StepResult → Type 0
@@ -126,23 +111,21 @@ WithAnswer handles client number answer st =
     st.outs ≡ Outs.Answered client number answer ∷ [] → AreRecorded (with_answer answer handles) st.state
 
 -- the answer in the one out of a request
-answer_is : (c n c' n' : ℕ) (x y : Answer) → Outs.Answered c n x ∷ [] ≡ Outs.Answered c' n' y ∷ [] → x ≡ y
-answer_is c n c' n' x y h = cc
+answer_is : {c n c' n' : ℕ} {x y : Answer} → Outs.Answered c n x ∷ [] ≡ Outs.Answered c' n' y ∷ [] → x ≡ y
+answer_is h = cc
 
 recorded_asked : (handles : HandleList) (s : FacilityState) (client number : ℕ) (request : ModelRequest) (place : ℕ) (answer : Answer)
     → AreRecorded handles s → WithAnswer handles client number answer (step s (Asked client number request) place)
 recorded_asked handles s client number request place answer a =
     by_verdict (WithAnswer handles client number answer) s client number request place
     (λ reason h. absurd (cc))
-    (λ reason taken h. subst (λ x. AreRecorded (with_answer x handles) (with_number client number s))
-    (answer_is client number client number (Refused reason) answer h) (recorded_numbered handles s client number a))
+    (λ reason taken h. subst (λ x. AreRecorded (with_answer x handles) (with_number client number s)) (answer_is h)
+    (recorded_numbered client number a))
     (λ taken ok h.
     let old : Option Timer = timer_stopped s client request in
     let new : Option Timer = timer_started s client number request in
-    subst (λ x. AreRecorded (with_answer x handles) (with_number client number (after_request old new place s)))
-    (answer_is client number client number (answer_to old new place) answer h)
-    (recorded_numbered (with_answer (answer_to old new place) handles) (after_request old new place s) client number
-    (recorded_request handles s place old new (λ t e. (started-new s client number request t e).serial_is) a)))
+    subst (λ x. AreRecorded (with_answer x handles) (with_number client number (after_request old new place s))) (answer_is h)
+    (recorded_numbered client number (recorded_request place old new (λ t e. (started-new s client number request t e).serial_is) a)))
 
 -- after a request that is taken nothing waits, and the handles with that of its answer are still those of the pending
 -- timers
@@ -150,15 +133,11 @@ pub record StaysRecorded (new : FacilityView) (handles : HandleList) : Type 0 wh
   pub waiting : new.waiting ≡ []
   pub recorded : AreRecorded handles new.state
 
-waiting-taken : (s : FacilityState) (client number : ℕ) (request : Request) (answer : Answer) (new : FacilityView)
-    → IsTaken s client number request answer new → new.waiting ≡ []
-waiting-taken s client number request answer new h = ap (λ (v : FacilityView). v.waiting) h.left ∙ ap notices_in h.answered
-
-pub recorded-taken : (s : FacilityState) (new : FacilityView) (handles : HandleList) (client number : ℕ) (request : Request)
-    (answer : Answer) → AreRecorded handles s → IsTaken s client number request answer new
+pub recorded-taken : {s : FacilityState} {new : FacilityView} {handles : HandleList} {client number : ℕ} {request : Request}
+    {answer : Answer} → AreRecorded handles s → IsTaken s client number request answer new
     → StaysRecorded new (with_answer answer handles)
-recorded-taken s new handles client number request answer a h = record {
-  waiting = waiting-taken s client number request answer new h;
+recorded-taken {s} {new} {handles} {client} {number} {request} {answer} a h = record {
+  waiting = ap (λ (v : FacilityView). v.waiting) h.left ∙ ap notices_in h.answered;
   recorded = subst (λ (v : FacilityView). AreRecorded (with_answer answer handles) v.state) (sym h.left)
       (recorded_asked handles s client number (model_of request) (place_in answer) answer a h.answered);
 }
@@ -171,26 +150,21 @@ pub record IsHandleOf (handles : HandleList) (serial : ℕ) (handle : Handle) : 
 pub both_true : (p q r t : ℕ) → p ≡ q → r ≡ t → (p == q && r == t) ≡ true
 both_true p q r t h k = grind (arith, nat_tests)
 
-second_false : (b : Bool) → (b && false) ≡ false
-second_false true = refl
-second_false false = refl
-
 -- for a recorded entry, a test of the recorded handle is one of the serial alone
 same_test : (handles : HandleList) (serial : ℕ) (handle : Handle) (e : Entry) → IsHandleOf handles serial handle → IsRecorded handles e
     → has_handle handle e ≡ has_serial serial e.timer
 same_test handles serial handle e h r = elim (either (e.timer.serial == serial)) [
   | inl k ↦
-      let is : e.timer.serial ≡ serial = is_equal e.timer.serial serial k in
+      let is : e.timer.serial ≡ serial = eqb-true e.timer.serial serial k in
       let at : place_at serial handles ≡ Some e.place = subst (λ n. place_at n handles ≡ Some e.place) is r in
       both_true e.place handle.place e.timer.serial handle.serial (sym (h.same_place e.place at)) (is ∙ sym h.same_serial) ∙ sym k
-  | inr k ↦ ap (λ n. e.place == handle.place && e.timer.serial == n) h.same_serial ∙ ap (λ b. e.place == handle.place && b) k
-      ∙ second_false (e.place == handle.place) ∙ sym k
+  | inr k ↦ and_right (e.place == handle.place) (e.timer.serial == handle.serial) (ap (λ n. e.timer.serial == n) h.same_serial ∙ k)
+      ∙ sym k
 ]
 
 first_timer_same : (p q : Entry → Bool) (es : List Entry) → AllByRecursion (λ e. p e ≡ q e) es → first_timer p es ≡ first_timer q es
 first_timer_same p q [] a = refl
-first_timer_same p q (e ∷ es) a = ap (λ b. if b then Some e.timer else first_timer p es) a.0
-    ∙ ap (λ o. if q e then Some e.timer else o) (first_timer_same p q es a.1)
+first_timer_same p q (e ∷ es) a = rw a.0 (ap (λ o. if q e then Some e.timer else o) (first_timer_same p q es a.1))
 
 -- so the recorded handle names the timer that its serial names
 pub named-recorded : (handles : HandleList) (s : FacilityState) (client serial : ℕ) (handle : Handle) → AreRecorded handles s

@@ -1,9 +1,10 @@
 -- The handles that a sweep leaves: those of pending timers.
 use Rattle.std.proofs.Common.{◌≡◌, ◌<◌, ◌≤◌, ℕ, Bool, true, false, ◌==◌, ◌||◌, List, [], ◌∷◌, length, filter, map, refl, sym, ◌∙◌, ap, subst, arith, inl, inr, IsSome, nat_eq}
-use Rattle.std.specs.Prelude.{if◌then◌else◌, Some, is_some}
+use Rattle.std.specs.Prelude.{Some, is_some}
 use Rattle.std.specs.List.{AllByRecursion, list_any, IsDistinct}
 use Rattle.std.specs.Map.{lookup}
 use Rattle.std.specs.Cmp.{nat_eq_equiv}
+use Rattle.std.proofs.lemmas.Bool.{eqb-true, ne_eqb}
 use Rattle.std.proofs.lemmas.List.{length-map}
 use Rattle.std.proofs.lemmas.Map.Steps.{length-le_from_keys}
 use Rattle.std.proofs.lemmas.Bool.Decides.{nat_tests}
@@ -13,12 +14,6 @@ use Rattle.timer_base.specs.Pending.{Entry, has_handle, first_timer}
 use Rattle.timer_facility.specs.State.{FacilityState}
 use Rattle.timer_facility.specs.Handles.{HandleList, place_at, AreSorted, is_pending, IsRecorded, AreRecorded, AreFew}
 use Rattle.timer_facility.proofs.HandlesLemmas.{both_true}
-use Rattle.timer_facility.proofs.TimerLists.{is_equal}
-
-passes_too : (p : Handle → Bool) (x : Handle) (place serial : ℕ) → x.place ≡ place → x.serial ≡ serial
-    → p (record { place = place; serial = serial }) ≡ true → p x ≡ true
-passes_too p x place serial same_place same_serial pass =
-    ap (λ m. p (record { place = m; serial = x.serial })) same_place ∙ ap (λ n. p (record { place = place; serial = n })) same_serial ∙ pass
 
 -- a place that is found is that of a handle in the list, so a filter that keeps the handle keeps it
 place_at-filter : (p : Handle → Bool) (hs : HandleList) (serial place : ℕ) → p (record { place = place; serial = serial }) ≡ true
@@ -26,14 +21,15 @@ place_at-filter : (p : Handle → Bool) (hs : HandleList) (serial place : ℕ) �
 place_at-filter p [] serial place pass e = absurd cc
 place_at-filter p (x ∷ xs) serial place pass e = elim (either (x.serial == serial)) [
   | inl k ↦
-      let same_serial : x.serial ≡ serial = is_equal x.serial serial k in
-      let found : Some x.place ≡ Some place = sym (ap (λ b. if b then Some x.place else place_at serial xs) k) ∙ e in
+      let same_serial : x.serial ≡ serial = eqb-true x.serial serial k in
+      let found : Some x.place ≡ Some place = rw k at e in
       let same_place : x.place ≡ place = cc in
-      let passes : p x ≡ true = passes_too p x place serial same_place same_serial pass in
+      let passes : p x ≡ true = ap (λ m. p (record { place = m; serial = x.serial })) same_place
+      ∙ ap (λ n. p (record { place = place; serial = n })) same_serial ∙ pass in
       rw passes (rw k found)
   | inr k ↦
       let later : place_at serial (filter p xs) ≡ Some place = place_at-filter p xs serial place pass
-      (sym (ap (λ b. if b then Some x.place else place_at serial xs) k) ∙ e) in
+      (rw k at e) in
       elim (either (p x)) [
         | inl good ↦ rw good (rw k later)
         | inr fails ↦ rw fails later
@@ -90,12 +86,9 @@ by_serial es = map (λ e. (e.timer.serial, e.place)) es
 abbrev serials : HandleList → List ℕ
 serials hs = map (λ h. h.serial) hs
 
-not_equal : (m n : ℕ) → m < n → nat_eq m n ≡ false
-not_equal m n l = grind (arith, nat_tests)
-
 all_apart : (n : ℕ) (hs : HandleList) → AllByRecursion (λ k. n < k.serial) hs → AllByRecursion (λ y. nat_eq n y ≡ false) (serials hs)
 all_apart n [] a = tt
-all_apart n (x ∷ xs) a = (not_equal n x.serial a.0, all_apart n xs a.1)
+all_apart n (x ∷ xs) a = (let l : n < x.serial = a.0 in ne_eqb n x.serial (λ e. omega (arith, e)), all_apart n xs a.1)
 
 distinct : (hs : HandleList) → AreSorted hs → IsDistinct nat_eq (serials hs)
 unfolding IsDistinct
@@ -112,38 +105,33 @@ pending_some h (x ∷ xs) e = elim (either (has_handle h x)) [
   | inl k ↦ rw (serial_of_handle h x k) refl
   | inr k ↦ elim (either (nat_eq h.serial x.timer.serial)) [
     | inl m ↦ rw m refl
-    | inr m ↦ rw m (pending_some h xs (sym (ap (λ b. is_some (if b then Some x.timer else first_timer (has_handle h) xs)) k) ∙ e))
+    | inr m ↦ rw m (pending_some h xs (rw k at e))
   ]
 ]
-
-equal_serials : (q n : ℕ) → nat_eq q n ≡ true → q ≡ n
-equal_serials q n h = grind (arith, nat_tests)
 
 some_pending : (s : FacilityState) (hs : HandleList) (q : ℕ) → list_any (nat_eq q) (serials (filter (is_pending s) hs)) ≡ true
     → IsSome (lookup (nat_eq q) (by_serial s.pending))
 some_pending s [] q e = absurd cc
 some_pending s (x ∷ xs) q e = elim (either (is_pending s x)) [
   | inl k ↦
-      let e' : (nat_eq q x.serial || list_any (nat_eq q) (serials (filter (is_pending s) xs))) ≡ true =
-      sym (ap (λ b. list_any (nat_eq q) (serials (if b then x ∷ filter (is_pending s) xs else filter (is_pending s) xs))) k) ∙ e in
+      let e' : (nat_eq q x.serial || list_any (nat_eq q) (serials (filter (is_pending s) xs))) ≡ true = rw k at e in
       elim (either (nat_eq q x.serial)) [
-        | inl m ↦ subst (λ n. IsSome (lookup (nat_eq n) (by_serial s.pending))) (sym (equal_serials q x.serial m))
+        | inl m ↦ subst (λ n. IsSome (lookup (nat_eq n) (by_serial s.pending))) (sym (eqb-true q x.serial m))
             (pending_some x s.pending k)
-        | inr m ↦ some_pending s xs q (sym (ap (λ b. b || list_any (nat_eq q) (serials (filter (is_pending s) xs))) m) ∙ e')
+        | inr m ↦ some_pending s xs q (rw m at e')
       ]
-  | inr k ↦ some_pending s xs q (sym (ap (λ b. list_any (nat_eq q)
-      (serials (if b then x ∷ filter (is_pending s) xs else filter (is_pending s) xs))) k) ∙ e)
+  | inr k ↦ some_pending s xs q (rw k at e)
 ]
 
-length-swept : (handles : HandleList) (s : FacilityState) → AreSorted handles → length (filter (is_pending s) handles) ≤ length s.pending
-length-swept handles s a =
+pub few-swept : (handles : HandleList) (s : FacilityState) → AreSorted handles → AreFew (filter (is_pending s) handles) s
+few-swept handles s a =
     let kept : HandleList = filter (is_pending s) handles in
     let few : length (serials kept) ≤ length (by_serial s.pending) =
     length-le_from_keys nat_eq_equiv (serials kept) (by_serial s.pending) (distinct kept (AreSorted-filter (is_pending s) handles a))
     (some_pending s handles) in
-    let l : length (serials kept) ≡ length kept = length-map kept (λ h. h.serial) in
-    let m : length (by_serial s.pending) ≡ length s.pending = length-map s.pending (λ e. (e.timer.serial, e.place)) in
-    omega arith
-
-pub few-swept : (handles : HandleList) (s : FacilityState) → AreSorted handles → AreFew (filter (is_pending s) handles) s
-few-swept handles s a = let h = length-swept handles s a in omega arith
+    omega (
+      arith,
+      few,
+      length-map kept (λ (h : Handle). h.serial),
+      length-map {B = ℕ × ℕ} s.pending (λ e. (e.timer.serial, e.place)),
+    )

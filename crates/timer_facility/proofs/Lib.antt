@@ -1,4 +1,3 @@
-pub mod PlayedNotices
 pub mod PlayedClose
 pub mod PlayedTicks
 pub mod PlayedLemmas

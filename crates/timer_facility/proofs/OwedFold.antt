@@ -1,5 +1,5 @@
 -- A history read event by event, and a proof that this yields what is owed for the whole.
-use Rattle.std.proofs.Common.{◌≡◌, ℕ, zero, suc, ◌+◌, Bool, true, false, not, ◌==◌, ◌&&◌, ◌||◌, List, [], ◌∷◌, ◌++◌, refl, sym, ◌∙◌, ap, arith, append-nil, append_assoc}
+use Rattle.std.proofs.Common.{◌≡◌, ℕ, zero, suc, ◌+◌, Bool, true, false, not, ◌==◌, ◌&&◌, ◌||◌, List, [], ◌++◌, refl, ap, arith, append-nil, append_assoc}
 use Rattle.std.specs.Prelude.{map, filter, nat_lt}
 use Rattle.timer_base.specs.declared.timer.Timer.{Timer}
 use Rattle.timer_base.specs.Pending.{timers_of}
@@ -7,7 +7,7 @@ use Rattle.timer_facility.specs.declared.request.Notice.{Notice}
 use Rattle.timer_facility.specs.declared.request.Notice.TheVariants.{Expired, Returned}
 use Rattle.timer_facility.specs.State.{FacilityState}
 use Rattle.timer_facility.specs.Run.{HistoryEntry}
-use Rattle.timer_facility.specs.Owed.{started, started_by, accepted_starts, serials_told, stopped, ticks_by, accepted_ticks, any_out, is_closing, has_closed, is_among, timers_in_order, due, owed_by_ticks, owed_by_close, owed}
+use Rattle.timer_facility.specs.Owed.{started_by, accepted_starts, serials_told, stopped, ticks_by, accepted_ticks, any_out, is_closing, has_closed, is_among, timers_in_order, due, owed_by_ticks, owed_by_close, owed}
 use Rattle.timer_facility.proofs.TimerLists.{or_false}
 
 -- the reading of a history: the timers started, the serials stopped, the ticks accepted, whether a close was
@@ -20,20 +20,25 @@ pub record Reading : Type 0 where
 abbrev pub nothing_read : Reading
 nothing_read = record { started = []; stopped = []; ticks = 0; is_closed = false }
 
-abbrev pub read_more : Reading → HistoryEntry → Reading
-read_more r h = record {
-  started = r.started ++ started_by h.event h.outs;
-  stopped = r.stopped ++ serials_told h.outs;
-  ticks = r.ticks + ticks_by h.event h.outs;
-  is_closed = r.is_closed || any_out is_closing h.outs;
+abbrev pub read_one : HistoryEntry → Reading
+read_one h = record {
+  started = started_by h.event h.outs;
+  stopped = serials_told h.outs;
+  ticks = ticks_by h.event h.outs;
+  is_closed = any_out is_closing h.outs;
 }
 
-abbrev pub read_on : Reading → List HistoryEntry → Reading
-read_on r [] = r
-read_on r (h ∷ hs) = read_on (read_more r h) hs
-
 abbrev pub reading : List HistoryEntry → Reading
-reading hs = read_on nothing_read hs
+reading hs = record { started = accepted_starts hs; stopped = stopped hs; ticks = accepted_ticks hs; is_closed = has_closed hs }
+
+-- one reading, and then another
+abbrev pub and_then : Reading → Reading → Reading
+and_then r q = record {
+  started = r.started ++ q.started;
+  stopped = r.stopped ++ q.stopped;
+  ticks = r.ticks + q.ticks;
+  is_closed = r.is_closed || q.is_closed;
+}
 
 -- the timers pending in s, and those started since
 abbrev pub all_started : FacilityState → Reading → List Timer
@@ -62,62 +67,33 @@ owed_at_close s r true = map (λ t. Returned t) (timers_in_order (filter (is_lef
 abbrev pub owed_for : FacilityState → Reading → List Notice
 owed_for s r = owed_at_ticks s r r.ticks ++ owed_at_close s r r.is_closed
 
-pub reading_is : (a a' : List Timer) (b b' : List ℕ) (t t' : ℕ) (d d' : Bool) → a ≡ a' → b ≡ b' → t ≡ t' → d ≡ d'
+pub reading_is : {a a' : List Timer} {b b' : List ℕ} {t t' : ℕ} {d d' : Bool} → a ≡ a' → b ≡ b' → t ≡ t' → d ≡ d'
     → let x : Reading = record { started = a; stopped = b; ticks = t; is_closed = d } in
     let y : Reading = record { started = a'; stopped = b'; ticks = t'; is_closed = d' } in x ≡ y
-reading_is a a' b b' t t' d d' e f g h = cc
+reading_is e f g h = cc
 
 or_assoc : (a b c : Bool) → ((a || b) || c) ≡ (a || (b || c))
 or_assoc true b c = refl
 or_assoc false b c = refl
 
--- a reading, and the whole of a history
-abbrev joined : Reading → List HistoryEntry → Reading
-joined r hs = record {
-  started = r.started ++ accepted_starts hs;
-  stopped = r.stopped ++ stopped hs;
-  ticks = r.ticks + accepted_ticks hs;
-  is_closed = r.is_closed || has_closed hs;
-}
+pub then_nothing : (r : Reading) → and_then r nothing_read ≡ r
+then_nothing r = reading_is (append-nil r.started) (append-nil r.stopped) (omega arith) (or_false r.is_closed)
 
-read_on-joined : (r : Reading) (hs : List HistoryEntry) → read_on r hs ≡ joined r hs
-read_on-joined r [] = reading_is r.started (r.started ++ []) r.stopped (r.stopped ++ []) r.ticks (r.ticks + 0) r.is_closed
-    (r.is_closed || false)
-    (sym (append-nil r.started)) (sym (append-nil r.stopped)) (omega arith) (sym (or_false r.is_closed))
-read_on-joined r (h ∷ hs) = read_on-joined (read_more r h) hs
-    ∙ reading_is ((r.started ++ started_by h.event h.outs) ++ accepted_starts hs) (r.started
-    ++ (started_by h.event h.outs ++ accepted_starts hs))
-    ((r.stopped ++ serials_told h.outs) ++ stopped hs) (r.stopped ++ (serials_told h.outs ++ stopped hs))
-    (r.ticks + ticks_by h.event h.outs + accepted_ticks hs) (r.ticks + (ticks_by h.event h.outs + accepted_ticks hs))
-    ((r.is_closed || any_out is_closing h.outs) || has_closed hs) (r.is_closed || (any_out is_closing h.outs || has_closed hs))
-    (append_assoc r.started (started_by h.event h.outs) (accepted_starts hs)) (append_assoc r.stopped (serials_told h.outs) (stopped hs))
-    (omega arith) (or_assoc r.is_closed (any_out is_closing h.outs) (has_closed hs))
+pub nothing_then : (r : Reading) → and_then nothing_read r ≡ r
+nothing_then r = reading_is refl refl (omega arith) refl
 
--- the reading of a whole history
-abbrev whole : List HistoryEntry → Reading
-whole hs = record { started = accepted_starts hs; stopped = stopped hs; ticks = accepted_ticks hs; is_closed = has_closed hs }
+pub then_then : (r q u : Reading) → and_then (and_then r q) u ≡ and_then r (and_then q u)
+then_then r q u = reading_is (append_assoc r.started q.started u.started) (append_assoc r.stopped q.stopped u.stopped)
+    (omega arith) (or_assoc r.is_closed q.is_closed u.is_closed)
 
-whole_is : (hs : List HistoryEntry) → whole hs ≡ reading hs
-whole_is hs =
-    reading_is (accepted_starts hs) (accepted_starts hs) (stopped hs) (stopped hs) (accepted_ticks hs) (0 + accepted_ticks hs)
-    (has_closed hs) (has_closed hs) refl refl (omega arith) refl
-    ∙ sym (read_on-joined nothing_read hs)
-
-ticks_same : (s : FacilityState) (hs : List HistoryEntry) (n : ℕ) → owed_by_ticks s hs n ≡ owed_at_ticks s (whole hs) n
+ticks_same : (s : FacilityState) (hs : List HistoryEntry) (n : ℕ) → owed_by_ticks s hs n ≡ owed_at_ticks s (reading hs) n
 ticks_same s hs zero = refl
 ticks_same s hs (suc n) = ap (λ xs. xs ++ map (λ t. Expired t) (due s hs (s.now + suc n))) (ticks_same s hs n)
 
-close_same : (s : FacilityState) (hs : List HistoryEntry) (b : Bool) → owed_by_close s hs b ≡ owed_at_close s (whole hs) b
+close_same : (s : FacilityState) (hs : List HistoryEntry) (b : Bool) → owed_by_close s hs b ≡ owed_at_close s (reading hs) b
 close_same s hs true = refl
 close_same s hs false = refl
 
 -- what is owed for a history is what is owed for its reading
 pub owed_is : (s : FacilityState) (hs : List HistoryEntry) → owed s hs ≡ owed_for s (reading hs)
-owed_is s hs =
-    ap (λ xs. xs ++ owed_by_close s hs (has_closed hs)) (ticks_same s hs (accepted_ticks hs))
-    ∙ ap (λ ys. owed_at_ticks s (whole hs) (accepted_ticks hs) ++ ys) (close_same s hs (has_closed hs))
-    ∙ ap (owed_for s) (whole_is hs)
-
--- the timers started in a history are those of its reading
-pub started_is : (s : FacilityState) (hs : List HistoryEntry) → started s hs ≡ all_started s (reading hs)
-started_is s hs = ap (all_started s) (whole_is hs)
+owed_is s hs = rw (ticks_same s hs (accepted_ticks hs), close_same s hs (has_closed hs)) refl

@@ -1,10 +1,13 @@
 -- The outs of events do not depend on the places that a wheel chooses.
-use Rattle.std.proofs.Common.{◌≡◌, ℕ, ◌+◌, Bool, true, false, not, inl, inr, List, [], ◌∷◌, ◌++◌, length, refl, sym, ◌∙◌, ap, subst}
-use Rattle.std.specs.Prelude.{map, filter, min, replicate, zero, suc, nat_lt, if◌then◌else◌, Option, Some, None}
+use Rattle.std.proofs.Common.{◌≡◌, ℕ, ◌+◌, Bool, true, false, not, inl, inr, List, [], ◌∷◌, length, refl, sym, ◌∙◌, ap, subst}
+use Rattle.std.specs.Prelude.{map, filter, min, nat_lt, if◌then◌else◌, Option, Some, None}
 use Rattle.std.specs.List.{AllByRecursion}
+use Rattle.std.proofs.lemmas.List.{length-map, map-append}
+use Rattle.std.proofs.lemmas.List.Elements.{All-replicate, recursion_from_All}
+use Rattle.std.proofs.lemmas.Simd.{map-map}
 use Rattle.timer_base.specs.OrderLaws.{either}
 use Rattle.timer_base.specs.declared.timer.Timer.{Timer}
-use Rattle.timer_base.specs.Pending.{Entry, timers_of, put, is_due_at, has_serial, first_timer, without_found}
+use Rattle.timer_base.specs.Pending.{Entry, timer_of, timers_of, put, is_due_at, has_serial, first_timer, without_found}
 use Rattle.timer_facility.specs.declared.request.NotTaken.{NotTaken}
 use Rattle.timer_facility.specs.declared.request.Reason.{Reason}
 use Rattle.timer_facility.specs.declared.request.TickFault.{TickFault}
@@ -15,20 +18,19 @@ use Rattle.timer_facility.specs.declared.event.Event.TheVariants as Events
 use Rattle.timer_facility.specs.declared.event.Out.{Out}
 use Rattle.timer_facility.specs.declared.event.Out.TheVariants as Outs
 use Rattle.timer_facility.specs.State.{FacilityState, After, At, ticks_until, ByHandle, BySerial, ModelRequest, Start, Stop, Restart, SingleEvent, Asked, Tick, Close}
-use Rattle.timer_facility.specs.Verdict.{not_taken, of_client, timer_named, first_refusal, interval_refusal, room_refusal, start_refusal, name_refusal, refusal, tick_refusal, verdict_on_request}
+use Rattle.timer_facility.specs.Verdict.{not_taken, of_client, timer_named, interval_refusal, room_refusal, refusal, tick_refusal, verdict_on_request}
 use Rattle.timer_facility.specs.Step.{StepResult, with_number, answered, timer_stopped, timer_started, answer_to, without_timer, with_timer, after_request, step_by, step, step_of_tick, step_of_close}
 use Rattle.timer_facility.specs.Run.{PlacedEvent, state_after, run, bare_answer, bare, bare_outs, bare_entry, bare_state, NamesBySerial, AreSameButForPlaces}
+use Rattle.timer_facility.proofs.TimerLists.{All-join}
 use Rattle.timer_facility.specs.Played.{ticks_left, singles_of, ArePlaced, IsRun}
 
 -- Lists of entries.
 
 length-bare : (es : List Entry) → length (map bare_entry es) ≡ length es
-length-bare [] = refl
-length-bare (e ∷ es) = ap suc (length-bare es)
+length-bare es = length-map es bare_entry
 
 timers_of-bare : (es : List Entry) → timers_of (map bare_entry es) ≡ timers_of es
-timers_of-bare [] = refl
-timers_of-bare (e ∷ es) = ap (λ ts. e.timer ∷ ts) (timers_of-bare es)
+timers_of-bare es = map-map timer_of bare_entry es
 
 first_timer-bare : (test : Timer → Bool) (es : List Entry) → first_timer (λ e. test e.timer) (map bare_entry es)
     ≡ first_timer (λ e. test e.timer) es
@@ -69,10 +71,6 @@ room_refusal-bare : (s : FacilityState) → room_refusal (bare_state s) ≡ room
 unfolding room_refusal
 room_refusal-bare s = rw (length-bare s.pending) refl
 
-start_refusal-bare : (s : FacilityState) (interval : ℕ) → start_refusal (bare_state s) interval ≡ start_refusal s interval
-start_refusal-bare s interval = ap (λ o. first_refusal o (room_refusal (bare_state s))) (interval_refusal-bare s interval)
-    ∙ ap (first_refusal (interval_refusal s interval)) (room_refusal-bare s)
-
 tick_refusal-bare : (s : FacilityState) → tick_refusal (bare_state s) ≡ tick_refusal s
 unfolding tick_refusal
 tick_refusal-bare s = refl
@@ -83,13 +81,12 @@ named-bare s client serial = ap (of_client client) (first_timer-bare (has_serial
 
 refusal-bare : (s : FacilityState) (client number : ℕ) (request : ModelRequest) → NamesBySerial (Asked client number request)
     → refusal (bare_state s) client request ≡ refusal s client request
-refusal-bare s client number (Start deadline action) n = start_refusal-bare s (ticks_until s deadline)
+refusal-bare s client number (Start deadline action) n = rw (interval_refusal-bare s (ticks_until s deadline), room_refusal-bare s) refl
 refusal-bare s client number (Stop (ByHandle handle)) n = absurd n
-refusal-bare s client number (Stop (BySerial serial)) n = ap name_refusal (named-bare s client serial)
+refusal-bare s client number (Stop (BySerial serial)) n = rw (named-bare s client serial) refl
 refusal-bare s client number (Restart (ByHandle handle) deadline action) n = absurd n
 refusal-bare s client number (Restart (BySerial serial) deadline action) n =
-    ap (λ o. first_refusal (name_refusal o) (interval_refusal (bare_state s) (ticks_until s deadline))) (named-bare s client serial)
-    ∙ ap (first_refusal (name_refusal (timer_named s client (BySerial serial)))) (interval_refusal-bare s (ticks_until s deadline))
+    rw (named-bare s client serial, interval_refusal-bare s (ticks_until s deadline)) refl
 
 stopped-bare : (s : FacilityState) (client number : ℕ) (request : ModelRequest) → NamesBySerial (Asked client number request)
     → timer_stopped (bare_state s) client request ≡ timer_stopped s client request
@@ -120,17 +117,12 @@ answer_to-bare None (Some new) place = refl
 answer_to-bare (Some old) (Some new) place = refl
 
 without_timer-bare : (old : Option Timer) (s : FacilityState) → bare_state (without_timer old s) ≡ without_timer old (bare_state s)
-without_timer-bare old s = ap (λ es. record s { slots = 0; pending = es; has_room = false }) (without_found-bare old s.pending)
+without_timer-bare old s = rw (without_found-bare old s.pending) refl
 
 with_timer-bare : (new : Option Timer) (place : ℕ) (s : FacilityState)
     → bare_state (with_timer new place s) ≡ with_timer new 0 (bare_state s)
 with_timer-bare None place s = refl
-with_timer-bare (Some t) place s = ap (λ es. record s {
-  pending = es;
-  next_serial = s.next_serial + 1;
-  slots = 0;
-  has_room = false;
-}) (put-bare (record { place = place; timer = t }) s.pending)
+with_timer-bare (Some t) place s = rw (put-bare (record { place = place; timer = t }) s.pending) refl
 
 request-bare : (s : FacilityState) (client number : ℕ) (request : ModelRequest) (place : ℕ) (old new : Option Timer)
     (v : Option NotTaken) (w : Option Reason)
@@ -145,56 +137,35 @@ request-bare s client number request place old new None None = (
   ap (with_number client number) (with_timer-bare new place (without_timer old s) ∙ ap (with_timer new 0) (without_timer-bare old s)),
 )
 
--- the step from the parts of its verdict and of what it stops and starts
-abbrev bare_step : FacilityState → ℕ → ℕ → ModelRequest → Option NotTaken → Option Reason → Option Timer → Option Timer → StepResult
-bare_step s client number request v w old new = step_by s (Asked client number request)
-    (answered client number (answer_to old new 0) (after_request old new 0 s)) (verdict_on_request v w)
-
-asked-bare : (s : FacilityState) (client number : ℕ) (request : ModelRequest) → NamesBySerial (Asked client number request)
-    → bare_step (bare_state s) client number request (not_taken s client number) (refusal s client request)
-    (timer_stopped s client request) (timer_started s client number request)
-    ≡ step (bare_state s) (Asked client number request) 0
-asked-bare s client number request n =
-    let b : FacilityState = bare_state s in
-    ap (λ v. bare_step b client number request v (refusal s client request) (timer_stopped s client request)
-    (timer_started s client number request)) (sym (not_taken-bare s client number))
-    ∙ ap (λ w. bare_step b client number request (not_taken b client number) w (timer_stopped s client request)
-    (timer_started s client number request)) (sym (refusal-bare s client number request n))
-    ∙ ap (λ old. bare_step b client number request (not_taken b client number) (refusal b client request) old
-    (timer_started s client number request)) (sym (stopped-bare s client number request n))
-    ∙ ap (bare_step b client number request (not_taken b client number) (refusal b client request) (timer_stopped b client request))
-    (sym (started-bare s client number request))
-
 notices-bare : (f : Timer → Notice) (ts : List Timer) → bare_outs (map (λ t. Outs.Notice (f t)) ts) ≡ map (λ t. Outs.Notice (f t)) ts
-notices-bare f [] = refl
-notices-bare f (t ∷ ts) = ap (λ os. Outs.Notice (f t) ∷ os) (notices-bare f ts)
+notices-bare f ts = map-map bare (λ t. Outs.Notice (f t)) ts
 
 tick-bare : (s : FacilityState) (v : Option TickFault) → IsBareStep (step_of_tick s v) (step_of_tick (bare_state s) v)
 tick-bare s (Some fault) = (refl, refl)
 tick-bare s None = (
-  notices-bare (λ t. Expired t) (filter (is_due_at (s.now + 1)) (timers_of s.pending))
-      ∙ ap (λ ts. map (λ t. Outs.Notice (Expired t)) (filter (is_due_at (s.now + 1)) ts)) (sym (timers_of-bare s.pending)),
+  rw (timers_of-bare s.pending) (notices-bare (λ t. Expired t) (filter (is_due_at (s.now + 1)) (timers_of s.pending))),
   ap (λ es. record s { slots = 0; now = s.now + 1; pending = es; has_room = false }) (filter-bare (λ t. not (is_due_at (s.now + 1) t)) s.pending),
 )
 
 close-bare : (s : FacilityState) (b : Bool) → IsBareStep (step_of_close s b) (step_of_close (bare_state s) b)
 close-bare s true = (refl, refl)
 close-bare s false = (
-  ap (λ os. Outs.Closed (length s.pending) ∷ os) (notices-bare (λ t. Returned t) (timers_of s.pending))
-      ∙ ap (λ n. Outs.Closed n ∷ map (λ t. Outs.Notice (Returned t)) (timers_of s.pending)) (sym (length-bare s.pending))
-      ∙ ap (λ ts. Outs.Closed (length (map bare_entry s.pending)) ∷ map (λ t. Outs.Notice (Returned t)) ts)
-      (sym (timers_of-bare s.pending)),
+  rw (length-bare s.pending, timers_of-bare s.pending)
+      (ap (λ os. Outs.Closed (length s.pending) ∷ os) (notices-bare (λ t. Returned t) (timers_of s.pending))),
   refl,
 )
 
 step-bare : (s : FacilityState) (event : SingleEvent) (place : ℕ) → NamesBySerial event
     → IsBareStep (step s event place) (step (bare_state s) event 0)
 step-bare s (Asked client number request) place n =
-    subst (IsBareStep (step s (Asked client number request) place)) (asked-bare s client number request n)
-    (request-bare s client number request place (timer_stopped s client request) (timer_started s client number request)
+    rw (
+      not_taken-bare s client number,
+      refusal-bare s client number request n,
+      stopped-bare s client number request n,
+      started-bare s client number request,
+    ) (request-bare s client number request place (timer_stopped s client request) (timer_started s client number request)
     (not_taken s client number) (refusal s client request))
-step-bare s Tick place n =
-    subst (λ v. IsBareStep (step s Tick place) (step_of_tick (bare_state s) v)) (sym (tick_refusal-bare s)) (tick-bare s (tick_refusal s))
+step-bare s Tick place n = rw (tick_refusal-bare s) (tick-bare s (tick_refusal s))
 step-bare s Close place n = close-bare s s.is_closed
 
 -- Nor does a run.
@@ -207,10 +178,6 @@ events_of ps = map (λ p. p.event) ps
 abbrev at_none : List SingleEvent → List PlacedEvent
 at_none events = map (λ event. record { event = event; place = 0 }) events
 
-bare_outs-append : (xs ys : List Out) → bare_outs (xs ++ ys) ≡ bare_outs xs ++ bare_outs ys
-bare_outs-append [] ys = refl
-bare_outs-append (x ∷ xs) ys = ap (λ os. bare x ∷ os) (bare_outs-append xs ys)
-
 run-bare : (s : FacilityState) (ps : List PlacedEvent) → AllByRecursion NamesBySerial (events_of ps)
     → IsBareStep (run s ps) (run (bare_state s) (at_none (events_of ps)))
 run-bare s [] n = (refl, refl)
@@ -221,8 +188,7 @@ run-bare s (p ∷ ps) n =
     let rest : IsBareStep (run st.state ps) (run (bare_state st.state) (at_none (events_of ps))) = run-bare st.state ps n.1 in
     let rest' : IsBareStep (run st.state ps) (run bare_st.state (at_none (events_of ps))) =
     subst (λ c. IsBareStep (run st.state ps) (run c (at_none (events_of ps)))) one.1 rest in (
-      bare_outs-append st.outs (run st.state ps).outs ∙ ap (λ os. os ++ bare_outs (run st.state ps).outs) one.0
-          ∙ ap (λ os. bare_st.outs ++ os) rest'.0,
+      rw (map-append bare st.outs (run st.state ps).outs, one.0, rest'.0) refl,
       rest'.1,
     )
 
@@ -231,14 +197,9 @@ pub runs-bare : (s t : FacilityState) (ps qs : List PlacedEvent) → bare_state 
     → AllByRecursion NamesBySerial (events_of ps) → AreSameButForPlaces (run s ps) (run t qs)
 runs-bare s t ps qs e f n =
     let a : IsBareStep (run s ps) (run (bare_state s) (at_none (events_of ps))) = run-bare s ps n in
-    let b : IsBareStep (run t qs) (run (bare_state t) (at_none (events_of qs))) = run-bare t qs (subst (AllByRecursion NamesBySerial) f n)
-    in
-    let same : run (bare_state s) (at_none (events_of ps)) ≡ run (bare_state t) (at_none (events_of qs)) =
-    ap (λ c. run c (at_none (events_of ps))) e ∙ ap (λ es. run (bare_state t) (at_none es)) f in
-    record {
-      outs_are = a.0 ∙ ap (λ (st : StepResult). st.outs) same ∙ sym b.0;
-      states_are = a.1 ∙ ap (λ (st : StepResult). st.state) same ∙ sym b.1;
-    }
+    let b : IsBareStep (run t qs) (run (bare_state s) (at_none (events_of ps))) =
+    rw (e, f) (run-bare t qs (subst (AllByRecursion NamesBySerial) f n)) in
+    record { outs_are = a.0 ∙ sym b.0; states_are = a.1 ∙ sym b.1 }
 
 -- The events of a list that is played.
 
@@ -249,25 +210,13 @@ singles_of-bare s (Events.Restart client number serial interval action) = refl
 singles_of-bare s (Events.Ticks count) = refl
 singles_of-bare s Events.Close = refl
 
-ticks_name : (n : ℕ) → AllByRecursion NamesBySerial (replicate n Tick)
-ticks_name zero = tt
-ticks_name (suc n) = (tt, ticks_name n)
-
 singles_name : (s : FacilityState) (event : Event) → AllByRecursion NamesBySerial (singles_of s event)
 singles_name s (Events.Start client number interval action) = (tt, tt)
 singles_name s (Events.Stop client number serial) = (tt, tt)
 singles_name s (Events.Restart client number serial interval action) = (tt, tt)
-singles_name s (Events.Ticks count) = ticks_name (min count (ticks_left s + 1))
+singles_name s (Events.Ticks count) =
+    recursion_from_All NamesBySerial _ (All-replicate NamesBySerial (min count (ticks_left s + 1)) Tick tt)
 singles_name s Events.Close = (tt, tt)
-
-events_of-append : (xs ys : List PlacedEvent) → events_of (xs ++ ys) ≡ events_of xs ++ events_of ys
-events_of-append [] ys = refl
-events_of-append (x ∷ xs) ys = ap (λ es. x.event ∷ es) (events_of-append xs ys)
-
-all-append : (xs ys : List SingleEvent) → AllByRecursion NamesBySerial xs → AllByRecursion NamesBySerial ys
-    → AllByRecursion NamesBySerial (xs ++ ys)
-all-append [] ys a b = b
-all-append (x ∷ xs) ys a b = (a.0, all-append xs ys a.1 b)
 
 -- the single events that two places of one list make are the same, and name their timers by serial
 record AreAlike (ps qs : List PlacedEvent) : Type 0 where
@@ -277,26 +226,22 @@ record AreAlike (ps qs : List PlacedEvent) : Type 0 where
 placed-alike : (s t : FacilityState) (events : List Event) (ps qs : List PlacedEvent) → bare_state s ≡ bare_state t → ArePlaced s events ps
     → ArePlaced t events qs → AreAlike ps qs
 placed-alike s t [] ps qs e a b = record {
-  same = ap events_of a ∙ sym (ap events_of b);
-  named = subst (λ xs. AllByRecursion NamesBySerial (events_of xs)) (sym a) tt;
+  same = rw (a, b) refl;
+  named = rw a tt;
 }
 placed-alike s t (event ∷ events) ps qs e a b =
     let one : List PlacedEvent = a.0 in
     let rest : List PlacedEvent = a.1 in
     let one' : List PlacedEvent = b.0 in
     let rest' : List PlacedEvent = b.1 in
-    let singles : singles_of s event ≡ singles_of t event = sym (singles_of-bare s event) ∙ ap (λ c. singles_of c event) e
-    ∙ singles_of-bare t event in
-    let here : events_of one ≡ events_of one' = a.3 ∙ singles ∙ sym b.3 in
-    let names : AllByRecursion NamesBySerial (events_of one) = subst (AllByRecursion NamesBySerial) (sym a.3) (singles_name s event) in
+    let here : events_of one ≡ events_of one' =
+    a.3 ∙ sym (singles_of-bare s event) ∙ ap (λ c. singles_of c event) e ∙ singles_of-bare t event ∙ sym b.3 in
+    let names : AllByRecursion NamesBySerial (events_of one) = rw a.3 (singles_name s event) in
     let later : AreAlike rest rest' = placed-alike (state_after s one) (state_after t one') events rest rest'
     (runs-bare s t one one' e here names).states_are a.4 b.4 in
     record {
-      same = ap events_of a.2 ∙ events_of-append one rest ∙ ap (λ es. es ++ events_of rest) here
-          ∙ ap (λ es. events_of one' ++ es) later.same
-          ∙ sym (events_of-append one' rest') ∙ sym (ap events_of b.2);
-      named = subst (AllByRecursion NamesBySerial) (sym (ap events_of a.2 ∙ events_of-append one rest))
-          (all-append (events_of one) (events_of rest) names later.named);
+      same = rw (a.2, b.2, map-append (λ p. p.event) one rest, map-append (λ p. p.event) one' rest', here, later.same) refl;
+      named = rw (a.2, map-append (λ p. p.event) one rest) (All-join NamesBySerial (events_of one) (events_of rest) names later.named);
     }
 
 -- two runs of one list of events

@@ -1,5 +1,5 @@
 -- After a close nothing is handed out, and nothing changes.
-use Rattle.std.proofs.Common.{◌≡◌, ℕ, true, List, [], ◌∷◌, ◌++◌, refl, sym, ◌∙◌, ap, subst}
+use Rattle.std.proofs.Common.{◌≡◌, ℕ, true, List, [], ◌∷◌, refl, sym, subst}
 use Rattle.timer_facility.specs.State.{FacilityState, SingleEvent, Asked, Tick, Close}
 use Rattle.timer_facility.specs.Verdict.{closed_refusal}
 use Rattle.timer_facility.specs.Step.{StepResult, refused, step}
@@ -27,4 +27,4 @@ run-closed s (p ∷ ps) h =
     let st : StepResult = step s p.event p.place in
     let one : IsIdle s st = step-closed s p.event p.place h in
     let rest : IsIdle s (run st.state ps) = subst (λ c. IsIdle s (run c ps)) (sym one.1) (run-closed s ps h) in
-    (notices_in-append st.outs (run st.state ps).outs ∙ ap (λ ns. ns ++ notices_in (run st.state ps).outs) one.0 ∙ rest.0, rest.1)
+    (rw (notices_in-append st.outs (run st.state ps).outs, one.0) rest.0, rest.1)

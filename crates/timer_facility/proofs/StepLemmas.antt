@@ -11,10 +11,10 @@ use Rattle.timer_facility.specs.declared.request.Reason.{Reason}
 use Rattle.timer_facility.specs.declared.request.Request.{Request}
 use Rattle.timer_facility.specs.State.{FacilityState, Deadline, ticks_until, Name, ModelRequest, Start, Stop, Restart, action_of, SingleEvent, Asked}
 use Rattle.timer_facility.specs.Verdict.{not_taken, has_name, timer_named, first_refusal, interval_refusal, name_refusal, refusal, Refusal, RequestNotTaken, verdict_on_request, verdict}
-use Rattle.timer_facility.specs.Step.{StepResult, answered, refused, new_timer, timer_stopped, timer_started, answer_to, after_request, accepted, step_by, step}
+use Rattle.timer_facility.specs.Step.{StepResult, answered, refused, new_timer, timer_stopped, timer_started, after_request, accepted, step_by, step}
 use Rattle.timer_facility.specs.Facility.{FacilityView, view_after, model_of, event_of_request, place_in, IsAnswered, HasAnswered, IsTaken}
 use Rattle.timer_facility.proofs.TimerLists.{first_timer-among, of_client_some}
-use Rattle.timer_facility.proofs.VerdictLemmas.{IsTimely, timely, startable}
+use Rattle.timer_facility.proofs.VerdictLemmas.{IsTimely, neither, timely, startable}
 
 -- By the verdict.
 
@@ -28,16 +28,13 @@ pub step-accepted : (s : FacilityState) (event : SingleEvent) (place : ℕ) → 
     → step s event place ≡ accepted s event place
 step-accepted s event place h = ap (step_by s event (accepted s event place)) h
 
-pub verdict-not_taken : (s : FacilityState) (client number : ℕ) (request : ModelRequest) (reason : NotTaken)
-    → not_taken s client number ≡ Some reason → verdict s (Asked client number request) ≡ Some (RequestNotTaken reason)
-verdict-not_taken s client number request reason h = ap (λ v. verdict_on_request v (refusal s client request)) h
-
 -- a request that is not taken changes nothing
 pub step-not_taken : (s : FacilityState) (client number : ℕ) (request : ModelRequest) (place : ℕ) (reason : NotTaken)
     → not_taken s client number ≡ Some reason
     → step s (Asked client number request) place ≡ refused s (Asked client number request) (RequestNotTaken reason)
 step-not_taken s client number request place reason h =
-    step-refused s (Asked client number request) place (RequestNotTaken reason) (verdict-not_taken s client number request reason h)
+    step-refused s (Asked client number request) place (RequestNotTaken reason)
+    (ap (λ v. verdict_on_request v (refusal s client request)) h)
 
 -- what holds of a request's step, from what holds when it is not taken, refused or accepted
 pub by_verdict : (P : StepResult → Type 0) (s : FacilityState) (client number : ℕ) (request : ModelRequest) (place : ℕ)
@@ -60,24 +57,14 @@ pub step-alike : (s : FacilityState) (client number : ℕ) (a b : ModelRequest) 
     → refusal s client a ≡ refusal s client b → timer_stopped s client a ≡ timer_stopped s client b
     → timer_started s client number a ≡ timer_started s client number b
     → step s (Asked client number a) place ≡ step s (Asked client number b) place
-step-alike s client number a b place e f g =
-    alike (not_taken s client number) (refusal s client a)
-    ∙ ap (λ w. step_by s (Asked client number b) (accepted s (Asked client number a) place)
-    (verdict_on_request (not_taken s client number) w)) e
-    ∙ ap (λ old. of_timers old (timer_started s client number a)) f
-    ∙ ap (λ new. of_timers (timer_stopped s client b) new) g
+step-alike s client number a b place e f g = rw (e, f, g) (alike (not_taken s client number) (refusal s client b))
   where
     alike : (v : Option NotTaken) (w : Option Reason)
-        → step_by s (Asked client number a) (accepted s (Asked client number a) place) (verdict_on_request v w)
-        ≡ step_by s (Asked client number b) (accepted s (Asked client number a) place) (verdict_on_request v w)
+        → step_by s (Asked client number a) (accepted s (Asked client number b) place) (verdict_on_request v w)
+        ≡ step_by s (Asked client number b) (accepted s (Asked client number b) place) (verdict_on_request v w)
     alike (Some reason) w = refl
     alike None (Some reason) = refl
     alike None None = refl
-
-    of_timers : Option Timer → Option Timer → StepResult
-    of_timers old new = step_by s (Asked client number b)
-        (answered client number (answer_to old new place) (after_request old new place s))
-        (verdict s (Asked client number b))
 
 -- so it is one whether a timer is named by its handle or by its serial
 pub step-stop : (s : FacilityState) (client number place : ℕ) (a b : Name) → timer_named s client a ≡ timer_named s client b
@@ -96,7 +83,7 @@ step-restart s client number place a b deadline action e =
 named_among : (s : FacilityState) (client : ℕ) (name : Name) (t : Timer) → timer_named s client name ≡ Some t
     → IsMember t (timers_of s.pending)
 named_among s client name t h = first_timer-among (has_name name) t s.pending
-    (of_client_some client (first_timer (has_name name) s.pending) t h)
+    (of_client_some client (first_timer (has_name name) s.pending) t h).0
 
 -- a timer that is stopped is pending
 pub stopped-among : (s : FacilityState) (client : ℕ) (request : ModelRequest) (t : Timer)
@@ -131,21 +118,17 @@ later_is s client number interval action t timely h =
     let positive = timely.positive in
     subst (λ (u : Timer). s.now < u.deadline) e (omega arith)
 
--- a restart that is not refused has found its timer, and its interval is not refused either
-restartable : (found : Option Timer) (o : Option Reason)
-    → first_refusal (name_refusal found) o ≡ None → o ≡ None
-restartable None o h = absurd (cc)
-restartable (Some t) o h = h
-
 -- and its deadline is after now, if it is accepted
 pub started-later : (s : FacilityState) (client number : ℕ) (request : ModelRequest) (t : Timer) → refusal s client request ≡ None
     → timer_started s client number request ≡ Some t → s.now < t.deadline
 started-later s client number (Start deadline action) t r h =
-    later_is s client number (ticks_until s deadline) action t (startable s (ticks_until s deadline) r).timely h
+    later_is s client number (ticks_until s deadline) action t
+    (timely s (ticks_until s deadline) (startable s (ticks_until s deadline) r).unrefused) h
 started-later s client number (Stop name) t r h = absurd (cc)
 started-later s client number (Restart name deadline action) t r h =
     later_is s client number (ticks_until s deadline) action t
-    (timely s (ticks_until s deadline) (restartable (timer_named s client name) (interval_refusal s (ticks_until s deadline)) r)) h
+    (timely s (ticks_until s deadline)
+    (neither (name_refusal (timer_named s client name)) (interval_refusal s (ticks_until s deadline)) r).1) h
 
 -- an accepted request stops a timer or starts one
 pub accepted-some : (s : FacilityState) (client number : ℕ) (request : ModelRequest) → refusal s client request ≡ None
@@ -177,21 +160,12 @@ step_answered : (s : FacilityState) (client number : ℕ) (request : ModelReques
     → (w : Option Reason) → IsAnswered w (timer_stopped s client request) (timer_started s client number request) s answer v
     → step_by s (Asked client number request) (accepted s (Asked client number request) (place_in answer)) (verdict_on_request None w)
     ≡ answered client number answer v.state
-step_answered s client number request answer v (Some reason) a =
-    ap (λ (x : Answer). answered client number x s) (sym a.0) ∙ ap (λ (u : FacilityView). answered client number answer u.state) (sym a.1)
+step_answered s client number request answer v (Some reason) a = rw (a.0, a.1) refl
 step_answered s client number request answer v None a =
     let after : FacilityState =
     after_request (timer_stopped s client request) (timer_started s client number request) (place_in answer) s in
     ap (λ (x : Answer). answered client number x after) (sym a.0)
     ∙ ap (λ (u : FacilityView). answered client number answer u.state) (sym a.1)
-
-pub step-answered : (s : FacilityState) (client number : ℕ) (request : ModelRequest) (answer : Answer) (v : FacilityView)
-    → not_taken s client number ≡ None → HasAnswered s client number request answer v
-    → step s (Asked client number request) (place_in answer) ≡ answered client number answer v.state
-step-answered s client number request answer v n a =
-    ap (λ o. step_by s (Asked client number request) (accepted s (Asked client number request) (place_in answer))
-    (verdict_on_request o (refusal s client request))) n
-    ∙ step_answered s client number request answer v (refusal s client request) a
 
 -- the request is taken once its number is used up
 pub taken-answered : (s : FacilityState) (client number : ℕ) (request : Request) (answer : Answer) (v new : FacilityView)
@@ -199,5 +173,5 @@ pub taken-answered : (s : FacilityState) (client number : ℕ) (request : Reques
     → new ≡ view_after (answered client number answer v.state) → IsTaken s client number request answer new
 taken-answered s client number request answer v new n a e =
     let is : step s (event_of_request client number request) (place_in answer) ≡ answered client number answer v.state =
-    step-answered s client number (model_of request) answer v n a in
+    rw n (step_answered s client number (model_of request) answer v (refusal s client (model_of request)) a) in
     record { answered = ap (λ (st : StepResult). st.outs) is; left = e ∙ sym (ap view_after is) }

@@ -1,5 +1,5 @@
 -- Many ticks that a wheel passes at once are that many single ticks.
-use Rattle.std.proofs.Common.{◌≡◌, ◌≢◌, ◌<◌, ◌≤◌, ◌+◌, ◌-◌, ℕ, zero, suc, false, List, [], ◌∷◌, ◌++◌, length, refl, sym, ◌∙◌, ap, subst, arith}
+use Rattle.std.proofs.Common.{◌≡◌, ◌<◌, ◌≤◌, ◌+◌, ◌-◌, ℕ, zero, suc, false, List, [], ◌∷◌, ◌++◌, length, refl, sym, ◌∙◌, ap, subst, arith}
 use Rattle.std.specs.Prelude.{map, drop, min, None}
 use Rattle.timer_base.specs.Pending.{Entry, timers_of}
 use Rattle.timer_base.specs.TickLaws.{after_ticks-now, after_ticks-last}
@@ -13,13 +13,9 @@ use Rattle.timer_facility.specs.Run.{history, state_after, run, notices, notices
 use Rattle.timer_facility.specs.Facility.{FacilityView, Fields, view_of, IsFacility, view_after}
 use Rattle.timer_facility.specs.Ticked.{ticks, AreTicked}
 use Rattle.timer_facility.proofs.OwedLemmas.{notices_in-append}
-use Rattle.timer_facility.proofs.FacilityFields.{nothing_returned, view_by_waiting, view-tick, facility-tick}
+use Rattle.timer_facility.proofs.FacilityFields.{idle, agrees, view_is, view-tick, facility-tick}
 use Rattle.timer_facility.proofs.PlayedTicks.{state_after-ticks, outs_of-ticks}
-use Rattle.timer_facility.proofs.VerdictLemmas.{tick_refusal-none}
-
-both_are : (s t : FacilityState) (xs ys : List Notice) → s ≡ t → xs ≡ ys
-    → let a : FacilityView = record { state = s; waiting = xs } in let b : FacilityView = record { state = t; waiting = ys } in a ≡ b
-both_are s t xs ys e f = cc
+use Rattle.timer_facility.proofs.VerdictLemmas.{tick_refusal-none, ticking}
 
 -- one more tick, if nothing was handed out before it
 view-more : (s : FacilityState) (n : ℕ) → notices (history s (ticks n)) ≡ []
@@ -27,10 +23,8 @@ view-more : (s : FacilityState) (n : ℕ) → notices (history s (ticks n)) ≡ 
 view-more s n h =
     let last : StepResult = step (state_after s (ticks n)) Tick 0 in
     let outs : notices (history s (ticks (suc n))) ≡ notices_in last.outs =
-    ap notices_in (outs_of-ticks n s) ∙ notices_in-append (outs_of (history s (ticks n))) last.outs
-    ∙ ap (λ ns. ns ++ notices_in last.outs) h in
-    both_are last.state (state_after s (ticks (suc n))) (notices_in last.outs) (notices (history s (ticks (suc n))))
-    (sym (state_after-ticks n s)) (sym outs)
+    rw (outs_of-ticks n s, notices_in-append (outs_of (history s (ticks n))) last.outs, h) refl in
+    view_is (sym (state_after-ticks n s)) (sym outs)
 
 -- the fields after `n` ticks of the wheel
 abbrev after : ℕ → Fields → Fields
@@ -41,41 +35,34 @@ record IsStretch (p : Fields) (n : ℕ) : Type 0 where
   parts : IsFacility (after n p)
   same_view : view_of (after n p) ≡ view_after (run (view_of p).state (ticks n))
 
--- a moment at which nothing waits and the next tick is accepted
+-- a moment at which nothing was handed out and the next tick is accepted
 record IsBetween (p : Fields) (n : ℕ) : Type 0 where
-  waiting : (view_of (after n p)).waiting ≡ []
   quiet : notices (history (view_of p).state (ticks n)) ≡ []
   unrefused : tick_refusal (view_of (after n p)).state ≡ None
   accepted : tick_refusal (state_after (view_of p).state (ticks n)) ≡ None
 
-between : (p : Fields) (n : ℕ) → IsStretch p n → map (λ t. Returned t) (drop p.handed p.returned) ≡ [] → p.is_closed ≡ false
-    → p.wheel.now + n < p.wheel.last_tick
-    → (Wheels.after_ticks n p.wheel).due ≡ [] → IsBetween p n
+between : (p : Fields) (n : ℕ) → IsStretch p n → drop p.handed p.returned ≡ [] → p.is_closed ≡ false
+    → p.wheel.now + n < p.wheel.last_tick → (Wheels.after_ticks n p.wheel).due ≡ [] → IsBetween p n
 between p n i r c l d =
-    let q : Fields = after n p in
-    let none : (view_of q).waiting ≡ [] = ap (λ ds. map (λ t. Expired t) (timers_of ds)
-    ++ map (λ t. Returned t) (drop p.handed p.returned)) d ∙ r in
-    let now : q.wheel.now ≡ p.wheel.now + n = after_ticks-now n p.wheel in
-    let last : q.wheel.last_tick ≡ p.wheel.last_tick = after_ticks-last n p.wheel in
-    let differ : q.wheel.now ≢ q.wheel.last_tick = λ e. absurd (omega (arith, now, last, e, l)) in
+    let none : (view_of (after n p)).waiting ≡ [] = rw (d, r) refl in
+    let unrefused : tick_refusal (view_of (after n p)).state ≡ None = tick_refusal-none (view_of (after n p)).state c
+    (λ e. absurd (omega (arith, after_ticks-now n p.wheel, after_ticks-last n p.wheel, e, l))) in
     record {
-      waiting = none;
       quiet = sym (ap (λ (v : FacilityView). v.waiting) i.same_view) ∙ none;
-      unrefused = tick_refusal-none (view_of q).state c differ;
-      accepted = sym (ap (λ (v : FacilityView). tick_refusal v.state) i.same_view) ∙ tick_refusal-none (view_of q).state c differ;
+      unrefused = unrefused;
+      accepted = sym (ap (λ (v : FacilityView). tick_refusal v.state) i.same_view) ∙ unrefused;
     }
 
-stretch : (p : Fields) (n : ℕ) → IsFacility p → (view_of p).waiting ≡ [] → map (λ t. Returned t) (drop p.handed p.returned) ≡ []
-    → p.is_closed ≡ false
+stretch : (p : Fields) (n : ℕ) → IsFacility p → (view_of p).waiting ≡ [] → p.is_closed ≡ false
     → p.wheel.now + n ≤ p.wheel.last_tick → ((k : ℕ) → k < n → (Wheels.after_ticks k p.wheel).due ≡ []) → IsStretch p n
-stretch p zero a w r c l d = record { parts = a; same_view = view_by_waiting (view_of p).state (view_of p).waiting [] w }
-stretch p (suc n) a w r c l d =
-    let q : Fields = after n p in
-    let i : IsStretch p n = stretch p n a w r c (omega arith) (λ k h. d k (omega arith)) in
+stretch p zero a w c l d = record { parts = a; same_view = view_is refl w }
+stretch p (suc n) a w c l d =
+    let r : drop p.handed p.returned ≡ [] = (idle a refl w).none_returned in
+    let i : IsStretch p n = stretch p n a w c (omega arith) (λ k h. d k (omega arith)) in
     let b : IsBetween p n = between p n i r c (omega arith) (d n (omega arith)) in
     record {
-      parts = facility-tick i.parts (d n (omega arith)) (Wheels.after_tick q.wheel) refl;
-      same_view = view-tick {p = q} {v = view_of q} i.parts refl b.waiting b.unrefused (Wheels.after_tick q.wheel) refl
+      parts = facility-tick i.parts (d n (omega arith)) refl;
+      same_view = view-tick i.parts refl r b.unrefused refl
           ∙ ap (λ (v : FacilityView). view_after (step v.state Tick 0)) i.same_view
           ∙ view-more (view_of p).state n b.quiet;
     }
@@ -85,22 +72,23 @@ some_wait [] ys h = absurd (omega arith)
 some_wait (x ∷ xs) ys h = omega arith
 
 -- the facility after its wheel has passed ticks
-record IsPassed (limit passed : ℕ) (p p' : Fields) : Type 0 where
-  parts : IsFacility p'
-  ticked : AreTicked limit passed (view_of p).state (view_of p')
+pub record IsPassed (limit passed : ℕ) (p : Fields) (s : FacilityState) (w' : Wheels.WheelState) : Type 0 where
+  pub parts : IsFacility (record p { wheel = w' })
+  pub ticked : AreTicked limit passed s (view_of (record p { wheel = w' }))
 
-advanced : (p : Fields) (limit most passed : ℕ) (w' : Wheels.WheelState) → IsFacility p → (view_of p).waiting ≡ [] → p.is_closed ≡ false
-    → most ≡ min limit (p.wheel.last_tick - p.wheel.now) → Wheels.Advances most passed p.wheel w'
-    → IsPassed limit passed p (record p { wheel = w' })
-advanced p limit most passed w' a w c m v =
-    let s : FacilityState = (view_of p).state in
-    let r : map (λ t. Returned t) (drop p.handed p.returned) ≡ [] = nothing_returned {p = p} {v = view_of p} a refl w in
-    let some : 0 < passed = v.some in
-    let at_most : passed ≤ most = v.at_most in
-    let all : IsStretch p passed = stretch p passed a w r c (omega arith) v.quiet in
+pub passed_now : {p : Fields} {v : FacilityView} → IsFacility p → view_of p ≡ v → v.waiting ≡ [] → tick_refusal v.state ≡ None
+    → (limit : ℕ) {most passed : ℕ} → most ≡ min limit (p.wheel.last_tick - p.wheel.now)
+    → {w' : Wheels.WheelState} → Wheels.Advances most passed p.wheel w' → IsPassed limit passed p v.state w'
+passed_now {p} {v} a e h unrefused limit {most} {passed} m {w'} t =
+    let w : (view_of p).waiting ≡ [] = ap (λ (u : FacilityView). u.waiting) e ∙ h in
+    let r : drop p.handed p.returned ≡ [] = (idle a refl w).none_returned in
+    let c : p.is_closed ≡ false = sym (agrees a e).closed_is ∙ (ticking v.state unrefused).is_open in
+    let some : 0 < passed = t.some in
+    let at_most : passed ≤ most = t.at_most in
+    let all : IsStretch p passed = stretch p passed a w c (omega arith) t.quiet in
     let at : (n : ℕ) → n < passed → IsBetween p n = λ n h. between p n
-    (stretch p n a w r c (omega arith) (λ k g. v.quiet k (omega arith))) r c (omega arith) (v.quiet n h) in
-    let here : IsPassed limit passed p (after passed p) = record {
+    (stretch p n a w c (omega arith) (λ k g. t.quiet k (omega arith))) r c (omega arith) (t.quiet n h) in
+    let here : IsPassed limit passed p (view_of p).state (Wheels.after_ticks passed p.wheel) = record {
       parts = all.parts;
       ticked = record {
         some = some;
@@ -109,22 +97,8 @@ advanced p limit most passed w' a w c m v =
         ticked = all.same_view;
         quiet = λ n h. (at n h).quiet;
         early = λ h. some_wait (Wheels.after_ticks passed p.wheel).due (map (λ t. Returned t) (drop p.handed p.returned))
-            (subst (λ (u : Wheels.WheelState). 0 < length u.due) v.ticked (v.early (omega arith)));
+            (subst (λ (u : Wheels.WheelState). 0 < length u.due) t.ticked (t.early (omega arith)));
       };
     } in
-    subst (λ (u : Wheels.WheelState). IsPassed limit passed p (record p { wheel = u })) (sym v.ticked) here
-
-pub facility-advanced : {p : Fields} {v : FacilityView} → IsFacility p → view_of p ≡ v → v.waiting ≡ [] → p.is_closed ≡ false
-    → (limit most passed : ℕ)
-    → most ≡ min limit (p.wheel.last_tick - p.wheel.now) → (w' : Wheels.WheelState) → Wheels.Advances most passed p.wheel w'
-    → IsFacility (record p { wheel = w' })
-facility-advanced {p} {v} a e h c limit most passed m w' t = (advanced p limit most passed w' a (ap (λ (u : FacilityView). u.waiting) e
-    ∙ h) c m t).parts
-
-pub view-advanced : {p : Fields} {v : FacilityView} → IsFacility p → view_of p ≡ v → v.waiting ≡ [] → p.is_closed ≡ false
-    → (limit most passed : ℕ)
-    → most ≡ min limit (p.wheel.last_tick - p.wheel.now) → (w' : Wheels.WheelState) → Wheels.Advances most passed p.wheel w'
-    → AreTicked limit passed v.state (view_of (record p { wheel = w' }))
-view-advanced {p} {v} a e h c limit most passed m w' t =
-    subst (λ (u : FacilityView). AreTicked limit passed u.state (view_of (record p { wheel = w' }))) e
-    (advanced p limit most passed w' a (ap (λ (u : FacilityView). u.waiting) e ∙ h) c m t).ticked
+    subst (λ (u : FacilityView). IsPassed limit passed p u.state w') e
+    (subst (IsPassed limit passed p (view_of p).state) (sym t.ticked) here)

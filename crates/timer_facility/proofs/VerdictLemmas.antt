@@ -1,7 +1,7 @@
 -- The verdict, from the tests.
 use Rattle.std.proofs.Common.{◌≡◌, ◌≢◌, ◌<◌, ◌≤◌, ◌-◌, ℕ, Bool, true, false, not, ◌==◌, length, refl, arith}
 use Rattle.std.specs.Prelude.{nat_lt, if◌then◌else◌, Option, Some, None}
-use Rattle.std.proofs.lemmas.Bool.Decides.{nat_tests}
+use Rattle.std.proofs.lemmas.Bool.{eqb-false, le-ltb, lt-ltb, ltb-false, ltb-true, ne_eqb, not-false}
 use Rattle.timer_base.specs.declared.limits.TheConstants.{LAST}
 use Rattle.timer_facility.specs.declared.request.NotTaken.TheVariants as NotTakens
 use Rattle.timer_facility.specs.declared.request.Reason.{Reason}
@@ -9,33 +9,6 @@ use Rattle.timer_facility.specs.declared.request.Reason.TheVariants as Reasons
 use Rattle.timer_facility.specs.declared.request.TickFault.TheVariants as TickFaults
 use Rattle.timer_facility.specs.State.{FacilityState, number_of}
 use Rattle.timer_facility.specs.Verdict.{not_taken, first_refusal, interval_refusal, room_refusal, start_refusal, tick_refusal}
-
-lt_true : (a b : ℕ) → a < b → nat_lt a b ≡ true
-lt_true a b h = grind (arith, nat_tests)
-
-lt_false : (a b : ℕ) → b ≤ a → nat_lt a b ≡ false
-lt_false a b h = grind (arith, nat_tests)
-
-not_lt : (a b : ℕ) → b ≤ a → not (nat_lt a b) ≡ true
-not_lt a b h = grind (arith, nat_tests)
-
-is_lt : (a b : ℕ) → not (nat_lt a b) ≡ false → a < b
-is_lt a b h = grind (arith, nat_tests)
-
-at_most : (a b : ℕ) → nat_lt a b ≡ false → b ≤ a
-at_most a b h = grind (arith, nat_tests)
-
-same : (a b : ℕ) → a ≡ b → (a == b) ≡ true
-same a b h = grind (arith, nat_tests)
-
-differ : (a b : ℕ) → a ≢ b → (a == b) ≡ false
-differ a b h = grind (arith, nat_tests)
-
-differs : (a b : ℕ) → (a == b) ≡ false → a ≢ b
-differs a b h = grind (arith, nat_tests)
-
-above_zero : (n : ℕ) → (n == 0) ≡ false → 0 < n
-above_zero n h = grind (arith, nat_tests)
 
 -- a test that fails, and the ones after it
 none_then : {X : Type 0} (x : X) (rest : Option X) (b : Bool) → (if b then Some x else rest) ≡ None → (b ≡ false) × (rest ≡ None)
@@ -51,7 +24,7 @@ not_taken-closed s client number h = rw h refl
 pub not_taken-no_client : (s : FacilityState) (client number : ℕ) → s.is_closed ≡ false → length s.numbers ≤ client
     → not_taken s client number ≡ Some NotTakens.NoClient
 unfolding not_taken
-not_taken-no_client s client number h k = rw (h, not_lt client (length s.numbers) k) refl
+not_taken-no_client s client number h k = rw (h, le-ltb client (length s.numbers) k) refl
 
 -- the facility is open, and the client is one of its own and has this next number
 pub record IsKnown (s : FacilityState) (client next : ℕ) : Type 0 where
@@ -59,18 +32,11 @@ pub record IsKnown (s : FacilityState) (client next : ℕ) : Type 0 where
   pub is_client : client < length s.numbers
   pub next_is : number_of s client ≡ next
 
-pub not_taken-none : (s : FacilityState) (client number next : ℕ) → IsKnown s client next → next ≤ number → next ≤ LAST → number ≤ next
-    → not_taken s client number ≡ None
+pub not_taken-none : (s : FacilityState) (client number next : ℕ) → IsKnown s client next → next ≤ number → next ≤ LAST
+    → number ≤ next → not_taken s client number ≡ None
 unfolding not_taken
 not_taken-none s client number next k h l m =
-    rw (
-      k.is_open,
-      k.next_is,
-      lt_true client (length s.numbers) k.is_client,
-      lt_false number next h,
-      lt_false LAST next l,
-      lt_false next number m,
-    ) refl
+    rw (k.is_open, k.next_is, lt-ltb client (length s.numbers) k.is_client, le-ltb number next h, le-ltb LAST next l, le-ltb next number m) refl
 
 -- what is true of a request that is taken
 pub record IsTakable (s : FacilityState) (client number : ℕ) : Type 0 where
@@ -90,14 +56,11 @@ takable s client number h =
     let e = none_then (NotTakens.Ahead (number_of s client)) _ (nat_lt (number_of s client) number) d.1 in
     record {
       is_open = a.0;
-      is_client = is_lt client (length s.numbers) b.0;
-      from_next = at_most number (number_of s client) c.0;
-      in_range = at_most LAST (number_of s client) d.0;
-      to_next = at_most (number_of s client) number e.0;
+      is_client = ltb-true client (length s.numbers) (not-false (nat_lt client (length s.numbers)) b.0);
+      from_next = ltb-false number (number_of s client) c.0;
+      in_range = ltb-false LAST (number_of s client) d.0;
+      to_next = ltb-false (number_of s client) number e.0;
     }
-
-pub open_when : (s : FacilityState) (client number : ℕ) → not_taken s client number ≡ None → s.is_closed ≡ false
-open_when s client number h = (takable s client number h).is_open
 
 -- Starts, and restarts.
 
@@ -114,31 +77,28 @@ timely s interval h =
     let b = none_then Reasons.TooLate _ (nat_lt (s.last - s.now) interval) a.1 in
     let c = none_then Reasons.SerialsSpent _ (nat_lt LAST s.next_serial) b.1 in
     record {
-      positive = above_zero interval a.0;
-      in_time = at_most (s.last - s.now) interval b.0;
-      unspent = at_most LAST s.next_serial c.0;
+      positive = omega (arith, eqb-false interval 0 a.0);
+      in_time = ltb-false (s.last - s.now) interval b.0;
+      unspent = ltb-false LAST s.next_serial c.0;
     }
 
 -- what is true of a start that is accepted
 pub record IsStartable (s : FacilityState) (interval : ℕ) : Type 0 where
-  pub timely : IsTimely s interval
+  pub unrefused : interval_refusal s interval ≡ None
   pub room : length s.pending ≢ s.capacity
 
-neither : (a b : Option Reason) → first_refusal a b ≡ None → (a ≡ None) × (b ≡ None)
+pub neither : (a b : Option Reason) → first_refusal a b ≡ None → (a ≡ None) × (b ≡ None)
 neither None b h = (refl, h)
 neither (Some reason) b h = absurd (cc)
 
-pub unrefused_interval : (s : FacilityState) (interval : ℕ) → start_refusal s interval ≡ None → interval_refusal s interval ≡ None
-unrefused_interval s interval h = (neither (interval_refusal s interval) (room_refusal s) h).0
-
 some_room : (s : FacilityState) → room_refusal s ≡ None → length s.pending ≢ s.capacity
 unfolding room_refusal
-some_room s h = differs (length s.pending) s.capacity (none_then Reasons.Full _ (length s.pending == s.capacity) h).0
+some_room s h = eqb-false (length s.pending) s.capacity (none_then Reasons.Full _ (length s.pending == s.capacity) h).0
 
 pub startable : (s : FacilityState) (interval : ℕ) → start_refusal s interval ≡ None → IsStartable s interval
 startable s interval h =
     let n = neither (interval_refusal s interval) (room_refusal s) h in
-    record { timely = timely s interval n.0; room = some_room s n.1 }
+    record { unrefused = n.0; room = some_room s n.1 }
 
 -- Ticks.
 
@@ -148,16 +108,16 @@ tick_refusal-closed s h = rw h refl
 
 pub tick_refusal-none : (s : FacilityState) → s.is_closed ≡ false → s.now ≢ s.last → tick_refusal s ≡ None
 unfolding tick_refusal
-tick_refusal-none s h k = rw (h, differ s.now s.last k) refl
+tick_refusal-none s h k = rw (h, ne_eqb s.now s.last k) refl
 
 -- what is true of a tick that is accepted
 pub record IsTicking (s : FacilityState) : Type 0 where
   pub is_open : s.is_closed ≡ false
-  pub before_last : (s.now == s.last) ≡ false
+  pub before_last : s.now ≢ s.last
 
 pub ticking : (s : FacilityState) → tick_refusal s ≡ None → IsTicking s
 unfolding tick_refusal
 ticking s h =
     let a = none_then TickFaults.Closed _ s.is_closed h in
     let b = none_then TickFaults.ClockEnd _ (s.now == s.last) a.1 in
-    record { is_open = a.0; before_last = b.0 }
+    record { is_open = a.0; before_last = eqb-false s.now s.last b.0 }

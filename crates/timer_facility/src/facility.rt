@@ -3,7 +3,7 @@
 //! A tick or a close leaves timers that wait to be handed out; the owner takes them by `next_out` until
 //! none waits, and only then makes the next call. Expired timers stay in the wheel, which hands them out
 //! by serial. A close moves the timers to a list of their own, and the wheel is empty then.
-ghost use Rattle.std.specs.Prelude.{◌≡◌, false, ℕ, ◌+◌, ◌<◌, ◌≤◌, ◌↔◌, [], length, drop, slice_get, slice_index, IsTrue, IfSome, IfOk, IfErr, OnErr, OnOk, MatchResult, if◌then◌else◌, nat_lt, vec_capacity};
+ghost use Rattle.std.specs.Prelude.{◌≡◌, false, ℕ, ◌+◌, ◌-◌, ◌<◌, ◌≤◌, ◌↔◌, [], length, drop, slice_get, slice_index, slice_set, IsTrue, IfSome, IfOk, IfErr, OnErr, OnOk, MatchResult, if◌then◌else◌, nat_lt, vec_capacity};
 ghost use Rattle.timer_base.specs.Pending.{timers_of};
 ghost use Rattle.timer_base.specs.WheelState.{after_clear};
 ghost use Rattle.timer_base.specs.WakeUps.{IsQuietUntil, next_deadline};
@@ -335,7 +335,7 @@ impl<W: Wheel + Drop> Facility<W> {
             < length self.old.state.numbers) }
     {
         if let Some(timer) = self.wheel.expire() {
-            self.counts[timer.client as usize] -= 1;
+            count_one_less(&mut self.counts, timer.client);
             return Some(Notice::Expired(timer));
         }
         if self.handed == self.returned.len() {
@@ -343,12 +343,12 @@ impl<W: Wheel + Drop> Facility<W> {
         }
         let timer = self.returned[self.handed];
         self.handed += 1;
-        self.counts[timer.client as usize] -= 1;
+        count_one_less(&mut self.counts, timer.client);
         Some(Notice::Returned(timer))
     }
 
     /// Whether a request under this number is taken.
-    #[tactic(auto, using(crate::proofs::FacilityFields::clients_are), unfolding(crate::specs::Verdict::not_taken))]
+    #[tactic(auto, using(crate::proofs::FacilityFields::agrees), unfolding(crate::specs::Verdict::not_taken))]
     fn admit(&self, client: u64, number: u64) -> Result<(), NotTaken>
         ensures verdict { MatchResult result
             (λ _. not_taken self.now.state client number ≡ None)
@@ -522,7 +522,7 @@ impl<W: Wheel + Drop> Facility<W> {
             None => Answer::Refused(Reason::NoSuch),
             Some(timer) => {
                 let _ = self.wheel.stop(handle);
-                self.counts[client as usize] -= 1;
+                count_one_less(&mut self.counts, client);
                 Answer::Stopped {
                     serial: timer.serial,
                 }
@@ -606,4 +606,13 @@ fn take_all<W: Wheel>(wheel: &mut W, timers: &mut Vec<Timer>) -> Result<(), OutO
     wheel.list_into(timers)?;
     wheel.clear();
     Ok(())
+}
+
+/// Counts one timer fewer for this client.
+#[inline(always)]
+fn count_one_less(counts: &mut [usize; CLIENTS], client: u64)
+    requires { 0 < slice_index counts.old client }
+    ensures { counts.new ≡ slice_set counts.old client (slice_index counts.old client - 1) }
+{
+    counts[client as usize] -= 1;
 }

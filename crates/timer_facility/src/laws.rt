@@ -53,7 +53,7 @@ pub fn bare_outs_do_not_depend_on_places()
         → AreSameButForPlaces (run s placed) (run t others) }
 {}
 
-/// Any two players return the same outs for one list of events, except for places.
+/// Two players whose states are the same but for places return the same outs for one list of events, except for places.
 pub fn players_give_the_same()
     ensures { (s t : FacilityState) (events : List Event) (outs others : List Out) (after end : FacilityState)
         → bare_state s ≡ bare_state t

@@ -78,7 +78,7 @@ pub enum NotTaken {
     Closed,
     /// There is no such client.
     NoClient,
-    /// The number was taken before; `next` is the client's next one.
+    /// The number is below the client's next one, which is `next`.
     Repeated { next: u64 },
     /// The client's numbers are used up.
     NumbersSpent,

@@ -1,41 +1,33 @@
 use Rattle.std.proofs.Common.{◌∙◌, sym, arith}
-use Rattle.timer_facility.proofs.FacilityFields.{clients_are, in_time, agrees, facility-start, answered-start, few_counted, no_room}
-use Rattle.timer_facility.proofs.VerdictLemmas.{startable, unrefused_interval}
+use Rattle.timer_facility.proofs.FacilityFields.{in_time, agrees, facility-start, answered-start, few_counted, no_room}
+use Rattle.timer_facility.proofs.VerdictLemmas.{startable}
 use Rattle.timer_facility.proofs.facility.Facility.take_start.Goals as goal
 
 pub start-requires-clause-deadline : goal.start-requires-clause-deadline
-start-requires-clause-deadline g c =
-    (in_time c.self.invariant c.self.view_is (g.met.W.Wheel.well_formed c.self.inside.wheel) c.args.client c.args.number
-    c.args.interval c.args.action (unrefused_interval c.args.self.now.state c.args.interval (sym c.in_default.ensures))
-    c.new_timer-timer.result c.new_timer-timer.ensures).within
+start-requires-clause-deadline g c = (in_time c.self.invariant c.self.view_is (g.met.W.Wheel.well_formed c.self.inside.wheel)
+    c.args.interval (startable c.args.self.now.state c.args.interval (sym c.in_default.ensures)).unrefused c.new_timer-timer.ensures).within
 
 pub start-requires-clause-serial : goal.start-requires-clause-serial
-start-requires-clause-serial g c =
-    (in_time c.self.invariant c.self.view_is (g.met.W.Wheel.well_formed c.self.inside.wheel) c.args.client c.args.number
-    c.args.interval c.args.action (unrefused_interval c.args.self.now.state c.args.interval (sym c.in_default.ensures))
-    c.new_timer-timer.result c.new_timer-timer.ensures).unspent
+start-requires-clause-serial g c = (in_time c.self.invariant c.self.view_is (g.met.W.Wheel.well_formed c.self.inside.wheel)
+    c.args.interval (startable c.args.self.now.state c.args.interval (sym c.in_default.ensures)).unrefused c.new_timer-timer.ensures).unspent
 
 pub overflow_add-self-2 : goal.overflow_add-self-2
-overflow_add-self-2 g c = let few = few_counted c.self.invariant c.self.view_is c.requires.waiting c.args.client in omega arith
+overflow_add-self-2 g c = omega (arith, few_counted c.self.invariant c.self.view_is c.requires.waiting c.args.client)
 
 pub invariant_of-self-2 : goal.invariant_of-self-2
 invariant_of-self-2 g c =
     let s = startable c.args.self.now.state c.args.interval (sym c.in_default.ensures) in
     let told = agrees c.self.invariant c.self.view_is in
-    let t = in_time c.self.invariant c.self.view_is (g.met.W.Wheel.well_formed c.self.inside.wheel) c.args.client c.args.number
-    c.args.interval c.args.action (unrefused_interval c.args.self.now.state c.args.interval (sym c.in_default.ensures))
-    c.new_timer-timer.result c.new_timer-timer.ensures in
-    facility-start c.self.invariant (λ e. s.room (told.length_is ∙ e ∙ sym told.capacity_is)) c.in-Ok.handle.place c.args.client
-    c.new_timer-timer.result t (clients_are c.self.invariant c.self.view_is) c.requires.client (g.W.Wheel.state c.start.new.self)
-    c.in-Ok.ensures.started
+    facility-start c.self.invariant (λ e. s.room (told.length_is ∙ e ∙ sym told.capacity_is)) c.in-Ok.handle.place
+    (in_time c.self.invariant c.self.view_is (g.met.W.Wheel.well_formed c.self.inside.wheel) c.args.interval s.unrefused
+    c.new_timer-timer.ensures) (omega (arith, told.clients_are, c.requires.client)) c.in-Ok.ensures.started
 
 pub returns-clause-answered : goal.returns-clause-answered
 returns-clause-answered g c =
-    let t = in_time c.self.invariant c.self.view_is (g.met.W.Wheel.well_formed c.self.inside.wheel) c.args.client c.args.number
-    c.args.interval c.args.action (unrefused_interval c.args.self.now.state c.args.interval (sym c.in_default.ensures))
-    c.new_timer-timer.result c.new_timer-timer.ensures in
-    answered-start c.self.invariant c.self.view_is c.requires.waiting _ c.in_default.ensures c.new_timer-timer.result _
-    c.new_timer-timer.ensures t.later c.in-Ok.handle c.in-Ok.ensures.named (g.W.Wheel.state c.start.new.self) c.in-Ok.ensures.started
+    answered-start c.self.invariant c.self.view_is c.requires.waiting c.in_default.ensures c.new_timer-timer.ensures
+    (in_time c.self.invariant c.self.view_is (g.met.W.Wheel.well_formed c.self.inside.wheel)
+    c.args.interval (startable c.args.self.now.state c.args.interval (sym c.in_default.ensures)).unrefused c.new_timer-timer.ensures).later
+    c.in-Ok.handle c.in-Ok.ensures.named c.in-Ok.ensures.started
 
 pub returns-in_default-start-clause-room : goal.returns-in_default-start-clause-room
 returns-in_default-start-clause-room g c =
