@@ -1,6 +1,7 @@
 -- The members of one call, and the invariant of the desk after it.
-use Rattle.std.proofs.Common.{◌≡◌, ◌≢◌, ℕ, ◌+◌, ◌<◌, ◌≤◌, ◌==◌, Bool, true, false, ◌⊎◌, List, [], ◌∷◌, ◌++◌, length, get_or, map, refl, sym, ◌∙◌, ap, subst, inl, inr, arith, append-nil, append_assoc, length-append}
-use Rattle.std.specs.Prelude.{zero, suc, take, drop, slice_set, if◌then◌else◌}
+use Rattle.std.proofs.Common.{◌≡◌, ◌≢◌, ℕ, ◌+◌, ◌<◌, ◌≤◌, ◌==◌, Bool, true, false, ◌⊎◌, List, [], ◌∷◌, ◌++◌, length, get_or, map, refl, sym, ◌∙◌, ap, subst, ⊎_elim, arith, append-nil, append_assoc, length-append}
+use Rattle.std.specs.Prelude.{take, drop, slice_set, if◌then◌else◌}
+use Rattle.std.proofs.lemmas.Bool.{cases_eq}
 use Rattle.std.proofs.lemmas.Bool.Decides.{nat_tests}
 use Rattle.std.proofs.lemmas.List.{get_or-set_same, get_or-set_other, get_or_default, length-set, take-append-drop, length-take-le}
 use Rattle.timer_facility.specs.declared.request.Notice.{Notice}
@@ -14,38 +15,22 @@ use Rattle.timer_desk.specs.declared.word.Word.TheVariants as Words
 use Rattle.timer_desk.specs.declared.report.Served.{Served}
 use Rattle.timer_desk.specs.declared.report.Done.{Done}
 use Rattle.timer_desk.specs.declared.report.Done.TheVariants as Dones
-use Rattle.timer_desk.specs.Inlet.{LineState, LineKind}
-use Rattle.timer_desk.specs.Flush.{IsGiven, without_words}
+use Rattle.timer_desk.specs.Inlet.{LineKind}
+use Rattle.timer_desk.specs.Flush.{IsGiven, without_words, Flushes}
 use Rattle.timer_desk.specs.Extends.{Extends-refl}
 use Rattle.timer_desk.specs.Backlog.{BacklogState, empty_backlog, with_word, with_words, client_of, with_notice, with_notices, notices_for}
-use Rattle.timer_desk.specs.Report.{Account, account_of, got_but_held, held_list, HeldIsLast, IsAccount, Runs, request_in, word_in, asked_in, words_in, flushed_in, events_in, step_in, steps_of}
-use Rattle.timer_desk.specs.Member.{Moment, IsServe, ClientMember, FacilityMember, IsKept, Members}
+use Rattle.timer_desk.specs.Report.{Account, account_of, got_but_held, held_list, HeldIsLast, IsAccount, Runs, request_in, word_in, asked_in, words_in, events_in, outs_in, step_in, steps_of}
+use Rattle.timer_desk.specs.Member.{Moment, IsServe, ClientMember, FacilityMember, IsRight, IsKept, Members, waiting_outs, is_notice, hands_out, is_any}
 use Rattle.timer_desk.specs.Event.{IsSilent, IsEvent}
 use Rattle.timer_desk.specs.declared.report.Step.{Step}
-use Rattle.timer_desk.specs.Desk.{DeskState, IsDesk, ReportHolds, AddsStep}
-use Rattle.timer_desk.proofs.ReportHeld.{held_last}
-use Rattle.timer_desk.proofs.Members.{kept_at_end, members_clients, members_lines, IsAccount-nothing}
+use Rattle.timer_desk.specs.Desk.{DeskState, notices_of, event_report, IsDesk, ReportHolds, AddsStep}
+use Rattle.timer_desk.proofs.Members.{held_last, kept_at_end, members_clients, members_lines, IsAccount-nothing}
 
-either : (b : Bool) → (b ≡ true) ⊎ (b ≡ false)
-either b = elim b as (λ v. (v ≡ true) ⊎ (v ≡ false)) [ true ↦ inl refl | false ↦ inr refl ]
-
-is_equal : (m n : ℕ) → (m == n) ≡ true → n ≡ m
-is_equal m n h = grind (arith, nat_tests)
-
-is_other : (m n : ℕ) → (m == n) ≡ false → n ≢ m
-is_other m n h = grind (arith, nat_tests)
-
-not_same : (m n : ℕ) → n ≢ m → (m == n) ≡ false
+pub not_same : (m n : ℕ) → n ≢ m → (m == n) ≡ false
 not_same m n h = grind (arith, nat_tests)
 
-same_is : (n : ℕ) → (n == n) ≡ true
+pub same_is : (n : ℕ) → (n == n) ≡ true
 same_is n = grind (arith, nat_tests)
-
-pub take_over : {X : Type 0} (n : ℕ) (xs : List X) → length xs ≤ n → take n xs ≡ xs
-take_over zero [] h = refl
-take_over zero (x ∷ xs) h = absurd (omega arith)
-take_over (suc n) [] h = refl
-take_over (suc n) (x ∷ xs) h = ap (λ ys. x ∷ ys) (take_over n xs (omega arith))
 
 -- the desk state and the moment of these parts
 abbrev pub desk_of : {I : Type 0} → FacilityView → List I → List BacklogState → DeskState I
@@ -75,67 +60,24 @@ module _ {I : Type 0} (kind : LineKind I) where
 ClientMember-silent : (refuses : Bool) (c : ℕ) (s : FacilityState) (a : Account) (done : Done) → IsSilent c done → HeldIsLast a
     → ClientMember refuses c s a done a
 ClientMember-silent refuses c s a done o last = record {
-  account = subst (λ rs. IsAccount rs (words_in c done) (flushed_in c done) a a) (sym o.no_request)
-      (subst (λ ws. IsAccount [] ws (flushed_in c done) a a) (sym o.no_word)
-      (subst (λ n. IsAccount [] [] n a a) (sym o.none_flushed) (IsAccount-nothing a last)));
+  account = rw (o.no_request, o.no_word, o.none_flushed) (IsAccount-nothing a last);
   serve = λ served is. absurd (o.no_serve served is);
   no_serve = λ none. record { same_got = refl; same_standing = refl; same_held = refl };
 }
 
 -- A member of one client.
 
--- a serve of client c says nothing of another one
-pub silent_serve : (c : ℕ) (served : Served) (k : ℕ) → k ≢ c → IsSilent k (Dones.Served c served)
-silent_serve c served k other = record {
-  no_request = if_other (request_in served) [];
-  no_word = if_other (word_in served) [];
-  none_flushed = refl;
-  no_serve = λ result is. other (sym (same_client result is));
+-- a member of the facility, if no notice waited before it
+pub quiet_member : (done : Done) (f g : FacilityView) → f.waiting ≡ []
+    → (run f.state (events_in done)).outs ≡ outs_in done ++ waiting_outs g → g.state ≡ (run f.state (events_in done)).state
+    → is_notice done ≡ false → (hands_out done ≡ false → g.waiting ≡ []) → IsRight f.state done → FacilityMember done f g
+quiet_member done f g quiet outs state isnt left right = record {
+  outs_are = ap (λ (ns : List Notice). map (λ (n : Notice). Outs.Notice n) ns ++ (run f.state (events_in done)).outs) quiet ∙ outs;
+  state_is = state;
+  in_turn = isnt ∙ ap is_any (sym quiet);
+  none_left = left;
+  right = right;
 }
-  where
-    if_other : {X : Type 0} (x y : X) → (if c == k then x else y) ≡ y
-    if_other x y = ap (λ b. if b then x else y) (not_same c k other)
-
-    same_client : (result : Served) → Dones.Served c served ≡ Dones.Served k result → c ≡ k
-    same_client result is = cc
-
--- nor does a flush
-pub silent_flush : (c count : ℕ) (k : ℕ) → k ≢ c → IsSilent k (Dones.Flushed c count)
-silent_flush c count k other = record {
-  no_request = refl;
-  no_word = refl;
-  none_flushed = ap (λ b. if b then count else 0) (not_same c k other);
-  no_serve = λ result is. absurd (cc);
-}
-
-pub ClientMember-served : (refuses : Bool) (c : ℕ) (s : FacilityState) (a : Account) (served : Served) (b : Account)
-    → IsAccount (request_in served) (word_in served) 0 a b → IsServe refuses c s a served b
-    → ClientMember refuses c s a (Dones.Served c served) b
-ClientMember-served refuses c s a served b account serve = record {
-  account = subst (λ v. IsAccount (if v then request_in served else []) (if v then word_in served else []) 0 a b) (sym (same_is c)) account;
-  serve = λ result is. subst (λ r. IsServe refuses c s a r b) (same_served result is) serve;
-  no_serve = λ none. absurd (none served refl);
-}
-  where
-    same_served : (result : Served) → Dones.Served c served ≡ Dones.Served c result → served ≡ result
-    same_served result is = cc
-
-pub FacilityMember-served : (c : ℕ) (served : Served) (f g : FacilityView) → f.waiting ≡ [] → g.waiting ≡ []
-    → Runs (Dones.Served c served ∷ []) f.state g.state → FacilityMember (Dones.Served c served) f g
-FacilityMember-served c served f g quiet left runs =
-    subst (λ (v : FacilityView). FacilityMember (Dones.Served c served) v g) (sym (still f quiet))
-    (subst (λ (v : FacilityView). FacilityMember (Dones.Served c served) (with_nothing_waiting f.state) v) (sym (still g left)) (record {
-      outs_are = ap (λ ps. (run f.state ps).outs) (sym (append-nil (events_in (Dones.Served c served)))) ∙ sym runs.outs_are;
-      state_is = runs.state_is ∙ ap (λ ps. (run f.state ps).state) (append-nil (events_in (Dones.Served c served)));
-      in_turn = refl;
-      none_left = λ e. refl;
-      right = tt;
-    }))
-
-pub FacilityMember-flushed : (c count : ℕ) (f : FacilityView) → f.waiting ≡ [] → FacilityMember (Dones.Flushed c count) f f
-FacilityMember-flushed c count f quiet =
-    subst (λ (v : FacilityView). FacilityMember (Dones.Flushed c count) v v) (sym (still f quiet))
-    (record { outs_are = refl; state_is = refl; in_turn = refl; none_left = λ e. refl; right = tt })
 
 module _ {I : Type 0} (kind : LineKind I) (c : ℕ) (inlets : List I) (bs : List BacklogState) (i i' : I) (b b' : BacklogState)
     (as_many : length bs ≡ length inlets) (low : c < length inlets) (is_i : i ≡ get_or inlets c i) (is_b : b ≡ get_or bs c b) where
@@ -145,25 +87,18 @@ module _ {I : Type 0} (kind : LineKind I) (c : ℕ) (inlets : List I) (bs : List
       → fact k (get_or inlets k j) (get_or bs k e) (get_or inlets k j) (get_or bs k e))
       → (k : ℕ) (j : I) (e : BacklogState) → k < length inlets
       → fact k (get_or inlets k j) (get_or bs k e) (get_or (slice_set inlets c i') k j) (get_or (slice_set bs c b') k e)
-  at_each fact here other k j e l = by_case (either (c == k))
-    where
-      by_case : (c == k) ≡ true ⊎ (c == k) ≡ false
-          → fact k (get_or inlets k j) (get_or bs k e) (get_or (slice_set inlets c i') k j) (get_or (slice_set bs c b') k e)
-      by_case (inl h) =
-          let within : c < length bs = let m = as_many in omega arith in
-          subst (λ n. fact n (get_or inlets n j) (get_or bs n e) (get_or (slice_set inlets c i') n j) (get_or (slice_set bs c b') n e))
-          (sym (is_equal c k h))
-          (subst (λ x. fact c x (get_or bs c e) (get_or (slice_set inlets c i') c j) (get_or (slice_set bs c b') c e))
-          (is_i ∙ get_or_default inlets c i j low)
-          (subst (λ x. fact c i x (get_or (slice_set inlets c i') c j) (get_or (slice_set bs c b') c e))
-          (is_b ∙ get_or_default bs c b e within)
-          (subst (λ x. fact c i b x (get_or (slice_set bs c b') c e)) (sym (get_or-set_same inlets c i' j low))
-          (subst (λ x. fact c i b i' x) (sym (get_or-set_same bs c b' e within)) here))))
-      by_case (inr h) =
-          subst (λ x. fact k (get_or inlets k j) (get_or bs k e) x (get_or (slice_set bs c b') k e))
-          (sym (get_or-set_other inlets c k i' j (is_other c k h)))
-          (subst (λ x. fact k (get_or inlets k j) (get_or bs k e) (get_or inlets k j) x)
-          (sym (get_or-set_other bs c k b' e (is_other c k h))) (other k j e l (is_other c k h)))
+  at_each fact here other k j e l = ⊎_elim
+      (λ (is : k ≡ c).
+      let within : c < length bs = omega (arith, as_many, low) in
+      rw (
+        is,
+        get_or-set_same inlets c i' j low,
+        get_or-set_same bs c b' e within,
+        sym (is_i ∙ get_or_default inlets c i j low),
+        sym (is_b ∙ get_or_default bs c b e within),
+      ) here)
+      (λ (apart : k ≢ c). rw (get_or-set_other inlets c k i' j apart, get_or-set_other bs c k b' e apart) (other k j e l apart))
+      (cases_eq k c)
 
 -- no notice waits, so nothing but the pending timers needs room
 pub none_for : (c : ℕ) (f : FacilityView) → f.waiting ≡ [] → notices_for c f.waiting ≡ 0
@@ -240,10 +175,23 @@ pub serve_call : {I : Type 0} (kind : LineKind I) (c : ℕ) (served : Served) (f
     → length b'.outbox + pending_of f'.state c ≤ b'.room → AddsAtMostOne c f.state f'.state
     → IsClientCall kind c (Dones.Served c served) f f' i i' b b'
 serve_call kind c served f f' i i' b b' quiet line account serve runs left numbers room adds = record {
-  others = silent_serve c served;
+  others = λ k other. record {
+    no_request = rw (not_same c k other) refl;
+    no_word = rw (not_same c k other) refl;
+    none_flushed = refl;
+    no_serve = λ result is. absurd (other (cc));
+  };
   line = line;
-  facility = FacilityMember-served c served f f' quiet left runs;
-  client = ClientMember-served kind.take_may_refuse c f.state (account_of kind i b) served (account_of kind i' b') account serve;
+  facility = quiet_member (Dones.Served c served) f f' quiet
+      (ap (λ ps. (run f.state ps).outs) (sym (append-nil (events_in (Dones.Served c served)))) ∙ sym runs.outs_are
+      ∙ ap (λ (ns : List Notice). outs_in (Dones.Served c served) ++ map (λ (n : Notice). Outs.Notice n) ns) (sym left))
+      (runs.state_is ∙ ap (λ ps. (run f.state ps).state) (append-nil (events_in (Dones.Served c served)))) refl (λ e. left) tt;
+  client = record {
+    account = rw (same_is c) account;
+    serve = λ result is. let same : served ≡ result = cc in
+        subst (λ r. IsServe kind.take_may_refuse c f.state (account_of kind i b) r (account_of kind i' b')) same serve;
+    no_serve = λ none. absurd (none served refl);
+  };
   quiet = left;
   same_numbers = numbers;
   room = room;
@@ -251,72 +199,85 @@ serve_call kind c served f f' i i' b b' quiet line account serve runs left numbe
 }
 
 -- a flush, by what the contract of the backlog's call gives
-pub flush_call : {I : Type 0} (kind : LineKind I) (c count : ℕ) (f : FacilityView) (i i' : I) (b b' : BacklogState)
-    → f.waiting ≡ [] → IsGiven kind count b.outbox i i' → b' ≡ without_words count b → HeldIsLast (account_of kind i b)
-    → length b.outbox + pending_of f.state c ≤ b.room → IsClientCall kind c (Dones.Flushed c count) f f i i' b b'
-flush_call kind c count f i i' b b' quiet given left last room =
+pub flush_call : {I : Type 0} (kind : LineKind I) (c count : ℕ) (f : FacilityView) (inlets : List I) (bs : List BacklogState) (i i' : I)
+    (b b' : BacklogState) → IsDesk kind f inlets bs → c < length inlets → i ≡ get_or inlets c i → b ≡ get_or bs c b
+    → IsGiven kind count b.outbox i i' → b' ≡ without_words count b → IsClientCall kind c (Dones.Flushed c count) f f i i' b b'
+flush_call kind c count f inlets bs i i' b b' d low is_i is_b given left =
+    let quiet : f.waiting ≡ [] = d.nothing_waits in
+    let last : HeldIsLast (account_of kind i b) = rw (sym is_i, sym is_b) at (d.kept.held c i b low) in
+    let was : length b.outbox + pending_of f.state c + notices_for c f.waiting ≤ b.room =
+    rw (sym is_b) at (d.kept.room c b (omega (arith, d.kept.as_many, low))) in
     let put : List Word = take count b.outbox in
     let rest : List Word = drop count b.outbox in
     let split : put ++ rest ≡ b.outbox = take-append-drop count b.outbox in
     let long : length put ≡ count = length-take-le count b.outbox given.at_most in
     let before : List Word = (kind.state i).given in
-    subst (λ (x : BacklogState). IsClientCall kind c (Dones.Flushed c count) f f i i' b x) (sym left) (record {
-      others = silent_flush c count;
+    rw left (record {
+      others = λ k other. record {
+        no_request = refl;
+        no_word = refl;
+        none_flushed = rw (not_same c k other) refl;
+        no_serve = λ result is. absurd (cc);
+      };
       line = given.same_line;
-      facility = FacilityMember-flushed c count f quiet;
-      client = subst
-          (λ (l : LineState). let a : Account = record { got = l.got; standing = l.standing; given = l.given; backlog = without_words count b } in
-          ClientMember kind.take_may_refuse c f.state (account_of kind i b) (Dones.Flushed c count) a) (sym given.state) (record {
-            account = record {
-              held_first = Extends-refl (held_list b.held);
-              asked_are = ap (λ xs. xs ++ held_list b.held) (append-nil (got_but_held (account_of kind i b))) ∙ last;
-              words_are = append_assoc before put rest ∙ ap (λ xs. before ++ xs) split ∙ sym (append-nil (before ++ b.outbox));
-              flushed_are = length-append before put ∙ ap (λ n. length before + n) long
-                  ∙ ap (λ v. length before + (if v then count else 0)) (sym (same_is c));
-              fewer_left = omega arith;
-              same_room = refl;
-            };
-            serve = λ served is. absurd (cc);
-            no_serve = λ none. record { same_got = refl; same_standing = refl; same_held = refl };
-          });
+      facility = quiet_member (Dones.Flushed c count) f f quiet
+          (ap (λ (ns : List Notice). map (λ (n : Notice). Outs.Notice n) ns) (sym quiet)) refl refl (λ e. quiet) tt;
+      client = rw given.state (record {
+        account = record {
+          held_first = Extends-refl (held_list b.held);
+          asked_are = ap (λ xs. xs ++ held_list b.held) (append-nil (got_but_held (account_of kind i b))) ∙ last;
+          words_are = append_assoc before put rest ∙ ap (λ xs. before ++ xs) split ∙ sym (append-nil (before ++ b.outbox));
+          flushed_are = length-append before put ∙ ap (λ n. length before + n) long
+              ∙ ap (λ v. length before + (if v then count else 0)) (sym (same_is c));
+          fewer_left = omega arith;
+          same_room = refl;
+        };
+        serve = λ served is. absurd (cc);
+        no_serve = λ none. record { same_got = refl; same_standing = refl; same_held = refl };
+      });
       quiet = quiet;
       same_numbers = refl;
       room = let few = ap (λ xs. length xs) split in let all = length-append put rest in omega arith;
       adds = λ k. omega arith;
     })
 
+-- the desk of which the client's outbox was flushed
+pub Flushes-one : {I : Type 0} (kind : LineKind I) (c count : ℕ) (f : FacilityView) (inlets : List I) (backlogs : List BacklogState)
+    (i i' : I) (b b' : BacklogState)
+    → length backlogs ≡ length inlets → c < length inlets → i ≡ get_or inlets c i → b ≡ get_or backlogs c b
+    → IsGiven kind count b.outbox i i' → b' ≡ without_words count b
+    → Flushes kind c count (desk_of f inlets backlogs) (desk_of f (slice_set inlets c i') (slice_set backlogs c b'))
+Flushes-one kind c count f inlets backlogs i i' b b' as_many low is_i is_b given left =
+    let backlog : b ≡ get_or backlogs c (empty_backlog 0) = is_b
+    ∙ get_or_default backlogs c b (empty_backlog 0) (omega (arith, as_many, low)) in record {
+      line = i';
+      given = λ j. rw (sym (is_i ∙ get_or_default inlets c i j low), sym backlog) given;
+      desk = ap (λ (x : BacklogState). desk_of f (slice_set inlets c i') (slice_set backlogs c x)) (left
+          ∙ ap (without_words count) backlog);
+    }
+
 -- Notices.
 
-at_notice : (n : Notice) (bs : List BacklogState) (c : ℕ) (d : BacklogState) → c < length bs → (client_of n == c) ≡ true
-    ⊎ (client_of n == c) ≡ false
+at_notice : (n : Notice) (bs : List BacklogState) (c : ℕ) (d : BacklogState) → c < length bs
     → get_or (with_notice n bs) c d ≡ with_words (words_in c (Dones.Noticed n)) (get_or bs c d)
-at_notice n bs c d l (inl h) =
+at_notice n bs c d l =
     let k : ℕ = client_of n in
-    let is : c ≡ k = is_equal k c h in
-    let there : get_or (with_notice n bs) c d ≡ with_word (Words.Notice n) (get_or bs k (empty_backlog 0)) =
-    ap (λ m. get_or (with_notice n bs) m d) is ∙ get_or-set_same bs k (with_word (Words.Notice n) (get_or bs k (empty_backlog 0))) d
-    (let m : k ≡ c = sym is in omega arith) in
-    let same : get_or bs k (empty_backlog 0) ≡ get_or bs c d = ap (λ m. get_or bs m (empty_backlog 0)) (sym is)
-    ∙ get_or_default bs c (empty_backlog 0) d l in
-    let word : words_in c (Dones.Noticed n) ≡ Words.Notice n ∷ [] = ap (λ b. if b then Words.Notice n ∷ [] else []) h in
-    there ∙ ap (with_word (Words.Notice n)) same ∙ ap (λ ws. with_words ws (get_or bs c d)) (sym word)
-at_notice n bs c d l (inr h) =
-    let k : ℕ = client_of n in
-    let word : words_in c (Dones.Noticed n) ≡ [] = ap (λ b. if b then Words.Notice n ∷ [] else []) h in
-    let b : BacklogState = get_or bs c d in
-    get_or-set_other bs k c (with_word (Words.Notice n) (get_or bs k (empty_backlog 0))) d (is_other k c h)
-    ∙ ap (λ ws. let e : BacklogState = record b { outbox = ws } in e) (sym (append-nil b.outbox))
-    ∙ ap (λ ws. with_words ws b) (sym word)
+    let noted : BacklogState = with_word (Words.Notice n) (get_or bs k (empty_backlog 0)) in ⊎_elim
+    (λ (is : c ≡ k).
+    let low : k < length bs = omega (arith, is, l) in
+    rw (is, same_is k, get_or-set_same bs k noted d low, get_or_default bs k (empty_backlog 0) d low) refl)
+    (λ (apart : c ≢ k).
+    rw (get_or-set_other bs k c noted d apart, not_same k c apart, append-nil (get_or bs c d).outbox) refl)
+    (cases_eq c k)
 
 -- a notice for the client takes one place in its outbox
-notices_more : (c : ℕ) (n : Notice) (ns : List Notice) → (client_of n == c) ≡ true ⊎ (client_of n == c) ≡ false
+notices_more : (c : ℕ) (n : Notice) (ns : List Notice)
     → notices_for c (n ∷ ns) ≡ length (words_in c (Dones.Noticed n)) + notices_for c ns
-notices_more c n ns (inl h) =
-    ap (λ b. (if b then 1 else 0) + notices_for c ns) h
-    ∙ ap (λ b. length (if b then Words.Notice n ∷ [] else []) + notices_for c ns) (sym h)
-notices_more c n ns (inr h) =
-    ap (λ b. (if b then 1 else 0) + notices_for c ns) h
-    ∙ ap (λ b. length (if b then Words.Notice n ∷ [] else []) + notices_for c ns) (sym h)
+notices_more c n ns = ap (λ k. k + notices_for c ns) (one (client_of n == c))
+  where
+    one : (b : Bool) → (if b then 1 else 0) ≡ length (if b then Words.Notice n ∷ [] else [])
+    one true = refl
+    one false = refl
 
 IsAccount-noted : (ws : List Word) (a : Account) → HeldIsLast a → IsAccount [] ws 0 a (record a { backlog = with_words ws a.backlog })
 IsAccount-noted ws a last = record {
@@ -338,18 +299,17 @@ module _ {I : Type 0} (kind : LineKind I) where
         as_many = long ∙ k.as_many;
         room = λ c b l.
             let low : c < length bs = omega (arith, l, long) in
-            let is = at_notice n bs c b low (either (client_of n == c)) in
+            let is = at_notice n bs c b low in
             let len : length (get_or (with_notice n bs) c b).outbox ≡ length (get_or bs c b).outbox
             + length (words_in c (Dones.Noticed n)) =
             ap (λ (x : BacklogState). length x.outbox) is ∙ length-append (get_or bs c b).outbox (words_in c (Dones.Noticed n)) in
             let room : (get_or (with_notice n bs) c b).room ≡ (get_or bs c b).room = ap (λ (x : BacklogState). x.room) is in
             let was : length (get_or bs c b).outbox + pending_of s c + notices_for c (n ∷ ns) ≤ (get_or bs c b).room = k.room c b low in
-            let more = notices_more c n ns (either (client_of n == c)) in
+            let more = notices_more c n ns in
             omega (arith, len, room, was, more);
         held = λ c i b l.
             let low : c < length bs = let m = k.as_many in omega arith in
-            subst (λ (x : BacklogState). HeldIsLast (account_of kind (get_or inlets c i) x))
-            (sym (at_notice n bs c b low (either (client_of n == c)))) (k.held c i b l);
+            rw (at_notice n bs c b low) (k.held c i b l);
       }
 
   -- what waits is handed out, notice after notice
@@ -373,8 +333,7 @@ module _ {I : Type 0} (kind : LineKind I) where
       };
       clients = λ c i b l.
           let low : c < length bs = let m = k.as_many in omega arith in
-          subst (λ (x : BacklogState). ClientMember kind.take_may_refuse c s (account_of kind (get_or inlets c i) (get_or bs c b))
-          (Dones.Noticed n) (account_of kind (get_or inlets c i) x)) (sym (at_notice n bs c b low (either (client_of n == c)))) (record {
+          rw (at_notice n bs c b low) (record {
             account = IsAccount-noted (words_in c (Dones.Noticed n)) (account_of kind (get_or inlets c i) (get_or bs c b)) (k.held c i b l);
             serve = λ served is. absurd (cc);
             no_serve = λ none. record { same_got = refl; same_standing = refl; same_held = refl };
@@ -397,52 +356,44 @@ module _ {I : Type 0} (kind : LineKind I) where
     held = d.kept.held;
   }
 
-  members_event : (first : Done) (f g f' : FacilityView) (inlets : List I) (bs bs' : List BacklogState)
-      → IsEvent first f g → IsDesk kind f inlets bs → f' ≡ with_nothing_waiting g.state → bs' ≡ with_notices g.waiting bs
-      → Members kind (moment f inlets bs) (first ∷ map Dones.Noticed g.waiting) (moment f' inlets bs')
-  members_event first f g f' inlets bs bs' event d left noted = (
-    moment g inlets bs,
-    d.kept,
-    record {
-      same_clients = refl;
-      lines = λ c i l. kind.reflexive (get_or inlets c i);
-      facility = event.member;
-      clients = λ c i b l. ClientMember-silent kind.take_may_refuse c f.state (account_of kind (get_or inlets c i) (get_or bs c b)) first
-          (event.silent c) (d.kept.held c i b l);
-    },
-    subst (λ (v : FacilityView). Members kind (moment g inlets bs) (map Dones.Noticed g.waiting) (moment v inlets bs')) (sym left)
-        (subst (λ (xs : List BacklogState). Members kind (moment g inlets bs) (map Dones.Noticed g.waiting)
-        (moment (with_nothing_waiting g.state) inlets xs)) (sym noted)
-        (handed_out g.waiting g.state inlets bs (kept_event first f g inlets bs event d))),
-  )
+module _ {I : Type 0} (kind : LineKind I) (first : Done) (f g f' : FacilityView) (inlets : List I) (bs bs' : List BacklogState)
+    (event : IsEvent first f g) (d : IsDesk kind f inlets bs) (left : f' ≡ with_nothing_waiting g.state)
+    (noted : bs' ≡ with_notices g.waiting bs) where
+  members_event : Members kind (moment f inlets bs) (event_report f.state first) (moment f' inlets bs')
+  members_event = subst (λ (ns : List Notice). Members kind (moment f inlets bs) (first ∷ map Dones.Noticed ns) (moment f' inlets bs'))
+      event.notices (
+        moment g inlets bs,
+        d.kept,
+        record {
+          same_clients = refl;
+          lines = λ c i l. kind.reflexive (get_or inlets c i);
+          facility = event.member;
+          clients = λ c i b l. ClientMember-silent kind.take_may_refuse c f.state (account_of kind (get_or inlets c i) (get_or bs c b))
+              first (event.silent c) (d.kept.held c i b l);
+        },
+        rw (left, noted) (handed_out kind g.waiting g.state inlets bs (kept_event kind first f g inlets bs event d)),
+      )
 
-  pub report_event : (first : Done) (ns : List Notice) (f g f' : FacilityView) (inlets : List I) (bs bs' : List BacklogState)
-      → IsEvent first f g → IsDesk kind f inlets bs → f' ≡ with_nothing_waiting g.state → bs' ≡ with_notices g.waiting bs → g.waiting ≡ ns
-      → ReportHolds kind (first ∷ map Dones.Noticed ns) (desk_of f inlets bs) (desk_of f' inlets bs')
-  report_event first ns f g f' inlets bs bs' event d left noted is =
-      subst (λ (xs : List Notice). ReportHolds kind (first ∷ map Dones.Noticed xs) (desk_of f inlets bs) (desk_of f' inlets bs')) is
-      (report_of kind (first ∷ map Dones.Noticed g.waiting) f f' inlets inlets bs bs' d.nothing_waits
-      (ap (λ (v : FacilityView). v.waiting) left) (members_event first f g f' inlets bs bs' event d left noted))
+  pub report_event : ReportHolds kind (event_report f.state first) (desk_of f inlets bs) (desk_of f' inlets bs')
+  report_event = report_of kind (event_report f.state first) f f' inlets inlets bs bs' d.nothing_waits
+      (ap (λ (v : FacilityView). v.waiting) left) members_event
 
-  pub desk_event : (first : Done) (f g f' : FacilityView) (inlets : List I) (bs bs' : List BacklogState)
-      → IsEvent first f g → IsDesk kind f inlets bs → f' ≡ with_nothing_waiting g.state → bs' ≡ with_notices g.waiting bs
-      → IsDesk kind f' inlets bs'
-  desk_event first f g f' inlets bs bs' event d left noted = record {
+  pub desk_event : IsDesk kind f' inlets bs'
+  desk_event = record {
     nothing_waits = ap (λ (v : FacilityView). v.waiting) left;
     clients = d.clients ∙ sym (ap (λ (v : FacilityView). length v.state.numbers) left ∙ event.same_numbers);
-    kept = kept_at_end kind (first ∷ map Dones.Noticed g.waiting) (moment f inlets bs) (moment f' inlets bs')
-        (members_event first f g f' inlets bs bs' event d left noted);
+    kept = kept_at_end kind (event_report f.state first) (moment f inlets bs) (moment f' inlets bs') members_event;
   }
 
-  pub adds_event : (taken : Step) (before after : List Done) (first : Done) (f g f' : FacilityView) (inlets : List I)
-      (bs bs' : List BacklogState) → IsEvent first f g → step_in first ≡ taken ∷ [] → IsDesk kind f inlets bs
-      → f' ≡ with_nothing_waiting g.state → bs' ≡ with_notices g.waiting bs → after ≡ (before ++ first ∷ []) ++ map Dones.Noticed g.waiting
+  pub adds_event : (taken : Step) (before after : List Done) → step_in first ≡ taken ∷ []
+      → after ≡ (before ++ first ∷ []) ++ map Dones.Noticed g.waiting
       → AddsStep kind taken before after (desk_of f inlets bs) (desk_of f' inlets bs')
-  adds_event taken before after first f g f' inlets bs bs' event is d left noted added = record {
-    more = first ∷ map Dones.Noticed g.waiting;
-    added = added ∙ append_assoc before (first ∷ []) (map Dones.Noticed g.waiting);
-    step = ap (λ xs. step_in first ++ xs) (no_steps g.waiting) ∙ ap (λ xs. xs ++ []) is;
-    holds = report_event first g.waiting f g f' inlets bs bs' event d left noted refl;
+  adds_event taken before after is added = record {
+    more = event_report f.state first;
+    added = added ∙ append_assoc before (first ∷ []) (map Dones.Noticed g.waiting)
+        ∙ ap (λ (ns : List Notice). before ++ first ∷ map Dones.Noticed ns) event.notices;
+    step = ap (λ xs. step_in first ++ xs) (no_steps (notices_of f.state first)) ∙ ap (λ xs. xs ++ []) is;
+    holds = report_event;
   }
     where
       no_steps : (ns : List Notice) → steps_of (map Dones.Noticed ns) ≡ []

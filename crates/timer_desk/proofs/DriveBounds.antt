@@ -1,29 +1,28 @@
 -- What the steps of its turns mean for a drive: how many requests of a client it serves, and how often it flushes.
-use Rattle.std.proofs.Common.{◌≡◌, ◌<◌, ◌≤◌, ◌+◌, ◌-◌, ◌*◌, ◌++◌, ◌==◌, nat_lt, ℕ, zero, suc, Bool, true, false, cond, if◌then◌else◌, List, map, [], ◌∷◌, length, get_or, take, refl, ◌∙◌, ap, arith, ◌⊎◌, inl, inr, ⊎_elim, length-append}
+use Rattle.std.proofs.Common.{◌≡◌, ◌<◌, ◌≤◌, ◌+◌, ◌-◌, ◌*◌, ◌++◌, ◌==◌, nat_lt, ℕ, zero, suc, Bool, true, false, cond, if◌then◌else◌, List, map, [], ◌∷◌, length, get_or, take, refl, sym, subst, ◌∙◌, ap, add-one, arith, ◌⊎◌, inl, inr, ⊎_elim, length-append}
 use Rattle.std.specs.Prelude.{min, count_by}
 use Rattle.std.specs.List.{filter, range_with_len}
+use Rattle.std.proofs.lemmas.Bool.{cases_eq, cases_lt}
 use Rattle.std.proofs.lemmas.Bool.Decides.{nat_tests}
-use Rattle.std.proofs.lemmas.List.{take_more}
+use Rattle.std.proofs.lemmas.List.{take_all}
 use Rattle.std.proofs.lemmas.List.Concat.{flat_map-cons}
 use Rattle.std.proofs.lemmas.List.Sums.{sum_by-append, sum_by-cons}
+use Rattle.std.proofs.lemmas.List.FromFn.{sum_by-map-range_with_len_more}
 use Rattle.std.proofs.Math.Seq.{take-length}
 use Rattle.timer_base.specs.OrderLaws.{either}
 use Rattle.timer_desk.specs.declared.progress.Progress.{Progress}
-use Rattle.timer_desk.specs.declared.report.Served.{Served}
-use Rattle.timer_desk.specs.declared.report.Served.TheVariants.{Idle, NoRoom, NoMemory, Did}
 use Rattle.timer_desk.specs.declared.report.Done.{Done}
 use Rattle.timer_desk.specs.declared.report.Done.TheVariants as Dones
 use Rattle.timer_desk.specs.declared.report.Step.{Step}
 use Rattle.timer_desk.specs.declared.report.Step.TheVariants as Steps
-use Rattle.timer_desk.specs.Report.{asked, asked_in, request_in, flushed, steps_of, step_in}
+use Rattle.timer_desk.specs.Report.{asked, asked_in, flushed, steps_of, step_in}
 use Rattle.timer_desk.specs.Desk.{InRange}
 use Rattle.timer_desk.specs.Driver.{HasUnfinishedClient, steps_with, is_flush_of, joined, EndsIdle, AreTurns}
-use Rattle.timer_desk.proofs.DriverLemmas.{is_serve_of, is_last, joined-push, asked_sum, same_at}
+use Rattle.timer_desk.proofs.EventLemmas.{is_serve_of, is_last, one_if, few_in}
+use Rattle.timer_desk.proofs.DriverLemmas.{serves_next, joined-more, asked_sum, same_at}
+use Rattle.timer_desk.proofs.DeskLemmas.{same_is, not_same}
 
 -- Counts.
-
-abbrev one_if : Bool → ℕ
-one_if b = cond b 1 0
 
 -- one, if both hold
 abbrev one_if_both : Bool → Bool → ℕ
@@ -32,63 +31,51 @@ one_if_both b q = cond b (one_if q) 0
 count_sum : {X : Type 0} (p : X → Bool) (xs ys : List X) → count_by p (xs ++ ys) ≡ count_by p xs + count_by p ys
 count_sum p xs ys = sum_by-append (λ x. cond (p x) 1 0) xs ys
 
-count_first : {X : Type 0} (p : X → Bool) (x : X) (xs : List X) → count_by p (x ∷ xs) ≡ one_if (p x) + count_by p xs
-count_first p x xs = sum_by-cons (λ x. cond (p x) 1 0) x xs
-
 none_of : (p : Step → Bool) (f : ℕ → Step) → ((k : ℕ) → p (f k) ≡ false) → (xs : List ℕ) → count_by p (map f xs) ≡ 0
 none_of p f h [] = refl
-none_of p f h (x ∷ xs) = let one = count_first p (f x) (map f xs) in let no : one_if (p (f x)) ≡ 0 = ap one_if (h x) in let rest = none_of p f h xs in
+none_of p f h (x ∷ xs) =
+    let one = sum_by-cons (λ x. cond (p x) 1 0) (f x) (map f xs) in
+    let no = ap one_if (h x) in
+    let rest = none_of p f h xs in
     omega arith
 
-differs : (m n : ℕ) → m < n → (n == m) ≡ false
-differs m n h = grind (arith, nat_tests)
+-- a count below n, to which c alone adds, and only if it satisfies p
+at_once : (count : ℕ → ℕ) (p : ℕ → Bool) (c : ℕ) → count 0 ≡ 0
+    → ((n : ℕ) → count (n + 1) ≡ count n + one_if_both (p n) (n == c))
+    → (n : ℕ) → (n ≤ c → count n ≡ 0) × (c < n → count n ≡ one_if (p c))
+at_once count p c none more zero = (λ l. none, λ l. absurd (omega arith))
+at_once count p c none more (suc n) =
+    let was = at_once count p c none more n in
+    let now = ap count (sym (add-one n)) ∙ more n in ⊎_elim
+    (λ (is : n ≡ c).
+    let one : one_if_both (p n) (n == c) ≡ one_if (p c) = ap (λ k. one_if_both (p k) (k == c)) is
+    ∙ ap (one_if_both (p c)) (same_is c) in
+    let before = was.0 (omega arith) in
+    (λ l. absurd (omega arith), λ l. omega arith))
+    (λ (other : n ≡ c → ⊥).
+    let no : one_if_both (p n) (n == c) ≡ 0 = ap (one_if_both (p n)) (not_same n c (λ e. other (sym e))) ∙ nothing (p n) in
+    (λ l. (let before = was.0 (omega arith) in omega arith), λ l. (let before = was.1 (below l other) in omega arith)))
+    (cases_eq n c)
+  where
+    nothing : (b : Bool) → one_if_both b false ≡ 0
+    nothing true = refl
+    nothing false = refl
 
-is_equal : (m n : ℕ) → (m == n) ≡ true → m ≡ n
-is_equal m n h = grind (arith, nat_tests)
-
-not_both : (b : Bool) → one_if_both b false ≡ 0
-not_both true = refl
-not_both false = refl
-
-both : (b : Bool) → one_if_both b true ≡ one_if b
-both true = refl
-both false = refl
+    below : c < suc n → (n ≡ c → ⊥) → c < n
+    below l other = grind (arith)
 
 -- Serves.
 
-module _ (p : ℕ → Bool) (c : ℕ) where
-  -- how many of the serves of the clients from a on are of client c
-  abbrev serves_from : ℕ → ℕ → ℕ
-  serves_from a n = count_by (is_serve_of c) (map Steps.Serve (filter p (range_with_len a n)))
-
-  one_serve : (a : ℕ) (b : Bool) (xs : List ℕ) → count_by (is_serve_of c) (map Steps.Serve (cond b (a ∷ xs) xs))
-      ≡ one_if_both b (a == c) + count_by (is_serve_of c) (map Steps.Serve xs)
-  one_serve a true xs = count_first (is_serve_of c) (Steps.Serve a) (map Steps.Serve xs)
-  one_serve a false xs = omega arith
-
-  no_serve_before : (a n : ℕ) → c < a → serves_from a n ≡ 0
-  no_serve_before a zero h = refl
-  no_serve_before a (suc n) h =
-      let first = one_serve a (p a) (filter p (range_with_len (a + 1) n)) in
-      let none : one_if_both (p a) (a == c) ≡ 0 = ap (one_if_both (p a)) (differs c a h) ∙ not_both (p a) in
-      let rest = no_serve_before (a + 1) n (omega arith) in
-      omega arith
-
-  serves_most : (a n : ℕ) → serves_from a n ≤ one_if (p c)
-  serves_most a zero = omega arith
-  serves_most a (suc n) =
-      let first = one_serve a (p a) (filter p (range_with_len (a + 1) n)) in elim (either (a == c)) [
-        | inl e ↦
-            let one : one_if_both (p a) (a == c) ≡ one_if (p c) = ap (one_if_both (p a)) e ∙ both (p a)
-            ∙ ap (λ k. one_if (p k)) (is_equal a c e) in
-            let at = is_equal a c e in
-            let rest = no_serve_before (a + 1) n (omega arith) in
-            omega arith
-        | inr e ↦
-            let none : one_if_both (p a) (a == c) ≡ 0 = ap (one_if_both (p a)) e ∙ not_both (p a) in
-            let rest = serves_most (a + 1) n in
-            omega arith
-      ]
+one_serve : (p : ℕ → Bool) (c n : ℕ) → count_by (is_serve_of c) (map Steps.Serve (filter p (range_with_len 0 (n + 1))))
+    ≡ count_by (is_serve_of c) (map Steps.Serve (filter p (range_with_len 0 n))) + one_if_both (p n) (n == c)
+one_serve p c n =
+    let before : List Step = map Steps.Serve (filter p (range_with_len 0 n)) in
+    ap (count_by (is_serve_of c)) (serves_next p n) ∙ count_sum (is_serve_of c) before (map Steps.Serve (cond (p n) (n ∷ []) []))
+    ∙ ap (λ k. count_by (is_serve_of c) before + k) (one (p n))
+  where
+    one : (b : Bool) → count_by (is_serve_of c) (map Steps.Serve (cond b (n ∷ []) [])) ≡ one_if_both b (n == c)
+    one true = sum_by-cons (λ x. cond (is_serve_of c x) 1 0) (Steps.Serve n) [] ∙ (omega arith)
+    one false = refl
 
 serves_in_turn : (p : ℕ → Bool) (c n : ℕ) (last : Step) → InRange 0 last → count_by (is_serve_of c) (steps_with p n last) ≤ one_if (p c)
 serves_in_turn p c n last h =
@@ -96,25 +83,10 @@ serves_in_turn p c n last h =
     let flushes : List Step = map Steps.Flush (range_with_len 0 n) in
     let a = count_sum (is_serve_of c) (serves ++ flushes) (last ∷ []) in
     let b = count_sum (is_serve_of c) serves flushes in
-    let few = serves_most p c 0 n in
+    let once = at_once (λ m. count_by (is_serve_of c) (map Steps.Serve (filter p (range_with_len 0 m)))) p c refl (one_serve p c) n in
     let none = none_of (is_serve_of c) Steps.Flush (λ k. refl) (range_with_len 0 n) in
     let end = (is_last last h).no_serve c in
-    omega arith
-
-few_requests : (b : Bool) (served : Served) → length (if b then request_in served else []) ≤ one_if b
-few_requests true Idle = omega arith
-few_requests true NoRoom = omega arith
-few_requests true NoMemory = omega arith
-few_requests true (Did numbered word) = omega arith
-few_requests false served = omega arith
-
-few_in : (c : ℕ) (d : Done) → length (asked_in c d) ≤ count_by (is_serve_of c) (step_in d)
-few_in c (Dones.Served client served) = let few = few_requests (client == c) served in omega arith
-few_in c (Dones.Ticked result) = omega arith
-few_in c (Dones.Passed limit passed) = omega arith
-few_in c (Dones.Closed result) = omega arith
-few_in c (Dones.Noticed notice) = omega arith
-few_in c (Dones.Flushed client count) = omega arith
+    ⊎_elim (λ l. let few = once.1 l in omega arith) (λ l. let few = once.0 l in omega arith) (cases_lt c n)
 
 -- a serve does one request at most
 few_asked : (c : ℕ) (report : List Done) → length (asked c report) ≤ count_by (is_serve_of c) (steps_of report)
@@ -139,9 +111,8 @@ asked_at_most goal limit clients last h turns each c (suc k) l =
     let before = joined (take k turns) in
     let turn = get_or turns k [] in
     let was = asked_at_most goal limit clients last h turns each c k (omega arith) in
-    let on : suc k ≡ k + 1 = omega arith in
-    let split : joined (take (suc k) turns) ≡ before ++ turn = ap (λ n. joined (take n turns)) on
-    ∙ ap joined (take_more turns k [] (omega arith)) ∙ joined-push (take k turns) turn in
+    let split : joined (take (suc k) turns) ≡ before ++ turn = ap (λ n. joined (take n turns)) (sym (add-one k))
+    ∙ joined-more turns k (omega arith) in
     let sum = ap (λ r. length (asked c r)) split ∙ asked_sum c before turn in
     let few = few_asked c turn in
     let steps = ap (λ xs. count_by (is_serve_of c) xs) (each k (omega arith)).steps in
@@ -159,25 +130,6 @@ asked_most goal limit clients last h turns each c =
 
 -- Flushes.
 
-flushes_from : (c a n : ℕ) → ((c < a → count_by (is_flush_of c) (map Steps.Flush (range_with_len a n)) ≡ 0))
-    × (a ≤ c → c < a + n → count_by (is_flush_of c) (map Steps.Flush (range_with_len a n)) ≡ 1)
-flushes_from c a zero = (λ h. refl, λ h l. absurd (omega arith))
-flushes_from c a (suc n) =
-    let first = count_first (is_flush_of c) (Steps.Flush a) (map Steps.Flush (range_with_len (a + 1) n)) in
-    let rest = flushes_from c (a + 1) n in elim (either (a == c)) [
-      | inl e ↦
-          let at = is_equal a c e in
-          let one : one_if (a == c) ≡ 1 = ap one_if e in
-          let none = rest.0 (omega arith) in
-          (λ h. absurd (omega arith), λ h l. omega arith)
-      | inr e ↦
-          let none : one_if (a == c) ≡ 0 = ap one_if e in
-          (λ h. (let r = rest.0 (omega arith) in omega arith), λ h l. (let r = rest.1 (above a c e h) (omega arith) in omega arith))
-    ]
-  where
-    above : (a c : ℕ) → (a == c) ≡ false → a ≤ c → a + 1 ≤ c
-    above a c e h = grind (arith, nat_tests)
-
 -- each client is flushed once a turn
 pub flushed_once : (goal limit clients : ℕ) (last : Step) → InRange 0 last → (turns : List (List Done)) → AreTurns goal limit clients last turns
     → (k c : ℕ) → k < length turns → c < clients → count_by (is_flush_of c) (steps_of (get_or turns k [])) ≡ 1
@@ -189,7 +141,8 @@ flushed_once goal limit clients last h turns each k c l low =
     let a = count_sum (is_flush_of c) (serves ++ flushes) (last ∷ []) in
     let b = count_sum (is_flush_of c) serves flushes in
     let none = none_of (is_flush_of c) Steps.Serve (λ i. refl) (filter served (range_with_len 0 clients)) in
-    let one = (flushes_from c 0 clients).1 (omega arith) (omega arith) in
+    let one = (at_once (λ n. count_by (is_flush_of c) (map Steps.Flush (range_with_len 0 n))) (λ _. true) c refl
+    (λ n. sum_by-map-range_with_len_more (λ x. cond (is_flush_of c x) 1 0) Steps.Flush 0 n n (omega arith)) clients).1 low in
     let end = (is_last last h).no_flush c in
     omega arith
 
@@ -199,15 +152,19 @@ flushed_once goal limit clients last h turns each k c l low =
 pub short_at_limit : (goal limit clients : ℕ) (last : Step) (turns : List (List Done)) → AreTurns goal limit clients last turns
     → EndsIdle goal clients limit turns → 0 < limit → HasUnfinishedClient goal clients (joined turns)
 short_at_limit goal limit clients last turns each idle some =
-    let k : ℕ = length turns - limit in
     let many = idle.0 in
+    let k : ℕ = length turns - 1 in
+    let before : List Done = joined (take k turns) in
+    let turn : List Done = get_or turns k [] in
     let was = (each k (omega arith)).short in
-    let at = same_at goal clients (joined turns) (joined (take k turns)) idle.1 was.client was.among in
-    let a : min (length (asked was.client (joined turns))) goal ≡ min (length (asked was.client (joined (take k turns)))) goal =
+    let whole : before ++ turn ≡ joined turns = sym (joined-more turns k (omega arith))
+    ∙ ap joined (take_all (k + 1) turns (omega arith)) in
+    let at = same_at goal clients (before ++ turn) before (idle.1 k (omega arith) (omega arith)) was.client was.among in
+    let a : min (length (asked was.client (before ++ turn))) goal ≡ min (length (asked was.client before)) goal =
     ap (λ (p : Progress). p.served) at in
-    let b : min (flushed was.client (joined turns)) (2 * goal) ≡ min (flushed was.client (joined (take k turns))) (2 * goal) =
-    ap (λ (p : Progress). p.flushed) at in record {
+    let b : min (flushed was.client (before ++ turn)) (2 * goal) ≡ min (flushed was.client before) (2 * goal) =
+    ap (λ (p : Progress). p.flushed) at in subst (HasUnfinishedClient goal clients) whole (record {
       client = was.client;
       among = was.among;
       fewer = ⊎_elim (λ h. inl (omega arith)) (λ h. inr (omega arith)) was.fewer;
-    }
+    })

@@ -1,6 +1,6 @@
 -- A tick, many ticks and a close are events of the owner.
 use Rattle.std.proofs.Common.{◌≡◌, ℕ, zero, suc, ◌+◌, Bool, true, false, List, [], ◌∷◌, ◌++◌, length, map, refl, sym, ◌∙◌, ap, subst, arith, append-nil}
-use Rattle.std.specs.Prelude.{Option, Some, None, Ok, Err, Result, MatchResult, IfOk, OnOk, IfErr, OnErr, IsTrue, ◌↔◌}
+use Rattle.std.specs.Prelude.{◌==◌, ◌≤◌, cond, if◌then◌else◌, count_by, Option, Some, None, Ok, Err, Result, MatchResult, IfOk, OnOk, IfErr, OnErr, IsTrue, ◌↔◌}
 use Rattle.std.proofs.lemmas.List.{length-map}
 use Rattle.timer_base.specs.declared.timer.Timer.{Timer}
 use Rattle.timer_base.specs.Pending.{timers_of}
@@ -21,14 +21,19 @@ use Rattle.timer_facility.specs.Owed.{timer_handed}
 use Rattle.timer_facility.proofs.OwedLemmas.{notices_in-append}
 use Rattle.timer_facility.proofs.PlayedTicks.{are_accepted, length-many}
 use Rattle.timer_facility.proofs.HandedOverLemmas.{hands_over_tick, hands_over_close}
+use Rattle.timer_desk.specs.declared.report.Served.{Served}
+use Rattle.timer_desk.specs.declared.report.Served.TheVariants.{Idle, NoRoom, NoMemory, Did}
+use Rattle.timer_desk.specs.declared.report.Step.{Step}
+use Rattle.timer_desk.specs.declared.report.Step.TheVariants as Steps
 use Rattle.timer_desk.specs.declared.report.Done.{Done}
 use Rattle.timer_desk.specs.declared.report.Done.TheVariants as Dones
 use Rattle.timer_desk.specs.Backlog.{notices_for}
-use Rattle.timer_desk.specs.Report.{placed, events_in, outs_in, tick_outs}
-use Rattle.timer_desk.specs.Member.{FacilityMember, IsRight, waiting_outs, is_notice, is_any, hands_out}
+use Rattle.timer_desk.specs.Report.{placed, events_in, outs_in, tick_outs, request_in, asked_in, step_in}
+use Rattle.timer_desk.specs.Member.{IsRight, waiting_outs, is_notice, hands_out}
 use Rattle.timer_desk.specs.Event.{IsSilent, IsEvent}
-use Rattle.timer_desk.specs.Desk.{tick_notices, ticks_notices, close_notices}
-use Rattle.timer_desk.proofs.DeskLemmas.{still}
+use Rattle.timer_desk.specs.Desk.{notices_of, InRange}
+use Rattle.timer_desk.specs.Driver.{is_flush_of}
+use Rattle.timer_desk.proofs.DeskLemmas.{still, none_for, quiet_member}
 
 -- A single event of the model.
 
@@ -37,56 +42,27 @@ notices_back : (f : Timer → Notice) (ts : List Timer) → map (λ n. Outs.Noti
 notices_back f [] = refl
 notices_back f (t ∷ ts) = ap (λ os. Outs.Notice (f t) ∷ os) (notices_back f ts)
 
--- the member of an event that hands out what waits then
-of_step : (first : Done) (event : SingleEvent) (f g : FacilityView) → f.waiting ≡ [] → g ≡ view_after (step f.state event 0)
-    → is_notice first ≡ false → hands_out first ≡ true → IsRight f.state first → events_in first ≡ placed event 0 ∷ []
+-- An event that is one step: what it hands out waits then, was pending, and is no longer.
+one_step : (first : Done) (event : SingleEvent) (f g : FacilityView) → f.waiting ≡ [] → g ≡ view_after (step f.state event 0)
+    → HandsOver f.state (step f.state event 0) → length (step f.state event 0).state.numbers ≡ length f.state.numbers
+    → ((c : ℕ) → IsSilent c first) → is_notice first ≡ false → hands_out first ≡ true → IsRight f.state first
+    → events_in first ≡ placed event 0 ∷ []
     → outs_in first ++ map (λ (n : Notice). Outs.Notice n) (notices_in (step f.state event 0).outs) ≡ (step f.state event 0).outs
-    → FacilityMember first f g
-of_step first event f g quiet is event_is owner right one outs = record {
-  outs_are =
-      ap (λ (ns : List Notice). map (λ (n : Notice). Outs.Notice n) ns ++ (run f.state (events_in first)).outs) quiet
-      ∙ ap (λ ps. (run f.state ps).outs) one ∙ append-nil (step f.state event 0).outs ∙ sym outs
-      ∙ ap (λ (v : FacilityView). outs_in first ++ waiting_outs v) (sym is);
-  state_is = ap (λ (v : FacilityView). v.state) is ∙ ap (λ ps. (run f.state ps).state) (sym one);
-  in_turn = event_is ∙ ap is_any (sym quiet);
-  none_left = λ e. absurd (let o = sym owner ∙ e in cc);
-  right = right;
-}
-
--- the member of no event
-of_nothing : (first : Done) (f : FacilityView) → f.waiting ≡ [] → is_notice first ≡ false → IsRight f.state first
-    → events_in first ≡ [] → outs_in first ≡ [] → FacilityMember first f f
-of_nothing first f quiet event_is right none no_outs = record {
-  outs_are =
-      ap (λ ps. waiting_outs f ++ (run f.state ps).outs) none ∙ append-nil (waiting_outs f)
-      ∙ ap (λ os. os ++ waiting_outs f) (sym no_outs);
-  state_is = ap (λ ps. (run f.state ps).state) (sym none);
-  in_turn = event_is ∙ ap is_any (sym quiet);
-  none_left = λ e. quiet;
-  right = right;
-}
-
--- what is handed out was pending, and is no longer
-record AreHanded (f g : FacilityView) : Type 0 where
-  of_client : (c : ℕ) → pending_of g.state c + notices_for c g.waiting ≡ pending_of f.state c
-  all : length g.waiting + length g.state.pending ≡ length f.state.pending
-
-handed_by : (st : StepResult) (f : FacilityView) → HandsOver f.state st → AreHanded f (view_after st)
-handed_by st f hands = record {
-  of_client = hands.of_client;
-  all = let l = length-map (notices_in st.outs) timer_handed in let a = hands.all in omega arith;
-}
-
--- a refusal, which changes nothing
-unchanged : (first : Done) (f g : FacilityView) → ((c : ℕ) → IsSilent c first) → f.waiting ≡ [] → g ≡ f → FacilityMember first f f
-    → IsEvent first f g
-unchanged first f g silent quiet is member = subst (λ (v : FacilityView). IsEvent first f v) (sym is) (record {
-  silent = silent;
-  member = member;
-  same_numbers = refl;
-  of_client = λ c. let n = ap (notices_for c) quiet in omega arith;
-  all = let n = ap (λ (ns : List Notice). length ns) quiet in omega arith;
-})
+    → g.waiting ≡ notices_of f.state first → IsEvent first f g
+one_step first event f g quiet is hands numbers silent event_is owner right one outs notices =
+    let st : StepResult = step f.state event 0 in
+    let long = length-map (notices_in st.outs) timer_handed in
+    let all : length (notices_in st.outs) + length st.state.pending ≡ length f.state.pending = let a = hands.all in omega arith in record {
+      silent = silent;
+      member = quiet_member first f g quiet
+          (ap (λ ps. (run f.state ps).outs) one ∙ append-nil st.outs ∙ sym outs ∙ ap (λ (v : FacilityView). outs_in first ++ waiting_outs v) (sym is))
+          (ap (λ (v : FacilityView). v.state) is ∙ ap (λ ps. (run f.state ps).state) (sym one))
+          event_is (λ e. absurd (let o = sym owner ∙ e in cc)) right;
+      same_numbers = ap (λ (v : FacilityView). length v.state.numbers) is ∙ numbers;
+      of_client = λ c. ap (λ (v : FacilityView). pending_of v.state c + notices_for c v.waiting) is ∙ hands.of_client c;
+      all = ap (λ (v : FacilityView). length v.waiting + length v.state.pending) is ∙ all;
+      notices = notices;
+    }
 
 -- A tick.
 
@@ -98,24 +74,16 @@ tick_outs_are s None (Err fault) h = absurd (cc)
 tick_outs_are s (Some other) (Ok done) h = absurd (cc)
 tick_outs_are s (Some other) (Err fault) h = let e : fault ≡ other = cc in ap (λ x. Outs.TickRefused x ∷ []) e
 
-same_numbers_tick : (s : FacilityState) (o : Option TickFault) → (step_of_tick s o).state.numbers ≡ s.numbers
-same_numbers_tick s None = refl
-same_numbers_tick s (Some fault) = refl
-
-numbers_tick : (s : FacilityState) → length (step s Tick 0).state.numbers ≡ length s.numbers
-numbers_tick s = ap (λ xs. length xs) (same_numbers_tick s (tick_refusal s))
+numbers_tick : (s : FacilityState) (o : Option TickFault) → length (step_of_tick s o).state.numbers ≡ length s.numbers
+numbers_tick s None = refl
+numbers_tick s (Some fault) = refl
 
 pub event_of_tick : (f g : FacilityView) (r : Result (Unit {0}) TickFault) → f.waiting ≡ [] → g ≡ view_after (step f.state Tick 0)
     → MatchResult r (λ done. tick_refusal f.state ≡ None) (λ fault. tick_refusal f.state ≡ Some fault) → IsEvent (Dones.Ticked r) f g
 event_of_tick f g r quiet is h =
-    let handed : AreHanded f g = subst (λ (v : FacilityView). AreHanded f v) (sym is)
-    (handed_by (step f.state Tick 0) f (hands_over_tick f.state 0)) in record {
-      silent = λ c. record { no_request = refl; no_word = refl; none_flushed = refl; no_serve = λ served e. absurd (cc) };
-      member = of_step (Dones.Ticked r) Tick f g quiet is refl refl tt refl (tick_outs_are f.state (tick_refusal f.state) r h);
-      same_numbers = ap (λ (v : FacilityView). length v.state.numbers) is ∙ numbers_tick f.state;
-      of_client = handed.of_client;
-      all = handed.all;
-    }
+    one_step (Dones.Ticked r) Tick f g quiet is (hands_over_tick f.state 0) (numbers_tick f.state (tick_refusal f.state))
+    (λ c. record { no_request = refl; no_word = refl; none_flushed = refl; no_serve = λ served e. absurd (cc) })
+    refl refl tt refl (tick_outs_are f.state (tick_refusal f.state) r h) (ap (λ (v : FacilityView). v.waiting) is)
 
 -- Many ticks.
 
@@ -145,34 +113,30 @@ handed_by_ticks (suc n) s c =
 
 numbers_ticks : (n : ℕ) (s : FacilityState) → length (state_after s (ticks n)).numbers ≡ length s.numbers
 numbers_ticks zero s = refl
-numbers_ticks (suc n) s = numbers_ticks n (step s Tick 0).state ∙ numbers_tick s
+numbers_ticks (suc n) s = numbers_ticks n (step s Tick 0).state ∙ numbers_tick s (tick_refusal s)
 
 pub event_of_ticks : (limit : ℕ) (f g : FacilityView) (r : Result ℕ TickFault) → f.waiting ≡ [] → HasTicked limit f g r
     → IsEvent (Dones.Passed limit r) f g
 event_of_ticks limit f g (Ok passed) quiet h =
     let a : AreTicked limit passed f.state g = h.ticked in record {
       silent = λ c. record { no_request = refl; no_word = refl; none_flushed = refl; no_serve = λ served e. absurd (cc) };
-      member = record {
-        outs_are =
-            ap (λ (ns : List Notice). map (λ (n : Notice). Outs.Notice n) ns ++ (run f.state (ticks passed)).outs) quiet
-            ∙ sym (are_accepted f.state passed a.accepted).outs ∙ ap (λ (v : FacilityView). waiting_outs v) (sym a.ticked);
-        state_is = ap (λ (v : FacilityView). v.state) a.ticked;
-        in_turn = ap is_any (sym quiet);
-        none_left = λ e. absurd (cc);
-        right = subst (λ (v : FacilityView). AreTicked limit passed f.state v) a.ticked a;
-      };
+      member = quiet_member (Dones.Passed limit (Ok passed)) f g quiet
+          (sym (are_accepted f.state passed a.accepted).outs ∙ ap (λ (v : FacilityView). waiting_outs v) (sym a.ticked))
+          (ap (λ (v : FacilityView). v.state) a.ticked) refl (λ e. absurd (cc))
+          (subst (λ (v : FacilityView). AreTicked limit passed f.state v) a.ticked a);
       same_numbers = ap (λ (v : FacilityView). length v.state.numbers) a.ticked ∙ numbers_ticks passed f.state;
       of_client = λ c. ap (λ (v : FacilityView). pending_of v.state c + notices_for c v.waiting) a.ticked
           ∙ handed_by_ticks passed f.state c;
       all = length-many limit passed f.state g a;
+      notices = ap (λ (v : FacilityView). v.waiting) a.ticked;
     }
 event_of_ticks limit f g (Err fault) quiet h =
-    let refused : step f.state Tick 0 ≡ step_of_tick f.state (Some fault) = ap (step_of_tick f.state) h.fault in
-    unchanged (Dones.Passed limit (Err fault)) f g
-    (λ c. record { no_request = refl; no_word = refl; none_flushed = refl; no_serve = λ served e. absurd (cc) }) quiet h.unchanged
-    (of_step (Dones.Passed limit (Err fault)) Tick f f quiet (still f quiet ∙ ap view_after (sym refused)) refl refl tt refl
-    (ap (λ (st : StepResult). Outs.TickRefused fault ∷ map (λ (n : Notice). Outs.Notice n) (notices_in st.outs)) refused
-    ∙ ap (λ (st : StepResult). st.outs) (sym refused)))
+    one_step (Dones.Passed limit (Err fault)) Tick f g quiet
+    (h.unchanged ∙ still f quiet ∙ ap view_after (sym (ap (step_of_tick f.state) h.fault)))
+    (hands_over_tick f.state 0) (numbers_tick f.state (tick_refusal f.state))
+    (λ c. record { no_request = refl; no_word = refl; none_flushed = refl; no_serve = λ served e. absurd (cc) })
+    refl refl tt refl (tick_outs_are {X = ℕ} f.state (tick_refusal f.state) (Err fault) h.fault)
+    (ap (λ (v : FacilityView). v.waiting) h.unchanged ∙ quiet)
 
 -- A close.
 
@@ -191,55 +155,79 @@ close_outs_are s true count c n = absurd (cc)
 close_outs_are s false count c n = ap (λ k. Outs.Closed k ∷ map (λ m. Outs.Notice m) (notices_in (step_of_close s false).outs)) n
     ∙ ap (λ os. Outs.Closed (length s.pending) ∷ os) (notices_back (λ t. Returned t) (timers_of s.pending))
 
-is_closed : (b : Bool) → IsTrue b → b ≡ true
-is_closed true h = refl
-is_closed false h = absurd (cc)
-
 is_open : (b : Bool) → (IsTrue b → ⊥) → b ≡ false
 is_open true h = absurd (h (cc))
 is_open false h = refl
 
-same_numbers_close : (s : FacilityState) (closed : Bool) → (step_of_close s closed).state.numbers ≡ s.numbers
-same_numbers_close s true = refl
-same_numbers_close s false = refl
+numbers_close : (s : FacilityState) (closed : Bool) → length (step_of_close s closed).state.numbers ≡ length s.numbers
+numbers_close s true = refl
+numbers_close s false = refl
 
 pub event_of_close : (f g : FacilityView) (r : Result ℕ CloseFault) → f.waiting ≡ [] → HasClosed f g r → IsEvent (Dones.Closed r) f g
 event_of_close f g (Ok count) quiet h =
-    let handed : AreHanded f g = subst (λ (v : FacilityView). AreHanded f v) (sym h.closed)
-    (handed_by (step f.state Close 0) f (hands_over_close f.state 0)) in record {
-      silent = λ c. record { no_request = refl; no_word = refl; none_flushed = refl; no_serve = λ served e. absurd (cc) };
-      member = of_step (Dones.Closed (Ok count)) Close f g quiet h.closed refl refl tt refl
-          (close_outs_are f.state f.state.is_closed count h.open_before h.count);
-      same_numbers = ap (λ (v : FacilityView). length v.state.numbers) h.closed
-          ∙ ap (λ xs. length xs) (same_numbers_close f.state f.state.is_closed);
-      of_client = handed.of_client;
-      all = handed.all;
-    }
+    one_step (Dones.Closed (Ok count)) Close f g quiet h.closed (hands_over_close f.state 0)
+    (numbers_close f.state f.state.is_closed)
+    (λ c. record { no_request = refl; no_word = refl; none_flushed = refl; no_serve = λ served e. absurd (cc) })
+    refl refl tt refl (close_outs_are f.state f.state.is_closed count h.open_before h.count)
+    (ap (λ (v : FacilityView). v.waiting) h.closed)
 event_of_close f g (Err CloseFaults.Closed) quiet h =
-    let closed : f.state.is_closed ≡ true = is_closed f.state.is_closed (h.fault.0 refl) in
+    let closed : f.state.is_closed ≡ true = h.fault.0 refl in
     let stays : step f.state Close 0 ≡ step_of_close f.state true = ap (step_of_close f.state) closed in
-    unchanged (Dones.Closed (Err CloseFaults.Closed)) f g
-    (λ c. record { no_request = refl; no_word = refl; none_flushed = refl; no_serve = λ served e. absurd (cc) }) quiet h.unchanged
-    (of_step (Dones.Closed (Err CloseFaults.Closed)) Close f f quiet (still f quiet ∙ ap view_after (sym stays)) refl refl tt refl
+    one_step (Dones.Closed (Err CloseFaults.Closed)) Close f g quiet (h.unchanged ∙ still f quiet ∙ ap view_after (sym stays))
+    (hands_over_close f.state 0) (numbers_close f.state f.state.is_closed)
+    (λ c. record { no_request = refl; no_word = refl; none_flushed = refl; no_serve = λ served e. absurd (cc) })
+    refl refl tt refl
     (ap (λ (st : StepResult). Outs.CloseRefused ∷ map (λ (n : Notice). Outs.Notice n) (notices_in st.outs)) stays
-    ∙ ap (λ (st : StepResult). st.outs) (sym stays)))
+    ∙ ap (λ (st : StepResult). st.outs) (sym stays))
+    (ap (λ (v : FacilityView). v.waiting) h.unchanged ∙ quiet)
 event_of_close f g (Err CloseFaults.OutOfMemory) quiet h =
-    unchanged (Dones.Closed (Err CloseFaults.OutOfMemory)) f g
-    (λ c. record { no_request = refl; no_word = refl; none_flushed = refl; no_serve = λ served e. absurd (cc) }) quiet h.unchanged
-    (of_nothing (Dones.Closed (Err CloseFaults.OutOfMemory)) f quiet refl
-    (is_open f.state.is_closed (λ c. absurd (let same : CloseFaults.OutOfMemory ≡ CloseFaults.Closed = h.fault.1 c in cc)), h.room)
-    refl refl)
+    let no_notice : (c : ℕ) → notices_for c f.waiting ≡ 0 = λ c. none_for c f quiet in
+    let none = ap (λ (ns : List Notice). length ns) quiet in
+    subst (λ (v : FacilityView). IsEvent (Dones.Closed (Err CloseFaults.OutOfMemory)) f v) (sym h.unchanged) (record {
+      silent = λ c. record { no_request = refl; no_word = refl; none_flushed = refl; no_serve = λ served e. absurd (cc) };
+      member = quiet_member (Dones.Closed (Err CloseFaults.OutOfMemory)) f f quiet
+          (ap (λ (ns : List Notice). map (λ (n : Notice). Outs.Notice n) ns) (sym quiet)) refl refl (λ e. quiet)
+          (is_open f.state.is_closed (λ c. absurd (let same : CloseFaults.OutOfMemory ≡ CloseFaults.Closed = h.fault.1 c in cc)), h.room);
+      same_numbers = refl;
+      of_client = λ c. let n = no_notice c in omega arith;
+      all = omega arith;
+      notices = quiet;
+    })
 
--- what waits after them
-pub waiting_tick : (f g : FacilityView) → g ≡ view_after (step f.state Tick 0) → g.waiting ≡ tick_notices f.state
-waiting_tick f g is = ap (λ (v : FacilityView). v.waiting) is
+-- Steps of a turn.
 
-pub waiting_ticks : (limit : ℕ) (f g : FacilityView) (r : Result ℕ TickFault) → f.waiting ≡ [] → HasTicked limit f g r
-    → g.waiting ≡ ticks_notices f.state r
-waiting_ticks limit f g (Ok passed) quiet h = ap (λ (v : FacilityView). v.waiting) h.ticked.ticked
-waiting_ticks limit f g (Err fault) quiet h = ap (λ (v : FacilityView). v.waiting) h.unchanged ∙ quiet
+abbrev pub one_if : Bool → ℕ
+one_if b = cond b 1 0
 
-pub waiting_close : (f g : FacilityView) (r : Result ℕ CloseFault) → f.waiting ≡ [] → HasClosed f g r
-    → g.waiting ≡ close_notices f.state r
-waiting_close f g (Ok count) quiet h = ap (λ (v : FacilityView). v.waiting) h.closed
-waiting_close f g (Err fault) quiet h = ap (λ (v : FacilityView). v.waiting) h.unchanged ∙ quiet
+abbrev pub is_serve_of : ℕ → Step → Bool
+is_serve_of c (Steps.Serve client) = client == c
+is_serve_of c step = false
+
+-- the last step of a turn serves and flushes nobody, and is in range however many clients there are
+pub record IsLast (last : Step) : Type 0 where
+  pub no_serve : (c : ℕ) → count_by (is_serve_of c) (last ∷ []) ≡ 0
+  pub no_flush : (c : ℕ) → count_by (is_flush_of c) (last ∷ []) ≡ 0
+  pub in_range : (n : ℕ) → InRange n last
+
+pub is_last : (last : Step) → InRange 0 last → IsLast last
+is_last (Steps.Serve c) h = absurd (omega arith)
+is_last Steps.Tick h = record { no_serve = λ c. refl; no_flush = λ c. refl; in_range = λ n. tt }
+is_last (Steps.Ticks limit) h = record { no_serve = λ c. refl; no_flush = λ c. refl; in_range = λ n. h }
+is_last Steps.Close h = record { no_serve = λ c. refl; no_flush = λ c. refl; in_range = λ n. tt }
+is_last (Steps.Flush c) h = absurd (omega arith)
+
+few_requests : (b : Bool) (served : Served) → length (if b then request_in served else []) ≤ one_if b
+few_requests true Idle = omega arith
+few_requests true NoRoom = omega arith
+few_requests true NoMemory = omega arith
+few_requests true (Did numbered word) = omega arith
+few_requests false served = omega arith
+
+-- at most one request is done, by a serve
+pub few_in : (c : ℕ) (d : Done) → length (asked_in c d) ≤ count_by (is_serve_of c) (step_in d)
+few_in c (Dones.Served client served) = let few = few_requests (client == c) served in omega arith
+few_in c (Dones.Ticked result) = omega arith
+few_in c (Dones.Passed limit passed) = omega arith
+few_in c (Dones.Closed result) = omega arith
+few_in c (Dones.Noticed notice) = omega arith
+few_in c (Dones.Flushed client count) = omega arith

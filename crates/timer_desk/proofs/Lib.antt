@@ -3,9 +3,7 @@ pub mod DeskLemmas
 pub mod EventLemmas
 pub mod DriverLemmas
 pub mod DriveBounds
-pub mod ReportHeld
 pub mod ForwardLemmas
 pub mod ProgressLemmas
 pub mod ShutdownLemmas
-pub mod FlushLemmas
 pub mod StoppingLemmas

@@ -1,13 +1,15 @@
 -- The laws of reports, each proved once by induction over the chain of members.
-use Rattle.std.proofs.Common.{◌≡◌, ℕ, ◌+◌, ◌-◌, ◌<◌, ◌≤◌, Bool, true, false, List, [], ◌∷◌, ◌++◌, length, get_or, refl, sym, subst, ◌∙◌, ap, inl, inr, ◌⊎◌, append_assoc, append-nil, length-append, arith}
+use Rattle.std.proofs.Common.{◌≡◌, ℕ, ◌+◌, ◌-◌, ◌<◌, ◌≤◌, Bool, true, false, List, [], ◌∷◌, ◌++◌, length, get_or, refl, sym, subst, ◌∙◌, ap, inl, inr, append_assoc, append-nil, length-append, arith}
 use Rattle.std.specs.Prelude.{take, drop, if◌then◌else◌, Option, Some, None}
+use Rattle.std.proofs.Math.Seq.{take-length, take-append_seam}
+use Rattle.timer_base.specs.OrderLaws.{either}
 use Rattle.timer_facility.specs.declared.request.Notice.{Notice}
 use Rattle.timer_facility.specs.declared.event.Out.{Out}
 use Rattle.timer_facility.specs.State.{FacilityState, pending_of}
 use Rattle.timer_facility.specs.Step.{StepResult, step}
 use Rattle.timer_facility.specs.Run.{PlacedEvent, HistoryEntry, run, history, state_after, outs_of, notices, notices_in}
 use Rattle.timer_facility.specs.Owed.{owed}
-use Rattle.timer_facility.specs.Facility.{FacilityView, NeedsMemory, with_nothing_waiting, model_of}
+use Rattle.timer_facility.specs.Facility.{FacilityView, with_nothing_waiting, model_of}
 use Rattle.timer_facility.proofs.HandedOverLemmas.{adds_at_most_one}
 use Rattle.timer_desk.specs.declared.word.Numbered.{Numbered}
 use Rattle.timer_desk.specs.declared.word.Word.{Word}
@@ -23,12 +25,22 @@ use Rattle.timer_desk.specs.Report.{place_in_word, Account, got_but_held, held_l
 use Rattle.timer_desk.specs.Member.{Moment, ServeRespectsRoom, FacilityMember, IsRight, waiting_outs, is_notice, hands_out, is_any, account_then, IsKept, Member, Members}
 use Rattle.timer_desk.specs.Laws.{IsNeeded, outbox_after, pending_after, RespectsRoom, IsInTime}
 use Rattle.timer_desk.specs.Desk.{DeskState, clients_of, at_rest, account_at, ReportHolds, NoticesFollow, IsOwed, AreOwed}
-use Rattle.timer_desk.proofs.ReportHeld.{got_but_held_is}
-
-either : (b : Bool) → (b ≡ true) ⊎ (b ≡ false)
-either b = elim b as (λ v. (v ≡ true) ⊎ (v ≡ false)) [ true ↦ inl refl | false ↦ inr refl ]
 
 -- One client.
+
+-- dropping an appended list from the end gives the list before
+without_end : {X : Type 0} (xs ys : List X) → take (length (xs ++ ys) - length ys) (xs ++ ys) ≡ xs
+without_end xs ys =
+    let n : length (xs ++ ys) - length ys ≡ length xs = let l = length-append xs ys in omega arith in
+    ap (λ k. take k (xs ++ ys)) n ∙ take-append_seam xs ys
+
+-- if what was got ends in what is held, the rest is what was got without it
+got_but_held_is : (a : Account) (xs : List Numbered) → xs ++ held_list a.backlog.held ≡ a.got → got_but_held a ≡ xs
+got_but_held_is a xs h =
+    ap (λ got. take (length got - length (held_list a.backlog.held)) got) (sym h) ∙ without_end xs (held_list a.backlog.held)
+
+pub held_last : (a : Account) (xs : List Numbered) → xs ++ held_list a.backlog.held ≡ a.got → HeldIsLast a
+held_last a xs h = ap (λ ys. ys ++ held_list a.backlog.held) (got_but_held_is a xs h) ∙ h
 
 Extends-behind : {X : Type 0} (xs ys zs : List X) → Extends ys zs → Extends (xs ++ ys) (xs ++ zs)
 Extends-behind xs ys zs h =
@@ -130,23 +142,20 @@ module _ {I : Type 0} (kind : LineKind I) where
 
   pub members_lines : (r : List Done) (x z : Moment I) → Members kind x r z → (c : ℕ) (i : I) → c < length x.inlets
       → kind.same (get_or x.inlets c i) (get_or z.inlets c i)
-  members_lines [] x z h c i low = subst (λ (m : Moment I). kind.same (get_or x.inlets c i) (get_or m.inlets c i)) (sym h.0)
-      (kind.reflexive (get_or x.inlets c i))
+  members_lines [] x z h c i low = rw h.0 (kind.reflexive (get_or x.inlets c i))
   members_lines (d ∷ r) x z h c i low = kind.transitive (get_or x.inlets c i) (get_or h.0.inlets c i) (get_or z.inlets c i)
       (h.2.lines c i low) (members_lines r h.0 z h.3 c i (let e = h.2.same_clients in omega arith))
 
   members_account : (r : List Done) (x z : Moment I) → Members kind x r z → (c : ℕ) (i : I) (b : BacklogState) → c < length x.inlets
       → ClientAccount c r (account_then kind x c i b) (account_then kind z c i b)
-  members_account [] x z h c i b low = subst (λ (m : Moment I). IsAccount [] [] 0 (account_then kind x c i b) (account_then kind m c i b))
-      (sym h.0) (IsAccount-nothing (account_then kind x c i b) (h.1.held c i b low))
+  members_account [] x z h c i b low = rw h.0 (IsAccount-nothing (account_then kind x c i b) (h.1.held c i b low))
   members_account (d ∷ r) x z h c i b low =
       IsAccount-joined (asked_in c d) (asked c r) (words_in c d) (words c r) (flushed_in c d) (flushed c r) (account_then kind x c i b)
       (account_then kind h.0 c i b) (account_then kind z c i b)
       (h.2.clients c i b low).account (members_account r h.0 z h.3 c i b (let e = h.2.same_clients in omega arith))
 
   members_run : (r : List Done) (x z : Moment I) → Members kind x r z → AreRun r x.facility z.facility
-  members_run [] x z h = subst (λ (m : Moment I). AreRun [] x.facility m.facility) (sym h.0)
-      (record { outs_are = append-nil (waiting_outs x.facility); state_is = refl })
+  members_run [] x z h = rw h.0 (record { outs_are = append-nil (waiting_outs x.facility); state_is = refl })
   members_run (d ∷ r) x z h = AreRun-more d r x.facility h.0.facility z.facility h.2.facility (members_run r h.0 z h.3)
 
   notices_follow : (r : List Done) (x z : Moment I) (allowed : Bool) → Members kind x r z → (is_any x.facility.waiting ≡ true → allowed ≡ true)
@@ -155,17 +164,14 @@ module _ {I : Type 0} (kind : LineKind I) where
   notices_follow (d ∷ r) x z allowed h k =
       let one = h.2.facility in (
         λ e. k (sym one.in_turn ∙ e),
-        notices_follow r h.0 z (if is_notice d then allowed else hands_out d) h.3 (λ e. next e (either (is_notice d))),
+        notices_follow r h.0 z (if is_notice d then allowed else hands_out d) h.3 (λ e. elim (either (is_notice d)) [
+          | inl is ↦ rw is (k (sym one.in_turn ∙ is))
+          | inr isnt ↦ rw isnt (elim (either (hands_out d)) [
+            | inl hands ↦ hands
+            | inr none ↦ absurd (let n = ap is_any (one.none_left none) in cc)
+          ])
+        ]),
       )
-    where
-      next : is_any h.0.facility.waiting ≡ true → (is_notice d ≡ true) ⊎ (is_notice d ≡ false)
-          → (if is_notice d then allowed else hands_out d) ≡ true
-      next e (inl is) = ap (λ v. if v then allowed else hands_out d) is ∙ k (sym h.2.facility.in_turn ∙ is)
-      next e (inr isnt) = ap (λ v. if v then allowed else hands_out d) isnt ∙ waits e (either (hands_out d))
-        where
-          waits : is_any h.0.facility.waiting ≡ true → (hands_out d ≡ true) ⊎ (hands_out d ≡ false) → hands_out d ≡ true
-          waits e (inl is) = is
-          waits e (inr isnt) = absurd (let n = ap is_any (h.2.facility.none_left isnt) in cc)
 
   -- a chain that is cut before one of its members
   record IsCut (x : Moment I) (past : List Done) (done : Done) (later : List Done) (z : Moment I) : Type 0 where
@@ -195,22 +201,18 @@ module _ {I : Type 0} (kind : LineKind I) where
 abbrev pub IsLaw : FacilityState → Type 0
 IsLaw s = (placed : List PlacedEvent) (k : ℕ) → notices (take k (history s placed)) ≡ owed s (take k (history s placed))
 
-take_all : (hs : List HistoryEntry) → take (length hs) hs ≡ hs
-take_all [] = refl
-take_all (h ∷ hs) = ap (λ r. h ∷ r) (take_all hs)
-
 owed_so_far : (s : FacilityState) → IsLaw s → (past : List Done) → outs past ≡ (run s (events past)).outs → IsOwed s past
 owed_so_far s law past h =
     let hs : List HistoryEntry = history s (events past) in
-    ap notices_in h ∙ subst (λ gs. notices gs ≡ owed s gs) (take_all hs) (law (events past) (length hs))
+    ap notices_in h ∙ subst (λ gs. notices gs ≡ owed s gs) (take-length hs) (law (events past) (length hs))
 
 -- no fewer requests are left than are known, so a serve that was right by those is right by these
-by_fewer_left : (room len len' left left' p p' : ℕ) (served : Served) → len ≡ len' → left' ≤ left → p ≡ p'
-    → ServeRespectsRoom room len left p served → ServeRespectsRoom room len' left' p' served
-by_fewer_left room len len' left left' p p' NoRoom a b e h = omega arith
-by_fewer_left room len len' left left' p p' Idle a b e h = let k = h.0 in let l = h.1 in (omega arith, omega arith)
-by_fewer_left room len len' left left' p p' NoMemory a b e h = omega arith
-by_fewer_left room len len' left left' p p' (Did numbered word) a b e h = let k = h.0 in (omega arith, h.1)
+by_fewer_left : (room len left left' p : ℕ) (served : Served) → left' ≤ left → ServeRespectsRoom room len left p served
+    → ServeRespectsRoom room len left' p served
+by_fewer_left room len left left' p NoRoom b h = h
+by_fewer_left room len left left' p Idle b h = let l = h.1 in (h.0, omega arith)
+by_fewer_left room len left left' p NoMemory b h = h
+by_fewer_left room len left left' p (Did numbered word) b h = h
 
 needed_first : (refuses : Bool) (c : ℕ) (s : FacilityState) (held : Option Numbered) → RanOutOfMemory refuses c s held
     → IsNeeded refuses c s (held_list held)
@@ -222,11 +224,7 @@ needed_longer : (may_refuse : Bool) (c : ℕ) (s : FacilityState) (xs ys : List 
 needed_longer may_refuse c s [] [] e h = h
 needed_longer may_refuse c s [] (y ∷ ys) e h = inl h
 needed_longer may_refuse c s (x ∷ xs) [] e h = absurd (cc)
-needed_longer may_refuse c s (x ∷ xs) (y ∷ ys) e h = let same : y ≡ x = first_same x y xs ys e
-    in subst (λ n. (may_refuse ≡ true) ⊎ NeedsMemory s c n.number n.request) (sym same) h
-  where
-    first_same : (x y : Numbered) (xs ys : List Numbered) → Extends (x ∷ xs) (y ∷ ys) → y ≡ x
-    first_same x y xs ys e = cc
+needed_longer may_refuse c s (x ∷ xs) (y ∷ ys) e h = let same : y ≡ x = cc in rw same h
 
 module _ {I : Type 0} (kind : LineKind I) where
   -- the desk is one desk, and its report that of nothing
@@ -305,13 +303,10 @@ module _ {I : Type 0} (kind : LineKind I) where
           served = λ result e.
               let one = (there.member.clients c i b within).serve result e in
               let few = account_before.fewer_left in
-              subst
-              (λ n. ServeRespectsRoom n (outbox_after c a past) (left_of a - length (asked c past)) (pending_after c x.facility past) result)
-              account_before.same_room
+              rw (sym account_before.same_room, outbox_is c past a (account_then kind there.before c i b) account_before, sym pending_before)
               (by_fewer_left (get_or there.before.backlogs c b).room (length (get_or there.before.backlogs c b).outbox)
-              (outbox_after c a past) (left_of (account_then kind there.before c i b)) (left_of a - length (asked c past))
-              (pending_of there.before.facility.state c) (pending_after c x.facility past) result
-              (sym (outbox_is c past a (account_then kind there.before c i b) account_before)) (omega arith) pending_before one.room);
+              (left_of (account_then kind there.before c i b)) (left_of a - length (asked c past))
+              (pending_of there.before.facility.state c) result (omega arith) one.room);
           needed = λ e.
               let one = (there.member.clients c i b within).serve NoMemory e in
               let held : List Numbered = held_list (get_or there.after.backlogs c b).held in

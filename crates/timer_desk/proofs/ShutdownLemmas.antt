@@ -1,26 +1,15 @@
 -- Lines and readers that are settled one after another.
-use Rattle.std.proofs.Common.{◌≡◌, ◌≢◌, ◌<◌, ◌≤◌, ◌+◌, ℕ, Bool, true, false, ◌⊎◌, ◌==◌, List, length, get_or, refl, sym, ◌∙◌, ap, subst, inl, inr, arith}
+use Rattle.std.proofs.Common.{◌≡◌, ◌≢◌, ◌<◌, ◌≤◌, ◌+◌, ℕ, ◌⊎◌, List, length, get_or, sym, ◌∙◌, ap, subst, ⊎_elim, arith}
 use Rattle.std.specs.Prelude.{slice_set}
-use Rattle.std.proofs.lemmas.Bool.Decides.{nat_tests}
+use Rattle.std.proofs.lemmas.Bool.{cases_eq}
 use Rattle.std.proofs.lemmas.List.{get_or-set_same, get_or-set_other}
 use Rattle.timer_desk.specs.declared.ring.RingInlet.{RingInlet}
 use Rattle.timer_desk.specs.declared.ring.ClientReader.{ClientReader}
 use Rattle.timer_desk.specs.declared.ring.RequestsEnded.{RequestsEnded}
-use Rattle.timer_desk.specs.declared.word.Numbered.{Numbered}
-use Rattle.timer_desk.specs.Backlog.{BacklogState, empty_backlog}
 use Rattle.timer_desk.specs.Desk.{DeskState, clients_of, backlog_at}
 use Rattle.timer_desk.specs.Ring.{line_of_inlet, got_of, given_of, all_submitted}
-use Rattle.timer_desk.specs.Settlement.{HasLooked}
+use Rattle.timer_desk.specs.Settlement.{OnlyLooks}
 use Rattle.timer_desk.specs.Shutdown.{KeepsLines, IsReadOut, IsWaiting}
-
-either : (b : Bool) → (b ≡ true) ⊎ (b ≡ false)
-either b = elim b as (λ v. (v ≡ true) ⊎ (v ≡ false)) [ true ↦ inl refl | false ↦ inr refl ]
-
-is_equal : (m n : ℕ) → (m == n) ≡ true → n ≡ m
-is_equal m n h = grind (arith, nat_tests)
-
-is_other : (m n : ℕ) → (m == n) ≡ false → n ≢ m
-is_other m n h = grind (arith, nat_tests)
 
 -- what a reader can still read depends on what was given alone
 pub IsReadOut-same : (i j : RingInlet) (before after : ClientReader) → given_of i ≡ given_of j → IsReadOut i before after
@@ -34,10 +23,7 @@ pub still_waits : (n : ℕ) (old new : DeskState RingInlet) (ended : List Reques
     → ((i : RingInlet) → IsWaiting (backlog_at new n) (got_of (get_or new.inlets n i)) (all_submitted x))
     → (i : RingInlet) (e : RequestsEnded) → IsWaiting (backlog_at old n) (got_of (get_or old.inlets n i)) (all_submitted (get_or ended n e))
 still_waits n old new ended x keeps low is waits i e =
-    let all : List Numbered = all_submitted (get_or ended n e) in
-    subst (λ (bs : List BacklogState). IsWaiting (get_or bs n (empty_backlog 0)) (got_of (get_or old.inlets n i)) all) keeps.same_backlogs
-    (subst (λ got. IsWaiting (backlog_at new n) got all) (keeps.same_got n i low)
-    (subst (λ y. IsWaiting (backlog_at new n) (got_of (get_or new.inlets n i)) (all_submitted y)) (is e) (waits i)))
+    rw (sym keeps.same_backlogs, sym (keeps.same_got n i low), sym (is e)) (waits i)
 
 -- the readers below m + 1 are settled if those below m were, and this one is
 pub one_more_read : (all : List RingInlet) (start rs : List ClientReader) (m : ℕ) (x : ClientReader) → m < length rs
@@ -45,20 +31,13 @@ pub one_more_read : (all : List RingInlet) (start rs : List ClientReader) (m : �
     → ((k : ℕ) (i : RingInlet) (r : ClientReader) → k < m → IsReadOut (get_or all k i) (get_or start k r) (get_or rs k r))
     → (k : ℕ) (i : RingInlet) (r : ClientReader) → k < m + 1
     → IsReadOut (get_or all k i) (get_or start k r) (get_or (slice_set rs m x) k r)
-one_more_read all start rs m x low here was k i r l = elim (either (m == k)) [
-  | inl e ↦
-      let is : k ≡ m = is_equal m k e in
-      let there : get_or (slice_set rs m x) k r ≡ x = ap (λ n. get_or (slice_set rs m x) n r) is ∙ get_or-set_same rs m x r low in
-      subst (λ q. IsReadOut (get_or all k i) (get_or start k r) q) (sym there)
-      (subst (λ n. IsReadOut (get_or all n i) (get_or start n r) x) (sym is) (here i r))
-  | inr e ↦
-      let not : k ≢ m = is_other m k e in
-      let there : get_or (slice_set rs m x) k r ≡ get_or rs k r = get_or-set_other rs m k x r not in
-      subst (λ q. IsReadOut (get_or all k i) (get_or start k r) q) (sym there) (was k i r (earlier m k l not))
-]
+one_more_read all start rs m x low here was k i r l = ⊎_elim
+    (λ (is : k ≡ m). rw (is, get_or-set_same rs m x r low) (here i r))
+    (λ (apart : k ≢ m). rw (get_or-set_other rs m k x r apart) (was k i r (below k m l apart)))
+    (cases_eq k m)
   where
-    earlier : (m k : ℕ) → k < m + 1 → k ≢ m → k < m
-    earlier m k a b = grind (arith)
+    below : (k m : ℕ) → k < m + 1 → k ≢ m → k < m
+    below k m l apart = grind (arith)
 
 -- the readers from m + 1 on are as they were
 pub later_stays : (rs start : List ClientReader) (m : ℕ) (x : ClientReader)
@@ -67,29 +46,19 @@ pub later_stays : (rs start : List ClientReader) (m : ℕ) (x : ClientReader)
 later_stays rs start m x was k r h = get_or-set_other rs m k x r (λ (e : k ≡ m). absurd (omega arith)) ∙ was k r (omega arith)
 
 -- what a look at a reader's line keeps of all lines
-pub keeps_looked : (n : ℕ) (old new : DeskState RingInlet) → clients_of new ≡ clients_of old → new.facility ≡ old.facility
-    → new.backlogs ≡ old.backlogs
-    → ((k : ℕ) (i : RingInlet) → k ≢ n → get_or new.inlets k i ≡ get_or old.inlets k i)
-    → ((i : RingInlet) → HasLooked (get_or old.inlets n i) (get_or new.inlets n i)) → KeepsLines old new
-keeps_looked n old new clients facility backlogs others looked = record {
-  same_clients = clients;
-  same_facility = facility;
-  same_backlogs = backlogs;
-  same_lines = λ k i l. elim (either (n == k)) [
-    | inl e ↦ subst (λ m. line_of_inlet (get_or new.inlets m i) ≡ line_of_inlet (get_or old.inlets m i)) (sym (is_equal n k e))
-        (looked i).same_line
-    | inr e ↦ ap line_of_inlet (others k i (is_other n k e))
-  ];
-  same_got = λ k i l. elim (either (n == k)) [
-    | inl e ↦ subst (λ m. got_of (get_or new.inlets m i) ≡ got_of (get_or old.inlets m i)) (sym (is_equal n k e)) (looked i).same_got
-    | inr e ↦ ap got_of (others k i (is_other n k e))
-  ];
-  same_given = λ k i l. elim (either (n == k)) [
-    | inl e ↦ subst (λ m. given_of (get_or new.inlets m i) ≡ given_of (get_or old.inlets m i)) (sym (is_equal n k e))
-        (looked i).same_given
-    | inr e ↦ ap given_of (others k i (is_other n k e))
-  ];
+pub keeps_looked : (n : ℕ) (old new : DeskState RingInlet) → OnlyLooks n old new → KeepsLines old new
+keeps_looked n old new looks = record {
+  same_clients = looks.same_clients;
+  same_facility = looks.same_facility;
+  same_backlogs = looks.same_backlogs;
+  same_lines = λ k i l. at_each line_of_inlet k i (looks.looked i).same_line;
+  same_got = λ k i l. at_each got_of k i (looks.looked i).same_got;
+  same_given = λ k i l. at_each given_of k i (looks.looked i).same_given;
 }
+  where
+    at_each : {X : Type 0} (f : RingInlet → X) (k : ℕ) (i : RingInlet) → f (get_or new.inlets n i) ≡ f (get_or old.inlets n i)
+        → f (get_or new.inlets k i) ≡ f (get_or old.inlets k i)
+    at_each f k i here = ⊎_elim (λ (is : k ≡ n). rw is here) (λ (apart : k ≢ n). ap f (looks.others k i apart)) (cases_eq k n)
 
 pub keeps_then : (a b d : DeskState RingInlet) → KeepsLines a b → KeepsLines b d → KeepsLines a d
 keeps_then a b d p q = record {

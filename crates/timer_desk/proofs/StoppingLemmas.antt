@@ -20,7 +20,7 @@ use Rattle.timer_desk.specs.Inlet.{LineKind}
 use Rattle.timer_desk.specs.Backlog.{BacklogState, notices_for}
 use Rattle.timer_desk.specs.Desk.{DeskState, IsDesk}
 use Rattle.timer_desk.specs.Stopping.{stop_step, stop_outs}
-use Rattle.timer_desk.proofs.DeskLemmas.{desk_of, still, none_for}
+use Rattle.timer_desk.proofs.DeskLemmas.{desk_of, still}
 
 -- The step.
 
@@ -42,20 +42,16 @@ pub record IsStopStep (s : FacilityState) (client : ℕ) (handle : Handle) (resu
   pub outs_are : (stop_step s client handle).outs ≡ stop_outs client (number_of s client) result
   pub left : new ≡ with_nothing_waiting (stop_step s client handle).state
 
-no_notice : (st : StepResult) (client number : ℕ) (answer : Answer) → st.outs ≡ Outs.Answered client number answer ∷ []
-    → view_after st ≡ with_nothing_waiting st.state
-no_notice st client number answer e = ap (λ outs. let v : FacilityView = record { state = st.state; waiting = notices_in outs } in v) e
-
 taken_step : (s : FacilityState) (client : ℕ) (handle : Handle) (answer : Answer) (new : FacilityView)
     → IsTaken s client (number_of s client) (Requests.Stop handle) answer new → IsStopStep s client handle (Ok answer) new
 taken_step s client handle answer new t =
     let same : step s (Asked client (number_of s client) (Stop (ByHandle handle))) (place_in answer) ≡ stop_step s client handle =
     placeless s client (number_of s client) (ByHandle handle) (place_in answer) in
     let outs : (stop_step s client handle).outs ≡ Outs.Answered client (number_of s client) answer ∷ [] =
-    ap (λ (st : StepResult). st.outs) (sym same) ∙ t.answered in record {
-      outs_are = outs;
-      left = t.left ∙ (ap view_after same ∙ no_notice (stop_step s client handle) client (number_of s client) answer outs);
-    }
+    ap (λ (st : StepResult). st.outs) (sym same) ∙ t.answered in
+    let quiet : view_after (stop_step s client handle) ≡ with_nothing_waiting (stop_step s client handle).state =
+    ap (λ os. let v : FacilityView = record { state = (stop_step s client handle).state; waiting = notices_in os } in v) outs in
+    record { outs_are = outs; left = t.left ∙ ap view_after same ∙ quiet }
 
 not_taken_step : (s : FacilityState) (client : ℕ) (handle : Handle) (reason : NotTaken) (new : FacilityView)
     → WhyNotTaken s client (number_of s client) (Requests.Stop handle) reason → new ≡ with_nothing_waiting s
@@ -102,32 +98,23 @@ stop_fewer s client number name = by_verdict (λ st. HasFewer s st.state) s clie
     })
 
 module _ {I : Type 0} (kind : LineKind I) where
-  fewer_desk : (f f' : FacilityView) (inlets : List I) (backlogs : List BacklogState) → IsDesk kind f inlets backlogs
-      → f'.waiting ≡ [] → HasFewer f.state f'.state → IsDesk kind f' inlets backlogs
-  fewer_desk f f' inlets backlogs d quiet h = record {
-    nothing_waits = quiet;
-    clients = d.clients ∙ sym h.as_many;
-    kept = record {
-      as_many = d.kept.as_many;
-      room = λ c b l.
-          let none : notices_for c f'.waiting ≡ 0 = none_for c f' quiet in
-          let was : length (get_or backlogs c b).outbox + pending_of f.state c + notices_for c f.waiting ≤ (get_or backlogs c b).room =
-          d.kept.room c b l in
-          let fewer : pending_of f'.state c ≤ pending_of f.state c = h.fewer c in
-          omega arith;
-      held = d.kept.held;
-    };
-  }
-
   pub stopped_desk : (f f' : FacilityView) (inlets : List I) (backlogs : List BacklogState) (client : ℕ) (handle : Handle)
       (result : Result Answer NotTaken) → IsDesk kind f inlets backlogs → IsStopStep f.state client handle result f'
       → IsDesk kind f' inlets backlogs
   stopped_desk f f' inlets backlogs client handle result d h =
-      let st : StepResult = stop_step f.state client handle in
-      let new : IsDesk kind (with_nothing_waiting st.state) inlets backlogs = fewer_desk f (with_nothing_waiting st.state) inlets backlogs d
-      refl
-      (stop_fewer f.state client (number_of f.state client) (ByHandle handle)) in
-      subst (λ v. IsDesk kind v inlets backlogs) (sym h.left) new
+      let less = stop_fewer f.state client (number_of f.state client) (ByHandle handle) in rw h.left (record {
+        nothing_waits = refl;
+        clients = d.clients ∙ sym less.as_many;
+        kept = record {
+          as_many = d.kept.as_many;
+          room = λ c b l.
+              let was : length (get_or backlogs c b).outbox + pending_of f.state c + notices_for c f.waiting ≤ (get_or backlogs c b).room =
+              d.kept.room c b l in
+              let fewer = less.fewer c in
+              omega arith;
+          held = d.kept.held;
+        };
+      })
 
 pub stopped_desk_is : {I : Type 0} (f f' : FacilityView) (inlets : List I) (backlogs : List BacklogState) (client : ℕ) (handle : Handle)
     (result : Result Answer NotTaken) (d : DeskState I) → desk_of f inlets backlogs ≡ d → IsStopStep f.state client handle result f'

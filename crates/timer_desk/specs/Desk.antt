@@ -1,7 +1,5 @@
 -- The abstract state of a desk, and the desk before and after a report.
-use Rattle.std.specs.Prelude.{◌≡◌, if◌then◌else◌, ℕ, ◌++◌, ◌<◌, Bool, true, false, List, [], ◌∷◌, length, get_or, replicate, None, Ok, Err, Result}
-use Rattle.timer_facility.specs.declared.request.CloseFault.{CloseFault}
-use Rattle.timer_facility.specs.declared.request.TickFault.{TickFault}
+use Rattle.std.specs.Prelude.{◌≡◌, if◌then◌else◌, ℕ, ◌++◌, ◌<◌, Bool, true, false, List, [], ◌∷◌, length, map, get_or, replicate, None, Ok}
 use Rattle.timer_facility.specs.declared.request.Notice.{Notice}
 use Rattle.timer_facility.specs.State.{FacilityState, Tick, Close}
 use Rattle.timer_facility.specs.Facility.{FacilityView, with_nothing_waiting}
@@ -12,6 +10,7 @@ use Rattle.timer_facility.specs.Owed.{owed}
 use Rattle.timer_desk.specs.declared.report.Served.{Served}
 use Rattle.timer_desk.specs.declared.report.Served.TheVariants.{Idle, NoRoom}
 use Rattle.timer_desk.specs.declared.report.Done.{Done}
+use Rattle.timer_desk.specs.declared.report.Done.TheVariants as Dones
 use Rattle.timer_desk.specs.declared.report.Step.{Step}
 use Rattle.timer_desk.specs.declared.report.Step.TheVariants as Steps
 use Rattle.timer_desk.specs.Inlet.{LineKind}
@@ -74,19 +73,16 @@ InRange clients (Steps.Ticks limit) = 0 < limit
 InRange clients (Steps.Flush c) = c < clients
 InRange clients step = Unit {0}
 
--- the notices of a tick
-abbrev pub tick_notices : FacilityState → List Notice
-tick_notices s = notices_in (step s Tick 0).outs
+-- the notices of a tick, of many ticks at once, or of a close; none if it was refused
+abbrev pub notices_of : FacilityState → Done → List Notice
+notices_of s (Dones.Ticked result) = notices_in (step s Tick 0).outs
+notices_of s (Dones.Passed limit (Ok passed)) = notices (history s (ticks passed))
+notices_of s (Dones.Closed (Ok count)) = notices_in (step s Close 0).outs
+notices_of s done = []
 
--- the notices of many ticks at once, none if they were refused
-abbrev pub ticks_notices : FacilityState → Result ℕ TickFault → List Notice
-ticks_notices s (Ok passed) = notices (history s (ticks passed))
-ticks_notices s (Err fault) = []
-
--- the notices of a close, none if it was refused
-abbrev pub close_notices : FacilityState → Result ℕ CloseFault → List Notice
-close_notices s (Ok count) = notices_in (step s Close 0).outs
-close_notices s (Err fault) = []
+-- such an event and its notices, as members of a report
+abbrev pub event_report : FacilityState → Done → List Done
+event_report s first = first ∷ map Dones.Noticed (notices_of s first)
 
 -- the desk between two steps, when no notice waits
 abbrev pub at_rest : {I : Type 0} → DeskState I → Moment I

@@ -1,6 +1,6 @@
 -- Turns of a desk, until each client has reached a goal.
 use Rattle.std.specs.Prelude.{◌≡◌, ◌≢◌, ◌<◌, ◌≤◌, ◌+◌, ◌-◌, ◌*◌, ◌⊎◌, ◌==◌, nat_lt, ℕ, min, Bool, true, false, List, [], ◌∷◌, ◌++◌, length, map, take, get_or, All}
-use Rattle.std.specs.List.{filter, flat_map, range_with_len}
+use Rattle.std.specs.List.{filter, flat_map, range_with_len, sum_by}
 use Rattle.timer_desk.specs.declared.progress.Progress.{Progress}
 use Rattle.timer_desk.specs.declared.report.Served.TheVariants.{NoMemory}
 use Rattle.timer_desk.specs.declared.report.Done.{Done}
@@ -16,6 +16,9 @@ use Rattle.timer_desk.specs.Report.{asked, flushed, steps_of}
 use Rattle.timer_desk.specs.Desk.{DeskState, clients_of, NoticesFollow, AreOwed, ReportHolds}
 
 -- What was done of each client.
+
+abbrev pub no_progress : Progress
+no_progress = record { served = 0; flushed = 0 }
 
 -- how far a client has come in a report: its requests that were served, counted up to the goal, and its words
 -- that were flushed, up to twice the goal
@@ -34,11 +37,20 @@ pub record IsDone (goal : ℕ) (p : Progress) : Type 0 where
   pub served : goal ≤ p.served
   pub flushed : 2 * goal ≤ p.flushed
 
+-- so for each client
+abbrev pub AllDone : ℕ → List Progress → Type 0
+AllDone goal all = (c : ℕ) (p : Progress) → c < length all → IsDone goal (get_or all c p)
+
 -- of these requests and words, as many are counted as were still missing: requests up to the goal, words up
 -- to twice the goal
 pub record HasCounted (goal requests words : ℕ) (old new : Progress) : Type 0 where
   pub served : new.served ≡ old.served + min requests (goal - old.served)
   pub flushed : new.flushed ≡ old.flushed + min words (2 * goal - old.flushed)
+
+-- so for each client, by what a report says of it
+abbrev pub AllCounted : ℕ → List Done → List Progress → List Progress → Type 0
+AllCounted goal report old new = (c : ℕ) (p : Progress) → c < length old
+    → HasCounted goal (length (asked c report)) (flushed c report) (get_or old c p) (get_or new c p)
 
 -- how much is left to do for a client
 abbrev pub left_for : ℕ → Progress → ℕ
@@ -46,8 +58,7 @@ left_for goal p = (goal - p.served) + (2 * goal - p.flushed)
 
 -- how much is left to do for all clients
 abbrev pub all_left : ℕ → List Progress → ℕ
-all_left goal [] = 0
-all_left goal (p ∷ ps) = left_for goal p + all_left goal ps
+all_left goal ps = sum_by (left_for goal) ps
 
 -- Turns.
 
@@ -64,7 +75,7 @@ steps_with is_served clients last = map Steps.Serve (filter is_served (range_wit
 
 -- whether a client with this progress had fewer than `goal` requests served
 abbrev pub is_served : ℕ → List Progress → ℕ → Bool
-is_served goal all c = nat_lt (get_or all c (record { served = 0; flushed = 0 })).served goal
+is_served goal all c = nat_lt (get_or all c no_progress).served goal
 
 -- the steps of the turn after this report: each client is served that has had fewer than `goal` requests served
 abbrev pub turn_steps : ℕ → ℕ → Step → List Done → List Step
@@ -84,10 +95,16 @@ pub record HasUnfinishedClient (goal clients : ℕ) (report : List Done) : Type 
   pub among : client < clients
   pub fewer : (length (asked client report) < goal) ⊎ (flushed client report < 2 * goal)
 
--- the last `idle` turns made no progress
+-- the turn after these made no progress
+abbrev pub IsIdleTurn : ℕ → ℕ → List (List Done) → List Done → Type 0
+IsIdleTurn goal clients past turn = progress_of goal clients (joined past ++ turn)
+    ≡ progress_of goal clients (joined past)
+
+-- each of the last `idle` turns made no progress
 abbrev pub EndsIdle : ℕ → ℕ → ℕ → List (List Done) → Type 0
-EndsIdle goal clients idle turns = (idle ≤ length turns) × (progress_of goal clients (joined turns)
-    ≡ progress_of goal clients (joined (take (length turns - idle) turns)))
+EndsIdle goal clients idle turns = (idle ≤ length turns)
+    × ((k : ℕ) → length turns ≤ k + idle → k < length turns
+    → IsIdleTurn goal clients (take k turns) (get_or turns k []))
 
 -- A turn of a drive, and those before it. A drive takes it only if some client is short of the goal, no serve has
 -- run out of memory, and not each of the last `limit` turns was without progress.
@@ -111,8 +128,7 @@ module _ {I : Type 0} (kind : LineKind I) (last : Step) where
     pub holds : ReportHolds kind turn old new
     pub steps : steps_of turn ≡ steps_with (is_served goal before) (length before) last
     pub memory : out_of_memory ≡ false → NoneRanOut turn
-    pub counted : (c : ℕ) (p : Progress) → c < length before
-        → HasCounted goal (length (asked c turn)) (flushed c turn) (get_or before c p) (get_or after c p)
+    pub counted : AllCounted goal turn before after
 
   -- A turn that passed left less to do, and an idle one changed no count. If memory ran out before the turn,
   -- nothing changed.

@@ -10,6 +10,7 @@ use Rattle.timer_desk.specs.declared.report.Step.TheVariants as Steps
 use Rattle.timer_desk.specs.Backlog.{notices_for}
 use Rattle.timer_desk.specs.Report.{asked_in, words_in, flushed_in}
 use Rattle.timer_desk.specs.Member.{FacilityMember}
+use Rattle.timer_desk.specs.Desk.{notices_of}
 
 -- whether the step is the owner's, and not one of a client
 abbrev pub is_event : Step → Bool
@@ -32,3 +33,4 @@ pub record IsEvent (first : Done) (f g : FacilityView) : Type 0 where
   pub same_numbers : length g.state.numbers ≡ length f.state.numbers
   pub of_client : (c : ℕ) → pending_of g.state c + notices_for c g.waiting ≡ pending_of f.state c
   pub all : length g.waiting + length g.state.pending ≡ length f.state.pending
+  pub notices : g.waiting ≡ notices_of f.state first

@@ -16,9 +16,8 @@ request_step s client numbered word = step s (event_of_request client numbered.n
 
 -- the word is not a refusal for memory
 abbrev pub IsNotOutOfMemory : Word → Type 0
-IsNotOutOfMemory (Words.Answered number answer) = Unit {0}
 IsNotOutOfMemory (Words.NotTaken number reason) = ¬ (reason ≡ NotTakens.OutOfMemory)
-IsNotOutOfMemory (Words.Notice notice) = Unit {0}
+IsNotOutOfMemory word = Unit {0}
 
 -- the request was taken or refused, and this is its word
 pub record IsForwarded (s : FacilityState) (client : ℕ) (numbered : Numbered) (word : Word)

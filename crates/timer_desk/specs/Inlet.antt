@@ -1,11 +1,13 @@
 -- What the owner knows of a line, and what each result of an `Inlet`'s calls appends to it.
 use Rattle.std.specs.Prelude.{◌≡◌, List, [], ◌∷◌, Bool, true}
+use Rattle.std.proofs.Common.{◌∙◌, refl}
 use Rattle.timer_desk.specs.declared.word.Numbered.{Numbered}
 use Rattle.timer_desk.specs.declared.word.Word.{Word}
 use Rattle.timer_desk.specs.declared.inlet.Taken.{Taken}
-use Rattle.timer_desk.specs.declared.inlet.Taken.TheVariants.{Empty, Got, NoMemory as TakeNoMemory}
+use Rattle.timer_desk.specs.declared.inlet.Taken.TheVariants.{Got}
 use Rattle.timer_desk.specs.declared.inlet.Put.{Put}
-use Rattle.timer_desk.specs.declared.inlet.Put.TheVariants.{Done, Full, NoMemory as PutNoMemory}
+use Rattle.timer_desk.specs.declared.inlet.Put.TheVariants.{Done, Full, NoMemory}
+use Rattle.timer_desk.specs.Extends.{Extends, Extends-refl, Extends-trans}
 
 -- what the owner knows of a line
 pub record LineState : Type 0 where
@@ -30,20 +32,39 @@ pub record LineKind (I : Type 0) : Type 1 where
   pub reflexive : (a : I) → same a a
   pub transitive : (a b c : I) → same a b → same b c → same a c
 
+module _ {I X : Type 0} (line : I → X) (state : I → LineState) where
+  -- the line is the same one, and more may have been got and given
+  pub record SameLine (a b : I) : Type 0 where
+    pub line_is : line a ≡ line b
+    pub got_grows : Extends (state a).got (state b).got
+    pub given_grows : Extends (state a).given (state b).given
+
+  pub SameLine-refl : (a : I) → SameLine a a
+  SameLine-refl a = record {
+    line_is = refl;
+    got_grows = Extends-refl (state a).got;
+    given_grows = Extends-refl (state a).given;
+  }
+
+  pub SameLine-trans : (a b c : I) → SameLine a b → SameLine b c → SameLine a c
+  SameLine-trans a b c p q = record {
+    line_is = p.line_is ∙ q.line_is;
+    got_grows = Extends-trans (state a).got (state b).got (state c).got p.got_grows q.got_grows;
+    given_grows = Extends-trans (state a).given (state b).given (state c).given p.given_grows q.given_grows;
+  }
+
 -- the request that was taken, if one was
 abbrev pub taken_of : Taken → List Numbered
-taken_of Empty = []
 taken_of (Got n) = n ∷ []
-taken_of TakeNoMemory = []
+taken_of taken = []
 
 -- the word, if it was put
 abbrev pub put_of : Put → Word → List Word
 put_of Done w = w ∷ []
-put_of (Full v) w = []
-put_of (PutNoMemory v) w = []
+put_of put w = []
 
 -- a result other than `Done` hands the word back; `NoMemory` only if the line may run out of memory
 abbrev pub HandsBack : Bool → Put → Word → Type 0
 HandsBack may_refuse Done w = Unit {0}
 HandsBack may_refuse (Full v) w = v ≡ w
-HandsBack may_refuse (PutNoMemory v) w = (v ≡ w) × (may_refuse ≡ true)
+HandsBack may_refuse (NoMemory v) w = (v ≡ w) × (may_refuse ≡ true)

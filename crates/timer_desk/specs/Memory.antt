@@ -1,11 +1,9 @@
 -- The lists of a `MemoryInlet`.
-use Rattle.std.specs.Prelude.{◌≡◌, ◌≤◌, ℕ, true, false, List, length, take, drop}
-use Rattle.std.proofs.Common.{◌∙◌, refl}
+use Rattle.std.specs.Prelude.{◌≤◌, ℕ, true, false, List, length, take, drop}
 use Rattle.timer_desk.specs.declared.word.Numbered.{Numbered}
 use Rattle.timer_desk.specs.declared.word.Word.{Word}
 use Rattle.timer_desk.specs.declared.memory.MemoryInlet.{MemoryInlet}
-use Rattle.timer_desk.specs.Inlet.{LineKind}
-use Rattle.timer_desk.specs.Extends.{Extends, Extends-refl, Extends-trans}
+use Rattle.timer_desk.specs.Inlet.{LineState, LineKind, SameLine, SameLine-refl, SameLine-trans}
 
 abbrev pub got_of : MemoryInlet → List Numbered
 got_of m = take m.next m.requests.items
@@ -19,34 +17,27 @@ given_of m = m.given.items
 abbrev pub room_of : MemoryInlet → ℕ
 room_of m = m.room
 
+-- the requests of the line, and its room
+abbrev line_of : MemoryInlet → List Numbered × ℕ
+line_of m = (m.requests.items, m.room)
+
+abbrev state_of : MemoryInlet → LineState
+state_of m = record { got = got_of m; standing = standing_of m; given = given_of m }
+
 -- the requests of the line and its room are the same, and more may have been got and given
-pub record SameMemoryLine (a b : MemoryInlet) : Type 0 where
-  pub requests : a.requests.items ≡ b.requests.items
-  pub same_room : a.room ≡ b.room
-  pub got_grows : Extends (got_of a) (got_of b)
-  pub given_grows : Extends (given_of a) (given_of b)
+abbrev pub SameMemoryLine : MemoryInlet → MemoryInlet → Type 0
+SameMemoryLine = SameLine line_of state_of
 
 pub SameMemoryLine-refl : (a : MemoryInlet) → SameMemoryLine a a
-SameMemoryLine-refl a = record {
-  requests = refl;
-  same_room = refl;
-  got_grows = Extends-refl (got_of a);
-  given_grows = Extends-refl (given_of a);
-}
+SameMemoryLine-refl = SameLine-refl line_of state_of
 
-pub SameMemoryLine-trans : (a b c : MemoryInlet) → SameMemoryLine a b → SameMemoryLine b c
-    → SameMemoryLine a c
-SameMemoryLine-trans a b c p q = record {
-  requests = p.requests ∙ q.requests;
-  same_room = p.same_room ∙ q.same_room;
-  got_grows = Extends-trans (got_of a) (got_of b) (got_of c) p.got_grows q.got_grows;
-  given_grows = Extends-trans (given_of a) (given_of b) (given_of c) p.given_grows q.given_grows;
-}
+pub SameMemoryLine-trans : (a b c : MemoryInlet) → SameMemoryLine a b → SameMemoryLine b c → SameMemoryLine a c
+SameMemoryLine-trans = SameLine-trans line_of state_of
 
 -- lines in memory as a kind of line
 abbrev pub memory_lines : LineKind MemoryInlet
 memory_lines = record {
-  state = λ m. record { got = got_of m; standing = standing_of m; given = given_of m };
+  state = state_of;
   same = SameMemoryLine;
   is_full = λ m. room_of m ≤ length (given_of m);
   take_may_refuse = false;

@@ -14,7 +14,7 @@ use Rattle.timer_desk.specs.declared.word.Numbered.{Numbered}
 use Rattle.timer_desk.specs.declared.word.Word.{Word}
 use Rattle.timer_desk.specs.declared.word.Word.TheVariants as Words
 use Rattle.timer_desk.specs.declared.report.Served.{Served}
-use Rattle.timer_desk.specs.declared.report.Served.TheVariants.{Idle, NoRoom, NoMemory, Did}
+use Rattle.timer_desk.specs.declared.report.Served.TheVariants.{Did}
 use Rattle.timer_desk.specs.declared.report.Step.{Step}
 use Rattle.timer_desk.specs.declared.report.Step.TheVariants as Steps
 use Rattle.timer_desk.specs.declared.report.Done.{Done}
@@ -26,16 +26,12 @@ use Rattle.timer_desk.specs.Extends.{Extends}
 -- One member of a report.
 
 abbrev pub request_in : Served → List Numbered
-request_in Idle = []
-request_in NoRoom = []
-request_in NoMemory = []
 request_in (Did numbered word) = numbered ∷ []
+request_in served = []
 
 abbrev pub word_in : Served → List Word
-word_in Idle = []
-word_in NoRoom = []
-word_in NoMemory = []
 word_in (Did numbered word) = word ∷ []
+word_in served = []
 
 abbrev pub asked_in : ℕ → Done → List Numbered
 asked_in c (Dones.Served client served) = if client == c then request_in served else []
@@ -53,8 +49,7 @@ flushed_in c done = 0
 -- the place in a word, if it is the answer to an accepted start or restart
 abbrev pub place_in_word : Word → ℕ
 place_in_word (Words.Answered number answer) = place_in answer
-place_in_word (Words.NotTaken number reason) = 0
-place_in_word (Words.Notice notice) = 0
+place_in_word word = 0
 
 -- a word to a client as an out
 abbrev pub out_of : ℕ → Word → Out
@@ -71,10 +66,8 @@ request_event client numbered word = placed (event_of_request client numbered.nu
     (place_in_word word)
 
 abbrev pub served_events : ℕ → Served → List PlacedEvent
-served_events client Idle = []
-served_events client NoRoom = []
-served_events client NoMemory = []
 served_events client (Did numbered word) = request_event client numbered word ∷ []
+served_events client served = []
 
 -- a close that ran out of memory is no event
 abbrev pub close_events : Result ℕ CloseFault → List PlacedEvent
@@ -88,10 +81,8 @@ passed_events (Ok passed) = ticks passed
 passed_events (Err fault) = ticks 1
 
 abbrev pub served_outs : ℕ → Served → List Out
-served_outs client Idle = []
-served_outs client NoRoom = []
-served_outs client NoMemory = []
 served_outs client (Did numbered word) = out_of client word ∷ []
+served_outs client served = []
 
 abbrev pub tick_outs : {X : Type 0} → Result X TickFault → List Out
 tick_outs (Ok done) = []
@@ -102,44 +93,29 @@ close_outs (Ok count) = Outs.Closed count ∷ []
 close_outs (Err CloseFaults.Closed) = Outs.CloseRefused ∷ []
 close_outs (Err CloseFaults.OutOfMemory) = []
 
--- what a member stands for: the step that it is the result of, if it is of one; its events; and its outs
-pub record Meaning : Type 0 where
-  pub steps : List Step
-  pub events : List PlacedEvent
-  pub outs : List Out
-
-abbrev pub meaning_of : Done → Meaning
-meaning_of (Dones.Served client served) = record {
-  steps = Steps.Serve client ∷ [];
-  events = served_events client served;
-  outs = served_outs client served;
-}
-meaning_of (Dones.Ticked result) = record {
-  steps = Steps.Tick ∷ [];
-  events = placed Tick 0 ∷ [];
-  outs = tick_outs result;
-}
-meaning_of (Dones.Passed limit passed) = record {
-  steps = Steps.Ticks limit ∷ [];
-  events = passed_events passed;
-  outs = tick_outs passed;
-}
-meaning_of (Dones.Closed result) = record {
-  steps = Steps.Close ∷ [];
-  events = close_events result;
-  outs = close_outs result;
-}
-meaning_of (Dones.Noticed notice) = record { steps = []; events = []; outs = Outs.Notice notice ∷ [] }
-meaning_of (Dones.Flushed client count) = record { steps = Steps.Flush client ∷ []; events = []; outs = [] }
-
+-- the step that a member is the result of, if it is of one
 abbrev pub step_in : Done → List Step
-step_in done = (meaning_of done).steps
+step_in (Dones.Served client served) = Steps.Serve client ∷ []
+step_in (Dones.Ticked result) = Steps.Tick ∷ []
+step_in (Dones.Passed limit passed) = Steps.Ticks limit ∷ []
+step_in (Dones.Closed result) = Steps.Close ∷ []
+step_in (Dones.Noticed notice) = []
+step_in (Dones.Flushed client count) = Steps.Flush client ∷ []
 
 abbrev pub events_in : Done → List PlacedEvent
-events_in done = (meaning_of done).events
+events_in (Dones.Served client served) = served_events client served
+events_in (Dones.Ticked result) = placed Tick 0 ∷ []
+events_in (Dones.Passed limit passed) = passed_events passed
+events_in (Dones.Closed result) = close_events result
+events_in done = []
 
 abbrev pub outs_in : Done → List Out
-outs_in done = (meaning_of done).outs
+outs_in (Dones.Served client served) = served_outs client served
+outs_in (Dones.Ticked result) = tick_outs result
+outs_in (Dones.Passed limit passed) = tick_outs passed
+outs_in (Dones.Closed result) = close_outs result
+outs_in (Dones.Noticed notice) = Outs.Notice notice ∷ []
+outs_in (Dones.Flushed client count) = []
 
 -- The readings of a report.
 

@@ -19,8 +19,7 @@ use Rattle.timer_desk.specs.declared.ring.Unsent.{Unsent}
 use Rattle.timer_desk.specs.declared.ring.Unsent.TheVariants.{Spent, Full}
 use Rattle.timer_desk.specs.declared.looks.Found.{Found}
 use Rattle.timer_desk.specs.Looks.{found_in}
-use Rattle.timer_desk.specs.Inlet.{LineKind}
-use Rattle.timer_desk.specs.Extends.{Extends, Extends-refl, Extends-trans}
+use Rattle.timer_desk.specs.Inlet.{LineState, LineKind, SameLine, SameLine-refl, SameLine-trans}
 
 -- the identity of a ring
 abbrev pub Ring : Type 0
@@ -110,35 +109,29 @@ free_of_inlet i = known_free i.words
 abbrev pub found_by_inlet : RingInlet → Found
 found_by_inlet i = found_in i.looks
 
+abbrev pub state_of : RingInlet → LineState
+state_of i = record { got = got_of i; standing = standing_of i; given = given_of i }
+
 -- The line is the same one, and more may have been got and given. Once settled it stays settled, and what was
 -- got followed by what stands stays the same.
 pub record SameRingLine (a b : RingInlet) : Type 0 where
-  pub line : line_of_inlet a ≡ line_of_inlet b
-  pub got_grows : Extends (got_of a) (got_of b)
-  pub given_grows : Extends (given_of a) (given_of b)
+  pub same : SameLine line_of_inlet state_of a b
   pub settled : is_settled a ≡ true → (is_settled b ≡ true)
       × (got_of b ++ standing_of b ≡ got_of a ++ standing_of a)
 
 pub SameRingLine-refl : (a : RingInlet) → SameRingLine a a
-SameRingLine-refl a = record {
-  line = refl;
-  got_grows = Extends-refl (got_of a);
-  given_grows = Extends-refl (given_of a);
-  settled = λ h. (h, refl);
-}
+SameRingLine-refl a = record { same = SameLine-refl line_of_inlet state_of a; settled = λ h. (h, refl) }
 
 pub SameRingLine-trans : (a b c : RingInlet) → SameRingLine a b → SameRingLine b c → SameRingLine a c
 SameRingLine-trans a b c p q = record {
-  line = p.line ∙ q.line;
-  got_grows = Extends-trans (got_of a) (got_of b) (got_of c) p.got_grows q.got_grows;
-  given_grows = Extends-trans (given_of a) (given_of b) (given_of c) p.given_grows q.given_grows;
+  same = SameLine-trans line_of_inlet state_of a b c p.same q.same;
   settled = λ h. (let k = p.settled h in ((q.settled (k.0)).0, (q.settled (k.0)).1 ∙ k.1));
 }
 
 -- ring lines as a kind of line
 abbrev pub ring_lines : LineKind RingInlet
 ring_lines = record {
-  state = λ i. record { got = got_of i; standing = standing_of i; given = given_of i };
+  state = state_of;
   same = SameRingLine;
   is_full = λ i. free_of_inlet i ≡ 0;
   take_may_refuse = false;

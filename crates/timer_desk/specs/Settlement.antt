@@ -1,7 +1,8 @@
--- A ring line before and after it is settled.
-use Rattle.std.specs.Prelude.{◌≡◌, ◌≤◌, ◌++◌, ℕ, true, List, length}
+-- A ring line before and after it is settled or looked at, and the desk of the line.
+use Rattle.std.specs.Prelude.{◌≡◌, ◌≢◌, ◌≤◌, ◌++◌, ℕ, true, List, length, get_or}
 use Rattle.timer_desk.specs.declared.word.Numbered.{Numbered}
 use Rattle.timer_desk.specs.declared.ring.RingInlet.{RingInlet}
+use Rattle.timer_desk.specs.Desk.{DeskState, clients_of}
 use Rattle.timer_desk.specs.Ring.{line_of_inlet, got_of, standing_of, given_of, free_of_inlet, is_settled}
 
 -- the line is the same one, and what was got followed by what stands is all that was submitted
@@ -22,3 +23,11 @@ pub record HasLooked (old new : RingInlet) : Type 0 where
   pub same_standing : standing_of new ≡ standing_of old
   pub same_given : given_of new ≡ given_of old
   pub more_free : free_of_inlet old ≤ free_of_inlet new
+
+-- nothing changed but what is known of the line of client c
+pub record OnlyLooks (c : ℕ) (old new : DeskState RingInlet) : Type 0 where
+  pub others : (k : ℕ) (i : RingInlet) → k ≢ c → get_or new.inlets k i ≡ get_or old.inlets k i
+  pub same_clients : clients_of new ≡ clients_of old
+  pub same_facility : new.facility ≡ old.facility
+  pub same_backlogs : new.backlogs ≡ old.backlogs
+  pub looked : (i : RingInlet) → HasLooked (get_or old.inlets c i) (get_or new.inlets c i)

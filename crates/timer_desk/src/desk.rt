@@ -1,11 +1,11 @@
 //! The owner's desk: one facility, and for each client its line and its backlog.
-ghost use Rattle.std.specs.Prelude.{◌≡◌, ◌<◌, ◌≤◌, ◌⊎◌, [], ◌∷◌, length, get_or, true, map, IfOk, IfErr, OnOk, OnErr, slice_set, vec_len};
+ghost use Rattle.std.specs.Prelude.{◌≡◌, ◌<◌, ◌≤◌, ◌⊎◌, [], ◌∷◌, length, get_or, true, IfOk, IfErr, OnOk, OnErr, slice_set, vec_len};
 ghost use Rattle.timer_facility.specs.State.{FacilityState, IsSound, with_room};
 ghost use Rattle.timer_facility.specs.Facility.{NoRoomToClose, with_nothing_waiting};
 ghost use Rattle.timer_desk.specs.Constructor.{ReturnsArguments};
 ghost use Rattle.timer_desk.specs.Flush.{Flushes};
 ghost use Rattle.timer_desk.specs.Member.{IsKept};
-ghost use Rattle.timer_desk.specs.Desk.{DeskState, opened_desk, at_rest, clients_of, backlog_at, IsIdle, AllIdle, LeavesAlone, ReportHolds, tick_notices, ticks_notices, close_notices};
+ghost use Rattle.timer_desk.specs.Desk.{DeskState, opened_desk, at_rest, clients_of, backlog_at, IsIdle, AllIdle, LeavesAlone, ReportHolds, event_report};
 
 use crate::backlog::Backlog;
 use crate::constructor::{MAX_ROOM, MIN_ROOM, OpenFault, empty_backlogs};
@@ -158,8 +158,7 @@ impl<W: Wheel + Drop, I: Inlet + Drop> Desk<W, I> {
     ///
     /// A refusal changes nothing.
     pub fn tick(&mut self) -> Result<(), TickFault>
-        ensures report { let report = Done.Ticked result ∷ map Done.Noticed (tick_notices self.old.facility) in
-            ReportHolds I.kind report self.old self.new }
+        ensures report { ReportHolds I.kind (event_report self.old.facility (Done.Ticked result)) self.old self.new }
         ensures err { OnErr result (self.new ≡ self.old) }
     {
         let result = self.facility.tick();
@@ -173,10 +172,8 @@ impl<W: Wheel + Drop, I: Inlet + Drop> Desk<W, I> {
     /// A refusal changes nothing.
     pub fn ticks(&mut self, limit: u64) -> Result<u64, TickFault>
         requires { 0 < limit }
-        ensures report { let report = Done.Passed limit result ∷ map Done.Noticed
-            (ticks_notices self.old.facility result)
-            in
-            ReportHolds I.kind report self.old self.new }
+        ensures report { let passed = Done.Passed limit result in
+            ReportHolds I.kind (event_report self.old.facility passed) self.old self.new }
         ensures err { OnErr result (self.new ≡ self.old) }
     {
         let result = self.facility.ticks(limit);
@@ -190,9 +187,7 @@ impl<W: Wheel + Drop, I: Inlet + Drop> Desk<W, I> {
     /// A refusal changes nothing: after `OutOfMemory`, which a closed facility never returns, it may be repeated.
     /// After a `reserve` that returned Ok, it is never out of memory.
     pub fn close(&mut self) -> Result<u64, CloseFault>
-        ensures report { let report = Done.Closed result ∷ map Done.Noticed (close_notices self.old.facility result)
-            in
-            ReportHolds I.kind report self.old self.new }
+        ensures report { ReportHolds I.kind (event_report self.old.facility (Done.Closed result)) self.old self.new }
         ensures room { IfErr result (NoRoomToClose self.old.facility) }
         ensures err { OnErr result (self.new ≡ self.old) }
     {

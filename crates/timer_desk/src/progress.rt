@@ -1,8 +1,8 @@
 //! How far each client has come in a drive.
 ghost use Rattle.std.specs.Prelude.{◌≡◌, ◌≤◌, ◌<◌, ℕ, false, length, get_or, IsTrue, IfOk, replicate, vec_len, ◌↔◌};
 ghost use Rattle.timer_base.specs.declared.limits.TheConstants.{LAST};
-ghost use Rattle.timer_desk.specs.Driver.{IsDone, HasCounted, all_left};
-ghost use Rattle.timer_desk.specs.Report.{asked_in, flushed_in, asked, flushed};
+ghost use Rattle.timer_desk.specs.Driver.{no_progress, IsDone, AllDone, HasCounted, AllCounted, all_left};
+ghost use Rattle.timer_desk.specs.Report.{asked_in, flushed_in};
 
 use crate::report::{Done, Served};
 use std::alloc::{AllocError, Global};
@@ -63,23 +63,19 @@ impl Progress {
 
 /// No progress yet, for each of `clients` clients.
 pub fn zeroed_progress(alloc: Global, clients: usize) -> Result<Vec<Progress>, AllocError>
-    ensures { IfOk result (λ all. all.items ≡ replicate clients (record { served = 0; flushed = 0 })) }
+    ensures { IfOk result (λ all. all.items ≡ replicate clients no_progress) }
 {
-    let mut all = Vec::with_capacity(alloc, clients)?;
-    for _ in 0..clients {
-        all.push_reserved(Progress {
-            served: 0,
-            flushed: 0,
-        });
-    }
-    Ok(all)
+    let none = Progress {
+        served: 0,
+        flushed: 0,
+    };
+    vec![in alloc; none; clients]
 }
 
 /// Whether each client is done.
 pub fn all_done(all: &[Progress], goal: u64) -> bool
     requires { goal ≤ LAST }
-    ensures { IsTrue result ↔ ((c : ℕ) (p : Progress) → c < length all.now
-        → IsDone goal (get_or all.now c p)) }
+    ensures { IsTrue result ↔ AllDone goal all.now }
 {
     for progress in all {
         if !progress.is_done(goal) {
@@ -122,9 +118,7 @@ fn count_member(all: &mut Vec<Progress>, member: Done, goal: u64) -> bool
 /// Counts a report, and returns whether any of its members is progress.
 pub fn count_report(all: &mut Vec<Progress>, report: &[Done], goal: u64) -> bool
     requires { goal ≤ LAST }
-    ensures counted { (c : ℕ) (p : Progress) → c < vec_len all.old
-        → HasCounted goal (length (asked c report.now)) (flushed c report.now) (get_or all.old.items c p)
-        (get_or all.new.items c p) }
+    ensures counted { AllCounted goal report.now all.old.items all.new.items }
     ensures len { vec_len all.new ≡ vec_len all.old }
     ensures fewer { IsTrue result → all_left goal all.new.items < all_left goal all.old.items }
     ensures same { result ≡ false → all.new.items ≡ all.old.items }

@@ -16,7 +16,7 @@ use timer_base::{Handle, Wheel};
 use timer_facility::{Answer, NotTaken, Request};
 
 impl<W: Wheel + Drop> Desk<W, RingInlet> {
-    ghost use Rattle.timer_desk.specs.Settlement.{HasSettled, HasLooked};
+    ghost use Rattle.timer_desk.specs.Settlement.{HasSettled, HasLooked, OnlyLooks};
 
     /// Settles the line of client c, and returns how many requests stand in it. Does not allocate.
     pub fn settle(&mut self, c: usize, ended: &mut RequestsEnded) -> usize
@@ -41,13 +41,7 @@ impl<W: Wheel + Drop> Desk<W, RingInlet> {
     /// That is the ring's answer, of which no contract speaks; and nothing changes but what is known of the line.
     pub fn is_abandoned(&mut self, c: usize) -> bool
         requires { c < clients_of self.old }
-        ensures others { (k : ℕ) (i : RingInlet) → k ≢ c
-            → get_or self.new.inlets k i ≡ get_or self.old.inlets k i }
-        ensures clients { clients_of self.new ≡ clients_of self.old }
-        ensures facility { self.new.facility ≡ self.old.facility }
-        ensures backlogs { self.new.backlogs ≡ self.old.backlogs }
-        ensures looked { (i : RingInlet) → HasLooked (get_or self.old.inlets c i)
-            (get_or self.new.inlets c i) }
+        ensures looks { OnlyLooks c self.old self.new }
         ensures gone { (i : RingInlet) → result ≡ true ↔ (found_by_inlet (get_or self.new.inlets c i)
             ≢ Found.Nothing) }
         ensures stays { (i : RingInlet) → MayFind (found_by_inlet (get_or self.old.inlets c i))
@@ -60,13 +54,7 @@ impl<W: Wheel + Drop> Desk<W, RingInlet> {
     /// more. Does not allocate.
     pub fn is_over(&mut self, c: usize) -> bool
         requires { c < clients_of self.old }
-        ensures others { (k : ℕ) (i : RingInlet) → k ≢ c
-            → get_or self.new.inlets k i ≡ get_or self.old.inlets k i }
-        ensures clients { clients_of self.new ≡ clients_of self.old }
-        ensures facility { self.new.facility ≡ self.old.facility }
-        ensures backlogs { self.new.backlogs ≡ self.old.backlogs }
-        ensures looked { (i : RingInlet) → HasLooked (get_or self.old.inlets c i)
-            (get_or self.new.inlets c i) }
+        ensures looks { OnlyLooks c self.old self.new }
         ensures order { (i : RingInlet) → result ≡ true ↔ (found_by_inlet (get_or self.new.inlets c i)
             ≡ Found.GoneThenEmpty) }
         ensures stays { (i : RingInlet) → found_by_inlet (get_or self.old.inlets c i) ≢ Found.Nothing
@@ -128,13 +116,7 @@ impl<W: Wheel + Drop> Desk<W, RingInlet> {
         requires client { c < clients_of self.old }
         requires line { (i : RingInlet) → words_ring_of_reader reader.old
             ≡ (line_of_inlet (get_or self.old.inlets c i)).1 }
-        ensures others { (k : ℕ) (i : RingInlet) → k ≢ c
-            → get_or self.new.inlets k i ≡ get_or self.old.inlets k i }
-        ensures clients { clients_of self.new ≡ clients_of self.old }
-        ensures facility { self.new.facility ≡ self.old.facility }
-        ensures backlogs { self.new.backlogs ≡ self.old.backlogs }
-        ensures looked { (i : RingInlet) → HasLooked (get_or self.old.inlets c i)
-            (get_or self.new.inlets c i) }
+        ensures looks { OnlyLooks c self.old self.new }
         ensures read_out { (i : RingInlet) → IsReadOut (get_or self.old.inlets c i) reader.old reader.new }
         ensures count { result ≡ length (unread_by reader.new) }
         ensures settled { is_settled_reader reader.new ≡ true }

@@ -25,7 +25,7 @@ use Rattle.timer_threads.specs.declared.outcome.Worked.{Worked}
 use Rattle.timer_threads.specs.declared.turn.Turn.{Turn}
 use Rattle.timer_threads.specs.Turns.{requests_of, words_of, idle_at_end}
 use Rattle.timer_threads.specs.Work.{HasWorked, request_of, requests_from, started_in, expired_in, started_by, expired_by, follows, AreAscending, ArePassed, IsStopped, GoesOn, AreTurns, IsLetGo}
-use Rattle.timer_threads.specs.Client.{is_next_start, passes, counted, AreChecked, IsAtWork, IsRecorded, turns_by, IsSound, is_complete}
+use Rattle.timer_threads.specs.Client.{passes, counted, AreChecked, IsAtWork, IsRecorded, turns_by, IsSound, is_complete}
 
 -- The requests.
 
@@ -168,7 +168,7 @@ AreChecked-more : (c : Client) (ws : List Word) (w : Word) → ArePassed c.first
     → AreChecked (not (passes c w)) c.first c.count (ws ++ w ∷ [])
 AreChecked-more c ws (Words.Answered number (Answers.Started handle deadline)) was started expired last =
     let w : Word = Words.Answered number (Answers.Started handle deadline) in
-    checked_by (is_next_start c number) c.first c.count ws w was
+    checked_by (nat_lt c.started c.count && (number == c.first + c.started)) c.first c.count ws w was
     (λ p.
     let b = both_test c.started c.count (number == c.first + c.started) p in
     let is : number ≡ c.first + length (started_by ws) = grind (arith, nat_tests, b.1, started) in
@@ -228,12 +228,8 @@ IsAtWork-sent start c end number line received is next sent h =
       line = line ∙ h.line;
       first = h.first;
       next = next ∙ ap (λ n. n + 1) at ∙ one;
-      sends =
-          sent
-          ∙ ap (λ xs. xs ++ request number ∷ []) h.sends
-          ∙ append_assoc (submitted start) (requests_from c.first c.sent) (request number ∷ [])
-          ∙ ap (λ n. submitted start ++ (requests_from c.first c.sent ++ request n ∷ [])) at
-          ∙ ap (λ xs. submitted start ++ xs) (sym (requests_from-more c.first c.sent (c.sent + 1) refl));
+      sends = rw (sent, h.sends, requests_from-more c.first c.sent (c.sent + 1) refl, at)
+          (append_assoc (submitted start) (requests_from c.first c.sent) (request (c.first + c.sent) ∷ []));
       words = h.words;
       received = received ∙ h.received;
       started = h.started;
@@ -252,20 +248,12 @@ not_true : (b : Bool) → not b ≡ true → b ≡ false
 not_true true h = absurd (cc)
 not_true false h = refl
 
-or_else : (a b : Bool) → a ≡ false → a || b ≡ true → b ≡ true
-or_else true b f h = absurd (cc)
-or_else false b f h = h
-
 complete_means : (s t e n : ℕ) → (s == n) && ((t == n) && (e == n)) ≡ true → (s ≡ n) × (t ≡ n) × (e ≡ n)
 complete_means s t e n h = grind (arith, nat_tests)
 
 short_means : (s t e s' t' e' n : ℕ) → s ≡ s' → t ≡ t' → e ≡ e' → s ≤ n → t ≤ n → e ≤ n
     → (s == n) && ((t == n) && (e == n)) ≡ false → (s' < n) ⊎ ((t' < n) ⊎ (e' < n))
 short_means s t e s' t' e' n h k m a b d f = grind (arith, nat_tests)
-
-neither : (a b : Bool) → a ≡ false → b ≡ false → a || b ≡ false
-neither true b h k = h
-neither false b h k = k
 
 -- the words and the requests of the turns are those that were counted and checked
 words_counted : (start : ClientEnd) (c : Client) (h : IsAtWork start c) → IsRecorded start c → h.words ≡ words_of (turns_by c)
@@ -282,8 +270,7 @@ expired_counted start c h r = sym h.expired ∙ ap (λ ws. length (expired_by ws
 
 passed_counted : (start : ClientEnd) (c : Client) → IsAtWork start c → IsRecorded start c → c.failed ≡ false
     → ArePassed (next_of start) c.count (words_of (turns_by c))
-passed_counted start c h r good = subst (λ ws. ArePassed (next_of start) c.count ws) (words_counted start c h r)
-    (subst (λ n. ArePassed n c.count h.words) h.first (subst (λ b. AreChecked b c.first c.count h.words) good h.checked))
+passed_counted start c h r good = rw (good, h.first, words_counted start c h r) at h.checked
 
 -- a client that is not over goes on
 pub goes_on : (start : ClientEnd) (count limit idle : ℕ) (c : Client) → c.count ≡ count → IsSound c → IsAtWork start c → IsRecorded start c
@@ -348,14 +335,13 @@ HasWorked-finished start limit c ended reader failed idle last sound h r taken i
       complete = λ good. complete_means c.sent c.started c.expired c.count
           (not_false (is_complete c) (or_false c.failed (not (is_complete c)) (sym failed_is ∙ good)).1);
       failed = λ bad. elim (either c.failed) [
-        | inl k ↦ inl (subst (IsStopped (next_of start) c.count) same
-            (subst (λ n. IsStopped n c.count h.words) h.first (subst (λ b. AreChecked b c.first c.count h.words) k h.checked)))
+        | inl k ↦ inl (rw (k, h.first, same) at h.checked)
         | inr k ↦
-            let short : is_complete c ≡ false = not_true (is_complete c) (or_else c.failed (not (is_complete c)) k (sym failed_is ∙ bad)) in inr (
+            let short : is_complete c ≡ false = not_true (is_complete c) (rw k at (sym failed_is ∙ bad)) in inr (
               passed_counted start c h r k,
               short_means c.sent c.started c.expired c.sent c.started c.expired c.count refl refl refl
                   sound.sent (sound.started k) (sound.expired k) short,
-              gave_up (neither c.failed (is_complete c) k short),
+              gave_up (rw (k, short) refl),
             )
       ];
     }

@@ -7,12 +7,12 @@ use Rattle.timer_base.specs.Basics.{some_same}
 use Rattle.timer_desk.specs.declared.ring.RingInlet.{RingInlet}
 use Rattle.timer_desk.specs.declared.ring.RequestsEnded.{RequestsEnded}
 use Rattle.timer_desk.specs.declared.ring.ClientReader.{ClientReader}
-use Rattle.timer_desk.specs.Ring.{line_of_inlet, got_of, given_of, all_submitted, read_by, unread_by, requests_ring_of, words_ring_of_reader}
+use Rattle.timer_desk.specs.Ring.{got_of, given_of, all_submitted, read_by, unread_by, words_ring_of_reader}
 use Rattle.timer_desk.specs.Desk.{DeskState, AllIdle, backlog_at}
 use Rattle.timer_desk.specs.Shutdown.{AreEndsOf, AreReadersOf, IsReadOut, AllGot, AllReadOut, IsWaiting, IsFirstUnfinished}
 use Rattle.timer_threads.specs.declared.outcome.Worked.{Worked}
-use Rattle.timer_threads.specs.Results.{has_failed, NoneFailed, AllEnded, IsFirstFailed, lower_of}
-use Rattle.timer_threads.specs.Threads.{NoneUnread, AreSettled, IsFirstWithWords, AllServed, IsWoundUp, IsUnfinished, IsFirstHeld, AreParts, IsFirstClient}
+use Rattle.timer_threads.specs.Results.{has_failed, NoneFailed, AllEnded, IsFirstFailed, AreUnzipped, lower_of}
+use Rattle.timer_threads.specs.Threads.{NoneUnread, AreSettled, IsFirstWithWords, AllServed, IsWoundUp, IsUnfinished, IsFirstHeld, AreOfLines, IsFirstClient}
 use Rattle.timer_threads.proofs.ResultsLemmas.{ends_many, readers_many, ended_is, ended_at, reader_at, all_ended}
 
 -- a list with this index has an item
@@ -32,40 +32,40 @@ all_read inlet before after told none =
     sym told.read ∙ sym (append-nil (read_by after)) ∙ ap (λ us. read_by after ++ us) (sym none) ∙ told.all
 
 -- The ends and readers of what the clients left.
-module _ (desk : DeskState RingInlet) (all : List Worked) (es : List RequestsEnded) (rs : List ClientReader) (p : AreParts desk all es rs) where
+module _ (desk : DeskState RingInlet) (all : List Worked) (es : List RequestsEnded) (rs : List ClientReader) (lines : AreOfLines desk.inlets all)
+    (unzipped : AreUnzipped all es rs) where
   clients : (c : ℕ) → c < length all → c < length desk.inlets
-  clients c l = let m = p.lines.as_many in omega (arith, l, m)
+  clients c l = let m = lines.as_many in omega (arith, l, m)
 
   pub ends_of : AreEndsOf desk.inlets es
   ends_of =
-      let n = ends_many all es rs p.unzipped in
-      let m = p.lines.as_many in record {
+      let n = ends_many all es rs unzipped in
+      let m = lines.as_many in record {
         as_many = n ∙ m;
         of_lines = λ k i e l.
             let w : Worked = some_item all k (omega (arith, l, m)) in
-            subst (λ (o : Option RequestsEnded). IfSome o (λ x. requests_ring_of x ≡ (line_of_inlet (get_or desk.inlets k i)).0))
-            (ended_is all es rs p.unzipped k w e (omega (arith, l, m))) (p.lines.each k i w l).ended;
+            rw (ended_is all es rs unzipped k w e (omega (arith, l, m))) at (lines.each k i w l).ended;
       }
 
   pub readers_of : AreReadersOf desk.inlets rs
   readers_of =
-      let m = p.lines.as_many in record {
-        as_many = readers_many all es rs p.unzipped ∙ m;
+      let m = lines.as_many in record {
+        as_many = readers_many all es rs unzipped ∙ m;
         of_lines = λ k i r l.
             let w : Worked = some_item all k (omega (arith, l, m)) in
-            ap words_ring_of_reader (sym (reader_at all es rs p.unzipped k w r (omega (arith, l, m)))) ∙ (p.lines.each k i w l).reader;
+            ap words_ring_of_reader (sym (reader_at all es rs unzipped k w r (omega (arith, l, m)))) ∙ (lines.each k i w l).reader;
       }
 
   -- the first client of which something waits
   pub held_waiting : (c : ℕ) → IsFirstUnfinished desk es c → IsFirstHeld desk all c
   held_waiting c blamed =
-      let low : c < length all = let m = p.lines.as_many in let l = blamed.client in omega (arith, l, m) in record {
+      let low : c < length all = let m = lines.as_many in let l = blamed.client in omega (arith, l, m) in record {
         client = low;
         back = inl (λ i w e is. subst (λ x. IsWaiting (backlog_at desk c) (got_of (get_or desk.inlets c i)) (all_submitted x))
-            (ended_at all es rs p.unzipped c w e low is) (blamed.waiting i e));
+            (ended_at all es rs unzipped c w e low is) (blamed.waiting i e));
         before = λ k l. record {
           idle = blamed.idle_before k l;
-          got = λ i w e is. ap all_submitted (sym (ended_at all es rs p.unzipped k w e (omega (arith, low, l)) is)) ∙ blamed.got_before k i e l;
+          got = λ i w e is. ap all_submitted (sym (ended_at all es rs unzipped k w e (omega (arith, low, l)) is)) ∙ blamed.got_before k i e l;
         };
       }
 
@@ -75,12 +75,12 @@ module _ (desk : DeskState RingInlet) (all : List Worked) (es : List RequestsEnd
     all_served : AllServed desk all
     all_served c l = record {
       idle = idle c (clients c l);
-      got = λ i w e is. ap all_submitted (sym (ended_at all es rs p.unzipped c w e l is)) ∙ got c i e (clients c l);
+      got = λ i w e is. ap all_submitted (sym (ended_at all es rs unzipped c w e l is)) ∙ got c i e (clients c l);
     }
 
     reads : (c : ℕ) (i : RingInlet) (w : Worked) → c < length all → unread_by (get_or after c w.reader) ≡ []
         → read_by (get_or all c w).reader ≡ given_of (get_or desk.inlets c i)
-    reads c i w l none = ap read_by (reader_at all es rs p.unzipped c w w.reader l)
+    reads c i w l none = ap read_by (reader_at all es rs unzipped c w w.reader l)
         ∙ all_read (get_or desk.inlets c i) (get_or rs c w.reader) (get_or after c w.reader) (told c i w.reader (clients c l)) none
 
     pub wound_up : NoneUnread after → IsWoundUp desk all
@@ -92,14 +92,14 @@ module _ (desk : DeskState RingInlet) (all : List Worked) (es : List RequestsEnd
     -- the first for which a word is left
     pub held_reading : (c : ℕ) → IsFirstWithWords after c → IsFirstHeld desk all c
     held_reading c first =
-        let low : c < length all = let m = p.lines.as_many in let l = first.client in omega (arith, l, m, long) in record {
+        let low : c < length all = let m = lines.as_many in let l = first.client in omega (arith, l, m, long) in record {
           client = low;
           back = inr (record {
             served = all_served;
             unread = λ i w.
                 let x = told c i w.reader (clients c low) in
                 let some = first.unread w.reader in
-                let read = ap (λ (r : ClientReader). length (read_by r)) (reader_at all es rs p.unzipped c w w.reader low) in
+                let read = ap (λ (r : ClientReader). length (read_by r)) (reader_at all es rs unzipped c w w.reader low) in
                 let same = ap (λ ws. length ws) x.read in
                 let sum : length (read_by (get_or after c w.reader)) + length (unread_by (get_or after c w.reader))
                 ≡ length (given_of (get_or desk.inlets c i)) =

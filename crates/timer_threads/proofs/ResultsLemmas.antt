@@ -1,5 +1,5 @@
 -- The ends and the readers that clients left.
-use Rattle.std.proofs.Common.{◌≡◌, ◌<◌, ◌++◌, ◌||◌, ℕ, Bool, true, false, List, [], ◌∷◌, length, get_or, map, refl, sym, ◌∙◌, ap, arith, append-nil, append_assoc}
+use Rattle.std.proofs.Common.{◌≡◌, ◌<◌, ◌++◌, ◌||◌, ℕ, Bool, true, false, List, [], ◌∷◌, length, get_or, map, refl, sym, ◌∙◌, ap, arith}
 use Rattle.std.specs.Prelude.{Some, is_none}
 use Rattle.std.proofs.lemmas.List.{map_push, get_or-map, length-map}
 use Rattle.timer_base.specs.Basics.{some_same}
@@ -15,16 +15,6 @@ AreUnzipped-more ws es rs w e h is = record {
       ∙ ap (λ o. map Some es ++ o ∷ []) is ∙ sym (map_push Some es e);
   readers_are = map_push (λ (v : Worked). v.reader) ws w ∙ ap (λ xs. xs ++ w.reader ∷ []) h.readers_are;
 }
-
-pub unzipped_none : (es : List RequestsEnded) (rs : List ClientReader) → es ≡ [] → rs ≡ [] → AreUnzipped [] es rs
-unzipped_none es rs a b = record { ends_are = ap (map Some) (sym a); readers_are = sym b }
-
-pub nothing_left : (ws more all : List Worked) → length more ≡ 0 → ws ++ more ≡ all → ws ≡ all
-nothing_left ws [] all n h = sym (append-nil ws) ∙ h
-nothing_left ws (m ∷ more) all n h = absurd (omega arith)
-
-pub one_less : (ws rest new all : List Worked) (w : Worked) → ws ++ rest ≡ all → rest ≡ w ∷ new → (ws ++ w ∷ []) ++ new ≡ all
-one_less ws rest new all w h e = append_assoc ws (w ∷ []) new ∙ ap (λ xs. ws ++ xs) (sym e) ∙ h
 
 module _ (ws : List Worked) (es : List RequestsEnded) (rs : List ClientReader) (h : AreUnzipped ws es rs) where
   pub ends_many : length es ≡ length ws

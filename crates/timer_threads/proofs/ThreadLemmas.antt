@@ -4,6 +4,7 @@ use Rattle.std.specs.Prelude.{is_none, Result, Ok, Err, IfOk, IfErr}
 use Rattle.std.specs.List.{flat_map, enumerate_from}
 use Rattle.std.proofs.lemmas.Grind.{flat_map-append}
 use Rattle.std.proofs.lemmas.List.{get_or_push, get_or_append_left, take_more}
+use Rattle.std.proofs.lemmas.Slice.Zip.{AllZip-long}
 use Rattle.std.proofs.lemmas.List.FromFn.{length-enumerate_from, get_or-enumerate_from}
 use Rattle.timer_desk.specs.declared.ring.RingInlet.{RingInlet}
 use Rattle.timer_desk.specs.Driver.{Drives}
@@ -17,7 +18,7 @@ use Rattle.timer_threads.specs.declared.fault.ThreadsFault.{ThreadsFault}
 use Rattle.timer_threads.specs.declared.fault.ThreadsFault.TheVariants as Faults
 use Rattle.timer_threads.specs.declared.outcome.Worked.{Worked}
 use Rattle.timer_threads.specs.Children.{promise_of, HasLeft, HaveLeft}
-use Rattle.timer_threads.specs.Work.{IsOfLine, HasWorked, IsWork}
+use Rattle.timer_threads.specs.Work.{IsOfLine, IsWork}
 use Rattle.timer_threads.specs.Results.{NoneFailed}
 use Rattle.timer_threads.specs.Threads.{IsNewFacility, IsNewDesk, IsTied, AreTied, AreOfLines, AllWhole, HasSucceeded, IsRun, IsExplained, IsFirstFault, client_text, clients_text, client_line, whole_lines}
 use Rattle.timer_threads.proofs.ResultsLemmas.{or_false}
@@ -32,13 +33,9 @@ AreTied-more count limit inlets children i h was one =
     let more' = length-append children (h ∷ []) in record {
       as_many = omega (arith, many, more, more');
       each = λ k j g l. elim (before_or_last k (length inlets) (omega (arith, l, more))) [
-        | inl low ↦
-            subst (λ x. IsTied count limit x (get_or (children ++ h ∷ []) k g)) (sym (get_or_append_left inlets (i ∷ []) j k low))
-            (subst (λ x. IsTied count limit (get_or inlets k j) x)
-            (sym (get_or_append_left children (h ∷ []) g k (omega (arith, low, many)))) (was.each k j g low))
-        | inr is ↦
-            subst (λ x. IsTied count limit x (get_or (children ++ h ∷ []) k g)) (sym (get_or_push inlets i j k (sym is)))
-            (subst (λ x. IsTied count limit i x) (sym (get_or_push children h g k (many ∙ sym is))) one)
+        | inl low ↦ rw (get_or_append_left inlets (i ∷ []) j k low, get_or_append_left children (h ∷ []) g k (omega (arith, low, many)))
+            (was.each k j g low)
+        | inr is ↦ rw (get_or_push inlets i j k (sym is), get_or_push children h g k (many ∙ sym is)) one
       ];
     }
   where
@@ -66,12 +63,6 @@ left_at (c ∷ cs) [] k h w left l = absurd left
 left_at (c ∷ cs) (v ∷ vs) zero h w left l = left.0
 left_at (c ∷ cs) (v ∷ vs) (suc k) h w left l = left_at cs vs k h w left.1 (omega arith)
 
-pub left_as_many : (children : List Child) (all : List Worked) → HaveLeft children all → length all ≡ length children
-left_as_many [] [] h = refl
-left_as_many [] (v ∷ vs) h = absurd h
-left_as_many (c ∷ cs) [] h = absurd h
-left_as_many (c ∷ cs) (v ∷ vs) h = ap suc (left_as_many cs vs h.1)
-
 -- whatever the threads that are left will leave, all have left that after what was left so far
 abbrev pub LeadsTo : List Child → List Child → List Worked → Type 0
 LeadsTo children rest so_far = (more : List Worked) → HaveLeft rest more → HaveLeft children (so_far ++ more)
@@ -80,39 +71,23 @@ pub leads_end : (children rest : List Child) (all : List Worked) → LeadsTo chi
 leads_end children rest all leads none =
     subst (λ xs. HaveLeft children xs) (append-nil all) (leads [] (subst (λ cs. HaveLeft cs []) (sym none) tt))
 
-pub lines_kept : (count limit : ℕ) (first now : List RingInlet) (children : List Child) (all : List Worked)
-    → AreTied count limit first children → length now ≡ length first
-    → ((k : ℕ) (i : RingInlet) → k < length first → line_of_inlet (get_or first k i) ≡ line_of_inlet (get_or now k i))
-    → HaveLeft children all → AreOfLines now all
-lines_kept count limit first now children all tied as_many same left = record {
-  as_many = left_as_many children all left ∙ tied.as_many ∙ sym as_many;
-  each = λ k i w l.
-      let low : k < length first = omega (arith, as_many, l) in
-      let low' : k < length children = let a = tied.as_many in omega (arith, a, low) in
-      let h : Child = some_item children k low' in
-      subst (λ l. IsOfLine l (get_or all k w)) (sym (tied.each k i h low).line ∙ same k i low) (left_at children all k h w left low').0;
-}
-
 pub work_kept : (count limit : ℕ) (first : List RingInlet) (children : List Child) (all : List Worked)
     → AreTied count limit first children → HaveLeft children all
     → (k : ℕ) (w : Worked) → k < length all → IsWork count limit (get_or all k w)
 work_kept count limit first children all tied left k w l =
-    let joined = left_as_many children all left in
+    let joined = AllZip-long HasLeft children all left in
     let low' : k < length children = omega (arith, joined, l) in
     let low : k < length first = let a = tied.as_many in omega (arith, a, low') in
     let child : Child = get_or children k (some_item children k low') in
     let t = tied.each k (some_item first k low) (some_item children k low') low in record {
       start = (promise_of child).end.value;
       new = t.end_new;
-      worked = subst (λ i. HasWorked i limit (promise_of child).end.value (get_or all k w)) t.count_is
-          (subst (λ j. HasWorked (promise_of child).count j (promise_of child).end.value (get_or all k w)) t.limit_is
-          (left_at children all k (some_item children k low') w left low').1);
+      worked = rw (t.count_is, t.limit_is) at (left_at children all k (some_item children k low') w left low').1;
     }
 
 pub all_left : (count limit : ℕ) (inlets : List RingInlet) (children : List Child) (all : List Worked)
-    → AreTied count limit inlets children
-    → HaveLeft children all → length all ≡ length inlets
-all_left count limit inlets children all tied left = left_as_many children all left ∙ tied.as_many
+    → AreTied count limit inlets children → HaveLeft children all → length all ≡ length inlets
+all_left count limit inlets children all tied left = AllZip-long HasLeft children all left ∙ tied.as_many
 
 -- a desk that was opened over new lines and driven, and what the threads of its clients left
 module _ (clients room timers limit : ℕ) (s : FacilityState) (inlets : List RingInlet) (opened desk : DeskState RingInlet)
@@ -122,11 +97,19 @@ module _ (clients room timers limit : ℕ) (s : FacilityState) (inlets : List Ri
   pub driven_lines : AreOfLines desk.inlets all
   driven_lines =
       let same : opened.inlets ≡ inlets = ap (λ (d : DeskState RingInlet). d.inlets) is in
-      lines_kept timers limit inlets desk.inlets children all tied (driven.holds.same_clients ∙ ap (λ is. length is) same)
-      (λ k i l. ap (λ is. line_of_inlet (get_or is k i)) (sym same) ∙ (driven.holds.lines k i
-      (omega (arith, l, ap (λ is. length is) same))).line) left
+      let as_many : length desk.inlets ≡ length inlets = driven.holds.same_clients ∙ ap (λ is. length is) same in record {
+        as_many = all_left timers limit inlets children all tied left ∙ sym as_many;
+        each = λ k i w l.
+            let low : k < length inlets = omega (arith, as_many, l) in
+            let low' : k < length children = let a = tied.as_many in omega (arith, a, low) in
+            let h : Child = some_item children k low' in
+            let kept = (driven.holds.lines k i (omega (arith, low, ap (λ is. length is) same))).same.line_is in
+            subst (λ l. IsOfLine l (get_or all k w))
+            (sym (tied.each k i h low).line ∙ ap (λ is. line_of_inlet (get_or is k i)) (sym same) ∙ kept)
+            (left_at children all k h w left low').0;
+      }
 
-  is_run : (Ends : DeskState RingInlet → DriveEnd → List Worked → Type 0) → Ends desk outcome all → IsRun clients timers limit Ends
+  pub is_run : (Ends : DeskState RingInlet → DriveEnd → List Worked → Type 0) → Ends desk outcome all → IsRun clients timers limit Ends
   is_run Ends h = record {
     opened = opened;
     new = subst (IsNewDesk clients) (sym is) (record {
@@ -145,18 +128,20 @@ module _ (clients room timers limit : ℕ) (s : FacilityState) (inlets : List Ri
     ends = h;
   }
 
-  -- it ended well, or with its first error
+-- it ended well, or with its first error
+module _ (clients timers limit : ℕ) (desk : DeskState RingInlet) (outcome : DriveEnd) (all : List Worked)
+    (run : (Ends : DeskState RingInlet → DriveEnd → List Worked → Type 0) → Ends desk outcome all → IsRun clients timers limit Ends) where
   pub run_succeeded : {A : Type 0} (result : Result A ThreadsFault) → IfOk result (λ _. HasSucceeded desk outcome all)
       → IfOk result (λ _. IsRun clients timers limit HasSucceeded)
-  run_succeeded (Ok x) h = is_run HasSucceeded h
+  run_succeeded (Ok x) h = run HasSucceeded h
   run_succeeded (Err fault) h = tt
 
   pub run_failed : {A : Type 0} (result : Result A ThreadsFault) → IfErr result (λ fault. IsFirstFault desk outcome all fault)
       → IfErr result (λ fault. IsExplained clients timers limit fault)
   run_failed (Ok x) h = tt
   run_failed (Err Faults.OutOfMemory) h = tt
-  run_failed (Err (Faults.Client c)) h = is_run (λ d o ws. IsFirstFault d o ws (Faults.Client c)) h
-  run_failed (Err Faults.Desk) h = is_run (λ d o ws. IsFirstFault d o ws Faults.Desk) h
+  run_failed (Err (Faults.Client c)) h = run (λ d o ws. IsFirstFault d o ws (Faults.Client c)) h
+  run_failed (Err Faults.Desk) h = run (λ d o ws. IsFirstFault d o ws Faults.Desk) h
 
 -- if none failed, the text is that of whole clients
 pub clients_text-whole : (n timers : ℕ) (ws : List Worked) → AllWhole timers ws → NoneFailed ws
@@ -166,8 +151,5 @@ clients_text-whole n timers (w ∷ ws) a f =
     let low : 0 < length (w ∷ ws) = omega arith in
     let good = (or_false w.failed (is_none w.ended) (f 0 w low)).0 in
     let is = a 0 w low good in
-    ap (λ t. client_line n w.sent w.started w.expired ++ t) (clients_text-whole (n + 1) timers ws (λ k v l. a (suc k) v (omega arith))
-    (λ k v l. f (suc k) v (omega arith)))
-    ∙ ap (λ k. client_line n k w.started w.expired ++ whole_lines (n + 1) (length ws) timers) is.0
-    ∙ ap (λ k. client_line n timers k w.expired ++ whole_lines (n + 1) (length ws) timers) is.1
-    ∙ ap (λ k. client_line n timers timers k ++ whole_lines (n + 1) (length ws) timers) is.2
+    rw (is.0, is.1, is.2) (ap (λ t. client_line n timers timers timers ++ t)
+    (clients_text-whole (n + 1) timers ws (λ k v l. a (suc k) v (omega arith)) (λ k v l. f (suc k) v (omega arith))))

@@ -2,9 +2,7 @@
 use Rattle.std.specs.Prelude.{◌≡◌, ◌+◌, ◌-◌, ◌<◌, ◌≤◌, ◌==◌, ◌&&◌, not, nat_lt, ℕ, Bool, true, false, if◌then◌else◌, List, [], ◌∷◌, ◌++◌, length, None}
 use Rattle.std.specs.List.{last_or}
 use Rattle.timer_base.specs.declared.limits.TheConstants.{LAST}
-use Rattle.timer_facility.specs.declared.request.Answer.{Answer}
 use Rattle.timer_facility.specs.declared.request.Answer.TheVariants as Answers
-use Rattle.timer_facility.specs.declared.request.Notice.{Notice}
 use Rattle.timer_facility.specs.declared.request.Notice.TheVariants as Notices
 use Rattle.timer_desk.specs.declared.word.Word.{Word}
 use Rattle.timer_desk.specs.declared.word.Word.TheVariants as Words
@@ -15,23 +13,13 @@ use Rattle.timer_threads.specs.declared.turn.Turn.{Turn}
 use Rattle.timer_threads.specs.Turns.{requests_of, words_of, is_idle}
 use Rattle.timer_threads.specs.Work.{requests_from, started_in, expired_in, started_by, expired_by, follows, ArePassed, IsStopped}
 
--- whether a `Started` answer with this number is the next one
-abbrev pub is_next_start : Client → ℕ → Bool
-is_next_start c number = nat_lt c.started c.count && (number == c.first + c.started)
-
-abbrev pub answer_passes : Client → ℕ → Answer → Bool
-answer_passes c number (Answers.Started handle deadline) = is_next_start c number
-answer_passes c number _ = false
-
-abbrev pub notice_passes : Client → Notice → Bool
-notice_passes c (Notices.Expired timer) = nat_lt c.expired c.count && follows c.last timer
-notice_passes c (Notices.Returned timer) = false
-
--- whether the word satisfies the client's checks
+-- whether the word satisfies the client's checks: it is the next `Started` answer, or a timer after the last one, and
+-- no more than are to come
 abbrev pub passes : Client → Word → Bool
-passes c (Words.Answered number answer) = answer_passes c number answer
-passes c (Words.NotTaken number reason) = false
-passes c (Words.Notice notice) = notice_passes c notice
+passes c (Words.Answered number (Answers.Started handle deadline)) =
+    nat_lt c.started c.count && (number == c.first + c.started)
+passes c (Words.Notice (Notices.Expired timer)) = nat_lt c.expired c.count && follows c.last timer
+passes c word = false
 
 -- the client once it has counted and checked this word
 abbrev pub counted : Client → Word → Client

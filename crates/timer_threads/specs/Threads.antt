@@ -18,7 +18,7 @@ use Rattle.timer_threads.specs.declared.fault.ThreadsFault.TheVariants as Faults
 use Rattle.timer_threads.specs.declared.outcome.Worked.{Worked}
 use Rattle.timer_threads.specs.Children.{promise_of}
 use Rattle.timer_threads.specs.Work.{IsOfLine, IsNewEnd, IsWork, IsWhole}
-use Rattle.timer_threads.specs.Results.{has_failed, NoneFailed, AllEnded, AreUnzipped}
+use Rattle.timer_threads.specs.Results.{has_failed, NoneFailed, AllEnded}
 
 -- nothing was taken from this inlet or given to it
 pub record IsNewInlet (inlet : RingInlet) : Type 0 where
@@ -139,12 +139,6 @@ pub record IsFirstHeld (desk : DeskState RingInlet) (all : List Worked) (c : ℕ
   pub back : IsUnfinished desk all c
   pub before : (k : ℕ) → k < c → IsServed desk all k
 
--- these ends and readers are those of what the clients of the desk left
-pub record AreParts (desk : DeskState RingInlet) (all : List Worked) (ends : List RequestsEnded)
-    (readers : List ClientReader) : Type 0 where
-  pub lines : AreOfLines desk.inlets all
-  pub unzipped : AreUnzipped all ends readers
-
 -- this client failed or is unfinished. None before it failed; and if the requests of each client could be
 -- ended, each before it is served.
 pub record IsFirstClient (desk : DeskState RingInlet) (all : List Worked) (c : ℕ) : Type 0 where
@@ -177,10 +171,8 @@ pub record IsRun (clients timers limit : ℕ)
 -- unless memory ran out, the error is the first one of such a run
 abbrev pub IsExplained : ℕ → ℕ → ℕ → ThreadsFault → Type 0
 IsExplained clients timers limit Faults.OutOfMemory = Unit {0}
-IsExplained clients timers limit (Faults.Client c) = IsRun clients timers limit
-    (λ desk outcome all. IsFirstFault desk outcome all (Faults.Client c))
-IsExplained clients timers limit Faults.Desk = IsRun clients timers limit
-    (λ desk outcome all. IsFirstFault desk outcome all Faults.Desk)
+IsExplained clients timers limit fault = IsRun clients timers limit
+    (λ desk outcome all. IsFirstFault desk outcome all fault)
 
 -- the lines of `clients` clients from number `client` on, each with `timers` timers sent, started and expired
 abbrev pub whole_lines : ℕ → ℕ → ℕ → List ℕ

@@ -4,9 +4,7 @@ use Rattle.std.specs.List.{flat_map, range_with_len}
 use Rattle.timer_base.specs.declared.timer.Timer.{Timer}
 use Rattle.timer_base.specs.Order.{is_before}
 use Rattle.timer_facility.specs.declared.request.Request.TheVariants.{Start}
-use Rattle.timer_facility.specs.declared.request.Answer.{Answer}
 use Rattle.timer_facility.specs.declared.request.Answer.TheVariants as Answers
-use Rattle.timer_facility.specs.declared.request.Notice.{Notice}
 use Rattle.timer_facility.specs.declared.request.Notice.TheVariants as Notices
 use Rattle.timer_desk.specs.declared.word.Numbered.{Numbered}
 use Rattle.timer_desk.specs.declared.word.Word.{Word}
@@ -29,25 +27,15 @@ requests_from first sent = map (request_of first) (range_with_len 1 sent)
 
 -- What is received.
 
-abbrev pub started_in_answer : ℕ → Answer → List ℕ
-started_in_answer number (Answers.Started handle deadline) = number ∷ []
-started_in_answer number _ = []
-
-abbrev pub expired_in_notice : Notice → List Timer
-expired_in_notice (Notices.Expired timer) = timer ∷ []
-expired_in_notice (Notices.Returned timer) = []
-
 -- the number of the request that started a timer, by this word
 abbrev pub started_in : Word → List ℕ
-started_in (Words.Answered number answer) = started_in_answer number answer
-started_in (Words.NotTaken number reason) = []
-started_in (Words.Notice notice) = []
+started_in (Words.Answered number (Answers.Started handle deadline)) = number ∷ []
+started_in word = []
 
 -- the timer that expired, by this word
 abbrev pub expired_in : Word → List Timer
-expired_in (Words.Answered number answer) = []
-expired_in (Words.NotTaken number reason) = []
-expired_in (Words.Notice notice) = expired_in_notice notice
+expired_in (Words.Notice (Notices.Expired timer)) = timer ∷ []
+expired_in word = []
 
 -- the numbers of the requests that started a timer, by these words
 abbrev pub started_by : List Word → List ℕ

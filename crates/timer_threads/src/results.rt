@@ -40,12 +40,8 @@ pub fn unzip_results(
     ensures some { IfOk result (λ parts. IfSome parts (λ p. AreUnzipped all.items p.0.items p.1.items)) }
     ensures none { IfOk result (λ parts. IsNone parts → ¬ (AllEnded all.items)) }
 {
-    let Ok(mut ends) = Vec::with_capacity(alloc, all.len()) else {
-        return Err(OutOfMemory);
-    };
-    let Ok(mut readers) = Vec::with_capacity(alloc, all.len()) else {
-        return Err(OutOfMemory);
-    };
+    let mut ends = Vec::with_capacity(alloc, all.len())?;
+    let mut readers = Vec::with_capacity(alloc, all.len())?;
     for worked in all {
         let Worked { ended, reader, .. } = worked;
         let Some(ended) = ended else {

@@ -2,7 +2,8 @@
 ghost use Rattle.std.specs.Prelude.{◌≡◌, List, IfOk, IfErr, IfSome, IsNone, vec_len};
 ghost use Rattle.timer_desk.specs.Shutdown.{AreEndsOf, AreReadersOf};
 ghost use Rattle.timer_threads.specs.declared.outcome.Worked.{Worked};
-ghost use Rattle.timer_threads.specs.Threads.{AreOfLines, AllWhole, NoneUnread, AreSettled, IsFirstWithWords, IsFirstHeld, AreParts, IsWoundUp, HasSucceeded, IsFirstFault, whole_text};
+ghost use Rattle.timer_threads.specs.Results.{AreUnzipped};
+ghost use Rattle.timer_threads.specs.Threads.{AreOfLines, AllWhole, NoneUnread, AreSettled, IsFirstWithWords, IsFirstHeld, IsWoundUp, HasSucceeded, IsFirstFault, whole_text};
 
 use crate::fault::ThreadsFault;
 use crate::outcome::Worked;
@@ -63,10 +64,11 @@ fn first_unfinished(
 ) -> Option<usize>
     requires ends { IfSome parts (λ p. AreEndsOf desk.inlets p.0.items) }
     requires readers { IfSome parts (λ p. AreReadersOf desk.inlets p.1.items) }
-    ensures held { (all : List Worked) → IfSome parts (λ p. AreParts desk all p.0.items p.1.items)
-        → IfSome result (λ c. IsFirstHeld desk all c) }
-    ensures wound { (all : List Worked) → IfSome parts (λ p. AreParts desk all p.0.items p.1.items)
-        → IsNone result → IfSome parts (λ _. IsWoundUp desk all) }
+    ensures held { (all : List Worked) → AreOfLines desk.inlets all
+        → IfSome parts (λ p. AreUnzipped all p.0.items p.1.items) → IfSome result (λ c. IsFirstHeld desk all c) }
+    ensures wound { (all : List Worked) → AreOfLines desk.inlets all
+        → IfSome parts (λ p. AreUnzipped all p.0.items p.1.items) → IsNone result
+        → IfSome parts (λ _. IsWoundUp desk all) }
 {
     match parts {
         Some((ends, readers)) => match wind_up(desk, ends, readers) {

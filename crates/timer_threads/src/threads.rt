@@ -52,12 +52,8 @@ fn new_facility(alloc: Global, clients: u64) -> Result<Facility<HierWheel>, OutO
         first_serial: 1,
         first_number: 1,
     };
-    let Ok(checked) = config.check() else {
-        return Err(OutOfMemory);
-    };
-    let Ok(wheel) = HierWheel::new(alloc, 0) else {
-        return Err(OutOfMemory);
-    };
+    let checked = config.check().map_err(|_| OutOfMemory)?;
+    let wheel = HierWheel::new(alloc, 0).map_err(|_| OutOfMemory)?;
     Ok(Facility::open(alloc, checked, wheel))
 }
 
@@ -74,12 +70,8 @@ fn start_all<G: Gate + Drop + Send + 'static>(
     ensures tied { IfOk result (λ c. AreTied count limit c.inlets.items (threads_of c.children)) }
     ensures all { IfOk result (λ c. c.all ≡ true → vec_len c.inlets ≡ vec_len gates) }
 {
-    let Ok(mut inlets) = Vec::with_capacity(alloc, gates.len()) else {
-        return Err(OutOfMemory);
-    };
-    let Ok(mut children) = Children::with_capacity(alloc, gates.len()) else {
-        return Err(OutOfMemory);
-    };
+    let mut inlets = Vec::with_capacity(alloc, gates.len())?;
+    let mut children = Children::with_capacity(alloc, gates.len())?;
     for gate in gates {
         let Ok((end, inlet)) = ring_line(alloc, LINE, 1) else {
             return Ok(Clients {
@@ -124,17 +116,12 @@ pub fn threads_run<G: Gate + Drop + Send + 'static>(
     ensures ended { IfOk result (λ _. IsRun (vec_len gates) timers limit HasSucceeded) }
     ensures failed { IfErr result (λ fault. IsExplained (vec_len gates) timers limit fault) }
 {
-    let Ok(facility) = new_facility(alloc, gates.len() as u64) else {
-        return Err(ThreadsFault::OutOfMemory);
-    };
-    let Ok(clients) = start_all(rt, alloc, gates, timers, limit) else {
-        return Err(ThreadsFault::OutOfMemory);
-    };
+    let facility = new_facility(alloc, gates.len() as u64).map_err(|_| ThreadsFault::OutOfMemory)?;
     let Clients {
         inlets,
         children,
         all,
-    } = clients;
+    } = start_all(rt, alloc, gates, timers, limit).map_err(|_| ThreadsFault::OutOfMemory)?;
     if !all {
         let _ = children.join(rt);
         return Err(ThreadsFault::OutOfMemory);

@@ -26,10 +26,7 @@ pub fn client_work<G: Gate + Drop>(end: ClientEnd, count: u64, limit: u64, gate:
     let mut gate = gate;
     let mut client = Client::new(end, count);
     let mut idle = 0u64;
-    while idle < limit {
-        if client.is_over() {
-            return client.finish(idle);
-        }
+    while idle < limit && !client.is_over() {
         if client.work_once(&mut gate) {
             idle = 0;
         } else {

@@ -1,6 +1,7 @@
 use Rattle.std.proofs.Common.{rules, ◌∙◌, ap}
+use Rattle.std.proofs.lemmas.Bool.{lt-ltb, le-ltb}
 use Rattle.timer_desk.specs.Driver.{is_served}
-use Rattle.timer_desk.proofs.DriverLemmas.{serves_more, serves_same, flushes_more, is_below, is_not_below}
+use Rattle.timer_desk.proofs.DriverLemmas.{serves_more, serves_same, flushes_more}
 use Rattle.timer_desk.proofs.driver.write_steps.Goals as goal
 use Rattle.timer_desk.proofs.driver.write_steps.Goals.{then-reached-goal, else-reached-goal}
 
@@ -10,13 +11,13 @@ loop-client-preserved c =
     elim c.if-reached-goal.branch [
       | then-reached-goal w ↦ record {
         serves = ap (λ v. v.items) w.steps-is ∙ w.push_reserved.ensures.items ∙ serves_more (is_served c.args.goal c.args.progress.now) c.loop-client.client
-            c.loop-client.steps.items was.serves (is_below _ c.args.goal w.if-reached-goal.true);
+            c.loop-client.steps.items was.serves (lt-ltb _ c.args.goal w.if-reached-goal.true);
         capacity = search rules;
         len = search rules;
       }
       | else-reached-goal w ↦ record {
         serves = ap (λ v. v.items) w.steps-is ∙ serves_same (is_served c.args.goal c.args.progress.now) c.loop-client.client
-            c.loop-client.steps.items was.serves (is_not_below _ c.args.goal w.if-reached-goal.false);
+            c.loop-client.steps.items was.serves (le-ltb _ c.args.goal w.if-reached-goal.false);
         capacity = search rules;
         len = search rules;
       }

@@ -52,7 +52,7 @@ loop-k-preserved g c =
     (subst (λ q. IsReadOut (get_or c.loop-k.desk.inlets n i) q x) (reader r) (settled.read_out i)) in
     record {
       keeps = keeps_then c.args.desk c.loop-k.desk c.settle_reader.new.self was.keeps
-          (keeps_looked n c.loop-k.desk c.settle_reader.new.self settled.clients settled.facility settled.backlogs settled.others settled.looked);
+          (keeps_looked n c.loop-k.desk c.settle_reader.new.self settled.looks);
       as_many = was.as_many;
       later = λ k r h. later_stays readers start n x was.later k r h;
       read = λ k i r h. one_more_read all start readers n x low here was.read k i r h;

@@ -1,4 +1,4 @@
-use Rattle.timer_desk.proofs.EventLemmas.{event_of_tick, event_of_ticks, event_of_close, HasTicked, HasClosed}
+use Rattle.timer_desk.proofs.EventLemmas.{event_of_tick, event_of_ticks, event_of_close, HasClosed}
 use Rattle.timer_desk.proofs.turn.make_event.Goals as goal
 
 pub returns-in-Tick-clause-event : goal.returns-in-Tick-clause-event
@@ -8,9 +8,8 @@ returns-in-Tick-clause-event g c =
 pub returns-in-Ticks-clause-event : goal.returns-in-Ticks-clause-event
 returns-in-Ticks-clause-event g c =
     let e = c.ticks.ensures in
-    let ticked : HasTicked c.in-Ticks.limit c.args.facility.now c.ticks.new.self c.ticks.result =
-    record { ticked = e.ticked; fault = e.fault; unchanged = e.err } in
-    event_of_ticks c.in-Ticks.limit c.args.facility.now c.ticks.new.self c.ticks.result c.requires.quiet ticked
+    event_of_ticks c.in-Ticks.limit c.args.facility.now c.ticks.new.self c.ticks.result c.requires.quiet
+    (record { ticked = e.ticked; fault = e.fault; unchanged = e.err })
 
 pub returns-in-Close-clause-event : goal.returns-in-Close-clause-event
 returns-in-Close-clause-event g c =

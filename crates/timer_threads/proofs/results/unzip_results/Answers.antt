@@ -1,13 +1,14 @@
-use Rattle.std.proofs.Common.{◌≡◌, List, length, subst, refl, arith}
+use Rattle.std.proofs.Common.{◌≡◌, [], ◌∷◌, ◌++◌, List, subst, refl, sym, ◌∙◌, ap, append-nil, append_assoc, arith}
 use Rattle.std.proofs.lemmas.Grind.{common_steps}
+use Rattle.std.proofs.lemmas.List.{nil_from_length}
 use Rattle.timer_threads.specs.declared.outcome.Worked.{Worked}
 use Rattle.timer_threads.specs.Results.{AreUnzipped}
-use Rattle.timer_threads.proofs.ResultsLemmas.{AreUnzipped-more, unzipped_none, nothing_left, one_less}
+use Rattle.timer_threads.proofs.ResultsLemmas.{AreUnzipped-more}
 use Rattle.timer_threads.proofs.results.unzip_results.Goals as goal
 
 pub loop-worked-init : goal.loop-worked-init
 loop-worked-init c = record {
-  unzipped = unzipped_none c.in-Ok.ends.items c.in-Ok-with_capacity.readers.items c.in-Ok.ensures.items c.in-Ok-with_capacity.ensures.items;
+  unzipped = rw (c.in_ok-ends.ensures.items, c.in_ok-readers.ensures.items) (record { ends_are = refl; readers_are = refl });
   whole = c.into_iter-worked-iterator.ensures.into_iter_gives.0;
   ends = grind (arith, common_steps);
   readers = grind (arith, common_steps);
@@ -22,8 +23,8 @@ loop-worked-preserved c =
       unzipped = rw (c.push_reserved.ensures.items, c.push_reserved-in-loop-worked.ensures.items)
           (AreUnzipped-more c.loop-worked.yielded c.loop-worked.ends.items c.loop-worked.readers.items c.in-Some.worked
           c.in-Some-ended.ended was.unzipped c.in-Some-ended.is);
-      whole = one_less c.loop-worked.yielded c.loop-worked.worked-iterator.rest.items c.next.new.self.rest.items c.args.all.items
-          c.in-Some.worked was.whole e.steps.0;
+      whole = append_assoc c.loop-worked.yielded (c.in-Some.worked ∷ []) c.next.new.self.rest.items
+          ∙ ap (λ ws. c.loop-worked.yielded ++ ws) (sym e.steps.0) ∙ was.whole;
       ends = grind (arith, common_steps);
       readers = grind (arith, common_steps);
       ends_room = grind (arith, common_steps);
@@ -34,7 +35,8 @@ pub returns-clause-some : goal.returns-clause-some
 returns-clause-some c =
     let was = c.loop-worked.invariant in
     let e = c.in-None.ensures in
-    let none : length c.loop-worked.worked-iterator.rest.items ≡ 0 = omega (arith, e.steps.0, c.loop-worked.worked-iterator.rest.ok) in
-    let all : c.loop-worked.yielded ≡ c.args.all.items = nothing_left c.loop-worked.yielded c.loop-worked.worked-iterator.rest.items
-    c.args.all.items none was.whole in
+    let rest = c.loop-worked.worked-iterator.rest in
+    let none : rest.items ≡ [] = nil_from_length rest.items (omega (arith, e.steps.0, rest.ok)) in
+    let all : c.loop-worked.yielded ≡ c.args.all.items = sym (append-nil c.loop-worked.yielded)
+    ∙ ap (λ ws. c.loop-worked.yielded ++ ws) (sym none) ∙ was.whole in
     subst (λ (ws : List Worked). AreUnzipped ws c.loop-worked.ends.items c.loop-worked.readers.items) all was.unzipped

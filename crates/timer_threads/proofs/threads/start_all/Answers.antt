@@ -11,10 +11,10 @@ loop-gate-preserved g c =
     let was = c.loop-gate.invariant in
     let inlets = c.push_reserved.ensures in
     let children = c.push_reserved-in-loop-gate.ensures in
-    let line = c.in-Ok-ring_line.ensures in
+    let line = c.in-Ok.ensures in
     let child = c.in-Ok-start.ensures in record {
       tied = rw (inlets.items, children.threads)
-          (AreTied-more c.args.count c.args.limit c.loop-gate.inlets.items (threads_of c.loop-gate.children) c.in-Ok-ring_line.inlet
+          (AreTied-more c.args.count c.args.limit c.loop-gate.inlets.items (threads_of c.loop-gate.children) c.in-Ok.inlet
           c.in-Ok-start.child was.tied (record {
             line = sym line.line ∙ ap line_of_end (sym child.end);
             count_is = child.count;

@@ -1,10 +1,11 @@
-use Rattle.std.proofs.Common.{true, false, ◌∙◌, sym, subst, arith}
+use Rattle.std.proofs.Common.{true, false, refl, ◌∙◌, sym, subst, arith}
 use Rattle.timer_desk.specs.Ring.{next_of}
 use Rattle.timer_threads.specs.Client.{left_of, turns_by}
 use Rattle.timer_threads.specs.Work.{HasWorked, AreTurns}
 use Rattle.timer_threads.proofs.ClientLemmas.{less_to_do, nearer_the_limit, goes_on}
-use Rattle.timer_threads.proofs.TurnLemmas.{idle_at_start, AreTurns-none, AreLetGo-none, AreTurns-more, idle_after}
+use Rattle.timer_threads.proofs.TurnLemmas.{AreTurns-more, idle_after}
 use Rattle.timer_threads.proofs.work.client_work.Goals as goal
+use Rattle.timer_threads.proofs.work.client_work.Goals.{else-loop-idle-test, then-loop-idle-test+else-not-is_over}
 
 pub loop-idle-init : goal.loop-idle-init
 loop-idle-init g c =
@@ -13,9 +14,9 @@ loop-idle-init g c =
       at_work = new.at_work;
       recorded = new.recorded;
       count = new.count;
-      taken = AreTurns-none (next_of c.args.end) c.args.count c.args.limit (turns_by c.new-client.result) new.none;
-      idle_is = idle_at_start (turns_by c.new-client.result) new.none;
-      asked = AreLetGo-none g.G.Gate.lets_go (turns_by c.new-client.result) new.none;
+      taken = rw new.none (λ k l. absurd (omega (arith, l)));
+      idle_is = rw new.none refl;
+      asked = rw new.none (λ k t l. absurd (omega (arith, l)));
       within = omega arith;
     }
 
@@ -28,7 +29,7 @@ loop-idle-preserved-then-work_once g c =
     let was = c.loop-idle.invariant in
     let turn = c.if-work_once.ensures.turn in
     let on = goes_on c.args.end c.args.count c.args.limit c.loop-idle.idle c.loop-idle.client was.count was.sound was.at_work
-    was.recorded (sym c.is_over.ensures ∙ c.if-is_over.false) was.idle_is c.loop-idle-test.true in record {
+    was.recorded (sym c.if-not-is_over.ensures) was.idle_is c.loop-idle-test.true in record {
       sound = c.work_once.ensures.sound;
       at_work = c.work_once.ensures.at_work c.args.end was.at_work;
       recorded = c.work_once.ensures.recorded c.args.end was.recorded;
@@ -51,7 +52,7 @@ loop-idle-preserved g c =
     let was = c.loop-idle.invariant in
     let turn = c.if-work_once.ensures.turn in
     let on = goes_on c.args.end c.args.count c.args.limit c.loop-idle.idle c.loop-idle.client was.count was.sound was.at_work
-    was.recorded (sym c.is_over.ensures ∙ c.if-is_over.false) was.idle_is c.loop-idle-test.true in record {
+    was.recorded (sym c.if-not-is_over.ensures) was.idle_is c.loop-idle-test.true in record {
       sound = c.work_once.ensures.sound;
       at_work = c.work_once.ensures.at_work c.args.end was.at_work;
       recorded = c.work_once.ensures.recorded c.args.end was.recorded;
@@ -65,23 +66,15 @@ loop-idle-preserved g c =
     }
 
 pub returns-clause-line : goal.returns-clause-line
-returns-clause-line g c = c.finish-2.ensures.line c.args.end c.loop-idle.invariant.at_work
+returns-clause-line g c = c.finish.ensures.line c.args.end c.loop-idle.invariant.at_work
 
 pub returns-clause-worked : goal.returns-clause-worked
 returns-clause-worked g c =
     let was = c.loop-idle.invariant in
-    subst (λ n. HasWorked n c.args.limit c.args.end c.finish-2.result) was.count
-    (c.finish-2.ensures.worked c.args.end c.args.limit was.at_work was.recorded
-    (subst (λ n. AreTurns (next_of c.args.end) n c.args.limit (turns_by c.loop-idle.client)) (sym was.count) was.taken) was.idle_is
-    (λ _. omega (arith, was.within, c.loop-idle-test.false)))
-
-pub returns-then-is_over-clause-line : goal.returns-then-is_over-clause-line
-returns-then-is_over-clause-line g c = c.finish.ensures.line c.args.end c.loop-idle.invariant.at_work
-
-pub returns-then-is_over-clause-worked : goal.returns-then-is_over-clause-worked
-returns-then-is_over-clause-worked g c =
-    let was = c.loop-idle.invariant in
     subst (λ n. HasWorked n c.args.limit c.args.end c.finish.result) was.count
     (c.finish.ensures.worked c.args.end c.args.limit was.at_work was.recorded
     (subst (λ n. AreTurns (next_of c.args.end) n c.args.limit (turns_by c.loop-idle.client)) (sym was.count) was.taken) was.idle_is
-    (λ is. absurd (cc)))
+    (λ not_over. elim c.loop-idle-test.branch [
+      | else-loop-idle-test w ↦ omega (arith, was.within, w.loop-idle-test.false)
+      | then-loop-idle-test+else-not-is_over w ↦ absurd (let over = w.if-not-is_over.ensures in cc)
+    ]))

@@ -9,8 +9,7 @@ pub invariant_of-self : goal.invariant_of-self
 invariant_of-self g c =
     let s = c.serve.ensures in
     let d = c.self.invariant in
-    let clients = ap clients_of c.self.view_is in
-    let low : c.args.c < length c.self.inside.inlets.items = let h = c.requires in omega arith in
+    let low : c.args.c < length c.self.inside.inlets.items = omega (arith, c.requires, ap clients_of c.self.view_is) in
     let i = c.index_mut-2.result.now in
     let b = c.index_mut.result.now in
     let call = serve_call g.I.Inlet.kind c.args.c c.serve.result c.self.inside.facility c.serve.new.facility i c.serve.new.inlet b
@@ -23,8 +22,7 @@ pub returns-clause-report : goal.returns-clause-report
 returns-clause-report g c =
     let s = c.serve.ensures in
     let d = c.self.invariant in
-    let clients = ap clients_of c.self.view_is in
-    let low : c.args.c < length c.self.inside.inlets.items = let h = c.requires in omega arith in
+    let low : c.args.c < length c.self.inside.inlets.items = omega (arith, c.requires, ap clients_of c.self.view_is) in
     let i = c.index_mut-2.result.now in
     let b = c.index_mut.result.now in
     let call = serve_call g.I.Inlet.kind c.args.c c.serve.result c.self.inside.facility c.serve.new.facility i c.serve.new.inlet b

@@ -32,9 +32,9 @@ returns-in_default g c =
     let left = ap (λ (v : FacilityView). length v.state.pending) handed.ensures.facility in
     let all = made.ensures.event.all in record {
       adds = subst (λ (d : DeskState g.row.I.Denot). AddsStep g.I.Inlet.kind c.args.step before after d new) c.self.view_is
-          (adds_event g.I.Inlet.kind c.args.step before after made.result c.self.inside.facility made.new.facility handed.new.facility
-          c.self.inside.inlets.items c.self.inside.backlogs.items handed.new.backlogs.items made.ensures.event made.ensures.step
-          c.self.invariant handed.ensures.facility handed.ensures.noted added);
+          (adds_event g.I.Inlet.kind made.result c.self.inside.facility made.new.facility handed.new.facility
+          c.self.inside.inlets.items c.self.inside.backlogs.items handed.new.backlogs.items made.ensures.event c.self.invariant
+          handed.ensures.facility handed.ensures.noted c.args.step before after made.ensures.step added);
       capacity = handed.ensures.capacity ∙ push.capacity;
       room = omega (arith, all, pending, left, handed.ensures.len, push.len);
     }

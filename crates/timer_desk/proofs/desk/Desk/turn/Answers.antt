@@ -1,9 +1,9 @@
 use Rattle.std.proofs.Common.{ap, subst, sym, arith, ◌∙◌}
 use Rattle.std.proofs.lemmas.Grind.{flat_map-append, common_steps}
+use Rattle.std.proofs.lemmas.List.{take_all}
 use Rattle.timer_facility.specs.State.{IsSound}
 use Rattle.timer_desk.specs.Desk.{DeskState, ReportHolds}
 use Rattle.timer_desk.specs.Report.{step_in}
-use Rattle.timer_desk.proofs.DeskLemmas.{take_over}
 use Rattle.timer_desk.proofs.Members.{ReportHolds-joined, are_owed}
 use Rattle.timer_desk.proofs.desk.Desk.turn.Goals as goal
 
@@ -25,7 +25,7 @@ returns-clause-ok g c =
     let was = c.loop-step.invariant in
     let sound = subst IsSound (ap (λ (d : DeskState g.row.I.Denot). d.facility) c.self.view_is) c.pending.ensures.sound in record {
       holds = was.holds;
-      steps_are = was.steps ∙ take_over c.loop-step.step-index c.args.steps.now
+      steps_are = was.steps ∙ take_all c.loop-step.step-index c.args.steps.now
           (let end = c.loop-step.auto.step-index-end in let test = c.loop-step-test.false in omega arith);
       owed = are_owed g.I.Inlet.kind c.loop-step.report.items c.args.self.now c.loop-step.self was.holds
           (λ placed k. c.notices_are_owed.ensures c.args.self.now.facility placed k sound);
