@@ -17,13 +17,14 @@ ghost use Rattle.timer_total.specs.TimersState.{with_wheel};
 ghost use Rattle.timer_wheels.specs.HierWheel.{counts_of_advance};
 
 use crate::c_timers::CTimers;
-use crate::calls;
+use crate::calls::{self, from_c_handle, to_c_counts, to_c_expired, to_c_handle};
 use crate::layout::{CHandle, Counts, Expired};
-use crate::status::{NEVER, NO_MEMORY, NOT_OPEN, OK, OPEN, VERSION_NUMBER};
+use crate::status::{
+    CLOCK_END, DUE, NEVER, NO_MEMORY, NOT_OPEN, NOT_PENDING, OK, OPEN, VERSION_NUMBER,
+};
 use crate::wheel_maker::wheel_of;
 use std::alloc::Global;
-use timer_ffi_base::RawBox;
-use timer_total::Timers;
+use timer_total::{AdvanceFault, Timers};
 
 /// The version of the library, as a number that rises with it.
 #[unsafe(no_mangle)]
@@ -53,7 +54,7 @@ pub extern "C" fn timers_new(alloc: Global, t: &mut CTimers, table: u32, first_t
     };
     match Box::new(alloc, Timers::new(wheel, t.last_serial)) {
         Ok(timers) => {
-            t.slot.cell().put(RawBox::park(timers));
+            t.slot.cell().put(timers);
             OK
         }
         Err(_) => NO_MEMORY,
@@ -69,7 +70,7 @@ pub extern "C" fn timers_free(alloc: Global, t: &mut CTimers)
 {
     if let Some(timers) = t.timers() {
         t.last_serial = timers.last_serial();
-        drop(t.slot.cell().take(alloc).unpark());
+        drop(t.slot.cell().take(alloc));
     }
 }
 
@@ -97,9 +98,12 @@ pub extern "C" fn timers_reserve(t: &mut CTimers, most: usize) -> u32
     ensures kept { 0 < result → t.new ≡ t.old }
     ensures only { t.new ≡ with_timers t.old t.new.slot.state }
 {
-    match t.timers() {
-        Some(timers) => calls::reserve(timers, most),
-        None => NOT_OPEN,
+    let Some(timers) = t.timers() else {
+        return NOT_OPEN;
+    };
+    match timers.reserve(most) {
+        Ok(()) => OK,
+        Err(_) => NO_MEMORY,
     }
 }
 
@@ -223,9 +227,15 @@ pub extern "C" fn timers_look(t: &mut CTimers, handle: CHandle, out: &mut Expire
     ensures kept { 0 < result → out.new ≡ out.old }
     ensures same { t.new ≡ t.old }
 {
-    match t.timers() {
-        Some(timers) => calls::look(timers, handle, out),
-        None => NOT_OPEN,
+    let Some(timers) = t.timers() else {
+        return NOT_OPEN;
+    };
+    match timers.look(from_c_handle(handle)) {
+        Some(timer) => {
+            *out = to_c_expired(timer);
+            OK
+        }
+        None => NOT_PENDING,
     }
 }
 
@@ -254,14 +264,18 @@ pub extern "C" fn timers_tick(t: &mut CTimers) -> u32
     ensures kept { 0 < result → t.new ≡ t.old }
     ensures only { t.new ≡ with_timers t.old t.new.slot.state }
 {
-    match t.timers() {
-        Some(timers) => calls::tick(timers),
-        None => NOT_OPEN,
+    let Some(timers) = t.timers() else {
+        return NOT_OPEN;
+    };
+    match timers.tick() {
+        Ok(()) => OK,
+        Err(AdvanceFault::Due) => DUE,
+        Err(AdvanceFault::ClockEnd) => CLOCK_END,
     }
 }
 
-/// Passes at most `most` ticks, stops at the first at which a timer expires, and writes how many were
-/// passed: 0 only if `most` is 0. Then nothing changes, and no reason is looked for.
+/// Passes at most `most` ticks, stops at the first at which a timer expires or at the last tick, and writes how many
+/// were passed: 0 only if `most` is 0. Then nothing changes, and no reason is looked for.
 #[unsafe(no_mangle)]
 pub extern "C" fn timers_advance(t: &mut CTimers, most: u64, passed: &mut u64) -> u32
     ensures advanced { result ≡ OK → IsOpen t.old × IsAdvanced counts_of_advance most passed.new
@@ -271,9 +285,16 @@ pub extern "C" fn timers_advance(t: &mut CTimers, most: u64, passed: &mut u64) -
     ensures kept { 0 < result → (t.new ≡ t.old) × (passed.new ≡ passed.old) }
     ensures only { t.new ≡ with_timers t.old t.new.slot.state }
 {
-    match t.timers() {
-        Some(timers) => calls::advance(timers, most, passed),
-        None => NOT_OPEN,
+    let Some(timers) = t.timers() else {
+        return NOT_OPEN;
+    };
+    match timers.advance(most) {
+        Ok(ticks) => {
+            *passed = ticks;
+            OK
+        }
+        Err(AdvanceFault::Due) => DUE,
+        Err(AdvanceFault::ClockEnd) => CLOCK_END,
     }
 }
 
@@ -288,9 +309,13 @@ pub extern "C" fn timers_advance_to(t: &mut CTimers, tick: u64) -> u32
     ensures kept { 0 < result → t.new ≡ t.old }
     ensures only { t.new ≡ with_timers t.old t.new.slot.state }
 {
-    match t.timers() {
-        Some(timers) => calls::advance_to(timers, tick),
-        None => NOT_OPEN,
+    let Some(timers) = t.timers() else {
+        return NOT_OPEN;
+    };
+    match timers.advance_to(tick) {
+        Ok(_) => OK,
+        Err(AdvanceFault::Due) => DUE,
+        Err(AdvanceFault::ClockEnd) => CLOCK_END,
     }
 }
 
@@ -306,8 +331,14 @@ pub extern "C" fn timers_take(t: &mut CTimers, tick: u64, out: &mut Expired) -> 
     ensures kept { result ≡ false → out.new ≡ out.old }
     ensures only { t.new ≡ with_timers t.old t.new.slot.state }
 {
-    match t.timers() {
-        Some(timers) => calls::take(timers, tick, out),
+    let Some(timers) = t.timers() else {
+        return false;
+    };
+    match timers.take(tick) {
+        Some(timer) => {
+            *out = to_c_expired(timer);
+            true
+        }
         None => false,
     }
 }
@@ -322,8 +353,14 @@ pub extern "C" fn timers_expire(t: &mut CTimers, out: &mut Expired) -> bool
         ≡ with_wheel (after_expiry t.old.slot.state.wheel) t.old.slot.state }
     ensures only { t.new ≡ with_timers t.old t.new.slot.state }
 {
-    match t.timers() {
-        Some(timers) => calls::expire(timers, out),
+    let Some(timers) = t.timers() else {
+        return false;
+    };
+    match timers.expire() {
+        Some(timer) => {
+            *out = to_c_expired(timer);
+            true
+        }
         None => false,
     }
 }
@@ -408,10 +445,13 @@ pub extern "C" fn timers_next(t: &mut CTimers) -> u64
     ensures not_open { IsShut t.old → result ≡ NEVER }
     ensures same { t.new ≡ t.old }
 {
-    match t.timers() {
-        Some(timers) => calls::next(timers),
-        None => NEVER,
+    let Some(timers) = t.timers() else {
+        return NEVER;
+    };
+    if timers.has_due() {
+        return timers.now();
     }
+    timers.next_deadline().unwrap_or(NEVER)
 }
 
 /// The same as `timers_next`. The wheel keeps what it found, so that the next call needs no walk until the first
@@ -422,10 +462,13 @@ pub extern "C" fn timers_find_next(t: &mut CTimers) -> u64
     ensures not_open { IsShut t.old → result ≡ NEVER }
     ensures same { t.new ≡ t.old }
 {
-    match t.timers() {
-        Some(timers) => calls::find_next(timers),
-        None => NEVER,
+    let Some(timers) = t.timers() else {
+        return NEVER;
+    };
+    if timers.has_due() {
+        return timers.now();
     }
+    timers.find_next().unwrap_or(NEVER)
 }
 
 /// Writes the first timer from the cursor's place on, pending or expired and not yet taken, with its handle,
@@ -444,10 +487,20 @@ pub extern "C" fn timers_each(
         → (cursor.new ≡ cursor.old) × (handle.new ≡ handle.old) × (out.new ≡ out.old) }
     ensures same { t.new ≡ t.old }
 {
-    match t.timers() {
-        Some(timers) => calls::each(timers, cursor, handle, out),
-        None => false,
-    }
+    let Some(timers) = t.timers() else {
+        return false;
+    };
+    let Some(found) = timers.wheel().held_from(*cursor) else {
+        return false;
+    };
+    // Under this handle a timer is held, so there is one.
+    let Some(timer) = timers.look(found) else {
+        return false;
+    };
+    *cursor = found.place + 1;
+    *handle = to_c_handle(found);
+    *out = to_c_expired(timer);
+    true
 }
 
 /// Writes what the wheels counted since `timers_new`, and changes nothing. What each call adds to the counts is in
@@ -463,7 +516,7 @@ pub extern "C" fn timers_counts(t: &mut CTimers, counts: &mut Counts) -> u32
 {
     match t.timers() {
         Some(timers) => {
-            *counts = calls::counts(timers);
+            *counts = to_c_counts(timers.wheel());
             OK
         }
         None => NOT_OPEN,

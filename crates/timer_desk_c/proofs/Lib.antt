@@ -1,5 +1,3 @@
-pub mod SmallFacts
-pub mod DeskMakerLemmas
 pub mod RoundLemmas
 pub mod PlacementLemmas
 pub mod ShutdownLemmas

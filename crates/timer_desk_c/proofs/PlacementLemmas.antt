@@ -4,7 +4,6 @@ use Rattle.timer_desk_c.specs.declared.c_structs.CLine.{CLine}
 use Rattle.timer_desk_c.specs.declared.line.Line.{Line}
 use Rattle.timer_desk_c.specs.Frames.{HasLine}
 use Rattle.timer_desk_c.specs.Desks.{AreHeld}
-use Rattle.timer_desk_c.proofs.SmallFacts.{none_below}
 use Rattle.std.proofs.lemmas.List.{length-map, get_or_default}
 use Rattle.std.proofs.Math.ListN.{get_or-map}
 
@@ -31,7 +30,7 @@ value_at all k l b low =
 
 pub all_held : (life : ℕ) (all : List (Box Line Global)) (before : List CLine) (left : List (Box Line Global)) (lines : List CLine)
     → IsPlaced life all before left lines → length left ≡ 0 → AreHeld life (map (λ (x : Box Line Global). x.value) all) lines
-all_held life [] before left lines p e = record { as_many = p.as_many ∙ p.long; each = λ k x l low. absurd (none_below k low) }
+all_held life [] before left lines p e = record { as_many = p.as_many ∙ p.long; each = λ k x l low. absurd (omega arith) }
 all_held life (b ∷ bs) before left lines p e =
     let all = b ∷ bs in
     let long = length-map all (λ (x : Box Line Global). x.value) in record {

@@ -1,7 +1,9 @@
 -- The rounds of the owner, client after client.
-use Rattle.std.proofs.Common.{◌≡◌, ◌≢◌, ◌<◌, ◌≤◌, ◌+◌, ◌++◌, ◌||◌, ◌⊎◌, ℕ, Bool, true, false, List, [], ◌∷◌, length, append-nil, refl, sym, ◌∙◌, ap, subst, inl, inr, arith}
+use Rattle.std.proofs.Common.{◌≡◌, ◌≢◌, ◌<◌, ◌≤◌, ◌+◌, ◌++◌, ◌||◌, ◌⊎◌, ℕ, Bool, true, false, List, [], ◌∷◌, length, append-nil, refl, sym, ◌∙◌, ap, subst, inl, inr, arith, ne_of_lt}
+use borrow.Author.Count.{below_more}
 use Rattle.std.specs.Prelude.{nat_lt, get_or}
 use Rattle.std.specs.List.{list_any, flat_map, enumerate_from}
+use Rattle.std.proofs.Math.Bool.{or-true, or-false}
 use Rattle.std.proofs.lemmas.Grind.{flat_map-append}
 use Rattle.std.proofs.lemmas.List.{get_or_append_left, get_or_push, get_or-set_other, length_push, map_push}
 use Rattle.std.proofs.lemmas.List.Elements.{All-nil, All-push, All-weaker}
@@ -21,7 +23,6 @@ use Rattle.timer_desk_c.specs.DeskSlots.{DeskState}
 use Rattle.timer_desk_c.specs.Desks.{Says}
 use Rattle.timer_desk_c.specs.Rounds.{report_of, did, starved, serves_of, AllDid, IsServedOut, HasServedClient, HasServedFirst, flush_of, IsFlushedOut, HasFlushedFirst}
 use Rattle.timer_desk_c.specs.Dropped.{IsDropped, HasDropped, HasDroppedFirst, waiting_at}
-use Rattle.timer_desk_c.proofs.SmallFacts.{enumerate-push, none_below, below_or_same, less_is_other, more_is_other, or_true, or_false}
 
 -- One more client.
 
@@ -31,7 +32,16 @@ one_more k parts part many = length_push parts part ∙ ap (λ n. n + 1) many
 any_more : {X : Type 0} (p : X → Bool) (parts : List X) (part : X) (a b : Bool) → a ≡ list_any p parts → b ≡ p part
     → a || b ≡ list_any p (parts ++ part ∷ [])
 any_more p parts part a b e f =
-    ap (λ v. v || b) e ∙ ap (λ v. list_any p parts || v) (f ∙ sym (or_false (p part))) ∙ sym (list_any-append p parts (part ∷ []))
+    ap (λ v. v || b) e ∙ ap (λ v. list_any p parts || v) (f ∙ sym (or-false (p part))) ∙ sym (list_any-append p parts (part ∷ []))
+
+-- one more item under the next number
+enumerate-push : {X : Type 0} (n : ℕ) (xs : List X) (x : X)
+    → enumerate_from n (xs ++ x ∷ []) ≡ enumerate_from n xs ++ (n + length xs, x) ∷ []
+enumerate-push {X} n [] x = let e : n ≡ n + 0 = omega arith in ap {B = List (ℕ × X)} (λ k. (k, x) ∷ []) e
+enumerate-push {X} n (y ∷ xs) x =
+    let e : n + 1 + length xs ≡ n + length (y ∷ xs) = omega arith in
+    ap {B = List (ℕ × X)} (λ ps. (n, y) ∷ ps) (enumerate-push (n + 1) xs x
+    ∙ ap {B = List (ℕ × X)} (λ k. enumerate_from (n + 1) xs ++ (k, x) ∷ []) e)
 
 says_more : {X : Type 0} (members : ℕ → X → List Done) (k : ℕ) (parts : List X) (part : X) (x y z : DeskState) → length parts ≡ k
     → Says (report_of members parts) x y → Says (members k part) y z → Says (report_of members (parts ++ part ∷ [])) x z
@@ -84,7 +94,7 @@ serving_more c n busy x y z s f h says = record {
   says = serves_more c f.results s x y z f.says says;
   all_did = All-push (λ s. did s ≡ true) f.results s f.all_did h;
   count = one_more n f.results s f.count;
-  busy_is = sym (or_true busy) ∙ any_more did f.results s busy true f.busy_is (sym h);
+  busy_is = sym (or-true busy) ∙ any_more did f.results s busy true f.busy_is (sym h);
 }
 
 pub serving_ends : (c n most : ℕ) (busy out : Bool) (x y z : DeskState) (s : Served) → IsServing c n busy x y → n < most
@@ -100,7 +110,7 @@ serving_ends c n most busy out x y z s f few h e says = record {
     none_more = h;
     fewer = let count = f.count in omega (arith, count, few);
   });
-  busy_is = sym (or_false busy) ∙ any_more did f.results s busy false f.busy_is (sym h);
+  busy_is = sym (or-false busy) ∙ any_more did f.results s busy false f.busy_is (sym h);
   memory_is = any_more starved f.results s false out (sym (none_starved f.results f.all_did)) e;
 }
 
@@ -163,7 +173,7 @@ flushing_nothing x kept = record {
   counts = [];
   as_many = refl;
   says = ReportHolds-nothing ring_lines x kept;
-  flushed_out = λ c i low. absurd (none_below c low);
+  flushed_out = λ c i low. absurd (omega arith);
   moved_is = refl;
 }
 
@@ -180,10 +190,8 @@ flushing_more k count moved b moved' x y z f says e moved_is g stopped = record 
   counts = f.counts ++ count ∷ [];
   as_many = one_more k f.counts count f.as_many;
   says = says_more flush_of k f.counts count x y z f.as_many f.says says;
-  flushed_out = λ c i below. elim (below_or_same c k below) [
-    | inl under ↦ still IsFlushedOut k c i y z (flush_others k count y z g) (less_is_other c k under) (f.flushed_out c i under)
-    | inr same ↦ subst (λ n. IsFlushedOut (get_or z.inlets n i) (backlog_at z n)) (sym same) (stopped i)
-  ];
+  flushed_out = λ c i. below_more (λ n. IsFlushedOut (get_or z.inlets n i) (backlog_at z n)) k
+      (λ n under. still IsFlushedOut k n i y z (flush_others k count y z g) (ne_of_lt under) (f.flushed_out n i under)) (stopped i) c;
   moved_is = moved_is ∙ any_more (nat_lt 0) f.counts count moved b f.moved_is e;
 }
 
@@ -206,8 +214,8 @@ dropping_nothing x = record {
     same_facility = refl;
     same_clients = refl;
     as_many_backlogs = refl;
-    each = λ c i low. absurd (none_below c low);
-    counted = λ c low. absurd (none_below c low);
+    each = λ c i low. absurd (omega arith);
+    counted = λ c low. absurd (omega arith);
     dropped_is = refl;
   };
   later_inlets = λ c i high. refl;
@@ -218,15 +226,14 @@ counted_more : (k count : ℕ) (counts : List ℕ) (x y z : DeskState) → lengt
     → count + waiting_at z k ≡ waiting_at y k → waiting_at y k ≡ waiting_at x k
     → ((c : ℕ) → c < k → get_or counts c 0 + waiting_at y c ≡ waiting_at x c)
     → (c : ℕ) → c < k + 1 → get_or (counts ++ count ∷ []) c 0 + waiting_at z c ≡ waiting_at x c
-counted_more k count counts x y z many o e was before c below = elim (below_or_same c k below) [
-  | inl under ↦
-      let b = before c under in
-      let n = get_or_append_left counts (count ∷ []) 0 c (omega (arith, many, under)) in
-      let same = ap (λ (d : BacklogState). length d.outbox) (o.backlogs c (less_is_other c k under)) in
-      omega (arith, b, n, same)
-  | inr same ↦ subst (λ n. get_or (counts ++ count ∷ []) n 0 + waiting_at z n ≡ waiting_at x n) (sym same)
-      (let n = get_or_push counts count 0 k many in omega (arith, n, e, was))
-]
+counted_more k count counts x y z many o e was before =
+    below_more (λ n. get_or (counts ++ count ∷ []) n 0 + waiting_at z n ≡ waiting_at x n) k
+    (λ c under.
+    let b = before c under in
+    let n = get_or_append_left counts (count ∷ []) 0 c (omega (arith, many, under)) in
+    let same = ap (λ (d : BacklogState). length d.outbox) (o.backlogs c (ne_of_lt under)) in
+    omega (arith, b, n, same))
+    (let n = get_or_push counts count 0 k many in omega (arith, n, e, was))
 
 pub dropping_more : (k count : ℕ) (dropped b dropped' : Bool) (x y z : DeskState) → IsDropping k dropped x y → HasDropped k y z
     → count + waiting_at z k ≡ waiting_at y k → b ≡ nat_lt 0 count → dropped' ≡ dropped || b → IsDropping (k + 1) dropped' x z
@@ -237,18 +244,16 @@ dropping_more k count dropped b dropped' x y z f g e is dropped_is = let o = dro
     same_facility = g.same_facility ∙ so_far.same_facility;
     same_clients = g.same_clients ∙ so_far.same_clients;
     as_many_backlogs = g.as_many_backlogs ∙ so_far.as_many_backlogs;
-    each = λ c i below. elim (below_or_same c k below) [
-      | inl under ↦ still (λ (j : RingInlet) (d : BacklogState). IsDropped (get_or x.inlets c i) j (backlog_at x c) d) k c i y z o
-          (less_is_other c k under) (so_far.each c i under)
-      | inr same ↦ subst (λ n. IsDropped (get_or x.inlets n i) (get_or z.inlets n i) (backlog_at x n) (backlog_at z n)) (sym same)
-          (subst (λ (j : RingInlet). IsDropped j (get_or z.inlets k i) (backlog_at x k) (backlog_at z k)) (f.later_inlets k i (omega arith))
-          (subst (λ (d : BacklogState). IsDropped (get_or y.inlets k i) (get_or z.inlets k i) d (backlog_at z k))
-          (f.later_backlogs k (omega arith)) (g.at i)))
-    ];
+    each = λ c i. below_more (λ n. IsDropped (get_or x.inlets n i) (get_or z.inlets n i) (backlog_at x n) (backlog_at z n)) k
+        (λ n under. still (λ (j : RingInlet) (d : BacklogState). IsDropped (get_or x.inlets n i) j (backlog_at x n) d) k n i y z o
+        (ne_of_lt under) (so_far.each n i under))
+        (subst (λ (j : RingInlet). IsDropped j (get_or z.inlets k i) (backlog_at x k) (backlog_at z k)) (f.later_inlets k i (omega arith))
+        (subst (λ (d : BacklogState). IsDropped (get_or y.inlets k i) (get_or z.inlets k i) d (backlog_at z k))
+        (f.later_backlogs k (omega arith)) (g.at i))) c;
     counted = counted_more k count so_far.counts x y z so_far.as_many o e
         (ap (λ (d : BacklogState). length d.outbox) (f.later_backlogs k (omega arith))) so_far.counted;
     dropped_is = dropped_is ∙ any_more (nat_lt 0) so_far.counts count dropped b so_far.dropped_is is;
   };
-  later_inlets = λ c i high. o.inlets c i (more_is_other c k high) ∙ f.later_inlets c i (omega (arith, high));
-  later_backlogs = λ c high. o.backlogs c (more_is_other c k high) ∙ f.later_backlogs c (omega (arith, high));
+  later_inlets = λ c i high. o.inlets c i (λ e. absurd (omega arith)) ∙ f.later_inlets c i (omega (arith, high));
+  later_backlogs = λ c high. o.backlogs c (λ e. absurd (omega arith)) ∙ f.later_backlogs c (omega (arith, high));
 }

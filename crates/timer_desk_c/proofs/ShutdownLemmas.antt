@@ -1,12 +1,14 @@
 -- Clients whose words are ended one after the other.
-use Rattle.std.proofs.Common.{◌≡◌, ◌<◌, ◌≤◌, ◌+◌, ◌++◌, ◌==◌, ℕ, List, [], ◌∷◌, length, get_or, refl, sym, ◌∙◌, ap, subst, inl, inr, arith}
+use Rattle.std.proofs.Common.{◌≡◌, ◌<◌, ◌≤◌, ◌+◌, ◌++◌, ◌==◌, ℕ, List, [], ◌∷◌, length, get_or, refl, sym, ◌∙◌, ap, subst, inl, inr, arith, ne_of_lt}
+use borrow.Author.Count.{below_more}
 use Rattle.std.specs.Prelude.{Option, None, slice_set}
+use Rattle.std.proofs.lemmas.Bool.{cases_eq}
 use Rattle.std.proofs.lemmas.List.{get_or-set_same, get_or-set_other, get_or_push, get_or_append_left, length_push, length-set}
 use Rattle.timer_base.specs.Basics.{either}
 use Rattle.timer_facility.specs.State.{FacilityState, pending_of}
 use Rattle.timer_desk.specs.declared.ring.RingInlet.{RingInlet}
 use Rattle.timer_desk.specs.Backlog.{BacklogState, empty_backlog}
-use Rattle.timer_desk.specs.Desk.{clients_of, backlog_at, IsIdle}
+use Rattle.timer_desk.specs.Desk.{clients_of, backlog_at}
 use Rattle.timer_desk.specs.Ring.{line_of_inlet, got_of, given_of}
 use Rattle.timer_desk.specs.Shutdown.{KeepsLines, IsWaiting}
 use Rattle.timer_desk_c.specs.declared.c_structs.CLine.{CLine}
@@ -18,26 +20,18 @@ use Rattle.timer_desk_c.specs.Frames.{with_line, is_own}
 use Rattle.timer_desk_c.specs.Lines.{submitted_on}
 use Rattle.timer_desk_c.specs.Shutdown.{IsLeft, OnlySettles, WhyNotEnded}
 use Rattle.timer_desk_c.specs.ShutdownAll.{IsEndedAt, IsTriedAt, first_left, next_left, AllTried}
-use Rattle.timer_desk_c.proofs.SmallFacts.{none_below, below_or_same, less_is_other, more_is_other, is_equal, is_other}
 
 -- A desk of which more is known.
 
 keeps_nothing : (d : DeskState) → KeepsLines d d
-keeps_nothing d = record {
-  same_clients = refl;
-  same_facility = refl;
-  same_backlogs = refl;
-  same_lines = λ c i low. refl;
-  same_got = λ c i low. refl;
-  same_given = λ c i low. refl;
-}
+keeps_nothing d = grind arith
 
 -- what depends on a client's inlet alone, and is the same for the client that was settled, is the same for each
 same_at : {X : Type 0} (f : RingInlet → X) (k c : ℕ) (i : RingInlet) (y z : DeskState) → OnlySettles k y z
     → f (get_or z.inlets k i) ≡ f (get_or y.inlets k i) → f (get_or z.inlets c i) ≡ f (get_or y.inlets c i)
-same_at f k c i y z s here = elim (either (c == k)) [
-  | inl e ↦ subst (λ n. f (get_or z.inlets n i) ≡ f (get_or y.inlets n i)) (sym (is_equal c k e)) here
-  | inr e ↦ ap f (s.others c i (is_other c k e))
+same_at f k c i y z s here = elim (cases_eq c k) [
+  | inl e ↦ subst (λ n. f (get_or z.inlets n i) ≡ f (get_or y.inlets n i)) (sym e) here
+  | inr e ↦ ap f (s.others c i e)
 ]
 
 keeps_more : (k : ℕ) (d y z : DeskState) → KeepsLines d y → OnlySettles k y z → KeepsLines d z
@@ -74,8 +68,8 @@ module _ (lives : ℕ) where
       ended = record {
         client_in_range = low;
         gone = record {
-          idle = subst (λ (bs : List BacklogState). IsIdle (get_or bs c (empty_backlog 0))) was.same_backlogs h.ended.gone.idle;
-          none_pending = subst (λ (s : FacilityState). pending_of s c ≡ 0) was.same_facility h.ended.gone.none_pending;
+          idle = record { outbox_empty = cc; none_held = cc };
+          none_pending = cc;
           all_got = λ i. h.ended.gone.all_got i ∙ was.same_got c i low;
         };
         ended = h.ended.ended;
@@ -129,22 +123,19 @@ module _ (lives : ℕ) where
     as_many = refl;
     statuses = [];
     one_each = refl;
-    each = λ c i x low. absurd (none_below c low);
-    only = λ c x low. absurd (none_below c low);
+    each = λ c i x low. absurd (omega arith);
+    only = λ c x low. absurd (omega arith);
     later = λ c x high. refl;
     later_inlets = λ c i high. refl;
     left_is = refl;
   }
 
   -- what holds of each line below k, and of the new one, holds of each below k + 1
-  up_to : (P : ℕ → CLine → CLine → Type 0) (k c : ℕ) (x line : CLine) (old now : List CLine) → k < length now → c < k + 1
-      → (c < k → P c (get_or old c x) (get_or now c x)) → P k (get_or old k x) line
-      → P c (get_or old c x) (get_or (slice_set now k line) c x)
-  up_to P k c x line old now low below was new = elim (below_or_same c k below) [
-    | inl under ↦ subst (P c (get_or old c x)) (sym (get_or-set_other now k c line x (less_is_other c k under))) (was under)
-    | inr same ↦ subst (λ n. P n (get_or old n x) (get_or (slice_set now k line) n x)) (sym same)
-        (subst (P k (get_or old k x)) (sym (get_or-set_same now k line x low)) new)
-  ]
+  up_to : (P : ℕ → CLine → CLine → Type 0) (k : ℕ) (x line : CLine) (old now : List CLine) → k < length now
+      → ((c : ℕ) → c < k → P c (get_or old c x) (get_or now c x)) → P k (get_or old k x) line
+      → (c : ℕ) → c < k + 1 → P c (get_or old c x) (get_or (slice_set now k line) c x)
+  up_to P k x line old now low was new = below_more (λ n. P n (get_or old n x) (get_or (slice_set now k line) n x)) k
+      (λ c under. rw (get_or-set_other now k c line x (ne_of_lt under)) (was c under)) (rw (get_or-set_same now k line x low) new)
 
   pub ending_more : (k status : ℕ) (left result : Option Left) (d y z : DeskState) (old now : List CLine) (line new : CLine)
       → IsEnding k left d y old now → k < length now → length old ≡ clients_of d
@@ -162,23 +153,18 @@ module _ (lives : ℕ) where
         as_many = length-set now k new ∙ was.as_many;
         statuses = statuses;
         one_each = length_push was.statuses status ∙ ap (λ n. n + 1) was.one_each;
-        each = λ c i x below. up_to (λ n u v. IsTriedAt lives n (get_or statuses n OK) d (get_or d.inlets n i) (get_or z.inlets n i) u v)
-            k c x new old now low below
-            (λ under.
-            subst (λ s. IsTriedAt lives c s d (get_or d.inlets c i) (get_or z.inlets c i) (get_or old c x) (get_or now c x))
-            (sym (get_or_append_left was.statuses (status ∷ []) OK c (let n = was.one_each in omega (arith, n, under))))
-            (subst (λ (j : RingInlet). IsTriedAt lives c (get_or was.statuses c OK) d (get_or d.inlets c i) j (get_or old c x) (get_or now c x))
-            (sym (settles.others c i (less_is_other c k under))) (was.each c i x under)))
-            (subst (λ s. IsTriedAt lives k s d (get_or d.inlets k i) (get_or z.inlets k i) (get_or old k x) new)
-            (sym (get_or_push was.statuses status OK k was.one_each))
-            (subst (λ (j : RingInlet). IsTriedAt lives k status d j (get_or z.inlets k i) (get_or old k x) new)
-            (was.later_inlets k i (omega arith))
-            (tried_before k d y (get_or old k x) new was.keeps client status (get_or y.inlets k i) (get_or z.inlets k i)
-            (subst (λ (u : CLine). IsTriedAt lives k status y (get_or y.inlets k i) (get_or z.inlets k i) u new) (same x) (tried i)))));
-        only = λ c x below. up_to (λ n u v. v ≡ with_line u v.slot.state) k c x new old now low below (was.only c x)
-            (subst (λ v. new ≡ with_line v new.slot.state) (same x) only);
-        later = λ c x high. get_or-set_other now k c new x (more_is_other c k high) ∙ was.later c x (omega (arith, high));
-        later_inlets = λ c i high. settles.others c i (more_is_other c k high) ∙ was.later_inlets c i (omega (arith, high));
+        each = λ c i x. up_to (λ n u v. IsTriedAt lives n (get_or statuses n OK) d (get_or d.inlets n i) (get_or z.inlets n i) u v)
+            k x new old now low
+            (λ c under. rw (
+              get_or_append_left was.statuses (status ∷ []) OK c (let n = was.one_each in omega (arith, n, under)),
+              settles.others c i (ne_of_lt under),
+            ) (was.each c i x under))
+            (rw (get_or_push was.statuses status OK k was.one_each, sym (was.later_inlets k i (omega arith)), sym (same x))
+            (tried_before k d y line new was.keeps client status (get_or y.inlets k i) (get_or z.inlets k i) (tried i))) c;
+        only = λ c x. up_to (λ n u v. v ≡ with_line u v.slot.state) k x new old now low (λ c. was.only c x)
+            (subst (λ v. new ≡ with_line v new.slot.state) (same x) only) c;
+        later = λ c x high. get_or-set_other now k c new x (λ e. absurd (omega arith)) ∙ was.later c x (omega (arith, high));
+        later_inlets = λ c i high. settles.others c i (λ e. absurd (omega arith)) ∙ was.later_inlets c i (omega (arith, high));
         left_is = next ∙ ap (λ o. next_left o k status) was.left_is
             ∙ ap (λ n. next_left (first_left 0 was.statuses) n status) at ∙ sym (first_left-more 0 status was.statuses);
       }

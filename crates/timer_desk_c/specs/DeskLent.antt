@@ -1,17 +1,10 @@
 -- A slot as a cell of any content, and back.
-use denote.RattleType.{RattleType}
 use Rattle.timer_ffi_base.specs.declared.heap_cell.HeapCell.{HeapCell}
 use Rattle.timer_desk_c.specs.DeskSlots.{DeskState}
 use Rattle.timer_desk_c.specs.declared.desk_cell.DeskCell.{DeskCell}
-use Rattle.timer_desk_c.specs.contracts.desk_cell.DeskCell.{the_row}
-use Rattle.timer_desk_c.specs.contracts.c_structs.CDesk as held
 pub use Rattle.timer_desk_c.specs.DeskSlots.{the_desk}
-
-abbrev pub c_desk : RattleType
-c_desk = held.the_row
-
-abbrev pub the_desk_slot : RattleType
-the_desk_slot = the_row
+pub use Rattle.timer_desk_c.specs.contracts.desk_cell.DeskCell.{the_row as the_desk_slot}
+pub use Rattle.timer_desk_c.specs.contracts.c_structs.CDesk.{the_row as c_desk}
 
 abbrev pub as_cell : DeskCell → HeapCell DeskState
 as_cell slot = record { at = slot.at; mark = slot.mark; state = slot.state }

@@ -1,6 +1,6 @@
 -- The owner's desk, before and after a call.
-use Rattle.std.specs.Prelude.{ℕ, ◌≡◌, ◌≢◌, ◌<◌, ◌≤◌, ◌⊎◌, Bool, true, false, List, [], ◌∷◌, length, get_or, map, Ok, Err, Option, Some, None, Result, IfOk}
-use Rattle.timer_base.specs.Pending.{Entry}
+use Rattle.std.specs.Prelude.{ℕ, ◌≡◌, ◌≢◌, ◌<◌, ◌≤◌, ◌⊎◌, Bool, true, false, List, [], ◌∷◌, length, get_or, Ok, Err, Some, None, Result, IfOk}
+use Rattle.std.specs.List.{AllZip}
 use Rattle.timer_base.specs.WakeUps.{IsWakeUp, next_deadline}
 use Rattle.timer_wheels.specs.Tables.{slots_of_table, last_of_table, radices_by_slots}
 use Rattle.timer_wheels.specs.declared.table.Table.{Table}
@@ -22,7 +22,7 @@ use Rattle.timer_desk.specs.declared.report.Done.TheVariants as Dones
 use Rattle.timer_desk.specs.declared.ring.RingInlet.{RingInlet}
 use Rattle.timer_desk.specs.Ring.{line_of_inlet, got_of, given_of, is_settled, free_of_inlet, ring_lines}
 use Rattle.timer_desk.specs.Settlement.{HasSettled}
-use Rattle.timer_desk.specs.Desk.{opened_desk, clients_of, ReportHolds, LeavesAlone, tick_notices, close_notices}
+use Rattle.timer_desk.specs.Desk.{opened_desk, clients_of, ReportHolds, LeavesAlone, event_report}
 use Rattle.timer_desk_c.specs.declared.layout.DeskConfig.{DeskConfig}
 use Rattle.timer_desk_c.specs.declared.layout.TheConstants.{CONFIG_SIZE}
 use Rattle.timer_desk_c.specs.declared.c_structs.CLine.{CLine}
@@ -66,10 +66,8 @@ pub record IsNewLine (number room : ℕ) (i : RingInlet) (l : Line) : Type 0 whe
   pub free_requests : free_on l ≡ room
 
 -- at each index the two ends of a new line, with room for this many items each way
-pub record AreNewLines (room : ℕ) (inlets : List RingInlet) (ends : List Line) : Type 0 where
-  pub as_many : length ends ≡ length inlets
-  pub each : (k : ℕ) (i : RingInlet) (l : Line) → k < length inlets
-      → IsNewLine 1 room (get_or inlets k i) (get_or ends k l)
+abbrev pub AreNewLines : ℕ → List RingInlet → List Line → Type 0
+AreNewLines room inlets ends = AllZip (IsNewLine 1 room) inlets ends
 
 -- C's line holds this end of a client, in this life of the desk's struct
 pub record IsHeld (life client : ℕ) (end : Line) (line : CLine) : Type 0 where
@@ -137,7 +135,7 @@ tick_status (Err TickFaults.ClockEnd) = CLOCK_END
 pub record HasTicked (status : ℕ) (old new : DeskState) : Type 0 where
   pub result : Result (Unit {0}) TickFault
   pub status_is : status ≡ tick_status result
-  pub says : Says (Dones.Ticked result ∷ map Dones.Noticed (tick_notices old.facility)) old new
+  pub says : Says (event_report old.facility (Dones.Ticked result)) old new
   pub refused : 0 < status → new ≡ old
 
 abbrev pub close_status : Result ℕ CloseFault → ℕ
@@ -151,7 +149,7 @@ pub record HasClosed (status returned : ℕ) (old new : DeskState) : Type 0 wher
   pub result : Result ℕ CloseFault
   pub status_is : status ≡ close_status result
   pub returned_is : IfOk result (λ count. returned ≡ count)
-  pub says : Says (Dones.Closed result ∷ map Dones.Noticed (close_notices old.facility result)) old new
+  pub says : Says (event_report old.facility (Dones.Closed result)) old new
   pub refused : 0 < status → new ≡ old
   -- it is out of memory only if no room was made
   pub room : status ≡ NO_MEMORY → old.facility.has_room ≡ false
@@ -160,14 +158,10 @@ pub record HasClosed (status returned : ℕ) (old new : DeskState) : Type 0 wher
 abbrev pub with_reserve : DeskState → DeskState
 with_reserve d = record d { facility = with_room d.facility }
 
--- the tick at which the owner wakes up, by this function of a wheel, and before which nothing expires
-abbrev pub IsWokenAt : (ℕ → ℕ → List Entry → Option ℕ) → ℕ → FacilityState → Type 0
-IsWokenAt wake_up tick s = ((tick ≡ NEVER) × (s.pending ≡ []))
-    ⊎ (IsWakeUp tick s.now s.pending × (wake_up s.slots s.now s.pending ≡ Some tick))
-
 -- the first tick at which a timer expires or moves to a lower wheel, and before which nothing expires
 abbrev pub IsNextTick : ℕ → FacilityState → Type 0
-IsNextTick tick s = IsWokenAt (λ slots now pending. next_visit (radices_by_slots slots) now pending) tick s
+IsNextTick tick s = ((tick ≡ NEVER) × (s.pending ≡ []))
+    ⊎ (IsWakeUp tick s.now s.pending × (next_visit (radices_by_slots s.slots) s.now s.pending ≡ Some tick))
 
 -- the first pending deadline
 abbrev pub IsFirstDeadline : ℕ → FacilityState → Type 0

@@ -42,7 +42,3 @@ pub record HasDroppedFirst (many : ℕ) (dropped : Bool) (old new : DeskState) :
       (backlog_at old c) (backlog_at new c)
   pub counted : (c : ℕ) → c < many → get_or counts c 0 + waiting_at new c ≡ waiting_at old c
   pub dropped_is : dropped ≡ list_any (nat_lt 0) counts
-
--- so for each client
-abbrev pub HasDroppedEach : Bool → DeskState → DeskState → Type 0
-HasDroppedEach dropped old = HasDroppedFirst (clients_of old) dropped old

@@ -5,19 +5,10 @@ use Rattle.timer_desk.specs.declared.ring.RingInlet.{RingInlet}
 use Rattle.timer_desk.specs.declared.looks.Found.TheVariants.{Nothing}
 use Rattle.timer_desk.specs.Looks.{MayFind}
 use Rattle.timer_desk.specs.Ring.{found_by_inlet}
-use Rattle.timer_desk.specs.Desk.{clients_of}
-use Rattle.timer_desk.specs.Settlement.{HasLooked}
+pub use Rattle.timer_desk.specs.Settlement.{OnlyLooks}
 use Rattle.timer_desk_c.specs.declared.line.Line.{Line}
 use Rattle.timer_desk_c.specs.DeskSlots.{DeskState}
 use Rattle.timer_desk_c.specs.Lines.{is_ended_line, seen_on}
-
--- nothing changes but what is known of this client's line
-pub record OnlyLooks (client : ℕ) (old new : DeskState) : Type 0 where
-  pub same_clients : clients_of new ≡ clients_of old
-  pub same_facility : new.facility ≡ old.facility
-  pub same_backlogs : new.backlogs ≡ old.backlogs
-  pub others : (k : ℕ) (i : RingInlet) → k ≢ client → get_or new.inlets k i ≡ get_or old.inlets k i
-  pub looked : (i : RingInlet) → HasLooked (get_or old.inlets client i) (get_or new.inlets client i)
 
 -- whether the client was seen to have freed its end: if it was before, it still is
 pub record IsSeenFreed (freed : Bool) (client : ℕ) (old new : DeskState) : Type 0 where

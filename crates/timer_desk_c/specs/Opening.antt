@@ -1,5 +1,5 @@
 -- The line of a client that is gone, opened again.
-use Rattle.std.specs.Prelude.{ℕ, ◌≡◌, ◌≢◌, ◌<◌, ◌≤◌, ◌⊎◌, get_or}
+use Rattle.std.specs.Prelude.{ℕ, ◌≡◌, ◌≢◌, ◌<◌, ◌≤◌, ◌⊎◌, get_or, slice_set}
 use Rattle.timer_base.specs.declared.limits.TheConstants.{LAST}
 use Rattle.timer_facility.specs.State.{number_of, pending_of}
 use Rattle.timer_desk.specs.declared.ring.RingInlet.{RingInlet}
@@ -39,11 +39,7 @@ pub record HasOpened (client room : ℕ) (old new : DeskState) (line : Line) : T
   pub number_in_range : number_of old.facility client ≤ LAST
   pub inlet : RingInlet
   pub new_line : IsNewLine (number_of old.facility client) room inlet line
-  pub same_clients : clients_of new ≡ clients_of old
-  pub same_facility : new.facility ≡ old.facility
-  pub same_backlogs : new.backlogs ≡ old.backlogs
-  pub others : (k : ℕ) (i : RingInlet) → k ≢ client → get_or new.inlets k i ≡ get_or old.inlets k i
-  pub opened : (i : RingInlet) → get_or new.inlets client i ≡ inlet
+  pub only : new ≡ record between { inlets = slice_set between.inlets client inlet }
 
 -- why no line was opened: the first that holds
 abbrev pub WhyNotOpened : ℕ → ℕ → DeskState → DeskState → ℕ → Type 0

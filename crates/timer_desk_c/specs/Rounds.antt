@@ -12,7 +12,7 @@ use Rattle.timer_desk.specs.Ring.{free_of_inlet}
 use Rattle.timer_desk_c.specs.declared.status.TheConstants.{OK, NO_MEMORY, IDLE}
 use Rattle.timer_desk_c.specs.DeskSlots.{DeskState}
 use Rattle.timer_desk_c.specs.Desks.{Says}
-use Rattle.timer_desk_c.specs.Dropped.{HasDroppedEach}
+use Rattle.timer_desk_c.specs.Dropped.{HasDroppedFirst}
 
 -- the report of a round: for each client, in order, the members of its part
 abbrev pub report_of : {X : Type 0} → (ℕ → X → List Done) → List X → List Done
@@ -98,15 +98,11 @@ pub record HasFlushedFirst (many : ℕ) (moved : Bool) (old new : DeskState) : T
   pub flushed_out : (c : ℕ) (i : RingInlet) → c < many → IsFlushedOut (get_or new.inlets c i) (backlog_at new c)
   pub moved_is : moved ≡ list_any (nat_lt 0) counts
 
--- each client was
-abbrev pub HasFlushedEach : Bool → DeskState → DeskState → Type 0
-HasFlushedEach moved old = HasFlushedFirst (clients_of old) moved old
-
 -- each client was flushed, and the words that its line did not take were dropped if the client is gone
 pub record HasFlushedAll (moved : Bool) (old new : DeskState) : Type 0 where
   pub put : Bool
   pub between : DeskState
-  pub flushed : HasFlushedEach put old between
+  pub flushed : HasFlushedFirst (clients_of old) put old between
   pub dropped : Bool
-  pub rest : HasDroppedEach dropped between new
+  pub rest : HasDroppedFirst (clients_of between) dropped between new
   pub moved_is : moved ≡ put || dropped

@@ -1,12 +1,12 @@
 -- Many ticks of the owner's desk, and the flush of one client.
-use Rattle.std.specs.Prelude.{ℕ, ◌≡◌, ◌<◌, ◌+◌, ◌⊎◌, [], ◌∷◌, Some, Ok, map, get_or}
+use Rattle.std.specs.Prelude.{ℕ, ◌≡◌, ◌<◌, ◌+◌, ◌⊎◌, [], ◌∷◌, Some, Ok, get_or}
 use Rattle.timer_facility.specs.declared.request.TickFault.TheVariants as TickFaults
 use Rattle.timer_facility.specs.State.{FacilityState}
 use Rattle.timer_facility.specs.Verdict.{tick_refusal}
 use Rattle.timer_desk.specs.declared.report.Done.TheVariants as Dones
 use Rattle.timer_desk.specs.declared.ring.RingInlet.{RingInlet}
 use Rattle.timer_desk.specs.Ring.{free_of_inlet, ring_lines}
-use Rattle.timer_desk.specs.Desk.{backlog_at, ticks_notices}
+use Rattle.timer_desk.specs.Desk.{backlog_at, event_report}
 use Rattle.timer_desk.specs.Flush.{Flushes}
 use Rattle.timer_desk_c.specs.declared.status.TheConstants.{CLOSED, CLOCK_END}
 use Rattle.timer_desk_c.specs.DeskSlots.{DeskState}
@@ -17,7 +17,7 @@ use Rattle.timer_desk_c.specs.Dropped.{HasDropped, waiting_at}
 abbrev pub HasAdvanced : ℕ → ℕ → DeskState → DeskState → Type 0
 HasAdvanced most passed old new =
     ((most ≡ 0) × (passed ≡ 0) × (new ≡ old))
-    ⊎ Says (Dones.Passed most (Ok passed) ∷ map Dones.Noticed (ticks_notices old.facility (Ok passed))) old new
+    ⊎ Says (event_report old.facility (Dones.Passed most (Ok passed))) old new
 
 -- why the clock does not advance, if a tick was asked for
 abbrev pub WhyNotAdvanced : ℕ → FacilityState → ℕ → Type 0

@@ -1,7 +1,7 @@
 //! What C holds: `struct timers_desk` and `struct timers_line` of `include/timers_desk.h`.
 ghost use Rattle.std.specs.Prelude.{◌≡◌, None, IfSome};
 ghost use Rattle.std.specs.Borrow.{LendsIf, sem};
-ghost use Rattle.timer_desk_c.specs.Frames.{is_line_of, next_life};
+ghost use Rattle.timer_desk_c.specs.Frames.{is_line_of};
 
 use crate::desk_cell::DeskCell;
 use crate::line::Line;
@@ -64,13 +64,6 @@ pub(crate) fn is_line_of(line_client: u64, line_life: u64, client: usize, lives:
     ensures { result ≡ is_line_of client lives line_client line_life }
 {
     line_client == client as u64 && line_life == lives
-}
-
-/// The life after this one. It differs from the 2^64 - 1 before it.
-pub(crate) fn next_life(lives: u64) -> u64
-    ensures { result ≡ next_life lives }
-{
-    lives.wrapping_add(1)
 }
 
 /// They may be sent to other threads: here the `Send` of the slots is proved.

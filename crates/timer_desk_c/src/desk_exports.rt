@@ -18,23 +18,23 @@ ghost use Rattle.timer_desk_c.specs.Opening.{HasOpened, WhyNotOpened};
 ghost use Rattle.timer_desk_c.specs.Stopping.{HasStopped, WhyNotStopped};
 ghost use Rattle.timer_desk_c.specs.declared.status.TheConstants.{OK, NOT_OPEN, OPEN, NO_CLIENT, NO_MEMORY, LEFT, NEVER};
 
-use crate::c_structs::{CDesk, CLine, is_line_of, next_life};
+use crate::c_structs::{CDesk, CLine, is_line_of};
 use crate::desk_maker::{Made, make};
-use crate::dropping::drop_rest;
 use crate::layout::DeskConfig;
 use crate::line::Line;
 use crate::opening::open;
 use crate::placement::{are_empty, hold, place};
+use crate::rounds;
 use crate::shutdown::end;
 use crate::shutdown_all::end_all;
 use crate::status::{
-    CLOCK_END, CLOSED, NEVER, NO_CLIENT, NO_MEMORY, NOT_FINISHED, NOT_OPEN, OK, OPEN, OTHER_LINE,
+    CLOCK_END, CLOSED, IDLE, NEVER, NO_CLIENT, NO_MEMORY, NO_ROOM, NOT_FINISHED, NOT_OPEN, OK,
+    OPEN, OTHER_LINE,
 };
 use crate::stopping::stop_pending;
-use crate::{calls, rounds};
 use std::alloc::Global;
-use timer_facility::TickFault;
-use timer_ffi_base::RawBox;
+use timer_desk::Served;
+use timer_facility::{CloseFault, TickFault};
 
 /// Makes a desk with a client for each of `lines`, which hold the clients' ends from then on. The struct begins another
 /// life.
@@ -62,8 +62,9 @@ pub extern "C" fn timers_desk_new(
     match make(alloc, lines.len(), *config) {
         Ok(made) => {
             let Made { desk, ends } = made;
-            d.slot.cell().put(RawBox::park(desk));
-            d.lives = next_life(d.lives);
+            d.slot.cell().put(desk);
+            // A life differs from the 2^64 - 1 before it.
+            d.lives = d.lives.wrapping_add(1);
             place(ends, lines, d.lives);
             OK
         }
@@ -80,7 +81,7 @@ pub extern "C" fn timers_desk_free(alloc: Global, d: &mut CDesk)
     ensures kept { IsShut d.old → d.new ≡ d.old }
 {
     if let Some(_) = d.desk() {
-        drop(d.slot.cell().take(alloc).unpark());
+        drop(d.slot.cell().take(alloc));
     }
 }
 
@@ -95,7 +96,12 @@ pub extern "C" fn timers_desk_serve(d: &mut CDesk, client: usize) -> u32
     ensures only { d.new ≡ with_desk d.old d.new.slot.state }
 {
     match d.desk() {
-        Some(desk) if client < desk.clients() => calls::status_of(desk.serve(client)),
+        Some(desk) if client < desk.clients() => match desk.serve(client) {
+            Served::Idle => IDLE,
+            Served::NoRoom => NO_ROOM,
+            Served::NoMemory => NO_MEMORY,
+            Served::Did { .. } => OK,
+        },
         Some(_) => NO_CLIENT,
         None => NOT_OPEN,
     }
@@ -136,14 +142,18 @@ pub extern "C" fn timers_desk_tick(d: &mut CDesk) -> u32
     ensures not_open { IsShut d.old → (result ≡ NOT_OPEN) × (d.new ≡ d.old) }
     ensures only { d.new ≡ with_desk d.old d.new.slot.state }
 {
-    match d.desk() {
-        Some(desk) => calls::tick(desk),
-        None => NOT_OPEN,
+    let Some(desk) = d.desk() else {
+        return NOT_OPEN;
+    };
+    match desk.tick() {
+        Ok(()) => OK,
+        Err(TickFault::Closed) => CLOSED,
+        Err(TickFault::ClockEnd) => CLOCK_END,
     }
 }
 
-/// Passes at most `most` ticks, up to the first at which a timer expires, and writes how many were passed: 0
-/// only if `most` is 0.
+/// Passes at most `most` ticks, up to the first at which a timer expires or to the last tick, and writes how many were
+/// passed: 0 only if `most` is 0.
 #[unsafe(no_mangle)]
 pub extern "C" fn timers_desk_advance(d: &mut CDesk, most: u64, passed: &mut u64) -> u32
     ensures advanced { result ≡ OK → IsOpen d.old × HasAdvanced most passed.new d.old.slot.state
@@ -184,7 +194,7 @@ pub extern "C" fn timers_desk_flush(d: &mut CDesk, client: usize) -> usize
         Some(desk) if client < desk.clients() => {
             let before = desk.outbox_len(client);
             desk.flush(client);
-            drop_rest(desk, client);
+            rounds::drop_rest(desk, client);
             before - desk.outbox_len(client)
         }
         _ => 0,
@@ -200,9 +210,16 @@ pub extern "C" fn timers_desk_close(d: &mut CDesk, returned: &mut u64) -> u32
     ensures kept { 0 < result → returned.new ≡ returned.old }
     ensures only { d.new ≡ with_desk d.old d.new.slot.state }
 {
-    match d.desk() {
-        Some(desk) => calls::close(desk, returned),
-        None => NOT_OPEN,
+    let Some(desk) = d.desk() else {
+        return NOT_OPEN;
+    };
+    match desk.close() {
+        Ok(count) => {
+            *returned = count;
+            OK
+        }
+        Err(CloseFault::Closed) => CLOSED,
+        Err(CloseFault::OutOfMemory) => NO_MEMORY,
     }
 }
 
@@ -241,7 +258,7 @@ pub extern "C" fn timers_desk_wakeup(d: &mut CDesk) -> u64
     ensures same { d.new ≡ d.old }
 {
     match d.desk() {
-        Some(desk) => calls::wakeup(desk),
+        Some(desk) => desk.facility().quiet_until().unwrap_or(NEVER),
         None => NEVER,
     }
 }
@@ -465,10 +482,10 @@ pub extern "C" fn timers_desk_end(
 /// Ends the words of each client, unless something of it is left at the desk. `lines` has the line of each
 /// client, at the client's number.
 ///
-/// Returns `OK` if the words of all have ended. Otherwise it returns the reason of the first client for which
-/// they have not, as `timers_desk_end` does, and writes its number. The others have ended if they could. A
-/// line that was freed is skipped: no client waits for its words. If a struct holds no line, and that of its client
-/// was not freed, the reason is `NOT_FREED`.
+/// Returns `OK` if the words of all have ended. Otherwise, but for `NOT_OPEN` and `OUT_OF_RANGE`, it returns the reason
+/// of the first client for which they have not, as `timers_desk_end` does, and writes its number. The others have ended
+/// if they could. A line that was freed is skipped: no client waits for its words. If a struct holds no line, and that
+/// of its client was not freed, the reason is `NOT_FREED`.
 #[unsafe(no_mangle)]
 pub extern "C" fn timers_desk_end_all(d: &mut CDesk, lines: &mut [CLine], client: &mut usize) -> u32
     requires lines { IsOpen d.old → length lines.old ≡ clients_of d.old.slot.state

@@ -1,10 +1,9 @@
 //! A desk and the lines of its clients.
 ghost use Rattle.std.specs.Prelude.{◌≡◌, ◌<◌, ◌≤◌, map, vec_len, IfOk, IfErr, IfSome};
-ghost use Rattle.timer_facility.specs.Facility.{with_nothing_waiting};
-ghost use Rattle.timer_facility.specs.Opened.{opened};
-ghost use Rattle.timer_wheels.specs.Tables.{last_of_table, slots_of_table};
 ghost use Rattle.timer_wheels.specs.TableNumbers.{IsTableFor};
-ghost use Rattle.timer_desk_c.specs.Desks.{config_of, IsFit, AreNewLines, IsNewDesk, WhyNotMade};
+ghost use Rattle.timer_base.specs.declared.limits.TheConstants.{LAST};
+ghost use Rattle.timer_desk_c.specs.Desks.{config_of, IsFit, IsNewLine, AreNewLines, IsNewDesk, WhyNotMade};
+ghost use Rattle.timer_desk_c.specs.Opening.{IsRoom};
 
 use crate::layout::{CONFIG_SIZE, DeskConfig};
 use crate::line::Line;
@@ -20,6 +19,12 @@ pub const MIN_LINE: usize = 1;
 
 /// The greatest room of a line, each way.
 pub const MAX_LINE: usize = 65536;
+
+/// The owner's end of a new line, and the client's.
+pub(crate) struct NewEnds {
+    pub(crate) inlet: RingInlet,
+    pub(crate) end: Box<Line>,
+}
 
 /// The ends of new lines: the owner's, and at the same index the client's.
 struct NewLines {
@@ -45,13 +50,13 @@ pub(crate) fn make(alloc: Global, clients: usize, config: DeskConfig) -> Result<
     let Some((checked, table)) = checked(clients, config) else {
         return Err(OUT_OF_RANGE);
     };
-    let Ok(facility) = new_facility(alloc, checked, table) else {
+    let Ok(wheel) = HierWheel::with_table(alloc, table, config.first_tick) else {
         return Err(NO_MEMORY);
     };
-    let Ok(lines) = new_lines(alloc, clients, config.line) else {
+    let facility = Facility::open(alloc, checked, wheel);
+    let Ok(NewLines { inlets, ends }) = new_lines(alloc, clients, config.line) else {
         return Err(NO_MEMORY);
     };
-    let NewLines { inlets, ends } = lines;
     let Ok(desk) = Desk::open(alloc, facility, inlets, config.room) else {
         return Err(NO_MEMORY);
     };
@@ -76,7 +81,10 @@ fn checked(clients: usize, config: DeskConfig) -> Option<(Checked, Table)>
     if config.line < MIN_LINE || config.line > MAX_LINE {
         return None;
     }
-    let table = table_of(config)?;
+    let table = Table::with_number(config.table)?;
+    if config.first_tick > table.last_tick() {
+        return None;
+    }
     let numbers = Config {
         clients: clients as u64,
         capacity: config.capacity,
@@ -84,39 +92,8 @@ fn checked(clients: usize, config: DeskConfig) -> Option<(Checked, Table)>
         first_serial: 1,
         first_number: 1,
     };
-    match numbers.check() {
-        Ok(checked) => Some((checked, table)),
-        Err(_) => None,
-    }
-}
-
-/// The wheels' table, if there is one with the configuration's number, and its clock has the first tick.
-fn table_of(config: DeskConfig) -> Option<Table>
-    ensures some { IfSome result (IsTableFor config.table config.first_tick) }
-    ensures none { result ≡ None → (table : _) → IsTableFor config.table config.first_tick table → ⊥ }
-{
-    let table = Table::with_number(config.table)?;
-    if config.first_tick > table.last_tick() {
-        return None;
-    }
-    Some(table)
-}
-
-/// A facility with this configuration, over the clock with this table.
-fn new_facility(
-    alloc: Global,
-    checked: Checked,
-    table: Table,
-) -> Result<Facility<HierWheel>, OutOfMemory>
-    requires { checked.first_serial ≡ 1 }
-    ensures { IfOk result (λ f. f ≡ with_nothing_waiting (opened checked (last_of_table table)
-        (slots_of_table table))) }
-{
-    let config = checked.config();
-    let Ok(wheel) = HierWheel::with_table(alloc, table, config.first_tick) else {
-        return Err(OutOfMemory);
-    };
-    Ok(Facility::open(alloc, checked, wheel))
+    let checked = numbers.check().ok()?;
+    Some((checked, table))
 }
 
 /// Makes a line for each of `clients` clients, each with this room each way.
@@ -125,21 +102,25 @@ fn new_lines(alloc: Global, clients: usize, room: usize) -> Result<NewLines, Out
     ensures lines { IfOk result (λ l. AreNewLines room l.inlets.items (map (λ b. b.value) l.ends.items)) }
     ensures as_many { IfOk result (λ l. (vec_len l.inlets ≡ clients) × (vec_len l.ends ≡ clients)) }
 {
-    let Ok(mut inlets) = Vec::with_capacity(alloc, clients) else {
-        return Err(OutOfMemory);
-    };
-    let Ok(mut ends) = Vec::with_capacity(alloc, clients) else {
-        return Err(OutOfMemory);
-    };
+    let mut inlets = Vec::with_capacity(alloc, clients)?;
+    let mut ends = Vec::with_capacity(alloc, clients)?;
     for _ in 0..clients {
-        let Ok((end, inlet)) = ring_line(alloc, room, 1) else {
-            return Err(OutOfMemory);
-        };
-        let Ok(end) = Box::new(alloc, Line::Open(end)) else {
-            return Err(OutOfMemory);
-        };
+        let NewEnds { inlet, end } = new_ends(alloc, room, 1)?;
         inlets.push_reserved(inlet);
         ends.push_reserved(end);
     }
     Ok(NewLines { inlets, ends })
+}
+
+/// The two ends of a new line, whose first request has this number.
+pub(crate) fn new_ends(alloc: Global, room: usize, number: u64) -> Result<NewEnds, OutOfMemory>
+    requires room { IsRoom room }
+    requires number { number ≤ LAST }
+    ensures { IfOk result (λ ends. IsNewLine number room ends.inlet ends.end.value) }
+{
+    let (end, inlet) = ring_line(alloc, room, number)?;
+    match Box::new(alloc, Line::Open(end)) {
+        Ok(end) => Ok(NewEnds { inlet, end }),
+        Err(_) => Err(OutOfMemory),
+    }
 }

@@ -3,7 +3,7 @@
 
 /// How C refers to a timer: `struct timers_handle`.
 #[repr(C)]
-#[derive(Clone, Copy, Debug, PartialEq, Eq)]
+#[derive(Clone, Copy, Debug, Default, PartialEq, Eq)]
 pub struct CHandle {
     /// Where the wheel keeps the timer: a free choice of the wheel.
     pub place: usize,
@@ -13,7 +13,7 @@ pub struct CHandle {
 
 /// A message to a client: `struct timers_word`. Fields that its kind doesn't use are 0.
 #[repr(C)]
-#[derive(Clone, Copy, Debug, PartialEq, Eq)]
+#[derive(Clone, Copy, Debug, Default, PartialEq, Eq)]
 pub struct Message {
     /// One of the kinds.
     pub kind: u32,

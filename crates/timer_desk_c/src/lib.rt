@@ -6,7 +6,7 @@
 //!
 //!     desk_exports   the owner's calls: each tests whether a desk is held, and passes the call on
 //!     line_exports   a client's calls, the same for its line
-//!     calls, rounds, dropping, stopping, shutdown, shutdown_all, opening
+//!     rounds, stopping, shutdown, shutdown_all, opening
 //!                    what they do to a desk, with C's statuses
 //!     line           a client's end, before and after it has finished
 //!     messages       words as C's struct
@@ -17,11 +17,9 @@
 #![tactic(auto)]
 
 mod c_structs;
-mod calls;
 mod desk_cell;
 mod desk_exports;
 mod desk_maker;
-mod dropping;
 mod layout;
 mod line;
 mod line_cell;

@@ -193,6 +193,6 @@ pub extern "C" fn timers_line_free(alloc: Global, line: &mut CLine)
     ensures kept { HasNoLine line.old → line.new ≡ line.old }
 {
     if let Some(_) = line.line() {
-        drop(line.slot.cell().take(alloc).unpark());
+        drop(line.slot.cell().take(alloc));
     }
 }

@@ -1,6 +1,6 @@
 //! Words to a client as C's struct.
 ghost use Rattle.std.specs.Prelude.{◌≡◌};
-ghost use Rattle.timer_desk_c.specs.Messages.{blank, c_handle, base_handle, reason_of, message_of_answer, message_of_not_taken, message_of_timer, message_of};
+ghost use Rattle.timer_desk_c.specs.Messages.{c_handle, base_handle, reason_of, message_of_answer, message_of_not_taken, message_of_timer, message_of};
 
 use crate::layout::{CHandle, Message};
 use crate::status::{
@@ -33,13 +33,13 @@ fn message_of_answer(number: u64, answer: Answer) -> Message
             number,
             handle: to_c_handle(handle),
             deadline,
-            ..nothing()
+            ..Message::default()
         },
         Answer::Stopped { serial } => Message {
             kind: STOPPED,
             number,
             handle: CHandle { place: 0, serial },
-            ..nothing()
+            ..Message::default()
         },
         Answer::Restarted {
             handle,
@@ -51,13 +51,13 @@ fn message_of_answer(number: u64, answer: Answer) -> Message
             handle: to_c_handle(handle),
             deadline,
             other: old,
-            ..nothing()
+            ..Message::default()
         },
         Answer::Refused(reason) => Message {
             kind: REFUSED,
             reason: number_of(reason),
             number,
-            ..nothing()
+            ..Message::default()
         },
     }
 }
@@ -78,7 +78,7 @@ fn message_of_not_taken(number: u64, reason: NotTaken) -> Message
         reason,
         number,
         other,
-        ..nothing()
+        ..Message::default()
     }
 }
 
@@ -94,7 +94,7 @@ fn message_of_timer(kind: u32, timer: Timer) -> Message
         },
         deadline: timer.deadline,
         action: timer.action,
-        ..nothing()
+        ..Message::default()
     }
 }
 
@@ -127,22 +127,5 @@ pub(crate) fn from_c_handle(handle: CHandle) -> timer_base::Handle
     timer_base::Handle {
         place: handle.place,
         serial: handle.serial,
-    }
-}
-
-fn nothing() -> Message
-    ensures { result ≡ blank }
-{
-    Message {
-        kind: 0,
-        reason: 0,
-        number: 0,
-        handle: CHandle {
-            place: 0,
-            serial: 0,
-        },
-        deadline: 0,
-        action: 0,
-        other: 0,
     }
 }

@@ -2,29 +2,22 @@
 //!
 //! Nothing of the client that is gone is left then: so each request and each word of the new line is the new
 //! client's. The numbers of its requests go on from those of the one that is gone, since the facility counts them.
-ghost use Rattle.std.specs.Prelude.{◌≡◌, ◌<◌, ◌≤◌, ◌≢◌, true, false, get_or, IfOk, IfErr};
+ghost use Rattle.std.specs.Prelude.{◌≡◌, ◌<◌, ◌≤◌, ◌≢◌, ◌⊎◌, true, false, get_or, IfOk, IfErr};
 ghost use Rattle.timer_base.specs.declared.limits.TheConstants.{LAST};
-ghost use Rattle.timer_facility.specs.State.{number_of};
+ghost use Rattle.timer_facility.specs.State.{number_of, pending_of};
 ghost use Rattle.timer_desk.specs.declared.ring.RingInlet.{RingInlet};
 ghost use Rattle.timer_desk.specs.declared.looks.Found.TheVariants as Found;
-ghost use Rattle.timer_desk.specs.Desk.{clients_of};
+ghost use Rattle.timer_desk.specs.Desk.{clients_of, backlog_at, IsIdle};
 ghost use Rattle.timer_desk.specs.Ring.{found_by_inlet};
 ghost use Rattle.timer_desk_c.specs.Freed.{OnlyLooks};
-ghost use Rattle.timer_desk_c.specs.Desks.{IsNewLine};
-ghost use Rattle.timer_desk_c.specs.Opening.{IsClear, IsRoom, HasOpened, WhyNotOpened};
+ghost use Rattle.timer_desk_c.specs.Opening.{IsClear, HasOpened, WhyNotOpened};
 
-use crate::desk_maker::{MAX_LINE, MIN_LINE};
+use crate::desk_maker::{MAX_LINE, MIN_LINE, NewEnds, new_ends};
 use crate::line::Line;
 use crate::status::{LEFT, NO_CLIENT, NO_MEMORY, NOT_FREED, NUMBERS_SPENT, OUT_OF_RANGE};
 use std::alloc::Global;
-use timer_base::{LAST, OutOfMemory, Wheel};
-use timer_desk::{Desk, RingInlet, ring_line};
-
-/// The owner's end of a new line, and the client's.
-struct NewEnds {
-    inlet: RingInlet,
-    end: Box<Line>,
-}
+use timer_base::{LAST, Wheel};
+use timer_desk::{Desk, RingInlet};
 
 /// Opens a new line for a client whose line was freed and of which nothing is left, with room for `room` requests and
 /// as many words, and returns the client's end.
@@ -55,10 +48,9 @@ pub(crate) fn open<W: Wheel + Drop>(
     if number > LAST {
         return Err(NUMBERS_SPENT);
     }
-    let Ok(ends) = new_ends(alloc, room, number) else {
+    let Ok(NewEnds { inlet, end }) = new_ends(alloc, room, number) else {
         return Err(NO_MEMORY);
     };
-    let NewEnds { inlet, end } = ends;
     drop(desk.replace_line(client, inlet));
     Ok(end)
 }
@@ -68,21 +60,6 @@ pub(crate) fn next_number<W: Wheel + Drop>(desk: &Desk<W, RingInlet>, client: us
     ensures { result ≡ number_of desk.now.facility client }
 {
     desk.facility().next_number(client as u64).unwrap_or(0)
-}
-
-/// The two ends of a new line, whose first request has this number.
-fn new_ends(alloc: Global, room: usize, number: u64) -> Result<NewEnds, OutOfMemory>
-    requires room { IsRoom room }
-    requires number { number ≤ LAST }
-    ensures { IfOk result (λ ends. IsNewLine number room ends.inlet ends.end.value) }
-{
-    let Ok((end, inlet)) = ring_line(alloc, room, number) else {
-        return Err(OutOfMemory);
-    };
-    match Box::new(alloc, Line::Open(end)) {
-        Ok(end) => Ok(NewEnds { inlet, end }),
-        Err(_) => Err(OutOfMemory),
-    }
 }
 
 /// Whether something of a client is left at the desk. Only more is known of its line.
@@ -103,16 +80,12 @@ fn is_left<W: Wheel + Drop>(desk: &mut Desk<W, RingInlet>, client: usize) -> boo
 }
 
 /// Whether nothing is held of a client, no word waits for it, and no timer of it is pending.
-fn is_clear<W: Wheel + Drop>(desk: &Desk<W, RingInlet>, client: usize) -> bool
+pub(crate) fn is_clear<W: Wheel + Drop>(desk: &Desk<W, RingInlet>, client: usize) -> bool
     requires { client < clients_of desk.now }
     ensures yes { result ≡ true → IsClear client desk.now }
-    ensures no { result ≡ false → ¬ (IsClear client desk.now) }
+    ensures no { result ≡ false → (¬ (IsIdle (backlog_at desk.now client))) ⊎ (0 < pending_of desk.now.facility client) }
 {
-    if desk.held(client).is_some() {
-        return false;
-    }
-    if desk.outbox_len(client) > 0 {
-        return false;
-    }
-    desk.facility().pending_of(client as u64) == 0
+    desk.held(client).is_none()
+        && desk.outbox_len(client) == 0
+        && desk.facility().pending_of(client as u64) == 0
 }

@@ -5,7 +5,6 @@ ghost use Rattle.timer_desk_c.specs.Frames.{HasNoLine};
 
 use crate::c_structs::CLine;
 use crate::line::Line;
-use timer_ffi_base::RawBox;
 
 /// Whether none of them holds a line.
 pub(crate) fn are_empty(lines: &mut [CLine]) -> bool
@@ -39,7 +38,7 @@ pub(crate) fn hold(line: &mut CLine, end: Box<Line>, client: usize, life: u64)
     requires { HasNoLine line.old }
     ensures { IsHeld life client end.value line.new }
 {
-    line.slot.cell().put(RawBox::park(end));
+    line.slot.cell().put(end);
     line.client = client as u64;
     line.life = life;
 }

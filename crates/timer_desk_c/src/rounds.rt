@@ -1,10 +1,9 @@
 //! Rounds of the owner: each client is served, or each outbox flushed, in the order of the clients.
-ghost use Rattle.std.specs.Prelude.{◌≡◌, ◌<◌, ◌||◌, nat_lt};
+ghost use Rattle.std.specs.Prelude.{◌≡◌, ◌<◌, ◌+◌, ◌||◌, nat_lt};
 ghost use Rattle.timer_desk.specs.Desk.{clients_of};
-ghost use Rattle.timer_desk_c.specs.Rounds.{did, starved, round_status, HasServedClient, HasServedAll, HasFlushedEach, HasFlushedAll};
-ghost use Rattle.timer_desk_c.specs.Dropped.{HasDroppedEach};
+ghost use Rattle.timer_desk_c.specs.Rounds.{did, starved, round_status, HasServedClient, HasServedAll, HasFlushedFirst, HasFlushedAll};
+ghost use Rattle.timer_desk_c.specs.Dropped.{HasDropped, HasDroppedFirst, waiting_at};
 
-use crate::dropping::drop_rest;
 use crate::status::{IDLE, NO_MEMORY, OK};
 use timer_base::Wheel;
 use timer_desk::{Desk, RingInlet, Served};
@@ -66,7 +65,7 @@ pub(crate) fn flush_all<W: Wheel + Drop>(desk: &mut Desk<W, RingInlet>) -> bool
 
 /// Drops the words of each client whose line was freed. Returns whether a word was dropped.
 fn drop_each<W: Wheel + Drop>(desk: &mut Desk<W, RingInlet>) -> bool
-    ensures { HasDroppedEach result desk.old desk.new }
+    ensures { HasDroppedFirst (clients_of desk.old) result desk.old desk.new }
 {
     let mut dropped = false;
     for client in 0..desk.clients() {
@@ -75,9 +74,22 @@ fn drop_each<W: Wheel + Drop>(desk: &mut Desk<W, RingInlet>) -> bool
     dropped
 }
 
+/// Drops the words in a client's outbox if its line was freed, and returns how many. If the outbox is empty, the line
+/// is not examined.
+pub(crate) fn drop_rest<W: Wheel + Drop>(desk: &mut Desk<W, RingInlet>, client: usize) -> usize
+    requires { client < clients_of desk.old }
+    ensures dropped { HasDropped client desk.old desk.new }
+    ensures count { result + waiting_at desk.new client ≡ waiting_at desk.old client }
+{
+    if desk.outbox_len(client) == 0 {
+        return 0;
+    }
+    desk.discard(client)
+}
+
 /// Flushes each client's outbox. Returns whether a word was moved.
 fn flush_each<W: Wheel + Drop>(desk: &mut Desk<W, RingInlet>) -> bool
-    ensures { HasFlushedEach result desk.old desk.new }
+    ensures { HasFlushedFirst (clients_of desk.old) result desk.old desk.new }
 {
     desk.lemma_invariant();
     let mut busy = false;

@@ -8,6 +8,7 @@ ghost use Rattle.timer_desk_c.specs.Shutdown.{IsGone, IsLeft, IsTied, OnlySettle
 ghost use Rattle.timer_desk_c.specs.declared.status.TheConstants.{OK, LEFT};
 
 use crate::line::Line;
+use crate::opening::is_clear;
 use crate::status::{LEFT, NO_CLIENT, NOT_FINISHED, OK, OTHER_LINE};
 use timer_base::Wheel;
 use timer_desk::{Desk, RequestsEnded, RingInlet};
@@ -65,13 +66,7 @@ fn is_left<W: Wheel + Drop>(
     ensures ended { (requests_ring_of ended.new ≡ requests_ring_of ended.old)
         × (all_submitted ended.new ≡ all_submitted ended.old) }
 {
-    if desk.held(client).is_some() {
-        return true;
-    }
-    if desk.outbox_len(client) > 0 {
-        return true;
-    }
-    if desk.facility().pending_of(client as u64) > 0 {
+    if !is_clear(desk, client) {
         return true;
     }
     desk.settle(client, ended) > 0

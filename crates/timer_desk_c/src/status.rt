@@ -51,7 +51,7 @@ pub const LINE_FULL: u32 = 17;
 /// The line has finished.
 pub const FINISHED: u32 = 18;
 
-/// A number of the configuration is out of its range.
+/// A number of the configuration, the room of a line or the number of lines is out of its range.
 pub const OUT_OF_RANGE: u32 = 19;
 
 /// No request was served.

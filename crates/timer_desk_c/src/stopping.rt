@@ -88,8 +88,10 @@ fn stop_own(desk: &mut Desk<HierWheel, RingInlet>, client: usize, handle: Handle
     requires client { client < clients_of desk.old }
     requires gone { (i : RingInlet) → found_by_inlet (get_or desk.old.inlets client i) ≢ Found.Nothing }
     ensures own { timer_named desk.old.facility client (ByHandle handle) ≢ None
-        → desk.new ≡ record desk.old { facility = (stop_step desk.old.facility client handle).state } }
-    ensures other { timer_named desk.old.facility client (ByHandle handle) ≡ None → desk.new ≡ desk.old }
+        → desk.new.facility ≡ (stop_step desk.old.facility client handle).state }
+    ensures other { timer_named desk.old.facility client (ByHandle handle) ≡ None
+        → desk.new.facility ≡ desk.old.facility }
+    ensures only { desk.new ≡ record desk.old { facility = desk.new.facility } }
 {
     if desk.facility().find_named(client as u64, handle).is_some() {
         let _ = desk.stop_for(client, handle);

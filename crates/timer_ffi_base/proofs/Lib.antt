@@ -1,4 +1,3 @@
-pub mod RawBoxParts
 pub mod CellParts
 pub mod Casts
 pub mod Sends

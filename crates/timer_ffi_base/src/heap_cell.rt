@@ -1,13 +1,15 @@
 //! The two machine words by which a struct of C owns a value on the heap.
 //!
-//! Code that touches a raw pointer is here, in `RawBox`, and in the cast by which each struct of C lends its cell. A
-//! cell whose mark is `HELD` owns the value at its address and the right to free its block. One with any other mark
-//! owns nothing, so a struct whose bytes are all 0 is an empty cell. The ghost field is the value's state.
+//! Code that touches a raw pointer is here, and in the cast by which each struct of C lends its cell. A cell whose
+//! mark is `HELD` owns the value at its address and the right to free its block. One with any other mark owns
+//! nothing, so a struct whose bytes are all 0 is an empty cell. The ghost field is the value's state.
+//!
+//! A `Box` can't be a field of a struct that C holds, so `put` takes its address out of it, and `take` makes the box
+//! anew.
 ghost use Rattle.std.specs.Prelude.{◌≡◌, true, false, None, IfSome};
 ghost use Rattle.std.specs.Borrow.{Lends, LendsIf, sem};
 ghost use Rattle.timer_ffi_base.specs.Cells.{is_open};
 
-use crate::raw_box::RawBox;
 use std::alloc::Global;
 use std::marker::Model;
 
@@ -38,32 +40,6 @@ impl<T> HeapCell<T> {
         self.mark == HELD
     }
 
-    /// Keeps it. What the cell owned before would be lost, so it must be empty.
-    pub fn put(&mut self, parked: RawBox<T, Global>)
-        requires { is_open self.old.mark ≡ false }
-        ensures open { self.new.mark ≡ HELD }
-        ensures state { self.new.state ≡ parked.value }
-    {
-        // Ownership of the value moves with its address. The allocator is always the heap.
-        let RawBox { alloc: _, at } = parked;
-        // The cell was empty, so its old address pointed to nothing.
-        self.at = at;
-        // From here on the cell owns what is at that address.
-        self.mark = HELD;
-    }
-
-    /// Gives it back, and is empty.
-    pub fn take(&mut self, alloc: Global) -> RawBox<T, Global>
-        requires { is_open self.old.mark ≡ true }
-        ensures shut { self.new.mark ≡ 0 }
-        ensures state { result.value ≡ self.old.state }
-    {
-        // From here on the cell owns nothing, and the address that stays in it is never followed.
-        self.mark = 0;
-        // The raw box owns what the cell owned.
-        RawBox { alloc, at: self.at }
-    }
-
     ghost use Rattle.timer_ffi_base.specs.Lent.{cell_of, with_state};
 
     /// Lends it. Its state at the end of the loan is the cell's state.
@@ -90,5 +66,34 @@ impl<T> HeapCell<T> {
             return None;
         }
         Some(self.lend())
+    }
+}
+
+impl<T: Drop> HeapCell<T> {
+    /// Keeps it. What the cell owned before would be lost, so it must be empty.
+    pub fn put(&mut self, whole: Box<T, Global>)
+        requires { is_open self.old.mark ≡ false }
+        ensures open { self.new.mark ≡ HELD }
+        ensures state { self.new.state ≡ whole.value }
+    {
+        // Nothing owns the value until the cell does. The allocator is always the heap.
+        let at = Box::into_raw(whole);
+        // The cell was empty, so its old address pointed to nothing.
+        self.at = at;
+        // From here on the cell owns what is at that address.
+        self.mark = HELD;
+    }
+
+    /// Gives it back, and is empty.
+    pub fn take(&mut self, alloc: Global) -> Box<T, Global>
+        requires { is_open self.old.mark ≡ true }
+        ensures shut { self.new.mark ≡ 0 }
+        ensures state { result.value ≡ self.old.state }
+    {
+        // From here on the cell owns nothing, and the address that stays in it is never followed.
+        self.mark = 0;
+        let at = self.at;
+        // The value and the right to free its block are at that address, and go into the box.
+        unsafe { Box::from_raw(alloc, at) }
     }
 }

@@ -1,4 +1,4 @@
-use Rattle.std.proofs.Common.{◌≡◌, inr, sym}
+use Rattle.std.proofs.Common.{inr, sym}
 use Rattle.timer_base.specs.TickLaws.{not_due}
 use Rattle.timer_c.proofs.calls.wakeup.Goals as goal
 

@@ -1,51 +1,35 @@
-use Rattle.std.proofs.Common.{◌∙◌, ◌++◌, [], ◌∷◌, map, ap, sym, arith, refl, subst, Box, Global}
-use Rattle.std.specs.Prelude.{Some}
-use Rattle.timer_desk.specs.Ring.{Ring}
+use Rattle.std.proofs.Common.{ℕ, List, ◌∙◌, ◌++◌, [], ◌∷◌, map, ap, refl, arith, Box, Global}
+use Rattle.timer_desk.specs.declared.ring.RingInlet.{RingInlet}
 use Rattle.timer_desk_c.specs.declared.line.Line.{Line}
 use Rattle.std.proofs.lemmas.Grind.{common_steps}
 use Rattle.std.proofs.lemmas.List.{map-append}
-use Rattle.timer_desk_c.specs.Desks.{AreNewLines}
-use Rattle.timer_desk_c.specs.declared.line.Line.TheVariants.{Open}
-use Rattle.timer_desk_c.proofs.DeskMakerLemmas.{no_lines, one_more}
+use Rattle.timer_desk_c.specs.Desks.{AreNewLines, IsNewLine}
 use Rattle.timer_desk_c.proofs.desk_maker.new_lines.Goals as goal
+
+one_more : (room : ℕ) (inlets : List RingInlet) (ends : List Line) (i : RingInlet) (l : Line)
+    → AreNewLines room inlets ends → IsNewLine 1 room i l → AreNewLines room (inlets ++ i ∷ []) (ends ++ l ∷ [])
+one_more room [] [] i l was one = (one, tt)
+one_more room [] (y ∷ ys) i l was one = absurd was
+one_more room (x ∷ xs) [] i l was one = absurd was
+one_more room (x ∷ xs) (y ∷ ys) i l was one = (was.0, one_more room xs ys i l was.1 one)
 
 pub loop-init : goal.loop-init
 loop-init c = record {
-  lines = rw (c.in-Ok.ensures.items, c.in-Ok-with_capacity.ensures.items) (no_lines c.args.room);
-  inlets = c.in-Ok.ensures.len;
-  ends = c.in-Ok-with_capacity.ensures.len;
+  lines = rw (c.in_ok-inlets.ensures.items, c.in_ok-ends.ensures.items) tt;
+  inlets = c.in_ok-inlets.ensures.len;
+  ends = c.in_ok-ends.ensures.len;
   inlets_room = refl;
   ends_room = refl;
 }
 
 pub loop-preserved : goal.loop-preserved
 loop-preserved c =
-    let was = c.loop.invariant in
-    let made = c.in-Ok-ring_line.ensures in
-    let i = c.in-Ok-ring_line.inlet in
-    let e = c.in-Ok-ring_line.end in
-    let room = c.args.room in
+    let new = c.in_ok-inlet.field-0 in
     let ends = map (λ (b : Box Line Global). b.value) c.loop.ends.items in
-    let more = one_more room c.loop.inlets.items ends i (Open e) was.lines
-    (record {
-      requests_ring = ap (λ (l : Ring × Ring). Some l.0) made.line;
-      words_ring = ap (λ (l : Ring × Ring). Some l.1) made.line;
-      got = made.inlet.0;
-      given = made.inlet.1;
-      unsettled = made.inlet.2;
-      free_words = made.room.1;
-      open_yet = refl;
-      submitted = made.end.0;
-      received = made.end.1;
-      next = made.end.2;
-      free_requests = made.room.0;
-    }) in
+    let more = one_more c.args.room c.loop.inlets.items ends new.inlet new.end.value c.loop.invariant.lines c.in_ok-inlet.ensures in
     let now = ap (map (λ (b : Box Line Global). b.value)) c.push_reserved-in-loop.ensures.items
-    ∙ map-append (λ (b : Box Line Global). b.value) c.loop.ends.items (c.in-Ok-new.end ∷ [])
-    ∙ ap (λ (l : Line). ends ++ l ∷ []) c.in-Ok-new.ensures.ok in record {
-      lines = subst (λ is. AreNewLines room is (map (λ (b : Box Line Global). b.value) c.push_reserved-in-loop.new.self.items))
-          (sym c.push_reserved.ensures.items)
-          (subst (λ ls. AreNewLines room (c.loop.inlets.items ++ i ∷ []) ls) (sym now) more);
+    ∙ map-append (λ (b : Box Line Global). b.value) c.loop.ends.items (new.end ∷ []) in record {
+      lines = rw (c.push_reserved.ensures.items, now) more;
       inlets = grind (arith, common_steps);
       ends = grind (arith, common_steps);
       inlets_room = grind (arith, common_steps);

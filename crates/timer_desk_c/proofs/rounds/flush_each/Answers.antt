@@ -1,4 +1,4 @@
-use Rattle.std.proofs.Common.{◌∙◌, refl, subst, arith}
+use Rattle.std.proofs.Common.{subst, arith}
 use Rattle.timer_desk_c.specs.Rounds.{HasFlushedFirst}
 use Rattle.timer_desk_c.proofs.RoundLemmas.{ring_stopped, flushing_nothing, flushing_more}
 use Rattle.timer_desk_c.proofs.rounds.flush_each.Goals as goal
@@ -6,7 +6,6 @@ use Rattle.timer_desk_c.proofs.rounds.flush_each.Goals as goal
 pub loop-client-init : goal.loop-client-init
 loop-client-init g c = record {
   done = flushing_nothing c.args.desk.now c.lemma_invariant.ensures.kept;
-  clients = refl;
   all = c.clients-client-end.ensures;
 }
 
@@ -17,7 +16,6 @@ loop-client-preserved g c =
       done = flushing_more k c.flush.result c.loop-client.busy c.is_some.result c.either-busy.result c.args.desk.now c.loop-client.desk
           c.flush.new.self was.done c.flush.ensures.report c.is_some.ensures c.either-busy.ensures c.flush.ensures.flushes
           (λ i. ring_stopped (c.flush.ensures.stopped i));
-      clients = c.flush.ensures.report.same_clients ∙ was.clients;
       all = was.all;
     }
 

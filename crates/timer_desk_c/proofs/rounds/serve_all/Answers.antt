@@ -1,4 +1,4 @@
-use Rattle.std.proofs.Common.{◌∙◌, refl, subst, arith}
+use Rattle.std.proofs.Common.{subst, arith}
 use Rattle.timer_desk_c.specs.Rounds.{HasServedFirst}
 use Rattle.timer_desk_c.proofs.RoundLemmas.{round_nothing, round_more}
 use Rattle.timer_desk_c.proofs.rounds.serve_all.Goals as goal
@@ -6,7 +6,6 @@ use Rattle.timer_desk_c.proofs.rounds.serve_all.Goals as goal
 pub loop-client-init : goal.loop-client-init
 loop-client-init g c = record {
   done = round_nothing c.args.most c.args.desk.now c.lemma_invariant.ensures.kept;
-  clients = refl;
   all = c.clients-client-end.ensures;
 }
 
@@ -18,7 +17,6 @@ loop-client-preserved g c =
       done = round_more c.args.most k c.loop-client.busy c.loop-client.starved c.serve_up_to-round.result.busy
           c.serve_up_to-round.result.starved c.either-busy.result c.either-starved.result c.args.desk.now c.loop-client.desk
           c.serve_up_to-round.new.desk was.done did c.either-busy.ensures c.either-starved.ensures;
-      clients = did.says.same_clients ∙ was.clients;
       all = was.all;
     }
 

@@ -3,10 +3,9 @@ use Rattle.timer_desk.specs.Desk.{clients_of}
 use Rattle.timer_desk_c.specs.Rounds.{HasServedFirst}
 use Rattle.timer_desk_c.proofs.rounds.serve_all.Given as goal
 
--- the clients so far were served, and the clients are the same
+-- the clients so far were served
 abbrev pub invariant-loop-client : goal.invariant-loop-client
 invariant-loop-client g l = record {
   done : HasServedFirst l.fn.most l.client l.busy l.starved l.fn.desk l.desk;
-  clients : clients_of l.desk ≡ clients_of l.fn.desk;
   all : l.client-end ≡ clients_of l.fn.desk;
 }

@@ -1,9 +1,9 @@
-use Rattle.std.proofs.Common.{◌≡◌, ◌∙◌, ℕ, arith, refl, sym, subst}
+use Rattle.std.proofs.Common.{◌≡◌, ◌∙◌, ℕ, arith, sym, subst}
 use Rattle.timer_desk_c.proofs.RoundLemmas.{IsServing, serving_nothing, serving_more, serving_ends, serving_full}
 use Rattle.timer_desk_c.proofs.rounds.serve_up_to.Goals as goal
 
 pub loop-init : goal.loop-init
-loop-init g c = record { serving = serving_nothing c.args.client c.args.desk.now c.lemma_invariant.ensures.kept; clients = refl }
+loop-init g c = record { serving = serving_nothing c.args.client c.args.desk.now c.lemma_invariant.ensures.kept }
 
 pub loop-preserved : goal.loop-preserved
 loop-preserved g c =
@@ -11,7 +11,6 @@ loop-preserved g c =
     let report = c.serve-served.ensures.report in record {
       serving = serving_more c.args.client c.loop.counter c.loop.busy c.args.desk.now c.loop.desk c.serve-served.new.self
           c.serve-served.result was.serving (sym c.is_done.ensures ∙ c.if-not-is_done.false) report;
-      clients = report.same_clients ∙ was.clients;
     }
 
 pub returns-then-not-is_done : goal.returns-then-not-is_done

@@ -1,17 +1,16 @@
-use Rattle.timer_ffi_base.proofs.Loans.{held_in, none_in, unchanged}
+use Rattle.timer_ffi_base.proofs.Loans.{unchanged}
 use Rattle.timer_c.specs.Frames.{with_timers}
 use Rattle.timer_c.specs.Lent.{as_cell}
 use Rattle.timer_c.proofs.c_timers.CTimers.timers.Goals as goal
 
 pub returns : goal.returns
 returns c =
-    let slot = as_cell c.args.self.now.slot in
-    let held = held_in c.get.result c.cell.result.now slot c.cell.ensures.value c.get.ensures.held in (
+    let lent = rw c.cell.ensures.value at c.get.ensures in (
       rw c.cell.ensures.value,
       record {
         writes_back = tt;
-        held = held;
-        same = unchanged c.get.result slot (with_timers c.args.self.now) held;
-        none = none_in c.get.result c.cell.result.now slot c.cell.ensures.value c.get.ensures.none;
+        held = lent.held;
+        same = unchanged c.get.result (as_cell c.args.self.now.slot) (with_timers c.args.self.now) lent.held;
+        none = lent.none;
       },
     )
