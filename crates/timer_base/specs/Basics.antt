@@ -1,4 +1,4 @@
--- Small facts that lemmas of every crate use: of Booleans, options, lists, and of one timer and a tick.
+-- Small facts that lemmas of several crates use: of Booleans, options, lists, and of one timer and a tick.
 use Rattle.std.proofs.Common.{inl, inr, arith, ◌≡◌, ◌≢◌, ◌<◌, ◌≤◌, ◌⊎◌, ℕ, min, Bool, true, false, List, [], ◌∷◌, length, Some, None, refl}
 use Rattle.std.proofs.lemmas.Bool.Decides.{nat_tests}
 use Rattle.timer_base.specs.declared.timer.Timer.{Timer}

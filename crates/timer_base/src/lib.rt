@@ -2,8 +2,8 @@
 //! simplest wheel.
 //!
 //! The layer above knows a wheel by the trait [`Wheel`] alone: its slots and last tick, the present tick, one
-//! list of pending timers by deadline and then serial, those that are due, the last serial, room and counts. Read `wheel`
-//! first, with `specs/WheelState.antt` beside it, and then `plain`, the shortest implementation.
+//! list of pending timers by deadline and then serial, those that are due, the last serial, room and counts. Read
+//! `wheel` first, with `specs/WheelState.antt` beside it, and then `plain`, the shortest implementation.
 //! `laws` has the lemmas that hold for every wheel.
 #![tactic(auto)]
 

@@ -3,7 +3,7 @@
 /// A timer that was started.
 #[derive(Clone, Copy, Debug, PartialEq, Eq)]
 pub struct Timer {
-    /// Its number in the order of starting. No two timers ever share one.
+    /// Its number in the order of starting. No two timers of a wheel ever share one.
     pub serial: u64,
     /// The client that started it.
     pub client: u64,

@@ -27,7 +27,7 @@ impl Sums {
         self.sequence = (self.sequence ^ mixed).wrapping_mul(MIX_C);
     }
 
-    /// A stop found this timer.
+    /// A stop or a restart removed this timer.
     #[inline]
     pub fn add_stopped(&mut self, timer: Timer) {
         self.stopped = self.stopped.wrapping_add(1);

@@ -88,7 +88,7 @@ HasDone (verbs.Serve on_bad true) before bytes old new status =
     HasAnswered on_bad AddsWakeups before bytes old new status
 HasDone (verbs.Show counts moves) before bytes old new status = HasAnswered Stop AddsIndented before bytes old new status
 
--- that was done over the facility of the options, or the options are refused and nothing was read or written
+-- that was done over the facility of the options, or the options are refused and the streams are untouched
 pub record HasEnded {R S F : Type 0} (verb : Verb) (options : RunOptions) (bytes : Bytes R S F)
     (old new : Channels R S F) (status : ℕ) : Type 0 where
   pub in_range : status ≤ 2

@@ -16,8 +16,8 @@ use timer_threads::{Open, ThreadsFault, threads_run};
 /// Idle turns, one after another, before a side gives up.
 const LIMIT: u64 = 10_000_000;
 
-/// Runs as many clients as the options say, writes their text, and returns the exit status. Nothing is
-/// written if a number is out of range or the run fails. Waits for the clients' threads.
+/// Runs as many clients as the options say, writes their text, and returns the exit status. The writer is
+/// untouched if a number is out of range or the run fails. Waits for the clients' threads.
 pub fn run_clients<W: Write, F: Write>(
     rt: &impl Threads,
     alloc: Global,

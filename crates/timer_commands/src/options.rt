@@ -7,10 +7,10 @@ use timer_base::LAST;
 use timer_facility::{Checked, Config, ConfigFault};
 use timer_wheels::{LAST_OF_CLOCK, MAX_SLOTS};
 
-/// How timers are kept. Each scheme gives the same text up to the last tick of its clock.
+/// How timers are kept. A script gives the same text with each scheme if no tick or deadline is past the last one.
 #[derive(Clone, Copy, Debug, PartialEq, Eq)]
 pub enum Scheme {
-    /// One list, which each tick goes through.
+    /// One list; a tick goes through all of it.
     Plain,
     /// Buckets in a ring, one for each remainder of the deadline.
     Hashed,

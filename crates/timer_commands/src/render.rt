@@ -8,7 +8,7 @@
 //! Each line begins with two spaces. A bucket without a timer has none. What is due is not shown: between
 //! two lines of a script nothing is. A wheel that counts its work may show what it counted:
 //!
-//!     hier      starts 3 moves 1 visits 128     timers started, moves to a lower wheel, slots visited
+//!     hier      starts 3 moves 1 visits 128     starts and restarts, moves to a lower wheel, slots visited
 //!
 //! A hierarchy may show which timers moved while ticks passed:
 //!

@@ -43,7 +43,7 @@ impl OfScheme for HierWheel {
 
 /// Does what the verb says over a new wheel of the scheme that the options name, and returns the exit status.
 ///
-/// 2: the options are refused, and nothing is read or written. Nothing is read before the wheel is made.
+/// 2: the options are refused, and the streams are untouched. Nothing is read before the wheel is made.
 pub fn run_verb<R: Read, S: Write, F: Write>(
     alloc: Global,
     verb: Verb,

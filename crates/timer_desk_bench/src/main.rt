@@ -1,5 +1,5 @@
-//! Work of the owner's desk and of ring lines, to be timed as a process: by bench/lines.py, but for `trips`
-//! and `one_way`. Not part of the program.
+//! Work of the owner's desk and of ring lines, to be timed by bench/lines.py, but for `trips` and `one_way`.
+//! Not part of the program.
 //!
 //!     desk CLIENTS ROUNDS       65,536 requests a round, over lines in memory, by turns of a desk
 //!     calls CLIENTS ROUNDS      the same by single calls of the desk

@@ -1,5 +1,5 @@
 //! A line in memory whose client reads its words. Like the ring of a line between threads it has a few slots for
-//! them, which are used again and again: so the words stay in the cache, and none is kept.
+//! them, which are used again and again: so the words stay in the cache, and the last alone are kept.
 use std::alloc::Global;
 use timer_desk::{Inlet, MemoryInlet, Numbered, Put, Taken, Word};
 use timer_facility::NotTaken;

@@ -257,8 +257,8 @@ const ON_TIME: [Said; 2] = [('A', 1, 1), ('E', 1, 1)];
 /// The same if the start was held over a tick.
 const LATE: [Said; 2] = [('A', 1, 2), ('E', 1, 2)];
 
-/// A start that was refused for memory is held over so many ticks, and its deadline is counted from the tick at which it
-/// is accepted. Returns whether it was held.
+/// A start that was refused for memory is held over so many ticks, and its deadline is counted from the tick at which
+/// it is accepted. Returns whether it was held.
 pub fn hold(alloc: Global, ticks: u64) -> Result<bool, Fault> {
     let mut desk = open_in_memory(alloc, &[1], &[])?;
     let is_done = try_serve(&mut desk, 0, By::Call)?;

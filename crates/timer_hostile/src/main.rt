@@ -6,8 +6,8 @@
 //!
 //! A scenario makes a call that may run out of memory a second time if the first was refused, and carries on. It
 //! ends in the same way whichever allocation is refused: tools/refused_growths plays it with the first one refused,
-//! then with the second, and so on to the last. The exit status is 1 if an allocation of the scenario's own was refused,
-//! and 2 if a call did something else.
+//! then with the second, and so on to the last. The exit status is 1 if an allocation of the scenario's own was
+//! refused, and 2 if a call did something else.
 #![tactic(auto)]
 
 mod desks;

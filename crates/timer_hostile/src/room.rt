@@ -1,5 +1,5 @@
 //! Each call of a wheel that doesn't allocate, behind total calls. `tools/refused_growths` counts the allocations of
-//! the scenario: they are those of its starts alone.
+//! the scenario: they are those of its making, its starts and its list.
 use crate::fault::{Fault, same, see};
 use timer_base::{Handle, Wheel};
 use timer_total::Timers;
@@ -16,7 +16,7 @@ fn made<F: Drop>(started: Result<Handle, F>) -> Result<Handle, Fault> {
     }
 }
 
-/// Goes on only if this call names no timer.
+/// Goes on only if this handle names no timer.
 fn see_gone<W: Wheel + Drop>(timers: &mut Timers<W>, handle: Handle) -> Result<(), Fault> {
     same(timers.look(handle), None, "a look at a timer that is gone")?;
     same(timers.stop(handle), None, "a stop of a timer that is gone")

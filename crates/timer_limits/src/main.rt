@@ -1,4 +1,5 @@
-//! Takes wheels, lists, facilities and players to the most that they promise to hold, with memory enough: nothing may be refused.
+//! Takes wheels, lists, facilities and players to as many timers as a facility holds, with memory enough: nothing may
+//! be refused.
 //!
 //!     timer_limits            takes all of them to their limits, and prints the name of each
 //!     timer_limits NAME       the one with this name

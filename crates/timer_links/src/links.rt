@@ -50,8 +50,8 @@ pub struct RemovedNode {
 #[derive(Drop)]
 pub struct Links {
     nodes: Slab<Node>,
-    // The links of the roots, and of the keys that were ever in use. Room is capacity alone, so that
-    // `used_from` does not walk along it.
+    // The links of the roots, of the keys that were ever in use, and of up to 63 more. Room is capacity alone, so
+    // that `used_from` does not walk along it.
     neighbours: Vec<Neighbours>,
     lists: usize,
     // For how many nodes `reserve` made room. It stays when the nodes grow beyond it.
@@ -235,9 +235,9 @@ impl Links {
     /// Adds a node at the back of a list, and returns its key, which was not in use.
     ///
     /// On an error nothing changes, and the node is handed back. The error is out of memory: an
-    /// allocation failed, or the number of lists plus the key would be 4,294,967,296, which is more
-    /// than a link of 32 bits can name. There is none while fewer nodes are here than `reserve` made room
-    /// for. Which unused key the node gets is a free choice.
+    /// allocation failed, or the lists and the keys (once room was made, all that memory is for) would be
+    /// more than the 4,294,967,296 that a link of 32 bits can name. There is none while fewer nodes are here than
+    /// `reserve` made room for. Which unused key the node gets is a free choice.
     // Inlined, but for the growth: a key that comes back through memory costs a start up to a half.
     #[inline(always)]
     pub fn push_back(&mut self, list: usize, node: Node) -> Result<usize, (Node, OutOfMemory)>

@@ -74,7 +74,7 @@ fn playing_command<'a>(
         .value_name("SCHEME")
         .value_parser(SCHEME_NAMES.as_slice())
         .default_value("hier")
-        .help("How timers are kept; each scheme gives the same text up to its last tick");
+        .help("How timers are kept");
     let slots = "The buckets of `hashed`, 1 to 65536; the other schemes do not use it";
     let clients = "The number of clients, 1 to 64; they are numbered from 0";
     let capacity = "The most timers that may be pending at a time, 1 to 1048576";

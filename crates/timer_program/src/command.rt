@@ -16,12 +16,12 @@ use timer_script::{ScriptFault, Streams, Watched, write_text};
 
 /// Runs the program on the arguments after its name, and returns its exit status.
 ///
-/// 0: the subcommand reached its end, and its text was written; or help was asked for, and was written.
+/// 0: the subcommand reached its end, and its text was written; or help or the version, as was asked for.
 ///
 /// 1: an error, reported in one line on `faults`. Or a checked script has a bad line, and each is reported on
 /// standard output. Or a stream that is served past bad lines has one, and each is reported on `faults`.
 ///
-/// 2: the arguments are refused, and `faults` gets the reason. Nothing is read or written. Or a script could
+/// 2: the arguments are refused, and `faults` gets the reason. The streams are untouched. Or a script could
 /// not be checked, which is reported in one line on `faults`.
 ///
 /// An error in writing to `faults` is ignored. Neither the reader nor the writer may have failed before.

@@ -9,8 +9,8 @@ pub static VERSION: &str = "1.0.0";
 pub static ABOUT: &str =
     "Plays a script of timers: clients start, restart and stop them, and ticks let them expire";
 
-/// How the program is called, in the help and below each refusal. It opens no file, so a refused file name is
-/// followed by the way to read one.
+/// How the program is called, in the help and below the refusal of an unknown argument. It opens no file, so a refused
+/// file name is followed by the way to read one.
 pub static USAGE: &str = "timers < FILE\n       timers COMMAND [OPTIONS] < FILE";
 
 pub static PLAY_USAGE: &str = "timers play [OPTIONS] < FILE";
@@ -58,7 +58,7 @@ if the arguments are refused. `timers serve` answers each line as it comes inste
 /// The text below the help of `play`.
 pub static SCHEMES: &str = "\
 Schemes:
-  plain   one list of timers, which each tick goes through
+  plain   one list of timers; a tick goes through all of it
   hashed  a ring of buckets: a timer is in bucket (deadline modulo SLOTS)
   hier    ten wheels of 64 slots: a timer moves down as its deadline comes near
   clock   the same with wheels of 60 seconds, 60 minutes, 24 hours and 100 days; its

@@ -75,8 +75,8 @@ IsAfterZero bytes at = IsBefore 48 bytes at × IsBefore 32 bytes (at - 1)
 abbrev pub LeavesRange : List ℕ → ℕ → Type 0
 LeavesRange bytes at = IsDigitAt bytes at × IsAfterSpace bytes at × ¬ (IsAfterZero bytes at)
 
--- what is at this place for each reason: in a line, whose line feed is its last byte, one reason alone, but that the two
--- ranges are told apart by the field
+-- what is at this place for each reason: in a line, whose line feed is its last byte, one reason alone, but that the
+-- two ranges are told apart by the field
 abbrev pub IsReasonAt : LineReason → List ℕ → ℕ → Type 0
 IsReasonAt reasons.NoLineEnd bytes at = at ≡ length bytes
 IsReasonAt reasons.EmptyLine bytes at = (at ≡ 0) × IsAt 10 bytes at

@@ -13,7 +13,7 @@ use timer_facility::Facility;
 /// The text that answers a script.
 ///
 /// Fails, in this order, with `TooLong` if the script has more than `MAX_BYTES` bytes, and with
-/// `Bad`, which names the first bad line. Nothing may be pending in the facility or wait in it.
+/// `Bad`, which names the first bad line; or out of memory. Nothing may be pending in the facility or wait in it.
 pub fn answer_of<W: Wheel + Drop>(
     alloc: Global,
     script: &[u8],

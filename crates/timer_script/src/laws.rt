@@ -11,7 +11,7 @@ ghost use Rattle.timer_script.specs.Service.{Sides, IsPrompt, HasServed, server_
 use std::io::Write;
 use timer_facility::laws::players_give_the_same;
 
-/// The limits that the definitions name, as numbers.
+/// Limits that the definitions name, as numbers.
 pub fn limits()
     ensures greatest_number { LAST ≡ 1152921504606846975 }
     ensures ticks_of_a_line { MAX_TICKS ≡ 1000000 }
@@ -31,7 +31,7 @@ pub fn one_bad_line()
     ensures one { (bytes : List ℕ) (m n : ℕ) → IsBadLine bytes m → IsBadLine bytes n → m ≡ n }
 {}
 
-/// The answer to events is one text, whichever wheel the facility is over: it contains no places.
+/// The answer to events is one text, over each wheel with the same last tick: it contains no places.
 pub fn each_wheel_gives_the_same_text()
     ensures { (s t : FacilityState) (events : List Event) (answer other : List ℕ)
         → bare_state s ≡ bare_state t
@@ -40,8 +40,8 @@ pub fn each_wheel_gives_the_same_text()
     players_give_the_same();
 }
 
-/// The calls of a peer, if they are known, are prompt, however serving ends: before each read every
-/// complete line that came, or every good one if bad ones are reported, was answered, and the answers flushed.
+/// The calls of a peer, if they are known, are prompt, however serving without a decorator ends: before each read
+/// every complete line that came, or every good one if bad ones are reported, was answered, and the answers flushed.
 #[tactic(auto, using(crate::proofs::ServiceLemmas::prompt))]
 pub fn served_calls_are_prompt<F: Write>()
     ensures { (on_bad : OnBadLine) (before : FacilityState) (old new : Sides F)

@@ -26,7 +26,7 @@ pub enum LineReason {
     /// The three bytes that some editors put before a text.
     ByteOrderMark,
     Tab,
-    /// A space at the start or the end of the line, or a second one between two fields.
+    /// A space at the start or the end of the line, or after another.
     Space,
     UnknownWord,
     /// The line ends before this field.

@@ -8,8 +8,8 @@
 //!     close                                 the close
 //!
 //! Fields are separated by one space, and a line feed ends the line. A number is at most `LAST` and
-//! has no sign and no leading zero. Each reader returns what it read and the bytes after it, so the
-//! bytes are read once and no line is copied.
+//! has no sign and no leading zero. Each reader returns what it read and the bytes after it, so no line
+//! is copied.
 ghost use Rattle.std.specs.Prelude.{◌≡◌, ◌≤◌, IsTrue, length, take, get_or};
 ghost use Rattle.std.specs.Char.{digit_value};
 ghost use Rattle.std.specs.Int.{from_le_bytes, w32};

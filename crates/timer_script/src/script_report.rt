@@ -74,7 +74,8 @@ fn report_of(alloc: Global, script: &[u8]) -> Result<(Vec<u8>, u64), OutOfMemory
 
 /// Reads a script to its end, and writes one line for each of its bad lines. Returns how many they are.
 ///
-/// After `Write` a prefix of the report was written, after any other error nothing was. Neither the reader nor the writer may have failed before.
+/// After `Write` a prefix of the report was written, after any other error nothing was. Neither side may have failed
+/// before.
 pub fn check<R: Read, S: Write>(
     alloc: Global,
     reader: &mut Watched<R>,

@@ -1,7 +1,7 @@
 //! Serves a peer: each line is answered as soon as it is whole.
 //!
 //! A turn reads once, plays the lines that came, and writes and flushes their answers. So whenever more
-//! is read, each whole line that came has been answered. A decorator may add text after an answer. A cutter
+//! is read, each good line that came whole has been answered. A decorator may add text after an answer. A cutter
 //! makes events of the bytes: a bad line ends the stream, or is reported to a second writer.
 ghost use Rattle.std.specs.Prelude.{◌≡◌, ◌∷◌, [], List, true, false, IfErr, OnErr, OnOk};
 ghost use Rattle.std.specs.Io.KnownBytes.{IsAtEnd};
@@ -172,8 +172,8 @@ fn end_stream<P: Peer, W: Wheel + Drop, D: Decorator<W>, F: Write>(
 /// With `OnBadLine::Stop` a bad line ends it as an error, and nothing is written to `faults`. With `Report`
 /// what is written to the peer is the answer to the good lines alone, and a bad line is reported to `faults` by
 /// its number, counted from 1 over all lines (2^64 - 1 stands for any later one), with a column and a reason that
-/// `check` may give. The reports of one read are written before its answers: no clause says so. An error in reporting is
-/// ignored, and ends the reports.
+/// `check` may give. The reports of one read are written before its answers: no clause says so. An error in reporting
+/// is ignored, and ends the reports.
 ///
 /// The peer may not have failed before, and nothing may be pending in the facility or wait in it.
 pub fn serve<P: Peer, W: Wheel + Drop, D: Decorator<W>, F: Write>(

@@ -101,7 +101,7 @@ fn put_word(word: &[u8], buffer: &mut [u8], end: usize) -> usize
 }
 
 /// Writes a word, numbers, each after a space, and the byte that follows them: from the last to the first into a piece
-/// of memory, which is then copied at once. Inlined, so that it is known how long the word is, and which number is where.
+/// of memory, which is then copied at once. Inlined, so that the word's length and the numbers' places are known.
 #[inline(always)]
 fn push_words(out: &mut Vec<u8>, word: &[u8], all: &[u64], last: u8) -> Result<(), OutOfMemory>
     requires { (length word.now ≤ MAX_WORD) × (length all.now ≤ MAX_NUMBERS) }

@@ -19,7 +19,7 @@ use timer_threads::{Gate, threads_run};
 /// Idle turns, one after another, before a side gives up.
 const LIMIT: u64 = 10_000_000;
 
-/// Lets three of four requests go, by chance.
+/// Lets a request go three times of four that it is asked, by chance.
 #[derive(Drop)]
 struct Chance {
     state: u64,

@@ -79,7 +79,7 @@ impl<W: Wheel + Drop> Timers<W> {
         self.wheel.has_due()
     }
 
-    /// The serial of the last start or restart.
+    /// The serial of the last start or restart, or the one that `new` was given.
     pub fn last_serial(&self) -> u64
         ensures { result ≡ self.now.last_serial }
     {
@@ -380,8 +380,8 @@ impl<W: Wheel + Drop> Timers<W> {
         Ok(())
     }
 
-    /// Passes at most `most` ticks, stops at the first at which a timer expires, and returns how many
-    /// were passed: 0 only if `most` is 0. Then nothing changes, and there is no error.
+    /// Passes at most `most` ticks, stops at the first at which a timer expires or at the clock's last, and returns
+    /// how many were passed: 0 only if `most` is 0. Then nothing changes, and there is no error.
     ///
     /// Stretches in which nothing expires are skipped, as far as the wheel can skip them.
     pub fn advance(&mut self, most: u64) -> Result<u64, AdvanceFault>

@@ -11,8 +11,8 @@ timer_visit [] now deadline = deadline
 timer_visit (r ∷ rs) now deadline = if (now / r) == (deadline / r) then deadline else r * timer_visit rs
     (now / r) (deadline / r)
 
--- the same of a list: now with the list's slot as the digit of its wheel, and zeros below, which is its next visit if it
--- holds a pending timer
+-- the same of a list: now with the list's slot as the digit of its wheel, and zeros below, which is its next visit if
+-- it holds a pending timer
 abbrev pub list_visit : List ℕ → ℕ → ℕ → ℕ
 list_visit [] l now = now
 list_visit (r ∷ rs) l now = if nat_lt l r then r * (now / r) + l else r * list_visit rs (l - r) (now / r)

@@ -4,9 +4,9 @@
 //! leaves (`first`). A slot of the lowest wheel is one tick, which is the deadline of all its timers: nothing is
 //! kept of it. A tick changes that of the bucket that it empties and of the buckets that its timers move to.
 //!
-//! They are kept from the first one on that a walk of `find_next` finds. Until then none is known, and a timer that comes or
-//! leaves pays for no more than to see that: a stop would have to find its bucket. A bucket that is empty as this
-//! begins is known at once, and each of the others once it is walked or emptied.
+//! They are kept from the first one on that a walk of `find_next` finds. Until then none is known, and a timer that
+//! comes or leaves pays for no more than to see that: a stop would have to find its bucket. A bucket that is empty as
+//! this begins is known at once, and each of the others once it is walked or emptied.
 ghost use Rattle.std.specs.Prelude.{◌≡◌, ◌<◌, ◌≤◌, [], ℕ, IfOk, length};
 ghost use Rattle.timer_wheels.specs.declared.table.TheConstants.{MOST_BUCKETS};
 ghost use Rattle.timer_wheels.specs.Digits.{bucket, slots, last_of, lowest_radix};

@@ -39,8 +39,8 @@ pub const MAX_SLOTS: usize = 65536;
 
 /// A table of buckets with a count of rounds (Scheme 6): a clock of 2^60 ticks.
 ///
-/// At about 4.29 billion timers, the most that its links can name, `start` returns out of memory though
-/// no allocation failed.
+/// At about 4.29 billion timers, the most that its links can name (after a `reserve` maybe at half of them),
+/// `start` returns out of memory though no allocation failed.
 #[derive(Drop)]
 pub struct HashedWheel {
     buckets: Buckets,

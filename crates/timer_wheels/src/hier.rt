@@ -96,8 +96,8 @@ impl Counts {
 /// Wheels with the slots of a table, whose timers go to lower wheels as the clock comes near their deadline.
 ///
 /// A timer moves at most nine times in `Table::Wide` and three times in `Table::Clock`, and keeps its
-/// place in the order of starting. At about 4.29 billion timers, the most that its links can name,
-/// `start` returns out of memory though no allocation failed.
+/// place in the order of starting. At about 4.29 billion timers, the most that its links can name (after a
+/// `reserve` maybe at half of them), `start` returns out of memory though no allocation failed.
 #[derive(Drop)]
 pub struct HierWheel {
     wheels: Wheels,
