@@ -15,8 +15,8 @@
 # make bench-next  measures turns of an event loop that asks for its next deadline (bench/build/results)
 # make bench-desk  measures client threads over a desk, over C++ rings and around a mutex (bench/build/results)
 # make ports       libuv, nginx and lwIP on these timers: their tests, traces, memory, instructions (ports/README.md)
-# make docs        makes docs/pages/plays.js and moving.svg from the scripts of examples/ and docs/formats.md, and counts
-#                  lines for docs/proofs.md
+# make docs        makes docs/moving.svg and docs/pages/plays.js from the scripts of examples/ and docs/formats.md, and
+#                  counts lines for docs/proofs.md
 # make clean       removes what make built
 #
 # CC is the C compiler, by default cc: CC=aarch64-linux-gnu-gcc builds for another processor. CPPFLAGS, CFLAGS and LDFLAGS are
@@ -61,10 +61,10 @@ FORCE:
 # The man pages, from docs/formats.md and the headers.
 pages: tools/install/timers.1 tools/install/timers.3 tools/install/timers_desk.3
 
-tools/install/timers.1: docs/formats.md tools/install/man1 tools/install/version tools/install/date
+tools/install/timers.1: docs/formats.md tools/install/man1 tools/install/version CHANGELOG.md
 	tools/install/man1 > $@
 
-tools/install/%.3: include/%.h tools/install/man3 tools/install/version tools/install/date
+tools/install/%.3: include/%.h tools/install/man3 tools/install/version CHANGELOG.md
 	tools/install/man3 $* > $@
 
 run: all

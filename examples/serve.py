@@ -46,7 +46,7 @@ class TimeOuts:
         _, _, _, self.serials[number], _ = self.ask("start", ticks, number)
 
     def stop(self, number):
-        """Whether it was stopped in time. If it fired before, the request is refused as `no-such`."""
+        """Whether it was stopped in time. If it fired before, the request is refused."""
         return self.ask("stop", self.serials.pop(number))[0] == "stopped"
 
     def close(self):

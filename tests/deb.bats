@@ -8,9 +8,8 @@ setup_file() {
     cd "$BATS_TEST_DIRNAME/.." || return
     hide_toolchain
     version=$(cat tools/install/version)
-    packed=$version~$(tr -d - < tools/install/date)
     architecture=$(dpkg --print-architecture)
-    export version packed architecture work=$BATS_FILE_TMPDIR root=$BATS_FILE_TMPDIR/root
+    export version architecture work=$BATS_FILE_TMPDIR root=$BATS_FILE_TMPDIR/root
 }
 
 needs_debian() { needs dpkg-buildpackage dh; }
@@ -25,14 +24,14 @@ needs_root() {
     [ -e "$root/usr/bin/dpkg" ] || skip "no clean root"
 }
 
-# has_its_packages FOLDER ARCHITECTURE: three, and for debuggers the symbols of two
+# has_its_packages FOLDER ARCHITECTURE: three, and for debuggers the symbols of two; those of a candidate have its date
 has_its_packages() {
-    diff <(cd "$1" && ls -- *.deb) - << EOT
-libtimers-dev_$packed-1_$2.deb
-libtimers1-dbgsym_$packed-1_$2.deb
-libtimers1_$packed-1_$2.deb
-timers-dbgsym_$packed-1_$2.deb
-timers_$packed-1_$2.deb
+    diff <(cd "$1" && printf '%s\n' *.deb | sed -E "s/_$version(~[0-9]{8})?-1_/ /") - << EOT
+libtimers-dev $2.deb
+libtimers1-dbgsym $2.deb
+libtimers1 $2.deb
+timers-dbgsym $2.deb
+timers $2.deb
 EOT
 }
 

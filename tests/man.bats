@@ -14,7 +14,7 @@ setup_file() {
 @test "the program and all files have one version" {
     [ "$("$TIMERS" --version < /dev/null)" = "timers $VERSION" ]
     grep -q "^## $VERSION\b" CHANGELOG.md
-    for page in tools/install/*.[13]; do head -n 1 "$page" | grep -q "^\.TH .*\"timers $VERSION\""; done
+    for page in tools/install/*.[13]; do head -n 1 "$page" | grep -qE "^\.TH .* \"[0-9]{4}(-[0-9]{2}){2}\" \"timers $VERSION\""; done
 }
 
 # Lines of a source may be longer than 80 bytes, as elsewhere in this repository.

@@ -1,6 +1,6 @@
 #!/usr/bin/env bats
 # The help and docs/formats.md against each other and against the program, which TIMERS names (by default ./timers); and
-# shell completions. docs/formats.md is timers(1), too (tests/man.bats).
+# shell completions. timers(1) is made of docs/formats.md.
 # shellcheck disable=SC2016,SC2034,SC2046,SC2086
 load helpers
 bats_require_minimum_version 1.5.0
@@ -128,7 +128,7 @@ run_examples() {
 
 # An example has the words of its row, and numbers and a reason in place of the capitals.
 @test "the examples of lines in docs/formats.md have the form of their rows, and those of a script are played" {
-    reasons=$(sed -n '/^### Reasons/,/^## /s/^| `\([a-z-]*\)`.*/\1/p' docs/formats.md | paste -sd '|')'|clock-end'
+    reasons=$(sed -nE '/^### Reasons/,/^## /s/^(\||.*or else as) `([a-z-]*)`.*/\2/p' docs/formats.md | paste -sd '|')
     rows=0
     while IFS=$'\t' read -r row example; do
         rows=$((rows + 1))

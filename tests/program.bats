@@ -3,17 +3,21 @@
 # ./timers). An input is a file: what a call leaves unread is read by `cat` after it.
 bats_require_minimum_version 1.5.0
 
+setup_file() { "$BATS_TEST_DIRNAME/../crates/timer_program/cases/names" > "$BATS_FILE_TMPDIR/names"; }
 setup() {
     TIMERS=$(realpath "${TIMERS:-timers}")
+    EXAMPLES=$BATS_TEST_DIRNAME/../examples
     cd "$BATS_TEST_TMPDIR" || return
 }
 
+# named FILE WANTED: the file has this text, in which names as {NoSuch} stand for words
+named() { cmp "$1" <(sed -f "$BATS_FILE_TMPDIR/names" "$2"); }
 # leaves STATUS ARGUMENTS OUTPUT ERRORS: a call that reads the file has this status and writes these texts
 leaves() {
     local status=0
     # shellcheck disable=SC2086  # words
     "$TIMERS" $2 < input > output 2> errors || status=$?
-    [ "$status" -eq "$1" ] && cmp output <(printf '%b' "$3") && cmp errors <(printf '%b' "$4") && return
+    [ "$status" -eq "$1" ] && named output <(printf '%b' "$3") && named errors <(printf '%b' "$4") && return
     echo "timers $2: status $status"
     return 1
 }
@@ -37,62 +41,47 @@ row() {
         done
     done
 }
+# example NAME OPTIONS: a script of examples/, with the output there
+example() { row "$1" "$2" "$(cat "$EXAMPLES/$1")\\n" "$(cat "$EXAMPLES/$1.stdout")\\n"; }
 clock_row() {
     gives 0 "play --scheme clock $2" "$3" "$(printf %s "${@:4}")"
     gives 0 "serve --scheme clock $2" "$3" "$(printf %s "${@:4}")"
 }
 
 @test "worked examples give their text with each scheme" {
+    for name in one_timer stop_middle numbering close rounds migration rollover moving push_back retransmission; do
+        example $name ''
+    done
+    example clock_face '--first-tick 987870'
     row empty '' '' 'end 0 0\n'
-    row one_timer '' 'start 0 1 1 7\ntick 1\n' 'started 0 1 1 1\nexpired 1 0 1 7\nend 1 0\n'
-    row rollover '' 'start 0 1 4096 1\ntick 4090\nstart 1 1 6 2\ntick 5\nstart 0 2 1 3\ntick 1\n' \
-        'started 0 1 1 4096\nstarted 1 1 2 4096\nstarted 0 2 3 4096\nexpired 4096 0 1 1\nexpired 4096 1 2 2\n' \
-        'expired 4096 0 3 3\nend 4096 0\n'
-    row migration '' 'start 0 1 130 1\ntick 128\nstart 1 1 2 2\ntick 2\n' \
-        'started 0 1 1 130\nstarted 1 1 2 130\nexpired 130 0 1 1\nexpired 130 1 2 2\nend 130 0\n'
-    row rounds '' 'start 0 1 1 11\nstart 0 2 8 12\nstart 0 3 9 13\nstart 0 4 16 14\nstart 0 5 8 15\ntick 16\n' \
-        'started 0 1 1 1\nstarted 0 2 2 8\nstarted 0 3 3 9\nstarted 0 4 4 16\nstarted 0 5 5 8\n' \
-        'expired 1 0 1 11\nexpired 8 0 2 12\nexpired 8 0 5 15\nexpired 9 0 3 13\nexpired 16 0 4 14\n' \
-        'end 16 0\n'
     row two_moves '' 'start 0 1 4161 1\ntick 4161\n' 'started 0 1 1 4161\nexpired 4161 0 1 1\nend 4161 0\n'
     row spread '' 'start 0 1 3661 1\ntick 3600\nstart 1 1 61 2\ntick 61\n' \
         'started 0 1 1 3661\nstarted 1 1 2 3661\nexpired 3661 0 1 1\nexpired 3661 1 2 2\nend 3661 0\n'
-    row clock_face '--first-tick 987870' 'start 0 1 3045 5\ntick 3045\n' \
-        'started 0 1 1 990915\nexpired 990915 0 1 5\nend 990915 0\n'
-    row stop_middle '' 'start 0 1 10 1\nstart 0 2 10 2\nstart 0 3 10 3\nstop 0 4 2\ntick 10\n' \
-        'started 0 1 1 10\nstarted 0 2 2 10\nstarted 0 3 3 10\nstopped 0 4 2\nexpired 10 0 1 1\n' \
-        'expired 10 0 3 3\nend 10 0\n'
     row stop_twice '' 'start 0 1 5 0\nstop 0 2 1\nstop 0 3 1\ntick 5\n' \
-        'started 0 1 1 5\nstopped 0 2 1\nrefused 0 3 no-such\nend 5 0\n'
-    row numbering '' 'start 0 1 5 0\nstart 0 1 5 0\nstart 0 3 5 0\nstart 0 2 5 0\ntick 5\n' \
-        'started 0 1 1 5\nrefused 0 1 repeated\nrefused 0 3 ahead\nstarted 0 2 2 5\nexpired 5 0 1 0\n' \
-        'expired 5 0 2 0\nend 5 0\n'
+        'started 0 1 1 5\nstopped 0 2 1\nrefused 0 3 {NoSuch}\nend 5 0\n'
     row zero_interval '' 'start 0 1 0 9\nstart 0 2 1 9\ntick 1\n' \
-        'refused 0 1 zero-interval\nstarted 0 2 1 1\nexpired 1 0 1 9\nend 1 0\n'
+        'refused 0 1 {ZeroInterval}\nstarted 0 2 1 1\nexpired 1 0 1 9\nend 1 0\n'
     row clock_end '--first-tick 1152921504606846974' 'start 0 1 2 5\nstart 0 2 1 5\ntick 5\n' \
-        'refused 0 1 too-late\nstarted 0 2 1 1152921504606846975\nexpired 1152921504606846975 0 1 5\n' \
-        'tick refused clock-end\nend 1152921504606846975 0\n'
+        'refused 0 1 {TooLate}\nstarted 0 2 1 1152921504606846975\nexpired 1152921504606846975 0 1 5\n' \
+        'tick refused {ClockEnd}\nend 1152921504606846975 0\n'
     row capacity '--capacity 1' 'start 0 1 1 4\nstart 0 2 1 4\ntick 1\nstart 0 3 2 6\n' \
-        'started 0 1 1 1\nrefused 0 2 full\nexpired 1 0 1 4\nstarted 0 3 2 3\nend 1 1\n'
+        'started 0 1 1 1\nrefused 0 2 {Full}\nexpired 1 0 1 4\nstarted 0 3 2 3\nend 1 1\n'
     row other_client '' 'start 0 1 3 7\nstop 1 1 1\ntick 3\n' \
-        'started 0 1 1 3\nrefused 1 1 no-such\nexpired 3 0 1 7\nend 3 0\n'
-    row no_client '' 'start 64 1 5 0\n' 'refused 64 1 no-client\nend 0 0\n'
-    row close '' 'start 0 1 5 1\nstart 1 1 3 2\nstart 0 2 5 3\nclose\nstart 0 3 1 4\ntick 2\nclose\n' \
-        'started 0 1 1 5\nstarted 1 1 2 3\nstarted 0 2 3 5\nclosed 3\nreturned 1 2 3 2\nreturned 0 1 5 1\n' \
-        'returned 0 3 5 3\nrefused 0 3 closed\ntick refused closed\nclose refused closed\nend 0 0\n'
+        'started 0 1 1 3\nrefused 1 1 {NoSuch}\nexpired 3 0 1 7\nend 3 0\n'
+    row no_client '' 'start 64 1 5 0\n' 'refused 64 1 {NoClient}\nend 0 0\n'
     row restart '' 'start 0 1 5 1\ntick 3\nrestart 0 2 1 5 2\ntick 5\n' \
         'started 0 1 1 5\nrestarted 0 2 1 2 8\nexpired 8 0 2 2\nend 8 0\n'
     row restart_order '' 'start 0 1 5 1\nstart 1 1 5 2\nrestart 0 2 1 5 3\ntick 5\n' \
         'started 0 1 1 5\nstarted 1 1 2 5\nrestarted 0 2 1 3 5\nexpired 5 1 2 2\nexpired 5 0 3 3\nend 5 0\n'
     row restart_full '--capacity 1' \
         'start 0 1 5 1\nrestart 0 2 1 2 9\nrestart 0 3 1 2 9\nrestart 0 4 2 0 9\nrestart 1 1 2 2 9\ntick 2\n' \
-        'started 0 1 1 5\nrestarted 0 2 1 2 2\nrefused 0 3 no-such\nrefused 0 4 zero-interval\n' \
-        'refused 1 1 no-such\nexpired 2 0 2 9\nend 2 0\n'
+        'started 0 1 1 5\nrestarted 0 2 1 2 2\nrefused 0 3 {NoSuch}\nrefused 0 4 {ZeroInterval}\n' \
+        'refused 1 1 {NoSuch}\nexpired 2 0 2 9\nend 2 0\n'
 }
 
 @test "worked examples of the clock of days" {
     clock_row clock_too_late '--first-tick 8639990' 'start 0 1 10 1\nstart 0 2 9 2\ntick 20\n' \
-        'refused 0 1 too-late\nstarted 0 2 1 8639999\nexpired 8639999 0 1 2\ntick refused clock-end\n' \
+        'refused 0 1 {TooLate}\nstarted 0 2 1 8639999\nexpired 8639999 0 1 2\ntick refused {ClockEnd}\n' \
         'end 8639999 0\n'
     clock_row clock_day '--first-tick 86399' 'start 0 1 1 1\ntick 1\n' \
         'started 0 1 1 86400\nexpired 86400 0 1 1\nend 86400 0\n'
@@ -141,11 +130,12 @@ clock_row() {
     done
 }
 
-@test "io_faults: a script of 1,048,577 bytes is too long whatever stands in it, with each scheme" {
-    local scheme line
+@test "io_faults: a script of one byte too many is too long whatever stands in it, with each scheme" {
+    local scheme line most
+    most=$(sed -n 's/^- A script has at most \([0-9,]*\) bytes.*/\1/p' "$BATS_TEST_DIRNAME/../docs/formats.md" | tr -d ,)
     for line in 'close' 'x' '' $'\001\377' 'tick 0'; do
-        { yes "$line" || true; } | head -c 1048577 > input
-        for scheme in plain hashed hier clock; do leaves 1 "play --scheme $scheme" "" "too long\n"; done
+        { yes "$line" || true; } | head -c $((most + 1)) > input
+        for scheme in plain hashed hier clock; do leaves 1 "play --scheme $scheme" "" "{TooLong}\n"; done
     done
 }
 
@@ -210,16 +200,16 @@ clock_row() {
 
 @test "each option that is read is used" {
     gives 0 "play" 'start 1 1 11 7\n' 'started 1 1 1 11\nend 0 1\n'
-    gives 0 "play --clients=1" 'start 1 1 11 7\n' 'refused 1 1 no-client\nend 0 0\n'
+    gives 0 "play --clients=1" 'start 1 1 11 7\n' 'refused 1 1 {NoClient}\nend 0 0\n'
     gives 0 "play --clients=2" 'start 1 1 11 7\n' 'started 1 1 1 11\nend 0 1\n'
-    gives 0 "play --capacity=1" 'start 0 1 5 0\nstart 0 2 5 0\n' 'started 0 1 1 5\nrefused 0 2 full\nend 0 1\n'
+    gives 0 "play --capacity=1" 'start 0 1 5 0\nstart 0 2 5 0\n' 'started 0 1 1 5\nrefused 0 2 {Full}\nend 0 1\n'
     gives 0 "play --capacity=2" 'start 0 1 5 0\nstart 0 2 5 0\n' 'started 0 1 1 5\nstarted 0 2 2 5\nend 0 2\n'
     gives 0 "play --first-tick=9" 'tick 1\n' 'end 10 0\n'
     gives 0 "play --first-tick=4 --capacity=1 --clients=2 --slots=8 --scheme=hashed" \
         'start 1 1 5 0\nstart 2 1 5 0\nstart 1 2 5 0\n' \
-        'started 1 1 1 9\nrefused 2 1 no-client\nrefused 1 2 full\nend 4 1\n'
+        'started 1 1 1 9\nrefused 2 1 {NoClient}\nrefused 1 2 {Full}\nend 4 1\n'
     gives 0 "play --slots=65536 --clients=64 --capacity=1048576 --first-tick=1152921504606846975" \
-        'start 63 1 1 0\n' 'refused 63 1 too-late\nend 1152921504606846975 0\n'
+        'start 63 1 1 0\n' 'refused 63 1 {TooLate}\nend 1152921504606846975 0\n'
     gives 0 "serve --wakeups" 'start 0 1 11 7\ntick 11\n' \
         'started 0 1 1 11\nwakeup 11\nexpired 11 0 1 7\nwakeup never\nend 11 0\n'
     gives 0 "show --moves" 'start 0 1 65 7\ntick 65\n' "$(printf %s 'started 0 1 1 65\n  now 0\n  wheel 1 slot 1: 1\n' \
@@ -260,7 +250,7 @@ shown() { gives 0 "show $1" "$2" "$(printf '%s\\n' "${@:3}")"; }
         'started 0 1 1 5' '  now 0' '  pending: 1:5' 'started 0 2 2 3' '  now 0' '  pending: 2:3 1:5' \
         'started 0 3 3 5' '  now 0' '  pending: 2:3 1:5 3:5' 'expired 3 0 2 0' '  now 3' '  pending: 1:5 3:5' \
         'stopped 0 4 1' '  now 3' '  pending: 3:5' 'restarted 0 5 3 4 12' '  now 3' '  pending: 4:12' \
-        'refused 0 6 no-such' '  now 3' '  pending: 4:12' 'stopped 0 7 4' '  now 3' 'end 3 0'
+        'refused 0 6 {NoSuch}' '  now 3' '  pending: 4:12' 'stopped 0 7 4' '  now 3' 'end 3 0'
 }
 
 @test "rounds: each bucket of 8 slots holds its timers with the rounds that are left" {
@@ -335,8 +325,8 @@ shown() { gives 0 "show $1" "$2" "$(printf '%s\\n' "${@:3}")"; }
     shown "--moves --scheme clock --first-tick 8639939" 'start 0 1 59 1\ntick 1\ntick 100\nclose\ntick 9\n' \
         'started 0 1 1 8639998' '  now 8639939' '  minute 59: 1' \
         '  moved at 8639940 from minute 59 to second 58: 1' '  now 8639940' '  second 58: 1' \
-        'expired 8639998 0 1 1' 'tick refused clock-end' '  now 8639999' 'closed 0' '  now 8639999' \
-        'tick refused closed' '  now 8639999' 'end 8639999 0'
+        'expired 8639998 0 1 1' 'tick refused {ClockEnd}' '  now 8639999' 'closed 0' '  now 8639999' \
+        'tick refused {Closed}' '  now 8639999' 'end 8639999 0'
     shown "--moves --scheme hashed --slots 8" 'start 0 1 17 0\ntick 17\n' \
         'started 0 1 1 17' '  now 0' '  slot 1: 1:2' 'expired 17 0 1 0' '  now 17' 'end 17 0'
     shown "--moves --scheme plain" 'start 0 1 1 0\ntick 1\n' \
@@ -345,12 +335,12 @@ shown() { gives 0 "show $1" "$2" "$(printf '%s\\n' "${@:3}")"; }
 }
 
 @test "each subcommand reports a bad line in its way" {
-    local reason='count: out of range 1 to 1000000'
+    local reason='count: {OutOfTicks}'
     gives 1 "serve" 'close\ntick 0\nclose\n' 'closed 0\n' 'bad line 2\n'
     gives 1 "serve --keep-going" 'close\ntick 0\nclose\n' \
-        'closed 0\nclose refused closed\nend 0 0\n' "bad line 2, column 6: $reason\n"
+        'closed 0\nclose refused {Closed}\nend 0 0\n' "bad line 2, column 6: $reason\n"
     gives 1 "serve --wakeups --keep-going" 'close\ntick 0\nclose\n' \
-        'closed 0\nwakeup never\nclose refused closed\nwakeup never\nend 0 0\n' "bad line 2, column 6: $reason\n"
+        'closed 0\nwakeup never\nclose refused {Closed}\nwakeup never\nend 0 0\n' "bad line 2, column 6: $reason\n"
     gives 1 "check" 'close\ntick 0\nclose\n' "line 2, column 6: $reason\n"
 }
 
@@ -409,7 +399,7 @@ help_of() {
         local status=0
         # shellcheck disable=SC2086  # words
         "$TIMERS" $1 > /dev/full 2> errors || status=$?
-        [ "$status" -eq 1 ] && [ "$(cat errors)" = "write failed" ]
+        [ "$status" -eq 1 ] && named errors <(echo "{Write}")
     }
     for words in --help help; do whole "$words" "Plays a script" "of scripts and output."; done
     for words in "play --help" "help play"; do whole "$words" "Plays the script" "have all of it."; done

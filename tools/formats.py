@@ -31,16 +31,25 @@ def cells(start, end=r"^#"):
 def reasons():
     """Why requests and ticks are refused, by their words, without what is in brackets and without which requests."""
     said = {word: re.sub(r" \(.*\)|^.*: ", "", text) for word, text in cells("### Reasons")}
-    return {**said, "clock-end": find(r"`clock-end` if ([^.]*)\.")}
+    return {**said, **dict(re.findall(r"or else as `([^`]+)` if ([^.]*)\.", TEXT))}
 
 
 def fields():
-    """The fields of the lines of a script and of the output, by the words with which they begin."""
+    """The names of the fields of the lines of a script and of the output, by the words with which they begin."""
     lines = rows("## The script, on standard input", r"^###? [BT]") + rows("## The output, on standard output", r"^###")
     said = {}
     for line in lines:
-        said.setdefault(line.split()[0], " · ".join(re.findall(r"[A-Z]+", line)).lower())
+        said.setdefault(line.split()[0], [name.lower() for name in re.findall(r"[A-Z]+", line)])
     return said
+
+
+FIELDS = fields()
+
+
+def parts(line):
+    """The word with which a line begins, and its fields by their names."""
+    word, *values = line.split(" ")
+    return word, dict(zip(FIELDS[word], values))
 
 
 NUMBERS = {
@@ -49,6 +58,7 @@ NUMBERS = {
     "MAX_TICKS": number(r"`out of range 1 to (\d+)`"),
     "MAX_SCRIPT": number(r"A script has at most ([\d,]+) bytes"),
     "MAX_LINE": number(r"at most (\d+) bytes of an incomplete line"),
+    "CHECK_FAILED": number(r"or with (\d) if `check` read its input"),
     "MAX_CLIENTS": number(r"`--clients` \| how many clients there are[^|]*\| 1 to (\d+) \|"),
     "MAX_PENDING": number(r"`--capacity` \|[^|]*\| 1 to (\d+) \|"),
 }
@@ -57,14 +67,24 @@ OPTIONS = find(r"^### `timers play`(.*?)^###")
 DEFAULTS = dict(re.findall(r"^\| `(--[a-z-]+)` \|.*\| `?(\w+)`? \|$", OPTIONS, flags=re.MULTILINE))
 NUMBERS["CAPACITY"] = int(DEFAULTS["--capacity"])
 REASONS_OF_A_LINE = rows(r"### `timers check`[^\n]*")
+# The words of refusals, in the order of the page.
+NAMES = "CLOSED NO_CLIENT REPEATED NUMBERS_SPENT AHEAD ZERO_INTERVAL TOO_LATE SERIALS_SPENT FULL NO_SUCH CLOCK_END"
+REFUSALS = dict(zip(NAMES.split(), reasons(), strict=True))
+# Where `timers show` says that timers are, by the scheme: K is the wheel, and S the slot. A clock has hands.
+PLACES = dict(re.findall(r"^\| `(plain|hashed|hier)` \| `([^:`]+):", TEXT, flags=re.MULTILINE))
+HANDS = re.findall(r"`([a-z]+)", find(r"^\| `clock` \| ([^|]*) \|"))
 
 # The lines on standard error, in the order of the table.
 ERRORS = rows("## Errors, on standard error", r"^The table says")
-TOO_LONG, READ_FAILED, WRITE_FAILED, OUT_OF_MEMORY = (f"{line}\n".encode() for line in ERRORS[1:5])
+OF_ANY = dict(zip(["TOO_LONG", "READ_FAILED", "WRITE_FAILED", "OUT_OF_MEMORY"], ERRORS[1:5]))
+TOO_LONG, READ_FAILED, WRITE_FAILED, OUT_OF_MEMORY = (f"{line}\n".encode() for line in OF_ANY.values())
 
 if __name__ == "__main__":
     for name, value in NUMBERS.items():
         print(f"#define {name} UINT64_C({value})")
-    print(f'#define TOO_LONG "{ERRORS[1]}"')
-    for name, words in [("REASONS_OF_A_LINE", REASONS_OF_A_LINE), ("REFUSALS", reasons())]:
+    for name, words in {"REASONS_OF_A_LINE": REASONS_OF_A_LINE, "CLOCK_HANDS": HANDS}.items():
         print(f"#define {name}", ", ".join(f'"{word}"' for word in words))
+    for scheme, place in PLACES.items():
+        print(f'#define {scheme.upper()}_PLACE "{re.sub("[KS]", "%d", place)}"')
+    for name, text in {**REFUSALS, **OF_ANY}.items():
+        print(f'#define {name} "{text}"')

@@ -174,10 +174,7 @@ class WheelCard {
       if (!live.has(slot)) this.rows.delete(slot);
   }
 
-  slotName(slot) {
-    return this.play.scheme === "plain" ? "pending" :
-                                          this.words.place(keyOf(this.wheel, slot)).replace(/^wheel \d+ /, "");
-  }
+  slotName(slot) { return this.words.place(keyOf(this.wheel, slot)).replace(/^wheel \d+ /, ""); }
 
   went(said, moved, followed) { return make("span", {class: `went ${colour(moved, followed)}`}, said); }
 

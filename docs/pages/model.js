@@ -7,6 +7,12 @@ function placeOf(key) { return {wheel: Math.floor(key / 65536), slot: key % 6553
 
 function serialOf(written) { return written.split(":")[0]; }
 
+// The word with which a line begins, and its fields by their names (FIELDS of plays.js).
+function partsOf(line) {
+  const [word, ...values] = line.split(" ");
+  return {word, ...Object.fromEntries(FIELDS[word].map((name, at) => [name, values[at]]))};
+}
+
 // The buckets after these edits. Lists that didn't change are the same objects as before.
 function edited(buckets, edits) {
   const next = new Map(buckets);
@@ -73,15 +79,12 @@ class Play {
 
   // An answer: a timer that begins or ends.
   hear(answer, step) {
-    const words = answer.split(" ");
-    const line = this.lines[this.steps[step - 1].line].split(" ");
-    if (words[0] === "started") this.begin(words[3], words[1], words[4], line[4], step, null);
-    else if (words[0] === "restarted") {
-      this.leave(words[3], step, {kind: "restarted", by: words[4]});
-      this.begin(words[4], words[1], words[5], line[5], step, words[3]);
-    } else if (words[0] === "stopped") this.leave(words[3], step, {kind: "stopped"});
-    else if (words[0] === "expired") this.leave(words[3], step, {kind: "expired", tick: BigInt(words[1])});
-    else if (words[0] === "returned") this.leave(words[2], step, {kind: "returned"});
+    const {word, client, serial, deadline, tick, old = null} = partsOf(answer);
+    if (old !== null) this.leave(old, step, {kind: word, by: serial});
+    if (word === "started" || word === "restarted")
+      this.begin(serial, client, deadline, partsOf(this.lines[this.steps[step - 1].line]).action, step, old);
+    else if (word === "expired") this.leave(serial, step, {kind: word, tick: BigInt(tick)});
+    else if (word === "stopped" || word === "returned") this.leave(serial, step, {kind: word});
   }
 
   // The end of a timer, with the bucket that it leaves.

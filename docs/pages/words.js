@@ -12,7 +12,7 @@ const OPENING = {
 // How to read the wheels.
 const GUIDE = {
   plain: [
-    "Each tick looks at all timers of the list, so it takes the longer the more of them there are.",
+    "A tick goes through all timers of the list, so it takes the longer the more of them there are.",
     "Timers are written serial:deadline.",
   ],
   hashed: [
@@ -99,9 +99,7 @@ class Words {
     // A slot as `timers show` names it.
   place(key) {
     const {wheel, slot} = placeOf(key);
-    if (this.play.scheme === "plain") return "pending";
-    if (this.play.scheme === "hashed") return `slot ${slot}`;
-    return this.play.scheme === "clock" ? `${this.play.wheels[wheel].name} ${slot}` : `wheel ${wheel} slot ${slot}`;
+    return this.play.wheels[wheel].place.replace("S", slot);
   }
 
   digits(tick) {
@@ -350,6 +348,6 @@ class Words {
   fields() {
     const answers = this.play.steps.flatMap((step) => step.answers);
     const used = new Set([...this.play.lines, ...answers].map((line) => line.split(" ")[0]));
-    return Object.entries(FIELDS).filter(([word]) => used.has(word));
+    return Object.entries(FIELDS).filter(([word]) => used.has(word)).map(([word, names]) => [word, names.join(" · ")]);
   }
 }

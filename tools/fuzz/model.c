@@ -10,12 +10,6 @@
 
 enum kind { START, STOP, RESTART, TICKS, CLOSE };
 
-/* Why requests and ticks are refused, in the order of the page's tables. */
-enum refusal {
-	CLOSED, NO_CLIENT, REPEATED, NUMBERS_SPENT, AHEAD, ZERO_INTERVAL, TOO_LATE, SERIALS_SPENT, FULL, NO_SUCH, CLOCK_END, NONE
-};
-static const char *const WORDS[NONE] = {REFUSALS};
-
 struct event {
 	enum kind kind;
 	uint64_t client, number, serial, interval, action, count;
@@ -127,7 +121,8 @@ static size_t named(const struct facility *f, uint64_t client, uint64_t serial)
 	return i;
 }
 
-static enum refusal not_taken(const struct facility *f, const struct event *e)
+/* Why a request is not taken, or NULL. */
+static const char *not_taken(const struct facility *f, const struct event *e)
 {
 	if (f->closed)
 		return CLOSED;
@@ -139,15 +134,16 @@ static enum refusal not_taken(const struct facility *f, const struct event *e)
 		return NUMBERS_SPENT;
 	if (e->number > f->numbers[e->client])
 		return AHEAD;
-	return NONE;
+	return NULL;
 }
 
-static enum refusal refused(const struct facility *f, const struct event *e)
+/* Why a request that was taken is refused, or NULL. */
+static const char *refused(const struct facility *f, const struct event *e)
 {
 	if (e->kind != START && named(f, e->client, e->serial) == f->len)
 		return NO_SUCH;
 	if (e->kind == STOP)
-		return NONE;
+		return NULL;
 	if (e->interval == 0)
 		return ZERO_INTERVAL;
 	if (e->interval > f->is.last_tick - f->now)
@@ -156,18 +152,18 @@ static enum refusal refused(const struct facility *f, const struct event *e)
 		return SERIALS_SPENT;
 	if (e->kind == START && f->len == f->is.capacity)
 		return FULL;
-	return NONE;
+	return NULL;
 }
 
 static void request(struct facility *f, const struct event *e, struct text *out)
 {
-	enum refusal why = not_taken(f, e);
-	if (why == NONE) {
+	const char *why = not_taken(f, e);
+	if (!why) {
 		f->numbers[e->client]++;
 		why = refused(f, e);
 	}
-	if (why != NONE) {
-		add(out, "refused %" PRIu64 " %" PRIu64 " %s\n", e->client, e->number, WORDS[why]);
+	if (why) {
+		add(out, "refused %" PRIu64 " %" PRIu64 " %s\n", e->client, e->number, why);
 		return;
 	}
 	if (e->kind != START)
@@ -232,7 +228,7 @@ static void expire(struct facility *f, uint64_t tick, struct text *out)
 static void ticks(struct facility *f, uint64_t count, struct text *out)
 {
 	if (f->closed) {
-		add(out, "tick refused %s\n", WORDS[CLOSED]);
+		add(out, "tick refused " CLOSED "\n");
 		return;
 	}
 	uint64_t left = f->is.last_tick - f->now;
@@ -245,13 +241,13 @@ static void ticks(struct facility *f, uint64_t count, struct text *out)
 	expire(f, tick, out);
 	f->now = tick;
 	if (count > left)
-		add(out, "tick refused %s\n", WORDS[CLOCK_END]);
+		add(out, "tick refused " CLOCK_END "\n");
 }
 
 static void close_all(struct facility *f, struct text *out)
 {
 	if (f->closed) {
-		add(out, "close refused %s\n", WORDS[CLOSED]);
+		add(out, "close refused " CLOSED "\n");
 		return;
 	}
 	f->closed = true;
@@ -344,7 +340,7 @@ struct answer play(const char *script, size_t len, struct options options, enum 
 		exit(3);
 	if ((form == PLAY || form == CHECK) && len > MAX_SCRIPT) {
 		answer = fault(answer, TOO_LONG, 0);
-		answer.status = form == CHECK ? 2 : 1;
+		answer.status = form == CHECK ? CHECK_FAILED : 1;
 	} else if (lines(&f, script, len, form, &answer) && form != CHECK)
 		add(&answer.output, "end %" PRIu64 " %zu\n", f.now, f.len);
 	if (form == PLAY && answer.status != 0)

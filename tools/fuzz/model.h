@@ -4,7 +4,7 @@
 #include <stddef.h>
 #include <stdint.h>
 
-/* The page's numbers, and its reasons, of `check` and of refusals, in the order of its tables: made by tools/formats.py. */
+/* The page's numbers and words, some as lists in the order of their table, made by tools/formats.py. */
 #include "formats.h"
 
 enum scheme { HIER, PLAIN, HASHED, CLOCK };

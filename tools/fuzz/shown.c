@@ -10,7 +10,7 @@ struct place {
 
 /* How many ticks a slot of each wheel is, from the lowest. */
 static const uint64_t CLOCK_UNITS[] = {1, 60, 3600, 86400, 8640000};
-static const char *const HANDS[] = {"second", "minute", "hour", "day"};
+static const char *const HANDS[] = {CLOCK_HANDS};
 
 uint64_t unit_of(enum scheme scheme, int wheel)
 {
@@ -30,17 +30,15 @@ static uint64_t slot_of(enum scheme scheme, int wheel, uint64_t deadline)
 	return deadline % unit_of(scheme, wheel + 1) / unit_of(scheme, wheel);
 }
 
-static void name(struct text *text, enum scheme scheme, int wheel, uint64_t slot)
-{
-	if (scheme == CLOCK)
-		add(text, "%s %" PRIu64, HANDS[wheel], slot);
-	else
-		add(text, "wheel %d slot %" PRIu64, wheel, slot);
-}
-
 static void name_bucket(struct text *text, enum scheme scheme, uint64_t bucket)
 {
-	name(text, scheme, (int)(bucket >> 8), bucket & 255);
+	int wheel = (int)(bucket >> 8), slot = (int)(bucket & 255);
+	if (scheme == HASHED)
+		add(text, HASHED_PLACE, (int)bucket);
+	else if (scheme == CLOCK)
+		add(text, "%s %d", HANDS[wheel], slot);
+	else
+		add(text, HIER_PLACE, wheel, slot);
 }
 
 static int by_bucket(const void *a, const void *b)
@@ -68,7 +66,7 @@ static void show_plain(struct text *text, const struct timer *pending, size_t le
 {
 	if (len == 0)
 		return;
-	add(text, "  pending:");
+	add(text, "  " PLAIN_PLACE ":");
 	for (size_t i = 0; i < len; i++)
 		add(text, " %" PRIu64 ":%" PRIu64, pending[i].serial, pending[i].deadline);
 	add(text, "\n");
@@ -85,10 +83,7 @@ static void show_buckets(struct text *text, const struct options *is, uint64_t n
 	for (size_t i = 0; i < len; i++) {
 		if (i == 0 || places[i].bucket != places[i - 1].bucket) {
 			add(text, "%s  ", i == 0 ? "" : "\n");
-			if (is->scheme == HASHED)
-				add(text, "slot %" PRIu64, places[i].bucket);
-			else
-				name_bucket(text, is->scheme, places[i].bucket);
+			name_bucket(text, is->scheme, places[i].bucket);
 			add(text, ":");
 		}
 		add(text, " %" PRIu64, places[i].serial);

@@ -4,6 +4,8 @@ The cuts follow from the deadlines alone. They decide at which ticks the program
 stand, and nothing of what it answers."""
 from dataclasses import dataclass
 
+from formats import parts
+
 MAX_PIECES = 500  # of one line; a line with as many stops before its end is one step
 MAX_STEPS = 5_000
 
@@ -53,17 +55,11 @@ def stops(scheme, now, then, deadlines):
 
 def note(deadlines, answers):
     """Keeps the deadlines of the pending timers, by serial."""
-    for answer in answers:
-        words = answer.split()
-        if words[0] == "started":
-            deadlines[words[3]] = int(words[4])
-        elif words[0] == "restarted":
-            deadlines.pop(words[3], None)
-            deadlines[words[4]] = int(words[5])
-        elif words[0] in ("stopped", "expired"):
-            deadlines.pop(words[3], None)
-        elif words[0] == "returned":
-            deadlines.pop(words[2], None)
+    for word, said in map(parts, answers):
+        if word in ("restarted", "stopped", "expired", "returned"):
+            deadlines.pop(said["old" if word == "restarted" else "serial"], None)
+        if word in ("started", "restarted"):
+            deadlines[said["serial"]] = int(said["deadline"])
 
 
 def cut(line, text, now, then, ticks):

@@ -3,6 +3,7 @@ import textwrap
 from html import escape
 
 import picture
+from formats import parts
 
 SECONDS = 2.2  # of a frame
 HEIGHT = 372
@@ -32,13 +33,14 @@ def named(timers, does):
 def events(scheme, before, step):
     """What happened at a step, in words."""
     was, held = places(before) if before else {}, places(step)
-    answers = [answer.split() for answer in step.answers]
+    answers = [parts(answer) for answer in step.answers]
     said = [
-        f"timer {words[3]} starts for tick {words[4]}, in {scheme.wheels[held[words[3]]].name}"
-        for words in answers
-        if words[0] == "started"
+        f"timer {of['serial']} starts for tick {of['deadline']}, in {scheme.wheels[held[of['serial']]].name}"
+        for word, of in answers
+        if word == "started"
     ]
-    expired = [words[3] for words in answers if words[0] == "expired"]
+    said += [text for text, (word, _) in zip(step.answers, answers) if word not in ("started", "expired")]
+    expired = [of["serial"] for word, of in answers if word == "expired"]
     said += [named(expired, "expire")] if expired else []
     for wheel, _ in enumerate(scheme.wheels):
         moved = sorted((timer for timer, to in held.items() if to == wheel and was.get(timer, to) != to), key=int)

@@ -2,10 +2,8 @@
 import json
 import os
 import re
-import sys
 
-sys.path.insert(0, os.path.join(os.path.dirname(os.path.abspath(__file__)), ".."))
-import formats  # noqa: E402
+import formats
 
 PAGES = os.path.join(os.path.dirname(os.path.abspath(__file__)), "../../docs/pages")
 
@@ -31,19 +29,22 @@ def edits(old, new):
     return [edit(place, old.get(place, []), new.get(place, [])) for place in places]
 
 
-def data_of(play, title, path, options):
+def data_of(play, title, path, options, name):
     """What the page's code reads. Ticks are strings, since they may have 60 bits."""
     steps, before = [], {}
     for step in play.steps:
         steps.append([step.line, step.passed, str(step.now), step.answers, edits(before, step.buckets)])
         before = step.buckets
     return {
-        "name": os.path.basename(path),
+        "name": name,
         "title": title,
         "command": " ".join(["./timers show", *options, "<", path]),
         "scheme": play.scheme.name,
         "firstTick": str(play.first_tick),
-        "wheels": [{"name": w.name, "slots": w.slots, "ticks": str(w.ticks)} for w in play.scheme.wheels],
+        "wheels": [
+            {"name": w.name, "place": play.scheme.form(k), "slots": w.slots, "ticks": str(w.ticks)}
+            for k, w in enumerate(play.scheme.wheels)
+        ],
         "lines": play.lines,
         "steps": steps,
         "bad": play.bad,
@@ -53,11 +54,13 @@ def data_of(play, title, path, options):
 
 
 def data(plays):
-    """The file plays.js: plays, each with its title, its script's path and the options of show, and words of
-    docs/formats.md. The first play is shown at first."""
-    rows = [json.dumps(data_of(*play), ensure_ascii=True, separators=(",", ":")) for play in plays]
+    """The file plays.js: plays, of which the first is shown at first, and words of docs/formats.md."""
+    names = [os.path.basename(path) for _, _, path, _ in plays]
+    numbered = [f"{name}-{at}" if names.count(name) > 1 else name for at, name in enumerate(names, 1)]
+    made = [data_of(*play, name) for play, name in zip(plays, numbered)]
+    rows = [json.dumps(play, ensure_ascii=True, separators=(",", ":")) for play in made]
     # Within a script element the text may not end it, nor open a comment.
-    words = f"const REASONS = {json.dumps(formats.reasons())};\nconst FIELDS = {json.dumps(formats.fields())};\n"
+    words = f"const REASONS = {json.dumps(formats.reasons())};\nconst FIELDS = {json.dumps(formats.FIELDS)};\n"
     return "const PLAYS = [\n" + ",\n".join(rows).replace("<", "\\u003c") + "\n];\n" + words
 
 

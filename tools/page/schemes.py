@@ -1,12 +1,8 @@
 """The schemes: their wheels, and the places that `timers show` names."""
-import os
-import sys
+import re
 from dataclasses import dataclass
 
-sys.path.insert(0, os.path.join(os.path.dirname(os.path.abspath(__file__)), ".."))
-from formats import DEFAULTS  # noqa: E402
-
-HANDS = ["second", "minute", "hour", "day"]
+from formats import DEFAULTS, HANDS, PLACES
 
 
 @dataclass
@@ -24,14 +20,13 @@ class Scheme:
     @staticmethod
     def place(name):
         """(wheel, slot) of a name such as 'wheel 1 slot 2', 'slot 2', 'minute 15' or 'pending'."""
-        words = name.split()
-        if words[0] == "pending":
-            return 0, 0
-        if words[0] == "wheel":
-            return int(words[1]), int(words[3])
-        if words[0] == "slot":
-            return 0, int(words[1])
-        return HANDS.index(words[0]), int(words[1])
+        numbers = [int(number) for number in re.findall(r"\d+", name)]
+        word = name.split()[0]
+        return (HANDS.index(word), numbers[0]) if word in HANDS else tuple([0, 0, *numbers][-2:])
+
+    def form(self, wheel):
+        """The name of a place of a wheel, with S for the slot."""
+        return f"{HANDS[wheel]} S" if self.name == "clock" else PLACES[self.name].replace("K", str(wheel))
 
     def is_hierarchy(self):
         return self.name in ("hier", "clock")
@@ -69,8 +64,8 @@ def scheme_of(options):
     first_tick = value_of(options, "--first-tick")
     slots = value_of(options, "--slots")
     wheels = {
-        "plain": lambda: [Wheel("pending", 1, 1)],
-        "hashed": lambda: [Wheel("the wheel", int(slots) if slots.isdigit() else 1, 1)],
+        "plain": lambda: [Wheel(PLACES["plain"], 1, 1)],
+        "hashed": lambda: [Wheel("the wheel", int(slots) if slots.lstrip("+").isdigit() else 1, 1)],
         "clock": lambda: hierarchy([60, 60, 24, 100], HANDS),
     }.get(name, lambda: hierarchy([64] * 10, [f"wheel {k}" for k in range(10)]))()
-    return Scheme(name, wheels), int(first_tick) if first_tick.isdigit() else 0
+    return Scheme(name, wheels), int(first_tick) if first_tick.lstrip("+").isdigit() else 0
