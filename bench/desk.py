@@ -1,5 +1,5 @@
 #!/usr/bin/env python3
-"""Measures a desk from C beside the same threads over C++ rings and around a mutex, and writes results/desk.csv.
+"""Measures a desk from C beside the same threads over C++ rings and around a mutex, and writes build/results/desk.csv.
 
     desk.py [--program PROGRAM] [--ring PROGRAM] [--clients 1,8,64] [--cores 1,2,4] [--repeats N] [--timers N] [--limit SECONDS]
 

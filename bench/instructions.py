@@ -8,10 +8,9 @@
 Each count is that of a run of build/count, inside the candidate's function alone. If a workload begins with a
 preparation, the count of the preparation alone is subtracted. A peer that this machine lacks has empty cells.
 
---check names each row that differs by more than 3 %, for the candidates that results/ has. Status 1: a row of the
-product does, or is not there. Peers are built by other compilers on other machines, so theirs
-are only named. Status 2: wrong arguments, or a program is not there. Without valgrind it says so and counts
-nothing: status 0 with --check, otherwise 2.
+--check names each number that differs by more than 3 % from that of results/, or is not there. Status 1: one of the
+product is named. Peers are built by other compilers on other machines, so theirs are only named. Status 2: wrong
+arguments, or a program is not there. Without valgrind it says so and counts nothing: status 0 with --check, otherwise 2.
 """
 import argparse
 import os

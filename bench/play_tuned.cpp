@@ -90,13 +90,13 @@ struct Facility {
   // Whether the request is the client's next one; if not, it is refused.
   bool admit(uint64_t client, uint64_t number) {
     if (closed)
-      refuse(client, number, " closed\n");
+      refuse(client, number, " " CLOSED "\n");
     else if (client >= clients)
-      refuse(client, number, " no-client\n");
+      refuse(client, number, " " NO_CLIENT "\n");
     else if (number < next[client])
-      refuse(client, number, " repeated\n");
+      refuse(client, number, " " REPEATED "\n");
     else if (number > next[client])
-      refuse(client, number, " ahead\n");
+      refuse(client, number, " " AHEAD "\n");
     else
       return ++next[client], true;
     return false;
@@ -104,9 +104,9 @@ struct Facility {
   void start(uint64_t client, uint64_t number, uint64_t interval, uint64_t action) {
     out.room(LINE);
     if (!admit(client, number)) return;
-    if (interval == 0) return refuse(client, number, " zero-interval\n");
-    if (interval > LAST - wheel.clock) return refuse(client, number, " too-late\n");
-    if (wheel.len() == capacity) return refuse(client, number, " full\n");
+    if (interval == 0) return refuse(client, number, " " ZERO_INTERVAL "\n");
+    if (interval > LAST - wheel.clock) return refuse(client, number, " " TOO_LATE "\n");
+    if (wheel.len() == capacity) return refuse(client, number, " " FULL "\n");
     uint64_t serial = given.size() + 1, deadline = wheel.clock + interval;
     given.push_back({wheel.start(Timer{serial, client, number, deadline, action}), client});
     out.word("started");
@@ -117,14 +117,14 @@ struct Facility {
     if (!admit(client, number)) return;
     Timer timer;
     bool is_own = serial != 0 && serial <= given.size() && given[serial - 1].client == client;
-    if (!is_own || !wheel.stop(given[serial - 1].handle, timer)) return refuse(client, number, " no-such\n");
+    if (!is_own || !wheel.stop(given[serial - 1].handle, timer)) return refuse(client, number, " " NO_SUCH "\n");
     out.word("stopped");
     out.items(client, number, serial);
   }
   void ticks(uint64_t left) {
     Timer timer;
     out.room(LINE);
-    if (closed) return out.word("tick refused closed\n");
+    if (closed) return out.word("tick refused " CLOSED "\n");
     while (left && wheel.clock < LAST) {
       left -= wheel.advance(std::min(left, LAST - wheel.clock));
       while (wheel.expire(timer)) {
@@ -133,11 +133,11 @@ struct Facility {
         out.items(wheel.clock, timer.client, timer.serial, timer.action);
       }
     }
-    if (left) out.word("tick refused clock-end\n");
+    if (left) out.word("tick refused " CLOCK_END "\n");
   }
   void close() {
     out.room(LINE);
-    if (closed) return out.word("close refused closed\n");
+    if (closed) return out.word("close refused " CLOSED "\n");
     closed = true;
     std::vector<Timer> all;
     all.reserve(wheel.len());
@@ -231,17 +231,17 @@ static bool write_out() {
 
 static int end(Facility &facility) {
   facility.end();
-  return write_out() ? 0 : fail("write failed\n");
+  return write_out() ? 0 : fail(WRITE_FAILED "\n");
 }
 
 static int play_whole(char *script, Facility &facility) {
   size_t length = 0, played = 0;
   for (ssize_t count; length <= MAX_SCRIPT; length += (size_t)count) {
     count = read(0, script + length, MAX_SCRIPT + 1 - length);
-    if (count < 0) return fail("read failed\n");
+    if (count < 0) return fail(READ_FAILED "\n");
     if (count == 0) break;
   }
-  if (length > MAX_SCRIPT) return fail("too long\n");
+  if (length > MAX_SCRIPT) return fail(TOO_LONG "\n");
   memset(script + length, 0, 16);
   out.room(4 * length + 4096);  // pages that are not written cost nothing
   Reader reader{script};
@@ -252,14 +252,14 @@ static int play_stream(char *text, Facility &facility) {
   size_t held = 0, played = 0;
   for (;;) {
     ssize_t count = read(0, text + held, PIECE);
-    if (count < 0) return fail("read failed\n");
+    if (count < 0) return fail(READ_FAILED "\n");
     if (count == 0) break;
     held += (size_t)count;
     size_t whole = held;
     while (whole && text[whole - 1] != '\n') --whole;
     Reader reader{text};
     bool is_good = play_lines(reader, text + whole, facility, played);
-    if (!write_out()) return fail("write failed\n");
+    if (!write_out()) return fail(WRITE_FAILED "\n");
     if (!is_good || held - whole > LINE) return bad_line(played + 1);
     memmove(text, text + whole, held -= whole);
   }
@@ -267,7 +267,7 @@ static int play_stream(char *text, Facility &facility) {
 }
 
 int main(int argc, char **argv) {
-  uint64_t clients = 64, capacity = 1024, first = 0;
+  uint64_t clients = MAX_CLIENTS, capacity = CAPACITY, first = 0;
   bool is_stream = false;
   for (int i = 1; i < argc; ++i) {
     const char *value = i + 1 < argc ? argv[i + 1] : "0";
@@ -277,12 +277,12 @@ int main(int argc, char **argv) {
     if (!strcmp(argv[i], "--first-tick")) first = strtoull(value, nullptr, 10);
   }
   char *script = (char *)malloc(MAX_SCRIPT + 64);
-  if (!script) return fail("out of memory\n");
+  if (!script) return fail(OUT_OF_MEMORY "\n");
   try {
     Facility facility(clients, capacity, first);
     // The process ends here, and nothing is freed one by one.
     _exit(is_stream ? play_stream(script, facility) : play_whole(script, facility));
   } catch (const std::bad_alloc &) {
-    return fail("out of memory\n");
+    return fail(OUT_OF_MEMORY "\n");
   }
 }

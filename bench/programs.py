@@ -3,8 +3,9 @@
 
     programs.py PROGRAM [--runs N] [--only play,jumps,serve,threads]
 
-The peers are build/play_tuned and build/threads_ref. A script comes from a file, and the output has to be the same bytes
-as the peer's. The last row of `serve` is 20,000 requests down a pipe, each after the answer to the one before.
+The peers are build/play_tuned, threads_ref and threads_seq (ring_ref.hpp says how these two differ); of `serve`, but
+for its last row, `timers play`. A script comes from a file, and the output has to be the same bytes as the peer's. The
+last row of `serve` is 20,000 requests down a pipe, each after the answer to the one before.
 
 Status 1: an output differs, or a program failed; 2: hyperfine or a program is not there.
 """
@@ -23,7 +24,7 @@ from figures import fail, number, spread
 
 BUILD = os.path.join(figures.HERE, "build")
 OPTIONS = ["--capacity", "1048576"]
-TUNED, THREADS = (os.path.join(BUILD, name) for name in ("play_tuned", "threads_ref"))
+TUNED, *THREADS = (os.path.join(BUILD, name) for name in ("play_tuned", "threads_ref", "threads_seq"))
 REQUESTS = 20_000
 MASK = 2**64 - 1
 
@@ -171,9 +172,10 @@ def threads(program, runs):
     for count in (1, 2, 4):
         if count <= len(available):
             held = ["taskset", "-c", ",".join(map(str, available[:count]))]
-            words = [[program, "threads", "--clients", "4", "--timers", "10000"], [THREADS, "4", "10000"]]
-            times = timed([[*held, *command] for command in words], b"", runs)
-            yield [count, *map(spread, times), *ratios(times)]
+            peers = [[peer, "4", "10000"] for peer in THREADS]
+            words = [[program, "threads", "--clients", "4", "--timers", "10000"], *peers]
+            ours, *others = timed([[*held, *command] for command in words], b"", runs)
+            yield [count, spread(ours), *(cell for times in others for cell in (spread(times), *ratios([ours, times])))]
 
 
 def main():
@@ -183,7 +185,7 @@ def main():
     parser.add_argument("--only", default="play,jumps,serve,threads")
     options = parser.parse_args()
     program, parts = os.path.abspath(options.program), options.only.split(",")
-    for needed in ("hyperfine", program, TUNED, THREADS):
+    for needed in ("hyperfine", program, TUNED, *THREADS):
         if not shutil.which(needed):
             fail(f"{needed} is not there", 2)
     rows = []
@@ -196,7 +198,7 @@ def main():
     if "serve" in parts:
         figures.write("serve", ["stream", "serve", "peer", "which peer", "ratio"], serve(program, options.runs))
     if "threads" in parts:
-        head = ["cores", "timers", "threads_ref", "to threads_ref"]
+        head = ["cores", "timers", "threads_ref", "to threads_ref", "threads_seq", "to threads_seq"]
         figures.write("threads", head, threads(program, options.runs))
 
 

@@ -1,6 +1,10 @@
 // A ring of one producer and one consumer, with acquire and release: the practical limit on this machine. Each side keeps its own index
-// and the last one that it saw of the other in a cache line of its own, and asks again only where that is not enough.
+// and the last one that it saw of the other in a cache line of its own, and asks again only where that is not enough. With
+// -DSTORE=std::memory_order_seq_cst a store waits for those before it, as in the ring of the product's toolchain.
 #pragma once
+#ifndef STORE
+#define STORE std::memory_order_release
+#endif
 #include <atomic>
 #include <cstddef>
 #include <cstdint>
@@ -18,7 +22,7 @@ struct RingRef {
       if (t - head_seen == capacity) return false;
     }
     slots[t & mask] = item;
-    tail.store(t + 1, std::memory_order_release);
+    tail.store(t + 1, STORE);
     return true;
   }
   // Called by the producer alone: as many of the items as there is room for, shown to the consumer by one store.
@@ -27,7 +31,7 @@ struct RingRef {
     if (capacity - (t - head_seen) < count) head_seen = head.load(std::memory_order_acquire);
     size_t room = capacity - (t - head_seen), some = room < count ? room : count;
     for (size_t i = 0; i < some; ++i) slots[(t + i) & mask] = items[i];
-    tail.store(t + some, std::memory_order_release);
+    tail.store(t + some, STORE);
     return some;
   }
   // Called by the consumer alone.
@@ -38,7 +42,7 @@ struct RingRef {
       if (h == tail_seen) return false;
     }
     item = slots[h & mask];
-    head.store(h + 1, std::memory_order_release);
+    head.store(h + 1, STORE);
     return true;
   }
 
