@@ -248,7 +248,8 @@ enum timers_status {
 	TIMERS_NOT_OPEN = 1,       /* not open: timers_new was not called, or timers_free was since */
 	TIMERS_OPEN = 2,           /* already open; of timers_set_allocator, memory was asked for already */
 	TIMERS_NO_TABLE = 3,       /* the table is none of enum timers_table */
-	TIMERS_NO_MEMORY = 4,      /* no memory for it: malloc or realloc returned NULL, or some 4.29 billion are held */
+	TIMERS_NO_MEMORY = 4,      /* no memory for it: malloc or realloc returned NULL; or some 4.29 billion timers are held,
+	                              after a timers_reserve maybe half as many */
 	TIMERS_DUE = 5,            /* an expired timer was not yet taken: call timers_expire */
 	TIMERS_NOT_PENDING = 6,    /* no timer has this handle: it was stopped, restarted, taken or dropped */
 	TIMERS_ZERO_INTERVAL = 7,  /* the interval is 0 */

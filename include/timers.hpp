@@ -9,7 +9,7 @@
  * catch_up and each, which make several, and in_ticks, at_least and raw, which make none.
  *
  * TICKS. `Tick` is the length of a tick, a std::chrono::duration. The clock and deadlines are `ticks`,
- * counted from tick 0. An interval is any duration of whole numbers, and is rounded up to ticks. An
+ * counted from tick 0. An interval is a duration of whole numbers, and is rounded up to ticks. An
  * interval of n ticks lasts more than n - 1 and at most n, since the present tick has begun. `at_least`
  * adds the tick that a time-out needs if it must not come early.
  *

@@ -59,9 +59,9 @@
  *     Clients come and go. If a client's line was freed, timers_desk_open opens one for another client under the
  *     same number. It requires that every request was taken, no word waits, and no timer is pending. The owner need
  *     not wait until the timers expire: timers_desk_stop_pending stops all of them in one call. The request numbers
- *     of the new client begin after the last one that was taken, since the desk counts them. The new line shares nothing
- *     with the old one, which was freed together with the words in it. So no word to the old client reaches the new
- *     one, and each word that the new one receives is about its own requests.
+ *     of the new client begin after the last one that was taken, since the desk counts them. The new line shares
+ *     nothing with the old one, which was freed together with the words in it. So no word to the old client reaches
+ *     the new one, and each word that the new one receives is about its own requests.
  *
  *     Words wait in the client's outbox at the owner until a flush moves them into the line. A request is
  *     taken only if the outbox has room for its answer, a word of each of the client's pending timers, and
@@ -69,8 +69,9 @@
  *     requests. A stop needs that room too: while the outbox lacks room (TIMERS_DESK_NO_ROOM), the client cannot stop a
  *     timer. Words leave the outbox by a flush, if the line has room for them, so the client has to read. If its
  *     pending timers alone take the room, one of them has to expire first.
- *     `room` in struct timers_desk_config says how much is enough. A request that failed with out of memory is
- *     held, and retried first when its client is served the next time.
+ *     A `room` of k + q + 1 is enough for a client that keeps at most k timers, and has at most q requests without an
+ *     answer. A request that failed with out of memory is held, and retried first when its client is served the next
+ *     time.
  *
  *     The owner's loop:
  *
@@ -99,18 +100,17 @@
  *
  *     The library is proved, but for the few lines of C that allocate and the inline function of this header. Each
  *     other function meets the contract stated in crates/timer_desk_c/src/desk_exports.rt or line_exports.rt, for
- *     every call that keeps the rules below. Nothing checks them, but that a settled line has the client and the life of
- *     rule 5. Nothing is proved about time: when a thread runs, and
- *     when a word arrives. Nor is it proved that timers_desk_line_freed and timers_line_abandoned return true
- *     exactly if the other end was freed. It is proved that they change nothing, and record their tests in the right
- *     order: first whether the desk is gone, and then whether a word is left in the line. That each test reads the
- *     ring, so that no word that was put before is missed, is tested. The same holds for a client's requests before
- *     its line is opened again.
+ *     every call that keeps the rules below. Nothing checks them, but the settling and ending calls check the client
+ *     and the life of a line (rule 5). Nothing is proved about time: when a thread runs, and when a word arrives. Nor
+ *     is it proved that timers_desk_line_freed and timers_line_abandoned return true exactly if the other end was
+ *     freed. It is proved that they change nothing, and record their tests in the right order: first whether the desk
+ *     is gone, and then whether a word is left in the line. That each test reads the ring, so that no word that was
+ *     put before is missed, is tested. The same holds for a client's requests before its line is opened again.
  *
  * RULES
  *     1. A `struct timers_desk` begins as TIMERS_DESK_INIT and a `struct timers_line` as TIMERS_LINE_INIT,
- *        or with all bytes 0. Only these functions write them, but for `lives` (rule 5). They must not be copied, since they own
- *        memory; they may be moved by a memcpy after which the old one is not used.
+ *        or with all bytes 0. Only these functions write them, but for `lives` (rule 5). They must not be copied,
+ *        since they own memory; they may be moved by a memcpy after which the old one is not used.
  *     2. A pointer argument is not NULL. It points to an object of its type that this call alone uses;
  *        `lines` points to as many as are passed. No two arguments of one call overlap.
  *     3. An object that a call only writes (number, word, passed, returned, standing, unread, stopped, client) may
@@ -122,10 +122,10 @@
  *     5. timers_desk_settle, timers_desk_end and timers_desk_end_all are given lines of the same desk. A line of
  *        another client is refused with TIMERS_DESK_OTHER_LINE. So is a line of an earlier desk of the same struct:
  *        the struct counts the desks that were made in it, timers_desk_free keeps the count, and each line has the
- *        count at which it was made. So do not set a struct to TIMERS_DESK_INIT again while lines of it are held. A line of another
- *        struct with the same client and count is not detected. A program with several desks may set `lives` of each
- *        struct to another number before its first timers_desk_new, such as 2^32 times the number of the desk. Then
- *        lines of the other desks are refused, too.
+ *        count at which it was made. So do not set a struct to TIMERS_DESK_INIT again while lines of it are held. A
+ *        line of another struct with the same client and count is not detected. A program with several desks may set
+ *        `lives` of each struct to another number before its first timers_desk_new, such as 2^32 times the number of
+ *        the desk. Then lines of the other desks are refused, too.
  *     6. malloc, realloc and free, or what timers_set_allocator (timers.h) was given in their place, are one
  *        allocator that threads may share, and align as C requires.
  *     7. No call comes from a signal handler. THREADS says which calls a forked child may make.
@@ -195,7 +195,7 @@ enum timers_desk_status {
 	TIMERS_DESK_CLOSED = 11,         /* the desk was closed */
 	TIMERS_DESK_CAPACITY = 12,       /* as many timers are pending as may be */
 	TIMERS_DESK_NO_CLIENT = 13,      /* there is no client with this number */
-	TIMERS_DESK_NUMBERS_SPENT = 14,  /* the client has sent 2^60 - 1 requests */
+	TIMERS_DESK_NUMBERS_SPENT = 14,  /* the client's numbers, up to 2^60 - 1, are used up */
 	TIMERS_DESK_REPEATED = 15,       /* of a word: the number was taken before; no client gets it */
 	TIMERS_DESK_AHEAD = 16,          /* of a word: an earlier number is missing; lines never cause it */
 	TIMERS_DESK_LINE_FULL = 17,      /* the line has no room for another request now */
@@ -298,7 +298,7 @@ enum timers_desk_status timers_desk_serve(struct timers_desk *d, size_t client);
  * TIMERS_DESK_NOT_OPEN.
  * TIMERS_DESK_NO_MEMORY: a request of at least one client failed with out of memory and is held; others may have been
  * done.
- * TIMERS_DESK_OK: at least one request was done. TIMERS_DESK_IDLE: none was, for want of requests or of room. */
+ * TIMERS_DESK_OK: at least one request was done. TIMERS_DESK_IDLE: none was. */
 enum timers_desk_status timers_desk_serve_all(struct timers_desk *d, uint64_t most);
 
 /* Moves words from each client's outbox into its line, in order, until the outbox is empty or the line
@@ -332,8 +332,8 @@ enum timers_desk_status timers_desk_close(struct timers_desk *d, uint64_t *retur
 
 /* Settles the line of a client that has finished, once its thread has handed the line over (rule 4). At
  * TIMERS_DESK_OK it writes to `*standing` how many of the client's requests still are in the line.
- * Suppose it is 0, the last serve did not return TIMERS_DESK_NO_MEMORY, and the outbox is empty. Then only
- * pending timers of this client are left at the desk. Does not allocate.
+ * Suppose it is 0, the client's last serve did not return TIMERS_DESK_NO_MEMORY, and its outbox is empty. Then
+ * only pending timers of this client are left at the desk. Does not allocate.
  * TIMERS_DESK_NOT_OPEN (either struct), TIMERS_DESK_NO_CLIENT, TIMERS_DESK_OTHER_LINE (it is another client's or of an
  * earlier life of the struct `d`, or its desk was freed before it finished), TIMERS_DESK_NOT_FINISHED: nothing has
  * changed. */
@@ -354,8 +354,8 @@ enum timers_desk_status timers_desk_end(struct timers_desk *d, size_t client, st
                                         size_t *unread);
 
 /* Ends the words of every client, each as timers_desk_end does: lines[0] to lines[clients - 1] are the
- * clients' lines, all of them handed over until it returns TIMERS_DESK_OK. Those that can be ended are ended, whatever is left of the
- * others, and the call may be repeated. A line that was freed is skipped, since no one reads its words.
+ * clients' lines, all of them handed over until it returns TIMERS_DESK_OK. Those that can be ended are ended, whatever
+ * is left of the others, and the call may be repeated. A line that was freed is skipped, since no one reads its words.
  * Does not allocate.
  * TIMERS_DESK_OK: each line was freed, or its words have ended.
  * TIMERS_DESK_NOT_OPEN (the desk), TIMERS_DESK_OUT_OF_RANGE (`clients` is not the number of clients):

@@ -1,4 +1,4 @@
-"""Timers from Python, by ctypes, in one file that you can copy into your project. timers(3) says what each call does.
+"""Timers from Python, by ctypes, in one file that you can copy into your project. timers(3) says what the calls of C do.
 
     from timers import Timers
     with Timers() as timers:
@@ -8,7 +8,8 @@
 
 Ticks and actions are whole numbers from 0 to 2^64 - 1: any other is refused by OverflowError or TypeError. A
 call that the library refuses raises TimersError. After each of these nothing has changed. An action may be the
-key of a dictionary. If the library is in no folder that the loader searches, give its path: Timers("lib/libtimers.so.1").
+key of a dictionary. If the library is in no folder that the loader searches, give its path:
+Timers("lib/libtimers.so.1").
 """
 # SPDX-License-Identifier: MIT OR Apache-2.0
 import ctypes

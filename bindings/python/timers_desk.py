@@ -6,13 +6,14 @@ each call does.
         line = desk.lines[0]            # for the thread of client 0
         line.start(25, 7)
         desk.serve_all(), desk.flush_all()
-        line.receive()                  # Word(kind=STARTED, number=1, ..)
+        line.receive()                  # Word(kind=1, reason=0, number=1, ..)
 
-The owner's thread calls the desk, and each client's thread its line, one call at a time. A line is freed by free() or at
-the end of its `with`. Numbers are whole and from 0 to 2^64 - 1, that of a table to 2^32 - 1: any other is refused by
-OverflowError or TypeError. So is a sum of `timers` and `requests` that leaves no room for one more word. A call that the
-library refuses raises DeskError, but those of serve and serve_all, which return their status. If the library is in no folder that the loader searches, give its path:
-Desk(.., library="lib/libtimers.so.1"). With the package of pip: from timers.timers_desk import Desk.
+The owner's thread calls the desk, and each client's thread its line, one call at a time. Both are freed by free(), at the
+end of their `with`, or once nothing refers to them. Numbers are whole and from 0 to 2^64 - 1, that of a table to 2^32 - 1:
+any other is refused by OverflowError or TypeError. So is a sum of `timers` and `requests` above 2^64 - 2. A call that the
+library refuses raises DeskError, but those of serve and serve_all, which return their status. If the library is in no
+folder that the loader searches, give its path: Desk(.., library="lib/libtimers.so.1"). With the package of pip: from
+timers.timers_desk import Desk.
 """
 # SPDX-License-Identifier: MIT OR Apache-2.0
 import ctypes

@@ -17,8 +17,7 @@
 //! counts from now.
 //!
 //! A call that is refused returns an [`Error`], and has changed nothing. Errors are listed in the order in which they are
-//! tested. In the child of a process with
-//! threads call nothing before `exec`. Rust 1.82 or later.
+//! tested. In the child of a process with threads call nothing before `exec`. Rust 1.82 or later.
 
 // SPDX-License-Identifier: MIT OR Apache-2.0
 #![allow(dead_code)]
@@ -50,7 +49,7 @@ pub enum Table {
 #[derive(Clone, Copy, Debug, Eq, PartialEq)]
 #[non_exhaustive]
 pub enum Error {
-    /// Memory is out, or there are about 4.29 billion timers.
+    /// Memory is out, or there are about 4.29 billion timers (after a `reserve` maybe half as many).
     NoMemory,
     /// An expired timer was not yet taken.
     Due,
@@ -340,7 +339,7 @@ impl Timers {
     /// Passes at most `most` ticks, stops at the first at which a timer expires, and returns how many were passed.
     ///
     /// # Errors
-    /// `Due`; `ClockEnd`.
+    /// `Due`; `ClockEnd`. Neither if `most` is 0.
     pub fn advance(&mut self, most: u64) -> Result<u64, Error> {
         written(|passed| unsafe { timers_advance(&mut self.held, most, passed) })
     }
