@@ -2058,9 +2058,6 @@ timer_links.ring.grow:
 	.type	timers_advance,@function
 timers_advance:
 	.cfi_startproc
-	ldr	x8, [x0, #8]
-	cmp	x8, #1
-	b.ne	.LBB10_3
 	sub	sp, sp, #48
 	.cfi_def_cfa_offset 48
 	stp	x29, x30, [sp, #16]
@@ -2071,12 +2068,15 @@ timers_advance:
 	.cfi_offset w30, -24
 	.cfi_offset w29, -32
 	.cfi_remember_state
+	ldr	x9, [x0, #8]
+	stp	xzr, xzr, [sp]
+	cmp	x9, #1
+	b.ne	.LBB10_3
 	mov	x8, x1
 	ldr	x1, [x0]
 	mov	x19, x2
 	mov	x0, sp
 	mov	x2, x8
-	stp	xzr, xzr, [sp]
 	bl	timer_total.timers.Timers.advance.166e7c499881587d
 	ldrb	w8, [sp]
 	cbz	w8, .LBB10_4
@@ -2095,7 +2095,17 @@ timers_advance:
 	.cfi_restore w29
 	ret
 .LBB10_3:
+	.cfi_restore_state
+	.cfi_remember_state
 	mov	w0, #1
+	.cfi_def_cfa wsp, 48
+	ldp	x29, x30, [sp, #16]
+	ldr	x19, [sp, #32]
+	add	sp, sp, #48
+	.cfi_def_cfa_offset 0
+	.cfi_restore w19
+	.cfi_restore w30
+	.cfi_restore w29
 	ret
 .LBB10_4:
 	.cfi_restore_state

@@ -2075,19 +2075,19 @@ timer_links.ring.grow:
 	.type	timers_advance,@function
 timers_advance:
 	.cfi_startproc
-	movl	$1, %eax
-	cmpq	$1, 8(%rdi)
-	jne	.LBB10_5
 	pushq	%rbx
 	.cfi_def_cfa_offset 16
 	subq	$16, %rsp
 	.cfi_def_cfa_offset 32
 	.cfi_offset %rbx, -16
+	xorps	%xmm0, %xmm0
+	movaps	%xmm0, (%rsp)
+	movl	$1, %eax
+	cmpq	$1, 8(%rdi)
+	jne	.LBB10_4
 	movq	%rsi, %rcx
 	movq	%rdx, %rbx
 	movq	(%rdi), %rsi
-	xorps	%xmm0, %xmm0
-	movaps	%xmm0, (%rsp)
 	movq	%rsp, %rdi
 	movq	%rcx, %rdx
 	callq	timer_total.timers.Timers.advance.166e7c499881587d
@@ -2098,18 +2098,21 @@ timers_advance:
 	setne	%al
 	leal	(%rax,%rax,4), %eax
 	addl	$5, %eax
-	jmp	.LBB10_4
-.LBB10_2:
-	movq	8(%rsp), %rax
-	movq	%rax, (%rbx)
-	xorl	%eax, %eax
 .LBB10_4:
 	addq	$16, %rsp
 	.cfi_def_cfa_offset 16
 	popq	%rbx
 	.cfi_def_cfa_offset 8
-	.cfi_restore %rbx
-.LBB10_5:
+	retq
+.LBB10_2:
+	.cfi_def_cfa_offset 32
+	movq	8(%rsp), %rax
+	movq	%rax, (%rbx)
+	xorl	%eax, %eax
+	addq	$16, %rsp
+	.cfi_def_cfa_offset 16
+	popq	%rbx
+	.cfi_def_cfa_offset 8
 	retq
 .Lfunc_end10:
 	.size	timers_advance, .Lfunc_end10-timers_advance
