@@ -164,7 +164,7 @@ pub struct Config {
 
 impl Config {
     /// For clients that keep at most `timers` timers each, and have at most `requests` requests without an answer: none
-    /// of their requests is ever held back for want of room. Numbers that are too large for a desk are refused by
+    /// of their requests is ever held back for want of room. Numbers that are out of a desk's ranges are refused by
     /// [`Desk::new`].
     #[must_use]
     pub fn new(capacity: u64, timers: usize, requests: usize) -> Config {
@@ -373,8 +373,8 @@ impl Desk {
     /// Serves a client once, and returns whether it had a request. The answer is then in its outbox.
     ///
     /// # Errors
-    /// `NoClient`; `NoRoom` if its outbox has no room for more words. With `NoMemory` its request is held, and tried
-    /// first at the next serve.
+    /// `NoClient`; `NoRoom` if its outbox has no room for more words, also if it has no request. With `NoMemory` its
+    /// request is held, and tried first at the next serve.
     pub fn serve(&mut self, client: usize) -> Result<bool, Error> {
         served(unsafe { timers_desk_serve(&mut self.held, client) })
     }
@@ -465,7 +465,7 @@ impl Desk {
     /// Makes room for as many timers as may be pending: no serve and no close runs out of memory from then on.
     ///
     /// # Errors
-    /// `NoMemory`.
+    /// `NoMemory`: the desk may keep a part of the memory.
     pub fn reserve(&mut self) -> Result<(), Error> {
         done(unsafe { timers_desk_reserve(&mut self.held) }, ())
     }
@@ -494,7 +494,7 @@ impl Desk {
         unsafe { timers_desk_outbox(&self.held, client) }
     }
 
-    /// A tick until which nothing expires, or None if nothing is pending.
+    /// A tick before which nothing expires, at most the first deadline, or None if nothing is pending.
     #[must_use]
     pub fn wakeup(&self) -> Option<u64> {
         Some(unsafe { timers_desk_wakeup(&self.held) }).filter(|tick| *tick != NEVER)
