@@ -52,7 +52,7 @@ EOT
 
 @test "the original source is what the repository tracks" {
     needs_debian
-    diff <(git ls-files | sort) <(tar -tzf build/deb/*.orig.tar.gz | sed -n 's|^[^/]*/\(.*[^/]\)$|\1|p' | sort)
+    diff <(git ls-files -- ':!ports' | sort) <(tar -tzf build/deb/*.orig.tar.gz | sed -n 's|^[^/]*/\(.*[^/]\)$|\1|p' | sort)
 }
 
 @test "the pages that timers(3) names are in libtimers-dev, and the examples, which a compiler reads" {
