@@ -4,9 +4,9 @@
     desk.py [--program PROGRAM] [--ring PROGRAM] [--clients 1,8,64] [--cores 1,2,4] [--repeats N] [--timers N] [--limit SECONDS]
 
 The programs are build/desk_threads and build/desk_ring: bench/desk_threads.c says what a client does and what is timed, and
-bench/desk_ring.cpp what the owner of the rings does. Each row is one number of clients and of cores: a desk with lines of 64
-(and room for 1,024 words), one with lines of 1,024 (room 4,096), C++ rings of both sizes, and the mutex. The five take
-turns. Rates are medians of the repeats, with the least and the greatest in parentheses. Percentiles are medians too, and
+bench/desk_ring.cpp what the owner of the rings does. A row is one way, for one number of clients and of cores: a desk with lines
+of 64 (and room for 1,024 words), one with lines of 1,024 (room 4,096), C++ rings of both sizes, or the mutex. The five
+take turns. Rates are medians of the repeats, with the least and the greatest in parentheses. Percentiles are medians too, and
 `most` is the most of all repeats.
 
 --limit is for all runs together, 170 seconds by default. What is not reached by then is left out, and a line says how

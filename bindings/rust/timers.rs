@@ -137,7 +137,7 @@ pub struct Counts {
     pub starts: u64,
     /// How often a timer moved to a lower wheel.
     pub moves: u64,
-    /// Buckets that ticks came to, empty ones too.
+    /// Buckets that ticks came to, empty ones too. Of a jump of many ticks it counts only some: timers(3), timers_counts.
     pub visits: u64,
 }
 
@@ -437,8 +437,7 @@ impl Timers {
         Some(unsafe { timers_find_next(&mut self.held) }).filter(|&tick| tick != NEVER)
     }
 
-    /// How often timers were started and moved to a lower wheel, and to how many buckets ticks came, since the timers
-    /// were made.
+    /// The starts, the moves to a lower wheel and the visits of buckets since the timers were made.
     #[must_use]
     pub fn counts(&self) -> Counts {
         let mut counts = Counts::default();
