@@ -2,7 +2,7 @@
 "use strict";
 
 const MAX_ARROWS = 12;   // of one step
-const READ_FIRST = 2000; // milliseconds that Play rests, at speed 1, where a timer moves or comes out
+const READ_FIRST = 2000; // milliseconds that Play rests, at speed 1, where a timer moves or expires
 const READ_LETTER = 20;  // and for each letter that is said there
 const EDGE = 8;          // pixels between what is brought into sight and the edge of the screen
 
@@ -266,7 +266,7 @@ function pause() {
   $("news").setAttribute("aria-live", "polite");
 }
 
-// How long Play rests at a step: at speed 1 a second, and longer where a timer moves or comes out, by what is said.
+// How long Play rests at a step: at speed 1 a second, and longer where a timer moves or expires, by what is said.
 function rest(step) {
   const isNews =
       step > 0 && play.steps[step - 1].events.some((event) => event.kind === "moved" || event.kind === "expired");
