@@ -1,6 +1,7 @@
-"""The shortest whole use from Python: three timers, of which one is stopped.
+"""The shortest whole use from Python: three timers, of which one is stopped. In the repository:
 
-    pip install ./bindings/python && python3 examples/c/first.py
+    python3 -m venv build/venv && build/venv/bin/pip install ./bindings/python
+    build/venv/bin/python examples/c/first.py
 """
 from timers import Timers
 
