@@ -4,8 +4,8 @@
 //!     timer_limits            takes all of them to their limits, and prints the name of each
 //!     timer_limits NAME       the one with this name
 //!
-//! No contract can say that a call fails only if an allocation was refused: a body that gives up at some
-//! size, or always (`always_out_of_memory`), would meet it. It fails here. The exit status is 1 if something
+//! No contract can say that a call fails only if an allocation was refused: a body that is always out of memory, or
+//! from some size on, would meet it. It fails here. The exit status is 1 if something
 //! was refused or answered otherwise.
 #![tactic(auto)]
 

@@ -97,7 +97,7 @@ IsReasonAt reasons.LeadingZero bytes at = IsDigitAt bytes at × IsAfterZero byte
 IsReasonAt reasons.OutOfRange bytes at = LeavesRange bytes at
 IsReasonAt reasons.OutOfTicks bytes at = LeavesRange bytes at
 
--- a field is named for these reasons alone, and of ticks for the last alone
+-- a field is named for these reasons alone: for `OutOfTicks` the count of ticks, for `OutOfRange` another
 abbrev pub NamesField : LineReason → Option Field → Type 0
 NamesField reasons.MissingField field = field ≢ None
 NamesField reasons.NotANumber field = field ≢ None

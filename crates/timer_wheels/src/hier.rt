@@ -322,8 +322,8 @@ impl Wheel for HierWheel {
         self.wheels.next_deadline()
     }
 
-    /// From the first call that walks a bucket on, first deadlines are kept, so that most calls need no walk. That of
-    /// a bucket is lost if the last timer that has it is stopped or restarted, and others are left there.
+    /// From the first call that walks a bucket on, first deadlines are kept, so that most calls need no walk. That of a
+    /// bucket is lost if the last timer that has it is stopped, or restarted for later, and others are left there.
     fn find_next(&mut self) -> Option<u64> {
         self.wheels.find_next()
     }
