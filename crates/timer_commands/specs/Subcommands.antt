@@ -64,9 +64,9 @@ HasServedStreams on_bad Adds before bytes old new result =
       faults = new.faults;
     }) result
 
--- 0: the input came to its end, no line was bad, and the whole text was written; 1: some line was bad, each bad
--- one was reported, and the whole text of the others was written; or serving failed, and `told` is the writer of
--- reports before the failure's own report, which no clause describes
+-- 0: the input came to its end, no line was bad, and the whole text was written; 1: some line was bad, each was
+-- reported until the writer of reports failed, and the whole text of the others was written; or serving failed, and
+-- `told` is the writer of reports before the failure's own report, which no clause describes
 abbrev pub HasAnswered : {R S F : Type 0} → OnBadLine → Decoration → FacilityState → Bytes R S F
     → (old new : Channels R S F) → ℕ → Type 0
 HasAnswered {R} {S} {F} on_bad Adds before bytes old new status =

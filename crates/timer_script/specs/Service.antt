@@ -210,7 +210,7 @@ HasServed server old new (Ok clean) = (came : List ℕ) × (events : List Event)
     × HasEnded server.on_bad clean server.contents old.faults new.faults came events
     × HasAnsweredAll server new.peer events text × HasTalked server old.peer new.peer came text true
     × AreGood new.peer
--- a read failed, each complete line that came is answered, or was reported
+-- a read failed, each complete line that came is answered, or was reported as above
 HasServed server old new (Err faults.Read) = (s : FacilityState)
     × HasServedAll server (HasPassed server.on_bad AreSoFar server.contents old.faults new.faults) old.peer new.peer s
     × (new.peer.read_failed ≡ true) × (new.peer.write_failed ≡ false)
@@ -233,7 +233,7 @@ HasServed server old new (Err faults.Write) =
     × HasAnsweredAll server new.peer events (sent ++ unsent)
     × HasTalked server old.peer new.peer came sent flushed))
     × (new.peer.read_failed ≡ false) × (new.peer.write_failed ≡ true)
--- 2^64 - 1 bytes came or more, and each complete line of them is answered, or was reported
+-- 2^64 - 1 bytes came or more, and each complete line of them is answered, or was reported as above
 HasServed server old new (Err faults.TooLong) = (s : FacilityState)
     × (served : HasServedAll server (HasPassed server.on_bad AreSoFar server.contents old.faults new.faults)
     old.peer new.peer s)

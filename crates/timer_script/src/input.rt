@@ -52,8 +52,8 @@ fn read_once<R: Read>(
 
 /// The bytes up to the reader's end.
 ///
-/// Fails with `Read` if the reader failed, and with `TooLong` once it gave more than `MAX_BYTES`
-/// bytes, of which one is read.
+/// Fails with `Read` if the reader failed, and with `TooLong`, or out of memory, once it gave more than
+/// `MAX_BYTES` bytes, of which one is read.
 #[tactic(auto, using(crate::proofs::KnownBytes::reads_more))]
 pub fn read_script<R: Read>(alloc: Global, reader: &mut Watched<R>) -> Result<Vec<u8>, ReadFault>
     requires { reader.old.failed ≡ false }

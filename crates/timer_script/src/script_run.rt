@@ -219,8 +219,8 @@ pub fn answer_to<W: Wheel + Drop>(
 /// Fails with `Read` only if the reader failed in this call, and with `Write` only if the writer
 /// did. No error is retried. After `Write` a prefix of the text was written, of that many bytes; after
 /// any other fault nothing was. At most one byte more is read than a script may have, and if that
-/// many came the run fails with `TooLong`. Neither the reader nor the writer may have failed before,
-/// and nothing may be pending in the facility or wait in it.
+/// many came the run fails with `TooLong`, or out of memory. Neither the reader nor the writer may have
+/// failed before, and nothing may be pending in the facility or wait in it.
 pub fn run<R: Read, S: Write, W: Wheel + Drop>(
     alloc: Global,
     reader: &mut Watched<R>,

@@ -3,8 +3,8 @@
 //!     a thread for each client     its end of a ring line     client_work
 //!     the caller's thread          the desk                   drive
 //!
-//! Once all threads are joined, each line is settled and the desk ends. A thread's result is of its own line:
-//! each thread is started with that promise, and a line can't be settled without it.
+//! Then the threads are joined, and if none failed each line is settled and the desk ends. A thread's result is of its
+//! own line: each thread is started with that promise, and a line can't be settled without it.
 ghost use Rattle.std.specs.Prelude.{◌≡◌, ◌<◌, ◌≤◌, [], length, true, IfOk, IfErr, vec_len};
 ghost use Rattle.timer_base.specs.declared.limits.TheConstants.{LAST};
 ghost use Rattle.timer_threads.specs.Children.{threads_of};
