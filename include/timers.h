@@ -143,9 +143,7 @@
  *     2. A pointer argument points to an object of its type that this call alone uses. No two arguments of
  *        one call overlap. It is NULL only where nobody wants the answer: the handle or restarted of a start
  *        or restart (not of timers_set_at, which reads its handle), action, passed, out of timers_expire and
- *        timers_take, handle and out of timers_each. And timers_free(NULL) does nothing. (That is done by inline
- *        functions at the end of this header. The symbols of the library, with which other languages link, need
- *        an object.)
+ *        timers_take, handle and out of timers_each. And timers_free(NULL) does nothing.
  *     3. If an argument is only written (handle, restarted, action, passed, out, counts), the object may be
  *        uninitialised. It has only integers, so any bits are a value, and no function reads it. It is
  *        written exactly if the function's description says so, and otherwise unchanged. The handle of
@@ -270,15 +268,15 @@ enum timers_table {
 
 /* Private: see rule 1. */
 struct timers {
-	void *at;
+	uint64_t at;
 	uint64_t mark;
 	uint64_t last_serial;
 };
-#define TIMERS_INIT { NULL, 0, 0 }
+#define TIMERS_INIT { 0, 0, 0 }
 
 /* The name of a timer. Both fields may be read, stored and compared. */
 struct timers_handle {
-	size_t place;
+	uint64_t place;
 	uint64_t serial;
 };
 
@@ -497,106 +495,6 @@ static TIMERS_INLINE const char *timers_message(enum timers_status status)
 	}
 }
 
-/* NULL for an answer that nobody wants. The library writes to an object each time: these give it one. (Their names
- * begin lines of their own, as they are no functions of the library.) */
-static TIMERS_INLINE void
-timers_null_free(struct timers *t)
-{
-	if (t != NULL)
-		timers_free(t);
-}
-
-TIMERS_CHECKED
-static TIMERS_INLINE enum timers_status
-timers_null_start(struct timers *t, uint64_t interval, uint64_t action, struct timers_handle *handle)
-{
-	struct timers_handle unwanted;
-
-	return timers_start(t, interval, action, handle != NULL ? handle : &unwanted);
-}
-
-TIMERS_CHECKED
-static TIMERS_INLINE enum timers_status
-timers_null_start_at(struct timers *t, uint64_t deadline, uint64_t action, struct timers_handle *handle)
-{
-	struct timers_handle unwanted;
-
-	return timers_start_at(t, deadline, action, handle != NULL ? handle : &unwanted);
-}
-
-TIMERS_CHECKED
-static TIMERS_INLINE enum timers_status
-timers_null_restart(struct timers *t, struct timers_handle handle, uint64_t interval, uint64_t action,
-                    struct timers_handle *restarted)
-{
-	struct timers_handle unwanted;
-
-	return timers_restart(t, handle, interval, action, restarted != NULL ? restarted : &unwanted);
-}
-
-TIMERS_CHECKED
-static TIMERS_INLINE enum timers_status
-timers_null_restart_at(struct timers *t, struct timers_handle handle, uint64_t deadline, uint64_t action,
-                       struct timers_handle *restarted)
-{
-	struct timers_handle unwanted;
-
-	return timers_restart_at(t, handle, deadline, action, restarted != NULL ? restarted : &unwanted);
-}
-
-static TIMERS_INLINE enum timers_status
-timers_null_stop(struct timers *t, struct timers_handle handle, uint64_t *action)
-{
-	uint64_t unwanted;
-
-	return timers_stop(t, handle, action != NULL ? action : &unwanted);
-}
-
-static TIMERS_INLINE enum timers_status
-timers_null_advance(struct timers *t, uint64_t most, uint64_t *passed)
-{
-	uint64_t unwanted;
-
-	return timers_advance(t, most, passed != NULL ? passed : &unwanted);
-}
-
-static TIMERS_INLINE bool
-timers_null_take(struct timers *t, uint64_t tick, struct timers_expired *out)
-{
-	struct timers_expired unwanted;
-
-	return timers_take(t, tick, out != NULL ? out : &unwanted);
-}
-
-static TIMERS_INLINE bool
-timers_null_expire(struct timers *t, struct timers_expired *out)
-{
-	struct timers_expired unwanted;
-
-	return timers_expire(t, out != NULL ? out : &unwanted);
-}
-
-static TIMERS_INLINE bool
-timers_null_each(const struct timers *t, size_t *cursor, struct timers_handle *handle,
-                 struct timers_expired *out)
-{
-	struct timers_handle unwanted_handle;
-	struct timers_expired unwanted;
-
-	return timers_each(t, cursor, handle != NULL ? handle : &unwanted_handle, out != NULL ? out : &unwanted);
-}
-
-#define timers_free timers_null_free
-#define timers_start timers_null_start
-#define timers_start_at timers_null_start_at
-#define timers_restart timers_null_restart
-#define timers_restart_at timers_null_restart_at
-#define timers_stop timers_null_stop
-#define timers_advance timers_null_advance
-#define timers_take timers_null_take
-#define timers_expire timers_null_expire
-#define timers_each timers_null_each
-
 /* The layout that the library was built for. */
 #if defined(__cplusplus)
 #define TIMERS_ASSERT(fact, says) static_assert(fact, says)
@@ -605,7 +503,6 @@ timers_null_each(const struct timers *t, size_t *cursor, struct timers_handle *h
 #else
 #define TIMERS_ASSERT(fact, says) _Static_assert(fact, says)
 #endif
-TIMERS_ASSERT(sizeof(void *) == 8 && sizeof(size_t) == 8, "a 64-bit platform");
 TIMERS_ASSERT(sizeof(enum timers_status) == 4, "a status is 32 bits: no -fshort-enums");
 TIMERS_ASSERT(sizeof(bool) == 1, "a bool is one byte");
 TIMERS_ASSERT(sizeof(struct timers) == 24 && offsetof(struct timers, at) == 0

@@ -227,18 +227,18 @@ enum timers_word_kind {
 
 /* Private: see rule 1. */
 struct timers_desk {
-	void *at;
+	uint64_t at;
 	uint64_t mark;
 	uint64_t lives;    /* how many desks were made in it: rule 5 */
 };
 struct timers_line {
-	void *at;
+	uint64_t at;
 	uint64_t mark;
 	uint64_t client;   /* the number of its client, which may be read */
 	uint64_t life;     /* `lives` of its desk when it was made */
 };
-#define TIMERS_DESK_INIT { NULL, 0, 0 }
-#define TIMERS_LINE_INIT { NULL, 0, 0, 0 }
+#define TIMERS_DESK_INIT { 0, 0, 0 }
+#define TIMERS_LINE_INIT { 0, 0, 0, 0 }
 
 /* What a desk is made with. `size` is sizeof(struct timers_desk_config), by which a library tells the struct from one
  * of a later header that has more members: { .size = sizeof config, .capacity = 1000, .. }.
@@ -249,12 +249,13 @@ struct timers_line {
  * its last word is received, and a request until its answer is. With room 2 no request can stop or restart a timer. A
  * client keeps at most room - 1 timers. timers_desk_new allocates the outbox: 56 bytes for each word of room. */
 struct timers_desk_config {
-	size_t size;           /* sizeof(struct timers_desk_config) */
+	uint64_t size;          /* sizeof(struct timers_desk_config) */
 	uint64_t first_tick;   /* the clock begins at it: up to TIMERS_LAST, of TIMERS_CLOCK TIMERS_CLOCK_LAST */
 	uint64_t capacity;     /* the most timers that may be pending at a time: 1 to 1,048,576 */
-	size_t room;           /* how many words each client's outbox has room for: 2 to 65,536 */
-	size_t line;           /* how many requests, and how many words, a line has room for: 1 to 65,536 */
+	uint64_t room;          /* how many words each client's outbox has room for: 2 to 65,536 */
+	uint64_t line;          /* how many requests, and how many words, a line has room for: 1 to 65,536 */
 	uint32_t table;        /* the slots of the wheels: TIMERS_WIDE, which is 0, or TIMERS_CLOCK */
+	uint32_t : 32;         /* so that the size is the same everywhere */
 };
 
 /* A message to a client. A member that its kind does not set is 0. */
