@@ -14,7 +14,7 @@ Timers("lib/libtimers.so.1").
 # SPDX-License-Identifier: MIT OR Apache-2.0
 import ctypes
 import operator
-from ctypes import POINTER, Structure, byref, c_bool, c_size_t, c_uint32, c_uint64, c_void_p
+from ctypes import POINTER, Structure, byref, c_bool, c_size_t, c_uint32, c_uint64
 
 OK, NOT_OPEN, OPEN, NO_TABLE, NO_MEMORY, DUE, NOT_PENDING, ZERO_INTERVAL, TOO_LATE, SERIALS_SPENT, CLOCK_END = range(11)
 WIDE, CLOCK = 0, 1
@@ -49,11 +49,11 @@ def check(status):
 
 
 class Held(Structure):
-    _fields_ = [("at", c_void_p), ("mark", c_uint64), ("last_serial", c_uint64)]
+    _fields_ = [("at", c_uint64), ("mark", c_uint64), ("last_serial", c_uint64)]
 
 
 class Handle(Structure):
-    _fields_ = [("place", c_size_t), ("serial", c_uint64)]
+    _fields_ = [("place", c_uint64), ("serial", c_uint64)]
 
     def __init__(self, *numbers):
         super().__init__(*map(word, numbers))
@@ -91,7 +91,7 @@ CALLS = {
     "wakeup": (c_uint64, [POINTER(Held)]),
     "next": (c_uint64, [POINTER(Held)]),
     "find_next": (c_uint64, [POINTER(Held)]),
-    "each": (c_bool, [POINTER(Held), POINTER(c_size_t), POINTER(Handle), POINTER(Expired)]),
+    "each": (c_bool, [POINTER(Held), POINTER(c_uint64), POINTER(Handle), POINTER(Expired)]),
     "counts": (c_uint32, [POINTER(Held), POINTER(Counts)]),
 }
 
@@ -137,7 +137,7 @@ class Timers:
 
     def reserve(self, most):
         """Makes room for this many timers at once: no start fails for memory while fewer are held."""
-        self._do("reserve", word(most))
+        self._do("reserve", word(most, 8 * ctypes.sizeof(c_size_t)))
 
     def start(self, interval, action):
         """Starts a timer, and returns its handle."""
@@ -294,7 +294,7 @@ class Timers:
 
         Meanwhile timers may be started, stopped and taken.
         """
-        cursor = c_size_t()
+        cursor = c_uint64()
         while True:
             handle, timer = Handle(), Expired()
             if not self._call["each"](self._held, byref(cursor), byref(handle), byref(timer)):

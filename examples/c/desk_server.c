@@ -221,7 +221,7 @@ int main(void)
 	own(milliseconds());
 	for (size_t c = 0; c < WORKERS; c++) {
 		struct worker *w = &workers[c];
-		size_t standing;
+		uint64_t standing;
 		pthread_join(w->thread, NULL);
 		if (timers_desk_settle(&desk, c, &w->line, &standing) != TIMERS_DESK_OK || standing != 0)
 			fail("a request was left");
