@@ -14,6 +14,7 @@ Timers("lib/libtimers.so.1").
 # SPDX-License-Identifier: MIT OR Apache-2.0
 import ctypes
 import operator
+import os
 from ctypes import POINTER, Structure, byref, c_bool, c_size_t, c_uint32, c_uint64
 
 OK, NOT_OPEN, OPEN, NO_TABLE, NO_MEMORY, DUE, NOT_PENDING, ZERO_INTERVAL, TOO_LATE, SERIALS_SPENT, CLOCK_END = range(11)
@@ -67,6 +68,12 @@ class Counts(Structure):
     _fields_ = [("starts", c_uint64), ("moves", c_uint64), ("visits", c_uint64)]
 
 
+def path_of(library):
+    """The library beside this file, where the package of pip has it, or what the loader finds."""
+    beside = os.path.join(os.path.dirname(os.path.abspath(__file__)), library)
+    return beside if os.path.exists(beside) else library
+
+
 CALLS = {
     "new": (c_uint32, [POINTER(Held), c_uint32, c_uint64]),
     "free": (None, [POINTER(Held)]),
@@ -104,7 +111,7 @@ class Timers:
 
     def __init__(self, library="libtimers.so.1", table=WIDE, first_tick=0):
         # Each call takes little time: so Python's lock is held meanwhile, and they come one at a time.
-        loaded = ctypes.PyDLL(library)
+        loaded = ctypes.PyDLL(path_of(library))
         self._call = {}
         for name, (result, arguments) in CALLS.items():
             function = getattr(loaded, "timers_" + name)

@@ -19,6 +19,7 @@ library="lib/libtimers.so.1"). With the package of pip: from timers.timers_desk 
 import ctypes
 import itertools
 import operator
+import os
 from ctypes import POINTER, Structure, byref, c_bool, c_size_t, c_uint32, c_uint64
 
 (OK, NOT_OPEN, OPEN, NO_MEMORY, NOT_PENDING, ZERO_INTERVAL, TOO_LATE, SERIALS_SPENT, CLOCK_END, CLOSED, CAPACITY, NO_CLIENT,
@@ -100,8 +101,14 @@ class HeldLine(Structure):
     _fields_ = [("at", c_uint64), ("mark", c_uint64), ("client", c_uint64), ("life", c_uint64)]
 
 
+def path_of(library):
+    """The library beside this file, where the package of pip has it, or what the loader finds."""
+    beside = os.path.join(os.path.dirname(os.path.abspath(__file__)), library)
+    return beside if os.path.exists(beside) else library
+
+
 def load(path):
-    library = ctypes.CDLL(path)
+    library = ctypes.CDLL(path_of(path))
     desk, line = POINTER(HeldDesk), POINTER(HeldLine)
     for name, result, *arguments in [
             ("desk_new", c_uint32, desk, line, c_size_t, POINTER(Config)), ("desk_free", None, desk),
