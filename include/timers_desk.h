@@ -138,7 +138,8 @@
  *     Calls whose only struct is const only read it, so that they may run beside each other while no other call
  *     uses the struct.
  *
- *     No call waits for another thread, unless the allocator does. malloc, realloc and free are called only by
+ *     No call waits for another thread, unless the allocator does, or atomics of 64 bits on a processor that has none:
+ *     libatomic gives it these by locks. malloc, realloc and free are called only by
  *     timers_desk_new, timers_desk_open, timers_desk_reserve, timers_desk_close, the serves, timers_line_finish
  *     and the frees. No call is a cancellation point, and none calls back but for the functions of
  *     timers_set_allocator, which must return.
