@@ -157,6 +157,18 @@ lives() {
     runs
 }
 
+@test "events of a loop run as a sorted list says" { build loop_model.c && runs $((10 * calls)) 1; }
+@test "so they do in C++, under the sanitizers" {
+    sanitizers address,undefined
+    build loop_model.cpp $sanitize
+    for seed in 2 3 4; do runs $calls $seed; done
+}
+@test "valgrind finds no error and no leak in a loop" { build loop_model.c && by_valgrind $((calls / 10)) 5; }
+@test "a server that stalls anywhere hangs up on no client that talks, and on each that is silent" {
+    build loop_stalls.c
+    for seed in 0 1 2 3 4 5; do runs $calls $seed; done
+}
+
 # A test and, built with a mistake, that it notices it.
 @test "timers_free frees every block" { build leaks.c $wrap && runs; }
 @test "a free that forgets is noticed" { build leaks.c -DFORGETS $wrap && notices; }
