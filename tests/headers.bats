@@ -181,8 +181,20 @@ int main(void)
 }
 EOT
 )
-# Those of the loop, which needs C of 1999.
+# Those of the loop and of bells, which need C of 1999.
 used_in_loop=$(cat << 'EOT'
+#ifndef TIMERS_LOOP_OWN_CLOCK
+#include <timers_desk_bell.h>
+#define nanoseconds NULL
+static struct timers_bell bell = TIMERS_BELL_INIT;
+static bool rings(struct timers_desk *desk, uint64_t now)
+{
+    timers_bell_ring(&bell);
+    timers_bell_rest(&bell, timers_bell_new(&bell), timers_desk_patience(desk, now, timers_desk_turn(desk, now, &bell, 1)));
+    timers_bell_free(&bell);
+    return true;
+}
+#endif
 #include <timers_loop.h>
 struct connection {
     int socket;
@@ -205,6 +217,9 @@ int main(void)
     timers_event_pause(&loop, &c.idle);
     timers_event_cancel(&loop, &c.idle);
     timers_loop_free(&loop);
+#ifndef TIMERS_LOOP_OWN_CLOCK
+    (void)rings;
+#endif
     return loop.alive > 0;
 }
 EOT
@@ -218,7 +233,7 @@ as_header() {
 }
 # With CLOCK_MONOTONIC, and with a clock of one's own in a standard without it.
 as_loop() {
-    "$2" -x "$1" -std="$3" -Iinclude "${@:4}" -D_POSIX_C_SOURCE=200809L -Dnanoseconds=NULL -c -o "$work/header.o" - <<< "$used_in_loop"
+    "$2" -x "$1" -std="$3" -Iinclude "${@:4}" -D_POSIX_C_SOURCE=200809L -c -o "$work/header.o" - <<< "$used_in_loop"
     "$2" -x "$1" -std="$3" -Iinclude "${@:4}" -DTIMERS_LOOP_OWN_CLOCK -c -o "$work/header.o" - <<< "
 #include <stdint.h>
 static uint64_t nanoseconds(void *data) { return data == 0; }

@@ -110,6 +110,9 @@ threads() {
     build desk_frees.c $sanitize
     runs 30 8
     lives $sanitize
+    build desk_bell.c -Wl,--wrap=write $sanitize
+    runs pass 5000
+    runs load 5000
 }
 # clients that come and go in threads
 lives() {
@@ -164,7 +167,7 @@ serves() {
     build "${@:2}"
     mv "$work/program" "$work/server"
     build idle_load.c
-    for try in 1 2 3; do
+    for _ in 1 2 3; do
         run "$work/program" "$1" $((20000 + RANDOM % 10000)) "$work/server"
         echo "$output"
         [ "$status" -ge 77 ] || return "$status"
@@ -214,6 +217,14 @@ serves() {
 @test "desks and lines may be freed while the other side calls" { build desk_frees.c && runs 200 8; }
 @test "clients come and go in threads, and lines are opened again" { lives; }
 @test "valgrind finds no error and no leak in them, either" { build desk_frees.c && by_valgrind 20 4; }
+
+@test "threads wake each other by bells, and a ring that is needed is a system call" {
+    for pipe in "" -DTIMERS_BELL_PIPE; do
+        build desk_bell.c -Wl,--wrap=write $pipe
+        runs pass 20000
+        runs load 20000
+    done
+}
 
 of_desks() {
     sanitizers $1

@@ -371,10 +371,10 @@ static void edges(void)
 	}
 	MUST(timers_loop_monotonic(NULL) - begin >= 20000000);
 	timers_event_pause(&real, &near);                   /* of one that is not armed: nothing */
-	MUST(real.alive == 0 && timers_event_at(&real, &near, 0) == TIMERS_OK && real.alive == 1);
+	MUST(real.alive == 0 && timers_event_at(&real, &near, 3) == TIMERS_OK && real.alive == 1);
 	near.period = UINT64_MAX;                            /* that is after the last tick: it runs once */
 	timers_loop_tick(&real);
-	MUST(timers_loop_take(&real, &left, &tick) == &near && left == 8 && tick == 0 && real.alive == 0);
+	MUST(timers_loop_take(&real, &left, &tick) == &near && left == 8 && tick == 3 && real.alive == 0);
 
 	/* A callback frees the loop. What was armed is cancelled afterwards, and armed in the next loop. */
 	near.run = ends;
