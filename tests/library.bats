@@ -14,11 +14,13 @@ setup() {
     needs "$CC"
 }
 
-# sanitizers NAMES: the flags, or a skipped test if the compiler has none
+# sanitizers NAMES: the flags, and the library compiled with them; or a skipped test if the compiler has none
 sanitizers() {
     sanitize="-fsanitize=$1 -fno-sanitize-recover=all"
     echo 'int main(void) { return 0; }' > "$work/empty.c"
     "$CC" $sanitize -o "$work/empty" "$work/empty.c" && "$work/empty" || skip "no -fsanitize=$1"
+    library=$work/$1.o
+    [ -e "$library" ] || "$CC" -std=c11 -g -Iinclude $sanitize -c -o "$library" generated/timers.c
 }
 by_valgrind() {
     needs valgrind
