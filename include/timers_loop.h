@@ -89,8 +89,10 @@
 
 #if defined(__GNUC__) || defined(__clang__)
 #define TIMERS_CHECKED __attribute__((warn_unused_result))
+#define TIMERS_APART __attribute__((noinline, unused))
 #else
 #define TIMERS_CHECKED
+#define TIMERS_APART
 #endif
 
 #ifdef __cplusplus
@@ -197,6 +199,32 @@ timers_event_file(struct timers_loop *loop, struct timers_event *event, uint64_t
 	return status;
 }
 
+/* Whether the event is armed, and not paused. */
+static inline bool timers_event_armed(const struct timers_event *event)
+{
+	return event->handle.serial != 0 && event->want != TIMERS_NEVER;
+}
+
+/* What is left of timers_event_at if a store isn't enough. It is no part of its callers, so that these stay short. */
+TIMERS_CHECKED TIMERS_APART
+static enum timers_status
+timers_event_arm(struct timers_loop *loop, struct timers_event *event, uint64_t tick)
+{
+	const bool armed = timers_event_armed(event);
+
+	if (tick > TIMERS_LAST)
+		return TIMERS_TOO_LATE;
+	if (event->handle.serial == 0 || tick + event->slack < event->filed) {
+		const enum timers_status status = timers_event_file(loop, event, tick);
+
+		if (status != TIMERS_OK)
+			return status;
+	}
+	event->want = tick;
+	loop->alive += !armed && !event->background;
+	return TIMERS_OK;
+}
+
 /* Files an event anew, whose timer was taken. That allocates nothing, and fails only after 2^60 starts, or at the last
  * tick of the clock. */
 static inline void
@@ -268,29 +296,14 @@ static inline void timers_loop_free(struct timers_loop *loop)
 	loop->alive = 0;
 }
 
-/* Whether the event is armed, and not paused. */
-static inline bool timers_event_armed(const struct timers_event *event)
-{
-	return event->handle.serial != 0 && event->want != TIMERS_NEVER;
-}
-
 /* Arms the event for a tick, whatever it was armed for. If the tick has passed, it is due at once.
  * TIMERS_NOT_OPEN, TIMERS_TOO_LATE, TIMERS_SERIALS_SPENT, TIMERS_NO_MEMORY: then it is as it was. */
 TIMERS_CHECKED
 static inline enum timers_status timers_event_at(struct timers_loop *loop, struct timers_event *event, uint64_t tick)
 {
-	const bool armed = timers_event_armed(event);
-
-	if (tick > TIMERS_LAST)
-		return TIMERS_TOO_LATE;
-	if (event->handle.serial == 0 || tick + event->slack < event->filed) {
-		const enum timers_status status = timers_event_file(loop, event, tick);
-
-		if (status != TIMERS_OK)
-			return status;
-	}
+	if (!timers_event_armed(event) || tick > TIMERS_LAST || tick + event->slack < event->filed)
+		return timers_event_arm(loop, event, tick);
 	event->want = tick;
-	loop->alive += !armed && !event->background;
 	return TIMERS_OK;
 }
 
@@ -426,4 +439,5 @@ static inline size_t timers_loop_dispatch(struct timers_loop *loop, size_t most)
 #endif
 #endif
 #undef TIMERS_CHECKED
+#undef TIMERS_APART
 #endif
