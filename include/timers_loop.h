@@ -145,18 +145,6 @@ struct timers_event {
 
 /* What follows with its name at the beginning of a line is private. */
 
-#ifdef CLOCK_MONOTONIC
-static inline uint64_t
-timers_loop_monotonic(void *data)
-{
-	struct timespec now = { 0, 0 };
-
-	(void)data;
-	clock_gettime(CLOCK_MONOTONIC, &now);
-	return (uint64_t)now.tv_sec * 1000000000 + (uint64_t)now.tv_nsec;
-}
-#endif
-
 /* Looks at the clock. Most looks are in the tick of the one before, and divide nothing. */
 static inline void
 timers_loop_look(struct timers_loop *loop)
@@ -257,6 +245,18 @@ timers_loop_later(const struct timers_loop *loop, uint64_t ticks)
 {
 	return ticks > TIMERS_LAST || loop->later > TIMERS_LAST ? TIMERS_NEVER : loop->later + ticks;
 }
+
+#ifdef CLOCK_MONOTONIC
+/* CLOCK_MONOTONIC in nanoseconds: the clock of a loop that is given none. */
+static inline uint64_t timers_loop_monotonic(void *unused)
+{
+	struct timespec now = { 0, 0 };
+
+	(void)unused;
+	clock_gettime(CLOCK_MONOTONIC, &now);
+	return (uint64_t)now.tv_sec * 1000000000 + (uint64_t)now.tv_nsec;
+}
+#endif
 
 /* Makes a loop with ticks of `length` nanoseconds, 1 or more. `clock` returns nanoseconds from some start, and is given
  * `data`. NULL stands for CLOCK_MONOTONIC. `loop` begins as TIMERS_LOOP_INIT or as 0 bytes. Before this has returned
