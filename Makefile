@@ -21,19 +21,17 @@
 # make clean       removes what make built
 #
 # CC is the C compiler, by default cc: CC=aarch64-linux-gnu-gcc builds for another processor. CPPFLAGS, CFLAGS and LDFLAGS are
-# its flags.
+# its flags. With CFLAGS=-flto programs that do so too inline calls of the library.
 #
 # With the toolchain (rt):
 #
 # make prove       proves program and libraries, writes what they compile to into generated/, and builds from that
 # make try         plays a script with an unproved build that has checks at run time (SCRIPT=, ARGUMENTS=)
-# make generate    as make prove, for each processor, and builds nothing
+# make generate    as make prove, and builds nothing
 # make soak        64 clients of 10,000 timers each in threads, 100 times; prints progress
 # make bench       measures the wheels against others (bench/README.md)
 # make bench-lines measures the owner's desk, its flushes and clients in threads against others
 
-PROCESSOR := $(shell uname -m)
-GENERATED := $(wildcard generated/* generated/*/*)
 KIT = $(dir $(shell rt doc))
 SOAK = crates/timer_soak/out/timer_soak
 DESK_BENCH = crates/timer_desk_bench/out/timer_desk_bench
@@ -45,12 +43,13 @@ all: timers lib
 
 .DELETE_ON_ERROR:
 
-timers: tools/program build/flags $(GENERATED) | tools/install/timers.1
+timers: tools/program tools/hardening build/flags generated/program.c | tools/install/timers.1
 	tools/program timers
 
 lib: build/lib/libtimers.a pages
 
-build/lib/libtimers.a: tools/lib build/flags tools/install/version tools/install/timers.map $(GENERATED)
+build/lib/libtimers.a: tools/lib tools/hardening build/flags tools/install/version tools/install/timers.map generated/timers.c \
+    include/timers.h include/timers_desk.h
 	tools/lib build/lib
 
 # Another compiler or other flags build all anew.
@@ -74,8 +73,7 @@ run: all
 test:
 	tools/gate
 
-prove:
-	PROCESSORS=$(PROCESSOR) tools/generate
+prove: generate
 	$(MAKE) all
 
 try:

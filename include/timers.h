@@ -60,10 +60,10 @@
  *     The clock of TIMERS_CLOCK ends after 100 days. Before that, free the timers, make them again at tick
  *     0 and start what is left. That of TIMERS_WIDE has ticks for 36 million years of milliseconds.
  *
- *     The library is proved, but for the few lines of C that allocate, timers_set_allocator among them, and the
- *     inline functions of this header, which are tested. Each other function meets the contract that the sources
- *     state for it (crates/timer_c/src/exports.rt), for every call that keeps the rules below. Nothing checks that
- *     a caller keeps them.
+ *     The functions are proved, and translated into C. Each of them meets the contract that the sources state for it
+ *     (crates/timer_c/src/exports.rt), for every call that keeps the rules below. Nothing checks that a caller keeps
+ *     them. Not proved, but tested, are the translation and the C around it: it allocates, takes NULL where nobody
+ *     wants an answer, and has timers_set_allocator and timers_message.
  *
  * COSTS
  *     The timers are in arrays, and each is in the bucket of a wheel. A bucket of the lowest wheel has one
@@ -114,6 +114,8 @@
  *     grows, the larger one to twice its length. So above some 1,000 timers they have 64 to 132 bytes for each, of
  *     the most that were ever held. With a timers_reserve before the first start they have 64 for each, up to its room.
  *
+ *     No block has more than SIZE_MAX / 2 bytes. A call that needed one returns TIMERS_NO_MEMORY.
+ *
  *     Memory is kept for later starts until timers_free. It can't be given back in part, since a timer stays
  *     at the place that its handle has. A caller that wants it back starts what is left in a second `struct
  *     timers`, and frees the first.
@@ -141,11 +143,8 @@
  *        be moved by a memcpy after which the old one is not used. No function, timers_new included, may be
  *        given uninitialised memory: it could not tell whether that owns timers.
  *     2. A pointer argument points to an object of its type that this call alone uses. No two arguments of
- *        one call overlap. It is NULL only where nobody wants the answer: the handle or restarted of a start
- *        or restart (not of timers_set_at, which reads its handle), action, passed, out of timers_expire and
- *        timers_take, handle and out of timers_each. And timers_free(NULL) does nothing. (That is done by inline
- *        functions at the end of this header. The symbols of the library, with which other languages link, need
- *        an object.)
+ *        one call overlap. It is NULL only where nobody wants the answer: an argument that is only written
+ *        (rule 3), but not `out` of timers_expire_batch. And timers_free(NULL) does nothing.
  *     3. If an argument is only written (handle, restarted, action, passed, out, counts), the object may be
  *        uninitialised. It has only integers, so any bits are a value, and no function reads it. It is
  *        written exactly if the function's description says so, and otherwise unchanged. The handle of
@@ -193,7 +192,7 @@
  *     timer. timers_free and timers_clear drop the timers and do not return their actions. To release these
  *     first:
  *
- *         size_t cursor = 0;
+ *         uint64_t cursor = 0;
  *         struct timers_handle handle;
  *         struct timers_expired timer;
  *         while (timers_each(&t, &cursor, &handle, &timer))
@@ -270,15 +269,15 @@ enum timers_table {
 
 /* Private: see rule 1. */
 struct timers {
-	void *at;
+	uint64_t at;
 	uint64_t mark;
 	uint64_t last_serial;
 };
-#define TIMERS_INIT { NULL, 0, 0 }
+#define TIMERS_INIT { 0, 0, 0 }
 
 /* The name of a timer. Both fields may be read, stored and compared. */
 struct timers_handle {
-	size_t place;
+	uint64_t place;
 	uint64_t serial;
 };
 
@@ -395,7 +394,7 @@ enum timers_status timers_look(const struct timers *t, struct timers_handle hand
  * keeps its place, so after it was found it is not met again under its new handle. One that is started may be
  * found or not. A whole iteration takes time for the most timers that were ever held at once, whatever
  * timers_reserve made room for. */
-bool timers_each(const struct timers *t, size_t *cursor, struct timers_handle *handle,
+bool timers_each(const struct timers *t, uint64_t *cursor, struct timers_handle *handle,
                  struct timers_expired *out);
 
 /* Advances the clock by one tick. The timers with that deadline expire, and wait for timers_expire.
@@ -497,106 +496,6 @@ static TIMERS_INLINE const char *timers_message(enum timers_status status)
 	}
 }
 
-/* NULL for an answer that nobody wants. The library writes to an object each time: these give it one. (Their names
- * begin lines of their own, as they are no functions of the library.) */
-static TIMERS_INLINE void
-timers_null_free(struct timers *t)
-{
-	if (t != NULL)
-		timers_free(t);
-}
-
-TIMERS_CHECKED
-static TIMERS_INLINE enum timers_status
-timers_null_start(struct timers *t, uint64_t interval, uint64_t action, struct timers_handle *handle)
-{
-	struct timers_handle unwanted;
-
-	return timers_start(t, interval, action, handle != NULL ? handle : &unwanted);
-}
-
-TIMERS_CHECKED
-static TIMERS_INLINE enum timers_status
-timers_null_start_at(struct timers *t, uint64_t deadline, uint64_t action, struct timers_handle *handle)
-{
-	struct timers_handle unwanted;
-
-	return timers_start_at(t, deadline, action, handle != NULL ? handle : &unwanted);
-}
-
-TIMERS_CHECKED
-static TIMERS_INLINE enum timers_status
-timers_null_restart(struct timers *t, struct timers_handle handle, uint64_t interval, uint64_t action,
-                    struct timers_handle *restarted)
-{
-	struct timers_handle unwanted;
-
-	return timers_restart(t, handle, interval, action, restarted != NULL ? restarted : &unwanted);
-}
-
-TIMERS_CHECKED
-static TIMERS_INLINE enum timers_status
-timers_null_restart_at(struct timers *t, struct timers_handle handle, uint64_t deadline, uint64_t action,
-                       struct timers_handle *restarted)
-{
-	struct timers_handle unwanted;
-
-	return timers_restart_at(t, handle, deadline, action, restarted != NULL ? restarted : &unwanted);
-}
-
-static TIMERS_INLINE enum timers_status
-timers_null_stop(struct timers *t, struct timers_handle handle, uint64_t *action)
-{
-	uint64_t unwanted;
-
-	return timers_stop(t, handle, action != NULL ? action : &unwanted);
-}
-
-static TIMERS_INLINE enum timers_status
-timers_null_advance(struct timers *t, uint64_t most, uint64_t *passed)
-{
-	uint64_t unwanted;
-
-	return timers_advance(t, most, passed != NULL ? passed : &unwanted);
-}
-
-static TIMERS_INLINE bool
-timers_null_take(struct timers *t, uint64_t tick, struct timers_expired *out)
-{
-	struct timers_expired unwanted;
-
-	return timers_take(t, tick, out != NULL ? out : &unwanted);
-}
-
-static TIMERS_INLINE bool
-timers_null_expire(struct timers *t, struct timers_expired *out)
-{
-	struct timers_expired unwanted;
-
-	return timers_expire(t, out != NULL ? out : &unwanted);
-}
-
-static TIMERS_INLINE bool
-timers_null_each(const struct timers *t, size_t *cursor, struct timers_handle *handle,
-                 struct timers_expired *out)
-{
-	struct timers_handle unwanted_handle;
-	struct timers_expired unwanted;
-
-	return timers_each(t, cursor, handle != NULL ? handle : &unwanted_handle, out != NULL ? out : &unwanted);
-}
-
-#define timers_free timers_null_free
-#define timers_start timers_null_start
-#define timers_start_at timers_null_start_at
-#define timers_restart timers_null_restart
-#define timers_restart_at timers_null_restart_at
-#define timers_stop timers_null_stop
-#define timers_advance timers_null_advance
-#define timers_take timers_null_take
-#define timers_expire timers_null_expire
-#define timers_each timers_null_each
-
 /* The layout that the library was built for. */
 #if defined(__cplusplus)
 #define TIMERS_ASSERT(fact, says) static_assert(fact, says)
@@ -605,8 +504,9 @@ timers_null_each(const struct timers *t, size_t *cursor, struct timers_handle *h
 #else
 #define TIMERS_ASSERT(fact, says) _Static_assert(fact, says)
 #endif
-TIMERS_ASSERT(sizeof(void *) == 8 && sizeof(size_t) == 8, "a 64-bit platform");
+#if !defined(__ARM_EABI__) || defined(__linux__)   /* without a system Arm's compilers have short enums */
 TIMERS_ASSERT(sizeof(enum timers_status) == 4, "a status is 32 bits: no -fshort-enums");
+#endif
 TIMERS_ASSERT(sizeof(bool) == 1, "a bool is one byte");
 TIMERS_ASSERT(sizeof(struct timers) == 24 && offsetof(struct timers, at) == 0
               && offsetof(struct timers, mark) == 8 && offsetof(struct timers, last_serial) == 16,

@@ -292,7 +292,7 @@ misuses_rust() { # misuses_rust FILE COUNT
 # ignores CALL: compiles a call whose status is not read
 ignores() {
     echo "$1"
-    "$CC" $of_c -Wno-unused-parameter -Wno-missing-prototypes -c -o /dev/null -x c - << EOT
+    "$CC" $of_c -Wno-unused-parameter -Wno-missing-prototypes -c -o "$work/ignored.o" -x c - << EOT
 #include <timers_desk.h>
 void f(struct timers *t, struct timers_handle *h, struct timers_desk *d, struct timers_line *l, struct timers_word *w, uint64_t *n, size_t *s)
 { $1; }

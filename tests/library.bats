@@ -1,6 +1,6 @@
 #!/usr/bin/env bats
 # The programs of examples/c and tests/c, and the wrappers, over the libraries in LIB, by default build/lib. CALLS is how
-# many random calls a run makes. tests/headers.bats has what needs no run, tests/generated.bats the same for aarch64.
+# many random calls a run makes. tests/headers.bats has what needs no run, tests/platforms other processors and systems.
 # shellcheck disable=SC2030,SC2031,SC2086,SC2154
 load helpers
 

@@ -60,8 +60,7 @@ static void *read_all(void *unused)
 	struct timers_expired e;
 	struct timers_handle handle;
 	struct timers_counters counts;
-	uint64_t sum = 0, wrong = 0;
-	size_t cursor = 0;
+	uint64_t sum = 0, wrong = 0, cursor = 0;
 	(void)unused;
 	for (size_t i = 0; i < TIMERS; i++)
 		wrong += timers_look(t, handles[i], &e) != TIMERS_OK || e.action != i;

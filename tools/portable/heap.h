@@ -1,0 +1,52 @@
+/* The memory of the timers, over malloc, realloc and free or what timers_set_allocator was given. By hand: the proofs rest
+ * on what is said of each function. Every alignment that is asked for divides 16, and is at most 8. A block has at most
+ * SIZE_MAX / 2 bytes, so that offsets in it are those of C. */
+#if defined(__GNUC__)
+#define IN_USE_LOAD() __atomic_load_n(&in_use, __ATOMIC_RELAXED)
+#define IN_USE_STORE() __atomic_store_n(&in_use, true, __ATOMIC_RELAXED)
+#else
+#define IN_USE_LOAD() in_use
+#define IN_USE_STORE() (in_use = true)
+#endif
+static byte nothing;                                  /* where a refusal points to: nothing is read or written there */
+static void *(*allocate_block)(size_t) = malloc;
+static void *(*resize_block)(void *, size_t) = realloc;
+static void (*release_block)(void *) = free;
+static volatile bool in_use;                          /* from the first block on the functions stay the same */
+
+static of_i64_i64 answer(void *block)
+{
+	return of_i64_i64_of(block != NULL, (uint64_t)(uintptr_t)(block != NULL ? block : (void *)&nothing));
+}
+
+/* A new block of `size` bytes. For no bytes it is one of `align`: malloc(0) may return null. */
+static of_i64_i64 rattle_alloc(uint64_t size, uint64_t align)
+{
+	IN_USE_STORE();
+	if (size > SIZE_MAX / 2)
+		return answer(NULL);
+	return answer(allocate_block((size_t)(size != 0 ? size : align)));
+}
+
+/* The block with another size. Its first `kept` bytes stay, and it may move. Refused, it is as it was. */
+static of_i64_i64 rattle_realloc(byte *block, uint64_t kept, uint64_t size, uint64_t align)
+{
+	const size_t wanted = (size_t)(size != 0 ? size : align);
+	void *copy;
+
+	if (size > SIZE_MAX / 2)
+		return answer(NULL);
+	if (resize_block != NULL)
+		return answer(resize_block(block, wanted));
+	copy = allocate_block(wanted);
+	if (copy != NULL) {
+		memcpy(copy, block, (size_t)kept);
+		release_block(block);
+	}
+	return answer(copy);
+}
+
+static void rattle_dealloc(byte *block)
+{
+	release_block(block);
+}
