@@ -89,8 +89,10 @@
 
 #if defined(__GNUC__) || defined(__clang__)
 #define TIMERS_CHECKED __attribute__((warn_unused_result))
+#define TIMERS_APART __attribute__((noinline, unused))
 #else
 #define TIMERS_CHECKED
+#define TIMERS_APART
 #endif
 
 #ifdef __cplusplus
@@ -143,18 +145,6 @@ struct timers_event {
 
 /* What follows with its name at the beginning of a line is private. */
 
-#ifdef CLOCK_MONOTONIC
-static inline uint64_t
-timers_loop_monotonic(void *data)
-{
-	struct timespec now = { 0, 0 };
-
-	(void)data;
-	clock_gettime(CLOCK_MONOTONIC, &now);
-	return (uint64_t)now.tv_sec * 1000000000 + (uint64_t)now.tv_nsec;
-}
-#endif
-
 /* Looks at the clock. Most looks are in the tick of the one before, and divide nothing. */
 static inline void
 timers_loop_look(struct timers_loop *loop)
@@ -197,6 +187,32 @@ timers_event_file(struct timers_loop *loop, struct timers_event *event, uint64_t
 	return status;
 }
 
+/* Whether the event is armed, and not paused. */
+static inline bool timers_event_armed(const struct timers_event *event)
+{
+	return event->handle.serial != 0 && event->want != TIMERS_NEVER;
+}
+
+/* What is left of timers_event_at if a store isn't enough. It is no part of its callers, so that these stay short. */
+TIMERS_CHECKED TIMERS_APART
+static enum timers_status
+timers_event_arm(struct timers_loop *loop, struct timers_event *event, uint64_t tick)
+{
+	const bool armed = timers_event_armed(event);
+
+	if (tick > TIMERS_LAST)
+		return TIMERS_TOO_LATE;
+	if (event->handle.serial == 0 || tick + event->slack < event->filed) {
+		const enum timers_status status = timers_event_file(loop, event, tick);
+
+		if (status != TIMERS_OK)
+			return status;
+	}
+	event->want = tick;
+	loop->alive += !armed && !event->background;
+	return TIMERS_OK;
+}
+
 /* Files an event anew, whose timer was taken. That allocates nothing, and fails only after 2^60 starts, or at the last
  * tick of the clock. */
 static inline void
@@ -229,6 +245,18 @@ timers_loop_later(const struct timers_loop *loop, uint64_t ticks)
 {
 	return ticks > TIMERS_LAST || loop->later > TIMERS_LAST ? TIMERS_NEVER : loop->later + ticks;
 }
+
+#ifdef CLOCK_MONOTONIC
+/* CLOCK_MONOTONIC in nanoseconds: the clock of a loop that is given none. */
+static inline uint64_t timers_loop_monotonic(void *unused)
+{
+	struct timespec now = { 0, 0 };
+
+	(void)unused;
+	clock_gettime(CLOCK_MONOTONIC, &now);
+	return (uint64_t)now.tv_sec * 1000000000 + (uint64_t)now.tv_nsec;
+}
+#endif
 
 /* Makes a loop with ticks of `length` nanoseconds, 1 or more. `clock` returns nanoseconds from some start, and is given
  * `data`. NULL stands for CLOCK_MONOTONIC. `loop` begins as TIMERS_LOOP_INIT or as 0 bytes. Before this has returned
@@ -268,29 +296,14 @@ static inline void timers_loop_free(struct timers_loop *loop)
 	loop->alive = 0;
 }
 
-/* Whether the event is armed, and not paused. */
-static inline bool timers_event_armed(const struct timers_event *event)
-{
-	return event->handle.serial != 0 && event->want != TIMERS_NEVER;
-}
-
 /* Arms the event for a tick, whatever it was armed for. If the tick has passed, it is due at once.
  * TIMERS_NOT_OPEN, TIMERS_TOO_LATE, TIMERS_SERIALS_SPENT, TIMERS_NO_MEMORY: then it is as it was. */
 TIMERS_CHECKED
 static inline enum timers_status timers_event_at(struct timers_loop *loop, struct timers_event *event, uint64_t tick)
 {
-	const bool armed = timers_event_armed(event);
-
-	if (tick > TIMERS_LAST)
-		return TIMERS_TOO_LATE;
-	if (event->handle.serial == 0 || tick + event->slack < event->filed) {
-		const enum timers_status status = timers_event_file(loop, event, tick);
-
-		if (status != TIMERS_OK)
-			return status;
-	}
+	if (!timers_event_armed(event) || tick > TIMERS_LAST || tick + event->slack < event->filed)
+		return timers_event_arm(loop, event, tick);
 	event->want = tick;
-	loop->alive += !armed && !event->background;
 	return TIMERS_OK;
 }
 
@@ -426,4 +439,5 @@ static inline size_t timers_loop_dispatch(struct timers_loop *loop, size_t most)
 #endif
 #endif
 #undef TIMERS_CHECKED
+#undef TIMERS_APART
 #endif
