@@ -103,6 +103,28 @@ fn a_client_is_gone(
     Ok(())
 }
 
+/// A client drops its end before it sent anything: the first look at its line finds that nothing comes.
+fn a_client_never_comes(rt: &impl Abort, alloc: Global, capacity: usize) -> Result<(), Fail>
+    requires { (1 ≤ capacity) × (capacity ≤ 65536) }
+{
+    let (end, inlet) = ring_line(alloc, capacity, 1)?;
+    let inlets = one(rt, alloc, inlet);
+    let mut desk = desk_over(rt, alloc, hierarchy(rt, alloc), inlets, 2);
+    has_clients(rt, &desk, 1);
+    same(rt, desk.is_over(0), false);
+    drop(end);
+    same(rt, desk.is_over(0), true);
+    Ok(())
+}
+
+#[test]
+fn the_first_look_finds_that_nothing_comes(rt: HostRuntime) -> Result<(), Fail> {
+    a_client_never_comes(&rt, rt.alloc(), 1)?;
+    a_client_never_comes(&rt, rt.alloc(), 17)?;
+    a_client_never_comes(&rt, rt.alloc(), 1001)?;
+    a_client_never_comes(&rt, rt.alloc(), 60_001)
+}
+
 #[test]
 fn requests_of_a_client_that_is_gone_are_taken_first(rt: HostRuntime) -> Result<(), Fail> {
     for finishes in [false, true] {
