@@ -10,6 +10,7 @@
 # make deb         Debian packages, binary and source: build/deb
 # make hostile     the program under memory limits and input and output errors
 # make fuzz        an hour of scripts, against a model of docs/formats.md (MINUTES=N)
+# make fuzz-loop   ten million random operations of timers_loop.h, against a model, under the sanitizers
 # make bench-scale measures an operation with 1,000 to 10,000,000 timers pending (bench/build/results)
 # make bench-tail  measures how long single ticks and starts take (bench/build/results)
 # make bench-next  measures turns of an event loop that asks for its next deadline (bench/build/results)
@@ -58,7 +59,7 @@ build/flags: FORCE
 FORCE:
 
 # The man pages, from docs/formats.md and the headers.
-pages: tools/install/timers.1 tools/install/timers.3 tools/install/timers_desk.3
+pages: tools/install/timers.1 $(patsubst include/%.h,tools/install/%.3,$(wildcard include/*.h))
 
 tools/install/timers.1: docs/formats.md tools/install/man1 tools/install/version CHANGELOG.md
 	tools/install/man1 > $@
@@ -114,6 +115,10 @@ hostile: all
 fuzz: all
 	tools/fuzz/run ./timers $(MINUTES)
 
+fuzz-loop: lib
+	$(CC) -std=c11 -O1 -g -fsanitize=address,undefined -fno-sanitize-recover=all -Iinclude -o build/loop_model tests/c/loop_model.c build/lib/libtimers.a
+	for seed in 1 2 3 4 5 6 7 8 9 10; do build/loop_model 1000000 $$seed || exit 1; done
+
 soak:
 	cd crates/timer_soak && rt run
 	$(SOAK) long
@@ -129,4 +134,4 @@ clean:
 	rm -rf crates/*/out build timers tools/install/*.[13]
 	$(MAKE) -C bench clean
 
-.PHONY: FORCE all lib pages run test prove try generate install uninstall dist deb bench bench-lines bench-scale bench-tail bench-next bench-desk hostile fuzz soak docs ports clean
+.PHONY: FORCE all lib pages run test prove try generate install uninstall dist deb bench bench-lines bench-scale bench-tail bench-next bench-desk hostile fuzz fuzz-loop soak docs ports clean

@@ -257,7 +257,7 @@ struct timers_desk_config {
 	uint64_t room;         /* how many words each client's outbox has room for: 2 to 65,536 */
 	uint64_t line;         /* how many requests, and how many words, a line has room for: 1 to 65,536 */
 	uint32_t table;        /* the slots of the wheels: TIMERS_WIDE, which is 0, or TIMERS_CLOCK */
-	uint32_t : 32;         /* so that the size is the same on each platform */
+	unsigned int : 32;     /* so that the size is the same on each platform */
 };
 
 /* A message to a client. A member that its kind does not set is 0. */

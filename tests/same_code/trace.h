@@ -1,0 +1,47 @@
+/* What a random program did: a hash of each call with its arguments and results, and of each request for memory. With
+ * --trace each is a line of text, too. */
+/* SPDX-License-Identifier: MIT OR Apache-2.0 */
+#ifndef TRACE_H
+#define TRACE_H
+
+#include <stdbool.h>
+#include <stddef.h>
+#include <stdint.h>
+
+/* How often a call was made at one place of the source. */
+struct call {
+	const char *name;
+	uint64_t times;
+	struct call *next;
+};
+
+/* TOLD(timers_tick, status, ..): the call was made, and these are its arguments and results. */
+#define TOLD(name, ...) \
+	do { \
+		static struct call call_ = { #name, 0, NULL }; \
+		const uint64_t values_[] = { __VA_ARGS__ }; \
+		told(&call_, values_, sizeof values_ / sizeof *values_); \
+	} while (0)
+
+/* Counts a status or another result that a program is to see: `kind` has the enum's name. */
+#define SEEN(kind, number) (seen_##kind[(number) < SEEN_MOST ? (number) : SEEN_MOST - 1]++)
+enum { SEEN_MOST = 32 };
+extern uint64_t seen_timers_status[SEEN_MOST], seen_timers_desk_status[SEEN_MOST], seen_timers_word_kind[SEEN_MOST];
+
+extern bool traces;              /* whether each call is printed */
+extern uint64_t calls;           /* calls of the program so far */
+
+void told(struct call *call, const uint64_t *values, size_t count);
+void told_memory(const char *what, uint64_t size, uint64_t block);
+void begin_trace(void);
+void told_state(void);           /* the bytes of all blocks, as they are now */
+uint64_t trace_hash(void);
+void print_counts(void);
+
+/* The generator of random numbers, of one program. */
+void begin_random(uint64_t seed);
+uint64_t next_random(void);
+uint64_t below(uint64_t limit);      /* 0 to limit - 1 */
+uint64_t below_power(uint64_t bits); /* below a power of two, which is 2 to the `bits` at most: small ones as often as large */
+
+#endif

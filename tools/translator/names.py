@@ -1,0 +1,61 @@
+"""Names of C, and where in crates/ the code of a function is."""
+# SPDX-License-Identifier: MIT OR Apache-2.0
+import os
+import re
+
+TOP = os.path.dirname(os.path.dirname(os.path.dirname(os.path.abspath(__file__))))
+
+
+def path_of(symbol):
+    """The modules and the name of a symbol as "timer_links::ring::grow<..>.7", whose end the toolchain and the linker add."""
+    symbol = re.sub(r'\.\d+$', '', symbol)
+    while '<' in symbol:
+        shorter = re.sub(r'<[^<>]*>', '', symbol)
+        if shorter == symbol:
+            break
+        symbol = shorter
+    parts = [re.sub(r'\W+', '_', part).strip('_') for part in symbol.split('::')]
+    return [part for part in parts if part]
+
+
+class Names(dict):
+    """Of each symbol the name in C: its last two parts, or as many as no other one has, or else with a number."""
+
+    def __init__(self, prefix, symbols):
+        super().__init__()
+        taken = set()
+        for symbol in symbols:
+            self[symbol] = self.free(prefix, path_of(symbol), taken)
+            taken.add(self[symbol])
+
+    @staticmethod
+    def free(prefix, path, taken):
+        for count in range(min(2, len(path)), len(path) + 1):
+            name = prefix + '_'.join(path[-count:])
+            if name not in taken:
+                return name
+        number = 2
+        while f'{name}_{number}' in taken:
+            number += 1
+        return f'{name}_{number}'
+
+
+def source_of(symbol, crates):
+    """The function of the crates that a symbol is, and its file if it is one of ours."""
+    path = path_of(symbol)
+    if len(path) == 1:
+        for crate in crates:
+            folder = f'crates/{crate}/src'
+            for name in sorted(os.listdir(f'{TOP}/{folder}')):
+                if f'fn {symbol}(' in read(f'{TOP}/{folder}/{name}'):
+                    return f'{symbol}: {folder}/{name}'
+    for count in range(len(path) - 1, 0, -1):
+        name = f'crates/{path[0]}/src/{"/".join(path[1:count])}.rt'
+        if count > 1 and os.path.exists(f'{TOP}/{name}'):
+            return f'{"::".join(path)}: {name}'
+    return '::'.join(path)
+
+
+def read(name):
+    with open(name, encoding='utf-8') as file:
+        return file.read()
