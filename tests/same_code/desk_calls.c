@@ -21,7 +21,7 @@ static struct timers_desk_config config;
 static uint64_t status_seen(enum timers_desk_status status)
 {
 	SEEN(timers_desk_status, (uint32_t)status);
-	return (uint32_t)status;
+	return returned((uint32_t)status);
 }
 
 static uint64_t random_ticks(uint64_t from)
@@ -341,7 +341,7 @@ static bool is_answered(struct timers_word *word, uint32_t kind)
 /* Almost all serials are used up, or the client's numbers. The words that count them, at the desk and at the client's end, are those
  * that follow what a few starts return. Each timer is stopped again, and the line is a second one of the client's number,
  * so that nothing else counts alike. */
-static void spend(void)
+static void use_up(void)
 {
 	struct followers serials = { 0 }, next_serials = { 0 }, numbers = { 0 }, next_numbers = { 0 };
 	struct timers_word word;
@@ -367,6 +367,12 @@ static void spend(void)
 		memory_set(&numbers, TIMERS_LAST - 4);
 		memory_set(&next_numbers, TIMERS_LAST - 3);
 	}
+}
+
+static void spend(void)
+{
+	use_up();
+	forget_requests();
 }
 
 static const struct step STEPS[] = {

@@ -482,6 +482,20 @@ last:
   br label %outer
 out:
   ret i64 %s""")
+case('one_of_two', 8, [8, 8], """  %k = and i8 %a, 1
+  switch i8 %k, label %never [
+    i8 1, label %x
+    i8 0, label %y
+  ]
+x:
+  ret i8 %b
+y:
+  %r = add i8 %b, 9
+  ret i8 %r
+never:
+  unreachable""")
+for mask in (2305843009213693944, 2305843009213693951, 536870904, 1152921504606846968):
+    case(f'shift_and_mask_{mask}', 64, [64], f'  %x = lshr i64 %a, 3\n  %r = and i64 %x, {mask}\n  ret i64 %r')
 case('same_way', 8, [8], """  %c = icmp eq i8 %a, 0
   br i1 %c, label %x, label %x
 x:
@@ -625,7 +639,7 @@ REFUSED = [
     ('define void @f(ptr %a) {\n  store volatile i64 0, ptr %a, align 8\n  ret void\n}', 2),
     ('define void @f(ptr %a) {\n  call void @llvm.memset.p0.i64(ptr %a, i8 0, i64 8, i1 true)\n  ret void\n}', 2),
     ('define i64 @f(i64 %a) {\n  %r = shl i64 %a, 64\n  ret i64 %r\n}', 2),
-    ('define void @f() {\n  br label %x\nx:\n  %m = alloca i64, align 8\n  br label %x\n}', 4),
+    ('define void @f() {\n  br label %x\nx:\n  %m = alloca i64, align 8\n  store i64 1, ptr %m, align 8\n  br label %x\n}', 4),
     ('define void @f(i1 %a) {\n  br i1 %a, label %x, label %y\nx:\n  br label %y\ny:\n  br label %x\n}', 1),
     ('@x = thread_local global i64 0, align 8\n', 1),
     ('@x = internal constant i64 0, align 8\n', 1),

@@ -32,7 +32,8 @@ def is_optional(i):
 
 
 class Writer:
-    def __init__(self, function, names, constants):
+    def __init__(self, function, names, constants, words=()):
+        self.words = words if len(words) == len(function.parameters) else ()
         self.function, self.flow, self.names, self.constants = function, function.flow, names, constants
         self.values = {}                                # the expression of each value
         self.waiting = {}                               # those of this block that are written where they are used
@@ -44,8 +45,8 @@ class Writer:
         self.uses = self.count_uses()
 
     def body(self):
-        for parameter in self.function.parameters:
-            e = self.new(parameter.of)
+        for k, parameter in enumerate(self.function.parameters):
+            e = variable(self.words[k]) if self.words else self.new(parameter.of)
             self.values[parameter.name] = e
             self.parameters.append(e.text)
         if self.flow.entry in self.flow.loops:
@@ -345,16 +346,25 @@ class Writer:
         if last.op == 'unreachable':
             return [Statement('unreachable')]
         if last.op == 'switch':
-            return [self.switch(label, last, operands[0], context._replace(leave=None))]
+            return self.switch(label, last, operands[0], context)
         if last.op != 'br':
             last.line.fail('an unknown end of a block')
         arms = [self.jump(label, target, context) for target in dict.fromkeys(last.to)]
         return branch(operands[0], *arms) if len(arms) == 2 else arms[0]
 
     def switch(self, label, last, e, context):
-        cases = [[number(n, last.operands[0][0]) for n, to in last.cases.items() if to == target != last.default]
-                 for target in last.to]
-        return Statement('switch', e, bodies=[self.jump(label, target, context) for target in last.to], cases=cases)
+        """One of two numbers is a branch, if there is no third one."""
+        cases = {target: [number(n, last.operands[0][0]) for n, to in last.cases.items() if to == target] for target in last.to}
+        if self.is_unreachable(last.default) and [len(found) for found in cases.values()] == [1, 1, 0]:
+            first, second, _ = last.to
+            condition = Expression(f'{e} == {cases[first][0]}', expressions.BINARY, [e], opposite=f'{e} != {cases[first][0]}')
+            return branch(condition, self.jump(label, first, context), self.jump(label, second, context))
+        cases[last.default] = []
+        inner = context._replace(leave=None)
+        return [Statement('switch', e, bodies=[self.jump(label, target, inner) for target in cases], cases=list(cases.values()))]
+
+    def is_unreachable(self, label):
+        return self.function.blocks[label][0].op == 'unreachable'
 
 
 EFFECTS = {op: getattr(Writer, op) for op in ('store', 'load', 'atomicrmw', 'barrier', 'call')}

@@ -23,7 +23,7 @@ class Expression:
         self.text, self.level, self.opposite = text, level, opposite
         self.variables = frozenset().union(*[e.variables for e in operands])
         self.reads = reads or any(e.reads for e in operands)
-        self.base, self.offset = base or self, offset
+        self.base, self.offset, self.shifted = base or self, offset, None
 
     def __str__(self):
         """As an operand."""
@@ -85,9 +85,9 @@ def opposite(e):
 
 
 def plus(pointer, offset, inside=True):
-    """A pointer that is moved by a constant."""
-    if not inside:
-        return Expression(f'at({pointer.text}, {number(offset, 64)})', ATOM, [pointer]) if offset else pointer
+    """A pointer that is moved by a constant: to a field, where it is not said that both places are inside one object."""
+    if not inside and offset < 0:
+        return Expression(f'at({pointer.text}, {number(offset, 64)})', ATOM, [pointer])
     base, offset = pointer.base, pointer.offset + offset
     if offset == 0:
         return base
@@ -119,6 +119,12 @@ def binary(i, left, right):
 
 def sum_or_product(i, left, right):
     constant = i.operands[1][1]
+    if i.op == 'and' and isinstance(constant, Number) and left.shifted:
+        # All bits of a shifted number but the lowest: passes write so what is shifted further and back.
+        e, count = left.shifted
+        lowest = (-constant.number & constant.number).bit_length() - 1
+        if constant.number == (1 << i.type - count) - (1 << lowest):
+            return Expression(f'({e} >> {count + lowest}) << {lowest}', BINARY, [e])
     if isinstance(constant, Number) and isinstance(i.operands[0][1], Number):
         left = cast(TYPES[i.type], left)                # C's would be an operation of ints
     if i.op in ('add', 'sub') and isinstance(constant, Number) and constant.number < 0:
@@ -143,6 +149,8 @@ def shift(i, left, right):
     elif isinstance(i.operands[0][1], Number):
         left = cast(TYPES[i.type], left)
     found = Expression(f'{left} {SIGNS[i.op]} {right}', BINARY, [left, right])
+    if i.op == 'lshr' and i.type == 64 and isinstance(count, Number):
+        found.shifted = left, count.number
     return cast(TYPES[i.type], found) if i.type < 32 else found
 
 

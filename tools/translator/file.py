@@ -35,6 +35,7 @@ class File:
 
     def text(self):
         first, second = self.order.parted(self.kind.second)
+        self.inlined = self.order.inlined(first) if second else ()
         made = {STRUCTS: self.structs(), FUNCTIONS: self.constants() + '\n' + self.functions(first), SECOND: self.functions(second)}
         parts = [made[part] if part in made else part if part.startswith('#') else by_hand(part) for part in self.kind.parts]
         head = f'/* {self.kind.title} Made by tools/generate: do not edit.\n * SPDX-License-Identifier: MIT OR Apache-2.0 */'
@@ -48,14 +49,15 @@ class File:
 
     def function(self, function):
         """A call of the API is `static inline`: one function by hand calls it."""
-        writer = Writer(function, self.names, self.module.constants)
+        source, words = source_of(function.name, self.kind.crates)
+        writer = Writer(function, self.names, self.module.constants, words)
         lines = Layout(writer, writer.body()).lines
         parameters = ', '.join(declared(p.of, name) for p, name in zip(function.parameters, writer.parameters)) or 'void'
-        words = 'COLD ' if 'cold' in function.attributes else 'NOINLINE ' if 'noinline' in function.attributes else ''
-        if not words and not function.internal:
-            words = 'inline '
-        head = f'static {words}{declared(function.type, self.names[function.name])}({parameters})'
-        return '\n'.join([f'\n/* {source_of(function.name, self.kind.crates)} */', head, '{', *lines, '}'])
+        kind = 'COLD ' if 'cold' in function.attributes else 'NOINLINE ' if 'noinline' in function.attributes else ''
+        if not kind:
+            kind = 'inline ' if not function.internal else 'ALWAYS_INLINE ' if function.name in self.inlined else ''
+        head = f'static {kind}{declared(function.type, self.names[function.name])}({parameters})'
+        return '\n'.join([f'\n/* {source} */', head, '{', *lines, '}'])
 
     def structs(self):
         """What functions return two values in."""
@@ -139,6 +141,12 @@ class Order:
                 first.add(name)
                 found += self.calls[name]
         return [name for name in self.names if name in first], [name for name in self.names if name not in first]
+
+    def inlined(self, names):
+        """Those without a loop that only calls of the API call: most of a call's time is in them."""
+        callers = {name: [other for other, called in self.calls.items() if name in called] for name in names}
+        return {name for name, found in callers.items() if found and not self.functions[name].flow.loops
+                and not any(self.functions[other].internal for other in found)}
 
 
 def wrapped(text):

@@ -42,8 +42,8 @@ TOKEN = re.compile(r'''\s*(?:
 
 # What promises something, or is about linking, or about how a call is made: read and dropped.
 DROPPED = set('''noundef nonnull readonly writeonly readnone zeroext signext immarg returned unnamed_addr local_unnamed_addr
-    dso_local fastcc nofree dead_on_unwind writable nocapture noreturn nounwind hidden'''.split())
-DROPPED_WITH_MORE = {'captures', 'range', 'dereferenceable', 'dereferenceable_or_null', 'initializes'}
+    dso_local fastcc nofree dead_on_unwind writable noalias noreturn nounwind hidden'''.split())
+DROPPED_WITH_MORE = {'align', 'captures', 'range', 'dereferenceable', 'dereferenceable_or_null', 'initializes'}
 FLAGS = {'nuw', 'nsw', 'exact', 'disjoint', 'nneg', 'samesign', 'inbounds', 'nusw'}
 
 
@@ -128,23 +128,12 @@ class Line:
         return found
 
     def attributes(self):
-        """Those that stand before a value: the alignment of a pointer, or 1, and whether nothing else points there."""
-        alignment, alone = 1, False
-        while True:
-            word = self.peek()
-            if word == 'align':
-                self.next()
-                alignment = self.integer()
-            elif word == 'noalias':
-                self.next()
-                alone = True
-            elif word in DROPPED:
-                self.next()
-            elif word in DROPPED_WITH_MORE:
-                self.next()
+        """Drops those that stand before a value, or with the result or the end of a function's head."""
+        while self.peek() in DROPPED or self.peek() in DROPPED_WITH_MORE:
+            if self.next() == 'align':
+                self.integer()
+            elif self.peek() == '(':
                 self.skip_parentheses()
-            else:
-                return alignment, alone
 
     def skip_parentheses(self):
         self.want('(')
@@ -215,7 +204,7 @@ class Line:
         if word in ('null', 'undef', 'poison', 'zeroinitializer'):
             return Zero()
         if word in ('getelementptr', 'ptrtoint', 'ptrtoaddr', 'inttoptr'):
-            return getattr(self, word)()
+            return self.address(word)
         if word in ('{', '['):
             return Parts(self.listed({'{': '}', '[': ']'}[word], self.typed))
         if word == '<':
@@ -226,38 +215,20 @@ class Line:
             return Parts(parts)
         return self.fail(f'unknown value "{word}"')
 
-    def getelementptr(self):
+    def address(self, word):
+        """An address that is a constant: of bytes behind another one, as a number, or from a number."""
         self.flags()
         self.want('(')
-        self.want_type(8)
-        self.want(',')
-        self.want_type('ptr')
-        base = self.value('ptr')
-        self.want(',')
-        self.want_type(64)
-        offset = self.integer()
+        if word == 'getelementptr':
+            self.want_type(8)
+            self.want(',')
+        self.want_type(64 if word == 'inttoptr' else 'ptr')
+        value = self.integer() if word == 'inttoptr' else self.value('ptr')
+        self.want(',' if word == 'getelementptr' else 'to')
+        self.want_type('ptr' if word == 'inttoptr' else 64)
+        found = Offset(value, self.integer()) if word == 'getelementptr' else (Address if word == 'inttoptr' else AddressOf)(value)
         self.want(')')
-        return Offset(base, offset)
-
-    def ptrtoint(self):
-        self.want('(')
-        self.want_type('ptr')
-        base = self.value('ptr')
-        self.want('to')
-        self.want_type(64)
-        self.want(')')
-        return AddressOf(base)
-
-    ptrtoaddr = ptrtoint
-
-    def inttoptr(self):
-        self.want('(')
-        self.want_type(64)
-        number = self.integer()
-        self.want('to')
-        self.want_type('ptr')
-        self.want(')')
-        return Address(number)
+        return found
 
 
 def size_of(of):
