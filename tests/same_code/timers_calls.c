@@ -330,8 +330,8 @@ void call_timers(uint64_t length)
 	spread = 2 + below(table == TIMERS_CLOCK ? 22 : 58);
 	t = both;
 	name = names;
-	if (below(12) == 0)
-		t->last_serial = TIMERS_LAST - below(64);
+	if (below(8) == 0)
+		t->last_serial = (below(3) != 0 ? TIMERS_LAST : UINT64_C(1) << 32) - below(64);
 	make_new();
 	make_steps(STEPS, sizeof STEPS / sizeof *STEPS, length);
 	told_state();
