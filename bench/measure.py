@@ -34,6 +34,7 @@ SCRIPTS = {
     "scale": ["runs.py", "scale", "--repeats", "3", "--count", "500000"],
     "next": ["runs.py", "next", "--repeats", "3"],
     "desk": ["desk.py", "--repeats", "7"],
+    "peers": ["peers.py"],
 }
 
 

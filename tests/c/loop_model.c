@@ -210,6 +210,8 @@ static void operate(size_t number)
 		tick = highest / length + n;
 		if (depth == 0)
 			tick = tick > 2000 ? tick - below(2000) : tick;
+		if (below(4) == 0 && m->held && m->filed > highest / length + e->slack)
+			tick = m->filed - e->slack;   /* the last one for which its timer may stay */
 		MUST(timers_event_at(&loop, e, tick) == TIMERS_OK);
 		arm(number, tick);
 		break;

@@ -1,0 +1,106 @@
+#!/usr/bin/env python3
+"""Measures build/peers_* and build/counted_*: timers that a user would pick, under three loads of an event loop.
+
+    peers.py [--sizes 1000,10000,100000] [--repeats N] [--peers SET_AT,HEAP] [--only count|time]
+
+Two tables, of what a set, a stop or an expiry takes, all calls of the turns included: instructions, by callgrind, and
+processor time in ns, the median with the least and the greatest of the repeats. Peers that this machine lacks are left out.
+Status 1: a run failed, or two peers disagree on how many timers expired, or on an order that both promise. Status 2: wrong
+arguments, or no program.
+"""
+import argparse
+import os
+import re
+import subprocess
+
+import figures
+from figures import HERE, fail, spread
+
+PEERS = {
+    "SET_AT": "timers_set_at, timers_wakeup",
+    "SET_AT_LTO": "the same, LTO",
+    "FIND_NEXT": "timers_set_at, timers_find_next",
+    "LOOP_CANCEL": "timers_loop.h, cancels",
+    "LOOP_PAUSE": "timers_loop.h, pauses",
+    "LOOP_PAUSE_LTO": "the same, pauses, LTO",
+    "HEAP": "array heap, no order",
+    "HEAP_ORDERED": "array heap, ordered",
+    "WHEEL": "intrusive wheel",
+    "QUEUE": "std::priority_queue",
+    "LIBUV": "libuv",
+    "LIBEVENT": "libevent",
+    "LIBEVENT_COMMON": "libevent, common time-out",
+}
+# Those of one tick come in the order in which they were set. In `resend` events that were pushed back do not.
+ORDERED = ["SET_AT", "SET_AT_LTO", "FIND_NEXT", "HEAP_ORDERED", "WHEEL", "LIBUV"]
+# Ticks by the number of timers, and sets a tick.
+LOADS = {"idle": (lambda n: 7000, 200), "resend": (lambda n: 3000, 200), "expire": (lambda n: max(3000, n // 16), 64)}
+CALLS = ["set", "stop", "take", "next"]
+
+
+def command(program, peer, load, size, is_empty=False):
+    ticks, sets = LOADS[load]
+    return [os.path.join(HERE, "build", f"{program}_{peer}"), load, str(size), str(0 if is_empty else ticks(size)), str(sets)]
+
+
+def output(run):
+    """Of a run: ns, the sets, stops and takes, and the order."""
+    if run.returncode:
+        fail(f"{' '.join(run.args)}: status {run.returncode} {run.stderr.strip()}")
+    words = run.stdout.split()
+    return float(words[0]), [int(word) for word in words[1:4]], words[5]
+
+
+def collected(peer, load, size, is_empty):
+    """Instructions within the calls, and what the run printed."""
+    callgrind = ["valgrind", "--tool=callgrind", "--callgrind-out-file=/dev/null", *(f"--toggle-collect={call}" for call in CALLS)]
+    run = subprocess.run([*callgrind, *command("counted", peer, load, size, is_empty)], capture_output=True, text=True, check=False)
+    found = output(run)
+    return int(re.search(r"Collected : (\d+)", run.stderr)[1]), found[1]
+
+
+def count(peer, load, size):
+    """For an operation: what a run without a turn takes is the start of all timers. Only idle time-outs are of one length."""
+    if peer == "LIBEVENT_COMMON" and load != "idle":
+        return ""
+    whole, operations = collected(peer, load, size, False)
+    return f"{(whole - collected(peer, load, size, True)[0]) / sum(operations):.0f}"
+
+
+def compare(load, size, runs):
+    """Each peer has the same operations, and those that keep an order the same."""
+    for what, peers in ((1, list(runs)), (2, [peer for peer in runs if peer in ORDERED])):
+        if len({str(runs[peer][what]) for peer in peers}) > 1:
+            fail(f"{load}, {size} timers: the peers disagree: {[(peer, runs[peer][what]) for peer in peers]}")
+
+
+def time(peers, load, size, repeats):
+    """The peers take turns."""
+    found = {peer: [] for peer in peers}
+    for _ in range(repeats):
+        runs = {peer: output(subprocess.run(command("peers", peer, load, size), capture_output=True, text=True, check=False)) for peer in peers}
+        compare(load, size, runs)
+        for peer, run in runs.items():
+            found[peer].append(run[0])
+    return [spread(found[peer]) for peer in peers]
+
+
+def main():
+    parser = argparse.ArgumentParser()
+    parser.add_argument("--sizes", default="1000,10000,100000")
+    parser.add_argument("--repeats", type=int, default=5)
+    parser.add_argument("--peers", default=",".join(PEERS))
+    parser.add_argument("--only", choices=["count", "time"])
+    options = parser.parse_args()
+    peers = [peer for peer in options.peers.split(",") if os.path.exists(os.path.join(HERE, "build", f"peers_{peer}"))]
+    if not peers:
+        fail("peers.py: no build/peers_*: run make peers", 2)
+    rows = [(load, int(size)) for load in LOADS for size in options.sizes.split(",")]
+    head = ["load", "timers", *(PEERS[peer] for peer in peers)]
+    if options.only != "time":
+        figures.write("peers", head, [[load, size, *(count(peer, load, size) for peer in peers)] for load, size in rows])
+    if options.only != "count":
+        figures.write("peers_ns", head, [[load, size, *time(peers, load, size, options.repeats)] for load, size in rows])
+
+
+main()
