@@ -10,6 +10,7 @@
 # make deb         Debian packages, binary and source: build/deb
 # make hostile     the program under memory limits and input and output errors
 # make fuzz        an hour of scripts, against a model of docs/formats.md (MINUTES=N)
+# make fuzz-loop   ten million random operations of timers_loop.h, against a model, under the sanitizers
 # make bench-scale measures an operation with 1,000 to 10,000,000 timers pending (bench/build/results)
 # make bench-tail  measures how long single ticks and starts take (bench/build/results)
 # make bench-next  measures turns of an event loop that asks for its next deadline (bench/build/results)
@@ -20,19 +21,17 @@
 # make clean       removes what make built
 #
 # CC is the C compiler, by default cc: CC=aarch64-linux-gnu-gcc builds for another processor. CPPFLAGS, CFLAGS and LDFLAGS are
-# its flags.
+# its flags. With CFLAGS=-flto programs that do so too inline calls of the library.
 #
 # With the toolchain (rt):
 #
 # make prove       proves program and libraries, writes what they compile to into generated/, and builds from that
 # make try         plays a script with an unproved build that has checks at run time (SCRIPT=, ARGUMENTS=)
-# make generate    as make prove, for each processor, and builds nothing
+# make generate    as make prove, and builds nothing
 # make soak        64 clients of 10,000 timers each in threads, 100 times; prints progress
 # make bench       measures the wheels against others (bench/README.md)
 # make bench-lines measures the owner's desk, its flushes and clients in threads against others
 
-PROCESSOR := $(shell uname -m)
-GENERATED := $(wildcard generated/* generated/*/*)
 KIT = $(dir $(shell rt doc))
 SOAK = crates/timer_soak/out/timer_soak
 DESK_BENCH = crates/timer_desk_bench/out/timer_desk_bench
@@ -44,12 +43,13 @@ all: timers lib
 
 .DELETE_ON_ERROR:
 
-timers: tools/program build/flags $(GENERATED) | tools/install/timers.1
+timers: tools/program tools/hardening build/flags generated/program.c | tools/install/timers.1
 	tools/program timers
 
 lib: build/lib/libtimers.a pages
 
-build/lib/libtimers.a: tools/lib build/flags tools/install/version tools/install/timers.map $(GENERATED)
+build/lib/libtimers.a: tools/lib tools/hardening build/flags tools/install/version tools/install/timers.map generated/timers.c \
+    include/timers.h include/timers_desk.h
 	tools/lib build/lib
 
 # Another compiler or other flags build all anew.
@@ -59,7 +59,7 @@ build/flags: FORCE
 FORCE:
 
 # The man pages, from docs/formats.md and the headers.
-pages: tools/install/timers.1 tools/install/timers.3 tools/install/timers_desk.3
+pages: tools/install/timers.1 $(patsubst include/%.h,tools/install/%.3,$(wildcard include/*.h))
 
 tools/install/timers.1: docs/formats.md tools/install/man1 tools/install/version CHANGELOG.md
 	tools/install/man1 > $@
@@ -73,8 +73,7 @@ run: all
 test:
 	tools/gate
 
-prove:
-	PROCESSORS=$(PROCESSOR) tools/generate
+prove: generate
 	$(MAKE) all
 
 try:
@@ -116,6 +115,10 @@ hostile: all
 fuzz: all
 	tools/fuzz/run ./timers $(MINUTES)
 
+fuzz-loop: lib
+	$(CC) -std=c11 -O1 -g -fsanitize=address,undefined -fno-sanitize-recover=all -Iinclude -o build/loop_model tests/c/loop_model.c build/lib/libtimers.a
+	for seed in 1 2 3 4 5 6 7 8 9 10; do build/loop_model 1000000 $$seed || exit 1; done
+
 soak:
 	cd crates/timer_soak && rt run
 	$(SOAK) long
@@ -131,4 +134,4 @@ clean:
 	rm -rf crates/*/out build timers tools/install/*.[13]
 	$(MAKE) -C bench clean
 
-.PHONY: FORCE all lib pages run test prove try generate install uninstall dist deb bench bench-lines bench-scale bench-tail bench-next bench-desk hostile fuzz soak docs ports clean
+.PHONY: FORCE all lib pages run test prove try generate install uninstall dist deb bench bench-lines bench-scale bench-tail bench-next bench-desk hostile fuzz fuzz-loop soak docs ports clean

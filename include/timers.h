@@ -60,10 +60,10 @@
  *     The clock of TIMERS_CLOCK ends after 100 days. Before that, free the timers, make them again at tick
  *     0 and start what is left. That of TIMERS_WIDE has ticks for 36 million years of milliseconds.
  *
- *     The library is proved, but for the few lines of C that allocate, timers_set_allocator among them, and the
- *     inline functions of this header, which are tested. Each other function meets the contract that the sources
- *     state for it (crates/timer_c/src/exports.rt), for every call that keeps the rules below. Nothing checks that
- *     a caller keeps them.
+ *     The functions are proved, and translated into C. Each of them meets the contract that the sources state for it
+ *     (crates/timer_c/src/exports.rt), for every call that keeps the rules below. Nothing checks that a caller keeps
+ *     them. Not proved, but tested, are the translation and the C around it: it allocates, takes NULL where nobody
+ *     wants an answer, and has timers_set_allocator and timers_message.
  *
  * COSTS
  *     The timers are in arrays, and each is in the bucket of a wheel. A bucket of the lowest wheel has one
@@ -114,6 +114,8 @@
  *     grows, the larger one to twice its length. So above some 1,000 timers they have 64 to 132 bytes for each, of
  *     the most that were ever held. With a timers_reserve before the first start they have 64 for each, up to its room.
  *
+ *     No block has more than SIZE_MAX / 2 bytes. A call that needed one returns TIMERS_NO_MEMORY.
+ *
  *     Memory is kept for later starts until timers_free. It can't be given back in part, since a timer stays
  *     at the place that its handle has. A caller that wants it back starts what is left in a second `struct
  *     timers`, and frees the first.
@@ -141,9 +143,8 @@
  *        be moved by a memcpy after which the old one is not used. No function, timers_new included, may be
  *        given uninitialised memory: it could not tell whether that owns timers.
  *     2. A pointer argument points to an object of its type that this call alone uses. No two arguments of
- *        one call overlap. It is NULL only where nobody wants the answer: the handle or restarted of a start
- *        or restart (not of timers_set_at, which reads its handle), action, passed, out of timers_expire and
- *        timers_take, handle and out of timers_each. And timers_free(NULL) does nothing.
+ *        one call overlap. It is NULL only where nobody wants the answer: an argument that is only written
+ *        (rule 3), but not `out` of timers_expire_batch. And timers_free(NULL) does nothing.
  *     3. If an argument is only written (handle, restarted, action, passed, out, counts), the object may be
  *        uninitialised. It has only integers, so any bits are a value, and no function reads it. It is
  *        written exactly if the function's description says so, and otherwise unchanged. The handle of
@@ -191,7 +192,7 @@
  *     timer. timers_free and timers_clear drop the timers and do not return their actions. To release these
  *     first:
  *
- *         size_t cursor = 0;
+ *         uint64_t cursor = 0;
  *         struct timers_handle handle;
  *         struct timers_expired timer;
  *         while (timers_each(&t, &cursor, &handle, &timer))
@@ -327,7 +328,8 @@ void timers_clear(struct timers *t);
  * Takes time for these, which it may move. The rest is allocated and not written. The memory is kept until
  * timers_free. After TIMERS_NO_MEMORY it is as much as before.
  * If an earlier timers_reserve made as much room, it allocates nothing and returns TIMERS_OK.
- * TIMERS_NO_MEMORY is also returned if `most` is above some 4.29 billion.
+ * TIMERS_NO_MEMORY is also returned if `most` is above some 4.29 billion; after an earlier timers_reserve maybe above
+ * half as many.
  * TIMERS_NOT_OPEN, TIMERS_NO_MEMORY. */
 TIMERS_CHECKED
 enum timers_status timers_reserve(struct timers *t, size_t most);
@@ -393,7 +395,7 @@ enum timers_status timers_look(const struct timers *t, struct timers_handle hand
  * keeps its place, so after it was found it is not met again under its new handle. One that is started may be
  * found or not. A whole iteration takes time for the most timers that were ever held at once, whatever
  * timers_reserve made room for. */
-bool timers_each(const struct timers *t, size_t *cursor, struct timers_handle *handle,
+bool timers_each(const struct timers *t, uint64_t *cursor, struct timers_handle *handle,
                  struct timers_expired *out);
 
 /* Advances the clock by one tick. The timers with that deadline expire, and wait for timers_expire.
@@ -503,7 +505,9 @@ static TIMERS_INLINE const char *timers_message(enum timers_status status)
 #else
 #define TIMERS_ASSERT(fact, says) _Static_assert(fact, says)
 #endif
+#if !defined(__ARM_EABI__) || defined(__linux__)   /* without a system Arm's compilers have short enums */
 TIMERS_ASSERT(sizeof(enum timers_status) == 4, "a status is 32 bits: no -fshort-enums");
+#endif
 TIMERS_ASSERT(sizeof(bool) == 1, "a bool is one byte");
 TIMERS_ASSERT(sizeof(struct timers) == 24 && offsetof(struct timers, at) == 0
               && offsetof(struct timers, mark) == 8 && offsetof(struct timers, last_serial) == 16,

@@ -216,7 +216,7 @@ public:
 	template <class Visit>
 	void each(Visit &&visit) const
 	{
-		std::size_t cursor = 0;
+		std::uint64_t cursor = 0;
 		timers_handle of;
 		timers_expired timer;
 		while (timers_each(&raw_, &cursor, &of, &timer))

@@ -98,14 +98,15 @@
  *     holds: the client clears its signal, receives until there is no word, and then sleeps.
  *     examples/c/desk_server.c does this with eventfds.
  *
- *     The library is proved, but for the few lines of C that allocate and the inline function of this header. Each
- *     other function meets the contract stated in crates/timer_desk_c/src/desk_exports.rt or line_exports.rt, for
- *     every call that keeps the rules below. Nothing checks them, but the settling and ending calls check the client
- *     and the life of a line (rule 5). Nothing is proved about time: when a thread runs, and when a word arrives. Nor
- *     is it proved that timers_desk_line_freed and timers_line_abandoned return true exactly if the other end was
- *     freed. It is proved that they change nothing, and record their tests in the right order: first whether the desk
- *     is gone, and then whether a word is left in the line. That each test reads the ring, so that no word that was
- *     put before is missed, is tested. The same holds for a client's requests before its line is opened again.
+ *     The functions are proved, and translated into C. Each of them meets the contract stated in
+ *     crates/timer_desk_c/src/desk_exports.rt or line_exports.rt, for every call that keeps the rules below. Nothing
+ *     checks them, but the settling and ending calls check the client and the life of a line (rule 5). Not proved, but
+ *     tested, are the translation, the C around it, which allocates, and timers_desk_message. Nothing is proved about
+ *     time: when a thread runs, and when a word arrives. Nor is it proved that timers_desk_line_freed and
+ *     timers_line_abandoned return true exactly if the other end was freed. It is proved that they change nothing, and
+ *     record their tests in the right order: first whether the desk is gone, and then whether a word is left in the
+ *     line. That each test reads the ring, so that no word that was put before is missed, is tested. The same holds
+ *     for a client's requests before its line is opened again.
  *
  * RULES
  *     1. A `struct timers_desk` begins as TIMERS_DESK_INIT and a `struct timers_line` as TIMERS_LINE_INIT,
@@ -137,7 +138,8 @@
  *     Calls whose only struct is const only read it, so that they may run beside each other while no other call
  *     uses the struct.
  *
- *     No call waits for another thread, unless the allocator does. malloc, realloc and free are called only by
+ *     No call waits for another thread, unless the allocator does, or atomics of 64 bits on a processor that has none:
+ *     libatomic gives it these by locks. malloc, realloc and free are called only by
  *     timers_desk_new, timers_desk_open, timers_desk_reserve, timers_desk_close, the serves, timers_line_finish
  *     and the frees. No call is a cancellation point, and none calls back but for the functions of
  *     timers_set_allocator, which must return.
@@ -249,13 +251,13 @@ struct timers_line {
  * its last word is received, and a request until its answer is. With room 2 no request can stop or restart a timer. A
  * client keeps at most room - 1 timers. timers_desk_new allocates the outbox: 56 bytes for each word of room. */
 struct timers_desk_config {
-	uint64_t size;          /* sizeof(struct timers_desk_config) */
+	uint64_t size;         /* sizeof(struct timers_desk_config) */
 	uint64_t first_tick;   /* the clock begins at it: up to TIMERS_LAST, of TIMERS_CLOCK TIMERS_CLOCK_LAST */
 	uint64_t capacity;     /* the most timers that may be pending at a time: 1 to 1,048,576 */
-	uint64_t room;          /* how many words each client's outbox has room for: 2 to 65,536 */
-	uint64_t line;          /* how many requests, and how many words, a line has room for: 1 to 65,536 */
+	uint64_t room;         /* how many words each client's outbox has room for: 2 to 65,536 */
+	uint64_t line;         /* how many requests, and how many words, a line has room for: 1 to 65,536 */
 	uint32_t table;        /* the slots of the wheels: TIMERS_WIDE, which is 0, or TIMERS_CLOCK */
-	unsigned int : 32;     /* so that the size is the same everywhere */
+	unsigned int : 32;     /* so that the size is the same on each platform */
 };
 
 /* A message to a client. A member that its kind does not set is 0. */
@@ -340,7 +342,7 @@ enum timers_desk_status timers_desk_close(struct timers_desk *d, uint64_t *retur
  * changed. */
 TIMERS_CHECKED
 enum timers_desk_status timers_desk_settle(struct timers_desk *d, size_t client,
-                                           struct timers_line *line, size_t *standing);
+                                           struct timers_line *line, uint64_t *standing);
 
 /* Ends the words of a client that has finished, once its thread has handed the line over (rule 4). At
  * TIMERS_DESK_OK it writes to `*unread` how many words are in the line. With those that were received
@@ -352,7 +354,7 @@ enum timers_desk_status timers_desk_settle(struct timers_desk *d, size_t client,
  * pending. */
 TIMERS_CHECKED
 enum timers_desk_status timers_desk_end(struct timers_desk *d, size_t client, struct timers_line *line,
-                                        size_t *unread);
+                                        uint64_t *unread);
 
 /* Ends the words of every client, each as timers_desk_end does: lines[0] to lines[clients - 1] are the
  * clients' lines, all of them handed over until it returns TIMERS_DESK_OK. Those that can be ended are ended, whatever
@@ -366,7 +368,7 @@ enum timers_desk_status timers_desk_end(struct timers_desk *d, size_t client, st
  * moved elsewhere), TIMERS_DESK_OTHER_LINE (as above), TIMERS_DESK_NOT_FINISHED, TIMERS_DESK_LEFT. */
 TIMERS_CHECKED
 enum timers_desk_status timers_desk_end_all(struct timers_desk *d, struct timers_line *lines, size_t clients,
-                                            size_t *client);
+                                            uint64_t *client);
 
 /* Stops all pending timers of a client whose line was freed, and writes to `*stopped` how many they were. The timers of
  * others stay. Each is stopped by a request of the client, which takes its next number; its answer is dropped. Nothing
@@ -381,7 +383,7 @@ enum timers_desk_status timers_desk_end_all(struct timers_desk *d, struct timers
  * TIMERS_DESK_NOT_OPEN, TIMERS_DESK_NO_CLIENT, TIMERS_DESK_NOT_FREED, TIMERS_DESK_CLOSED (the close has returned its
  * timers), TIMERS_DESK_NUMBERS_SPENT (fewer numbers are left than timers are pending): nothing has changed. */
 TIMERS_CHECKED
-enum timers_desk_status timers_desk_stop_pending(struct timers_desk *d, size_t client, size_t *stopped);
+enum timers_desk_status timers_desk_stop_pending(struct timers_desk *d, size_t client, uint64_t *stopped);
 
 /* Opens a line for another client under the number of one whose line was freed. Every request of that one was taken, no
  * word waits for it (a flush drops them), and no timer of it is pending. `line` holds the new client's end from then

@@ -120,12 +120,12 @@ class desk {
 public:
 	/* For clients that keep at most `timers` timers each and have at most `requests` requests without an answer: none of
 	 * these is held back for want of room. */
-	static timers_desk_config config(std::uint64_t capacity, std::size_t timers, std::size_t requests) noexcept
+	static timers_desk_config config(std::uint64_t capacity, std::uint64_t timers, std::uint64_t requests) noexcept
 	{
 		timers_desk_config made = {};
 		made.size = sizeof made;
 		made.capacity = capacity;
-		const std::size_t most = std::numeric_limits<std::size_t>::max();       /* which timers_desk_new refuses */
+		const std::uint64_t most = std::numeric_limits<std::uint64_t>::max();   /* which timers_desk_new refuses */
 		made.room = requests < most && timers < most - requests ? timers + requests + 1 : most;
 		made.line = requests;
 		return made;
@@ -180,17 +180,17 @@ public:
 		return returned;
 	}
 	/* Throws desk_error: that of timers_desk_end. A line of another desk is TIMERS_DESK_OTHER_LINE. */
-	std::size_t end(std::size_t client, line &of)
+	std::uint64_t end(std::size_t client, line &of)
 	{
-		std::size_t unread;
+		std::uint64_t unread;
 		check(timers_desk_end(&raw_, client, &of.raw_, &unread));
 		return unread;
 	}
 	/* Stops all pending timers of a client whose line was freed, and returns how many. Throws desk_error: that of
 	 * timers_desk_stop_pending. */
-	std::size_t stop_pending(std::size_t client)
+	std::uint64_t stop_pending(std::size_t client)
 	{
-		std::size_t stopped;
+		std::uint64_t stopped;
 		check(timers_desk_stop_pending(&raw_, client, &stopped));
 		return stopped;
 	}

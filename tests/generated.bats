@@ -1,43 +1,40 @@
 #!/usr/bin/env bats
-# What generated/ says of itself; builds it as other projects do: by hand, with CMake and Meson, and for aarch64. No command
-# here sees the toolchain. What is compiled for aarch64, library and program, runs under qemu, which shows no weaker order
-# of memory than that of this machine.
+# What generated/ says of itself; builds it as other projects do: by hand, with CMake and with Meson. No command here sees the
+# toolchain. tests/platforms does so for other processors and systems.
 # shellcheck disable=SC2013,SC2030,SC2031,SC2034,SC2086,SC2143,SC2154
 load helpers
-
-sources="generated/timers.S generated/timers_desk.S generated/heap.c"
-cross=aarch64-linux-gnu-gcc
-qemu="qemu-aarch64-static -L /usr/aarch64-linux-gnu"
 
 setup_file() {
     cd "$BATS_TEST_DIRNAME/.." || return
     hide_toolchain
-    export top=$PWD work=$BATS_FILE_TMPDIR
+    export top=$PWD work=$BATS_FILE_TMPDIR CC=${CC:-cc} lib=${LIB:-$PWD/build/lib} program=${TIMERS:-$PWD/timers}
 }
 setup() { set -o pipefail; }
 prints_first() { "$@" | diff examples/c/first.stdout -; }
 
-# Each file of code is that of which PROVENANCE has the sum.
-has_its_sums() {
-    awk '/^[a-z_]*\.S$/ { name = $1 } $1 == "sha256" { print $2 "  " name }' "generated/$1/PROVENANCE" > "$work/sums"
-    [ "$(wc -l < "$work/sums")" -eq "$(find "generated/$1" -name '*.S' | wc -l)" ]
-    (cd "generated/$1" && sha256sum --check --strict "$work/sums")
-}
-
 @test "each file has the sum that PROVENANCE says" {
-    has_its_sums x86_64
-    has_its_sums aarch64
-}
-
-@test "the code for aarch64 was made together with that for x86_64" {
-    awk '$1 == "beside" { print $2 "  " $3 }' generated/aarch64/PROVENANCE > "$work/sums"
-    [ "$(wc -l < "$work/sums")" -eq "$(find generated/aarch64 -name '*.S' | wc -l)" ]
+    awk '/^[a-z_]*\.c$/ { name = $1 } $1 == "sha256" { print $2 "  " name }' generated/PROVENANCE > "$work/sums"
+    [ "$(wc -l < "$work/sums")" -eq "$(find generated -name '*.c' | wc -l)" ]
     echo "if not: run tools/generate, and commit generated/"
     (cd generated && sha256sum --check --strict "$work/sums")
 }
 
+# has_parts FILE PART..: the file has each part of tools/portable as it stands there
+has_parts() {
+    local text part
+    text=$(cat "generated/$1")
+    for part in "${@:2}"; do
+        echo "$1: $part"
+        [[ $text == *"$(cat "tools/portable/$part")"* ]]
+    done
+}
+@test "what is by hand in each file is what stands in tools/portable" {
+    has_parts timers.c heap.h timers_api.h atomics.h desk_api.h
+    has_parts program.c heap.h atomics.h program_os.h program_main.h
+}
+
 @test "no path of a machine is in the code" {
-    run grep -rnE '/(opt|work|home|root|tmp|usr/(bin|lib))/' generated/x86_64 generated/aarch64
+    run grep -nE '/(opt|work|home|root|tmp|usr/(bin|lib))/' generated/timers.c generated/program.c
     [ "$status" -eq 1 ]
 }
 
@@ -58,60 +55,98 @@ libraries_of() {
     done < "$work/libraries"
 }
 
-builds_by_hand() {
-    needs "$1"
-    for flags in "" "-O2 -fPIE -pie" "-O0 -g -fno-pie -no-pie" "-O2 -static" "-Os -ffunction-sections -Wl,--gc-sections"; do
-        "$1" $flags -Wall -Wextra -Werror -Wl,--fatal-warnings -Iinclude -o "$work/first" examples/c/first.c $sources
-        prints_first "$work/first"
-        [ -z "$(readelf -lW "$work/first" | grep 'GNU_STACK.*RWE')" ]
-    done
-}
-# The shared object needs its flag; without it none of its functions is exported.
-exports() {
-    needs "$1"
-    "$1" -shared -fPIC $2 -o "$work/exported.so" $sources -Wl,-z,defs,-z,text
-    [ "$(nm -D --defined-only "$work/exported.so" | wc -l)" -eq "$3" ]
-}
-
-@test "gcc builds a program of generated/, in five ways" { builds_by_hand gcc; }
-@test "clang builds a program of generated/, in five ways" { builds_by_hand clang; }
-@test "gcc builds a shared object that exports nothing" { exports gcc "" 0; }
-@test "clang builds a shared object that exports nothing" { exports clang "" 0; }
-# How many functions the crates export; tests/headers.bats compares their names with those of the headers.
-# The API: what the crates export, and what heap.c does.
-functions() {
-    grep -hoE '(extern "C" fn|^enum timers_status) timers_[a-z_]*' crates/timer_c/src/*.rt crates/timer_desk_c/src/*.rt generated/heap.c | wc -l
-}
-
-@test "gcc builds the shared object, which exports the API" { exports gcc -DTIMERS_SHARED "$(functions)"; }
-@test "clang builds the shared object, which exports the API" { exports clang -DTIMERS_SHARED "$(functions)"; }
-
-# link_time CC FLAG: the archive has machine code, and the compiler's lines are shown
-link_time() {
-    needs "$1"
-    run env CC="$1" CPPFLAGS=-DGIVEN CFLAGS="-O2 -flto $2" LDFLAGS=-flto tools/lib "$work/link_time"
-    [ "$status" -eq 0 ]
-    [ "$(grep -c -e "^+ $1 .* -DGIVEN .*generated/" <<< "$output")" -eq 4 ]
-    "$1" -O2 -Iinclude -o "$work/first" examples/c/first.c "$work/link_time/libtimers.a"
+# by_hand COMPILER SOURCE..: the first program, without a warning
+by_hand() {
+    needs "${1%% *}"
+    $1 -Wall -Wextra -Werror -Iinclude -o "$work/first" "${@:2}"
     prints_first "$work/first"
 }
-
-@test "gcc builds the archive with flags for link time optimization" { link_time gcc -ffat-lto-objects; }
-@test "clang does so too" { link_time clang; }
-
-@test "musl-gcc builds static programs of it" {
-    needs musl-gcc
-    musl-gcc -static -O2 -Wall -Wextra -Iinclude -o "$work/first" examples/c/first.c $sources
-    prints_first "$work/first"
-    CC=musl-gcc LDFLAGS=-static tools/program "$work/static"
-    "$work/static" < examples/retransmission | diff examples/retransmission.stdout -
-}
-
+@test "gcc builds a program of it as C99" { by_hand "gcc -std=c99 -pedantic -Wconversion -O2" examples/c/first.c generated/timers.c; }
+@test "clang builds a program of it as C99" { by_hand "clang -std=c99 -pedantic -O2" examples/c/first.c generated/timers.c; }
 @test "g++ builds a program in C++ of it" {
     needs g++
-    g++ -std=c++17 -Wall -Wextra -Iinclude -o "$work/cpp" examples/c/first.cpp $sources
+    g++ -std=c++17 -Wall -Wextra -Werror -Iinclude -o "$work/cpp" examples/c/first.cpp generated/timers.c
     "$work/cpp" > "$work/out"
     grep 'tea$' "$work/out"
+}
+@test "two files are enough without the desk" {
+    mkdir "$work/two"
+    cp generated/timers.c include/timers.h "$work/two"
+    sed 's/<timers\.h>/"timers.h"/' examples/c/first.c > "$work/two/app.c"
+    (cd "$work/two" && "$CC" -DTIMERS_NO_DESK -o app app.c timers.c)
+    prints_first "$work/two/app"
+}
+@test "a program may include it, in C and in C++" {
+    needs gcc g++
+    cat generated/timers.c examples/c/first.c > "$work/whole.c"
+    by_hand "gcc -O2 -DTIMERS_NO_DESK" "$work/whole.c"
+    by_hand "g++ -O2 -DTIMERS_NO_DESK" "$work/whole.c"
+}
+@test "the C around the translation allocates as it says" {
+    build heap.c && runs
+    needs tcc
+    tcc -DTIMERS_NO_DESK -Iinclude -o "$work/heap" tests/c/heap.c
+    "$work/heap"
+}
+
+# exports CC FLAGS COUNT: the shared object needs its flag; without it none of its functions is exported
+exports() {
+    needs "$1"
+    "$1" -shared -fPIC $2 -Iinclude -o "$work/exported.so" generated/timers.c -Wl,-z,defs,-z,text
+    [ "$(nm -D --defined-only "$work/exported.so" | wc -l)" -eq "$3" ]
+}
+# The API: what the crates export, and timers_set_allocator. tests/headers.bats compares the names with those of the headers.
+functions() { echo $(($(grep -hoE 'extern "C" fn timers_[a-z_]*' crates/timer_c/src/*.rt crates/timer_desk_c/src/*.rt | wc -l) + 1)); }
+@test "gcc builds a shared object that exports nothing, and one that exports the API" {
+    exports gcc "" 0
+    exports gcc -DTIMERS_SHARED "$(functions)"
+}
+@test "clang builds a shared object that exports nothing, and one that exports the API" {
+    exports clang "" 0
+    exports clang -DTIMERS_SHARED "$(functions)"
+}
+
+# link_time CC: with -flto the calls of the archive are inlined, and without it they are not
+link_time() {
+    needs "$1"
+    run env CC="$1" CPPFLAGS=-DGIVEN CFLAGS=-flto LDFLAGS=-O1 tools/lib "$work/link_time"
+    [ "$status" -eq 0 ]
+    [ "$(grep -c -e "^+ $1 .* -DGIVEN -flto .*generated/" <<< "$output")" -eq 2 ]
+    "$1" -O2 -flto -Iinclude -o "$work/first" examples/c/first.c "$work/link_time/libtimers.a"
+    prints_first "$work/first"
+    run grep timers_stop <(nm "$work/first")
+    [ "$status" -eq 1 ]
+    "$1" -O2 -Iinclude -o "$work/first" examples/c/first.c "$lib/libtimers.a"
+    grep timers_stop <(nm "$work/first")
+}
+@test "gcc inlines the calls at link time" { link_time gcc; }
+@test "clang inlines the calls at link time" { link_time clang; }
+
+# is_hardened FILE: relocations are read only before it runs, and no stack is executable
+is_hardened() {
+    readelf -d "$1" | grep -wE 'NOW|BIND_NOW'
+    readelf -lW "$1" | grep GNU_RELRO
+    run grep 'GNU_STACK.*RWE' <(readelf -lW "$1")
+    [ "$status" -eq 1 ]
+}
+@test "the program and the shared object that make builds are hardened" {
+    needs readelf objdump
+    is_hardened "$program"
+    is_hardened "$lib/libtimers.so"
+    [ "$(uname -m)" = x86_64 ] || skip "the flags are looked for in code of x86-64"
+    grep -q endbr64 <(objdump -d "$lib/libtimers.so" --disassemble=timers_start)
+    grep -qE '(or|mov)[ql]? +\$0x0,(0x[0-9a-f]+)?\(%rsp\)' <(objdump -d "$program")   # a probe of a large frame
+}
+
+@test "musl-gcc builds a static program of it" {
+    needs musl-gcc
+    musl-gcc -static -O2 -Wall -Wextra -Werror -Iinclude -o "$work/first" examples/c/first.c generated/timers.c
+    prints_first "$work/first"
+}
+@test "musl-gcc builds the program" {
+    needs musl-gcc
+    CC=musl-gcc CFLAGS=-O0 LDFLAGS=-static tools/program "$work/static"
+    "$work/static" < examples/retransmission | diff examples/retransmission.stdout -
 }
 
 # cmake_app FOLDER OPTION..: the first program, by the lines on standard input
@@ -189,84 +224,4 @@ EOT
     cc -o "$work/first" examples/c/first.c $(PKG_CONFIG_PATH=$work/meson_prefix/lib/pkgconfig pkg-config --cflags --libs timers)
     prints_first "$work/first"
     has_licences "$work/meson_prefix/share/doc/timers"
-}
-
-needs_cross() {
-    needs $cross qemu-aarch64-static
-    CC=$cross library=$sources emulator=$qemu
-}
-
-@test "aarch64: programs print what they should" {
-    needs_cross
-    for program in first messages expired counts porting desk_server; do
-        echo "$program"
-        build $program.c
-        prints examples/c/$program.stdout
-    done
-}
-
-@test "aarch64: random calls agree with a sorted list" { needs_cross && build stress.c && runs 100000 1; }
-@test "aarch64: they agree when allocations are refused" { needs_cross && build stress.c -DREFUSE $wraps && runs 100000 2; }
-@test "aarch64: starts allocate nothing if room was made" { needs_cross && build reserve.c $wraps && runs; }
-@test "aarch64: timers_free frees every block" { needs_cross && build leaks.c $wrap && runs; }
-@test "aarch64: callers of the library are found from inside it" { needs_cross && build backtrace.c $wraps && runs; }
-@test "aarch64: the desk's edges are as the header says" { needs_cross && build desk_edges.c && runs; }
-@test "aarch64: a desk whose allocations are refused loses nothing" { needs_cross && build desk_edges.c -DREFUSE $wrap && runs; }
-@test "aarch64: threads beside a desk get all their words" {
-    needs_cross
-    build desk_threads.c
-    runs 8 10000
-    runs 64 2000 mixed
-    runs 8 2000 deaf
-    build desk_threads.c -DREFUSE $wraps
-    runs 8 2000 mixed
-}
-@test "aarch64: clients that do not count see the end of their words" { needs_cross && build desk_end.c && runs 8 10000; }
-@test "aarch64: desks and lines may be freed while the other side calls" { needs_cross && build desk_frees.c && runs 30 8; }
-
-# The program, as a script that runs it under qemu.
-@test "aarch64: the program builds" {
-    needs_cross
-    CC=$cross tools/program "$work/program"
-    LC_ALL=C readelf -h "$work/program" | grep AArch64
-    printf '#!/bin/sh\nexec %s "%s" "$@"\n' "$qemu" "$work/program" > "$work/timers"
-    chmod 755 "$work/timers"
-}
-
-# Limits of a case would be those of qemu too, so cases with limits are left out.
-@test "aarch64: the program gives each case without limits its output and status" {
-    needs_cross
-    cases=()
-    for path in crates/timer_program/cases/*.status; do
-        [ -e "${path%.status}.limits" ] || cases+=("$(basename "$path" .status)")
-    done
-    crates/timer_program/cases/run "$work/timers" "${cases[@]}"
-}
-
-@test "aarch64: the program plays each script of examples/" {
-    needs_cross
-    for name in examples/*.stdout; do
-        name=${name%.stdout} arguments=()
-        if [ -e "$name.args" ]; then mapfile -t arguments < "$name.args"; fi
-        "$work/timers" "${arguments[@]}" < "$name" | diff "$name.stdout" -
-    done
-}
-
-@test "aarch64: 64 clients of the program in threads of their own" {
-    needs_cross
-    "$work/timers" threads --clients 64 --timers 200 > "$work/out"
-    { seq 0 63 | sed 's/.*/client & sent 200 started 200 expired 200/' && echo end; } | diff - "$work/out"
-}
-
-# In a copy of this tree, in which make built for this machine before.
-@test "aarch64: make, make install and make dist" {
-    needs_cross
-    copy_tree "$work/copy"
-    make -s -C "$work/copy"
-    make -s -C "$work/copy" CC=$cross
-    make -s -C "$work/copy" install PREFIX="$work/prefix" CC=$cross
-    $cross -o "$work/first" -I"$work/prefix/include" examples/c/first.c -L"$work/prefix/lib" -ltimers
-    prints_first $qemu -E LD_LIBRARY_PATH="$work/prefix/lib" "$work/first"
-    GIT_DIR=$(git rev-parse --absolute-git-dir) GIT_WORK_TREE=$work/copy make -s -C "$work/copy" dist CC=$cross
-    tar -tzf "$work"/copy/build/timers-*-linux-aarch64.tar.gz | grep '/lib/libtimers.a$'
 }

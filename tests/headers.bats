@@ -71,6 +71,18 @@ enumerators() { sed -nE 's/^\tTIMERS_((DESK|WORD)_)?([A-Z_]+) = ([0-9]+).*/\3 \4
     [ "$(enumerators timers_desk | wc -l)" -eq 31 ]
 }
 
+# The headers compare their structs with what the library was built for. No system has to be there.
+@test "numbers in memory have one width on processors of 32 and 64 bits" {
+    run grep -nE '^[[:space:]]+size_t|size_t \*' include/timers.h include/timers_desk.h
+    [ "$status" -eq 1 ]
+    needs clang
+    printf '#include <timers.h>\n#include <timers_desk.h>\n' > "$work/layout.c"
+    for target in i386-none-elf armv7-none-eabi riscv32-none-elf powerpc-none-elf s390x-none-elf wasm32 i686-pc-windows-msvc arm64-apple-darwin; do
+        echo "$target"
+        clang --target=$target -ffreestanding -std=c11 -Wall -Wextra -pedantic -Werror -Iinclude -fsyntax-only "$work/layout.c"
+    done
+}
+
 @test "the names and numbers in Python are the headers'" {
     needs python3
     # timers_desk.py has the tables and the most clients, too.
@@ -181,11 +193,63 @@ int main(void)
 }
 EOT
 )
+# Those of the loop and of bells, which need C of 1999.
+used_in_loop=$(cat << 'EOT'
+#ifndef TIMERS_LOOP_OWN_CLOCK
+#include <timers_desk_bell.h>
+#define nanoseconds NULL
+static struct timers_bell bell = TIMERS_BELL_INIT;
+static bool rings(struct timers_desk *desk, uint64_t now)
+{
+    timers_bell_ring(&bell);
+    timers_bell_rest(&bell, timers_bell_new(&bell), timers_desk_patience(desk, now, timers_desk_turn(desk, now, &bell, 1)));
+    timers_bell_free(&bell);
+    return true;
+}
+#endif
+#include <timers_loop.h>
+struct connection {
+    int socket;
+    struct timers_event idle;
+};
+static void hang_up(struct timers_loop *loop, struct timers_event *event, uint64_t tick)
+{
+    struct connection *c = timers_event_owner(event, struct connection, idle);
+    c->socket = timers_event_push_back(loop, event, tick) ? 1 : -1;
+}
+int main(void)
+{
+    struct timers_loop loop = TIMERS_LOOP_INIT;
+    static struct connection c;
+    c.idle.run = hang_up;
+    if (timers_loop_new(&loop, nanoseconds, NULL, 1000) != TIMERS_OK || timers_event_after(&loop, &c.idle, 9) != TIMERS_OK)
+        return 1;
+    timers_loop_polled(&loop, timers_loop_timeout(&loop), 8);
+    timers_loop_dispatch(&loop, 9);
+    timers_event_pause(&loop, &c.idle);
+    timers_event_cancel(&loop, &c.idle);
+    timers_loop_free(&loop);
+#ifndef TIMERS_LOOP_OWN_CLOCK
+    (void)rings;
+#endif
+    return loop.alive > 0;
+}
+EOT
+)
 warnings="-Werror -pedantic -Wall -Wextra -Wswitch-default -Wundef -Wshadow -Wconversion -Wsign-conversion"
 # as_header LANGUAGE COMPILER STANDARD FLAGS..
 as_header() {
     echo "$2 -std=$3"
     "$2" -x "$1" -std="$3" -Iinclude "${@:4}" -c -o "$work/header.o" - <<< "$used"
+    [[ $3 == *89 ]] || as_loop "$@"
+}
+# With CLOCK_MONOTONIC, and with a clock of one's own in a standard without it.
+as_loop() {
+    "$2" -x "$1" -std="$3" -Iinclude "${@:4}" -D_POSIX_C_SOURCE=200809L -c -o "$work/header.o" - <<< "$used_in_loop"
+    "$2" -x "$1" -std="$3" -Iinclude "${@:4}" -DTIMERS_LOOP_OWN_CLOCK -c -o "$work/header.o" - <<< "
+#include <stdint.h>
+static uint64_t nanoseconds(void *data) { return data == 0; }
+$used_in_loop"
 }
 # C of 1989, that of today and all C++ in between
 in_c() {
@@ -240,9 +304,9 @@ misuses_rust() { # misuses_rust FILE COUNT
 # ignores CALL: compiles a call whose status is not read
 ignores() {
     echo "$1"
-    "$CC" $of_c -Wno-unused-parameter -Wno-missing-prototypes -c -o /dev/null -x c - << EOT
+    "$CC" $of_c -Wno-unused-parameter -Wno-missing-prototypes -c -o "$work/ignored.o" -x c - << EOT
 #include <timers_desk.h>
-void f(struct timers *t, struct timers_handle *h, struct timers_desk *d, struct timers_line *l, struct timers_word *w, uint64_t *n, size_t *s)
+void f(struct timers *t, struct timers_handle *h, struct timers_desk *d, struct timers_line *l, struct timers_word *w, uint64_t *n)
 { $1; }
 EOT
 }
@@ -260,11 +324,11 @@ timers_counts(t, 0)
 timers_desk_new(d, l, 1, NULL)
 timers_desk_close(d, n)
 timers_desk_open(d, 0, l, 1)
-timers_desk_stop_pending(d, 0, s)
+timers_desk_stop_pending(d, 0, n)
 timers_desk_reserve(d)
-timers_desk_settle(d, 0, l, s)
-timers_desk_end(d, 0, l, s)
-timers_desk_end_all(d, l, 1, s)
+timers_desk_settle(d, 0, l, n)
+timers_desk_end(d, 0, l, n)
+timers_desk_end_all(d, l, 1, n)
 timers_line_start(l, 1, 1, n)
 timers_line_stop(l, w->handle, n)
 timers_line_restart(l, w->handle, 1, 1, n)

@@ -243,11 +243,11 @@ with Timers() as timers:
     tar -C "$work/dist" --strip-components=1 -xzf "build/$tarball"
     cd "$work/dist/share/doc/timers"
     grep -x "version    $version" BUILT
-    grep -x "$(grep '^toolchain ' "$top/generated/$(uname -m)/PROVENANCE")" BUILT
+    grep -x "$(grep '^toolchain ' "$top/generated/PROVENANCE")" BUILT
     grep -xE "commit     $(git -C "$top" rev-parse HEAD)(, with changes)?" BUILT
     grep -xE "gate       (not run|[0-9]+ passed, .*)" BUILT
     grep -x "processor  $(uname -m)" BUILT
-    cmp PROVENANCE "$top/generated/$(uname -m)/PROVENANCE"
+    cmp PROVENANCE "$top/generated/PROVENANCE"
 }
 
 @test "the command of its README leaves the modes of folders that were there" {

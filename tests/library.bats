@@ -1,6 +1,6 @@
 #!/usr/bin/env bats
 # The programs of examples/c and tests/c, and the wrappers, over the libraries in LIB, by default build/lib. CALLS is how
-# many random calls a run makes. tests/headers.bats has what needs no run, tests/generated.bats the same for aarch64.
+# many random calls a run makes. tests/headers.bats has what needs no run, tests/platforms other processors and systems.
 # shellcheck disable=SC2030,SC2031,SC2086,SC2154
 load helpers
 
@@ -14,11 +14,13 @@ setup() {
     needs "$CC"
 }
 
-# sanitizers NAMES: the flags, or a skipped test if the compiler has none
+# sanitizers NAMES: the flags, and the library compiled with them; or a skipped test if the compiler has none
 sanitizers() {
     sanitize="-fsanitize=$1 -fno-sanitize-recover=all"
     echo 'int main(void) { return 0; }' > "$work/empty.c"
     "$CC" $sanitize -o "$work/empty" "$work/empty.c" && "$work/empty" || skip "no -fsanitize=$1"
+    library=$work/$1.o
+    [ -e "$library" ] || "$CC" -std=c11 -g -Iinclude $sanitize -c -o "$library" generated/timers.c
 }
 by_valgrind() {
     needs valgrind
@@ -80,15 +82,6 @@ jobs_model() {
         }'
     echo "5 jobs wait"
 }
-# What examples/c/idle_server.c prints. Who writes at intervals below the time-out is not idle until it stops; who
-# closes is seen to hang up, since that is 100 ms after its last write, and the time-out 200 ms.
-idle_model() {
-    echo "says nothing: 400 idle, 0 hung up, 0 bytes"
-    echo "writes 5 times: 300 idle, 0 hung up, $((300 * 5)) bytes"
-    echo "writes 8 times and closes: 0 idle, 200 hung up, $((200 * 8)) bytes"
-    echo "closes at once: 0 idle, 100 hung up, 0 bytes"
-}
-
 # Each prints what stands in its file.
 prints_its_text() {
     for program in first messages expired counts porting desk_server desk_sockets; do
@@ -105,9 +98,6 @@ agrees_with_its_model() {
     for seed in 1 2718; do prints <(udp_model $seed) $seed; done
     build job_scheduler.c "$@"
     prints <(jobs_model)
-    build idle_server.c "$@"
-    ulimit -n 2048 || skip "fewer than 2048 files may be open"
-    prints <(idle_model)
 }
 # threads COUNT: clients in threads beside a desk. With refused allocations each starts so many timers.
 threads() {
@@ -122,6 +112,9 @@ threads() {
     build desk_frees.c $sanitize
     runs 30 8
     lives $sanitize
+    build desk_bell.c -Wl,--wrap=write $sanitize
+    runs pass 5000
+    runs load 5000
 }
 # clients that come and go in threads
 lives() {
@@ -133,7 +126,7 @@ lives() {
 
 @test "the examples in C print what they should" { prints_its_text; }
 @test "so they do under the sanitizers" { sanitizers address,undefined && prints_its_text $sanitize; }
-@test "the protocol, the scheduler and the server with 1,000 connections agree with models" { agrees_with_its_model; }
+@test "the protocol and the scheduler agree with models" { agrees_with_its_model; }
 @test "so they do under the sanitizers, too" { sanitizers address,undefined && agrees_with_its_model $sanitize; }
 @test "the first program in C++ prints the actions' names" {
     build first.cpp
@@ -157,6 +150,41 @@ lives() {
     runs
 }
 
+@test "events of a loop run as a sorted list says" { build loop_model.c && runs $((10 * calls)) 1; }
+@test "so they do in C++, under the sanitizers" {
+    sanitizers address,undefined
+    build loop_model.cpp $sanitize
+    for seed in 2 3 4; do runs $calls $seed; done
+}
+@test "valgrind finds no error and no leak in a loop" { build loop_model.c && by_valgrind $((calls / 10)) 5; }
+@test "a server that stalls anywhere hangs up on no client that talks, and on each that is silent" {
+    build loop_stalls.c
+    for seed in 0 1 2 3 4 5; do runs $calls $seed; done
+}
+
+# serves CLIENTS FILE FLAGS..: stopped for longer than its time-out, the server hangs up on each silent client and on no
+# other. If the clients themselves were late, or the port is another's, it is tried again.
+serves() {
+    [ "$(ulimit -Hn)" -gt 2100 ] || skip "fewer than 2,100 files may be open"
+    build "${@:2}"
+    mv "$work/program" "$work/server"
+    build idle_load.c
+    for _ in 1 2 3; do
+        run "$work/program" "$1" $((20000 + RANDOM % 10000)) "$work/server"
+        echo "$output"
+        [ "$status" -ge 77 ] || return "$status"
+        ! grep "^io_uring: " <<< "$output" || skip "the kernel refuses io_uring"
+    done
+    [ "$status" -ne 77 ] || skip "the machine is too busy"
+    return 1
+}
+@test "a server that was stopped hangs up on each of 200 silent clients, and on none of 1,800 that talk" { serves 2000 idle_server.c; }
+@test "so it does over kqueue" { serves 500 idle_kqueue.c -D_GNU_SOURCE -Itests/c/kqueue; }
+@test "so it does over io_uring" {
+    echo '#include <liburing.h>' | "$CC" -fsyntax-only -xc - || skip "no liburing"
+    library="$library -luring" serves 500 idle_uring.c -std=gnu11
+}
+
 # A test and, built with a mistake, that it notices it.
 @test "timers_free frees every block" { build leaks.c $wrap && runs; }
 @test "a free that forgets is noticed" { build leaks.c -DFORGETS $wrap && notices; }
@@ -170,6 +198,7 @@ lives() {
 @test "that malloc was called is noticed" { build allocator.c -DFORGETS $wrap && notices resizes; }
 @test "calls with a const pointer write nothing" { build reads_only.c $wrap && runs; }
 @test "a call that writes is noticed" { build reads_only.c -DWRITES $wrap && notices; }
+@test "a call that keeps what it found is noticed" { build reads_only.c -DKEEPS $wrap && notices; }
 @test "timers take the memory that the header says" { build memory.c $wrap && runs; }
 @test "callers of the library are found from inside it" { build backtrace.c $wraps && runs; }
 
@@ -191,6 +220,14 @@ lives() {
 @test "desks and lines may be freed while the other side calls" { build desk_frees.c && runs 200 8; }
 @test "clients come and go in threads, and lines are opened again" { lives; }
 @test "valgrind finds no error and no leak in them, either" { build desk_frees.c && by_valgrind 20 4; }
+
+@test "threads wake each other by bells, and a ring that is needed is a system call" {
+    for pipe in "" -DTIMERS_BELL_PIPE; do
+        build desk_bell.c -Wl,--wrap=write $pipe
+        runs pass 20000
+        runs load 20000
+    done
+}
 
 of_desks() {
     sanitizers $1

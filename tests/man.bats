@@ -50,7 +50,7 @@ setup_file() {
     lost=
     while IFS=: read -r page link; do
         [ -e "$(dirname "$page")/$link" ] || lost+=" $page:$link"
-    done < <(grep -oE '\]\([^)#:]+' ./*.md docs/*.md bench/*.md ports/*.md | sed 's/](//')
+    done < <(grep -oE '\]\([^)#]+' ./*.md docs/*.md bench/*.md ports/*.md generated/*.md | sed 's/](//' | grep -v ':https:')
     echo "no such file:$lost"
     [ -z "$lost" ]
 }

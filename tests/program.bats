@@ -216,6 +216,37 @@ clock_row() {
         '  moved at 64 from wheel 1 slot 1 to wheel 0 slot 1: 1\nexpired 65 0 1 7\n  now 65\nend 65 0\n')"
 }
 
+@test "each option is used beside all others of its subcommand" {
+    local script='start 2 1 9 4\nbad\nstart 3 1 9 4\nstart 0 1 2 5\nstart 1 1 3 6\ntick 9\n'
+    gives 1 "serve --keep-going --wakeups --scheme hashed --slots 8 --clients 3 --capacity 2 --first-tick 7" "$script" \
+        "$(printf %s 'started 2 1 1 16\nwakeup 8\nrefused 3 1 {NoClient}\nwakeup 8\nstarted 0 1 2 9\nwakeup 8\n' \
+        'refused 1 1 {Full}\nwakeup 8\nexpired 9 0 2 5\nexpired 16 2 1 4\nwakeup never\nend 16 0\n')" \
+        "bad line 2, column 1: {UnknownWord}\n"
+    # Bucket 1 of 8 comes round at tick 1, and bucket 9 of 16 only at the deadline.
+    for slots in 8 16; do
+        gives 0 "serve --wakeups --slots $slots --scheme hashed" 'start 0 1 9 7\n' \
+            "started 0 1 1 9\nwakeup $((slots == 8 ? 1 : 9))\nend 0 1\n"
+    done
+    gives 0 "show --counts --moves --scheme hier --slots 8 --clients 1 --capacity 1 --first-tick 63" \
+        'start 0 1 2 7\nstart 1 1 2 7\nstart 0 2 2 7\ntick 2\n' "$(printf %s 'started 0 1 1 65\n  now 63\n' \
+        '  starts 1 moves 0 visits 0\n  wheel 1 slot 1: 1\nrefused 1 1 {NoClient}\n  now 63\n  starts 1 moves 0 visits 0\n' \
+        '  wheel 1 slot 1: 1\nrefused 0 2 {Full}\n  now 63\n  starts 1 moves 0 visits 0\n  wheel 1 slot 1: 1\n' \
+        '  moved at 64 from wheel 1 slot 1 to wheel 0 slot 1: 1\nexpired 65 0 1 7\n  now 65\n' \
+        '  starts 1 moves 1 visits 2\nend 65 0\n')"
+}
+
+@test "a capacity above the usual one is used by each subcommand" {
+    local verb
+    awk 'BEGIN { for (i = 1; i <= 1030; i++) print "start 0 " i " 5 7" }' > input
+    for verb in play serve show; do
+        "$TIMERS" $verb --capacity 1029 < input > output
+        [ "$(grep -c '^started ' output)" -eq 1029 ]
+        [ "$(grep '^refused ' output)" = "refused 0 1030 full" ]
+        "$TIMERS" $verb < input > output
+        [ "$(grep -c '^started ' output)" -eq 1024 ]
+    done
+}
+
 @test "each option of show that is read is used" {
     shows() { gives 0 "show $1" 'start 0 1 11 7\n' "started 0 1 1 11\n  now 0\n$2\nend 0 1\n"; }
     shows "" '  wheel 0 slot 11: 1'
@@ -369,6 +400,29 @@ help_of() {
     short 13 show "--counts " "--moves "
     short 8 threads "--timers <TIMERS> "
     short 6 check
+}
+
+@test "letters after -h change nothing" {
+    local verb
+    for verb in "" play serve show threads check; do
+        # shellcheck disable=SC2086  # words
+        "$TIMERS" $verb -h > wanted
+        # shellcheck disable=SC2086
+        help_of $verb -hx && cmp output wanted
+    done
+}
+
+# The statuses of docs/formats.md, in the order of each help.
+@test "each help gives the exit statuses to what they are for" {
+    statuses() {
+        # shellcheck disable=SC2086  # words
+        help_of $1 --help
+        tr '\n' ' ' < output | grep -qE -e "$2" || { echo "timers $1 --help: not $2"; return 1; }
+    }
+    statuses "" 'exit status is 0 if it was\. It is 1 after an error, [^.]*, and 2 if the arguments are refused\.'
+    statuses serve 'exit status is 0 if the input came to its end [^.]*\. It is 1 after an error, [^.]*\. It is 2 if the arguments'
+    statuses threads 'exit status is 0 if each client finished\. It is 1 after an error, [^.]*\. It is 2 if the arguments'
+    statuses check 'exit status is 0 if no line is bad, [^.]*\. It is 1 if a line is bad, [^.]*\. It is 2 after any other error'
 }
 
 @test "each help of a subcommand says how it is called" {

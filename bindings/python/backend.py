@@ -1,12 +1,14 @@
 """Builds the wheel of the package `timers`, for pip and other tools that read pyproject.toml.
 
-The wheel has a package of four files: timers.py, timers_desk.py, libtimers.so.1 as tools/lib builds it of generated/, and a
-first file that loads the library before the modules, which then find it by its name. The compiler is that of CC, by default cc.
+The wheel has a package of four files: timers.py, timers_desk.py, libtimers.so.1, which is compiled from generated/timers.c and
+which they find beside them, and a first file. The compiler is that of CC, by default cc, with CPPFLAGS, CFLAGS and LDFLAGS. It
+takes gcc's options.
 """
 # SPDX-License-Identifier: MIT OR Apache-2.0
 import base64
 import hashlib
 import os
+import shlex
 import subprocess
 import sysconfig
 import tempfile
@@ -15,12 +17,8 @@ import zipfile
 HERE = os.path.dirname(os.path.abspath(__file__))
 TOP = os.path.dirname(os.path.dirname(HERE))
 LIBRARY = "libtimers.so.1"
-PACKAGE = f'''"""Timers over hierarchical timing wheels, with the library that they need."""
-import ctypes
-import os
-
-ctypes.CDLL(os.path.join(os.path.dirname(os.path.abspath(__file__)), "{LIBRARY}"))
-from .timers import *  # noqa: E402, F401, F403
+PACKAGE = '''"""Timers over hierarchical timing wheels, with the library that they need."""
+from .timers import *  # noqa: F401, F403
 '''
 
 
@@ -33,10 +31,18 @@ def contents(*path):
         return file.read()
 
 
+def words(variable, default=""):
+    return shlex.split(os.environ.get(variable, default))
+
+
 def library():
     with tempfile.TemporaryDirectory() as folder:
-        subprocess.run([os.path.join(TOP, "tools", "lib"), folder], check=True)
-        return contents(folder, LIBRARY)
+        made = os.path.join(folder, LIBRARY)
+        subprocess.run([
+            *words("CC", "cc"), "-shared", "-fPIC", "-O2", *words("CPPFLAGS"), *words("CFLAGS"), "-DTIMERS_SHARED",
+            "-I" + os.path.join(TOP, "include"), "-o", made, os.path.join(TOP, "generated", "timers.c"), *words("LDFLAGS"),
+        ], check=True)
+        return contents(made)
 
 
 def metadata(version):

@@ -14,7 +14,8 @@ Timers("lib/libtimers.so.1").
 # SPDX-License-Identifier: MIT OR Apache-2.0
 import ctypes
 import operator
-from ctypes import POINTER, Structure, byref, c_bool, c_size_t, c_uint32, c_uint64, c_void_p
+import os
+from ctypes import POINTER, Structure, byref, c_bool, c_size_t, c_uint32, c_uint64
 
 OK, NOT_OPEN, OPEN, NO_TABLE, NO_MEMORY, DUE, NOT_PENDING, ZERO_INTERVAL, TOO_LATE, SERIALS_SPENT, CLOCK_END = range(11)
 WIDE, CLOCK = 0, 1
@@ -49,11 +50,11 @@ def check(status):
 
 
 class Held(Structure):
-    _fields_ = [("at", c_void_p), ("mark", c_uint64), ("last_serial", c_uint64)]
+    _fields_ = [("at", c_uint64), ("mark", c_uint64), ("last_serial", c_uint64)]
 
 
 class Handle(Structure):
-    _fields_ = [("place", c_size_t), ("serial", c_uint64)]
+    _fields_ = [("place", c_uint64), ("serial", c_uint64)]
 
     def __init__(self, *numbers):
         super().__init__(*map(word, numbers))
@@ -65,6 +66,12 @@ class Expired(Structure):
 
 class Counts(Structure):
     _fields_ = [("starts", c_uint64), ("moves", c_uint64), ("visits", c_uint64)]
+
+
+def path_of(library):
+    """The library beside this file, where the package of pip has it, or what the loader finds."""
+    beside = os.path.join(os.path.dirname(os.path.abspath(__file__)), library)
+    return beside if os.path.exists(beside) else library
 
 
 CALLS = {
@@ -91,7 +98,7 @@ CALLS = {
     "wakeup": (c_uint64, [POINTER(Held)]),
     "next": (c_uint64, [POINTER(Held)]),
     "find_next": (c_uint64, [POINTER(Held)]),
-    "each": (c_bool, [POINTER(Held), POINTER(c_size_t), POINTER(Handle), POINTER(Expired)]),
+    "each": (c_bool, [POINTER(Held), POINTER(c_uint64), POINTER(Handle), POINTER(Expired)]),
     "counts": (c_uint32, [POINTER(Held), POINTER(Counts)]),
 }
 
@@ -104,7 +111,7 @@ class Timers:
 
     def __init__(self, library="libtimers.so.1", table=WIDE, first_tick=0):
         # Each call takes little time: so Python's lock is held meanwhile, and they come one at a time.
-        loaded = ctypes.PyDLL(library)
+        loaded = ctypes.PyDLL(path_of(library))
         self._call = {}
         for name, (result, arguments) in CALLS.items():
             function = getattr(loaded, "timers_" + name)
@@ -137,7 +144,7 @@ class Timers:
 
     def reserve(self, most):
         """Makes room for this many timers at once: no start fails for memory while fewer are held."""
-        self._do("reserve", word(most))
+        self._do("reserve", word(most, 8 * ctypes.sizeof(c_size_t)))
 
     def start(self, interval, action):
         """Starts a timer, and returns its handle."""
@@ -294,7 +301,7 @@ class Timers:
 
         Meanwhile timers may be started, stopped and taken.
         """
-        cursor = c_size_t()
+        cursor = c_uint64()
         while True:
             handle, timer = Handle(), Expired()
             if not self._call["each"](self._held, byref(cursor), byref(handle), byref(timer)):

@@ -9,17 +9,18 @@ each call does.
         line.receive()                  # Word(kind=1, reason=0, number=1, ..)
 
 The owner's thread calls the desk, and each client's thread its line, one call at a time. Both are freed by free(), at the
-end of their `with`, or once nothing refers to them. Numbers are whole and from 0 to 2^64 - 1, that of a table to 2^32 - 1:
-any other is refused by OverflowError or TypeError. So is a sum of `timers` and `requests` above 2^64 - 2. A call that the
-library refuses raises DeskError, but those of serve and serve_all, which return their status. If the library is in no
-folder that the loader searches, give its path: Desk(.., library="lib/libtimers.so.1"). With the package of pip: from
-timers.timers_desk import Desk.
+end of their `with`, or once nothing refers to them. Numbers are whole and from 0 to 2^64 - 1, that of a table to 2^32 - 1,
+and on a 32-bit system so are a client's and the room of `open`: any other is refused by OverflowError or TypeError. So is a
+sum of `timers` and `requests` above 2^64 - 2. A call that the library refuses raises DeskError, but those of serve and
+serve_all, which return their status. If the library is in no folder that the loader searches, give its path: Desk(..,
+library="lib/libtimers.so.1"). With the package of pip: from timers.timers_desk import Desk.
 """
 # SPDX-License-Identifier: MIT OR Apache-2.0
 import ctypes
 import itertools
 import operator
-from ctypes import POINTER, Structure, byref, c_bool, c_size_t, c_uint32, c_uint64, c_void_p
+import os
+from ctypes import POINTER, Structure, byref, c_bool, c_size_t, c_uint32, c_uint64
 
 (OK, NOT_OPEN, OPEN, NO_MEMORY, NOT_PENDING, ZERO_INTERVAL, TOO_LATE, SERIALS_SPENT, CLOCK_END, CLOSED, CAPACITY, NO_CLIENT,
  NUMBERS_SPENT, REPEATED, AHEAD, LINE_FULL, FINISHED, OUT_OF_RANGE, IDLE, NO_ROOM, OTHER_LINE, NOT_FINISHED, LEFT, NOT_FREED
@@ -47,6 +48,11 @@ def number(value, bits=64):
     return value
 
 
+def size(value):
+    """The argument, if it is a `size_t`."""
+    return number(value, 8 * ctypes.sizeof(c_size_t))
+
+
 def check(status):
     if status != OK:
         raise DeskError(status)
@@ -54,7 +60,7 @@ def check(status):
 
 class Handle(Structure):
     """The name of a client's timer."""
-    _fields_ = [("place", c_size_t), ("serial", c_uint64)]
+    _fields_ = [("place", c_uint64), ("serial", c_uint64)]
 
     def __init__(self, *numbers):
         super().__init__(*map(number, numbers))
@@ -79,8 +85,8 @@ class Word(Structure):
 
 
 class Config(Structure):
-    _fields_ = [("size", c_size_t), ("first_tick", c_uint64), ("capacity", c_uint64), ("room", c_size_t), ("line", c_size_t),
-                ("table", c_uint32)]
+    _fields_ = [("size", c_uint64), ("first_tick", c_uint64), ("capacity", c_uint64), ("room", c_uint64), ("line", c_uint64),
+                ("table", c_uint32), ("unnamed", c_uint32)]
 
 
 # how many desks were made
@@ -88,23 +94,29 @@ DESKS = itertools.count()
 
 
 class HeldDesk(Structure):
-    _fields_ = [("at", c_void_p), ("mark", c_uint64), ("lives", c_uint64)]
+    _fields_ = [("at", c_uint64), ("mark", c_uint64), ("lives", c_uint64)]
 
 
 class HeldLine(Structure):
-    _fields_ = [("at", c_void_p), ("mark", c_uint64), ("client", c_uint64), ("life", c_uint64)]
+    _fields_ = [("at", c_uint64), ("mark", c_uint64), ("client", c_uint64), ("life", c_uint64)]
+
+
+def path_of(library):
+    """The library beside this file, where the package of pip has it, or what the loader finds."""
+    beside = os.path.join(os.path.dirname(os.path.abspath(__file__)), library)
+    return beside if os.path.exists(beside) else library
 
 
 def load(path):
-    library = ctypes.CDLL(path)
+    library = ctypes.CDLL(path_of(path))
     desk, line = POINTER(HeldDesk), POINTER(HeldLine)
     for name, result, *arguments in [
             ("desk_new", c_uint32, desk, line, c_size_t, POINTER(Config)), ("desk_free", None, desk),
             ("desk_serve", c_uint32, desk, c_size_t), ("desk_serve_all", c_uint32, desk, c_uint64),
             ("desk_flush", c_size_t, desk, c_size_t), ("desk_flush_all", c_bool, desk),
             ("desk_advance", c_uint32, desk, c_uint64, POINTER(c_uint64)), ("desk_close", c_uint32, desk, POINTER(c_uint64)),
-            ("desk_end", c_uint32, desk, c_size_t, line, POINTER(c_size_t)),
-            ("desk_stop_pending", c_uint32, desk, c_size_t, POINTER(c_size_t)),
+            ("desk_end", c_uint32, desk, c_size_t, line, POINTER(c_uint64)),
+            ("desk_stop_pending", c_uint32, desk, c_size_t, POINTER(c_uint64)),
             ("desk_open", c_uint32, desk, c_size_t, line, c_size_t), ("desk_reserve", c_uint32, desk),
             ("desk_now", c_uint64, desk), ("desk_len", c_size_t, desk), ("desk_pending", c_size_t, desk, c_size_t),
             ("desk_outbox", c_size_t, desk, c_size_t), ("desk_wakeup", c_uint64, desk), ("desk_next", c_uint64, desk),
@@ -195,7 +207,7 @@ class Desk:
         lines = (HeldLine * max(clients, 1))()
         room = number(number(timers) + number(requests) + 1)
         config = Config(ctypes.sizeof(Config), number(first_tick), number(capacity), room, number(requests), number(table, 32))
-        check(self._library.timers_desk_new(byref(self._held), lines, number(clients), byref(config)))
+        check(self._library.timers_desk_new(byref(self._held), lines, size(clients), byref(config)))
         # each line is moved to a struct of its own, and not used in the array from here on
         self.lines = [Line(self._library, HeldLine(line.at, line.mark, line.client, line.life)) for line in lines[:clients]]
 
@@ -215,14 +227,14 @@ class Desk:
 
     def serve(self, client):
         """The status: OK, IDLE, NO_ROOM, NO_MEMORY or NO_CLIENT; NOT_OPEN after free()."""
-        return self._library.timers_desk_serve(byref(self._held), number(client))
+        return self._library.timers_desk_serve(byref(self._held), size(client))
 
     def serve_all(self, most=64):
         """The status: OK, IDLE or NO_MEMORY; NOT_OPEN after free()."""
         return self._library.timers_desk_serve_all(byref(self._held), number(most))
 
     def flush(self, client):
-        return self._library.timers_desk_flush(byref(self._held), number(client))
+        return self._library.timers_desk_flush(byref(self._held), size(client))
 
     def flush_all(self):
         return self._library.timers_desk_flush_all(byref(self._held))
@@ -242,20 +254,20 @@ class Desk:
     def end(self, client, line):
         """Ends the words of a client, and returns how many it has still to receive. A line of another desk is
         OTHER_LINE."""
-        unread = c_size_t()
-        check(self._library.timers_desk_end(byref(self._held), number(client), byref(line._held), byref(unread)))
+        unread = c_uint64()
+        check(self._library.timers_desk_end(byref(self._held), size(client), byref(line._held), byref(unread)))
         return unread.value
 
     def stop_pending(self, client):
         """Stops all pending timers of a client whose line was freed, and returns how many."""
-        stopped = c_size_t()
-        check(self._library.timers_desk_stop_pending(byref(self._held), number(client), byref(stopped)))
+        stopped = c_uint64()
+        check(self._library.timers_desk_stop_pending(byref(self._held), size(client), byref(stopped)))
         return stopped.value
 
     def open(self, client, room):
         """Opens a line for another client under the number of one that is gone, and returns its end."""
         held = HeldLine()
-        check(self._library.timers_desk_open(byref(self._held), number(client), byref(held), number(room)))
+        check(self._library.timers_desk_open(byref(self._held), size(client), byref(held), size(room)))
         return Line(self._library, held)
 
     def reserve(self):
@@ -274,10 +286,10 @@ class Desk:
         return self._library.timers_desk_len(byref(self._held))
 
     def pending(self, client):
-        return self._library.timers_desk_pending(byref(self._held), number(client))
+        return self._library.timers_desk_pending(byref(self._held), size(client))
 
     def outbox(self, client):
-        return self._library.timers_desk_outbox(byref(self._held), number(client))
+        return self._library.timers_desk_outbox(byref(self._held), size(client))
 
     def wakeup(self):
         """A tick until which nothing expires, or None."""
@@ -290,4 +302,4 @@ class Desk:
         return None if tick == NEVER else tick
 
     def line_freed(self, client):
-        return self._library.timers_desk_line_freed(byref(self._held), number(client))
+        return self._library.timers_desk_line_freed(byref(self._held), size(client))

@@ -22,9 +22,11 @@
 // SPDX-License-Identifier: MIT OR Apache-2.0
 #![allow(dead_code)]
 
+use std::cell::Cell;
 use std::error;
-use std::ffi::{c_uint, c_void};
+use std::ffi::c_uint;
 use std::fmt;
+use std::marker::PhantomData;
 use std::mem::MaybeUninit;
 use std::time::Duration;
 
@@ -105,7 +107,7 @@ impl error::Error for Error {}
 #[repr(C)]
 #[derive(Clone, Copy, Debug, Default, Eq, Hash, PartialEq)]
 pub struct Handle {
-    place: usize,
+    place: u64,
     serial: u64,
 }
 
@@ -144,7 +146,7 @@ pub struct Counts {
 /// `struct timers`. It may be moved.
 #[repr(C)]
 struct Held {
-    at: *mut c_void,
+    at: u64,
     mark: u64,
     last_serial: u64,
 }
@@ -172,7 +174,7 @@ unsafe extern "C" {
     ) -> c_uint;
     fn timers_stop(t: *mut Held, handle: Handle, action: *mut u64) -> c_uint;
     fn timers_look(t: *const Held, handle: Handle, out: *mut Timer) -> c_uint;
-    fn timers_each(t: *const Held, cursor: *mut usize, handle: *mut Handle, out: *mut Timer) -> bool;
+    fn timers_each(t: *const Held, cursor: *mut u64, handle: *mut Handle, out: *mut Timer) -> bool;
     fn timers_set_at(t: *mut Held, handle: *mut Handle, deadline: u64, action: u64) -> c_uint;
     fn timers_clear(t: *mut Held);
     fn timers_tick(t: *mut Held) -> c_uint;
@@ -198,10 +200,9 @@ unsafe extern "C" {
 pub struct Timers {
     held: Held,
     last_tick: u64,
+    /// The library keeps nothing of a thread: timers may be sent to another one (THREADS of the header), and not be shared.
+    alone: PhantomData<Cell<()>>,
 }
-
-// SAFETY: the library keeps nothing of a thread, and a struct may be handed to another one (THREADS of the header).
-unsafe impl Send for Timers {}
 
 impl fmt::Debug for Timers {
     fn fmt(&self, f: &mut fmt::Formatter<'_>) -> fmt::Result {
@@ -240,13 +241,13 @@ impl Timers {
     /// # Errors
     /// `TooLate` if that is after the last tick of the table; `NoMemory`.
     pub fn new(table: Table, first_tick: u64) -> Result<Timers, Error> {
-        let mut held = Held { at: std::ptr::null_mut(), mark: 0, last_serial: 0 };
+        let mut held = Held { at: 0, mark: 0, last_serial: 0 };
         Error::of(unsafe { timers_new(&mut held, table as u32, first_tick) })?;
         let last_tick = match table {
             Table::Wide => LAST,
             Table::Clock => LAST_OF_CLOCK,
         };
-        Ok(Timers { held, last_tick })
+        Ok(Timers { held, last_tick, alone: PhantomData })
     }
 
     /// Makes room for `most` timers at once: no start fails for memory while fewer are held.
@@ -316,7 +317,7 @@ impl Timers {
     /// Finds a timer, pending or expired, and moves the cursor, which begins at 0, past it; `None` at the
     /// end. Between two calls timers may be started, stopped, restarted and taken: one that is there all the
     /// time, or is restarted, is found exactly once.
-    pub fn visit(&self, cursor: &mut usize) -> Option<(Handle, Timer)> {
+    pub fn visit(&self, cursor: &mut u64) -> Option<(Handle, Timer)> {
         let mut handle = Handle { place: 0, serial: 0 };
         let mut timer = Timer::default();
         unsafe { timers_each(&self.held, cursor, &mut handle, &mut timer) }.then_some((handle, timer))
@@ -450,7 +451,7 @@ impl Timers {
 /// An iteration over all timers, pending and expired.
 pub struct Iter<'a> {
     timers: &'a Timers,
-    cursor: usize,
+    cursor: u64,
 }
 
 impl Iterator for Iter<'_> {

@@ -10,12 +10,12 @@
 // SPDX-License-Identifier: MIT OR Apache-2.0
 #![allow(dead_code)]
 
+use std::cell::Cell;
 use std::error;
-use std::ffi::{c_uint, c_void};
+use std::ffi::c_uint;
 use std::fmt;
 use std::marker::PhantomData;
 use std::mem::MaybeUninit;
-use std::ptr;
 use std::sync::atomic::{AtomicU64, Ordering};
 
 const OK: c_uint = 0;
@@ -156,9 +156,9 @@ pub struct Config {
     /// The most timers that may be pending at a time, of all clients.
     pub capacity: u64,
     /// How many words each client's outbox has room for.
-    pub room: usize,
+    pub room: u64,
     /// How many requests, and how many words, a line has room for.
-    pub line: usize,
+    pub line: u64,
     pub table: Table,
 }
 
@@ -167,7 +167,7 @@ impl Config {
     /// of their requests is ever held back for want of room. Numbers that are out of a desk's ranges are refused by
     /// [`Desk::new`].
     #[must_use]
-    pub fn new(capacity: u64, timers: usize, requests: usize) -> Config {
+    pub fn new(capacity: u64, timers: u64, requests: u64) -> Config {
         let room = timers.saturating_add(requests).saturating_add(1);
         Config { first_tick: 0, capacity, room, line: requests, table: Table::Wide }
     }
@@ -177,7 +177,7 @@ impl Config {
 #[repr(C)]
 #[derive(Clone, Copy, Debug, Default, Eq, Hash, PartialEq)]
 pub struct Handle {
-    place: usize,
+    place: u64,
     serial: u64,
 }
 
@@ -251,18 +251,19 @@ impl RawWord {
 
 #[repr(C)]
 struct RawConfig {
-    size: usize,
+    size: u64,
     first_tick: u64,
     capacity: u64,
-    room: usize,
-    line: usize,
+    room: u64,
+    line: u64,
     table: u32,
+    unnamed: u32,
 }
 
 /// `struct timers_desk`. It may be moved.
 #[repr(C)]
 struct RawDesk {
-    at: *mut c_void,
+    at: u64,
     mark: u64,
     lives: u64,
 }
@@ -270,7 +271,7 @@ struct RawDesk {
 /// `struct timers_line`. It may be moved.
 #[repr(C)]
 struct RawLine {
-    at: *mut c_void,
+    at: u64,
     mark: u64,
     client: u64,
     life: u64,
@@ -278,7 +279,7 @@ struct RawLine {
 
 impl RawLine {
     fn none() -> RawLine {
-        RawLine { at: ptr::null_mut(), mark: 0, client: 0, life: 0 }
+        RawLine { at: 0, mark: 0, client: 0, life: 0 }
     }
 }
 
@@ -292,8 +293,8 @@ unsafe extern "C" {
     fn timers_desk_flush_all(d: *mut RawDesk) -> bool;
     fn timers_desk_advance(d: *mut RawDesk, most: u64, passed: *mut u64) -> c_uint;
     fn timers_desk_close(d: *mut RawDesk, returned: *mut u64) -> c_uint;
-    fn timers_desk_end(d: *mut RawDesk, client: usize, line: *mut RawLine, unread: *mut usize) -> c_uint;
-    fn timers_desk_stop_pending(d: *mut RawDesk, client: usize, stopped: *mut usize) -> c_uint;
+    fn timers_desk_end(d: *mut RawDesk, client: usize, line: *mut RawLine, unread: *mut u64) -> c_uint;
+    fn timers_desk_stop_pending(d: *mut RawDesk, client: usize, stopped: *mut u64) -> c_uint;
     fn timers_desk_open(d: *mut RawDesk, client: usize, line: *mut RawLine, room: usize) -> c_uint;
     fn timers_desk_reserve(d: *mut RawDesk) -> c_uint;
     fn timers_desk_now(d: *const RawDesk) -> u64;
@@ -326,16 +327,15 @@ static DESKS: AtomicU64 = AtomicU64::new(0);
 pub struct Desk {
     held: RawDesk,
     clients: usize,
+    alone: PhantomData<*mut ()>,
 }
 
 /// A client's end of its line. It can be sent to another thread, and not be shared by two.
 pub struct Line {
     held: RawLine,
-    alone: PhantomData<*mut ()>,
+    /// Nothing of a line belongs to a thread: one at a time uses it, which may change (rule 4 of the header).
+    alone: PhantomData<Cell<()>>,
 }
-
-// SAFETY: a line is used by one thread at a time, which may change (rule 4 of the header): nothing of it belongs to a thread.
-unsafe impl Send for Line {}
 
 impl Line {
     fn of(held: RawLine) -> Line {
@@ -354,10 +354,11 @@ impl Desk {
             return Err(Error::OutOfRange);
         }
         let Config { first_tick, capacity, room, line, table } = config;
-        let raw = RawConfig { size: size_of::<RawConfig>(), first_tick, capacity, room, line, table: table as u32 };
+        let (size, table) = (size_of::<RawConfig>() as u64, table as u32);
+        let raw = RawConfig { size, first_tick, capacity, room, line, table, unnamed: 0 };
         // Each desk counts from another number, so that a line of another desk is refused.
         let lives = DESKS.fetch_add(1, Ordering::Relaxed);
-        let mut desk = Desk { held: RawDesk { at: ptr::null_mut(), mark: 0, lives }, clients };
+        let mut desk = Desk { held: RawDesk { at: 0, mark: 0, lives }, clients, alone: PhantomData };
         let mut lines: Vec<RawLine> = (0..clients).map(|_| RawLine::none()).collect();
         let status = unsafe { timers_desk_new(&mut desk.held, lines.as_mut_ptr(), clients, &raw) };
         done(status, ())?;
@@ -434,7 +435,7 @@ impl Desk {
     /// # Errors
     /// `NoClient`; `OtherLine` if it is a line of another client or of another desk; `NotFinished`; `Left` if a request
     /// is held or stands in the line, a word waits in the outbox, or a timer is pending.
-    pub fn end(&mut self, client: usize, line: &mut Line) -> Result<usize, Error> {
+    pub fn end(&mut self, client: usize, line: &mut Line) -> Result<u64, Error> {
         let mut unread = 0;
         let status = unsafe { timers_desk_end(&mut self.held, client, &mut line.held, &mut unread) };
         done(status, unread)
@@ -445,7 +446,7 @@ impl Desk {
     ///
     /// # Errors
     /// `NoClient`; `NotFreed`; `Closed`; `NumbersSpent` if fewer numbers are left than timers are pending.
-    pub fn stop_pending(&mut self, client: usize) -> Result<usize, Error> {
+    pub fn stop_pending(&mut self, client: usize) -> Result<u64, Error> {
         let mut stopped = 0;
         let status = unsafe { timers_desk_stop_pending(&mut self.held, client, &mut stopped) };
         done(status, stopped)

@@ -159,10 +159,10 @@ fn clients_come_and_go() {
             assert_eq!(desk.open(0, 4).err(), Some(Error::Left));
             turn(&mut desk);
             if life % 8 > 4 {
-                let pending = desk.pending_of(0);
+                let pending = desk.pending_of(0) as u64;
                 assert_eq!((desk.stop_pending(0), desk.stop_pending(0)), (Ok(pending), Ok(0)));
-                assert!(pending as u64 == life % 4 && desk.pending_of(0) == 0);
-                number += pending as u64; // the stops have their numbers
+                assert!(pending == life % 4 && desk.pending_of(0) == 0);
+                number += pending; // the stops have their numbers
             } else {
                 desk.advance_to(desk.now() + 5).unwrap();
                 assert_eq!(desk.open(0, 4).err(), Some(Error::Left));
@@ -247,7 +247,7 @@ fn main() {
     for clients in [0, 65, 100_000_000_000, usize::MAX] {
         assert_eq!(Desk::new(clients, Config::new(1, 1, 1)).unwrap_err(), Error::OutOfRange);
     }
-    for (timers, requests) in [(usize::MAX, 1), (1, usize::MAX), (usize::MAX, usize::MAX)] {
+    for (timers, requests) in [(u64::MAX, 1), (1, u64::MAX), (u64::MAX, u64::MAX)] {
         assert_eq!(Desk::new(1, Config::new(1, timers, requests)).unwrap_err(), Error::OutOfRange);
     }
     passes_the_last_tick();

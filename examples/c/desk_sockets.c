@@ -109,7 +109,8 @@ static void admit(int listener, struct connection *c)
 /* Stops the time-outs of each client that is gone, and opens its line again. */
 static void open_again(void)
 {
-	for (size_t c = 0, stopped; c < LINES; c++)
+	uint64_t stopped;
+	for (size_t c = 0; c < LINES; c++)
 		if (connections[c].taken && atomic_load(&connections[c].gone) /* TIMERS_DESK_LEFT: in a later round */
 		    && timers_desk_stop_pending(&desk, c, &stopped) == TIMERS_DESK_OK
 		    && timers_desk_open(&desk, c, &connections[c].line, 2 * MOST) == TIMERS_DESK_OK)

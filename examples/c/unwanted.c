@@ -12,8 +12,8 @@ int main(void)
 	struct timers t = TIMERS_INIT;
 	struct timers_handle h, dead;
 	struct timers_expired e;
-	size_t cursor = 0, found = 0;
-	uint64_t action;
+	size_t found = 0;
+	uint64_t action, cursor = 0;
 	timers_free(NULL);
 	HOLDS(timers_start(&t, 1, 1, NULL) == TIMERS_NOT_OPEN && timers_new(&t, TIMERS_WIDE, 0) == TIMERS_OK);
 	HOLDS(timers_start(&t, 5, 1, NULL) == TIMERS_OK && timers_start_at(&t, 9, 2, NULL) == TIMERS_OK);
@@ -32,6 +32,7 @@ int main(void)
 	cursor = 0;
 	HOLDS(timers_each(&t, &cursor, &h, NULL) && timers_look(&t, h, &e) == TIMERS_OK && e.action == 2);
 	HOLDS(timers_restart_at(&t, h, 60, 2, NULL) == TIMERS_OK && timers_next(&t) == 60);
+	HOLDS(timers_look(&t, h, NULL) == TIMERS_NOT_PENDING && timers_counts(&t, NULL) == TIMERS_OK);
 	timers_free(&t);
 	timers_free(&t);
 	printf(wrong ? "NULL is no object\n" : "NULL is an object that nobody wants\n");

@@ -32,8 +32,7 @@ static void empty_structs(void)
 	struct timers_line l = TIMERS_LINE_INIT;
 	struct timers_word w;
 	struct timers_handle h = { 1, 2 };
-	uint64_t n = 77;
-	size_t s = 78;
+	uint64_t n = 77, s = 78;
 	CHECK(timers_desk_serve(&d, 0) == TIMERS_DESK_NOT_OPEN && timers_desk_serve_all(&d, 9) == TIMERS_DESK_NOT_OPEN && !timers_desk_flush_all(&d));
 	CHECK(timers_desk_flush(&d, 0) == 0 && timers_desk_tick(&d) == TIMERS_DESK_NOT_OPEN);
 	CHECK(timers_desk_advance(&d, 5, &n) == TIMERS_DESK_NOT_OPEN && n == 77);
@@ -127,7 +126,7 @@ static void frees(void)
 	struct timers_desk_config config = { sizeof(struct timers_desk_config), 0, 100, 8, 4, TIMERS_WIDE };
 	struct timers_word w;
 	uint64_t n;
-	size_t unread;
+	uint64_t unread;
 	CHECK(timers_desk_new(&d, l, 4, &config) == TIMERS_DESK_OK);
 	for (size_t c = 0; c < 4; c++)
 		CHECK(!timers_desk_line_freed(&d, c) && !timers_line_abandoned(&l[c]));
@@ -184,7 +183,7 @@ static void turns_ask_for_nothing(void)
 	struct timers_desk_config config = { sizeof(struct timers_desk_config), 0, 100, 16, 4, TIMERS_WIDE };
 	struct timers_word w = { 0, 0, 0, { 0, 0 }, 0, 0, 0 };
 	uint64_t n;
-	size_t unread;
+	uint64_t unread;
 	CHECK(timers_desk_new(&d, &l, 1, &config) == TIMERS_DESK_OK && timers_desk_reserve(&d) == TIMERS_DESK_OK);
 	for (int round = 0; round < 100; round++) {
 		long before = asked, held = blocks;
@@ -221,7 +220,7 @@ static bool story(void)
 	struct timers_desk_config config = { sizeof(struct timers_desk_config), 0, 100, 8, 4, TIMERS_WIDE };
 	struct timers_word w, first;
 	uint64_t n;
-	size_t standing;
+	uint64_t standing;
 	enum timers_desk_status s = timers_desk_new(&d, l, 2, &config);
 	if (s != TIMERS_DESK_OK) {
 		CHECK(s == TIMERS_DESK_NO_MEMORY && d.mark == 0 && l[0].mark == 0 && l[1].mark == 0 && !d.at && !l[0].at);
@@ -377,7 +376,7 @@ static bool ends(void)
 	struct timers_desk_config config = { sizeof(struct timers_desk_config), 0, 100, 8, 4, TIMERS_WIDE };
 	struct timers_word w;
 	uint64_t n;
-	size_t unread = 55;
+	uint64_t unread = 55;
 	bool ran_out = false;
 	enum timers_desk_status s = timers_desk_new(&d, l, 2, &config);
 	if (s != TIMERS_DESK_OK) {
@@ -432,7 +431,7 @@ static void ends_all(void)
 	struct timers_desk_config config = { sizeof(struct timers_desk_config), 0, 100, 8, 4, TIMERS_WIDE };
 	struct timers_word w;
 	uint64_t n;
-	size_t c = 77;
+	uint64_t c = 77;
 	CHECK(timers_desk_new(&d, l, 3, &config) == TIMERS_DESK_OK);
 	CHECK(timers_desk_end_all(&d, l, 2, &c) == TIMERS_DESK_OUT_OF_RANGE && timers_desk_end_all(&d, l, 0, &c) == TIMERS_DESK_OUT_OF_RANGE);
 	CHECK(c == 77 && timers_desk_end_all(&d, l, 3, &c) == TIMERS_DESK_NOT_FINISHED && c == 0);
@@ -572,7 +571,7 @@ static void stops_the_timers_of_a_client_that_is_gone(void)
 	struct timers_desk_config config = { sizeof config, 0, 100, 9, 20, TIMERS_WIDE };
 	struct timers_word w;
 	uint64_t n, year = 31536000000;
-	size_t s = 78, all = 0;
+	uint64_t s = 78, all = 0;
 	CHECK(timers_desk_new(&d, l, 2, &config) == TIMERS_DESK_OK);
 	CHECK(timers_desk_stop_pending(&d, 2, &s) == TIMERS_DESK_NO_CLIENT && timers_desk_stop_pending(&d, 0, &s) == TIMERS_DESK_NOT_FREED && s == 78);
 	for (uint64_t i = 1; i <= 20; i++)      /* client 1 keeps 3 timers, at places between the others */
@@ -716,7 +715,7 @@ static void refuses_a_line_of_an_earlier_life(void)
 	struct timers_desk_config config = { sizeof config, 0, 100, 8, 4, TIMERS_WIDE };
 	struct timers_word w;
 	uint64_t n;
-	size_t s = 55, c = 77;
+	uint64_t s = 55, c = 77;
 	CHECK(timers_desk_new(&d, l, 2, &config) == TIMERS_DESK_OK && d.lives == 1 && l[0].life == 1);
 	CHECK(timers_line_start(&l[0], 9, 1, &n) == TIMERS_DESK_OK && timers_line_finish(&l[0]) == TIMERS_DESK_OK);
 	owner_turn(&d);

@@ -84,7 +84,7 @@ static void *work(void *at)
 static void end_words(struct timers_desk *d, struct client *all)
 {
 	for (size_t c = 0; c < clients; c++) {
-		size_t unread = 0;
+		uint64_t unread = 0;
 		if (atomic_load(&all[c].whose) == CLIENTS)
 			continue;
 		all[c].end = timers_desk_end(d, c, all[c].line, &unread);

@@ -100,7 +100,7 @@ static void begin(size_t c, uint64_t life)
 static bool opens(struct timers_desk *d, size_t c, uint64_t *last)
 {
 	const struct client before = { .first = all[c].first, .sent = all[c].sent, .has_all = all[c].has_all };
-	size_t count;
+	uint64_t count;
 	enum timers_desk_status s;
 
 	CHECK(timers_desk_line_freed(d, c));

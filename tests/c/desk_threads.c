@@ -192,7 +192,7 @@ static void own(struct client *all, pthread_t *threads)
 	}
 	end_refusals();
 	for (size_t c = 0; c < clients; c++) {
-		size_t standing = 99;
+		uint64_t standing = 99;
 		CHECK(pthread_join(threads[c], NULL) == 0);
 		CHECK(timers_desk_settle(&d, c, &lines[c], &standing) == TIMERS_DESK_OK);
 		CHECK(standing == 0);

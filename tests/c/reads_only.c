@@ -1,8 +1,8 @@
 /* Calls with a const pointer write nothing but what they are given to write, so that several threads may make them at
  * once: all those of timers, and those of a desk and its lines. Here they are in memory that
  * can't be written, and four threads read them.
- * Link with -pthread and -Wl,--wrap=malloc,--wrap=realloc,--wrap=free. With -DWRITES a call that writes is among them, and
- * the program is ended by a signal. */
+ * Link with -pthread and -Wl,--wrap=malloc,--wrap=realloc,--wrap=free. With -DWRITES a call that writes is among them,
+ * and with -DKEEPS one that keeps what it found: either ends the program by a signal. */
 #define _GNU_SOURCE
 #include <pthread.h>
 #include <stdio.h>
@@ -11,7 +11,7 @@
 
 #include <timers_desk.h>
 
-enum { ROOM = 1 << 22, TIMERS = 5000 };
+enum { ROOM = 1 << 22, TIMERS = 5000, LATER = 50 };
 
 /* The library's memory, from which nothing is given back. A block has its size in front of it. */
 static unsigned char *memory;
@@ -48,6 +48,7 @@ void __wrap_free(void *block) { (void)block; }
 /* What is read, in that memory too. Its bytes are 0 at first. */
 static struct all {
 	struct timers timers;
+	struct timers later;
 	struct timers_desk desk;
 	struct timers_line lines[2];
 } *all;
@@ -60,8 +61,7 @@ static void *read_all(void *unused)
 	struct timers_expired e;
 	struct timers_handle handle;
 	struct timers_counters counts;
-	uint64_t sum = 0, wrong = 0;
-	size_t cursor = 0;
+	uint64_t sum = 0, wrong = 0, cursor = 0;
 	(void)unused;
 	for (size_t i = 0; i < TIMERS; i++)
 		wrong += timers_look(t, handles[i], &e) != TIMERS_OK || e.action != i;
@@ -70,16 +70,34 @@ static void *read_all(void *unused)
 	wrong += sum != (uint64_t)TIMERS * (TIMERS - 1) / 2;
 	wrong += timers_now(t) != 10 || !timers_has_due(t) || timers_len(t) >= TIMERS;
 	wrong += timers_wakeup(t) != 10 || timers_next(t) != 10;
+	/* nothing is due, and all stand in one bucket of a high wheel: what comes first is found by a walk */
+	wrong += timers_has_due(&all->later) || timers_now(&all->later) != 0 || timers_len(&all->later) != LATER;
+	wrong += timers_wakeup(&all->later) != 5 * 4096 || timers_next(&all->later) != 5 * 4096 + 1;
 	wrong += timers_counts(t, &counts) != TIMERS_OK || counts.starts != TIMERS;
 	wrong += timers_version() != TIMERS_VERSION_NUMBER;
 	wrong += timers_desk_now(&all->desk) != 7 || timers_desk_len(&all->desk) != 3 || timers_desk_pending(&all->desk, 0) != 3;
-	wrong += timers_desk_wakeup(&all->desk) != 12 || timers_desk_next(&all->desk) != 12;
+	wrong += timers_desk_wakeup(&all->desk) != 5 * 4096 || timers_desk_next(&all->desk) != 5 * 4096 + 7;
 	wrong += timers_desk_outbox(&all->desk, 0) != 3 || timers_desk_outbox(&all->desk, 1) != 0;
 	wrong += timers_line_ended(&all->lines[0]) || timers_line_ended(&all->lines[1]);
 #ifdef WRITES
 	wrong += timers_expire(t, &e);
 #endif
+#ifdef KEEPS
+	wrong += timers_find_next(&all->later) != 5 * 4096 + 1;
+#endif
 	return wrong ? &handles[0] : NULL;
+}
+
+/* Timers in one bucket of the third wheel, the last of which expires first. */
+static bool start_later(void)
+{
+	struct timers_handle handle;
+	if (timers_new(&all->later, TIMERS_WIDE, 0) != TIMERS_OK)
+		return false;
+	for (uint64_t i = 0; i < LATER; i++)
+		if (timers_start(&all->later, 5 * 4096 + LATER - i, i, &handle) != TIMERS_OK)
+			return false;
+	return true;
 }
 
 /* Three timers of client 0, whose answers wait in its outbox. Client 1 has freed its line. */
@@ -90,7 +108,7 @@ static bool open_desk(void)
 	if (timers_desk_new(&all->desk, all->lines, 2, &config) != TIMERS_DESK_OK)
 		return false;
 	for (uint64_t i = 0; i < 3; i++)
-		if (timers_line_start(&all->lines[0], 5 + i, i, &number) != TIMERS_DESK_OK)
+		if (timers_line_start(&all->lines[0], 5 * 4096 + 2 - i, i, &number) != TIMERS_DESK_OK)
 			return false;
 	timers_line_free(&all->lines[1]);
 	return timers_desk_serve_all(&all->desk, 9) == TIMERS_DESK_OK;
@@ -113,7 +131,7 @@ int main(void)
 		if (timers_start(t, 10 + i % 1000 * i, i, &handles[i]) != TIMERS_OK)
 			return 2;
 	timers_advance_to(t, 100);
-	if (!open_desk() || mprotect(memory, ROOM, PROT_READ) != 0)
+	if (!start_later() || !open_desk() || mprotect(memory, ROOM, PROT_READ) != 0)
 		return 2;
 	for (int i = 0; i < 4; i++)
 		if (pthread_create(&threads[i], NULL, read_all, NULL) != 0)

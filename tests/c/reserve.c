@@ -69,7 +69,7 @@ static int churns(struct timers *t, size_t most)
 			return 0;
 		for (uint64_t take = drawn(40); take > 0 && timers_expire(t, &out); take--)
 			;
-		size_t cursor = 0;
+		uint64_t cursor = 0;
 		struct timers_handle handle;
 		for (left = 0; timers_each(t, &cursor, &handle, &out); left++)
 			held[left] = handle;

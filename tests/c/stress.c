@@ -50,7 +50,7 @@ static uint64_t below(uint64_t limit) { return next_random() % limit; }
 
 /* The model: all timers by deadline, then serial. list[0 .. due) expired and were not yet taken. `from` is the tick at
  * which it was started. */
-struct entry { uint64_t deadline, serial, action, from; size_t place; };
+struct entry { uint64_t deadline, serial, action, from, place; };
 static struct entry *list;
 static size_t count, room, due;
 static uint64_t now, last_tick, last_serial;
@@ -193,7 +193,7 @@ static size_t random_handle(struct timers_handle *handle)
 		if (below(2))                             /* an older serial at a place in use */
 			handle->serial -= 1;
 		else                                      /* a place that is another's, or none */
-			handle->place += 1 + (size_t)below(100000);
+			handle->place += 1 + below(100000);
 	} else {
 		*handle = (struct timers_handle){ (size_t)next_random(), below(last_serial + 2) };
 	}
@@ -579,7 +579,7 @@ static void look_at_counts(struct timers *t)
 
 /* Restarts a timer while all are visited. It keeps its place: if the visit was there, it does not come again. Else it
  * comes to the new timer. Returns by how much the sum of squares changes that is still to be found. */
-static uint64_t restart_in_visit(struct timers *t, size_t at, size_t cursor)
+static uint64_t restart_in_visit(struct timers *t, size_t at, uint64_t cursor)
 {
 	struct timers_handle handle = { list[at].place, list[at].serial }, old = handle;
 	struct when when = { true, below(2) ? now : now + 1 + below(last_tick - now) };
@@ -599,10 +599,10 @@ static uint64_t restart_in_visit(struct timers *t, size_t at, size_t cursor)
 /* Iterates over all timers, and stops and restarts some meanwhile. Each is found once, with its deadline and action. */
 static void do_visit(struct timers *t)
 {
-	size_t cursor = 0, visited = 0, wanted = count;
+	size_t visited = 0, wanted = count;
 	struct timers_handle handle = { 41, 42 };
 	struct timers_expired e = { 43, 44, 45 };
-	uint64_t action, sum = 0, wanted_sum = 0;
+	uint64_t action, cursor = 0, sum = 0, wanted_sum = 0;
 	for (size_t i = 0; i < count; i++)
 		wanted_sum += list[i].serial * list[i].serial;
 	while (timers_each(t, &cursor, &handle, &e)) {
@@ -635,7 +635,7 @@ static void want_closed(struct timers *t)
 	struct timers_expired e = { 7, 7, 7 };
 	struct timers_counters counts = { 7, 7, 7 };
 	uint64_t word = 7;
-	size_t place = 7;
+	uint64_t place = 7;
 	WANT("reserve, not open", timers_reserve(t, 1), TIMERS_NOT_OPEN);
 	WANT("start, not open", timers_start(t, 1, 1, &handle), TIMERS_NOT_OPEN);
 	WANT("restart, not open", timers_restart(t, handle, 1, 1, &handle), TIMERS_NOT_OPEN);

@@ -118,7 +118,8 @@ def main():
     print(f"{scripts} scripts, {lines} lines")
 
 
-if len(sys.argv) > 1:
-    main()
-else:
-    dictionary()
+if __name__ == "__main__":
+    if len(sys.argv) > 1:
+        main()
+    else:
+        dictionary()

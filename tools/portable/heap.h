@@ -1,5 +1,6 @@
-/* The memory of the timers: malloc, realloc and free, or what timers_set_allocator was given. By hand: the proofs rest on
- * what is said here of each function. Every alignment that is asked for divides 16, and is at most 8. */
+/* The memory of the timers, over malloc, realloc and free or what timers_set_allocator was given. By hand: the proofs rest
+ * on what is said of each function. Every alignment that is asked for divides 16, and is at most 8. A block has at most
+ * SIZE_MAX / 2 bytes, so that offsets in it are those of C. */
 #if defined(__GNUC__)
 #define IN_USE_LOAD() __atomic_load_n(&in_use, __ATOMIC_RELAXED)
 #define IN_USE_STORE() __atomic_store_n(&in_use, true, __ATOMIC_RELAXED)
@@ -21,8 +22,7 @@ static of_i64_i64 answer(void *block)
 /* A new block of `size` bytes. For no bytes it is one of `align`: malloc(0) may return null. */
 static of_i64_i64 rattle_alloc(uint64_t size, uint64_t align)
 {
-	if (!IN_USE_LOAD())
-		IN_USE_STORE();
+	IN_USE_STORE();
 	if (size > SIZE_MAX / 2)
 		return answer(NULL);
 	return answer(allocate_block((size_t)(size != 0 ? size : align)));
@@ -31,7 +31,7 @@ static of_i64_i64 rattle_alloc(uint64_t size, uint64_t align)
 /* The block with another size. Its first `kept` bytes stay, and it may move. Refused, it is as it was. */
 static of_i64_i64 rattle_realloc(byte *block, uint64_t kept, uint64_t size, uint64_t align)
 {
-	size_t wanted = (size_t)(size != 0 ? size : align);
+	const size_t wanted = (size_t)(size != 0 ? size : align);
 	void *copy;
 
 	if (size > SIZE_MAX / 2)

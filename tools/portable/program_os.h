@@ -43,12 +43,12 @@ static uint64_t os___sysv_signal(uint32_t number, uint64_t handler)
 
 /* Of a thread's attributes the module sets the size of the guard alone: it is kept in the first 8 bytes of those that the
  * module has for them. A thread's name takes 8 bytes in memory, and is there before it runs. */
-static uint32_t os_pthread_attr_init(byte *attributes) { st64u(attributes, 0); return 0; }
+static uint32_t os_pthread_attr_init(byte *attributes) { store64u(attributes, 0); return 0; }
 static uint32_t os_pthread_attr_destroy(byte *attributes) { (void)attributes; return 0; }
-static uint32_t os_pthread_attr_setguardsize(byte *attributes, uint64_t n) { st64u(attributes, n); return 0; }
+static uint32_t os_pthread_attr_setguardsize(byte *attributes, uint64_t n) { store64u(attributes, n); return 0; }
 static uint32_t os_pthread_create(byte *thread, byte *attributes, byte *run, byte *with)
 {
-	const uint64_t guard = ld64u(attributes);
+	const uint64_t guard = load64u(attributes);
 	pthread_attr_t made;
 	int error = pthread_attr_init(&made);
 

@@ -1,26 +1,41 @@
-/* The functions of timers.h: NULL where nobody wants an answer, the structs of C, and on a big-endian processor their
- * numbers. By hand. */
-#if SWAPS
-static void flip(void *p, size_t n)
-{
-	byte *b = (byte *)p;
-	for (; n != 0; n--, b += 8) {
-		uint64_t v;
-		memcpy(&v, b, 8);
-		v = bswap64(v);
-		memcpy(b, &v, 8);
-	}
-}
-#define FLIP(p, n) flip(p, n)
-#else
-#define FLIP(p, n) ((void)(p))
-#endif
+/* The functions of timers.h, by hand: NULL where nobody wants an answer, and structs in the byte order of the processor. */
 
-/* Where an answer goes, and that it is turned if it was written. */
-#define ANSWER(type, name) \
-	type name##_unwanted; \
-	byte *const name##_at = (byte *)(name != NULL ? name : &name##_unwanted)
+/* The translated code keeps numbers little-endian in memory on each platform. On a big-endian one this turns `n` of 64 bits. */
+INLINE void turn(void *numbers, size_t n)
+{
+#if SWAPS
+	byte *p = (byte *)numbers;
+	for (; n != 0; n--, p += 8)
+		st64u(p, bswap64(ld64u(p)));
+#else
+	(void)numbers;
+	(void)n;
+#endif
+}
+
 #define BYTES(p) ((byte *)(uintptr_t)(p))
+
+/* Hands the `n` numbers of an answer to the caller, unless he wants none. */
+INLINE void give(void *to, void *answer, size_t n)
+{
+	turn(answer, n);
+	if (to != NULL)
+		memcpy(to, answer, 8 * n);
+}
+
+INLINE enum timers_status answered(uint32_t status, void *to, void *answer, size_t n)
+{
+	if (status == TIMERS_OK)
+		give(to, answer, n);
+	return (enum timers_status)status;
+}
+
+INLINE bool taken(bool whether, struct timers_expired *to, struct timers_expired *timer)
+{
+	if (whether)
+		give(to, timer, 3);
+	return whether;
+}
 
 enum timers_status timers_set_allocator(void *(*allocate)(size_t), void *(*resize)(void *, size_t), void (*release)(void *))
 {
@@ -55,91 +70,71 @@ enum timers_status timers_reserve(struct timers *t, size_t most)
 
 enum timers_status timers_start(struct timers *t, uint64_t interval, uint64_t action, struct timers_handle *handle)
 {
-	ANSWER(struct timers_handle, handle);
-	const uint32_t status = tm_timers_start(BYTES(t), interval, action, handle_at);
+	struct timers_handle made;
 
-	if (status == TIMERS_OK)
-		FLIP(handle_at, 2);
-	return (enum timers_status)status;
+	return answered(tm_timers_start(BYTES(t), interval, action, BYTES(&made)), handle, &made, 2);
 }
 
 enum timers_status timers_start_at(struct timers *t, uint64_t deadline, uint64_t action, struct timers_handle *handle)
 {
-	ANSWER(struct timers_handle, handle);
-	const uint32_t status = tm_timers_start_at(BYTES(t), deadline, action, handle_at);
+	struct timers_handle made;
 
-	if (status == TIMERS_OK)
-		FLIP(handle_at, 2);
-	return (enum timers_status)status;
+	return answered(tm_timers_start_at(BYTES(t), deadline, action, BYTES(&made)), handle, &made, 2);
 }
 
 enum timers_status timers_restart(struct timers *t, struct timers_handle handle, uint64_t interval, uint64_t action,
                                   struct timers_handle *restarted)
 {
-	ANSWER(struct timers_handle, restarted);
-	const uint32_t status = tm_timers_restart(BYTES(t), handle.place, handle.serial, interval, action, restarted_at);
+	struct timers_handle made;
 
-	if (status == TIMERS_OK)
-		FLIP(restarted_at, 2);
-	return (enum timers_status)status;
+	return answered(tm_timers_restart(BYTES(t), handle.place, handle.serial, interval, action, BYTES(&made)), restarted, &made, 2);
 }
 
 enum timers_status timers_restart_at(struct timers *t, struct timers_handle handle, uint64_t deadline, uint64_t action,
                                      struct timers_handle *restarted)
 {
-	ANSWER(struct timers_handle, restarted);
-	const uint32_t status = tm_timers_restart_at(BYTES(t), handle.place, handle.serial, deadline, action, restarted_at);
+	struct timers_handle made;
 
-	if (status == TIMERS_OK)
-		FLIP(restarted_at, 2);
-	return (enum timers_status)status;
+	return answered(tm_timers_restart_at(BYTES(t), handle.place, handle.serial, deadline, action, BYTES(&made)), restarted, &made, 2);
 }
 
+/* Its handle is read, too. */
 enum timers_status timers_set_at(struct timers *t, struct timers_handle *handle, uint64_t deadline, uint64_t action)
 {
 	uint32_t status;
 
-	FLIP(handle, 2);
+	turn(handle, 2);
 	status = tm_timers_set_at(BYTES(t), BYTES(handle), deadline, action);
-	FLIP(handle, 2);
+	turn(handle, 2);
 	return (enum timers_status)status;
 }
 
 enum timers_status timers_stop(struct timers *t, struct timers_handle handle, uint64_t *action)
 {
-	ANSWER(uint64_t, action);
-	const uint32_t status = tm_timers_stop(BYTES(t), handle.place, handle.serial, action_at);
+	uint64_t old;
 
-	if (status == TIMERS_OK)
-		FLIP(action_at, 1);
-	return (enum timers_status)status;
+	return answered(tm_timers_stop(BYTES(t), handle.place, handle.serial, BYTES(&old)), action, &old, 1);
 }
 
 enum timers_status timers_look(const struct timers *t, struct timers_handle handle, struct timers_expired *out)
 {
-	const uint32_t status = tm_timers_look(BYTES(t), handle.place, handle.serial, BYTES(out));
+	struct timers_expired timer;
 
-	if (status == TIMERS_OK)
-		FLIP(out, 3);
-	return (enum timers_status)status;
+	return answered(tm_timers_look(BYTES(t), handle.place, handle.serial, BYTES(&timer)), out, &timer, 3);
 }
 
-bool timers_each(const struct timers *t, size_t *cursor, struct timers_handle *handle, struct timers_expired *out)
+bool timers_each(const struct timers *t, uint64_t *cursor, struct timers_handle *handle, struct timers_expired *out)
 {
-	ANSWER(struct timers_handle, handle);
-	ANSWER(struct timers_expired, out);
-	uint64_t place = *cursor;
+	struct timers_handle its_handle;
+	struct timers_expired timer;
 	bool found;
 
-	FLIP(&place, 1);
-	found = tm_timers_each(BYTES(t), (byte *)&place, handle_at, out_at);
-	FLIP(&place, 1);
-	if (found) {
-		*cursor = (size_t)place;
-		FLIP(handle_at, 2);
-		FLIP(out_at, 3);
-	}
-	return found;
+	turn(cursor, 1);
+	found = tm_timers_each(BYTES(t), BYTES(cursor), BYTES(&its_handle), BYTES(&timer));
+	turn(cursor, 1);
+	if (found)
+		give(handle, &its_handle, 2);
+	return taken(found, out, &timer);
 }
 
 enum timers_status timers_tick(struct timers *t)
@@ -149,12 +144,9 @@ enum timers_status timers_tick(struct timers *t)
 
 enum timers_status timers_advance(struct timers *t, uint64_t most, uint64_t *passed)
 {
-	ANSWER(uint64_t, passed);
-	const uint32_t status = tm_timers_advance(BYTES(t), most, passed_at);
+	uint64_t ticks;
 
-	if (status == TIMERS_OK)
-		FLIP(passed_at, 1);
-	return (enum timers_status)status;
+	return answered(tm_timers_advance(BYTES(t), most, BYTES(&ticks)), passed, &ticks, 1);
 }
 
 enum timers_status timers_advance_to(struct timers *t, uint64_t tick)
@@ -164,30 +156,24 @@ enum timers_status timers_advance_to(struct timers *t, uint64_t tick)
 
 bool timers_take(struct timers *t, uint64_t tick, struct timers_expired *out)
 {
-	ANSWER(struct timers_expired, out);
-	const bool taken = tm_timers_take(BYTES(t), tick, out_at);
+	struct timers_expired timer;
 
-	if (taken)
-		FLIP(out_at, 3);
-	return taken;
+	return taken(tm_timers_take(BYTES(t), tick, BYTES(&timer)), out, &timer);
 }
 
 bool timers_expire(struct timers *t, struct timers_expired *out)
 {
-	ANSWER(struct timers_expired, out);
-	const bool taken = tm_timers_expire(BYTES(t), out_at);
+	struct timers_expired timer;
 
-	if (taken)
-		FLIP(out_at, 3);
-	return taken;
+	return taken(tm_timers_expire(BYTES(t), BYTES(&timer)), out, &timer);
 }
 
 size_t timers_expire_batch(struct timers *t, struct timers_expired *out, size_t room)
 {
-	const size_t taken = (size_t)tm_timers_expire_batch(BYTES(t), BYTES(out), room);
+	const size_t count = (size_t)tm_timers_expire_batch(BYTES(t), BYTES(out), room);
 
-	FLIP(out, 3 * taken);
-	return taken;
+	turn(out, 3 * count);
+	return count;
 }
 
 bool timers_has_due(const struct timers *t)
@@ -222,11 +208,9 @@ uint64_t timers_find_next(struct timers *t)
 
 enum timers_status timers_counts(const struct timers *t, struct timers_counters *counts)
 {
-	const uint32_t status = tm_timers_counts(BYTES(t), BYTES(counts));
+	struct timers_counters counted;
 
-	if (status == TIMERS_OK)
-		FLIP(counts, 3);
-	return (enum timers_status)status;
+	return answered(tm_timers_counts(BYTES(t), BYTES(&counted)), counts, &counted, 3);
 }
 
 uint32_t timers_version(void)

@@ -14,7 +14,7 @@ use Rattle.timer_desk.specs.Shutdown.{KeepsLines, IsReadOut, IsWaiting}
 -- what a reader can still read depends on what was given alone
 pub IsReadOut-same : (i j : RingInlet) (before after : ClientReader) → given_of i ≡ given_of j → IsReadOut i before after
     → IsReadOut j before after
-IsReadOut-same i j before after e h = record { line = h.line; read = h.read; settled = h.settled; all = h.all ∙ e }
+IsReadOut-same i j before after e h = record { line = h.line; read = h.read; found = h.found; settled = h.settled; all = h.all ∙ e }
 
 -- what waited after some lines were settled waited before
 pub still_waits : (n : ℕ) (old new : DeskState RingInlet) (ended : List RequestsEnded) (x : RequestsEnded)

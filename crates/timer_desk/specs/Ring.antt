@@ -1,5 +1,5 @@
 -- The abstract state of the ends of a ring line, as clauses name it.
-use Rattle.std.specs.Prelude.{◌≡◌, ◌<◌, ◌≤◌, [], ℕ, Bool, true, false, List, ◌++◌, if◌then◌else◌}
+use Rattle.std.specs.Prelude.{◌≡◌, ◌≢◌, ◌<◌, ◌≤◌, [], ℕ, Bool, true, false, List, ◌++◌, if◌then◌else◌}
 use Rattle.std.proofs.Common.{◌∙◌, refl}
 use denote.RawPtr.{Ptr}
 use Rattle.rtrb.specs.Shared.{Names}
@@ -18,6 +18,7 @@ use Rattle.timer_desk.specs.declared.ring.ClientReader.{ClientReader}
 use Rattle.timer_desk.specs.declared.ring.Unsent.{Unsent}
 use Rattle.timer_desk.specs.declared.ring.Unsent.TheVariants.{Spent, Full}
 use Rattle.timer_desk.specs.declared.looks.Found.{Found}
+use Rattle.timer_desk.specs.declared.looks.Found.TheVariants.{Nothing, GoneThenEmpty}
 use Rattle.timer_desk.specs.Looks.{found_in}
 use Rattle.timer_desk.specs.Inlet.{LineState, LineKind, SameLine, SameLine-refl, SameLine-trans}
 
@@ -112,19 +113,28 @@ found_by_inlet i = found_in i.looks
 abbrev pub state_of : RingInlet → LineState
 state_of i = record { got = got_of i; standing = standing_of i; given = given_of i }
 
--- The line is the same one, and more may have been got and given. Once settled it stays settled, and what was
--- got followed by what stands stays the same.
+-- No request arrives any more: the client's end was seen to be gone, and then no request stood in the line. All
+-- requests that stand in a settled line are known, so that of it the first is enough.
+pub record IsOver (i : RingInlet) : Type 0 where
+  pub gone : found_by_inlet i ≢ Nothing
+  pub looked : is_settled i ≡ false → found_by_inlet i ≡ GoneThenEmpty
+  pub none_stands : seen_by_inlet i ≡ []
+
+-- The line is the same one, and more may have been got and given. Nothing was found of the client's end and nothing
+-- forgotten. Once settled it stays settled, and what was got followed by what stands stays the same.
 pub record SameRingLine (a b : RingInlet) : Type 0 where
   pub same : SameLine line_of_inlet state_of a b
+  pub found : found_by_inlet b ≡ found_by_inlet a
   pub settled : is_settled a ≡ true → (is_settled b ≡ true)
       × (got_of b ++ standing_of b ≡ got_of a ++ standing_of a)
 
 pub SameRingLine-refl : (a : RingInlet) → SameRingLine a a
-SameRingLine-refl a = record { same = SameLine-refl line_of_inlet state_of a; settled = λ h. (h, refl) }
+SameRingLine-refl a = record { same = SameLine-refl line_of_inlet state_of a; found = refl; settled = λ h. (h, refl) }
 
 pub SameRingLine-trans : (a b c : RingInlet) → SameRingLine a b → SameRingLine b c → SameRingLine a c
 SameRingLine-trans a b c p q = record {
   same = SameLine-trans line_of_inlet state_of a b c p.same q.same;
+  found = q.found ∙ p.found;
   settled = λ h. (let k = p.settled h in ((q.settled (k.0)).0, (q.settled (k.0)).1 ∙ k.1));
 }
 

@@ -2,10 +2,12 @@
 use Rattle.std.specs.Prelude.{◌≡◌, ◌≢◌, ◌≤◌, ◌++◌, ℕ, true, List, length, get_or}
 use Rattle.timer_desk.specs.declared.word.Numbered.{Numbered}
 use Rattle.timer_desk.specs.declared.ring.RingInlet.{RingInlet}
+use Rattle.timer_desk.specs.declared.looks.Found.TheVariants.{Nothing}
 use Rattle.timer_desk.specs.Desk.{DeskState, clients_of}
-use Rattle.timer_desk.specs.Ring.{line_of_inlet, got_of, standing_of, given_of, free_of_inlet, is_settled}
+use Rattle.timer_desk.specs.Ring.{line_of_inlet, got_of, standing_of, given_of, free_of_inlet, is_settled, found_by_inlet}
 
--- the line is the same one, and what was got followed by what stands is all that was submitted
+-- the line is the same one, and what was got followed by what stands is all that was submitted; nothing was found of
+-- the client's end
 pub record HasSettled (old new : RingInlet) (submitted : List Numbered) (count : ℕ) : Type 0 where
   pub same_line : line_of_inlet new ≡ line_of_inlet old
   pub settled : is_settled new ≡ true
@@ -13,9 +15,10 @@ pub record HasSettled (old new : RingInlet) (submitted : List Numbered) (count :
   pub counted : count ≡ length (standing_of new)
   pub got_stays : got_of new ≡ got_of old
   pub given_stays : given_of new ≡ given_of old
+  pub found_stays : found_by_inlet new ≡ found_by_inlet old
 
 -- the line, what was got, what is known to stand and what was given are the same; more slots may be known to be
--- free, and of its looks nothing is said
+-- free, and an end that was seen to be gone still is
 pub record HasLooked (old new : RingInlet) : Type 0 where
   pub same_line : line_of_inlet new ≡ line_of_inlet old
   pub same_settled : is_settled new ≡ is_settled old
@@ -23,6 +26,7 @@ pub record HasLooked (old new : RingInlet) : Type 0 where
   pub same_standing : standing_of new ≡ standing_of old
   pub same_given : given_of new ≡ given_of old
   pub more_free : free_of_inlet old ≤ free_of_inlet new
+  pub still_gone : found_by_inlet old ≢ Nothing → found_by_inlet new ≢ Nothing
 
 -- nothing changed but what is known of the line of client c
 pub record OnlyLooks (c : ℕ) (old new : DeskState RingInlet) : Type 0 where

@@ -6,7 +6,7 @@ use Rattle.timer_desk.specs.declared.ring.ClientReader.{ClientReader}
 use Rattle.timer_desk.specs.declared.word.Numbered.{Numbered}
 use Rattle.timer_desk.specs.Backlog.{BacklogState}
 use Rattle.timer_desk.specs.Desk.{DeskState, clients_of, backlog_at, IsIdle}
-use Rattle.timer_desk.specs.Ring.{line_of_inlet, got_of, given_of, requests_ring_of, words_ring_of_reader, all_submitted, read_by, unread_by, is_settled_reader}
+use Rattle.timer_desk.specs.Ring.{line_of_inlet, got_of, given_of, requests_ring_of, words_ring_of_reader, all_submitted, read_by, unread_by, is_settled_reader, found_by_reader}
 
 -- the ended end at each index is of the line at that index
 pub record AreEndsOf (inlets : List RingInlet) (ended : List RequestsEnded) : Type 0 where
@@ -25,11 +25,12 @@ abbrev pub AllGot : List RingInlet → List RequestsEnded → Type 0
 AllGot inlets ended = (c : ℕ) (i : RingInlet) (e : RequestsEnded) → c < length inlets
     → all_submitted (get_or ended c e) ≡ got_of (get_or inlets c i)
 
--- the reader is of the same line and has read what it had read before; it is settled, so what it has read
+-- the reader is of the same line, and has read and found what it had before; it is settled, so what it has read
 -- followed by what stands is all that was given
 pub record IsReadOut (inlet : RingInlet) (before after : ClientReader) : Type 0 where
   pub line : words_ring_of_reader after ≡ words_ring_of_reader before
   pub read : read_by after ≡ read_by before
+  pub found : found_by_reader after ≡ found_by_reader before
   pub settled : is_settled_reader after ≡ true
   pub all : read_by after ++ unread_by after ≡ given_of inlet
 

@@ -8,7 +8,8 @@
 //!     the items, then gone           items?                   gone?             the second item is lost
 //!
 //! Whether the other end is gone is the ring's answer, of which no contract speaks. `Looks` keeps what was found
-//! and in which order, and only the functions here write it: so a contract can name the order.
+//! and in which order. Only the functions here write it, and each makes one look at the ring: so whoever looks in
+//! another order has another record, and contracts can name the order (specs/Looks.antt, `AreInOrder`).
 ghost use Rattle.std.specs.Prelude.{◌≡◌};
 
 use rtrb::{Consumer, Producer};
@@ -31,7 +32,7 @@ pub struct Looks {
 }
 
 impl Looks {
-    ghost use Rattle.std.specs.Prelude.{◌≡◌, ◌==◌, ◌↔◌, ◌≢◌, [], true, length};
+    ghost use Rattle.std.specs.Prelude.{◌≡◌, ◌==◌, ◌↔◌, ◌≢◌, true, length};
     ghost use Rattle.rtrb.specs.Ring.{ConsumerLooked, ProducerLooked, known_items};
     ghost use Rattle.timer_desk.specs.Looks.{found_in, found_after, MayFind};
 
@@ -58,20 +59,8 @@ impl Looks {
         matches!(self.found, Found::GoneThenEmpty)
     }
 
-    /// Looks whether the end that pushes is gone, and then whether an item stands in the ring. Returns whether none
-    /// comes any more.
-    pub fn none_comes<T>(&mut self, items: &mut Consumer<T>) -> bool
-        ensures order { result ≡ true ↔ (found_in self.new ≡ Found.GoneThenEmpty) }
-        ensures yes { result ≡ true → (known_items items.old ≡ []) × (known_items items.new ≡ []) }
-        ensures looked { ConsumerLooked items.old items.new }
-    {
-        self.at_producer(items);
-        self.at_items(items);
-        self.is_over()
-    }
-
     /// Looks whether the end that pushes is gone. An end that was seen to be gone is not looked at again.
-    fn at_producer<T>(&mut self, items: &mut Consumer<T>)
+    pub fn at_producer<T>(&mut self, items: &mut Consumer<T>)
         ensures found { MayFind (found_in self.old) (found_in self.new) }
         ensures looked { ConsumerLooked items.old items.new }
     {
@@ -97,22 +86,6 @@ impl Looks {
         ensures looked { ConsumerLooked items.old items.new }
     {
         let is_empty = items.slots() == 0;
-        self.note(is_empty);
-    }
-
-    /// The same where all items that stand in the ring are known.
-    pub fn at_known_items<T>(&mut self, items: &Consumer<T>)
-        ensures { found_in self.new ≡ found_after (found_in self.old)
-            (length (known_items items.now) == 0) }
-    {
-        let is_empty = items.cached_slots() == 0;
-        self.note(is_empty);
-    }
-
-    /// Keeps what a look at the items found.
-    fn note(&mut self, is_empty: bool)
-        ensures { found_in self.new ≡ found_after (found_in self.old) is_empty }
-    {
         self.found = match (self.found, is_empty) {
             (Found::Nothing, _) => Found::Nothing,
             (_, true) => Found::GoneThenEmpty,

@@ -7,6 +7,11 @@
 //! Each ring has one producer and one consumer, and no call waits for the other end: it takes no lock, does not
 //! allocate, and returns. Neither end knows what the other has done meanwhile. Once one end has finished, the
 //! other settles the line, and from then on knows all that stands in the ring.
+ghost use Rattle.std.specs.Prelude.{◌≡◌, ◌==◌, ◌↔◌, [], true, length};
+ghost use Rattle.rtrb.specs.Ring.{ConsumerLooked, known_items};
+ghost use Rattle.timer_desk.specs.Looks.{found_in, AreInOrder};
+ghost use Rattle.timer_desk.specs.declared.looks.Found.TheVariants as Found;
+
 use crate::inlet::{Inlet, Put, Taken};
 use crate::looks::Looks;
 use crate::word::{Numbered, Word};
@@ -65,8 +70,9 @@ pub struct ClientReader {
 }
 
 impl ClientEnd {
-    ghost use Rattle.std.specs.Prelude.{◌≡◌, ◌+◌, ◌<◌, ◌≤◌, ◌↔◌, [], ◌∷◌, ◌++◌, true, false, Err, IsOk, OnOk, IfOk, OnErr, IfErr, IfSome, IsNone};
-    ghost use Rattle.timer_desk.specs.Ring.{line_of_end, submitted, received_by_end, free_of, seen_by_end, next_of, numbered, IsUnsent, requests_ring_of, words_ring_of_reader, all_submitted, read_by, is_settled_reader, found_by_end};
+    ghost use Rattle.std.specs.Prelude.{◌≡◌, ◌==◌, ◌+◌, ◌<◌, ◌≤◌, ◌↔◌, [], ◌∷◌, ◌++◌, true, false, length, Err, IsOk, OnOk, IfOk, OnErr, IfErr, IfSome, IsNone};
+    ghost use Rattle.timer_desk.specs.Ring.{line_of_end, submitted, received_by_end, free_of, seen_by_end, next_of, numbered, IsUnsent, requests_ring_of, words_ring_of_reader, all_submitted, read_by, is_settled_reader, found_by_end, found_by_reader};
+    ghost use Rattle.timer_desk.specs.Looks.{AreInOrder};
     ghost use Rattle.timer_desk.specs.declared.looks.Found.TheVariants as Found;
 
     /// The next request's number.
@@ -88,6 +94,7 @@ impl ClientEnd {
             × (next_of self.new ≡ next_of self.old) × (submitted self.new ≡ submitted self.old)) }
         ensures received { (received_by_end self.new ≡ received_by_end self.old)
             × (seen_by_end self.new ≡ seen_by_end self.old) }
+        ensures found { found_by_end self.new ≡ found_by_end self.old }
 
         // `Full` only if the end knows of no free slot; with one known to be free the call succeeds.
         ensures full { result ≡ Err (Unsent.Full request) → free_of self.new ≡ 0 }
@@ -115,6 +122,7 @@ impl ClientEnd {
             × (seen_by_end self.old ≡ []) }
         ensures sent { (submitted self.new ≡ submitted self.old)
             × (next_of self.new ≡ next_of self.old) × (free_of self.new ≡ free_of self.old) }
+        ensures found { found_by_end self.new ≡ found_by_end self.old }
     {
         match self.words.pop() {
             Ok(word) => Some(word),
@@ -129,13 +137,15 @@ impl ClientEnd {
     /// received first.
     pub fn is_abandoned(&mut self) -> bool
         ensures line { line_of_end self.new ≡ line_of_end self.old }
-        ensures order { result ≡ true ↔ (found_by_end self.new ≡ Found.GoneThenEmpty) }
+        ensures over { result ≡ true ↔ (found_by_end self.new ≡ Found.GoneThenEmpty) }
+        ensures order { AreInOrder (found_by_end self.old) (found_by_end self.new)
+            (length (seen_by_end self.new) == 0) }
         ensures yes { result ≡ true → (seen_by_end self.old ≡ []) × (seen_by_end self.new ≡ []) }
         ensures received { received_by_end self.new ≡ received_by_end self.old }
         ensures sent { (submitted self.new ≡ submitted self.old)
             × (next_of self.new ≡ next_of self.old) × (free_of self.new ≡ free_of self.old) }
     {
-        self.looks.none_comes(&mut self.words)
+        no_word_comes(&mut self.looks, &mut self.words)
     }
 
     /// Ends the client's requests. The first result is None if the owner's end was dropped: that is the ring's
@@ -145,6 +155,7 @@ impl ClientEnd {
             × (all_submitted e ≡ submitted self)) }
         ensures reader { (words_ring_of_reader result.1 ≡ (line_of_end self).1)
             × (read_by result.1 ≡ received_by_end self) × (is_settled_reader result.1 ≡ false) }
+        ensures found { found_by_reader result.1 ≡ found_by_end self }
     {
         let ClientEnd {
             requests,
@@ -240,10 +251,10 @@ impl Inlet for RingInlet {
 }
 
 impl RingInlet {
-    ghost use Rattle.std.specs.Prelude.{◌≡◌, ◌≢◌, ◌↔◌, [], ◌++◌, true, length, IfSome};
-    ghost use Rattle.timer_desk.specs.Ring.{line_of_inlet, got_of, standing_of, given_of, is_settled, free_of_inlet, seen_by_inlet, found_by_inlet, requests_ring_of, words_ring_of, all_submitted, all_given};
+    ghost use Rattle.std.specs.Prelude.{◌≡◌, ◌≢◌, ◌==◌, ◌↔◌, [], ◌++◌, true, false, length, IfSome};
+    ghost use Rattle.timer_desk.specs.Ring.{line_of_inlet, got_of, standing_of, given_of, is_settled, free_of_inlet, seen_by_inlet, found_by_inlet, IsOver, requests_ring_of, words_ring_of, all_submitted, all_given};
     ghost use Rattle.timer_desk.specs.Settlement.{HasLooked};
-    ghost use Rattle.timer_desk.specs.Looks.{MayFind};
+    ghost use Rattle.timer_desk.specs.Looks.{MayFind, AreInOrder};
     ghost use Rattle.timer_desk.specs.declared.looks.Found.TheVariants as Found;
 
     /// Settles the line once its client has finished, and returns how many requests stand in it.
@@ -256,6 +267,7 @@ impl RingInlet {
         ensures got { got_of self.new ≡ got_of self.old }
         ensures given { (given_of self.new ≡ given_of self.old)
             × (free_of_inlet self.new ≡ free_of_inlet self.old) }
+        ensures found { found_by_inlet self.new ≡ found_by_inlet self.old }
         ensures ended { (requests_ring_of ended.new ≡ requests_ring_of ended.old)
             × (all_submitted ended.new ≡ all_submitted ended.old) }
     {
@@ -270,6 +282,7 @@ impl RingInlet {
         ensures looked { HasLooked self.old self.new }
         ensures gone { result ≡ true ↔ (found_by_inlet self.new ≢ Found.Nothing) }
         ensures stays { MayFind (found_by_inlet self.old) (found_by_inlet self.new) }
+        ensures seen { seen_by_inlet self.new ≡ seen_by_inlet self.old }
     {
         self.looks.at_consumer(&mut self.words);
         self.looks.is_gone()
@@ -278,19 +291,20 @@ impl RingInlet {
     /// Whether the client's end was dropped, and no request stands in the line: then no further request arrives.
     ///
     /// True is returned only if the end was seen to be gone, and no request stood in the line after that: so each
-    /// request that was sent before the drop is taken first.
+    /// request that was sent before the drop is taken first. What stands in a settled line is known.
     pub fn is_over(&mut self) -> bool
         ensures looked { HasLooked self.old self.new }
-        ensures order { result ≡ true ↔ (found_by_inlet self.new ≡ Found.GoneThenEmpty) }
-        ensures stays { found_by_inlet self.old ≢ Found.Nothing → found_by_inlet self.new ≢ Found.Nothing }
-        ensures yes { result ≡ true → (seen_by_inlet self.old ≡ []) × (seen_by_inlet self.new ≡ []) }
+        ensures over { result ≡ true ↔ IsOver self.new }
+        ensures order { is_settled self.old ≡ false → AreInOrder (found_by_inlet self.old)
+            (found_by_inlet self.new) (length (seen_by_inlet self.new) == 0) }
+        ensures settled { is_settled self.old ≡ true → MayFind (found_by_inlet self.old) (found_by_inlet self.new) }
+        ensures yes { result ≡ true → seen_by_inlet self.old ≡ [] }
     {
-        self.looks.at_consumer(&mut self.words);
+        let gone = self.is_abandoned();
         if self.settled {
-            self.looks.at_known_items(&self.requests);
-        } else {
-            self.looks.at_items(&mut self.requests);
+            return gone && self.requests.cached_slots() == 0;
         }
+        self.looks.at_items(&mut self.requests);
         self.looks.is_over()
     }
 
@@ -313,8 +327,9 @@ impl RingInlet {
 }
 
 impl ClientReader {
-    ghost use Rattle.std.specs.Prelude.{◌≡◌, ◌<◌, ◌↔◌, ◌⊎◌, [], ◌∷◌, ◌++◌, true, false, length, IfSome, IsNone};
-    ghost use Rattle.timer_desk.specs.Ring.{words_ring_of_reader, words_ring_of, read_by, unread_by, seen_by_reader, is_settled_reader, found_by_reader, all_given, line_of_inlet};
+    ghost use Rattle.std.specs.Prelude.{◌≡◌, ◌==◌, ◌<◌, ◌↔◌, ◌⊎◌, [], ◌∷◌, ◌++◌, true, false, length, IfSome, IsNone};
+    ghost use Rattle.timer_desk.specs.Ring.{words_ring_of_reader, words_ring_of, read_by, unread_by, seen_by_reader, is_settled_reader, found_by_reader, found_by_inlet, all_given, line_of_inlet};
+    ghost use Rattle.timer_desk.specs.Looks.{AreInOrder};
     ghost use Rattle.timer_desk.specs.declared.looks.Found.TheVariants as Found;
     ghost use Rattle.timer_desk.specs.Shutdown.{IsReadOut};
     ghost use Rattle.timer_desk.specs.Settlement.{HasLooked};
@@ -326,6 +341,7 @@ impl ClientReader {
         ensures none { IsNone result → (read_by self.new ≡ read_by self.old) × (unread_by self.old ≡ [])
             × (seen_by_reader self.old ≡ []) }
         ensures settled { is_settled_reader self.new ≡ is_settled_reader self.old }
+        ensures found { found_by_reader self.new ≡ found_by_reader self.old }
         ensures all { is_settled_reader self.old ≡ true
             → read_by self.new ++ unread_by self.new ≡ read_by self.old ++ unread_by self.old }
     {
@@ -349,6 +365,7 @@ impl ClientReader {
         ensures all { read_by self.new ++ unread_by self.new ≡ all_given ended.old }
         ensures count { result ≡ length (unread_by self.new) }
         ensures read { read_by self.new ≡ read_by self.old }
+        ensures found { found_by_reader self.new ≡ found_by_reader self.old }
         ensures ended { (words_ring_of ended.new ≡ words_ring_of ended.old)
             × (all_given ended.new ≡ all_given ended.old) }
     {
@@ -362,8 +379,11 @@ impl ClientReader {
     /// `ClientEnd::is_abandoned`. If the line is settled, the ring is not asked.
     pub fn is_abandoned(&mut self) -> bool
         ensures line { words_ring_of_reader self.new ≡ words_ring_of_reader self.old }
-        ensures order { is_settled_reader self.old ≡ false
+        ensures over { is_settled_reader self.old ≡ false
             → (result ≡ true ↔ (found_by_reader self.new ≡ Found.GoneThenEmpty)) }
+        ensures order { is_settled_reader self.old ≡ false → AreInOrder (found_by_reader self.old)
+            (found_by_reader self.new) (length (seen_by_reader self.new) == 0) }
+        ensures same { is_settled_reader self.old ≡ true → self.new ≡ self.old }
         ensures yes { result ≡ true → (is_settled_reader self.old ≡ false)
             × (seen_by_reader self.old ≡ []) × (seen_by_reader self.new ≡ []) }
         ensures read { (read_by self.new ≡ read_by self.old) × (unread_by self.new ≡ unread_by self.old) }
@@ -372,7 +392,7 @@ impl ClientReader {
         if self.settled {
             return false;
         }
-        self.looks.none_comes(&mut self.words)
+        no_word_comes(&mut self.looks, &mut self.words)
     }
 
     /// Whether the line is settled and all words that stood in it were received.
@@ -392,8 +412,22 @@ impl ClientReader {
         ensures read_out { IsReadOut inlet.old self.old self.new }
         ensures count { result ≡ length (unread_by self.new) }
         ensures inlet { HasLooked inlet.old inlet.new }
+        ensures found { found_by_inlet inlet.new ≡ found_by_inlet inlet.old }
     {
         self.settled = true;
         self.words.slots_beside(&mut inlet.words)
     }
+}
+
+/// Looks whether the end that puts the words is gone, and then whether a word stands in the line. Returns whether none
+/// comes any more.
+fn no_word_comes(looks: &mut Looks, words: &mut Consumer<Word>) -> bool
+    ensures over { result ≡ true ↔ (found_in looks.new ≡ Found.GoneThenEmpty) }
+    ensures order { AreInOrder (found_in looks.old) (found_in looks.new) (length (known_items words.new) == 0) }
+    ensures yes { result ≡ true → (known_items words.old ≡ []) × (known_items words.new ≡ []) }
+    ensures looked { ConsumerLooked words.old words.new }
+{
+    looks.at_producer(words);
+    looks.at_items(words);
+    looks.is_over()
 }

@@ -1,6 +1,7 @@
 //! The constructor of a ring line.
 ghost use Rattle.std.specs.Prelude.{◌≡◌, ◌≤◌, [], false, IfOk};
-ghost use Rattle.timer_desk.specs.Ring.{line_of_end, line_of_inlet, submitted, received_by_end, next_of, free_of, got_of, given_of, is_settled, free_of_inlet};
+ghost use Rattle.timer_desk.specs.Ring.{line_of_end, line_of_inlet, submitted, received_by_end, next_of, free_of, got_of, given_of, is_settled, free_of_inlet, found_by_end, found_by_inlet};
+ghost use Rattle.timer_desk.specs.declared.looks.Found.TheVariants as Found;
 
 use crate::looks::Looks;
 use crate::ring::{ClientEnd, RingInlet};
@@ -20,6 +21,7 @@ pub fn ring_line(
     ensures end { IfOk result (λ r. (submitted r.0 ≡ []) × (received_by_end r.0 ≡ [])
         × (next_of r.0 ≡ first_number)) }
     ensures inlet { IfOk result (λ r. (got_of r.1 ≡ []) × (given_of r.1 ≡ []) × (is_settled r.1 ≡ false)) }
+    ensures found { IfOk result (λ r. (found_by_end r.0 ≡ Found.Nothing) × (found_by_inlet r.1 ≡ Found.Nothing)) }
     ensures room { IfOk result (λ r. (free_of r.0 ≡ capacity) × (free_of_inlet r.1 ≡ capacity)) }
 {
     let Ok((requests_in, requests_out)) = RingBuffer::new(alloc, capacity) else {

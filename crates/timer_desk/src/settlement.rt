@@ -1,11 +1,11 @@
 //! A desk over ring lines settles a line whose client has finished: its requests, and its words. It drops the words
 //! to a client that is gone, and stops its timers.
-ghost use Rattle.std.specs.Prelude.{◌≡◌, ◌+◌, ◌<◌, ◌↔◌, ◌++◌, ◌≢◌, [], ℕ, true, length, get_or};
+ghost use Rattle.std.specs.Prelude.{◌≡◌, ◌==◌, ◌+◌, ◌<◌, ◌↔◌, ◌++◌, ◌≢◌, [], ℕ, true, false, length, get_or};
 ghost use Rattle.timer_facility.specs.State.{number_of};
 ghost use Rattle.timer_desk.specs.Backlog.{BacklogState};
 ghost use Rattle.timer_desk.specs.Desk.{clients_of, backlog_at};
-ghost use Rattle.timer_desk.specs.Ring.{line_of_inlet, got_of, standing_of, given_of, is_settled, seen_by_inlet, found_by_inlet, requests_ring_of, all_submitted, words_ring_of_reader, read_by, unread_by, is_settled_reader};
-ghost use Rattle.timer_desk.specs.Looks.{MayFind};
+ghost use Rattle.timer_desk.specs.Ring.{line_of_inlet, got_of, standing_of, given_of, is_settled, seen_by_inlet, found_by_inlet, IsOver, requests_ring_of, all_submitted, words_ring_of_reader, read_by, unread_by, is_settled_reader};
+ghost use Rattle.timer_desk.specs.Looks.{MayFind, AreInOrder};
 ghost use Rattle.timer_desk.specs.declared.looks.Found.TheVariants as Found;
 ghost use Rattle.timer_desk.specs.Shutdown.{IsReadOut};
 ghost use Rattle.timer_desk.specs.Stopping.{stop_step, stop_outs};
@@ -55,11 +55,10 @@ impl<W: Wheel + Drop> Desk<W, RingInlet> {
     pub fn is_over(&mut self, c: usize) -> bool
         requires { c < clients_of self.old }
         ensures looks { OnlyLooks c self.old self.new }
-        ensures order { (i : RingInlet) → result ≡ true ↔ (found_by_inlet (get_or self.new.inlets c i)
-            ≡ Found.GoneThenEmpty) }
-        ensures stays { (i : RingInlet) → found_by_inlet (get_or self.old.inlets c i) ≢ Found.Nothing
-            → found_by_inlet (get_or self.new.inlets c i) ≢ Found.Nothing }
-        ensures yes { (i : RingInlet) → result ≡ true → seen_by_inlet (get_or self.new.inlets c i) ≡ [] }
+        ensures over { (i : RingInlet) → result ≡ true ↔ IsOver (get_or self.new.inlets c i) }
+        ensures order { (i : RingInlet) → is_settled (get_or self.old.inlets c i) ≡ false
+            → AreInOrder (found_by_inlet (get_or self.old.inlets c i)) (found_by_inlet (get_or self.new.inlets c i))
+            (length (seen_by_inlet (get_or self.new.inlets c i)) == 0) }
     {
         self.inlets[c].is_over()
     }
@@ -77,6 +76,8 @@ impl<W: Wheel + Drop> Desk<W, RingInlet> {
         ensures other_backlogs { (k : ℕ) (b : BacklogState) → k ≢ c
             → get_or self.new.backlogs k b ≡ get_or self.old.backlogs k b }
         ensures as_many { length self.new.backlogs ≡ length self.old.backlogs }
+        ensures stays { (i : RingInlet) → MayFind (found_by_inlet (get_or self.old.inlets c i))
+            (found_by_inlet (get_or self.new.inlets c i)) }
 
         ensures count { result + length (backlog_at self.new c).outbox
             ≡ length (backlog_at self.old c).outbox }
@@ -118,6 +119,8 @@ impl<W: Wheel + Drop> Desk<W, RingInlet> {
             ≡ (line_of_inlet (get_or self.old.inlets c i)).1 }
         ensures looks { OnlyLooks c self.old self.new }
         ensures read_out { (i : RingInlet) → IsReadOut (get_or self.old.inlets c i) reader.old reader.new }
+        ensures found { (i : RingInlet) → found_by_inlet (get_or self.new.inlets c i)
+            ≡ found_by_inlet (get_or self.old.inlets c i) }
         ensures count { result ≡ length (unread_by reader.new) }
         ensures settled { is_settled_reader reader.new ≡ true }
         ensures reader { (words_ring_of_reader reader.new ≡ words_ring_of_reader reader.old)

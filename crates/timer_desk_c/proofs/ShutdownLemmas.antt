@@ -100,6 +100,7 @@ module _ (lives : ℕ) where
       ];
       same_inlet = h.same_inlet;
       looked = h.looked;
+      still_gone = h.still_gone;
     }
 
   -- The clients that were tried.

@@ -20,7 +20,8 @@ use Rattle.timer_desk.specs.declared.report.Served.TheVariants as Serveds
 use Rattle.timer_desk.specs.declared.report.Done.{Done}
 use Rattle.timer_desk.specs.declared.report.Done.TheVariants as Dones
 use Rattle.timer_desk.specs.declared.ring.RingInlet.{RingInlet}
-use Rattle.timer_desk.specs.Ring.{line_of_inlet, got_of, given_of, is_settled, free_of_inlet, ring_lines}
+use Rattle.timer_desk.specs.declared.looks.Found.TheVariants.{Nothing}
+use Rattle.timer_desk.specs.Ring.{line_of_inlet, got_of, given_of, is_settled, free_of_inlet, found_by_inlet, ring_lines}
 use Rattle.timer_desk.specs.Settlement.{HasSettled}
 use Rattle.timer_desk.specs.Desk.{opened_desk, clients_of, ReportHolds, LeavesAlone, event_report}
 use Rattle.timer_desk_c.specs.declared.layout.DeskConfig.{DeskConfig}
@@ -31,7 +32,7 @@ use Rattle.timer_desk_c.specs.declared.desk_maker.TheConstants.{MIN_LINE, MAX_LI
 use Rattle.timer_desk_c.specs.declared.status.TheConstants.{OK, NO_MEMORY, IDLE, NO_ROOM, OUT_OF_RANGE, CLOSED, CLOCK_END, NO_CLIENT, NOT_FINISHED, OTHER_LINE, NEVER}
 use Rattle.timer_desk_c.specs.DeskSlots.{DeskState}
 use Rattle.timer_desk_c.specs.Frames.{HasLine, HasNoLine}
-use Rattle.timer_desk_c.specs.Lines.{requests_ring_on, words_ring_on, submitted_on, received_on, next_on, free_on, is_open_line, IsSameLine, SameTraffic}
+use Rattle.timer_desk_c.specs.Lines.{requests_ring_on, words_ring_on, submitted_on, received_on, next_on, free_on, found_on, is_open_line, IsSameLine, SameTraffic}
 
 -- the configuration of the facility
 abbrev pub config_of : ℕ → DeskConfig → facility.Config
@@ -50,18 +51,20 @@ IsFit clients c =
     × ((table : Table) × IsTableFor c.table c.first_tick table) × (MIN_ROOM ≤ c.room) × (c.room ≤ MAX_ROOM)
     × (MIN_LINE ≤ c.line) × (c.line ≤ MAX_LINE)
 
--- the two ends of a new line: nothing was sent or received, got or given. The first request has this number, and there
--- is room for this many items each way.
+-- the two ends of a new line: nothing was sent or received, got or given, and neither end has seen the other to be
+-- gone. The first request has this number, and there is room for this many items each way.
 pub record IsNewLine (number room : ℕ) (i : RingInlet) (l : Line) : Type 0 where
   pub requests_ring : requests_ring_on l ≡ Some (line_of_inlet i).0
   pub words_ring : words_ring_on l ≡ Some (line_of_inlet i).1
   pub got : got_of i ≡ []
   pub given : given_of i ≡ []
   pub unsettled : is_settled i ≡ false
+  pub none_found : found_by_inlet i ≡ Nothing
   pub free_words : free_of_inlet i ≡ room
   pub open_yet : is_open_line l ≡ true
   pub submitted : submitted_on l ≡ []
   pub received : received_on l ≡ []
+  pub none_found_on : found_on l ≡ Nothing
   pub next : next_on l ≡ number
   pub free_requests : free_on l ≡ room
 
@@ -185,7 +188,7 @@ IsGivenAs client d l = (i : RingInlet) → (requests_ring_on l ≡ None)
 
 -- nothing of the line but the prover's knowledge has changed
 abbrev pub IsAsBefore : Line → Line → Type 0
-IsAsBefore old new = IsSameLine old new × SameTraffic old new
+IsAsBefore old new = IsSameLine old new × SameTraffic old new × (found_on new ≡ found_on old)
 
 -- why no line of this client, of so many, was settled: the first that holds. `own` says whether the line is the
 -- client's, in this life of the desk's struct.

@@ -5,6 +5,7 @@ use Rattle.timer_desk.specs.declared.ring.RingInlet.{RingInlet}
 use Rattle.timer_desk.specs.declared.looks.Found.TheVariants.{Nothing}
 use Rattle.timer_desk.specs.Backlog.{BacklogState}
 use Rattle.timer_desk.specs.Desk.{clients_of, backlog_at}
+use Rattle.timer_desk.specs.Looks.{MayFind}
 use Rattle.timer_desk.specs.Ring.{found_by_inlet}
 use Rattle.timer_desk.specs.Settlement.{HasLooked}
 use Rattle.timer_desk_c.specs.DeskSlots.{DeskState}
@@ -13,6 +14,7 @@ use Rattle.timer_desk_c.specs.DeskSlots.{DeskState}
 -- freed its end, and otherwise kept
 pub record IsDropped (i j : RingInlet) (b d : BacklogState) : Type 0 where
   pub looked : HasLooked i j
+  pub stays : MayFind (found_by_inlet i) (found_by_inlet j)
   pub there : found_by_inlet j ≡ Nothing → d ≡ b
   pub gone : found_by_inlet j ≢ Nothing → d ≡ record b { outbox = [] }
 

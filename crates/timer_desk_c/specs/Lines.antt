@@ -1,10 +1,11 @@
 -- The client's end of a line, before and after a call.
-use Rattle.std.specs.Prelude.{ℕ, ◌≡◌, ◌+◌, ◌<◌, ◌≤◌, ◌⊎◌, ◌++◌, Bool, true, false, List, [], ◌∷◌, length, Option, Some, None}
+use Rattle.std.specs.Prelude.{ℕ, ◌≡◌, ◌==◌, ◌+◌, ◌<◌, ◌≤◌, ◌⊎◌, ◌++◌, Bool, true, false, List, [], ◌∷◌, length, Option, Some, None}
 use Rattle.timer_base.specs.declared.limits.TheConstants.{LAST}
 use Rattle.timer_facility.specs.declared.request.Request.{Request}
 use Rattle.timer_desk.specs.declared.word.Numbered.{Numbered}
 use Rattle.timer_desk.specs.declared.word.Word.{Word}
 use Rattle.timer_desk.specs.Ring.{Ring, line_of_end, requests_ring_of, words_ring_of_reader, submitted, all_submitted, received_by_end, read_by, unread_by, is_settled_reader, seen_by_end, seen_by_reader, free_of, next_of, numbered, found_by_end, found_by_reader}
+use Rattle.timer_desk.specs.Looks.{AreInOrder}
 use Rattle.timer_desk.specs.declared.looks.Found.{Found}
 use Rattle.timer_desk.specs.declared.looks.Found.TheVariants.{Nothing}
 use Rattle.timer_desk_c.specs.declared.c_structs.CLine.{CLine}
@@ -96,6 +97,10 @@ SameTraffic old new =
     (submitted_on new ≡ submitted_on old) × (received_on new ≡ received_on old)
     × (unread_on new ≡ unread_on old) × (next_on new ≡ next_on old)
 
+-- it was looked for the owner's end, and then for a word in the line
+abbrev pub LookedInOrder : Line → Line → Type 0
+LookedInOrder old new = AreInOrder (found_on old) (found_on new) (length (seen_on new) == 0)
+
 -- no request was sent
 abbrev pub SameSent : Line → Line → Type 0
 SameSent old new = (submitted_on new ≡ submitted_on old) × (next_on new ≡ next_on old)
@@ -121,6 +126,7 @@ pub record Sends (request : Request) (status before number : ℕ) (old new : CLi
       ⊎ (HasLine old × WhyNotSent old.slot.state new.slot.state status)
   pub kept : 0 < status → SameTraffic old.slot.state new.slot.state × (number ≡ before)
   pub received : received_on new.slot.state ≡ received_on old.slot.state
+  pub found : found_on new.slot.state ≡ found_on old.slot.state
   pub line : IsSameLine old.slot.state new.slot.state
   pub only : new ≡ with_line old new.slot.state
 
@@ -138,11 +144,11 @@ IsReadToEnd l = (is_ended_line l ≡ true) × (unread_on l ≡ [])
 abbrev pub MayReceive : Line → Type 0
 MayReceive l = (is_ended_line l ≡ false) ⊎ (0 < length (unread_on l))
 
--- The requests have ended. Afterwards the line has no ring of requests if the owner's end was freed, by the ring's
+-- The requests have ended, and what was found of the owner's end stays. Afterwards the line has no ring of requests if the owner's end was freed, by the ring's
 -- answer. Otherwise everything that was submitted is known.
 abbrev pub HasFinished : Line → Line → Type 0
 HasFinished old new =
     (is_open_line old ≡ true) × (is_open_line new ≡ false) × (is_ended_line new ≡ false)
-    × (words_ring_on new ≡ words_ring_on old)
+    × (words_ring_on new ≡ words_ring_on old) × (found_on new ≡ found_on old)
     × ((requests_ring_on new ≡ None) ⊎ ((requests_ring_on new ≡ requests_ring_on old)
     × (submitted_on new ≡ submitted_on old)))

@@ -3,9 +3,9 @@ use Rattle.std.specs.Prelude.{ℕ, ◌≡◌, ◌≢◌, ◌<◌, ◌≤◌, ◌
 use Rattle.timer_base.specs.declared.limits.TheConstants.{LAST}
 use Rattle.timer_facility.specs.State.{number_of, pending_of}
 use Rattle.timer_desk.specs.declared.ring.RingInlet.{RingInlet}
-use Rattle.timer_desk.specs.declared.looks.Found.TheVariants.{Nothing, GoneThenEmpty}
+use Rattle.timer_desk.specs.declared.looks.Found.TheVariants.{Nothing}
 use Rattle.timer_desk.specs.Desk.{clients_of, backlog_at, IsIdle}
-use Rattle.timer_desk.specs.Ring.{found_by_inlet}
+use Rattle.timer_desk.specs.Ring.{found_by_inlet, IsOver}
 use Rattle.timer_desk_c.specs.declared.line.Line.{Line}
 use Rattle.timer_desk_c.specs.declared.desk_maker.TheConstants.{MIN_LINE, MAX_LINE}
 use Rattle.timer_desk_c.specs.declared.status.TheConstants.{NO_CLIENT, OUT_OF_RANGE, NOT_FREED, LEFT, NUMBERS_SPENT, NO_MEMORY}
@@ -24,7 +24,7 @@ pub record IsClear (client : ℕ) (d : DeskState) : Type 0 where
 
 -- the client was seen to have freed its end, and then no request to stand in its line
 abbrev pub IsSeenOver : ℕ → DeskState → Type 0
-IsSeenOver client d = (i : RingInlet) → found_by_inlet (get_or d.inlets client i) ≡ GoneThenEmpty
+IsSeenOver client d = (i : RingInlet) → IsOver (get_or d.inlets client i)
 
 -- The client was seen to have freed its end, and then no request to stand in its line: so nothing of it was left.
 -- It has another line, with new ends, whose first request has the number after that of its last; nothing else has
@@ -50,7 +50,7 @@ WhyNotOpened client room old new status =
     × ((i : RingInlet) → found_by_inlet (get_or new.inlets client i) ≡ Nothing))
     ⊎ ((status ≡ LEFT) × (client < clients_of old) × IsRoom room
     × ((i : RingInlet) → found_by_inlet (get_or new.inlets client i) ≢ Nothing)
-    × (IsClear client old → (i : RingInlet) → found_by_inlet (get_or new.inlets client i) ≢ GoneThenEmpty))
+    × (IsClear client old → (i : RingInlet) → ¬ (IsOver (get_or new.inlets client i))))
     ⊎ ((status ≡ NUMBERS_SPENT) × (client < clients_of old) × IsRoom room × IsClear client old
     × IsSeenOver client new × (LAST < number_of old.facility client))
     ⊎ ((status ≡ NO_MEMORY) × (client < clients_of old) × IsRoom room × IsClear client old

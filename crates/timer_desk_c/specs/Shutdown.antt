@@ -3,8 +3,9 @@ use Rattle.std.specs.Prelude.{ℕ, ◌≡◌, ◌≢◌, ◌<◌, ◌⊎◌, ◌
 use Rattle.timer_facility.specs.State.{pending_of}
 use Rattle.timer_desk.specs.declared.word.Numbered.{Numbered}
 use Rattle.timer_desk.specs.declared.ring.RingInlet.{RingInlet}
+use Rattle.timer_desk.specs.declared.looks.Found.TheVariants.{Nothing}
 use Rattle.timer_desk.specs.Desk.{clients_of, backlog_at, IsIdle}
-use Rattle.timer_desk.specs.Ring.{line_of_inlet, got_of, given_of}
+use Rattle.timer_desk.specs.Ring.{line_of_inlet, got_of, given_of, found_by_inlet}
 use Rattle.timer_desk.specs.Shutdown.{IsWaiting}
 use Rattle.timer_desk_c.specs.declared.line.Line.{Line}
 use Rattle.timer_desk_c.specs.declared.status.TheConstants.{LEFT}
@@ -40,6 +41,8 @@ pub record OnlySettles (client : ℕ) (old new : DeskState) : Type 0 where
   pub same_got : (i : RingInlet) → got_of (get_or new.inlets client i) ≡ got_of (get_or old.inlets client i)
   pub same_given : (i : RingInlet) → given_of (get_or new.inlets client i)
       ≡ given_of (get_or old.inlets client i)
+  pub still_gone : (i : RingInlet) → found_by_inlet (get_or old.inlets client i) ≢ Nothing
+      → found_by_inlet (get_or new.inlets client i) ≢ Nothing
 
 -- Nothing of the client is left at the desk, and its words have ended: what it has received followed by what
 -- is unread is all that it was given.

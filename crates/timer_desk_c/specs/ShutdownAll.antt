@@ -57,6 +57,7 @@ pub record IsTriedAt (lives c status : ℕ) (d : DeskState) (i j : RingInlet) (o
   pub left : 0 < status → IsHeldBackAt lives c status d old new ⊎ IsElsewhereAt status j old new
   pub same_inlet : 0 < status → status ≢ LEFT → HasLine old → j ≡ i
   pub looked : HasNoLine old → HasLooked i j
+  pub still_gone : found_by_inlet i ≢ Nothing → found_by_inlet j ≢ Nothing
 
 -- the first of these statuses, from client c on, that is not `OK`, and whose it is
 abbrev pub first_left : ℕ → List ℕ → Option Left

@@ -22,7 +22,7 @@ pub enum Line {
 impl Line {
     ghost use Rattle.std.specs.Prelude.{◌≡◌, ◌<◌, ◌↔◌, ◌++◌, [], true, false};
     ghost use Rattle.timer_desk.specs.declared.looks.Found.TheVariants as Found;
-    ghost use Rattle.timer_desk_c.specs.Lines.{HasSent, WhyNotSent, HasReceived, IsSameLine, SameTraffic, HasFinished, IsReadToEnd, MayReceive, is_open_line, is_ended_line, seen_on, unread_on, received_on, submitted_on, next_on, found_on};
+    ghost use Rattle.timer_desk_c.specs.Lines.{HasSent, WhyNotSent, HasReceived, IsSameLine, SameTraffic, LookedInOrder, HasFinished, IsReadToEnd, MayReceive, is_open_line, is_ended_line, seen_on, unread_on, received_on, submitted_on, next_on, found_on};
     ghost use Rattle.timer_desk_c.specs.Freed.{HasNoWord};
     ghost use Rattle.timer_desk_c.specs.declared.status.TheConstants.{OK, FINISHED};
 
@@ -34,6 +34,7 @@ impl Line {
         ensures line { IsSameLine self.old self.new }
         ensures received { (received_on self.new ≡ received_on self.old)
             × (seen_on self.new ≡ seen_on self.old) }
+        ensures found { found_on self.new ≡ found_on self.old }
     {
         let Line::Open(end) = self else {
             return FINISHED;
@@ -59,6 +60,7 @@ impl Line {
         ensures line { IsSameLine self.old self.new }
         ensures sent { (submitted_on self.new ≡ submitted_on self.old)
             × (next_on self.new ≡ next_on self.old) }
+        ensures found { found_on self.new ≡ found_on self.old }
     {
         let next = match self {
             Line::Open(end) => end.receive(),
@@ -88,7 +90,9 @@ impl Line {
 
     /// Whether the desk was freed before it had ended the words, and all words in the line were received.
     pub(crate) fn is_abandoned(&mut self) -> bool
-        ensures order { is_ended_line self.old ≡ false → (result ≡ true ↔ (found_on self.new ≡ Found.GoneThenEmpty)) }
+        ensures over { is_ended_line self.old ≡ false → (result ≡ true ↔ (found_on self.new ≡ Found.GoneThenEmpty)) }
+        ensures order { is_ended_line self.old ≡ false → LookedInOrder self.old self.new }
+        ensures ended { is_ended_line self.old ≡ true → self.new ≡ self.old }
         ensures yes { result ≡ true → HasNoWord self.old self.new }
         ensures kept { SameTraffic self.old self.new }
         ensures line { IsSameLine self.old self.new }

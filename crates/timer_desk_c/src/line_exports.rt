@@ -7,7 +7,7 @@ ghost use Rattle.std.specs.Prelude.{◌≡◌, ◌<◌, ◌⊎◌, ◌↔◌, �
 ghost use Rattle.timer_facility.specs.declared.request.Request.TheVariants.{Start, StartAt, Stop, Restart, RestartAt};
 ghost use Rattle.timer_desk.specs.declared.looks.Found.TheVariants as Found;
 ghost use Rattle.timer_desk_c.specs.Frames.{HasLine, HasNoLine, with_line};
-ghost use Rattle.timer_desk_c.specs.Lines.{Sends, HasSent, WhyNotSent, SameTraffic, SameSent, HasReceived, HasFinished, IsReadToEnd, MayReceive, IsSameLine, is_open_line, is_ended_line, seen_on, unread_on, received_on, found_on};
+ghost use Rattle.timer_desk_c.specs.Lines.{Sends, HasSent, WhyNotSent, SameTraffic, SameSent, LookedInOrder, HasReceived, HasFinished, IsReadToEnd, MayReceive, IsSameLine, is_open_line, is_ended_line, seen_on, unread_on, received_on, found_on};
 ghost use Rattle.timer_desk_c.specs.Freed.{HasNoWord};
 ghost use Rattle.timer_desk_c.specs.Messages.{base_handle};
 ghost use Rattle.timer_desk_c.specs.declared.status.TheConstants.{OK, NOT_OPEN, FINISHED};
@@ -105,6 +105,7 @@ fn send(line: &mut CLine, request: Request, number: &mut u64) -> u32
     ensures kept { 0 < result → SameTraffic line.old.slot.state line.new.slot.state
         × (number.new ≡ number.old) }
     ensures received { received_on line.new.slot.state ≡ received_on line.old.slot.state }
+    ensures found { found_on line.new.slot.state ≡ found_on line.old.slot.state }
     ensures line { IsSameLine line.old.slot.state line.new.slot.state }
     ensures only { line.new ≡ with_line line.old line.new.slot.state }
 {
@@ -127,6 +128,7 @@ pub extern "C" fn timers_line_receive(line: &mut CLine, out: &mut Message) -> bo
         → received_on line.new.slot.state ++ unread_on line.new.slot.state
         ≡ received_on line.old.slot.state ++ unread_on line.old.slot.state }
     ensures sent { SameSent line.old.slot.state line.new.slot.state }
+    ensures found { found_on line.new.slot.state ≡ found_on line.old.slot.state }
     ensures line { IsSameLine line.old.slot.state line.new.slot.state }
     ensures only { line.new ≡ with_line line.old line.new.slot.state }
 {
@@ -155,8 +157,11 @@ pub extern "C" fn timers_line_ended(line: &mut CLine) -> bool
 /// have ended, the result is true exactly if the ring reported the desk to be gone, and the line was empty after that.
 #[unsafe(no_mangle)]
 pub extern "C" fn timers_line_abandoned(line: &mut CLine) -> bool
-    ensures order { HasLine line.old → is_ended_line line.old.slot.state ≡ false
+    ensures over { HasLine line.old → is_ended_line line.old.slot.state ≡ false
         → (result ≡ true ↔ (found_on line.new.slot.state ≡ Found.GoneThenEmpty)) }
+    ensures order { HasLine line.old → is_ended_line line.old.slot.state ≡ false
+        → LookedInOrder line.old.slot.state line.new.slot.state }
+    ensures ended { is_ended_line line.old.slot.state ≡ true → line.new ≡ line.old }
     ensures yes { result ≡ true → HasLine line.old
         × HasNoWord line.old.slot.state line.new.slot.state }
     ensures not_open { HasNoLine line.old → (result ≡ false) × (line.new ≡ line.old) }

@@ -6,11 +6,10 @@ ghost use Rattle.std.specs.Prelude.{◌≡◌, ◌<◌, ◌≤◌, ◌≢◌, �
 ghost use Rattle.timer_base.specs.declared.limits.TheConstants.{LAST};
 ghost use Rattle.timer_facility.specs.State.{number_of, pending_of};
 ghost use Rattle.timer_desk.specs.declared.ring.RingInlet.{RingInlet};
-ghost use Rattle.timer_desk.specs.declared.looks.Found.TheVariants as Found;
 ghost use Rattle.timer_desk.specs.Desk.{clients_of, backlog_at, IsIdle};
-ghost use Rattle.timer_desk.specs.Ring.{found_by_inlet};
+ghost use Rattle.timer_desk.specs.Ring.{IsOver};
 ghost use Rattle.timer_desk_c.specs.Freed.{OnlyLooks};
-ghost use Rattle.timer_desk_c.specs.Opening.{IsClear, HasOpened, WhyNotOpened};
+ghost use Rattle.timer_desk_c.specs.Opening.{IsClear, IsSeenOver, HasOpened, WhyNotOpened};
 
 use crate::desk_maker::{MAX_LINE, MIN_LINE, NewEnds, new_ends};
 use crate::line::Line;
@@ -66,12 +65,9 @@ pub(crate) fn next_number<W: Wheel + Drop>(desk: &Desk<W, RingInlet>, client: us
 fn is_left<W: Wheel + Drop>(desk: &mut Desk<W, RingInlet>, client: usize) -> bool
     requires { client < clients_of desk.old }
     ensures no { result ≡ false → IsClear client desk.old }
-    ensures over { result ≡ false → (i : RingInlet) → found_by_inlet (get_or desk.new.inlets client i)
-        ≡ Found.GoneThenEmpty }
+    ensures over { result ≡ false → IsSeenOver client desk.new }
     ensures yes { result ≡ true → IsClear client desk.old → (i : RingInlet)
-        → found_by_inlet (get_or desk.new.inlets client i) ≢ Found.GoneThenEmpty }
-    ensures stays { (i : RingInlet) → found_by_inlet (get_or desk.old.inlets client i) ≢ Found.Nothing
-        → found_by_inlet (get_or desk.new.inlets client i) ≢ Found.Nothing }
+        → ¬ (IsOver (get_or desk.new.inlets client i)) }
     ensures looked { OnlyLooks client desk.old desk.new }
 {
     let clear = is_clear(desk, client);

@@ -17,7 +17,7 @@ use Rattle.timer_desk.specs.declared.ring.ClientEnd.{ClientEnd}
 use Rattle.timer_desk.specs.declared.ring.RequestsEnded.{RequestsEnded}
 use Rattle.timer_desk.specs.declared.ring.ClientReader.{ClientReader}
 use Rattle.timer_threads.specs.declared.log.Log.{Log}
-use Rattle.timer_desk.specs.Ring.{line_of_end, next_of, submitted, received_by_end, numbered, all_submitted, read_by}
+use Rattle.timer_desk.specs.Ring.{line_of_end, next_of, submitted, received_by_end, numbered, all_submitted, read_by, found_by_end, found_by_reader}
 use Rattle.timer_facility.specs.declared.request.Request.TheVariants.{Start}
 use Rattle.timer_threads.specs.declared.client.Client.{Client}
 use Rattle.timer_threads.proofs.ResultsLemmas.{or_false}
@@ -196,13 +196,15 @@ AreChecked-more c ws (Words.Notice (Notices.Expired timer)) was started expired 
 
 -- a word was received, counted and checked, and nothing else changed
 pub IsAtWork-read : (start : ClientEnd) (c : Client) (end : ClientEnd) (w : Word)
-    → line_of_end end ≡ line_of_end c.end → submitted end ≡ submitted c.end → next_of end ≡ next_of c.end
+    → line_of_end end ≡ line_of_end c.end → found_by_end end ≡ found_by_end c.end
+    → submitted end ≡ submitted c.end → next_of end ≡ next_of c.end
     → received_by_end end ≡ received_by_end c.end ++ w ∷ [] → c.failed ≡ false
     → IsAtWork start c → IsAtWork start (counted (record c { end = end }) w)
-IsAtWork-read start c end w line same_sent same_next received good h =
+IsAtWork-read start c end w line found same_sent same_next received good h =
     let more = are_with h.words w in
     let was : ArePassed c.first c.count h.words = subst (λ b. AreChecked b c.first c.count h.words) good h.checked in record {
       line = line ∙ h.line;
+      found = found ∙ h.found;
       first = h.first;
       next = same_next ∙ h.next;
       sends = same_sent ∙ h.sends;
@@ -217,15 +219,17 @@ IsAtWork-read start c end w line same_sent same_next received good h =
 
 -- a request was sent, and nothing else changed
 pub IsAtWork-sent : (start : ClientEnd) (c : Client) (end : ClientEnd) (number : ℕ)
-    → line_of_end end ≡ line_of_end c.end → received_by_end end ≡ received_by_end c.end
+    → line_of_end end ≡ line_of_end c.end → found_by_end end ≡ found_by_end c.end
+    → received_by_end end ≡ received_by_end c.end
     → number ≡ next_of c.end → next_of end ≡ number + 1
     → submitted end ≡ submitted c.end ++ numbered number (Start (1 + (c.sent + 1) % 97) (c.sent + 1)) ∷ []
     → IsAtWork start c → IsAtWork start (record c { end = end; sent = c.sent + 1 })
-IsAtWork-sent start c end number line received is next sent h =
+IsAtWork-sent start c end number line found received is next sent h =
     let at : number ≡ c.first + c.sent = is ∙ h.next in
     let request = λ (n : ℕ). numbered n (Start (1 + (c.sent + 1) % 97) (c.sent + 1)) in
     let one : (c.first + c.sent) + 1 ≡ c.first + (c.sent + 1) = omega arith in record {
       line = line ∙ h.line;
+      found = found ∙ h.found;
       first = h.first;
       next = next ∙ ap (λ n. n + 1) at ∙ one;
       sends = rw (sent, h.sends, requests_from-more c.first c.sent (c.sent + 1) refl, at)
@@ -312,9 +316,9 @@ pub HasWorked-finished : (start : ClientEnd) (limit : ℕ) (c : Client) (ended :
     (idle : ℕ) (last : Log ClientEnd) → IsSound c → IsAtWork start c → IsRecorded start c
     → AreTurns (next_of start) c.count limit (turns_by c) → idle ≡ idle_at_end (turns_by c) → last.items ≡ c.end ∷ []
     → IfSome ended (λ e. all_submitted e ≡ submitted c.end) → read_by reader ≡ received_by_end c.end
-    → failed ≡ c.failed || not (is_complete c) → (c.failed || is_complete c ≡ false → idle ≡ limit)
+    → found_by_reader reader ≡ found_by_end c.end → failed ≡ c.failed || not (is_complete c) → (c.failed || is_complete c ≡ false → idle ≡ limit)
     → HasWorked c.count limit start (finished c ended reader failed idle last)
-HasWorked-finished start limit c ended reader failed idle last sound h r taken idle_is last_is submitted_is read failed_is gave_up =
+HasWorked-finished start limit c ended reader failed idle last sound h r taken idle_is last_is submitted_is read found failed_is gave_up =
     let submits : submitted c.end ≡ submitted start ++ requests_from (next_of start) c.sent =
     h.sends ∙ ap (λ n. submitted start ++ requests_from n c.sent) h.first in
     let same : h.words ≡ words_of (turns_by c) = words_counted start c h r in record {
@@ -326,6 +330,7 @@ HasWorked-finished start limit c ended reader failed idle last sound h r taken i
       next = h.next ∙ ap (λ n. n + c.sent) h.first;
       submits = submits;
       requests = requests_counted start c h r;
+      found = found ∙ h.found;
       received = read ∙ h.received ∙ ap (λ ws. received_by_end start ++ ws) same;
       started = ap (λ ws. length (started_by ws)) (sym same) ∙ h.started;
       expired = ap (λ ws. length (expired_by ws)) (sym same) ∙ h.expired;

@@ -11,7 +11,7 @@ use Rattle.timer_desk.specs.Driver.{Drives}
 use Rattle.timer_desk.specs.Ring.{line_of_inlet, ring_lines}
 use Rattle.timer_desk.specs.declared.report.Step.TheVariants.{Tick}
 use Rattle.timer_desk.specs.declared.driver.DriveEnd.{DriveEnd}
-use Rattle.timer_facility.specs.State.{FacilityState}
+use Rattle.timer_facility.specs.Facility.{FacilityView, with_nothing_waiting}
 use Rattle.timer_desk.specs.Desk.{DeskState, opened_desk}
 use Rattle.timer_threads.specs.declared.child.Child.{Child}
 use Rattle.timer_threads.specs.declared.fault.ThreadsFault.{ThreadsFault}
@@ -20,7 +20,7 @@ use Rattle.timer_threads.specs.declared.outcome.Worked.{Worked}
 use Rattle.timer_threads.specs.Children.{promise_of, HasLeft, HaveLeft}
 use Rattle.timer_threads.specs.Work.{IsOfLine, IsWork}
 use Rattle.timer_threads.specs.Results.{NoneFailed}
-use Rattle.timer_threads.specs.Threads.{IsNewFacility, IsNewDesk, IsTied, AreTied, AreOfLines, AllWhole, HasSucceeded, IsRun, IsExplained, IsFirstFault, client_text, clients_text, client_line, whole_lines}
+use Rattle.timer_threads.specs.Threads.{new_facility, IsNewDesk, IsTied, AreTied, AreOfLines, AllWhole, HasSucceeded, IsRun, IsExplained, IsFirstFault, client_text, clients_text, client_line, whole_lines}
 use Rattle.timer_threads.proofs.ResultsLemmas.{or_false}
 use Rattle.timer_threads.proofs.EndedLines.{some_item}
 
@@ -89,10 +89,16 @@ pub all_left : (count limit : ℕ) (inlets : List RingInlet) (children : List Ch
     → AreTied count limit inlets children → HaveLeft children all → length all ≡ length inlets
 all_left count limit inlets children all tied left = AllZip-long HasLeft children all left ∙ tied.as_many
 
+-- a desk that was opened over a new facility
+pub opened_new : (clients : ℕ) (inlets : List RingInlet) (f : FacilityView) (desk : DeskState RingInlet)
+    → desk ≡ opened_desk f.state inlets 1024 → f ≡ with_nothing_waiting (new_facility clients)
+    → desk ≡ opened_desk (new_facility clients) inlets 1024
+opened_new clients inlets f desk is new = is ∙ ap (λ (v : FacilityView). opened_desk v.state inlets 1024) new
+
 -- a desk that was opened over new lines and driven, and what the threads of its clients left
-module _ (clients room timers limit : ℕ) (s : FacilityState) (inlets : List RingInlet) (opened desk : DeskState RingInlet)
-    (outcome : DriveEnd) (children : List Child) (all : List Worked) (is : opened ≡ opened_desk s inlets room)
-    (facility : IsNewFacility clients s) (many : clients ≡ length inlets) (tied : AreTied timers limit inlets children)
+module _ (clients timers limit : ℕ) (inlets : List RingInlet) (opened desk : DeskState RingInlet) (outcome : DriveEnd)
+    (children : List Child) (all : List Worked) (is : opened ≡ opened_desk (new_facility clients) inlets 1024)
+    (many : clients ≡ length inlets) (tied : AreTied timers limit inlets children)
     (driven : Drives ring_lines Tick timers limit opened desk outcome) (left : HaveLeft children all) where
   pub driven_lines : AreOfLines desk.inlets all
   driven_lines =
@@ -113,9 +119,7 @@ module _ (clients room timers limit : ℕ) (s : FacilityState) (inlets : List Ri
   is_run Ends h = record {
     opened = opened;
     new = subst (IsNewDesk clients) (sym is) (record {
-      facility = facility;
       lines = λ k i l. (tied.each k i (some_item children k (let a = tied.as_many in omega (arith, a, l))) l).inlet_new;
-      room = room;
       is = refl;
     });
     desk = desk;

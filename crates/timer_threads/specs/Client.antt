@@ -7,7 +7,7 @@ use Rattle.timer_facility.specs.declared.request.Notice.TheVariants as Notices
 use Rattle.timer_desk.specs.declared.word.Word.{Word}
 use Rattle.timer_desk.specs.declared.word.Word.TheVariants as Words
 use Rattle.timer_desk.specs.declared.ring.ClientEnd.{ClientEnd}
-use Rattle.timer_desk.specs.Ring.{line_of_end, next_of, submitted, received_by_end}
+use Rattle.timer_desk.specs.Ring.{line_of_end, next_of, submitted, received_by_end, found_by_end}
 use Rattle.timer_threads.specs.declared.client.Client.{Client}
 use Rattle.timer_threads.specs.declared.turn.Turn.{Turn}
 use Rattle.timer_threads.specs.Turns.{requests_of, words_of, is_idle}
@@ -38,6 +38,7 @@ AreChecked true first count words = IsStopped first count words
 -- what was sent and received since `start`, counted and checked
 pub record IsAtWork (start : ClientEnd) (c : Client) : Type 0 where
   pub line : line_of_end c.end ≡ line_of_end start
+  pub found : found_by_end c.end ≡ found_by_end start
   pub first : c.first ≡ next_of start
   pub next : next_of c.end ≡ c.first + c.sent
   pub sends : submitted c.end ≡ submitted start ++ requests_from c.first c.sent

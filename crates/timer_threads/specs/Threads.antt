@@ -1,17 +1,22 @@
 -- Clients in threads of their own, and the text of their counts.
 use Rattle.std.specs.Prelude.{◌≡◌, ◌<◌, ◌+◌, ◌++◌, ◌⊎◌, ℕ, zero, suc, true, false, List, [], length, get_or, replicate, Some, codes, decimal}
 use Rattle.std.specs.List.{flat_map, enumerate_from}
+use Rattle.timer_base.specs.declared.limits.TheConstants.{LAST}
+use Rattle.timer_wheels.specs.Tables.{slots_of_table}
+use Rattle.timer_wheels.specs.declared.table.Table.TheVariants.{Wide}
 use Rattle.timer_desk.specs.declared.ring.RingInlet.{RingInlet}
+use Rattle.timer_desk.specs.declared.looks.Found.TheVariants.{Nothing}
 use Rattle.timer_desk.specs.declared.ring.RequestsEnded.{RequestsEnded}
 use Rattle.timer_desk.specs.declared.ring.ClientReader.{ClientReader}
 use Rattle.timer_desk.specs.declared.report.Step.TheVariants.{Tick}
 use Rattle.timer_desk.specs.declared.driver.DriveEnd.{DriveEnd}
 use Rattle.timer_desk.specs.declared.driver.DriveEnd.TheVariants as DriveEnds
 use Rattle.timer_facility.specs.State.{FacilityState}
+use Rattle.timer_facility.specs.Opened.{opened}
 use Rattle.timer_desk.specs.Desk.{DeskState, opened_desk, IsIdle, backlog_at}
 use Rattle.timer_desk.specs.Driver.{Drives}
 use Rattle.timer_desk.specs.Shutdown.{IsWaiting}
-use Rattle.timer_desk.specs.Ring.{line_of_end, line_of_inlet, got_of, given_of, is_settled, all_submitted, read_by, unread_by, is_settled_reader, ring_lines}
+use Rattle.timer_desk.specs.Ring.{line_of_end, line_of_inlet, got_of, given_of, is_settled, free_of_inlet, found_by_inlet, all_submitted, read_by, unread_by, is_settled_reader, ring_lines}
 use Rattle.timer_threads.specs.declared.child.Child.{Child}
 use Rattle.timer_threads.specs.declared.fault.ThreadsFault.{ThreadsFault}
 use Rattle.timer_threads.specs.declared.fault.ThreadsFault.TheVariants as Faults
@@ -20,29 +25,33 @@ use Rattle.timer_threads.specs.Children.{promise_of}
 use Rattle.timer_threads.specs.Work.{IsOfLine, IsNewEnd, IsWork, IsWhole}
 use Rattle.timer_threads.specs.Results.{has_failed, NoneFailed, AllEnded}
 
--- nothing was taken from this inlet or given to it
+-- nothing was taken from this inlet, given to it or seen of its client's end, and it has room for 64 words
 pub record IsNewInlet (inlet : RingInlet) : Type 0 where
   pub none_got : got_of inlet ≡ []
   pub none_given : given_of inlet ≡ []
+  pub none_found : found_by_inlet inlet ≡ Nothing
+  pub room : free_of_inlet inlet ≡ 64
   pub unsettled : is_settled inlet ≡ false
 
 -- so for each
 abbrev pub AreNewInlets : List RingInlet → Type 0
 AreNewInlets inlets = (k : ℕ) (i : RingInlet) → k < length inlets → IsNewInlet (get_or inlets k i)
 
--- an open facility at tick 0, in which no timer is pending, and from whose clients no request was taken
-pub record IsNewFacility (clients : ℕ) (s : FacilityState) : Type 0 where
-  pub now : s.now ≡ 0
-  pub none_pending : s.pending ≡ []
-  pub numbers : s.numbers ≡ replicate clients 1
-  pub still_open : s.is_closed ≡ false
+-- an open facility of 65,536 timers at tick 0 over the wide hierarchy, in which no timer is pending, and from whose
+-- clients no request was taken
+abbrev pub new_facility : ℕ → FacilityState
+new_facility clients = opened (record {
+  clients = clients;
+  capacity = 65536;
+  first_tick = 0;
+  first_serial = 1;
+  first_number = 1;
+}) LAST (slots_of_table Wide)
 
--- a new desk, with empty outboxes, over new lines
+-- a new desk, with empty outboxes for 1,024 words, over new lines
 pub record IsNewDesk (clients : ℕ) (desk : DeskState RingInlet) : Type 0 where
-  pub facility : IsNewFacility clients desk.facility
   pub lines : AreNewInlets desk.inlets
-  pub room : ℕ
-  pub is : desk ≡ opened_desk desk.facility desk.inlets room
+  pub is : desk ≡ opened_desk (new_facility clients) desk.inlets 1024
 
 -- the thread was started with the new end of this new line, with this many requests to send and with this limit
 pub record IsTied (count limit : ℕ) (inlet : RingInlet) (child : Child) : Type 0 where

@@ -9,8 +9,9 @@ use Rattle.timer_facility.specs.declared.request.Notice.TheVariants as Notices
 use Rattle.timer_desk.specs.declared.word.Numbered.{Numbered}
 use Rattle.timer_desk.specs.declared.word.Word.{Word}
 use Rattle.timer_desk.specs.declared.word.Word.TheVariants as Words
+use Rattle.timer_desk.specs.declared.looks.Found.TheVariants.{Nothing}
 use Rattle.timer_desk.specs.declared.ring.ClientEnd.{ClientEnd}
-use Rattle.timer_desk.specs.Ring.{Line, line_of_end, next_of, numbered, submitted, received_by_end, all_submitted, requests_ring_of, words_ring_of_reader, read_by}
+use Rattle.timer_desk.specs.Ring.{Line, line_of_end, next_of, numbered, submitted, received_by_end, all_submitted, requests_ring_of, words_ring_of_reader, read_by, free_of, found_by_end, found_by_reader}
 use Rattle.timer_threads.specs.declared.turn.Turn.{Turn}
 use Rattle.timer_threads.specs.declared.outcome.Worked.{Worked}
 use Rattle.timer_threads.specs.Turns.{requests_of, words_of, idle_at_end}
@@ -136,6 +137,7 @@ pub record HasWorked (count limit : ℕ) (start : ClientEnd) (w : Worked) : Type
   pub submits : submitted last ≡ submitted start ++ requests_from (next_of start) w.sent
   pub requests : requests_of (turns_of w) ≡ requests_from (next_of start) w.sent
   pub received : read_by w.reader ≡ received_by_end start ++ words_of (turns_of w)
+  pub found : found_by_reader w.reader ≡ found_by_end start
   pub started : length (started_by (words_of (turns_of w))) ≡ w.started
   pub expired : length (expired_by (words_of (turns_of w))) ≡ w.expired
   pub taken : AreTurns (next_of start) count limit (turns_of w)
@@ -145,10 +147,13 @@ pub record HasWorked (count limit : ℕ) (start : ClientEnd) (w : Worked) : Type
   pub failed : w.failed ≡ true → IsStopped (next_of start) count (words_of (turns_of w))
       ⊎ (ArePassed (next_of start) count (words_of (turns_of w)) × IsIncomplete count w × (w.idle ≡ limit))
 
--- a new end: nothing was sent or received, and the first request has number 1
+-- a new end with room for 64 requests: nothing was sent, received or seen of the owner's end, and the first request
+-- has number 1
 pub record IsNewEnd (end : ClientEnd) : Type 0 where
   pub none_sent : submitted end ≡ []
   pub none_received : received_by_end end ≡ []
+  pub none_found : found_by_end end ≡ Nothing
+  pub room : free_of end ≡ 64
   pub first : next_of end ≡ 1
 
 -- the client began with a new end

@@ -7,8 +7,9 @@
 //! own line: each thread is started with that promise, and a line can't be settled without it.
 ghost use Rattle.std.specs.Prelude.{◌≡◌, ◌<◌, ◌≤◌, [], length, true, IfOk, IfErr, vec_len};
 ghost use Rattle.timer_base.specs.declared.limits.TheConstants.{LAST};
+ghost use Rattle.timer_facility.specs.Facility.{with_nothing_waiting};
 ghost use Rattle.timer_threads.specs.Children.{threads_of};
-ghost use Rattle.timer_threads.specs.Threads.{IsNewFacility, AreTied, HasSucceeded, IsRun, IsExplained, whole_text};
+ghost use Rattle.timer_threads.specs.Threads.{new_facility, AreTied, HasSucceeded, IsRun, IsExplained, whole_text};
 
 use crate::child::Child;
 use crate::children::Children;
@@ -41,9 +42,7 @@ struct Clients {
 
 /// A facility of `clients` clients, in which no timer is pending.
 fn new_facility(alloc: Global, clients: u64) -> Result<Facility<HierWheel>, OutOfMemory>
-    ensures clients { IfOk result (λ facility. length facility.state.numbers ≡ clients) }
-    ensures new { IfOk result (λ facility. IsNewFacility clients facility.state) }
-    ensures waiting { IfOk result (λ facility. facility.waiting ≡ []) }
+    ensures { IfOk result (λ facility. facility ≡ with_nothing_waiting (new_facility clients)) }
 {
     let config = Config {
         clients,
@@ -139,9 +138,7 @@ fn drive_beside(
     timers: u64,
     limit: u64,
 ) -> Result<Vec<u8>, ThreadsFault>
-    requires clients { vec_len inlets ≡ length facility.state.numbers }
-    requires new { IsNewFacility (vec_len inlets) facility.state }
-    requires waiting { facility.waiting ≡ [] }
+    requires new { facility ≡ with_nothing_waiting (new_facility (vec_len inlets)) }
     requires tied { AreTied timers limit inlets.items (threads_of children) }
     requires timers { timers ≤ LAST }
     requires limit { limit ≤ LAST }

@@ -27,6 +27,7 @@ loop-client-preserved g c =
             left = λ more. tried.left more i;
             same_inlet = λ more other held. ap (λ (d : DeskState). get_or d.inlets k i) (tried.same more other held);
             looked = λ none. tried.looked none i;
+            still_gone = tried.desk.still_gone i;
           }) tried.desk tried.only first.next;
       refused = first.still was.refused;
       all = refl;

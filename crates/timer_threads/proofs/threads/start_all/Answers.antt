@@ -19,8 +19,20 @@ loop-gate-preserved g c =
             line = sym line.line ∙ ap line_of_end (sym child.end);
             count_is = child.count;
             limit_is = child.limit;
-            inlet_new = record { none_got = line.inlet.0; none_given = line.inlet.1; unsettled = line.inlet.2 };
-            end_new = subst IsNewEnd (sym child.end) (record { none_sent = line.end.0; none_received = line.end.1; first = line.end.2 });
+            inlet_new = record {
+              none_got = line.inlet.0;
+              none_given = line.inlet.1;
+              none_found = line.found.1;
+              room = line.room.1;
+              unsettled = line.inlet.2;
+            };
+            end_new = subst IsNewEnd (sym child.end) (record {
+              none_sent = line.end.0;
+              none_received = line.end.1;
+              none_found = line.found.0;
+              room = line.room.0;
+              first = line.end.2;
+            });
           }));
       each = grind (arith, common_steps);
       inlets_room = grind (arith, common_steps);

@@ -16,4 +16,4 @@ returns-clause-worked c =
     λ start limit h recorded taken idle gave_up. HasWorked-finished start limit self _ _ _ _ c.and-last.result c.requires h recorded taken idle
     (c.and-last.ensures ∙ ap (λ ends. ends ++ self.end ∷ []) c.new.ensures)
     (IfSome_then c.finish-ended.result.0 c.finish-ended.ensures.ended (λ e both. both.1))
-    c.finish-ended.ensures.reader.1 failed gave_up
+    c.finish-ended.ensures.reader.1 c.finish-ended.ensures.found failed gave_up

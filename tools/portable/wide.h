@@ -26,6 +26,10 @@ INLINE u128 u128_sub(u128 a, u128 b)
 {
 	return u128_of(u128_high(a) - u128_high(b) - (u128_low(a) < u128_low(b)), u128_low(a) - u128_low(b));
 }
+INLINE of_i64_i1 umul_with_overflow64(uint64_t a, uint64_t b)
+{
+	return of_i64_i1_of(a * b, u128_high(u128_mul(u128_of(0, a), u128_of(0, b))) != 0);
+}
 INLINE u128 u128_and(u128 a, u128 b) { return u128_of(u128_high(a) & u128_high(b), u128_low(a) & u128_low(b)); }
 INLINE u128 u128_or(u128 a, u128 b) { return u128_of(u128_high(a) | u128_high(b), u128_low(a) | u128_low(b)); }
 INLINE u128 u128_xor(u128 a, u128 b) { return u128_of(u128_high(a) ^ u128_high(b), u128_low(a) ^ u128_low(b)); }
@@ -46,20 +50,22 @@ INLINE u128 u128_lshr(u128 a, uint64_t n)
 INLINE bool u128_less(u128 a, u128 b) { return u128_high(a) != u128_high(b) ? u128_high(a) < u128_high(b) : u128_low(a) < u128_low(b); }
 INLINE bool u128_equal(u128 a, u128 b) { return u128_high(a) == u128_high(b) && u128_low(a) == u128_low(b); }
 INLINE u128 u128_sub_sat(u128 a, u128 b) { return u128_less(a, b) ? u128_of(0, 0) : u128_sub(a, b); }
-INLINE u128 ld128u(const byte *p) { return u128_of(ld64u(p + 8), ld64u(p)); }
-INLINE u128 ld128(const byte *p) { return u128_of(ld64(p + 8), ld64(p)); }
-INLINE void st128u(byte *p, u128 v) { st64u(p, u128_low(v)); st64u(p + 8, u128_high(v)); }
-INLINE void st128(byte *p, u128 v) { st64(p, u128_low(v)); st64(p + 8, u128_high(v)); }
-INLINE uint64_t ld48u(const byte *p) { return (uint64_t)ld32u(p) | (uint64_t)ld16u(p + 4) << 32; }
-INLINE void st48u(byte *p, uint64_t v) { st32u(p, (uint32_t)v); st16u(p + 4, (uint16_t)(v >> 32)); }
-INLINE uint64_t ld56u(const byte *p) { return ld48u(p) | (uint64_t)p[6] << 48; }
-INLINE void st56u(byte *p, uint64_t v) { st48u(p, v); p[6] = (byte)(v >> 48); }
+INLINE u128 load128u(const byte *p) { return u128_of(load64u(p + 8), load64u(p)); }
+INLINE u128 load128(const byte *p) { return u128_of(load64(p + 8), load64(p)); }
+INLINE void store128u(byte *p, u128 v) { store64u(p, u128_low(v)); store64u(p + 8, u128_high(v)); }
+INLINE void store128(byte *p, u128 v) { store64(p, u128_low(v)); store64(p + 8, u128_high(v)); }
+INLINE uint64_t load48u(const byte *p) { return (uint64_t)load32u(p) | (uint64_t)load16u(p + 4) << 32; }
+INLINE void store48u(byte *p, uint64_t v) { store32u(p, (uint32_t)v); store16u(p + 4, (uint16_t)(v >> 32)); }
+INLINE uint64_t load56u(const byte *p) { return load48u(p) | (uint64_t)p[6] << 48; }
+INLINE void store56u(byte *p, uint64_t v) { store48u(p, v); p[6] = (byte)(v >> 48); }
+/* Doubles. Each result is rounded to one: compilers may compute several operations at once, more precisely. */
+INLINE double rounded(double v) { volatile double result = v; return result; }
 INLINE double double_of(uint64_t bits) { double v; memcpy(&v, &bits, 8); return v; }
 INLINE uint64_t bits_of(double v) { uint64_t bits; memcpy(&bits, &v, 8); return bits; }
-INLINE double lddouble(const byte *p) { return double_of(ld64(p)); }
-INLINE double lddoubleu(const byte *p) { return double_of(ld64u(p)); }
-INLINE void stdouble(byte *p, double v) { st64(p, bits_of(v)); }
-INLINE void stdoubleu(byte *p, double v) { st64u(p, bits_of(v)); }
+INLINE double loaddouble(const byte *p) { return double_of(load64(p)); }
+INLINE double loaddoubleu(const byte *p) { return double_of(load64u(p)); }
+INLINE void storedouble(byte *p, double v) { store64(p, bits_of(v)); }
+INLINE void storedoubleu(byte *p, double v) { store64u(p, bits_of(v)); }
 
 /* A pointer in a constant: 8 bytes, of which a pointer of 32 bits takes the lower ones. */
 #if UINTPTR_MAX > 0xffffffffu && !SWAPS
@@ -75,8 +81,8 @@ typedef struct { const byte *p; uint32_t zero; } POINTER;
 /* 16 and 64 bytes at once: some code looks at as many. A bit for each is an answer. */
 typedef struct { byte b[16]; } bytes16;
 typedef struct { byte b[64]; } bytes64;
-INLINE bytes16 ldbytes16(const byte *p) { bytes16 v; memcpy(&v, p, 16); return v; }
-INLINE bytes64 ldbytes64(const byte *p) { bytes64 v; memcpy(&v, p, 64); return v; }
+INLINE bytes16 loadbytes16(const byte *p) { bytes16 v; memcpy(&v, p, 16); return v; }
+INLINE bytes64 loadbytes64(const byte *p) { bytes64 v; memcpy(&v, p, 64); return v; }
 INLINE bytes16 bytes16_zero(void) { bytes16 v; memset(&v, 0, 16); return v; }
 INLINE uint16_t bytes16_negative(bytes16 a)
 {

@@ -1,0 +1,90 @@
+/* The memory of the timers: what tools/portable/heap.h says of its functions, also of sizes that no call asks for on a 64-bit
+ * system. They are those of the library's file, which is included. */
+#include "../../generated/timers.c"
+
+#include <stdio.h>
+
+#define CHECK(fact) \
+	do { \
+		if (!(fact)) { \
+			printf("line %d: %s\n", __LINE__, #fact); \
+			failed = 1; \
+		} \
+	} while (0)
+#define TOO_LARGE ((uint64_t)(SIZE_MAX / 2) + 1)
+
+static int failed;
+static size_t asked;       /* the size that was asked for last */
+static void *released;
+static bool refuses;
+
+static void *take(size_t size)
+{
+	asked = size;
+	return refuses ? NULL : malloc(size);
+}
+
+static void *resize(void *block, size_t size)
+{
+	asked = size;
+	return refuses ? NULL : realloc(block, size);
+}
+
+static void release(void *block)
+{
+	released = block;
+	free(block);
+}
+
+/* A refusal calls no function, and has an address that is not null. */
+static void refuses_what_is_too_large(byte *block)
+{
+	of_i64_i64 tried = rattle_alloc(TOO_LARGE, 8);
+
+	CHECK(tried.f0 == 0 && tried.f1 != 0 && asked == 0);
+	tried = rattle_alloc(UINT64_MAX, 8);
+	CHECK(tried.f0 == 0 && tried.f1 != 0 && asked == 0);
+	if (block == NULL)
+		return;
+	tried = rattle_realloc(block, 3, TOO_LARGE, 8);
+	CHECK(tried.f0 == 0 && tried.f1 != 0 && asked == 0 && released == NULL && memcmp(block, "abc", 3) == 0);
+}
+
+/* Makes a block of 3 bytes, and one of 5 of it. */
+static void grows(void)
+{
+	of_i64_i64 tried = rattle_alloc(3, 1);
+	byte *block = (byte *)(uintptr_t)tried.f1;
+
+	CHECK(tried.f0 == 1 && asked == 3);
+	memcpy(block, "abc", 3);
+	asked = 0;
+	refuses_what_is_too_large(block);
+	refuses = true;
+	tried = rattle_realloc(block, 3, 5, 1);
+	CHECK(tried.f0 == 0 && tried.f1 != 0 && asked == 5 && released == NULL && memcmp(block, "abc", 3) == 0);
+	refuses = false;
+	tried = rattle_realloc(block, 3, 5, 1);
+	CHECK(tried.f0 == 1 && memcmp((byte *)(uintptr_t)tried.f1, "abc", 3) == 0);
+	CHECK(released == (resize_block == NULL ? block : NULL));
+	rattle_dealloc((byte *)(uintptr_t)tried.f1);
+	CHECK(released == (byte *)(uintptr_t)tried.f1);
+	released = NULL;
+}
+
+int main(void)
+{
+	of_i64_i64 tried;
+
+	CHECK(timers_set_allocator(malloc, NULL, free) == TIMERS_OK && timers_set_allocator(take, resize, release) == TIMERS_OK);
+	refuses_what_is_too_large(NULL);
+	CHECK(timers_set_allocator(malloc, realloc, free) == TIMERS_OPEN);   /* memory was asked for, though none was given */
+	tried = rattle_alloc(0, 8);
+	CHECK(tried.f0 == 1 && asked == 8);
+	rattle_dealloc((byte *)(uintptr_t)tried.f1);
+	released = NULL;
+	grows();
+	resize_block = NULL;
+	grows();
+	return failed;
+}

@@ -1,0 +1,2 @@
+/* loop_model.c as C++. */
+#include "loop_model.c"

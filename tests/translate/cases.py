@@ -1,0 +1,652 @@
+"""Modules for the translator: functions that it has to get right, and text that it has to refuse.
+
+A function takes and returns numbers. It is called with all edge values of its parameters for which its guard, in C over a, b
+and c, holds: the module says nothing of the others."""
+# SPDX-License-Identifier: MIT OR Apache-2.0
+WIDTHS = (8, 16, 32, 64)
+FUNCTIONS = []                                          # name, width of the result, widths of the parameters, guard, text
+DECLARED = set()
+
+
+def case(name, result, parameters, body, guard='1'):
+    heads = ', '.join(f'i{width} %{letter}' for width, letter in zip(parameters, 'abc'))
+    result_type = 'zeroext i1' if result == 1 else f'i{result}'
+    FUNCTIONS.append((name, result, parameters, guard, f'define {result_type} @{name}({heads}) {{\n{body}\n}}\n'))
+
+
+def value(name, result, parameters, text, guard='1'):
+    """A function of one instruction."""
+    case(name, result, parameters, f'  %r = {text}\n  ret i{result} %r', guard)
+
+
+def declare(text):
+    DECLARED.add(f'declare {text}\n')
+
+
+for w in WIDTHS:
+    for op in ('add', 'sub', 'mul', 'and', 'or', 'xor'):
+        value(f'{op}{w}', w, [w, w], f'{op} i{w} %a, %b')
+        value(f'{op}{w}_constant', w, [w], f'{op} i{w} %a, -7')
+        value(f'{op}{w}_of_constant', w, [w], f'{op} i{w} 100, %a')
+    for op in ('shl', 'lshr'):
+        value(f'{op}{w}', w, [w, w], f'{op} i{w} %a, %b', f'b < {w}')
+        value(f'{op}{w}_constant', w, [w], f'{op} i{w} %a, {w - 3}')
+        value(f'{op}{w}_of_constant', w, [w], f'{op} i{w} -5, %a', f'a < {w}')
+        value(f'{op}{w}_of_one', w, [w], f'{op} i{w} 1, %a', f'a < {w}')
+    for op in ('udiv', 'urem'):
+        value(f'{op}{w}', w, [w, w], f'{op} i{w} %a, %b', 'b != 0')
+        value(f'{op}{w}_of_constant', w, [w], f'{op} i{w} -7, %a', 'a != 0')
+    for how in ('eq', 'ne', 'ult', 'ule', 'ugt', 'uge', 'slt', 'sle', 'sgt', 'sge'):
+        value(f'icmp_{how}{w}', 1, [w, w], f'icmp {how} i{w} %a, %b')
+        value(f'icmp_{how}{w}_constant', 1, [w], f'icmp {how} i{w} %a, -2')
+        if w == 8:
+            case(f'branch_{how}{w}', 8, [w, w], f"""  %c = icmp {how} i{w} %a, %b
+  br i1 %c, label %x, label %y
+x:
+  ret i8 1
+y:
+  ret i8 2""")
+            case(f'not_{how}{w}', 1, [w, w], f"""  %c = icmp {how} i{w} %a, %b
+  %r = xor i1 %c, true
+  ret i1 %r""")
+    for to in WIDTHS:
+        for op in ('zext', 'sext') if to > w else ('trunc',) if to < w else ():
+            value(f'{op}{w}_{to}', to, [w], f'{op} i{w} %a to i{to}')
+    value(f'trunc{w}_1', 1, [w], f'trunc i{w} %a to i1')
+    for op in ('zext', 'sext'):
+        case(f'{op}1_{w}', w, [w], f'  %c = icmp ult i{w} %a, 9\n  %r = {op} i1 %c to i{w}\n  ret i{w} %r')
+    for name in ('umin', 'umax', 'usub.sat', 'uadd.sat'):
+        declare(f'i{w} @llvm.{name}.i{w}(i{w}, i{w})')
+        value(f'llvm_{name.replace(".", "_")}{w}', w, [w, w], f'call i{w} @llvm.{name}.i{w}(i{w} %a, i{w} %b)')
+    for name in ('cttz', 'abs') + (('ctlz',) if w >= 32 else ()) + (('ctpop',) if w == 64 else ()):
+        second = '' if name == 'ctpop' else ', i1 false'
+        declare(f'i{w} @llvm.{name}.i{w}(i{w}{second[:4]})')
+        value(f'llvm_{name}{w}', w, [w], f'call i{w} @llvm.{name}.i{w}(i{w} %a{second})')
+    case(f'select{w}', w, [w, w], f'  %c = icmp ult i{w} %a, 9\n  %r = select i1 %c, i{w} %b, i{w} %a\n  ret i{w} %r')
+    case(f'select{w}_constants', w, [w], f"""  %c = icmp ult i{w} %a, 9
+  %s = select i1 %c, i{w} -1, i{w} 1
+  %r = mul i{w} %s, %s
+  %t = add i{w} %r, %s
+  ret i{w} %t""")
+    case(f'chain{w}', w, [w, w], f"""  %x = add i{w} %a, %b
+  %y = mul i{w} %x, %a
+  %z = sub i{w} %y, %x
+  %w = lshr i{w} %z, 2
+  %v = xor i{w} %w, -1
+  %u = udiv i{w} %v, 3
+  %f = freeze i{w} %u
+  ret i{w} %f""")
+    case(f'constants{w}', w, [w], f'  %x = sub i{w} 3, 4\n  %y = shl i{w} 5, 6\n  %z = udiv i{w} %x, %y\n  %r = add i{w} %z, %a\n  ret i{w} %r')
+    case(f'minus{w}', w, [w, w], f'  %x = sub i{w} %a, %b\n  %y = sub i{w} 9, %x\n  %r = sub i{w} %a, %y\n  ret i{w} %r')
+    case(f'memory{w}', w, [w, w], f"""  %m = alloca [24 x i8], align 8
+  call void @llvm.memset.p0.i64(ptr %m, i8 7, i64 24, i1 false)
+  %p = getelementptr i8, ptr %m, i64 3
+  store i{w} %a, ptr %p, align 1
+  %q = getelementptr inbounds i8, ptr %m, i64 8
+  %x = load i{w}, ptr %q, align 8
+  store i{w} %b, ptr %q, align 8
+  %y = load i{w}, ptr %p, align 1
+  %r = xor i{w} %x, %y
+  ret i{w} %r""")
+    case(f'switch{w}', w, [w, w], f"""  switch i{w} %a, label %d [
+    i{w} 0, label %x
+    i{w} 1, label %y
+    i{w} 2, label %y
+    i{w} -1, label %z
+    i{w} 7, label %d
+  ]
+x:
+  br label %d
+y:
+  %p = add i{w} %b, 5
+  br label %d
+z:
+  ret i{w} 17
+d:
+  %r = phi i{w} [ 1, %0 ], [ 1, %0 ], [ %b, %x ], [ %p, %y ]
+  ret i{w} %r""")
+for name, text in (('and', 'and i1 %c, %d'), ('or', 'or i1 %c, %d'), ('xor', 'xor i1 %c, %d'), ('eq', 'icmp eq i1 %c, %d'),
+                   ('both', 'select i1 %c, i1 %d, i1 false'), ('either', 'select i1 %c, i1 true, i1 %d'),
+                   ('choice', 'select i1 %c, i1 %d, i1 %e')):
+    case(f'{name}1', 1, [8, 8], f"""  %c = icmp ult i8 %a, 5
+  %d = icmp sgt i8 %b, %a
+  %e = icmp eq i8 %b, 3
+  %r = {text}
+  ret i1 %r""")
+declare('void @llvm.memset.p0.i64(ptr, i8, i64, i1)')
+declare('void @llvm.memcpy.p0.p0.i64(ptr, ptr, i64, i1)')
+declare('void @llvm.memmove.p0.p0.i64(ptr, ptr, i64, i1)')
+declare('{ i64, i1 } @llvm.umul.with.overflow.i64(i64, i64)')
+case('over', 1, [64, 64], """  %p = call { i64, i1 } @llvm.umul.with.overflow.i64(i64 %a, i64 %b)
+  %o = extractvalue { i64, i1 } %p, 1
+  ret i1 %o""")
+case('product', 64, [64, 64], """  %p = call { i64, i1 } @llvm.umul.with.overflow.i64(i64 %a, i64 %b)
+  %r = extractvalue { i64, i1 } %p, 0
+  ret i64 %r""")
+
+# 128 bits: both halves of each result.
+DECLARED.add('declare i128 @llvm.usub.sat.i128(i128, i128)\n')
+for name, text, guard in [(op, f'{op} i128 %z, %w', '1') for op in ('add', 'sub', 'mul', 'and', 'or', 'xor')] + \
+        [(op, f'{op} i128 %z, %c', 'b < 128') for op in ('shl', 'lshr')] + \
+        [('sat', 'call i128 @llvm.usub.sat.i128(i128 %z, i128 %w)', '1'), ('constant', 'add i128 %z, -36893488147419103230', '1')]:
+    for half, shift in (('low', 0), ('high', 64)):
+        case(f'{name}128_{half}', 64, [64, 64], f"""  %x = zext i64 %a to i128
+  %y = shl i128 %x, 61
+  %z = xor i128 %y, 12345
+  %c = zext i64 %b to i128
+  %w = mul i128 %c, 18446744073709551629
+  %v = {text}
+  %h = lshr i128 %v, {shift}
+  %r = trunc i128 %h to i64
+  ret i64 %r""", guard)
+for how in ('eq', 'ne', 'ult', 'ule', 'ugt', 'uge'):
+    case(f'icmp_{how}128', 1, [64, 64, 64], f"""  %x = zext i64 %a to i128
+  %y = shl i128 %x, 3
+  %c0 = zext i64 %c to i128
+  %z = or i128 %y, %c0
+  %b0 = zext i64 %b to i128
+  %w = shl i128 %b0, 3
+  %r = icmp {how} i128 %z, %w
+  ret i1 %r""")
+
+# Doubles: no number is among them.
+for op in ('fadd', 'fsub', 'fmul', 'fdiv'):
+    case(f'double_{op}', 64, [64, 64], f"""  %x = uitofp i64 %a to double
+  %y = uitofp i64 %b to double
+  %z = {op} double %x, %y
+  %w = fmul double %z, 3.000000e-01
+  %v = fadd double %w, %y
+  %r = bitcast double %v to i64
+  ret i64 %r""", 'b != 0')
+for how in ('olt', 'ole', 'ogt', 'oge', 'oeq', 'ult', 'ule', 'ugt', 'uge', 'une'):
+    case(f'fcmp_{how}', 1, [8, 8], f"""  %x = uitofp i8 %a to double
+  %y = uitofp i8 %b to double
+  %z = fdiv double %x, %y
+  %r = fcmp {how} double %z, 0x3FF0000000000000
+  ret i1 %r""")
+case('double_memory', 64, [64], """  %m = alloca [2 x i64], align 8
+  store i64 %a, ptr %m, align 8
+  %x = load double, ptr %m, align 8
+  %p = getelementptr inbounds i8, ptr %m, i64 8
+  store double %x, ptr %p, align 8
+  %r = load i64, ptr %p, align 8
+  ret i64 %r""")
+
+# Numbers of 48 and 56 bits, and bits, in memory.
+for w in (48, 56):
+    case(f'memory{w}', 64, [64], f"""  %m = alloca [16 x i8], align 8
+  call void @llvm.memset.p0.i64(ptr %m, i8 -1, i64 16, i1 false)
+  %x = trunc i64 %a to i{w}
+  store i{w} %x, ptr %m, align 1
+  %y = load i{w}, ptr %m, align 1
+  %z = zext i{w} %y to i64
+  %q = load i64, ptr %m, align 8
+  %r = add i64 %z, %q
+  ret i64 %r""")
+case('memory1', 8, [8], """  %m = alloca [1 x i8], align 1
+  %c = icmp ult i8 %a, 9
+  store i1 %c, ptr %m, align 1
+  %d = load i1, ptr %m, align 1
+  %n = zext i1 %d to i8
+  %q = load i8, ptr %m, align 1
+  %r = add i8 %n, %q
+  ret i8 %r""")
+case('memory128', 64, [64, 64], """  %m = alloca [2 x i64], align 16
+  %x = zext i64 %a to i128
+  %y = shl i128 %x, 64
+  %z = zext i64 %b to i128
+  %w = or i128 %y, %z
+  store i128 %w, ptr %m, align 16
+  %p = getelementptr inbounds i8, ptr %m, i64 8
+  %h = load i64, ptr %p, align 8
+  %l = load i128, ptr %m, align 16
+  %t = trunc i128 %l to i64
+  %r = sub i64 %h, %t
+  ret i64 %r""")
+
+# Pointers: in memory, in comparisons, from numbers, from indices.
+case('in_memory', 64, [8, 64], """  %m = alloca [32 x i64], align 8
+  %k = and i8 %a, 15
+  %i = zext i8 %k to i64
+  %p = getelementptr inbounds [32 x i64], ptr %m, i64 0, i64 %i
+  store i64 %b, ptr %p, align 8
+  %q = getelementptr inbounds i8, ptr %m, i64 128
+  store ptr %p, ptr %q, align 8
+  %s = load ptr, ptr %q, align 8
+  %o = ptrtoint ptr %s to i64
+  %n = inttoptr i64 %o to ptr
+  %v = load i64, ptr %n, align 8
+  %e = icmp eq ptr %s, %m
+  %l = icmp ugt ptr %n, %m
+  %x = select i1 %e, i64 3, i64 5
+  %y = select i1 %l, i64 7, i64 11
+  %z = mul i64 %x, %y
+  %r = add i64 %v, %z
+  ret i64 %r""")
+case('fields', 32, [64, 32], """  %m = alloca [4 x { i8, i64, i32 }], align 8
+  call void @llvm.memset.p0.i64(ptr %m, i8 5, i64 96, i1 false)
+  %k = and i64 %a, 3
+  %p = getelementptr [4 x { i8, i64, i32 }], ptr %m, i64 0, i64 %k, i32 2
+  store i32 %b, ptr %p, align 4
+  %q = getelementptr i8, ptr %m, i64 64
+  %x = load i32, ptr %q, align 4
+  %s = getelementptr { i8, i64, i32 }, ptr %m, i64 %k
+  %t = getelementptr i32, ptr %s, i64 4
+  %y = load i32, ptr %t, align 4
+  %r = sub i32 %x, %y
+  ret i32 %r""")
+case('backwards', 8, [64, 8], """  %m = alloca [24 x i8], align 8
+  call void @llvm.memset.p0.i64(ptr %m, i8 1, i64 24, i1 false)
+  %k = and i64 %a, 7
+  %n = sub i64 0, %k
+  %p = getelementptr inbounds i8, ptr %m, i64 16
+  %q = getelementptr inbounds i8, ptr %p, i64 %n
+  store i8 %b, ptr %q, align 1
+  %s = getelementptr inbounds i8, ptr %p, i64 -4
+  %r = load i8, ptr %s, align 1
+  ret i8 %r""")
+
+# The order of what reads and writes memory.
+case('store_between', 64, [64, 64], """  %m = alloca i64, align 8
+  store i64 %a, ptr %m, align 8
+  %x = load i64, ptr %m, align 8
+  store i64 %b, ptr %m, align 8
+  %y = load i64, ptr %m, align 8
+  %r = sub i64 %x, %y
+  ret i64 %r""")
+case('call_between', 64, [64, 64], """  %m = alloca i64, align 8
+  store i64 %a, ptr %m, align 8
+  %x = load i64, ptr %m, align 8
+  call void @set(ptr %m, i64 %b)
+  %y = load i64, ptr %m, align 8
+  %z = mul i64 %y, 3
+  %r = sub i64 %x, %z
+  ret i64 %r""")
+case('pointer_changes', 64, [64, 64], """  %m = alloca [4 x i64], align 8
+  %p = getelementptr inbounds i8, ptr %m, i64 16
+  store ptr %p, ptr %m, align 8
+  %q = load ptr, ptr %m, align 8
+  %v = insertvalue { ptr, i64 } zeroinitializer, ptr %p, 0
+  %w = insertvalue { ptr, i64 } %v, i64 %b, 1
+  store { ptr, i64 } %w, ptr %q, align 8
+  %s = getelementptr inbounds i8, ptr %m, i64 24
+  %x = load i64, ptr %s, align 8
+  %t = load { ptr, i64 }, ptr %p, align 8
+  store i64 %a, ptr %s, align 8
+  %y = extractvalue { ptr, i64 } %t, 1
+  %z = mul i64 %y, 5
+  %r = add i64 %x, %z
+  ret i64 %r""")
+case('own_pointer_changes', 64, [64], """  %m = alloca [4 x i64], align 8
+  store ptr %m, ptr %m, align 8
+  %f = insertvalue { ptr, i64 } { ptr null, i64 1 }, i64 %a, 1
+  %q = load ptr, ptr %m, align 8
+  store { ptr, i64 } %f, ptr %q, align 8
+  %s = getelementptr inbounds i8, ptr %m, i64 8
+  %x = load i64, ptr %s, align 8
+  ret i64 %x""")
+case('over_kept', 64, [64, 64], """  %m = alloca i64, align 8
+  store i64 %a, ptr %m, align 8
+  %x = load i64, ptr %m, align 8
+  %p = call { i64, i1 } @llvm.umul.with.overflow.i64(i64 %x, i64 3)
+  %y = extractvalue { i64, i1 } %p, 0
+  store i64 %b, ptr %m, align 8
+  %z = mul i64 %y, %y
+  ret i64 %z""")
+case('one_way_in', 64, [64, 64], """start:
+  %m = alloca i64, align 8
+  store i64 %a, ptr %m, align 8
+  %c = icmp ugt i64 %a, %b
+  %x = load i64, ptr %m, align 8
+  br i1 %c, label %more, label %less
+more:
+  %y = phi i64 [ %x, %start ]
+  store i64 %b, ptr %m, align 8
+  %z = mul i64 %y, %y
+  ret i64 %z
+less:
+  ret i64 1""")
+for orders in (('monotonic', 'monotonic', 'monotonic'), ('acquire', 'release', 'acq_rel'), ('seq_cst', 'seq_cst', 'seq_cst')):
+    for w in (8, 64):
+        case(f'atomic{w}_{orders[0]}', w, [w, w], f"""  %m = alloca i64, align 8
+  %z = load i{w}, ptr %m, align 8
+  store atomic i{w} %a, ptr %m {orders[1]}, align 8
+  %o = atomicrmw xchg ptr %m, i{w} %b {orders[2]}, align 8
+  %x = load atomic i{w}, ptr %m {orders[0]}, align 8
+  call void asm sideeffect "", "~{{memory}}"()
+  %y = mul i{w} %x, 3
+  %r = add i{w} %o, %y
+  ret i{w} %r""")
+case('atomic_between', 64, [64, 64], """  %m = alloca i64, align 8
+  store i64 %a, ptr %m, align 8
+  %x = load i64, ptr %m, align 8
+  %o = atomicrmw xchg ptr %m, i64 %b seq_cst, align 8
+  %r = sub i64 %x, %o
+  ret i64 %r""")
+case('volatile_load', 8, [8, 8], """  %m = alloca i8, align 1
+  store i8 %a, ptr %m, align 1
+  %x = load volatile i8, ptr %m, align 1
+  store i8 %b, ptr %m, align 1
+  %y = load volatile i8, ptr %m, align 1
+  %r = sub i8 %x, %y
+  ret i8 %r""")
+case('moves', 64, [64, 64], """  %m = alloca [6 x i64], align 8
+  call void @llvm.memset.p0.i64(ptr %m, i8 9, i64 48, i1 false)
+  store i64 %a, ptr %m, align 8
+  %p = getelementptr inbounds i8, ptr %m, i64 8
+  store i64 %b, ptr %p, align 8
+  %q = getelementptr inbounds i8, ptr %m, i64 3
+  call void @llvm.memmove.p0.p0.i64(ptr %q, ptr %m, i64 16, i1 false)
+  %s = getelementptr inbounds i8, ptr %m, i64 32
+  %n = and i64 %a, 15
+  call void @llvm.memcpy.p0.p0.i64(ptr %s, ptr %q, i64 %n, i1 false)
+  %x = load i64, ptr %s, align 8
+  %y = load i64, ptr %p, align 8
+  %r = xor i64 %x, %y
+  ret i64 %r""")
+
+# Loops and joins.
+case('swap', 64, [64, 64, 8], """start:
+  br label %loop
+loop:
+  %x = phi i64 [ %a, %start ], [ %y, %loop ]
+  %y = phi i64 [ %b, %start ], [ %x, %loop ]
+  %n = phi i8 [ %c, %start ], [ %m, %loop ]
+  %m = add i8 %n, -1
+  %done = icmp ult i8 %n, 2
+  br i1 %done, label %out, label %loop
+out:
+  %r = sub i64 %x, %y
+  ret i64 %r""")
+case('fibonacci', 64, [8], """start:
+  br label %loop
+loop:
+  %x = phi i64 [ 0, %start ], [ %y, %loop ]
+  %y = phi i64 [ 1, %start ], [ %s, %loop ]
+  %n = phi i8 [ 0, %start ], [ %m, %loop ]
+  %s = add i64 %x, %y
+  %m = add i8 %n, 1
+  %done = icmp eq i8 %n, %a
+  br i1 %done, label %out, label %loop
+out:
+  ret i64 %x""")
+case('collatz', 64, [8, 8], """start:
+  %s = zext i8 %a to i64
+  %s1 = add i64 %s, 1
+  %e = zext i8 %b to i64
+  br label %loop
+loop:
+  %x = phi i64 [ %s1, %start ], [ %h, %even ], [ %t1, %odd ]
+  %k = phi i64 [ 0, %start ], [ %k1, %even ], [ %k1, %odd ]
+  %one = icmp eq i64 %x, 1
+  br i1 %one, label %out, label %on
+on:
+  %k1 = add i64 %k, 1
+  %enough = icmp ugt i64 %k, %e
+  br i1 %enough, label %far, label %step
+step:
+  %bit = and i64 %x, 1
+  %is = icmp eq i64 %bit, 0
+  br i1 %is, label %even, label %odd
+even:
+  %h = lshr i64 %x, 1
+  br label %loop
+odd:
+  %t = mul i64 %x, 3
+  %t1 = add i64 %t, 1
+  br label %loop
+far:
+  %f = add i64 %x, 1000000
+  br label %out
+out:
+  %r = phi i64 [ %k, %loop ], [ %f, %far ]
+  %q = mul i64 %r, %r
+  ret i64 %q""")
+case('nested', 64, [8, 8], """start:
+  br label %outer
+outer:
+  %i = phi i8 [ 0, %start ], [ %i1, %next ]
+  %s = phi i64 [ 0, %start ], [ %s2, %next ]
+  %end = icmp uge i8 %i, %a
+  br i1 %end, label %out, label %inner
+inner:
+  %j = phi i8 [ 0, %outer ], [ %j1, %more ]
+  %s1 = phi i64 [ %s, %outer ], [ %s3, %more ]
+  %last = icmp uge i8 %j, %b
+  br i1 %last, label %next, label %body
+body:
+  %p = mul i8 %i, %j
+  switch i8 %p, label %more [
+    i8 12, label %next
+    i8 35, label %found
+  ]
+more:
+  %w = zext i8 %p to i64
+  %s3 = add i64 %s1, %w
+  %j1 = add i8 %j, 1
+  br label %inner
+next:
+  %s2 = phi i64 [ %s1, %inner ], [ %s1, %body ]
+  %i1 = add i8 %i, 3
+  %wrapped = icmp ult i8 %i1, 3
+  br i1 %wrapped, label %out, label %outer
+found:
+  %g = add i64 %s1, 77777
+  br label %out
+out:
+  %r = phi i64 [ %s, %outer ], [ %s2, %next ], [ %g, %found ]
+  %q = xor i64 %r, 5
+  ret i64 %q""")
+case('two_joins', 64, [8, 64], """  switch i8 %a, label %c [
+    i8 0, label %x
+    i8 1, label %y
+  ]
+x:
+  br label %first
+y:
+  %p = add i64 %b, 1
+  br label %first
+c:
+  %q = mul i64 %b, 7
+  br label %second
+first:
+  %s = phi i64 [ 5, %x ], [ %p, %y ]
+  %t = mul i64 %s, %s
+  br label %second
+second:
+  %u = phi i64 [ %t, %first ], [ %q, %c ]
+  %v = xor i64 %u, %b
+  ret i64 %v""")
+case('outer_again', 64, [8, 8], """start:
+  br label %outer
+outer:
+  %i = phi i8 [ 0, %start ], [ %i1, %inner ], [ %i1, %last ]
+  %s = phi i64 [ 0, %start ], [ %s2, %inner ], [ %s3, %last ]
+  %i1 = add i8 %i, 1
+  %end = icmp ugt i8 %i, 40
+  br i1 %end, label %out, label %inner
+inner:
+  %j = phi i8 [ %i, %outer ], [ %j1, %more ]
+  %s1 = phi i64 [ %s, %outer ], [ %s2, %more ]
+  %s2 = add i64 %s1, 3
+  %j1 = add i8 %j, %b
+  %far = icmp ugt i8 %j1, 99
+  br i1 %far, label %outer, label %more
+more:
+  %near = icmp eq i8 %j1, %a
+  %s3 = mul i64 %s2, 5
+  %stop = icmp ult i8 %b, 2
+  %both = or i1 %near, %stop
+  br i1 %both, label %last, label %inner
+last:
+  br label %outer
+out:
+  ret i64 %s""")
+case('one_of_two', 8, [8, 8], """  %k = and i8 %a, 1
+  switch i8 %k, label %never [
+    i8 1, label %x
+    i8 0, label %y
+  ]
+x:
+  ret i8 %b
+y:
+  %r = add i8 %b, 9
+  ret i8 %r
+never:
+  unreachable""")
+for mask in (2305843009213693944, 2305843009213693951, 536870904, 1152921504606846968):
+    case(f'shift_and_mask_{mask}', 64, [64], f'  %x = lshr i64 %a, 3\n  %r = and i64 %x, {mask}\n  ret i64 %r')
+case('same_way', 8, [8], """  %c = icmp eq i8 %a, 0
+  br i1 %c, label %x, label %x
+x:
+  %r = add i8 %a, 1
+  ret i8 %r""")
+
+# Calls: of functions of the module, by pointer, of each other, with two results, of what stands elsewhere.
+declare('i64 @outside(i64)')
+case('calls', 64, [64, 64], """  %p = call { i64, i1 } @pair(i64 %a, i64 %b)
+  %x = extractvalue { i64, i1 } %p, 0
+  %o = extractvalue { i64, i1 } %p, 1
+  %y = select i1 %o, i64 %x, i64 17
+  %z = call i64 @outside(i64 %y)
+  ret i64 %z""")
+case('by_pointer', 64, [8, 64], """  %c = icmp ult i8 %a, 5
+  %f = select i1 %c, ptr @triple, ptr @negated
+  %r = call i64 %f(i64 %b)
+  ret i64 %r""")
+case('is_even', 1, [8], """  %z = icmp eq i8 %a, 0
+  br i1 %z, label %yes, label %no
+yes:
+  ret i1 true
+no:
+  %b = sub i8 %a, 1
+  %r = call i1 @is_odd(i8 %b)
+  ret i1 %r""")
+case('is_odd', 1, [8], """  %z = icmp eq i8 %a, 0
+  br i1 %z, label %yes, label %no
+yes:
+  ret i1 false
+no:
+  %b = sub i8 %a, 1
+  %r = call i1 @is_even(i8 %b)
+  ret i1 %r""")
+case('constants', 64, [8], """  %k = and i8 %a, 3
+  %i = zext i8 %k to i64
+  %p = getelementptr inbounds i64, ptr @table, i64 %i
+  %x = load i64, ptr %p, align 8
+  %q = getelementptr inbounds i8, ptr @text, i64 %i
+  %y = load i8, ptr %q, align 1
+  %s = load ptr, ptr getelementptr inbounds (i8, ptr @pointers, i64 16), align 8
+  %u = load i8, ptr %s, align 1
+  %v = zext i8 %y to i64
+  %w = zext i8 %u to i64
+  %z = mul i64 %v, %w
+  %t = load i64, ptr @text, align 8
+  %m = xor i64 %z, %t
+  %r = add i64 %x, %m
+  ret i64 %r""")
+case('bytes', 64, [8, 8], """  %m = alloca [128 x i8], align 16
+  call void @llvm.memset.p0.i64(ptr %m, i8 %a, i64 64, i1 false)
+  %n = getelementptr inbounds i8, ptr %m, i64 64
+  call void @llvm.memset.p0.i64(ptr %n, i8 %a, i64 64, i1 false)
+  %i = and i8 %b, 63
+  %j = zext i8 %i to i64
+  %p = getelementptr inbounds i8, ptr %n, i64 %j
+  store i8 %b, ptr %p, align 1
+  %x = load <16 x i8>, ptr %m, align 1
+  %y = load <16 x i8>, ptr %n, align 1
+  %c = icmp ne <16 x i8> %x, %y
+  %d = icmp slt <16 x i8> %y, zeroinitializer
+  %e = or <16 x i1> %c, %d
+  %f = bitcast <16 x i1> %e to i16
+  %u = load <64 x i8>, ptr %m, align 1
+  %v = load <64 x i8>, ptr %n, align 1
+  %g = icmp ne <64 x i8> %u, %v
+  %h = sext <64 x i1> %g to <64 x i8>
+  %k = shufflevector <64 x i8> %h, <64 x i8> poison, <16 x i32> <i32 16, i32 17, i32 18, i32 19, i32 20, i32 21, i32 22, i32 23, i32 24, i32 25, i32 26, i32 27, i32 28, i32 29, i32 30, i32 31>
+  %l = icmp slt <16 x i8> %k, zeroinitializer
+  %o = bitcast <16 x i1> %l to i16
+  %q = zext i16 %f to i64
+  %s = zext i16 %o to i64
+  %t = mul i64 %s, 65537
+  %r = xor i64 %q, %t
+  ret i64 %r""")
+
+HELPERS = '''target datalayout = "e-m:e-i64:64-i128:128-n8:16:32:64-S128"
+@table = private unnamed_addr constant [4 x i64] [i64 5, i64 -1, i64 81985529216486895, i64 0], align 8
+@text = private unnamed_addr constant [9 x i8] c"a\\22\\5C\\00?zz\\FF!", align 8
+@pointers = private constant <{ [16 x i8], ptr }> <{ [16 x i8] zeroinitializer, ptr getelementptr (i8, ptr @text, i64 5) }>, align 8
+define internal void @set(ptr noalias %p, i64 %n) #0 {
+  store i64 %n, ptr %p, align 8
+  ret void
+}
+define internal { i64, i1 } @pair(i64 %a, i64 %b) {
+  %c = icmp ult i64 %a, %b
+  %s = sub i64 %a, %b
+  %p = insertvalue { i64, i1 } poison, i64 %s, 0
+  %q = insertvalue { i64, i1 } %p, i1 %c, 1
+  ret { i64, i1 } %q
+}
+define internal i64 @triple(i64 %n) {
+  %r = mul i64 %n, 3
+  ret i64 %r
+}
+define internal i64 @negated(i64 %n) {
+  %r = sub i64 0, %n
+  ret i64 %r
+}
+attributes #0 = { noinline }
+'''
+
+
+def module():
+    return HELPERS + ''.join(sorted(DECLARED)) + ''.join(text for *_, text in FUNCTIONS)
+
+
+# What no call shows: a module, and texts that its translation has to have.
+EXPECTED = [(f'define i64 @f(ptr %a) {{\n  %r = load atomic i64, ptr %a {order}, align 8\n  ret i64 %r\n}}\n', f'atomic_load64(p1, ORDER_{name})')
+            for order, name in (('monotonic', 'RELAXED'), ('acquire', 'ACQUIRE'), ('seq_cst', 'SEQ_CST'))] + \
+    [(f'define void @f(ptr %a) {{\n  store atomic i8 1, ptr %a {order}, align 1\n  ret void\n}}\n', f'atomic_store8(p1, 1, ORDER_{name})')
+     for order, name in (('monotonic', 'RELAXED'), ('release', 'RELEASE'), ('seq_cst', 'SEQ_CST'))] + [
+    ('define i64 @f(ptr %a) {\n  %r = atomicrmw xchg ptr %a, i64 3 acq_rel, align 8\n  ret i64 %r\n}\n', 'atomic_exchange64(p1, 3, ORDER_ACQ_REL)'),
+    ('define i16 @f(i16 %a, i16 %b) {\n  %r = mul i16 %a, %b\n  ret i16 %r\n}\n', '(uint16_t)(1u * n1 * n2)'),
+    ('define i64 @f(ptr %a) {\n  %r = load i64, ptr %a, align 4\n  ret i64 %r\n}\n', 'load64u(p1)'),
+    ('define void @f() {\n  call void asm sideeffect "", "~{memory}"()\n  ret void\n}\n', '\tBARRIER();'),
+    ('define i8 @f(ptr %a) {\n  %r = load volatile i8, ptr %a, align 1\n  ret i8 %r\n}\n', 'load8_volatile(p1)'),
+    ('define internal void @f() #0 {\n  ret void\n}\ndefine void @g() {\n  call void @f()\n  ret void\n}\n'
+     'attributes #0 = { cold noinline }\n', 'static COLD void c_f(void)', 'c_f();'),
+]
+
+# Text, and the line that has to be named.
+REFUSED = [
+    ('define i64 @f(i64 %a) {\n  %r = frobnicate i64 %a\n  ret i64 %r\n}', 2),
+    ('define i64 @f(i64 %a) {\n  %r = add i64 %a, 1, !x !0, surprise\n  ret i64 %r\n}', 2),
+    ('define i64 @f(i64 %a) {\n  %r = add i64 %a, 1 surprise\n  ret i64 %r\n}', 2),
+    ('define i24 @f(i24 %a) {\n  %r = add i24 %a, 1\n  ret i24 %r\n}', 2),
+    ('define i64 @f(i64 %a) {\n  %r = sdiv i64 %a, 3\n  ret i64 %r\n}', 2),
+    ('define i1 @f(i1 %a, i1 %b) {\n  %r = add i1 %a, %b\n  ret i1 %r\n}', 2),
+    ('define i1 @f(i1 %a, i1 %b) {\n  %r = icmp ult i1 %a, %b\n  ret i1 %r\n}', 2),
+    ('define i1 @f(ptr %a, ptr %b) {\n  %r = icmp slt ptr %a, %b\n  ret i1 %r\n}', 2),
+    ('define float @f(float %a) {\n  ret float %a\n}', 1),
+    ('define i64 @f(<2 x i64> %a) {\n  %r = extractelement <2 x i64> %a, i64 0\n  ret i64 %r\n}', 2),
+    ('declare i64 @llvm.bitreverse.i64(i64)\ndefine i64 @f(i64 %a) {\n  %r = call i64 @llvm.bitreverse.i64(i64 %a)\n'
+     '  ret i64 %r\n}', 3),
+    ('define i64 @f(ptr %a) {\n  %r = load atomic i64, ptr %a syncscope("x") acquire, align 8\n  ret i64 %r\n}', 2),
+    ('define i64 @f(ptr %a) {\n  %r = load atomic i64, ptr %a acquire, align 4\n  ret i64 %r\n}', 2),
+    ('define i32 @f(ptr %a) {\n  %r = load atomic i32, ptr %a acquire, align 4\n  ret i32 %r\n}', 2),
+    ('define i64 @f(ptr %a) {\n  %r = atomicrmw add ptr %a, i64 1 acquire, align 8\n  ret i64 %r\n}', 2),
+    ('define i64 @f(ptr %a) {\n  %r = load volatile i64, ptr %a, align 8\n  ret i64 %r\n}', 2),
+    ('define void @f(ptr %a) {\n  store volatile i64 0, ptr %a, align 8\n  ret void\n}', 2),
+    ('define void @f(ptr %a) {\n  call void @llvm.memset.p0.i64(ptr %a, i8 0, i64 8, i1 true)\n  ret void\n}', 2),
+    ('define i64 @f(i64 %a) {\n  %r = shl i64 %a, 64\n  ret i64 %r\n}', 2),
+    ('define void @f() {\n  br label %x\nx:\n  %m = alloca i64, align 8\n  store i64 1, ptr %m, align 8\n  br label %x\n}', 4),
+    ('define void @f(i1 %a) {\n  br i1 %a, label %x, label %y\nx:\n  br label %y\ny:\n  br label %x\n}', 1),
+    ('@x = thread_local global i64 0, align 8\n', 1),
+    ('@x = internal constant i64 0, align 8\n', 1),
+    ('@x = internal constant <{ i8, i64 }> <{ i8 0, i64 1 }>, align 1\n', 1),
+    ('target datalayout = "E-m:e-i64:64"\n', 1),
+    ('define void @f() personality ptr null {\n  ret void\n}', 1),
+    ('define void @f(ptr byval(i64) %a) {\n  ret void\n}', 1),
+    ('define void @f() {\n  musttail call void @f()\n  ret void\n}', 2),
+    ('define void @f() {\n  call void asm sideeffect "nop", "~{memory}"()\n  ret void\n}', 2),
+]

@@ -1,0 +1,11 @@
+/* What a shared object of the library exports is in the headers (-DTIMERS_SHARED). Otherwise nothing is exported. */
+#if defined(__ELF__) && defined(__GNUC__) && !defined(TIMERS_SHARED)
+#pragma GCC visibility push(hidden)
+#endif
+#include "timers.h"
+#ifndef TIMERS_NO_DESK
+#include "timers_desk.h"
+#endif
+#if defined(__ELF__) && defined(__GNUC__) && !defined(TIMERS_SHARED)
+#pragma GCC visibility pop
+#endif

@@ -1,0 +1,192 @@
+"""A whole file of C: what is by hand (tools/portable), and the module's structs, constants and functions."""
+# SPDX-License-Identifier: MIT OR Apache-2.0
+import re
+from collections import namedtuple
+
+from translator.blocks import Writer
+from translator.expressions import TYPES, WIDTHS, declared, number, struct_name
+from translator.layout import Layout
+from translator.lines import Array, Bytes, Global, Local, Number, Offset, Parts, Struct, Zero
+from translator.names import TOP, Names, read, source_of
+
+# What the files are: the prefix of the module's names and of those that it declares, the crates that it is made from, the
+# functions that stand in the second place, and what stands where.
+Kind = namedtuple('Kind', 'prefix outside crates second title parts')
+STRUCTS, FUNCTIONS, SECOND = 'structs', 'functions', 'second functions'
+NOWHERE = '$.'
+KINDS = {
+    'timers': Kind('tm_', '', ('timer_c', 'timer_desk_c'), 'timers_(desk|line)_',
+                   'The library: the functions of timers.h and timers_desk.h.',
+                   ('prelude.h', 'headers.h', STRUCTS, 'operations.h', 'heap.h', FUNCTIONS, 'timers_api.h',
+                    '#ifndef TIMERS_NO_DESK', 'atomics.h', SECOND, 'desk_api.h', '#endif')),
+    'program': Kind('tp_', 'os_', ('timer_program',), NOWHERE, 'The program `timers`.',
+                    ('prelude.h', STRUCTS, 'operations.h', 'wide.h', 'atomics.h', 'heap.h', 'program_os.h', FUNCTIONS, 'program_main.h')),
+    'test': Kind('c_', '', (), NOWHERE, 'A test.', ('prelude.h', STRUCTS, 'operations.h', 'wide.h', 'atomics.h', FUNCTIONS)),
+}
+
+
+class File:
+    def __init__(self, kind, module):
+        self.kind, self.module = KINDS[kind], module
+        self.names = Names(self.kind.prefix, [*module.constants, *[f.name for f in module.functions]])
+        for name in module.declared:
+            self.names[name] = name if name.startswith('rattle_') else self.kind.outside + name
+        self.order = Order(module)
+
+    def text(self):
+        first, second = self.order.parted(self.kind.second)
+        self.inlined = self.order.inlined(first) if second else ()
+        made = {STRUCTS: self.structs(), FUNCTIONS: self.constants() + '\n' + self.functions(first), SECOND: self.functions(second)}
+        parts = [made[part] if part in made else part if part.startswith('#') else by_hand(part) for part in self.kind.parts]
+        head = f'/* {self.kind.title} Made by tools/generate: do not edit.\n * SPDX-License-Identifier: MIT OR Apache-2.0 */'
+        return '\n'.join([head, *without_unused(parts)]) + '\n'
+
+    def functions(self, names):
+        """The functions, the called ones before those that call them. Those that call each other are declared before."""
+        texts = [self.function(self.order.functions[name]) for name in names]
+        heads = [text.split('\n')[2] + ';' for name, text in zip(names, texts) if name in self.order.recursive]
+        return '\n'.join(heads + texts)
+
+    def function(self, function):
+        """A call of the API is `static inline`: one function by hand calls it."""
+        source, words = source_of(function.name, self.kind.crates)
+        writer = Writer(function, self.names, self.module.constants, words)
+        lines = Layout(writer, writer.body()).lines
+        parameters = ', '.join(declared(p.of, name) for p, name in zip(function.parameters, writer.parameters)) or 'void'
+        kind = 'COLD ' if 'cold' in function.attributes else 'NOINLINE ' if 'noinline' in function.attributes else ''
+        if not kind:
+            kind = 'inline ' if not function.internal else 'ALWAYS_INLINE ' if function.name in self.inlined else ''
+        head = f'static {kind}{declared(function.type, self.names[function.name])}({parameters})'
+        return '\n'.join([f'\n/* {source} */', head, '{', *lines, '}'])
+
+    def structs(self):
+        """What functions return two values in."""
+        found = {struct_name(of): of for of in self.module.structs}
+        lines = []
+        for name, of in sorted(found.items()):
+            fields = [declared(field, f'f{k}') for k, field in enumerate(of.fields)]
+            sets = ' '.join(f'v.f{k} = f{k};' for k in range(len(fields)))
+            lines += [f'typedef struct {{ {" ".join(field + ";" for field in fields)} }} {name};',
+                      f'INLINE {name} {name}_of({", ".join(fields)}) {{ {name} v; {sets} return v; }}']
+        return '\n'.join(lines)
+
+    def constants(self):
+        return '\n'.join(self.constant(constant) for constant in self.module.constants.values())
+
+    def constant(self, constant):
+        """An array of numbers, or a struct of arrays of bytes and pointers to others."""
+        words = f'static {"const " if constant.constant else ""}ALIGN({constant.alignment}) '
+        name = self.names[constant.name]
+        if isinstance(constant.of, Array):
+            ctype = TYPES[constant.of.element]
+            return f'{words}{ctype} {name}[{max(constant.of.length, 1)}] = {self.initial(constant, constant.of, constant.value)};'
+        if not isinstance(constant.of, Struct) or not isinstance(constant.value, Parts):
+            constant.line.fail(f'a constant of type {constant.of}')
+        fields, values = [], []
+        for k, (of, value) in enumerate(constant.value.values):
+            fields.append(f'POINTER f{k};' if of == 'ptr' else f'byte f{k}[{of.length}];')
+            values.append(self.pointed(constant, value) if of == 'ptr' else self.initial(constant, of, value))
+        lines = ',\n'.join('\t' + value for value in values)
+        return f'{words}struct {{ {" ".join(fields)} }} {name} = {{\n{lines}\n}};'
+
+    def pointed(self, constant, value):
+        """A pointer, which takes 8 bytes in memory."""
+        offset = value.offset if isinstance(value, Offset) else 0
+        base = value.base if isinstance(value, Offset) else value
+        if not isinstance(base, Global) or base.name not in self.module.constants:
+            constant.line.fail('a pointer to what is no constant')
+        return f'AT((const byte *)&{self.names[base.name]} + {offset})'
+
+    def initial(self, constant, of, value):
+        """The numbers of an array."""
+        bits = of.element
+        if bits not in WIDTHS:
+            constant.line.fail(f'an array of {bits}')
+        if isinstance(value, Zero):
+            return '{ 0 }'
+        numbers = value.numbers if isinstance(value, Bytes) else [getattr(part, 'number', 0) for _, part in value.values]
+        if isinstance(value, Parts) and any(not isinstance(part, (Number, Zero)) for _, part in value.values):
+            constant.line.fail('a constant that is no number')
+        texts = [number(n, bits) if bits == 8 else f'LITTLE{bits}({number(n, bits)})' for n in numbers]
+        return wrapped('{ ' + ', '.join(texts or ['0']) + ' }')
+
+
+class Order:
+    """The functions of a module, the called ones first, and those that are called before they stand: some call each other."""
+
+    def __init__(self, module):
+        self.functions = {function.name: function for function in module.functions}
+        self.calls = {name: list(dict.fromkeys(n for n in function.globals if n in self.functions))
+                      for name, function in self.functions.items()}
+        self.names, self.recursive, self.open = [], set(), set()
+        for name in self.functions:
+            self.visit(name)
+
+    def visit(self, name):
+        if name in self.open and name not in self.names:
+            self.recursive.add(name)
+        if name not in self.open:
+            self.open.add(name)
+            for other in self.calls[name]:
+                self.visit(other)
+            self.names.append(name)
+
+    def parted(self, second):
+        """The names, and apart from them what only functions need that have names as `second`."""
+        first = set()
+        found = [name for name, function in self.functions.items() if not function.internal and not re.match(second, name)]
+        while found:
+            name = found.pop()
+            if name not in first:
+                first.add(name)
+                found += self.calls[name]
+        return [name for name in self.names if name in first], [name for name in self.names if name not in first]
+
+    def inlined(self, names):
+        """Those without a loop that only calls of the API call: most of a call's time is in them."""
+        callers = {name: [other for other, called in self.calls.items() if name in called] for name in names}
+        return {name for name, found in callers.items() if found and not self.functions[name].flow.loops
+                and not any(self.functions[other].internal for other in found)}
+
+
+def wrapped(text):
+    """A long line, broken after commas."""
+    lines = []
+    while len(text) > 120 and ', ' in text[:120]:
+        at = text.rindex(', ', 0, 120) + 1
+        lines.append(text[:at])
+        text = '\t' + text[at + 1:]
+    return '\n'.join([*lines, text])
+
+
+# ------------------------------------------------------------------------------------------------------ what is by hand
+
+INLINE = re.compile(r'^INLINE [^\n(]*?\b(\w+)\([^\n]*\)(?: \{[^\n]*\}\n|\n\{\n.*?\n\}\n)', re.M | re.S)
+
+
+def by_hand(name):
+    """A file of tools/portable. A function of uintN_t is written for each width of which there is no other."""
+    text = read(f'{TOP}/tools/portable/{name}')
+    names = {function.group(1) for function in INLINE.finditer(text)}
+
+    def written(function):
+        if 'uintN_t' not in function.group():
+            return function.group()
+        for_widths = [re.sub(r'N(?=\b|_|u\b)', str(bits), function.group()) for bits in WIDTHS]
+        return ''.join(found for found in for_widths if INLINE.match(found).group(1) not in names)
+    return INLINE.sub(written, text)
+
+
+def without_unused(parts):
+    """The parts without the inline functions that nothing calls."""
+    functions = {}
+    for part in parts:
+        for function in INLINE.finditer(part):
+            functions.setdefault(function.group(1), []).append(function.group())
+    rest = [INLINE.sub('', part) for part in parts]
+    used, found = set(), set(re.findall(r'\w+', ' '.join(rest)))
+    while found:
+        used |= found
+        found = set(re.findall(r'\w+', ' '.join(text for name in found for text in functions.get(name, ())))) - used
+    texts = [INLINE.sub(lambda function: function.group() if function.group(1) in used else '', part) for part in parts]
+    return [re.sub(r'\n{3,}', '\n\n', text.rstrip('\n')) for text in texts]
