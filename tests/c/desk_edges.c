@@ -763,6 +763,7 @@ static void messages(void)
 
 int main(void)
 {
+	blocks = 0;                   /* what the C library allocated before does not count */
 	empty_structs();
 	freed_lines(2, 4, 4);
 	freed_lines(16, 8, 8);
