@@ -204,6 +204,8 @@ class Writer:
         of = i.operands[1][0]
         if i.order:
             return call(self.atomic(i, 'store', of), pointer, e, Expression(f'ORDER_{i.order}'))
+        if isinstance(of, expressions.Vector):
+            i.line.fail('a store of a vector')
         if not isinstance(of, Struct):
             return call(f'store{access(i, of, i.alignment)}', pointer, e)
         pointer, e = self.kept('ptr', pointer, out), self.kept(of, e, out)

@@ -106,7 +106,7 @@ def binary(i, left, right):
         return Expression(f'{left} {SIGNS[i.op]} {right}', BINARY, [left, right]).call('rounded')
     if i.type == 1:
         return of_bits(i, left, right)
-    if i.type == 128:
+    if i.type == 128 and i.op not in ('udiv', 'urem'):
         return call(f'u128_{i.op}', left, call('u128_low', right) if i.op in ('shl', 'lshr') else right)
     if i.type == Vector(16, 1) and i.op == 'or':
         return cast('uint16_t', Expression(f'{left} | {right}', BINARY, [left, right]))
@@ -316,7 +316,7 @@ PURE['shufflevector'] = lambda i, e: call('bytes64_part', e, Expression(str(i.pa
 
 # Intrinsics: for which types, and of how many of their operands. The last one of some says only what is not asked of them.
 INTRINSICS = {'umin': (WIDTHS, 2), 'umax': (WIDTHS, 2), 'usub.sat': ((*WIDTHS, 128), 2), 'uadd.sat': (WIDTHS, 2), 'cttz': (WIDTHS, 1),
-              'ctlz': (WIDTHS, 1), 'ctpop': (WIDTHS, 1), 'bswap': ((16, 32, 64), 1), 'abs': (WIDTHS, 1)}
+              'ctlz': ((32, 64), 1), 'ctpop': ((64,), 1), 'bswap': ((32, 64), 1), 'abs': (WIDTHS, 1)}
 
 
 def intrinsic(i, *operands):

@@ -51,8 +51,11 @@ class File:
         """A call of the API is `static inline`: one function by hand calls it."""
         source, words = source_of(function.name, self.kind.crates)
         writer = Writer(function, self.names, self.module.constants, words)
-        lines = Layout(writer, writer.body()).lines
-        parameters = ', '.join(declared(p.of, name) for p, name in zip(function.parameters, writer.parameters)) or 'void'
+        try:
+            lines = Layout(writer, writer.body()).lines
+            parameters = ', '.join(declared(p.of, name) for p, name in zip(function.parameters, writer.parameters)) or 'void'
+        except KeyError as error:
+            function.line.fail(f'nothing is known of {error}')
         kind = 'COLD ' if 'cold' in function.attributes else 'NOINLINE ' if 'noinline' in function.attributes else ''
         if not kind:
             kind = 'inline ' if not function.internal else 'ALWAYS_INLINE ' if function.name in self.inlined else ''

@@ -214,7 +214,7 @@ def switch(line):
     cases = {}
     while not line.eat(']'):
         of, value = line.typed()
-        if of != operand[0] or not isinstance(value, Number):
+        if of != operand[0] or of not in (1, 8, 16, 32, 64) or not isinstance(value, Number):
             line.fail('a case that is no number')
         line.want(',')
         cases[value.number] = line.label()
