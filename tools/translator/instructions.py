@@ -1,6 +1,6 @@
 """The instructions that are known, and how each is read from its line."""
 # SPDX-License-Identifier: MIT OR Apache-2.0
-from translator.lines import AddressOf, Array, Global, Local, Number, Offset, Parts, Struct, Vector, offsets_of, size_of
+from translator.lines import AddressOf, Array, Global, Local, Number, Offset, Parts, Vector
 
 BINARY = set('add sub mul udiv urem shl lshr and or xor fadd fsub fmul fdiv'.split())
 CASTS = set('zext sext trunc ptrtoint ptrtoaddr inttoptr uitofp bitcast'.split())
@@ -88,8 +88,10 @@ def select(line):
 
 
 def alloca(line):
+    """Bytes, or a number."""
     of = line.type()
-    return dict(of='ptr', size=size_of(of)[0], alignment=line.alignment())
+    size = of.length if isinstance(of, Array) and of.element == 8 else of // 8 if of in (8, 16, 32, 64) else line.fail('an unknown type')
+    return dict(of='ptr', size=size, alignment=line.alignment())
 
 
 def load(line):
@@ -114,26 +116,12 @@ def atomicrmw(line):
 
 
 def getelementptr(line):
-    """An address: a number of bytes behind another one, and indices, each scaled by a number of bytes."""
+    """An address: a constant number of bytes behind another one, or one that is an operand."""
     inbounds = 'inbounds' in line.flags()
-    of = Array(0, line.type())                              # the first index counts these
-    operands, scales, offset = [after_comma(line, 'ptr')], [], 0
-    while line.peek() == ',' and line.kind(1) != 'metadata':
-        index = after_comma(line)
-        constant = index[1].number if isinstance(index[1], Number) else None
-        if isinstance(of, Struct) and constant is not None:
-            offset += offsets_of(of)[constant]
-            of = of.fields[constant]
-            continue
-        if not isinstance(of, Array) or constant is None and index[0] != 64:
-            line.fail('an index that is not of 64 bits, or into what is no array')
-        of = of.element
-        if constant is None:
-            operands.append(index)
-            scales.append(size_of(of)[0])
-        else:
-            offset += constant * size_of(of)[0]
-    return dict(of='ptr', operands=operands, offset=offset, scales=scales, inbounds=inbounds)
+    line.want_type(8)
+    base, index = after_comma(line, 'ptr'), after_comma(line, 64)
+    constant = isinstance(index[1], Number)
+    return dict(of='ptr', operands=[base] if constant else [base, index], offset=index[1].number if constant else 0, inbounds=inbounds)
 
 
 def shufflevector(line):
@@ -214,7 +202,7 @@ def switch(line):
     cases = {}
     while not line.eat(']'):
         of, value = line.typed()
-        if of != operand[0] or not isinstance(value, Number):
+        if of != operand[0] or of not in (1, 8, 16, 32, 64) or not isinstance(value, Number):
             line.fail('a case that is no number')
         line.want(',')
         cases[value.number] = line.label()
@@ -245,7 +233,7 @@ def instruction(line):
         name = line.name('local')
         line.want('=')
     op = line.next()
-    if op in ('tail', 'notail'):
+    if op == 'tail':
         op = line.next()
     if op not in READERS:
         line.fail(f'unknown instruction "{op}"')

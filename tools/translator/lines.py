@@ -23,8 +23,7 @@ Zero = namedtuple('Zero', '')
 Bytes = namedtuple('Bytes', 'numbers')
 Parts = namedtuple('Parts', 'values')                   # of a constant array, struct or vector: pairs of type and value
 Offset = namedtuple('Offset', 'base offset')            # getelementptr of a constant
-Address = namedtuple('Address', 'number')               # inttoptr of a constant
-AddressOf = namedtuple('AddressOf', 'base')             # ptrtoint of a constant
+AddressOf = namedtuple('AddressOf', 'base')             # ptrtoaddr of a constant
 
 TOKEN = re.compile(r'''\s*(?:
     (?P<comment>;.*)
@@ -44,6 +43,7 @@ TOKEN = re.compile(r'''\s*(?:
 DROPPED = set('''noundef nonnull readonly writeonly readnone zeroext signext immarg returned unnamed_addr local_unnamed_addr
     dso_local fastcc nofree dead_on_unwind writable noalias noreturn nounwind hidden'''.split())
 DROPPED_WITH_MORE = {'align', 'captures', 'range', 'dereferenceable', 'dereferenceable_or_null', 'initializes'}
+INTEGERS = {'i1', 'i8', 'i16', 'i32', 'i48', 'i56', 'i64', 'i128'}
 FLAGS = {'nuw', 'nsw', 'exact', 'disjoint', 'nneg', 'samesign', 'inbounds', 'nusw'}
 
 
@@ -143,7 +143,7 @@ class Line:
 
     def type(self):
         word = self.next()
-        if re.fullmatch(r'i\d+', word):
+        if word in INTEGERS:
             return int(word[1:])
         if word in ('ptr', 'void', 'double'):
             return word
@@ -161,8 +161,6 @@ class Line:
         found = Struct(tuple(self.listed('}', self.type)))
         if packed:
             self.want('>')
-            if size_of(found)[0] != sum(size_of(field)[0] for field in found.fields):
-                self.fail('a packed struct that is smaller than one that is not')
         return found
 
     def listed(self, close, read):
@@ -203,8 +201,10 @@ class Line:
             return Number(int(word == 'true'))
         if word in ('null', 'undef', 'poison', 'zeroinitializer'):
             return Zero()
-        if word in ('getelementptr', 'ptrtoint', 'ptrtoaddr', 'inttoptr'):
-            return self.address(word)
+        if word == 'getelementptr':
+            return self.offset()
+        if word == 'ptrtoaddr':
+            return self.address()
         if word in ('{', '['):
             return Parts(self.listed({'{': '}', '[': ']'}[word], self.typed))
         if word == '<':
@@ -215,44 +215,24 @@ class Line:
             return Parts(parts)
         return self.fail(f'unknown value "{word}"')
 
-    def address(self, word):
-        """An address that is a constant: of bytes behind another one, as a number, or from a number."""
+    def offset(self):
         self.flags()
         self.want('(')
-        if word == 'getelementptr':
-            self.want_type(8)
-            self.want(',')
-        self.want_type(64 if word == 'inttoptr' else 'ptr')
-        value = self.integer() if word == 'inttoptr' else self.value('ptr')
-        self.want(',' if word == 'getelementptr' else 'to')
-        self.want_type('ptr' if word == 'inttoptr' else 64)
-        found = Offset(value, self.integer()) if word == 'getelementptr' else (Address if word == 'inttoptr' else AddressOf)(value)
+        self.want_type(8)
+        self.want(',')
+        self.want_type('ptr')
+        base = self.value('ptr')
+        self.want(',')
+        self.want_type(64)
+        found = Offset(base, self.integer())
         self.want(')')
         return found
 
-
-def size_of(of):
-    """Bytes in memory, and their alignment: of the module, and so on each platform."""
-    if of in ('ptr', 'double'):
-        return 8, 8
-    if of in (1, 8, 16, 32, 64, 128):
-        return max(of // 8, 1), max(of // 8, 1)
-    if isinstance(of, Array):
-        size, alignment = size_of(of.element)
-        return of.length * size, alignment
-    if isinstance(of, Struct):
-        alignment = max([size_of(field)[1] for field in of.fields], default=1)
-        offsets = offsets_of(of)
-        end = offsets[-1] + size_of(of.fields[-1])[0] if offsets else 0
-        return -(-end // alignment) * alignment, alignment
-    raise Unknown(f'the size of type {of}')
-
-
-def offsets_of(of):
-    """Where the fields of a struct are."""
-    offsets, end = [], 0
-    for field in of.fields:
-        size, alignment = size_of(field)
-        offsets.append(-(-end // alignment) * alignment)
-        end = offsets[-1] + size
-    return offsets
+    def address(self):
+        self.want('(')
+        self.want_type('ptr')
+        found = AddressOf(self.value('ptr'))
+        self.want('to')
+        self.want_type(64)
+        self.want(')')
+        return found
