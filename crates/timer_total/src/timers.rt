@@ -1,5 +1,5 @@
 //! A wheel whose calls, once it is made, have no preconditions.
-ghost use Rattle.std.specs.Prelude.{◌≡◌, ◌+◌, ◌<◌, ◌≤◌, ◌↔◌, ◌⊎◌, ℕ, [], length, IsTrue, IfOk, IfErr, OnOk, OnErr, None, Some};
+ghost use Rattle.std.specs.Prelude.{◌≡◌, ◌+◌, ◌<◌, ◌≤◌, ◌↔◌, ◌⊎◌, ℕ, [], length, IsTrue, IfOk, IfErr, OnOk, OnErr, None, Some, true, false};
 ghost use Rattle.timer_base.specs.declared.limits.TheConstants.{LAST};
 ghost use Rattle.timer_base.specs.WakeUps.{IsQuietUntil, next_deadline};
 ghost use Rattle.timer_base.specs.WheelState.{held_at, first_due, after_start, after_held_start, after_removal, after_reserve, after_tick, after_expiry};
@@ -198,6 +198,7 @@ impl<W: Wheel + Drop> Timers<W> {
     ///
     /// A passed deadline is accepted exactly if the next tick is. So the error is never `ZeroInterval`, and
     /// at the last tick it is `TooLate` for each deadline. Otherwise the errors are those of `start`.
+    #[inline(always)]
     pub fn start_at(&mut self, deadline: u64, action: u64) -> Result<Handle, StartFault>
         ensures started { IfOk result (λ handle. self.new ≡ with_start W.count_start
             (after_start_at handle.place deadline action self.old.wheel self.old) self.old) }
@@ -208,9 +209,35 @@ impl<W: Wheel + Drop> Timers<W> {
             × IsRoomUsed self.old)) }
         ensures err { OnErr result (self.new ≡ self.old) }
     {
-        self.admit(self.until(deadline).max(1))?;
+        self.admit_at(deadline)?;
         let deadline = self.wheel.now().max(deadline);
         self.launch(deadline, action)
+    }
+
+    /// Whether a start for this tick is accepted if memory is available.
+    // Two comparisons of ticks: an interval of at least 1 would have to be found first.
+    #[inline(always)]
+    fn admit_at(&self, deadline: u64) -> Result<(), StartFault>
+        ensures in_order { IfOk result (λ _. IsStartable (interval_until deadline self.now) self.now) }
+        ensures fault { IfErr result (WhyNotStarted (interval_until deadline self.now) self.now) }
+    {
+        if self.is_too_late(deadline) {
+            return Err(StartFault::TooLate);
+        }
+        if self.last_serial >= LAST {
+            return Err(StartFault::SerialsSpent);
+        }
+        Ok(())
+    }
+
+    /// Whether this tick, or for a passed one the next, is after the last one.
+    #[inline(always)]
+    fn is_too_late(&self, deadline: u64) -> bool
+        ensures yes { result ≡ true → self.now.wheel.last_tick < self.now.wheel.now + interval_until deadline self.now }
+        ensures no { result ≡ false → self.now.wheel.now + interval_until deadline self.now ≤ self.now.wheel.last_tick }
+    {
+        let last = self.wheel.last_tick();
+        deadline > last || self.wheel.now() >= last
     }
 
     /// How many ticks are left until this one, or 0 if it is not after the present one.
@@ -292,6 +319,7 @@ impl<W: Wheel + Drop> Timers<W> {
     /// Removes the timer with exactly this handle, as `restart`, and starts one that expires at the tick
     /// `deadline`, or at once, as `start_at`. The error is `NotPending` if there is no such timer, and
     /// otherwise that of `start_at`, except that it is never out of memory. Does not allocate.
+    #[inline(always)]
     pub fn restart_at(
         &mut self,
         handle: Handle,
@@ -306,9 +334,28 @@ impl<W: Wheel + Drop> Timers<W> {
         ensures fault { IfErr result (WhyNotRestarted handle (interval_until deadline self.old) self.old) }
         ensures err { OnErr result (self.new ≡ self.old) }
     {
-        self.check_restart(handle, self.until(deadline).max(1))?;
+        self.check_restart_at(handle, deadline)?;
         let deadline = self.wheel.now().max(deadline);
         self.replace(handle, deadline, action)
+    }
+
+    /// Whether a restart of the timer with this handle for this tick is accepted.
+    #[inline(always)]
+    fn check_restart_at(&self, handle: Handle, deadline: u64) -> Result<(), RestartFault>
+        ensures in_order { IfOk result (λ _. IsAt handle self.now
+            × IsStartable (interval_until deadline self.now) self.now) }
+        ensures fault { IfErr result (WhyNotRestarted handle (interval_until deadline self.now) self.now) }
+    {
+        if self.look(handle).is_none() {
+            return Err(RestartFault::NotPending);
+        }
+        if self.is_too_late(deadline) {
+            return Err(RestartFault::TooLate);
+        }
+        if self.last_serial >= LAST {
+            return Err(RestartFault::SerialsSpent);
+        }
+        Ok(())
     }
 
     /// Starts a timer that expires at the tick `deadline`, as `start_at`, in place of the timer with exactly this
