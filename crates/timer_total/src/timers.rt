@@ -209,35 +209,31 @@ impl<W: Wheel + Drop> Timers<W> {
             × IsRoomUsed self.old)) }
         ensures err { OnErr result (self.new ≡ self.old) }
     {
-        self.admit_at(deadline)?;
-        let deadline = self.wheel.now().max(deadline);
-        self.launch(deadline, action)
+        // One test of the deadline, and in each branch one more: none has to be found first that is not passed.
+        let now = self.wheel.now();
+        if deadline > now {
+            self.admit_at(deadline > self.wheel.last_tick())?;
+            self.launch(deadline, action)
+        } else {
+            self.admit_at(now >= self.wheel.last_tick())?;
+            self.launch(now, action)
+        }
     }
 
-    /// Whether a start for this tick is accepted if memory is available.
-    // Two comparisons of ticks: an interval of at least 1 would have to be found first.
+    /// Whether a start is accepted if memory is available, once it is known whether its deadline is too late.
     #[inline(always)]
-    fn admit_at(&self, deadline: u64) -> Result<(), StartFault>
-        ensures in_order { IfOk result (λ _. IsStartable (interval_until deadline self.now) self.now) }
-        ensures fault { IfErr result (WhyNotStarted (interval_until deadline self.now) self.now) }
+    fn admit_at(&self, is_too_late: bool) -> Result<(), StartFault>
+        ensures in_order { IfOk result (λ _. (is_too_late ≡ false) × (self.now.last_serial < LAST)) }
+        ensures fault { IfErr result (λ fault. ((fault ≡ StartFault.TooLate) × (is_too_late ≡ true))
+            ⊎ ((fault ≡ StartFault.SerialsSpent) × (is_too_late ≡ false) × (LAST ≤ self.now.last_serial))) }
     {
-        if self.is_too_late(deadline) {
+        if is_too_late {
             return Err(StartFault::TooLate);
         }
         if self.last_serial >= LAST {
             return Err(StartFault::SerialsSpent);
         }
         Ok(())
-    }
-
-    /// Whether this tick, or for a passed one the next, is after the last one.
-    #[inline(always)]
-    fn is_too_late(&self, deadline: u64) -> bool
-        ensures yes { result ≡ true → self.now.wheel.last_tick < self.now.wheel.now + interval_until deadline self.now }
-        ensures no { result ≡ false → self.now.wheel.now + interval_until deadline self.now ≤ self.now.wheel.last_tick }
-    {
-        let last = self.wheel.last_tick();
-        deadline > last || self.wheel.now() >= last
     }
 
     /// How many ticks are left until this one, or 0 if it is not after the present one.
@@ -334,22 +330,27 @@ impl<W: Wheel + Drop> Timers<W> {
         ensures fault { IfErr result (WhyNotRestarted handle (interval_until deadline self.old) self.old) }
         ensures err { OnErr result (self.new ≡ self.old) }
     {
-        self.check_restart_at(handle, deadline)?;
-        let deadline = self.wheel.now().max(deadline);
-        self.replace(handle, deadline, action)
-    }
-
-    /// Whether a restart of the timer with this handle for this tick is accepted.
-    #[inline(always)]
-    fn check_restart_at(&self, handle: Handle, deadline: u64) -> Result<(), RestartFault>
-        ensures in_order { IfOk result (λ _. IsAt handle self.now
-            × IsStartable (interval_until deadline self.now) self.now) }
-        ensures fault { IfErr result (WhyNotRestarted handle (interval_until deadline self.now) self.now) }
-    {
         if self.look(handle).is_none() {
             return Err(RestartFault::NotPending);
         }
-        if self.is_too_late(deadline) {
+        let now = self.wheel.now();
+        if deadline > now {
+            self.admit_restart(deadline > self.wheel.last_tick())?;
+            self.replace(handle, deadline, action)
+        } else {
+            self.admit_restart(now >= self.wheel.last_tick())?;
+            self.replace(handle, now, action)
+        }
+    }
+
+    /// Whether a restart is accepted, once there is a timer and it is known whether its deadline is too late.
+    #[inline(always)]
+    fn admit_restart(&self, is_too_late: bool) -> Result<(), RestartFault>
+        ensures in_order { IfOk result (λ _. (is_too_late ≡ false) × (self.now.last_serial < LAST)) }
+        ensures fault { IfErr result (λ fault. ((fault ≡ RestartFault.TooLate) × (is_too_late ≡ true))
+            ⊎ ((fault ≡ RestartFault.SerialsSpent) × (is_too_late ≡ false) × (LAST ≤ self.now.last_serial))) }
+    {
+        if is_too_late {
             return Err(RestartFault::TooLate);
         }
         if self.last_serial >= LAST {
