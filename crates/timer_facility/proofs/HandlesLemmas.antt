@@ -1,6 +1,6 @@
 -- The handles that a player keeps, and the pending entries.
 use Rattle.std.proofs.Common.{◌≡◌, ◌<◌, ◌+◌, ℕ, zero, suc, Bool, true, false, ◌==◌, ◌&&◌, List, [], ◌∷◌, ◌++◌, refl, sym, ◌∙◌, ap, subst, arith, inl, inr}
-use Rattle.std.specs.Prelude.{filter, nat_lt, if◌then◌else◌, Option, Some, None}
+use Rattle.std.specs.Prelude.{filter, nat_lt, if◌then◌else◌, is_some, Option, Some, None}
 use Rattle.std.specs.List.{AllByRecursion}
 use Rattle.std.proofs.lemmas.Bool.{and_right, eq-eqb, eqb-true}
 use Rattle.std.proofs.lemmas.Bool.Decides.{nat_tests}
@@ -9,17 +9,20 @@ use Rattle.timer_base.specs.declared.timer.Handle.{Handle}
 use Rattle.timer_base.specs.OrderLaws.{either, All-filter, All-weaken}
 use Rattle.timer_base.specs.Pending.{Entry, put, has_handle, has_serial, first_timer}
 use Rattle.timer_facility.specs.declared.request.TickFault.{TickFault}
+use Rattle.timer_facility.specs.declared.request.NotTaken.TheVariants as NotTakens
 use Rattle.timer_facility.specs.declared.request.Request.{Request}
+use Rattle.timer_facility.specs.declared.request.Request.TheVariants as Requests
 use Rattle.timer_facility.specs.declared.request.Answer.{Answer}
+use Rattle.timer_facility.specs.declared.request.Answer.TheVariants.{Started, Stopped, Restarted, Refused}
 use Rattle.timer_facility.specs.declared.event.Out.{Out}
 use Rattle.timer_facility.specs.declared.event.Out.TheVariants as Outs
-use Rattle.timer_facility.specs.State.{FacilityState, ByHandle, BySerial, ModelRequest, Asked, Tick}
-use Rattle.timer_facility.specs.Verdict.{tick_refusal, of_client, timer_named}
+use Rattle.timer_facility.specs.State.{FacilityState, ByHandle, BySerial, ModelRequest, Start, Stop, Restart, Asked, Tick}
+use Rattle.timer_facility.specs.Verdict.{tick_refusal, not_taken, of_client, timer_named}
 use Rattle.timer_facility.specs.Step.{StepResult, with_number, timer_stopped, timer_started, handle_of, answer_to, put_later, without_timer, with_timer, after_request, step, step_of_tick}
 use Rattle.timer_facility.specs.Run.{state_after}
 use Rattle.timer_facility.specs.Ticked.{ticks, AreTicked}
-use Rattle.timer_facility.specs.Facility.{FacilityView, model_of, place_in, IsTaken}
-use Rattle.timer_facility.specs.Handles.{HandleList, place_at, AreSorted, IsRecorded, with_answer, AreRecorded}
+use Rattle.timer_facility.specs.Facility.{FacilityView, model_of, place_in, IsTaken, IsStart, MakesTimer, WhyNotTaken}
+use Rattle.timer_facility.specs.Handles.{HandleList, place_at, AreSorted, IsRecorded, with_answer, AddsHandle, AreRecorded}
 use Rattle.timer_facility.proofs.TimerLists.{All-join}
 use Rattle.timer_facility.proofs.StepLemmas.{by_verdict, started-new}
 
@@ -139,6 +142,62 @@ pub recorded-taken : {s : FacilityState} {new : FacilityView} {handles : HandleL
 recorded-taken {s} {new} {handles} {client} {number} {request} {answer} a h =
     subst (λ (v : FacilityView). AreRecorded (with_answer answer handles) v.state) (sym h.left)
     (recorded_asked handles s client number (model_of request) (place_in answer) answer a _ h.answered)
+
+made : (old new : Option Timer) (place : ℕ) → AddsHandle (answer_to old new place) → is_some new ≡ true
+made old (Some new) place adds = refl
+made None None place adds = absurd adds
+made (Some old) None place adds = absurd adds
+
+-- a request whose answer has a handle makes a timer
+pub makes-answered : {s : FacilityState} {new : FacilityView} {client number : ℕ} {request : Request} {answer : Answer}
+    → IsTaken s client number request answer new → AddsHandle answer → MakesTimer s client number (model_of request)
+makes-answered {s} {new} {client} {number} {request} {answer} h adds =
+    by_verdict (λ (st : StepResult). (later : List Out) → st.outs ≡ Outs.Answered client number answer ∷ later
+        → MakesTimer s client number (model_of request))
+    s client number (model_of request) (place_in answer)
+    (λ reason later e. absurd (cc))
+    (λ reason taken later e. absurd (subst AddsHandle (sym (answer_is e)) adds))
+    (λ taken ok later e. (
+      taken,
+      ok,
+      made (timer_stopped s client (model_of request)) (timer_started s client number (model_of request)) (place_in answer)
+          (subst AddsHandle (sym (answer_is e)) adds),
+    )) _ h.answered
+
+makes-start : (s : FacilityState) (client number : ℕ) (request : ModelRequest) → IsStart request
+    → is_some (timer_started s client number request) ≡ true
+makes-start s client number (Start deadline action) h = refl
+makes-start s client number (Stop name) h = absurd h
+makes-start s client number (Restart name deadline action) h = absurd h
+
+never_memory : (s : FacilityState) (client number : ℕ) → not_taken s client number ≡ Some NotTakens.OutOfMemory → ⊥
+unfolding not_taken
+never_memory s client number h = grind arith
+
+-- only a request that makes a timer is not taken for want of memory
+pub makes-unplaced : (s : FacilityState) (client number : ℕ) (request : Request)
+    → WhyNotTaken s client number request NotTakens.OutOfMemory → MakesTimer s client number (model_of request)
+makes-unplaced s client number request (inl h) = absurd (never_memory s client number h)
+makes-unplaced s client number request (inr h) = (h.1.0, h.1.1, makes-start s client number (model_of request) h.1.2)
+
+pub no_stop_makes : (s : FacilityState) (client number : ℕ) (handle : Handle)
+    → MakesTimer s client number (model_of (Requests.Stop handle)) → ⊥
+no_stop_makes s client number handle makes = let none : false ≡ true = makes.2 in absurd (cc)
+
+without_handle : (answer : Answer) (handles : HandleList) → (AddsHandle answer → ⊥) → with_answer answer handles ≡ handles
+without_handle (Started handle deadline) handles none = absurd (none tt)
+without_handle (Stopped serial) handles none = refl
+without_handle (Restarted handle deadline old) handles none = absurd (none tt)
+without_handle (Refused reason) handles none = refl
+
+-- the same of a stop, which adds no handle
+pub recorded-stopped : {s : FacilityState} {new : FacilityView} {handles : HandleList} {client number : ℕ} {handle : Handle}
+    {answer : Answer} → AreRecorded handles s → IsTaken s client number (Requests.Stop handle) answer new
+    → AreRecorded handles new.state
+recorded-stopped {s} {new} {handles} {client} {number} {handle} {answer} a h =
+    subst (λ (hs : HandleList). AreRecorded hs new.state)
+    (without_handle answer handles (λ adds. no_stop_makes s client number handle (makes-answered h adds)))
+    (recorded-taken a h)
 
 -- the handle is the recorded one of this serial, if there is one
 pub record IsHandleOf (handles : HandleList) (serial : ℕ) (handle : Handle) : Type 0 where

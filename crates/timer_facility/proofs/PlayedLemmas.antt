@@ -1,6 +1,6 @@
 -- Runs that go on.
 use Rattle.std.proofs.Common.{◌≡◌, ℕ, List, [], ◌∷◌, ◌++◌, refl, sym, ◌∙◌, ap, subst, append-nil, append_assoc, inl, inr}
-use Rattle.std.specs.Prelude.{Some}
+use Rattle.std.specs.Prelude.{Some, None, Result, Ok, Err, OnErr}
 use Rattle.timer_base.specs.declared.timer.Handle.{Handle}
 use Rattle.timer_facility.specs.declared.request.Request.{Request}
 use Rattle.timer_facility.specs.declared.request.NotTaken.{NotTaken}
@@ -10,14 +10,16 @@ use Rattle.timer_facility.specs.declared.event.Event.TheVariants as Events
 use Rattle.timer_facility.specs.declared.request.Request.TheVariants as Requests
 use Rattle.timer_facility.specs.Handles.{HandleList, AreRecorded}
 use Rattle.timer_facility.proofs.HandlesLemmas.{IsHandleOf, named-recorded}
-use Rattle.timer_facility.proofs.StepLemmas.{step-stop, step-restart}
+use Rattle.timer_facility.proofs.StepLemmas.{step-not_taken, step-stop, step-restart}
 use Rattle.timer_facility.proofs.OwedLemmas.{notices-take}
 use Rattle.timer_facility.specs.declared.event.Out.{Out}
+use Rattle.timer_facility.specs.declared.event.Out.TheVariants as Outs
+use Rattle.timer_facility.specs.declared.request.Answer.{Answer}
 use Rattle.timer_facility.specs.State.{FacilityState, IsSound, After, ByHandle, BySerial, Start, Stop, Restart, SingleEvent, Asked}
-use Rattle.timer_facility.specs.Verdict.{not_taken}
+use Rattle.timer_facility.specs.Verdict.{not_taken, timer_named, first_refusal, name_refusal, interval_refusal}
 use Rattle.timer_facility.specs.Step.{StepResult, step}
 use Rattle.timer_facility.specs.Run.{PlacedEvent, history, state_after, outs_of}
-use Rattle.timer_facility.specs.Facility.{event_of_request, WhyNotTaken}
+use Rattle.timer_facility.specs.Facility.{FacilityView, model_of, event_of_request, notice_outs, place_in, IsTaken, IsNotTaken, MakesTimer, WhyNotTaken}
 use Rattle.timer_facility.specs.Played.{singles_of, ArePlaced, IsRun, IsPlayed, MakesStep, AddsRun}
 
 pub state_after-append : (s : FacilityState) (xs ys : List PlacedEvent) → state_after s (xs ++ ys) ≡ state_after (state_after s xs) ys
@@ -112,12 +114,55 @@ AddsRun-restart {s} client number {serial} interval action {handles = handles} {
     (λ place. step-restart s client number place (ByHandle handle) (BySerial serial) (After interval) action
     (named-recorded handles s client serial handle a h)) m
 
+-- a restart that makes a timer, by the recorded handle of its serial, makes one by the serial
+pub makes-by_serial : {s : FacilityState} (client number : ℕ) {serial : ℕ} (interval action : ℕ) {handles : HandleList} {handle : Handle}
+    → AreRecorded handles s → IsHandleOf handles serial handle
+    → MakesTimer s client number (model_of (Requests.Restart handle interval action))
+    → MakesTimer s client number (Restart (BySerial serial) (After interval) action)
+makes-by_serial {s} client number {serial} interval action {handles} {handle} a h makes = (
+  makes.0,
+  subst (λ o. first_refusal (name_refusal o) (interval_refusal s interval) ≡ None)
+      (named-recorded handles s client serial handle a h) makes.1,
+  makes.2,
+)
+
+-- what follows from what holds of an error
+pub unless_done : {T E P Q : Type 0} (result : Result T E) → (P → Q) → OnErr result P → OnErr result Q
+unless_done (Ok x) f h = h
+unless_done (Err e) f h = f h
+
 -- a request that is not taken for another reason than memory is not taken for the reason of the verdict
 pub reason-verdict : (s : FacilityState) (client number : ℕ) (request : Request) (reason : NotTaken)
     → WhyNotTaken s client number request reason → (reason ≡ NotTakens.OutOfMemory → ⊥)
     → not_taken s client number ≡ Some reason
 reason-verdict s client number request reason (inl h) n = h
 reason-verdict s client number request reason (inr h) n = absurd (n h.0)
+
+-- the step of a request that is taken, after which nothing waits
+pub MakesStep-taken : {s t : FacilityState} {client number : ℕ} {request : Request} {answer : Answer} {new : FacilityView} → s ≡ t
+    → IsTaken s client number request answer new → new.waiting ≡ []
+    → MakesStep t (event_of_request client number request) [] (Outs.Answered client number answer ∷ []) new.state
+MakesStep-taken {s} {t} {client} {number} {request} {answer} {new} same h quiet =
+    subst (λ u. MakesStep u (event_of_request client number request) [] (Outs.Answered client number answer ∷ []) new.state) same
+    (record {
+      place = place_in answer;
+      appended = sym (h.answered ∙ ap (λ ns. Outs.Answered client number answer ∷ notice_outs ns) quiet);
+      left = ap (λ (v : FacilityView). v.state) h.left;
+    })
+
+-- and of one that is not taken, for another reason than memory
+pub MakesStep-not_taken : {old new : FacilityView} {t : FacilityState} {client number : ℕ} {request : Request} {reason : NotTaken}
+    → old.state ≡ t → IsNotTaken old client number request reason new → (reason ≡ NotTakens.OutOfMemory → ⊥)
+    → MakesStep t (event_of_request client number request) [] (Outs.NotTaken client number reason ∷ []) new.state
+MakesStep-not_taken {old} {new} {t} {client} {number} {request} {reason} same h other =
+    let s = old.state in
+    let refused = step-not_taken s client number (model_of request) 0 reason (reason-verdict s client number request reason h.why other) in
+    subst (λ u. MakesStep u (event_of_request client number request) [] (Outs.NotTaken client number reason ∷ []) new.state) same
+    (record {
+      place = 0;
+      appended = ap (λ (st : StepResult). st.outs) (sym refused);
+      left = ap (λ (v : FacilityView). v.state) h.left ∙ ap (λ (st : StepResult). st.state) (sym refused);
+    })
 
 -- the notices of every run are what is owed
 pub IsPlayed-run : (s : FacilityState) (es : List Event) (outs : List Out) (c : FacilityState) → IsSound s → IsRun s es outs c

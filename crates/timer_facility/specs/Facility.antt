@@ -1,5 +1,5 @@
 -- What a caller sees of a facility: its state, and the notices that wait to be handed out. And its fields.
-use Rattle.std.specs.Prelude.{◌≡◌, ◌<◌, ◌≤◌, ◌⊎◌, ℕ, ◌+◌, Bool, true, false, List, [], ◌∷◌, ◌++◌, map, take, drop, length, slice_index, Option, Some, None}
+use Rattle.std.specs.Prelude.{◌≡◌, ◌<◌, ◌≤◌, ◌⊎◌, ℕ, ◌+◌, Bool, true, false, List, [], ◌∷◌, ◌++◌, map, take, drop, length, slice_index, is_some, Option, Some, None}
 use Rattle.std.specs.List.{AllByRecursion}
 use Rattle.timer_base.specs.declared.limits.TheConstants.{LAST}
 use Rattle.timer_base.specs.declared.timer.Timer.{Timer}
@@ -90,6 +90,12 @@ IsStart _ = ⊥
 abbrev pub NeedsMemory : FacilityState → ℕ → ℕ → Request → Type 0
 NeedsMemory s client number request =
     (not_taken s client number ≡ None) × (refusal s client (model_of request) ≡ None) × IsStart (model_of request)
+
+-- the request would be taken, and it is a start or a restart that would be accepted: it makes a timer
+abbrev pub MakesTimer : FacilityState → ℕ → ℕ → ModelRequest → Type 0
+MakesTimer s client number request =
+    (not_taken s client number ≡ None) × (refusal s client request ≡ None)
+    × (is_some (timer_started s client number request) ≡ true)
 
 -- why a request is not taken: for the reason of the verdict; or it allocates without room, and the allocation failed
 abbrev pub WhyNotTaken : FacilityState → ℕ → ℕ → Request → NotTaken → Type 0

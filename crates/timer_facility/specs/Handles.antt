@@ -39,6 +39,12 @@ with_answer (Stopped serial) handles = handles
 with_answer (Restarted handle deadline old) handles = handles ++ handle ∷ []
 with_answer (Refused reason) handles = handles
 
+-- an accepted start or restart
+abbrev pub AddsHandle : Answer → Type 0
+AddsHandle (Started handle deadline) = Unit {0}
+AddsHandle (Restarted handle deadline old) = Unit {0}
+AddsHandle answer = ⊥
+
 -- each pending timer has its handle among these, in order of starting; every serial among them was used
 pub record AreRecorded (handles : HandleList) (s : FacilityState) : Type 0 where
   pub sorted : AreSorted handles

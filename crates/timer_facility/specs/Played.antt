@@ -1,5 +1,5 @@
 -- The contract of a player about the events that it plays.
-use Rattle.std.specs.Prelude.{◌≡◌, ℕ, ◌+◌, ◌-◌, min, if◌then◌else◌, List, [], ◌∷◌, ◌++◌, map, take, replicate}
+use Rattle.std.specs.Prelude.{◌≡◌, ℕ, ◌+◌, ◌-◌, min, if◌then◌else◌, false, List, [], ◌∷◌, ◌++◌, length, map, take, replicate}
 use Rattle.timer_facility.specs.declared.event.Event.{Event}
 use Rattle.timer_facility.specs.declared.event.Event.TheVariants as Events
 use Rattle.timer_facility.specs.declared.event.Out.{Out}
@@ -7,6 +7,7 @@ use Rattle.timer_facility.specs.State.{FacilityState, After, BySerial, Start, St
 use Rattle.timer_facility.specs.Step.{step}
 use Rattle.timer_facility.specs.Run.{PlacedEvent, history, state_after, run, notices}
 use Rattle.timer_facility.specs.Owed.{owed}
+use Rattle.timer_facility.specs.Facility.{MakesTimer}
 
 -- how many ticks can still be accepted
 abbrev pub ticks_left : FacilityState → ℕ
@@ -58,3 +59,17 @@ pub record AddsRun (s : FacilityState) (event : Event) (before outs : List Out)
   pub more : List Out
   pub appended : outs ≡ before ++ more
   pub runs : IsRun s (event ∷ []) more after
+
+-- the most outs of an event
+abbrev pub most_outs : FacilityState → Event → ℕ
+most_outs s (Events.Ticks count) = length s.pending + 1
+most_outs s Events.Close = length s.pending + 1
+most_outs s event = 1
+
+-- the event may take memory for more than its outs: a timer that it makes, or a close without a reserve
+abbrev pub TakesMemory : FacilityState → Event → Type 0
+TakesMemory s (Events.Start client number interval action) = MakesTimer s client number (Start (After interval) action)
+TakesMemory s (Events.Restart client number serial interval action) =
+    MakesTimer s client number (Restart (BySerial serial) (After interval) action)
+TakesMemory s Events.Close = s.has_room ≡ false
+TakesMemory s event = ⊥

@@ -4,7 +4,7 @@
 //! owner takes them by `next_out` until none waits, and only then makes the next call. Expired timers stay in the
 //! wheel, which hands them out by serial. A close moves the timers to a list of their own, and the wheel is empty
 //! then.
-ghost use Rattle.std.specs.Prelude.{◌≡◌, false, None, Some, ℕ, ◌+◌, ◌-◌, ◌<◌, ◌≤◌, ◌↔◌, [], length, drop, slice_get, slice_index, slice_set, IsTrue, IfSome, IfOk, IfErr, OnErr, OnOk, MatchResult, if◌then◌else◌, nat_lt, vec_capacity};
+ghost use Rattle.std.specs.Prelude.{◌≡◌, false, true, None, Some, is_some, ℕ, ◌+◌, ◌-◌, ◌<◌, ◌≤◌, ◌↔◌, [], length, drop, slice_get, slice_index, slice_set, IsTrue, IfSome, IfOk, IfErr, OnErr, OnOk, MatchResult, if◌then◌else◌, nat_lt, vec_capacity};
 ghost use Rattle.timer_base.specs.declared.limits.TheConstants.{LAST};
 ghost use Rattle.timer_base.specs.Pending.{timers_of};
 ghost use Rattle.timer_base.specs.WheelState.{after_clear};
@@ -13,12 +13,12 @@ ghost use Rattle.timer_facility.specs.declared.limits.TheConstants.{MAX_CLIENTS}
 ghost use Rattle.timer_facility.specs.State.{FacilityState, IsSound, At, ByHandle, Stop, Tick, Close, number_of, pending_of, ticks_until};
 ghost use Rattle.timer_facility.specs.Verdict.{not_taken, timer_named, start_refusal, restart_refusal, interval_refusal, refusal, tick_refusal, TickRefused, verdict};
 ghost use Rattle.timer_facility.specs.Refused.{verdict_on_close};
-ghost use Rattle.timer_facility.specs.Step.{step, new_timer};
+ghost use Rattle.timer_facility.specs.Step.{step, new_timer, timer_started};
 ghost use Rattle.timer_facility.specs.Owed.{timer_handed};
 ghost use Rattle.timer_facility.specs.Opened.{opened};
 ghost use Rattle.timer_facility.specs.Handles.{is_pending};
 ghost use Rattle.timer_facility.specs.Ticked.{AreTicked};
-ghost use Rattle.timer_facility.specs.Facility.{FacilityView, view_of, view_after, view_with_room, with_nothing_waiting, NoRoomToClose, IsTaken, IsNotTaken, Fields, IsFacility, model_of, is_for_a_tick, IsStart, IsAnswered, HasAnswered};
+ghost use Rattle.timer_facility.specs.Facility.{FacilityView, view_of, view_after, view_with_room, with_nothing_waiting, NoRoomToClose, IsTaken, IsNotTaken, Fields, IsFacility, model_of, is_for_a_tick, IsStart, IsAnswered, MakesTimer, HasAnswered};
 
 use crate::config::Checked;
 use crate::limits::CLIENTS;
@@ -376,6 +376,50 @@ impl<W: Wheel + Drop> Facility<W> {
             return Err(NotTaken::Ahead { next });
         }
         Ok(())
+    }
+
+    /// Whether a request makes a timer: it would be taken, and it is a start or a restart that would be accepted.
+    pub(crate) fn makes_timer(&self, client: u64, number: u64, request: Request) -> bool
+        requires { self.now.waiting ≡ [] }
+        ensures { result ≡ true ↔ MakesTimer self.now.state client number (model_of request) }
+    {
+        match self.admit(client, number) {
+            Ok(()) => self.accepts_timer(client, request),
+            Err(_) => false,
+        }
+    }
+
+    /// Whether a request that is taken is a start or a restart, and accepted.
+    fn accepts_timer(&self, client: u64, request: Request) -> bool
+        requires { self.now.waiting ≡ [] }
+        ensures { (number : ℕ) → result ≡ true ↔ ((refusal self.now.state client (model_of request) ≡ None)
+            × (is_some (timer_started self.now.state client number (model_of request)) ≡ true)) }
+    {
+        match request {
+            Request::Start { interval, .. } => self.start_refusal(interval).is_none(),
+            Request::StartAt { deadline, .. } => self
+                .start_refusal(self.ticks_until(deadline).max(1))
+                .is_none(),
+            Request::Stop(_) => false,
+            Request::Restart {
+                handle,
+                interval,
+                ..
+            } => self.accepts_restart(client, handle, interval),
+            Request::RestartAt {
+                handle,
+                deadline,
+                ..
+            } => self.accepts_restart(client, handle, self.ticks_until(deadline).max(1)),
+        }
+    }
+
+    /// Whether a restart of this timer with this interval is accepted.
+    fn accepts_restart(&self, client: u64, handle: Handle, interval: u64) -> bool
+        requires { self.now.waiting ≡ [] }
+        ensures { result ≡ true ↔ (restart_refusal self.now.state client (ByHandle handle) interval ≡ None) }
+    {
+        self.find_named(client, handle).is_some() && self.interval_refusal(interval).is_none()
     }
 
     /// Answers a request that is taken, and does what is accepted of it. Its number is not used up yet.

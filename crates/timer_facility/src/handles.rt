@@ -12,12 +12,13 @@
 //!
 //! A sweep of n handles drops more than n / 2 of them, and each was added by one start or restart. So
 //! sweeps look up at most two handles per start or restart, whatever the order of events is.
-ghost use Rattle.std.specs.Prelude.{◌≡◌, ◌<◌, ℕ, [], OnOk, IfSome, Some, filter};
+ghost use Rattle.std.specs.Prelude.{◌≡◌, ◌<◌, ℕ, [], OnOk, OnErr, IfSome, Some, filter};
 ghost use Rattle.std.specs.Prelude.{vec_len, vec_capacity};
-ghost use Rattle.timer_facility.specs.Handles.{place_at, AreSorted, AreRecorded, AreFew, is_pending, with_answer};
+ghost use Rattle.timer_facility.specs.Handles.{place_at, AreSorted, AreRecorded, AreFew, is_pending, with_answer, AddsHandle};
+ghost use Rattle.timer_facility.specs.Facility.{MakesTimer, model_of};
 
 use crate::facility::Facility;
-use crate::request::Answer;
+use crate::request::{Answer, Request};
 use std::alloc::Global;
 use timer_base::{Handle, OutOfMemory, Wheel};
 
@@ -47,18 +48,31 @@ impl Handles {
         &self.list
     }
 
-    /// Reserves room for one more. The only error is out of memory, and then nothing changes.
-    pub fn make_room(&mut self) -> Result<(), OutOfMemory>
+    /// Reserves room for the handle of the timer that this request makes, if it makes one. The only error is out of
+    /// memory, and then nothing changes.
+    #[inline(always)]
+    pub fn make_room<W: Wheel + Drop>(
+        &mut self,
+        facility: &Facility<W>,
+        client: u64,
+        number: u64,
+        request: Request,
+    ) -> Result<(), OutOfMemory>
+        requires { facility.now.waiting ≡ [] }
         ensures list { self.new.list.items ≡ self.old.list.items }
-        ensures room { OnOk result (vec_len self.new.list < vec_capacity self.new.list) }
+        ensures room { OnOk result (MakesTimer facility.now.state client number (model_of request)
+            → vec_len self.new.list < vec_capacity self.new.list) }
+        ensures memory { OnErr result (MakesTimer facility.now.state client number (model_of request)) }
     {
-        self.list.reserve(1)?;
-        Ok(())
+        match self.list.reserve(1) {
+            Err(_) if facility.makes_timer(client, number, request) => Err(OutOfMemory),
+            _ => Ok(()),
+        }
     }
 
     /// Adds the handle of an accepted start or restart. Room for it was reserved.
     pub fn record(&mut self, answer: Answer)
-        requires { vec_len self.old.list < vec_capacity self.old.list }
+        requires { AddsHandle answer → vec_len self.old.list < vec_capacity self.old.list }
         ensures { self.new.list.items ≡ with_answer answer self.old.list.items }
     {
         match answer {

@@ -1,14 +1,14 @@
 //! Plays lists of events.
 //!
-//! Memory for all that an event can produce is reserved before the event: one out and one handle for a
-//! request, and one notice for each pending timer. After that only the facility's own call can fail,
+//! Memory for all that an event can produce is reserved before the event: one out for a request, a handle for one that
+//! makes a timer, and one notice for each pending timer. After that only the facility's own call can fail,
 //! which then has changed nothing. So an event is played whole or not at all.
-ghost use Rattle.std.specs.Prelude.{◌≡◌, ◌<◌, ◌≤◌, ◌+◌, ◌*◌, ◌++◌, ◌∷◌, ◌↔◌, ℕ, false, List, [], None, length, map, take, IsTrue, IfSome, IfOk, IfErr, OnErr, OnOk, vec_len, vec_capacity};
+ghost use Rattle.std.specs.Prelude.{◌≡◌, ◌<◌, ◌≤◌, ◌⊎◌, ◌+◌, ◌*◌, ◌++◌, ◌∷◌, ◌↔◌, false, ℕ, List, [], None, length, map, take, IsTrue, IfSome, IfOk, IfErr, OnErr, OnOk, vec_len, vec_capacity};
 ghost use Rattle.timer_facility.specs.State.{FacilityState, IsSound, Tick, Close};
 ghost use Rattle.timer_facility.specs.Verdict.{tick_refusal};
 ghost use Rattle.timer_facility.specs.Step.{step};
-ghost use Rattle.timer_facility.specs.Facility.{with_nothing_waiting, event_of_request, is_for_a_tick};
-ghost use Rattle.timer_facility.specs.Played.{IsPlayed, MakesStep, AddsRun};
+ghost use Rattle.timer_facility.specs.Facility.{with_nothing_waiting, event_of_request, model_of, is_for_a_tick, MakesTimer};
+ghost use Rattle.timer_facility.specs.Played.{IsPlayed, MakesStep, AddsRun, most_outs, TakesMemory};
 ghost use Rattle.timer_facility.specs.Handles.{HandleList, AreRecorded};
 ghost use Rattle.timer_facility.specs.declared.handles.TheConstants.{SPARE};
 
@@ -106,11 +106,14 @@ impl<W: Wheel + Drop> Player<W> {
 
     /// Plays one event, and appends its outs.
     ///
-    /// The only error is out of memory, and then nothing changes: the event may be played again.
+    /// The only error is out of memory, and then nothing changes: the event may be played again. Memory may run out for
+    /// the outs, for a start or a restart that makes a timer, and for a close without a reserve.
     pub fn play_one(&mut self, event: Event, outs: &mut Vec<Out>) -> Result<(), OutOfMemory>
         ensures ok { OnOk result (AddsRun self.old event outs.old.items outs.new.items self.new) }
         ensures state { OnErr result (self.new ≡ self.old) }
         ensures outs { OnErr result (outs.new.items ≡ outs.old.items) }
+        ensures memory { OnErr result ((vec_capacity outs.old < vec_len outs.old + most_outs self.old event)
+            ⊎ TakesMemory self.old event) }
     {
         match event {
             Event::Start {
@@ -130,7 +133,7 @@ impl<W: Wheel + Drop> Player<W> {
                 serial,
             } => {
                 outs.reserve(1)?;
-                let out = self.play_stop(client, number, serial)?;
+                let out = self.play_stop(client, number, serial);
                 outs.push_reserved(out);
                 Ok(())
             }
@@ -151,7 +154,8 @@ impl<W: Wheel + Drop> Player<W> {
         }
     }
 
-    /// Plays a start, and returns its out. The only error is out of memory, and then nothing changes.
+    /// Plays a start, and returns its out. The only error is out of memory, and then nothing changes. A start that makes
+    /// no timer is never out of memory.
     ///
     /// This and the next two are inlined, with most of what they call: an out that is returned through memory is read
     /// in other pieces than it was written in, and such a read waits for the writes.
@@ -166,22 +170,36 @@ impl<W: Wheel + Drop> Player<W> {
         ensures ok { IfOk result (λ out. AddsRun self.old (Event.Start client number interval action) []
             (out ∷ []) self.new) }
         ensures err { OnErr result (self.new ≡ self.old) }
+        ensures memory { OnErr result (TakesMemory self.old (Event.Start client number interval action)) }
     {
         self.play_request(client, number, Request::Start { interval, action })
     }
 
-    /// Plays a stop, and returns its out. The only error is out of memory, and then nothing changes.
+    /// Plays a stop, and returns its out. Does not allocate.
     #[inline(always)]
-    pub fn play_stop(&mut self, client: u64, number: u64, serial: u64) -> Result<Out, OutOfMemory>
-        ensures ok { IfOk result (λ out. AddsRun self.old (Event.Stop client number serial) []
-            (out ∷ []) self.new) }
-        ensures err { OnErr result (self.new ≡ self.old) }
+    pub fn play_stop(&mut self, client: u64, number: u64, serial: u64) -> Out
+        ensures { AddsRun self.old (Event.Stop client number serial) [] (result ∷ []) self.new }
     {
         let handle = self.handles.handle_of(serial);
-        self.play_request(client, number, Request::Stop(handle))
+        match self.facility.take(client, number, Request::Stop(handle)) {
+            Ok(answer) => {
+                self.handles.forget(&self.facility);
+                Out::Answered {
+                    client,
+                    number,
+                    answer,
+                }
+            }
+            Err(reason) => Out::NotTaken {
+                client,
+                number,
+                reason,
+            },
+        }
     }
 
-    /// Plays a restart, and returns its out. The only error is out of memory, and then nothing changes.
+    /// Plays a restart, and returns its out. The only error is out of memory, and then nothing changes. A restart that
+    /// makes no timer is never out of memory.
     #[inline(always)]
     pub fn play_restart(
         &mut self,
@@ -194,6 +212,7 @@ impl<W: Wheel + Drop> Player<W> {
         ensures ok { IfOk result (λ out. AddsRun self.old (Event.Restart client number serial interval action) []
             (out ∷ []) self.new) }
         ensures err { OnErr result (self.new ≡ self.old) }
+        ensures memory { OnErr result (TakesMemory self.old (Event.Restart client number serial interval action)) }
     {
         let handle = self.handles.handle_of(serial);
         let request = Request::Restart {
@@ -216,7 +235,7 @@ impl<W: Wheel + Drop> Player<W> {
         }
     }
 
-    /// Plays a request that is not for a tick, and keeps the handle of the timer that it started.
+    /// Plays a start or a restart that is not for a tick, and keeps the handle of the timer that it makes.
     #[inline(always)]
     fn play_request(
         &mut self,
@@ -228,8 +247,10 @@ impl<W: Wheel + Drop> Player<W> {
         ensures ok { IfOk result (λ out. MakesStep self.old (event_of_request client number request) []
             (out ∷ []) self.new) }
         ensures err { OnErr result (self.new ≡ self.old) }
+        ensures memory { OnErr result (MakesTimer self.old client number (model_of request)) }
     {
-        self.handles.make_room()?;
+        self.handles
+            .make_room(&self.facility, client, number, request)?;
         match self.facility.take(client, number, request) {
             Ok(answer) => {
                 self.handles.record(answer);
@@ -259,6 +280,7 @@ impl<W: Wheel + Drop> Player<W> {
             (Event.Ticks count) outs.old.items outs.new.items self.new) }
         ensures state { OnErr result (self.new ≡ self.old) }
         ensures outs { OnErr result (outs.new.items ≡ outs.old.items) }
+        ensures memory { OnErr result (vec_capacity outs.old < vec_len outs.old + (length self.old.pending + 1)) }
     {
         make_room(&self.facility, outs)?;
         pass_ticks(&mut self.facility, count, outs);
@@ -271,6 +293,8 @@ impl<W: Wheel + Drop> Player<W> {
         ensures ok { OnOk result (AddsRun self.old Event.Close outs.old.items outs.new.items self.new) }
         ensures state { OnErr result (self.new ≡ self.old) }
         ensures outs { OnErr result (outs.new.items ≡ outs.old.items) }
+        ensures memory { OnErr result ((vec_capacity outs.old < vec_len outs.old + (length self.old.pending + 1))
+            ⊎ (self.old.has_room ≡ false)) }
     {
         make_room(&self.facility, outs)?;
         match self.facility.close() {
@@ -297,6 +321,8 @@ fn make_room<W: Wheel + Drop>(
     ensures items { outs.new.items ≡ outs.old.items }
     ensures room { OnOk result (vec_len outs.new + length facility.now.state.pending
         < vec_capacity outs.new) }
+    ensures memory { OnErr result (vec_capacity outs.old
+        < vec_len outs.old + (length facility.now.state.pending + 1)) }
     ensures sound { IsSound facility.now.state }
 {
     outs.reserve(facility.pending() + 1)?;

@@ -91,7 +91,7 @@ fn play_stop<W: Wheel + Drop>(
     ensures { OnOk result (AddsLines player.old (Event.Stop client number serial ∷ [])
         text.old.items text.new.items player.new) }
 {
-    let out = player.play_stop(client, number, serial)?;
+    let out = player.play_stop(client, number, serial);
     push_out(text, &out)
 }
 

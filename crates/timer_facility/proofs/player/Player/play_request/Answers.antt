@@ -1,14 +1,13 @@
-use Rattle.std.proofs.Common.{◌∷◌, [], ◌∙◌, ap, sym, subst}
-use Rattle.timer_facility.specs.declared.event.Out.TheVariants as Outs
+use Rattle.std.proofs.Common.{◌∙◌, ap, sym, subst}
 use Rattle.timer_facility.specs.State.{FacilityState}
-use Rattle.timer_facility.specs.Step.{StepResult}
-use Rattle.timer_facility.specs.Facility.{FacilityView, model_of, event_of_request, notice_outs, place_in}
-use Rattle.timer_facility.specs.Played.{MakesStep}
+use Rattle.timer_facility.specs.Facility.{model_of, MakesTimer, WhyNotTaken}
 use Rattle.timer_facility.specs.Handles.{HandleList, AreRecorded, with_answer}
-use Rattle.timer_facility.proofs.HandlesLemmas.{recorded-taken}
-use Rattle.timer_facility.proofs.PlayedLemmas.{reason-verdict}
-use Rattle.timer_facility.proofs.StepLemmas.{step-not_taken}
+use Rattle.timer_facility.proofs.HandlesLemmas.{recorded-taken, makes-answered, makes-unplaced}
+use Rattle.timer_facility.proofs.PlayedLemmas.{MakesStep-taken, MakesStep-not_taken}
 use Rattle.timer_facility.proofs.player.Player.play_request.Goals as goal
+
+pub record-requires : goal.record-requires
+record-requires g c = λ adds. c.in_ok-make_room.ensures.room (makes-answered c.in-Ok.ensures.taken adds)
 
 pub forget-requires : goal.forget-requires
 forget-requires g c =
@@ -24,25 +23,16 @@ invariant_of-self-in-Ok g c = record {
 }
 
 pub returns-in-Ok-clause-ok : goal.returns-in-Ok-clause-ok
-returns-in-Ok-clause-ok g c =
-    let outs = Outs.Answered c.args.client c.args.number c.in-Ok.answer ∷ [] in
-    subst (λ s. MakesStep s (event_of_request c.args.client c.args.number c.args.request) [] outs c.take.new.self.state) c.self.view_is
-    (record {
-      place = place_in c.in-Ok.answer;
-      appended = sym (c.in-Ok.ensures.taken.answered ∙ ap (λ ns. Outs.Answered c.args.client c.args.number c.in-Ok.answer ∷ notice_outs ns)
-          (c.take.ensures.quiet c.requires));
-      left = ap (λ (v : FacilityView). v.state) c.in-Ok.ensures.taken.left;
-    })
+returns-in-Ok-clause-ok g c = MakesStep-taken c.self.view_is c.in-Ok.ensures.taken (c.take.ensures.quiet c.requires)
 
 pub returns-in_default-clause-ok : goal.returns-in_default-clause-ok
-returns-in_default-clause-ok g c =
+returns-in_default-clause-ok g c = MakesStep-not_taken c.self.view_is c.in-Err.ensures.taken c.in_default.not-OutOfMemory
+
+pub returns-in-OutOfMemory-clause-memory : goal.returns-in-OutOfMemory-clause-memory
+returns-in-OutOfMemory-clause-memory g c =
+    let client = c.args.client in
+    let number = c.args.number in
+    let request = c.args.request in
     let s : FacilityState = c.self.inside.facility.state in
-    let outs = Outs.NotTaken c.args.client c.args.number c.in-Err.reason ∷ [] in
-    let refused = step-not_taken s c.args.client c.args.number (model_of c.args.request) 0 c.in-Err.reason
-    (reason-verdict s c.args.client c.args.number c.args.request c.in-Err.reason c.in-Err.ensures.taken.why c.in_default.not-OutOfMemory) in
-    subst (λ s. MakesStep s (event_of_request c.args.client c.args.number c.args.request) [] outs c.take.new.self.state) c.self.view_is
-    (record {
-      place = 0;
-      appended = ap (λ (st : StepResult). st.outs) (sym refused);
-      left = ap (λ (v : FacilityView). v.state) c.in-Err.ensures.taken.left ∙ ap (λ (st : StepResult). st.state) (sym refused);
-    })
+    subst (λ (t : FacilityState). MakesTimer t client number (model_of request)) c.self.view_is
+    (makes-unplaced s client number request (subst (WhyNotTaken s client number request) c.in-OutOfMemory.is c.in-Err.ensures.taken.why))
