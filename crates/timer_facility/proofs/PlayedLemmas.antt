@@ -16,7 +16,7 @@ use Rattle.timer_facility.specs.declared.event.Out.{Out}
 use Rattle.timer_facility.specs.declared.event.Out.TheVariants as Outs
 use Rattle.timer_facility.specs.declared.request.Answer.{Answer}
 use Rattle.timer_facility.specs.State.{FacilityState, IsSound, After, ByHandle, BySerial, Start, Stop, Restart, SingleEvent, Asked}
-use Rattle.timer_facility.specs.Verdict.{not_taken, timer_named, first_refusal, name_refusal, interval_refusal}
+use Rattle.timer_facility.specs.Verdict.{not_taken, first_refusal, name_refusal, interval_refusal}
 use Rattle.timer_facility.specs.Step.{StepResult, step}
 use Rattle.timer_facility.specs.Run.{PlacedEvent, history, state_after, outs_of}
 use Rattle.timer_facility.specs.Facility.{FacilityView, model_of, event_of_request, notice_outs, place_in, IsTaken, IsNotTaken, MakesTimer, WhyNotTaken}
