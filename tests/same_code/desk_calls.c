@@ -255,23 +255,6 @@ static void make_line_free(void)
 	TOLD(timers_line_free, line->client, line->life);
 }
 
-/* The steps that follow are about another desk, client, line or name. */
-static void choose(void)
-{
-	const size_t which = below(8) == 0;
-
-	d = &desks[which];
-	made = &clients[which];
-	lines = all_lines[which];
-	if (below(64) == 0)
-		renew();
-	client = (size_t)(below(24) == 0 ? below(70) : below(most_clients));
-	line = below(24) == 0 ? &all_lines[below(2)][below(TIMERS_DESK_CLIENTS)] : &lines[client % TIMERS_DESK_CLIENTS];
-	name = &names[client % TIMERS_DESK_CLIENTS][below(NAMES)];
-	if (*made == 0 && below(2) == 0)
-		make_new();
-}
-
 /* Two lines change places. */
 static void move(void)
 {
@@ -319,6 +302,25 @@ static void succeed(void)
 	make_stop_pending();
 	make_flush();
 	make_open();
+}
+
+/* The steps that follow are about another desk, client, line or name. */
+static void choose(void)
+{
+	const size_t which = below(8) == 0;
+
+	d = &desks[which];
+	made = &clients[which];
+	lines = all_lines[which];
+	if (below(64) == 0)
+		renew();
+	client = (size_t)(below(24) == 0 ? below(70) : below(most_clients));
+	line = below(24) == 0 ? &all_lines[below(2)][below(TIMERS_DESK_CLIENTS)] : &lines[client % TIMERS_DESK_CLIENTS];
+	name = &names[client % TIMERS_DESK_CLIENTS][below(NAMES)];
+	if (*made == 0 && below(2) == 0)
+		make_new();
+	if (line->mark == 0 && client < *made && below(4) != 0)
+		succeed();
 }
 
 static void end_client(void)

@@ -303,6 +303,20 @@ static void choose(void)
 		make_new();
 }
 
+/* As many timers as arrays have to grow for more than once. The starts are told as one. */
+static void crowd(void)
+{
+	const uint64_t count = below(UINT64_C(1) << 16);
+	struct timers_handle handle = OLD_HANDLE;
+	uint64_t i, sum = 0;
+
+	for (i = 0; i < count; i++) {
+		const enum timers_status status = timers_start(t, 1 + below(UINT64_C(1) << 20), i, &handle);
+		sum = sum * 31 + (uint64_t)status + handle.place + handle.serial;
+	}
+	TOLD(timers_start, count, sum, HANDLE(handle));
+}
+
 /* All that expired is taken, as an event loop does. */
 static void take_all(void)
 {
@@ -333,6 +347,8 @@ void call_timers(uint64_t length)
 	if (below(8) == 0)
 		t->last_serial = (below(3) != 0 ? TIMERS_LAST : UINT64_C(1) << 32) - below(64);
 	make_new();
+	if (below(16) == 0)
+		crowd();
 	make_steps(STEPS, sizeof STEPS / sizeof *STEPS, length);
 	told_state();
 	t = both;
