@@ -72,8 +72,7 @@ struct LibTimers {
   uint64_t next() { return timers_next(&held); }
   uint64_t wakeup() { return timers_wakeup(&held); }
   uint64_t each() {
-    uint64_t sum = 0;
-    size_t cursor = 0;
+    uint64_t sum = 0, cursor = 0;
     timers_handle handle;
     timers_expired one;
     while (timers_each(&held, &cursor, &handle, &one)) sum += one.deadline;

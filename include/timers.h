@@ -328,7 +328,8 @@ void timers_clear(struct timers *t);
  * Takes time for these, which it may move. The rest is allocated and not written. The memory is kept until
  * timers_free. After TIMERS_NO_MEMORY it is as much as before.
  * If an earlier timers_reserve made as much room, it allocates nothing and returns TIMERS_OK.
- * TIMERS_NO_MEMORY is also returned if `most` is above some 4.29 billion.
+ * TIMERS_NO_MEMORY is also returned if `most` is above some 4.29 billion; after an earlier timers_reserve maybe above
+ * half as many.
  * TIMERS_NOT_OPEN, TIMERS_NO_MEMORY. */
 TIMERS_CHECKED
 enum timers_status timers_reserve(struct timers *t, size_t most);

@@ -88,7 +88,8 @@
  *     Ticks come first, since an interval counts from the tick at which its request is taken. If requests
  *     were taken before the clock has caught up, their timers would expire too early, by the time that the
  *     owner slept. A client that knows the owner's clock can send a deadline instead (timers_line_start_at):
- *     then it does not matter when the request is taken, as long as that is before the deadline.
+ *     then it does not matter when the request is taken. If the deadline has passed by then, the timer is due at
+ *     once: its word comes right after the answer.
  *
  *     How threads wake each other is left to the program: an eventfd, a pipe, a condition variable with a
  *     flag. The order matters. The owner clears the signal before it looks at the lines, never between
@@ -138,7 +139,8 @@
  *     Calls whose only struct is const only read it, so that they may run beside each other while no other call
  *     uses the struct.
  *
- *     No call waits for another thread, unless the allocator does. malloc, realloc and free are called only by
+ *     No call waits for another thread, unless the allocator does, or atomics of 64 bits on a processor that has none:
+ *     libatomic gives it these by locks. malloc, realloc and free are called only by
  *     timers_desk_new, timers_desk_open, timers_desk_reserve, timers_desk_close, the serves, timers_line_finish
  *     and the frees. No call is a cancellation point, and none calls back but for the functions of
  *     timers_set_allocator, which must return.
@@ -189,8 +191,8 @@ enum timers_desk_status {
 	TIMERS_DESK_OPEN = 2,            /* the desk or one of the lines holds something already */
 	TIMERS_DESK_NO_MEMORY = 4,       /* out of memory: malloc or realloc returned NULL */
 	TIMERS_DESK_NOT_PENDING = 6,     /* no pending timer of this client has this handle */
-	TIMERS_DESK_ZERO_INTERVAL = 7,   /* the interval is 0, or the deadline not after the present tick */
-	TIMERS_DESK_TOO_LATE = 8,        /* the deadline is after the last tick */
+	TIMERS_DESK_ZERO_INTERVAL = 7,   /* the interval is 0 */
+	TIMERS_DESK_TOO_LATE = 8,        /* the deadline is after the last tick, or has passed at the last tick */
 	TIMERS_DESK_SERIALS_SPENT = 9,   /* the desk has started 2^60 - 1 timers */
 	TIMERS_DESK_CLOCK_END = 10,      /* the clock is at its last tick */
 	TIMERS_DESK_CLOSED = 11,         /* the desk was closed */
@@ -215,13 +217,14 @@ enum timers_desk_status {
 /* The kinds of words, and the members of a word that each one sets. A request gets the first reason that holds. CLOSED,
  * REPEATED, NUMBERS_SPENT and AHEAD are tested first, in this order: the request is not taken. Then a start is tested
  * for ZERO_INTERVAL, TOO_LATE, SERIALS_SPENT and CAPACITY; a restart for NOT_PENDING, ZERO_INTERVAL, TOO_LATE and
- * SERIALS_SPENT; and a stop for NOT_PENDING. */
+ * SERIALS_SPENT; and a stop for NOT_PENDING. A start or restart that was sent with a deadline is never refused for
+ * ZERO_INTERVAL. `action` of an answer is that of the start or restart which it answers, also if that was refused. */
 enum timers_word_kind {
-	TIMERS_WORD_STARTED = 1,     /* number, handle, deadline */
-	TIMERS_WORD_RESTARTED = 2,   /* number, handle and deadline of the new timer, the old serial in `other` */
+	TIMERS_WORD_STARTED = 1,     /* number, handle, deadline, action */
+	TIMERS_WORD_RESTARTED = 2,   /* number, handle, deadline and action of the new timer, the old serial in `other` */
 	TIMERS_WORD_STOPPED = 3,     /* number, handle.serial of the stopped timer */
-	TIMERS_WORD_REFUSED = 4,     /* number, reason: its number is used up, and nothing else changed */
-	TIMERS_WORD_NOT_TAKEN = 5,   /* number, reason (REPEATED, AHEAD: the next number in `other`); nothing changed */
+	TIMERS_WORD_REFUSED = 4,     /* number, reason, action: its number is used up, and nothing else changed */
+	TIMERS_WORD_NOT_TAKEN = 5,   /* number, reason, action (REPEATED, AHEAD: next number in `other`); nothing changed */
 	TIMERS_WORD_EXPIRED = 6,     /* number of its start or restart, handle.serial, deadline, action */
 	TIMERS_WORD_RETURNED = 7     /* the same: the desk was closed before its deadline */
 };
@@ -248,7 +251,7 @@ struct timers_line {
  * are more than room - 2. No request is held back so of a client that keeps at most k timers, and has at most q
  * requests without an answer, if room is k + q + 1 or more. There a timer counts from the request that starts it until
  * its last word is received, and a request until its answer is. With room 2 no request can stop or restart a timer. A
- * client keeps at most room - 1 timers. timers_desk_new allocates the outbox: 56 bytes for each word of room. */
+ * client keeps at most room - 1 timers. timers_desk_new allocates the outbox: 64 bytes for each word of room. */
 struct timers_desk_config {
 	uint64_t size;         /* sizeof(struct timers_desk_config) */
 	uint64_t first_tick;   /* the clock begins at it: up to TIMERS_LAST, of TIMERS_CLOCK TIMERS_CLOCK_LAST */
@@ -289,7 +292,7 @@ enum timers_desk_status timers_desk_new(struct timers_desk *d, struct timers_lin
 void timers_desk_free(struct timers_desk *d);
 
 /* Serves a client once: takes its held request, or else the next one of its line. At TIMERS_DESK_OK the
- * answer is in the outbox. Allocates only for a start.
+ * answer is in the outbox, and after it the word of a timer that is due at once. Allocates only for a start.
  * TIMERS_DESK_NOT_OPEN, TIMERS_DESK_NO_CLIENT, TIMERS_DESK_NO_ROOM, TIMERS_DESK_IDLE: nothing was taken. NO_ROOM is
  * tested first, also if no request is in the line.
  * TIMERS_DESK_NO_MEMORY: the request is held, and is retried first. */
@@ -439,9 +442,11 @@ enum timers_desk_status timers_line_start(struct timers_line *line, uint64_t int
                                           uint64_t *number);
 
 /* Sends the request to start a timer that expires at the tick `deadline`, and hands `action` back then. It is as
- * timers_line_start with the ticks that are left until then when the request is taken. So a deadline that is not after
- * that tick is refused by a word with TIMERS_DESK_ZERO_INTERVAL, and one after the last tick with TIMERS_DESK_TOO_LATE.
- * The same statuses. */
+ * timers_line_start with the ticks that are left until then when the request is taken. If `deadline` is not after the
+ * tick at which the request is taken, the timer expires at that tick, as by timers_start_at (timers.h): the answer has
+ * that tick as deadline, and TIMERS_WORD_EXPIRED follows it in the same serve, after all words that were due before. It
+ * is refused exactly if a deadline at the next tick would be; so at the last tick with TIMERS_DESK_TOO_LATE, as a
+ * deadline after the last tick always is. The same statuses. */
 TIMERS_CHECKED
 enum timers_desk_status timers_line_start_at(struct timers_line *line, uint64_t deadline, uint64_t action,
                                              uint64_t *number);
@@ -457,7 +462,8 @@ TIMERS_CHECKED
 enum timers_desk_status timers_line_restart(struct timers_line *line, struct timers_handle handle,
                                             uint64_t interval, uint64_t action, uint64_t *number);
 
-/* Does the same with a deadline for the new timer, as timers_line_start_at. If that is refused, the old timer stays. */
+/* Does the same with a deadline for the new timer, which may have passed, as timers_line_start_at. If that is refused,
+ * the old timer stays. */
 TIMERS_CHECKED
 enum timers_desk_status timers_line_restart_at(struct timers_line *line, struct timers_handle handle,
                                                uint64_t deadline, uint64_t action, uint64_t *number);
@@ -496,7 +502,7 @@ static TIMERS_INLINE const char *timers_desk_message(enum timers_desk_status sta
 	case TIMERS_DESK_OPEN: return "a desk or a line is held already";
 	case TIMERS_DESK_NO_MEMORY: return "out of memory";
 	case TIMERS_DESK_NOT_PENDING: return "no timer of the client has this handle";
-	case TIMERS_DESK_ZERO_INTERVAL: return "the interval is 0, or the deadline is not after the present tick";
+	case TIMERS_DESK_ZERO_INTERVAL: return "the interval is 0";
 	case TIMERS_DESK_TOO_LATE: return "after the last tick";
 	case TIMERS_DESK_SERIALS_SPENT: return "every serial was used";
 	case TIMERS_DESK_CLOCK_END: return "the clock is at its last tick";

@@ -138,6 +138,14 @@ is_hardened() {
     grep -qE '(or|mov)[ql]? +\$0x0,(0x[0-9a-f]+)?\(%rsp\)' <(objdump -d "$program")   # a probe of a large frame
 }
 
+@test "on a big-endian processor the program has one error, which says so" {
+    needs s390x-linux-gnu-gcc
+    run s390x-linux-gnu-gcc -fsyntax-only generated/program.c
+    [ "$status" -ne 0 ]
+    [ "$(grep -c 'error:' <<< "$output")" -eq 1 ]
+    grep 'for little-endian processors' <<< "$output"
+}
+
 @test "musl-gcc builds a static program of it" {
     needs musl-gcc
     musl-gcc -static -O2 -Wall -Wextra -Werror -Iinclude -o "$work/first" examples/c/first.c generated/timers.c

@@ -71,6 +71,18 @@ enumerators() { sed -nE 's/^\tTIMERS_((DESK|WORD)_)?([A-Z_]+) = ([0-9]+).*/\3 \4
     [ "$(enumerators timers_desk | wc -l)" -eq 31 ]
 }
 
+# The headers compare their structs with what the library was built for. No system has to be there.
+@test "numbers in memory have one width on processors of 32 and 64 bits" {
+    run grep -nE '^[[:space:]]+size_t|size_t \*' include/timers.h include/timers_desk.h
+    [ "$status" -eq 1 ]
+    needs clang
+    printf '#include <timers.h>\n#include <timers_desk.h>\n' > "$work/layout.c"
+    for target in i386-none-elf armv7-none-eabi riscv32-none-elf powerpc-none-elf s390x-none-elf wasm32 i686-pc-windows-msvc arm64-apple-darwin; do
+        echo "$target"
+        clang --target=$target -ffreestanding -std=c11 -Wall -Wextra -pedantic -Werror -Iinclude -fsyntax-only "$work/layout.c"
+    done
+}
+
 @test "the names and numbers in Python are the headers'" {
     needs python3
     # timers_desk.py has the tables and the most clients, too.
@@ -294,7 +306,7 @@ ignores() {
     echo "$1"
     "$CC" $of_c -Wno-unused-parameter -Wno-missing-prototypes -c -o "$work/ignored.o" -x c - << EOT
 #include <timers_desk.h>
-void f(struct timers *t, struct timers_handle *h, struct timers_desk *d, struct timers_line *l, struct timers_word *w, uint64_t *n, size_t *s)
+void f(struct timers *t, struct timers_handle *h, struct timers_desk *d, struct timers_line *l, struct timers_word *w, uint64_t *n)
 { $1; }
 EOT
 }
@@ -312,11 +324,11 @@ timers_counts(t, 0)
 timers_desk_new(d, l, 1, NULL)
 timers_desk_close(d, n)
 timers_desk_open(d, 0, l, 1)
-timers_desk_stop_pending(d, 0, s)
+timers_desk_stop_pending(d, 0, n)
 timers_desk_reserve(d)
-timers_desk_settle(d, 0, l, s)
-timers_desk_end(d, 0, l, s)
-timers_desk_end_all(d, l, 1, s)
+timers_desk_settle(d, 0, l, n)
+timers_desk_end(d, 0, l, n)
+timers_desk_end_all(d, l, 1, n)
 timers_line_start(l, 1, 1, n)
 timers_line_stop(l, w->handle, n)
 timers_line_restart(l, w->handle, 1, 1, n)

@@ -46,6 +46,24 @@ pip() { "$work/venv/bin/pip" --disable-pip-version-check "$@"; }
     egg_and_tea | diff - "$work/out"
 }
 
+# The build script by itself, as cargo runs it for another processor: the compiler that it takes, and that of a variable.
+@test "the build script compiles for another processor, by the conventions of cc" {
+    needs_cargo
+    needs rustc readelf aarch64-linux-gnu-gcc
+    rustc --edition 2021 -D warnings -o "$work/build" bindings/rust/build.rs
+    export HOST=x86_64-unknown-linux-gnu TARGET=aarch64-unknown-linux-gnu OUT_DIR=$work CARGO_MANIFEST_DIR=$PWD/bindings/rust
+    unset CC CFLAGS AR
+    "$work/build" > "$work/out"
+    grep -x "cargo:rustc-link-lib=static=timers" "$work/out"
+    readelf -h "$work/libtimers.a" | grep AArch64
+    printf '#!/bin/sh\necho "$@" > "%s/asked"\nexec aarch64-linux-gnu-gcc "$@"\n' "$work" > "$work/given"
+    chmod 755 "$work/given"
+    CC=false TARGET_CC=false CC_aarch64_unknown_linux_gnu=$work/given CFLAGS="-DONE -DTWO" AR_aarch64_unknown_linux_gnu=aarch64-linux-gnu-ar "$work/build" > "$work/out"
+    grep -e '-DONE -DTWO .*generated/timers.c' "$work/asked"
+    run env AR=false "$work/build"
+    [ "$status" -ne 0 ]
+}
+
 @test "pip installs the module, and the first program runs" {
     needs_venv
     top=$PWD

@@ -36,24 +36,25 @@ def agrees(seed):
             choice = draw.randrange(5)
             if choice < 4:
                 sent += 1
-                deadline = desk.now + interval
+                deadline = desk.now + interval if interval else draw.randrange(desk.now + 1)
+                at = choice == 1 or choice == 3 and action % 2
                 calls = [(line.start, interval, action), (line.start_at, deadline, action), (line.stop, handle),
                          (line.restart, handle, interval, action), (line.restart_at, handle, deadline, action)]
-                call, *arguments = calls[4 if choice == 3 and action % 2 else choice]
+                call, *arguments = calls[4 if choice == 3 and at else choice]
                 assert call(*arguments) == sent
                 refused(td.LINE_FULL, line.start, 1, 1)
                 turn(desk)
                 word = line.receive()
-                assert word.number == sent and line.receive() is None
+                assert (word.number, word.action) == (sent, 0 if choice == 2 else action) and line.receive() is None
                 assert repr(word).startswith(f"Word(kind={word.kind}, reason={word.reason}, number={sent}, handle=Handle(")
             if choice < 2:
-                reason = td.ZERO_INTERVAL if interval == 0 else td.CAPACITY if len(model) == 20 else 0
+                reason = td.ZERO_INTERVAL if interval == 0 and not at else td.CAPACITY if len(model) == 20 else 0
                 assert (word.kind, word.reason) == (td.REFUSED if reason else td.STARTED, reason)
             elif choice == 2:
                 assert (word.kind, word.reason) == ((td.STOPPED, 0) if chosen else (td.REFUSED, td.NOT_PENDING))
                 assert not chosen or word.handle.serial == chosen[1]
             elif choice == 3:
-                reason = td.NOT_PENDING if not chosen else td.ZERO_INTERVAL if interval == 0 else 0
+                reason = td.NOT_PENDING if not chosen else td.ZERO_INTERVAL if interval == 0 and not at else 0
                 assert (word.kind, word.reason) == (td.REFUSED if reason else td.RESTARTED, reason)
                 assert word.other == (0 if reason else chosen[1])
             if choice < 4 and word.kind in (td.STOPPED, td.RESTARTED):
@@ -61,7 +62,13 @@ def agrees(seed):
             if choice < 4 and word.kind in (td.STARTED, td.RESTARTED):
                 serial += 1
                 assert (word.handle.serial, word.deadline) == (serial, desk.now + interval)
-                model[word.deadline, serial] = word.handle, sent, action
+                if interval:
+                    model[word.deadline, serial] = word.handle, sent, action
+                else:       # it expires at once, after its answer
+                    turn(desk)
+                    word = line.receive()
+                    assert (word.kind, word.number, word.action) == (td.EXPIRED, sent, action)
+                    assert (word.handle.serial, word.deadline) == (serial, desk.now)
             if choice == 4:
                 tick = desk.now + interval
                 while desk.now < tick:

@@ -35,7 +35,7 @@ pub enum Error {
     NoMemory,
     /// No timer of the client has this handle.
     NotPending,
-    /// The interval is 0, or the deadline is not after the present tick.
+    /// The interval is 0.
     ZeroInterval,
     /// After the last tick.
     TooLate,
@@ -106,7 +106,7 @@ impl fmt::Display for Error {
             Error::Open => "a desk or a line is held already",
             Error::NoMemory => "out of memory",
             Error::NotPending => "no timer of the client has this handle",
-            Error::ZeroInterval => "the interval is 0, or the deadline is not after the present tick",
+            Error::ZeroInterval => "the interval is 0",
             Error::TooLate => "after the last tick",
             Error::SerialsSpent => "every serial was used",
             Error::ClockEnd => "the clock is at its last tick",
@@ -206,16 +206,16 @@ pub struct Timer {
 #[derive(Clone, Copy, Debug, Eq, PartialEq)]
 #[non_exhaustive]
 pub enum Word {
-    /// The timer of this request has started.
-    Started { number: u64, handle: Handle, deadline: u64 },
+    /// The timer of this request has started. The action is that of the request, here and below.
+    Started { number: u64, handle: Handle, deadline: u64, action: u64 },
     /// The same, in place of the timer with the serial `old`.
-    Restarted { number: u64, handle: Handle, deadline: u64, old: u64 },
+    Restarted { number: u64, handle: Handle, deadline: u64, action: u64, old: u64 },
     /// The timer with this serial was stopped.
     Stopped { number: u64, serial: u64 },
-    /// The request was taken and refused. Nothing else changed.
-    Refused { number: u64, reason: Error },
+    /// The request was taken and refused. Nothing else changed. The action of a stop is 0.
+    Refused { number: u64, action: u64, reason: Error },
     /// The request was not taken.
-    NotTaken { number: u64, reason: Error },
+    NotTaken { number: u64, action: u64, reason: Error },
     /// The timer has expired.
     Expired(Timer),
     /// The desk was closed, and returns the timer.
@@ -238,13 +238,13 @@ impl RawWord {
         let RawWord { number, handle, deadline, action, .. } = *self;
         let timer = Timer { number, serial: handle.serial, deadline, action };
         match self.kind {
-            1 => Word::Started { number, handle, deadline },
-            2 => Word::Restarted { number, handle, deadline, old: self.other },
+            1 => Word::Started { number, handle, deadline, action },
+            2 => Word::Restarted { number, handle, deadline, action, old: self.other },
             3 => Word::Stopped { number, serial: handle.serial },
-            4 => Word::Refused { number, reason: Error::of(self.reason) },
+            4 => Word::Refused { number, action, reason: Error::of(self.reason) },
             6 => Word::Expired(timer),
             7 => Word::Returned(timer),
-            _ => Word::NotTaken { number, reason: Error::of(self.reason) },
+            _ => Word::NotTaken { number, action, reason: Error::of(self.reason) },
         }
     }
 }

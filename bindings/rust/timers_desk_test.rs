@@ -33,22 +33,30 @@ fn agrees_with_a_map(seed: u64) {
         match random.below(4) {
             0 | 1 => {
                 number += 1;
-                let deadline = desk.now() + interval;
-                let sent = if action % 2 == 0 { line.start(interval, action) } else { line.start_at(deadline, action) };
+                let at = action % 2 == 1;
+                let deadline = if interval > 0 { desk.now() + interval } else { random.below(desk.now() + 1) };
+                let sent = if at { line.start_at(deadline, action) } else { line.start(interval, action) };
                 assert_eq!(sent, Ok(number));
                 assert_eq!(line.start_at(deadline, action), Err(Error::LineFull));
                 turn(&mut desk);
                 match line.receive().unwrap() {
-                    Word::Started { number: n, handle, deadline } => {
+                    Word::Started { number: n, handle, deadline, action: a } => {
                         serial += 1;
-                        assert_eq!((n, handle.serial(), deadline), (number, serial, desk.now() + interval));
-                        assert!(interval > 0 && model.len() < 20);
-                        model.insert((deadline, serial), (handle, Timer { number, serial, deadline, action }));
+                        assert_eq!((n, handle.serial(), deadline, a), (number, serial, desk.now() + interval, action));
+                        assert!((at || interval > 0) && model.len() < 20);
+                        let timer = Timer { number, serial, deadline, action };
+                        if interval > 0 {
+                            model.insert((deadline, serial), (handle, timer));
+                        } else {
+                            turn(&mut desk); // it expires at once, after its answer
+                            assert_eq!(line.receive(), Some(Word::Expired(timer)));
+                        }
                     }
                     word => {
-                        let reason = if interval == 0 { Error::ZeroInterval } else { Error::Capacity };
-                        assert_eq!(word, Word::Refused { number, reason });
-                        assert!(interval == 0 || model.len() == 20);
+                        let zero = interval == 0 && !at;
+                        let reason = if zero { Error::ZeroInterval } else { Error::Capacity };
+                        assert_eq!(word, Word::Refused { number, action, reason });
+                        assert!(zero || model.len() == 20);
                     }
                 }
             }
@@ -64,14 +72,17 @@ fn agrees_with_a_map(seed: u64) {
                 assert_eq!(sent, Ok(number));
                 turn(&mut desk);
                 match (chosen, line.receive().unwrap()) {
-                    (None, word) => assert_eq!(word, Word::Refused { number, reason: Error::NotPending }),
+                    (None, word) => {
+                        let action = if restarts { action } else { 0 };
+                        assert_eq!(word, Word::Refused { number, action, reason: Error::NotPending });
+                    }
                     (Some((_, timer)), Word::Stopped { number: n, serial: old }) => {
                         assert!(!restarts && n == number && old == timer.serial);
                         model.remove(&(timer.deadline, timer.serial)).unwrap();
                     }
-                    (Some((_, timer)), Word::Restarted { number: n, handle, deadline, old }) => {
+                    (Some((_, timer)), Word::Restarted { number: n, handle, deadline, action: a, old }) => {
                         serial += 1;
-                        assert!(restarts && n == number && old == timer.serial && handle.serial() == serial);
+                        assert!(restarts && n == number && old == timer.serial && handle.serial() == serial && a == action);
                         assert_eq!(deadline, desk.now() + interval);
                         model.remove(&(timer.deadline, timer.serial)).unwrap();
                         model.insert((deadline, serial), (handle, Timer { number, serial, deadline, action }));
@@ -107,7 +118,7 @@ fn agrees_with_a_map(seed: u64) {
     assert_eq!(line.receive(), None);
     let number = line.start(1, 1).unwrap();
     turn(&mut desk);
-    assert_eq!(line.receive(), Some(Word::NotTaken { number, reason: Error::Closed }));
+    assert_eq!(line.receive(), Some(Word::NotTaken { number, action: 1, reason: Error::Closed }));
     assert_eq!(format!("{}, {}", Error::Closed, Error::Other(99)), "the desk was closed, status 99");
     line.finish().unwrap();
     assert_eq!((desk.end(0, &mut line), line.ended(), line.abandoned()), (Ok(0), true, false));

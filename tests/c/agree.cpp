@@ -417,15 +417,17 @@ static void fill_the_stack()
 		byte = 0xff;
 }
 
-/* The word of C is the bytes of the action, and 0 in those that the action lacks. The action comes back. */
+/* The bytes of the word of C are those of the action, and then 0. The action comes back. */
 template <class Action>
-static void keep(Action action, std::uint64_t word)
+static void keep(Action action)
 {
+	unsigned char word[8] = {};
+	std::memcpy(word, &action, sizeof action);
 	timing::timers<std::chrono::milliseconds, Action> timers;
 	timing::handle h;
 	const auto holds_word = [&] {
 		timers_expired seen;
-		HOLDS(timers_look(timers.raw(), h.raw(), &seen) == TIMERS_OK && seen.action == word);
+		HOLDS(timers_look(timers.raw(), h.raw(), &seen) == TIMERS_OK && std::memcmp(&seen.action, word, sizeof word) == 0);
 		const auto looked = timers.look(h);
 		HOLDS(looked && std::memcmp(&looked->action, &action, sizeof action) == 0);
 	};
@@ -446,13 +448,13 @@ static void keep_small_actions()
 {
 	struct three { unsigned char bytes[3]; };
 	enum class color : std::uint16_t { red = 0x1234 };
-	keep<unsigned char>(0xab, 0xab);
-	keep<std::uint16_t>(0xfffe, 0xfffe);
-	keep<std::uint32_t>(0xfedcba98, 0xfedcba98);
-	keep<std::uint64_t>(0xfedcba9876543210, 0xfedcba9876543210);
-	keep<std::int32_t>(-1, 0xffffffff);
-	keep<color>(color::red, 0x1234);
-	keep<three>({ { 1, 2, 3 } }, 0x030201);
+	keep<unsigned char>(0xab);
+	keep<std::uint16_t>(0xfffe);
+	keep<std::uint32_t>(0xfedcba98);
+	keep<std::uint64_t>(0xfedcba9876543210);
+	keep<std::int32_t>(-1);
+	keep<color>(color::red);
+	keep<three>({ { 1, 2, 3 } });
 }
 
 /* What a move leaves behind, or is put in place of, is freed, and nothing is freed twice. */

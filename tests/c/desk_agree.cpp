@@ -28,6 +28,15 @@ static void turn(timing::desk &desk)
 		;
 }
 
+/* The next word is that of the timer which this answer is about. */
+static void expired_at_once(timing::desk &desk, timing::line &line, const timers_word &answer)
+{
+	turn(desk);
+	const timers_word word = *line.receive();
+	CHECK(word.kind == TIMERS_WORD_EXPIRED && word.number == answer.number && word.action == answer.action);
+	CHECK(word.handle.serial == answer.handle.serial && word.deadline == answer.deadline && word.deadline == desk.now());
+}
+
 static void agrees(unsigned seed)
 {
 	std::mt19937_64 random(seed);
@@ -44,18 +53,19 @@ static void agrees(unsigned seed)
 		const timers_handle handle = chosen == model.end() ? timers_handle{ 0, 0 } : chosen->second.handle;
 		const unsigned choice = static_cast<unsigned>(random() % 5);
 		if (choice < 4) {
-			const std::uint64_t deadline = desk.now() + interval;
+			const std::uint64_t deadline = interval ? desk.now() + interval : random() % (desk.now() + 1);
+			const bool at = choice != 2 && action % 2 == 0;
 			const auto number = choice == 2 ? line.stop(handle)
-				: choice < 2 ? action % 2 ? line.start(interval, action) : line.start_at(deadline, action)
-				: action % 2 ? line.restart(handle, interval, action) : line.restart_at(handle, deadline, action);
+				: choice < 2 ? at ? line.start_at(deadline, action) : line.start(interval, action)
+				: at ? line.restart_at(handle, deadline, action) : line.restart(handle, interval, action);
 			CHECK(number == ++sent && !line.start(1, 1) && !line.stop(handle) && !line.restart(handle, 1, 1));
 			turn(desk);
 			const timers_word word = *line.receive();
-			CHECK(word.number == sent && !line.receive());
+			CHECK(word.number == sent && word.action == (choice == 2 ? 0 : action) && !line.receive());
 			unsigned reason = 0;
 			if (choice >= 2 && chosen == model.end())
 				reason = TIMERS_DESK_NOT_PENDING;
-			else if (choice != 2 && interval == 0)
+			else if (choice != 2 && !at && interval == 0)
 				reason = TIMERS_DESK_ZERO_INTERVAL;
 			else if (choice < 2 && model.size() == 20)
 				reason = TIMERS_DESK_CAPACITY;
@@ -67,7 +77,10 @@ static void agrees(unsigned seed)
 			}
 			if (!reason && choice != 2) {
 				CHECK(word.handle.serial == ++serial && word.deadline == desk.now() + interval);
-				model[{ word.deadline, serial }] = { word.handle, sent, action };
+				if (interval)
+					model[{ word.deadline, serial }] = { word.handle, sent, action };
+				else
+					expired_at_once(desk, line, word);
 			}
 		} else {
 			const std::uint64_t tick = desk.now() + interval;

@@ -607,16 +607,24 @@ static void stops_the_timers_of_a_client_that_is_gone(void)
 	timers_desk_free(&d);
 }
 
-/* A deadline counts from no tick: it matters only whether it is after the one at which the request is taken. */
+/* The next word is that of the timer which this answer is about. */
+static void expired_at_once(struct timers_line *l, const struct timers_word *answer)
+{
+	struct timers_word w;
+	CHECK(timers_line_receive(l, &w) && w.kind == TIMERS_WORD_EXPIRED && w.number == answer->number);
+	CHECK(w.handle.serial == answer->handle.serial && w.deadline == answer->deadline && w.action == answer->action);
+}
+
+/* A deadline counts from no tick. One that is not after the tick at which the request is taken is due at that tick. */
 static void starts_at_a_tick(void)
 {
 	struct timers_desk d = TIMERS_DESK_INIT;
 	struct timers_line l = TIMERS_LINE_INIT;
 	struct timers_desk_config config = { sizeof config, 100, 100, 40, 20, TIMERS_WIDE };
 	struct timers_word w, old;
-	const struct { uint64_t deadline; unsigned reason; } rows[] = {
-		{ 0, TIMERS_DESK_ZERO_INTERVAL }, { 109, TIMERS_DESK_ZERO_INTERVAL }, { 110, TIMERS_DESK_ZERO_INTERVAL },
-		{ 111, 0 }, { 500, 0 }, { TIMERS_LAST, 0 }, { TIMERS_LAST + 1, TIMERS_DESK_TOO_LATE }, { UINT64_MAX, TIMERS_DESK_TOO_LATE },
+	const struct { uint64_t deadline, at; unsigned reason; } rows[] = {
+		{ 0, 110, 0 }, { 109, 110, 0 }, { 110, 110, 0 }, { 111, 111, 0 }, { 500, 500, 0 }, { TIMERS_LAST, TIMERS_LAST, 0 },
+		{ TIMERS_LAST + 1, 0, TIMERS_DESK_TOO_LATE }, { UINT64_MAX, 0, TIMERS_DESK_TOO_LATE },
 	};
 	const size_t many = sizeof rows / sizeof *rows;
 	uint64_t n;
@@ -630,18 +638,32 @@ static void starts_at_a_tick(void)
 	owner_turn(&d);
 	for (size_t i = 0; i < many; i++) {
 		CHECK(timers_line_receive(&l, &w) && w.kind == (rows[i].reason ? TIMERS_WORD_REFUSED : TIMERS_WORD_STARTED));
-		CHECK(w.reason == rows[i].reason && w.number == i + 2 && w.deadline == (rows[i].reason ? 0 : rows[i].deadline));
+		CHECK(w.reason == rows[i].reason && w.number == i + 2 && w.deadline == rows[i].at && w.action == i);
+		if (rows[i].at == 110)                  /* it follows its answer, before the next one */
+			expired_at_once(&l, &w);
 	}
 	for (size_t i = 0; i < many; i++) {             /* and restarts: a refused one leaves the old timer */
 		CHECK(timers_line_restart_at(&l, old.handle, rows[i].deadline, i, &n) == TIMERS_DESK_OK);
 		owner_turn(&d);
 		CHECK(timers_line_receive(&l, &w) && w.kind == (rows[i].reason ? TIMERS_WORD_REFUSED : TIMERS_WORD_RESTARTED) && w.reason == rows[i].reason);
-		CHECK(w.reason || (w.deadline == rows[i].deadline && w.other == old.handle.serial));
+		CHECK(w.action == i && (w.reason || (w.deadline == rows[i].at && w.other == old.handle.serial)));
 		old = w.reason ? old : w;
+		if (rows[i].at != 110)
+			continue;
+		expired_at_once(&l, &w);
+		CHECK(timers_line_start(&l, 800, 0, &n) == TIMERS_DESK_OK);
+		owner_turn(&d);
+		CHECK(timers_line_receive(&l, &old) && old.kind == TIMERS_WORD_STARTED);
 	}
 	CHECK(timers_line_restart_at(&l, (struct timers_handle){ 9, 99 }, 0, 0, &n) == TIMERS_DESK_OK);
 	owner_turn(&d);
 	CHECK(timers_line_receive(&l, &w) && w.reason == TIMERS_DESK_NOT_PENDING && timers_desk_len(&d) == 4);
+	timers_desk_free(&d), timers_line_free(&l);
+	/* at the last tick there is no next one, and each deadline is too late */
+	config.first_tick = TIMERS_CLOCK_LAST, config.table = TIMERS_CLOCK;
+	CHECK(timers_desk_new(&d, &l, 1, &config) == TIMERS_DESK_OK && timers_line_start_at(&l, 5, 6, &n) == TIMERS_DESK_OK);
+	owner_turn(&d);
+	CHECK(timers_line_receive(&l, &w) && w.kind == TIMERS_WORD_REFUSED && w.reason == TIMERS_DESK_TOO_LATE && w.action == 6);
 	timers_desk_free(&d), timers_line_free(&l);
 }
 
@@ -733,7 +755,7 @@ static void refuses_a_line_of_an_earlier_life(void)
 	swap(&l[0], &old[0]);
 	/* the request of the present life still stands, and the word of the old one is still received */
 	CHECK(timers_desk_settle(&d, 0, &l[0], &s) == TIMERS_DESK_OK && s == 1);
-	CHECK(timers_line_receive(&old[0], &w) && w.kind == TIMERS_WORD_STARTED && w.action == 0 && !timers_line_ended(&old[0]));
+	CHECK(timers_line_receive(&old[0], &w) && w.kind == TIMERS_WORD_STARTED && w.action == 1 && !timers_line_ended(&old[0]));
 	CHECK(timers_line_abandoned(&old[0]) && timers_line_abandoned(&old[1]));
 	owner_turn(&d);
 	CHECK(timers_desk_advance(&d, 5, &n) == TIMERS_DESK_OK && n == 5 && timers_desk_flush(&d, 0) == 1);
@@ -763,6 +785,7 @@ static void messages(void)
 
 int main(void)
 {
+	blocks = 0;                   /* what the C library allocated before does not count */
 	empty_structs();
 	freed_lines(2, 4, 4);
 	freed_lines(16, 8, 8);

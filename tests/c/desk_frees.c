@@ -10,12 +10,12 @@
 
 #define CHECK(fact) do { if (!(fact)) { fprintf(stderr, "line %d: %s\n", __LINE__, #fact); abort(); } } while (0)
 
-struct client { struct timers_line *line; unsigned long seed; unsigned long words; bool abandoned; };
+struct client { struct timers_line *line; uint64_t seed; unsigned long words; bool abandoned; };
 
-static unsigned long draw(unsigned long *seed)
+static unsigned long draw(uint64_t *seed)
 {
-	*seed = *seed * 6364136223846793005ul + 1442695040888963407ul;
-	return *seed >> 33;
+	*seed = *seed * UINT64_C(6364136223846793005) + UINT64_C(1442695040888963407);
+	return (unsigned long)(*seed >> 33);
 }
 
 static void *work(void *at)
@@ -58,7 +58,8 @@ static void *work(void *at)
 int main(int argc, char **argv)
 {
 	CHECK(argc >= 3);
-	unsigned long rounds = strtoul(argv[1], NULL, 10), clients = strtoul(argv[2], NULL, 10), seed = argc > 3 ? strtoul(argv[3], NULL, 10) : 1, words = 0;
+	unsigned long rounds = strtoul(argv[1], NULL, 10), clients = strtoul(argv[2], NULL, 10), words = 0;
+	uint64_t seed = argc > 3 ? strtoul(argv[3], NULL, 10) : 1;
 	CHECK(clients <= 64);
 	for (unsigned long r = 0; r < rounds; r++) {
 		struct timers_desk d = TIMERS_DESK_INIT;

@@ -61,6 +61,8 @@ struct model {
 		return interval == 0 ? TIMERS_DESK_ZERO_INTERVAL : interval > TIMERS_LAST - now ? TIMERS_DESK_TOO_LATE : TIMERS_DESK_OK;
 	}
 	std::uint64_t interval_of(const request &r) const { return !r.at ? r.interval : r.interval > now ? r.interval - now : 0; }
+	/* a deadline that has passed is refused as one at the next tick */
+	unsigned refusal_of(const request &r) const { return interval_refusal(r.at && r.interval <= now ? 1 : interval_of(r)); }
 	void begin(std::size_t c, const request &r, timers_word &word)
 	{
 		word.handle.serial = serial++;
@@ -71,7 +73,7 @@ struct model {
 	timers_word answer(std::size_t c, const request &r)
 	{
 		timers_word word = {};
-		word.number = r.number;
+		word.number = r.number, word.action = r.kind == 1 ? 0 : r.action;
 		word.kind = TIMERS_WORD_NOT_TAKEN;
 		word.reason = TIMERS_DESK_CLOSED;
 		if (closed)
@@ -83,7 +85,7 @@ struct model {
 		clients[c].taken++;
 		const auto old = find(c, r.handle);
 		word.reason = r.kind > 0 && old == pending.end() ? (unsigned)TIMERS_DESK_NOT_PENDING
-			: r.kind != 1 ? interval_refusal(interval_of(r)) : (unsigned)TIMERS_DESK_OK;
+			: r.kind != 1 ? refusal_of(r) : (unsigned)TIMERS_DESK_OK;
 		if (!word.reason && r.kind == 0 && pending.size() == config.capacity)
 			word.reason = TIMERS_DESK_CAPACITY;
 		word.kind = word.reason ? TIMERS_WORD_REFUSED : r.kind == 0 ? TIMERS_WORD_STARTED : r.kind == 1 ? TIMERS_WORD_STOPPED : TIMERS_WORD_RESTARTED;
@@ -117,6 +119,7 @@ struct model {
 		if (it.requests.empty())
 			return TIMERS_DESK_IDLE;
 		it.outbox.push_back(answer(c, it.requests.front()));
+		hand_out(TIMERS_WORD_EXPIRED, now);             /* a timer that is due at once */
 		it.requests.pop_front();
 		return TIMERS_DESK_OK;
 	}

@@ -8,6 +8,7 @@
  * words the clients received, how many of each kind, and how long it took. At the end each client's words are ended, and
  * it has read them all. bench/desk_threads.c times such threads. With -DREFUSE five of six allocations of the owner are
  * refused while the threads work, and no call of a client allocates. */
+#define _POSIX_C_SOURCE 200809L
 #include <inttypes.h>
 #include <pthread.h>
 #include <sched.h>

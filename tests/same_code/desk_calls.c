@@ -21,7 +21,7 @@ static struct timers_desk_config config;
 static uint64_t status_seen(enum timers_desk_status status)
 {
 	SEEN(timers_desk_status, (uint32_t)status);
-	return (uint32_t)status;
+	return returned((uint32_t)status);
 }
 
 static uint64_t random_ticks(uint64_t from)
@@ -78,7 +78,8 @@ static void make_new(void)
 	status = status_seen(timers_desk_new(d, lines, count, &asked));
 	if (status == TIMERS_DESK_OK)
 		*made = count;
-	TOLD(timers_desk_new, count, asked.size, asked.table, asked.first_tick, asked.capacity, asked.room, asked.line, status, d->lives);
+	TOLD(timers_desk_new, count, asked.size, asked.table, asked.first_tick, asked.capacity, asked.room, asked.line, status,
+	     d->lives);
 }
 
 static void make_free(void)
@@ -338,13 +339,14 @@ static bool is_answered(struct timers_word *word, uint32_t kind)
 	       && word->kind == kind;
 }
 
-/* Almost all serials are used up, or the client's numbers. The words that count them, at the desk and at the client's end, are those
- * that follow what a few starts return. Each timer is stopped again, and the line is a second one of the client's number,
- * so that nothing else counts alike. */
-static void spend(void)
+/* Almost all serials are used up, or the client's numbers, or they come to 33 bits. The words that count them, at the desk
+ * and at the client's end, are those that follow what a few starts return. Each timer is stopped again, and the line is a
+ * second one of the client's number, so that nothing else counts alike. */
+static void use_up(void)
 {
 	struct followers serials = { 0 }, next_serials = { 0 }, numbers = { 0 }, next_numbers = { 0 };
 	struct timers_word word;
+	const uint64_t end = below(3) != 0 ? TIMERS_LAST : UINT64_C(1) << 32;
 	uint64_t number;
 	int i;
 
@@ -361,12 +363,18 @@ static void spend(void)
 		memory_follow(&next_numbers, number + 1);
 	}
 	if (below(2) == 0) {
-		memory_set(&serials, TIMERS_LAST - 2);
-		memory_set(&next_serials, TIMERS_LAST - 1);
+		memory_set(&serials, end - 2);
+		memory_set(&next_serials, end - 1);
 	} else {
-		memory_set(&numbers, TIMERS_LAST - 4);
-		memory_set(&next_numbers, TIMERS_LAST - 3);
+		memory_set(&numbers, end - 4);
+		memory_set(&next_numbers, end - 3);
 	}
+}
+
+static void spend(void)
+{
+	use_up();
+	forget_requests();
 }
 
 static const struct step STEPS[] = {

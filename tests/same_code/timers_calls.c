@@ -20,7 +20,7 @@ static uint64_t cursor;
 static uint64_t status_seen(enum timers_status status)
 {
 	SEEN(timers_status, (uint32_t)status);
-	return (uint32_t)status;
+	return returned((uint32_t)status);
 }
 
 static bool is_open(void)
@@ -182,9 +182,14 @@ static void make_set_at(void)
 	struct timers_handle handle = random_handle();
 	const struct timers_handle before = handle;
 	const uint64_t tick = random_tick(), action = next_random();
+	struct timers_expired held;
+	const bool is_held = timers_look(t, handle, &held) == TIMERS_OK;
 	const enum timers_status status = timers_set_at(t, &handle, tick, action);
 
-	TOLD(timers_set_at, HANDLE(before), tick, action, status_seen(status), HANDLE(handle));
+	if (is_held)
+		TOLD(timers_set_at_held, HANDLE(before), tick, action, status_seen(status), HANDLE(handle));
+	else
+		TOLD(timers_set_at, HANDLE(before), tick, action, status_seen(status), HANDLE(handle));
 	keep(status, handle, true);
 }
 
@@ -325,8 +330,8 @@ void call_timers(uint64_t length)
 	spread = 2 + below(table == TIMERS_CLOCK ? 22 : 58);
 	t = both;
 	name = names;
-	if (below(16) == 0)
-		t->last_serial = TIMERS_LAST - below(length);
+	if (below(8) == 0)
+		t->last_serial = (below(3) != 0 ? TIMERS_LAST : UINT64_C(1) << 32) - below(64);
 	make_new();
 	make_steps(STEPS, sizeof STEPS / sizeof *STEPS, length);
 	told_state();

@@ -3,6 +3,7 @@
 
 #include <inttypes.h>
 #include <stdio.h>
+#include <string.h>
 
 #include "memory.h"
 
@@ -10,7 +11,8 @@ uint64_t seen_timers_status[SEEN_MOST], seen_timers_desk_status[SEEN_MOST], seen
 bool traces;
 uint64_t calls;
 
-static uint64_t hash, state;
+static uint64_t hash, state, requests;
+static uint32_t status_of_call;
 static struct call *known;
 
 static void mix(uint64_t value)
@@ -33,6 +35,10 @@ void told(struct call *call, const uint64_t *values, size_t count)
 		call->next = known;
 		known = call;
 	}
+	call->returned[status_of_call]++;
+	call->requests[status_of_call] += requests;
+	status_of_call = 0;
+	requests = 0;
 	calls++;
 	mix_text(call->name);
 	for (i = 0; i < count; i++)
@@ -45,8 +51,20 @@ void told(struct call *call, const uint64_t *values, size_t count)
 	printf("; memory %016" PRIx64 "\n", memory_hash());
 }
 
+uint32_t returned(uint32_t status)
+{
+	status_of_call = status < SEEN_MOST ? status : SEEN_MOST - 1;
+	return status;
+}
+
+void forget_requests(void)
+{
+	requests = 0;
+}
+
 void told_memory(const char *what, uint64_t size, uint64_t block)
 {
+	requests += strcmp(what, "releases") != 0;
 	mix_text(what);
 	mix(size);
 	mix(block);
@@ -58,6 +76,7 @@ void begin_trace(void)
 {
 	hash = 1;
 	calls = 0;
+	requests = 0;
 }
 
 void told_state(void)
@@ -80,12 +99,25 @@ static void print_seen(const char *kind, const uint64_t *counts)
 	}
 }
 
+static void print_statuses(const struct call *call)
+{
+	int i;
+
+	for (i = 0; i < SEEN_MOST; i++) {
+		if (call->returned[i] != 0)
+			printf("status %s %d %" PRIu64 "\nrequests %s %d %" PRIu64 "\n", call->name, i, call->returned[i],
+			       call->name, i, call->requests[i]);
+	}
+}
+
 void print_counts(void)
 {
 	const struct call *call;
 
-	for (call = known; call != NULL; call = call->next)
+	for (call = known; call != NULL; call = call->next) {
 		printf("call %s %" PRIu64 "\n", call->name, call->times);
+		print_statuses(call);
+	}
 	print_seen("timers_status", seen_timers_status);
 	print_seen("timers_desk_status", seen_timers_desk_status);
 	print_seen("timers_word_kind", seen_timers_word_kind);

@@ -50,7 +50,8 @@ y:
   %r = xor i1 %c, true
   ret i1 %r""")
     for to in WIDTHS:
-        for op in ('zext', 'sext') if to > w else ('trunc',) if to < w else ():
+        op = 'zext' if to > w else 'trunc'
+        if to != w:
             value(f'{op}{w}_{to}', to, [w], f'{op} i{w} %a to i{to}')
     value(f'trunc{w}_1', 1, [w], f'trunc i{w} %a to i1')
     for op in ('zext', 'sext'):
@@ -58,10 +59,6 @@ y:
     for name in ('umin', 'umax', 'usub.sat', 'uadd.sat'):
         declare(f'i{w} @llvm.{name}.i{w}(i{w}, i{w})')
         value(f'llvm_{name.replace(".", "_")}{w}', w, [w, w], f'call i{w} @llvm.{name}.i{w}(i{w} %a, i{w} %b)')
-    for name in ('cttz', 'abs') + (('ctlz',) if w >= 32 else ()) + (('ctpop',) if w == 64 else ()):
-        second = '' if name == 'ctpop' else ', i1 false'
-        declare(f'i{w} @llvm.{name}.i{w}(i{w}{second[:4]})')
-        value(f'llvm_{name}{w}', w, [w], f'call i{w} @llvm.{name}.i{w}(i{w} %a{second})')
     case(f'select{w}', w, [w, w], f'  %c = icmp ult i{w} %a, 9\n  %r = select i1 %c, i{w} %b, i{w} %a\n  ret i{w} %r')
     case(f'select{w}_constants', w, [w], f"""  %c = icmp ult i{w} %a, 9
   %s = select i1 %c, i{w} -1, i{w} 1
@@ -105,6 +102,9 @@ z:
 d:
   %r = phi i{w} [ 1, %0 ], [ 1, %0 ], [ %b, %x ], [ %p, %y ]
   ret i{w} %r""")
+for name, second in (('cttz', ', i1 false'), ('ctlz', ', i1 false'), ('abs', ', i1 false'), ('bswap', '')):
+    declare(f'i64 @llvm.{name}.i64(i64{second[:4]})')
+    value(f'llvm_{name}64', 64, [64], f'call i64 @llvm.{name}.i64(i64 %a{second})')
 for name, text in (('and', 'and i1 %c, %d'), ('or', 'or i1 %c, %d'), ('xor', 'xor i1 %c, %d'), ('eq', 'icmp eq i1 %c, %d'),
                    ('both', 'select i1 %c, i1 %d, i1 false'), ('either', 'select i1 %c, i1 true, i1 %d'),
                    ('choice', 'select i1 %c, i1 %d, i1 %e')):
@@ -164,7 +164,7 @@ for how in ('olt', 'ole', 'ogt', 'oge', 'oeq', 'ult', 'ule', 'ugt', 'uge', 'une'
   %z = fdiv double %x, %y
   %r = fcmp {how} double %z, 0x3FF0000000000000
   ret i1 %r""")
-case('double_memory', 64, [64], """  %m = alloca [2 x i64], align 8
+case('double_memory', 64, [64], """  %m = alloca [16 x i8], align 8
   store i64 %a, ptr %m, align 8
   %x = load double, ptr %m, align 8
   %p = getelementptr inbounds i8, ptr %m, i64 8
@@ -183,15 +183,7 @@ for w in (48, 56):
   %q = load i64, ptr %m, align 8
   %r = add i64 %z, %q
   ret i64 %r""")
-case('memory1', 8, [8], """  %m = alloca [1 x i8], align 1
-  %c = icmp ult i8 %a, 9
-  store i1 %c, ptr %m, align 1
-  %d = load i1, ptr %m, align 1
-  %n = zext i1 %d to i8
-  %q = load i8, ptr %m, align 1
-  %r = add i8 %n, %q
-  ret i8 %r""")
-case('memory128', 64, [64, 64], """  %m = alloca [2 x i64], align 16
+case('memory128', 64, [64, 64], """  %m = alloca [16 x i8], align 16
   %x = zext i64 %a to i128
   %y = shl i128 %x, 64
   %z = zext i64 %b to i128
@@ -205,10 +197,11 @@ case('memory128', 64, [64, 64], """  %m = alloca [2 x i64], align 16
   ret i64 %r""")
 
 # Pointers: in memory, in comparisons, from numbers, from indices.
-case('in_memory', 64, [8, 64], """  %m = alloca [32 x i64], align 8
+case('in_memory', 64, [8, 64], """  %m = alloca [256 x i8], align 8
   %k = and i8 %a, 15
   %i = zext i8 %k to i64
-  %p = getelementptr inbounds [32 x i64], ptr %m, i64 0, i64 %i
+  %j = shl i64 %i, 3
+  %p = getelementptr inbounds i8, ptr %m, i64 %j
   store i64 %b, ptr %p, align 8
   %q = getelementptr inbounds i8, ptr %m, i64 128
   store ptr %p, ptr %q, align 8
@@ -223,18 +216,6 @@ case('in_memory', 64, [8, 64], """  %m = alloca [32 x i64], align 8
   %z = mul i64 %x, %y
   %r = add i64 %v, %z
   ret i64 %r""")
-case('fields', 32, [64, 32], """  %m = alloca [4 x { i8, i64, i32 }], align 8
-  call void @llvm.memset.p0.i64(ptr %m, i8 5, i64 96, i1 false)
-  %k = and i64 %a, 3
-  %p = getelementptr [4 x { i8, i64, i32 }], ptr %m, i64 0, i64 %k, i32 2
-  store i32 %b, ptr %p, align 4
-  %q = getelementptr i8, ptr %m, i64 64
-  %x = load i32, ptr %q, align 4
-  %s = getelementptr { i8, i64, i32 }, ptr %m, i64 %k
-  %t = getelementptr i32, ptr %s, i64 4
-  %y = load i32, ptr %t, align 4
-  %r = sub i32 %x, %y
-  ret i32 %r""")
 case('backwards', 8, [64, 8], """  %m = alloca [24 x i8], align 8
   call void @llvm.memset.p0.i64(ptr %m, i8 1, i64 24, i1 false)
   %k = and i64 %a, 7
@@ -262,29 +243,6 @@ case('call_between', 64, [64, 64], """  %m = alloca i64, align 8
   %z = mul i64 %y, 3
   %r = sub i64 %x, %z
   ret i64 %r""")
-case('pointer_changes', 64, [64, 64], """  %m = alloca [4 x i64], align 8
-  %p = getelementptr inbounds i8, ptr %m, i64 16
-  store ptr %p, ptr %m, align 8
-  %q = load ptr, ptr %m, align 8
-  %v = insertvalue { ptr, i64 } zeroinitializer, ptr %p, 0
-  %w = insertvalue { ptr, i64 } %v, i64 %b, 1
-  store { ptr, i64 } %w, ptr %q, align 8
-  %s = getelementptr inbounds i8, ptr %m, i64 24
-  %x = load i64, ptr %s, align 8
-  %t = load { ptr, i64 }, ptr %p, align 8
-  store i64 %a, ptr %s, align 8
-  %y = extractvalue { ptr, i64 } %t, 1
-  %z = mul i64 %y, 5
-  %r = add i64 %x, %z
-  ret i64 %r""")
-case('own_pointer_changes', 64, [64], """  %m = alloca [4 x i64], align 8
-  store ptr %m, ptr %m, align 8
-  %f = insertvalue { ptr, i64 } { ptr null, i64 1 }, i64 %a, 1
-  %q = load ptr, ptr %m, align 8
-  store { ptr, i64 } %f, ptr %q, align 8
-  %s = getelementptr inbounds i8, ptr %m, i64 8
-  %x = load i64, ptr %s, align 8
-  ret i64 %x""")
 case('over_kept', 64, [64, 64], """  %m = alloca i64, align 8
   store i64 %a, ptr %m, align 8
   %x = load i64, ptr %m, align 8
@@ -330,7 +288,7 @@ case('volatile_load', 8, [8, 8], """  %m = alloca i8, align 1
   %y = load volatile i8, ptr %m, align 1
   %r = sub i8 %x, %y
   ret i8 %r""")
-case('moves', 64, [64, 64], """  %m = alloca [6 x i64], align 8
+case('moves', 64, [64, 64], """  %m = alloca [48 x i8], align 8
   call void @llvm.memset.p0.i64(ptr %m, i8 9, i64 48, i1 false)
   store i64 %a, ptr %m, align 8
   %p = getelementptr inbounds i8, ptr %m, i64 8
@@ -424,7 +382,8 @@ more:
   %w = zext i8 %p to i64
   %s3 = add i64 %s1, %w
   %j1 = add i8 %j, 1
-  br label %inner
+  %huge = icmp ugt i8 %p, 200
+  br i1 %huge, label %out, label %inner
 next:
   %s2 = phi i64 [ %s1, %inner ], [ %s1, %body ]
   %i1 = add i8 %i, 3
@@ -434,7 +393,7 @@ found:
   %g = add i64 %s1, 77777
   br label %out
 out:
-  %r = phi i64 [ %s, %outer ], [ %s2, %next ], [ %g, %found ]
+  %r = phi i64 [ %s, %outer ], [ %s2, %next ], [ %g, %found ], [ %s3, %more ]
   %q = xor i64 %r, 5
   ret i64 %q""")
 case('two_joins', 64, [8, 64], """  switch i8 %a, label %c [
@@ -460,8 +419,8 @@ second:
 case('outer_again', 64, [8, 8], """start:
   br label %outer
 outer:
-  %i = phi i8 [ 0, %start ], [ %i1, %inner ], [ %i1, %last ]
-  %s = phi i64 [ 0, %start ], [ %s2, %inner ], [ %s3, %last ]
+  %i = phi i8 [ 0, %start ], [ %i1, %inner ]
+  %s = phi i64 [ 0, %start ], [ %s2, %inner ]
   %i1 = add i8 %i, 1
   %end = icmp ugt i8 %i, 40
   br i1 %end, label %out, label %inner
@@ -477,11 +436,25 @@ more:
   %s3 = mul i64 %s2, 5
   %stop = icmp ult i8 %b, 2
   %both = or i1 %near, %stop
-  br i1 %both, label %last, label %inner
-last:
-  br label %outer
+  br i1 %both, label %out, label %inner
 out:
-  ret i64 %s""")
+  %t = phi i64 [ %s, %outer ], [ %s3, %more ]
+  %q = xor i64 %t, 9
+  ret i64 %q""")
+case('one_of_two', 8, [8, 8], """  %k = and i8 %a, 1
+  switch i8 %k, label %never [
+    i8 1, label %x
+    i8 0, label %y
+  ]
+x:
+  ret i8 %b
+y:
+  %r = add i8 %b, 9
+  ret i8 %r
+never:
+  unreachable""")
+for mask in (2305843009213693944, 2305843009213693951, 536870904, 1152921504606846968):
+    case(f'shift_and_mask_{mask}', 64, [64], f'  %x = lshr i64 %a, 3\n  %r = and i64 %x, {mask}\n  ret i64 %r')
 case('same_way', 8, [8], """  %c = icmp eq i8 %a, 0
   br i1 %c, label %x, label %x
 x:
@@ -518,8 +491,8 @@ no:
   ret i1 %r""")
 case('constants', 64, [8], """  %k = and i8 %a, 3
   %i = zext i8 %k to i64
-  %p = getelementptr inbounds i64, ptr @table, i64 %i
-  %x = load i64, ptr %p, align 8
+  %p = getelementptr i8, ptr @table, i64 %i
+  %x = load i64, ptr %p, align 1
   %q = getelementptr inbounds i8, ptr @text, i64 %i
   %y = load i8, ptr %q, align 1
   %s = load ptr, ptr getelementptr inbounds (i8, ptr @pointers, i64 16), align 8
@@ -559,7 +532,7 @@ case('bytes', 64, [8, 8], """  %m = alloca [128 x i8], align 16
   ret i64 %r""")
 
 HELPERS = '''target datalayout = "e-m:e-i64:64-i128:128-n8:16:32:64-S128"
-@table = private unnamed_addr constant [4 x i64] [i64 5, i64 -1, i64 81985529216486895, i64 0], align 8
+@table = private unnamed_addr constant [16 x i8] c"0123456789abcdef", align 8
 @text = private unnamed_addr constant [9 x i8] c"a\\22\\5C\\00?zz\\FF!", align 8
 @pointers = private constant <{ [16 x i8], ptr }> <{ [16 x i8] zeroinitializer, ptr getelementptr (i8, ptr @text, i64 5) }>, align 8
 define internal void @set(ptr noalias %p, i64 %n) #0 {
@@ -608,7 +581,19 @@ REFUSED = [
     ('define i64 @f(i64 %a) {\n  %r = frobnicate i64 %a\n  ret i64 %r\n}', 2),
     ('define i64 @f(i64 %a) {\n  %r = add i64 %a, 1, !x !0, surprise\n  ret i64 %r\n}', 2),
     ('define i64 @f(i64 %a) {\n  %r = add i64 %a, 1 surprise\n  ret i64 %r\n}', 2),
-    ('define i24 @f(i24 %a) {\n  %r = add i24 %a, 1\n  ret i24 %r\n}', 2),
+    ('define i24 @f(i24 %a) {\n  %r = add i24 %a, 1\n  ret i24 %r\n}', 1),
+    ('define ptr @f(ptr %a, i64 %i) {\n  %r = getelementptr i64, ptr %a, i64 %i\n  ret ptr %r\n}', 2),
+    ('define i1 @f(ptr %a) {\n  %r = load i1, ptr %a, align 1\n  ret i1 %r\n}', 2),
+    ('define { i64, i64 } @f(ptr %a) {\n  %r = load { i64, i64 }, ptr %a, align 8\n  ret { i64, i64 } %r\n}', 2),
+    ('define void @f() {\n  %r = alloca { i8, i64 }, align 8\n  ret void\n}', 2),
+    ('@x = internal constant [2 x i64] [i64 1, i64 2], align 8\n', 1),
+    ('define i48 @f(i48 %a) {\n  %r = add i48 %a, 1\n  ret i48 %r\n}', 2),
+    ('define i128 @f(i128 %a) {\n  %r = udiv i128 %a, 3\n  ret i128 %r\n}', 2),
+    ('define void @f(<2 x i64> %a) {\n  ret void\n}', 1),
+    ('define void @f(ptr %a) {\n  %r = load <16 x i8>, ptr %a, align 1\n  store <16 x i8> %r, ptr %a, align 1\n  ret void\n}', 3),
+    ('declare i32 @llvm.ctpop.i32(i32)\ndefine i32 @f(i32 %a) {\n  %r = call i32 @llvm.ctpop.i32(i32 %a)\n  ret i32 %r\n}', 3),
+    ('define i64 @f(ptr %a) {\n  %r = call i64 (ptr, ...) @g(ptr %a)\n  ret i64 %r\n}', 2),
+    ('define i1 @f(i64 %a) {\n  %x = uitofp i64 %a to double\n  %r = fcmp ueq double %x, 1.000000e+00\n  ret i1 %r\n}', 3),
     ('define i64 @f(i64 %a) {\n  %r = sdiv i64 %a, 3\n  ret i64 %r\n}', 2),
     ('define i1 @f(i1 %a, i1 %b) {\n  %r = add i1 %a, %b\n  ret i1 %r\n}', 2),
     ('define i1 @f(i1 %a, i1 %b) {\n  %r = icmp ult i1 %a, %b\n  ret i1 %r\n}', 2),
@@ -625,7 +610,7 @@ REFUSED = [
     ('define void @f(ptr %a) {\n  store volatile i64 0, ptr %a, align 8\n  ret void\n}', 2),
     ('define void @f(ptr %a) {\n  call void @llvm.memset.p0.i64(ptr %a, i8 0, i64 8, i1 true)\n  ret void\n}', 2),
     ('define i64 @f(i64 %a) {\n  %r = shl i64 %a, 64\n  ret i64 %r\n}', 2),
-    ('define void @f() {\n  br label %x\nx:\n  %m = alloca i64, align 8\n  br label %x\n}', 4),
+    ('define void @f() {\n  br label %x\nx:\n  %m = alloca i64, align 8\n  store i64 1, ptr %m, align 8\n  br label %x\n}', 4),
     ('define void @f(i1 %a) {\n  br i1 %a, label %x, label %y\nx:\n  br label %y\ny:\n  br label %x\n}', 1),
     ('@x = thread_local global i64 0, align 8\n', 1),
     ('@x = internal constant i64 0, align 8\n', 1),

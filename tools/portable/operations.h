@@ -10,8 +10,6 @@ INLINE uintN_t loadN(const byte *p) { uintN_t v; memcpy(&v, ALIGNED(p, N / 8), N
 INLINE void storeN(byte *p, uintN_t v) { v = LITTLEN(v); memcpy(ALIGNED(p, N / 8), &v, N / 8); }
 INLINE uintN_t loadNu(const byte *p) { uintN_t v; memcpy(&v, p, N / 8); return LITTLEN(v); }
 INLINE void storeNu(byte *p, uintN_t v) { v = LITTLEN(v); memcpy(p, &v, N / 8); }
-INLINE bool loadbit(const byte *p) { return (*p & 1) != 0; }
-INLINE void storebit(byte *p, bool v) { *p = v; }
 INLINE byte *loadptr(const byte *p) { return (byte *)(uintptr_t)load64(p); }
 INLINE byte *loadptru(const byte *p) { return (byte *)(uintptr_t)load64u(p); }
 INLINE void storeptr(byte *p, byte *v) { store64(p, (uint64_t)(uintptr_t)v); }
@@ -43,9 +41,5 @@ INLINE uint64_t ctlz64(uint64_t x)
 	return 64 - ctpop64(x);
 }
 #endif
-INLINE uint32_t cttz32(uint32_t x) { return x != 0 ? (uint32_t)cttz64(x) : 32; }
-INLINE uint16_t cttz16(uint16_t x) { return (uint16_t)(x != 0 ? cttz64(x) : 16); }
-INLINE uint8_t cttz8(uint8_t x) { return (uint8_t)(x != 0 ? cttz64(x) : 8); }
-INLINE uint32_t ctlz32(uint32_t x) { return (uint32_t)(ctlz64(x) - 32); }
 INLINE uint32_t bswap32(uint32_t x) { return x >> 24 | (x >> 8 & 0xff00u) | (x << 8 & 0xff0000u) | x << 24; }
 INLINE uint64_t bswap64(uint64_t x) { return (uint64_t)bswap32((uint32_t)(x >> 32)) | (uint64_t)bswap32((uint32_t)x) << 32; }

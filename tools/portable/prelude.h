@@ -6,10 +6,14 @@
 #include <stdlib.h>
 #include <string.h>
 
+#if CHAR_BIT != 8 || UINT_MAX != 0xffffffffu
+#error "the code needs bytes of 8 bits, and an int of 32"
+#endif
 typedef unsigned char byte;
 
 #if defined(__GNUC__)
 #define INLINE static inline __attribute__((unused))
+#define ALWAYS_INLINE inline __attribute__((always_inline))
 #define NOINLINE __attribute__((noinline))
 #define COLD __attribute__((noinline, cold))
 #define ALIGN(n) __attribute__((aligned(n)))
@@ -17,6 +21,7 @@ typedef unsigned char byte;
 #define UNREACHABLE() __builtin_unreachable()
 #elif defined(_MSC_VER)
 #define INLINE static __inline
+#define ALWAYS_INLINE __forceinline
 #define NOINLINE __declspec(noinline)
 #define COLD __declspec(noinline)
 #define ALIGN(n) __declspec(align(n))
@@ -24,6 +29,7 @@ typedef unsigned char byte;
 #define UNREACHABLE() __assume(0)
 #else
 #define INLINE static inline
+#define ALWAYS_INLINE inline
 #define NOINLINE
 #define COLD
 #define ALIGN(n)

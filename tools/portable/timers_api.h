@@ -6,7 +6,7 @@ INLINE void turn(void *numbers, size_t n)
 #if SWAPS
 	byte *p = (byte *)numbers;
 	for (; n != 0; n--, p += 8)
-		st64u(p, bswap64(ld64u(p)));
+		store64u(p, bswap64(load64u(p)));
 #else
 	(void)numbers;
 	(void)n;

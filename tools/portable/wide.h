@@ -68,11 +68,12 @@ INLINE void storedouble(byte *p, double v) { store64(p, bits_of(v)); }
 INLINE void storedoubleu(byte *p, double v) { store64u(p, bits_of(v)); }
 
 /* A pointer in a constant: 8 bytes, of which a pointer of 32 bits takes the lower ones. */
-#if UINTPTR_MAX > 0xffffffffu && !SWAPS
+#if SWAPS
+#error "the program is for little-endian processors: its constants have pointers (the library, timers.c, is for both)"
+#endif
+#if UINTPTR_MAX > 0xffffffffu
 typedef const byte *POINTER;
 #define AT(p) p
-#elif SWAPS
-#error "constants with pointers are little-endian"
 #else
 typedef struct { const byte *p; uint32_t zero; } POINTER;
 #define AT(p) { p, 0 }

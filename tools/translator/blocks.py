@@ -12,7 +12,7 @@ from collections import namedtuple
 
 from translator import expressions
 from translator.expressions import PURE, Expression, access, c_type, call, cast, intrinsic, number, plus, variable
-from translator.lines import Address, AddressOf, Global, Local, Number, Offset, Parts, Real, Struct, Zero, offsets_of
+from translator.lines import AddressOf, Global, Local, Number, Offset, Real, Struct, Zero
 from translator.statements import Statement, branch
 
 # Where control goes from the end of a list of statements, and where `continue` and `break` go.
@@ -32,7 +32,8 @@ def is_optional(i):
 
 
 class Writer:
-    def __init__(self, function, names, constants):
+    def __init__(self, function, names, constants, words=()):
+        self.words = words if len(words) == len(function.parameters) else ()
         self.function, self.flow, self.names, self.constants = function, function.flow, names, constants
         self.values = {}                                # the expression of each value
         self.waiting = {}                               # those of this block that are written where they are used
@@ -44,8 +45,8 @@ class Writer:
         self.uses = self.count_uses()
 
     def body(self):
-        for parameter in self.function.parameters:
-            e = self.new(parameter.of)
+        for k, parameter in enumerate(self.function.parameters):
+            e = variable(self.words[k]) if self.words else self.new(parameter.of)
             self.values[parameter.name] = e
             self.parameters.append(e.text)
         if self.flow.entry in self.flow.loops:
@@ -65,7 +66,8 @@ class Writer:
             incoming = [(before, value.name) for before, value in getattr(i, 'incoming', {}).items() if isinstance(value, Local)]
             for where, name in incoming or [(label, name) for name in i.uses()]:
                 if where in self.flow.at:
-                    found += [definitions[name]] if name in definitions and name not in uses else []
+                    if name not in uses and name in definitions and is_optional(definitions[name][1]):
+                        found.append(definitions[name])
                     uses.setdefault(name, []).append(where)
         return uses
 
@@ -101,10 +103,6 @@ class Writer:
             return plus(self.value('ptr', value.base), value.offset)
         if isinstance(value, AddressOf):
             return cast('uint64_t', cast('uintptr_t', self.value('ptr', value.base)))
-        if isinstance(value, Address):
-            return Expression(f'(byte *)(uintptr_t){number(value.number, 64)}', expressions.UNARY)
-        if isinstance(value, Parts) and isinstance(of, Struct):
-            return call(f'{c_type(of)}_of', *[self.value(*part) for part in value.values])
         return self.function.line.fail(f'the value {value}')
 
     def zero(self, of):
@@ -132,14 +130,6 @@ class Writer:
         self.values[i.name] = self.new(i.type)
         out.append(Statement('set', e, self.values[i.name].text))
 
-    def kept(self, of, e, out):
-        """For what is written more than once: memory may change after the first time."""
-        if re.fullmatch(r'\w+', e.text):
-            return e
-        found = self.new(of)
-        out.append(Statement('set', e, found.text))
-        return found
-
     def before_a_change(self, out):
         """What waits, and reads memory, is written now."""
         for name, i in list(self.waiting.items()):
@@ -161,7 +151,7 @@ class Writer:
         return out
 
     def instruction(self, i, operands, out):
-        changes = i.op not in PURE or i.op == 'load' and (i.order or i.volatile or isinstance(i.type, Struct))
+        changes = i.op not in PURE or i.op == 'load' and (i.order or i.volatile)
         e = intrinsic(i, *operands) if i.op == 'call' else None if changes else PURE[i.op](i, *operands)
         if e is not None:
             self.settle(i, e, out)
@@ -173,12 +163,12 @@ class Writer:
             if i.op not in EFFECTS:
                 i.line.fail(f'nothing is known of {i.op} here')
             self.before_a_change(out)
-            e = EFFECTS[i.op](self, i, out, *operands)
-            if i.type == 'void' and e is not None:
+            e = EFFECTS[i.op](self, i, *operands)
+            if i.type == 'void':
                 out.append(Statement('do', e))
-            elif i.type != 'void' and i.name in self.uses:
+            elif i.name in self.uses:
                 self.let(i, e, out)
-            elif i.type != 'void':
+            else:
                 out.append(Statement('do', cast('void', e)))
 
     def alloca(self, i):
@@ -192,37 +182,27 @@ class Writer:
         of = i.type
         if isinstance(i.operands[0][1], Zero):
             fields = [self.zero(field) for field in of.fields]
-        elif isinstance(i.operands[0][1], Parts):
-            fields = [self.value(*field) for field in i.operands[0][1].values]
         else:
             fields = [Expression(f'{whole}.f{k}', expressions.ATOM, [whole]) for k in range(len(of.fields))]
         fields[i.index] = part
         return call(f'{c_type(of)}_of', *fields)
 
-    def store(self, i, out, pointer, e):
+    def store(self, i, pointer, e):
         of = i.operands[1][0]
         if i.order:
             return call(self.atomic(i, 'store', of), pointer, e, Expression(f'ORDER_{i.order}'))
-        if not isinstance(of, Struct):
-            return call(f'store{access(i, of, i.alignment)}', pointer, e)
-        pointer, e = self.kept('ptr', pointer, out), self.kept(of, e, out)
-        for k, (field, offset) in enumerate(zip(of.fields, offsets_of(of))):
-            function = f'store{access(i, field, i.alignment if offset == 0 else 1)}'
-            out.append(Statement('do', call(function, plus(pointer, offset), Expression(f'{e}.f{k}', expressions.ATOM, [e]))))
-        return None
+        if isinstance(of, expressions.Vector):
+            i.line.fail('a store of a vector')
+        return call(f'store{access(i, of, i.alignment)}', pointer, e)
 
-    def load(self, i, _, pointer):
+    def load(self, i, pointer):
         if i.order:
             return call(self.atomic(i, 'load', i.type), pointer, Expression(f'ORDER_{i.order}'))
-        if i.volatile and i.type == 8:
-            return call('load8_volatile', pointer)
-        if i.volatile:
+        if i.type != 8:
             i.line.fail('a volatile load of more than a byte')
-        fields = [call(f'load{access(i, field, i.alignment if offset == 0 else 1)}', plus(pointer, offset), reads=True)
-                  for field, offset in zip(i.type.fields, offsets_of(i.type))]
-        return call(f'{c_type(i.type)}_of', *fields)
+        return call('load8_volatile', pointer)
 
-    def atomicrmw(self, i, _, pointer, e):
+    def atomicrmw(self, i, pointer, e):
         return call(self.atomic(i, 'exchange', i.type), pointer, e, Expression(f'ORDER_{i.order}'))
 
     @staticmethod
@@ -234,7 +214,7 @@ class Writer:
     def barrier(self, *_):
         return Expression('BARRIER()')
 
-    def call(self, i, _, *operands):
+    def call(self, i, *operands):
         if isinstance(i.callee, Local):
             *operands, pointer = operands
             types = ', '.join(c_type(of) for of, _ in i.operands[:-1]) or 'void'
@@ -345,16 +325,25 @@ class Writer:
         if last.op == 'unreachable':
             return [Statement('unreachable')]
         if last.op == 'switch':
-            return [self.switch(label, last, operands[0], context._replace(leave=None))]
+            return self.switch(label, last, operands[0], context)
         if last.op != 'br':
             last.line.fail('an unknown end of a block')
         arms = [self.jump(label, target, context) for target in dict.fromkeys(last.to)]
         return branch(operands[0], *arms) if len(arms) == 2 else arms[0]
 
     def switch(self, label, last, e, context):
-        cases = [[number(n, last.operands[0][0]) for n, to in last.cases.items() if to == target != last.default]
-                 for target in last.to]
-        return Statement('switch', e, bodies=[self.jump(label, target, context) for target in last.to], cases=cases)
+        """One of two numbers is a branch, if there is no third one."""
+        cases = {target: [number(n, last.operands[0][0]) for n, to in last.cases.items() if to == target] for target in last.to}
+        if self.is_unreachable(last.default) and [len(found) for found in cases.values()] == [1, 1, 0]:
+            first, second, _ = last.to
+            condition = Expression(f'{e} == {cases[first][0]}', expressions.BINARY, [e], opposite=f'{e} != {cases[first][0]}')
+            return branch(condition, self.jump(label, first, context), self.jump(label, second, context))
+        cases[last.default] = []
+        inner = context._replace(leave=None)
+        return [Statement('switch', e, bodies=[self.jump(label, target, inner) for target in cases], cases=list(cases.values()))]
+
+    def is_unreachable(self, label):
+        return self.function.blocks[label][0].op == 'unreachable'
 
 
 EFFECTS = {op: getattr(Writer, op) for op in ('store', 'load', 'atomicrmw', 'barrier', 'call')}

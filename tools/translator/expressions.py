@@ -23,7 +23,7 @@ class Expression:
         self.text, self.level, self.opposite = text, level, opposite
         self.variables = frozenset().union(*[e.variables for e in operands])
         self.reads = reads or any(e.reads for e in operands)
-        self.base, self.offset = base or self, offset
+        self.base, self.offset, self.shifted = base or self, offset, None
 
     def __str__(self):
         """As an operand."""
@@ -85,9 +85,9 @@ def opposite(e):
 
 
 def plus(pointer, offset, inside=True):
-    """A pointer that is moved by a constant."""
-    if not inside:
-        return Expression(f'at({pointer.text}, {number(offset, 64)})', ATOM, [pointer]) if offset else pointer
+    """A pointer that is moved by a constant: to a field, where it is not said that both places are inside one object."""
+    if not inside and offset < 0:
+        return Expression(f'at({pointer.text}, {number(offset, 64)})', ATOM, [pointer])
     base, offset = pointer.base, pointer.offset + offset
     if offset == 0:
         return base
@@ -106,7 +106,7 @@ def binary(i, left, right):
         return Expression(f'{left} {SIGNS[i.op]} {right}', BINARY, [left, right]).call('rounded')
     if i.type == 1:
         return of_bits(i, left, right)
-    if i.type == 128:
+    if i.type == 128 and i.op not in ('udiv', 'urem'):
         return call(f'u128_{i.op}', left, call('u128_low', right) if i.op in ('shl', 'lshr') else right)
     if i.type == Vector(16, 1) and i.op == 'or':
         return cast('uint16_t', Expression(f'{left} | {right}', BINARY, [left, right]))
@@ -119,6 +119,12 @@ def binary(i, left, right):
 
 def sum_or_product(i, left, right):
     constant = i.operands[1][1]
+    if i.op == 'and' and isinstance(constant, Number) and left.shifted:
+        # All bits of a shifted number but the lowest: passes write so what is shifted further and back.
+        e, count = left.shifted
+        lowest = (-constant.number & constant.number).bit_length() - 1
+        if constant.number == (1 << i.type - count) - (1 << lowest):
+            return Expression(f'({e} >> {count + lowest}) << {lowest}', BINARY, [e])
     if isinstance(constant, Number) and isinstance(i.operands[0][1], Number):
         left = cast(TYPES[i.type], left)                # C's would be an operation of ints
     if i.op in ('add', 'sub') and isinstance(constant, Number) and constant.number < 0:
@@ -143,6 +149,8 @@ def shift(i, left, right):
     elif isinstance(i.operands[0][1], Number):
         left = cast(TYPES[i.type], left)
     found = Expression(f'{left} {SIGNS[i.op]} {right}', BINARY, [left, right])
+    if i.op == 'lshr' and i.type == 64 and isinstance(count, Number):
+        found.shifted = left, count.number
     return cast(TYPES[i.type], found) if i.type < 32 else found
 
 
@@ -222,9 +230,7 @@ def zext(to, of, e):
 def sext(to, of, e):
     if of == Vector(64, 1):
         return e.call('bytes64_of')
-    if of == 1:
-        return cast(TYPES[to], Expression(f'{e} ? {number(-1, to)} : 0', CHOICE, [e]))
-    return Expression(f'({TYPES[to]})({TYPES[to][1:]})({TYPES[of][1:]}){e}', UNARY, [e])
+    return cast(TYPES[to], Expression(f'{e} ? {number(-1, to)} : 0', CHOICE, [e]))
 
 
 def trunc(to, of, e):
@@ -243,7 +249,7 @@ def bitcast(to, of, e):
 
 CONVERSIONS = {
     'zext': (zext, lambda to, of: of in (1, *WIDTHS) and to in (*WIDTHS, 128) or of in (48, 56) and to == 64),
-    'sext': (sext, lambda to, of: of in (1, *WIDTHS) and to in WIDTHS or (to, of) == (Vector(64, 8), Vector(64, 1))),
+    'sext': (sext, lambda to, of: of == 1 and to in WIDTHS or (to, of) == (Vector(64, 8), Vector(64, 1))),
     'trunc': (trunc, lambda to, of: of in (*WIDTHS, 128) and to in (1, *WIDTHS) or of == 64 and to in (48, 56)),
     'bitcast': (bitcast, lambda to, of: (to, of) in ((16, Vector(16, 1)), (64, 'double'), ('double', 64))),
     'uitofp': (lambda to, of, e: cast('double', e), lambda to, of: to == 'double' and of in WIDTHS),
@@ -273,17 +279,15 @@ def select(i, condition, first, second):
     return cast(TYPES[i.type], found) if both and i.type != 1 else found
 
 
-def address(i, base, *indices):
-    e = plus(base, i.offset, i.inbounds) if not indices else base
-    for index, size in zip(indices, i.scales):
-        scaled = Expression(f'{index} * {size}', BINARY, [index]) if size != 1 else index
-        e = call('inside' if i.inbounds else 'at', e, scaled)
-    return plus(e, i.offset, i.inbounds) if indices else e
+def address(i, base, index=None):
+    if index is None:
+        return plus(base, i.offset, i.inbounds)
+    return call('inside' if i.inbounds else 'at', base, index)
 
 
 def access(i, of, alignment):
     """The end of the name of a function that reads or writes this type."""
-    names = {1: ('bit', 1), 48: ('48u', 1), 56: ('56u', 1), 'ptr': ('ptr', 8), 'double': ('double', 8), 128: ('128', 8),
+    names = {48: ('48u', 1), 56: ('56u', 1), 'ptr': ('ptr', 8), 'double': ('double', 8), 128: ('128', 8),
              Vector(16, 8): ('bytes16', 1), Vector(64, 8): ('bytes64', 1)}
     if of not in names and of not in WIDTHS:
         i.line.fail(f'an access to memory of type {of}')
@@ -307,8 +311,8 @@ PURE['shufflevector'] = lambda i, e: call('bytes64_part', e, Expression(str(i.pa
 
 
 # Intrinsics: for which types, and of how many of their operands. The last one of some says only what is not asked of them.
-INTRINSICS = {'umin': (WIDTHS, 2), 'umax': (WIDTHS, 2), 'usub.sat': ((*WIDTHS, 128), 2), 'uadd.sat': (WIDTHS, 2), 'cttz': (WIDTHS, 1),
-              'ctlz': (WIDTHS, 1), 'ctpop': (WIDTHS, 1), 'bswap': ((16, 32, 64), 1), 'abs': (WIDTHS, 1)}
+INTRINSICS = {'umin': (WIDTHS, 2), 'umax': (WIDTHS, 2), 'usub.sat': ((*WIDTHS, 128), 2), 'uadd.sat': (WIDTHS, 2), 'cttz': ((64,), 1),
+              'ctlz': ((64,), 1), 'bswap': ((64,), 1), 'abs': ((64,), 1)}
 
 
 def intrinsic(i, *operands):

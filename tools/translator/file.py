@@ -4,9 +4,9 @@ import re
 from collections import namedtuple
 
 from translator.blocks import Writer
-from translator.expressions import TYPES, WIDTHS, declared, number, struct_name
+from translator.expressions import WIDTHS, declared, struct_name
 from translator.layout import Layout
-from translator.lines import Array, Bytes, Global, Local, Number, Offset, Parts, Struct, Zero
+from translator.lines import Array, Bytes, Global, Offset, Parts, Struct, Zero
 from translator.names import TOP, Names, read, source_of
 
 # What the files are: the prefix of the module's names and of those that it declares, the crates that it is made from, the
@@ -35,6 +35,7 @@ class File:
 
     def text(self):
         first, second = self.order.parted(self.kind.second)
+        self.inlined = self.order.inlined(first) if second else ()
         made = {STRUCTS: self.structs(), FUNCTIONS: self.constants() + '\n' + self.functions(first), SECOND: self.functions(second)}
         parts = [made[part] if part in made else part if part.startswith('#') else by_hand(part) for part in self.kind.parts]
         head = f'/* {self.kind.title} Made by tools/generate: do not edit.\n * SPDX-License-Identifier: MIT OR Apache-2.0 */'
@@ -48,14 +49,18 @@ class File:
 
     def function(self, function):
         """A call of the API is `static inline`: one function by hand calls it."""
-        writer = Writer(function, self.names, self.module.constants)
-        lines = Layout(writer, writer.body()).lines
-        parameters = ', '.join(declared(p.of, name) for p, name in zip(function.parameters, writer.parameters)) or 'void'
-        words = 'COLD ' if 'cold' in function.attributes else 'NOINLINE ' if 'noinline' in function.attributes else ''
-        if not words and not function.internal:
-            words = 'inline '
-        head = f'static {words}{declared(function.type, self.names[function.name])}({parameters})'
-        return '\n'.join([f'\n/* {source_of(function.name, self.kind.crates)} */', head, '{', *lines, '}'])
+        source, words = source_of(function.name, self.kind.crates)
+        writer = Writer(function, self.names, self.module.constants, words)
+        try:
+            lines = Layout(writer, writer.body()).lines
+            parameters = ', '.join(declared(p.of, name) for p, name in zip(function.parameters, writer.parameters)) or 'void'
+        except KeyError as error:
+            function.line.fail(f'nothing is known of {error}')
+        kind = 'COLD ' if 'cold' in function.attributes else 'NOINLINE ' if 'noinline' in function.attributes else ''
+        if not kind:
+            kind = 'inline ' if not function.internal else 'ALWAYS_INLINE ' if function.name in self.inlined else ''
+        head = f'static {kind}{declared(function.type, self.names[function.name])}({parameters})'
+        return '\n'.join([f'\n/* {source} */', head, '{', *lines, '}'])
 
     def structs(self):
         """What functions return two values in."""
@@ -76,12 +81,14 @@ class File:
         words = f'static {"const " if constant.constant else ""}ALIGN({constant.alignment}) '
         name = self.names[constant.name]
         if isinstance(constant.of, Array):
-            ctype = TYPES[constant.of.element]
-            return f'{words}{ctype} {name}[{max(constant.of.length, 1)}] = {self.initial(constant, constant.of, constant.value)};'
+            return f'{words}byte {name}[{max(constant.of.length, 1)}] = {self.initial(constant, constant.of, constant.value)};'
         if not isinstance(constant.of, Struct) or not isinstance(constant.value, Parts):
             constant.line.fail(f'a constant of type {constant.of}')
-        fields, values = [], []
+        fields, values, place = [], [], 0
         for k, (of, value) in enumerate(constant.value.values):
+            if of != 'ptr' and not isinstance(of, Array) or of == 'ptr' and place % 8:
+                constant.line.fail('a field that is no array, or a pointer that is not aligned')
+            place += 8 if of == 'ptr' else of.length
             fields.append(f'POINTER f{k};' if of == 'ptr' else f'byte f{k}[{of.length}];')
             values.append(self.pointed(constant, value) if of == 'ptr' else self.initial(constant, of, value))
         lines = ',\n'.join('\t' + value for value in values)
@@ -95,18 +102,12 @@ class File:
             constant.line.fail('a pointer to what is no constant')
         return f'AT((const byte *)&{self.names[base.name]} + {offset})'
 
-    def initial(self, constant, of, value):
-        """The numbers of an array."""
-        bits = of.element
-        if bits not in WIDTHS:
-            constant.line.fail(f'an array of {bits}')
-        if isinstance(value, Zero):
-            return '{ 0 }'
-        numbers = value.numbers if isinstance(value, Bytes) else [getattr(part, 'number', 0) for _, part in value.values]
-        if isinstance(value, Parts) and any(not isinstance(part, (Number, Zero)) for _, part in value.values):
-            constant.line.fail('a constant that is no number')
-        texts = [number(n, bits) if bits == 8 else f'LITTLE{bits}({number(n, bits)})' for n in numbers]
-        return wrapped('{ ' + ', '.join(texts or ['0']) + ' }')
+    @staticmethod
+    def initial(constant, of, value):
+        """The bytes of an array."""
+        if of.element != 8 or not isinstance(value, (Bytes, Zero)):
+            constant.line.fail('a constant that is no array of bytes')
+        return wrapped(f'{{ {", ".join(map(str, value.numbers)) if isinstance(value, Bytes) else 0} }}')
 
 
 class Order:
@@ -139,6 +140,12 @@ class Order:
                 first.add(name)
                 found += self.calls[name]
         return [name for name in self.names if name in first], [name for name in self.names if name not in first]
+
+    def inlined(self, names):
+        """Those without a loop that only calls of the API call: most of a call's time is in them."""
+        callers = {name: [other for other, called in self.calls.items() if name in called] for name in names}
+        return {name for name, found in callers.items() if found and not self.functions[name].flow.loops
+                and not any(self.functions[other].internal for other in found)}
 
 
 def wrapped(text):

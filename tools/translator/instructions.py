@@ -1,6 +1,6 @@
 """The instructions that are known, and how each is read from its line."""
 # SPDX-License-Identifier: MIT OR Apache-2.0
-from translator.lines import AddressOf, Array, Global, Local, Number, Offset, Parts, Struct, Vector, offsets_of, size_of
+from translator.lines import AddressOf, Array, Global, Local, Number, Offset, Parts, Vector
 
 BINARY = set('add sub mul udiv urem shl lshr and or xor fadd fsub fmul fdiv'.split())
 CASTS = set('zext sext trunc ptrtoint ptrtoaddr inttoptr uitofp bitcast'.split())
@@ -33,14 +33,8 @@ def names_in(value, kind=Local):
     return []
 
 
-def pair(line):
-    """The operands of `T a, b`."""
-    of, left = line.typed()
-    line.want(',')
-    return [(of, left), (of, line.value(of))]
-
-
-def next_typed(line, of=None):
+def after_comma(line, of=None):
+    """A value with its type, after a comma."""
     line.want(',')
     found = line.typed()
     if of is not None and found[0] != of:
@@ -48,11 +42,16 @@ def next_typed(line, of=None):
     return found
 
 
+def pair(line):
+    """The operands of `T a, b`."""
+    of, left = line.typed()
+    line.want(',')
+    return [(of, left), (of, line.value(of))]
+
+
 def order(line):
     word = line.next()
-    if word not in ORDERS:
-        line.fail(f'unknown order "{word}"')
-    return ORDERS[word]
+    return ORDERS[word] if word in ORDERS else line.fail(f'unknown order "{word}"')
 
 
 def binary(line):
@@ -82,79 +81,57 @@ def freeze(line):
 
 
 def select(line):
-    condition = line.typed()
+    condition, first = line.typed(), after_comma(line)
     if condition[0] != 1:
         line.fail('a select of a vector')
-    first = next_typed(line)
-    return dict(of=first[0], operands=[condition, first, next_typed(line, first[0])])
+    return dict(of=first[0], operands=[condition, first, after_comma(line, first[0])])
 
 
 def alloca(line):
+    """Bytes, or a number."""
     of = line.type()
-    return dict(of='ptr', size=size_of(of)[0], alignment=line.alignment())
+    size = of.length if isinstance(of, Array) and of.element == 8 else of // 8 if of in (8, 16, 32, 64) else line.fail('an unknown type')
+    return dict(of='ptr', size=size, alignment=line.alignment())
 
 
 def load(line):
     atomic, volatile = line.eat('atomic'), line.eat('volatile')
     of = line.type()
-    operand = next_typed(line, 'ptr')
-    return dict(of=of, operands=[operand], order=order(line) if atomic else None, volatile=volatile, alignment=line.alignment())
+    operand = after_comma(line, 'ptr')
+    return dict(of=of, operands=[operand], order=atomic and order(line), volatile=volatile, alignment=line.alignment())
 
 
 def store(line):
     atomic = line.eat('atomic')
     stored = line.typed()
-    operands = [next_typed(line, 'ptr'), stored]
-    return dict(operands=operands, order=order(line) if atomic else None, alignment=line.alignment())
+    operands = [after_comma(line, 'ptr'), stored]
+    return dict(operands=operands, order=atomic and order(line), alignment=line.alignment())
 
 
 def atomicrmw(line):
     if not line.eat('xchg'):
         line.fail('an atomic that is no exchange')
-    pointer = line.typed()
-    value = next_typed(line)
-    return dict(of=value[0], operands=[pointer, value], order=order(line), alignment=line.alignment())
+    operands = [line.typed(), after_comma(line)]
+    return dict(of=operands[1][0], operands=operands, order=order(line), alignment=line.alignment())
 
 
 def getelementptr(line):
-    """Steps are numbers of bytes, and pairs of an index and the size of what it counts."""
+    """An address: a constant number of bytes behind another one, or one that is an operand."""
     inbounds = 'inbounds' in line.flags()
-    of = line.type()
-    base = next_typed(line, 'ptr')
-    operands, offset, scales = [base], 0, []
-    first = True
-    while line.eat(','):
-        index = line.typed()
-        if isinstance(of, Struct) and not first:
-            if not isinstance(index[1], Number):
-                line.fail('a field that is not constant')
-            offset += offsets_of(of)[index[1].number]
-            of = of.fields[index[1].number]
-            continue
-        if isinstance(of, Array) and not first:
-            of = of.element
-        elif not first:
-            line.fail('an index into what is no array')
-        first = False
-        if isinstance(index[1], Number):
-            offset += index[1].number * size_of(of)[0]
-        elif index[0] == 64:
-            operands.append(index)
-            scales.append(size_of(of)[0])
-        else:
-            line.fail('an index that is not of 64 bits')
-    return dict(of='ptr', operands=operands, offset=offset, scales=scales, inbounds=inbounds)
+    line.want_type(8)
+    base, index = after_comma(line, 'ptr'), after_comma(line, 64)
+    constant = isinstance(index[1], Number)
+    return dict(of='ptr', operands=[base] if constant else [base, index], offset=index[1].number if constant else 0, inbounds=inbounds)
 
 
 def shufflevector(line):
     operand = line.typed()
-    next_typed(line, operand[0])
-    _, places = next_typed(line)
-    first = places.values[0][1].number if isinstance(places, Parts) else 0
-    numbers = [getattr(part, 'number', None) for _, part in getattr(places, 'values', [])]
-    if operand[0] != Vector(64, 8) or first % 16 or numbers != list(range(first, first + 16)):
+    after_comma(line, operand[0])
+    places = after_comma(line)[1]
+    numbers = [getattr(part, 'number', 0) for _, part in getattr(places, 'values', [('', Number(n)) for n in range(16)])]
+    if operand[0] != Vector(64, 8) or numbers[0] % 16 or numbers != list(range(numbers[0], numbers[0] + 16)):
         line.fail('places that are not 16 bytes of 64')
-    return dict(of=Vector(16, 8), operands=[operand], part=first // 16)
+    return dict(of=Vector(16, 8), operands=[operand], part=numbers[0] // 16)
 
 
 def extractvalue(line):
@@ -165,7 +142,7 @@ def extractvalue(line):
 
 
 def insertvalue(line):
-    operands = [line.typed(), next_typed(line)]
+    operands = [line.typed(), after_comma(line)]
     line.want(',')
     return dict(of=operands[0][0], operands=operands, index=line.integer())
 
@@ -183,6 +160,12 @@ def phi(line):
             return dict(of=of, incoming=incoming)
 
 
+def argument(line):
+    of = line.type()
+    line.attributes()
+    return of, line.value(of)
+
+
 def call(line):
     line.attributes()
     of = line.type()
@@ -195,26 +178,20 @@ def call(line):
     if not isinstance(callee, (Local, Global)):
         line.fail('a call of what is neither a function nor a value')
     line.want('(')
-
-    def argument():
-        of = line.type()
-        line.attributes()
-        return of, line.value(of)
-    arguments = line.listed(')', argument)
+    operands = line.listed(')', lambda: argument(line))
     if isinstance(callee, Global) and callee.name.startswith(IGNORED):
         return dict(op='ignored')
-    return dict(of=of, operands=arguments + ([('ptr', callee)] if isinstance(callee, Local) else []), callee=callee)
+    return dict(of=of, operands=operands + ([('ptr', callee)] if isinstance(callee, Local) else []), callee=callee)
 
 
 def br(line):
     if line.peek() == 'label':
         return dict(to=[line.label()])
     condition = line.typed()
-    to = []
-    for _ in range(2):
-        line.want(',')
-        to.append(line.label())
-    return dict(operands=[condition], to=to)
+    line.want(',')
+    first = line.label()
+    line.want(',')
+    return dict(operands=[condition], to=[first, line.label()])
 
 
 def switch(line):
@@ -225,7 +202,7 @@ def switch(line):
     cases = {}
     while not line.eat(']'):
         of, value = line.typed()
-        if of != operand[0] or not isinstance(value, Number):
+        if of != operand[0] or of not in (1, 8, 16, 32, 64) or not isinstance(value, Number):
             line.fail('a case that is no number')
         line.want(',')
         cases[value.number] = line.label()
@@ -235,10 +212,7 @@ def switch(line):
 
 
 def ret(line):
-    if line.eat('void'):
-        return dict(to=[])
-    operand = line.typed()
-    return dict(operands=[operand], to=[])
+    return dict(operands=[] if line.eat('void') else [line.typed()], to=[])
 
 
 def unreachable(_):
@@ -259,7 +233,7 @@ def instruction(line):
         name = line.name('local')
         line.want('=')
     op = line.next()
-    if op in ('tail', 'notail'):
+    if op == 'tail':
         op = line.next()
     if op not in READERS:
         line.fail(f'unknown instruction "{op}"')

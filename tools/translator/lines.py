@@ -23,8 +23,7 @@ Zero = namedtuple('Zero', '')
 Bytes = namedtuple('Bytes', 'numbers')
 Parts = namedtuple('Parts', 'values')                   # of a constant array, struct or vector: pairs of type and value
 Offset = namedtuple('Offset', 'base offset')            # getelementptr of a constant
-Address = namedtuple('Address', 'number')               # inttoptr of a constant
-AddressOf = namedtuple('AddressOf', 'base')             # ptrtoint of a constant
+AddressOf = namedtuple('AddressOf', 'base')             # ptrtoaddr of a constant
 
 TOKEN = re.compile(r'''\s*(?:
     (?P<comment>;.*)
@@ -42,8 +41,9 @@ TOKEN = re.compile(r'''\s*(?:
 
 # What promises something, or is about linking, or about how a call is made: read and dropped.
 DROPPED = set('''noundef nonnull readonly writeonly readnone zeroext signext immarg returned unnamed_addr local_unnamed_addr
-    dso_local fastcc nofree dead_on_unwind writable nocapture noreturn nounwind hidden'''.split())
-DROPPED_WITH_MORE = {'captures', 'range', 'dereferenceable', 'dereferenceable_or_null', 'initializes'}
+    dso_local fastcc nofree dead_on_unwind writable noalias noreturn nounwind hidden'''.split())
+DROPPED_WITH_MORE = {'align', 'captures', 'range', 'dereferenceable', 'dereferenceable_or_null', 'initializes'}
+INTEGERS = {'i1', 'i8', 'i16', 'i32', 'i48', 'i56', 'i64', 'i128'}
 FLAGS = {'nuw', 'nsw', 'exact', 'disjoint', 'nneg', 'samesign', 'inbounds', 'nusw'}
 
 
@@ -128,23 +128,12 @@ class Line:
         return found
 
     def attributes(self):
-        """Those that stand before a value: the alignment of a pointer, or 1, and whether nothing else points there."""
-        alignment, alone = 1, False
-        while True:
-            word = self.peek()
-            if word == 'align':
-                self.next()
-                alignment = self.integer()
-            elif word == 'noalias':
-                self.next()
-                alone = True
-            elif word in DROPPED:
-                self.next()
-            elif word in DROPPED_WITH_MORE:
-                self.next()
+        """Drops those that stand before a value, or with the result or the end of a function's head."""
+        while self.peek() in DROPPED or self.peek() in DROPPED_WITH_MORE:
+            if self.next() == 'align':
+                self.integer()
+            elif self.peek() == '(':
                 self.skip_parentheses()
-            else:
-                return alignment, alone
 
     def skip_parentheses(self):
         self.want('(')
@@ -154,7 +143,7 @@ class Line:
 
     def type(self):
         word = self.next()
-        if re.fullmatch(r'i\d+', word):
+        if word in INTEGERS:
             return int(word[1:])
         if word in ('ptr', 'void', 'double'):
             return word
@@ -172,8 +161,6 @@ class Line:
         found = Struct(tuple(self.listed('}', self.type)))
         if packed:
             self.want('>')
-            if size_of(found)[0] != sum(size_of(field)[0] for field in found.fields):
-                self.fail('a packed struct that is smaller than one that is not')
         return found
 
     def listed(self, close, read):
@@ -214,8 +201,10 @@ class Line:
             return Number(int(word == 'true'))
         if word in ('null', 'undef', 'poison', 'zeroinitializer'):
             return Zero()
-        if word in ('getelementptr', 'ptrtoint', 'ptrtoaddr', 'inttoptr'):
-            return getattr(self, word)()
+        if word == 'getelementptr':
+            return self.offset()
+        if word == 'ptrtoaddr':
+            return self.address()
         if word in ('{', '['):
             return Parts(self.listed({'{': '}', '[': ']'}[word], self.typed))
         if word == '<':
@@ -226,7 +215,7 @@ class Line:
             return Parts(parts)
         return self.fail(f'unknown value "{word}"')
 
-    def getelementptr(self):
+    def offset(self):
         self.flags()
         self.want('(')
         self.want_type(8)
@@ -235,53 +224,15 @@ class Line:
         base = self.value('ptr')
         self.want(',')
         self.want_type(64)
-        offset = self.integer()
+        found = Offset(base, self.integer())
         self.want(')')
-        return Offset(base, offset)
+        return found
 
-    def ptrtoint(self):
+    def address(self):
         self.want('(')
         self.want_type('ptr')
-        base = self.value('ptr')
+        found = AddressOf(self.value('ptr'))
         self.want('to')
         self.want_type(64)
         self.want(')')
-        return AddressOf(base)
-
-    ptrtoaddr = ptrtoint
-
-    def inttoptr(self):
-        self.want('(')
-        self.want_type(64)
-        number = self.integer()
-        self.want('to')
-        self.want_type('ptr')
-        self.want(')')
-        return Address(number)
-
-
-def size_of(of):
-    """Bytes in memory, and their alignment: of the module, and so on each platform."""
-    if of in ('ptr', 'double'):
-        return 8, 8
-    if of in (1, 8, 16, 32, 64, 128):
-        return max(of // 8, 1), max(of // 8, 1)
-    if isinstance(of, Array):
-        size, alignment = size_of(of.element)
-        return of.length * size, alignment
-    if isinstance(of, Struct):
-        alignment = max([size_of(field)[1] for field in of.fields], default=1)
-        offsets = offsets_of(of)
-        end = offsets[-1] + size_of(of.fields[-1])[0] if offsets else 0
-        return -(-end // alignment) * alignment, alignment
-    raise Unknown(f'the size of type {of}')
-
-
-def offsets_of(of):
-    """Where the fields of a struct are."""
-    offsets, end = [], 0
-    for field in of.fields:
-        size, alignment = size_of(field)
-        offsets.append(-(-end // alignment) * alignment)
-        end = offsets[-1] + size
-    return offsets
+        return found

@@ -8,7 +8,7 @@ from translator.instructions import instruction, names_in
 from translator.lines import Global, Line, Struct
 
 Constant = namedtuple('Constant', 'name of value alignment constant line')
-Parameter = namedtuple('Parameter', 'name of alone')
+Parameter = namedtuple('Parameter', 'name of')
 LABEL = re.compile(r'("[^"]*"|[-\w.$]+):')
 
 
@@ -31,8 +31,8 @@ class Function:
 
     def parameter(self):
         of = self.line.type()
-        _, alone = self.line.attributes()
-        return Parameter(self.line.name('local'), of, alone)
+        self.line.attributes()
+        return Parameter(self.line.name('local'), of)
 
     def read(self, lines):
         label = None

@@ -1,5 +1,6 @@
 """Names of C, and where in crates/ the code of a function is."""
 # SPDX-License-Identifier: MIT OR Apache-2.0
+import glob
 import os
 import re
 
@@ -41,19 +42,31 @@ class Names(dict):
 
 
 def source_of(symbol, crates):
-    """The function of the crates that a symbol is, and its file if it is one of ours."""
+    """The function of the crates that a symbol is, its file if it is one of ours, and the words of its parameters if C calls it."""
     path = path_of(symbol)
     if len(path) == 1:
-        for crate in crates:
-            folder = f'crates/{crate}/src'
-            for name in sorted(os.listdir(f'{TOP}/{folder}')):
-                if f'fn {symbol}(' in read(f'{TOP}/{folder}/{name}'):
-                    return f'{symbol}: {folder}/{name}'
-    for count in range(len(path) - 1, 0, -1):
+        for name in sorted(name for crate in crates for name in glob.glob(f'{TOP}/crates/{crate}/src/*.rt')):
+            found = re.search(rf'fn {symbol}\(([^)]*)\)', read(name))
+            if found:
+                return f'{symbol}: {os.path.relpath(name, TOP)}', words_of(found.group(1))
+    for count in range(len(path) - 1, 1, -1):
         name = f'crates/{path[0]}/src/{"/".join(path[1:count])}.rt'
-        if count > 1 and os.path.exists(f'{TOP}/{name}'):
-            return f'{"::".join(path)}: {name}'
-    return '::'.join(path)
+        if os.path.exists(f'{TOP}/{name}'):
+            return f'{"::".join(path)}: {name}', []
+    return '::'.join(path), []
+
+
+def words_of(parameters):
+    """Names of parameters as C passes them: an allocator is nothing, a slice has a length, a struct is two numbers."""
+    words = []
+    for name, of in re.findall(r'(\w+): ([^,]+)', parameters):
+        if '[' in of:
+            words += [name, f'{name}_length']
+        elif re.match(r'&|u\d+$|usize$|bool$', of.strip()):
+            words.append(name)
+        elif of.strip() != 'Global':
+            words += [f'{name}_1', f'{name}_2']
+    return words
 
 
 def read(name):

@@ -1,5 +1,5 @@
 -- The members of one call, and the invariant of the desk after it.
-use Rattle.std.proofs.Common.{◌≡◌, ◌≢◌, ℕ, ◌+◌, ◌<◌, ◌≤◌, ◌==◌, Bool, true, false, ◌⊎◌, List, [], ◌∷◌, ◌++◌, length, get_or, map, refl, sym, ◌∙◌, ap, subst, ⊎_elim, arith, append-nil, append_assoc, length-append}
+use Rattle.std.proofs.Common.{◌≡◌, ◌≢◌, ℕ, ◌+◌, ◌<◌, ◌≤◌, ◌==◌, Bool, true, false, List, [], ◌∷◌, ◌++◌, length, get_or, map, refl, sym, ◌∙◌, ap, subst, ⊎_elim, arith, append-nil, append_assoc, length-append}
 use Rattle.std.specs.Prelude.{take, drop, slice_set, if◌then◌else◌}
 use Rattle.std.proofs.lemmas.Bool.{cases_eq}
 use Rattle.std.proofs.lemmas.Bool.Decides.{nat_tests}
@@ -9,7 +9,6 @@ use Rattle.timer_facility.specs.declared.event.Out.TheVariants as Outs
 use Rattle.timer_facility.specs.State.{FacilityState, pending_of}
 use Rattle.timer_facility.specs.Run.{run}
 use Rattle.timer_facility.specs.Facility.{FacilityView, with_nothing_waiting}
-use Rattle.timer_facility.specs.HandedOver.{AddsAtMostOne}
 use Rattle.timer_desk.specs.declared.word.Word.{Word}
 use Rattle.timer_desk.specs.declared.word.Word.TheVariants as Words
 use Rattle.timer_desk.specs.declared.report.Served.{Served}
@@ -18,9 +17,9 @@ use Rattle.timer_desk.specs.declared.report.Done.TheVariants as Dones
 use Rattle.timer_desk.specs.Inlet.{LineKind}
 use Rattle.timer_desk.specs.Flush.{IsGiven, without_words, Flushes}
 use Rattle.timer_desk.specs.Extends.{Extends-refl}
-use Rattle.timer_desk.specs.Backlog.{BacklogState, empty_backlog, with_word, with_words, client_of, with_notice, with_notices, notices_for}
-use Rattle.timer_desk.specs.Report.{Account, account_of, got_but_held, held_list, HeldIsLast, IsAccount, Runs, request_in, word_in, asked_in, words_in, events_in, outs_in, step_in, steps_of}
-use Rattle.timer_desk.specs.Member.{Moment, IsServe, ClientMember, FacilityMember, IsRight, IsKept, Members, waiting_outs, is_notice, hands_out, is_any}
+use Rattle.timer_desk.specs.Backlog.{BacklogState, empty_backlog, with_word, with_words, client_of, with_notice, with_notices, notices_for, HoldsAtMostOneMore}
+use Rattle.timer_desk.specs.Report.{Account, account_of, got_but_held, held_list, HeldIsLast, IsAccount, request_in, word_in, asked_in, words_in, events_in, outs_in, step_in, steps_of}
+use Rattle.timer_desk.specs.Member.{Moment, IsServe, ClientMember, FacilityMember, IsRight, IsKept, Member, Members, waiting_outs, is_notice, hands_out, is_any}
 use Rattle.timer_desk.specs.Event.{IsSilent, IsEvent}
 use Rattle.timer_desk.specs.declared.report.Step.{Step}
 use Rattle.timer_desk.specs.Desk.{DeskState, notices_of, event_report, IsDesk, ReportHolds, AddsStep}
@@ -111,24 +110,24 @@ pub record IsClientCall {I : Type 0} (kind : LineKind I) (c : ℕ) (done : Done)
   pub line : kind.same i i'
   pub facility : FacilityMember done f f'
   pub client : ClientMember kind.take_may_refuse c f.state (account_of kind i b) done (account_of kind i' b')
-  pub quiet : f'.waiting ≡ []
+  pub notices : f'.waiting ≡ notices_of f.state done
   pub same_numbers : length f'.state.numbers ≡ length f.state.numbers
-  pub room : length b'.outbox + pending_of f'.state c ≤ b'.room
-  pub adds : (k : ℕ) → pending_of f'.state k ≤ pending_of f.state k + (if c == k then 1 else 0)
+  pub room : length b'.outbox + pending_of f'.state c + notices_for c f'.waiting ≤ b'.room
+  pub adds : (k : ℕ) → pending_of f'.state k + notices_for k f'.waiting ≤ pending_of f.state k + (if c == k then 1 else 0)
 
 module _ {I : Type 0} (kind : LineKind I) (c : ℕ) (done : Done) (f f' : FacilityView) (inlets : List I) (bs : List BacklogState)
     (i i' : I) (b b' : BacklogState) (call : IsClientCall kind c done f f' i i' b b') (d : IsDesk kind f inlets bs) (low : c < length inlets)
     (is_i : i ≡ get_or inlets c i) (is_b : b ≡ get_or bs c b) where
-  kept_client : IsKept kind (moment f' (slice_set inlets c i') (slice_set bs c b'))
+  pub kept_client : IsKept kind (moment f' (slice_set inlets c i') (slice_set bs c b'))
   kept_client = record {
     as_many = length-set bs c b' ∙ d.kept.as_many ∙ sym (length-set inlets c i');
     room = λ k e l. at_each kind c inlets bs i i' b b' d.kept.as_many low is_i is_b
         (λ n x y x' y'. length y'.outbox + pending_of f'.state n + notices_for n f'.waiting ≤ y'.room)
-        (let n = none_for c f' call.quiet in let r = call.room in omega arith)
+        call.room
         (λ n j e' l' other.
-        let n0 = none_for n f' call.quiet in
-        let more : pending_of f'.state n ≤ pending_of f.state n + 0 =
-        subst (λ (v : Bool). pending_of f'.state n ≤ pending_of f.state n + (if v then 1 else 0)) (not_same c n other) (call.adds n) in
+        let more : pending_of f'.state n + notices_for n f'.waiting ≤ pending_of f.state n + 0 =
+        subst (λ (v : Bool). pending_of f'.state n + notices_for n f'.waiting ≤ pending_of f.state n + (if v then 1 else 0))
+        (not_same c n other) (call.adds n) in
         let m = d.kept.as_many in
         let was : length (get_or bs n e').outbox + pending_of f.state n + notices_for n f.waiting ≤ (get_or bs n e').room =
         d.kept.room n e' (omega arith) in
@@ -141,40 +140,29 @@ module _ {I : Type 0} (kind : LineKind I) (c : ℕ) (done : Done) (f f' : Facili
         k j e (let m = length-set inlets c i' in omega arith);
   }
 
-  pub desk_client : IsDesk kind f' (slice_set inlets c i') (slice_set bs c b')
-  desk_client = record {
-    nothing_waits = call.quiet;
-    clients = length-set inlets c i' ∙ d.clients ∙ sym call.same_numbers;
-    kept = kept_client;
+  pub client_member : Member kind (moment f inlets bs) done (moment f' (slice_set inlets c i') (slice_set bs c b'))
+  client_member = record {
+    same_clients = length-set inlets c i';
+    lines = λ k j l. at_each kind c inlets bs i i' b b' d.kept.as_many low is_i is_b (λ n x y x' y'. kind.same x x') call.line
+        (λ n j' e' l' other. kind.reflexive (get_or inlets n j')) k j b l;
+    facility = call.facility;
+    clients = λ k j e l. at_each kind c inlets bs i i' b b' d.kept.as_many low is_i is_b
+        (λ n x y x' y'. ClientMember kind.take_may_refuse n f.state (account_of kind x y) done (account_of kind x' y')) call.client
+        (λ n j' e' l' other. ClientMember-silent kind.take_may_refuse n f.state (account_of kind (get_or inlets n j') (get_or bs n e'))
+        done (call.others n other) (d.kept.held n j' e' l')) k j e l;
   }
-
-  pub report_client : ReportHolds kind (done ∷ []) (desk_of f inlets bs) (desk_of f' (slice_set inlets c i') (slice_set bs c b'))
-  report_client = report_of kind (done ∷ []) f f' inlets (slice_set inlets c i') bs (slice_set bs c b') d.nothing_waits call.quiet (
-    moment f' (slice_set inlets c i') (slice_set bs c b'),
-    d.kept,
-    record {
-      same_clients = length-set inlets c i';
-      lines = λ k j l. at_each kind c inlets bs i i' b b' d.kept.as_many low is_i is_b (λ n x y x' y'. kind.same x x') call.line
-          (λ n j' e' l' other. kind.reflexive (get_or inlets n j')) k j b l;
-      facility = call.facility;
-      clients = λ k j e l. at_each kind c inlets bs i i' b b' d.kept.as_many low is_i is_b
-          (λ n x y x' y'. ClientMember kind.take_may_refuse n f.state (account_of kind x y) done (account_of kind x' y')) call.client
-          (λ n j' e' l' other. ClientMember-silent kind.take_may_refuse n f.state (account_of kind (get_or inlets n j') (get_or bs n e'))
-          done (call.others n other) (d.kept.held n j' e' l')) k j e l;
-    },
-    (refl, kept_client),
-  )
 
 -- The two calls for one client.
 
 -- a serve, by what the contract of the backlog's call gives
 pub serve_call : {I : Type 0} (kind : LineKind I) (c : ℕ) (served : Served) (f f' : FacilityView) (i i' : I) (b b' : BacklogState)
-    → f.waiting ≡ [] → kind.same i i' → IsAccount (request_in served) (word_in served) 0 (account_of kind i b) (account_of kind i' b')
+    → kind.same i i' → IsAccount (request_in served) (word_in served) 0 (account_of kind i b) (account_of kind i' b')
     → IsServe kind.take_may_refuse c f.state (account_of kind i b) served (account_of kind i' b')
-    → Runs (Dones.Served c served ∷ []) f.state f'.state → f'.waiting ≡ [] → length f'.state.numbers ≡ length f.state.numbers
-    → length b'.outbox + pending_of f'.state c ≤ b'.room → AddsAtMostOne c f.state f'.state
+    → FacilityMember (Dones.Served c served) f f' → f'.waiting ≡ notices_of f.state (Dones.Served c served)
+    → length f'.state.numbers ≡ length f.state.numbers
+    → length b'.outbox + pending_of f'.state c + notices_for c f'.waiting ≤ b'.room → HoldsAtMostOneMore c f f'
     → IsClientCall kind c (Dones.Served c served) f f' i i' b b'
-serve_call kind c served f f' i i' b b' quiet line account serve runs left numbers room adds = record {
+serve_call kind c served f f' i i' b b' line account serve member notices numbers room adds = record {
   others = λ k other. record {
     no_request = rw (not_same c k other) refl;
     no_word = rw (not_same c k other) refl;
@@ -182,17 +170,14 @@ serve_call kind c served f f' i i' b b' quiet line account serve runs left numbe
     no_serve = λ result is. absurd (other (cc));
   };
   line = line;
-  facility = quiet_member (Dones.Served c served) f f' quiet
-      (ap (λ ps. (run f.state ps).outs) (sym (append-nil (events_in (Dones.Served c served)))) ∙ sym runs.outs_are
-      ∙ ap (λ (ns : List Notice). outs_in (Dones.Served c served) ++ map (λ (n : Notice). Outs.Notice n) ns) (sym left))
-      (runs.state_is ∙ ap (λ ps. (run f.state ps).state) (append-nil (events_in (Dones.Served c served)))) refl (λ e. left) tt;
+  facility = member;
   client = record {
     account = rw (same_is c) account;
     serve = λ result is. let same : served ≡ result = cc in
         subst (λ r. IsServe kind.take_may_refuse c f.state (account_of kind i b) r (account_of kind i' b')) same serve;
     no_serve = λ none. absurd (none served refl);
   };
-  quiet = left;
+  notices = notices;
   same_numbers = numbers;
   room = room;
   adds = adds.of_client;
@@ -235,10 +220,10 @@ flush_call kind c count f inlets bs i i' b b' d low is_i is_b given left =
         serve = λ served is. absurd (cc);
         no_serve = λ none. record { same_got = refl; same_standing = refl; same_held = refl };
       });
-      quiet = quiet;
+      notices = quiet;
       same_numbers = refl;
       room = let few = ap (λ xs. length xs) split in let all = length-append put rest in omega arith;
-      adds = λ k. omega arith;
+      adds = λ k. let none = none_for k f quiet in omega arith;
     })
 
 -- the desk of which the client's outbox was flushed
@@ -342,8 +327,7 @@ module _ {I : Type 0} (kind : LineKind I) where
     handed_out ns s inlets (with_notice n bs) (kept_noted n ns s inlets bs k),
   )
 
-  -- An event of the owner, and its notices.
-
+  -- what waits after an event of the owner was pending, so there is room for it
   pub kept_event : (first : Done) (f g : FacilityView) (inlets : List I) (bs : List BacklogState) → IsEvent first f g → IsDesk kind f inlets bs
       → IsKept kind (moment g inlets bs)
   kept_event first f g inlets bs event d = record {
@@ -356,46 +340,115 @@ module _ {I : Type 0} (kind : LineKind I) where
     held = d.kept.held;
   }
 
-module _ {I : Type 0} (kind : LineKind I) (first : Done) (f g f' : FacilityView) (inlets : List I) (bs bs' : List BacklogState)
-    (event : IsEvent first f g) (d : IsDesk kind f inlets bs) (left : f' ≡ with_nothing_waiting g.state)
-    (noted : bs' ≡ with_notices g.waiting bs) where
-  members_event : Members kind (moment f inlets bs) (event_report f.state first) (moment f' inlets bs')
-  members_event = subst (λ (ns : List Notice). Members kind (moment f inlets bs) (first ∷ map Dones.Noticed ns) (moment f' inlets bs'))
-      event.notices (
-        moment g inlets bs,
-        d.kept,
-        record {
-          same_clients = refl;
-          lines = λ c i l. kind.reflexive (get_or inlets c i);
-          facility = event.member;
-          clients = λ c i b l. ClientMember-silent kind.take_may_refuse c f.state (account_of kind (get_or inlets c i) (get_or bs c b))
-              first (event.silent c) (d.kept.held c i b l);
-        },
-        rw (left, noted) (handed_out kind g.waiting g.state inlets bs (kept_event kind first f g inlets bs event d)),
+-- A member, and the notices that wait after it.
+
+-- what was done first led from a desk at rest to g, the lines and the backlogs; then all that waited was handed out
+pub record IsHandedOut {I : Type 0} (kind : LineKind I) (first : Done) (f g f' : FacilityView) (inlets inlets' : List I)
+    (bs between bs' : List BacklogState) : Type 0 where
+  pub before : IsDesk kind f inlets bs
+  pub member : Member kind (moment f inlets bs) first (moment g inlets' between)
+  pub kept : IsKept kind (moment g inlets' between)
+  pub notices : g.waiting ≡ notices_of f.state first
+  pub same_numbers : length g.state.numbers ≡ length f.state.numbers
+  pub left : f' ≡ with_nothing_waiting g.state
+  pub noted : bs' ≡ with_notices g.waiting between
+
+module _ {I : Type 0} (kind : LineKind I) (first : Done) (f g f' : FacilityView) (inlets inlets' : List I)
+    (bs between bs' : List BacklogState) (h : IsHandedOut kind first f g f' inlets inlets' bs between bs') where
+  members_handed : Members kind (moment f inlets bs) (event_report f.state first) (moment f' inlets' bs')
+  members_handed =
+      subst (λ (ns : List Notice). Members kind (moment f inlets bs) (first ∷ map Dones.Noticed ns) (moment f' inlets' bs')) h.notices (
+        moment g inlets' between,
+        h.before.kept,
+        h.member,
+        rw (h.left, h.noted) (handed_out kind g.waiting g.state inlets' between h.kept),
       )
 
-  pub report_event : ReportHolds kind (event_report f.state first) (desk_of f inlets bs) (desk_of f' inlets bs')
-  report_event = report_of kind (event_report f.state first) f f' inlets inlets bs bs' d.nothing_waits
-      (ap (λ (v : FacilityView). v.waiting) left) members_event
+  pub report_handed : ReportHolds kind (event_report f.state first) (desk_of f inlets bs) (desk_of f' inlets' bs')
+  report_handed = report_of kind (event_report f.state first) f f' inlets inlets' bs bs' h.before.nothing_waits
+      (ap (λ (v : FacilityView). v.waiting) h.left) members_handed
 
-  pub desk_event : IsDesk kind f' inlets bs'
-  desk_event = record {
-    nothing_waits = ap (λ (v : FacilityView). v.waiting) left;
-    clients = d.clients ∙ sym (ap (λ (v : FacilityView). length v.state.numbers) left ∙ event.same_numbers);
-    kept = kept_at_end kind (event_report f.state first) (moment f inlets bs) (moment f' inlets bs') members_event;
+  pub desk_handed : IsDesk kind f' inlets' bs'
+  desk_handed = record {
+    nothing_waits = ap (λ (v : FacilityView). v.waiting) h.left;
+    clients = h.member.same_clients ∙ h.before.clients
+        ∙ sym (ap (λ (v : FacilityView). length v.state.numbers) h.left ∙ h.same_numbers);
+    kept = kept_at_end kind (event_report f.state first) (moment f inlets bs) (moment f' inlets' bs') members_handed;
   }
 
-  pub adds_event : (taken : Step) (before after : List Done) → step_in first ≡ taken ∷ []
+  pub adds_handed : (taken : Step) (before after : List Done) → step_in first ≡ taken ∷ []
       → after ≡ (before ++ first ∷ []) ++ map Dones.Noticed g.waiting
-      → AddsStep kind taken before after (desk_of f inlets bs) (desk_of f' inlets bs')
-  adds_event taken before after is added = record {
+      → AddsStep kind taken before after (desk_of f inlets bs) (desk_of f' inlets' bs')
+  adds_handed taken before after is added = record {
     more = event_report f.state first;
     added = added ∙ append_assoc before (first ∷ []) (map Dones.Noticed g.waiting)
-        ∙ ap (λ (ns : List Notice). before ++ first ∷ map Dones.Noticed ns) event.notices;
+        ∙ ap (λ (ns : List Notice). before ++ first ∷ map Dones.Noticed ns) h.notices;
     step = ap (λ xs. step_in first ++ xs) (no_steps (notices_of f.state first)) ∙ ap (λ xs. xs ++ []) is;
-    holds = report_event;
+    holds = report_handed;
   }
     where
       no_steps : (ns : List Notice) → steps_of (map Dones.Noticed ns) ≡ []
       no_steps [] = refl
       no_steps (n ∷ ns) = no_steps ns
+
+-- an event of the owner
+pub event_handed : {I : Type 0} (kind : LineKind I) (first : Done) (f g f' : FacilityView) (inlets : List I) (bs bs' : List BacklogState)
+    → IsEvent first f g → IsDesk kind f inlets bs → f' ≡ with_nothing_waiting g.state → bs' ≡ with_notices g.waiting bs
+    → IsHandedOut kind first f g f' inlets inlets bs bs bs'
+event_handed kind first f g f' inlets bs bs' event d left noted = record {
+  before = d;
+  member = record {
+    same_clients = refl;
+    lines = λ c i l. kind.reflexive (get_or inlets c i);
+    facility = event.member;
+    clients = λ c i b l. ClientMember-silent kind.take_may_refuse c f.state (account_of kind (get_or inlets c i) (get_or bs c b))
+        first (event.silent c) (d.kept.held c i b l);
+  };
+  kept = kept_event kind first f g inlets bs event d;
+  notices = event.notices;
+  same_numbers = event.same_numbers;
+  left = left;
+  noted = noted;
+}
+
+-- a call for client c
+pub client_handed : {I : Type 0} (kind : LineKind I) (c : ℕ) (done : Done) (f g f' : FacilityView) (inlets : List I)
+    (bs bs' : List BacklogState) (i i' : I) (b b' : BacklogState) → IsClientCall kind c done f g i i' b b' → IsDesk kind f inlets bs
+    → c < length inlets → i ≡ get_or inlets c i → b ≡ get_or bs c b → f' ≡ with_nothing_waiting g.state
+    → bs' ≡ with_notices g.waiting (slice_set bs c b')
+    → IsHandedOut kind done f g f' inlets (slice_set inlets c i') bs (slice_set bs c b') bs'
+client_handed kind c done f g f' inlets bs bs' i i' b b' call d low is_i is_b left noted = record {
+  before = d;
+  member = client_member kind c done f g inlets bs i i' b b' call d low is_i is_b;
+  kept = kept_client kind c done f g inlets bs i i' b b' call d low is_i is_b;
+  notices = call.notices;
+  same_numbers = call.same_numbers;
+  left = left;
+  noted = noted;
+}
+
+-- one after which nothing waits
+pub client_quiet : {I : Type 0} (kind : LineKind I) (c : ℕ) (done : Done) (f g : FacilityView) (inlets : List I)
+    (bs : List BacklogState) (i i' : I) (b b' : BacklogState) → IsClientCall kind c done f g i i' b b' → IsDesk kind f inlets bs
+    → c < length inlets → i ≡ get_or inlets c i → b ≡ get_or bs c b → g.waiting ≡ []
+    → IsHandedOut kind done f g g inlets (slice_set inlets c i') bs (slice_set bs c b') (slice_set bs c b')
+client_quiet kind c done f g inlets bs i i' b b' call d low is_i is_b quiet =
+    client_handed kind c done f g g inlets bs (slice_set bs c b') i i' b b' call d low is_i is_b (still g quiet)
+    (sym (ap (λ ns. with_notices ns (slice_set bs c b')) quiet))
+
+module _ {I : Type 0} (kind : LineKind I) (first : Done) (f g f' : FacilityView) (inlets : List I) (bs bs' : List BacklogState)
+    (event : IsEvent first f g) (d : IsDesk kind f inlets bs) (left : f' ≡ with_nothing_waiting g.state)
+    (noted : bs' ≡ with_notices g.waiting bs) where
+  handed : IsHandedOut kind first f g f' inlets inlets bs bs bs'
+  handed = event_handed kind first f g f' inlets bs bs' event d left noted
+
+  pub report_event : ReportHolds kind (event_report f.state first) (desk_of f inlets bs) (desk_of f' inlets bs')
+  report_event = report_handed kind first f g f' inlets inlets bs bs bs' handed
+
+  pub desk_event : IsDesk kind f' inlets bs'
+  desk_event = desk_handed kind first f g f' inlets inlets bs bs bs' handed
+
+  pub adds_event : (taken : Step) (before after : List Done) → step_in first ≡ taken ∷ []
+      → after ≡ (before ++ first ∷ []) ++ map Dones.Noticed g.waiting
+      → AddsStep kind taken before after (desk_of f inlets bs) (desk_of f' inlets bs')
+  adds_event = adds_handed kind first f g f' inlets inlets bs bs bs' handed

@@ -9,19 +9,17 @@ use Rattle.timer_facility.specs.State.{FacilityState, pending_of}
 use Rattle.timer_facility.specs.Step.{StepResult, step}
 use Rattle.timer_facility.specs.Run.{PlacedEvent, HistoryEntry, run, history, state_after, outs_of, notices, notices_in}
 use Rattle.timer_facility.specs.Owed.{owed}
-use Rattle.timer_facility.specs.Facility.{FacilityView, with_nothing_waiting, model_of}
-use Rattle.timer_facility.proofs.HandedOverLemmas.{adds_at_most_one}
+use Rattle.timer_facility.specs.Facility.{FacilityView, with_nothing_waiting}
 use Rattle.timer_desk.specs.declared.word.Numbered.{Numbered}
 use Rattle.timer_desk.specs.declared.word.Word.{Word}
 use Rattle.timer_desk.specs.declared.report.Served.{Served}
 use Rattle.timer_desk.specs.declared.report.Served.TheVariants.{Idle, NoRoom, NoMemory, Did}
 use Rattle.timer_desk.specs.declared.report.Done.{Done}
-use Rattle.timer_desk.specs.declared.report.Done.TheVariants as Dones
 use Rattle.timer_desk.specs.Inlet.{LineKind}
 use Rattle.timer_desk.specs.Backlog.{BacklogState, notices_for}
 use Rattle.timer_desk.specs.Extends.{Extends, Extends-refl, Extends-front, Extends-is, Extends-trans}
 use Rattle.timer_desk.specs.Forward.{RanOutOfMemory}
-use Rattle.timer_desk.specs.Report.{place_in_word, Account, got_but_held, held_list, left_of, HeldIsLast, IsAccount, ClientAccount, Runs, asked, words, flushed, events, outs, asked_in, words_in, flushed_in, events_in, outs_in}
+use Rattle.timer_desk.specs.Report.{Account, got_but_held, held_list, left_of, HeldIsLast, IsAccount, ClientAccount, Runs, asked, words, flushed, events, outs, asked_in, words_in, flushed_in, events_in, outs_in}
 use Rattle.timer_desk.specs.Member.{Moment, ServeRespectsRoom, FacilityMember, IsRight, waiting_outs, is_notice, hands_out, is_any, account_then, IsKept, Member, Members}
 use Rattle.timer_desk.specs.Laws.{IsNeeded, outbox_after, pending_after, RespectsRoom, IsInTime}
 use Rattle.timer_desk.specs.Desk.{DeskState, clients_of, at_rest, account_at, ReportHolds, NoticesFollow, IsOwed, AreOwed}
@@ -334,17 +332,3 @@ module _ {I : Type 0} (kind : LineKind I) where
       before = λ past done later is isnt. owed_so_far x.facility law past ((in_time past done later is).outs_are isnt);
       at_end = owed_so_far x.facility law report makes_run.outs_are;
     }
-
-adds_one : (c : ℕ) (served : Served) (s t : FacilityState) → Runs (Dones.Served c served ∷ []) s t → length t.pending ≤ length s.pending + 1
-adds_one c Idle s t runs = let e = ap (λ (v : FacilityState). length v.pending) runs.state_is in omega arith
-adds_one c NoRoom s t runs = let e = ap (λ (v : FacilityState). length v.pending) runs.state_is in omega arith
-adds_one c NoMemory s t runs = let e = ap (λ (v : FacilityState). length v.pending) runs.state_is in omega arith
-adds_one c (Did n word) s t runs =
-    let e = ap (λ (v : FacilityState). length v.pending) runs.state_is in
-    let a = (adds_at_most_one s c n.number (model_of n.request) (place_in_word word)).all in
-    omega (arith, e, a)
-
--- a serve makes at most one more timer pending
-pub served_adds : {I : Type 0} (kind : LineKind I) (c : ℕ) (served : Served) (x z : DeskState I)
-    → ReportHolds kind (Dones.Served c served ∷ []) x z → length z.facility.pending ≤ length x.facility.pending + 1
-served_adds kind c served x z h = adds_one c served x.facility z.facility (makes_run kind (Dones.Served c served ∷ []) x z h)

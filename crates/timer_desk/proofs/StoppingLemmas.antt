@@ -13,7 +13,7 @@ use Rattle.timer_facility.specs.State.{FacilityState, number_of, pending_of, Nam
 use Rattle.timer_facility.specs.Verdict.{timer_named, verdict}
 use Rattle.timer_facility.specs.Step.{StepResult, answered, answer_to, without_timer, step_by, step}
 use Rattle.timer_facility.specs.Run.{notices_in}
-use Rattle.timer_facility.specs.Facility.{FacilityView, with_nothing_waiting, view_after, place_in, IsTaken, WhyNotTaken, IsNotTaken}
+use Rattle.timer_facility.specs.Facility.{FacilityView, with_nothing_waiting, view_after, notice_outs, place_in, IsTaken, WhyNotTaken, IsNotTaken}
 use Rattle.timer_facility.proofs.HandedOverLemmas.{adds_stop}
 use Rattle.timer_facility.proofs.StepLemmas.{by_verdict, step-not_taken}
 use Rattle.timer_desk.specs.Inlet.{LineKind}
@@ -34,7 +34,7 @@ placeless : (s : FacilityState) (client number : ℕ) (name : Name) (place : ℕ
 placeless s client number name place =
     let found : Option Timer = timer_named s client name in
     let event : SingleEvent = Asked client number (Stop name) in
-    ap (λ answer. step_by s event (answered client number answer (without_timer found s)) (verdict s event)) (no_place found place)
+    ap (λ answer. step_by s event (answered client number answer [] (without_timer found s)) (verdict s event)) (no_place found place)
 
 -- the step is this one, and nothing waits after it
 pub record IsStopStep (s : FacilityState) (client : ℕ) (handle : Handle) (result : Result Answer NotTaken)
@@ -43,12 +43,14 @@ pub record IsStopStep (s : FacilityState) (client : ℕ) (handle : Handle) (resu
   pub left : new ≡ with_nothing_waiting (stop_step s client handle).state
 
 taken_step : (s : FacilityState) (client : ℕ) (handle : Handle) (answer : Answer) (new : FacilityView)
-    → IsTaken s client (number_of s client) (Requests.Stop handle) answer new → IsStopStep s client handle (Ok answer) new
-taken_step s client handle answer new t =
+    → IsTaken s client (number_of s client) (Requests.Stop handle) answer new → new.waiting ≡ []
+    → IsStopStep s client handle (Ok answer) new
+taken_step s client handle answer new t none =
     let same : step s (Asked client (number_of s client) (Stop (ByHandle handle))) (place_in answer) ≡ stop_step s client handle =
     placeless s client (number_of s client) (ByHandle handle) (place_in answer) in
     let outs : (stop_step s client handle).outs ≡ Outs.Answered client (number_of s client) answer ∷ [] =
-    ap (λ (st : StepResult). st.outs) (sym same) ∙ t.answered in
+    ap (λ (st : StepResult). st.outs) (sym same) ∙ t.answered
+    ∙ ap (λ ns. Outs.Answered client (number_of s client) answer ∷ notice_outs ns) none in
     let quiet : view_after (stop_step s client handle) ≡ with_nothing_waiting (stop_step s client handle).state =
     ap (λ os. let v : FacilityView = record { state = (stop_step s client handle).state; waiting = notices_in os } in v) outs in
     record { outs_are = outs; left = t.left ∙ ap view_after same ∙ quiet }
@@ -72,12 +74,12 @@ next_is numbers client next e = ap (λ o. unwrap_or o 0) e ∙ unwrap_or-slice_g
 pub stop_is : (f : FacilityView) (client number : ℕ) (next : Option ℕ) (handle : Handle) (result : Result Answer NotTaken)
     (new : FacilityView) → f.waiting ≡ [] → next ≡ slice_get f.state.numbers client → number ≡ unwrap_or next 0
     → MatchResult result (λ answer. IsTaken f.state client number (Requests.Stop handle) answer new)
-    (λ reason. IsNotTaken f client number (Requests.Stop handle) reason new)
+    (λ reason. IsNotTaken f client number (Requests.Stop handle) reason new) → new.waiting ≡ []
     → IsStopStep f.state client handle result new
-stop_is f client number next handle (Ok answer) new q e m t =
+stop_is f client number next handle (Ok answer) new q e m t none =
     taken_step f.state client handle answer new
-    (subst (λ k. IsTaken f.state client k (Requests.Stop handle) answer new) (m ∙ next_is f.state.numbers client next e) t)
-stop_is f client number next handle (Err reason) new q e m n =
+    (subst (λ k. IsTaken f.state client k (Requests.Stop handle) answer new) (m ∙ next_is f.state.numbers client next e) t) none
+stop_is f client number next handle (Err reason) new q e m n none =
     not_taken_step f.state client handle reason new
     (subst (λ k. WhyNotTaken f.state client k (Requests.Stop handle) reason) (m ∙ next_is f.state.numbers client next e) n.why)
     (n.left ∙ still f q)

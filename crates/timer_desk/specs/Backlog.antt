@@ -1,5 +1,5 @@
 -- The backlog of one client at the desk, and the backlogs after notices.
-use Rattle.std.specs.Prelude.{ℕ, ◌+◌, ◌<◌, ◌≤◌, List, [], ◌∷◌, ◌++◌, length, get_or, slice_set, Option, None, map}
+use Rattle.std.specs.Prelude.{ℕ, ◌==◌, if◌then◌else◌, ◌+◌, ◌<◌, ◌≤◌, List, [], ◌∷◌, ◌++◌, length, get_or, slice_set, Option, None, map}
 use Rattle.timer_facility.specs.declared.request.Notice.{Notice}
 use Rattle.timer_facility.specs.State.{count_of, pending_of}
 use Rattle.timer_facility.specs.Facility.{FacilityView}
@@ -45,6 +45,12 @@ with_notices (notice ∷ notices) bs = with_notices notices (with_notice notice 
 -- how many of the notices are for a client
 abbrev pub notices_for : ℕ → List Notice → ℕ
 notices_for client notices = count_of client (map timer_handed notices)
+
+-- of the timers that are pending or wait to be handed out, at most one is new, and it is this client's; nothing waited
+pub record HoldsAtMostOneMore (client : ℕ) (f g : FacilityView) : Type 0 where
+  pub of_client : (c : ℕ) → pending_of g.state c + notices_for c g.waiting
+      ≤ pending_of f.state c + (if client == c then 1 else 0)
+  pub all : length g.state.pending + length g.waiting ≤ length f.state.pending + 1
 
 -- each outbox has room for its words, for a notice of each pending timer of its client, and for its notices
 -- that wait

@@ -4,7 +4,7 @@ use Rattle.timer_facility.specs.declared.request.Notice.{Notice}
 use Rattle.timer_facility.specs.State.{FacilityState, Tick, Close}
 use Rattle.timer_facility.specs.Facility.{FacilityView, with_nothing_waiting}
 use Rattle.timer_facility.specs.Step.{step}
-use Rattle.timer_facility.specs.Run.{notices_in, notices, history}
+use Rattle.timer_facility.specs.Run.{run, notices_in, notices, history}
 use Rattle.timer_facility.specs.Ticked.{ticks}
 use Rattle.timer_facility.specs.Owed.{owed}
 use Rattle.timer_desk.specs.declared.report.Served.{Served}
@@ -15,7 +15,7 @@ use Rattle.timer_desk.specs.declared.report.Step.{Step}
 use Rattle.timer_desk.specs.declared.report.Step.TheVariants as Steps
 use Rattle.timer_desk.specs.Inlet.{LineKind}
 use Rattle.timer_desk.specs.Backlog.{BacklogState, empty_backlog}
-use Rattle.timer_desk.specs.Report.{Account, account_of, steps_of, events, outs}
+use Rattle.timer_desk.specs.Report.{Account, account_of, served_events, steps_of, events, outs}
 use Rattle.timer_desk.specs.Member.{Moment, Members, IsKept, is_notice, hands_out}
 
 -- the facility, in which nothing waits; and for each client its line and its backlog
@@ -49,8 +49,8 @@ pub record IsIdle (b : BacklogState) : Type 0 where
 abbrev pub AllIdle : {I : Type 0} → DeskState I → Type 0
 AllIdle d = (c : ℕ) → c < clients_of d → IsIdle (backlog_at d c)
 
--- each notice comes after a tick or a close, with only notices in between; `allowed` says whether the first
--- member may be one
+-- each notice comes after a tick, a close or a request for a tick, with only notices in between; `allowed` says whether
+-- the first member may be one
 abbrev pub NoticesFollow : Bool → List Done → Type 0
 NoticesFollow allowed [] = Unit {0}
 NoticesFollow allowed (done ∷ report) = (is_notice done ≡ true → allowed ≡ true)
@@ -73,14 +73,15 @@ InRange clients (Steps.Ticks limit) = 0 < limit
 InRange clients (Steps.Flush c) = c < clients
 InRange clients step = Unit {0}
 
--- the notices of a tick, of many ticks at once, or of a close; none if it was refused
+-- the notices of a request, of a tick, of many ticks at once, or of a close; none if it was refused
 abbrev pub notices_of : FacilityState → Done → List Notice
+notices_of s (Dones.Served client served) = notices_in (run s (served_events client served)).outs
 notices_of s (Dones.Ticked result) = notices_in (step s Tick 0).outs
 notices_of s (Dones.Passed limit (Ok passed)) = notices (history s (ticks passed))
 notices_of s (Dones.Closed (Ok count)) = notices_in (step s Close 0).outs
 notices_of s done = []
 
--- such an event and its notices, as members of a report
+-- such a member and its notices, as members of a report
 abbrev pub event_report : FacilityState → Done → List Done
 event_report s first = first ∷ map Dones.Noticed (notices_of s first)
 

@@ -1,12 +1,11 @@
 -- One member of a report, and the desk before and after it. A report is a chain of them.
-use Rattle.std.specs.Prelude.{◌≡◌, ◌≢◌, ℕ, ◌+◌, ◌<◌, ◌≤◌, ◌++◌, Bool, true, false, List, [], ◌∷◌, length, get_or, map, Option, None, Ok, Err}
+use Rattle.std.specs.Prelude.{◌≡◌, ◌≢◌, ℕ, ◌+◌, ◌<◌, ◌≤◌, ◌++◌, Bool, true, false, List, [], ◌∷◌, length, get_or, Option, None, Ok, Err}
 use Rattle.timer_facility.specs.declared.request.CloseFault.TheVariants.{OutOfMemory}
 use Rattle.timer_facility.specs.declared.request.Notice.{Notice}
 use Rattle.timer_facility.specs.declared.event.Out.{Out}
-use Rattle.timer_facility.specs.declared.event.Out.TheVariants as Outs
 use Rattle.timer_facility.specs.State.{FacilityState, pending_of}
 use Rattle.timer_facility.specs.Run.{run}
-use Rattle.timer_facility.specs.Facility.{FacilityView, view_after}
+use Rattle.timer_facility.specs.Facility.{FacilityView, view_after, notice_outs, is_for_a_tick}
 use Rattle.timer_facility.specs.Ticked.{ticks, AreTicked}
 use Rattle.timer_desk.specs.declared.word.Numbered.{Numbered}
 use Rattle.timer_desk.specs.declared.report.Served.{Served}
@@ -16,7 +15,7 @@ use Rattle.timer_desk.specs.declared.report.Done.TheVariants as Dones
 use Rattle.timer_desk.specs.Inlet.{LineKind}
 use Rattle.timer_desk.specs.Extends.{Extends}
 use Rattle.timer_desk.specs.Backlog.{BacklogState, HasRoom}
-use Rattle.timer_desk.specs.Forward.{IsNotOutOfMemory, RanOutOfMemory}
+use Rattle.timer_desk.specs.Forward.{IsNotOutOfMemory, CarriesAction, RanOutOfMemory}
 use Rattle.timer_desk.specs.Report.{Account, account_of, HeldIsLast, left_of, held_list, IsAccount, asked_in, words_in, flushed_in, events_in, outs_in}
 
 -- a desk between two members: of its facility, whose notices may wait to be handed out; its lines and backlogs
@@ -70,16 +69,21 @@ pub record ClientMember (may_refuse : Bool) (c : ℕ) (s : FacilityState) (a : A
 
 -- the notices that wait, as outs
 abbrev pub waiting_outs : FacilityView → List Out
-waiting_outs f = map (λ (notice : Notice). Outs.Notice notice) f.waiting
+waiting_outs f = notice_outs f.waiting
 
 -- whether a member is a notice
 abbrev pub is_notice : Done → Bool
 is_notice (Dones.Noticed notice) = true
 is_notice done = false
 
--- whether notices may wait after a member: not if it is of one client
+-- whether a notice may wait after a serve: only if it did a request for a tick, which may have passed
+abbrev pub serve_hands_out : Served → Bool
+serve_hands_out (Did numbered word) = is_for_a_tick numbered.request
+serve_hands_out served = false
+
+-- whether notices may wait after a member
 abbrev pub hands_out : Done → Bool
-hands_out (Dones.Served client served) = false
+hands_out (Dones.Served client served) = serve_hands_out served
 hands_out (Dones.Flushed client count) = false
 hands_out done = true
 
@@ -88,10 +92,11 @@ abbrev pub is_any : List Notice → Bool
 is_any [] = false
 is_any (notice ∷ notices) = true
 
--- A close runs out of memory only at an open facility in which no room was made. Many ticks at once are accepted one
--- by one; only the last hands out anything, and fewer than were asked for are passed only if it does or the clock is
--- at its end.
+-- The word for a request has its action. A close runs out of memory only at an open facility in which no room was made.
+-- Many ticks at once are accepted one by one; only the last hands out anything, and fewer than were asked for are
+-- passed only if it does or the clock is at its end.
 abbrev pub IsRight : FacilityState → Done → Type 0
+IsRight s (Dones.Served client (Did numbered word)) = CarriesAction numbered.request word
 IsRight s (Dones.Closed (Err OutOfMemory)) = (s.is_closed ≡ false) × (s.has_room ≡ false)
 IsRight s (Dones.Passed limit (Ok passed)) = AreTicked limit passed s (view_after (run s (ticks passed)))
 IsRight s done = Unit {0}

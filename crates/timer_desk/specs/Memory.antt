@@ -1,5 +1,5 @@
 -- The lists of a `MemoryInlet`.
-use Rattle.std.specs.Prelude.{◌≤◌, ℕ, true, false, List, length, take, drop}
+use Rattle.std.specs.Prelude.{◌<◌, ◌≤◌, ◌+◌, ◌-◌, ℕ, min, true, false, List, length, take, drop, vec_len, vec_capacity}
 use Rattle.timer_desk.specs.declared.word.Numbered.{Numbered}
 use Rattle.timer_desk.specs.declared.word.Word.{Word}
 use Rattle.timer_desk.specs.declared.memory.MemoryInlet.{MemoryInlet}
@@ -16,6 +16,14 @@ given_of m = m.given.items
 
 abbrev pub room_of : MemoryInlet → ℕ
 room_of m = m.room
+
+-- how many of so many words the line has room for
+abbrev pub fitting : MemoryInlet → ℕ → ℕ
+fitting m count = min count (room_of m - length (given_of m))
+
+-- memory is not allocated yet for so many words more
+abbrev pub LacksMemory : MemoryInlet → ℕ → Type 0
+LacksMemory m count = vec_capacity m.given < vec_len m.given + count
 
 -- the requests of the line, and its room
 abbrev line_of : MemoryInlet → List Numbered × ℕ

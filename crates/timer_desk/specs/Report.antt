@@ -48,13 +48,13 @@ flushed_in c done = 0
 
 -- the place in a word, if it is the answer to an accepted start or restart
 abbrev pub place_in_word : Word → ℕ
-place_in_word (Words.Answered number answer) = place_in answer
+place_in_word (Words.Answered number action answer) = place_in answer
 place_in_word word = 0
 
 -- a word to a client as an out
 abbrev pub out_of : ℕ → Word → Out
-out_of client (Words.Answered number answer) = Outs.Answered client number answer
-out_of client (Words.NotTaken number reason) = Outs.NotTaken client number reason
+out_of client (Words.Answered number action answer) = Outs.Answered client number answer
+out_of client (Words.NotTaken number action reason) = Outs.NotTaken client number reason
 out_of client (Words.Notice notice) = Outs.Notice notice
 
 abbrev pub placed : SingleEvent → ℕ → PlacedEvent

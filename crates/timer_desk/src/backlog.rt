@@ -29,12 +29,12 @@ impl Model for Backlog {
 
 impl Backlog {
     ghost use Rattle.std.specs.Prelude.{◌≡◌, ◌+◌, ◌<◌, ◌≤◌, ◌⊎◌, [], ◌∷◌, ◌++◌, length, Some, None, IfOk, ℕ, true};
-    ghost use Rattle.timer_desk.specs.Backlog.{empty_backlog, with_word};
+    ghost use Rattle.timer_desk.specs.Backlog.{empty_backlog, with_word, notices_for, HoldsAtMostOneMore};
     ghost use Rattle.timer_facility.specs.State.{pending_of};
-    ghost use Rattle.timer_facility.specs.HandedOver.{AddsAtMostOne};
     ghost use Rattle.timer_desk.specs.Inlet.{taken_of};
-    ghost use Rattle.timer_desk.specs.Report.{held_list, account_of, HeldIsLast, request_in, word_in, IsAccount, Runs};
-    ghost use Rattle.timer_desk.specs.Member.{IsServe};
+    ghost use Rattle.timer_desk.specs.Report.{held_list, account_of, HeldIsLast, request_in, word_in, IsAccount};
+    ghost use Rattle.timer_desk.specs.Member.{IsServe, FacilityMember};
+    ghost use Rattle.timer_desk.specs.Desk.{notices_of};
     ghost use Rattle.timer_desk.specs.Flush.{IsGiven, without_words};
     ghost use Rattle.timer_desk.specs.declared.word.Numbered.{Numbered};
 
@@ -149,7 +149,8 @@ impl Backlog {
         count
     }
 
-    /// Serves the client once: a request is made at the facility, and its word pushed to the outbox.
+    /// Serves the client once: a request is made at the facility, and its word pushed to the outbox. A timer that is
+    /// due with it waits at the facility, and the outbox has room for its notice.
     #[inline(always)]
     pub fn serve<I: Inlet, W: Wheel + Drop>(
         &mut self,
@@ -165,15 +166,16 @@ impl Backlog {
             (account_of I.kind inlet.old self.old) (account_of I.kind inlet.new self.new) }
         ensures serve { IsServe I.kind.take_may_refuse client facility.old.state
             (account_of I.kind inlet.old self.old) result (account_of I.kind inlet.new self.new) }
-        ensures runs { Runs (Done.Served client result ∷ []) facility.old.state facility.new.state }
+        ensures member { FacilityMember (Done.Served client result) facility.old facility.new }
+        ensures notices { facility.new.waiting ≡ notices_of facility.old.state (Done.Served client result) }
         ensures no_room { result ≡ Served.NoRoom → (inlet.new ≡ inlet.old) × (self.new ≡ self.old)
             × (facility.new ≡ facility.old) }
         ensures idle { result ≡ Served.Idle
             → ((I.kind.state inlet.new).got ≡ (I.kind.state inlet.old).got) × (self.new ≡ self.old)
             × (facility.new ≡ facility.old) }
-        ensures adds { AddsAtMostOne client facility.old.state facility.new.state }
-        ensures room { length self.new.outbox + pending_of facility.new.state client ≤ self.new.room }
-        ensures quiet { facility.new.waiting ≡ [] }
+        ensures adds { HoldsAtMostOneMore client facility.old facility.new }
+        ensures room { length self.new.outbox + pending_of facility.new.state client
+            + notices_for client facility.new.waiting ≤ self.new.room }
         ensures clients { length facility.new.state.numbers ≡ length facility.old.state.numbers }
     {
         a_request_adds_at_most_one();

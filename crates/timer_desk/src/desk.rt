@@ -128,17 +128,20 @@ impl<W: Wheel + Drop, I: Inlet + Drop> Desk<W, I> {
     }
 
     /// Serves client c once: takes the held request, or else the next one of its line, to the facility,
-    /// and pushes the word for it to the back of the client's outbox.
+    /// and pushes the word for it to the back of the client's outbox. If a timer is due with it, its notice is
+    /// pushed next.
     ///
     /// `NoRoom` is tested first, and then nothing was taken. The facility allocates only for a start
     /// that it accepts.
     #[inline(always)]
     pub fn serve(&mut self, c: usize) -> Served
         requires { c < clients_of self.old }
-        ensures report { ReportHolds I.kind (Done.Served c result ∷ []) self.old self.new }
+        ensures report { ReportHolds I.kind (event_report self.old.facility (Done.Served c result)) self.old self.new }
         ensures alone { LeavesAlone I.kind result self.old self.new }
     {
-        self.backlogs[c].serve(&mut self.inlets[c], &mut self.facility, c)
+        let served = self.backlogs[c].serve(&mut self.inlets[c], &mut self.facility, c);
+        hand_out(&mut self.facility, &mut self.backlogs);
+        served
     }
 
     /// Moves words from client c's outbox into its line until none is left or the line does not take one,

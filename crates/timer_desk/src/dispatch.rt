@@ -1,4 +1,4 @@
-//! Moves the notices of a tick or a close into their clients' outboxes.
+//! Moves the notices that wait into their clients' outboxes.
 ghost use Rattle.std.specs.Prelude.{◌≡◌, ◌≤◌, ◌+◌, ◌++◌, [], map, take, drop, length, slice_get, vec_len, vec_capacity};
 ghost use Rattle.timer_facility.specs.Facility.{with_nothing_waiting};
 ghost use Rattle.timer_desk.specs.Backlog.{client_of, HasRoom, with_notices};
@@ -9,8 +9,23 @@ use crate::word::Word;
 use timer_base::Wheel;
 use timer_facility::{Facility, Notice};
 
-/// Pushes each waiting notice to the back of its client's outbox.
+/// Pushes each waiting notice to the back of its client's outbox. After most serves none waits.
+#[inline(always)]
 pub fn hand_out<W: Wheel + Drop>(facility: &mut Facility<W>, backlogs: &mut Vec<Backlog>)
+    requires room { HasRoom backlogs.old.items facility.old }
+    requires clients { vec_len backlogs.old ≡ length facility.old.state.numbers }
+    ensures facility { facility.new ≡ with_nothing_waiting facility.old.state }
+    ensures noted { backlogs.new.items ≡ with_notices facility.old.waiting backlogs.old.items }
+    ensures room { HasRoom backlogs.new.items facility.new }
+{
+    if facility.has_out() {
+        hand_out_all(facility, backlogs);
+    }
+}
+
+/// As `hand_out`, where some waits.
+#[inline(never)]
+fn hand_out_all<W: Wheel + Drop>(facility: &mut Facility<W>, backlogs: &mut Vec<Backlog>)
     requires room { HasRoom backlogs.old.items facility.old }
     requires clients { vec_len backlogs.old ≡ length facility.old.state.numbers }
     ensures facility { facility.new ≡ with_nothing_waiting facility.old.state }

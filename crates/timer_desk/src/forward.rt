@@ -3,7 +3,7 @@ ghost use Rattle.std.specs.Prelude.{◌≡◌, [], false, None, IfSome, IsNone};
 ghost use Rattle.timer_facility.specs.Facility.{NeedsMemory};
 ghost use Rattle.timer_desk.specs.Forward.{IsForwarded};
 
-use crate::word::{Numbered, Word};
+use crate::word::{Numbered, Word, action_of};
 use timer_base::Wheel;
 use timer_facility::{Facility, NotTaken};
 
@@ -23,13 +23,22 @@ pub fn ask<W: Wheel + Drop>(
         × NeedsMemory facility.old.state client numbered.number numbered.request }
 {
     let Numbered { number, request } = numbered;
+    let action = action_of(request);
     match facility.take(client, number, request) {
-        Ok(answer) => Some(Word::Answered { number, answer }),
+        Ok(answer) => Some(Word::Answered {
+            number,
+            action,
+            answer,
+        }),
         Err(reason) => {
             if let NotTaken::OutOfMemory = reason {
                 return None;
             }
-            Some(Word::NotTaken { number, reason })
+            Some(Word::NotTaken {
+                number,
+                action,
+                reason,
+            })
         }
     }
 }

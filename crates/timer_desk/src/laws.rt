@@ -23,7 +23,7 @@ pub fn reports_join<I: Inlet>()
 {}
 
 /// What a report says of each client, and of the facility: it made a run over the report's events. Each notice
-/// comes after its tick or close.
+/// comes after its tick, its close or the request that started its timer.
 pub fn a_report_accounts_for_all<I: Inlet>()
     ensures clients { (report : List Done) (first second : DeskState I) → ReportHolds I.kind report first second
         → (c : ℕ) (i : I) (b : BacklogState) → c < clients_of first

@@ -44,8 +44,8 @@ impl MemoryInlet {
 }
 
 impl Inlet for MemoryInlet {
-    ghost use Rattle.std.specs.Prelude.{◌≡◌, [], ◌++◌, ◌≤◌, length, true, false, ◌↔◌};
-    ghost use Rattle.timer_desk.specs.Memory.{got_of, standing_of, given_of, room_of, SameMemoryLine, memory_lines};
+    ghost use Rattle.std.specs.Prelude.{◌≡◌, [], ◌++◌, ◌<◌, ◌≤◌, ◌⊎◌, length, take, true, false, ◌↔◌};
+    ghost use Rattle.timer_desk.specs.Memory.{got_of, standing_of, given_of, room_of, fitting, LacksMemory, SameMemoryLine, memory_lines};
     ghost use Rattle.timer_desk.specs.Inlet.{taken_of, put_of, HandsBack};
 
     ghost kind = { memory_lines };
@@ -82,7 +82,17 @@ impl Inlet for MemoryInlet {
     ///
     /// Each request gets an answer, and the timer that it started a notice. So the list of the words is allocated once,
     /// for two words a request, and for no more than the room.
-    fn put_slice(&mut self, words: &[Word]) -> usize {
+    fn put_slice(&mut self, words: &[Word]) -> usize
+        ensures line { SameMemoryLine self.old self.new }
+        ensures given { given_of self.new ≡ given_of self.old ++ take result words.now }
+        ensures count { result ≤ length words.now }
+        ensures stopped { result < length words.now
+            → (room_of self.new ≤ length (given_of self.new)) ⊎ (true ≡ true) }
+        ensures as_many { (result ≡ fitting self.old (length words.now))
+            ⊎ ((result ≡ 0) × LacksMemory self.old (fitting self.old (length words.now))) }
+        ensures got { got_of self.new ≡ got_of self.old }
+        ensures standing { standing_of self.new ≡ standing_of self.old }
+    {
         let count = words.len().min(self.room.saturating_sub(self.given.len()));
         if self.given.capacity() == 0 {
             let most = self.requests.len().saturating_mul(2);

@@ -11,7 +11,8 @@ pub enum Served {
     NoRoom,
     /// Allocation failed. A request that was taken from the line is held, and is retried first.
     NoMemory,
-    /// The facility took or refused the request, and its word was pushed to the back of the outbox.
+    /// The facility took or refused the request, and its word was pushed to the back of the outbox. A notice
+    /// comes next if a timer is due with it.
     Did { numbered: Numbered, word: Word },
 }
 
@@ -26,7 +27,7 @@ pub enum Step {
     Flush(usize),
 }
 
-/// One member of a report: the result of a step, or a notice of the tick or the close before it.
+/// One member of a report: the result of a step, or a notice of the tick, the close or the serve before it.
 #[derive(Clone, Copy, Debug, PartialEq, Eq)]
 pub enum Done {
     Served {

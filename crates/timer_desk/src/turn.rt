@@ -1,8 +1,8 @@
 //! Turns of the desk: lists of steps, and the report of their results.
 //!
-//! Memory for the whole report is reserved before the first step. A step adds one member; a tick or a close
-//! adds a notice of each timer that it hands out, and each of these was pending before the turn or
-//! was started by a serve during it. So two members a step, and one for each pending timer, are enough.
+//! Memory for the whole report is reserved before the first step. A step adds one member, and a notice of each
+//! timer that it hands out. Each of these was pending before the turn or was started by a serve during it. So two
+//! members a step, and one for each pending timer, are enough.
 ghost use Rattle.std.specs.Prelude.{◌≡◌, [], ◌∷◌, ◌<◌, ◌≤◌, ◌+◌, length, true, All, IfOk, OnErr, vec_len, vec_capacity};
 ghost use Rattle.timer_desk.specs.Desk.{clients_of, InRange, AddsStep, IsReport};
 ghost use Rattle.timer_desk.specs.Report.{step_in};
@@ -62,7 +62,7 @@ impl<W: Wheel + Drop, I: Inlet + Drop> Desk<W, I> {
     /// Takes one step, and appends its result to the report.
     fn step(&mut self, step: Step, report: &mut Vec<Done>)
         requires client { InRange (clients_of self.old) step }
-        requires room { vec_len report.old + 1 + length self.old.facility.pending ≤ vec_capacity report.old }
+        requires room { vec_len report.old + 2 + length self.old.facility.pending ≤ vec_capacity report.old }
         ensures adds { AddsStep I.kind step report.old.items report.new.items self.old self.new }
         ensures capacity { vec_capacity report.new ≡ vec_capacity report.old }
         ensures room { vec_len report.new + length self.new.facility.pending
@@ -70,8 +70,13 @@ impl<W: Wheel + Drop, I: Inlet + Drop> Desk<W, I> {
     {
         match step {
             Step::Serve(client) => {
-                let served = self.serve(client);
+                let served = self.backlogs[client].serve(
+                    &mut self.inlets[client],
+                    &mut self.facility,
+                    client,
+                );
                 report.push_reserved(Done::Served { client, served });
+                hand_out_and_report(&mut self.facility, &mut self.backlogs, report);
             }
             Step::Flush(client) => {
                 let count = self.flush(client);

@@ -50,6 +50,7 @@ fn take_turn(
                 Err(_) => {}
             }
             counts.add_words(1);
+            drain(facility, counts);
         }
     }
     let _ = facility.tick();

@@ -55,6 +55,7 @@ fn answer(inlet: RingInlet, count: u64) -> u64 {
         if let Taken::Got(numbered) = inlet.take() {
             let word = Word::NotTaken {
                 number: numbered.number,
+                action: 0,
                 reason: NotTaken::Closed,
             };
             if let Put::Done = inlet.put(word) {

@@ -23,6 +23,7 @@ impl ReadLine {
     pub fn new(alloc: Global, requests: Vec<Numbered>) -> ReadLine {
         let none = Word::NotTaken {
             number: 0,
+            action: 0,
             reason: NotTaken::Closed,
         };
         ReadLine {

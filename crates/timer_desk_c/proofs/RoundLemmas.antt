@@ -1,27 +1,28 @@
 -- The rounds of the owner, client after client.
 use Rattle.std.proofs.Common.{◌≡◌, ◌≢◌, ◌<◌, ◌≤◌, ◌+◌, ◌++◌, ◌||◌, ◌⊎◌, ℕ, Bool, true, false, List, [], ◌∷◌, length, append-nil, refl, sym, ◌∙◌, ap, subst, inl, inr, arith, ne_of_lt}
 use borrow.Author.Count.{below_more}
-use Rattle.std.specs.Prelude.{nat_lt, get_or}
+use Rattle.std.specs.Prelude.{nat_lt, get_or, map, not}
 use Rattle.std.specs.List.{list_any, flat_map, enumerate_from}
 use Rattle.std.proofs.Math.Bool.{or-true, or-false}
 use Rattle.std.proofs.lemmas.Grind.{flat_map-append}
 use Rattle.std.proofs.lemmas.List.{get_or_append_left, get_or_push, get_or-set_other, length_push, map_push}
-use Rattle.std.proofs.lemmas.List.Elements.{All-nil, All-push, All-weaker}
+use Rattle.std.proofs.lemmas.List.Elements.{All-nil, All-push, All-weaker, filter-append}
 use Rattle.std.proofs.lemmas.List.Folds.{list_any-append, list_any_none}
+use Rattle.timer_facility.specs.declared.request.Notice.{Notice}
 use Rattle.timer_desk.specs.declared.report.Served.{Served}
 use Rattle.timer_desk.specs.declared.report.Served.TheVariants.{Idle, NoRoom, NoMemory, Did}
 use Rattle.timer_desk.specs.declared.report.Done.{Done}
 use Rattle.timer_desk.specs.declared.report.Done.TheVariants as Dones
 use Rattle.timer_desk.specs.declared.ring.RingInlet.{RingInlet}
 use Rattle.timer_desk.specs.Backlog.{BacklogState, empty_backlog}
-use Rattle.timer_desk.specs.Member.{IsKept}
+use Rattle.timer_desk.specs.Member.{IsKept, is_notice}
 use Rattle.timer_desk.specs.Ring.{ring_lines}
-use Rattle.timer_desk.specs.Desk.{at_rest, backlog_at}
+use Rattle.timer_desk.specs.Desk.{at_rest, backlog_at, notices_of, event_report}
 use Rattle.timer_desk.specs.Flush.{Flushes, without_words}
 use Rattle.timer_desk.proofs.Members.{ReportHolds-joined, ReportHolds-nothing}
 use Rattle.timer_desk_c.specs.DeskSlots.{DeskState}
 use Rattle.timer_desk_c.specs.Desks.{Says}
-use Rattle.timer_desk_c.specs.Rounds.{report_of, did, starved, serves_of, AllDid, IsServedOut, HasServedClient, HasServedFirst, flush_of, IsFlushedOut, HasFlushedFirst}
+use Rattle.timer_desk_c.specs.Rounds.{report_of, did, starved, serves_of, without_notices, SaysServes, AllDid, IsServedOut, HasServedClient, HasServedFirst, flush_of, IsFlushedOut, HasFlushedFirst}
 use Rattle.timer_desk_c.specs.Dropped.{IsDropped, HasDropped, HasDroppedFirst, waiting_at}
 
 -- One more client.
@@ -43,15 +44,18 @@ enumerate-push {X} n (y ∷ xs) x =
     ap {B = List (ℕ × X)} (λ ps. (n, y) ∷ ps) (enumerate-push (n + 1) xs x
     ∙ ap {B = List (ℕ × X)} (λ k. enumerate_from (n + 1) xs ++ (k, x) ∷ []) e)
 
+report_of-push : {X : Type 0} (members : ℕ → X → List Done) (k : ℕ) (parts : List X) (part : X) → length parts ≡ k
+    → report_of members (parts ++ part ∷ []) ≡ report_of members parts ++ members k part
+report_of-push {X} members k parts part many =
+    let of = λ (p : ℕ × X). members p.0 p.1 in
+    let e : 0 + length parts ≡ k = omega (arith, many) in
+    ap (flat_map of) (enumerate-push 0 parts part) ∙ flat_map-append of (enumerate_from 0 parts) ((0 + length parts, part) ∷ [])
+    ∙ ap (λ r. report_of members parts ++ r) (append-nil (members (0 + length parts) part) ∙ ap (λ n. members n part) e)
+
 says_more : {X : Type 0} (members : ℕ → X → List Done) (k : ℕ) (parts : List X) (part : X) (x y z : DeskState) → length parts ≡ k
     → Says (report_of members parts) x y → Says (members k part) y z → Says (report_of members (parts ++ part ∷ [])) x z
 says_more {X} members k parts part x y z many f g =
-    let of = λ (p : ℕ × X). members p.0 p.1 in
-    let e : 0 + length parts ≡ k = omega (arith, many) in
-    let more : report_of members (parts ++ part ∷ []) ≡ report_of members parts ++ members k part =
-    ap (flat_map of) (enumerate-push 0 parts part) ∙ flat_map-append of (enumerate_from 0 parts) ((0 + length parts, part) ∷ [])
-    ∙ ap (λ r. report_of members parts ++ r) (append-nil (members (0 + length parts) part) ∙ ap (λ n. members n part) e) in
-    subst (λ r. Says r x z) (sym more) (ReportHolds-joined ring_lines (report_of members parts) (members k part) x y z f g)
+    subst (λ r. Says r x z) (sym (report_of-push members k parts part many)) (ReportHolds-joined ring_lines (report_of members parts) (members k part) x y z f g)
 
 -- The serves of one client.
 
@@ -65,15 +69,41 @@ none_starved : (results : List Served) → AllDid results → list_any starved r
 none_starved results all =
     list_any_none starved results (All-weaker (λ s. did s ≡ true) (λ s. starved s ≡ false) fed results all)
 
-serves_more : (c : ℕ) (results : List Served) (s : Served) (x y z : DeskState) → Says (serves_of c results) x y
-    → Says (Dones.Served c s ∷ []) y z → Says (serves_of c (results ++ s ∷ [])) x z
-serves_more c results s x y z f g = subst (λ r. Says r x z) (sym (map_push (Dones.Served c) results s))
-    (ReportHolds-joined ring_lines (serves_of c results) (Dones.Served c s ∷ []) x y z f g)
+no_serves : (x : DeskState) → IsKept ring_lines (at_rest x) → SaysServes [] x x
+no_serves x kept = record { report = []; says = ReportHolds-nothing ring_lines x kept; serves_are = refl }
+
+serves_joined : (first second all : List Done) (x y z : DeskState) → SaysServes first x y → SaysServes second y z
+    → all ≡ first ++ second → SaysServes all x z
+serves_joined first second all x y z f g e = record {
+  report = f.report ++ g.report;
+  says = ReportHolds-joined ring_lines f.report g.report x y z f.says g.says;
+  serves_are = filter-append (λ done. not (is_notice done)) f.report g.report
+      ∙ ap (λ r. r ++ without_notices g.report) f.serves_are ∙ ap (λ r. first ++ r) g.serves_are ∙ sym e;
+}
+
+only_notices : (ns : List Notice) → without_notices (map Dones.Noticed ns) ≡ []
+only_notices [] = refl
+only_notices (n ∷ ns) = only_notices ns
+
+-- a serve with what it hands out
+one_serve : (c : ℕ) (s : Served) (y z : DeskState) → Says (event_report y.facility (Dones.Served c s)) y z
+    → SaysServes (Dones.Served c s ∷ []) y z
+one_serve c s y z says = record {
+  report = event_report y.facility (Dones.Served c s);
+  says = says;
+  serves_are = ap (λ r. Dones.Served c s ∷ r) (only_notices (notices_of y.facility (Dones.Served c s)));
+}
+
+serves_more : (c : ℕ) (results : List Served) (s : Served) (x y z : DeskState) → SaysServes (serves_of c results) x y
+    → Says (event_report y.facility (Dones.Served c s)) y z → SaysServes (serves_of c (results ++ s ∷ [])) x z
+serves_more c results s x y z f g =
+    serves_joined (serves_of c results) (Dones.Served c s ∷ []) (serves_of c (results ++ s ∷ [])) x y z f (one_serve c s y z g)
+    (map_push (Dones.Served c) results s)
 
 -- so many serves of client c so far, each of which did a request
 pub record IsServing (c n : ℕ) (busy : Bool) (old now : DeskState) : Type 0 where
   pub results : List Served
-  pub says : Says (serves_of c results) old now
+  pub says : SaysServes (serves_of c results) old now
   pub all_did : AllDid results
   pub count : length results ≡ n
   pub busy_is : busy ≡ list_any did results
@@ -81,14 +111,14 @@ pub record IsServing (c n : ℕ) (busy : Bool) (old now : DeskState) : Type 0 wh
 pub serving_nothing : (c : ℕ) (x : DeskState) → IsKept ring_lines (at_rest x) → IsServing c 0 false x x
 serving_nothing c x kept = record {
   results = [];
-  says = ReportHolds-nothing ring_lines x kept;
+  says = no_serves x kept;
   all_did = All-nil (λ s. did s ≡ true);
   count = refl;
   busy_is = refl;
 }
 
 pub serving_more : (c n : ℕ) (busy : Bool) (x y z : DeskState) (s : Served) → IsServing c n busy x y → did s ≡ true
-    → Says (Dones.Served c s ∷ []) y z → IsServing c (n + 1) true x z
+    → Says (event_report y.facility (Dones.Served c s)) y z → IsServing c (n + 1) true x z
 serving_more c n busy x y z s f h says = record {
   results = f.results ++ s ∷ [];
   says = serves_more c f.results s x y z f.says says;
@@ -98,7 +128,7 @@ serving_more c n busy x y z s f h says = record {
 }
 
 pub serving_ends : (c n most : ℕ) (busy out : Bool) (x y z : DeskState) (s : Served) → IsServing c n busy x y → n < most
-    → did s ≡ false → out ≡ starved s → Says (Dones.Served c s ∷ []) y z → HasServedClient c most busy out x z
+    → did s ≡ false → out ≡ starved s → Says (event_report y.facility (Dones.Served c s)) y z → HasServedClient c most busy out x z
 serving_ends c n most busy out x y z s f few h e says = record {
   results = f.results ++ s ∷ [];
   says = serves_more c f.results s x y z f.says says;
@@ -129,7 +159,7 @@ pub round_nothing : (most : ℕ) (x : DeskState) → IsKept ring_lines (at_rest 
 round_nothing most x kept = record {
   results = [];
   as_many = refl;
-  says = ReportHolds-nothing ring_lines x kept;
+  says = no_serves x kept;
   served_out = All-nil (IsServedOut most);
   busy_is = refl;
   memory_is = refl;
@@ -140,7 +170,8 @@ pub round_more : (most k : ℕ) (busy out b o busy' out' : Bool) (x y z : DeskSt
 round_more most k busy out b o busy' out' x y z f g busy_is out_is = record {
   results = f.results ++ g.results ∷ [];
   as_many = one_more k f.results g.results f.as_many;
-  says = says_more serves_of k f.results g.results x y z f.as_many f.says g.says;
+  says = serves_joined (report_of serves_of f.results) (serves_of k g.results) (report_of serves_of (f.results ++ g.results ∷ [])) x y z
+      f.says g.says (report_of-push serves_of k f.results g.results f.as_many);
   served_out = All-push (IsServedOut most) f.results g.results f.served_out g.served_out;
   busy_is = busy_is ∙ any_more (list_any did) f.results g.results busy b f.busy_is g.busy_is;
   memory_is = out_is ∙ any_more (list_any starved) f.results g.results out o f.memory_is g.memory_is;

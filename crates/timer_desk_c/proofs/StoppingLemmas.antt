@@ -158,8 +158,8 @@ own_stop client s handle t taken there own =
     let accepted : verdict s event ≡ None = ap (λ o. verdict_on_request o (refusal s client (Stop (ByHandle handle)))) taken
     ∙ ap (λ o. verdict_on_request None (name_refusal o)) found in
     step-accepted s event 0 accepted
-    ∙ ap (λ o. answered client number (answer_to o None 0) (without_timer o s)) found
-    ∙ ap (λ n. answered client number (Stopped n) (without_timer (Some t) s)) (found_serial handle t s.pending there)
+    ∙ ap (λ o. answered client number (answer_to o None 0) [] (without_timer o s)) found
+    ∙ ap (λ n. answered client number (Stopped n) [] (without_timer (Some t) s)) (found_serial handle t s.pending there)
 
 is_own : (client : ℕ) (o : Option Timer) (t : Timer) → o ≡ Some t → of_client client o ≢ None → t.client ≡ client
 is_own client o t e some = elim (either (t.client == client)) [

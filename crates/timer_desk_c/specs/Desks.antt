@@ -1,5 +1,5 @@
 -- The owner's desk, before and after a call.
-use Rattle.std.specs.Prelude.{ℕ, ◌≡◌, ◌≢◌, ◌<◌, ◌≤◌, ◌⊎◌, Bool, true, false, List, [], ◌∷◌, length, get_or, Ok, Err, Some, None, Result, IfOk}
+use Rattle.std.specs.Prelude.{ℕ, ◌≡◌, ◌≢◌, ◌<◌, ◌≤◌, ◌⊎◌, Bool, true, false, List, [], length, get_or, Ok, Err, Some, None, Result, IfOk}
 use Rattle.std.specs.List.{AllZip}
 use Rattle.timer_base.specs.WakeUps.{IsWakeUp, next_deadline}
 use Rattle.timer_wheels.specs.Tables.{slots_of_table, last_of_table, radices_by_slots}
@@ -122,11 +122,11 @@ status_of Serveds.NoRoom = NO_ROOM
 status_of Serveds.NoMemory = NO_MEMORY
 status_of (Serveds.Did numbered word) = OK
 
--- the client was served once, with this status
+-- the client was served once, with this status; if a timer was due with its request, the notice is in the outbox
 pub record HasServed (client status : ℕ) (old new : DeskState) : Type 0 where
   pub served : Served
   pub status_is : status ≡ status_of served
-  pub says : Says (Dones.Served client served ∷ []) old new
+  pub says : Says (event_report old.facility (Dones.Served client served)) old new
   pub alone : LeavesAlone ring_lines served old new
 
 abbrev pub tick_status : {X : Type 0} → Result X TickFault → ℕ

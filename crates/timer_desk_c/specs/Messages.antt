@@ -42,21 +42,22 @@ reason_of Reasons.SerialsSpent = SERIALS_SPENT
 reason_of Reasons.Full = CAPACITY
 reason_of Reasons.NoSuch = NOT_PENDING
 
-abbrev pub message_of_answer : ℕ → Answer → Message
-message_of_answer number (Answers.Started handle deadline) =
-    record blank { kind = STARTED; number = number; handle = c_handle handle; deadline = deadline }
-message_of_answer number (Answers.Stopped serial) =
+abbrev pub message_of_answer : ℕ → ℕ → Answer → Message
+message_of_answer number action (Answers.Started handle deadline) =
+    record blank { kind = STARTED; number = number; handle = c_handle handle; deadline = deadline; action = action }
+message_of_answer number action (Answers.Stopped serial) =
     record blank { kind = STOPPED; number = number; handle = record { place = 0; serial = serial } }
-message_of_answer number (Answers.Restarted handle deadline old) =
+message_of_answer number action (Answers.Restarted handle deadline old) =
     record blank {
       kind = RESTARTED;
       number = number;
       handle = c_handle handle;
       deadline = deadline;
+      action = action;
       other = old;
     }
-message_of_answer number (Answers.Refused reason) =
-    record blank { kind = REFUSED; reason = reason_of reason; number = number }
+message_of_answer number action (Answers.Refused reason) =
+    record blank { kind = REFUSED; reason = reason_of reason; number = number; action = action }
 
 -- why a request was not taken, and the number that was to come next, or 0
 abbrev pub why_not_taken : NotTaken → ℕ × ℕ
@@ -67,11 +68,12 @@ why_not_taken NotTakens.NumbersSpent = (NUMBERS_SPENT, 0)
 why_not_taken (NotTakens.Ahead next) = (AHEAD, next)
 why_not_taken NotTakens.OutOfMemory = (NO_MEMORY, 0)
 
-abbrev pub message_of_not_taken : ℕ → NotTaken → Message
-message_of_not_taken number reason = record blank {
+abbrev pub message_of_not_taken : ℕ → ℕ → NotTaken → Message
+message_of_not_taken number action reason = record blank {
   kind = NOT_TAKEN;
   reason = (why_not_taken reason).0;
   number = number;
+  action = action;
   other = (why_not_taken reason).1;
 }
 
@@ -86,7 +88,7 @@ message_of_timer kind t = record blank {
 }
 
 abbrev pub message_of : Word → Message
-message_of (Words.Answered number answer) = message_of_answer number answer
-message_of (Words.NotTaken number reason) = message_of_not_taken number reason
+message_of (Words.Answered number action answer) = message_of_answer number action answer
+message_of (Words.NotTaken number action reason) = message_of_not_taken number action reason
 message_of (Words.Notice (Notices.Expired timer)) = message_of_timer EXPIRED timer
 message_of (Words.Notice (Notices.Returned timer)) = message_of_timer RETURNED timer

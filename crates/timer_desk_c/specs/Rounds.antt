@@ -1,5 +1,5 @@
 -- Rounds of the owner over all clients, in order: each is served, each outbox is flushed.
-use Rattle.std.specs.Prelude.{ℕ, ◌≡◌, ◌<◌, ◌⊎◌, ◌||◌, ◌++◌, Bool, true, false, List, [], ◌∷◌, length, get_or, map, All, nat_lt, if◌then◌else◌}
+use Rattle.std.specs.Prelude.{ℕ, ◌≡◌, ◌<◌, ◌⊎◌, ◌||◌, ◌++◌, Bool, true, false, List, [], ◌∷◌, length, get_or, map, filter, not, All, nat_lt, if◌then◌else◌}
 use Rattle.std.specs.List.{list_any, flat_map, enumerate_from}
 use Rattle.timer_desk.specs.declared.report.Served.{Served}
 use Rattle.timer_desk.specs.declared.report.Served.TheVariants.{NoMemory, Did}
@@ -7,6 +7,7 @@ use Rattle.timer_desk.specs.declared.report.Done.{Done}
 use Rattle.timer_desk.specs.declared.report.Done.TheVariants as Dones
 use Rattle.timer_desk.specs.declared.ring.RingInlet.{RingInlet}
 use Rattle.timer_desk.specs.Backlog.{BacklogState}
+use Rattle.timer_desk.specs.Member.{is_notice}
 use Rattle.timer_desk.specs.Desk.{clients_of, backlog_at}
 use Rattle.timer_desk.specs.Ring.{free_of_inlet}
 use Rattle.timer_desk_c.specs.declared.status.TheConstants.{OK, NO_MEMORY, IDLE}
@@ -34,6 +35,17 @@ starved served = false
 abbrev pub serves_of : ℕ → List Served → List Done
 serves_of client results = map (Dones.Served client) results
 
+-- the members of a report that are not notices
+abbrev pub without_notices : List Done → List Done
+without_notices report = filter (λ done. not (is_notice done)) report
+
+-- these serves were made: a report of them, in which a serve may be followed by the notice of a timer that was due with
+-- its request
+pub record SaysServes (serves : List Done) (old new : DeskState) : Type 0 where
+  pub report : List Done
+  pub says : Says report old new
+  pub serves_are : without_notices report ≡ serves
+
 -- each of them did a request
 abbrev pub AllDid : List Served → Type 0
 AllDid results = All (λ served. did served ≡ true) results
@@ -54,7 +66,7 @@ IsServedOut most results = (AllDid results × (length results ≡ most)) ⊎ End
 -- client c alone was served, up to `most` times: whether a request was done, and whether one failed with out of memory
 pub record HasServedClient (c most : ℕ) (busy out_of_memory : Bool) (old new : DeskState) : Type 0 where
   pub results : List Served
-  pub says : Says (serves_of c results) old new
+  pub says : SaysServes (serves_of c results) old new
   pub served_out : IsServedOut most results
   pub busy_is : busy ≡ list_any did results
   pub memory_is : out_of_memory ≡ list_any starved results
@@ -68,7 +80,7 @@ round_status out_of_memory busy = if out_of_memory then NO_MEMORY else if busy t
 pub record HasServedFirst (most many : ℕ) (busy out_of_memory : Bool) (old new : DeskState) : Type 0 where
   pub results : List (List Served)
   pub as_many : length results ≡ many
-  pub says : Says (report_of serves_of results) old new
+  pub says : SaysServes (report_of serves_of results) old new
   pub served_out : All (IsServedOut most) results
   pub busy_is : busy ≡ list_any (list_any did) results
   pub memory_is : out_of_memory ≡ list_any (list_any starved) results

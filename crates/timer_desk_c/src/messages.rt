@@ -17,15 +17,23 @@ pub(crate) fn message_of(word: Word) -> Message
     ensures { result ≡ message_of word }
 {
     match word {
-        Word::Answered { number, answer } => message_of_answer(number, answer),
-        Word::NotTaken { number, reason } => message_of_not_taken(number, reason),
+        Word::Answered {
+            number,
+            action,
+            answer,
+        } => message_of_answer(number, action, answer),
+        Word::NotTaken {
+            number,
+            action,
+            reason,
+        } => message_of_not_taken(number, action, reason),
         Word::Notice(Notice::Expired(timer)) => message_of_timer(EXPIRED, timer),
         Word::Notice(Notice::Returned(timer)) => message_of_timer(RETURNED, timer),
     }
 }
 
-fn message_of_answer(number: u64, answer: Answer) -> Message
-    ensures { result ≡ message_of_answer number answer }
+fn message_of_answer(number: u64, action: u64, answer: Answer) -> Message
+    ensures { result ≡ message_of_answer number action answer }
 {
     match answer {
         Answer::Started { handle, deadline } => Message {
@@ -33,6 +41,7 @@ fn message_of_answer(number: u64, answer: Answer) -> Message
             number,
             handle: to_c_handle(handle),
             deadline,
+            action,
             ..Message::default()
         },
         Answer::Stopped { serial } => Message {
@@ -50,6 +59,7 @@ fn message_of_answer(number: u64, answer: Answer) -> Message
             number,
             handle: to_c_handle(handle),
             deadline,
+            action,
             other: old,
             ..Message::default()
         },
@@ -57,13 +67,14 @@ fn message_of_answer(number: u64, answer: Answer) -> Message
             kind: REFUSED,
             reason: number_of(reason),
             number,
+            action,
             ..Message::default()
         },
     }
 }
 
-fn message_of_not_taken(number: u64, reason: NotTaken) -> Message
-    ensures { result ≡ message_of_not_taken number reason }
+fn message_of_not_taken(number: u64, action: u64, reason: NotTaken) -> Message
+    ensures { result ≡ message_of_not_taken number action reason }
 {
     let (reason, other) = match reason {
         NotTaken::Closed => (CLOSED, 0),
@@ -77,6 +88,7 @@ fn message_of_not_taken(number: u64, reason: NotTaken) -> Message
         kind: NOT_TAKEN,
         reason,
         number,
+        action,
         other,
         ..Message::default()
     }

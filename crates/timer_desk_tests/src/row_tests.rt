@@ -298,6 +298,42 @@ fn close_at_desk(rt: HostRuntime) -> Result<(), Fail> {
     Ok(())
 }
 
+static PASSED_DEADLINE: [Said; 6] = [
+    ('A', 1, 1),
+    ('t', 0, 0),
+    ('E', 1, 1),
+    ('A', 2, 1),
+    ('E', 2, 1),
+    ('f', 4, 0),
+];
+
+static PASSED_DEADLINE_WORDS: [Said; 4] = [('A', 1, 1), ('E', 1, 1), ('A', 2, 1), ('E', 2, 1)];
+
+/// A start for tick 0 that is taken at tick 1: its notice follows the answer.
+fn passed_deadline_over_ring(rt: &impl Abort, alloc: Global, way: Way) -> Result<(), Fail> {
+    let steps = [Step::Serve(0), Step::Tick, Step::Serve(0), Step::Flush(0)];
+    let (mut end, inlet) = ring_line(alloc, 4, 4)?;
+    submits(rt, &mut end, &[1]);
+    let late = Request::StartAt {
+        deadline: 0,
+        action: 9,
+    };
+    assert!(rt; end.submit(late).is_ok());
+    let mut desk = desk(rt, alloc, one(rt, alloc, inlet));
+    has_clients(rt, &desk, 1);
+    take_steps(rt, &mut desk, way, &steps, &PASSED_DEADLINE);
+    receives(rt, &mut end, &PASSED_DEADLINE_WORDS);
+    Ok(())
+}
+
+#[test]
+fn a_passed_deadline_expires_after_its_answer(rt: HostRuntime) -> Result<(), Fail> {
+    for way in WAYS {
+        passed_deadline_over_ring(&rt, rt.alloc(), way)?;
+    }
+    Ok(())
+}
+
 /// The handle of an accepted start.
 fn handle_in(rt: &impl Abort, word: Option<Word>) -> Handle {
     match word {

@@ -173,7 +173,11 @@ pub fn started(number: u64) -> Word {
         handle,
         deadline: 5,
     };
-    Word::Answered { number, answer }
+    Word::Answered {
+        number,
+        action: 7,
+        answer,
+    }
 }
 
 /// Of an accepted start A, of a restart P, of a timer that expired E, of one that is returned R, and the serial and the
@@ -200,6 +204,7 @@ pub fn said(word: Word) -> Said {
         Word::NotTaken {
             number,
             reason: NotTaken::Closed,
+            ..
         } => ('X', number, 0),
         _ => ('N', 0, 0),
     }

@@ -7,15 +7,16 @@ use Rattle.timer_base.specs.declared.timer.Timer.{Timer}
 use Rattle.timer_facility.specs.declared.request.NotTaken.TheVariants as NotTakens
 use Rattle.timer_facility.specs.declared.request.TickFault.{TickFault}
 use Rattle.timer_facility.specs.declared.request.Notice.TheVariants.{Expired}
-use Rattle.timer_facility.specs.State.{FacilityState, pending_of, ModelRequest, SingleEvent, Asked, Tick, Close}
+use Rattle.timer_facility.specs.State.{FacilityState, count_of, pending_of, ModelRequest, SingleEvent, Asked, Tick, Close}
 use Rattle.timer_facility.specs.Verdict.{tick_refusal}
 use Rattle.timer_facility.specs.Step.{StepResult, with_number, timer_stopped, timer_started, after_request, expired_next, step, step_of_tick, step_of_close}
 use Rattle.timer_facility.specs.Run.{PlacedEvent, history, state_after}
 use Rattle.timer_facility.specs.Owed.{accepted_ticks, ticks_by}
+use Rattle.timer_facility.specs.HandedOver.{timers_handed}
 use Rattle.timer_facility.proofs.VerdictLemmas.{not_taken-closed, not_taken-no_client}
 use Rattle.timer_facility.proofs.StepLemmas.{by_verdict, step-not_taken}
 use Rattle.timer_facility.proofs.HandedOverLemmas.{adds_at_most_one, hands_over_tick, hands_over_close}
-use Rattle.timer_facility.proofs.OwedLemmas.{refusal-map}
+use Rattle.timer_facility.proofs.NoticeLists.{refusal-map}
 
 -- the tick and the number of clients are the same
 record IsSameClock (s t : FacilityState) : Type 0 where
@@ -89,7 +90,9 @@ none_asked s client c number request place h true e =
     subst (λ t. HasNone c t) (sym (not_among s client number request place less s.is_closed refl)) h
 none_asked s client c number request place h false e =
     let after : FacilityState = (step s (Asked client number request) place).state in
-    let n : pending_of after c ≤ pending_of s c + 0 = subst (λ b. pending_of after c ≤ pending_of s c + (if b then 1 else 0)) e
+    let handed : ℕ = count_of c (timers_handed (step s (Asked client number request) place)) in
+    let n : pending_of after c + handed ≤ pending_of s c + 0 =
+    subst (λ b. pending_of after c + handed ≤ pending_of s c + (if b then 1 else 0)) e
     ((adds_at_most_one s client number request place).of_client c) in
     record {
       no_client = omega (arith, h.no_client, (clock_asked s client number request place).clients_are);

@@ -1,10 +1,10 @@
 -- The fields of a facility: their view, and the fields after each call.
 use Rattle.std.proofs.Common.{◌≡◌, ◌≢◌, ◌<◌, ◌≤◌, ◌+◌, ◌-◌, ℕ, Bool, true, false, not, ◌==◌, List, [], ◌∷◌, length, refl, sym, ◌∙◌, ap, subst, inl, inr, arith, append-nil, length-append}
-use Rattle.std.specs.Prelude.{map, drop, replicate, if◌then◌else◌, Option, Some, None, slice_get, slice_index, slice_set}
+use Rattle.std.specs.Prelude.{map, nat_lt, drop, replicate, if◌then◌else◌, Option, Some, None, slice_get, slice_index, slice_set}
 use Rattle.std.proofs.lemmas.Bool.Decides.{nat_tests}
 use Rattle.std.proofs.Math.Seq.{take-set-lt}
 use Rattle.std.proofs.lemmas.Option.{slice_get_within, get_or_from_slice_get}
-use Rattle.std.proofs.lemmas.List.{drop_more, length-take-le, length-set, length-map, nil_from_length, take-replicate}
+use Rattle.std.proofs.lemmas.List.{drop_more, length-take-le, length-set, length-map, nil_from_length, map-append, take-replicate}
 use Rattle.std.proofs.lemmas.List.Elements.{All-from_recursion, recursion_from_All, All-set, All-replicate}
 use Rattle.timer_base.specs.Basics.{either, some_same}
 use Rattle.timer_base.specs.OneOrder.{IsMember}
@@ -12,7 +12,7 @@ use Rattle.timer_base.specs.declared.limits.TheConstants.{LAST}
 use Rattle.timer_base.specs.declared.timer.Timer.{Timer}
 use Rattle.timer_base.specs.declared.timer.Handle.{Handle}
 use Rattle.timer_base.specs.Pending.{Entry, timer_of, timers_of, is_due_at, has_handle, first_timer, without_found, has_serial}
-use Rattle.timer_base.specs.HeldLaws.{held_when_none_due, start_when_later, removal_when_none_due}
+use Rattle.timer_base.specs.HeldLaws.{held_when_none_due, held_start-last_serial, removal_when_none_due}
 use Rattle.timer_base.specs.WheelState as Wheels
 use Rattle.timer_facility.specs.declared.limits.TheConstants.{MAX_PENDING}
 use Rattle.timer_facility.specs.declared.config.Config.{Config}
@@ -23,14 +23,14 @@ use Rattle.timer_facility.specs.declared.request.Notice.{Notice}
 use Rattle.timer_facility.specs.declared.request.Notice.TheVariants.{Expired, Returned}
 use Rattle.timer_facility.specs.State.{FacilityState, ByHandle, Tick, Close, one_of, count_of, pending_of}
 use Rattle.timer_facility.specs.Verdict.{interval_refusal, first_refusal, name_refusal, timer_named, tick_refusal}
-use Rattle.timer_facility.specs.Step.{step, step_of_close, new_timer, handle_of, answer_to, with_number, after_request, expired_next, accepted}
+use Rattle.timer_facility.specs.Step.{step, step_of_close, new_timer, handle_of, answer_to, due_at_start, with_number, after_request, expired_next, accepted}
 use Rattle.timer_facility.specs.Run.{notices_in}
 use Rattle.timer_facility.specs.Opened.{opened}
 use Rattle.timer_facility.specs.Config.{IsInRange}
-use Rattle.timer_facility.specs.Facility.{FacilityView, Fields, view_of, kept_in, AreCounted, IsFacility, view_after, with_nothing_waiting, place_in, IsAnswered}
-use Rattle.timer_facility.proofs.FacilityCounts.{count-kept, count-put, count-tick, count-without, count-front, counted-none, counted-as, counted-more, counted-less, IsCounted, is_counted, count_in_range}
+use Rattle.timer_facility.specs.Facility.{FacilityView, Fields, view_of, kept_in, AreCounted, IsFacility, view_after, with_nothing_waiting, with_expiries, place_in, IsAnswered}
+use Rattle.timer_facility.proofs.FacilityCounts.{count-append, count-kept, count-put, count-tick, count-without, count-front, counted-none, counted-as, counted-more, counted-less, IsCounted, is_counted, count_in_range}
 use Rattle.timer_facility.proofs.TimerLists.{length-filter, first_timer-among, timers_of-filter, of_client_some, length-put}
-use Rattle.timer_facility.proofs.OwedLemmas.{notices_in-map}
+use Rattle.timer_facility.proofs.NoticeLists.{notices_in-map}
 use Rattle.timer_facility.proofs.VerdictLemmas.{timely, ticking}
 
 -- The state of the fields.
@@ -82,7 +82,7 @@ agrees {p} {v} a e = subst (λ (u : FacilityView). AgreesWithFields p u.state) e
 
 -- a timer that is started or restarted now
 pub record IsInTime (p : Fields) (client : ℕ) (t : Timer) : Type 0 where
-  pub later : p.wheel.now < t.deadline
+  pub not_past : p.wheel.now ≤ t.deadline
   pub within : t.deadline ≤ p.wheel.last_tick
   pub in_range : t.deadline ≤ LAST
   pub serial_is : t.serial ≡ p.next_serial
@@ -90,22 +90,28 @@ pub record IsInTime (p : Fields) (client : ℕ) (t : Timer) : Type 0 where
   pub client_is : t.client ≡ client
 
 pub in_time : {p : Fields} {v : FacilityView} → IsFacility p → view_of p ≡ v → Wheels.IsWellFormed p.wheel
-    → {client number action : ℕ} (interval : ℕ) → interval_refusal v.state interval ≡ None → {t : Timer}
-    → t ≡ new_timer v.state client number interval action → IsInTime p client t
-in_time {p} {v} a e w interval h {t} is =
+    → {client number left action : ℕ} (interval : ℕ) → interval_refusal v.state interval ≡ None → left ≤ interval → {t : Timer}
+    → t ≡ new_timer v.state client number left action → IsInTime p client t
+in_time {p} {v} a e w {left = left} interval h few {t} is =
     let told = agrees a e in
     let i = timely v.state interval h in
-    let deadline : t.deadline ≡ v.state.now + interval = ap (λ (u : Timer). u.deadline) is in
+    let deadline : t.deadline ≡ v.state.now + left = ap (λ (u : Timer). u.deadline) is in
     let serial : t.serial ≡ v.state.next_serial = ap (λ (u : Timer). u.serial) is in
-    let within : t.deadline ≤ p.wheel.last_tick = omega (arith, deadline, told.now_is, told.last_is, i.positive, i.in_time) in
+    let within : t.deadline ≤ p.wheel.last_tick = omega (arith, deadline, told.now_is, told.last_is, few, i.positive, i.in_time) in
     record {
-      later = omega (arith, deadline, told.now_is, i.positive);
+      not_past = omega (arith, deadline, told.now_is);
       within = within;
       in_range = omega (arith, within, w.last_in_range);
       serial_is = serial ∙ told.serial_is;
       unspent = omega (arith, serial, i.unspent);
       client_is = ap (λ (u : Timer). u.client) is;
     }
+
+-- and its deadline is a tick of some clock
+pub in_clock : {p : Fields} {v : FacilityView} → IsFacility p → view_of p ≡ v → Wheels.IsWellFormed p.wheel
+    → (left interval : ℕ) → interval_refusal v.state interval ≡ None → left ≤ interval → v.state.now + left ≤ LAST
+in_clock {p} {v} a e w left interval h few =
+    (in_time a e w {client = 0} {number = 0} {action = 0} interval h few {t = new_timer v.state 0 0 left 0} refl).in_range
 
 -- The beginning.
 
@@ -271,55 +277,89 @@ facility-used {p} a client number l =
     }
 
 -- the answer and the view of an accepted request
-answered_by : (v : FacilityView) {o : Option Reason} (old new : Option Timer) {answer : Answer} {after : FacilityView} → v.waiting ≡ []
+answered_by : (v : FacilityView) {o : Option Reason} (old new : Option Timer) {answer : Answer} {after : FacilityView}
     → None ≡ o → answer ≡ answer_to old new (place_in answer)
-    → after ≡ record v { state = after_request old new (place_in answer) v.state } → IsAnswered o old new v.state answer after
-answered_by v {o} old new {answer} {after} h n a b = subst (λ x. IsAnswered x old new v.state answer after) n
-    (a, b ∙ view_is refl h)
+    → after ≡ with_expiries (due_at_start v.state new) (after_request old new (place_in answer) v.state)
+    → IsAnswered o old new v.state answer after
+answered_by v {o} old new {answer} {after} n a b = subst (λ x. IsAnswered x old new v.state answer after) n (a, b)
 
--- of one that starts a timer
-start_view : (p : Fields) {v : FacilityView} → view_of p ≡ v → (place : ℕ) (t : Timer) (old : Option Timer)
-    → {w' : Wheels.WheelState} → w' ≡ Wheels.after_start place t (record p.wheel { pending = without_found old p.wheel.pending })
-    → view_of (record p { wheel = w'; next_serial = p.next_serial + 1 }) ≡ record v { state = after_request old (Some t) place v.state }
-start_view p e place t old s = rw s (ap (λ (u : FacilityView). record u { state = after_request old (Some t) place u.state }) e)
+-- the view with one more timer, which is pending or waits
+abbrev with_one_started : ℕ → Timer → Option Timer → FacilityView → FacilityView
+with_one_started place t old v =
+    with_expiries (due_at_start v.state (Some t)) (after_request old (Some t) place v.state)
+
+-- of a request that starts a timer
+start_view : {p : Fields} {v : FacilityView} → IsIdle p → view_of p ≡ v → (place : ℕ) (t : Timer) (old : Option Timer)
+    → {w' : Wheels.WheelState}
+    → w' ≡ Wheels.after_held_start place t (record p.wheel { pending = without_found old p.wheel.pending })
+    → view_of (record p { wheel = w'; next_serial = p.next_serial + 1 }) ≡ with_one_started place t old v
+start_view {p} i e place t old s = rw s (elim (either (nat_lt p.wheel.now t.deadline)) [
+  | inl k ↦ rw k (view_is refl (rw (i.none_due, i.none_returned) refl))
+  | inr k ↦ rw k (view_is refl (rw (i.none_due, i.none_returned) refl))
+] ∙ ap (with_one_started place t old) e)
 
 handle_is : (h : Handle) (t : Timer) → h.serial ≡ t.serial → h ≡ handle_of h.place t
 handle_is h t e = ap (λ n. let k : Handle = record { place = h.place; serial = n } in k) e
 
 pub answered-start : {p : Fields} {v : FacilityView} → IsFacility p → view_of p ≡ v → v.waiting ≡ [] → {o : Option Reason} → None ≡ o
-    → {t new : Timer} → t ≡ new → p.wheel.now < t.deadline → (handle : Handle) → handle.serial ≡ t.serial
+    → {t new : Timer} → t ≡ new → (handle : Handle) → handle.serial ≡ t.serial
     → {w' : Wheels.WheelState} → w' ≡ Wheels.after_held_start handle.place t p.wheel
     → IsAnswered o None (Some new) v.state (Started handle t.deadline) (view_of (record p { wheel = w'; next_serial = p.next_serial + 1 }))
-answered-start {p} {v} a e h {o} n {t} same later handle fresh {w'} s =
+answered-start {p} {v} a e h {o} n {t} same handle fresh {w'} s =
     let after : FacilityView = view_of (record p { wheel = w'; next_serial = p.next_serial + 1 }) in
     subst (λ (u : Timer). IsAnswered o None (Some u) v.state (Started handle t.deadline) after) same
-    (answered_by v None (Some t) h n (ap (λ k. Started k t.deadline) (handle_is handle t fresh))
-    (start_view p e handle.place t None (s ∙ start_when_later handle.place t p.wheel later)))
+    (answered_by v None (Some t) n (ap (λ k. Started k t.deadline) (handle_is handle t fresh))
+    (start_view (idle a e h) e handle.place t None s))
 
 -- the fields with one more timer of the client
 abbrev pub with_one_more : ℕ → Fields → Fields
 with_one_more client p = record p { counts = slice_set p.counts client (slice_index p.counts client + 1) }
 
-kept_after_start : (w : Wheels.WheelState) (rest : List Timer) (place : ℕ) (t : Timer) (client : ℕ)
-    → count_of client (kept_in (Wheels.after_start place t w) rest) ≡ one_of client t + count_of client (kept_in w rest)
-kept_after_start w rest place t client = omega (
-  arith,
-  count-kept client w rest,
-  count-kept client (Wheels.after_start place t w) rest,
-  count-put client (record { place = place; timer = t }) w.pending,
-)
+-- a wheel that holds one more timer, pending or due
+record HoldsOneMore (w : Wheels.WheelState) (rest : List Timer) (t : Timer) (new : Wheels.WheelState) : Type 0 where
+  counted : (client : ℕ) → count_of client (kept_in new rest) ≡ one_of client t + count_of client (kept_in w rest)
+  few : length new.pending ≤ length w.pending + 1
+  same_room : new.room ≡ w.room
+
+one_more : (w : Wheels.WheelState) (rest : List Timer) (place : ℕ) (t : Timer)
+    → HoldsOneMore w rest t (Wheels.after_held_start place t w)
+one_more w rest place t =
+    let e : Entry = record { place = place; timer = t } in
+    elim (either (nat_lt w.now t.deadline)) [
+      | inl k ↦ rw k (record {
+        counted = λ client. omega (
+          arith,
+          count-kept client w rest,
+          count-kept client (Wheels.after_start place t w) rest,
+          count-put client e w.pending,
+        );
+        few = omega (arith, length-put e w.pending);
+        same_room = refl;
+      })
+      | inr k ↦ rw k (record {
+        counted = λ client. omega (
+          arith,
+          count-kept client w rest,
+          count-kept client (Wheels.after_due_start place t w) rest,
+          ap (count_of client) (map-append timer_of w.due (e ∷ [])),
+          count-append client (timers_of w.due) (t ∷ []),
+        );
+        few = omega arith;
+        same_room = refl;
+      })
+    ]
 
 pub facility-start : {p : Fields} → IsFacility p → length p.wheel.pending ≢ p.capacity → (place : ℕ) {client : ℕ} {t : Timer}
     → IsInTime p client t → client < p.clients → {w' : Wheels.WheelState} → w' ≡ Wheels.after_held_start place t p.wheel
     → IsFacility (with_one_more client (record p { wheel = w'; next_serial = p.next_serial + 1 }))
 facility-start {p} a room place {client} {t} i l {w'} e =
     let rest : List Timer = drop p.handed p.returned in
+    let more = one_more p.wheel rest place t in
     subst (λ k. IsFacility (with_one_more k (record p { wheel = w'; next_serial = p.next_serial + 1 }))) i.client_is
-    (with_timers a (e ∙ start_when_later place t p.wheel i.later) refl (p.next_serial + 1) _
-    (omega (arith, length-put (record { place = place; timer = t }) p.wheel.pending, a.timers.few_pending, room))
-    (omega (arith, i.serial_is)) (omega (arith, i.serial_is, i.unspent))
-    (counted-more a.timers.counted t (kept_in (Wheels.after_start place t p.wheel) rest) (omega (arith, l, i.client_is)) a.limits.few_clients
-    (kept_after_start p.wheel rest place t)))
+    (with_timers a e more.same_room (p.next_serial + 1) _ (omega (arith, more.few, a.timers.few_pending, room))
+    (omega (arith, i.serial_is, held_start-last_serial place t p.wheel)) (omega (arith, i.serial_is, i.unspent))
+    (counted-more a.timers.counted t (kept_in (Wheels.after_held_start place t p.wheel) rest) (omega (arith, l, i.client_is))
+    a.limits.few_clients more.counted))
 
 -- nothing is due, so what the wheel finds is pending
 pub found_pending : {p : Fields} {v : FacilityView} → IsFacility p → view_of p ≡ v → v.waiting ≡ [] → (handle : Handle) (o : Option Timer)
@@ -388,8 +428,8 @@ pub answered-stop : {p : Fields} {v : FacilityView} → IsFacility p → view_of
     → IsAnswered (name_refusal found) found None v.state (Stopped t.serial) (view_of (record p { wheel = w' }))
 answered-stop {p} {v} a e h {found} {t} f {w'} s =
     subst (λ o. IsAnswered (name_refusal o) o None v.state (Stopped t.serial) (view_of (record p { wheel = w' }))) f
-    (answered_by v (Some t) None h refl refl
-    (rw s (ap (λ (u : FacilityView). record u { state = after_request (Some t) None 0 u.state }) e)))
+    (answered_by v (Some t) None refl refl
+    (rw s (ap (λ (u : FacilityView). record u { state = after_request (Some t) None 0 u.state }) e) ∙ view_is refl h))
 
 -- The counts.
 
@@ -491,9 +531,9 @@ facility-returned {p} a t h less = record {
 
 -- Restarts.
 
--- a restart of a client's timer: a pending timer is replaced by a pending one
+-- a restart of a client's timer: a pending timer is replaced by one that is pending or due
 pub record IsRestarted (p : Fields) (old t : Timer) (place : ℕ) (w' : Wheels.WheelState) : Type 0 where
-  pub restarted : w' ≡ Wheels.after_start place t (record p.wheel { pending = without_found (Some old) p.wheel.pending })
+  pub restarted : w' ≡ Wheels.after_held_start place t (record p.wheel { pending = without_found (Some old) p.wheel.pending })
   pub parts : IsFacility (record p { wheel = w'; next_serial = p.next_serial + 1 })
 
 -- a timer that was found is removed
@@ -510,7 +550,7 @@ length-found test t (e ∷ es) h = elim (either (test e)) [
   same_serial : (x t : Timer) → Some x ≡ Some t → not (has_serial t.serial x) ≡ false
   same_serial x t h = let e : x.serial ≡ t.serial = ap (λ (u : Timer). u.serial) (some_same x t h) in grind (arith, nat_tests)
 
--- nothing is due, and the new deadline is later; no client has more or fewer timers
+-- nothing is due; no client has more or fewer timers
 pub restarted_now : {p : Fields} {v : FacilityView} → IsFacility p → view_of p ≡ v → Wheels.IsWellFormed p.wheel → v.waiting ≡ []
     → (client : ℕ) (handle : Handle) (old : Timer) → timer_named v.state client (ByHandle handle) ≡ Some old
     → {t : Timer} → IsInTime p client t → {place : ℕ} {w' : Wheels.WheelState}
@@ -519,21 +559,16 @@ restarted_now {p} a e w h client handle old f {t} i {place} {w'} s =
     let o : IsOwn p client handle old = own a e client handle old f in
     let rest : List Timer = drop p.handed p.returned in
     let left : Wheels.WheelState = without old p.wheel in
-    let restarted : w' ≡ Wheels.after_start place t left =
-    s ∙ start_when_later place t (Wheels.after_removal handle p.wheel) i.later ∙ ap (Wheels.after_start place t) (removed_is o w (idle a e h)) in
+    let restarted : w' ≡ Wheels.after_held_start place t left = s ∙ ap (Wheels.after_held_start place t) (removed_is o w (idle a e h)) in
+    let more = one_more left rest place t in
     record {
       restarted = restarted;
-      parts = with_timers a restarted refl (p.next_serial + 1) p.counts
-          (omega (
-            arith,
-            length-put (record { place = place; timer = t }) left.pending,
-            length-found (has_handle handle) old p.wheel.pending o.there,
-            a.timers.few_pending,
-          ))
-          (omega (arith, i.serial_is)) (omega (arith, i.serial_is, i.unspent))
-          (counted-as a.timers.counted (kept_in (Wheels.after_start place t left) rest) (λ c.
+      parts = with_timers a restarted more.same_room (p.next_serial + 1) p.counts
+          (omega (arith, more.few, length-found (has_handle handle) old p.wheel.pending o.there, a.timers.few_pending))
+          (omega (arith, i.serial_is, held_start-last_serial place t left)) (omega (arith, i.serial_is, i.unspent))
+          (counted-as a.timers.counted (kept_in (Wheels.after_held_start place t left) rest) (λ c.
           let same : one_of c old ≡ one_of c t = ap (λ k. if k == c then 1 else 0) (o.owner ∙ sym i.client_is) in
-          omega (arith, same, kept_after_stop o w c, kept_after_start left rest place t c)));
+          omega (arith, same, kept_after_stop o w c, more.counted c)));
     }
 
 pub answered-restart : {p : Fields} {v : FacilityView} → IsFacility p → view_of p ≡ v → v.waiting ≡ []
@@ -547,8 +582,8 @@ answered-restart {p} {v} a e h {found} {old} f {o} n {t} {new} same back fresh {
     let answer : Answer = Restarted back t.deadline old.serial in
     subst (λ x. IsAnswered (first_refusal (name_refusal x) o) x (Some new) v.state answer after) f
     (subst (λ (u : Timer). IsAnswered o (Some old) (Some u) v.state answer after) same
-    (answered_by v (Some old) (Some t) h n (ap (λ k. Restarted k t.deadline old.serial) (handle_is back t fresh))
-    (start_view p e back.place t (Some old) i.restarted)))
+    (answered_by v (Some old) (Some t) n (ap (λ k. Restarted k t.deadline old.serial) (handle_is back t fresh))
+    (start_view (idle a e h) e back.place t (Some old) i.restarted)))
 
 -- a wheel that runs out of memory before the facility is full has no room that was made
 pub no_room : {p : Fields} {v : FacilityView} → IsFacility p → view_of p ≡ v → v.waiting ≡ []

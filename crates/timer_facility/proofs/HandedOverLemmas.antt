@@ -1,24 +1,35 @@
 -- How many timers of a client are pending after an event, and what the event hands out.
 use Rattle.std.proofs.Common.{◌≡◌, ◌≤◌, ◌+◌, ℕ, Bool, true, false, not, ◌==◌, List, [], ◌∷◌, length, refl, ◌∙◌, ap, inl, inr, arith}
-use Rattle.std.specs.Prelude.{map, filter, if◌then◌else◌, Option, Some, None}
+use Rattle.std.specs.Prelude.{map, filter, nat_lt, if◌then◌else◌, Option, Some, None}
 use Rattle.std.proofs.lemmas.List.{length-map}
 use Rattle.timer_base.specs.OrderLaws.{either}
 use Rattle.timer_base.specs.declared.timer.Timer.{Timer}
-use Rattle.timer_base.specs.Pending.{Entry, timer_of, timers_of, is_due_at, has_serial, without_found}
+use Rattle.timer_base.specs.Pending.{Entry, timer_of, timers_of, is_due_at, has_serial}
+use Rattle.timer_facility.specs.declared.request.Answer.{Answer}
 use Rattle.timer_facility.specs.declared.request.TickFault.{TickFault}
 use Rattle.timer_facility.specs.declared.request.Notice.{Notice}
 use Rattle.timer_facility.specs.declared.request.Notice.TheVariants.{Expired, Returned}
 use Rattle.timer_facility.specs.declared.event.Out.TheVariants as Outs
 use Rattle.timer_facility.specs.State.{FacilityState, one_of, count_of, pending_of, ModelRequest, Asked, Tick, Close}
 use Rattle.timer_facility.specs.Verdict.{tick_refusal}
-use Rattle.timer_facility.specs.Step.{with_number, timer_stopped, timer_started, without_timer, after_request, expired_next, step, step_of_tick, step_of_close}
+use Rattle.timer_facility.specs.Step.{answered, expiries, timer_stopped, timer_started, due_at_start, without_timer, with_timer, after_request, expired_next, step, step_of_tick, step_of_close}
 use Rattle.timer_facility.specs.Run.{notices_in}
 use Rattle.timer_facility.specs.Owed.{timer_handed}
 use Rattle.timer_facility.specs.HandedOver.{timers_handed, AddsAtMostOne, HandsOver}
 use Rattle.timer_facility.proofs.FacilityCounts.{count-put, count-tick}
 use Rattle.timer_facility.proofs.TimerLists.{length-filter, length-parts, timers_of-filter, length-put}
-use Rattle.timer_facility.proofs.OwedLemmas.{notices_in-map}
+use Rattle.timer_facility.proofs.NoticeLists.{notices_in-map}
 use Rattle.timer_facility.proofs.StepLemmas.{by_verdict, started-new}
+
+-- Notices.
+
+pub unwrapped : (f : Timer → Notice) → ((t : Timer) → timer_handed (f t) ≡ t) → (ts : List Timer) → map timer_handed (map f ts) ≡ ts
+unwrapped f h [] = refl
+unwrapped f h (t ∷ ts) = rw (h t, unwrapped f h ts) refl
+
+handed_are : (f : Timer → Notice) → ((t : Timer) → timer_handed (f t) ≡ t) → (ts : List Timer)
+    → map timer_handed (notices_in (map (λ t. Outs.Notice (f t)) ts)) ≡ ts
+handed_are f h ts = ap (map timer_handed) (notices_in-map f ts) ∙ unwrapped f h ts
 
 -- Requests.
 
@@ -41,39 +52,48 @@ adds_stop s (Some t) = record {
   all = length-filter (λ e. not (has_serial t.serial e.timer)) s.pending;
 }
 
+-- a timer that is started is pending or due
+record IsAdded (s : FacilityState) (place : ℕ) (t : Timer) : Type 0 where
+  of_client : (c : ℕ) → pending_of (with_timer (Some t) place s) c + count_of c (due_at_start s (Some t)) ≡ pending_of s c + one_of c t
+  all : length (with_timer (Some t) place s).pending + length (due_at_start s (Some t)) ≡ length s.pending + 1
+
+added : (s : FacilityState) (place : ℕ) (t : Timer) → IsAdded s place t
+added s place t = elim (either (nat_lt s.now t.deadline)) [
+  | inl k ↦ record {
+    of_client = λ c. rw k (omega (arith, count-put c (record { place = place; timer = t }) s.pending));
+    all = rw k (omega (arith, length-put (record { place = place; timer = t }) s.pending));
+  }
+  | inr k ↦ record { of_client = λ c. rw k (omega arith); all = rw k (omega arith) }
+]
+
 -- at most one more than after the stop
-adds_request : (s : FacilityState) (client number place : ℕ) (old new : Option Timer) → ((t : Timer) → new ≡ Some t → t.client ≡ client)
-    → AddsAtMostOne client s (with_number client number (after_request old new place s))
-adds_request s client number place old None h =
+adds_request : (s : FacilityState) (client number place : ℕ) (answer : Answer) (old new : Option Timer)
+    → ((t : Timer) → new ≡ Some t → t.client ≡ client)
+    → AddsAtMostOne client s (answered client number answer (due_at_start s new) (after_request old new place s))
+adds_request s client number place answer old None h =
     let less = adds_stop s old in
     record { of_client = λ c. omega (arith, less.of_client c); all = omega (arith, less.all) }
-adds_request s client number place old (Some t) h =
-    let left : List Entry = without_found old s.pending in
-    let less = adds_stop s old in record {
+adds_request s client number place answer old (Some t) h =
+    let less = adds_stop s old in
+    let due : List Timer = due_at_start s (Some t) in
+    let more = added (without_timer old s) place t in
+    let handed : map timer_handed (notices_in (expiries due)) ≡ due = handed_are (λ t. Expired t) (λ t. refl) due in record {
       of_client = λ c.
           let same : one_of c t ≡ (if client == c then 1 else 0) = ap (λ k. if k == c then 1 else 0) (h t refl) in
-          omega (arith, same, less.of_client c, count-put c (record { place = place; timer = t }) left);
-      all = omega (arith, less.all, length-put (record { place = place; timer = t }) left);
+          omega (arith, same, less.of_client c, more.of_client c, ap (count_of c) handed);
+      all = omega (arith, less.all, more.all, ap length handed);
     }
 
 pub adds_at_most_one : (s : FacilityState) (client number : ℕ) (request : ModelRequest) (place : ℕ)
-    → AddsAtMostOne client s (step s (Asked client number request) place).state
+    → AddsAtMostOne client s (step s (Asked client number request) place)
 adds_at_most_one s client number request place =
-    by_verdict (λ st. AddsAtMostOne client s st.state) s client number request place
+    by_verdict (AddsAtMostOne client s) s client number request place
     (λ reason. record { of_client = λ c. omega arith; all = omega arith })
     (λ reason taken. record { of_client = λ c. omega arith; all = omega arith })
-    (λ taken ok. adds_request s client number place (timer_stopped s client request) (timer_started s client number request)
+    (λ taken ok. adds_request s client number place _ (timer_stopped s client request) (timer_started s client number request)
     (λ t e. (started-new s client number request t e).client_is))
 
 -- Ticks and closes.
-
-pub unwrapped : (f : Timer → Notice) → ((t : Timer) → timer_handed (f t) ≡ t) → (ts : List Timer) → map timer_handed (map f ts) ≡ ts
-unwrapped f h [] = refl
-unwrapped f h (t ∷ ts) = rw (h t, unwrapped f h ts) refl
-
-handed_are : (f : Timer → Notice) → ((t : Timer) → timer_handed (f t) ≡ t) → (ts : List Timer)
-    → map timer_handed (notices_in (map (λ t. Outs.Notice (f t)) ts)) ≡ ts
-handed_are f h ts = ap (map timer_handed) (notices_in-map f ts) ∙ unwrapped f h ts
 
 hands_tick : (s : FacilityState) (o : Option TickFault) → HandsOver s (step_of_tick s o)
 hands_tick s (Some fault) = record { of_client = λ c. omega arith; all = omega arith }

@@ -11,11 +11,12 @@ use Rattle.timer_base.specs.Pending.{Entry, put, has_handle, has_serial, first_t
 use Rattle.timer_facility.specs.declared.request.TickFault.{TickFault}
 use Rattle.timer_facility.specs.declared.request.Request.{Request}
 use Rattle.timer_facility.specs.declared.request.Answer.{Answer}
+use Rattle.timer_facility.specs.declared.event.Out.{Out}
 use Rattle.timer_facility.specs.declared.event.Out.TheVariants as Outs
 use Rattle.timer_facility.specs.State.{FacilityState, ByHandle, BySerial, ModelRequest, Asked, Tick}
 use Rattle.timer_facility.specs.Verdict.{tick_refusal, of_client, timer_named}
-use Rattle.timer_facility.specs.Step.{StepResult, with_number, timer_stopped, timer_started, handle_of, answer_to, without_timer, with_timer, after_request, step, step_of_tick}
-use Rattle.timer_facility.specs.Run.{notices_in, state_after}
+use Rattle.timer_facility.specs.Step.{StepResult, with_number, timer_stopped, timer_started, handle_of, answer_to, put_later, without_timer, with_timer, after_request, step, step_of_tick}
+use Rattle.timer_facility.specs.Run.{state_after}
 use Rattle.timer_facility.specs.Ticked.{ticks, AreTicked}
 use Rattle.timer_facility.specs.Facility.{FacilityView, model_of, place_in, IsTaken}
 use Rattle.timer_facility.specs.Handles.{HandleList, place_at, AreSorted, IsRecorded, with_answer, AreRecorded}
@@ -76,6 +77,10 @@ AreRecorded-stop : {handles : HandleList} {s : FacilityState} (old : Option Time
 AreRecorded-stop None a = a
 AreRecorded-stop (Some t) a = record { sorted = a.sorted; used = a.used; each = each_kept _ a }
 
+All-put_later : (P : Entry → Type 0) (now : ℕ) (e : Entry) (es : List Entry) → P e → AllByRecursion P es
+    → AllByRecursion P (put_later now e es)
+All-put_later P now e es p a = elim (either (nat_lt now e.timer.deadline)) [ inl h ↦ rw h (All-put P e es p a) | inr h ↦ rw h a ]
+
 AreRecorded-start : {handles : HandleList} {s : FacilityState} (place : ℕ) (t : Timer) → t.serial ≡ s.next_serial
     → AreRecorded handles s → AreRecorded (handles ++ handle_of place t ∷ []) (with_timer (Some t) place s)
 AreRecorded-start {handles} {s} place t n a =
@@ -86,7 +91,7 @@ AreRecorded-start {handles} {s} place t n a =
       sorted = AreSorted-last handles h a.sorted below;
       used = All-join (λ k. k.serial < s.next_serial + 1) handles (h ∷ [])
           (All-weaken (λ k. k.serial < s.next_serial) _ handles (λ k l. omega (arith, l)) a.used) (omega (arith, n), tt);
-      each = All-put (IsRecorded (handles ++ h ∷ [])) (record { place = place; timer = t }) s.pending
+      each = All-put_later (IsRecorded (handles ++ h ∷ [])) s.now (record { place = place; timer = t }) s.pending
           (place_at-last handles h t.serial refl below)
           (All-weaken (IsRecorded handles) (IsRecorded (handles ++ h ∷ [])) s.pending
           (λ e r. place_at-more handles h e.timer.serial e.place r) a.each);
@@ -107,40 +112,33 @@ recorded_request place (Some old) (Some t) n a = AreRecorded-start place t (n t 
 
 -- the handles with that of the answer, if the step has this answer
 abbrev WithAnswer : HandleList → ℕ → ℕ → Answer → StepResult → Type 0
-WithAnswer handles client number answer st =
-    st.outs ≡ Outs.Answered client number answer ∷ [] → AreRecorded (with_answer answer handles) st.state
+WithAnswer handles client number answer st = (later : List Out)
+    → st.outs ≡ Outs.Answered client number answer ∷ later → AreRecorded (with_answer answer handles) st.state
 
--- the answer in the one out of a request
-answer_is : {c n c' n' : ℕ} {x y : Answer} → Outs.Answered c n x ∷ [] ≡ Outs.Answered c' n' y ∷ [] → x ≡ y
+-- the answer in the first out of a request
+answer_is : {c n c' n' : ℕ} {x y : Answer} {later later' : List Out} → Outs.Answered c n x ∷ later ≡ Outs.Answered c' n' y ∷ later' → x ≡ y
 answer_is h = cc
 
 recorded_asked : (handles : HandleList) (s : FacilityState) (client number : ℕ) (request : ModelRequest) (place : ℕ) (answer : Answer)
     → AreRecorded handles s → WithAnswer handles client number answer (step s (Asked client number request) place)
 recorded_asked handles s client number request place answer a =
     by_verdict (WithAnswer handles client number answer) s client number request place
-    (λ reason h. absurd (cc))
-    (λ reason taken h. subst (λ x. AreRecorded (with_answer x handles) (with_number client number s)) (answer_is h)
+    (λ reason later h. absurd (cc))
+    (λ reason taken later h. subst (λ x. AreRecorded (with_answer x handles) (with_number client number s)) (answer_is h)
     (recorded_numbered client number a))
-    (λ taken ok h.
+    (λ taken ok later h.
     let old : Option Timer = timer_stopped s client request in
     let new : Option Timer = timer_started s client number request in
     subst (λ x. AreRecorded (with_answer x handles) (with_number client number (after_request old new place s))) (answer_is h)
     (recorded_numbered client number (recorded_request place old new (λ t e. (started-new s client number request t e).serial_is) a)))
 
--- after a request that is taken nothing waits, and the handles with that of its answer are still those of the pending
--- timers
-pub record StaysRecorded (new : FacilityView) (handles : HandleList) : Type 0 where
-  pub waiting : new.waiting ≡ []
-  pub recorded : AreRecorded handles new.state
-
+-- after a request that is taken, the handles with that of its answer are still those of the pending timers
 pub recorded-taken : {s : FacilityState} {new : FacilityView} {handles : HandleList} {client number : ℕ} {request : Request}
     {answer : Answer} → AreRecorded handles s → IsTaken s client number request answer new
-    → StaysRecorded new (with_answer answer handles)
-recorded-taken {s} {new} {handles} {client} {number} {request} {answer} a h = record {
-  waiting = ap (λ (v : FacilityView). v.waiting) h.left ∙ ap notices_in h.answered;
-  recorded = subst (λ (v : FacilityView). AreRecorded (with_answer answer handles) v.state) (sym h.left)
-      (recorded_asked handles s client number (model_of request) (place_in answer) answer a h.answered);
-}
+    → AreRecorded (with_answer answer handles) new.state
+recorded-taken {s} {new} {handles} {client} {number} {request} {answer} a h =
+    subst (λ (v : FacilityView). AreRecorded (with_answer answer handles) v.state) (sym h.left)
+    (recorded_asked handles s client number (model_of request) (place_in answer) answer a _ h.answered)
 
 -- the handle is the recorded one of this serial, if there is one
 pub record IsHandleOf (handles : HandleList) (serial : ℕ) (handle : Handle) : Type 0 where

@@ -22,3 +22,4 @@ pub mod FacilityFields
 pub mod TickedLemmas
 pub mod WakeUpLemmas
 pub mod HeldTimers
+pub mod NoticeLists

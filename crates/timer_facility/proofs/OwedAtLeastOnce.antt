@@ -14,7 +14,7 @@ use Rattle.timer_facility.specs.State.{FacilityState, IsSound}
 use Rattle.timer_facility.specs.Run.{PlacedEvent, HistoryEntry, history}
 use Rattle.timer_facility.specs.Owed.{started, stopped, accepted_ticks, has_closed, is_among, timers_in_order, due, left_after, owed_by_ticks, owed_by_close, is_due_within, others, AreAllHandedOut}
 use Rattle.timer_facility.proofs.TimerLists.{at_member, filter_same}
-use Rattle.timer_facility.proofs.OwedLemmas.{notices-history, started-after}
+use Rattle.timer_facility.proofs.OwedLemmas.{notices-history, started-not_before}
 
 -- Members of lists.
 
@@ -48,9 +48,10 @@ in_owed all ks test t a u h = IsMember-in_order itself t (filter (λ x. test x &
     (and_from (test t) (not (is_among t.serial ks)) h (not_from_false (is_among t.serial ks) u)) a)
 
 owed_at_its_tick : (s : FacilityState) (hs : List HistoryEntry) (t : Timer) → IsMember t (started s hs) → is_among t.serial (stopped hs) ≡ false
-    → s.now < t.deadline
+    → s.now ≤ t.deadline
     → (n : ℕ) → t.deadline ≤ s.now + n → IsMember (Expired t) (owed_by_ticks s hs n)
-owed_at_its_tick s hs t a u l zero h = absurd (omega arith)
+owed_at_its_tick s hs t a u l zero h = in_mapped (λ x. Expired x) t (due s hs s.now)
+    (in_owed (started s hs) (stopped hs) (is_due_at s.now) t a u (eq-eqb t.deadline s.now (omega arith)))
 owed_at_its_tick s hs t a u l (suc n) h =
     let here : List Notice = map (λ x. Expired x) (due s hs (s.now + suc n)) in
     elim (cases_eq t.deadline (s.now + suc n)) [
@@ -77,7 +78,7 @@ handed-all s ps i =
     let close : List Notice = owed_by_close s hs (has_closed hs) in
     record {
       expired = λ t a u h. rw (notices-history s ps i) (in_left (Expired t) ticks close (owed_at_its_tick s hs t a u
-          (at_member (λ x. s.now < x.deadline) t (started s hs) (started-after s ps i) a) (accepted_ticks hs) h));
+          (at_member (λ x. s.now ≤ x.deadline) t (started s hs) (started-not_before s ps i) a) (accepted_ticks hs) h));
       returned = λ t a u h c. rw (notices-history s ps i)
           (in_right (Returned t) ticks close (owed_at_the_close s hs t (has_closed hs) a u h c));
     }
@@ -88,7 +89,7 @@ not_within_step : (b : Bool) (a d : ℕ) → not b ≡ nat_lt a d → not (b || 
 not_within_step true a d h = grind (arith, nat_tests)
 not_within_step false a d h = grind (arith, nat_tests)
 
-not_within : (now n : ℕ) (t : Timer) → now < t.deadline → not (is_due_within now n t) ≡ nat_lt (now + n) t.deadline
+not_within : (now n : ℕ) (t : Timer) → now ≤ t.deadline → not (is_due_within now n t) ≡ nat_lt (now + n) t.deadline
 not_within now zero t h = grind (arith, nat_tests)
 not_within now (suc n) t h =
     let one : now + suc n ≡ suc (now + n) = omega arith in
@@ -103,5 +104,5 @@ left-others s ps i =
     let later : Timer → Bool = λ t. nat_lt (s.now + accepted_ticks hs) t.deadline && not (is_among t.serial (stopped hs)) in
     let other : Timer → Bool = λ t. not (is_due_within s.now (accepted_ticks hs) t) && not (is_among t.serial (stopped hs)) in
     ap timers_in_order (filter_same later other (started s hs)
-    (All-weaken (λ t. s.now < t.deadline) (λ t. later t ≡ other t) (started s hs)
-    (λ t h. ap (λ b. b && not (is_among t.serial (stopped hs))) (sym (not_within s.now (accepted_ticks hs) t h))) (started-after s ps i)))
+    (All-weaken (λ t. s.now ≤ t.deadline) (λ t. later t ≡ other t) (started s hs)
+    (λ t h. ap (λ b. b && not (is_among t.serial (stopped hs))) (sym (not_within s.now (accepted_ticks hs) t h))) (started-not_before s ps i)))

@@ -56,7 +56,7 @@ abbrev pub due_at : FacilityState → Reading → ℕ → List Timer
 due_at s r tick = timers_in_order (filter (is_owed_at r tick) (all_started s r))
 
 abbrev pub owed_at_ticks : FacilityState → Reading → ℕ → List Notice
-owed_at_ticks s r zero = []
+owed_at_ticks s r zero = map (λ t. Expired t) (due_at s r s.now)
 owed_at_ticks s r (suc n) = owed_at_ticks s r n ++ map (λ t. Expired t) (due_at s r (s.now + suc n))
 
 abbrev pub owed_at_close : FacilityState → Reading → Bool → List Notice

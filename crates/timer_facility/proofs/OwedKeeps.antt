@@ -2,14 +2,15 @@
 use Rattle.std.proofs.Common.{◌≡◌, ◌<◌, ◌≤◌, ◌+◌, ℕ, zero, suc, Bool, true, false, not, ◌==◌, ◌&&◌, ◌||◌, List, [], ◌∷◌, ◌++◌, refl, sym, ◌∙◌, ap, subst, inl, inr, arith, append-nil, append_assoc}
 use Rattle.std.specs.Prelude.{map, filter, nat_lt, Some}
 use Rattle.std.specs.List.{AllByRecursion}
-use Rattle.std.proofs.lemmas.Bool.{and_from, and_parts, both_ways, eqb-true, lt-ltb, ltb-true, not_from_false}
+use Rattle.std.proofs.lemmas.Bool.{and_from, and_parts, both_ways, eq-eqb, eqb-true, le-ltb, lt-ltb, ltb-true, not_from_false}
 use Rattle.std.proofs.lemmas.Bool.Decides.{nat_tests}
+use Rattle.std.proofs.lemmas.List.{map-append}
 use Rattle.std.proofs.lemmas.List.Elements.{filter-append, filter_agree}
 use Rattle.timer_base.specs.Basics.{either, not_due_before}
 use Rattle.timer_base.specs.OneOrder.{IsMember}
-use Rattle.timer_base.specs.OrderLaws.{All-filter, All-weaken}
+use Rattle.timer_base.specs.OrderLaws.{All-filter, All-weaken, All-in_order}
 use Rattle.timer_base.specs.declared.timer.Timer.{Timer}
-use Rattle.timer_base.specs.Order.{IsNotAmong, AreDistinct, AreBelow}
+use Rattle.timer_base.specs.Order.{itself, IsNotAmong, AreDistinct, AreBelow}
 use Rattle.timer_base.specs.Pending.{timers_of, is_due_at, has_serial}
 use Rattle.timer_facility.specs.declared.request.Notice.{Notice}
 use Rattle.timer_facility.specs.declared.request.Notice.TheVariants.{Expired, Returned}
@@ -17,6 +18,7 @@ use Rattle.timer_facility.specs.State.{FacilityState, Tick, Close}
 use Rattle.timer_facility.specs.Step.{with_number, without_timer, with_timer, expired_next, accepted}
 use Rattle.timer_facility.specs.Owed.{timers_in_order, is_among}
 use Rattle.timer_facility.proofs.TimerLists.{or_false, insert_newest, timers_in_order-append, filter-timers_in_order, filter_same, filter-filter, timers_of-put, timers_of-filter, at_member, IsMember-in_order, IsMember-filter, All-join, IsOnly, AreDistinct-only, AreDistinct-join, is_among-append, is_among_below}
+use Rattle.timer_facility.proofs.StepLemmas.{put_when_later, put_when_now}
 use Rattle.timer_facility.proofs.OwedFold.{Reading, all_started, is_owed_at, is_left_at, due_at, owed_at_ticks, owed_at_close, owed_for}
 
 -- between two events: from s the answers read are r and the notices are ns, and c is the state now
@@ -28,7 +30,7 @@ pub record Keeps (s : FacilityState) (r : Reading) (ns : List Notice) (c : Facil
   pub distinct : AreDistinct (all_started s r)
   pub below : AreBelow c.next_serial (all_started s r)
   pub stopped_below : AllByRecursion (λ k. k < c.next_serial) r.stopped
-  pub later : AllByRecursion (λ t. s.now < t.deadline) (all_started s r)
+  pub not_past : AllByRecursion (λ t. s.now ≤ t.deadline) (all_started s r)
 
 pub not_closed : {s : FacilityState} {r : Reading} {ns : List Notice} {c : FacilityState} → Keeps s r ns c → c.is_closed ≡ false
     → r.is_closed ≡ false
@@ -37,7 +39,7 @@ not_closed {r = r} {c = c} k h = elim (either r.is_closed) [ inl m ↦ let n : c
 -- the readings that ticks look at are the same: so is what they owe
 owed_at_ticks_same : (s : FacilityState) (r r' : Reading) (n : ℕ) → ((d : ℕ) → d ≤ s.now + n → due_at s r' d ≡ due_at s r d)
     → owed_at_ticks s r' n ≡ owed_at_ticks s r n
-owed_at_ticks_same s r r' zero h = refl
+owed_at_ticks_same s r r' zero h = ap (map (λ t. Expired t)) (h s.now (omega arith))
 owed_at_ticks_same s r r' (suc n) h =
     rw (owed_at_ticks_same s r r' n (λ d l. h d (omega arith)))
     (ap (λ ts. owed_at_ticks s r n ++ map (λ t. Expired t) ts) (h (s.now + suc n) (omega arith)))
@@ -48,13 +50,13 @@ owed_open s r h = ap (λ b. owed_at_ticks s r r.ticks ++ owed_at_close s r b) h 
 
 -- a start
 
-abbrev with_started : Reading → Timer → Reading
+abbrev pub with_started : Reading → Timer → Reading
 with_started r t = record r { started = r.started ++ t ∷ [] }
 
 all_with_start : (s : FacilityState) (r : Reading) (t : Timer) → all_started s (with_started r t) ≡ all_started s r ++ t ∷ []
 all_with_start s r t = sym (append_assoc (timers_of s.pending) r.started (t ∷ []))
 
-not_owed : (r : Reading) (d : ℕ) (t : Timer) → d < t.deadline → is_owed_at r d t ≡ false
+pub not_owed : (r : Reading) (d : ℕ) (t : Timer) → d < t.deadline → is_owed_at r d t ≡ false
 not_owed r d t h = rw (not_due_before d t h) refl
 
 due_with_start : (s : FacilityState) (r : Reading) (t : Timer) (d : ℕ) → d < t.deadline → due_at s (with_started r t) d ≡ due_at s r d
@@ -77,6 +79,7 @@ left_with_start s r now t below later unstopped =
     rw (all_with_start s r t, filter-append (is_left_at r now) (all_started s r) (t ∷ []), new)
     (sym (timers_in_order-append t left (All-filter (λ x. x.serial < t.serial) _ (is_left_at r now) (all_started s r) (λ x _ l. l) below)))
 
+-- a start for a later tick
 pub keeps-start : {s : FacilityState} {r : Reading} {ns : List Notice} {c : FacilityState} (place : ℕ) (t : Timer)
     → Keeps s r ns c → r.is_closed ≡ false → c.now < t.deadline → t.serial ≡ c.next_serial
     → Keeps s (with_started r t) ns (with_timer (Some t) place c)
@@ -90,7 +93,8 @@ keeps-start {s} {r} {ns} {c} place t k h l fresh =
           ∙ sym (owed_open s (with_started r t) h
           ∙ owed_at_ticks_same s r (with_started r t) r.ticks (λ d m. due_with_start s r t d (omega arith)));
       shut = λ m. absurd (both_ways r.is_closed h m);
-      left = λ _. timers_of-put (record { place = place; timer = t }) c.pending ∙ ap (insert_newest t) (k.left h)
+      left = λ _. ap timers_of (put_when_later place t c.now c.pending l)
+          ∙ timers_of-put (record { place = place; timer = t }) c.pending ∙ ap (insert_newest t) (k.left h)
           ∙ left_with_start s r c.now t below l unstopped;
       distinct = rw (all_with_start s r t) (AreDistinct-join (all_started s r) (t ∷ []) k.distinct (tt, tt)
           (All-weaken (λ x. x.serial < t.serial) (λ x. IsNotAmong x.serial (t ∷ [])) (all_started s r)
@@ -98,7 +102,80 @@ keeps-start {s} {r} {ns} {c} place t k h l fresh =
       below = rw (all_with_start s r t) (All-join (λ x. x.serial < c.next_serial + 1) (all_started s r) (t ∷ [])
           (All-weaken (λ x. x.serial < c.next_serial) _ (all_started s r) (λ x b. omega (arith, b)) k.below) (omega (arith, fresh), tt));
       stopped_below = All-weaken (λ m. m < c.next_serial) (λ m. m < c.next_serial + 1) r.stopped (λ m b. omega (arith, b)) k.stopped_below;
-      later = rw (all_with_start s r t) (All-join (λ x. s.now < x.deadline) (all_started s r) (t ∷ []) k.later (omega arith, tt));
+      not_past = rw (all_with_start s r t) (All-join (λ x. s.now ≤ x.deadline) (all_started s r) (t ∷ []) k.not_past (omega arith, tt));
+    }
+
+-- a start for now
+
+-- the newest timer comes last at its tick
+insert_last : (t : Timer) (xs : List Timer) → AllByRecursion (λ x. x.deadline ≤ t.deadline) xs → insert_newest t xs ≡ xs ++ t ∷ []
+insert_last t [] a = refl
+insert_last t (x ∷ xs) a =
+    rw (le-ltb t.deadline x.deadline a.0) (ap (λ (r : List Timer). x ∷ r) (insert_last t xs a.1))
+
+due_with_newest : (s : FacilityState) (r : Reading) (t : Timer) → AreBelow t.serial (all_started s r)
+    → is_among t.serial r.stopped ≡ false → due_at s (with_started r t) t.deadline ≡ due_at s r t.deadline ++ t ∷ []
+due_with_newest s r t below unstopped =
+    let here : List Timer = filter (is_owed_at r t.deadline) (all_started s r) in
+    let new : is_owed_at r t.deadline t ≡ true = and_from (t.deadline == t.deadline) (not (is_among t.serial r.stopped))
+    (eq-eqb t.deadline t.deadline refl) (not_from_false (is_among t.serial r.stopped) unstopped) in
+    rw (all_with_start s r t, filter-append (is_owed_at r t.deadline) (all_started s r) (t ∷ []), new)
+    (timers_in_order-append t here (All-filter (λ x. x.serial < t.serial) _ (is_owed_at r t.deadline) (all_started s r) (λ x _ l. l) below)
+    ∙ insert_last t (timers_in_order here) (All-in_order itself (λ x. x.deadline ≤ t.deadline) here
+    (All-filter (λ x. x.serial < t.serial) (λ x. x.deadline ≤ t.deadline) (is_owed_at r t.deadline) (all_started s r)
+    (λ x h _. let e = eqb-true x.deadline t.deadline
+    (and_parts (x.deadline == t.deadline) (not (is_among x.serial r.stopped)) h).0 in omega (arith, e)) below)))
+
+ticks_with_newest : (s : FacilityState) (r : Reading) (t : Timer) (n : ℕ) → t.deadline ≡ s.now + n
+    → due_at s (with_started r t) t.deadline ≡ due_at s r t.deadline ++ t ∷ []
+    → owed_at_ticks s (with_started r t) n ≡ owed_at_ticks s r n ++ Expired t ∷ []
+ticks_with_newest s r t zero e h =
+    let now : t.deadline ≡ s.now = omega (arith, e) in
+    ap (map (λ t. Expired t)) (subst (λ d. due_at s (with_started r t) d ≡ due_at s r d ++ t ∷ []) now h)
+    ∙ map-append (λ t. Expired t) (due_at s r s.now) (t ∷ [])
+ticks_with_newest s r t (suc n) e h =
+    let before : List Notice = owed_at_ticks s r n in
+    let here : List Notice = map (λ t. Expired t) (due_at s r (s.now + suc n)) in
+    ap (λ ns. ns ++ map (λ t. Expired t) (due_at s (with_started r t) (s.now + suc n)))
+    (owed_at_ticks_same s r (with_started r t) n (λ d m. due_with_start s r t d (omega (arith, e))))
+    ∙ ap (λ ts. before ++ map (λ t. Expired t) ts)
+    (subst (λ d. due_at s (with_started r t) d ≡ due_at s r d ++ t ∷ []) e h)
+    ∙ ap (λ ns. before ++ ns) (map-append (λ t. Expired t) (due_at s r (s.now + suc n)) (t ∷ []))
+    ∙ sym (append_assoc before here (Expired t ∷ []))
+
+left_without : (s : FacilityState) (r : Reading) (now : ℕ) (t : Timer) → t.deadline ≤ now
+    → timers_in_order (filter (is_left_at r now) (all_started s r))
+    ≡ timers_in_order (filter (is_left_at r now) (all_started s (with_started r t)))
+left_without s r now t h = rw (
+  all_with_start s r t,
+  filter-append (is_left_at r now) (all_started s r) (t ∷ []),
+  le-ltb now t.deadline h,
+  append-nil (filter (is_left_at r now) (all_started s r)),
+) refl
+
+-- its notice is owed at once, after all others
+pub keeps-start_now : {s : FacilityState} {r : Reading} {ns : List Notice} {c : FacilityState} (place : ℕ) (t : Timer)
+    → Keeps s r ns c → r.is_closed ≡ false → t.deadline ≡ c.now → t.serial ≡ c.next_serial
+    → Keeps s (with_started r t) (ns ++ Expired t ∷ []) (with_timer (Some t) place c)
+keeps-start_now {s} {r} {ns} {c} place t k h at fresh =
+    let n : c.now ≡ s.now + r.ticks = k.now_is in
+    let below : AreBelow t.serial (all_started s r) = rw fresh k.below in
+    let unstopped : is_among t.serial r.stopped ≡ false = is_among_below t.serial r.stopped (rw fresh k.stopped_below) in
+    record {
+      now_is = n;
+      told = ap (λ xs. xs ++ Expired t ∷ []) (k.told ∙ owed_open s r h)
+          ∙ sym (owed_open s (with_started r t) h
+          ∙ ticks_with_newest s r t r.ticks (at ∙ n) (due_with_newest s r t below unstopped));
+      shut = λ m. absurd (both_ways r.is_closed h m);
+      left = λ _. ap timers_of (put_when_now place t c.now c.pending at) ∙ k.left h ∙ left_without s r c.now t (omega (arith, at));
+      distinct = rw (all_with_start s r t) (AreDistinct-join (all_started s r) (t ∷ []) k.distinct (tt, tt)
+          (All-weaken (λ x. x.serial < t.serial) (λ x. IsNotAmong x.serial (t ∷ [])) (all_started s r)
+          (λ x b. ((λ e. omega (arith, b, e)), tt)) below));
+      below = rw (all_with_start s r t) (All-join (λ x. x.serial < c.next_serial + 1) (all_started s r) (t ∷ [])
+          (All-weaken (λ x. x.serial < c.next_serial) _ (all_started s r) (λ x b. omega (arith, b)) k.below) (omega (arith, fresh), tt));
+      stopped_below = All-weaken (λ m. m < c.next_serial) (λ m. m < c.next_serial + 1) r.stopped (λ m b. omega (arith, b)) k.stopped_below;
+      not_past = rw (all_with_start s r t) (All-join (λ x. s.now ≤ x.deadline) (all_started s r) (t ∷ []) k.not_past
+          (omega (arith, at, n), tt));
     }
 
 -- a stop
@@ -164,7 +241,7 @@ keeps-stop {s} {r} {ns} {c} t k h among =
       below = k.below;
       stopped_below = All-join (λ m. m < c.next_serial) r.stopped (t.serial ∷ []) k.stopped_below
           (at_member (λ x. x.serial < c.next_serial) t (all_started s r) k.below passed.0, tt);
-      later = k.later;
+      not_past = k.not_past;
     }
 
 -- a tick
@@ -200,7 +277,7 @@ keeps-tick {s} {r} {ns} {c} k h =
       distinct = k.distinct;
       below = k.below;
       stopped_below = k.stopped_below;
-      later = k.later;
+      not_past = k.not_past;
     }
 
 -- a close
@@ -215,7 +292,7 @@ keeps-close {s} {r} {ns} {c} k h = record {
   distinct = k.distinct;
   below = k.below;
   stopped_below = k.stopped_below;
-  later = k.later;
+  not_past = k.not_past;
 }
 
 -- a number that is used up
@@ -229,5 +306,5 @@ keeps-numbered client number k = record {
   distinct = k.distinct;
   below = k.below;
   stopped_below = k.stopped_below;
-  later = k.later;
+  not_past = k.not_past;
 }

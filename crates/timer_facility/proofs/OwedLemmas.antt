@@ -1,11 +1,9 @@
 -- The notices of every run are what is owed for it.
-use Rattle.std.proofs.Common.{◌≡◌, ◌<◌, ◌+◌, ℕ, zero, suc, Bool, true, false, List, [], ◌∷◌, ◌++◌, length, refl, sym, ◌∙◌, ap, arith, append-nil, append_assoc}
+use Rattle.std.proofs.Common.{◌≡◌, ◌<◌, ◌≤◌, ◌+◌, ℕ, zero, suc, Bool, true, false, List, [], ◌∷◌, ◌++◌, inl, inr, refl, sym, ◌∙◌, ap, subst, arith, append-nil, append_assoc}
 use Rattle.std.specs.Prelude.{take, map, filter, Option, Some, None}
 use Rattle.std.specs.List.{AllByRecursion}
-use Rattle.std.proofs.lemmas.Bool.{or_right}
+use Rattle.std.proofs.lemmas.Bool.{cases_lt, or_right}
 use Rattle.std.proofs.lemmas.Bool.Decides.{nat_tests}
-use Rattle.std.proofs.lemmas.List.{length-map}
-use Rattle.std.proofs.lemmas.Simd.{map-map}
 use Rattle.timer_base.specs.OneOrder.{IsMember}
 use Rattle.timer_base.specs.OrderLaws.{All-weaken}
 use Rattle.timer_base.specs.declared.timer.Timer.{Timer}
@@ -14,18 +12,17 @@ use Rattle.timer_base.specs.Pending.{timers_of}
 use Rattle.timer_facility.specs.declared.request.Notice.{Notice}
 use Rattle.timer_facility.specs.declared.request.Notice.TheVariants.{Expired, Returned}
 use Rattle.timer_facility.specs.declared.request.TickFault.{TickFault}
-use Rattle.timer_facility.specs.declared.event.Out.{Out}
-use Rattle.timer_facility.specs.declared.event.Out.TheVariants as Outs
 use Rattle.timer_facility.specs.State.{FacilityState, IsSound, ModelRequest, action_of, SingleEvent, Asked, Tick, Close}
 use Rattle.timer_facility.specs.Verdict.{tick_refusal}
-use Rattle.timer_facility.specs.Step.{StepResult, timer_stopped, timer_started, handle_of, answer_to, answered, after_request, expired_next, step, step_of_tick, step_of_close}
-use Rattle.timer_facility.specs.Run.{PlacedEvent, history, state_after, notices, notice_in, notices_in, outs_of}
-use Rattle.timer_facility.specs.Owed.{owed, started, timers_in_order, serials_told, timer_answered, any_out, is_closing, is_tick_refusal}
-use Rattle.timer_facility.proofs.TimerLists.{or_false, filter_all, timers_in_order-ordered}
+use Rattle.timer_facility.specs.Step.{StepResult, timer_stopped, expiries, timer_started, handle_of, answer_to, answered, due_at_start, with_timer, after_request, expired_next, step, step_of_tick, step_of_close}
+use Rattle.timer_facility.specs.Run.{PlacedEvent, history, state_after, notices, notices_in, outs_of}
+use Rattle.timer_facility.specs.Owed.{owed, started, timers_in_order, timer_answered}
+use Rattle.timer_facility.proofs.TimerLists.{or_false, filter_all, filter_none, timers_in_order-ordered}
 use Rattle.timer_facility.proofs.VerdictLemmas.{takable, ticking}
-use Rattle.timer_facility.proofs.StepLemmas.{by_verdict, stopped-among, IsNew, started-new, started-later}
-use Rattle.timer_facility.proofs.OwedFold.{Reading, nothing_read, read_one, reading, and_then, then_nothing, nothing_then, then_then, reading_is, all_started, is_left_at, owed_is}
-use Rattle.timer_facility.proofs.OwedKeeps.{Keeps, not_closed, keeps-start, keeps-stop, keeps-tick, keeps-close, keeps-numbered}
+use Rattle.timer_facility.proofs.StepLemmas.{by_verdict, stopped-among, IsNew, started-new, started-not_past, due_when_later, due_when_now}
+use Rattle.timer_facility.proofs.NoticeLists.{notices_in-map, timers_in-map, serials_told-map, closing-map, refusal-map, notices_in-append}
+use Rattle.timer_facility.proofs.OwedFold.{Reading, nothing_read, read_one, reading, and_then, then_nothing, nothing_then, then_then, reading_is, all_started, is_owed_at, is_left_at, owed_at_ticks, owed_is}
+use Rattle.timer_facility.proofs.OwedKeeps.{Keeps, not_closed, not_owed, with_started, keeps-start, keeps-start_now, keeps-stop, keeps-tick, keeps-close, keeps-numbered}
 
 -- the invariant between two events, after one with these outs
 abbrev KeepsStep : FacilityState → Reading → List Notice → SingleEvent → StepResult → Type 0
@@ -40,26 +37,48 @@ timer_is : {c : FacilityState} {client number action : ℕ} {t : Timer} (place :
     → timer_answered client number action (handle_of place t) t.deadline ≡ t
 timer_is place i = rw (sym i.client_is, sym i.number_is, sym i.action_is) refl
 
+-- a timer that is started: if it is due now, it is handed out at once
+keeps_started : {s : FacilityState} {r : Reading} {ns : List Notice} {c : FacilityState} (place : ℕ) (t : Timer)
+    → Keeps s r ns c → r.is_closed ≡ false → c.now ≤ t.deadline → t.serial ≡ c.next_serial
+    → Keeps s (with_started r t) (ns ++ notices_in (expiries (due_at_start c (Some t)))) (with_timer (Some t) place c)
+keeps_started {s} {r} {ns} {c} place t k o h fresh = elim (cases_lt c.now t.deadline) [
+  | inl l ↦ subst (λ due. Keeps s (with_started r t) (ns ++ notices_in (expiries due)) (with_timer (Some t) place c))
+      (sym (due_when_later c t l)) (keeps_read refl (append-nil ns) (keeps-start place t k o l fresh))
+  | inr m ↦ subst (λ due. Keeps s (with_started r t) (ns ++ notices_in (expiries due)) (with_timer (Some t) place c))
+      (sym (due_when_now c t m)) (keeps-start_now place t k o (omega arith) fresh)
+]
+
 -- an accepted request, by the timer that it stops and the one that it starts
 keeps_request : (s : FacilityState) (r : Reading) (ns : List Notice) (c : FacilityState) (client number : ℕ) (request : ModelRequest)
     (old new : Option Timer) (place : ℕ)
     → ((t : Timer) → old ≡ Some t → IsMember t (timers_of c.pending))
     → ((t : Timer) → new ≡ Some t → IsNew c client number (action_of request) t)
-    → ((t : Timer) → new ≡ Some t → c.now < t.deadline)
+    → ((t : Timer) → new ≡ Some t → c.now ≤ t.deadline)
     → Keeps s r ns c → r.is_closed ≡ false
-    → KeepsStep s r ns (Asked client number request) (answered client number (answer_to old new place) (after_request old new place c))
-keeps_request s r ns c client number request None None place among is later k o =
+    → KeepsStep s r ns (Asked client number request)
+    (answered client number (answer_to old new place) (due_at_start c new) (after_request old new place c))
+keeps_request s r ns c client number request None None place among is not_past k o =
     keeps_read (then_nothing r) (append-nil ns) (keeps-numbered client number k)
-keeps_request s r ns c client number request (Some old) None place among is later k o =
+keeps_request s r ns c client number request (Some old) None place among is not_past k o =
     keeps_read (reading_is (append-nil r.started) refl (omega arith) (or_false r.is_closed)) (append-nil ns)
     (keeps-numbered client number (keeps-stop old k o (among old refl)))
-keeps_request s r ns c client number request None (Some t) place among is later k o =
-    keeps_read (reading_is (ap (λ u. r.started ++ u ∷ []) (timer_is place (is t refl))) (append-nil r.stopped) (omega arith)
-    (or_false r.is_closed)) (append-nil ns) (keeps-numbered client number (keeps-start place t k o (later t refl) (is t refl).serial_is))
-keeps_request s r ns c client number request (Some old) (Some t) place among is later k o =
-    keeps_read (reading_is (ap (λ u. r.started ++ u ∷ []) (timer_is place (is t refl))) refl (omega arith) (or_false r.is_closed))
-    (append-nil ns) (keeps-numbered client number
-    (keeps-start place t (keeps-stop old k o (among old refl)) o (later t refl) (is t refl).serial_is))
+keeps_request s r ns c client number request None (Some t) place among is not_past k o =
+    rw (
+      timers_in-map client number (action_of request) (λ t. Expired t) (due_at_start c (Some t)),
+      serials_told-map (λ t. Expired t) (due_at_start c (Some t)),
+      closing-map (λ t. Expired t) (due_at_start c (Some t)),
+    )
+    (keeps_read (reading_is (ap (λ u. r.started ++ u ∷ []) (timer_is place (is t refl))) (append-nil r.stopped) (omega arith)
+    (or_false r.is_closed)) refl (keeps-numbered client number (keeps_started place t k o (not_past t refl) (is t refl).serial_is)))
+keeps_request s r ns c client number request (Some old) (Some t) place among is not_past k o =
+    rw (
+      timers_in-map client number (action_of request) (λ t. Expired t) (due_at_start c (Some t)),
+      serials_told-map (λ t. Expired t) (due_at_start c (Some t)),
+      closing-map (λ t. Expired t) (due_at_start c (Some t)),
+    )
+    (keeps_read (reading_is (ap (λ u. r.started ++ u ∷ []) (timer_is place (is t refl))) refl (omega arith) (or_false r.is_closed))
+    refl (keeps-numbered client number
+    (keeps_started place t (keeps-stop old k o (among old refl)) o (not_past t refl) (is t refl).serial_is)))
 
 keeps_asked : (s : FacilityState) (r : Reading) (ns : List Notice) (c : FacilityState) (client number : ℕ) (request : ModelRequest)
     (place : ℕ) → Keeps s r ns c
@@ -70,32 +89,7 @@ keeps_asked s r ns c client number request place k =
     (λ reason taken. keeps_read (then_nothing r) (append-nil ns) (keeps-numbered client number k))
     (λ taken ok. keeps_request s r ns c client number request (timer_stopped c client request)
     (timer_started c client number request) place (stopped-among c client request) (started-new c client number request)
-    (λ t e. started-later c client number request t ok e) k (not_closed k (takable c client number taken).is_open))
-
--- the outs of an accepted tick or close, read
-pub notices_in-map : (f : Timer → Notice) (ts : List Timer) → notices_in (map (λ t. Outs.Notice (f t)) ts) ≡ map f ts
-notices_in-map f [] = refl
-notices_in-map f (t ∷ ts) = ap (λ ns. f t ∷ ns) (notices_in-map f ts)
-
--- there is one notice for each timer, and the outs are those of their notices
-pub length-notices : (f : Timer → Notice) (ts : List Timer) → length (notices_in (map (λ t. Outs.Notice (f t)) ts)) ≡ length ts
-length-notices f ts = ap length (notices_in-map f ts) ∙ length-map ts f
-
-pub outs-notices : (f : Timer → Notice) (ts : List Timer) → map (λ notice. Outs.Notice notice)
-    (notices_in (map (λ t. Outs.Notice (f t)) ts)) ≡ map (λ t. Outs.Notice (f t)) ts
-outs-notices f ts = ap (map (λ notice. Outs.Notice notice)) (notices_in-map f ts) ∙ map-map (λ notice. Outs.Notice notice) f ts
-
-serials_told-map : (f : Timer → Notice) (ts : List Timer) → serials_told (map (λ t. Outs.Notice (f t)) ts) ≡ []
-serials_told-map f [] = refl
-serials_told-map f (t ∷ ts) = serials_told-map f ts
-
-closing-map : (f : Timer → Notice) (ts : List Timer) → any_out is_closing (map (λ t. Outs.Notice (f t)) ts) ≡ false
-closing-map f [] = refl
-closing-map f (t ∷ ts) = closing-map f ts
-
-pub refusal-map : (f : Timer → Notice) (ts : List Timer) → any_out is_tick_refusal (map (λ t. Outs.Notice (f t)) ts) ≡ false
-refusal-map f [] = refl
-refusal-map f (t ∷ ts) = refusal-map f ts
+    (started-not_past c client number request) k (not_closed k (takable c client number taken).is_open))
 
 keeps_ticked : (s : FacilityState) (r : Reading) (ns : List Notice) (c : FacilityState) (v : Option TickFault) → tick_refusal c ≡ v
     → Keeps s r ns c → KeepsStep s r ns Tick (step_of_tick c v)
@@ -130,11 +124,6 @@ keeps_step s r ns c (Asked client number request) place k = keeps_asked s r ns c
 keeps_step s r ns c Tick place k = keeps_ticked s r ns c (tick_refusal c) refl k
 keeps_step s r ns c Close place k = keeps_closed s r ns c c.is_closed refl k
 
-pub notices_in-append : (xs ys : List Out) → notices_in (xs ++ ys) ≡ notices_in xs ++ notices_in ys
-notices_in-append [] ys = refl
-notices_in-append (x ∷ xs) ys = ap (λ ns. notice_in x ++ ns) (notices_in-append xs ys)
-    ∙ sym (append_assoc (notice_in x) (notices_in xs) (notices_in ys))
-
 -- and so does a whole run
 keeps_run : (s : FacilityState) (r : Reading) (ns : List Notice) (c : FacilityState) (ps : List PlacedEvent) → Keeps s r ns c
     → Keeps s (and_then r (reading (history c ps))) (ns ++ notices (history c ps)) (state_after c ps)
@@ -153,9 +142,13 @@ left_at_first now t h = grind (arith, nat_tests)
 keeps_first : (s : FacilityState) → IsSound s → Keeps s nothing_read [] s
 keeps_first s i =
     let all : all_started s nothing_read ≡ timers_of s.pending = append-nil (timers_of s.pending) in
+    let none : filter (is_owed_at nothing_read s.now) (all_started s nothing_read) ≡ [] =
+    ap (filter (is_owed_at nothing_read s.now)) all ∙ filter_none (is_owed_at nothing_read s.now) (timers_of s.pending)
+    (All-weaken (λ t. s.now < t.deadline) (λ t. is_owed_at nothing_read s.now t ≡ false) (timers_of s.pending)
+    (λ t l. not_owed nothing_read s.now t l) i.later) in
     record {
       now_is = omega arith;
-      told = refl;
+      told = sym (append-nil (owed_at_ticks s nothing_read 0) ∙ ap (λ ts. map (λ t. Expired t) (timers_in_order ts)) none);
       shut = λ h. absurd (cc);
       left = λ _. sym (ap (λ xs. timers_in_order (filter (is_left_at nothing_read s.now) xs)) all
           ∙ ap timers_in_order (filter_all (is_left_at nothing_read s.now) (timers_of s.pending)
@@ -165,7 +158,8 @@ keeps_first s i =
       distinct = rw all i.distinct;
       below = rw all i.below;
       stopped_below = tt;
-      later = rw all i.later;
+      not_past = rw all (All-weaken (λ t. s.now < t.deadline) (λ t. s.now ≤ t.deadline) (timers_of s.pending)
+          (λ t l. omega (arith, l)) i.later);
     }
 
 keeps_history : (s : FacilityState) (ps : List PlacedEvent) → IsSound s
@@ -180,10 +174,10 @@ notices-history s ps i = (keeps_history s ps i).told ∙ sym (owed_is s (history
 pub started-distinct : (s : FacilityState) (ps : List PlacedEvent) → IsSound s → AreDistinct (started s (history s ps))
 started-distinct s ps i = (keeps_history s ps i).distinct
 
--- each of them has its deadline after the beginning
-pub started-after : (s : FacilityState) (ps : List PlacedEvent) → IsSound s
-    → AllByRecursion (λ t. s.now < t.deadline) (started s (history s ps))
-started-after s ps i = (keeps_history s ps i).later
+-- none of them has its deadline before the beginning
+pub started-not_before : (s : FacilityState) (ps : List PlacedEvent) → IsSound s
+    → AllByRecursion (λ t. s.now ≤ t.deadline) (started s (history s ps))
+started-not_before s ps i = (keeps_history s ps i).not_past
 
 -- a prefix of a history is a history
 pub take-history : (k : ℕ) (s : FacilityState) (ps : List PlacedEvent) → take k (history s ps) ≡ history s (take k ps)

@@ -79,7 +79,10 @@ joined all ks tick Later Any xs ys d u v later f g = record {
 -- what is owed by the first n ticks
 by_ticks : (s : FacilityState) (hs : List HistoryEntry) (n : ℕ) → AreDistinct (started s hs)
     → AreOwed (started s hs) (stopped hs) (λ d. d ≤ s.now + n) (map timer_handed (owed_by_ticks s hs n))
-by_ticks s hs zero d = record { distinct = tt; each = tt }
+by_ticks s hs zero d =
+    rw (unwrapped (λ t. Expired t) (λ t. refl) (due s hs s.now))
+    (owed_when (started s hs) (stopped hs) (λ d. d ≤ s.now + 0) (is_due_at s.now) d
+    (λ t h. let e = eqb-true t.deadline s.now h in omega (arith, e)))
 by_ticks s hs (suc n) d =
     let at : ℕ = s.now + suc n in
     let now : List Timer = due s hs at in

@@ -7,7 +7,7 @@ use Rattle.timer_facility.specs.declared.event.Out.TheVariants as Outs
 use Rattle.timer_facility.specs.State.{FacilityState, Close}
 use Rattle.timer_facility.specs.Step.{step, step_of_close}
 use Rattle.timer_facility.specs.Facility.{FacilityView, view_after}
-use Rattle.timer_facility.proofs.OwedLemmas.{outs-notices, length-notices}
+use Rattle.timer_facility.proofs.NoticeLists.{outs-notices, length-notices}
 use Rattle.std.proofs.lemmas.List.{length-map}
 
 -- after an accepted close each timer that was pending waits

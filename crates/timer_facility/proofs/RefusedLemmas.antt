@@ -1,18 +1,18 @@
 -- The verdict on an event, read from its outs.
 use Rattle.std.proofs.Common.{◌≡◌, ℕ, Bool, true, false, List, [], ◌∷◌, refl, ap}
-use Rattle.std.specs.Prelude.{map, if◌then◌else◌, Option, Some, None}
+use Rattle.std.specs.Prelude.{if◌then◌else◌, Option, Some, None}
 use Rattle.timer_base.specs.declared.timer.Timer.{Timer}
 use Rattle.timer_base.specs.Pending.{timers_of}
 use Rattle.timer_facility.specs.declared.request.NotTaken.{NotTaken}
-use Rattle.timer_facility.specs.declared.request.Notice.{Notice}
 use Rattle.timer_facility.specs.declared.request.Notice.TheVariants.{Expired, Returned}
 use Rattle.timer_facility.specs.declared.request.Reason.{Reason}
 use Rattle.timer_facility.specs.declared.request.TickFault.{TickFault}
 use Rattle.timer_facility.specs.declared.event.Out.TheVariants as Outs
 use Rattle.timer_facility.specs.State.{FacilityState, ModelRequest, SingleEvent, Asked, Tick, Close}
 use Rattle.timer_facility.specs.Verdict.{not_taken, refusal, tick_refusal, CloseRefused, verdict_on_request, verdict_on_tick, verdict, closed_refusal}
-use Rattle.timer_facility.specs.Step.{timer_stopped, timer_started, answer_to, accepted, expired_next, step_by, step, step_of_tick, step_of_close}
+use Rattle.timer_facility.specs.Step.{expiries, timer_stopped, timer_started, answer_to, due_at_start, accepted, expired_next, step_by, step, step_of_tick, step_of_close}
 use Rattle.timer_facility.specs.Refused.{refusals_in, refusals_of}
+use Rattle.timer_facility.proofs.NoticeLists.{refusals_in-map}
 use Rattle.timer_facility.proofs.VerdictLemmas.{not_taken-closed, tick_refusal-closed}
 use Rattle.timer_facility.proofs.StepLemmas.{accepted-some}
 
@@ -25,12 +25,12 @@ verdict-closed s Close h = ap (λ b. if b then Some CloseRefused else None) h
 
 -- From the outs.
 
-told_answer : (client number place : ℕ) (old new : Option Timer) → (old ≡ None → new ≡ None → ⊥)
-    → refusals_in (Outs.Answered client number (answer_to old new place) ∷ []) ≡ []
-told_answer client number place None None some = absurd (some refl refl)
-told_answer client number place (Some old) None some = refl
-told_answer client number place None (Some new) some = refl
-told_answer client number place (Some old) (Some new) some = refl
+told_answer : (client number place : ℕ) (old new : Option Timer) (due : List Timer) → (old ≡ None → new ≡ None → ⊥)
+    → refusals_in (Outs.Answered client number (answer_to old new place) ∷ expiries due) ≡ []
+told_answer client number place None None due some = absurd (some refl refl)
+told_answer client number place (Some old) None due some = refusals_in-map (λ t. Expired t) due
+told_answer client number place None (Some new) due some = refusals_in-map (λ t. Expired t) due
+told_answer client number place (Some old) (Some new) due some = refusals_in-map (λ t. Expired t) due
 
 told_request : (s : FacilityState) (client number : ℕ) (request : ModelRequest) (place : ℕ) (v : Option NotTaken) (w : Option Reason)
     → (w ≡ None → timer_stopped s client request ≡ None → timer_started s client number request ≡ None → ⊥)
@@ -39,19 +39,16 @@ told_request : (s : FacilityState) (client number : ℕ) (request : ModelRequest
 told_request s client number request place (Some reason) w some = refl
 told_request s client number request place None (Some reason) some = refl
 told_request s client number request place None None some =
-    told_answer client number place (timer_stopped s client request) (timer_started s client number request) (some refl)
-
-told_notices : (f : Timer → Notice) (ts : List Timer) → refusals_in (map (λ t. Outs.Notice (f t)) ts) ≡ []
-told_notices f [] = refl
-told_notices f (t ∷ ts) = told_notices f ts
+    told_answer client number place (timer_stopped s client request) (timer_started s client number request)
+    (due_at_start s (timer_started s client number request)) (some refl)
 
 told_tick : (s : FacilityState) (v : Option TickFault) → refusals_in (step_of_tick s v).outs ≡ refusals_of (verdict_on_tick v)
 told_tick s (Some fault) = refl
-told_tick s None = told_notices (λ t. Expired t) (expired_next s)
+told_tick s None = refusals_in-map (λ t. Expired t) (expired_next s)
 
 told_close : (s : FacilityState) (b : Bool) → refusals_in (step_of_close s b).outs ≡ refusals_of (if b then Some CloseRefused else None)
 told_close s true = refl
-told_close s false = told_notices (λ t. Returned t) (timers_of s.pending)
+told_close s false = refusals_in-map (λ t. Returned t) (timers_of s.pending)
 
 -- the refusals among the outs of an event are those of the verdict on it
 pub outs-verdict : (s : FacilityState) (event : SingleEvent) (place : ℕ)

@@ -17,9 +17,9 @@ use Rattle.timer_facility.specs.declared.event.Event.{Event}
 use Rattle.timer_facility.specs.declared.event.Event.TheVariants as Events
 use Rattle.timer_facility.specs.declared.event.Out.{Out}
 use Rattle.timer_facility.specs.declared.event.Out.TheVariants as Outs
-use Rattle.timer_facility.specs.State.{FacilityState, After, At, ticks_until, ByHandle, BySerial, ModelRequest, Start, Stop, Restart, SingleEvent, Asked, Tick, Close}
+use Rattle.timer_facility.specs.State.{FacilityState, Deadline, After, At, interval_until, ByHandle, BySerial, ModelRequest, Start, Stop, Restart, SingleEvent, Asked, Tick, Close}
 use Rattle.timer_facility.specs.Verdict.{not_taken, of_client, timer_named, interval_refusal, room_refusal, refusal, tick_refusal, verdict_on_request}
-use Rattle.timer_facility.specs.Step.{StepResult, with_number, answered, timer_stopped, timer_started, answer_to, without_timer, with_timer, after_request, step_by, step, step_of_tick, step_of_close}
+use Rattle.timer_facility.specs.Step.{StepResult, with_number, answered, timer_stopped, timer_started, due_at_start, answer_to, put_later, without_timer, with_timer, after_request, step_by, step, step_of_tick, step_of_close}
 use Rattle.timer_facility.specs.Run.{PlacedEvent, state_after, run, bare_answer, bare, bare_outs, bare_entry, bare_state, NamesBySerial, AreSameButForPlaces}
 use Rattle.timer_facility.proofs.TimerLists.{All-join}
 use Rattle.timer_facility.specs.Played.{ticks_left, singles_of, ArePlaced, IsRun}
@@ -43,6 +43,10 @@ put-bare e (x ∷ xs) = elim (either (nat_lt e.timer.deadline x.timer.deadline))
   | inl h ↦ rw h refl
   | inr h ↦ rw h (ap (λ r. bare_entry x ∷ r) (put-bare e xs))
 ]
+
+put_later-bare : (now : ℕ) (e : Entry) (es : List Entry)
+    → map bare_entry (put_later now e es) ≡ put_later now (bare_entry e) (map bare_entry es)
+put_later-bare now e es = elim (either (nat_lt now e.timer.deadline)) [ inl h ↦ rw h (put-bare e es) | inr h ↦ rw h refl ]
 
 filter-bare : (test : Timer → Bool) (es : List Entry) → map bare_entry (filter (λ e. test e.timer) es)
     ≡ filter (λ e. test e.timer) (map bare_entry es)
@@ -79,14 +83,19 @@ named-bare : (s : FacilityState) (client serial : ℕ)
     → timer_named (bare_state s) client (BySerial serial) ≡ timer_named s client (BySerial serial)
 named-bare s client serial = ap (of_client client) (first_timer-bare (has_serial serial) s.pending)
 
+until-bare : (s : FacilityState) (deadline : Deadline) → interval_until (bare_state s) deadline ≡ interval_until s deadline
+until-bare s (After interval) = refl
+until-bare s (At tick) = refl
+
 refusal-bare : (s : FacilityState) (client number : ℕ) (request : ModelRequest) → NamesBySerial (Asked client number request)
     → refusal (bare_state s) client request ≡ refusal s client request
-refusal-bare s client number (Start deadline action) n = rw (interval_refusal-bare s (ticks_until s deadline), room_refusal-bare s) refl
+refusal-bare s client number (Start deadline action) n =
+    rw (until-bare s deadline, interval_refusal-bare s (interval_until s deadline), room_refusal-bare s) refl
 refusal-bare s client number (Stop (ByHandle handle)) n = absurd n
 refusal-bare s client number (Stop (BySerial serial)) n = rw (named-bare s client serial) refl
 refusal-bare s client number (Restart (ByHandle handle) deadline action) n = absurd n
 refusal-bare s client number (Restart (BySerial serial) deadline action) n =
-    rw (named-bare s client serial, interval_refusal-bare s (ticks_until s deadline)) refl
+    rw (named-bare s client serial, until-bare s deadline, interval_refusal-bare s (interval_until s deadline)) refl
 
 stopped-bare : (s : FacilityState) (client number : ℕ) (request : ModelRequest) → NamesBySerial (Asked client number request)
     → timer_stopped (bare_state s) client request ≡ timer_stopped s client request
@@ -122,23 +131,23 @@ without_timer-bare old s = rw (without_found-bare old s.pending) refl
 with_timer-bare : (new : Option Timer) (place : ℕ) (s : FacilityState)
     → bare_state (with_timer new place s) ≡ with_timer new 0 (bare_state s)
 with_timer-bare None place s = refl
-with_timer-bare (Some t) place s = rw (put-bare (record { place = place; timer = t }) s.pending) refl
+with_timer-bare (Some t) place s = rw (put_later-bare s.now (record { place = place; timer = t }) s.pending) refl
+
+notices-bare : (f : Timer → Notice) (ts : List Timer) → bare_outs (map (λ t. Outs.Notice (f t)) ts) ≡ map (λ t. Outs.Notice (f t)) ts
+notices-bare f ts = map-map bare (λ t. Outs.Notice (f t)) ts
 
 request-bare : (s : FacilityState) (client number : ℕ) (request : ModelRequest) (place : ℕ) (old new : Option Timer)
     (v : Option NotTaken) (w : Option Reason)
     → IsBareStep (step_by s (Asked client number request)
-    (answered client number (answer_to old new place) (after_request old new place s)) (verdict_on_request v w))
+    (answered client number (answer_to old new place) (due_at_start s new) (after_request old new place s)) (verdict_on_request v w))
     (step_by (bare_state s) (Asked client number request)
-    (answered client number (answer_to old new 0) (after_request old new 0 (bare_state s))) (verdict_on_request v w))
+    (answered client number (answer_to old new 0) (due_at_start s new) (after_request old new 0 (bare_state s))) (verdict_on_request v w))
 request-bare s client number request place old new (Some reason) w = (refl, refl)
 request-bare s client number request place old new None (Some reason) = (refl, refl)
 request-bare s client number request place old new None None = (
-  ap (λ a. Outs.Answered client number a ∷ []) (answer_to-bare old new place),
+  rw (answer_to-bare old new place, notices-bare (λ t. Expired t) (due_at_start s new)) refl,
   ap (with_number client number) (with_timer-bare new place (without_timer old s) ∙ ap (with_timer new 0) (without_timer-bare old s)),
 )
-
-notices-bare : (f : Timer → Notice) (ts : List Timer) → bare_outs (map (λ t. Outs.Notice (f t)) ts) ≡ map (λ t. Outs.Notice (f t)) ts
-notices-bare f ts = map-map bare (λ t. Outs.Notice (f t)) ts
 
 tick-bare : (s : FacilityState) (v : Option TickFault) → IsBareStep (step_of_tick s v) (step_of_tick (bare_state s) v)
 tick-bare s (Some fault) = (refl, refl)

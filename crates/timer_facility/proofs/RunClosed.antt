@@ -4,7 +4,7 @@ use Rattle.timer_facility.specs.State.{FacilityState, SingleEvent, Asked, Tick, 
 use Rattle.timer_facility.specs.Verdict.{closed_refusal}
 use Rattle.timer_facility.specs.Step.{StepResult, refused, step}
 use Rattle.timer_facility.specs.Run.{PlacedEvent, run, notices_in}
-use Rattle.timer_facility.proofs.OwedLemmas.{notices_in-append}
+use Rattle.timer_facility.proofs.NoticeLists.{notices_in-append}
 use Rattle.timer_facility.proofs.StepLemmas.{step-refused}
 use Rattle.timer_facility.proofs.RefusedLemmas.{verdict-closed}
 

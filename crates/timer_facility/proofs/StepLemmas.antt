@@ -1,20 +1,26 @@
 -- Steps by their verdict, and what an accepted request stops and starts.
-use Rattle.std.proofs.Common.{◌≡◌, ◌<◌, ℕ, [], length, refl, sym, ◌∙◌, ap, subst, arith}
-use Rattle.std.specs.Prelude.{Option, Some, None}
+use Rattle.std.proofs.Common.{◌≡◌, false, ◌<◌, ◌≤◌, ℕ, List, [], ◌∷◌, length, refl, sym, ◌∙◌, ap, subst, arith}
+use Rattle.std.specs.Prelude.{map, Option, Some, None}
+use Rattle.std.proofs.lemmas.Bool.{le-ltb, lt-ltb}
+use Rattle.std.proofs.lemmas.Simd.{map-map}
 use Rattle.timer_base.specs.OneOrder.{IsMember}
 use Rattle.timer_base.specs.declared.timer.Timer.{Timer}
-use Rattle.timer_base.specs.Pending.{timers_of, first_timer}
+use Rattle.timer_base.specs.Pending.{Entry, timers_of, put, first_timer}
 use Rattle.timer_facility.specs.declared.request.Answer.{Answer}
 use Rattle.timer_facility.specs.declared.request.Answer.TheVariants.{Refused}
+use Rattle.timer_facility.specs.declared.request.Notice.TheVariants.{Expired}
 use Rattle.timer_facility.specs.declared.request.NotTaken.{NotTaken}
 use Rattle.timer_facility.specs.declared.request.Reason.{Reason}
 use Rattle.timer_facility.specs.declared.request.Request.{Request}
-use Rattle.timer_facility.specs.State.{FacilityState, Deadline, ticks_until, Name, ModelRequest, Start, Stop, Restart, action_of, SingleEvent, Asked}
-use Rattle.timer_facility.specs.Verdict.{not_taken, has_name, timer_named, first_refusal, interval_refusal, name_refusal, refusal, Refusal, RequestNotTaken, verdict_on_request, verdict}
-use Rattle.timer_facility.specs.Step.{StepResult, answered, refused, new_timer, timer_stopped, timer_started, after_request, accepted, step_by, step}
-use Rattle.timer_facility.specs.Facility.{FacilityView, view_after, model_of, event_of_request, place_in, IsAnswered, HasAnswered, IsTaken}
+use Rattle.timer_facility.specs.declared.request.Request.TheVariants as Requests
+use Rattle.timer_facility.specs.declared.event.Out.TheVariants as Outs
+use Rattle.timer_facility.specs.State.{FacilityState, Deadline, ticks_until, interval_until, Name, ByHandle, ModelRequest, Start, Stop, Restart, action_of, SingleEvent, Asked}
+use Rattle.timer_facility.specs.Verdict.{not_taken, has_name, timer_named, first_refusal, interval_refusal, start_refusal, restart_refusal, name_refusal, refusal, Refusal, RequestNotTaken, verdict_on_request, verdict}
+use Rattle.timer_facility.specs.Step.{StepResult, with_number, answered, refused, new_timer, timer_stopped, timer_started, due_at_start, put_later, after_request, accepted, step_by, step}
+use Rattle.timer_facility.specs.Facility.{FacilityView, view_after, model_of, is_for_a_tick, event_of_request, notice_outs, place_in, IsAnswered, HasAnswered, IsTaken}
+use Rattle.timer_facility.proofs.NoticeLists.{notices_in-map}
+use Rattle.timer_facility.proofs.VerdictLemmas.{neither, startable, timely}
 use Rattle.timer_facility.proofs.TimerLists.{first_timer-among, of_client_some}
-use Rattle.timer_facility.proofs.VerdictLemmas.{IsTimely, neither, timely, startable}
 
 -- By the verdict.
 
@@ -39,13 +45,13 @@ step-not_taken s client number request place reason h =
 -- what holds of a request's step, from what holds when it is not taken, refused or accepted
 pub by_verdict : (P : StepResult → Type 0) (s : FacilityState) (client number : ℕ) (request : ModelRequest) (place : ℕ)
     → ((reason : NotTaken) → P (refused s (Asked client number request) (RequestNotTaken reason)))
-    → ((reason : Reason) → not_taken s client number ≡ None → P (answered client number (Refused reason) s))
+    → ((reason : Reason) → not_taken s client number ≡ None → P (answered client number (Refused reason) [] s))
     → (not_taken s client number ≡ None → refusal s client request ≡ None → P (accepted s (Asked client number request) place))
     → P (step s (Asked client number request) place)
 by_verdict P s client number request place f g h = cases (not_taken s client number) (refusal s client request) g h
   where
     cases : (v : Option NotTaken) (w : Option Reason)
-        → ((reason : Reason) → v ≡ None → P (answered client number (Refused reason) s))
+        → ((reason : Reason) → v ≡ None → P (answered client number (Refused reason) [] s))
         → (v ≡ None → w ≡ None → P (accepted s (Asked client number request) place))
         → P (step_by s (Asked client number request) (accepted s (Asked client number request) place) (verdict_on_request v w))
     cases (Some reason) w g h = f reason
@@ -76,7 +82,7 @@ pub step-restart : (s : FacilityState) (client number place : ℕ) (a b : Name) 
     → step s (Asked client number (Restart a deadline action)) place ≡ step s (Asked client number (Restart b deadline action)) place
 step-restart s client number place a b deadline action e =
     step-alike s client number (Restart a deadline action) (Restart b deadline action) place
-    (ap (λ o. first_refusal (name_refusal o) (interval_refusal s (ticks_until s deadline))) e) e refl
+    (ap (λ o. first_refusal (name_refusal o) (interval_refusal s (interval_until s deadline))) e) e refl
 
 -- What it stops and starts.
 
@@ -111,24 +117,34 @@ started-new s client number (Start deadline action) t h = new_is s client number
 started-new s client number (Stop name) t h = absurd (cc)
 started-new s client number (Restart name deadline action) t h = new_is s client number (ticks_until s deadline) action t h
 
-later_is : (s : FacilityState) (client number interval action : ℕ) (t : Timer) → IsTimely s interval
-    → Some (new_timer s client number interval action) ≡ Some t → s.now < t.deadline
-later_is s client number interval action t timely h =
+not_past_is : (s : FacilityState) (client number interval action : ℕ) (t : Timer)
+    → Some (new_timer s client number interval action) ≡ Some t → s.now ≤ t.deadline
+not_past_is s client number interval action t h =
     let e : new_timer s client number interval action ≡ t = cc in
-    let positive = timely.positive in
-    subst (λ (u : Timer). s.now < u.deadline) e (omega arith)
+    subst (λ (u : Timer). s.now ≤ u.deadline) e (omega arith)
 
--- and its deadline is after now, if it is accepted
-pub started-later : (s : FacilityState) (client number : ℕ) (request : ModelRequest) (t : Timer) → refusal s client request ≡ None
-    → timer_started s client number request ≡ Some t → s.now < t.deadline
-started-later s client number (Start deadline action) t r h =
-    later_is s client number (ticks_until s deadline) action t
-    (timely s (ticks_until s deadline) (startable s (ticks_until s deadline) r).unrefused) h
-started-later s client number (Stop name) t r h = absurd (cc)
-started-later s client number (Restart name deadline action) t r h =
-    later_is s client number (ticks_until s deadline) action t
-    (timely s (ticks_until s deadline)
-    (neither (name_refusal (timer_named s client name)) (interval_refusal s (ticks_until s deadline)) r).1) h
+-- and its deadline is now or later
+pub started-not_past : (s : FacilityState) (client number : ℕ) (request : ModelRequest) (t : Timer)
+    → timer_started s client number request ≡ Some t → s.now ≤ t.deadline
+started-not_past s client number (Start deadline action) t h = not_past_is s client number (ticks_until s deadline) action t h
+started-not_past s client number (Stop name) t h = absurd (cc)
+started-not_past s client number (Restart name deadline action) t h = not_past_is s client number (ticks_until s deadline) action t h
+
+-- it is pending if its deadline is later
+pub put_when_later : (place : ℕ) (t : Timer) (now : ℕ) (es : List Entry) → now < t.deadline
+    → put_later now (record { place = place; timer = t }) es ≡ put (record { place = place; timer = t }) es
+put_when_later place t now es h = rw (lt-ltb now t.deadline h) refl
+
+pub put_when_now : (place : ℕ) (t : Timer) (now : ℕ) (es : List Entry) → t.deadline ≡ now
+    → put_later now (record { place = place; timer = t }) es ≡ es
+put_when_now place t now es h = rw (le-ltb now t.deadline (omega (arith, h))) refl
+
+-- and due at once otherwise
+pub due_when_later : (s : FacilityState) (t : Timer) → s.now < t.deadline → due_at_start s (Some t) ≡ []
+due_when_later s t h = rw (lt-ltb s.now t.deadline h) refl
+
+pub due_when_now : (s : FacilityState) (t : Timer) → t.deadline ≤ s.now → due_at_start s (Some t) ≡ t ∷ []
+due_when_now s t h = rw (le-ltb s.now t.deadline h) refl
 
 -- an accepted request stops a timer or starts one
 pub accepted-some : (s : FacilityState) (client number : ℕ) (request : ModelRequest) → refusal s client request ≡ None
@@ -139,39 +155,85 @@ accepted-some s client number (Restart name deadline action) r old new = absurd 
 
 -- From a request that was answered.
 
--- nothing waits, and there are as many clients
-pub record LeavesClients (s : FacilityState) (v : FacilityView) : Type 0 where
-  pub waiting : v.waiting ≡ []
+-- the timers that are due with a request, by why it is refused
+abbrev pub due_by : FacilityState → Option Reason → Option Timer → List Timer
+due_by s (Some reason) new = []
+due_by s None new = due_at_start s new
+
+-- these timers wait, and there are as many clients
+pub record LeavesClients (s : FacilityState) (due : List Timer) (v : FacilityView) : Type 0 where
+  pub waiting : v.waiting ≡ map (λ t. Expired t) due
   pub as_many : length v.state.numbers ≡ length s.numbers
 
-leaves : (s : FacilityState) (old new : Option Timer) (answer : Answer) (v : FacilityView) (w : Option Reason)
-    → IsAnswered w old new s answer v → LeavesClients s v
-leaves s old new answer v (Some reason) a = subst (LeavesClients s) (sym a.1) (record { waiting = refl; as_many = refl })
-leaves s old None answer v None a = subst (LeavesClients s) (sym a.1) (record { waiting = refl; as_many = refl })
-leaves s old (Some new) answer v None a = subst (LeavesClients s) (sym a.1) (record { waiting = refl; as_many = refl })
+pub leaves : (s : FacilityState) (old new : Option Timer) (answer : Answer) (v : FacilityView) (w : Option Reason)
+    → IsAnswered w old new s answer v → LeavesClients s (due_by s w new) v
+leaves s old new answer v (Some reason) a = subst (LeavesClients s []) (sym a.1) (record { waiting = refl; as_many = refl })
+leaves s old None answer v None a = subst (LeavesClients s []) (sym a.1) (record { waiting = refl; as_many = refl })
+leaves s old (Some new) answer v None a =
+    subst (LeavesClients s (due_at_start s (Some new))) (sym a.1) (record { waiting = refl; as_many = refl })
+
+-- the timers that are due with a request
+abbrev pub due_with : FacilityState → ℕ → ℕ → ModelRequest → List Timer
+due_with s client number request = due_by s (refusal s client request) (timer_started s client number request)
 
 pub answered-leaves : (s : FacilityState) (client number : ℕ) (request : ModelRequest) (answer : Answer) (v : FacilityView)
-    → HasAnswered s client number request answer v → LeavesClients s v
+    → HasAnswered s client number request answer v → LeavesClients s (due_with s client number request) v
 answered-leaves s client number request answer v a =
     leaves s (timer_stopped s client request) (timer_started s client number request) answer v (refusal s client request) a
+
+-- nothing is due with a timer that has some ticks left, if it is accepted
+answered-quiet : (s : FacilityState) (client number left action : ℕ) (old : Option Timer) (answer : Answer) (v : FacilityView)
+    (w : Option Reason) → (w ≡ None → 0 < left) → IsAnswered w old (Some (new_timer s client number left action)) s answer v
+    → v.waiting ≡ []
+answered-quiet s client number left action old answer v (Some reason) h a = ap (λ (u : FacilityView). u.waiting) a.1
+answered-quiet s client number left action old answer v None h a =
+    let some : 0 < left = h refl in
+    ap (λ (u : FacilityView). u.waiting) a.1 ∙ ap (map (λ t. Expired t)) (due_when_later s (new_timer s client number left action) (omega arith))
+
+-- so nothing waits after a request that is not for a tick
+pub answered-waiting : (s : FacilityState) (client number : ℕ) (request : Request) (answer : Answer) (v : FacilityView)
+    → HasAnswered s client number (model_of request) answer v → is_for_a_tick request ≡ false → v.waiting ≡ []
+answered-waiting s client number (Requests.Start interval action) answer v a h =
+    answered-quiet s client number interval action None answer v (start_refusal s interval)
+    (λ n. (timely s interval (startable s interval n).unrefused).positive) a
+answered-waiting s client number (Requests.StartAt deadline action) answer v a h = absurd (cc)
+answered-waiting s client number (Requests.Stop handle) answer v a h =
+    stop_waiting (name_refusal (timer_named s client (ByHandle handle))) (timer_named s client (ByHandle handle)) a
+  where
+    stop_waiting : (w : Option Reason) (old : Option Timer) → IsAnswered w old None s answer v → v.waiting ≡ []
+    stop_waiting (Some reason) old a = ap (λ (u : FacilityView). u.waiting) a.1
+    stop_waiting None old a = ap (λ (u : FacilityView). u.waiting) a.1
+answered-waiting s client number (Requests.Restart handle interval action) answer v a h =
+    let named : Option Timer = timer_named s client (ByHandle handle) in
+    answered-quiet s client number interval action named answer v (restart_refusal s client (ByHandle handle) interval)
+    (λ n. (timely s interval (neither (name_refusal named) (interval_refusal s interval) n).1).positive) a
+answered-waiting s client number (Requests.RestartAt handle deadline action) answer v a h = absurd (cc)
 
 -- the answer, and the state once the number is used up
 step_answered : (s : FacilityState) (client number : ℕ) (request : ModelRequest) (answer : Answer) (v : FacilityView)
     → (w : Option Reason) → IsAnswered w (timer_stopped s client request) (timer_started s client number request) s answer v
     → step_by s (Asked client number request) (accepted s (Asked client number request) (place_in answer)) (verdict_on_request None w)
-    ≡ answered client number answer v.state
+    ≡ answered client number answer (due_by s w (timer_started s client number request)) v.state
 step_answered s client number request answer v (Some reason) a = rw (a.0, a.1) refl
 step_answered s client number request answer v None a =
-    let after : FacilityState =
-    after_request (timer_stopped s client request) (timer_started s client number request) (place_in answer) s in
-    ap (λ (x : Answer). answered client number x after) (sym a.0)
-    ∙ ap (λ (u : FacilityView). answered client number answer u.state) (sym a.1)
+    let new : Option Timer = timer_started s client number request in
+    let after : FacilityState = after_request (timer_stopped s client request) new (place_in answer) s in
+    ap (λ (x : Answer). answered client number x (due_at_start s new) after) (sym a.0)
+    ∙ ap (λ (u : FacilityView). answered client number answer (due_at_start s new) u.state) (sym a.1)
 
 -- the request is taken once its number is used up
 pub taken-answered : (s : FacilityState) (client number : ℕ) (request : Request) (answer : Answer) (v new : FacilityView)
     → not_taken s client number ≡ None → HasAnswered s client number (model_of request) answer v
-    → new ≡ view_after (answered client number answer v.state) → IsTaken s client number request answer new
+    → new ≡ record v { state = with_number client number v.state } → IsTaken s client number request answer new
 taken-answered s client number request answer v new n a e =
-    let is : step s (event_of_request client number request) (place_in answer) ≡ answered client number answer v.state =
+    let due : List Timer = due_with s client number (model_of request) in
+    let waits : v.waiting ≡ map (λ t. Expired t) due = (answered-leaves s client number (model_of request) answer v a).waiting in
+    let is : step s (event_of_request client number request) (place_in answer) ≡ answered client number answer due v.state =
     rw n (step_answered s client number (model_of request) answer v (refusal s client (model_of request)) a) in
-    record { answered = ap (λ (st : StepResult). st.outs) is; left = e ∙ sym (ap view_after is) }
+    let wait_now : new.waiting ≡ map (λ t. Expired t) due = ap (λ (u : FacilityView). u.waiting) e ∙ waits in
+    record {
+      answered = ap (λ (st : StepResult). st.outs) is ∙ ap (λ os. Outs.Answered client number answer ∷ os)
+          (sym (ap notice_outs wait_now ∙ map-map (λ notice. Outs.Notice notice) (λ t. Expired t) due));
+      left = e ∙ ap (λ ns. let u : FacilityView = record { state = with_number client number v.state; waiting = ns } in u)
+          (waits ∙ sym (notices_in-map (λ t. Expired t) due)) ∙ sym (ap view_after is);
+    }

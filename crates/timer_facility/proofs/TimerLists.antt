@@ -48,6 +48,10 @@ pub filter_all : (p : Timer → Bool) (xs : List Timer) → AllByRecursion (λ x
 filter_all p [] a = refl
 filter_all p (x ∷ xs) a = rw a.0 (ap (λ r. x ∷ r) (filter_all p xs a.1))
 
+pub filter_none : (p : Timer → Bool) (xs : List Timer) → AllByRecursion (λ x. p x ≡ false) xs → filter p xs ≡ []
+filter_none p [] a = refl
+filter_none p (x ∷ xs) a = rw a.0 (filter_none p xs a.1)
+
 pub timers_of-put : (e : Entry) (es : List Entry) → timers_of (put e es) ≡ insert_newest e.timer (timers_of es)
 timers_of-put e [] = refl
 timers_of-put e (x ∷ xs) = elim (either (nat_lt e.timer.deadline x.timer.deadline)) [

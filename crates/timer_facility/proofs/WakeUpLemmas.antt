@@ -13,7 +13,7 @@ use Rattle.timer_facility.specs.Verdict.{tick_refusal}
 use Rattle.timer_facility.specs.Step.{StepResult, step_of_tick}
 use Rattle.timer_facility.specs.Run.{history, notices, notices_in, outs_of}
 use Rattle.timer_facility.specs.Ticked.{ticks}
-use Rattle.timer_facility.proofs.OwedLemmas.{notices_in-append}
+use Rattle.timer_facility.proofs.NoticeLists.{notices_in-append}
 use Rattle.timer_facility.proofs.TimerLists.{timers_of-filter}
 
 -- each of these timers has its deadline at the tick or after it

@@ -17,10 +17,11 @@ use Rattle.timer_facility.specs.declared.request.CloseFault.{CloseFault}
 use Rattle.timer_facility.specs.declared.request.CloseFault.TheVariants as CloseFaults
 use Rattle.timer_facility.specs.declared.request.Notice.{Notice}
 use Rattle.timer_facility.specs.declared.request.Notice.TheVariants.{Expired, Returned}
+use Rattle.timer_facility.specs.declared.event.Out.{Out}
 use Rattle.timer_facility.specs.declared.event.Out.TheVariants as Outs
 use Rattle.timer_facility.specs.State.{FacilityState, with_room, count_of, After, At, ByHandle, ModelRequest, Start, Stop, Restart, SingleEvent, Asked}
 use Rattle.timer_facility.specs.Verdict.{not_taken, refusal}
-use Rattle.timer_facility.specs.Step.{StepResult, timer_stopped, timer_started, answer_to, after_request, step}
+use Rattle.timer_facility.specs.Step.{StepResult, timer_stopped, timer_started, answer_to, due_at_start, after_request, step}
 use Rattle.timer_facility.specs.Run.{notices_in}
 
 pub record FacilityView : Type 0 where
@@ -35,6 +36,10 @@ view_after st = record { state = st.state; waiting = notices_in st.outs }
 -- a state in which no notice waits
 abbrev pub with_nothing_waiting : FacilityState → FacilityView
 with_nothing_waiting s = record { state = s; waiting = [] }
+
+-- a state in which these timers wait to be handed out, since they are due
+abbrev pub with_expiries : List Timer → FacilityState → FacilityView
+with_expiries due s = record { state = s; waiting = map (λ t. Expired t) due }
 
 -- the same view, and room was made
 abbrev pub view_with_room : FacilityView → FacilityView
@@ -59,11 +64,21 @@ place_in (Stopped serial) = 0
 place_in (Restarted handle deadline old) = handle.place
 place_in (Refused reason) = 0
 
--- the request is taken, with this answer and this view after it
+-- whether a request is for a tick, which may have passed
+abbrev pub is_for_a_tick : Request → Bool
+is_for_a_tick (Requests.StartAt deadline action) = true
+is_for_a_tick (Requests.RestartAt handle deadline action) = true
+is_for_a_tick _ = false
+
+-- the notices as outs
+abbrev pub notice_outs : List Notice → List Out
+notice_outs notices = map (λ (notice : Notice). Outs.Notice notice) notices
+
+-- the request is taken, with this answer and this view after it: its outs are the answer, and what waits then
 pub record IsTaken (s : FacilityState) (client number : ℕ) (request : Request) (answer : Answer)
     (new : FacilityView) : Type 0 where
   pub answered : (step s (event_of_request client number request) (place_in answer)).outs
-      ≡ Outs.Answered client number answer ∷ []
+      ≡ Outs.Answered client number answer ∷ notice_outs new.waiting
   pub left : new ≡ view_after (step s (event_of_request client number request) (place_in answer))
 
 -- the request is a start
@@ -93,7 +108,7 @@ abbrev pub IsAnswered : Option Reason → Option Timer → Option Timer → Faci
 IsAnswered (Some reason) old new s answer v = (answer ≡ Refused reason) × (v ≡ with_nothing_waiting s)
 IsAnswered None old new s answer v =
     (answer ≡ answer_to old new (place_in answer))
-    × (v ≡ with_nothing_waiting (after_request old new (place_in answer) s))
+    × (v ≡ with_expiries (due_at_start s new) (after_request old new (place_in answer) s))
 
 -- the same of a request of the model
 abbrev pub HasAnswered : FacilityState → ℕ → ℕ → ModelRequest → Answer → FacilityView → Type 0

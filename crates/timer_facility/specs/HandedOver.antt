@@ -10,10 +10,11 @@ use Rattle.timer_facility.specs.Owed.{timer_handed}
 abbrev pub timers_handed : StepResult → List Timer
 timers_handed st = map timer_handed (notices_in st.outs)
 
--- at most one more timer of this client is pending, and none more of another
-pub record AddsAtMostOne (client : ℕ) (s t : FacilityState) : Type 0 where
-  pub of_client : (c : ℕ) → pending_of t c ≤ pending_of s c + (if client == c then 1 else 0)
-  pub all : length t.pending ≤ length s.pending + 1
+-- of the timers that are pending or handed out after a step, at most one was not pending before, and it is this client's
+pub record AddsAtMostOne (client : ℕ) (s : FacilityState) (st : StepResult) : Type 0 where
+  pub of_client : (c : ℕ) → pending_of st.state c + count_of c (timers_handed st)
+      ≤ pending_of s c + (if client == c then 1 else 0)
+  pub all : length st.state.pending + length (timers_handed st) ≤ length s.pending + 1
 
 -- what is handed out was pending, and is no longer pending
 pub record HandsOver (s : FacilityState) (st : StepResult) : Type 0 where

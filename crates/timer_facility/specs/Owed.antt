@@ -2,10 +2,10 @@
 -- outs.
 --
 -- A history is a list of events, each with its outs. `owed s h`, for a history h that begins in state s, is
--- for each accepted tick in turn the timers due at it, as `Expired`; then, if h has an accepted close, all
--- other timers that were started and not stopped, by deadline and then serial, as `Returned`. It keeps no
--- list of pending timers: it filters the timers started by the serials stopped. The lemma `notices_are_owed`
--- states that the notices of every run are what is owed for it.
+-- for the first tick and each accepted one in turn the timers due at it, as `Expired`; then, if h has an
+-- accepted close, all other timers that were started and not stopped, by deadline and then serial, as
+-- `Returned`. It keeps no list of pending timers: it filters the timers started by the serials stopped. The
+-- lemma `notices_are_owed` states that the notices of every run are what is owed for it.
 use Rattle.std.specs.Prelude.{◌≡◌, ◌<◌, ◌≤◌, ℕ, zero, suc, ◌+◌, Bool, true, false, ◌&&◌, ◌||◌, ◌==◌, not, nat_lt, if◌then◌else◌, List, [], ◌∷◌, ◌++◌, map, filter}
 use Rattle.std.specs.List.{AllByRecursion}
 use Rattle.timer_base.specs.declared.timer.Timer.{Timer}
@@ -124,9 +124,10 @@ abbrev pub left_after : FacilityState → List HistoryEntry → ℕ → List Tim
 left_after s hs tick = timers_in_order (filter (λ t.
     nat_lt tick t.deadline && not (is_among t.serial (stopped hs))) (started s hs))
 
--- what is due at each of the first n ticks after s in turn
+-- what is due at the tick of s, and at each of the first n ticks after it in turn. At the tick of s only timers are due
+-- that were started since, for a tick that had passed
 abbrev pub owed_by_ticks : FacilityState → List HistoryEntry → ℕ → List Notice
-owed_by_ticks s hs zero = []
+owed_by_ticks s hs zero = map (λ t. Expired t) (due s hs s.now)
 owed_by_ticks s hs (suc n) = owed_by_ticks s hs n ++ map (λ t. Expired t) (due s hs (s.now + suc n))
 
 -- at a close, all others
@@ -134,8 +135,8 @@ abbrev pub owed_by_close : FacilityState → List HistoryEntry → Bool → List
 owed_by_close s hs false = []
 owed_by_close s hs true = map (λ t. Returned t) (left_after s hs (s.now + accepted_ticks hs))
 
--- what is owed for a history that begins in s: at each accepted tick what is due, at an accepted close all
--- others
+-- what is owed for a history that begins in s: at its first tick and at each accepted one what is due, at an
+-- accepted close all others
 abbrev pub owed : FacilityState → List HistoryEntry → List Notice
 owed s hs = owed_by_ticks s hs (accepted_ticks hs) ++ owed_by_close s hs (has_closed hs)
 
@@ -156,13 +157,13 @@ pub record AreAllHandedOut (s : FacilityState) (hs : List HistoryEntry) : Type 0
   pub returned : (t : Timer) → IsMember t (started s hs) → is_among t.serial (stopped hs) ≡ false
       → s.now + accepted_ticks hs < t.deadline → has_closed hs ≡ true → IsMember (Returned t) (notices hs)
 
--- the deadline is one of the first n ticks after now
+-- the deadline is now or one of the first n ticks after it
 abbrev pub is_due_within : ℕ → ℕ → Timer → Bool
-is_due_within now zero t = false
+is_due_within now zero t = t.deadline == now
 is_due_within now (suc n) t = is_due_within now n t || (t.deadline == now + suc n)
 
--- of the started timers the others: those that were not due at any accepted tick and were not stopped, by
--- deadline and then by serial
+-- of the started timers the others: those that were not due at the first tick or at any accepted one, and were not
+-- stopped, by deadline and then by serial
 abbrev pub others : FacilityState → List HistoryEntry → List Timer
 others s hs = timers_in_order (filter (λ t. not (is_due_within s.now (accepted_ticks hs) t) && not
     (is_among t.serial (stopped hs))) (started s hs))

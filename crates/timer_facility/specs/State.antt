@@ -1,5 +1,5 @@
 -- The abstract state of a facility, and single events.
-use Rattle.std.specs.Prelude.{◌<◌, ◌≤◌, ◌==◌, ℕ, ◌+◌, ◌-◌, Bool, true, if◌then◌else◌, List, [], ◌∷◌, length, slice_index}
+use Rattle.std.specs.Prelude.{◌<◌, ◌≤◌, ◌==◌, ℕ, ◌+◌, ◌-◌, max, Bool, true, if◌then◌else◌, List, [], ◌∷◌, length, slice_index}
 use Rattle.std.specs.List.{AllByRecursion}
 use Rattle.timer_base.specs.declared.limits.TheConstants.{LAST}
 use Rattle.timer_base.specs.declared.timer.Timer.{Timer}
@@ -57,6 +57,12 @@ pub data Deadline : Type 0 where
 abbrev pub ticks_until : FacilityState → Deadline → ℕ
 ticks_until s (After interval) = interval
 ticks_until s (At tick) = tick - s.now
+
+-- with which interval a deadline is tested: that of the next tick, if it is not after the present one. So a deadline
+-- that has passed is refused exactly as one at the next tick would be
+abbrev pub interval_until : FacilityState → Deadline → ℕ
+interval_until s (After interval) = interval
+interval_until s (At tick) = max 1 (tick - s.now)
 
 -- how a request names a timer
 pub data Name : Type 0 where

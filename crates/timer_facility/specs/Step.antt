@@ -1,8 +1,9 @@
--- One event: its outs, and the state after it. An event that the verdict refuses changes at most a number.
-use Rattle.std.specs.Prelude.{ℕ, ◌+◌, Bool, true, List, [], ◌∷◌, Option, Some, None, if◌then◌else◌, map, filter, length, slice_set}
+-- One event: its outs, and the state after it. An event that the verdict refuses changes at most a number. A timer that
+-- is started for a tick that has passed is due at once: its notice follows the answer, and it is never pending.
+use Rattle.std.specs.Prelude.{ℕ, ◌+◌, Bool, true, nat_lt, List, [], ◌∷◌, Option, Some, None, if◌then◌else◌, map, filter, length, slice_set}
 use Rattle.timer_base.specs.declared.timer.Timer.{Timer}
 use Rattle.timer_base.specs.declared.timer.Handle.{Handle}
-use Rattle.timer_base.specs.Pending.{timers_of, put, is_due_at, without_found, entries_left}
+use Rattle.timer_base.specs.Pending.{Entry, timers_of, put, is_due_at, without_found, entries_left}
 use Rattle.timer_facility.specs.declared.request.Reason.TheVariants.{NoSuch}
 use Rattle.timer_facility.specs.declared.request.Answer.{Answer}
 use Rattle.timer_facility.specs.declared.request.Answer.TheVariants.{Started, Stopped, Restarted, Refused}
@@ -22,10 +23,14 @@ pub record StepResult : Type 0 where
 abbrev pub with_number : ℕ → ℕ → FacilityState → FacilityState
 with_number client number s = record s { numbers = slice_set s.numbers client (number + 1) }
 
--- a request that is taken: its answer, and its number used up
-abbrev pub answered : ℕ → ℕ → Answer → FacilityState → StepResult
-answered client number answer s = record {
-  outs = Outs.Answered client number answer ∷ [];
+-- the notices of timers that expire
+abbrev pub expiries : List Timer → List Out
+expiries ts = map (λ t. Outs.Notice (Expired t)) ts
+
+-- a request that is taken: its answer, the notices of the timers that are due with it, and its number used up
+abbrev pub answered : ℕ → ℕ → Answer → List Timer → FacilityState → StepResult
+answered client number answer due s = record {
+  outs = Outs.Answered client number answer ∷ expiries due;
   state = with_number client number s;
 }
 
@@ -34,11 +39,11 @@ answered client number answer s = record {
 abbrev pub refused : FacilityState → SingleEvent → Refusal → StepResult
 refused s (Asked client number request) (RequestNotTaken reason) =
     record { outs = Outs.NotTaken client number reason ∷ []; state = s }
-refused s (Asked client number request) (RequestRefused reason) = answered client number (Refused reason) s
+refused s (Asked client number request) (RequestRefused reason) = answered client number (Refused reason) [] s
 refused s event (TickRefused fault) = record { outs = Outs.TickRefused fault ∷ []; state = s }
 refused s event _ = record { outs = Outs.CloseRefused ∷ []; state = s }
 
--- the timer that an accepted start or restart makes
+-- the timer that an accepted start or restart makes; `interval` is 0 if it is due at once
 abbrev pub new_timer : FacilityState → ℕ → ℕ → ℕ → ℕ → Timer
 new_timer s client number interval action = record {
   serial = s.next_serial;
@@ -78,11 +83,20 @@ answer_to None None place = Refused NoSuch
 abbrev pub without_timer : Option Timer → FacilityState → FacilityState
 without_timer old s = record s { pending = without_found old s.pending }
 
--- the timer is pending at the place, and its serial is used up, if there is one
+-- the timer that is due at once, if there is one
+abbrev pub due_at_start : FacilityState → Option Timer → List Timer
+due_at_start s None = []
+due_at_start s (Some new) = if nat_lt s.now new.deadline then [] else new ∷ []
+
+-- the entries with one more, if it is of a later tick than now
+abbrev pub put_later : ℕ → Entry → List Entry → List Entry
+put_later now entry entries = if nat_lt now entry.timer.deadline then put entry entries else entries
+
+-- the timer is pending at the place unless it is due at once, and its serial is used up, if there is one
 abbrev pub with_timer : Option Timer → ℕ → FacilityState → FacilityState
 with_timer None place s = s
 with_timer (Some new) place s = record s {
-  pending = put (record { place = place; timer = new }) s.pending;
+  pending = put_later s.now (record { place = place; timer = new }) s.pending;
   next_serial = s.next_serial + 1;
 }
 
@@ -99,9 +113,10 @@ abbrev pub accepted : FacilityState → SingleEvent → ℕ → StepResult
 accepted s (Asked client number request) place =
     answered client number
     (answer_to (timer_stopped s client request) (timer_started s client number request) place)
+    (due_at_start s (timer_started s client number request))
     (after_request (timer_stopped s client request) (timer_started s client number request) place s)
 accepted s Tick place = record {
-  outs = map (λ t. Outs.Notice (Expired t)) (expired_next s);
+  outs = expiries (expired_next s);
   -- what is due at it is no longer pending
   state = record s { now = s.now + 1; pending = entries_left (s.now + 1) s.pending };
 }

@@ -9,7 +9,7 @@ use Rattle.timer_facility.specs.declared.request.Reason.{Reason}
 use Rattle.timer_facility.specs.declared.request.Reason.TheVariants.{ZeroInterval, TooLate, SerialsSpent, Full, NoSuch}
 use Rattle.timer_facility.specs.declared.request.TickFault.{TickFault}
 use Rattle.timer_facility.specs.declared.request.TickFault.TheVariants as TickFaults
-use Rattle.timer_facility.specs.State.{FacilityState, number_of, ticks_until, Name, ByHandle, BySerial, ModelRequest, Start, Stop, Restart, SingleEvent, Asked, Tick, Close}
+use Rattle.timer_facility.specs.State.{FacilityState, number_of, interval_until, Name, ByHandle, BySerial, ModelRequest, Start, Stop, Restart, SingleEvent, Asked, Tick, Close}
 
 -- why a request is not taken, if it is not taken: the first test that holds
 unfoldable pub not_taken : FacilityState → ℕ → ℕ → Option NotTaken
@@ -62,12 +62,16 @@ abbrev pub name_refusal : Option Timer → Option Reason
 name_refusal None = Some NoSuch
 name_refusal (Some t) = None
 
--- why a request that is taken is refused, if it is refused; a restart needs no room
+-- why a restart of the timer with this name is refused with this interval, if it is refused; it needs no room
+abbrev pub restart_refusal : FacilityState → ℕ → Name → ℕ → Option Reason
+restart_refusal s client name interval =
+    first_refusal (name_refusal (timer_named s client name)) (interval_refusal s interval)
+
+-- why a request that is taken is refused, if it is refused
 abbrev pub refusal : FacilityState → ℕ → ModelRequest → Option Reason
-refusal s client (Start deadline action) = start_refusal s (ticks_until s deadline)
+refusal s client (Start deadline action) = start_refusal s (interval_until s deadline)
 refusal s client (Stop name) = name_refusal (timer_named s client name)
-refusal s client (Restart name deadline action) =
-    first_refusal (name_refusal (timer_named s client name)) (interval_refusal s (ticks_until s deadline))
+refusal s client (Restart name deadline action) = restart_refusal s client name (interval_until s deadline)
 
 -- why a tick is refused, if it is refused: the first test that holds
 unfoldable pub tick_refusal : FacilityState → Option TickFault

@@ -1,22 +1,24 @@
 //! The facility over any wheel: clients, their next numbers, and what waits to be handed out.
 //!
-//! A tick or a close leaves timers that wait to be handed out; the owner takes them by `next_out` until
-//! none waits, and only then makes the next call. Expired timers stay in the wheel, which hands them out
-//! by serial. A close moves the timers to a list of their own, and the wheel is empty then.
-ghost use Rattle.std.specs.Prelude.{◌≡◌, false, ℕ, ◌+◌, ◌-◌, ◌<◌, ◌≤◌, ◌↔◌, [], length, drop, slice_get, slice_index, slice_set, IsTrue, IfSome, IfOk, IfErr, OnErr, OnOk, MatchResult, if◌then◌else◌, nat_lt, vec_capacity};
+//! A tick or a close leaves timers that wait to be handed out, and so does a start for a tick that has passed. The
+//! owner takes them by `next_out` until none waits, and only then makes the next call. Expired timers stay in the
+//! wheel, which hands them out by serial. A close moves the timers to a list of their own, and the wheel is empty
+//! then.
+ghost use Rattle.std.specs.Prelude.{◌≡◌, false, None, Some, ℕ, ◌+◌, ◌-◌, ◌<◌, ◌≤◌, ◌↔◌, [], length, drop, slice_get, slice_index, slice_set, IsTrue, IfSome, IfOk, IfErr, OnErr, OnOk, MatchResult, if◌then◌else◌, nat_lt, vec_capacity};
+ghost use Rattle.timer_base.specs.declared.limits.TheConstants.{LAST};
 ghost use Rattle.timer_base.specs.Pending.{timers_of};
 ghost use Rattle.timer_base.specs.WheelState.{after_clear};
 ghost use Rattle.timer_base.specs.WakeUps.{IsQuietUntil, next_deadline};
 ghost use Rattle.timer_facility.specs.declared.limits.TheConstants.{MAX_CLIENTS};
-ghost use Rattle.timer_facility.specs.State.{FacilityState, IsSound, After, At, ByHandle, Start, Stop, Restart, Tick, Close, number_of, pending_of, ticks_until};
-ghost use Rattle.timer_facility.specs.Verdict.{not_taken, timer_named, start_refusal, interval_refusal, refusal, tick_refusal, TickRefused, verdict};
+ghost use Rattle.timer_facility.specs.State.{FacilityState, IsSound, At, ByHandle, Stop, Tick, Close, number_of, pending_of, ticks_until};
+ghost use Rattle.timer_facility.specs.Verdict.{not_taken, timer_named, start_refusal, restart_refusal, interval_refusal, refusal, tick_refusal, TickRefused, verdict};
 ghost use Rattle.timer_facility.specs.Refused.{verdict_on_close};
 ghost use Rattle.timer_facility.specs.Step.{step, new_timer};
 ghost use Rattle.timer_facility.specs.Owed.{timer_handed};
 ghost use Rattle.timer_facility.specs.Opened.{opened};
 ghost use Rattle.timer_facility.specs.Handles.{is_pending};
 ghost use Rattle.timer_facility.specs.Ticked.{AreTicked};
-ghost use Rattle.timer_facility.specs.Facility.{FacilityView, view_of, view_after, view_with_room, with_nothing_waiting, NoRoomToClose, IsTaken, IsNotTaken, Fields, IsFacility, model_of, IsStart, HasAnswered};
+ghost use Rattle.timer_facility.specs.Facility.{FacilityView, view_of, view_after, view_with_room, with_nothing_waiting, NoRoomToClose, IsTaken, IsNotTaken, Fields, IsFacility, model_of, is_for_a_tick, IsStart, IsAnswered, HasAnswered};
 
 use crate::config::Checked;
 use crate::limits::CLIENTS;
@@ -219,13 +221,15 @@ impl<W: Wheel + Drop> Facility<W> {
     /// A request that is not taken changes nothing. One that is refused with a `Reason` uses up its
     /// number and nothing else. Only an accepted start allocates, and after a `reserve` that returned Ok none
     /// is out of memory. The place in a `Started` or `Restarted` is a free choice of the wheel. No timer may
-    /// wait to be handed out.
+    /// wait to be handed out. Afterwards one waits exactly if it was started for a tick that has passed, by `StartAt`
+    /// or `RestartAt`.
     #[inline(always)]
     pub fn take(&mut self, client: u64, number: u64, request: Request) -> Result<Answer, NotTaken>
         requires { self.old.waiting ≡ [] }
-        ensures { MatchResult result
+        ensures taken { MatchResult result
             (λ answer. IsTaken self.old.state client number request answer self.new)
             (λ reason. IsNotTaken self.old client number request reason self.new) }
+        ensures quiet { is_for_a_tick request ≡ false → self.new.waiting ≡ [] }
     {
         if let Err(reason) = self.admit(client, number) {
             return Err(reason);
@@ -390,42 +394,45 @@ impl<W: Wheel + Drop> Facility<W> {
     {
         match request {
             Request::Start { interval, action } => self.take_start(
-                client, number, interval, action,
+                client, number, interval, interval, action,
             ),
             Request::StartAt { deadline, action } => {
-                let interval = self.ticks_until(deadline);
-                self.take_start(client, number, interval, action)
+                let left = self.ticks_until(deadline);
+                self.take_start(client, number, left.max(1), left, action)
             }
             Request::Stop(handle) => Ok(self.take_stop(client, handle)),
             Request::Restart {
                 handle,
                 interval,
                 action,
-            } => Ok(self.restart(client, number, handle, interval, action)),
+            } => Ok(self.restart(client, number, handle, interval, interval, action)),
             Request::RestartAt {
                 handle,
                 deadline,
                 action,
             } => {
-                let interval = self.ticks_until(deadline);
-                Ok(self.restart(client, number, handle, interval, action))
+                let left = self.ticks_until(deadline);
+                Ok(self.restart(client, number, handle, left.max(1), left, action))
             }
         }
     }
 
-    /// A start that is taken.
+    /// A start that is taken, of a timer that is due in `left` ticks. It is tested as one with `interval`, which
+    /// is `left`, or 1 if the deadline has passed.
     #[inline(always)]
     fn take_start(
         &mut self,
         client: u64,
         number: u64,
         interval: u64,
+        left: u64,
         action: u64,
     ) -> Result<Answer, OutOfMemory>
         requires waiting { self.old.waiting ≡ [] }
         requires client { client < length self.old.state.numbers }
-        ensures answered { IfOk result (λ answer.
-            HasAnswered self.old.state client number (Start (After interval) action) answer self.new) }
+        requires left { left ≤ interval }
+        ensures answered { IfOk result (λ answer. IsAnswered (start_refusal self.old.state interval) None
+            (Some (new_timer self.old.state client number left action)) self.old.state answer self.new) }
         ensures accepted { OnErr result (start_refusal self.old.state interval ≡ None) }
         ensures room { OnErr result (self.old.state.has_room ≡ false) }
         ensures err { OnErr result (self.new ≡ self.old) }
@@ -433,7 +440,7 @@ impl<W: Wheel + Drop> Facility<W> {
         if let Some(reason) = self.start_refusal(interval) {
             return Ok(Answer::Refused(reason));
         }
-        let timer = self.new_timer(client, number, interval, action);
+        let timer = self.new_timer(client, number, left, action);
         let Ok(handle) = self.wheel.start(timer) else {
             return Err(OutOfMemory);
         };
@@ -445,16 +452,16 @@ impl<W: Wheel + Drop> Facility<W> {
         })
     }
 
-    /// The timer that a start with this interval makes, if the interval is not refused.
-    fn new_timer(&self, client: u64, number: u64, interval: u64, action: u64) -> Timer
-        requires { interval_refusal self.now.state interval ≡ None }
-        ensures { result ≡ new_timer self.now.state client number interval action }
+    /// The timer of a start that is due in `left` ticks.
+    fn new_timer(&self, client: u64, number: u64, left: u64, action: u64) -> Timer
+        requires { self.now.state.now + left ≤ LAST }
+        ensures { result ≡ new_timer self.now.state client number left action }
     {
         Timer {
             serial: self.next_serial,
             client,
             number,
-            deadline: self.wheel.now() + interval,
+            deadline: self.wheel.now() + left,
             action,
         }
     }
@@ -538,27 +545,33 @@ impl<W: Wheel + Drop> Facility<W> {
         number: u64,
         handle: Handle,
         interval: u64,
+        left: u64,
         action: u64,
     ) -> Answer
-        requires { self.old.waiting ≡ [] }
-        ensures { HasAnswered self.old.state client number (Restart (ByHandle handle) (After interval) action)
-            result self.new }
+        requires waiting { self.old.waiting ≡ [] }
+        requires left { left ≤ interval }
+        ensures { IsAnswered (restart_refusal self.old.state client (ByHandle handle) interval)
+            (timer_named self.old.state client (ByHandle handle))
+            (Some (new_timer self.old.state client number left action)) self.old.state result self.new }
     {
-        self.take_restart(client, number, handle, interval, action)
+        self.take_restart(client, number, handle, interval, left, action)
     }
 
-    /// A restart that is taken. Does not allocate.
+    /// A restart that is taken. `interval` and `left` are as in a start. Does not allocate.
     fn take_restart(
         &mut self,
         client: u64,
         number: u64,
         handle: Handle,
         interval: u64,
+        left: u64,
         action: u64,
     ) -> Answer
-        requires { self.old.waiting ≡ [] }
-        ensures { HasAnswered self.old.state client number (Restart (ByHandle handle) (After interval) action)
-            result self.new }
+        requires waiting { self.old.waiting ≡ [] }
+        requires left { left ≤ interval }
+        ensures { IsAnswered (restart_refusal self.old.state client (ByHandle handle) interval)
+            (timer_named self.old.state client (ByHandle handle))
+            (Some (new_timer self.old.state client number left action)) self.old.state result self.new }
     {
         let Some(old) = self.find_named(client, handle) else {
             return Answer::Refused(Reason::NoSuch);
@@ -566,7 +579,7 @@ impl<W: Wheel + Drop> Facility<W> {
         if let Some(reason) = self.interval_refusal(interval) {
             return Answer::Refused(reason);
         }
-        let timer = self.new_timer(client, number, interval, action);
+        let timer = self.new_timer(client, number, left, action);
         let Some((handle, _)) = self.wheel.restart(handle, timer) else {
             unreachable!()
         };

@@ -87,10 +87,10 @@ pub fn nothing_comes_after_the_close()
         → (notices_in (run s placed).outs ≡ []) × ((run s placed).state ≡ s) }
 {}
 
-/// A request adds at most one pending timer to those of its client, and none to those of another.
+/// A request adds at most one timer to those of its client, pending or handed out, and none to those of another.
 pub fn a_request_adds_at_most_one()
     ensures { (s : FacilityState) (client number : ℕ) (request : ModelRequest) (place : ℕ)
-        → AddsAtMostOne client s (step s (Asked client number request) place).state }
+        → AddsAtMostOne client s (step s (Asked client number request) place) }
 {}
 
 /// What a tick or a close hands out was pending, and is no longer pending.

@@ -3,11 +3,11 @@
 //! Memory for all that an event can produce is reserved before the event: one out and one handle for a
 //! request, and one notice for each pending timer. After that only the facility's own call can fail,
 //! which then has changed nothing. So an event is played whole or not at all.
-ghost use Rattle.std.specs.Prelude.{◌≡◌, ◌<◌, ◌≤◌, ◌+◌, ◌*◌, ◌++◌, ◌∷◌, ◌↔◌, ℕ, List, [], None, length, map, take, IsTrue, IfSome, IfOk, IfErr, OnErr, OnOk, vec_len, vec_capacity};
+ghost use Rattle.std.specs.Prelude.{◌≡◌, ◌<◌, ◌≤◌, ◌+◌, ◌*◌, ◌++◌, ◌∷◌, ◌↔◌, ℕ, false, List, [], None, length, map, take, IsTrue, IfSome, IfOk, IfErr, OnErr, OnOk, vec_len, vec_capacity};
 ghost use Rattle.timer_facility.specs.State.{FacilityState, IsSound, Tick, Close};
 ghost use Rattle.timer_facility.specs.Verdict.{tick_refusal};
 ghost use Rattle.timer_facility.specs.Step.{step};
-ghost use Rattle.timer_facility.specs.Facility.{with_nothing_waiting, event_of_request};
+ghost use Rattle.timer_facility.specs.Facility.{with_nothing_waiting, event_of_request, is_for_a_tick};
 ghost use Rattle.timer_facility.specs.Played.{IsPlayed, MakesStep, AddsRun};
 ghost use Rattle.timer_facility.specs.Handles.{HandleList, AreRecorded};
 ghost use Rattle.timer_facility.specs.declared.handles.TheConstants.{SPARE};
@@ -216,7 +216,7 @@ impl<W: Wheel + Drop> Player<W> {
         }
     }
 
-    /// Plays a request, and keeps the handle of the timer that it started.
+    /// Plays a request that is not for a tick, and keeps the handle of the timer that it started.
     #[inline(always)]
     fn play_request(
         &mut self,
@@ -224,6 +224,7 @@ impl<W: Wheel + Drop> Player<W> {
         number: u64,
         request: Request,
     ) -> Result<Out, OutOfMemory>
+        requires { is_for_a_tick request ≡ false }
         ensures ok { IfOk result (λ out. MakesStep self.old (event_of_request client number request) []
             (out ∷ []) self.new) }
         ensures err { OnErr result (self.new ≡ self.old) }

@@ -10,7 +10,9 @@ pub enum Request {
         action: u64,
     },
     /// Start a timer that expires at the tick `deadline`: as `Start` with the interval that is left until then
-    /// when the request is taken. So a deadline that is not after the present tick is refused as `ZeroInterval`.
+    /// when the request is taken. If the deadline is not after the present tick, the timer is due at once: its
+    /// deadline is the present tick, and its notice follows the answer. Such a start is refused exactly if one for
+    /// the next tick would be.
     StartAt {
         deadline: u64,
         action: u64,
@@ -24,7 +26,7 @@ pub enum Request {
         action: u64,
     },
     /// Stop the timer with this handle and start another in its place that expires at the tick `deadline`: as
-    /// `Restart` with the interval that is left until then when the request is taken.
+    /// `Restart` with the interval that is left until then when the request is taken, and due at once as by `StartAt`.
     RestartAt {
         handle: Handle,
         deadline: u64,
@@ -59,9 +61,9 @@ pub enum Answer {
 /// restart against the last one and then the first three, and it is never `Full`.
 #[derive(Clone, Copy, Debug, PartialEq, Eq)]
 pub enum Reason {
-    /// The interval is 0, or the deadline is not after the present tick.
+    /// The interval is 0. It is never the reason for a start or restart that is given a deadline.
     ZeroInterval,
-    /// The deadline would be after the last tick.
+    /// The deadline would be after the last tick; or it has passed, and the clock is at its last tick.
     TooLate,
     /// All serials are used up.
     SerialsSpent,

@@ -50,6 +50,7 @@ pub fn locked<'a, R: Wait>(
 fn word(number: u64) -> Word {
     Word::Answered {
         number,
+        action: 0,
         answer: Answer::Stopped { serial: number },
     }
 }

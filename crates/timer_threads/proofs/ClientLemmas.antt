@@ -166,8 +166,8 @@ not_both_test a b false h l e = grind (arith, nat_tests)
 AreChecked-more : (c : Client) (ws : List Word) (w : Word) → ArePassed c.first c.count ws
     → length (started_by ws) ≡ c.started → length (expired_by ws) ≡ c.expired → c.last ≡ last_or None (expired_by ws)
     → AreChecked (not (passes c w)) c.first c.count (ws ++ w ∷ [])
-AreChecked-more c ws (Words.Answered number (Answers.Started handle deadline)) was started expired last =
-    let w : Word = Words.Answered number (Answers.Started handle deadline) in
+AreChecked-more c ws (Words.Answered number action (Answers.Started handle deadline)) was started expired last =
+    let w : Word = Words.Answered number action (Answers.Started handle deadline) in
     checked_by (nat_lt c.started c.count && (number == c.first + c.started)) c.first c.count ws w was
     (λ p.
     let b = both_test c.started c.count (number == c.first + c.started) p in
@@ -176,14 +176,14 @@ AreChecked-more c ws (Words.Answered number (Answers.Started handle deadline)) w
     (λ p now.
     let b = start_passed c.first c.count ws w number (are_with ws w) now in
     not_both_test c.started c.count (number == c.first + c.started) p (omega (arith, started, b.0)) (grind (arith, nat_tests, b.1, started)))
-AreChecked-more c ws (Words.Answered number (Answers.Stopped serial)) was started expired last =
-    other_fails c.first c.count ws (Words.Answered number (Answers.Stopped serial)) refl refl was
-AreChecked-more c ws (Words.Answered number (Answers.Restarted handle deadline old)) was started expired last =
-    other_fails c.first c.count ws (Words.Answered number (Answers.Restarted handle deadline old)) refl refl was
-AreChecked-more c ws (Words.Answered number (Answers.Refused reason)) was started expired last =
-    other_fails c.first c.count ws (Words.Answered number (Answers.Refused reason)) refl refl was
-AreChecked-more c ws (Words.NotTaken number reason) was started expired last =
-    other_fails c.first c.count ws (Words.NotTaken number reason) refl refl was
+AreChecked-more c ws (Words.Answered number action (Answers.Stopped serial)) was started expired last =
+    other_fails c.first c.count ws (Words.Answered number action (Answers.Stopped serial)) refl refl was
+AreChecked-more c ws (Words.Answered number action (Answers.Restarted handle deadline old)) was started expired last =
+    other_fails c.first c.count ws (Words.Answered number action (Answers.Restarted handle deadline old)) refl refl was
+AreChecked-more c ws (Words.Answered number action (Answers.Refused reason)) was started expired last =
+    other_fails c.first c.count ws (Words.Answered number action (Answers.Refused reason)) refl refl was
+AreChecked-more c ws (Words.NotTaken number action reason) was started expired last =
+    other_fails c.first c.count ws (Words.NotTaken number action reason) refl refl was
 AreChecked-more c ws (Words.Notice (Notices.Returned timer)) was started expired last =
     other_fails c.first c.count ws (Words.Notice (Notices.Returned timer)) refl refl was
 AreChecked-more c ws (Words.Notice (Notices.Expired timer)) was started expired last =

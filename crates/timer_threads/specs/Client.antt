@@ -16,7 +16,7 @@ use Rattle.timer_threads.specs.Work.{requests_from, started_in, expired_in, star
 -- whether the word satisfies the client's checks: it is the next `Started` answer, or a timer after the last one, and
 -- no more than are to come
 abbrev pub passes : Client → Word → Bool
-passes c (Words.Answered number (Answers.Started handle deadline)) =
+passes c (Words.Answered number action (Answers.Started handle deadline)) =
     nat_lt c.started c.count && (number == c.first + c.started)
 passes c (Words.Notice (Notices.Expired timer)) = nat_lt c.expired c.count && follows c.last timer
 passes c word = false

@@ -30,7 +30,7 @@ requests_from first sent = map (request_of first) (range_with_len 1 sent)
 
 -- the number of the request that started a timer, by this word
 abbrev pub started_in : Word → List ℕ
-started_in (Words.Answered number (Answers.Started handle deadline)) = number ∷ []
+started_in (Words.Answered number action (Answers.Started handle deadline)) = number ∷ []
 started_in word = []
 
 -- the timer that expired, by this word

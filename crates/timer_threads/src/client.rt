@@ -171,6 +171,7 @@ impl Client {
             Word::Answered {
                 number,
                 answer: Answer::Started { .. },
+                ..
             } => {
                 self.failed = self.started >= self.count || !self.is_next(number);
                 self.started += 1;

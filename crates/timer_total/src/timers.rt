@@ -1,5 +1,5 @@
 //! A wheel whose calls, once it is made, have no preconditions.
-ghost use Rattle.std.specs.Prelude.{◌≡◌, ◌+◌, ◌<◌, ◌≤◌, ◌↔◌, ◌⊎◌, ℕ, [], length, IsTrue, IfOk, IfErr, OnOk, OnErr, None, Some};
+ghost use Rattle.std.specs.Prelude.{◌≡◌, ◌+◌, ◌<◌, ◌≤◌, ◌↔◌, ◌⊎◌, ℕ, [], length, IsTrue, IfOk, IfErr, OnOk, OnErr, None, Some, true, false};
 ghost use Rattle.timer_base.specs.declared.limits.TheConstants.{LAST};
 ghost use Rattle.timer_base.specs.WakeUps.{IsQuietUntil, next_deadline};
 ghost use Rattle.timer_base.specs.WheelState.{held_at, first_due, after_start, after_held_start, after_removal, after_reserve, after_tick, after_expiry};
@@ -198,6 +198,7 @@ impl<W: Wheel + Drop> Timers<W> {
     ///
     /// A passed deadline is accepted exactly if the next tick is. So the error is never `ZeroInterval`, and
     /// at the last tick it is `TooLate` for each deadline. Otherwise the errors are those of `start`.
+    #[inline(always)]
     pub fn start_at(&mut self, deadline: u64, action: u64) -> Result<Handle, StartFault>
         ensures started { IfOk result (λ handle. self.new ≡ with_start W.count_start
             (after_start_at handle.place deadline action self.old.wheel self.old) self.old) }
@@ -208,9 +209,31 @@ impl<W: Wheel + Drop> Timers<W> {
             × IsRoomUsed self.old)) }
         ensures err { OnErr result (self.new ≡ self.old) }
     {
-        self.admit(self.until(deadline).max(1))?;
-        let deadline = self.wheel.now().max(deadline);
-        self.launch(deadline, action)
+        // One test of the deadline, and in each branch one more: none has to be found first that is not passed.
+        let now = self.wheel.now();
+        if deadline > now {
+            self.admit_at(deadline > self.wheel.last_tick())?;
+            self.launch(deadline, action)
+        } else {
+            self.admit_at(now >= self.wheel.last_tick())?;
+            self.launch(now, action)
+        }
+    }
+
+    /// Whether a start is accepted if memory is available, once it is known whether its deadline is too late.
+    #[inline(always)]
+    fn admit_at(&self, is_too_late: bool) -> Result<(), StartFault>
+        ensures in_order { IfOk result (λ _. (is_too_late ≡ false) × (self.now.last_serial < LAST)) }
+        ensures fault { IfErr result (λ fault. ((fault ≡ StartFault.TooLate) × (is_too_late ≡ true))
+            ⊎ ((fault ≡ StartFault.SerialsSpent) × (is_too_late ≡ false) × (LAST ≤ self.now.last_serial))) }
+    {
+        if is_too_late {
+            return Err(StartFault::TooLate);
+        }
+        if self.last_serial >= LAST {
+            return Err(StartFault::SerialsSpent);
+        }
+        Ok(())
     }
 
     /// How many ticks are left until this one, or 0 if it is not after the present one.
@@ -292,6 +315,7 @@ impl<W: Wheel + Drop> Timers<W> {
     /// Removes the timer with exactly this handle, as `restart`, and starts one that expires at the tick
     /// `deadline`, or at once, as `start_at`. The error is `NotPending` if there is no such timer, and
     /// otherwise that of `start_at`, except that it is never out of memory. Does not allocate.
+    #[inline(always)]
     pub fn restart_at(
         &mut self,
         handle: Handle,
@@ -306,9 +330,33 @@ impl<W: Wheel + Drop> Timers<W> {
         ensures fault { IfErr result (WhyNotRestarted handle (interval_until deadline self.old) self.old) }
         ensures err { OnErr result (self.new ≡ self.old) }
     {
-        self.check_restart(handle, self.until(deadline).max(1))?;
-        let deadline = self.wheel.now().max(deadline);
-        self.replace(handle, deadline, action)
+        if self.look(handle).is_none() {
+            return Err(RestartFault::NotPending);
+        }
+        let now = self.wheel.now();
+        if deadline > now {
+            self.admit_restart(deadline > self.wheel.last_tick())?;
+            self.replace(handle, deadline, action)
+        } else {
+            self.admit_restart(now >= self.wheel.last_tick())?;
+            self.replace(handle, now, action)
+        }
+    }
+
+    /// Whether a restart is accepted, once there is a timer and it is known whether its deadline is too late.
+    #[inline(always)]
+    fn admit_restart(&self, is_too_late: bool) -> Result<(), RestartFault>
+        ensures in_order { IfOk result (λ _. (is_too_late ≡ false) × (self.now.last_serial < LAST)) }
+        ensures fault { IfErr result (λ fault. ((fault ≡ RestartFault.TooLate) × (is_too_late ≡ true))
+            ⊎ ((fault ≡ RestartFault.SerialsSpent) × (is_too_late ≡ false) × (LAST ≤ self.now.last_serial))) }
+    {
+        if is_too_late {
+            return Err(RestartFault::TooLate);
+        }
+        if self.last_serial >= LAST {
+            return Err(RestartFault::SerialsSpent);
+        }
+        Ok(())
     }
 
     /// Starts a timer that expires at the tick `deadline`, as `start_at`, in place of the timer with exactly this

@@ -1,10 +1,10 @@
 -- The counts of a hierarchy of wheels after `advance`.
-use Rattle.std.proofs.Common.{◌≡◌, ◌<◌, ◌+◌, ◌-◌, ℕ, List, [], ◌∷◌, length, refl, ◌∙◌, ap, arith, Bool, true, false}
+use Rattle.std.proofs.Common.{◌≡◌, ◌<◌, ◌+◌, ◌-◌, ◌/◌, ℕ, List, [], ◌∷◌, length, refl, ◌∙◌, ap, arith, Bool, true, false}
 use Rattle.timer_base.specs.Pending.{Entry}
 use Rattle.timer_base.specs.TickLaws.{after_ticks-serial}
 use Rattle.timer_base.specs.WheelState.{WheelState, Advances}
 use Rattle.timer_wheels.specs.Leap.{Leaps}
-use Rattle.timer_wheels.specs.Placement.{IsPaid, hops_of, has_any}
+use Rattle.timer_wheels.specs.Placement.{IsPaid, hops_of, has_any, visited_between}
 
 -- Many ticks.
 
@@ -25,3 +25,11 @@ pub leapt_moves : (table : List ℕ) (more : ℕ) (u w : WheelState) → Leaps t
 leapt_moves table more u w l =
     let e : l.passed ≡ w.now - u.now = omega (arith, l.now_is) in
     l.moves_are ∙ ap (λ (k : ℕ). hops_of table u.now k u.pending) e
+
+-- No tick is visited.
+
+pub leapt_serial : (table : List ℕ) (moves : ℕ) (u w : WheelState) → Leaps table moves u w → w.last_serial ≡ u.last_serial
+leapt_serial table moves u w l = ap (λ (x : WheelState). x.last_serial) l.ticked ∙ after_ticks-serial l.passed u
+
+pub none_visited : (r a b : ℕ) (due : List Entry) → due ≡ [] → b / r ≡ a / r → 0 ≡ visited_between r a b (has_any due)
+none_visited r a b due z e = rw (z, e) (omega arith)

@@ -1,7 +1,7 @@
 -- Lemmas for `leap`: the first visit ahead, the clock set forward to it, and the loop of `advance_until_due`.
 use Rattle.timer_wheels.specs.declared.table.TheConstants.{MOST_BUCKETS}
 use Rattle.timer_wheels.proofs.RoomLemmas.{leaps-with_room}
-use Rattle.std.proofs.Common.{◌≡◌, ◌<◌, ◌≤◌, ◌+◌, ◌-◌, ◌*◌, ℕ, List, [], ◌∷◌, length, refl, sym, ◌∙◌, ap, inl, inr, arith, Some}
+use Rattle.std.proofs.Common.{◌≡◌, ◌<◌, ◌≤◌, ◌+◌, ◌-◌, ◌*◌, ◌/◌, ◌%◌, ℕ, List, [], ◌∷◌, length, refl, sym, ◌∙◌, ap, inl, inr, arith, Some}
 use Rattle.std.specs.List.{AllByRecursion}
 use Rattle.std.proofs.lemmas.Bool.{cases_lt}
 use Rattle.timer_base.specs.declared.limits.TheConstants.{LAST}
@@ -13,9 +13,10 @@ use Rattle.timer_wheels.specs.declared.buckets.Buckets.{Buckets}
 use Rattle.timer_wheels.specs.Buckets.{state_of}
 use Rattle.timer_wheels.specs.declared.table.Table.{Table}
 use Rattle.timer_wheels.specs.declared.wheels.Wheels.{Wheels}
-use Rattle.timer_wheels.specs.Digits.{HasDigits, slots, last_of, bucket}
+use Rattle.std.proofs.Math.Nat.{mul-le-mul_right}
+use Rattle.timer_wheels.specs.Digits.{IsTable, HasDigits, slots, last_of, lowest_radix, bucket}
 use Rattle.timer_wheels.proofs.AllLemmas.{all-both}
-use Rattle.timer_wheels.proofs.DigitLaws.{digits_down}
+use Rattle.timer_wheels.proofs.DigitLaws.{digits_down, visit_here, visit_above}
 use Rattle.timer_wheels.specs.Tables.{radices}
 use Rattle.timer_wheels.specs.Hier.{IsHier}
 use Rattle.timer_wheels.specs.Leap.{list_visit, timer_visit, AreNotVisitedBefore, Leaps}
@@ -30,6 +31,25 @@ use Rattle.timer_wheels.proofs.TableLaws.{of_table}
 use Rattle.timer_wheels.proofs.WakeUpLemmas.{wakes, sleeps}
 
 -- The next tick that empties a bucket with a timer.
+
+-- a timer whose slot is past that of a tick in the lowest wheel's revolution is visited after the tick
+visit_past : (table : List ℕ) (now d end s : ℕ) → IsTable table → HasDigits table d → now < d → bucket table now d ≡ s
+    → end / lowest_radix table ≡ now / lowest_radix table → end % lowest_radix table < s → end + 1 ≤ timer_visit table now d
+visit_past [] now d end s t i h p e c = absurd (let z : d ≡ 0 = i in omega arith)
+visit_past (r ∷ rs) now d end s t i h p e c =
+    let v : list_visit (r ∷ rs) s now ≡ timer_visit (r ∷ rs) now d =
+    ap (λ (x : ℕ). list_visit (r ∷ rs) x now) (sym p) ∙ list_is (r ∷ rs) now d t i h in
+    let turn : r * (end / r) ≡ r * (now / r) = ap (λ (x : ℕ). r * x) e in
+    elim (cases_lt s r) [
+      | inl k ↦ omega (arith, t.0, v, visit_here r rs s now k, turn)
+      | inr k ↦
+          let q : ℕ = list_visit rs (s - r) (now / r) in
+          let w : r * q ≡ timer_visit (r ∷ rs) now d = sym (visit_above r rs s now k) ∙ v in
+          elim (cases_lt (now / r) q) [
+            | inl m ↦ omega (arith, t.0, w, turn, mul-le-mul_right r (let x : now / r + 1 ≤ q = omega arith in x))
+            | inr m ↦ absurd (omega (arith, t.0, w, mul-le-mul_right r m, visit_later (r ∷ rs) now d t h))
+          ]
+    ]
 
 -- a row as the invariant knows it
 pub record IsKnown (table : List ℕ) (now s : ℕ) (row : Row) : Type 0 where
@@ -91,6 +111,18 @@ module _ {t : Table} {b : Buckets} {words : List ℕ} (h : IsHier t b words) whe
         (λ row w. rw e (list_first (radices t) l b.tick (timer_in row).deadline (of_table t).is_table w.digits w.later
         (omega (arith, w.placed))))
         (known s k)
+  ]
+
+  -- nothing is visited up to a tick within the lowest wheel's revolution, if no bucket up to its slot has a timer
+  pub quiet_to : (end : ℕ) → end / lowest_radix (radices t) ≡ b.tick / lowest_radix (radices t)
+      → ((s : ℕ) → s ≤ end % lowest_radix (radices t) → bit_of words s ≡ 0)
+      → AreNotVisitedBefore (radices t) b.slots b.tick (end + 1) b.links.lists
+  quiet_to end e f s k = elim (cases_lt (end % lowest_radix (radices t)) s) [
+    | inl c ↦ All-weaken (IsKnown (radices t) b.tick s) (λ row. end + 1 ≤ timer_visit (radices t) b.tick (timer_in row).deadline)
+        (list_at s b.links.lists)
+        (λ row w. visit_past (radices t) b.tick (timer_in row).deadline end s (of_table t).is_table w.digits w.later w.placed e c)
+        (known s k)
+    | inr c ↦ rw (none_where s k (f s c)) tt
   ]
 
   later_by : (l : ℕ) (rows : Rows) → filled rows ≡ 1 → AllByRecursion (IsKnown (radices t) b.tick l) rows

@@ -220,6 +220,33 @@ impl HierWheel {
     }
 }
 
+impl HierWheel {
+    ghost use Rattle.timer_wheels.specs.HierWheel.{hier_state, counts_of, counts_of_advance};
+
+    /// Passes ticks as `advance` does, wherever it leads.
+    // Kept out of line, so that an advance over a few quiet ticks is short.
+    #[inline(never)]
+    fn advance_far(&mut self, most: u64) -> u64
+        requires nothing_due { (hier_state self.old).due ≡ [] }
+        requires some { 0 < most }
+        requires before_last { most ≤ (hier_state self.old).last_tick - (hier_state self.old).now }
+        ensures advances { Advances most result (hier_state self.old) (hier_state self.new) }
+        ensures counts { counts_of self.new
+            ≡ counts_of_advance (hier_state self.old) (hier_state self.new) (counts_of self.old) }
+    {
+        let table = self.wheels.table;
+        let first = self.wheels.buckets.tick;
+        let moves = self.wheels.advance_until_due(most);
+        let last = self.wheels.buckets.tick;
+        let passed = last - first;
+        let visits = visits_between(table, first, last, self.wheels.buckets.has_due());
+        let counts = &mut self.counts;
+        counts.moves += moves;
+        counts.skipped += passed - visits;
+        passed
+    }
+}
+
 impl Wheel for HierWheel {
     ghost use Rattle.timer_wheels.specs.HierWheel.{hier_state, table_of, counts_of, with_start, counts_of_tick, counts_of_advance};
 
@@ -291,16 +318,14 @@ impl Wheel for HierWheel {
     }
 
     fn advance(&mut self, most: u64) -> u64 {
-        let table = self.wheels.table;
-        let first = self.wheels.buckets.tick;
-        let moves = self.wheels.advance_until_due(most);
-        let last = self.wheels.buckets.tick;
-        let passed = last - first;
-        let visits = visits_between(table, first, last, self.wheels.buckets.has_due());
+        let end = self.wheels.buckets.tick + most;
+        if !self.wheels.is_quiet_to(end) {
+            return self.advance_far(most);
+        }
+        self.wheels.skip_to(end);
         let counts = &mut self.counts;
-        counts.moves += moves;
-        counts.skipped += passed - visits;
-        passed
+        counts.skipped += most;
+        most
     }
 
     /// The next tick at which a bucket with a timer is emptied: a timer is due then, or moves to a lower

@@ -3,7 +3,8 @@
 //! A bucket with a timer is emptied next at the tick that has the bucket's digit in place of now's, and
 //! zeros below it. The first of these ticks is that of the first bucket with a timer. Up to it nothing
 //! moves and nothing is due, so the clock alone advances. Such a tick is the visit of its bucket.
-ghost use Rattle.std.specs.Prelude.{◌≡◌, ◌+◌, ◌-◌, ◌*◌, ◌<◌, ◌≤◌, []};
+ghost use Rattle.std.specs.Prelude.{◌≡◌, ◌+◌, ◌-◌, ◌*◌, ◌/◌, ◌%◌, ◌<◌, ◌≤◌, ℕ, IsTrue, []};
+ghost use Rattle.timer_wheels.specs.Occupied.{bit_of};
 ghost use Rattle.std.specs.Option.{IfSome};
 ghost use Rattle.timer_base.specs.declared.limits.TheConstants.{LAST};
 ghost use Rattle.timer_base.specs.WakeUps.{IsQuietUntil};
@@ -17,7 +18,8 @@ ghost use Rattle.timer_wheels.specs.Hier.{potential};
 ghost use Rattle.timer_wheels.specs.Leap.{AreNotVisitedBefore, IsNextVisit, Leaps};
 ghost use Rattle.timer_wheels.specs.WakeUps.{next_visit};
 
-use crate::table::{Table, is_rollover, revolutions, visit_of};
+use crate::occupied::Occupied;
+use crate::table::{Table, is_rollover, lowest_slots, revolutions, visit_of, with_constant_table};
 use crate::wheels::Wheels;
 
 impl Wheels {
@@ -86,8 +88,23 @@ impl Wheels {
         }
     }
 
+    /// Whether no bucket with a timer is visited up to this tick, as far as a look at the lowest wheel shows: the tick is
+    /// within its present revolution.
+    #[inline(always)]
+    pub fn is_quiet_to(&self, end: u64) -> bool
+        requires { self.now.buckets.tick ≤ end }
+        ensures within { IsTrue result → end / lowest_radix (radices self.now.table)
+            ≡ self.now.buckets.tick / lowest_radix (radices self.now.table) }
+        ensures not_before { IsTrue result → AreNotVisitedBefore (radices self.now.table) self.now.buckets.slots
+            self.now.buckets.tick (end + 1) self.now.buckets.links.lists }
+    {
+        let now = self.buckets.tick;
+        with_constant_table!(is_clear_to(self.table, &self.occupied, now, end))
+    }
+
     /// Sets the clock to a later tick, if no bucket with a timer is visited up to it.
-    fn skip_to(&mut self, tick: u64)
+    #[inline]
+    pub fn skip_to(&mut self, tick: u64)
         requires nothing_due { (state_of self.old.buckets).due ≡ [] }
         requires later { self.old.buckets.tick ≤ tick }
         requires in_range { tick ≤ self.old.buckets.last_tick }
@@ -103,6 +120,16 @@ impl Wheels {
         let buckets = &mut self.buckets;
         buckets.tick = tick;
     }
+}
+
+/// Whether a tick is within the lowest wheel's revolution of this moment, and no bucket of the wheel up to it has a timer.
+#[inline(always)]
+fn is_clear_to(table: Table, occupied: &Occupied, now: u64, end: u64) -> bool
+    ensures within { IsTrue result → end / lowest_radix (radices table) ≡ now / lowest_radix (radices table) }
+    ensures clear { IsTrue result → (s : ℕ) → s ≤ end % lowest_radix (radices table) → bit_of occupied.now s ≡ 0 }
+{
+    let slots = lowest_slots(table) as u64;
+    end / slots == now / slots && occupied.is_clear_to((end % slots) as usize)
 }
 
 /// How many visits the ticks after the first one up to the last count: one at each multiple of the lowest

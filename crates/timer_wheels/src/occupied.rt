@@ -8,7 +8,7 @@
 //!
 //! The lowest bit that is set is that of the bucket that the clock empties next, of those with a timer:
 //! a lower wheel comes before a higher one, and in a wheel the slots come in turn.
-ghost use Rattle.std.specs.Prelude.{◌≡◌, ◌≢◌, ◌<◌, ℕ, List, length, true, false};
+ghost use Rattle.std.specs.Prelude.{◌≡◌, ◌≢◌, ◌<◌, ◌≤◌, ℕ, List, length, IsTrue, true, false};
 ghost use Rattle.timer_wheels.specs.declared.occupied.TheConstants.{WORDS};
 ghost use Rattle.timer_wheels.specs.declared.table.TheConstants.{MOST_BUCKETS};
 ghost use Rattle.timer_wheels.specs.Occupied.{bit_of, IsFirstSet, IsLowestSet};
@@ -59,7 +59,7 @@ impl Occupied {
     }
 
     /// Sets a bucket's bit.
-    // Where it is set already nothing is stored: a store would hold back the next start's load of the word.
+    // Without a test whether it is set, and with a word's number of 32 bits, by which its address needs no mask of 64.
     #[inline]
     #[tactic(auto, using(crate::proofs::OccupiedLemmas::set_here, crate::proofs::OccupiedLemmas::set_others))]
     pub fn insert(&mut self, list: usize)
@@ -67,10 +67,7 @@ impl Occupied {
         ensures here { bit_of self.new list ≡ 1 }
         ensures others { (s : ℕ) → s ≢ list → bit_of self.new s ≡ bit_of self.old s }
     {
-        if self.has(list) {
-            return;
-        }
-        let word = list / WORD_BITS;
+        let word = (list as u32 / WORD_BITS as u32) as usize;
         self.words[word] = self.words[word] | 1 << (list % WORD_BITS);
     }
 
@@ -84,6 +81,16 @@ impl Occupied {
     {
         let word = list / WORD_BITS;
         self.words[word] = self.words[word] & !(1 << (list % WORD_BITS));
+    }
+
+    /// Whether the bits of all buckets up to this one, which has its bit in the first word, are clear.
+    #[inline]
+    pub fn is_clear_to(&self, list: usize) -> bool
+        requires { list < 64 }
+        ensures { IsTrue result → (s : ℕ) → s ≤ list → bit_of self.now s ≡ 0 }
+    {
+        let word = self.words[0];
+        word == 0 || lowest_bit(word) > list
     }
 
     /// The first bucket whose bit is set.

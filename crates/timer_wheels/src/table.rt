@@ -81,6 +81,7 @@ pub fn last_tick_of(table: Table) -> u64
 pub fn lowest_slots(table: Table) -> usize
     ensures value { result ≡ lowest_radix (radices table) }
     ensures some { 0 < result }
+    ensures few { result ≤ 64 }
 {
     of_table!(table, lowest_slots())
 }

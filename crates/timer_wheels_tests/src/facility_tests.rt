@@ -112,6 +112,42 @@ fn is_closed<W: Wheel + Drop>(rt: &impl Abort, facility: &mut Facility<W>) {
     same(rt, facility.close(), Err(CloseFault::Closed));
 }
 
+/// Sees that this timer, and no other one, expires now.
+fn expires<W: Wheel + Drop>(rt: &impl Abort, facility: &mut Facility<W>, serial: u64) {
+    assert!(rt; facility.has_out());
+    same(rt, next_out(facility), (serial, true));
+    same(rt, next_out(facility), (0, false));
+}
+
+#[test]
+fn a_timer_for_a_passed_tick_expires_after_its_answer(rt: HostRuntime) -> Result<(), Fail> {
+    let mut facility = facility(rt.alloc())?;
+    let action = 7;
+    let interval = 9;
+    assert!(rt; !facility.has_out());
+    same(&rt, facility.ticks(6), Ok(6));
+    for (serial, deadline) in [(1, 0), (2, 5), (3, 6)] {
+        let (late, at) = made(&rt, &mut facility, 1, Request::StartAt { deadline, action });
+        same(&rt, (late.serial, at, facility.pending()), (serial, 6, 0));
+        expires(&rt, &mut facility, serial);
+        same(
+            &rt,
+            ask(&rt, &mut facility, 1, Request::Stop(late)),
+            Answer::Refused(Reason::NoSuch),
+        );
+    }
+    let (handle, _) = made(&rt, &mut facility, 0, Request::Start { interval, action });
+    let restart = Request::RestartAt {
+        handle,
+        deadline: 2,
+        action,
+    };
+    let (late, at) = made(&rt, &mut facility, 0, restart);
+    same(&rt, (late.serial, at, facility.pending()), (5, 6, 0));
+    expires(&rt, &mut facility, 5);
+    Ok(())
+}
+
 #[test]
 fn a_facility_starts_restarts_expires_and_closes(rt: HostRuntime) -> Result<(), Fail> {
     let mut facility = facility(rt.alloc())?;

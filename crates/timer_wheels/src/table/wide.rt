@@ -43,6 +43,7 @@ pub fn last_tick() -> u64
 pub fn lowest_slots() -> usize
     ensures value { result ≡ lowest_radix wide }
     ensures some { 0 < result }
+    ensures few { result ≤ 64 }
 {
     RADIX
 }

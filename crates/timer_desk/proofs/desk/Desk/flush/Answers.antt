@@ -2,7 +2,7 @@ use Rattle.std.proofs.Common.{◌<◌, [], ◌∷◌, length, ap, arith, subst}
 use Rattle.std.specs.Prelude.{slice_set}
 use Rattle.timer_desk.specs.declared.report.Done.TheVariants.{Flushed}
 use Rattle.timer_desk.specs.Desk.{DeskState, clients_of, ReportHolds}
-use Rattle.timer_desk.proofs.DeskLemmas.{desk_of, flush_call, desk_client, report_client, Flushes-one}
+use Rattle.timer_desk.proofs.DeskLemmas.{desk_of, flush_call, client_quiet, desk_handed, report_handed, Flushes-one}
 use Rattle.timer_desk.specs.Flush.{Flushes}
 use Rattle.timer_desk.proofs.desk.Desk.flush.Goals as goal
 
@@ -16,9 +16,14 @@ invariant_of-self g c =
     let call = flush_call g.I.Inlet.kind c.args.c c.flush.result c.self.inside.facility c.self.inside.inlets.items
     c.self.inside.backlogs.items i c.flush.new.inlet b c.flush.new.self d low c.index_mut-2.ensures.value c.index_mut.ensures.value
     s.given s.left in
-    desk_client g.I.Inlet.kind c.args.c (Flushed c.args.c c.flush.result) c.self.inside.facility c.self.inside.facility c.self.inside.inlets.items
+    let first = Flushed c.args.c c.flush.result in
+    let inlets = slice_set c.self.inside.inlets.items c.args.c c.flush.new.inlet in
+    let backlogs = slice_set c.self.inside.backlogs.items c.args.c c.flush.new.self in
+    desk_handed g.I.Inlet.kind first c.self.inside.facility c.self.inside.facility c.self.inside.facility
+    c.self.inside.inlets.items inlets c.self.inside.backlogs.items backlogs backlogs
+    (client_quiet g.I.Inlet.kind c.args.c first c.self.inside.facility c.self.inside.facility c.self.inside.inlets.items
     c.self.inside.backlogs.items i c.flush.new.inlet b c.flush.new.self call d low c.index_mut-2.ensures.value
-    c.index_mut.ensures.value
+    c.index_mut.ensures.value d.nothing_waits)
 
 pub returns-clause-report : goal.returns-clause-report
 returns-clause-report g c =
@@ -30,12 +35,16 @@ returns-clause-report g c =
     let call = flush_call g.I.Inlet.kind c.args.c c.flush.result c.self.inside.facility c.self.inside.inlets.items
     c.self.inside.backlogs.items i c.flush.new.inlet b c.flush.new.self d low c.index_mut-2.ensures.value c.index_mut.ensures.value
     s.given s.left in
-    let new = desk_of c.self.inside.facility (slice_set c.self.inside.inlets.items c.args.c c.flush.new.inlet)
-    (slice_set c.self.inside.backlogs.items c.args.c c.flush.new.self) in
-    subst (λ (x : DeskState g.row.I.Denot). ReportHolds g.I.Inlet.kind (Flushed c.args.c c.flush.result ∷ []) x new) c.self.view_is
-    (report_client g.I.Inlet.kind c.args.c (Flushed c.args.c c.flush.result) c.self.inside.facility c.self.inside.facility c.self.inside.inlets.items
+    let first = Flushed c.args.c c.flush.result in
+    let inlets = slice_set c.self.inside.inlets.items c.args.c c.flush.new.inlet in
+    let backlogs = slice_set c.self.inside.backlogs.items c.args.c c.flush.new.self in
+    let new = desk_of c.self.inside.facility inlets backlogs in
+    subst (λ (x : DeskState g.row.I.Denot). ReportHolds g.I.Inlet.kind (first ∷ []) x new) c.self.view_is
+    (report_handed g.I.Inlet.kind first c.self.inside.facility c.self.inside.facility c.self.inside.facility
+    c.self.inside.inlets.items inlets c.self.inside.backlogs.items backlogs backlogs
+    (client_quiet g.I.Inlet.kind c.args.c first c.self.inside.facility c.self.inside.facility c.self.inside.inlets.items
     c.self.inside.backlogs.items i c.flush.new.inlet b c.flush.new.self call d low c.index_mut-2.ensures.value
-    c.index_mut.ensures.value)
+    c.index_mut.ensures.value d.nothing_waits))
 
 pub returns-clause-flushes : goal.returns-clause-flushes
 returns-clause-flushes g c =

@@ -1,80 +1,58 @@
-use Rattle.std.proofs.Common.{◌≡◌, ◌<◌, ◌≤◌, ◌+◌, ◌-◌, ℕ, List, ap, ◌∙◌, arith, rules}
-use Rattle.timer_wheels.specs.Buckets.{state_of}
+use Rattle.std.proofs.Common.{◌≡◌, ◌+◌, ◌-◌, ◌/◌, ℕ, List, refl, ap, ◌∙◌, arith}
 use Rattle.timer_base.specs.Counts.{WheelCounts}
-use Rattle.timer_wheels.specs.HierWheel.{counts_of, with_ticks}
-use Rattle.timer_wheels.proofs.ExactWakeUps.{radices_are}
+use Rattle.timer_wheels.specs.Buckets.{state_of}
 use Rattle.timer_wheels.specs.Digits.{lowest_radix}
+use Rattle.timer_wheels.specs.HierWheel.{counts_of, with_ticks}
+use Rattle.timer_wheels.specs.Placement.{visited_between, hops_of, has_any}
 use Rattle.timer_wheels.specs.Tables.{radices}
-use Rattle.timer_wheels.specs.Placement.{visited_between, hops_of, levels_of, has_any}
-use Rattle.timer_wheels.proofs.HierLemmas.{paid_at, paid_bound, moves_fit}
-use Rattle.timer_wheels.proofs.TableLaws.{of_table}
-use Rattle.timer_wheels.proofs.HierCounts.{any_of, advanced_serial, leapt_paid, leapt_moves}
+use Rattle.timer_wheels.proofs.ExactWakeUps.{radices_are}
+use Rattle.timer_wheels.proofs.HierCounts.{leapt_serial, leapt_paid, leapt_moves, none_visited}
+use Rattle.timer_wheels.proofs.HierLemmas.{paid_at}
 use Rattle.timer_wheels.proofs.hier.HierWheelWheel.advance.Goals as goal
 
-pub invariant_of-self-2-clause-few_starts : goal.invariant_of-self-2-clause-few_starts
-invariant_of-self-2-clause-few_starts c =
-    let b = c.args.self.now.wheels.buckets in
-    let n = c.advance_until_due-moves.new.self.buckets in
-    let e : n.last_serial ≡ b.last_serial = advanced_serial c.args.most (n.tick - b.tick) (state_of b)
-    (state_of n) c.advance_until_due-moves.ensures.advances in
-    let f : c.args.self.now.counts.starts ≤ b.last_serial = c.args.self.now.few_starts in
-    omega arith
+none_more : (n : ℕ) → n + 0 ≡ n
+none_more n = omega arith
 
-pub invariant_of-self-2-clause-paid : goal.invariant_of-self-2-clause-paid
-invariant_of-self-2-clause-paid c =
+pub invariant_of-self-clause-few_starts : goal.invariant_of-self-clause-few_starts
+invariant_of-self-clause-few_starts c =
     let w = c.args.self.now in
-    let n = c.advance_until_due-moves.new.self in
-    paid_at w.counts.starts (w.counts.moves + c.advance_until_due-moves.result) n.buckets w.wheels.table n.table
-    c.advance_until_due-moves.ensures.table
-    (leapt_paid (radices w.wheels.table) w.counts.starts w.counts.moves c.advance_until_due-moves.result (state_of w.wheels.buckets)
-    (state_of n.buckets) c.advance_until_due-moves.ensures.leaps w.paid)
+    omega (
+      arith,
+      leapt_serial (radices w.wheels.table) 0 (state_of w.wheels.buckets) (state_of c.skip_to.new.self.buckets) c.skip_to.ensures.leaps,
+      w.few_starts,
+    )
 
-visits_add : (first last skipped visits : ℕ) → skipped ≤ first → 0 < last - first → visits ≤ last - first
-    → last - (skipped + (last - first - visits)) ≡ first - skipped + visits
-visits_add first last skipped visits s l v = omega arith
+pub invariant_of-self-clause-few_skipped : goal.invariant_of-self-clause-few_skipped
+invariant_of-self-clause-few_skipped c = omega (arith, c.args.self.now.few_skipped, c.skip_to.ensures.tick)
+
+pub invariant_of-self-clause-paid : goal.invariant_of-self-clause-paid
+invariant_of-self-clause-paid c =
+    let w = c.args.self.now in
+    let n = c.skip_to.new.self in
+    paid_at w.counts.starts w.counts.moves n.buckets w.wheels.table n.table c.skip_to.ensures.table
+    (rw (none_more w.counts.moves) at (leapt_paid (radices w.wheels.table) w.counts.starts w.counts.moves 0 (state_of w.wheels.buckets)
+    (state_of n.buckets) c.skip_to.ensures.leaps w.paid))
 
 abbrev counts : ℕ → ℕ → ℕ → WheelCounts
 counts s m v = record { starts = s; moves = m; visits = v }
 
 pub returns-clause-counts : goal.returns-clause-counts
 returns-clause-counts c =
-    let b = c.args.self.now.wheels.buckets in
-    let n = c.advance_until_due-moves.new.self.buckets in
-    let k = c.args.self.now.counts in
-    let m = leapt_moves (radices c.args.self.now.wheels.table) c.advance_until_due-moves.result (state_of b)
-    (state_of n) c.advance_until_due-moves.ensures.leaps in
-    let d = any_of (state_of n).due c.has_due.result c.has_due.ensures in
-    let v = c.visits_between-visits.ensures.value ∙ ap (visited_between (lowest_radix (radices c.args.self.now.wheels.table)) b.tick n.tick) d in
-    let w = visits_add b.tick n.tick k.skipped c.visits_between-visits.result c.args.self.now.few_skipped
-    c.advance_until_due-moves.ensures.advances.some c.visits_between-visits.ensures.few in
-    ap (counts k.starts (k.moves + c.advance_until_due-moves.result)) w
-    ∙ ap (λ (x : ℕ). counts k.starts (k.moves + x) (b.tick - k.skipped + c.visits_between-visits.result)) m
-    ∙ ap (λ (x : ℕ). counts k.starts (k.moves + hops_of (radices c.args.self.now.wheels.table) b.tick (n.tick - b.tick) (state_of b).pending)
-    (b.tick - k.skipped + x)) v
+    let w = c.args.self.now in
+    let b = w.wheels.buckets in
+    let n = c.skip_to.new.self.buckets in
+    let k = w.counts in
+    let t = radices w.wheels.table in
+    let tick : n.tick ≡ b.tick + c.args.most = c.skip_to.ensures.tick in
+    let same : k.moves ≡ k.moves + 0 = omega arith in
+    let visits : n.tick - (k.skipped + c.args.most) ≡ b.tick - k.skipped + 0 = omega (arith, w.few_skipped) in
+    let within : n.tick / lowest_radix t ≡ b.tick / lowest_radix t = rw tick (c.if-not-is_quiet_to.ensures.within refl) in
+    ap (λ (x : ℕ). counts k.starts x (n.tick - (k.skipped + c.args.most))) same
+    ∙ ap (counts k.starts (k.moves + 0)) visits
+    ∙ ap (λ (x : ℕ). counts k.starts (k.moves + x) (b.tick - k.skipped + 0))
+    (leapt_moves t 0 (state_of b) (state_of n) c.skip_to.ensures.leaps)
+    ∙ ap (λ (x : ℕ). counts k.starts (k.moves + hops_of t b.tick (n.tick - b.tick) (state_of b).pending) (b.tick - k.skipped + x))
+    (none_visited (lowest_radix t) b.tick n.tick (state_of n).due c.skip_to.ensures.nothing_due within)
     ∙ ap (λ (r : List ℕ). with_ticks (hops_of r b.tick (n.tick - b.tick) (state_of b).pending)
-    (visited_between (lowest_radix r) b.tick n.tick (has_any (state_of n).due)) (counts_of c.args.self.now))
-    (radices_are c.args.self.now.wheels.table b.slots c.args.self.now.wheels.hier.has_slots)
-
-least : (moves levels n : ℕ) → moves + levels ≤ n → levels ≤ n
-least moves levels n h = omega arith
-
-pub advance_until_due-moves-requires-clause-few : goal.advance_until_due-moves-requires-clause-few
-unfolding Rattle.timer_wheels.specs.Tables.wide
-advance_until_due-moves-requires-clause-few c =
-    let w = c.args.self.now in
-    let t = radices w.wheels.table in
-    let p = paid_bound t w.counts.starts w.counts.moves w.wheels.buckets.last_serial w.wheels.buckets.tick (state_of w.wheels.buckets).pending
-    (of_table w.wheels.table) w.few_starts w.wheels.buckets.sound.serial_in_range w.paid in
-    least w.counts.moves (levels_of t w.wheels.buckets.tick (state_of w.wheels.buckets).pending) 10376293541461622775 p
-
-pub overflow_add-counts : goal.overflow_add-counts
-overflow_add-counts c =
-    let w = c.args.self.now in
-    let t = radices w.wheels.table in
-    let n = c.advance_until_due-moves.new.self.buckets in
-    let p = paid_bound t w.counts.starts w.counts.moves w.wheels.buckets.last_serial w.wheels.buckets.tick (state_of w.wheels.buckets).pending
-    (of_table w.wheels.table) w.few_starts w.wheels.buckets.sound.serial_in_range w.paid in
-    let h : c.args.self.now.counts.moves + c.advance_until_due-moves.result < 18446744073709551616 =
-    moves_fit w.counts.moves c.advance_until_due-moves.result (levels_of t n.tick (state_of n).pending)
-    (levels_of t w.wheels.buckets.tick (state_of w.wheels.buckets).pending) p c.advance_until_due-moves.ensures.leaps.pays in
-    search rules
+    (visited_between (lowest_radix r) b.tick n.tick (has_any (state_of n).due)) (counts_of w))
+    (radices_are w.wheels.table b.slots w.wheels.hier.has_slots)

@@ -1,6 +1,6 @@
 use Rattle.std.proofs.Common.{◌≡◌, length, vec_len}
 use Rattle.timer_desk.specs.Backlog.{HasRoom, with_notices}
-use Rattle.timer_desk.proofs.dispatch.hand_out.Given as goal
+use Rattle.timer_desk.proofs.dispatch.hand_out_all.Given as goal
 
 -- handing out the rest leads to where handing out all leads
 abbrev pub invariant-loop : goal.invariant-loop
