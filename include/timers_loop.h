@@ -259,8 +259,8 @@ static inline uint64_t timers_loop_monotonic(void *unused)
 #endif
 
 /* Makes a loop with ticks of `length` nanoseconds, 1 or more. `clock` returns nanoseconds from some start, and is given
- * `data`. NULL stands for CLOCK_MONOTONIC. `loop` begins as TIMERS_LOOP_INIT or as 0 bytes. Before this has returned
- * TIMERS_OK only timers_loop_free may be called.
+ * `data`. NULL stands for CLOCK_MONOTONIC, where there is one. `loop` begins as TIMERS_LOOP_INIT or as 0 bytes. Before this
+ * has returned TIMERS_OK only timers_loop_free may be called.
  * TIMERS_ZERO_INTERVAL (the length is 0), TIMERS_OPEN, TIMERS_TOO_LATE, TIMERS_NO_MEMORY. */
 TIMERS_CHECKED
 static inline enum timers_status timers_loop_new(struct timers_loop *loop, uint64_t (*clock)(void *data), void *data,
@@ -297,7 +297,8 @@ static inline void timers_loop_free(struct timers_loop *loop)
 }
 
 /* Arms the event for a tick, whatever it was armed for. If the tick has passed, it is due at once.
- * TIMERS_NOT_OPEN, TIMERS_TOO_LATE, TIMERS_SERIALS_SPENT, TIMERS_NO_MEMORY: then it is as it was. */
+ * TIMERS_TOO_LATE (also if the clock is at its last tick), TIMERS_NOT_OPEN, TIMERS_SERIALS_SPENT, TIMERS_NO_MEMORY: then it
+ * is as it was. */
 TIMERS_CHECKED
 static inline enum timers_status timers_event_at(struct timers_loop *loop, struct timers_event *event, uint64_t tick)
 {
