@@ -153,7 +153,7 @@ pub makes-answered : {s : FacilityState} {new : FacilityView} {client number : �
     → IsTaken s client number request answer new → AddsHandle answer → MakesTimer s client number (model_of request)
 makes-answered {s} {new} {client} {number} {request} {answer} h adds =
     by_verdict (λ (st : StepResult). (later : List Out) → st.outs ≡ Outs.Answered client number answer ∷ later
-        → MakesTimer s client number (model_of request))
+    → MakesTimer s client number (model_of request))
     s client number (model_of request) (place_in answer)
     (λ reason later e. absurd (cc))
     (λ reason taken later e. absurd (subst AddsHandle (sym (answer_is e)) adds))
