@@ -73,7 +73,7 @@ by_hand() {
     mkdir "$work/two"
     cp generated/timers.c include/timers.h "$work/two"
     sed 's/<timers\.h>/"timers.h"/' examples/c/first.c > "$work/two/app.c"
-    (cd "$work/two" && "$CC" -DTIMERS_NO_DESK -o app app.c timers.c)
+    (cd "$work/two" && "$CC" -o app app.c timers.c)
     prints_first "$work/two/app"
 }
 @test "a program may include it, in C and in C++" {
