@@ -220,12 +220,22 @@
 #define TIMERS_VERSION "1.0.0"
 #define TIMERS_VERSION_NUMBER 10000
 
+/* A program that includes timers.c in a file of its own may define TIMERS_STATIC before: then the functions are that file's
+ * alone, so that the compiler inlines their calls. */
+#ifndef TIMERS_STATIC
+#define TIMERS_CALL
+#elif defined(__GNUC__) || defined(__clang__)
+#define TIMERS_CALL static __attribute__((unused))
+#else
+#define TIMERS_CALL static
+#endif
+
 /* Marks calls whose status has to be read, and the compiler warns if it is not. Without TIMERS_OK nothing was
  * made or started, or there is no answer. The status of a stop, a tick or an advance may be ignored. */
 #if defined(__GNUC__) || defined(__clang__)
-#define TIMERS_CHECKED __attribute__((warn_unused_result))
+#define TIMERS_CHECKED TIMERS_CALL __attribute__((warn_unused_result))
 #else
-#define TIMERS_CHECKED
+#define TIMERS_CHECKED TIMERS_CALL
 #endif
 
 /* C of 1989 has no bool. The compilers have it all the same, and -pedantic would warn about each use. */
@@ -314,11 +324,13 @@ enum timers_status timers_new(struct timers *t, uint32_t table, uint64_t first_t
 
 /* Frees the timers: pending and expired ones are dropped. timers_new may follow. Does nothing if `t` is not
  * open, so it may be called twice. */
+TIMERS_CALL
 void timers_free(struct timers *t);
 
 /* Drops all timers, pending or expired and not yet taken, and does not return their actions. Their handles are
  * dead. The clock, the serials, the counts and the memory stay, and so does the room of timers_reserve. Does
  * nothing if `t` is not open. Does not allocate. */
+TIMERS_CALL
 void timers_clear(struct timers *t);
 
 /* Makes room for `most` timers held at once, pending or expired and not yet taken, those that are held
@@ -378,6 +390,7 @@ enum timers_status timers_set_at(struct timers *t, struct timers_handle *handle,
 /* Stops the timer with this handle, which is pending, or has expired and was not yet taken: it is not
  * handed out any more. Writes `*action`, its action, at TIMERS_OK.
  * TIMERS_NOT_OPEN, TIMERS_NOT_PENDING. */
+TIMERS_CALL
 enum timers_status timers_stop(struct timers *t, struct timers_handle handle, uint64_t *action);
 
 /* Writes `*out`, the timer with this handle, at TIMERS_OK. If its deadline is after timers_now, it is
@@ -395,11 +408,13 @@ enum timers_status timers_look(const struct timers *t, struct timers_handle hand
  * keeps its place, so after it was found it is not met again under its new handle. One that is started may be
  * found or not. A whole iteration takes time for the most timers that were ever held at once, whatever
  * timers_reserve made room for. */
+TIMERS_CALL
 bool timers_each(const struct timers *t, uint64_t *cursor, struct timers_handle *handle,
                  struct timers_expired *out);
 
 /* Advances the clock by one tick. The timers with that deadline expire, and wait for timers_expire.
  * TIMERS_NOT_OPEN, TIMERS_DUE, TIMERS_CLOCK_END. */
+TIMERS_CALL
 enum timers_status timers_tick(struct timers *t);
 
 /* Passes at most `most` ticks, and stops at the first at which a timer expires. Writes `*passed`, how many
@@ -407,12 +422,14 @@ enum timers_status timers_tick(struct timers *t);
  * timer waits or at the last tick. It is less than `most` only if a timer has expired or the clock has come to
  * its last tick.
  * TIMERS_NOT_OPEN, TIMERS_DUE, TIMERS_CLOCK_END. */
+TIMERS_CALL
 enum timers_status timers_advance(struct timers *t, uint64_t most, uint64_t *passed);
 
 /* Passes the ticks up to `tick`, and stops at the first at which a timer expires, or at the last tick of the
  * clock. A tick that is not after the present one is none to pass. Then nothing changes and the status is
  * TIMERS_OK. This also holds while an expired timer waits, and at the last tick.
  * TIMERS_NOT_OPEN, TIMERS_DUE, TIMERS_CLOCK_END. */
+TIMERS_CALL
 enum timers_status timers_advance_to(struct timers *t, uint64_t tick);
 
 /* Takes the next timer that is due by `tick`, or by the present tick if that is later. If an expired timer
@@ -420,25 +437,31 @@ enum timers_status timers_advance_to(struct timers *t, uint64_t tick);
  * `tick`, and the ticks up to that deadline pass. Returns whether there was one, and writes `*out` exactly then.
  * After false the ticks up to `tick` have passed, or those up to the last tick of the clock if that is before.
  * If `tick` is before the present tick, none passes. Returns false if not open. Does not allocate. */
+TIMERS_CALL
 bool timers_take(struct timers *t, uint64_t tick, struct timers_expired *out);
 
 /* Takes the first of the expired timers, in the order of their starts. Returns whether there was one, and
  * writes `*out` exactly then. Returns false if not open. */
+TIMERS_CALL
 bool timers_expire(struct timers *t, struct timers_expired *out);
 
 /* Takes the first of the expired timers, as many as there are and as fit into out[0] to out[room - 1].
  * Returns how many, and writes that many of `out`. `out` must not be NULL, even if `room` is 0. Returns 0
  * if not open. */
+TIMERS_CALL
 size_t timers_expire_batch(struct timers *t, struct timers_expired *out, size_t room);
 
 /* Whether an expired timer was not yet taken. Returns false if not open. */
+TIMERS_CALL
 bool timers_has_due(const struct timers *t);
 
 /* The present tick. Returns 0 if not open. */
+TIMERS_CALL
 uint64_t timers_now(const struct timers *t);
 
 /* How many timers are pending. Expired timers are not counted. Returns 0 if not open. While expired timers
  * wait, it takes time for each of them: timers_has_due returns in constant time whether any wait. */
+TIMERS_CALL
 size_t timers_len(const struct timers *t);
 
 /* The tick until which the caller may sleep. It is the present one if an expired timer waits to be taken,
@@ -446,6 +469,7 @@ size_t timers_len(const struct timers *t);
  * one at which a timer expires or moves to a lower wheel. That is at most the first deadline, and nothing
  * expires before it. Call it again once the clock is there: if it is before the first deadline, nothing has
  * expired. Constant time. */
+TIMERS_CALL
 uint64_t timers_wakeup(const struct timers *t);
 
 /* The deadline of the timer that is taken next, exactly. It is the present tick if an expired timer waits to
@@ -453,6 +477,7 @@ uint64_t timers_wakeup(const struct timers *t);
  * deadline. Takes constant time if that comes before the next multiple of 64 ticks (of TIMERS_CLOCK, 60), or
  * if the first deadline of its bucket is kept. Otherwise it walks the timers of that bucket. Does not allocate.
  * A loop that asks in each turn calls timers_find_next. */
+TIMERS_CALL
 uint64_t timers_next(const struct timers *t);
 
 /* Returns what timers_next returns, and keeps it so that later calls are faster. No result of a call changes. It
@@ -460,6 +485,7 @@ uint64_t timers_next(const struct timers *t);
  * deadline is stopped, or restarted for a later tick, and others are left in its bucket, or until the next deadline
  * is in a bucket whose first deadline is not known (COSTS). A loop that pushes back the first timer in each turn may
  * walk in each turn. It can sleep until timers_wakeup, which never walks. Does not allocate. */
+TIMERS_CALL
 uint64_t timers_find_next(struct timers *t);
 
 /* Writes `*counts`, what the wheels have done since timers_new, at TIMERS_OK. `starts` counts each start and
@@ -474,6 +500,7 @@ enum timers_status timers_counts(const struct timers *t, struct timers_counters 
 
 /* The version of the library, as the number TIMERS_VERSION_NUMBER of its header. It is above that of this
  * header if the library is newer than what the program was built with. */
+TIMERS_CALL
 uint32_t timers_version(void);
 
 /* The text of a status, for messages. */
@@ -521,6 +548,7 @@ TIMERS_ASSERT(sizeof(struct timers_counters) == 24 && offsetof(struct timers_cou
               && offsetof(struct timers_counters, moves) == 8 && offsetof(struct timers_counters, visits) == 16,
               "struct timers_counters");
 #undef TIMERS_ASSERT
+#undef TIMERS_CALL
 #undef TIMERS_CHECKED
 #undef TIMERS_INLINE
 

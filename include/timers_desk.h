@@ -163,11 +163,21 @@
 #include <stdint.h>
 #include "timers.h"
 
+/* A program that includes timers.c in a file of its own may define TIMERS_STATIC before: then the functions are that file's
+ * alone, so that the compiler inlines their calls. */
+#ifndef TIMERS_STATIC
+#define TIMERS_CALL
+#elif defined(__GNUC__) || defined(__clang__)
+#define TIMERS_CALL static __attribute__((unused))
+#else
+#define TIMERS_CALL static
+#endif
+
 /* Marks calls whose status or result matters: the compiler warns if it is not read. */
 #if defined(__GNUC__) || defined(__clang__)
-#define TIMERS_CHECKED __attribute__((warn_unused_result))
+#define TIMERS_CHECKED TIMERS_CALL __attribute__((warn_unused_result))
 #else
-#define TIMERS_CHECKED
+#define TIMERS_CHECKED TIMERS_CALL
 #endif
 
 /* C of 1989 has no bool: see timers.h. */
@@ -289,6 +299,7 @@ enum timers_desk_status timers_desk_new(struct timers_desk *d, struct timers_lin
  * received. Once it is, timers_line_abandoned returns true. The struct may be made anew by timers_desk_new: then
  * earlier lines are refused by the calls that settle or end one (rule 5). Serials begin at 1 again, so a handle of
  * the earlier desk may name a timer of the new one. */
+TIMERS_CALL
 void timers_desk_free(struct timers_desk *d);
 
 /* Serves a client once: takes its held request, or else the next one of its line. At TIMERS_DESK_OK the
@@ -296,6 +307,7 @@ void timers_desk_free(struct timers_desk *d);
  * TIMERS_DESK_NOT_OPEN, TIMERS_DESK_NO_CLIENT, TIMERS_DESK_NO_ROOM, TIMERS_DESK_IDLE: nothing was taken. NO_ROOM is
  * tested first, also if no request is in the line.
  * TIMERS_DESK_NO_MEMORY: the request is held, and is retried first. */
+TIMERS_CALL
 enum timers_desk_status timers_desk_serve(struct timers_desk *d, size_t client);
 
 /* Serves each client in turn, from client 0 on: each until `most` of its requests were done or a serve did none.
@@ -304,19 +316,23 @@ enum timers_desk_status timers_desk_serve(struct timers_desk *d, size_t client);
  * TIMERS_DESK_NO_MEMORY: a request of at least one client failed with out of memory and is held; others may have been
  * done.
  * TIMERS_DESK_OK: at least one request was done. TIMERS_DESK_IDLE: none was. */
+TIMERS_CALL
 enum timers_desk_status timers_desk_serve_all(struct timers_desk *d, uint64_t most);
 
 /* Moves words from each client's outbox into its line, in order, until the outbox is empty or the line
  * full. Words that are left for a client whose line was freed are dropped. Returns whether a word has left its
  * outbox. Nothing else changes. Does not allocate. */
+TIMERS_CALL
 bool timers_desk_flush_all(struct timers_desk *d);
 
 /* Does the same for one client, and returns how many words have left the outbox. 0 if there is no such client. */
+TIMERS_CALL
 size_t timers_desk_flush(struct timers_desk *d, size_t client);
 
 /* Advances the clock by one tick. A word for each timer with that deadline goes to the outbox of its
  * client. Does not allocate.
  * TIMERS_DESK_NOT_OPEN, TIMERS_DESK_CLOSED, TIMERS_DESK_CLOCK_END: nothing has changed. */
+TIMERS_CALL
 enum timers_desk_status timers_desk_tick(struct timers_desk *d);
 
 /* Passes at most `most` ticks, up to the first at which a timer expires. At TIMERS_DESK_OK it writes to
@@ -324,6 +340,7 @@ enum timers_desk_status timers_desk_tick(struct timers_desk *d);
  * last tick; and fewer than `most` only if a timer has expired or the clock is at its last tick.
  * Jumps over stretches in which nothing happens. Does not allocate.
  * TIMERS_DESK_NOT_OPEN, TIMERS_DESK_CLOSED, TIMERS_DESK_CLOCK_END. */
+TIMERS_CALL
 enum timers_desk_status timers_desk_advance(struct timers_desk *d, uint64_t most, uint64_t *passed);
 
 /* Closes the desk: each pending timer is returned by a word to its client, by deadline, and by serial among
@@ -405,31 +422,38 @@ TIMERS_CHECKED
 enum timers_desk_status timers_desk_reserve(struct timers_desk *d);
 
 /* The present tick. 0 if it holds no desk. */
+TIMERS_CALL
 uint64_t timers_desk_now(const struct timers_desk *d);
 
 /* How many timers are pending, of all clients. 0 if it holds no desk. */
+TIMERS_CALL
 size_t timers_desk_len(const struct timers_desk *d);
 
 /* How many timers of one client are pending. 0 if there is no such client, or it holds no desk. */
+TIMERS_CALL
 size_t timers_desk_pending(const struct timers_desk *d, size_t client);
 
 /* A tick after the present one and at most the first deadline, before which nothing expires. TIMERS_NEVER
  * if nothing is pending, or it holds no desk. */
+TIMERS_CALL
 uint64_t timers_desk_wakeup(const struct timers_desk *d);
 
 /* The first deadline of all pending timers, exactly. TIMERS_NEVER if nothing is pending, or it holds no
  * desk. Takes constant time if that deadline comes before the next multiple of 64 ticks (of TIMERS_CLOCK,
  * 60), and otherwise walks the timers of one bucket. A loop that only sleeps can use timers_desk_wakeup.
  * Does not allocate. */
+TIMERS_CALL
 uint64_t timers_desk_next(const struct timers_desk *d);
 
 /* Whether a client's line was freed. False if there is no such client, or it holds no desk. Once true it
  * stays true until timers_desk_open opens the line again. Nothing changes: what the client sent before is still
  * taken, and its timers stay pending. Words to it are lost in its line, or dropped by a flush if the line is full.
  * Constant time. Does not allocate. */
+TIMERS_CALL
 bool timers_desk_line_freed(struct timers_desk *d, size_t client);
 
 /* How many words wait in a client's outbox. 0 if there is no such client, or it holds no desk. */
+TIMERS_CALL
 size_t timers_desk_outbox(const struct timers_desk *d, size_t client);
 
 /* A client's calls. None of them allocates or waits. */
@@ -475,20 +499,24 @@ bool timers_line_receive(struct timers_line *line, struct timers_word *word);
 
 /* Ends the requests of this line. Words are still received.
  * TIMERS_DESK_NOT_OPEN, TIMERS_DESK_FINISHED. */
+TIMERS_CALL
 enum timers_desk_status timers_line_finish(struct timers_line *line);
 
 /* Whether the owner has ended the words, by timers_desk_end or timers_desk_end_all, and all were received:
  * then no further word arrives. False if it holds no line. */
+TIMERS_CALL
 bool timers_line_ended(const struct timers_line *line);
 
 /* Whether the desk was freed, and all words that it had put into the line were received: then no further word
  * arrives. Words that waited at the desk were dropped with it. Once true it stays true. False if it holds
  * no line, or if its words were ended by timers_desk_end: then timers_line_ended returns true once all were
  * received. Nothing changes. Constant time. */
+TIMERS_CALL
 bool timers_line_abandoned(struct timers_line *line);
 
 /* Frees the client's end, if it holds one. What it sent is still taken. Words to it are lost, and dropped by the
  * flushes, so that they keep no room. */
+TIMERS_CALL
 void timers_line_free(struct timers_line *line);
 
 /* The text of a status, for messages. */
@@ -550,6 +578,7 @@ TIMERS_DESK_ASSERT(sizeof(struct timers_desk_config) == 48
                    && offsetof(struct timers_desk_config, line) == 32
                    && offsetof(struct timers_desk_config, table) == 40, "struct timers_desk_config");
 #undef TIMERS_DESK_ASSERT
+#undef TIMERS_CALL
 #undef TIMERS_CHECKED
 #undef TIMERS_INLINE
 

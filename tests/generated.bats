@@ -80,7 +80,10 @@ by_hand() {
     needs gcc g++
     cat generated/timers.c examples/c/first.c > "$work/whole.c"
     by_hand "gcc -O2 -DTIMERS_NO_DESK" "$work/whole.c"
+    by_hand "gcc -O2 -std=c99 -DTIMERS_STATIC" "$work/whole.c"
+    [ -z "$(nm --extern-only --defined-only "$work/first" | grep ' timers_')" ]
     by_hand "g++ -O2 -DTIMERS_NO_DESK" "$work/whole.c"
+    by_hand "g++ -O2 -DTIMERS_STATIC" "$work/whole.c"
 }
 @test "the C around the translation allocates as it says" {
     build heap.c && runs
