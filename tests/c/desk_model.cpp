@@ -209,7 +209,7 @@ struct model {
 		const std::size_t c = below(clients.size());
 		client &it = clients[c];
 		std::uint64_t count = 77;
-		std::size_t size = 78;
+		std::uint64_t size = 78;
 		const unsigned what = below(15);
 		if (what < 4) {
 			CHECK(timers_desk_serve(&desk, c) == serve(c));
@@ -281,7 +281,7 @@ struct model {
 		const bool other = below(2);
 		if (away < clients.size())
 			lines[away] = other ? old[away] : none;
-		std::size_t left = 78, wanted = 78;
+		std::uint64_t left = 78, wanted = 78;
 		const auto status = timers_desk_end_all(&desk, lines.data(), clients.size(), &left);
 		timers_desk_status why = TIMERS_DESK_OK;
 		for (std::size_t c = 0; c < clients.size(); c++) {
