@@ -312,7 +312,7 @@ static PASSED_DEADLINE_WORDS: [Said; 4] = [('A', 1, 1), ('E', 1, 1), ('A', 2, 1)
 /// A start for tick 0 that is taken at tick 1: its notice follows the answer.
 fn passed_deadline_over_ring(rt: &impl Abort, alloc: Global, way: Way) -> Result<(), Fail> {
     let steps = [Step::Serve(0), Step::Tick, Step::Serve(0), Step::Flush(0)];
-    let (mut end, inlet) = ring_line(alloc, 4, 4)?;
+    let (mut end, inlet) = ring_line(alloc, 4, 1)?;
     submits(rt, &mut end, &[1]);
     let late = Request::StartAt {
         deadline: 0,
