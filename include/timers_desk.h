@@ -97,7 +97,7 @@
  *     did not see is followed by a signal that ends its sleep, and no request waits forever. A client also
  *     signals after it has received words, since its line has room again. In the other direction the same
  *     holds: the client clears its signal, receives until there is no word, and then sleeps.
- *     examples/c/desk_server.c does this with eventfds.
+ *     timers_desk_bell.h does this; examples/c/desk_server.c uses it.
  *
  *     The functions are proved, and translated into C. Each of them meets the contract stated in
  *     crates/timer_desk_c/src/desk_exports.rt or line_exports.rt, for every call that keeps the rules below. Nothing
