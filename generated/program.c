@@ -43876,6 +43876,87 @@ static COLD bool tp_std_alloc_vec_Vec_grow_amortized_5(byte *p1)
 	return true;
 }
 
+/* timer_facility::facility::Facility::makes_timer: crates/timer_facility/src/facility.rt */
+static bool tp_timer_facility_facility_Facility_makes_timer(byte *p1, uint64_t n2, uint64_t n3, byte *p4)
+{
+	uint8_t n5 = load8(p4);
+	uint64_t n6 = load64u(p4 + 8);
+	uint64_t n7 = load64u(p4 + 16);
+	uint64_t n8 = load64u(p4 + 24);
+	if ((load8(p1 + 1104) & 1) != 0)
+		return false;
+	if (load64(p1 + 56) <= n2)
+		return false;
+	uint64_t n9 = load64(inside(p1 + 80, n2 << 3));
+	if ((int)(n3 < n9) | (int)(n9 > UINT64_C(1152921504606846975)))
+		return false;
+	if (n9 < n3)
+		return false;
+	switch (n5) {
+	case 0: {
+		if (n6 == 0)
+			return false;
+		if ((UINT64_C(1152921504606846975) - load64(p1)) < n6)
+			return false;
+		if (load64(p1 + 72) > UINT64_C(1152921504606846975))
+			return false;
+		return (load64(p1 + 24) - load64(p1 + 40)) != load64(p1 + 64);
+	}
+	case 1: {
+		uint64_t n10 = load64(p1);
+		if ((UINT64_C(1152921504606846975) - n10) < umax64(usub_sat64(n6, n10), 1))
+			return false;
+		if (load64(p1 + 72) > UINT64_C(1152921504606846975))
+			return false;
+		return (load64(p1 + 24) - load64(p1 + 40)) != load64(p1 + 64);
+	}
+	case 2: {
+		return false;
+	}
+	case 3: {
+		if (n6 != 0)
+			return false;
+		byte *p11 = loadptr(p1 + 16);
+		uint64_t n12 = load64(p1 + 24);
+		for (;;) {
+			if (n12 == 0)
+				return false;
+			if (load64u(p11) == n7)
+				break;
+			p11 = p11 + 40;
+			n12 = n12 - 1;
+		}
+		if ((int)(load64u(p11 + 8) != n2) | (int)(n8 == 0))
+			return false;
+		if ((UINT64_C(1152921504606846975) - load64(p1)) < n8)
+			return false;
+		return load64(p1 + 72) < UINT64_C(1152921504606846976);
+	}
+	case 4: {
+		uint64_t n13 = load64(p1);
+		uint64_t n14 = umax64(usub_sat64(n8, n13), 1);
+		if (n6 != 0)
+			return false;
+		byte *p15 = loadptr(p1 + 16);
+		uint64_t n16 = load64(p1 + 24);
+		for (;;) {
+			if (n16 == 0)
+				return false;
+			if (load64u(p15) == n7)
+				break;
+			p15 = p15 + 40;
+			n16 = n16 - 1;
+		}
+		if ((int)(load64u(p15 + 8) != n2) | (int)((UINT64_C(1152921504606846975) - n13) < n14))
+			return false;
+		return load64(p1 + 72) < UINT64_C(1152921504606846976);
+	}
+	default: {
+		UNREACHABLE();
+	}
+	}
+}
+
 /* std_alloc::vec::Vec::grow_amortized */
 static COLD bool tp_std_alloc_vec_Vec_grow_amortized_8(byte *p1)
 {
@@ -44154,283 +44235,291 @@ L3:
 /* timer_script::script_run::play_start: crates/timer_script/src/script_run.rt */
 static NOINLINE uint8_t tp_timer_script_script_run_play_start_2(byte *p1, uint64_t n2, uint64_t n3, uint64_t n4, uint64_t n5, byte *p6)
 {
-	ALIGN(1) byte p7[118];
-	ALIGN(8) byte p8[32];
-	ALIGN(8) byte p9[16];
+	ALIGN(8) byte p7[40];
+	ALIGN(1) byte p8[118];
+	ALIGN(8) byte p9[32];
 	ALIGN(8) byte p10[16];
-	uint64_t n12;
-	byte *p13;
-	uint8_t n78, n79;
+	ALIGN(8) byte p11[16];
+	uint64_t n14;
+	byte *p15;
+	uint8_t n80, n81;
+	store64(p7, 0);
+	store64u(p7 + 8, n4);
+	store64u(p7 + 16, n5);
+	memset(p7 + 24, 0, 16);
 	if (load64(p1 + 1160) == load64(p1 + 1152)) {
-		bool b11 = tp_std_alloc_vec_Vec_grow_amortized_5(p1 + 1144);
-		if (!b11)
-			return 1;
+		bool b12 = tp_std_alloc_vec_Vec_grow_amortized_5(p1 + 1144);
+		if (!b12) {
+			bool b13 = tp_timer_facility_facility_Facility_makes_timer(p1, n2, n3, p7);
+			if (b13)
+				return 1;
+		}
 	}
 	if ((load8(p1 + 1104) & 1) != 0) {
-		store64(p10, n2);
-		store64(p10 + 8, n3);
-		n12 = 6;
-		p13 = (byte *)tp_static_208;
+		store64(p11, n2);
+		store64(p11 + 8, n3);
+		n14 = 6;
+		p15 = (byte *)tp_static_208;
 	} else if (load64(p1 + 56) > n2) {
-		uint64_t n14 = n2 << 3;
-		byte *p15 = inside(p1 + 80, n14);
-		uint64_t n16 = load64(p15);
-		if (n3 < n16) {
-			store64(p10, n2);
-			store64(p10 + 8, n3);
-			n12 = 8;
-			p13 = (byte *)tp_static_219;
-		} else if (n16 > UINT64_C(1152921504606846975)) {
-			store64(p10, n2);
-			store64(p10 + 8, n3);
-			n12 = 13;
-			p13 = (byte *)tp_static_220;
+		uint64_t n16 = n2 << 3;
+		byte *p17 = inside(p1 + 80, n16);
+		uint64_t n18 = load64(p17);
+		if (n3 < n18) {
+			store64(p11, n2);
+			store64(p11 + 8, n3);
+			n14 = 8;
+			p15 = (byte *)tp_static_219;
+		} else if (n18 > UINT64_C(1152921504606846975)) {
+			store64(p11, n2);
+			store64(p11 + 8, n3);
+			n14 = 13;
+			p15 = (byte *)tp_static_220;
 		} else {
-			if (n16 >= n3) {
-				uint8_t n17, n31, n32;
-				uint64_t n29, n30, n33;
+			if (n18 >= n3) {
+				uint8_t n19, n33, n34;
+				uint64_t n31, n32, n35;
 				if (n4 == 0) {
-					n17 = 0;
+					n19 = 0;
 				} else {
-					uint64_t n18 = load64(p1);
-					if ((UINT64_C(1152921504606846975) - n18) < n4) {
-						n17 = 1;
+					uint64_t n20 = load64(p1);
+					if ((UINT64_C(1152921504606846975) - n20) < n4) {
+						n19 = 1;
 					} else {
-						uint64_t n19 = load64(p1 + 72);
-						if (n19 > UINT64_C(1152921504606846975)) {
-							n17 = 2;
+						uint64_t n21 = load64(p1 + 72);
+						if (n21 > UINT64_C(1152921504606846975)) {
+							n19 = 2;
 						} else {
-							uint64_t n20 = load64(p1 + 24);
-							if ((n20 - load64(p1 + 40)) != load64(p1 + 64)) {
-								uint64_t n23;
-								uint64_t n21 = n18 + n4;
-								if (load64(p1 + 32) == n20) {
-									bool b22 = tp_std_alloc_vec_Vec_grow_amortized_8(p1 + 16);
-									if (!b22)
+							uint64_t n22 = load64(p1 + 24);
+							if ((n22 - load64(p1 + 40)) != load64(p1 + 64)) {
+								uint64_t n25;
+								uint64_t n23 = n20 + n4;
+								if (load64(p1 + 32) == n22) {
+									bool b24 = tp_std_alloc_vec_Vec_grow_amortized_8(p1 + 16);
+									if (!b24)
 										return 1;
-									n23 = load64(p1 + 24);
+									n25 = load64(p1 + 24);
 								} else {
-									n23 = n20;
+									n25 = n22;
 								}
-								byte *p24 = inside(loadptr(p1 + 16), n23 * 40);
-								store64u(p24, n19);
-								store64u(p24 + 8, n2);
-								store64u(p24 + 16, n3);
-								store64u(p24 + 24, n21);
-								store64u(p24 + 32, n5);
-								store64(p1 + 24, n23 + 1);
-								store64(p1 + 40, load64(p1 + 40) + (uint64_t)(n21 == load64(p1)));
-								store64(p1 + 8, n19);
+								byte *p26 = inside(loadptr(p1 + 16), n25 * 40);
+								store64u(p26, n21);
+								store64u(p26 + 8, n2);
+								store64u(p26 + 16, n3);
+								store64u(p26 + 24, n23);
+								store64u(p26 + 32, n5);
+								store64(p1 + 24, n25 + 1);
+								store64(p1 + 40, load64(p1 + 40) + (uint64_t)(n23 == load64(p1)));
+								store64(p1 + 8, n21);
 								store64(p1 + 72, load64(p1 + 72) + 1);
-								byte *p25 = inside(p1 + 592, n14);
-								store64(p25, load64(p25) + 1);
-								store64(p15, n3 + 1);
-								uint64_t n26 = load64(p1 + 1152);
-								byte *p27 = inside(loadptr(p1 + 1144), n26 << 4);
-								store64u(p27, 0);
-								store64u(p27 + 8, n19);
-								uint64_t n28 = n26 + 1;
-								store64(p1 + 1152, n28);
-								n29 = n28;
-								n30 = n19;
-								n31 = 0;
-								n32 = 0;
-								n33 = n21;
+								byte *p27 = inside(p1 + 592, n16);
+								store64(p27, load64(p27) + 1);
+								store64(p17, n3 + 1);
+								uint64_t n28 = load64(p1 + 1152);
+								byte *p29 = inside(loadptr(p1 + 1144), n28 << 4);
+								store64u(p29, 0);
+								store64u(p29 + 8, n21);
+								uint64_t n30 = n28 + 1;
+								store64(p1 + 1152, n30);
+								n31 = n30;
+								n32 = n21;
+								n33 = 0;
+								n34 = 0;
+								n35 = n23;
 								goto L1;
 							}
-							n17 = 3;
+							n19 = 3;
 						}
 					}
 				}
-				store64(p15, n3 + 1);
-				n29 = load64(p1 + 1152);
-				n30 = 0;
-				n31 = 3;
-				n32 = n17;
-				n33 = 0;
+				store64(p17, n3 + 1);
+				n31 = load64(p1 + 1152);
+				n32 = 0;
+				n33 = 3;
+				n34 = n19;
+				n35 = 0;
 L1:
 				{
-					uint8_t n74;
-					if ((((load64(p1 + 24) - load64(p1 + 40)) << 1) + 64) < n29)
+					uint8_t n76;
+					if ((((load64(p1 + 24) - load64(p1 + 40)) << 1) + 64) < n31)
 						tp_timer_facility_handles_sweep_2(p1 + 1144, p1);
+					memset(p11, 0, 16);
 					memset(p10, 0, 16);
-					memset(p9, 0, 16);
-					if (n31 == 0) {
-						uint64_t n63;
-						store64(p8, n2);
-						store64(p8 + 8, n3);
-						store64(p8 + 16, n30);
-						store64(p8 + 24, n33);
-						memset(p7, 0, 117);
-						store8(p7 + 117, 10);
-						uint64_t n34 = 117;
-						uint64_t n35 = 4;
-						while (n35 != 0) {
-							uint64_t n47;
-							uint64_t n36 = n35 - 1;
-							uint64_t n37 = load64(inside(p8, n36 << 3));
-							uint64_t n38 = n34;
-							while (n37 > 9999) {
-								uint16_t n39 = (uint16_t)(n37 % 10000);
-								byte *p40 = inside((byte *)tp_static_224, (uint64_t)(uint16_t)((uint32_t)(uint16_t)(n39 % 100) << 1));
-								byte *p41 = at(p7, n38);
-								uint8_t n42 = load8(p40 + 1);
-								store8(at(p41, UINT64_C(18446744073709551614)), load8(p40));
-								store8(at(p41, UINT64_MAX), n42);
-								uint64_t n43 = n38 - 4;
-								byte *p44 = inside((byte *)tp_static_224, (uint64_t)(uint16_t)((uint32_t)(uint16_t)(n39 / 100) << 1));
-								uint8_t n45 = load8(p44 + 1);
-								store8(inside(p7, n43), load8(p44));
-								store8(at(p41, UINT64_C(18446744073709551613)), n45);
-								n37 = n37 / 10000;
-								n38 = n43;
+					if (n33 == 0) {
+						uint64_t n65;
+						store64(p9, n2);
+						store64(p9 + 8, n3);
+						store64(p9 + 16, n32);
+						store64(p9 + 24, n35);
+						memset(p8, 0, 117);
+						store8(p8 + 117, 10);
+						uint64_t n36 = 117;
+						uint64_t n37 = 4;
+						while (n37 != 0) {
+							uint64_t n49;
+							uint64_t n38 = n37 - 1;
+							uint64_t n39 = load64(inside(p9, n38 << 3));
+							uint64_t n40 = n36;
+							while (n39 > 9999) {
+								uint16_t n41 = (uint16_t)(n39 % 10000);
+								byte *p42 = inside((byte *)tp_static_224, (uint64_t)(uint16_t)((uint32_t)(uint16_t)(n41 % 100) << 1));
+								byte *p43 = at(p8, n40);
+								uint8_t n44 = load8(p42 + 1);
+								store8(at(p43, UINT64_C(18446744073709551614)), load8(p42));
+								store8(at(p43, UINT64_MAX), n44);
+								uint64_t n45 = n40 - 4;
+								byte *p46 = inside((byte *)tp_static_224, (uint64_t)(uint16_t)((uint32_t)(uint16_t)(n41 / 100) << 1));
+								uint8_t n47 = load8(p46 + 1);
+								store8(inside(p8, n45), load8(p46));
+								store8(at(p43, UINT64_C(18446744073709551613)), n47);
+								n39 = n39 / 10000;
+								n40 = n45;
 							}
-							if (n37 < 100) {
-								if (n37 < 10) {
-									uint64_t n46 = n38 - 1;
-									store8(inside(p7, n46), (uint8_t)((uint8_t)n37 | 48));
-									n47 = n46;
+							if (n39 < 100) {
+								if (n39 < 10) {
+									uint64_t n48 = n40 - 1;
+									store8(inside(p8, n48), (uint8_t)((uint8_t)n39 | 48));
+									n49 = n48;
 								} else {
-									uint64_t n48 = n38 - 2;
-									byte *p49 = inside((byte *)tp_static_224, n37 << 1);
-									uint8_t n50 = load8(p49 + 1);
-									store8(inside(p7, n48), load8(p49));
-									store8(at(at(p7, n38), UINT64_MAX), n50);
-									n47 = n48;
+									uint64_t n50 = n40 - 2;
+									byte *p51 = inside((byte *)tp_static_224, n39 << 1);
+									uint8_t n52 = load8(p51 + 1);
+									store8(inside(p8, n50), load8(p51));
+									store8(at(at(p8, n40), UINT64_MAX), n52);
+									n49 = n50;
 								}
 							} else {
-								uint16_t n51 = (uint16_t)n37;
-								byte *p52 = inside((byte *)tp_static_224, (uint64_t)(uint16_t)((uint32_t)(uint16_t)(n51 % 100) << 1));
-								byte *p53 = at(p7, n38);
-								uint8_t n54 = load8(p52 + 1);
-								store8(at(p53, UINT64_C(18446744073709551614)), load8(p52));
-								store8(at(p53, UINT64_MAX), n54);
-								uint16_t n55 = (uint16_t)(n51 / 100);
-								if (n37 < 1000) {
-									uint64_t n56 = n38 - 3;
-									store8(inside(p7, n56), (uint8_t)((uint8_t)n55 | 48));
-									n47 = n56;
+								uint16_t n53 = (uint16_t)n39;
+								byte *p54 = inside((byte *)tp_static_224, (uint64_t)(uint16_t)((uint32_t)(uint16_t)(n53 % 100) << 1));
+								byte *p55 = at(p8, n40);
+								uint8_t n56 = load8(p54 + 1);
+								store8(at(p55, UINT64_C(18446744073709551614)), load8(p54));
+								store8(at(p55, UINT64_MAX), n56);
+								uint16_t n57 = (uint16_t)(n53 / 100);
+								if (n39 < 1000) {
+									uint64_t n58 = n40 - 3;
+									store8(inside(p8, n58), (uint8_t)((uint8_t)n57 | 48));
+									n49 = n58;
 								} else {
-									uint64_t n57 = n38 - 4;
-									byte *p58 = inside((byte *)tp_static_224, (uint64_t)(uint16_t)((uint32_t)n55 << 1));
-									uint8_t n59 = load8(p58 + 1);
-									store8(inside(p7, n57), load8(p58));
-									store8(at(p53, UINT64_C(18446744073709551613)), n59);
-									n47 = n57;
+									uint64_t n59 = n40 - 4;
+									byte *p60 = inside((byte *)tp_static_224, (uint64_t)(uint16_t)((uint32_t)n57 << 1));
+									uint8_t n61 = load8(p60 + 1);
+									store8(inside(p8, n59), load8(p60));
+									store8(at(p55, UINT64_C(18446744073709551613)), n61);
+									n49 = n59;
 								}
 							}
-							uint64_t n60 = n47 - 1;
-							store8(inside(p7, n60), 32);
-							n34 = n60;
-							n35 = n36;
+							uint64_t n62 = n49 - 1;
+							store8(inside(p8, n62), 32);
+							n36 = n62;
+							n37 = n38;
 						}
-						byte *p61 = at(at(p7, n34), UINT64_C(18446744073709551609));
-						uint64_t n62 = (uint64_t)(uintptr_t)p61;
-						if ((n62 - (uint64_t)(uintptr_t)(byte *)tp_static_210) >= 7) {
-							memcpy(p61, (byte *)tp_static_210, 7);
+						byte *p63 = at(at(p8, n36), UINT64_C(18446744073709551609));
+						uint64_t n64 = (uint64_t)(uintptr_t)p63;
+						if ((n64 - (uint64_t)(uintptr_t)(byte *)tp_static_210) >= 7) {
+							memcpy(p63, (byte *)tp_static_210, 7);
 							goto L2;
 						}
-						n63 = 0;
-						while (n63 != 7) {
-							store8(inside(p61, n63), load8(inside((byte *)tp_static_210, n63)));
-							n63 = n63 + 1;
+						n65 = 0;
+						while (n65 != 7) {
+							store8(inside(p63, n65), load8(inside((byte *)tp_static_210, n65)));
+							n65 = n65 + 1;
 						}
 L2:
 						{
-							uint64_t n68, n69, n73;
-							uint8_t n70;
-							byte *p71, *p72;
-							uint64_t n64 = 125 - n34;
-							uint64_t n65 = load64(p6 + 16);
-							uint64_t n66 = load64(p6 + 8);
-							if (n64 > (n65 - n66)) {
-								bool b67 = tp_std_alloc_vec_Vec_grow_amortized_9(p6, n64);
-								if (!b67) {
-									n70 = 1;
+							uint64_t n70, n71, n75;
+							uint8_t n72;
+							byte *p73, *p74;
+							uint64_t n66 = 125 - n36;
+							uint64_t n67 = load64(p6 + 16);
+							uint64_t n68 = load64(p6 + 8);
+							if (n66 > (n67 - n68)) {
+								bool b69 = tp_std_alloc_vec_Vec_grow_amortized_9(p6, n66);
+								if (!b69) {
+									n72 = 1;
 									goto L3;
 								}
-								n68 = load64(p6 + 16);
-								n69 = load64(p6 + 8);
+								n70 = load64(p6 + 16);
+								n71 = load64(p6 + 8);
 							} else {
-								n68 = n65;
-								n69 = n66;
+								n70 = n67;
+								n71 = n68;
 							}
-							p71 = loadptr(p6);
-							p72 = at(p71, n69);
-							if (((uint64_t)(uintptr_t)p72 - n62) >= n64) {
-								memcpy(p72, p61, (size_t)n64);
+							p73 = loadptr(p6);
+							p74 = at(p73, n71);
+							if (((uint64_t)(uintptr_t)p74 - n64) >= n66) {
+								memcpy(p74, p63, (size_t)n66);
 								goto L4;
 							}
-							n73 = 0;
-							while (n73 != n64) {
-								store8(inside(p72, n73), load8(inside(p61, n73)));
-								n73 = n73 + 1;
+							n75 = 0;
+							while (n75 != n66) {
+								store8(inside(p74, n75), load8(inside(p63, n75)));
+								n75 = n75 + 1;
 							}
 L4:
 							{
-								storeptr(p6, p71);
-								store64(p6 + 8, n69 + n64);
-								store64(p6 + 16, n68);
-								n70 = 0;
+								storeptr(p6, p73);
+								store64(p6 + 8, n71 + n66);
+								store64(p6 + 16, n70);
+								n72 = 0;
 							}
 L3:
 							{
-								n74 = n70;
+								n76 = n72;
 							}
 						}
 					} else {
-						uint64_t n75;
-						byte *p76;
-						store64(p9, n2);
-						store64(p9 + 8, n3);
-						switch (n32) {
+						uint64_t n77;
+						byte *p78;
+						store64(p10, n2);
+						store64(p10 + 8, n3);
+						switch (n34) {
 						case 0: {
-							n75 = 13;
-							p76 = (byte *)tp_static_213;
+							n77 = 13;
+							p78 = (byte *)tp_static_213;
 							break;
 						}
 						case 1: {
-							n75 = 8;
-							p76 = (byte *)tp_static_214;
+							n77 = 8;
+							p78 = (byte *)tp_static_214;
 							break;
 						}
 						case 2: {
-							n75 = 13;
-							p76 = (byte *)tp_static_215;
+							n77 = 13;
+							p78 = (byte *)tp_static_215;
 							break;
 						}
 						case 3: {
-							n75 = 4;
-							p76 = (byte *)tp_static_216;
+							n77 = 4;
+							p78 = (byte *)tp_static_216;
 							break;
 						}
 						default: {
 							UNREACHABLE();
 						}
 						}
-						uint8_t n77 = tp_text_push_refused(p6, (byte *)tp_static_203, 7, p9, 2, p76, n75);
-						n74 = n77;
+						uint8_t n79 = tp_text_push_refused(p6, (byte *)tp_static_203, 7, p10, 2, p78, n77);
+						n76 = n79;
 					}
-					n78 = n74;
+					n80 = n76;
 					goto L5;
 				}
 			}
-			store64(p10, n2);
-			store64(p10 + 8, n3);
-			n12 = 5;
-			p13 = (byte *)tp_static_221;
+			store64(p11, n2);
+			store64(p11 + 8, n3);
+			n14 = 5;
+			p15 = (byte *)tp_static_221;
 		}
 	} else {
-		store64(p10, n2);
-		store64(p10 + 8, n3);
-		n12 = 9;
-		p13 = (byte *)tp_static_218;
+		store64(p11, n2);
+		store64(p11 + 8, n3);
+		n14 = 9;
+		p15 = (byte *)tp_static_218;
 	}
-	n79 = tp_text_push_refused(p6, (byte *)tp_static_203, 7, p10, 2, p13, n12);
-	n78 = n79;
+	n81 = tp_text_push_refused(p6, (byte *)tp_static_203, 7, p11, 2, p15, n14);
+	n80 = n81;
 L5:
 	{
-		return n78;
+		return n80;
 	}
 }
 
@@ -44438,62 +44527,66 @@ L5:
 static NOINLINE uint8_t tp_timer_script_script_run_play_stop_2(byte *p1, uint64_t n2, uint64_t n3, uint64_t n4, byte *p5)
 {
 	ALIGN(1) byte p6[118];
-	ALIGN(8) byte p7[24];
-	ALIGN(8) byte p8[16];
-	ALIGN(8) byte p9[16];
-	uint64_t n14;
-	byte *p10 = loadptr(p1 + 1144);
-	uint64_t n11 = load64(p1 + 1152);
-	if (n11 != 0) {
-		uint64_t n12 = load64(at(at(p10, n11 << 4), UINT64_C(18446744073709551608))) - n4;
-		if (n11 > n12) {
-			byte *p13 = inside(p10, (n11 + (n12 ^ UINT64_MAX)) << 4);
-			if (load64(p13 + 8) != n4)
+	ALIGN(1) byte p7[118];
+	ALIGN(1) byte p8[118];
+	ALIGN(8) byte p9[32];
+	ALIGN(8) byte p10[24];
+	ALIGN(8) byte p11[40];
+	ALIGN(8) byte p12[16];
+	ALIGN(8) byte p13[16];
+	uint64_t n18;
+	byte *p14 = loadptr(p1 + 1144);
+	uint64_t n15 = load64(p1 + 1152);
+	if (n15 != 0) {
+		uint64_t n16 = load64(at(at(p14, n15 << 4), UINT64_C(18446744073709551608))) - n4;
+		if (n15 > n16) {
+			byte *p17 = inside(p14, (n15 + (n16 ^ UINT64_MAX)) << 4);
+			if (load64(p17 + 8) != n4)
 				goto L1;
-			n14 = load64(p13);
+			n18 = load64(p17);
 			goto L2;
 		}
 	}
-	if (n11 == 0) {
-		n14 = 0;
+	if (n15 == 0) {
+		n18 = 0;
 		goto L2;
 	}
 L1:
 	{
-		uint64_t n15 = 0;
-		uint64_t n16 = n11;
-		while (n16 > 1) {
-			uint64_t n20;
-			uint64_t n17 = n16 >> 1;
-			uint64_t n18 = n15 + n17;
-			uint64_t n19 = load64(at(p10, n18 << 4) + 8);
-			switch ((n19 == n4) ? 1 : (uint8_t)((n19 < n4) ? 0 : 2)) {
+		uint64_t n19 = 0;
+		uint64_t n20 = n15;
+		while (n20 > 1) {
+			uint64_t n24;
+			uint64_t n21 = n20 >> 1;
+			uint64_t n22 = n19 + n21;
+			uint64_t n23 = load64(at(p14, n22 << 4) + 8);
+			switch ((n23 == n4) ? 1 : (uint8_t)((n23 < n4) ? 0 : 2)) {
 			case 0:
 			case 1: {
-				n20 = n18;
+				n24 = n22;
 				break;
 			}
 			case 2: {
-				n20 = n15;
+				n24 = n19;
 				break;
 			}
 			default: {
 				UNREACHABLE();
 			}
 			}
-			n15 = n20;
-			n16 = n16 - n17;
+			n19 = n24;
+			n20 = n20 - n21;
 		}
-		byte *p21 = at(p10, n15 << 4);
-		uint64_t n22 = load64(p21 + 8);
-		switch ((n22 == n4) ? 1 : (uint8_t)((n22 < n4) ? 0 : 2)) {
+		byte *p25 = at(p14, n19 << 4);
+		uint64_t n26 = load64(p25 + 8);
+		switch ((n26 == n4) ? 1 : (uint8_t)((n26 < n4) ? 0 : 2)) {
 		case 1: {
-			n14 = load64(p21);
+			n18 = load64(p25);
 			break;
 		}
 		case 0:
 		case 2: {
-			n14 = 0;
+			n18 = 0;
 			break;
 		}
 		default: {
@@ -44503,435 +44596,702 @@ L1:
 	}
 L2:
 	{
-		uint64_t n24;
-		byte *p25;
-		uint8_t n101, n102;
-		if (load64(p1 + 1160) == n11) {
-			bool b23 = tp_std_alloc_vec_Vec_grow_amortized_5(p1 + 1144);
-			if (!b23)
-				return 1;
-		}
+		uint64_t n27;
+		byte *p28;
 		if ((load8(p1 + 1104) & 1) != 0) {
-			store64(p9, n2);
-			store64(p9 + 8, n3);
-			n24 = 6;
-			p25 = (byte *)tp_static_208;
+			store64(p13, n2);
+			store64(p13 + 8, n3);
+			n27 = 6;
+			p28 = (byte *)tp_static_208;
 		} else if (load64(p1 + 56) > n2) {
-			uint64_t n26 = n2 << 3;
-			byte *p27 = inside(p1 + 80, n26);
-			uint64_t n28 = load64(p27);
-			if (n3 < n28) {
-				store64(p9, n2);
-				store64(p9 + 8, n3);
-				n24 = 8;
-				p25 = (byte *)tp_static_219;
-			} else if (n28 > UINT64_C(1152921504606846975)) {
-				store64(p9, n2);
-				store64(p9 + 8, n3);
-				n24 = 13;
-				p25 = (byte *)tp_static_220;
+			uint64_t n29 = n2 << 3;
+			byte *p30 = inside(p1 + 80, n29);
+			uint64_t n31 = load64(p30);
+			if (n3 < n31) {
+				store64(p13, n2);
+				store64(p13 + 8, n3);
+				n27 = 8;
+				p28 = (byte *)tp_static_219;
+			} else if (n31 > UINT64_C(1152921504606846975)) {
+				store64(p13, n2);
+				store64(p13 + 8, n3);
+				n27 = 13;
+				p28 = (byte *)tp_static_220;
 			} else {
-				if (n28 >= n3) {
-					uint64_t n54;
-					uint8_t n55, n56, n60;
-					if (n14 == 0) {
-						uint64_t n33, n37, n38, n39, n40, n41, n42;
-						uint8_t n34, n35;
-						byte *p36;
-						byte *p29 = loadptr(p1 + 16);
-						uint64_t n30 = load64(p1 + 24);
-						byte *p31 = p29;
-						uint64_t n32 = n30;
+				if (n31 >= n3) {
+					uint64_t n57, n58, n59;
+					uint8_t n100;
+					if (n18 == 0) {
+						uint64_t n36, n37, n38, n40, n41, n42, n43, n44, n45;
+						byte *p39;
+						byte *p32 = loadptr(p1 + 16);
+						uint64_t n33 = load64(p1 + 24);
+						byte *p34 = p32;
+						uint64_t n35 = n33;
 						for (;;) {
-							if (n32 == 0) {
-								n33 = 0;
-								n34 = 4;
-								n35 = 3;
+							if (n35 == 0) {
+								n36 = 0;
+								n37 = 1024;
+								n38 = 3;
 								goto L3;
 							}
-							if (load64u(p31) == n4)
+							if (load64u(p34) == n4)
 								break;
-							p31 = p31 + 40;
-							n32 = n32 - 1;
+							p34 = p34 + 40;
+							n35 = n35 - 1;
 						}
-						if (load64u(p31 + 8) != n2) {
-							n33 = 0;
-							n34 = 4;
-							n35 = 3;
+						if (load64u(p34 + 8) != n2) {
+							n36 = 0;
+							n37 = 1024;
+							n38 = 3;
 							goto L3;
 						}
-						p36 = p29;
-						n37 = n30;
+						p39 = p32;
+						n40 = n33;
 						for (;;) {
-							if (n37 == 0)
+							if (n40 == 0)
 								goto L4;
-							if (load64u(p36) == n4)
+							if (load64u(p39) == n4)
 								break;
-							p36 = p36 + 40;
-							n37 = n37 - 1;
+							p39 = p39 + 40;
+							n40 = n40 - 1;
 						}
-						n38 = load64(p1 + 32);
+						n41 = load64(p1 + 32);
 						memset(p1 + 24, 0, 16);
-						n39 = 0;
+						n42 = 0;
 						for (;;) {
-							if (n39 == n30) {
-								n40 = n30;
+							if (n42 == n33) {
+								n43 = n33;
 								goto L5;
 							}
-							if (load64(at(p29, n39 * 40)) == n4) {
-								n41 = n39;
-								n42 = n39;
+							if (load64(at(p32, n42 * 40)) == n4) {
+								n44 = n42;
+								n45 = n42;
 								break;
 							}
-							n39 = n39 + 1;
+							n42 = n42 + 1;
 						}
 						for (;;) {
-							uint64_t n43 = n41 + 1;
-							if (n43 >= n30) {
-								n40 = n42;
+							uint64_t n46 = n44 + 1;
+							if (n46 >= n33) {
+								n43 = n45;
 								break;
 							}
-							byte *p44 = at(p29, n43 * 40);
-							bool b45 = load64(p44) != n4;
-							memmove(inside(p29, n42 * 40), p44, 40);
-							n41 = n43;
-							n42 = n42 + (uint64_t)b45;
+							byte *p47 = at(p32, n46 * 40);
+							bool b48 = load64(p47) != n4;
+							memmove(inside(p32, n45 * 40), p47, 40);
+							n44 = n46;
+							n45 = n45 + (uint64_t)b48;
 						}
 L5:
 						{
-							storeptr(p1 + 16, p29);
-							store64(p1 + 24, n40);
-							store64(p1 + 32, n38);
-							uint64_t n46 = load64(p1);
-							byte *p47 = p29;
-							uint64_t n48 = n40;
-							uint64_t n49 = 0;
+							storeptr(p1 + 16, p32);
+							store64(p1 + 24, n43);
+							store64(p1 + 32, n41);
+							uint64_t n49 = load64(p1);
+							byte *p50 = p32;
+							uint64_t n51 = n43;
+							uint64_t n52 = 0;
 							{
 L6:
 								for (;;) {
-									byte *p50 = p47;
-									uint64_t n51 = n48;
-									while (n51 != 0) {
-										uint64_t n52 = n51 - 1;
-										if (load64(p50 + 24) == n46) {
-											p47 = p50 + 40;
-											n48 = n52;
-											n49 = n49 + 1;
+									byte *p53 = p50;
+									uint64_t n54 = n51;
+									while (n54 != 0) {
+										uint64_t n55 = n54 - 1;
+										if (load64(p53 + 24) == n49) {
+											p50 = p53 + 40;
+											n51 = n55;
+											n52 = n52 + 1;
 											goto L6;
 										}
-										p50 = p50 + 40;
-										n51 = n52;
+										p53 = p53 + 40;
+										n54 = n55;
 									}
-									store64(p1 + 40, n49);
+									store64(p1 + 40, n52);
 									break;
 								}
 							}
 						}
 L4:
 						{
-							byte *p53 = inside(p1 + 592, n26);
-							store64(p53, load64(p53) - 1);
-							n33 = n4;
-							n34 = 0;
-							n35 = 1;
+							byte *p56 = inside(p1 + 592, n29);
+							store64(p56, load64(p56) - 1);
+							n36 = n4;
+							n37 = 0;
+							n38 = 1;
 						}
 L3:
 						{
-							n54 = n33;
-							n55 = n34;
-							n56 = n35;
+							n57 = n38;
+							n58 = n37;
+							n59 = n36;
 						}
 					} else {
-						n54 = 0;
-						n55 = 4;
-						n56 = 3;
+						n57 = 3;
+						n58 = 1024;
+						n59 = 0;
 					}
-					store64(p27, n3 + 1);
+					store64(p30, n3 + 1);
 					if ((((load64(p1 + 24) - load64(p1 + 40)) << 1) + 64) < load64(p1 + 1152))
 						tp_timer_facility_handles_sweep_2(p1 + 1144, p1);
-					memset(p9, 0, 16);
-					memset(p8, 0, 16);
-					if (n56 == 3) {
-						uint64_t n57;
-						byte *p58;
-						store64(p8, n2);
-						store64(p8 + 8, n3);
-						if (n55 == 0) {
-							n57 = 13;
-							p58 = (byte *)tp_static_213;
-						} else {
-							n57 = 7;
-							p58 = (byte *)tp_static_217;
-						}
-						uint8_t n59 = tp_text_push_refused(p5, (byte *)tp_static_203, 7, p8, 2, p58, n57);
-						n60 = n59;
-					} else {
-						uint64_t n90;
-						store64(p7, n2);
-						store64(p7 + 8, n3);
-						store64(p7 + 16, n54);
-						memset(p6, 0, 117);
-						store8(p6 + 117, 10);
-						uint64_t n61 = 117;
-						uint64_t n62 = 3;
-						while (n62 != 0) {
-							uint64_t n74;
-							uint64_t n63 = n62 - 1;
-							uint64_t n64 = load64(inside(p7, n63 << 3));
-							uint64_t n65 = n61;
-							while (n64 > 9999) {
-								uint16_t n66 = (uint16_t)(n64 % 10000);
-								byte *p67 = inside((byte *)tp_static_224, (uint64_t)(uint16_t)((uint32_t)(uint16_t)(n66 % 100) << 1));
-								byte *p68 = at(p6, n65);
-								uint8_t n69 = load8(p67 + 1);
-								store8(at(p68, UINT64_C(18446744073709551614)), load8(p67));
-								store8(at(p68, UINT64_MAX), n69);
-								uint64_t n70 = n65 - 4;
-								byte *p71 = inside((byte *)tp_static_224, (uint64_t)(uint16_t)((uint32_t)(uint16_t)(n66 / 100) << 1));
-								uint8_t n72 = load8(p71 + 1);
-								store8(inside(p6, n70), load8(p71));
-								store8(at(p68, UINT64_C(18446744073709551613)), n72);
-								n64 = n64 / 10000;
-								n65 = n70;
+					memset(p13, 0, 16);
+					memset(p12, 0, 16);
+					switch ((uint8_t)(n58 | n57)) {
+					case 0: {
+						uint64_t n89;
+						store64(p9, n2);
+						store64(p9 + 8, n3);
+						memset(p9 + 16, 0, 16);
+						memset(p8, 0, 117);
+						store8(p8 + 117, 10);
+						uint64_t n60 = 117;
+						uint64_t n61 = 4;
+						while (n61 != 0) {
+							uint64_t n73;
+							uint64_t n62 = n61 - 1;
+							uint64_t n63 = load64(inside(p9, n62 << 3));
+							uint64_t n64 = n60;
+							while (n63 > 9999) {
+								uint16_t n65 = (uint16_t)(n63 % 10000);
+								byte *p66 = inside((byte *)tp_static_224, (uint64_t)(uint16_t)((uint32_t)(uint16_t)(n65 % 100) << 1));
+								byte *p67 = at(p8, n64);
+								uint8_t n68 = load8(p66 + 1);
+								store8(at(p67, UINT64_C(18446744073709551614)), load8(p66));
+								store8(at(p67, UINT64_MAX), n68);
+								uint64_t n69 = n64 - 4;
+								byte *p70 = inside((byte *)tp_static_224, (uint64_t)(uint16_t)((uint32_t)(uint16_t)(n65 / 100) << 1));
+								uint8_t n71 = load8(p70 + 1);
+								store8(inside(p8, n69), load8(p70));
+								store8(at(p67, UINT64_C(18446744073709551613)), n71);
+								n63 = n63 / 10000;
+								n64 = n69;
 							}
-							if (n64 < 100) {
-								if (n64 < 10) {
-									uint64_t n73 = n65 - 1;
-									store8(inside(p6, n73), (uint8_t)((uint8_t)n64 | 48));
-									n74 = n73;
+							if (n63 < 100) {
+								if (n63 < 10) {
+									uint64_t n72 = n64 - 1;
+									store8(inside(p8, n72), (uint8_t)((uint8_t)n63 | 48));
+									n73 = n72;
 								} else {
-									uint64_t n75 = n65 - 2;
-									byte *p76 = inside((byte *)tp_static_224, n64 << 1);
-									uint8_t n77 = load8(p76 + 1);
-									store8(inside(p6, n75), load8(p76));
-									store8(at(at(p6, n65), UINT64_MAX), n77);
-									n74 = n75;
+									uint64_t n74 = n64 - 2;
+									byte *p75 = inside((byte *)tp_static_224, n63 << 1);
+									uint8_t n76 = load8(p75 + 1);
+									store8(inside(p8, n74), load8(p75));
+									store8(at(at(p8, n64), UINT64_MAX), n76);
+									n73 = n74;
 								}
 							} else {
-								uint16_t n78 = (uint16_t)n64;
-								byte *p79 = inside((byte *)tp_static_224, (uint64_t)(uint16_t)((uint32_t)(uint16_t)(n78 % 100) << 1));
-								byte *p80 = at(p6, n65);
-								uint8_t n81 = load8(p79 + 1);
-								store8(at(p80, UINT64_C(18446744073709551614)), load8(p79));
-								store8(at(p80, UINT64_MAX), n81);
-								uint16_t n82 = (uint16_t)(n78 / 100);
-								if (n64 < 1000) {
-									uint64_t n83 = n65 - 3;
-									store8(inside(p6, n83), (uint8_t)((uint8_t)n82 | 48));
-									n74 = n83;
+								uint16_t n77 = (uint16_t)n63;
+								byte *p78 = inside((byte *)tp_static_224, (uint64_t)(uint16_t)((uint32_t)(uint16_t)(n77 % 100) << 1));
+								byte *p79 = at(p8, n64);
+								uint8_t n80 = load8(p78 + 1);
+								store8(at(p79, UINT64_C(18446744073709551614)), load8(p78));
+								store8(at(p79, UINT64_MAX), n80);
+								uint16_t n81 = (uint16_t)(n77 / 100);
+								if (n63 < 1000) {
+									uint64_t n82 = n64 - 3;
+									store8(inside(p8, n82), (uint8_t)((uint8_t)n81 | 48));
+									n73 = n82;
 								} else {
-									uint64_t n84 = n65 - 4;
-									byte *p85 = inside((byte *)tp_static_224, (uint64_t)(uint16_t)((uint32_t)n82 << 1));
-									uint8_t n86 = load8(p85 + 1);
-									store8(inside(p6, n84), load8(p85));
-									store8(at(p80, UINT64_C(18446744073709551613)), n86);
-									n74 = n84;
+									uint64_t n83 = n64 - 4;
+									byte *p84 = inside((byte *)tp_static_224, (uint64_t)(uint16_t)((uint32_t)n81 << 1));
+									uint8_t n85 = load8(p84 + 1);
+									store8(inside(p8, n83), load8(p84));
+									store8(at(p79, UINT64_C(18446744073709551613)), n85);
+									n73 = n83;
 								}
 							}
-							uint64_t n87 = n74 - 1;
-							store8(inside(p6, n87), 32);
-							n61 = n87;
-							n62 = n63;
+							uint64_t n86 = n73 - 1;
+							store8(inside(p8, n86), 32);
+							n60 = n86;
+							n61 = n62;
 						}
-						byte *p88 = at(at(p6, n61), UINT64_C(18446744073709551609));
-						uint64_t n89 = (uint64_t)(uintptr_t)p88;
-						if ((n89 - (uint64_t)(uintptr_t)(byte *)tp_static_211) >= 7) {
-							memcpy(p88, (byte *)tp_static_211, 7);
+						byte *p87 = at(at(p8, n60), UINT64_C(18446744073709551609));
+						uint64_t n88 = (uint64_t)(uintptr_t)p87;
+						if ((n88 - (uint64_t)(uintptr_t)(byte *)tp_static_210) >= 7) {
+							memcpy(p87, (byte *)tp_static_210, 7);
 							goto L7;
 						}
-						n90 = 0;
-						while (n90 != 7) {
-							store8(inside(p88, n90), load8(inside((byte *)tp_static_211, n90)));
-							n90 = n90 + 1;
+						n89 = 0;
+						while (n89 != 7) {
+							store8(inside(p87, n89), load8(inside((byte *)tp_static_210, n89)));
+							n89 = n89 + 1;
 						}
 L7:
 						{
-							uint64_t n95, n96, n100;
-							uint8_t n97;
-							byte *p98, *p99;
-							uint64_t n91 = 125 - n61;
-							uint64_t n92 = load64(p5 + 16);
-							uint64_t n93 = load64(p5 + 8);
-							if (n91 > (n92 - n93)) {
-								bool b94 = tp_std_alloc_vec_Vec_grow_amortized_9(p5, n91);
-								if (!b94) {
-									n97 = 1;
+							uint64_t n94, n95, n99;
+							uint8_t n96;
+							byte *p97, *p98;
+							uint64_t n90 = 125 - n60;
+							uint64_t n91 = load64(p5 + 16);
+							uint64_t n92 = load64(p5 + 8);
+							if (n90 > (n91 - n92)) {
+								bool b93 = tp_std_alloc_vec_Vec_grow_amortized_9(p5, n90);
+								if (!b93) {
+									n96 = 1;
 									goto L8;
 								}
-								n95 = load64(p5 + 16);
-								n96 = load64(p5 + 8);
+								n94 = load64(p5 + 16);
+								n95 = load64(p5 + 8);
 							} else {
+								n94 = n91;
 								n95 = n92;
-								n96 = n93;
 							}
-							p98 = loadptr(p5);
-							p99 = at(p98, n96);
-							if (((uint64_t)(uintptr_t)p99 - n89) >= n91) {
-								memcpy(p99, p88, (size_t)n91);
+							p97 = loadptr(p5);
+							p98 = at(p97, n95);
+							if (((uint64_t)(uintptr_t)p98 - n88) >= n90) {
+								memcpy(p98, p87, (size_t)n90);
 								goto L9;
 							}
-							n100 = 0;
-							while (n100 != n91) {
-								store8(inside(p99, n100), load8(inside(p88, n100)));
-								n100 = n100 + 1;
+							n99 = 0;
+							while (n99 != n90) {
+								store8(inside(p98, n99), load8(inside(p87, n99)));
+								n99 = n99 + 1;
 							}
 L9:
 							{
-								storeptr(p5, p98);
-								store64(p5 + 8, n96 + n91);
-								store64(p5 + 16, n95);
-								n97 = 0;
+								storeptr(p5, p97);
+								store64(p5 + 8, n95 + n90);
+								store64(p5 + 16, n94);
+								n96 = 0;
 							}
 L8:
 							{
-								n60 = n97;
+								n100 = n96;
 							}
 						}
+						break;
 					}
-					n101 = n60;
-					goto L10;
+					case 1: {
+						uint64_t n130;
+						store64(p10, n2);
+						store64(p10 + 8, n3);
+						store64(p10 + 16, n59);
+						memset(p7, 0, 117);
+						store8(p7 + 117, 10);
+						uint64_t n101 = 117;
+						uint64_t n102 = 3;
+						while (n102 != 0) {
+							uint64_t n114;
+							uint64_t n103 = n102 - 1;
+							uint64_t n104 = load64(inside(p10, n103 << 3));
+							uint64_t n105 = n101;
+							while (n104 > 9999) {
+								uint16_t n106 = (uint16_t)(n104 % 10000);
+								byte *p107 = inside((byte *)tp_static_224, (uint64_t)(uint16_t)((uint32_t)(uint16_t)(n106 % 100) << 1));
+								byte *p108 = at(p7, n105);
+								uint8_t n109 = load8(p107 + 1);
+								store8(at(p108, UINT64_C(18446744073709551614)), load8(p107));
+								store8(at(p108, UINT64_MAX), n109);
+								uint64_t n110 = n105 - 4;
+								byte *p111 = inside((byte *)tp_static_224, (uint64_t)(uint16_t)((uint32_t)(uint16_t)(n106 / 100) << 1));
+								uint8_t n112 = load8(p111 + 1);
+								store8(inside(p7, n110), load8(p111));
+								store8(at(p108, UINT64_C(18446744073709551613)), n112);
+								n104 = n104 / 10000;
+								n105 = n110;
+							}
+							if (n104 < 100) {
+								if (n104 < 10) {
+									uint64_t n113 = n105 - 1;
+									store8(inside(p7, n113), (uint8_t)((uint8_t)n104 | 48));
+									n114 = n113;
+								} else {
+									uint64_t n115 = n105 - 2;
+									byte *p116 = inside((byte *)tp_static_224, n104 << 1);
+									uint8_t n117 = load8(p116 + 1);
+									store8(inside(p7, n115), load8(p116));
+									store8(at(at(p7, n105), UINT64_MAX), n117);
+									n114 = n115;
+								}
+							} else {
+								uint16_t n118 = (uint16_t)n104;
+								byte *p119 = inside((byte *)tp_static_224, (uint64_t)(uint16_t)((uint32_t)(uint16_t)(n118 % 100) << 1));
+								byte *p120 = at(p7, n105);
+								uint8_t n121 = load8(p119 + 1);
+								store8(at(p120, UINT64_C(18446744073709551614)), load8(p119));
+								store8(at(p120, UINT64_MAX), n121);
+								uint16_t n122 = (uint16_t)(n118 / 100);
+								if (n104 < 1000) {
+									uint64_t n123 = n105 - 3;
+									store8(inside(p7, n123), (uint8_t)((uint8_t)n122 | 48));
+									n114 = n123;
+								} else {
+									uint64_t n124 = n105 - 4;
+									byte *p125 = inside((byte *)tp_static_224, (uint64_t)(uint16_t)((uint32_t)n122 << 1));
+									uint8_t n126 = load8(p125 + 1);
+									store8(inside(p7, n124), load8(p125));
+									store8(at(p120, UINT64_C(18446744073709551613)), n126);
+									n114 = n124;
+								}
+							}
+							uint64_t n127 = n114 - 1;
+							store8(inside(p7, n127), 32);
+							n101 = n127;
+							n102 = n103;
+						}
+						byte *p128 = at(at(p7, n101), UINT64_C(18446744073709551609));
+						uint64_t n129 = (uint64_t)(uintptr_t)p128;
+						if ((n129 - (uint64_t)(uintptr_t)(byte *)tp_static_211) >= 7) {
+							memcpy(p128, (byte *)tp_static_211, 7);
+							goto L10;
+						}
+						n130 = 0;
+						while (n130 != 7) {
+							store8(inside(p128, n130), load8(inside((byte *)tp_static_211, n130)));
+							n130 = n130 + 1;
+						}
+L10:
+						{
+							uint64_t n135, n136, n140;
+							uint8_t n137;
+							byte *p138, *p139;
+							uint64_t n131 = 125 - n101;
+							uint64_t n132 = load64(p5 + 16);
+							uint64_t n133 = load64(p5 + 8);
+							if (n131 > (n132 - n133)) {
+								bool b134 = tp_std_alloc_vec_Vec_grow_amortized_9(p5, n131);
+								if (!b134) {
+									n137 = 1;
+									goto L11;
+								}
+								n135 = load64(p5 + 16);
+								n136 = load64(p5 + 8);
+							} else {
+								n135 = n132;
+								n136 = n133;
+							}
+							p138 = loadptr(p5);
+							p139 = at(p138, n136);
+							if (((uint64_t)(uintptr_t)p139 - n129) >= n131) {
+								memcpy(p139, p128, (size_t)n131);
+								goto L12;
+							}
+							n140 = 0;
+							while (n140 != n131) {
+								store8(inside(p139, n140), load8(inside(p128, n140)));
+								n140 = n140 + 1;
+							}
+L12:
+							{
+								storeptr(p5, p138);
+								store64(p5 + 8, n136 + n131);
+								store64(p5 + 16, n135);
+								n137 = 0;
+							}
+L11:
+							{
+								n100 = n137;
+							}
+						}
+						break;
+					}
+					case 2: {
+						uint64_t n170;
+						store64(p11, n2);
+						store64(p11 + 8, n3);
+						memset(p11 + 16, 0, 24);
+						memset(p6, 0, 117);
+						store8(p6 + 117, 10);
+						uint64_t n141 = 117;
+						uint64_t n142 = 5;
+						while (n142 != 0) {
+							uint64_t n154;
+							uint64_t n143 = n142 - 1;
+							uint64_t n144 = load64(inside(p11, n143 << 3));
+							uint64_t n145 = n141;
+							while (n144 > 9999) {
+								uint16_t n146 = (uint16_t)(n144 % 10000);
+								byte *p147 = inside((byte *)tp_static_224, (uint64_t)(uint16_t)((uint32_t)(uint16_t)(n146 % 100) << 1));
+								byte *p148 = at(p6, n145);
+								uint8_t n149 = load8(p147 + 1);
+								store8(at(p148, UINT64_C(18446744073709551614)), load8(p147));
+								store8(at(p148, UINT64_MAX), n149);
+								uint64_t n150 = n145 - 4;
+								byte *p151 = inside((byte *)tp_static_224, (uint64_t)(uint16_t)((uint32_t)(uint16_t)(n146 / 100) << 1));
+								uint8_t n152 = load8(p151 + 1);
+								store8(inside(p6, n150), load8(p151));
+								store8(at(p148, UINT64_C(18446744073709551613)), n152);
+								n144 = n144 / 10000;
+								n145 = n150;
+							}
+							if (n144 < 100) {
+								if (n144 < 10) {
+									uint64_t n153 = n145 - 1;
+									store8(inside(p6, n153), (uint8_t)((uint8_t)n144 | 48));
+									n154 = n153;
+								} else {
+									uint64_t n155 = n145 - 2;
+									byte *p156 = inside((byte *)tp_static_224, n144 << 1);
+									uint8_t n157 = load8(p156 + 1);
+									store8(inside(p6, n155), load8(p156));
+									store8(at(at(p6, n145), UINT64_MAX), n157);
+									n154 = n155;
+								}
+							} else {
+								uint16_t n158 = (uint16_t)n144;
+								byte *p159 = inside((byte *)tp_static_224, (uint64_t)(uint16_t)((uint32_t)(uint16_t)(n158 % 100) << 1));
+								byte *p160 = at(p6, n145);
+								uint8_t n161 = load8(p159 + 1);
+								store8(at(p160, UINT64_C(18446744073709551614)), load8(p159));
+								store8(at(p160, UINT64_MAX), n161);
+								uint16_t n162 = (uint16_t)(n158 / 100);
+								if (n144 < 1000) {
+									uint64_t n163 = n145 - 3;
+									store8(inside(p6, n163), (uint8_t)((uint8_t)n162 | 48));
+									n154 = n163;
+								} else {
+									uint64_t n164 = n145 - 4;
+									byte *p165 = inside((byte *)tp_static_224, (uint64_t)(uint16_t)((uint32_t)n162 << 1));
+									uint8_t n166 = load8(p165 + 1);
+									store8(inside(p6, n164), load8(p165));
+									store8(at(p160, UINT64_C(18446744073709551613)), n166);
+									n154 = n164;
+								}
+							}
+							uint64_t n167 = n154 - 1;
+							store8(inside(p6, n167), 32);
+							n141 = n167;
+							n142 = n143;
+						}
+						byte *p168 = at(at(p6, n141), UINT64_C(18446744073709551607));
+						uint64_t n169 = (uint64_t)(uintptr_t)p168;
+						if ((n169 - (uint64_t)(uintptr_t)(byte *)tp_static_212) >= 9) {
+							memcpy(p168, (byte *)tp_static_212, 9);
+							goto L13;
+						}
+						n170 = 0;
+						while (n170 != 9) {
+							store8(inside(p168, n170), load8(inside((byte *)tp_static_212, n170)));
+							n170 = n170 + 1;
+						}
+L13:
+						{
+							uint64_t n175, n176, n180;
+							uint8_t n177;
+							byte *p178, *p179;
+							uint64_t n171 = 127 - n141;
+							uint64_t n172 = load64(p5 + 16);
+							uint64_t n173 = load64(p5 + 8);
+							if (n171 > (n172 - n173)) {
+								bool b174 = tp_std_alloc_vec_Vec_grow_amortized_9(p5, n171);
+								if (!b174) {
+									n177 = 1;
+									goto L14;
+								}
+								n175 = load64(p5 + 16);
+								n176 = load64(p5 + 8);
+							} else {
+								n175 = n172;
+								n176 = n173;
+							}
+							p178 = loadptr(p5);
+							p179 = at(p178, n176);
+							if (((uint64_t)(uintptr_t)p179 - n169) >= n171) {
+								memcpy(p179, p168, (size_t)n171);
+								goto L15;
+							}
+							n180 = 0;
+							while (n180 != n171) {
+								store8(inside(p179, n180), load8(inside(p168, n180)));
+								n180 = n180 + 1;
+							}
+L15:
+							{
+								storeptr(p5, p178);
+								store64(p5 + 8, n176 + n171);
+								store64(p5 + 16, n175);
+								n177 = 0;
+							}
+L14:
+							{
+								n100 = n177;
+							}
+						}
+						break;
+					}
+					case 3: {
+						uint64_t n181;
+						byte *p182;
+						store64(p12, n2);
+						store64(p12 + 8, n3);
+						switch ((uint8_t)(n58 >> 8)) {
+						case 0: {
+							n181 = 13;
+							p182 = (byte *)tp_static_213;
+							break;
+						}
+						case 1: {
+							n181 = 8;
+							p182 = (byte *)tp_static_214;
+							break;
+						}
+						case 2: {
+							n181 = 13;
+							p182 = (byte *)tp_static_215;
+							break;
+						}
+						case 3: {
+							n181 = 4;
+							p182 = (byte *)tp_static_216;
+							break;
+						}
+						case 4: {
+							n181 = 7;
+							p182 = (byte *)tp_static_217;
+							break;
+						}
+						default: {
+							UNREACHABLE();
+						}
+						}
+						uint8_t n183 = tp_text_push_refused(p5, (byte *)tp_static_203, 7, p12, 2, p182, n181);
+						n100 = n183;
+						break;
+					}
+					default: {
+						UNREACHABLE();
+					}
+					}
+					return n100;
 				}
-				store64(p9, n2);
-				store64(p9 + 8, n3);
-				n24 = 5;
-				p25 = (byte *)tp_static_221;
+				store64(p13, n2);
+				store64(p13 + 8, n3);
+				n27 = 5;
+				p28 = (byte *)tp_static_221;
 			}
 		} else {
-			store64(p9, n2);
-			store64(p9 + 8, n3);
-			n24 = 9;
-			p25 = (byte *)tp_static_218;
+			store64(p13, n2);
+			store64(p13 + 8, n3);
+			n27 = 9;
+			p28 = (byte *)tp_static_218;
 		}
-		n102 = tp_text_push_refused(p5, (byte *)tp_static_203, 7, p9, 2, p25, n24);
-		n101 = n102;
-L10:
-		{
-			return n101;
-		}
+		uint8_t n184 = tp_text_push_refused(p5, (byte *)tp_static_203, 7, p13, 2, p28, n27);
+		return n184;
 	}
 }
 
 /* timer_facility::facility::Facility::take_restart: crates/timer_facility/src/facility.rt */
-static void tp_timer_facility_facility_Facility_take_restart(byte *p1, byte *p2, uint64_t n3, uint64_t n4, uint64_t n5, uint64_t n6, uint64_t n7, uint64_t n8)
+static void tp_timer_facility_facility_Facility_take_restart(byte *p1, byte *p2, uint64_t n3, uint64_t n4, uint64_t n5, uint64_t n6, uint64_t n7, uint64_t n8, uint64_t n9)
 {
 	if (n5 == 0) {
-		byte *p9 = loadptr(p2 + 16);
-		uint64_t n10 = load64(p2 + 24);
-		byte *p11 = p9;
-		uint64_t n12 = n10;
+		byte *p10 = loadptr(p2 + 16);
+		uint64_t n11 = load64(p2 + 24);
+		byte *p12 = p10;
+		uint64_t n13 = n11;
 		for (;;) {
-			if (n12 == 0)
+			if (n13 == 0)
 				goto L1;
-			if (load64u(p11) == n6)
+			if (load64u(p12) == n6)
 				break;
-			p11 = p11 + 40;
-			n12 = n12 - 1;
+			p12 = p12 + 40;
+			n13 = n13 - 1;
 		}
-		if (load64u(p11 + 8) == n3) {
-			uint8_t n13;
+		if (load64u(p12 + 8) == n3) {
+			uint8_t n14;
 			if (n7 == 0) {
-				n13 = 0;
+				n14 = 0;
 			} else {
-				uint64_t n14 = load64(p2);
-				if ((UINT64_C(1152921504606846975) - n14) < n7) {
-					n13 = 1;
+				uint64_t n15 = load64(p2);
+				if ((UINT64_C(1152921504606846975) - n15) < n7) {
+					n14 = 1;
 				} else {
-					uint64_t n15 = load64(p2 + 72);
-					if (n15 <= UINT64_C(1152921504606846975)) {
-						uint64_t n21, n22, n23;
-						uint64_t n16 = n14 + n7;
-						byte *p17 = p9;
-						uint64_t n18 = n10;
+					uint64_t n16 = load64(p2 + 72);
+					if (n16 <= UINT64_C(1152921504606846975)) {
+						uint64_t n22, n23, n24;
+						uint64_t n17 = n15 + n8;
+						byte *p18 = p10;
+						uint64_t n19 = n11;
 						for (;;) {
-							if (n18 == 0) {
+							if (n19 == 0) {
 								TRAP();
 								UNREACHABLE();
 							}
-							if (load64u(p17) == n6)
+							if (load64u(p18) == n6)
 								break;
-							p17 = p17 + 40;
-							n18 = n18 - 1;
+							p18 = p18 + 40;
+							n19 = n19 - 1;
 						}
-						uint64_t n19 = load64(p2 + 32);
+						uint64_t n20 = load64(p2 + 32);
 						memset(p2 + 24, 0, 16);
-						uint64_t n20 = 0;
+						uint64_t n21 = 0;
 						for (;;) {
-							if (n20 == n10) {
-								n21 = n10;
+							if (n21 == n11) {
+								n22 = n11;
 								goto L2;
 							}
-							if (load64(at(p9, n20 * 40)) == n6) {
-								n22 = n20;
-								n23 = n20;
+							if (load64(at(p10, n21 * 40)) == n6) {
+								n23 = n21;
+								n24 = n21;
 								break;
 							}
-							n20 = n20 + 1;
+							n21 = n21 + 1;
 						}
 						for (;;) {
-							uint64_t n24 = n22 + 1;
-							if (n24 >= n10) {
-								n21 = n23;
+							uint64_t n25 = n23 + 1;
+							if (n25 >= n11) {
+								n22 = n24;
 								break;
 							}
-							byte *p25 = at(p9, n24 * 40);
-							bool b26 = load64(p25) != n6;
-							memmove(inside(p9, n23 * 40), p25, 40);
-							n22 = n24;
-							n23 = n23 + (uint64_t)b26;
+							byte *p26 = at(p10, n25 * 40);
+							bool b27 = load64(p26) != n6;
+							memmove(inside(p10, n24 * 40), p26, 40);
+							n23 = n25;
+							n24 = n24 + (uint64_t)b27;
 						}
 L2:
 						{
-							storeptr(p2 + 16, p9);
-							store64(p2 + 32, n19);
-							byte *p27 = inside(p9, n21 * 40);
-							store64u(p27, n15);
-							store64u(p27 + 8, n3);
-							store64u(p27 + 16, n4);
-							store64u(p27 + 24, n16);
-							store64u(p27 + 32, n8);
-							uint64_t n28 = n21 + 1;
-							store64(p2 + 24, n28);
-							uint64_t n29 = load64(p2);
-							byte *p30 = loadptr(p2 + 16);
-							uint64_t n31 = n28;
-							uint64_t n32 = 0;
+							storeptr(p2 + 16, p10);
+							store64(p2 + 32, n20);
+							byte *p28 = inside(p10, n22 * 40);
+							store64u(p28, n16);
+							store64u(p28 + 8, n3);
+							store64u(p28 + 16, n4);
+							store64u(p28 + 24, n17);
+							store64u(p28 + 32, n9);
+							uint64_t n29 = n22 + 1;
+							store64(p2 + 24, n29);
+							uint64_t n30 = load64(p2);
+							byte *p31 = loadptr(p2 + 16);
+							uint64_t n32 = n29;
+							uint64_t n33 = 0;
 							for (;;) {
-								byte *p33 = p30;
-								uint64_t n34 = n31;
+								byte *p34 = p31;
+								uint64_t n35 = n32;
 								for (;;) {
-									if (n34 == 0)
+									if (n35 == 0)
 										goto L3;
-									uint64_t n35 = n34 - 1;
-									if (load64(p33 + 24) == n29) {
-										p30 = p33 + 40;
-										n31 = n35;
-										n32 = n32 + 1;
+									uint64_t n36 = n35 - 1;
+									if (load64(p34 + 24) == n30) {
+										p31 = p34 + 40;
+										n32 = n36;
+										n33 = n33 + 1;
 										break;
 									}
-									p33 = p33 + 40;
-									n34 = n35;
+									p34 = p34 + 40;
+									n35 = n36;
 								}
 							}
 L3:
 							{
-								store64(p2 + 40, n32);
-								store64(p2 + 8, n15);
+								store64(p2 + 40, n33);
+								store64(p2 + 8, n16);
 								store64(p2 + 72, load64(p2 + 72) + 1);
 								store8(p1, 2);
 								store8(p1 + 1, 0);
 								store64u(p1 + 8, 0);
-								store64u(p1 + 16, n15);
-								store64u(p1 + 24, n16);
+								store64u(p1 + 16, n16);
+								store64u(p1 + 24, n17);
 								store64u(p1 + 32, n6);
 								return;
 							}
 						}
 					}
-					n13 = 2;
+					n14 = 2;
 				}
 			}
 			store8(p1, 3);
-			store8(p1 + 1, n13);
+			store8(p1 + 1, n14);
 			memset(p1 + 8, 0, 32);
 			return;
 		}
@@ -44949,67 +45309,68 @@ L1:
 static NOINLINE uint8_t tp_timer_script_script_run_play_restart_2(byte *p1, uint64_t n2, uint64_t n3, uint64_t n4, uint64_t n5, uint64_t n6, byte *p7)
 {
 	ALIGN(8) byte p8[40];
-	ALIGN(1) byte p9[118];
+	ALIGN(8) byte p9[40];
 	ALIGN(1) byte p10[118];
 	ALIGN(1) byte p11[118];
-	ALIGN(8) byte p12[32];
-	ALIGN(8) byte p13[24];
-	ALIGN(8) byte p14[40];
-	ALIGN(8) byte p15[16];
+	ALIGN(1) byte p12[118];
+	ALIGN(8) byte p13[32];
+	ALIGN(8) byte p14[24];
+	ALIGN(8) byte p15[40];
 	ALIGN(8) byte p16[16];
-	uint64_t n21;
-	byte *p17 = loadptr(p1 + 1144);
-	uint64_t n18 = load64(p1 + 1152);
-	if (n18 != 0) {
-		uint64_t n19 = load64(at(at(p17, n18 << 4), UINT64_C(18446744073709551608))) - n4;
-		if (n18 > n19) {
-			byte *p20 = inside(p17, (n18 + (n19 ^ UINT64_MAX)) << 4);
-			if (load64(p20 + 8) != n4)
+	ALIGN(8) byte p17[16];
+	uint64_t n22;
+	byte *p18 = loadptr(p1 + 1144);
+	uint64_t n19 = load64(p1 + 1152);
+	if (n19 != 0) {
+		uint64_t n20 = load64(at(at(p18, n19 << 4), UINT64_C(18446744073709551608))) - n4;
+		if (n19 > n20) {
+			byte *p21 = inside(p18, (n19 + (n20 ^ UINT64_MAX)) << 4);
+			if (load64(p21 + 8) != n4)
 				goto L1;
-			n21 = load64(p20);
+			n22 = load64(p21);
 			goto L2;
 		}
 	}
-	if (n18 == 0) {
-		n21 = 0;
+	if (n19 == 0) {
+		n22 = 0;
 		goto L2;
 	}
 L1:
 	{
-		uint64_t n22 = 0;
-		uint64_t n23 = n18;
-		while (n23 > 1) {
-			uint64_t n27;
-			uint64_t n24 = n23 >> 1;
-			uint64_t n25 = n22 + n24;
-			uint64_t n26 = load64(at(p17, n25 << 4) + 8);
-			switch ((n26 == n4) ? 1 : (uint8_t)((n26 < n4) ? 0 : 2)) {
+		uint64_t n23 = 0;
+		uint64_t n24 = n19;
+		while (n24 > 1) {
+			uint64_t n28;
+			uint64_t n25 = n24 >> 1;
+			uint64_t n26 = n23 + n25;
+			uint64_t n27 = load64(at(p18, n26 << 4) + 8);
+			switch ((n27 == n4) ? 1 : (uint8_t)((n27 < n4) ? 0 : 2)) {
 			case 0:
 			case 1: {
-				n27 = n25;
+				n28 = n26;
 				break;
 			}
 			case 2: {
-				n27 = n22;
+				n28 = n23;
 				break;
 			}
 			default: {
 				UNREACHABLE();
 			}
 			}
-			n22 = n27;
-			n23 = n23 - n24;
+			n23 = n28;
+			n24 = n24 - n25;
 		}
-		byte *p28 = at(p17, n22 << 4);
-		uint64_t n29 = load64(p28 + 8);
-		switch ((n29 == n4) ? 1 : (uint8_t)((n29 < n4) ? 0 : 2)) {
+		byte *p29 = at(p18, n23 << 4);
+		uint64_t n30 = load64(p29 + 8);
+		switch ((n30 == n4) ? 1 : (uint8_t)((n30 < n4) ? 0 : 2)) {
 		case 1: {
-			n21 = load64(p28);
+			n22 = load64(p29);
 			break;
 		}
 		case 0:
 		case 2: {
-			n21 = 0;
+			n22 = 0;
 			break;
 		}
 		default: {
@@ -45019,59 +45380,67 @@ L1:
 	}
 L2:
 	{
-		uint64_t n31;
-		byte *p32;
-		uint8_t n169, n170;
-		if (load64(p1 + 1160) == n18) {
-			bool b30 = tp_std_alloc_vec_Vec_grow_amortized_5(p1 + 1144);
-			if (!b30)
-				return 1;
+		uint64_t n33;
+		byte *p34;
+		uint8_t n171, n172;
+		store64u(p9, 3);
+		store64u(p9 + 8, n22);
+		store64u(p9 + 16, n4);
+		store64u(p9 + 24, n5);
+		store64u(p9 + 32, n6);
+		if (load64(p1 + 1160) == n19) {
+			bool b31 = tp_std_alloc_vec_Vec_grow_amortized_5(p1 + 1144);
+			if (!b31) {
+				bool b32 = tp_timer_facility_facility_Facility_makes_timer(p1, n2, n3, p9);
+				if (b32)
+					return 1;
+			}
 		}
 		if ((load8(p1 + 1104) & 1) != 0) {
-			store64(p16, n2);
-			store64(p16 + 8, n3);
-			n31 = 6;
-			p32 = (byte *)tp_static_208;
+			store64(p17, n2);
+			store64(p17 + 8, n3);
+			n33 = 6;
+			p34 = (byte *)tp_static_208;
 		} else if (load64(p1 + 56) > n2) {
-			byte *p33 = inside(p1 + 80, n2 << 3);
-			uint64_t n34 = load64(p33);
-			if (n3 < n34) {
-				store64(p16, n2);
-				store64(p16 + 8, n3);
-				n31 = 8;
-				p32 = (byte *)tp_static_219;
-			} else if (n34 > UINT64_C(1152921504606846975)) {
-				store64(p16, n2);
-				store64(p16 + 8, n3);
-				n31 = 13;
-				p32 = (byte *)tp_static_220;
+			byte *p35 = inside(p1 + 80, n2 << 3);
+			uint64_t n36 = load64(p35);
+			if (n3 < n36) {
+				store64(p17, n2);
+				store64(p17 + 8, n3);
+				n33 = 8;
+				p34 = (byte *)tp_static_219;
+			} else if (n36 > UINT64_C(1152921504606846975)) {
+				store64(p17, n2);
+				store64(p17 + 8, n3);
+				n33 = 13;
+				p34 = (byte *)tp_static_220;
 			} else {
-				if (n34 >= n3) {
-					uint8_t n85;
+				if (n36 >= n3) {
+					uint8_t n87;
 					memset(p8, 0, 40);
-					tp_timer_facility_facility_Facility_take_restart(p8, p1, n2, n3, n21, n4, n5, n6);
-					uint8_t n35 = load8(p8);
-					uint8_t n36 = load8(p8 + 1);
-					uint64_t n37 = load64u(p8 + 8);
-					uint64_t n38 = load64u(p8 + 16);
-					uint64_t n39 = load64u(p8 + 24);
-					uint64_t n40 = load64u(p8 + 32);
-					store64(p33, n3 + 1);
-					switch (n35) {
+					tp_timer_facility_facility_Facility_take_restart(p8, p1, n2, n3, n22, n4, n5, n5, n6);
+					uint8_t n37 = load8(p8);
+					uint8_t n38 = load8(p8 + 1);
+					uint64_t n39 = load64u(p8 + 8);
+					uint64_t n40 = load64u(p8 + 16);
+					uint64_t n41 = load64u(p8 + 24);
+					uint64_t n42 = load64u(p8 + 32);
+					store64(p35, n3 + 1);
+					switch (n37) {
 					case 0: {
-						uint64_t n41 = load64(p1 + 1152);
-						byte *p42 = inside(loadptr(p1 + 1144), n41 << 4);
-						store64u(p42, n37);
-						store64u(p42 + 8, n38);
-						store64(p1 + 1152, n41 + 1);
+						uint64_t n43 = load64(p1 + 1152);
+						byte *p44 = inside(loadptr(p1 + 1144), n43 << 4);
+						store64u(p44, n39);
+						store64u(p44 + 8, n40);
+						store64(p1 + 1152, n43 + 1);
 						break;
 					}
 					case 2: {
-						uint64_t n43 = load64(p1 + 1152);
-						byte *p44 = inside(loadptr(p1 + 1144), n43 << 4);
-						store64u(p44, n37);
-						store64u(p44 + 8, n38);
-						store64(p1 + 1152, n43 + 1);
+						uint64_t n45 = load64(p1 + 1152);
+						byte *p46 = inside(loadptr(p1 + 1144), n45 << 4);
+						store64u(p46, n39);
+						store64u(p46 + 8, n40);
+						store64(p1 + 1152, n45 + 1);
 						break;
 					}
 					case 1:
@@ -45084,446 +45453,446 @@ L2:
 					}
 					if ((((load64(p1 + 24) - load64(p1 + 40)) << 1) + 64) < load64(p1 + 1152))
 						tp_timer_facility_handles_sweep_2(p1 + 1144, p1);
+					memset(p17, 0, 16);
 					memset(p16, 0, 16);
-					memset(p15, 0, 16);
-					switch (n35) {
+					switch (n37) {
 					case 0: {
-						uint64_t n74;
-						store64(p12, n2);
-						store64(p12 + 8, n3);
-						store64(p12 + 16, n38);
-						store64(p12 + 24, n39);
-						memset(p11, 0, 117);
-						store8(p11 + 117, 10);
-						uint64_t n45 = 117;
-						uint64_t n46 = 4;
-						while (n46 != 0) {
-							uint64_t n58;
-							uint64_t n47 = n46 - 1;
-							uint64_t n48 = load64(inside(p12, n47 << 3));
-							uint64_t n49 = n45;
-							while (n48 > 9999) {
-								uint16_t n50 = (uint16_t)(n48 % 10000);
-								byte *p51 = inside((byte *)tp_static_224, (uint64_t)(uint16_t)((uint32_t)(uint16_t)(n50 % 100) << 1));
-								byte *p52 = at(p11, n49);
-								uint8_t n53 = load8(p51 + 1);
-								store8(at(p52, UINT64_C(18446744073709551614)), load8(p51));
-								store8(at(p52, UINT64_MAX), n53);
-								uint64_t n54 = n49 - 4;
-								byte *p55 = inside((byte *)tp_static_224, (uint64_t)(uint16_t)((uint32_t)(uint16_t)(n50 / 100) << 1));
-								uint8_t n56 = load8(p55 + 1);
-								store8(inside(p11, n54), load8(p55));
-								store8(at(p52, UINT64_C(18446744073709551613)), n56);
-								n48 = n48 / 10000;
-								n49 = n54;
+						uint64_t n76;
+						store64(p13, n2);
+						store64(p13 + 8, n3);
+						store64(p13 + 16, n40);
+						store64(p13 + 24, n41);
+						memset(p12, 0, 117);
+						store8(p12 + 117, 10);
+						uint64_t n47 = 117;
+						uint64_t n48 = 4;
+						while (n48 != 0) {
+							uint64_t n60;
+							uint64_t n49 = n48 - 1;
+							uint64_t n50 = load64(inside(p13, n49 << 3));
+							uint64_t n51 = n47;
+							while (n50 > 9999) {
+								uint16_t n52 = (uint16_t)(n50 % 10000);
+								byte *p53 = inside((byte *)tp_static_224, (uint64_t)(uint16_t)((uint32_t)(uint16_t)(n52 % 100) << 1));
+								byte *p54 = at(p12, n51);
+								uint8_t n55 = load8(p53 + 1);
+								store8(at(p54, UINT64_C(18446744073709551614)), load8(p53));
+								store8(at(p54, UINT64_MAX), n55);
+								uint64_t n56 = n51 - 4;
+								byte *p57 = inside((byte *)tp_static_224, (uint64_t)(uint16_t)((uint32_t)(uint16_t)(n52 / 100) << 1));
+								uint8_t n58 = load8(p57 + 1);
+								store8(inside(p12, n56), load8(p57));
+								store8(at(p54, UINT64_C(18446744073709551613)), n58);
+								n50 = n50 / 10000;
+								n51 = n56;
 							}
-							if (n48 < 100) {
-								if (n48 < 10) {
-									uint64_t n57 = n49 - 1;
-									store8(inside(p11, n57), (uint8_t)((uint8_t)n48 | 48));
-									n58 = n57;
+							if (n50 < 100) {
+								if (n50 < 10) {
+									uint64_t n59 = n51 - 1;
+									store8(inside(p12, n59), (uint8_t)((uint8_t)n50 | 48));
+									n60 = n59;
 								} else {
-									uint64_t n59 = n49 - 2;
-									byte *p60 = inside((byte *)tp_static_224, n48 << 1);
-									uint8_t n61 = load8(p60 + 1);
-									store8(inside(p11, n59), load8(p60));
-									store8(at(at(p11, n49), UINT64_MAX), n61);
-									n58 = n59;
+									uint64_t n61 = n51 - 2;
+									byte *p62 = inside((byte *)tp_static_224, n50 << 1);
+									uint8_t n63 = load8(p62 + 1);
+									store8(inside(p12, n61), load8(p62));
+									store8(at(at(p12, n51), UINT64_MAX), n63);
+									n60 = n61;
 								}
 							} else {
-								uint16_t n62 = (uint16_t)n48;
-								byte *p63 = inside((byte *)tp_static_224, (uint64_t)(uint16_t)((uint32_t)(uint16_t)(n62 % 100) << 1));
-								byte *p64 = at(p11, n49);
-								uint8_t n65 = load8(p63 + 1);
-								store8(at(p64, UINT64_C(18446744073709551614)), load8(p63));
-								store8(at(p64, UINT64_MAX), n65);
-								uint16_t n66 = (uint16_t)(n62 / 100);
-								if (n48 < 1000) {
-									uint64_t n67 = n49 - 3;
-									store8(inside(p11, n67), (uint8_t)((uint8_t)n66 | 48));
-									n58 = n67;
+								uint16_t n64 = (uint16_t)n50;
+								byte *p65 = inside((byte *)tp_static_224, (uint64_t)(uint16_t)((uint32_t)(uint16_t)(n64 % 100) << 1));
+								byte *p66 = at(p12, n51);
+								uint8_t n67 = load8(p65 + 1);
+								store8(at(p66, UINT64_C(18446744073709551614)), load8(p65));
+								store8(at(p66, UINT64_MAX), n67);
+								uint16_t n68 = (uint16_t)(n64 / 100);
+								if (n50 < 1000) {
+									uint64_t n69 = n51 - 3;
+									store8(inside(p12, n69), (uint8_t)((uint8_t)n68 | 48));
+									n60 = n69;
 								} else {
-									uint64_t n68 = n49 - 4;
-									byte *p69 = inside((byte *)tp_static_224, (uint64_t)(uint16_t)((uint32_t)n66 << 1));
-									uint8_t n70 = load8(p69 + 1);
-									store8(inside(p11, n68), load8(p69));
-									store8(at(p64, UINT64_C(18446744073709551613)), n70);
-									n58 = n68;
+									uint64_t n70 = n51 - 4;
+									byte *p71 = inside((byte *)tp_static_224, (uint64_t)(uint16_t)((uint32_t)n68 << 1));
+									uint8_t n72 = load8(p71 + 1);
+									store8(inside(p12, n70), load8(p71));
+									store8(at(p66, UINT64_C(18446744073709551613)), n72);
+									n60 = n70;
 								}
 							}
-							uint64_t n71 = n58 - 1;
-							store8(inside(p11, n71), 32);
-							n45 = n71;
-							n46 = n47;
+							uint64_t n73 = n60 - 1;
+							store8(inside(p12, n73), 32);
+							n47 = n73;
+							n48 = n49;
 						}
-						byte *p72 = at(at(p11, n45), UINT64_C(18446744073709551609));
-						uint64_t n73 = (uint64_t)(uintptr_t)p72;
-						if ((n73 - (uint64_t)(uintptr_t)(byte *)tp_static_210) >= 7) {
-							memcpy(p72, (byte *)tp_static_210, 7);
+						byte *p74 = at(at(p12, n47), UINT64_C(18446744073709551609));
+						uint64_t n75 = (uint64_t)(uintptr_t)p74;
+						if ((n75 - (uint64_t)(uintptr_t)(byte *)tp_static_210) >= 7) {
+							memcpy(p74, (byte *)tp_static_210, 7);
 							goto L3;
 						}
-						n74 = 0;
-						while (n74 != 7) {
-							store8(inside(p72, n74), load8(inside((byte *)tp_static_210, n74)));
-							n74 = n74 + 1;
+						n76 = 0;
+						while (n76 != 7) {
+							store8(inside(p74, n76), load8(inside((byte *)tp_static_210, n76)));
+							n76 = n76 + 1;
 						}
 L3:
 						{
-							uint64_t n79, n80, n84;
-							uint8_t n81;
-							byte *p82, *p83;
-							uint64_t n75 = 125 - n45;
-							uint64_t n76 = load64(p7 + 16);
-							uint64_t n77 = load64(p7 + 8);
-							if (n75 > (n76 - n77)) {
-								bool b78 = tp_std_alloc_vec_Vec_grow_amortized_9(p7, n75);
-								if (!b78) {
-									n81 = 1;
+							uint64_t n81, n82, n86;
+							uint8_t n83;
+							byte *p84, *p85;
+							uint64_t n77 = 125 - n47;
+							uint64_t n78 = load64(p7 + 16);
+							uint64_t n79 = load64(p7 + 8);
+							if (n77 > (n78 - n79)) {
+								bool b80 = tp_std_alloc_vec_Vec_grow_amortized_9(p7, n77);
+								if (!b80) {
+									n83 = 1;
 									goto L4;
 								}
-								n79 = load64(p7 + 16);
-								n80 = load64(p7 + 8);
+								n81 = load64(p7 + 16);
+								n82 = load64(p7 + 8);
 							} else {
-								n79 = n76;
-								n80 = n77;
+								n81 = n78;
+								n82 = n79;
 							}
-							p82 = loadptr(p7);
-							p83 = at(p82, n80);
-							if (((uint64_t)(uintptr_t)p83 - n73) >= n75) {
-								memcpy(p83, p72, (size_t)n75);
+							p84 = loadptr(p7);
+							p85 = at(p84, n82);
+							if (((uint64_t)(uintptr_t)p85 - n75) >= n77) {
+								memcpy(p85, p74, (size_t)n77);
 								goto L5;
 							}
-							n84 = 0;
-							while (n84 != n75) {
-								store8(inside(p83, n84), load8(inside(p72, n84)));
-								n84 = n84 + 1;
+							n86 = 0;
+							while (n86 != n77) {
+								store8(inside(p85, n86), load8(inside(p74, n86)));
+								n86 = n86 + 1;
 							}
 L5:
 							{
-								storeptr(p7, p82);
-								store64(p7 + 8, n80 + n75);
-								store64(p7 + 16, n79);
-								n81 = 0;
+								storeptr(p7, p84);
+								store64(p7 + 8, n82 + n77);
+								store64(p7 + 16, n81);
+								n83 = 0;
 							}
 L4:
 							{
-								n85 = n81;
+								n87 = n83;
 							}
 						}
 						break;
 					}
 					case 1: {
-						uint64_t n115;
-						store64(p13, n2);
-						store64(p13 + 8, n3);
-						store64(p13 + 16, n37);
-						memset(p10, 0, 117);
-						store8(p10 + 117, 10);
-						uint64_t n86 = 117;
-						uint64_t n87 = 3;
-						while (n87 != 0) {
-							uint64_t n99;
-							uint64_t n88 = n87 - 1;
-							uint64_t n89 = load64(inside(p13, n88 << 3));
-							uint64_t n90 = n86;
-							while (n89 > 9999) {
-								uint16_t n91 = (uint16_t)(n89 % 10000);
-								byte *p92 = inside((byte *)tp_static_224, (uint64_t)(uint16_t)((uint32_t)(uint16_t)(n91 % 100) << 1));
-								byte *p93 = at(p10, n90);
-								uint8_t n94 = load8(p92 + 1);
-								store8(at(p93, UINT64_C(18446744073709551614)), load8(p92));
-								store8(at(p93, UINT64_MAX), n94);
-								uint64_t n95 = n90 - 4;
-								byte *p96 = inside((byte *)tp_static_224, (uint64_t)(uint16_t)((uint32_t)(uint16_t)(n91 / 100) << 1));
-								uint8_t n97 = load8(p96 + 1);
-								store8(inside(p10, n95), load8(p96));
-								store8(at(p93, UINT64_C(18446744073709551613)), n97);
-								n89 = n89 / 10000;
-								n90 = n95;
+						uint64_t n117;
+						store64(p14, n2);
+						store64(p14 + 8, n3);
+						store64(p14 + 16, n39);
+						memset(p11, 0, 117);
+						store8(p11 + 117, 10);
+						uint64_t n88 = 117;
+						uint64_t n89 = 3;
+						while (n89 != 0) {
+							uint64_t n101;
+							uint64_t n90 = n89 - 1;
+							uint64_t n91 = load64(inside(p14, n90 << 3));
+							uint64_t n92 = n88;
+							while (n91 > 9999) {
+								uint16_t n93 = (uint16_t)(n91 % 10000);
+								byte *p94 = inside((byte *)tp_static_224, (uint64_t)(uint16_t)((uint32_t)(uint16_t)(n93 % 100) << 1));
+								byte *p95 = at(p11, n92);
+								uint8_t n96 = load8(p94 + 1);
+								store8(at(p95, UINT64_C(18446744073709551614)), load8(p94));
+								store8(at(p95, UINT64_MAX), n96);
+								uint64_t n97 = n92 - 4;
+								byte *p98 = inside((byte *)tp_static_224, (uint64_t)(uint16_t)((uint32_t)(uint16_t)(n93 / 100) << 1));
+								uint8_t n99 = load8(p98 + 1);
+								store8(inside(p11, n97), load8(p98));
+								store8(at(p95, UINT64_C(18446744073709551613)), n99);
+								n91 = n91 / 10000;
+								n92 = n97;
 							}
-							if (n89 < 100) {
-								if (n89 < 10) {
-									uint64_t n98 = n90 - 1;
-									store8(inside(p10, n98), (uint8_t)((uint8_t)n89 | 48));
-									n99 = n98;
+							if (n91 < 100) {
+								if (n91 < 10) {
+									uint64_t n100 = n92 - 1;
+									store8(inside(p11, n100), (uint8_t)((uint8_t)n91 | 48));
+									n101 = n100;
 								} else {
-									uint64_t n100 = n90 - 2;
-									byte *p101 = inside((byte *)tp_static_224, n89 << 1);
-									uint8_t n102 = load8(p101 + 1);
-									store8(inside(p10, n100), load8(p101));
-									store8(at(at(p10, n90), UINT64_MAX), n102);
-									n99 = n100;
+									uint64_t n102 = n92 - 2;
+									byte *p103 = inside((byte *)tp_static_224, n91 << 1);
+									uint8_t n104 = load8(p103 + 1);
+									store8(inside(p11, n102), load8(p103));
+									store8(at(at(p11, n92), UINT64_MAX), n104);
+									n101 = n102;
 								}
 							} else {
-								uint16_t n103 = (uint16_t)n89;
-								byte *p104 = inside((byte *)tp_static_224, (uint64_t)(uint16_t)((uint32_t)(uint16_t)(n103 % 100) << 1));
-								byte *p105 = at(p10, n90);
-								uint8_t n106 = load8(p104 + 1);
-								store8(at(p105, UINT64_C(18446744073709551614)), load8(p104));
-								store8(at(p105, UINT64_MAX), n106);
-								uint16_t n107 = (uint16_t)(n103 / 100);
-								if (n89 < 1000) {
-									uint64_t n108 = n90 - 3;
-									store8(inside(p10, n108), (uint8_t)((uint8_t)n107 | 48));
-									n99 = n108;
+								uint16_t n105 = (uint16_t)n91;
+								byte *p106 = inside((byte *)tp_static_224, (uint64_t)(uint16_t)((uint32_t)(uint16_t)(n105 % 100) << 1));
+								byte *p107 = at(p11, n92);
+								uint8_t n108 = load8(p106 + 1);
+								store8(at(p107, UINT64_C(18446744073709551614)), load8(p106));
+								store8(at(p107, UINT64_MAX), n108);
+								uint16_t n109 = (uint16_t)(n105 / 100);
+								if (n91 < 1000) {
+									uint64_t n110 = n92 - 3;
+									store8(inside(p11, n110), (uint8_t)((uint8_t)n109 | 48));
+									n101 = n110;
 								} else {
-									uint64_t n109 = n90 - 4;
-									byte *p110 = inside((byte *)tp_static_224, (uint64_t)(uint16_t)((uint32_t)n107 << 1));
-									uint8_t n111 = load8(p110 + 1);
-									store8(inside(p10, n109), load8(p110));
-									store8(at(p105, UINT64_C(18446744073709551613)), n111);
-									n99 = n109;
+									uint64_t n111 = n92 - 4;
+									byte *p112 = inside((byte *)tp_static_224, (uint64_t)(uint16_t)((uint32_t)n109 << 1));
+									uint8_t n113 = load8(p112 + 1);
+									store8(inside(p11, n111), load8(p112));
+									store8(at(p107, UINT64_C(18446744073709551613)), n113);
+									n101 = n111;
 								}
 							}
-							uint64_t n112 = n99 - 1;
-							store8(inside(p10, n112), 32);
-							n86 = n112;
-							n87 = n88;
+							uint64_t n114 = n101 - 1;
+							store8(inside(p11, n114), 32);
+							n88 = n114;
+							n89 = n90;
 						}
-						byte *p113 = at(at(p10, n86), UINT64_C(18446744073709551609));
-						uint64_t n114 = (uint64_t)(uintptr_t)p113;
-						if ((n114 - (uint64_t)(uintptr_t)(byte *)tp_static_211) >= 7) {
-							memcpy(p113, (byte *)tp_static_211, 7);
+						byte *p115 = at(at(p11, n88), UINT64_C(18446744073709551609));
+						uint64_t n116 = (uint64_t)(uintptr_t)p115;
+						if ((n116 - (uint64_t)(uintptr_t)(byte *)tp_static_211) >= 7) {
+							memcpy(p115, (byte *)tp_static_211, 7);
 							goto L6;
 						}
-						n115 = 0;
-						while (n115 != 7) {
-							store8(inside(p113, n115), load8(inside((byte *)tp_static_211, n115)));
-							n115 = n115 + 1;
+						n117 = 0;
+						while (n117 != 7) {
+							store8(inside(p115, n117), load8(inside((byte *)tp_static_211, n117)));
+							n117 = n117 + 1;
 						}
 L6:
 						{
-							uint64_t n120, n121, n125;
-							uint8_t n122;
-							byte *p123, *p124;
-							uint64_t n116 = 125 - n86;
-							uint64_t n117 = load64(p7 + 16);
-							uint64_t n118 = load64(p7 + 8);
-							if (n116 > (n117 - n118)) {
-								bool b119 = tp_std_alloc_vec_Vec_grow_amortized_9(p7, n116);
-								if (!b119) {
-									n122 = 1;
+							uint64_t n122, n123, n127;
+							uint8_t n124;
+							byte *p125, *p126;
+							uint64_t n118 = 125 - n88;
+							uint64_t n119 = load64(p7 + 16);
+							uint64_t n120 = load64(p7 + 8);
+							if (n118 > (n119 - n120)) {
+								bool b121 = tp_std_alloc_vec_Vec_grow_amortized_9(p7, n118);
+								if (!b121) {
+									n124 = 1;
 									goto L7;
 								}
-								n120 = load64(p7 + 16);
-								n121 = load64(p7 + 8);
+								n122 = load64(p7 + 16);
+								n123 = load64(p7 + 8);
 							} else {
-								n120 = n117;
-								n121 = n118;
+								n122 = n119;
+								n123 = n120;
 							}
-							p123 = loadptr(p7);
-							p124 = at(p123, n121);
-							if (((uint64_t)(uintptr_t)p124 - n114) >= n116) {
-								memcpy(p124, p113, (size_t)n116);
+							p125 = loadptr(p7);
+							p126 = at(p125, n123);
+							if (((uint64_t)(uintptr_t)p126 - n116) >= n118) {
+								memcpy(p126, p115, (size_t)n118);
 								goto L8;
 							}
-							n125 = 0;
-							while (n125 != n116) {
-								store8(inside(p124, n125), load8(inside(p113, n125)));
-								n125 = n125 + 1;
+							n127 = 0;
+							while (n127 != n118) {
+								store8(inside(p126, n127), load8(inside(p115, n127)));
+								n127 = n127 + 1;
 							}
 L8:
 							{
-								storeptr(p7, p123);
-								store64(p7 + 8, n121 + n116);
-								store64(p7 + 16, n120);
-								n122 = 0;
+								storeptr(p7, p125);
+								store64(p7 + 8, n123 + n118);
+								store64(p7 + 16, n122);
+								n124 = 0;
 							}
 L7:
 							{
-								n85 = n122;
+								n87 = n124;
 							}
 						}
 						break;
 					}
 					case 2: {
-						uint64_t n155;
-						store64(p14, n2);
-						store64(p14 + 8, n3);
-						store64(p14 + 16, n40);
-						store64(p14 + 24, n38);
-						store64(p14 + 32, n39);
-						memset(p9, 0, 117);
-						store8(p9 + 117, 10);
-						uint64_t n126 = 117;
-						uint64_t n127 = 5;
-						while (n127 != 0) {
-							uint64_t n139;
-							uint64_t n128 = n127 - 1;
-							uint64_t n129 = load64(inside(p14, n128 << 3));
-							uint64_t n130 = n126;
-							while (n129 > 9999) {
-								uint16_t n131 = (uint16_t)(n129 % 10000);
-								byte *p132 = inside((byte *)tp_static_224, (uint64_t)(uint16_t)((uint32_t)(uint16_t)(n131 % 100) << 1));
-								byte *p133 = at(p9, n130);
-								uint8_t n134 = load8(p132 + 1);
-								store8(at(p133, UINT64_C(18446744073709551614)), load8(p132));
-								store8(at(p133, UINT64_MAX), n134);
-								uint64_t n135 = n130 - 4;
-								byte *p136 = inside((byte *)tp_static_224, (uint64_t)(uint16_t)((uint32_t)(uint16_t)(n131 / 100) << 1));
-								uint8_t n137 = load8(p136 + 1);
-								store8(inside(p9, n135), load8(p136));
-								store8(at(p133, UINT64_C(18446744073709551613)), n137);
-								n129 = n129 / 10000;
-								n130 = n135;
+						uint64_t n157;
+						store64(p15, n2);
+						store64(p15 + 8, n3);
+						store64(p15 + 16, n42);
+						store64(p15 + 24, n40);
+						store64(p15 + 32, n41);
+						memset(p10, 0, 117);
+						store8(p10 + 117, 10);
+						uint64_t n128 = 117;
+						uint64_t n129 = 5;
+						while (n129 != 0) {
+							uint64_t n141;
+							uint64_t n130 = n129 - 1;
+							uint64_t n131 = load64(inside(p15, n130 << 3));
+							uint64_t n132 = n128;
+							while (n131 > 9999) {
+								uint16_t n133 = (uint16_t)(n131 % 10000);
+								byte *p134 = inside((byte *)tp_static_224, (uint64_t)(uint16_t)((uint32_t)(uint16_t)(n133 % 100) << 1));
+								byte *p135 = at(p10, n132);
+								uint8_t n136 = load8(p134 + 1);
+								store8(at(p135, UINT64_C(18446744073709551614)), load8(p134));
+								store8(at(p135, UINT64_MAX), n136);
+								uint64_t n137 = n132 - 4;
+								byte *p138 = inside((byte *)tp_static_224, (uint64_t)(uint16_t)((uint32_t)(uint16_t)(n133 / 100) << 1));
+								uint8_t n139 = load8(p138 + 1);
+								store8(inside(p10, n137), load8(p138));
+								store8(at(p135, UINT64_C(18446744073709551613)), n139);
+								n131 = n131 / 10000;
+								n132 = n137;
 							}
-							if (n129 < 100) {
-								if (n129 < 10) {
-									uint64_t n138 = n130 - 1;
-									store8(inside(p9, n138), (uint8_t)((uint8_t)n129 | 48));
-									n139 = n138;
+							if (n131 < 100) {
+								if (n131 < 10) {
+									uint64_t n140 = n132 - 1;
+									store8(inside(p10, n140), (uint8_t)((uint8_t)n131 | 48));
+									n141 = n140;
 								} else {
-									uint64_t n140 = n130 - 2;
-									byte *p141 = inside((byte *)tp_static_224, n129 << 1);
-									uint8_t n142 = load8(p141 + 1);
-									store8(inside(p9, n140), load8(p141));
-									store8(at(at(p9, n130), UINT64_MAX), n142);
-									n139 = n140;
+									uint64_t n142 = n132 - 2;
+									byte *p143 = inside((byte *)tp_static_224, n131 << 1);
+									uint8_t n144 = load8(p143 + 1);
+									store8(inside(p10, n142), load8(p143));
+									store8(at(at(p10, n132), UINT64_MAX), n144);
+									n141 = n142;
 								}
 							} else {
-								uint16_t n143 = (uint16_t)n129;
-								byte *p144 = inside((byte *)tp_static_224, (uint64_t)(uint16_t)((uint32_t)(uint16_t)(n143 % 100) << 1));
-								byte *p145 = at(p9, n130);
-								uint8_t n146 = load8(p144 + 1);
-								store8(at(p145, UINT64_C(18446744073709551614)), load8(p144));
-								store8(at(p145, UINT64_MAX), n146);
-								uint16_t n147 = (uint16_t)(n143 / 100);
-								if (n129 < 1000) {
-									uint64_t n148 = n130 - 3;
-									store8(inside(p9, n148), (uint8_t)((uint8_t)n147 | 48));
-									n139 = n148;
+								uint16_t n145 = (uint16_t)n131;
+								byte *p146 = inside((byte *)tp_static_224, (uint64_t)(uint16_t)((uint32_t)(uint16_t)(n145 % 100) << 1));
+								byte *p147 = at(p10, n132);
+								uint8_t n148 = load8(p146 + 1);
+								store8(at(p147, UINT64_C(18446744073709551614)), load8(p146));
+								store8(at(p147, UINT64_MAX), n148);
+								uint16_t n149 = (uint16_t)(n145 / 100);
+								if (n131 < 1000) {
+									uint64_t n150 = n132 - 3;
+									store8(inside(p10, n150), (uint8_t)((uint8_t)n149 | 48));
+									n141 = n150;
 								} else {
-									uint64_t n149 = n130 - 4;
-									byte *p150 = inside((byte *)tp_static_224, (uint64_t)(uint16_t)((uint32_t)n147 << 1));
-									uint8_t n151 = load8(p150 + 1);
-									store8(inside(p9, n149), load8(p150));
-									store8(at(p145, UINT64_C(18446744073709551613)), n151);
-									n139 = n149;
+									uint64_t n151 = n132 - 4;
+									byte *p152 = inside((byte *)tp_static_224, (uint64_t)(uint16_t)((uint32_t)n149 << 1));
+									uint8_t n153 = load8(p152 + 1);
+									store8(inside(p10, n151), load8(p152));
+									store8(at(p147, UINT64_C(18446744073709551613)), n153);
+									n141 = n151;
 								}
 							}
-							uint64_t n152 = n139 - 1;
-							store8(inside(p9, n152), 32);
-							n126 = n152;
-							n127 = n128;
+							uint64_t n154 = n141 - 1;
+							store8(inside(p10, n154), 32);
+							n128 = n154;
+							n129 = n130;
 						}
-						byte *p153 = at(at(p9, n126), UINT64_C(18446744073709551607));
-						uint64_t n154 = (uint64_t)(uintptr_t)p153;
-						if ((n154 - (uint64_t)(uintptr_t)(byte *)tp_static_212) >= 9) {
-							memcpy(p153, (byte *)tp_static_212, 9);
+						byte *p155 = at(at(p10, n128), UINT64_C(18446744073709551607));
+						uint64_t n156 = (uint64_t)(uintptr_t)p155;
+						if ((n156 - (uint64_t)(uintptr_t)(byte *)tp_static_212) >= 9) {
+							memcpy(p155, (byte *)tp_static_212, 9);
 							goto L9;
 						}
-						n155 = 0;
-						while (n155 != 9) {
-							store8(inside(p153, n155), load8(inside((byte *)tp_static_212, n155)));
-							n155 = n155 + 1;
+						n157 = 0;
+						while (n157 != 9) {
+							store8(inside(p155, n157), load8(inside((byte *)tp_static_212, n157)));
+							n157 = n157 + 1;
 						}
 L9:
 						{
-							uint64_t n160, n161, n165;
-							uint8_t n162;
-							byte *p163, *p164;
-							uint64_t n156 = 127 - n126;
-							uint64_t n157 = load64(p7 + 16);
-							uint64_t n158 = load64(p7 + 8);
-							if (n156 > (n157 - n158)) {
-								bool b159 = tp_std_alloc_vec_Vec_grow_amortized_9(p7, n156);
-								if (!b159) {
-									n162 = 1;
+							uint64_t n162, n163, n167;
+							uint8_t n164;
+							byte *p165, *p166;
+							uint64_t n158 = 127 - n128;
+							uint64_t n159 = load64(p7 + 16);
+							uint64_t n160 = load64(p7 + 8);
+							if (n158 > (n159 - n160)) {
+								bool b161 = tp_std_alloc_vec_Vec_grow_amortized_9(p7, n158);
+								if (!b161) {
+									n164 = 1;
 									goto L10;
 								}
-								n160 = load64(p7 + 16);
-								n161 = load64(p7 + 8);
+								n162 = load64(p7 + 16);
+								n163 = load64(p7 + 8);
 							} else {
-								n160 = n157;
-								n161 = n158;
+								n162 = n159;
+								n163 = n160;
 							}
-							p163 = loadptr(p7);
-							p164 = at(p163, n161);
-							if (((uint64_t)(uintptr_t)p164 - n154) >= n156) {
-								memcpy(p164, p153, (size_t)n156);
+							p165 = loadptr(p7);
+							p166 = at(p165, n163);
+							if (((uint64_t)(uintptr_t)p166 - n156) >= n158) {
+								memcpy(p166, p155, (size_t)n158);
 								goto L11;
 							}
-							n165 = 0;
-							while (n165 != n156) {
-								store8(inside(p164, n165), load8(inside(p153, n165)));
-								n165 = n165 + 1;
+							n167 = 0;
+							while (n167 != n158) {
+								store8(inside(p166, n167), load8(inside(p155, n167)));
+								n167 = n167 + 1;
 							}
 L11:
 							{
-								storeptr(p7, p163);
-								store64(p7 + 8, n161 + n156);
-								store64(p7 + 16, n160);
-								n162 = 0;
+								storeptr(p7, p165);
+								store64(p7 + 8, n163 + n158);
+								store64(p7 + 16, n162);
+								n164 = 0;
 							}
 L10:
 							{
-								n85 = n162;
+								n87 = n164;
 							}
 						}
 						break;
 					}
 					case 3: {
-						uint64_t n166;
-						byte *p167;
-						store64(p15, n2);
-						store64(p15 + 8, n3);
-						switch (n36) {
+						uint64_t n168;
+						byte *p169;
+						store64(p16, n2);
+						store64(p16 + 8, n3);
+						switch (n38) {
 						case 0: {
-							n166 = 13;
-							p167 = (byte *)tp_static_213;
+							n168 = 13;
+							p169 = (byte *)tp_static_213;
 							break;
 						}
 						case 1: {
-							n166 = 8;
-							p167 = (byte *)tp_static_214;
+							n168 = 8;
+							p169 = (byte *)tp_static_214;
 							break;
 						}
 						case 2: {
-							n166 = 13;
-							p167 = (byte *)tp_static_215;
+							n168 = 13;
+							p169 = (byte *)tp_static_215;
 							break;
 						}
 						case 3: {
-							n166 = 4;
-							p167 = (byte *)tp_static_216;
+							n168 = 4;
+							p169 = (byte *)tp_static_216;
 							break;
 						}
 						case 4: {
-							n166 = 7;
-							p167 = (byte *)tp_static_217;
+							n168 = 7;
+							p169 = (byte *)tp_static_217;
 							break;
 						}
 						default: {
 							UNREACHABLE();
 						}
 						}
-						uint8_t n168 = tp_text_push_refused(p7, (byte *)tp_static_203, 7, p15, 2, p167, n166);
-						n85 = n168;
+						uint8_t n170 = tp_text_push_refused(p7, (byte *)tp_static_203, 7, p16, 2, p169, n168);
+						n87 = n170;
 						break;
 					}
 					default: {
 						UNREACHABLE();
 					}
 					}
-					n169 = n85;
+					n171 = n87;
 					goto L12;
 				}
-				store64(p16, n2);
-				store64(p16 + 8, n3);
-				n31 = 5;
-				p32 = (byte *)tp_static_221;
+				store64(p17, n2);
+				store64(p17 + 8, n3);
+				n33 = 5;
+				p34 = (byte *)tp_static_221;
 			}
 		} else {
-			store64(p16, n2);
-			store64(p16 + 8, n3);
-			n31 = 9;
-			p32 = (byte *)tp_static_218;
+			store64(p17, n2);
+			store64(p17 + 8, n3);
+			n33 = 9;
+			p34 = (byte *)tp_static_218;
 		}
-		n170 = tp_text_push_refused(p7, (byte *)tp_static_203, 7, p16, 2, p32, n31);
-		n169 = n170;
+		n172 = tp_text_push_refused(p7, (byte *)tp_static_203, 7, p17, 2, p34, n33);
+		n171 = n172;
 L12:
 		{
-			return n169;
+			return n171;
 		}
 	}
 }
@@ -47843,200 +48212,209 @@ static uint8_t tp_timer_script_script_run_play_outs_2(byte *p1, byte *p2, byte *
 	ALIGN(8) byte p6[48];
 	ALIGN(8) byte p7[40];
 	ALIGN(8) byte p8[24];
-	uint8_t n9 = load8(p2);
-	uint64_t n10 = load64u(p2 + 8);
-	uint64_t n11 = load64u(p2 + 16);
-	uint64_t n12 = load64u(p2 + 24);
-	uint64_t n13 = load64u(p2 + 32);
-	uint64_t n14 = load64u(p2 + 40);
+	ALIGN(8) byte p9[40];
+	ALIGN(8) byte p10[40];
+	uint8_t n11 = load8(p2);
+	uint64_t n12 = load64u(p2 + 8);
+	uint64_t n13 = load64u(p2 + 16);
+	uint64_t n14 = load64u(p2 + 24);
+	uint64_t n15 = load64u(p2 + 32);
+	uint64_t n16 = load64u(p2 + 40);
 	if (load64(p3 + 8) != 0)
 		store64(p3 + 8, 0);
-	switch (n9) {
+	switch (n11) {
 	case 0: {
-		uint8_t n17, n19, n20;
-		uint64_t n18, n21, n22;
+		uint8_t n20, n22, n23;
+		uint64_t n21, n24, n25;
 		if (load64(p3 + 16) == 0) {
-			bool b15 = tp_std_alloc_vec_Vec_grow_amortized_6(p3, 1);
-			if (!b15)
+			bool b17 = tp_std_alloc_vec_Vec_grow_amortized_6(p3, 1);
+			if (!b17)
 				return 1;
 		}
+		store64(p10, 0);
+		store64u(p10 + 8, n14);
+		store64u(p10 + 16, n15);
+		memset(p10 + 24, 0, 16);
 		if (load64(p1 + 1160) == load64(p1 + 1152)) {
-			bool b16 = tp_std_alloc_vec_Vec_grow_amortized_5(p1 + 1144);
-			if (!b16)
-				return 1;
+			bool b18 = tp_std_alloc_vec_Vec_grow_amortized_5(p1 + 1144);
+			if (!b18) {
+				bool b19 = tp_timer_facility_facility_Facility_makes_timer(p1, n12, n13, p10);
+				if (b19)
+					return 1;
+			}
 		}
 		if ((load8(p1 + 1104) & 1) != 0) {
-			n17 = 0;
-			n18 = 0;
-			n19 = 1;
 			n20 = 0;
 			n21 = 0;
-			n22 = 0;
-		} else if (load64(p1 + 56) > n10) {
-			uint64_t n23 = n10 << 3;
-			byte *p24 = inside(p1 + 80, n23);
-			uint64_t n25 = load64(p24);
-			if (n11 < n25) {
-				n17 = 2;
-				n18 = n25;
-				n19 = 1;
-				n20 = 0;
+			n22 = 1;
+			n23 = 0;
+			n24 = 0;
+			n25 = 0;
+		} else if (load64(p1 + 56) > n12) {
+			uint64_t n26 = n12 << 3;
+			byte *p27 = inside(p1 + 80, n26);
+			uint64_t n28 = load64(p27);
+			if (n13 < n28) {
+				n20 = 2;
+				n21 = n28;
+				n22 = 1;
+				n23 = 0;
+				n24 = 0;
+				n25 = 0;
+			} else if (n28 > UINT64_C(1152921504606846975)) {
+				n20 = 3;
 				n21 = 0;
-				n22 = 0;
-			} else if (n25 > UINT64_C(1152921504606846975)) {
-				n17 = 3;
-				n18 = 0;
-				n19 = 1;
-				n20 = 0;
-				n21 = 0;
-				n22 = 0;
-			} else if (n25 < n11) {
-				n17 = 4;
-				n18 = n25;
-				n19 = 1;
-				n20 = 0;
-				n21 = 0;
-				n22 = 0;
+				n22 = 1;
+				n23 = 0;
+				n24 = 0;
+				n25 = 0;
+			} else if (n28 < n13) {
+				n20 = 4;
+				n21 = n28;
+				n22 = 1;
+				n23 = 0;
+				n24 = 0;
+				n25 = 0;
 			} else {
-				uint64_t n27, n28, n31, n32;
-				uint8_t n29, n30;
+				uint64_t n30, n31, n34, n35;
+				uint8_t n32, n33;
 				memset(p8, 0, 24);
-				of_i8_i8 s26 = tp_timer_facility_facility_Facility_start_refusal(p1, n12);
-				if (s26.f0 == 1) {
-					store64(p24, n11 + 1);
-					n27 = load64(p1 + 1152);
-					n28 = 0;
-					n29 = s26.f1;
-					n30 = 3;
+				of_i8_i8 s29 = tp_timer_facility_facility_Facility_start_refusal(p1, n14);
+				if (s29.f0 == 1) {
+					store64(p27, n13 + 1);
+					n30 = load64(p1 + 1152);
 					n31 = 0;
-					n32 = 0;
+					n32 = s29.f1;
+					n33 = 3;
+					n34 = 0;
+					n35 = 0;
 				} else {
-					uint64_t n33 = load64(p1) + n12;
+					uint64_t n36 = load64(p1) + n14;
 					store64u(p7, load64(p1 + 72));
-					store64u(p7 + 8, n10);
-					store64u(p7 + 16, n11);
-					store64u(p7 + 24, n33);
-					store64u(p7 + 32, n13);
+					store64u(p7 + 8, n12);
+					store64u(p7 + 16, n13);
+					store64u(p7 + 24, n36);
+					store64u(p7 + 32, n15);
 					tp_PlainWheelWheel_start(p8, p1, p7);
 					if (load8(p8) != 0)
 						return 1;
-					uint64_t n34 = load64u(p8 + 8);
-					uint64_t n35 = load64u(p8 + 16);
+					uint64_t n37 = load64u(p8 + 8);
+					uint64_t n38 = load64u(p8 + 16);
 					store64(p1 + 72, load64(p1 + 72) + 1);
-					byte *p36 = inside(p1 + 592, n23);
-					store64(p36, load64(p36) + 1);
-					store64(p24, n11 + 1);
-					uint64_t n37 = load64(p1 + 1152);
-					byte *p38 = inside(loadptr(p1 + 1144), n37 << 4);
-					store64u(p38, n34);
-					store64u(p38 + 8, n35);
-					uint64_t n39 = n37 + 1;
-					store64(p1 + 1152, n39);
-					n27 = n39;
-					n28 = n33;
-					n29 = 0;
-					n30 = 0;
-					n31 = n35;
-					n32 = n34;
+					byte *p39 = inside(p1 + 592, n26);
+					store64(p39, load64(p39) + 1);
+					store64(p27, n13 + 1);
+					uint64_t n40 = load64(p1 + 1152);
+					byte *p41 = inside(loadptr(p1 + 1144), n40 << 4);
+					store64u(p41, n37);
+					store64u(p41 + 8, n38);
+					uint64_t n42 = n40 + 1;
+					store64(p1 + 1152, n42);
+					n30 = n42;
+					n31 = n36;
+					n32 = 0;
+					n33 = 0;
+					n34 = n38;
+					n35 = n37;
 				}
-				if ((((load64(p1 + 24) - load64(p1 + 40)) << 1) + 64) < n27) {
+				if ((((load64(p1 + 24) - load64(p1 + 40)) << 1) + 64) < n30) {
 					tp_timer_facility_handles_sweep_2(p1 + 1144, p1);
-					n17 = n30;
-					n18 = n32;
-					n19 = 0;
-					n20 = n29;
-					n21 = n31;
-					n22 = n28;
+					n20 = n33;
+					n21 = n35;
+					n22 = 0;
+					n23 = n32;
+					n24 = n34;
+					n25 = n31;
 				} else {
-					n17 = n30;
-					n18 = n32;
-					n19 = 0;
-					n20 = n29;
-					n21 = n31;
-					n22 = n28;
+					n20 = n33;
+					n21 = n35;
+					n22 = 0;
+					n23 = n32;
+					n24 = n34;
+					n25 = n31;
 				}
 			}
 		} else {
-			n17 = 1;
-			n18 = 0;
-			n19 = 1;
-			n20 = 0;
+			n20 = 1;
 			n21 = 0;
-			n22 = 0;
+			n22 = 1;
+			n23 = 0;
+			n24 = 0;
+			n25 = 0;
 		}
-		uint64_t n40 = load64(p3 + 8);
-		byte *p41 = inside(loadptr(p3), n40 << 6);
-		store8(p41, n19);
-		store8(p41 + 1, 0);
-		store64u(p41 + 8, n10);
-		store64u(p41 + 16, n11);
-		store64u(p41 + 24, ((uint64_t)n20 << 8) | (uint64_t)n17);
-		store64u(p41 + 32, n18);
-		store64u(p41 + 40, n21);
-		store64u(p41 + 48, n22);
-		store64u(p41 + 56, 0);
-		store64(p3 + 8, n40 + 1);
+		uint64_t n43 = load64(p3 + 8);
+		byte *p44 = inside(loadptr(p3), n43 << 6);
+		store8(p44, n22);
+		store8(p44 + 1, 0);
+		store64u(p44 + 8, n12);
+		store64u(p44 + 16, n13);
+		store64u(p44 + 24, ((uint64_t)n23 << 8) | (uint64_t)n20);
+		store64u(p44 + 32, n21);
+		store64u(p44 + 40, n24);
+		store64u(p44 + 48, n25);
+		store64u(p44 + 56, 0);
+		store64(p3 + 8, n43 + 1);
 		break;
 	}
 	case 1: {
-		uint64_t n47;
+		uint64_t n50;
 		if (load64(p3 + 16) == 0) {
-			bool b42 = tp_std_alloc_vec_Vec_grow_amortized_6(p3, 1);
-			if (!b42)
+			bool b45 = tp_std_alloc_vec_Vec_grow_amortized_6(p3, 1);
+			if (!b45)
 				return 1;
 		}
-		byte *p43 = loadptr(p1 + 1144);
-		uint64_t n44 = load64(p1 + 1152);
-		if (n44 != 0) {
-			uint64_t n45 = load64(at(at(p43, n44 << 4), UINT64_C(18446744073709551608))) - n12;
-			if (n44 > n45) {
-				byte *p46 = inside(p43, (n44 + (n45 ^ UINT64_MAX)) << 4);
-				if (load64(p46 + 8) != n12)
+		byte *p46 = loadptr(p1 + 1144);
+		uint64_t n47 = load64(p1 + 1152);
+		if (n47 != 0) {
+			uint64_t n48 = load64(at(at(p46, n47 << 4), UINT64_C(18446744073709551608))) - n14;
+			if (n47 > n48) {
+				byte *p49 = inside(p46, (n47 + (n48 ^ UINT64_MAX)) << 4);
+				if (load64(p49 + 8) != n14)
 					goto L1;
-				n47 = load64(p46);
+				n50 = load64(p49);
 				goto L2;
 			}
 		}
-		if (n44 == 0) {
-			n47 = 0;
+		if (n47 == 0) {
+			n50 = 0;
 			goto L2;
 		}
 L1:
 		{
-			uint64_t n48 = 0;
-			uint64_t n49 = n44;
-			while (n49 > 1) {
-				uint64_t n53;
-				uint64_t n50 = n49 >> 1;
-				uint64_t n51 = n48 + n50;
-				uint64_t n52 = load64(at(p43, n51 << 4) + 8);
-				switch ((n52 == n12) ? 1 : (uint8_t)((n52 < n12) ? 0 : 2)) {
+			uint64_t n51 = 0;
+			uint64_t n52 = n47;
+			while (n52 > 1) {
+				uint64_t n56;
+				uint64_t n53 = n52 >> 1;
+				uint64_t n54 = n51 + n53;
+				uint64_t n55 = load64(at(p46, n54 << 4) + 8);
+				switch ((n55 == n14) ? 1 : (uint8_t)((n55 < n14) ? 0 : 2)) {
 				case 0:
 				case 1: {
-					n53 = n51;
+					n56 = n54;
 					break;
 				}
 				case 2: {
-					n53 = n48;
+					n56 = n51;
 					break;
 				}
 				default: {
 					UNREACHABLE();
 				}
 				}
-				n48 = n53;
-				n49 = n49 - n50;
+				n51 = n56;
+				n52 = n52 - n53;
 			}
-			byte *p54 = at(p43, n48 << 4);
-			uint64_t n55 = load64(p54 + 8);
-			switch ((n55 == n12) ? 1 : (uint8_t)((n55 < n12) ? 0 : 2)) {
+			byte *p57 = at(p46, n51 << 4);
+			uint64_t n58 = load64(p57 + 8);
+			switch ((n58 == n14) ? 1 : (uint8_t)((n58 < n14) ? 0 : 2)) {
 			case 1: {
-				n47 = load64(p54);
+				n50 = load64(p57);
 				break;
 			}
 			case 0:
 			case 2: {
-				n47 = 0;
+				n50 = 0;
 				break;
 			}
 			default: {
@@ -48046,172 +48424,153 @@ L1:
 		}
 L2:
 		{
-			uint8_t n57, n59, n60;
-			uint64_t n58;
-			if (load64(p1 + 1160) == n44) {
-				bool b56 = tp_std_alloc_vec_Vec_grow_amortized_5(p1 + 1144);
-				if (!b56)
-					return 1;
-			}
+			uint64_t n59, n61;
+			uint8_t n60;
 			if ((load8(p1 + 1104) & 1) != 0) {
-				n57 = 0;
-				n58 = 0;
-				n59 = 1;
-				n60 = 0;
-			} else if (load64(p1 + 56) > n10) {
-				uint64_t n61 = n10 << 3;
-				byte *p62 = inside(p1 + 80, n61);
-				uint64_t n63 = load64(p62);
-				if (n11 < n63) {
-					n57 = 2;
-					n58 = n63;
-					n59 = 1;
-					n60 = 0;
-				} else if (n63 > UINT64_C(1152921504606846975)) {
-					n57 = 3;
-					n58 = 0;
-					n59 = 1;
-					n60 = 0;
-				} else if (n63 < n11) {
-					n57 = 4;
-					n58 = n63;
-					n59 = 1;
-					n60 = 0;
+				n59 = 0;
+				n60 = 1;
+				n61 = 0;
+			} else if (load64(p1 + 56) > n12) {
+				uint64_t n62 = n12 << 3;
+				byte *p63 = inside(p1 + 80, n62);
+				uint64_t n64 = load64(p63);
+				if (n13 < n64) {
+					n59 = n64;
+					n60 = 1;
+					n61 = 2;
+				} else if (n64 > UINT64_C(1152921504606846975)) {
+					n59 = 0;
+					n60 = 1;
+					n61 = 3;
+				} else if (n64 < n13) {
+					n59 = n64;
+					n60 = 1;
+					n61 = 4;
 				} else {
-					uint64_t n70;
-					uint8_t n71, n72;
-					if (n47 == 0) {
-						uint64_t n66;
-						uint8_t n67, n68;
-						byte *p64 = loadptr(p1 + 16);
-						uint64_t n65 = load64(p1 + 24);
+					uint64_t n70, n71;
+					if (n50 == 0) {
+						uint64_t n67, n68;
+						byte *p65 = loadptr(p1 + 16);
+						uint64_t n66 = load64(p1 + 24);
 						for (;;) {
-							if (n65 == 0) {
-								n66 = 0;
-								n67 = 4;
-								n68 = 3;
+							if (n66 == 0) {
+								n67 = 0;
+								n68 = 1027;
 								goto L3;
 							}
-							if (load64u(p64) == n12)
+							if (load64u(p65) == n14)
 								break;
-							p64 = p64 + 40;
-							n65 = n65 - 1;
+							p65 = p65 + 40;
+							n66 = n66 - 1;
 						}
-						if (load64u(p64 + 8) == n10) {
-							tp_PlainWheelWheel_stop(p6, p1, n12);
-							byte *p69 = inside(p1 + 592, n61);
+						if (load64u(p65 + 8) == n12) {
+							tp_PlainWheelWheel_stop(p6, p1, n14);
+							byte *p69 = inside(p1 + 592, n62);
 							store64(p69, load64(p69) - 1);
-							n66 = n12;
-							n67 = 0;
+							n67 = n14;
 							n68 = 1;
 						} else {
-							n66 = 0;
-							n67 = 4;
-							n68 = 3;
+							n67 = 0;
+							n68 = 1027;
 						}
 L3:
 						{
-							n70 = n66;
+							n70 = n68;
 							n71 = n67;
-							n72 = n68;
 						}
 					} else {
-						n70 = 0;
-						n71 = 4;
-						n72 = 3;
+						n70 = 1027;
+						n71 = 0;
 					}
-					store64(p62, n11 + 1);
+					store64(p63, n13 + 1);
 					if ((((load64(p1 + 24) - load64(p1 + 40)) << 1) + 64) < load64(p1 + 1152)) {
 						tp_timer_facility_handles_sweep_2(p1 + 1144, p1);
-						n57 = n72;
-						n58 = n70;
-						n59 = 0;
-						n60 = n71;
+						n59 = n71;
+						n60 = 0;
+						n61 = n70;
 					} else {
-						n57 = n72;
-						n58 = n70;
-						n59 = 0;
-						n60 = n71;
+						n59 = n71;
+						n60 = 0;
+						n61 = n70;
 					}
 				}
 			} else {
-				n57 = 1;
-				n58 = 0;
-				n59 = 1;
-				n60 = 0;
+				n59 = 0;
+				n60 = 1;
+				n61 = 1;
 			}
-			uint64_t n73 = load64(p3 + 8);
-			byte *p74 = inside(loadptr(p3), n73 << 6);
-			store8(p74, n59);
-			store8(p74 + 1, 0);
-			store64u(p74 + 8, n10);
-			store64u(p74 + 16, n11);
-			store64u(p74 + 24, ((uint64_t)n60 << 8) | (uint64_t)n57);
-			store64u(p74 + 32, n58);
-			memset(p74 + 40, 0, 24);
-			store64(p3 + 8, n73 + 1);
+			uint64_t n72 = load64(p3 + 8);
+			byte *p73 = inside(loadptr(p3), n72 << 6);
+			store8(p73, n60);
+			store8(p73 + 1, 0);
+			store64u(p73 + 8, n12);
+			store64u(p73 + 16, n13);
+			store64u(p73 + 24, n61);
+			store64u(p73 + 32, n59);
+			memset(p73 + 40, 0, 24);
+			store64(p3 + 8, n72 + 1);
 		}
 		break;
 	}
 	case 2: {
-		uint64_t n80;
+		uint64_t n79;
 		if (load64(p3 + 16) == 0) {
-			bool b75 = tp_std_alloc_vec_Vec_grow_amortized_6(p3, 1);
-			if (!b75)
+			bool b74 = tp_std_alloc_vec_Vec_grow_amortized_6(p3, 1);
+			if (!b74)
 				return 1;
 		}
-		byte *p76 = loadptr(p1 + 1144);
-		uint64_t n77 = load64(p1 + 1152);
-		if (n77 != 0) {
-			uint64_t n78 = load64(at(at(p76, n77 << 4), UINT64_C(18446744073709551608))) - n12;
-			if (n77 > n78) {
-				byte *p79 = inside(p76, (n77 + (n78 ^ UINT64_MAX)) << 4);
-				if (load64(p79 + 8) != n12)
+		byte *p75 = loadptr(p1 + 1144);
+		uint64_t n76 = load64(p1 + 1152);
+		if (n76 != 0) {
+			uint64_t n77 = load64(at(at(p75, n76 << 4), UINT64_C(18446744073709551608))) - n14;
+			if (n76 > n77) {
+				byte *p78 = inside(p75, (n76 + (n77 ^ UINT64_MAX)) << 4);
+				if (load64(p78 + 8) != n14)
 					goto L4;
-				n80 = load64(p79);
+				n79 = load64(p78);
 				goto L5;
 			}
 		}
-		if (n77 == 0) {
-			n80 = 0;
+		if (n76 == 0) {
+			n79 = 0;
 			goto L5;
 		}
 L4:
 		{
-			uint64_t n81 = 0;
-			uint64_t n82 = n77;
-			while (n82 > 1) {
-				uint64_t n86;
-				uint64_t n83 = n82 >> 1;
-				uint64_t n84 = n81 + n83;
-				uint64_t n85 = load64(at(p76, n84 << 4) + 8);
-				switch ((n85 == n12) ? 1 : (uint8_t)((n85 < n12) ? 0 : 2)) {
+			uint64_t n80 = 0;
+			uint64_t n81 = n76;
+			while (n81 > 1) {
+				uint64_t n85;
+				uint64_t n82 = n81 >> 1;
+				uint64_t n83 = n80 + n82;
+				uint64_t n84 = load64(at(p75, n83 << 4) + 8);
+				switch ((n84 == n14) ? 1 : (uint8_t)((n84 < n14) ? 0 : 2)) {
 				case 0:
 				case 1: {
-					n86 = n84;
+					n85 = n83;
 					break;
 				}
 				case 2: {
-					n86 = n81;
+					n85 = n80;
 					break;
 				}
 				default: {
 					UNREACHABLE();
 				}
 				}
-				n81 = n86;
-				n82 = n82 - n83;
+				n80 = n85;
+				n81 = n81 - n82;
 			}
-			byte *p87 = at(p76, n81 << 4);
-			uint64_t n88 = load64(p87 + 8);
-			switch ((n88 == n12) ? 1 : (uint8_t)((n88 < n12) ? 0 : 2)) {
+			byte *p86 = at(p75, n80 << 4);
+			uint64_t n87 = load64(p86 + 8);
+			switch ((n87 == n14) ? 1 : (uint8_t)((n87 < n14) ? 0 : 2)) {
 			case 1: {
-				n80 = load64(p87);
+				n79 = load64(p86);
 				break;
 			}
 			case 0:
 			case 2: {
-				n80 = 0;
+				n79 = 0;
 				break;
 			}
 			default: {
@@ -48223,10 +48582,18 @@ L5:
 		{
 			uint8_t n90, n92, n93;
 			uint64_t n91, n94, n95, n96;
-			if (load64(p1 + 1160) == n77) {
-				bool b89 = tp_std_alloc_vec_Vec_grow_amortized_5(p1 + 1144);
-				if (!b89)
-					return 1;
+			store64u(p9, 3);
+			store64u(p9 + 8, n79);
+			store64u(p9 + 16, n14);
+			store64u(p9 + 24, n15);
+			store64u(p9 + 32, n16);
+			if (load64(p1 + 1160) == n76) {
+				bool b88 = tp_std_alloc_vec_Vec_grow_amortized_5(p1 + 1144);
+				if (!b88) {
+					bool b89 = tp_timer_facility_facility_Facility_makes_timer(p1, n12, n13, p9);
+					if (b89)
+						return 1;
+				}
 			}
 			if ((load8(p1 + 1104) & 1) != 0) {
 				n90 = 0;
@@ -48236,10 +48603,10 @@ L5:
 				n94 = 0;
 				n95 = 0;
 				n96 = 0;
-			} else if (load64(p1 + 56) > n10) {
-				byte *p97 = inside(p1 + 80, n10 << 3);
+			} else if (load64(p1 + 56) > n12) {
+				byte *p97 = inside(p1 + 80, n12 << 3);
 				uint64_t n98 = load64(p97);
-				if (n11 < n98) {
+				if (n13 < n98) {
 					n90 = 2;
 					n91 = n98;
 					n92 = 1;
@@ -48255,7 +48622,7 @@ L5:
 					n94 = 0;
 					n95 = 0;
 					n96 = 0;
-				} else if (n98 < n11) {
+				} else if (n98 < n13) {
 					n90 = 4;
 					n91 = n98;
 					n92 = 1;
@@ -48265,14 +48632,14 @@ L5:
 					n96 = 0;
 				} else {
 					memset(p5, 0, 40);
-					tp_timer_facility_facility_Facility_take_restart(p5, p1, n10, n11, n80, n12, n13, n14);
+					tp_timer_facility_facility_Facility_take_restart(p5, p1, n12, n13, n79, n14, n15, n15, n16);
 					uint8_t n99 = load8(p5);
 					uint8_t n100 = load8(p5 + 1);
 					uint64_t n101 = load64u(p5 + 8);
 					uint64_t n102 = load64u(p5 + 16);
 					uint64_t n103 = load64u(p5 + 24);
 					uint64_t n104 = load64u(p5 + 32);
-					store64(p97, n11 + 1);
+					store64(p97, n13 + 1);
 					switch (n99) {
 					case 0: {
 						uint64_t n105 = load64(p1 + 1152);
@@ -48330,8 +48697,8 @@ L5:
 			byte *p110 = inside(loadptr(p3), n109 << 6);
 			store8(p110, n92);
 			store8(p110 + 1, 0);
-			store64u(p110 + 8, n10);
-			store64u(p110 + 16, n11);
+			store64u(p110 + 8, n12);
+			store64u(p110 + 16, n13);
 			store64u(p110 + 24, ((uint64_t)n93 << 8) | (uint64_t)n90);
 			store64u(p110 + 32, n91);
 			store64u(p110 + 40, n94);
@@ -48351,7 +48718,7 @@ L5:
 			if (!b112)
 				return 1;
 		}
-		uint64_t n113 = n10;
+		uint64_t n113 = n12;
 		for (;;) {
 			uint64_t n125;
 			if (n113 == 0)
@@ -53909,6 +54276,123 @@ L1:
 	}
 }
 
+/* timer_facility::facility::Facility::makes_timer: crates/timer_facility/src/facility.rt */
+static bool tp_facility_Facility_makes_timer(byte *p1, uint64_t n2, uint64_t n3, byte *p4)
+{
+	uint8_t n5 = load8(p4);
+	uint64_t n6 = load64u(p4 + 8);
+	uint64_t n7 = load64u(p4 + 16);
+	uint64_t n8 = load64u(p4 + 24);
+	if ((load8(p1 + 1176) & 1) != 0)
+		return false;
+	if (load64(p1 + 128) <= n2)
+		return false;
+	uint64_t n9 = load64(inside(p1 + 152, n2 << 3));
+	if ((int)(n3 < n9) | (int)(n9 > UINT64_C(1152921504606846975)))
+		return false;
+	if (n9 < n3)
+		return false;
+	switch (n5) {
+	case 0: {
+		uint64_t n17;
+		if (n6 == 0)
+			return false;
+		if ((load64(p1) - load64(p1 + 8)) < n6)
+			return false;
+		if (load64(p1 + 144) > UINT64_C(1152921504606846975))
+			return false;
+		uint64_t n10 = load64(p1 + 56);
+		byte *p11 = loadptr(p1 + 72);
+		uint64_t n12 = load64(p1 + 96);
+		uint64_t n13 = (uint64_t)load32(at(p11, load64(p1 + 24) << 3) + 4);
+		uint64_t n14 = usub_sat64(n13, n12);
+		uint64_t n15 = 0;
+		uint64_t n16 = n13;
+		for (;;) {
+			if (n15 == n10) {
+				n17 = n10;
+				break;
+			}
+			if (n12 > n16) {
+				n17 = n15;
+				break;
+			}
+			uint64_t n18 = (uint64_t)load32(at(p11, (n12 + n14) << 3) + 4);
+			n14 = usub_sat64(n18, n12);
+			n15 = n15 + 1;
+			n16 = n18;
+		}
+		return (n10 - n17) != load64(p1 + 136);
+	}
+	case 1: {
+		uint64_t n27;
+		uint64_t n19 = load64(p1 + 8);
+		if ((load64(p1) - n19) < umax64(usub_sat64(n6, n19), 1))
+			return false;
+		if (load64(p1 + 144) > UINT64_C(1152921504606846975))
+			return false;
+		uint64_t n20 = load64(p1 + 56);
+		byte *p21 = loadptr(p1 + 72);
+		uint64_t n22 = load64(p1 + 96);
+		uint64_t n23 = (uint64_t)load32(at(p21, load64(p1 + 24) << 3) + 4);
+		uint64_t n24 = usub_sat64(n23, n22);
+		uint64_t n25 = 0;
+		uint64_t n26 = n23;
+		for (;;) {
+			if (n25 == n20) {
+				n27 = n20;
+				break;
+			}
+			if (n22 > n26) {
+				n27 = n25;
+				break;
+			}
+			uint64_t n28 = (uint64_t)load32(at(p21, (n22 + n24) << 3) + 4);
+			n24 = usub_sat64(n28, n22);
+			n25 = n25 + 1;
+			n26 = n28;
+		}
+		return (n20 - n27) != load64(p1 + 136);
+	}
+	case 2: {
+		return false;
+	}
+	case 3: {
+		byte *p29 = at(loadptr(p1 + 32), n6 * 56);
+		if (n6 >= load64(p1 + 40))
+			return false;
+		if (load8(p29) != 1)
+			return false;
+		if (load64u(p29 + 8) != n7)
+			return false;
+		if ((int)(load64u(p29 + 16) != n2) | (int)(n8 == 0))
+			return false;
+		if ((load64(p1) - load64(p1 + 8)) < n8)
+			return false;
+		return load64(p1 + 144) < UINT64_C(1152921504606846976);
+	}
+	case 4: {
+		uint64_t n30 = load64(p1 + 8);
+		uint64_t n31 = umax64(usub_sat64(n8, n30), 1);
+		byte *p32 = at(loadptr(p1 + 32), n6 * 56);
+		if (n6 >= load64(p1 + 40))
+			return false;
+		if (load8(p32) != 1)
+			return false;
+		if (load64u(p32 + 8) != n7)
+			return false;
+		if (load64u(p32 + 16) != n2)
+			return false;
+		if ((load64(p1) - n30) < n31)
+			return false;
+		return load64(p1 + 144) < UINT64_C(1152921504606846976);
+	}
+	default: {
+		UNREACHABLE();
+	}
+	}
+}
+
 /* std_alloc::vec::Vec::grow_amortized */
 static COLD bool tp_std_alloc_vec_Vec_grow_amortized(byte *p1, uint64_t n2)
 {
@@ -54323,316 +54807,324 @@ static NOINLINE uint8_t tp_timer_script_script_run_play_start(byte *p1, uint64_t
 {
 	ALIGN(8) byte p7[40];
 	ALIGN(8) byte p8[24];
-	ALIGN(1) byte p9[118];
-	ALIGN(8) byte p10[32];
-	ALIGN(8) byte p11[16];
+	ALIGN(8) byte p9[40];
+	ALIGN(1) byte p10[118];
+	ALIGN(8) byte p11[32];
 	ALIGN(8) byte p12[16];
-	uint64_t n14;
-	byte *p15;
-	uint8_t n94, n95;
+	ALIGN(8) byte p13[16];
+	uint64_t n16;
+	byte *p17;
+	uint8_t n96, n97;
+	store64(p9, 0);
+	store64u(p9 + 8, n4);
+	store64u(p9 + 16, n5);
+	memset(p9 + 24, 0, 16);
 	if (load64(p1 + 1232) == load64(p1 + 1224)) {
-		bool b13 = tp_std_alloc_vec_Vec_grow_amortized_5(p1 + 1216);
-		if (!b13)
-			return 1;
+		bool b14 = tp_std_alloc_vec_Vec_grow_amortized_5(p1 + 1216);
+		if (!b14) {
+			bool b15 = tp_facility_Facility_makes_timer(p1, n2, n3, p9);
+			if (b15)
+				return 1;
+		}
 	}
 	if ((load8(p1 + 1176) & 1) != 0) {
-		store64(p12, n2);
-		store64(p12 + 8, n3);
-		n14 = 6;
-		p15 = (byte *)tp_static_208;
+		store64(p13, n2);
+		store64(p13 + 8, n3);
+		n16 = 6;
+		p17 = (byte *)tp_static_208;
 	} else if (load64(p1 + 128) > n2) {
-		uint64_t n16 = n2 << 3;
-		byte *p17 = inside(p1 + 152, n16);
-		uint64_t n18 = load64(p17);
-		if (n3 < n18) {
-			store64(p12, n2);
-			store64(p12 + 8, n3);
-			n14 = 8;
-			p15 = (byte *)tp_static_219;
-		} else if (n18 > UINT64_C(1152921504606846975)) {
-			store64(p12, n2);
-			store64(p12 + 8, n3);
-			n14 = 13;
-			p15 = (byte *)tp_static_220;
+		uint64_t n18 = n2 << 3;
+		byte *p19 = inside(p1 + 152, n18);
+		uint64_t n20 = load64(p19);
+		if (n3 < n20) {
+			store64(p13, n2);
+			store64(p13 + 8, n3);
+			n16 = 8;
+			p17 = (byte *)tp_static_219;
+		} else if (n20 > UINT64_C(1152921504606846975)) {
+			store64(p13, n2);
+			store64(p13 + 8, n3);
+			n16 = 13;
+			p17 = (byte *)tp_static_220;
 		} else {
-			if (n18 >= n3) {
-				uint8_t n19, n38, n39;
-				uint64_t n37, n40;
+			if (n20 >= n3) {
+				uint8_t n21, n40, n41;
+				uint64_t n39, n42;
 				memset(p8, 0, 24);
 				if (n4 == 0) {
-					n19 = 0;
+					n21 = 0;
 				} else {
-					uint64_t n20 = load64(p1 + 8);
-					if ((load64(p1) - n20) < n4) {
-						n19 = 1;
+					uint64_t n22 = load64(p1 + 8);
+					if ((load64(p1) - n22) < n4) {
+						n21 = 1;
 					} else {
-						uint64_t n21 = load64(p1 + 144);
-						if (n21 > UINT64_C(1152921504606846975)) {
-							n19 = 2;
+						uint64_t n23 = load64(p1 + 144);
+						if (n23 > UINT64_C(1152921504606846975)) {
+							n21 = 2;
 						} else {
-							uint64_t n29;
-							uint64_t n22 = load64(p1 + 56);
-							byte *p23 = loadptr(p1 + 72);
-							uint64_t n24 = load64(p1 + 96);
-							uint64_t n25 = (uint64_t)load32(at(p23, load64(p1 + 24) << 3) + 4);
-							uint64_t n26 = usub_sat64(n25, n24);
-							uint64_t n27 = 0;
-							uint64_t n28 = n25;
+							uint64_t n31;
+							uint64_t n24 = load64(p1 + 56);
+							byte *p25 = loadptr(p1 + 72);
+							uint64_t n26 = load64(p1 + 96);
+							uint64_t n27 = (uint64_t)load32(at(p25, load64(p1 + 24) << 3) + 4);
+							uint64_t n28 = usub_sat64(n27, n26);
+							uint64_t n29 = 0;
+							uint64_t n30 = n27;
 							for (;;) {
-								if (n27 == n22) {
-									n29 = n22;
+								if (n29 == n24) {
+									n31 = n24;
 									break;
 								}
-								if (n24 > n28) {
-									n29 = n27;
+								if (n26 > n30) {
+									n31 = n29;
 									break;
 								}
-								uint64_t n30 = (uint64_t)load32(at(p23, (n24 + n26) << 3) + 4);
-								n26 = usub_sat64(n30, n24);
-								n27 = n27 + 1;
-								n28 = n30;
+								uint64_t n32 = (uint64_t)load32(at(p25, (n26 + n28) << 3) + 4);
+								n28 = usub_sat64(n32, n26);
+								n29 = n29 + 1;
+								n30 = n32;
 							}
-							if ((n22 - n29) != load64(p1 + 136)) {
-								uint64_t n31 = n20 + n4;
-								store64u(p7, n21);
+							if ((n24 - n31) != load64(p1 + 136)) {
+								uint64_t n33 = n22 + n4;
+								store64u(p7, n23);
 								store64u(p7 + 8, n2);
 								store64u(p7 + 16, n3);
-								store64u(p7 + 24, n31);
+								store64u(p7 + 24, n33);
 								store64u(p7 + 32, n5);
 								tp_HashedWheelWheel_start(p8, p1, p7);
 								if (load8(p8) != 0)
 									return 1;
-								uint64_t n32 = load64u(p8 + 16);
-								uint64_t n33 = load64u(p8 + 8);
+								uint64_t n34 = load64u(p8 + 16);
+								uint64_t n35 = load64u(p8 + 8);
 								store64(p1 + 144, load64(p1 + 144) + 1);
-								byte *p34 = inside(p1 + 664, n16);
-								store64(p34, load64(p34) + 1);
-								store64(p17, n3 + 1);
-								uint64_t n35 = load64(p1 + 1224);
-								byte *p36 = inside(loadptr(p1 + 1216), n35 << 4);
-								store64u(p36, n33);
-								store64u(p36 + 8, n32);
-								store64(p1 + 1224, n35 + 1);
-								n37 = n32;
-								n38 = 0;
-								n39 = 0;
-								n40 = n31;
+								byte *p36 = inside(p1 + 664, n18);
+								store64(p36, load64(p36) + 1);
+								store64(p19, n3 + 1);
+								uint64_t n37 = load64(p1 + 1224);
+								byte *p38 = inside(loadptr(p1 + 1216), n37 << 4);
+								store64u(p38, n35);
+								store64u(p38 + 8, n34);
+								store64(p1 + 1224, n37 + 1);
+								n39 = n34;
+								n40 = 0;
+								n41 = 0;
+								n42 = n33;
 								goto L1;
 							}
-							n19 = 3;
+							n21 = 3;
 						}
 					}
 				}
-				store64(p17, n3 + 1);
-				n37 = 0;
-				n38 = 3;
-				n39 = n19;
-				n40 = 0;
+				store64(p19, n3 + 1);
+				n39 = 0;
+				n40 = 3;
+				n41 = n21;
+				n42 = 0;
 L1:
 				{
-					uint64_t n48;
-					uint8_t n90;
-					uint64_t n41 = load64(p1 + 56);
-					byte *p42 = loadptr(p1 + 72);
-					uint64_t n43 = load64(p1 + 96);
-					uint64_t n44 = (uint64_t)load32(at(p42, load64(p1 + 24) << 3) + 4);
-					uint64_t n45 = usub_sat64(n44, n43);
-					uint64_t n46 = 0;
-					uint64_t n47 = n44;
+					uint64_t n50;
+					uint8_t n92;
+					uint64_t n43 = load64(p1 + 56);
+					byte *p44 = loadptr(p1 + 72);
+					uint64_t n45 = load64(p1 + 96);
+					uint64_t n46 = (uint64_t)load32(at(p44, load64(p1 + 24) << 3) + 4);
+					uint64_t n47 = usub_sat64(n46, n45);
+					uint64_t n48 = 0;
+					uint64_t n49 = n46;
 					for (;;) {
-						if (n46 == n41) {
-							n48 = n41;
+						if (n48 == n43) {
+							n50 = n43;
 							break;
 						}
-						if (n43 > n47) {
-							n48 = n46;
+						if (n45 > n49) {
+							n50 = n48;
 							break;
 						}
-						uint64_t n49 = (uint64_t)load32(at(p42, (n43 + n45) << 3) + 4);
-						n45 = usub_sat64(n49, n43);
-						n46 = n46 + 1;
-						n47 = n49;
+						uint64_t n51 = (uint64_t)load32(at(p44, (n45 + n47) << 3) + 4);
+						n47 = usub_sat64(n51, n45);
+						n48 = n48 + 1;
+						n49 = n51;
 					}
-					if ((((n41 - n48) << 1) + 64) < load64(p1 + 1224))
+					if ((((n43 - n50) << 1) + 64) < load64(p1 + 1224))
 						tp_timer_facility_handles_sweep(p1 + 1216, p1);
+					memset(p13, 0, 16);
 					memset(p12, 0, 16);
-					memset(p11, 0, 16);
-					if (n38 == 0) {
-						uint64_t n79;
-						store64(p10, n2);
-						store64(p10 + 8, n3);
-						store64(p10 + 16, n37);
-						store64(p10 + 24, n40);
-						memset(p9, 0, 117);
-						store8(p9 + 117, 10);
-						uint64_t n50 = 117;
-						uint64_t n51 = 4;
-						while (n51 != 0) {
-							uint64_t n63;
-							uint64_t n52 = n51 - 1;
-							uint64_t n53 = load64(inside(p10, n52 << 3));
-							uint64_t n54 = n50;
-							while (n53 > 9999) {
-								uint16_t n55 = (uint16_t)(n53 % 10000);
-								byte *p56 = inside((byte *)tp_static_224, (uint64_t)(uint16_t)((uint32_t)(uint16_t)(n55 % 100) << 1));
-								byte *p57 = at(p9, n54);
-								uint8_t n58 = load8(p56 + 1);
-								store8(at(p57, UINT64_C(18446744073709551614)), load8(p56));
-								store8(at(p57, UINT64_MAX), n58);
-								uint64_t n59 = n54 - 4;
-								byte *p60 = inside((byte *)tp_static_224, (uint64_t)(uint16_t)((uint32_t)(uint16_t)(n55 / 100) << 1));
-								uint8_t n61 = load8(p60 + 1);
-								store8(inside(p9, n59), load8(p60));
-								store8(at(p57, UINT64_C(18446744073709551613)), n61);
-								n53 = n53 / 10000;
-								n54 = n59;
+					if (n40 == 0) {
+						uint64_t n81;
+						store64(p11, n2);
+						store64(p11 + 8, n3);
+						store64(p11 + 16, n39);
+						store64(p11 + 24, n42);
+						memset(p10, 0, 117);
+						store8(p10 + 117, 10);
+						uint64_t n52 = 117;
+						uint64_t n53 = 4;
+						while (n53 != 0) {
+							uint64_t n65;
+							uint64_t n54 = n53 - 1;
+							uint64_t n55 = load64(inside(p11, n54 << 3));
+							uint64_t n56 = n52;
+							while (n55 > 9999) {
+								uint16_t n57 = (uint16_t)(n55 % 10000);
+								byte *p58 = inside((byte *)tp_static_224, (uint64_t)(uint16_t)((uint32_t)(uint16_t)(n57 % 100) << 1));
+								byte *p59 = at(p10, n56);
+								uint8_t n60 = load8(p58 + 1);
+								store8(at(p59, UINT64_C(18446744073709551614)), load8(p58));
+								store8(at(p59, UINT64_MAX), n60);
+								uint64_t n61 = n56 - 4;
+								byte *p62 = inside((byte *)tp_static_224, (uint64_t)(uint16_t)((uint32_t)(uint16_t)(n57 / 100) << 1));
+								uint8_t n63 = load8(p62 + 1);
+								store8(inside(p10, n61), load8(p62));
+								store8(at(p59, UINT64_C(18446744073709551613)), n63);
+								n55 = n55 / 10000;
+								n56 = n61;
 							}
-							if (n53 < 100) {
-								if (n53 < 10) {
-									uint64_t n62 = n54 - 1;
-									store8(inside(p9, n62), (uint8_t)((uint8_t)n53 | 48));
-									n63 = n62;
+							if (n55 < 100) {
+								if (n55 < 10) {
+									uint64_t n64 = n56 - 1;
+									store8(inside(p10, n64), (uint8_t)((uint8_t)n55 | 48));
+									n65 = n64;
 								} else {
-									uint64_t n64 = n54 - 2;
-									byte *p65 = inside((byte *)tp_static_224, n53 << 1);
-									uint8_t n66 = load8(p65 + 1);
-									store8(inside(p9, n64), load8(p65));
-									store8(at(at(p9, n54), UINT64_MAX), n66);
-									n63 = n64;
+									uint64_t n66 = n56 - 2;
+									byte *p67 = inside((byte *)tp_static_224, n55 << 1);
+									uint8_t n68 = load8(p67 + 1);
+									store8(inside(p10, n66), load8(p67));
+									store8(at(at(p10, n56), UINT64_MAX), n68);
+									n65 = n66;
 								}
 							} else {
-								uint16_t n67 = (uint16_t)n53;
-								byte *p68 = inside((byte *)tp_static_224, (uint64_t)(uint16_t)((uint32_t)(uint16_t)(n67 % 100) << 1));
-								byte *p69 = at(p9, n54);
-								uint8_t n70 = load8(p68 + 1);
-								store8(at(p69, UINT64_C(18446744073709551614)), load8(p68));
-								store8(at(p69, UINT64_MAX), n70);
-								uint16_t n71 = (uint16_t)(n67 / 100);
-								if (n53 < 1000) {
-									uint64_t n72 = n54 - 3;
-									store8(inside(p9, n72), (uint8_t)((uint8_t)n71 | 48));
-									n63 = n72;
+								uint16_t n69 = (uint16_t)n55;
+								byte *p70 = inside((byte *)tp_static_224, (uint64_t)(uint16_t)((uint32_t)(uint16_t)(n69 % 100) << 1));
+								byte *p71 = at(p10, n56);
+								uint8_t n72 = load8(p70 + 1);
+								store8(at(p71, UINT64_C(18446744073709551614)), load8(p70));
+								store8(at(p71, UINT64_MAX), n72);
+								uint16_t n73 = (uint16_t)(n69 / 100);
+								if (n55 < 1000) {
+									uint64_t n74 = n56 - 3;
+									store8(inside(p10, n74), (uint8_t)((uint8_t)n73 | 48));
+									n65 = n74;
 								} else {
-									uint64_t n73 = n54 - 4;
-									byte *p74 = inside((byte *)tp_static_224, (uint64_t)(uint16_t)((uint32_t)n71 << 1));
-									uint8_t n75 = load8(p74 + 1);
-									store8(inside(p9, n73), load8(p74));
-									store8(at(p69, UINT64_C(18446744073709551613)), n75);
-									n63 = n73;
+									uint64_t n75 = n56 - 4;
+									byte *p76 = inside((byte *)tp_static_224, (uint64_t)(uint16_t)((uint32_t)n73 << 1));
+									uint8_t n77 = load8(p76 + 1);
+									store8(inside(p10, n75), load8(p76));
+									store8(at(p71, UINT64_C(18446744073709551613)), n77);
+									n65 = n75;
 								}
 							}
-							uint64_t n76 = n63 - 1;
-							store8(inside(p9, n76), 32);
-							n50 = n76;
-							n51 = n52;
+							uint64_t n78 = n65 - 1;
+							store8(inside(p10, n78), 32);
+							n52 = n78;
+							n53 = n54;
 						}
-						byte *p77 = at(at(p9, n50), UINT64_C(18446744073709551609));
-						uint64_t n78 = (uint64_t)(uintptr_t)p77;
-						if ((n78 - (uint64_t)(uintptr_t)(byte *)tp_static_210) >= 7) {
-							memcpy(p77, (byte *)tp_static_210, 7);
+						byte *p79 = at(at(p10, n52), UINT64_C(18446744073709551609));
+						uint64_t n80 = (uint64_t)(uintptr_t)p79;
+						if ((n80 - (uint64_t)(uintptr_t)(byte *)tp_static_210) >= 7) {
+							memcpy(p79, (byte *)tp_static_210, 7);
 							goto L2;
 						}
-						n79 = 0;
-						while (n79 != 7) {
-							store8(inside(p77, n79), load8(inside((byte *)tp_static_210, n79)));
-							n79 = n79 + 1;
+						n81 = 0;
+						while (n81 != 7) {
+							store8(inside(p79, n81), load8(inside((byte *)tp_static_210, n81)));
+							n81 = n81 + 1;
 						}
 L2:
 						{
-							uint64_t n84, n85, n89;
-							uint8_t n86;
-							byte *p87, *p88;
-							uint64_t n80 = 125 - n50;
-							uint64_t n81 = load64(p6 + 16);
-							uint64_t n82 = load64(p6 + 8);
-							if (n80 > (n81 - n82)) {
-								bool b83 = tp_std_alloc_vec_Vec_grow_amortized_9(p6, n80);
-								if (!b83) {
-									n86 = 1;
+							uint64_t n86, n87, n91;
+							uint8_t n88;
+							byte *p89, *p90;
+							uint64_t n82 = 125 - n52;
+							uint64_t n83 = load64(p6 + 16);
+							uint64_t n84 = load64(p6 + 8);
+							if (n82 > (n83 - n84)) {
+								bool b85 = tp_std_alloc_vec_Vec_grow_amortized_9(p6, n82);
+								if (!b85) {
+									n88 = 1;
 									goto L3;
 								}
-								n84 = load64(p6 + 16);
-								n85 = load64(p6 + 8);
+								n86 = load64(p6 + 16);
+								n87 = load64(p6 + 8);
 							} else {
-								n84 = n81;
-								n85 = n82;
+								n86 = n83;
+								n87 = n84;
 							}
-							p87 = loadptr(p6);
-							p88 = at(p87, n85);
-							if (((uint64_t)(uintptr_t)p88 - n78) >= n80) {
-								memcpy(p88, p77, (size_t)n80);
+							p89 = loadptr(p6);
+							p90 = at(p89, n87);
+							if (((uint64_t)(uintptr_t)p90 - n80) >= n82) {
+								memcpy(p90, p79, (size_t)n82);
 								goto L4;
 							}
-							n89 = 0;
-							while (n89 != n80) {
-								store8(inside(p88, n89), load8(inside(p77, n89)));
-								n89 = n89 + 1;
+							n91 = 0;
+							while (n91 != n82) {
+								store8(inside(p90, n91), load8(inside(p79, n91)));
+								n91 = n91 + 1;
 							}
 L4:
 							{
-								storeptr(p6, p87);
-								store64(p6 + 8, n85 + n80);
-								store64(p6 + 16, n84);
-								n86 = 0;
+								storeptr(p6, p89);
+								store64(p6 + 8, n87 + n82);
+								store64(p6 + 16, n86);
+								n88 = 0;
 							}
 L3:
 							{
-								n90 = n86;
+								n92 = n88;
 							}
 						}
 					} else {
-						uint64_t n91;
-						byte *p92;
-						store64(p11, n2);
-						store64(p11 + 8, n3);
-						switch (n39) {
+						uint64_t n93;
+						byte *p94;
+						store64(p12, n2);
+						store64(p12 + 8, n3);
+						switch (n41) {
 						case 0: {
-							n91 = 13;
-							p92 = (byte *)tp_static_213;
+							n93 = 13;
+							p94 = (byte *)tp_static_213;
 							break;
 						}
 						case 1: {
-							n91 = 8;
-							p92 = (byte *)tp_static_214;
+							n93 = 8;
+							p94 = (byte *)tp_static_214;
 							break;
 						}
 						case 2: {
-							n91 = 13;
-							p92 = (byte *)tp_static_215;
+							n93 = 13;
+							p94 = (byte *)tp_static_215;
 							break;
 						}
 						case 3: {
-							n91 = 4;
-							p92 = (byte *)tp_static_216;
+							n93 = 4;
+							p94 = (byte *)tp_static_216;
 							break;
 						}
 						default: {
 							UNREACHABLE();
 						}
 						}
-						uint8_t n93 = tp_text_push_refused(p6, (byte *)tp_static_203, 7, p11, 2, p92, n91);
-						n90 = n93;
+						uint8_t n95 = tp_text_push_refused(p6, (byte *)tp_static_203, 7, p12, 2, p94, n93);
+						n92 = n95;
 					}
-					n94 = n90;
+					n96 = n92;
 					goto L5;
 				}
 			}
-			store64(p12, n2);
-			store64(p12 + 8, n3);
-			n14 = 5;
-			p15 = (byte *)tp_static_221;
+			store64(p13, n2);
+			store64(p13 + 8, n3);
+			n16 = 5;
+			p17 = (byte *)tp_static_221;
 		}
 	} else {
-		store64(p12, n2);
-		store64(p12 + 8, n3);
-		n14 = 9;
-		p15 = (byte *)tp_static_218;
+		store64(p13, n2);
+		store64(p13 + 8, n3);
+		n16 = 9;
+		p17 = (byte *)tp_static_218;
 	}
-	n95 = tp_text_push_refused(p6, (byte *)tp_static_203, 7, p12, 2, p15, n14);
-	n94 = n95;
+	n97 = tp_text_push_refused(p6, (byte *)tp_static_203, 7, p13, 2, p17, n16);
+	n96 = n97;
 L5:
 	{
-		return n94;
+		return n96;
 	}
 }
 
@@ -54705,334 +55197,318 @@ L1:
 	}
 L2:
 	{
-		uint64_t n24;
-		byte *p25;
-		uint8_t n92, n93;
-		if (load64(p1 + 1232) == n11) {
-			bool b23 = tp_std_alloc_vec_Vec_grow_amortized_5(p1 + 1216);
-			if (!b23)
-				return 1;
-		}
+		uint64_t n23;
+		byte *p24;
 		if ((load8(p1 + 1176) & 1) != 0) {
 			store64(p9, n2);
 			store64(p9 + 8, n3);
-			n24 = 6;
-			p25 = (byte *)tp_static_208;
+			n23 = 6;
+			p24 = (byte *)tp_static_208;
 		} else if (load64(p1 + 128) > n2) {
-			uint64_t n26 = n2 << 3;
-			byte *p27 = inside(p1 + 152, n26);
-			uint64_t n28 = load64(p27);
-			if (n3 < n28) {
+			uint64_t n25 = n2 << 3;
+			byte *p26 = inside(p1 + 152, n25);
+			uint64_t n27 = load64(p26);
+			if (n3 < n27) {
 				store64(p9, n2);
 				store64(p9 + 8, n3);
-				n24 = 8;
-				p25 = (byte *)tp_static_219;
-			} else if (n28 > UINT64_C(1152921504606846975)) {
+				n23 = 8;
+				p24 = (byte *)tp_static_219;
+			} else if (n27 > UINT64_C(1152921504606846975)) {
 				store64(p9, n2);
 				store64(p9 + 8, n3);
-				n24 = 13;
-				p25 = (byte *)tp_static_220;
+				n23 = 13;
+				p24 = (byte *)tp_static_220;
 			} else {
-				if (n28 >= n3) {
-					uint64_t n36, n46;
-					uint8_t n37, n38, n51;
-					byte *p29 = at(loadptr(p1 + 32), n14 * 56);
+				if (n27 >= n3) {
+					uint64_t n35, n36, n44;
+					uint8_t n49;
+					byte *p28 = at(loadptr(p1 + 32), n14 * 56);
 					if (n14 < load64(p1 + 40)) {
-						if (load8(p29) == 1) {
-							if (load64u(p29 + 8) == n4) {
-								if (load64u(p29 + 16) == n2) {
-									byte *p30 = at(loadptr(p1 + 72), (load64(p1 + 96) + n14) << 3);
-									uint32_t n31 = load32u(p30);
-									uint32_t n32 = load32u(p30 + 4);
-									uint64_t n33 = load64(p1 + 64);
-									store64u(p29, 0);
-									store64u(p29 + 8, n33);
-									memset(p29 + 16, 0, 40);
+						if (load8(p28) == 1) {
+							if (load64u(p28 + 8) == n4) {
+								if (load64u(p28 + 16) == n2) {
+									byte *p29 = at(loadptr(p1 + 72), (load64(p1 + 96) + n14) << 3);
+									uint32_t n30 = load32u(p29);
+									uint32_t n31 = load32u(p29 + 4);
+									uint64_t n32 = load64(p1 + 64);
+									store64u(p28, 0);
+									store64u(p28 + 8, n32);
+									memset(p28 + 16, 0, 40);
 									store64(p1 + 56, load64(p1 + 56) - 1);
 									store64(p1 + 64, n14);
-									byte *p34 = loadptr(p1 + 72);
-									store32(inside(p34, (uint64_t)n31 << 3) + 4, n32);
-									store32(inside(p34, (uint64_t)n32 << 3), n31);
-									byte *p35 = inside(p1 + 664, n26);
-									store64(p35, load64(p35) - 1);
-									n36 = n4;
-									n37 = 0;
-									n38 = 1;
+									byte *p33 = loadptr(p1 + 72);
+									store32(inside(p33, (uint64_t)n30 << 3) + 4, n31);
+									store32(inside(p33, (uint64_t)n31 << 3), n30);
+									byte *p34 = inside(p1 + 664, n25);
+									store64(p34, load64(p34) - 1);
+									n35 = n4;
+									n36 = 1;
 								} else {
-									n36 = 0;
-									n37 = 4;
-									n38 = 3;
+									n35 = 0;
+									n36 = 1027;
 								}
 							} else {
-								n36 = 0;
-								n37 = 4;
-								n38 = 3;
+								n35 = 0;
+								n36 = 1027;
 							}
 						} else {
-							n36 = 0;
-							n37 = 4;
-							n38 = 3;
+							n35 = 0;
+							n36 = 1027;
 						}
 					} else {
-						n36 = 0;
-						n37 = 4;
-						n38 = 3;
+						n35 = 0;
+						n36 = 1027;
 					}
-					store64(p27, n3 + 1);
-					uint64_t n39 = load64(p1 + 56);
-					byte *p40 = loadptr(p1 + 72);
-					uint64_t n41 = load64(p1 + 96);
-					uint64_t n42 = (uint64_t)load32(at(p40, load64(p1 + 24) << 3) + 4);
-					uint64_t n43 = usub_sat64(n42, n41);
-					uint64_t n44 = 0;
-					uint64_t n45 = n42;
+					store64(p26, n3 + 1);
+					uint64_t n37 = load64(p1 + 56);
+					byte *p38 = loadptr(p1 + 72);
+					uint64_t n39 = load64(p1 + 96);
+					uint64_t n40 = (uint64_t)load32(at(p38, load64(p1 + 24) << 3) + 4);
+					uint64_t n41 = usub_sat64(n40, n39);
+					uint64_t n42 = 0;
+					uint64_t n43 = n40;
 					for (;;) {
-						if (n44 == n39) {
-							n46 = n39;
+						if (n42 == n37) {
+							n44 = n37;
 							break;
 						}
-						if (n41 > n45) {
-							n46 = n44;
+						if (n39 > n43) {
+							n44 = n42;
 							break;
 						}
-						uint64_t n47 = (uint64_t)load32(at(p40, (n41 + n43) << 3) + 4);
-						n43 = usub_sat64(n47, n41);
-						n44 = n44 + 1;
-						n45 = n47;
+						uint64_t n45 = (uint64_t)load32(at(p38, (n39 + n41) << 3) + 4);
+						n41 = usub_sat64(n45, n39);
+						n42 = n42 + 1;
+						n43 = n45;
 					}
-					if ((((n39 - n46) << 1) + 64) < load64(p1 + 1224))
+					if ((((n37 - n44) << 1) + 64) < load64(p1 + 1224))
 						tp_timer_facility_handles_sweep(p1 + 1216, p1);
 					memset(p9, 0, 16);
 					memset(p8, 0, 16);
-					if (n38 == 3) {
-						uint64_t n48;
-						byte *p49;
+					if ((uint8_t)n36 == 3) {
+						uint64_t n46;
+						byte *p47;
 						store64(p8, n2);
 						store64(p8 + 8, n3);
-						if (n37 == 0) {
-							n48 = 13;
-							p49 = (byte *)tp_static_213;
+						if ((uint8_t)(n36 >> 8) == 0) {
+							n46 = 13;
+							p47 = (byte *)tp_static_213;
 						} else {
-							n48 = 7;
-							p49 = (byte *)tp_static_217;
+							n46 = 7;
+							p47 = (byte *)tp_static_217;
 						}
-						uint8_t n50 = tp_text_push_refused(p5, (byte *)tp_static_203, 7, p8, 2, p49, n48);
-						n51 = n50;
+						uint8_t n48 = tp_text_push_refused(p5, (byte *)tp_static_203, 7, p8, 2, p47, n46);
+						n49 = n48;
 					} else {
-						uint64_t n81;
+						uint64_t n79;
 						store64(p7, n2);
 						store64(p7 + 8, n3);
-						store64(p7 + 16, n36);
+						store64(p7 + 16, n35);
 						memset(p6, 0, 117);
 						store8(p6 + 117, 10);
-						uint64_t n52 = 117;
-						uint64_t n53 = 3;
-						while (n53 != 0) {
-							uint64_t n65;
-							uint64_t n54 = n53 - 1;
-							uint64_t n55 = load64(inside(p7, n54 << 3));
-							uint64_t n56 = n52;
-							while (n55 > 9999) {
-								uint16_t n57 = (uint16_t)(n55 % 10000);
-								byte *p58 = inside((byte *)tp_static_224, (uint64_t)(uint16_t)((uint32_t)(uint16_t)(n57 % 100) << 1));
-								byte *p59 = at(p6, n56);
-								uint8_t n60 = load8(p58 + 1);
-								store8(at(p59, UINT64_C(18446744073709551614)), load8(p58));
-								store8(at(p59, UINT64_MAX), n60);
-								uint64_t n61 = n56 - 4;
-								byte *p62 = inside((byte *)tp_static_224, (uint64_t)(uint16_t)((uint32_t)(uint16_t)(n57 / 100) << 1));
-								uint8_t n63 = load8(p62 + 1);
-								store8(inside(p6, n61), load8(p62));
-								store8(at(p59, UINT64_C(18446744073709551613)), n63);
-								n55 = n55 / 10000;
-								n56 = n61;
+						uint64_t n50 = 117;
+						uint64_t n51 = 3;
+						while (n51 != 0) {
+							uint64_t n63;
+							uint64_t n52 = n51 - 1;
+							uint64_t n53 = load64(inside(p7, n52 << 3));
+							uint64_t n54 = n50;
+							while (n53 > 9999) {
+								uint16_t n55 = (uint16_t)(n53 % 10000);
+								byte *p56 = inside((byte *)tp_static_224, (uint64_t)(uint16_t)((uint32_t)(uint16_t)(n55 % 100) << 1));
+								byte *p57 = at(p6, n54);
+								uint8_t n58 = load8(p56 + 1);
+								store8(at(p57, UINT64_C(18446744073709551614)), load8(p56));
+								store8(at(p57, UINT64_MAX), n58);
+								uint64_t n59 = n54 - 4;
+								byte *p60 = inside((byte *)tp_static_224, (uint64_t)(uint16_t)((uint32_t)(uint16_t)(n55 / 100) << 1));
+								uint8_t n61 = load8(p60 + 1);
+								store8(inside(p6, n59), load8(p60));
+								store8(at(p57, UINT64_C(18446744073709551613)), n61);
+								n53 = n53 / 10000;
+								n54 = n59;
 							}
-							if (n55 < 100) {
-								if (n55 < 10) {
-									uint64_t n64 = n56 - 1;
-									store8(inside(p6, n64), (uint8_t)((uint8_t)n55 | 48));
-									n65 = n64;
+							if (n53 < 100) {
+								if (n53 < 10) {
+									uint64_t n62 = n54 - 1;
+									store8(inside(p6, n62), (uint8_t)((uint8_t)n53 | 48));
+									n63 = n62;
 								} else {
-									uint64_t n66 = n56 - 2;
-									byte *p67 = inside((byte *)tp_static_224, n55 << 1);
-									uint8_t n68 = load8(p67 + 1);
-									store8(inside(p6, n66), load8(p67));
-									store8(at(at(p6, n56), UINT64_MAX), n68);
-									n65 = n66;
+									uint64_t n64 = n54 - 2;
+									byte *p65 = inside((byte *)tp_static_224, n53 << 1);
+									uint8_t n66 = load8(p65 + 1);
+									store8(inside(p6, n64), load8(p65));
+									store8(at(at(p6, n54), UINT64_MAX), n66);
+									n63 = n64;
 								}
 							} else {
-								uint16_t n69 = (uint16_t)n55;
-								byte *p70 = inside((byte *)tp_static_224, (uint64_t)(uint16_t)((uint32_t)(uint16_t)(n69 % 100) << 1));
-								byte *p71 = at(p6, n56);
-								uint8_t n72 = load8(p70 + 1);
-								store8(at(p71, UINT64_C(18446744073709551614)), load8(p70));
-								store8(at(p71, UINT64_MAX), n72);
-								uint16_t n73 = (uint16_t)(n69 / 100);
-								if (n55 < 1000) {
-									uint64_t n74 = n56 - 3;
-									store8(inside(p6, n74), (uint8_t)((uint8_t)n73 | 48));
-									n65 = n74;
+								uint16_t n67 = (uint16_t)n53;
+								byte *p68 = inside((byte *)tp_static_224, (uint64_t)(uint16_t)((uint32_t)(uint16_t)(n67 % 100) << 1));
+								byte *p69 = at(p6, n54);
+								uint8_t n70 = load8(p68 + 1);
+								store8(at(p69, UINT64_C(18446744073709551614)), load8(p68));
+								store8(at(p69, UINT64_MAX), n70);
+								uint16_t n71 = (uint16_t)(n67 / 100);
+								if (n53 < 1000) {
+									uint64_t n72 = n54 - 3;
+									store8(inside(p6, n72), (uint8_t)((uint8_t)n71 | 48));
+									n63 = n72;
 								} else {
-									uint64_t n75 = n56 - 4;
-									byte *p76 = inside((byte *)tp_static_224, (uint64_t)(uint16_t)((uint32_t)n73 << 1));
-									uint8_t n77 = load8(p76 + 1);
-									store8(inside(p6, n75), load8(p76));
-									store8(at(p71, UINT64_C(18446744073709551613)), n77);
-									n65 = n75;
+									uint64_t n73 = n54 - 4;
+									byte *p74 = inside((byte *)tp_static_224, (uint64_t)(uint16_t)((uint32_t)n71 << 1));
+									uint8_t n75 = load8(p74 + 1);
+									store8(inside(p6, n73), load8(p74));
+									store8(at(p69, UINT64_C(18446744073709551613)), n75);
+									n63 = n73;
 								}
 							}
-							uint64_t n78 = n65 - 1;
-							store8(inside(p6, n78), 32);
-							n52 = n78;
-							n53 = n54;
+							uint64_t n76 = n63 - 1;
+							store8(inside(p6, n76), 32);
+							n50 = n76;
+							n51 = n52;
 						}
-						byte *p79 = at(at(p6, n52), UINT64_C(18446744073709551609));
-						uint64_t n80 = (uint64_t)(uintptr_t)p79;
-						if ((n80 - (uint64_t)(uintptr_t)(byte *)tp_static_211) >= 7) {
-							memcpy(p79, (byte *)tp_static_211, 7);
+						byte *p77 = at(at(p6, n50), UINT64_C(18446744073709551609));
+						uint64_t n78 = (uint64_t)(uintptr_t)p77;
+						if ((n78 - (uint64_t)(uintptr_t)(byte *)tp_static_211) >= 7) {
+							memcpy(p77, (byte *)tp_static_211, 7);
 							goto L3;
 						}
-						n81 = 0;
-						while (n81 != 7) {
-							store8(inside(p79, n81), load8(inside((byte *)tp_static_211, n81)));
-							n81 = n81 + 1;
+						n79 = 0;
+						while (n79 != 7) {
+							store8(inside(p77, n79), load8(inside((byte *)tp_static_211, n79)));
+							n79 = n79 + 1;
 						}
 L3:
 						{
-							uint64_t n86, n87, n91;
-							uint8_t n88;
-							byte *p89, *p90;
-							uint64_t n82 = 125 - n52;
-							uint64_t n83 = load64(p5 + 16);
-							uint64_t n84 = load64(p5 + 8);
-							if (n82 > (n83 - n84)) {
-								bool b85 = tp_std_alloc_vec_Vec_grow_amortized_9(p5, n82);
-								if (!b85) {
-									n88 = 1;
+							uint64_t n84, n85, n89;
+							uint8_t n86;
+							byte *p87, *p88;
+							uint64_t n80 = 125 - n50;
+							uint64_t n81 = load64(p5 + 16);
+							uint64_t n82 = load64(p5 + 8);
+							if (n80 > (n81 - n82)) {
+								bool b83 = tp_std_alloc_vec_Vec_grow_amortized_9(p5, n80);
+								if (!b83) {
+									n86 = 1;
 									goto L4;
 								}
-								n86 = load64(p5 + 16);
-								n87 = load64(p5 + 8);
+								n84 = load64(p5 + 16);
+								n85 = load64(p5 + 8);
 							} else {
-								n86 = n83;
-								n87 = n84;
+								n84 = n81;
+								n85 = n82;
 							}
-							p89 = loadptr(p5);
-							p90 = at(p89, n87);
-							if (((uint64_t)(uintptr_t)p90 - n80) >= n82) {
-								memcpy(p90, p79, (size_t)n82);
+							p87 = loadptr(p5);
+							p88 = at(p87, n85);
+							if (((uint64_t)(uintptr_t)p88 - n78) >= n80) {
+								memcpy(p88, p77, (size_t)n80);
 								goto L5;
 							}
-							n91 = 0;
-							while (n91 != n82) {
-								store8(inside(p90, n91), load8(inside(p79, n91)));
-								n91 = n91 + 1;
+							n89 = 0;
+							while (n89 != n80) {
+								store8(inside(p88, n89), load8(inside(p77, n89)));
+								n89 = n89 + 1;
 							}
 L5:
 							{
-								storeptr(p5, p89);
-								store64(p5 + 8, n87 + n82);
-								store64(p5 + 16, n86);
-								n88 = 0;
+								storeptr(p5, p87);
+								store64(p5 + 8, n85 + n80);
+								store64(p5 + 16, n84);
+								n86 = 0;
 							}
 L4:
 							{
-								n51 = n88;
+								n49 = n86;
 							}
 						}
 					}
-					n92 = n51;
-					goto L6;
+					return n49;
 				}
 				store64(p9, n2);
 				store64(p9 + 8, n3);
-				n24 = 5;
-				p25 = (byte *)tp_static_221;
+				n23 = 5;
+				p24 = (byte *)tp_static_221;
 			}
 		} else {
 			store64(p9, n2);
 			store64(p9 + 8, n3);
-			n24 = 9;
-			p25 = (byte *)tp_static_218;
+			n23 = 9;
+			p24 = (byte *)tp_static_218;
 		}
-		n93 = tp_text_push_refused(p5, (byte *)tp_static_203, 7, p9, 2, p25, n24);
-		n92 = n93;
-L6:
-		{
-			return n92;
-		}
+		uint8_t n90 = tp_text_push_refused(p5, (byte *)tp_static_203, 7, p9, 2, p24, n23);
+		return n90;
 	}
 }
 
 /* timer_facility::facility::Facility::take_restart: crates/timer_facility/src/facility.rt */
-static void tp_facility_Facility_take_restart(byte *p1, byte *p2, uint64_t n3, uint64_t n4, uint64_t n5, uint64_t n6, uint64_t n7, uint64_t n8)
+static void tp_facility_Facility_take_restart(byte *p1, byte *p2, uint64_t n3, uint64_t n4, uint64_t n5, uint64_t n6, uint64_t n7, uint64_t n8, uint64_t n9)
 {
-	byte *p9 = at(loadptr(p2 + 32), n5 * 56);
+	byte *p10 = at(loadptr(p2 + 32), n5 * 56);
 	if (n5 < load64(p2 + 40)) {
-		if (load8(p9) == 1) {
-			if (load64u(p9 + 8) == n6) {
-				if (load64u(p9 + 16) == n3) {
-					uint8_t n10;
+		if (load8(p10) == 1) {
+			if (load64u(p10 + 8) == n6) {
+				if (load64u(p10 + 16) == n3) {
+					uint8_t n11;
 					if (n7 == 0) {
-						n10 = 0;
+						n11 = 0;
 					} else {
-						uint64_t n11 = load64(p2 + 8);
-						if ((load64(p2) - n11) < n7) {
-							n10 = 1;
+						uint64_t n12 = load64(p2 + 8);
+						if ((load64(p2) - n12) < n7) {
+							n11 = 1;
 						} else {
-							uint64_t n12 = load64(p2 + 144);
-							if (n12 <= UINT64_C(1152921504606846975)) {
-								uint64_t n17, n18;
-								uint64_t n13 = n11 + n7;
-								uint64_t n14 = load64(p2 + 24);
-								if (n13 > n11) {
-									if (n14 == 0) {
+							uint64_t n13 = load64(p2 + 144);
+							if (n13 <= UINT64_C(1152921504606846975)) {
+								uint64_t n18, n19;
+								uint64_t n14 = n12 + n8;
+								uint64_t n15 = load64(p2 + 24);
+								if (n14 > n12) {
+									if (n15 == 0) {
 										TRAP();
 										UNREACHABLE();
 									}
-									uint64_t n15 = n7 - 1;
-									uint64_t n16 = load64(p2 + 120) + ((n15 % n14) + 1);
-									n17 = n15 / n14;
-									n18 = n16 - ((n16 < n14) ? 0 : n14);
+									uint64_t n16 = n8 - 1;
+									uint64_t n17 = load64(p2 + 120) + ((n16 % n15) + 1);
+									n18 = n16 / n15;
+									n19 = n17 - ((n17 < n15) ? 0 : n15);
 								} else {
-									n17 = 0;
-									n18 = n14;
+									n18 = 0;
+									n19 = n15;
 								}
-								store64u(p9 + 8, n12);
-								store64u(p9 + 16, n3);
-								store64u(p9 + 24, n4);
-								store64u(p9 + 32, n13);
-								store64u(p9 + 40, n8);
-								store64u(p9 + 48, n17);
-								uint64_t n19 = load64(p2 + 96) + n5;
-								byte *p20 = loadptr(p2 + 72);
-								byte *p21 = at(p20, n19 << 3);
-								uint32_t n22 = load32(p21);
-								uint32_t n23 = load32(p21 + 4);
-								store32(inside(p20, (uint64_t)n22 << 3) + 4, n23);
-								store32(inside(p20, (uint64_t)n23 << 3), n22);
-								byte *p24 = inside(p20, n18 << 3);
-								uint32_t n25 = load32(p24);
-								uint32_t n26 = (uint32_t)n19;
-								store32(inside(p20, (uint64_t)n25 << 3) + 4, n26);
-								store32(p21, n25);
-								store32(p21 + 4, (uint32_t)n18);
-								store32(p24, n26);
-								store64(p2 + 16, n12);
+								store64u(p10 + 8, n13);
+								store64u(p10 + 16, n3);
+								store64u(p10 + 24, n4);
+								store64u(p10 + 32, n14);
+								store64u(p10 + 40, n9);
+								store64u(p10 + 48, n18);
+								uint64_t n20 = load64(p2 + 96) + n5;
+								byte *p21 = loadptr(p2 + 72);
+								byte *p22 = at(p21, n20 << 3);
+								uint32_t n23 = load32(p22);
+								uint32_t n24 = load32(p22 + 4);
+								store32(inside(p21, (uint64_t)n23 << 3) + 4, n24);
+								store32(inside(p21, (uint64_t)n24 << 3), n23);
+								byte *p25 = inside(p21, n19 << 3);
+								uint32_t n26 = load32(p25);
+								uint32_t n27 = (uint32_t)n20;
+								store32(inside(p21, (uint64_t)n26 << 3) + 4, n27);
+								store32(p22, n26);
+								store32(p22 + 4, (uint32_t)n19);
+								store32(p25, n27);
+								store64(p2 + 16, n13);
 								store64(p2 + 144, load64(p2 + 144) + 1);
 								store8(p1, 2);
 								store8(p1 + 1, 0);
 								store64u(p1 + 8, n5);
-								store64u(p1 + 16, n12);
-								store64u(p1 + 24, n13);
+								store64u(p1 + 16, n13);
+								store64u(p1 + 24, n14);
 								store64u(p1 + 32, n6);
 								return;
 							}
-							n10 = 2;
+							n11 = 2;
 						}
 					}
 					store8(p1, 3);
-					store8(p1 + 1, n10);
+					store8(p1 + 1, n11);
 					memset(p1 + 8, 0, 32);
 					return;
 				}
@@ -55049,67 +55525,68 @@ static void tp_facility_Facility_take_restart(byte *p1, byte *p2, uint64_t n3, u
 static NOINLINE uint8_t tp_timer_script_script_run_play_restart(byte *p1, uint64_t n2, uint64_t n3, uint64_t n4, uint64_t n5, uint64_t n6, byte *p7)
 {
 	ALIGN(8) byte p8[40];
-	ALIGN(1) byte p9[118];
+	ALIGN(8) byte p9[40];
 	ALIGN(1) byte p10[118];
 	ALIGN(1) byte p11[118];
-	ALIGN(8) byte p12[32];
-	ALIGN(8) byte p13[24];
-	ALIGN(8) byte p14[40];
-	ALIGN(8) byte p15[16];
+	ALIGN(1) byte p12[118];
+	ALIGN(8) byte p13[32];
+	ALIGN(8) byte p14[24];
+	ALIGN(8) byte p15[40];
 	ALIGN(8) byte p16[16];
-	uint64_t n21;
-	byte *p17 = loadptr(p1 + 1216);
-	uint64_t n18 = load64(p1 + 1224);
-	if (n18 != 0) {
-		uint64_t n19 = load64(at(at(p17, n18 << 4), UINT64_C(18446744073709551608))) - n4;
-		if (n18 > n19) {
-			byte *p20 = inside(p17, (n18 + (n19 ^ UINT64_MAX)) << 4);
-			if (load64(p20 + 8) != n4)
+	ALIGN(8) byte p17[16];
+	uint64_t n22;
+	byte *p18 = loadptr(p1 + 1216);
+	uint64_t n19 = load64(p1 + 1224);
+	if (n19 != 0) {
+		uint64_t n20 = load64(at(at(p18, n19 << 4), UINT64_C(18446744073709551608))) - n4;
+		if (n19 > n20) {
+			byte *p21 = inside(p18, (n19 + (n20 ^ UINT64_MAX)) << 4);
+			if (load64(p21 + 8) != n4)
 				goto L1;
-			n21 = load64(p20);
+			n22 = load64(p21);
 			goto L2;
 		}
 	}
-	if (n18 == 0) {
-		n21 = 0;
+	if (n19 == 0) {
+		n22 = 0;
 		goto L2;
 	}
 L1:
 	{
-		uint64_t n22 = 0;
-		uint64_t n23 = n18;
-		while (n23 > 1) {
-			uint64_t n27;
-			uint64_t n24 = n23 >> 1;
-			uint64_t n25 = n22 + n24;
-			uint64_t n26 = load64(at(p17, n25 << 4) + 8);
-			switch ((n26 == n4) ? 1 : (uint8_t)((n26 < n4) ? 0 : 2)) {
+		uint64_t n23 = 0;
+		uint64_t n24 = n19;
+		while (n24 > 1) {
+			uint64_t n28;
+			uint64_t n25 = n24 >> 1;
+			uint64_t n26 = n23 + n25;
+			uint64_t n27 = load64(at(p18, n26 << 4) + 8);
+			switch ((n27 == n4) ? 1 : (uint8_t)((n27 < n4) ? 0 : 2)) {
 			case 0:
 			case 1: {
-				n27 = n25;
+				n28 = n26;
 				break;
 			}
 			case 2: {
-				n27 = n22;
+				n28 = n23;
 				break;
 			}
 			default: {
 				UNREACHABLE();
 			}
 			}
-			n22 = n27;
-			n23 = n23 - n24;
+			n23 = n28;
+			n24 = n24 - n25;
 		}
-		byte *p28 = at(p17, n22 << 4);
-		uint64_t n29 = load64(p28 + 8);
-		switch ((n29 == n4) ? 1 : (uint8_t)((n29 < n4) ? 0 : 2)) {
+		byte *p29 = at(p18, n23 << 4);
+		uint64_t n30 = load64(p29 + 8);
+		switch ((n30 == n4) ? 1 : (uint8_t)((n30 < n4) ? 0 : 2)) {
 		case 1: {
-			n21 = load64(p28);
+			n22 = load64(p29);
 			break;
 		}
 		case 0:
 		case 2: {
-			n21 = 0;
+			n22 = 0;
 			break;
 		}
 		default: {
@@ -55119,60 +55596,68 @@ L1:
 	}
 L2:
 	{
-		uint64_t n31;
-		byte *p32;
-		uint8_t n178, n179;
-		if (load64(p1 + 1232) == n18) {
-			bool b30 = tp_std_alloc_vec_Vec_grow_amortized_5(p1 + 1216);
-			if (!b30)
-				return 1;
+		uint64_t n33;
+		byte *p34;
+		uint8_t n180, n181;
+		store64u(p9, 3);
+		store64u(p9 + 8, n22);
+		store64u(p9 + 16, n4);
+		store64u(p9 + 24, n5);
+		store64u(p9 + 32, n6);
+		if (load64(p1 + 1232) == n19) {
+			bool b31 = tp_std_alloc_vec_Vec_grow_amortized_5(p1 + 1216);
+			if (!b31) {
+				bool b32 = tp_facility_Facility_makes_timer(p1, n2, n3, p9);
+				if (b32)
+					return 1;
+			}
 		}
 		if ((load8(p1 + 1176) & 1) != 0) {
-			store64(p16, n2);
-			store64(p16 + 8, n3);
-			n31 = 6;
-			p32 = (byte *)tp_static_208;
+			store64(p17, n2);
+			store64(p17 + 8, n3);
+			n33 = 6;
+			p34 = (byte *)tp_static_208;
 		} else if (load64(p1 + 128) > n2) {
-			byte *p33 = inside(p1 + 152, n2 << 3);
-			uint64_t n34 = load64(p33);
-			if (n3 < n34) {
-				store64(p16, n2);
-				store64(p16 + 8, n3);
-				n31 = 8;
-				p32 = (byte *)tp_static_219;
-			} else if (n34 > UINT64_C(1152921504606846975)) {
-				store64(p16, n2);
-				store64(p16 + 8, n3);
-				n31 = 13;
-				p32 = (byte *)tp_static_220;
+			byte *p35 = inside(p1 + 152, n2 << 3);
+			uint64_t n36 = load64(p35);
+			if (n3 < n36) {
+				store64(p17, n2);
+				store64(p17 + 8, n3);
+				n33 = 8;
+				p34 = (byte *)tp_static_219;
+			} else if (n36 > UINT64_C(1152921504606846975)) {
+				store64(p17, n2);
+				store64(p17 + 8, n3);
+				n33 = 13;
+				p34 = (byte *)tp_static_220;
 			} else {
-				if (n34 >= n3) {
-					uint64_t n52;
-					uint8_t n94;
+				if (n36 >= n3) {
+					uint64_t n54;
+					uint8_t n96;
 					memset(p8, 0, 40);
-					tp_facility_Facility_take_restart(p8, p1, n2, n3, n21, n4, n5, n6);
-					uint8_t n35 = load8(p8);
-					uint8_t n36 = load8(p8 + 1);
-					uint64_t n37 = load64u(p8 + 8);
-					uint64_t n38 = load64u(p8 + 16);
-					uint64_t n39 = load64u(p8 + 24);
-					uint64_t n40 = load64u(p8 + 32);
-					store64(p33, n3 + 1);
-					switch (n35) {
+					tp_facility_Facility_take_restart(p8, p1, n2, n3, n22, n4, n5, n5, n6);
+					uint8_t n37 = load8(p8);
+					uint8_t n38 = load8(p8 + 1);
+					uint64_t n39 = load64u(p8 + 8);
+					uint64_t n40 = load64u(p8 + 16);
+					uint64_t n41 = load64u(p8 + 24);
+					uint64_t n42 = load64u(p8 + 32);
+					store64(p35, n3 + 1);
+					switch (n37) {
 					case 0: {
-						uint64_t n41 = load64(p1 + 1224);
-						byte *p42 = inside(loadptr(p1 + 1216), n41 << 4);
-						store64u(p42, n37);
-						store64u(p42 + 8, n38);
-						store64(p1 + 1224, n41 + 1);
+						uint64_t n43 = load64(p1 + 1224);
+						byte *p44 = inside(loadptr(p1 + 1216), n43 << 4);
+						store64u(p44, n39);
+						store64u(p44 + 8, n40);
+						store64(p1 + 1224, n43 + 1);
 						break;
 					}
 					case 2: {
-						uint64_t n43 = load64(p1 + 1224);
-						byte *p44 = inside(loadptr(p1 + 1216), n43 << 4);
-						store64u(p44, n37);
-						store64u(p44 + 8, n38);
-						store64(p1 + 1224, n43 + 1);
+						uint64_t n45 = load64(p1 + 1224);
+						byte *p46 = inside(loadptr(p1 + 1216), n45 << 4);
+						store64u(p46, n39);
+						store64u(p46 + 8, n40);
+						store64(p1 + 1224, n45 + 1);
 						break;
 					}
 					case 1:
@@ -55183,469 +55668,469 @@ L2:
 						UNREACHABLE();
 					}
 					}
-					uint64_t n45 = load64(p1 + 56);
-					byte *p46 = loadptr(p1 + 72);
-					uint64_t n47 = load64(p1 + 96);
-					uint64_t n48 = (uint64_t)load32(at(p46, load64(p1 + 24) << 3) + 4);
-					uint64_t n49 = usub_sat64(n48, n47);
-					uint64_t n50 = 0;
-					uint64_t n51 = n48;
+					uint64_t n47 = load64(p1 + 56);
+					byte *p48 = loadptr(p1 + 72);
+					uint64_t n49 = load64(p1 + 96);
+					uint64_t n50 = (uint64_t)load32(at(p48, load64(p1 + 24) << 3) + 4);
+					uint64_t n51 = usub_sat64(n50, n49);
+					uint64_t n52 = 0;
+					uint64_t n53 = n50;
 					for (;;) {
-						if (n50 == n45) {
-							n52 = n45;
+						if (n52 == n47) {
+							n54 = n47;
 							break;
 						}
-						if (n47 > n51) {
-							n52 = n50;
+						if (n49 > n53) {
+							n54 = n52;
 							break;
 						}
-						uint64_t n53 = (uint64_t)load32(at(p46, (n47 + n49) << 3) + 4);
-						n49 = usub_sat64(n53, n47);
-						n50 = n50 + 1;
-						n51 = n53;
+						uint64_t n55 = (uint64_t)load32(at(p48, (n49 + n51) << 3) + 4);
+						n51 = usub_sat64(n55, n49);
+						n52 = n52 + 1;
+						n53 = n55;
 					}
-					if ((((n45 - n52) << 1) + 64) < load64(p1 + 1224))
+					if ((((n47 - n54) << 1) + 64) < load64(p1 + 1224))
 						tp_timer_facility_handles_sweep(p1 + 1216, p1);
+					memset(p17, 0, 16);
 					memset(p16, 0, 16);
-					memset(p15, 0, 16);
-					switch (n35) {
+					switch (n37) {
 					case 0: {
-						uint64_t n83;
-						store64(p12, n2);
-						store64(p12 + 8, n3);
-						store64(p12 + 16, n38);
-						store64(p12 + 24, n39);
-						memset(p11, 0, 117);
-						store8(p11 + 117, 10);
-						uint64_t n54 = 117;
-						uint64_t n55 = 4;
-						while (n55 != 0) {
-							uint64_t n67;
-							uint64_t n56 = n55 - 1;
-							uint64_t n57 = load64(inside(p12, n56 << 3));
-							uint64_t n58 = n54;
-							while (n57 > 9999) {
-								uint16_t n59 = (uint16_t)(n57 % 10000);
-								byte *p60 = inside((byte *)tp_static_224, (uint64_t)(uint16_t)((uint32_t)(uint16_t)(n59 % 100) << 1));
-								byte *p61 = at(p11, n58);
-								uint8_t n62 = load8(p60 + 1);
-								store8(at(p61, UINT64_C(18446744073709551614)), load8(p60));
-								store8(at(p61, UINT64_MAX), n62);
-								uint64_t n63 = n58 - 4;
-								byte *p64 = inside((byte *)tp_static_224, (uint64_t)(uint16_t)((uint32_t)(uint16_t)(n59 / 100) << 1));
-								uint8_t n65 = load8(p64 + 1);
-								store8(inside(p11, n63), load8(p64));
-								store8(at(p61, UINT64_C(18446744073709551613)), n65);
-								n57 = n57 / 10000;
-								n58 = n63;
+						uint64_t n85;
+						store64(p13, n2);
+						store64(p13 + 8, n3);
+						store64(p13 + 16, n40);
+						store64(p13 + 24, n41);
+						memset(p12, 0, 117);
+						store8(p12 + 117, 10);
+						uint64_t n56 = 117;
+						uint64_t n57 = 4;
+						while (n57 != 0) {
+							uint64_t n69;
+							uint64_t n58 = n57 - 1;
+							uint64_t n59 = load64(inside(p13, n58 << 3));
+							uint64_t n60 = n56;
+							while (n59 > 9999) {
+								uint16_t n61 = (uint16_t)(n59 % 10000);
+								byte *p62 = inside((byte *)tp_static_224, (uint64_t)(uint16_t)((uint32_t)(uint16_t)(n61 % 100) << 1));
+								byte *p63 = at(p12, n60);
+								uint8_t n64 = load8(p62 + 1);
+								store8(at(p63, UINT64_C(18446744073709551614)), load8(p62));
+								store8(at(p63, UINT64_MAX), n64);
+								uint64_t n65 = n60 - 4;
+								byte *p66 = inside((byte *)tp_static_224, (uint64_t)(uint16_t)((uint32_t)(uint16_t)(n61 / 100) << 1));
+								uint8_t n67 = load8(p66 + 1);
+								store8(inside(p12, n65), load8(p66));
+								store8(at(p63, UINT64_C(18446744073709551613)), n67);
+								n59 = n59 / 10000;
+								n60 = n65;
 							}
-							if (n57 < 100) {
-								if (n57 < 10) {
-									uint64_t n66 = n58 - 1;
-									store8(inside(p11, n66), (uint8_t)((uint8_t)n57 | 48));
-									n67 = n66;
+							if (n59 < 100) {
+								if (n59 < 10) {
+									uint64_t n68 = n60 - 1;
+									store8(inside(p12, n68), (uint8_t)((uint8_t)n59 | 48));
+									n69 = n68;
 								} else {
-									uint64_t n68 = n58 - 2;
-									byte *p69 = inside((byte *)tp_static_224, n57 << 1);
-									uint8_t n70 = load8(p69 + 1);
-									store8(inside(p11, n68), load8(p69));
-									store8(at(at(p11, n58), UINT64_MAX), n70);
-									n67 = n68;
+									uint64_t n70 = n60 - 2;
+									byte *p71 = inside((byte *)tp_static_224, n59 << 1);
+									uint8_t n72 = load8(p71 + 1);
+									store8(inside(p12, n70), load8(p71));
+									store8(at(at(p12, n60), UINT64_MAX), n72);
+									n69 = n70;
 								}
 							} else {
-								uint16_t n71 = (uint16_t)n57;
-								byte *p72 = inside((byte *)tp_static_224, (uint64_t)(uint16_t)((uint32_t)(uint16_t)(n71 % 100) << 1));
-								byte *p73 = at(p11, n58);
-								uint8_t n74 = load8(p72 + 1);
-								store8(at(p73, UINT64_C(18446744073709551614)), load8(p72));
-								store8(at(p73, UINT64_MAX), n74);
-								uint16_t n75 = (uint16_t)(n71 / 100);
-								if (n57 < 1000) {
-									uint64_t n76 = n58 - 3;
-									store8(inside(p11, n76), (uint8_t)((uint8_t)n75 | 48));
-									n67 = n76;
+								uint16_t n73 = (uint16_t)n59;
+								byte *p74 = inside((byte *)tp_static_224, (uint64_t)(uint16_t)((uint32_t)(uint16_t)(n73 % 100) << 1));
+								byte *p75 = at(p12, n60);
+								uint8_t n76 = load8(p74 + 1);
+								store8(at(p75, UINT64_C(18446744073709551614)), load8(p74));
+								store8(at(p75, UINT64_MAX), n76);
+								uint16_t n77 = (uint16_t)(n73 / 100);
+								if (n59 < 1000) {
+									uint64_t n78 = n60 - 3;
+									store8(inside(p12, n78), (uint8_t)((uint8_t)n77 | 48));
+									n69 = n78;
 								} else {
-									uint64_t n77 = n58 - 4;
-									byte *p78 = inside((byte *)tp_static_224, (uint64_t)(uint16_t)((uint32_t)n75 << 1));
-									uint8_t n79 = load8(p78 + 1);
-									store8(inside(p11, n77), load8(p78));
-									store8(at(p73, UINT64_C(18446744073709551613)), n79);
-									n67 = n77;
+									uint64_t n79 = n60 - 4;
+									byte *p80 = inside((byte *)tp_static_224, (uint64_t)(uint16_t)((uint32_t)n77 << 1));
+									uint8_t n81 = load8(p80 + 1);
+									store8(inside(p12, n79), load8(p80));
+									store8(at(p75, UINT64_C(18446744073709551613)), n81);
+									n69 = n79;
 								}
 							}
-							uint64_t n80 = n67 - 1;
-							store8(inside(p11, n80), 32);
-							n54 = n80;
-							n55 = n56;
+							uint64_t n82 = n69 - 1;
+							store8(inside(p12, n82), 32);
+							n56 = n82;
+							n57 = n58;
 						}
-						byte *p81 = at(at(p11, n54), UINT64_C(18446744073709551609));
-						uint64_t n82 = (uint64_t)(uintptr_t)p81;
-						if ((n82 - (uint64_t)(uintptr_t)(byte *)tp_static_210) >= 7) {
-							memcpy(p81, (byte *)tp_static_210, 7);
+						byte *p83 = at(at(p12, n56), UINT64_C(18446744073709551609));
+						uint64_t n84 = (uint64_t)(uintptr_t)p83;
+						if ((n84 - (uint64_t)(uintptr_t)(byte *)tp_static_210) >= 7) {
+							memcpy(p83, (byte *)tp_static_210, 7);
 							goto L3;
 						}
-						n83 = 0;
-						while (n83 != 7) {
-							store8(inside(p81, n83), load8(inside((byte *)tp_static_210, n83)));
-							n83 = n83 + 1;
+						n85 = 0;
+						while (n85 != 7) {
+							store8(inside(p83, n85), load8(inside((byte *)tp_static_210, n85)));
+							n85 = n85 + 1;
 						}
 L3:
 						{
-							uint64_t n88, n89, n93;
-							uint8_t n90;
-							byte *p91, *p92;
-							uint64_t n84 = 125 - n54;
-							uint64_t n85 = load64(p7 + 16);
-							uint64_t n86 = load64(p7 + 8);
-							if (n84 > (n85 - n86)) {
-								bool b87 = tp_std_alloc_vec_Vec_grow_amortized_9(p7, n84);
-								if (!b87) {
-									n90 = 1;
+							uint64_t n90, n91, n95;
+							uint8_t n92;
+							byte *p93, *p94;
+							uint64_t n86 = 125 - n56;
+							uint64_t n87 = load64(p7 + 16);
+							uint64_t n88 = load64(p7 + 8);
+							if (n86 > (n87 - n88)) {
+								bool b89 = tp_std_alloc_vec_Vec_grow_amortized_9(p7, n86);
+								if (!b89) {
+									n92 = 1;
 									goto L4;
 								}
-								n88 = load64(p7 + 16);
-								n89 = load64(p7 + 8);
+								n90 = load64(p7 + 16);
+								n91 = load64(p7 + 8);
 							} else {
-								n88 = n85;
-								n89 = n86;
+								n90 = n87;
+								n91 = n88;
 							}
-							p91 = loadptr(p7);
-							p92 = at(p91, n89);
-							if (((uint64_t)(uintptr_t)p92 - n82) >= n84) {
-								memcpy(p92, p81, (size_t)n84);
+							p93 = loadptr(p7);
+							p94 = at(p93, n91);
+							if (((uint64_t)(uintptr_t)p94 - n84) >= n86) {
+								memcpy(p94, p83, (size_t)n86);
 								goto L5;
 							}
-							n93 = 0;
-							while (n93 != n84) {
-								store8(inside(p92, n93), load8(inside(p81, n93)));
-								n93 = n93 + 1;
+							n95 = 0;
+							while (n95 != n86) {
+								store8(inside(p94, n95), load8(inside(p83, n95)));
+								n95 = n95 + 1;
 							}
 L5:
 							{
-								storeptr(p7, p91);
-								store64(p7 + 8, n89 + n84);
-								store64(p7 + 16, n88);
-								n90 = 0;
+								storeptr(p7, p93);
+								store64(p7 + 8, n91 + n86);
+								store64(p7 + 16, n90);
+								n92 = 0;
 							}
 L4:
 							{
-								n94 = n90;
+								n96 = n92;
 							}
 						}
 						break;
 					}
 					case 1: {
-						uint64_t n124;
-						store64(p13, n2);
-						store64(p13 + 8, n3);
-						store64(p13 + 16, n37);
-						memset(p10, 0, 117);
-						store8(p10 + 117, 10);
-						uint64_t n95 = 117;
-						uint64_t n96 = 3;
-						while (n96 != 0) {
-							uint64_t n108;
-							uint64_t n97 = n96 - 1;
-							uint64_t n98 = load64(inside(p13, n97 << 3));
-							uint64_t n99 = n95;
-							while (n98 > 9999) {
-								uint16_t n100 = (uint16_t)(n98 % 10000);
-								byte *p101 = inside((byte *)tp_static_224, (uint64_t)(uint16_t)((uint32_t)(uint16_t)(n100 % 100) << 1));
-								byte *p102 = at(p10, n99);
-								uint8_t n103 = load8(p101 + 1);
-								store8(at(p102, UINT64_C(18446744073709551614)), load8(p101));
-								store8(at(p102, UINT64_MAX), n103);
-								uint64_t n104 = n99 - 4;
-								byte *p105 = inside((byte *)tp_static_224, (uint64_t)(uint16_t)((uint32_t)(uint16_t)(n100 / 100) << 1));
-								uint8_t n106 = load8(p105 + 1);
-								store8(inside(p10, n104), load8(p105));
-								store8(at(p102, UINT64_C(18446744073709551613)), n106);
-								n98 = n98 / 10000;
-								n99 = n104;
+						uint64_t n126;
+						store64(p14, n2);
+						store64(p14 + 8, n3);
+						store64(p14 + 16, n39);
+						memset(p11, 0, 117);
+						store8(p11 + 117, 10);
+						uint64_t n97 = 117;
+						uint64_t n98 = 3;
+						while (n98 != 0) {
+							uint64_t n110;
+							uint64_t n99 = n98 - 1;
+							uint64_t n100 = load64(inside(p14, n99 << 3));
+							uint64_t n101 = n97;
+							while (n100 > 9999) {
+								uint16_t n102 = (uint16_t)(n100 % 10000);
+								byte *p103 = inside((byte *)tp_static_224, (uint64_t)(uint16_t)((uint32_t)(uint16_t)(n102 % 100) << 1));
+								byte *p104 = at(p11, n101);
+								uint8_t n105 = load8(p103 + 1);
+								store8(at(p104, UINT64_C(18446744073709551614)), load8(p103));
+								store8(at(p104, UINT64_MAX), n105);
+								uint64_t n106 = n101 - 4;
+								byte *p107 = inside((byte *)tp_static_224, (uint64_t)(uint16_t)((uint32_t)(uint16_t)(n102 / 100) << 1));
+								uint8_t n108 = load8(p107 + 1);
+								store8(inside(p11, n106), load8(p107));
+								store8(at(p104, UINT64_C(18446744073709551613)), n108);
+								n100 = n100 / 10000;
+								n101 = n106;
 							}
-							if (n98 < 100) {
-								if (n98 < 10) {
-									uint64_t n107 = n99 - 1;
-									store8(inside(p10, n107), (uint8_t)((uint8_t)n98 | 48));
-									n108 = n107;
+							if (n100 < 100) {
+								if (n100 < 10) {
+									uint64_t n109 = n101 - 1;
+									store8(inside(p11, n109), (uint8_t)((uint8_t)n100 | 48));
+									n110 = n109;
 								} else {
-									uint64_t n109 = n99 - 2;
-									byte *p110 = inside((byte *)tp_static_224, n98 << 1);
-									uint8_t n111 = load8(p110 + 1);
-									store8(inside(p10, n109), load8(p110));
-									store8(at(at(p10, n99), UINT64_MAX), n111);
-									n108 = n109;
+									uint64_t n111 = n101 - 2;
+									byte *p112 = inside((byte *)tp_static_224, n100 << 1);
+									uint8_t n113 = load8(p112 + 1);
+									store8(inside(p11, n111), load8(p112));
+									store8(at(at(p11, n101), UINT64_MAX), n113);
+									n110 = n111;
 								}
 							} else {
-								uint16_t n112 = (uint16_t)n98;
-								byte *p113 = inside((byte *)tp_static_224, (uint64_t)(uint16_t)((uint32_t)(uint16_t)(n112 % 100) << 1));
-								byte *p114 = at(p10, n99);
-								uint8_t n115 = load8(p113 + 1);
-								store8(at(p114, UINT64_C(18446744073709551614)), load8(p113));
-								store8(at(p114, UINT64_MAX), n115);
-								uint16_t n116 = (uint16_t)(n112 / 100);
-								if (n98 < 1000) {
-									uint64_t n117 = n99 - 3;
-									store8(inside(p10, n117), (uint8_t)((uint8_t)n116 | 48));
-									n108 = n117;
+								uint16_t n114 = (uint16_t)n100;
+								byte *p115 = inside((byte *)tp_static_224, (uint64_t)(uint16_t)((uint32_t)(uint16_t)(n114 % 100) << 1));
+								byte *p116 = at(p11, n101);
+								uint8_t n117 = load8(p115 + 1);
+								store8(at(p116, UINT64_C(18446744073709551614)), load8(p115));
+								store8(at(p116, UINT64_MAX), n117);
+								uint16_t n118 = (uint16_t)(n114 / 100);
+								if (n100 < 1000) {
+									uint64_t n119 = n101 - 3;
+									store8(inside(p11, n119), (uint8_t)((uint8_t)n118 | 48));
+									n110 = n119;
 								} else {
-									uint64_t n118 = n99 - 4;
-									byte *p119 = inside((byte *)tp_static_224, (uint64_t)(uint16_t)((uint32_t)n116 << 1));
-									uint8_t n120 = load8(p119 + 1);
-									store8(inside(p10, n118), load8(p119));
-									store8(at(p114, UINT64_C(18446744073709551613)), n120);
-									n108 = n118;
+									uint64_t n120 = n101 - 4;
+									byte *p121 = inside((byte *)tp_static_224, (uint64_t)(uint16_t)((uint32_t)n118 << 1));
+									uint8_t n122 = load8(p121 + 1);
+									store8(inside(p11, n120), load8(p121));
+									store8(at(p116, UINT64_C(18446744073709551613)), n122);
+									n110 = n120;
 								}
 							}
-							uint64_t n121 = n108 - 1;
-							store8(inside(p10, n121), 32);
-							n95 = n121;
-							n96 = n97;
+							uint64_t n123 = n110 - 1;
+							store8(inside(p11, n123), 32);
+							n97 = n123;
+							n98 = n99;
 						}
-						byte *p122 = at(at(p10, n95), UINT64_C(18446744073709551609));
-						uint64_t n123 = (uint64_t)(uintptr_t)p122;
-						if ((n123 - (uint64_t)(uintptr_t)(byte *)tp_static_211) >= 7) {
-							memcpy(p122, (byte *)tp_static_211, 7);
+						byte *p124 = at(at(p11, n97), UINT64_C(18446744073709551609));
+						uint64_t n125 = (uint64_t)(uintptr_t)p124;
+						if ((n125 - (uint64_t)(uintptr_t)(byte *)tp_static_211) >= 7) {
+							memcpy(p124, (byte *)tp_static_211, 7);
 							goto L6;
 						}
-						n124 = 0;
-						while (n124 != 7) {
-							store8(inside(p122, n124), load8(inside((byte *)tp_static_211, n124)));
-							n124 = n124 + 1;
+						n126 = 0;
+						while (n126 != 7) {
+							store8(inside(p124, n126), load8(inside((byte *)tp_static_211, n126)));
+							n126 = n126 + 1;
 						}
 L6:
 						{
-							uint64_t n129, n130, n134;
-							uint8_t n131;
-							byte *p132, *p133;
-							uint64_t n125 = 125 - n95;
-							uint64_t n126 = load64(p7 + 16);
-							uint64_t n127 = load64(p7 + 8);
-							if (n125 > (n126 - n127)) {
-								bool b128 = tp_std_alloc_vec_Vec_grow_amortized_9(p7, n125);
-								if (!b128) {
-									n131 = 1;
+							uint64_t n131, n132, n136;
+							uint8_t n133;
+							byte *p134, *p135;
+							uint64_t n127 = 125 - n97;
+							uint64_t n128 = load64(p7 + 16);
+							uint64_t n129 = load64(p7 + 8);
+							if (n127 > (n128 - n129)) {
+								bool b130 = tp_std_alloc_vec_Vec_grow_amortized_9(p7, n127);
+								if (!b130) {
+									n133 = 1;
 									goto L7;
 								}
-								n129 = load64(p7 + 16);
-								n130 = load64(p7 + 8);
+								n131 = load64(p7 + 16);
+								n132 = load64(p7 + 8);
 							} else {
-								n129 = n126;
-								n130 = n127;
+								n131 = n128;
+								n132 = n129;
 							}
-							p132 = loadptr(p7);
-							p133 = at(p132, n130);
-							if (((uint64_t)(uintptr_t)p133 - n123) >= n125) {
-								memcpy(p133, p122, (size_t)n125);
+							p134 = loadptr(p7);
+							p135 = at(p134, n132);
+							if (((uint64_t)(uintptr_t)p135 - n125) >= n127) {
+								memcpy(p135, p124, (size_t)n127);
 								goto L8;
 							}
-							n134 = 0;
-							while (n134 != n125) {
-								store8(inside(p133, n134), load8(inside(p122, n134)));
-								n134 = n134 + 1;
+							n136 = 0;
+							while (n136 != n127) {
+								store8(inside(p135, n136), load8(inside(p124, n136)));
+								n136 = n136 + 1;
 							}
 L8:
 							{
-								storeptr(p7, p132);
-								store64(p7 + 8, n130 + n125);
-								store64(p7 + 16, n129);
-								n131 = 0;
+								storeptr(p7, p134);
+								store64(p7 + 8, n132 + n127);
+								store64(p7 + 16, n131);
+								n133 = 0;
 							}
 L7:
 							{
-								n94 = n131;
+								n96 = n133;
 							}
 						}
 						break;
 					}
 					case 2: {
-						uint64_t n164;
-						store64(p14, n2);
-						store64(p14 + 8, n3);
-						store64(p14 + 16, n40);
-						store64(p14 + 24, n38);
-						store64(p14 + 32, n39);
-						memset(p9, 0, 117);
-						store8(p9 + 117, 10);
-						uint64_t n135 = 117;
-						uint64_t n136 = 5;
-						while (n136 != 0) {
-							uint64_t n148;
-							uint64_t n137 = n136 - 1;
-							uint64_t n138 = load64(inside(p14, n137 << 3));
-							uint64_t n139 = n135;
-							while (n138 > 9999) {
-								uint16_t n140 = (uint16_t)(n138 % 10000);
-								byte *p141 = inside((byte *)tp_static_224, (uint64_t)(uint16_t)((uint32_t)(uint16_t)(n140 % 100) << 1));
-								byte *p142 = at(p9, n139);
-								uint8_t n143 = load8(p141 + 1);
-								store8(at(p142, UINT64_C(18446744073709551614)), load8(p141));
-								store8(at(p142, UINT64_MAX), n143);
-								uint64_t n144 = n139 - 4;
-								byte *p145 = inside((byte *)tp_static_224, (uint64_t)(uint16_t)((uint32_t)(uint16_t)(n140 / 100) << 1));
-								uint8_t n146 = load8(p145 + 1);
-								store8(inside(p9, n144), load8(p145));
-								store8(at(p142, UINT64_C(18446744073709551613)), n146);
-								n138 = n138 / 10000;
-								n139 = n144;
+						uint64_t n166;
+						store64(p15, n2);
+						store64(p15 + 8, n3);
+						store64(p15 + 16, n42);
+						store64(p15 + 24, n40);
+						store64(p15 + 32, n41);
+						memset(p10, 0, 117);
+						store8(p10 + 117, 10);
+						uint64_t n137 = 117;
+						uint64_t n138 = 5;
+						while (n138 != 0) {
+							uint64_t n150;
+							uint64_t n139 = n138 - 1;
+							uint64_t n140 = load64(inside(p15, n139 << 3));
+							uint64_t n141 = n137;
+							while (n140 > 9999) {
+								uint16_t n142 = (uint16_t)(n140 % 10000);
+								byte *p143 = inside((byte *)tp_static_224, (uint64_t)(uint16_t)((uint32_t)(uint16_t)(n142 % 100) << 1));
+								byte *p144 = at(p10, n141);
+								uint8_t n145 = load8(p143 + 1);
+								store8(at(p144, UINT64_C(18446744073709551614)), load8(p143));
+								store8(at(p144, UINT64_MAX), n145);
+								uint64_t n146 = n141 - 4;
+								byte *p147 = inside((byte *)tp_static_224, (uint64_t)(uint16_t)((uint32_t)(uint16_t)(n142 / 100) << 1));
+								uint8_t n148 = load8(p147 + 1);
+								store8(inside(p10, n146), load8(p147));
+								store8(at(p144, UINT64_C(18446744073709551613)), n148);
+								n140 = n140 / 10000;
+								n141 = n146;
 							}
-							if (n138 < 100) {
-								if (n138 < 10) {
-									uint64_t n147 = n139 - 1;
-									store8(inside(p9, n147), (uint8_t)((uint8_t)n138 | 48));
-									n148 = n147;
+							if (n140 < 100) {
+								if (n140 < 10) {
+									uint64_t n149 = n141 - 1;
+									store8(inside(p10, n149), (uint8_t)((uint8_t)n140 | 48));
+									n150 = n149;
 								} else {
-									uint64_t n149 = n139 - 2;
-									byte *p150 = inside((byte *)tp_static_224, n138 << 1);
-									uint8_t n151 = load8(p150 + 1);
-									store8(inside(p9, n149), load8(p150));
-									store8(at(at(p9, n139), UINT64_MAX), n151);
-									n148 = n149;
+									uint64_t n151 = n141 - 2;
+									byte *p152 = inside((byte *)tp_static_224, n140 << 1);
+									uint8_t n153 = load8(p152 + 1);
+									store8(inside(p10, n151), load8(p152));
+									store8(at(at(p10, n141), UINT64_MAX), n153);
+									n150 = n151;
 								}
 							} else {
-								uint16_t n152 = (uint16_t)n138;
-								byte *p153 = inside((byte *)tp_static_224, (uint64_t)(uint16_t)((uint32_t)(uint16_t)(n152 % 100) << 1));
-								byte *p154 = at(p9, n139);
-								uint8_t n155 = load8(p153 + 1);
-								store8(at(p154, UINT64_C(18446744073709551614)), load8(p153));
-								store8(at(p154, UINT64_MAX), n155);
-								uint16_t n156 = (uint16_t)(n152 / 100);
-								if (n138 < 1000) {
-									uint64_t n157 = n139 - 3;
-									store8(inside(p9, n157), (uint8_t)((uint8_t)n156 | 48));
-									n148 = n157;
+								uint16_t n154 = (uint16_t)n140;
+								byte *p155 = inside((byte *)tp_static_224, (uint64_t)(uint16_t)((uint32_t)(uint16_t)(n154 % 100) << 1));
+								byte *p156 = at(p10, n141);
+								uint8_t n157 = load8(p155 + 1);
+								store8(at(p156, UINT64_C(18446744073709551614)), load8(p155));
+								store8(at(p156, UINT64_MAX), n157);
+								uint16_t n158 = (uint16_t)(n154 / 100);
+								if (n140 < 1000) {
+									uint64_t n159 = n141 - 3;
+									store8(inside(p10, n159), (uint8_t)((uint8_t)n158 | 48));
+									n150 = n159;
 								} else {
-									uint64_t n158 = n139 - 4;
-									byte *p159 = inside((byte *)tp_static_224, (uint64_t)(uint16_t)((uint32_t)n156 << 1));
-									uint8_t n160 = load8(p159 + 1);
-									store8(inside(p9, n158), load8(p159));
-									store8(at(p154, UINT64_C(18446744073709551613)), n160);
-									n148 = n158;
+									uint64_t n160 = n141 - 4;
+									byte *p161 = inside((byte *)tp_static_224, (uint64_t)(uint16_t)((uint32_t)n158 << 1));
+									uint8_t n162 = load8(p161 + 1);
+									store8(inside(p10, n160), load8(p161));
+									store8(at(p156, UINT64_C(18446744073709551613)), n162);
+									n150 = n160;
 								}
 							}
-							uint64_t n161 = n148 - 1;
-							store8(inside(p9, n161), 32);
-							n135 = n161;
-							n136 = n137;
+							uint64_t n163 = n150 - 1;
+							store8(inside(p10, n163), 32);
+							n137 = n163;
+							n138 = n139;
 						}
-						byte *p162 = at(at(p9, n135), UINT64_C(18446744073709551607));
-						uint64_t n163 = (uint64_t)(uintptr_t)p162;
-						if ((n163 - (uint64_t)(uintptr_t)(byte *)tp_static_212) >= 9) {
-							memcpy(p162, (byte *)tp_static_212, 9);
+						byte *p164 = at(at(p10, n137), UINT64_C(18446744073709551607));
+						uint64_t n165 = (uint64_t)(uintptr_t)p164;
+						if ((n165 - (uint64_t)(uintptr_t)(byte *)tp_static_212) >= 9) {
+							memcpy(p164, (byte *)tp_static_212, 9);
 							goto L9;
 						}
-						n164 = 0;
-						while (n164 != 9) {
-							store8(inside(p162, n164), load8(inside((byte *)tp_static_212, n164)));
-							n164 = n164 + 1;
+						n166 = 0;
+						while (n166 != 9) {
+							store8(inside(p164, n166), load8(inside((byte *)tp_static_212, n166)));
+							n166 = n166 + 1;
 						}
 L9:
 						{
-							uint64_t n169, n170, n174;
-							uint8_t n171;
-							byte *p172, *p173;
-							uint64_t n165 = 127 - n135;
-							uint64_t n166 = load64(p7 + 16);
-							uint64_t n167 = load64(p7 + 8);
-							if (n165 > (n166 - n167)) {
-								bool b168 = tp_std_alloc_vec_Vec_grow_amortized_9(p7, n165);
-								if (!b168) {
-									n171 = 1;
+							uint64_t n171, n172, n176;
+							uint8_t n173;
+							byte *p174, *p175;
+							uint64_t n167 = 127 - n137;
+							uint64_t n168 = load64(p7 + 16);
+							uint64_t n169 = load64(p7 + 8);
+							if (n167 > (n168 - n169)) {
+								bool b170 = tp_std_alloc_vec_Vec_grow_amortized_9(p7, n167);
+								if (!b170) {
+									n173 = 1;
 									goto L10;
 								}
-								n169 = load64(p7 + 16);
-								n170 = load64(p7 + 8);
+								n171 = load64(p7 + 16);
+								n172 = load64(p7 + 8);
 							} else {
-								n169 = n166;
-								n170 = n167;
+								n171 = n168;
+								n172 = n169;
 							}
-							p172 = loadptr(p7);
-							p173 = at(p172, n170);
-							if (((uint64_t)(uintptr_t)p173 - n163) >= n165) {
-								memcpy(p173, p162, (size_t)n165);
+							p174 = loadptr(p7);
+							p175 = at(p174, n172);
+							if (((uint64_t)(uintptr_t)p175 - n165) >= n167) {
+								memcpy(p175, p164, (size_t)n167);
 								goto L11;
 							}
-							n174 = 0;
-							while (n174 != n165) {
-								store8(inside(p173, n174), load8(inside(p162, n174)));
-								n174 = n174 + 1;
+							n176 = 0;
+							while (n176 != n167) {
+								store8(inside(p175, n176), load8(inside(p164, n176)));
+								n176 = n176 + 1;
 							}
 L11:
 							{
-								storeptr(p7, p172);
-								store64(p7 + 8, n170 + n165);
-								store64(p7 + 16, n169);
-								n171 = 0;
+								storeptr(p7, p174);
+								store64(p7 + 8, n172 + n167);
+								store64(p7 + 16, n171);
+								n173 = 0;
 							}
 L10:
 							{
-								n94 = n171;
+								n96 = n173;
 							}
 						}
 						break;
 					}
 					case 3: {
-						uint64_t n175;
-						byte *p176;
-						store64(p15, n2);
-						store64(p15 + 8, n3);
-						switch (n36) {
+						uint64_t n177;
+						byte *p178;
+						store64(p16, n2);
+						store64(p16 + 8, n3);
+						switch (n38) {
 						case 0: {
-							n175 = 13;
-							p176 = (byte *)tp_static_213;
+							n177 = 13;
+							p178 = (byte *)tp_static_213;
 							break;
 						}
 						case 1: {
-							n175 = 8;
-							p176 = (byte *)tp_static_214;
+							n177 = 8;
+							p178 = (byte *)tp_static_214;
 							break;
 						}
 						case 2: {
-							n175 = 13;
-							p176 = (byte *)tp_static_215;
+							n177 = 13;
+							p178 = (byte *)tp_static_215;
 							break;
 						}
 						case 3: {
-							n175 = 4;
-							p176 = (byte *)tp_static_216;
+							n177 = 4;
+							p178 = (byte *)tp_static_216;
 							break;
 						}
 						case 4: {
-							n175 = 7;
-							p176 = (byte *)tp_static_217;
+							n177 = 7;
+							p178 = (byte *)tp_static_217;
 							break;
 						}
 						default: {
 							UNREACHABLE();
 						}
 						}
-						uint8_t n177 = tp_text_push_refused(p7, (byte *)tp_static_203, 7, p15, 2, p176, n175);
-						n94 = n177;
+						uint8_t n179 = tp_text_push_refused(p7, (byte *)tp_static_203, 7, p16, 2, p178, n177);
+						n96 = n179;
 						break;
 					}
 					default: {
 						UNREACHABLE();
 					}
 					}
-					n178 = n94;
+					n180 = n96;
 					goto L12;
 				}
-				store64(p16, n2);
-				store64(p16 + 8, n3);
-				n31 = 5;
-				p32 = (byte *)tp_static_221;
+				store64(p17, n2);
+				store64(p17 + 8, n3);
+				n33 = 5;
+				p34 = (byte *)tp_static_221;
 			}
 		} else {
-			store64(p16, n2);
-			store64(p16 + 8, n3);
-			n31 = 9;
-			p32 = (byte *)tp_static_218;
+			store64(p17, n2);
+			store64(p17 + 8, n3);
+			n33 = 9;
+			p34 = (byte *)tp_static_218;
 		}
-		n179 = tp_text_push_refused(p7, (byte *)tp_static_203, 7, p16, 2, p32, n31);
-		n178 = n179;
+		n181 = tp_text_push_refused(p7, (byte *)tp_static_203, 7, p17, 2, p34, n33);
+		n180 = n181;
 L12:
 		{
-			return n178;
+			return n180;
 		}
 	}
 }
@@ -55932,218 +56417,227 @@ static uint8_t tp_timer_script_script_run_play_outs(byte *p1, byte *p2, byte *p3
 	ALIGN(8) byte p7[48];
 	ALIGN(8) byte p8[40];
 	ALIGN(8) byte p9[24];
-	uint8_t n10 = load8(p2);
-	uint64_t n11 = load64u(p2 + 8);
-	uint64_t n12 = load64u(p2 + 16);
-	uint64_t n13 = load64u(p2 + 24);
-	uint64_t n14 = load64u(p2 + 32);
-	uint64_t n15 = load64u(p2 + 40);
+	ALIGN(8) byte p10[40];
+	ALIGN(8) byte p11[40];
+	uint8_t n12 = load8(p2);
+	uint64_t n13 = load64u(p2 + 8);
+	uint64_t n14 = load64u(p2 + 16);
+	uint64_t n15 = load64u(p2 + 24);
+	uint64_t n16 = load64u(p2 + 32);
+	uint64_t n17 = load64u(p2 + 40);
 	if (load64(p3 + 8) != 0)
 		store64(p3 + 8, 0);
-	switch (n10) {
+	switch (n12) {
 	case 0: {
-		uint8_t n18, n20, n21;
-		uint64_t n19, n22, n23;
+		uint8_t n21, n23, n24;
+		uint64_t n22, n25, n26;
 		if (load64(p3 + 16) == 0) {
-			bool b16 = tp_std_alloc_vec_Vec_grow_amortized_6(p3, 1);
-			if (!b16)
+			bool b18 = tp_std_alloc_vec_Vec_grow_amortized_6(p3, 1);
+			if (!b18)
 				return 1;
 		}
+		store64(p11, 0);
+		store64u(p11 + 8, n15);
+		store64u(p11 + 16, n16);
+		memset(p11 + 24, 0, 16);
 		if (load64(p1 + 1232) == load64(p1 + 1224)) {
-			bool b17 = tp_std_alloc_vec_Vec_grow_amortized_5(p1 + 1216);
-			if (!b17)
-				return 1;
+			bool b19 = tp_std_alloc_vec_Vec_grow_amortized_5(p1 + 1216);
+			if (!b19) {
+				bool b20 = tp_facility_Facility_makes_timer(p1, n13, n14, p11);
+				if (b20)
+					return 1;
+			}
 		}
 		if ((load8(p1 + 1176) & 1) != 0) {
-			n18 = 0;
-			n19 = 0;
-			n20 = 1;
 			n21 = 0;
 			n22 = 0;
-			n23 = 0;
-		} else if (load64(p1 + 128) > n11) {
-			uint64_t n24 = n11 << 3;
-			byte *p25 = inside(p1 + 152, n24);
-			uint64_t n26 = load64(p25);
-			if (n12 < n26) {
-				n18 = 2;
-				n19 = n26;
-				n20 = 1;
-				n21 = 0;
+			n23 = 1;
+			n24 = 0;
+			n25 = 0;
+			n26 = 0;
+		} else if (load64(p1 + 128) > n13) {
+			uint64_t n27 = n13 << 3;
+			byte *p28 = inside(p1 + 152, n27);
+			uint64_t n29 = load64(p28);
+			if (n14 < n29) {
+				n21 = 2;
+				n22 = n29;
+				n23 = 1;
+				n24 = 0;
+				n25 = 0;
+				n26 = 0;
+			} else if (n29 > UINT64_C(1152921504606846975)) {
+				n21 = 3;
 				n22 = 0;
-				n23 = 0;
-			} else if (n26 > UINT64_C(1152921504606846975)) {
-				n18 = 3;
-				n19 = 0;
-				n20 = 1;
-				n21 = 0;
-				n22 = 0;
-				n23 = 0;
-			} else if (n26 < n12) {
-				n18 = 4;
-				n19 = n26;
-				n20 = 1;
-				n21 = 0;
-				n22 = 0;
-				n23 = 0;
+				n23 = 1;
+				n24 = 0;
+				n25 = 0;
+				n26 = 0;
+			} else if (n29 < n14) {
+				n21 = 4;
+				n22 = n29;
+				n23 = 1;
+				n24 = 0;
+				n25 = 0;
+				n26 = 0;
 			} else {
-				uint64_t n28, n31, n32, n46;
-				uint8_t n29, n30;
+				uint64_t n31, n34, n35, n49;
+				uint8_t n32, n33;
 				memset(p9, 0, 24);
-				of_i8_i8 s27 = tp_facility_Facility_start_refusal(p1, n13);
-				if (s27.f0 == 1) {
-					store64(p25, n12 + 1);
-					n28 = 0;
-					n29 = s27.f1;
-					n30 = 3;
+				of_i8_i8 s30 = tp_facility_Facility_start_refusal(p1, n15);
+				if (s30.f0 == 1) {
+					store64(p28, n14 + 1);
 					n31 = 0;
-					n32 = 0;
+					n32 = s30.f1;
+					n33 = 3;
+					n34 = 0;
+					n35 = 0;
 				} else {
-					uint64_t n33 = load64(p1 + 8) + n13;
+					uint64_t n36 = load64(p1 + 8) + n15;
 					store64u(p8, load64(p1 + 144));
-					store64u(p8 + 8, n11);
-					store64u(p8 + 16, n12);
-					store64u(p8 + 24, n33);
-					store64u(p8 + 32, n14);
+					store64u(p8 + 8, n13);
+					store64u(p8 + 16, n14);
+					store64u(p8 + 24, n36);
+					store64u(p8 + 32, n16);
 					tp_HashedWheelWheel_start(p9, p1, p8);
 					if (load8(p9) != 0)
 						return 1;
-					uint64_t n34 = load64u(p9 + 8);
-					uint64_t n35 = load64u(p9 + 16);
+					uint64_t n37 = load64u(p9 + 8);
+					uint64_t n38 = load64u(p9 + 16);
 					store64(p1 + 144, load64(p1 + 144) + 1);
-					byte *p36 = inside(p1 + 664, n24);
-					store64(p36, load64(p36) + 1);
-					store64(p25, n12 + 1);
-					uint64_t n37 = load64(p1 + 1224);
-					byte *p38 = inside(loadptr(p1 + 1216), n37 << 4);
-					store64u(p38, n34);
-					store64u(p38 + 8, n35);
-					store64(p1 + 1224, n37 + 1);
-					n28 = n33;
-					n29 = 0;
-					n30 = 0;
-					n31 = n35;
-					n32 = n34;
+					byte *p39 = inside(p1 + 664, n27);
+					store64(p39, load64(p39) + 1);
+					store64(p28, n14 + 1);
+					uint64_t n40 = load64(p1 + 1224);
+					byte *p41 = inside(loadptr(p1 + 1216), n40 << 4);
+					store64u(p41, n37);
+					store64u(p41 + 8, n38);
+					store64(p1 + 1224, n40 + 1);
+					n31 = n36;
+					n32 = 0;
+					n33 = 0;
+					n34 = n38;
+					n35 = n37;
 				}
-				uint64_t n39 = load64(p1 + 56);
-				byte *p40 = loadptr(p1 + 72);
-				uint64_t n41 = load64(p1 + 96);
-				uint64_t n42 = (uint64_t)load32(at(p40, load64(p1 + 24) << 3) + 4);
-				uint64_t n43 = usub_sat64(n42, n41);
-				uint64_t n44 = 0;
-				uint64_t n45 = n42;
+				uint64_t n42 = load64(p1 + 56);
+				byte *p43 = loadptr(p1 + 72);
+				uint64_t n44 = load64(p1 + 96);
+				uint64_t n45 = (uint64_t)load32(at(p43, load64(p1 + 24) << 3) + 4);
+				uint64_t n46 = usub_sat64(n45, n44);
+				uint64_t n47 = 0;
+				uint64_t n48 = n45;
 				for (;;) {
-					if (n44 == n39) {
-						n46 = n39;
+					if (n47 == n42) {
+						n49 = n42;
 						break;
 					}
-					if (n41 > n45) {
-						n46 = n44;
+					if (n44 > n48) {
+						n49 = n47;
 						break;
 					}
-					uint64_t n47 = (uint64_t)load32(at(p40, (n41 + n43) << 3) + 4);
-					n43 = usub_sat64(n47, n41);
-					n44 = n44 + 1;
-					n45 = n47;
+					uint64_t n50 = (uint64_t)load32(at(p43, (n44 + n46) << 3) + 4);
+					n46 = usub_sat64(n50, n44);
+					n47 = n47 + 1;
+					n48 = n50;
 				}
-				if ((((n39 - n46) << 1) + 64) < load64(p1 + 1224)) {
+				if ((((n42 - n49) << 1) + 64) < load64(p1 + 1224)) {
 					tp_timer_facility_handles_sweep(p1 + 1216, p1);
-					n18 = n30;
-					n19 = n32;
-					n20 = 0;
-					n21 = n29;
-					n22 = n31;
-					n23 = n28;
+					n21 = n33;
+					n22 = n35;
+					n23 = 0;
+					n24 = n32;
+					n25 = n34;
+					n26 = n31;
 				} else {
-					n18 = n30;
-					n19 = n32;
-					n20 = 0;
-					n21 = n29;
-					n22 = n31;
-					n23 = n28;
+					n21 = n33;
+					n22 = n35;
+					n23 = 0;
+					n24 = n32;
+					n25 = n34;
+					n26 = n31;
 				}
 			}
 		} else {
-			n18 = 1;
-			n19 = 0;
-			n20 = 1;
-			n21 = 0;
+			n21 = 1;
 			n22 = 0;
-			n23 = 0;
+			n23 = 1;
+			n24 = 0;
+			n25 = 0;
+			n26 = 0;
 		}
-		uint64_t n48 = load64(p3 + 8);
-		byte *p49 = inside(loadptr(p3), n48 << 6);
-		store8(p49, n20);
-		store8(p49 + 1, 0);
-		store64u(p49 + 8, n11);
-		store64u(p49 + 16, n12);
-		store64u(p49 + 24, ((uint64_t)n21 << 8) | (uint64_t)n18);
-		store64u(p49 + 32, n19);
-		store64u(p49 + 40, n22);
-		store64u(p49 + 48, n23);
-		store64u(p49 + 56, 0);
-		store64(p3 + 8, n48 + 1);
+		uint64_t n51 = load64(p3 + 8);
+		byte *p52 = inside(loadptr(p3), n51 << 6);
+		store8(p52, n23);
+		store8(p52 + 1, 0);
+		store64u(p52 + 8, n13);
+		store64u(p52 + 16, n14);
+		store64u(p52 + 24, ((uint64_t)n24 << 8) | (uint64_t)n21);
+		store64u(p52 + 32, n22);
+		store64u(p52 + 40, n25);
+		store64u(p52 + 48, n26);
+		store64u(p52 + 56, 0);
+		store64(p3 + 8, n51 + 1);
 		break;
 	}
 	case 1: {
-		uint64_t n55;
+		uint64_t n58;
 		if (load64(p3 + 16) == 0) {
-			bool b50 = tp_std_alloc_vec_Vec_grow_amortized_6(p3, 1);
-			if (!b50)
+			bool b53 = tp_std_alloc_vec_Vec_grow_amortized_6(p3, 1);
+			if (!b53)
 				return 1;
 		}
-		byte *p51 = loadptr(p1 + 1216);
-		uint64_t n52 = load64(p1 + 1224);
-		if (n52 != 0) {
-			uint64_t n53 = load64(at(at(p51, n52 << 4), UINT64_C(18446744073709551608))) - n13;
-			if (n52 > n53) {
-				byte *p54 = inside(p51, (n52 + (n53 ^ UINT64_MAX)) << 4);
-				if (load64(p54 + 8) != n13)
+		byte *p54 = loadptr(p1 + 1216);
+		uint64_t n55 = load64(p1 + 1224);
+		if (n55 != 0) {
+			uint64_t n56 = load64(at(at(p54, n55 << 4), UINT64_C(18446744073709551608))) - n15;
+			if (n55 > n56) {
+				byte *p57 = inside(p54, (n55 + (n56 ^ UINT64_MAX)) << 4);
+				if (load64(p57 + 8) != n15)
 					goto L1;
-				n55 = load64(p54);
+				n58 = load64(p57);
 				goto L2;
 			}
 		}
-		if (n52 == 0) {
-			n55 = 0;
+		if (n55 == 0) {
+			n58 = 0;
 			goto L2;
 		}
 L1:
 		{
-			uint64_t n56 = 0;
-			uint64_t n57 = n52;
-			while (n57 > 1) {
-				uint64_t n61;
-				uint64_t n58 = n57 >> 1;
-				uint64_t n59 = n56 + n58;
-				uint64_t n60 = load64(at(p51, n59 << 4) + 8);
-				switch ((n60 == n13) ? 1 : (uint8_t)((n60 < n13) ? 0 : 2)) {
+			uint64_t n59 = 0;
+			uint64_t n60 = n55;
+			while (n60 > 1) {
+				uint64_t n64;
+				uint64_t n61 = n60 >> 1;
+				uint64_t n62 = n59 + n61;
+				uint64_t n63 = load64(at(p54, n62 << 4) + 8);
+				switch ((n63 == n15) ? 1 : (uint8_t)((n63 < n15) ? 0 : 2)) {
 				case 0:
 				case 1: {
-					n61 = n59;
+					n64 = n62;
 					break;
 				}
 				case 2: {
-					n61 = n56;
+					n64 = n59;
 					break;
 				}
 				default: {
 					UNREACHABLE();
 				}
 				}
-				n56 = n61;
-				n57 = n57 - n58;
+				n59 = n64;
+				n60 = n60 - n61;
 			}
-			byte *p62 = at(p51, n56 << 4);
-			uint64_t n63 = load64(p62 + 8);
-			switch ((n63 == n13) ? 1 : (uint8_t)((n63 < n13) ? 0 : 2)) {
+			byte *p65 = at(p54, n59 << 4);
+			uint64_t n66 = load64(p65 + 8);
+			switch ((n66 == n15) ? 1 : (uint8_t)((n66 < n15) ? 0 : 2)) {
 			case 1: {
-				n55 = load64(p62);
+				n58 = load64(p65);
 				break;
 			}
 			case 0:
 			case 2: {
-				n55 = 0;
+				n58 = 0;
 				break;
 			}
 			default: {
@@ -56153,56 +56647,44 @@ L1:
 		}
 L2:
 		{
-			uint8_t n65, n67, n68;
-			uint64_t n66;
-			if (load64(p1 + 1232) == n52) {
-				bool b64 = tp_std_alloc_vec_Vec_grow_amortized_5(p1 + 1216);
-				if (!b64)
-					return 1;
-			}
+			uint64_t n67, n69;
+			uint8_t n68;
 			if ((load8(p1 + 1176) & 1) != 0) {
-				n65 = 0;
-				n66 = 0;
-				n67 = 1;
-				n68 = 0;
-			} else if (load64(p1 + 128) > n11) {
-				uint64_t n69 = n11 << 3;
-				byte *p70 = inside(p1 + 152, n69);
-				uint64_t n71 = load64(p70);
-				if (n12 < n71) {
-					n65 = 2;
-					n66 = n71;
-					n67 = 1;
-					n68 = 0;
-				} else if (n71 > UINT64_C(1152921504606846975)) {
-					n65 = 3;
-					n66 = 0;
-					n67 = 1;
-					n68 = 0;
-				} else if (n71 < n12) {
-					n65 = 4;
-					n66 = n71;
-					n67 = 1;
-					n68 = 0;
+				n67 = 0;
+				n68 = 1;
+				n69 = 0;
+			} else if (load64(p1 + 128) > n13) {
+				uint64_t n70 = n13 << 3;
+				byte *p71 = inside(p1 + 152, n70);
+				uint64_t n72 = load64(p71);
+				if (n14 < n72) {
+					n67 = n72;
+					n68 = 1;
+					n69 = 2;
+				} else if (n72 > UINT64_C(1152921504606846975)) {
+					n67 = 0;
+					n68 = 1;
+					n69 = 3;
+				} else if (n72 < n14) {
+					n67 = n72;
+					n68 = 1;
+					n69 = 4;
 				} else {
-					uint64_t n72, n84;
-					uint8_t n73, n74;
+					uint64_t n73, n74, n84;
 					memset(p6, 0, 48);
-					tp_facility_Facility_find_named(p6, p1, n11, n55, n13);
+					tp_facility_Facility_find_named(p6, p1, n13, n58, n15);
 					if (load8(p6) == 0) {
-						n72 = 0;
-						n73 = 4;
-						n74 = 3;
+						n73 = 0;
+						n74 = 1027;
 					} else {
 						uint64_t n75 = load64u(p6 + 8);
-						tp_HashedWheelWheel_stop(p7, p1, n55, n13);
-						byte *p76 = inside(p1 + 664, n69);
+						tp_HashedWheelWheel_stop(p7, p1, n58, n15);
+						byte *p76 = inside(p1 + 664, n70);
 						store64(p76, load64(p76) - 1);
-						n72 = n75;
-						n73 = 0;
+						n73 = n75;
 						n74 = 1;
 					}
-					store64(p70, n12 + 1);
+					store64(p71, n14 + 1);
 					uint64_t n77 = load64(p1 + 56);
 					byte *p78 = loadptr(p1 + 72);
 					uint64_t n79 = load64(p1 + 96);
@@ -56226,31 +56708,28 @@ L2:
 					}
 					if ((((n77 - n84) << 1) + 64) < load64(p1 + 1224)) {
 						tp_timer_facility_handles_sweep(p1 + 1216, p1);
-						n65 = n74;
-						n66 = n72;
-						n67 = 0;
-						n68 = n73;
+						n67 = n73;
+						n68 = 0;
+						n69 = n74;
 					} else {
-						n65 = n74;
-						n66 = n72;
-						n67 = 0;
-						n68 = n73;
+						n67 = n73;
+						n68 = 0;
+						n69 = n74;
 					}
 				}
 			} else {
-				n65 = 1;
-				n66 = 0;
-				n67 = 1;
-				n68 = 0;
+				n67 = 0;
+				n68 = 1;
+				n69 = 1;
 			}
 			uint64_t n86 = load64(p3 + 8);
 			byte *p87 = inside(loadptr(p3), n86 << 6);
-			store8(p87, n67);
+			store8(p87, n68);
 			store8(p87 + 1, 0);
-			store64u(p87 + 8, n11);
-			store64u(p87 + 16, n12);
-			store64u(p87 + 24, ((uint64_t)n68 << 8) | (uint64_t)n65);
-			store64u(p87 + 32, n66);
+			store64u(p87 + 8, n13);
+			store64u(p87 + 16, n14);
+			store64u(p87 + 24, n69);
+			store64u(p87 + 32, n67);
 			memset(p87 + 40, 0, 24);
 			store64(p3 + 8, n86 + 1);
 		}
@@ -56266,10 +56745,10 @@ L2:
 		byte *p89 = loadptr(p1 + 1216);
 		uint64_t n90 = load64(p1 + 1224);
 		if (n90 != 0) {
-			uint64_t n91 = load64(at(at(p89, n90 << 4), UINT64_C(18446744073709551608))) - n13;
+			uint64_t n91 = load64(at(at(p89, n90 << 4), UINT64_C(18446744073709551608))) - n15;
 			if (n90 > n91) {
 				byte *p92 = inside(p89, (n90 + (n91 ^ UINT64_MAX)) << 4);
-				if (load64(p92 + 8) != n13)
+				if (load64(p92 + 8) != n15)
 					goto L3;
 				n93 = load64(p92);
 				goto L4;
@@ -56288,7 +56767,7 @@ L3:
 				uint64_t n96 = n95 >> 1;
 				uint64_t n97 = n94 + n96;
 				uint64_t n98 = load64(at(p89, n97 << 4) + 8);
-				switch ((n98 == n13) ? 1 : (uint8_t)((n98 < n13) ? 0 : 2)) {
+				switch ((n98 == n15) ? 1 : (uint8_t)((n98 < n15) ? 0 : 2)) {
 				case 0:
 				case 1: {
 					n99 = n97;
@@ -56307,7 +56786,7 @@ L3:
 			}
 			byte *p100 = at(p89, n94 << 4);
 			uint64_t n101 = load64(p100 + 8);
-			switch ((n101 == n13) ? 1 : (uint8_t)((n101 < n13) ? 0 : 2)) {
+			switch ((n101 == n15) ? 1 : (uint8_t)((n101 < n15) ? 0 : 2)) {
 			case 1: {
 				n93 = load64(p100);
 				break;
@@ -56324,74 +56803,82 @@ L3:
 		}
 L4:
 		{
-			uint8_t n103, n105, n106;
-			uint64_t n104, n107, n108, n109;
+			uint8_t n104, n106, n107;
+			uint64_t n105, n108, n109, n110;
+			store64u(p10, 3);
+			store64u(p10 + 8, n93);
+			store64u(p10 + 16, n15);
+			store64u(p10 + 24, n16);
+			store64u(p10 + 32, n17);
 			if (load64(p1 + 1232) == n90) {
 				bool b102 = tp_std_alloc_vec_Vec_grow_amortized_5(p1 + 1216);
-				if (!b102)
-					return 1;
+				if (!b102) {
+					bool b103 = tp_facility_Facility_makes_timer(p1, n13, n14, p10);
+					if (b103)
+						return 1;
+				}
 			}
 			if ((load8(p1 + 1176) & 1) != 0) {
-				n103 = 0;
 				n104 = 0;
-				n105 = 1;
-				n106 = 0;
+				n105 = 0;
+				n106 = 1;
 				n107 = 0;
 				n108 = 0;
 				n109 = 0;
-			} else if (load64(p1 + 128) > n11) {
-				byte *p110 = inside(p1 + 152, n11 << 3);
-				uint64_t n111 = load64(p110);
-				if (n12 < n111) {
-					n103 = 2;
-					n104 = n111;
-					n105 = 1;
-					n106 = 0;
+				n110 = 0;
+			} else if (load64(p1 + 128) > n13) {
+				byte *p111 = inside(p1 + 152, n13 << 3);
+				uint64_t n112 = load64(p111);
+				if (n14 < n112) {
+					n104 = 2;
+					n105 = n112;
+					n106 = 1;
 					n107 = 0;
 					n108 = 0;
 					n109 = 0;
-				} else if (n111 > UINT64_C(1152921504606846975)) {
-					n103 = 3;
-					n104 = 0;
-					n105 = 1;
-					n106 = 0;
+					n110 = 0;
+				} else if (n112 > UINT64_C(1152921504606846975)) {
+					n104 = 3;
+					n105 = 0;
+					n106 = 1;
 					n107 = 0;
 					n108 = 0;
 					n109 = 0;
-				} else if (n111 < n12) {
-					n103 = 4;
-					n104 = n111;
-					n105 = 1;
-					n106 = 0;
+					n110 = 0;
+				} else if (n112 < n14) {
+					n104 = 4;
+					n105 = n112;
+					n106 = 1;
 					n107 = 0;
 					n108 = 0;
 					n109 = 0;
+					n110 = 0;
 				} else {
-					uint64_t n129;
+					uint64_t n130;
 					memset(p5, 0, 40);
-					tp_facility_Facility_take_restart(p5, p1, n11, n12, n93, n13, n14, n15);
-					uint8_t n112 = load8(p5);
-					uint8_t n113 = load8(p5 + 1);
-					uint64_t n114 = load64u(p5 + 8);
-					uint64_t n115 = load64u(p5 + 16);
-					uint64_t n116 = load64u(p5 + 24);
-					uint64_t n117 = load64u(p5 + 32);
-					store64(p110, n12 + 1);
-					switch (n112) {
+					tp_facility_Facility_take_restart(p5, p1, n13, n14, n93, n15, n16, n16, n17);
+					uint8_t n113 = load8(p5);
+					uint8_t n114 = load8(p5 + 1);
+					uint64_t n115 = load64u(p5 + 8);
+					uint64_t n116 = load64u(p5 + 16);
+					uint64_t n117 = load64u(p5 + 24);
+					uint64_t n118 = load64u(p5 + 32);
+					store64(p111, n14 + 1);
+					switch (n113) {
 					case 0: {
-						uint64_t n118 = load64(p1 + 1224);
-						byte *p119 = inside(loadptr(p1 + 1216), n118 << 4);
-						store64u(p119, n114);
-						store64u(p119 + 8, n115);
-						store64(p1 + 1224, n118 + 1);
+						uint64_t n119 = load64(p1 + 1224);
+						byte *p120 = inside(loadptr(p1 + 1216), n119 << 4);
+						store64u(p120, n115);
+						store64u(p120 + 8, n116);
+						store64(p1 + 1224, n119 + 1);
 						break;
 					}
 					case 2: {
-						uint64_t n120 = load64(p1 + 1224);
-						byte *p121 = inside(loadptr(p1 + 1216), n120 << 4);
-						store64u(p121, n114);
-						store64u(p121 + 8, n115);
-						store64(p1 + 1224, n120 + 1);
+						uint64_t n121 = load64(p1 + 1224);
+						byte *p122 = inside(loadptr(p1 + 1216), n121 << 4);
+						store64u(p122, n115);
+						store64u(p122 + 8, n116);
+						store64(p1 + 1224, n121 + 1);
 						break;
 					}
 					case 1:
@@ -56402,418 +56889,418 @@ L4:
 						UNREACHABLE();
 					}
 					}
-					uint64_t n122 = load64(p1 + 56);
-					byte *p123 = loadptr(p1 + 72);
-					uint64_t n124 = load64(p1 + 96);
-					uint64_t n125 = (uint64_t)load32(at(p123, load64(p1 + 24) << 3) + 4);
-					uint64_t n126 = usub_sat64(n125, n124);
-					uint64_t n127 = 0;
-					uint64_t n128 = n125;
+					uint64_t n123 = load64(p1 + 56);
+					byte *p124 = loadptr(p1 + 72);
+					uint64_t n125 = load64(p1 + 96);
+					uint64_t n126 = (uint64_t)load32(at(p124, load64(p1 + 24) << 3) + 4);
+					uint64_t n127 = usub_sat64(n126, n125);
+					uint64_t n128 = 0;
+					uint64_t n129 = n126;
 					for (;;) {
-						if (n127 == n122) {
-							n129 = n122;
+						if (n128 == n123) {
+							n130 = n123;
 							break;
 						}
-						if (n124 > n128) {
-							n129 = n127;
+						if (n125 > n129) {
+							n130 = n128;
 							break;
 						}
-						uint64_t n130 = (uint64_t)load32(at(p123, (n124 + n126) << 3) + 4);
-						n126 = usub_sat64(n130, n124);
-						n127 = n127 + 1;
-						n128 = n130;
+						uint64_t n131 = (uint64_t)load32(at(p124, (n125 + n127) << 3) + 4);
+						n127 = usub_sat64(n131, n125);
+						n128 = n128 + 1;
+						n129 = n131;
 					}
-					if ((((n122 - n129) << 1) + 64) < load64(p1 + 1224)) {
+					if ((((n123 - n130) << 1) + 64) < load64(p1 + 1224)) {
 						tp_timer_facility_handles_sweep(p1 + 1216, p1);
-						n103 = n112;
-						n104 = n114;
-						n105 = 0;
-						n106 = n113;
-						n107 = n115;
+						n104 = n113;
+						n105 = n115;
+						n106 = 0;
+						n107 = n114;
 						n108 = n116;
 						n109 = n117;
+						n110 = n118;
 					} else {
-						n103 = n112;
-						n104 = n114;
-						n105 = 0;
-						n106 = n113;
-						n107 = n115;
+						n104 = n113;
+						n105 = n115;
+						n106 = 0;
+						n107 = n114;
 						n108 = n116;
 						n109 = n117;
+						n110 = n118;
 					}
 				}
 			} else {
-				n103 = 1;
-				n104 = 0;
-				n105 = 1;
-				n106 = 0;
+				n104 = 1;
+				n105 = 0;
+				n106 = 1;
 				n107 = 0;
 				n108 = 0;
 				n109 = 0;
+				n110 = 0;
 			}
-			uint64_t n131 = load64(p3 + 8);
-			byte *p132 = inside(loadptr(p3), n131 << 6);
-			store8(p132, n105);
-			store8(p132 + 1, 0);
-			store64u(p132 + 8, n11);
-			store64u(p132 + 16, n12);
-			store64u(p132 + 24, ((uint64_t)n106 << 8) | (uint64_t)n103);
-			store64u(p132 + 32, n104);
-			store64u(p132 + 40, n107);
-			store64u(p132 + 48, n108);
-			store64u(p132 + 56, n109);
-			store64(p3 + 8, n131 + 1);
+			uint64_t n132 = load64(p3 + 8);
+			byte *p133 = inside(loadptr(p3), n132 << 6);
+			store8(p133, n106);
+			store8(p133 + 1, 0);
+			store64u(p133 + 8, n13);
+			store64u(p133 + 16, n14);
+			store64u(p133 + 24, ((uint64_t)n107 << 8) | (uint64_t)n104);
+			store64u(p133 + 32, n105);
+			store64u(p133 + 40, n108);
+			store64u(p133 + 48, n109);
+			store64u(p133 + 56, n110);
+			store64(p3 + 8, n132 + 1);
 		}
 		break;
 	}
 	case 3: {
-		uint64_t n140, n204;
-		uint8_t n145;
-		byte *p205;
-		uint64_t n133 = load64(p1 + 56);
-		byte *p134 = loadptr(p1 + 72);
-		uint64_t n135 = load64(p1 + 96);
-		uint64_t n136 = (uint64_t)load32(at(p134, load64(p1 + 24) << 3) + 4);
-		uint64_t n137 = usub_sat64(n136, n135);
-		uint64_t n138 = 0;
-		uint64_t n139 = n136;
+		uint64_t n141, n205;
+		uint8_t n146;
+		byte *p206;
+		uint64_t n134 = load64(p1 + 56);
+		byte *p135 = loadptr(p1 + 72);
+		uint64_t n136 = load64(p1 + 96);
+		uint64_t n137 = (uint64_t)load32(at(p135, load64(p1 + 24) << 3) + 4);
+		uint64_t n138 = usub_sat64(n137, n136);
+		uint64_t n139 = 0;
+		uint64_t n140 = n137;
 		for (;;) {
-			if (n138 == n133) {
-				n140 = n133;
+			if (n139 == n134) {
+				n141 = n134;
 				break;
 			}
-			if (n135 > n139) {
-				n140 = n138;
+			if (n136 > n140) {
+				n141 = n139;
 				break;
 			}
-			uint64_t n141 = (uint64_t)load32(at(p134, (n135 + n137) << 3) + 4);
-			n137 = usub_sat64(n141, n135);
-			n138 = n138 + 1;
-			n139 = n141;
+			uint64_t n142 = (uint64_t)load32(at(p135, (n136 + n138) << 3) + 4);
+			n138 = usub_sat64(n142, n136);
+			n139 = n139 + 1;
+			n140 = n142;
 		}
-		uint64_t n142 = (n133 - n140) + 1;
-		if (n142 > load64(p3 + 16)) {
-			bool b143 = tp_std_alloc_vec_Vec_grow_amortized_6(p3, n142);
-			if (!b143)
+		uint64_t n143 = (n134 - n141) + 1;
+		if (n143 > load64(p3 + 16)) {
+			bool b144 = tp_std_alloc_vec_Vec_grow_amortized_6(p3, n143);
+			if (!b144)
 				return 1;
 		}
-		uint64_t n144 = n11;
+		uint64_t n145 = n13;
 		for (;;) {
-			uint64_t n177;
-			if (n144 == 0)
+			uint64_t n178;
+			if (n145 == 0)
 				goto L5;
 			if ((load8(p1 + 1176) & 1) != 0) {
-				n145 = 0;
+				n146 = 0;
 				break;
 			}
-			uint64_t n146 = load64(p1 + 8);
-			uint64_t n147 = load64(p1);
-			if (n146 == n147) {
-				n145 = 1;
+			uint64_t n147 = load64(p1 + 8);
+			uint64_t n148 = load64(p1);
+			if (n147 == n148) {
+				n146 = 1;
 				break;
 			}
-			uint64_t n148 = umin64(n147 - n146, n144);
-			uint64_t n149 = load64(p1 + 24);
-			uint64_t n150 = 0;
+			uint64_t n149 = umin64(n148 - n147, n145);
+			uint64_t n150 = load64(p1 + 24);
+			uint64_t n151 = 0;
 			for (;;) {
-				uint64_t n181;
-				if (n150 >= n148) {
-					n177 = n148;
+				uint64_t n182;
+				if (n151 >= n149) {
+					n178 = n149;
 					break;
 				}
-				uint64_t n151 = umin64(n148 - n150, n149);
-				uint64_t n152 = load64(p1 + 24);
-				uint64_t n153 = 0;
-				while (n153 != n151) {
-					uint64_t n154 = load64(p1 + 120) + 1;
-					uint64_t n155 = n154 - ((n154 < n152) ? 0 : n152);
-					uint64_t n156 = load64(p1 + 96);
-					uint64_t n157 = (uint64_t)load32(at(loadptr(p1 + 72), n155 << 3) + 4);
-					uint64_t n158 = load64(p1 + 56);
-					uint64_t n159 = 0;
-					uint64_t n160 = usub_sat64(n157, n156);
-					bool b161 = n156 <= n157;
-					while (n159 != n158) {
-						if (!b161)
+				uint64_t n152 = umin64(n149 - n151, n150);
+				uint64_t n153 = load64(p1 + 24);
+				uint64_t n154 = 0;
+				while (n154 != n152) {
+					uint64_t n155 = load64(p1 + 120) + 1;
+					uint64_t n156 = n155 - ((n155 < n153) ? 0 : n153);
+					uint64_t n157 = load64(p1 + 96);
+					uint64_t n158 = (uint64_t)load32(at(loadptr(p1 + 72), n156 << 3) + 4);
+					uint64_t n159 = load64(p1 + 56);
+					uint64_t n160 = 0;
+					uint64_t n161 = usub_sat64(n158, n157);
+					bool b162 = n157 <= n158;
+					while (n160 != n159) {
+						if (!b162)
 							break;
-						byte *p162 = at(loadptr(p1 + 32), n160 * 56);
-						if (n160 >= load64(p1 + 40)) {
+						byte *p163 = at(loadptr(p1 + 32), n161 * 56);
+						if (n161 >= load64(p1 + 40)) {
 							TRAP();
 							UNREACHABLE();
 						}
-						if (load8(p162) != 1) {
+						if (load8(p163) != 1) {
 							TRAP();
 							UNREACHABLE();
 						}
-						uint64_t n163 = load64(p162 + 48);
-						uint64_t n164 = load64(p1 + 96);
-						uint64_t n165 = n164 + n160;
-						byte *p166 = loadptr(p1 + 72);
-						byte *p167 = at(p166, n165 << 3);
-						uint32_t n168 = load32(p167 + 4);
-						uint64_t n169 = (uint64_t)n168;
-						bool b170 = n164 <= n169;
-						uint64_t n171 = usub_sat64(n169, n164);
-						if (n163 == 0) {
-							uint32_t n172 = load32(p167);
-							store32(inside(p166, (uint64_t)n172 << 3) + 4, n168);
-							store32(inside(p166, n169 << 3), n172);
-							byte *p173 = inside(p166, n152 << 3);
-							uint32_t n174 = load32(p173);
-							uint32_t n175 = (uint32_t)n165;
-							store32(inside(p166, (uint64_t)n174 << 3) + 4, n175);
-							store32(p167, n174);
-							store32(p167 + 4, (uint32_t)n152);
-							store32(p173, n175);
+						uint64_t n164 = load64(p163 + 48);
+						uint64_t n165 = load64(p1 + 96);
+						uint64_t n166 = n165 + n161;
+						byte *p167 = loadptr(p1 + 72);
+						byte *p168 = at(p167, n166 << 3);
+						uint32_t n169 = load32(p168 + 4);
+						uint64_t n170 = (uint64_t)n169;
+						bool b171 = n165 <= n170;
+						uint64_t n172 = usub_sat64(n170, n165);
+						if (n164 == 0) {
+							uint32_t n173 = load32(p168);
+							store32(inside(p167, (uint64_t)n173 << 3) + 4, n169);
+							store32(inside(p167, n170 << 3), n173);
+							byte *p174 = inside(p167, n153 << 3);
+							uint32_t n175 = load32(p174);
+							uint32_t n176 = (uint32_t)n166;
+							store32(inside(p167, (uint64_t)n175 << 3) + 4, n176);
+							store32(p168, n175);
+							store32(p168 + 4, (uint32_t)n153);
+							store32(p174, n176);
 						} else {
-							store64(p162 + 48, n163 - 1);
+							store64(p163 + 48, n164 - 1);
 						}
-						n159 = n159 + 1;
-						n160 = n171;
-						b161 = b170;
+						n160 = n160 + 1;
+						n161 = n172;
+						b162 = b171;
 					}
 					store64(p1 + 8, load64(p1 + 8) + 1);
-					store64(p1 + 120, n155);
-					uint64_t n176 = load64(p1 + 24);
-					if (n176 != (uint64_t)load32(at(loadptr(p1 + 72), n176 << 3) + 4)) {
-						n177 = n150 + (n153 + 1);
+					store64(p1 + 120, n156);
+					uint64_t n177 = load64(p1 + 24);
+					if (n177 != (uint64_t)load32(at(loadptr(p1 + 72), n177 << 3) + 4)) {
+						n178 = n151 + (n154 + 1);
 						goto L6;
 					}
-					n152 = n176;
-					n153 = n153 + 1;
+					n153 = n177;
+					n154 = n154 + 1;
 				}
-				byte *p178 = loadptr(p1 + 72);
-				uint64_t n179 = n150 + n151;
-				if (n152 != (uint64_t)load32(at(p178, n152 << 3) + 4)) {
-					n177 = n179;
+				byte *p179 = loadptr(p1 + 72);
+				uint64_t n180 = n151 + n152;
+				if (n153 != (uint64_t)load32(at(p179, n153 << 3) + 4)) {
+					n178 = n180;
 					break;
 				}
-				uint64_t n180 = n148 - n179;
-				if (n180 < n152) {
-					n181 = 0;
+				uint64_t n181 = n149 - n180;
+				if (n181 < n153) {
+					n182 = 0;
 				} else {
-					if (n152 == 0) {
+					if (n153 == 0) {
 						TRAP();
 						UNREACHABLE();
 					}
-					uint64_t n182 = 0;
-					uint64_t n183 = n180 / n152;
-					while (n182 != n152) {
-						uint64_t n184 = load64(p1 + 96);
-						uint64_t n185 = (uint64_t)load32(at(p178, n182 << 3) + 4);
-						uint64_t n186 = load64(p1 + 56);
-						uint64_t n187 = usub_sat64(n185, n184);
-						uint64_t n188 = 0;
-						uint64_t n189 = n185;
-						uint64_t n190 = n183;
-						while (n188 != n186) {
-							if (n184 > n189)
+					uint64_t n183 = 0;
+					uint64_t n184 = n181 / n153;
+					while (n183 != n153) {
+						uint64_t n185 = load64(p1 + 96);
+						uint64_t n186 = (uint64_t)load32(at(p179, n183 << 3) + 4);
+						uint64_t n187 = load64(p1 + 56);
+						uint64_t n188 = usub_sat64(n186, n185);
+						uint64_t n189 = 0;
+						uint64_t n190 = n186;
+						uint64_t n191 = n184;
+						while (n189 != n187) {
+							if (n185 > n190)
 								break;
-							byte *p191 = at(loadptr(p1 + 32), n187 * 56);
-							if (n187 >= load64(p1 + 40)) {
+							byte *p192 = at(loadptr(p1 + 32), n188 * 56);
+							if (n188 >= load64(p1 + 40)) {
 								TRAP();
 								UNREACHABLE();
 							}
-							if (load8(p191) != 1) {
+							if (load8(p192) != 1) {
 								TRAP();
 								UNREACHABLE();
 							}
-							uint64_t n192 = (uint64_t)load32(at(p178, (n184 + n187) << 3) + 4);
-							n187 = usub_sat64(n192, n184);
-							n188 = n188 + 1;
-							n189 = n192;
-							n190 = umin64(load64(p191 + 48), n190);
+							uint64_t n193 = (uint64_t)load32(at(p179, (n185 + n188) << 3) + 4);
+							n188 = usub_sat64(n193, n185);
+							n189 = n189 + 1;
+							n190 = n193;
+							n191 = umin64(load64(p192 + 48), n191);
 						}
-						n182 = n182 + 1;
-						n183 = n190;
+						n183 = n183 + 1;
+						n184 = n191;
 					}
-					if (n183 == 0) {
-						n181 = 0;
+					if (n184 == 0) {
+						n182 = 0;
 					} else {
-						uint64_t n193 = n183 * n152;
-						uint64_t n194 = 0;
-						while (n194 != n152) {
-							uint64_t n195 = load64(p1 + 96);
-							uint64_t n196 = (uint64_t)load32(at(loadptr(p1 + 72), n194 << 3) + 4);
-							uint64_t n197 = load64(p1 + 56);
-							uint64_t n198 = 0;
-							uint64_t n199 = usub_sat64(n196, n195);
-							bool b200 = n195 <= n196;
-							while (n198 != n197) {
-								if (!b200)
+						uint64_t n194 = n184 * n153;
+						uint64_t n195 = 0;
+						while (n195 != n153) {
+							uint64_t n196 = load64(p1 + 96);
+							uint64_t n197 = (uint64_t)load32(at(loadptr(p1 + 72), n195 << 3) + 4);
+							uint64_t n198 = load64(p1 + 56);
+							uint64_t n199 = 0;
+							uint64_t n200 = usub_sat64(n197, n196);
+							bool b201 = n196 <= n197;
+							while (n199 != n198) {
+								if (!b201)
 									break;
-								byte *p201 = at(loadptr(p1 + 32), n199 * 56);
-								if (n199 >= load64(p1 + 40)) {
+								byte *p202 = at(loadptr(p1 + 32), n200 * 56);
+								if (n200 >= load64(p1 + 40)) {
 									TRAP();
 									UNREACHABLE();
 								}
-								if (load8(p201) != 1) {
+								if (load8(p202) != 1) {
 									TRAP();
 									UNREACHABLE();
 								}
-								uint64_t n202 = load64(p1 + 96);
-								uint64_t n203 = (uint64_t)load32(at(loadptr(p1 + 72), (n202 + n199) << 3) + 4);
-								store64(p201 + 48, load64(p201 + 48) - n183);
-								n198 = n198 + 1;
-								n199 = usub_sat64(n203, n202);
-								b200 = n202 <= n203;
+								uint64_t n203 = load64(p1 + 96);
+								uint64_t n204 = (uint64_t)load32(at(loadptr(p1 + 72), (n203 + n200) << 3) + 4);
+								store64(p202 + 48, load64(p202 + 48) - n184);
+								n199 = n199 + 1;
+								n200 = usub_sat64(n204, n203);
+								b201 = n203 <= n204;
 							}
-							n194 = n194 + 1;
+							n195 = n195 + 1;
 						}
-						store64(p1 + 8, load64(p1 + 8) + n193);
-						n181 = n193;
+						store64(p1 + 8, load64(p1 + 8) + n194);
+						n182 = n194;
 					}
 				}
-				n150 = n179 + n181;
+				n151 = n180 + n182;
 			}
 L6:
 			{
 				tp_timer_facility_player_hand_out(p1, p3);
-				n144 = n144 - n177;
+				n145 = n145 - n178;
 			}
 		}
-		n204 = load64(p3 + 8);
-		p205 = inside(loadptr(p3), n204 << 6);
-		store8(p205, 3);
-		store8(p205 + 1, n145);
-		memset(p205 + 8, 0, 56);
-		store64(p3 + 8, n204 + 1);
+		n205 = load64(p3 + 8);
+		p206 = inside(loadptr(p3), n205 << 6);
+		store8(p206, 3);
+		store8(p206 + 1, n146);
+		memset(p206 + 8, 0, 56);
+		store64(p3 + 8, n205 + 1);
 L5:
 		{
-			uint64_t n213;
-			uint64_t n206 = load64(p1 + 56);
-			byte *p207 = loadptr(p1 + 72);
-			uint64_t n208 = load64(p1 + 96);
-			uint64_t n209 = (uint64_t)load32(at(p207, load64(p1 + 24) << 3) + 4);
-			uint64_t n210 = usub_sat64(n209, n208);
-			uint64_t n211 = 0;
-			uint64_t n212 = n209;
+			uint64_t n214;
+			uint64_t n207 = load64(p1 + 56);
+			byte *p208 = loadptr(p1 + 72);
+			uint64_t n209 = load64(p1 + 96);
+			uint64_t n210 = (uint64_t)load32(at(p208, load64(p1 + 24) << 3) + 4);
+			uint64_t n211 = usub_sat64(n210, n209);
+			uint64_t n212 = 0;
+			uint64_t n213 = n210;
 			for (;;) {
-				if (n211 == n206) {
-					n213 = n206;
+				if (n212 == n207) {
+					n214 = n207;
 					break;
 				}
-				if (n208 > n212) {
-					n213 = n211;
+				if (n209 > n213) {
+					n214 = n212;
 					break;
 				}
-				uint64_t n214 = (uint64_t)load32(at(p207, (n208 + n210) << 3) + 4);
-				n210 = usub_sat64(n214, n208);
-				n211 = n211 + 1;
-				n212 = n214;
+				uint64_t n215 = (uint64_t)load32(at(p208, (n209 + n211) << 3) + 4);
+				n211 = usub_sat64(n215, n209);
+				n212 = n212 + 1;
+				n213 = n215;
 			}
-			if ((((n206 - n213) << 1) + 64) < load64(p1 + 1224))
+			if ((((n207 - n214) << 1) + 64) < load64(p1 + 1224))
 				tp_timer_facility_handles_sweep(p1 + 1216, p1);
 		}
 		break;
 	}
 	case 4: {
-		uint64_t n222;
-		uint64_t n215 = load64(p1 + 56);
-		byte *p216 = loadptr(p1 + 72);
-		uint64_t n217 = load64(p1 + 96);
-		uint64_t n218 = (uint64_t)load32(at(p216, load64(p1 + 24) << 3) + 4);
-		uint64_t n219 = usub_sat64(n218, n217);
-		uint64_t n220 = 0;
-		uint64_t n221 = n218;
+		uint64_t n223;
+		uint64_t n216 = load64(p1 + 56);
+		byte *p217 = loadptr(p1 + 72);
+		uint64_t n218 = load64(p1 + 96);
+		uint64_t n219 = (uint64_t)load32(at(p217, load64(p1 + 24) << 3) + 4);
+		uint64_t n220 = usub_sat64(n219, n218);
+		uint64_t n221 = 0;
+		uint64_t n222 = n219;
 		for (;;) {
-			if (n220 == n215) {
-				n222 = n215;
+			if (n221 == n216) {
+				n223 = n216;
 				break;
 			}
-			if (n217 > n221) {
-				n222 = n220;
+			if (n218 > n222) {
+				n223 = n221;
 				break;
 			}
-			uint64_t n223 = (uint64_t)load32(at(p216, (n217 + n219) << 3) + 4);
-			n219 = usub_sat64(n223, n217);
-			n220 = n220 + 1;
-			n221 = n223;
+			uint64_t n224 = (uint64_t)load32(at(p217, (n218 + n220) << 3) + 4);
+			n220 = usub_sat64(n224, n218);
+			n221 = n221 + 1;
+			n222 = n224;
 		}
-		uint64_t n224 = (n215 - n222) + 1;
-		if (n224 > load64(p3 + 16)) {
-			bool b225 = tp_std_alloc_vec_Vec_grow_amortized_6(p3, n224);
-			if (!b225)
+		uint64_t n225 = (n216 - n223) + 1;
+		if (n225 > load64(p3 + 16)) {
+			bool b226 = tp_std_alloc_vec_Vec_grow_amortized_6(p3, n225);
+			if (!b226)
 				return 1;
 		}
 		if ((load8(p1 + 1176) & 1) != 0) {
-			uint64_t n226 = load64(p3 + 8);
-			byte *p227 = inside(loadptr(p3), n226 << 6);
-			store8(p227, 5);
-			store8(p227 + 1, 0);
-			memset(p227 + 8, 0, 56);
-			store64(p3 + 8, n226 + 1);
+			uint64_t n227 = load64(p3 + 8);
+			byte *p228 = inside(loadptr(p3), n227 << 6);
+			store8(p228, 5);
+			store8(p228 + 1, 0);
+			memset(p228 + 8, 0, 56);
+			store64(p3 + 8, n227 + 1);
 		} else {
-			uint64_t n253;
-			uint8_t n228 = tp_Buckets_list_into(p1, p1 + 1184);
-			if ((n228 & 1) != 0)
+			uint64_t n254;
+			uint8_t n229 = tp_Buckets_list_into(p1, p1 + 1184);
+			if ((n229 & 1) != 0)
 				return 1;
-			uint64_t n229 = load64(p1 + 24);
-			uint64_t n230 = 0;
-			while (n230 != n229) {
-				uint64_t n231 = load64(p1 + 56);
-				uint64_t n232 = 0;
-				while (n232 != n231) {
-					byte *p233 = loadptr(p1 + 72);
-					uint64_t n234 = n230 << 3;
-					uint64_t n235 = load64(p1 + 96);
-					uint64_t n236 = (uint64_t)load32(at(p233, n234) + 4);
-					uint64_t n237 = usub_sat64(n236, n235);
-					if (n235 > n236)
+			uint64_t n230 = load64(p1 + 24);
+			uint64_t n231 = 0;
+			while (n231 != n230) {
+				uint64_t n232 = load64(p1 + 56);
+				uint64_t n233 = 0;
+				while (n233 != n232) {
+					byte *p234 = loadptr(p1 + 72);
+					uint64_t n235 = n231 << 3;
+					uint64_t n236 = load64(p1 + 96);
+					uint64_t n237 = (uint64_t)load32(at(p234, n235) + 4);
+					uint64_t n238 = usub_sat64(n237, n236);
+					if (n236 > n237)
 						break;
-					uint32_t n238 = load32(at(p233, (n235 + n237) << 3) + 4);
-					byte *p239 = at(loadptr(p1 + 32), n237 * 56);
-					uint64_t n240 = load64(p1 + 64);
-					uint8_t n241 = load8(p239);
-					store64u(p239, 0);
-					store64u(p239 + 8, n240);
-					memset(p239 + 16, 0, 40);
-					if (n241 != 1) {
+					uint32_t n239 = load32(at(p234, (n236 + n238) << 3) + 4);
+					byte *p240 = at(loadptr(p1 + 32), n238 * 56);
+					uint64_t n241 = load64(p1 + 64);
+					uint8_t n242 = load8(p240);
+					store64u(p240, 0);
+					store64u(p240 + 8, n241);
+					memset(p240 + 16, 0, 40);
+					if (n242 != 1) {
 						TRAP();
 						UNREACHABLE();
 					}
 					store64(p1 + 56, load64(p1 + 56) - 1);
-					store64(p1 + 64, n237);
-					byte *p242 = loadptr(p1 + 72);
-					store32(inside(p242, n234) + 4, n238);
-					store32(inside(p242, (uint64_t)n238 << 3), (uint32_t)n230);
-					n232 = n232 + 1;
+					store64(p1 + 64, n238);
+					byte *p243 = loadptr(p1 + 72);
+					store32(inside(p243, n235) + 4, n239);
+					store32(inside(p243, (uint64_t)n239 << 3), (uint32_t)n231);
+					n233 = n233 + 1;
 				}
-				n230 = n230 + 1;
+				n231 = n231 + 1;
 			}
 			store64(p1 + 1208, 0);
 			store8(p1 + 1176, 1);
-			uint64_t n243 = load64(p3 + 8);
-			byte *p244 = inside(loadptr(p3), n243 << 6);
-			uint64_t n245 = load64(p1 + 1192);
-			store8(p244, 4);
-			store8(p244 + 1, 0);
-			store64u(p244 + 8, n245);
-			memset(p244 + 16, 0, 48);
-			store64(p3 + 8, n243 + 1);
+			uint64_t n244 = load64(p3 + 8);
+			byte *p245 = inside(loadptr(p3), n244 << 6);
+			uint64_t n246 = load64(p1 + 1192);
+			store8(p245, 4);
+			store8(p245 + 1, 0);
+			store64u(p245 + 8, n246);
+			memset(p245 + 16, 0, 48);
+			store64(p3 + 8, n244 + 1);
 			tp_timer_facility_player_hand_out(p1, p3);
-			uint64_t n246 = load64(p1 + 56);
-			byte *p247 = loadptr(p1 + 72);
-			uint64_t n248 = load64(p1 + 96);
-			uint64_t n249 = (uint64_t)load32(at(p247, load64(p1 + 24) << 3) + 4);
-			uint64_t n250 = usub_sat64(n249, n248);
-			uint64_t n251 = 0;
-			uint64_t n252 = n249;
+			uint64_t n247 = load64(p1 + 56);
+			byte *p248 = loadptr(p1 + 72);
+			uint64_t n249 = load64(p1 + 96);
+			uint64_t n250 = (uint64_t)load32(at(p248, load64(p1 + 24) << 3) + 4);
+			uint64_t n251 = usub_sat64(n250, n249);
+			uint64_t n252 = 0;
+			uint64_t n253 = n250;
 			for (;;) {
-				if (n251 == n246) {
-					n253 = n246;
+				if (n252 == n247) {
+					n254 = n247;
 					break;
 				}
-				if (n248 > n252) {
-					n253 = n251;
+				if (n249 > n253) {
+					n254 = n252;
 					break;
 				}
-				uint64_t n254 = (uint64_t)load32(at(p247, (n248 + n250) << 3) + 4);
-				n250 = usub_sat64(n254, n248);
-				n251 = n251 + 1;
-				n252 = n254;
+				uint64_t n255 = (uint64_t)load32(at(p248, (n249 + n251) << 3) + 4);
+				n251 = usub_sat64(n255, n249);
+				n252 = n252 + 1;
+				n253 = n255;
 			}
-			if ((((n246 - n253) << 1) + 64) < load64(p1 + 1224))
+			if ((((n247 - n254) << 1) + 64) < load64(p1 + 1224))
 				tp_timer_facility_handles_sweep(p1 + 1216, p1);
 		}
 		break;
@@ -56822,8 +57309,8 @@ L5:
 		UNREACHABLE();
 	}
 	}
-	uint8_t n255 = tp_text_push_outs(p4, loadptr(p3), load64(p3 + 8));
-	return n255;
+	uint8_t n256 = tp_text_push_outs(p4, loadptr(p3), load64(p3 + 8));
+	return n256;
 }
 
 /* timer_script::script_run::play_ticks: crates/timer_script/src/script_run.rt */
@@ -59599,6 +60086,123 @@ static void tp_HierWheel_with_table(byte *p1, uint8_t n2, uint64_t n3)
 	return;
 }
 
+/* timer_facility::facility::Facility::makes_timer: crates/timer_facility/src/facility.rt */
+static bool tp_Facility_makes_timer(byte *p1, uint64_t n2, uint64_t n3, byte *p4)
+{
+	uint8_t n5 = load8(p4);
+	uint64_t n6 = load64u(p4 + 8);
+	uint64_t n7 = load64u(p4 + 16);
+	uint64_t n8 = load64u(p4 + 24);
+	if ((load8(p1 + 1312) & 1) != 0)
+		return false;
+	if (load64(p1 + 264) <= n2)
+		return false;
+	uint64_t n9 = load64(inside(p1 + 288, n2 << 3));
+	if ((int)(n3 < n9) | (int)(n9 > UINT64_C(1152921504606846975)))
+		return false;
+	if (n9 < n3)
+		return false;
+	switch (n5) {
+	case 0: {
+		uint64_t n17;
+		if (n6 == 0)
+			return false;
+		if ((load64(p1 + 8) - load64(p1 + 16)) < n6)
+			return false;
+		if (load64(p1 + 280) > UINT64_C(1152921504606846975))
+			return false;
+		uint64_t n10 = load64(p1 + 64);
+		byte *p11 = loadptr(p1 + 80);
+		uint64_t n12 = load64(p1 + 104);
+		uint64_t n13 = (uint64_t)load32(at(p11, load64(p1 + 32) << 3) + 4);
+		uint64_t n14 = usub_sat64(n13, n12);
+		uint64_t n15 = 0;
+		uint64_t n16 = n13;
+		for (;;) {
+			if (n15 == n10) {
+				n17 = n10;
+				break;
+			}
+			if (n12 > n16) {
+				n17 = n15;
+				break;
+			}
+			uint64_t n18 = (uint64_t)load32(at(p11, (n12 + n14) << 3) + 4);
+			n14 = usub_sat64(n18, n12);
+			n15 = n15 + 1;
+			n16 = n18;
+		}
+		return (n10 - n17) != load64(p1 + 272);
+	}
+	case 1: {
+		uint64_t n27;
+		uint64_t n19 = load64(p1 + 16);
+		if ((load64(p1 + 8) - n19) < umax64(usub_sat64(n6, n19), 1))
+			return false;
+		if (load64(p1 + 280) > UINT64_C(1152921504606846975))
+			return false;
+		uint64_t n20 = load64(p1 + 64);
+		byte *p21 = loadptr(p1 + 80);
+		uint64_t n22 = load64(p1 + 104);
+		uint64_t n23 = (uint64_t)load32(at(p21, load64(p1 + 32) << 3) + 4);
+		uint64_t n24 = usub_sat64(n23, n22);
+		uint64_t n25 = 0;
+		uint64_t n26 = n23;
+		for (;;) {
+			if (n25 == n20) {
+				n27 = n20;
+				break;
+			}
+			if (n22 > n26) {
+				n27 = n25;
+				break;
+			}
+			uint64_t n28 = (uint64_t)load32(at(p21, (n22 + n24) << 3) + 4);
+			n24 = usub_sat64(n28, n22);
+			n25 = n25 + 1;
+			n26 = n28;
+		}
+		return (n20 - n27) != load64(p1 + 272);
+	}
+	case 2: {
+		return false;
+	}
+	case 3: {
+		byte *p29 = at(loadptr(p1 + 40), n6 * 56);
+		if (n6 >= load64(p1 + 48))
+			return false;
+		if (load8(p29) != 1)
+			return false;
+		if (load64u(p29 + 8) != n7)
+			return false;
+		if ((int)(load64u(p29 + 16) != n2) | (int)(n8 == 0))
+			return false;
+		if ((load64(p1 + 8) - load64(p1 + 16)) < n8)
+			return false;
+		return load64(p1 + 280) < UINT64_C(1152921504606846976);
+	}
+	case 4: {
+		uint64_t n30 = load64(p1 + 16);
+		uint64_t n31 = umax64(usub_sat64(n8, n30), 1);
+		byte *p32 = at(loadptr(p1 + 40), n6 * 56);
+		if (n6 >= load64(p1 + 48))
+			return false;
+		if (load8(p32) != 1)
+			return false;
+		if (load64u(p32 + 8) != n7)
+			return false;
+		if (load64u(p32 + 16) != n2)
+			return false;
+		if ((load64(p1 + 8) - n30) < n31)
+			return false;
+		return load64(p1 + 280) < UINT64_C(1152921504606846976);
+	}
+	default: {
+		UNREACHABLE();
+	}
+	}
+}
+
 /* timer_wheels::table::bucket_of: crates/timer_wheels/src/table.rt */
 static uint64_t tp_table_bucket_of(uint8_t n1, uint64_t n2, uint64_t n3)
 {
@@ -59725,121 +60329,126 @@ static NOINLINE uint8_t tp_script_run_play_start(byte *p1, uint64_t n2, uint64_t
 	ALIGN(8) byte p8[32];
 	ALIGN(8) byte p9[16];
 	ALIGN(8) byte p10[48];
-	ALIGN(8) byte p11[16];
-	uint64_t n13;
-	byte *p14;
+	ALIGN(8) byte p11[40];
+	ALIGN(8) byte p12[16];
+	uint64_t n15;
+	byte *p16;
 	uint8_t n109, n110;
+	store64(p11, 0);
+	store64u(p11 + 8, n4);
+	store64u(p11 + 16, n5);
+	memset(p11 + 24, 0, 16);
 	if (load64(p1 + 1368) == load64(p1 + 1360)) {
-		bool b12 = tp_std_alloc_vec_Vec_grow_amortized_5(p1 + 1352);
-		if (!b12)
-			return 1;
+		bool b13 = tp_std_alloc_vec_Vec_grow_amortized_5(p1 + 1352);
+		if (!b13) {
+			bool b14 = tp_Facility_makes_timer(p1, n2, n3, p11);
+			if (b14)
+				return 1;
+		}
 	}
 	if ((load8(p1 + 1312) & 1) != 0) {
-		store64(p11, n2);
-		store64(p11 + 8, n3);
-		n13 = 6;
-		p14 = (byte *)tp_static_208;
+		store64(p12, n2);
+		store64(p12 + 8, n3);
+		n15 = 6;
+		p16 = (byte *)tp_static_208;
 	} else if (load64(p1 + 264) > n2) {
-		uint64_t n15 = n2 << 3;
-		byte *p16 = inside(p1 + 288, n15);
-		uint64_t n17 = load64(p16);
-		if (n3 < n17) {
-			store64(p11, n2);
-			store64(p11 + 8, n3);
-			n13 = 8;
-			p14 = (byte *)tp_static_219;
-		} else if (n17 > UINT64_C(1152921504606846975)) {
-			store64(p11, n2);
-			store64(p11 + 8, n3);
-			n13 = 13;
-			p14 = (byte *)tp_static_220;
+		uint64_t n17 = n2 << 3;
+		byte *p18 = inside(p1 + 288, n17);
+		uint64_t n19 = load64(p18);
+		if (n3 < n19) {
+			store64(p12, n2);
+			store64(p12 + 8, n3);
+			n15 = 8;
+			p16 = (byte *)tp_static_219;
+		} else if (n19 > UINT64_C(1152921504606846975)) {
+			store64(p12, n2);
+			store64(p12 + 8, n3);
+			n15 = 13;
+			p16 = (byte *)tp_static_220;
 		} else {
-			if (n17 >= n3) {
-				uint8_t n18, n53, n54;
+			if (n19 >= n3) {
+				uint8_t n20, n53, n54;
 				uint64_t n52, n55;
 				if (n4 == 0) {
-					n18 = 0;
+					n20 = 0;
 				} else {
-					uint64_t n19 = load64(p1 + 16);
-					if ((load64(p1 + 8) - n19) < n4) {
-						n18 = 1;
+					uint64_t n21 = load64(p1 + 16);
+					if ((load64(p1 + 8) - n21) < n4) {
+						n20 = 1;
 					} else {
-						uint64_t n20 = load64(p1 + 280);
-						if (n20 > UINT64_C(1152921504606846975)) {
-							n18 = 2;
+						uint64_t n22 = load64(p1 + 280);
+						if (n22 > UINT64_C(1152921504606846975)) {
+							n20 = 2;
 						} else {
-							uint64_t n29;
-							uint64_t n21 = load64(p1 + 64);
-							uint64_t n22 = load64(p1 + 32);
-							byte *p23 = loadptr(p1 + 80);
-							uint64_t n24 = load64(p1 + 104);
-							uint64_t n25 = (uint64_t)load32(at(p23, n22 << 3) + 4);
-							uint64_t n26 = usub_sat64(n25, n24);
-							uint64_t n27 = 0;
-							uint64_t n28 = n25;
+							uint64_t n31;
+							uint64_t n23 = load64(p1 + 64);
+							uint64_t n24 = load64(p1 + 32);
+							byte *p25 = loadptr(p1 + 80);
+							uint64_t n26 = load64(p1 + 104);
+							uint64_t n27 = (uint64_t)load32(at(p25, n24 << 3) + 4);
+							uint64_t n28 = usub_sat64(n27, n26);
+							uint64_t n29 = 0;
+							uint64_t n30 = n27;
 							for (;;) {
-								if (n27 == n21) {
-									n29 = n21;
+								if (n29 == n23) {
+									n31 = n23;
 									break;
 								}
-								if (n24 > n28) {
-									n29 = n27;
+								if (n26 > n30) {
+									n31 = n29;
 									break;
 								}
-								uint64_t n30 = (uint64_t)load32(at(p23, (n24 + n26) << 3) + 4);
-								n26 = usub_sat64(n30, n24);
-								n27 = n27 + 1;
-								n28 = n30;
+								uint64_t n32 = (uint64_t)load32(at(p25, (n26 + n28) << 3) + 4);
+								n28 = usub_sat64(n32, n26);
+								n29 = n29 + 1;
+								n30 = n32;
 							}
-							if ((n21 - n29) != load64(p1 + 272)) {
-								uint64_t n34;
-								uint64_t n31 = n19 + n4;
-								bool b32 = n19 < n31;
-								if (b32) {
-									uint64_t n33 = tp_table_bucket_of(load8(p1), n19, n31);
-									n34 = n33;
+							if ((n23 - n31) != load64(p1 + 272)) {
+								uint64_t n36;
+								uint64_t n33 = n21 + n4;
+								bool b34 = n21 < n33;
+								if (b34) {
+									uint64_t n35 = tp_table_bucket_of(load8(p1), n21, n33);
+									n36 = n35;
 								} else {
-									n34 = n22;
+									n36 = n24;
 								}
-								store64u(p10, n20);
+								store64u(p10, n22);
 								store64u(p10 + 8, n2);
 								store64u(p10 + 16, n3);
-								store64u(p10 + 24, n31);
+								store64u(p10 + 24, n33);
 								store64u(p10 + 32, n5);
 								store64u(p10 + 40, 0);
 								if (load64(p1 + 72) >= load64(p1 + 120)) {
-									uint8_t n35 = tp_links_make_ready(p1 + 40, p1 + 80, n24, load64(p1 + 112));
-									if ((n35 & 1) != 0)
+									uint8_t n37 = tp_links_make_ready(p1 + 40, p1 + 80, n26, load64(p1 + 112));
+									if ((n37 & 1) != 0)
 										return 1;
-									store64(p1 + 120, umin64(load64(p1 + 88) - n24, load64(p1 + 56)));
+									store64(p1 + 120, umin64(load64(p1 + 88) - n26, load64(p1 + 56)));
 								}
-								uint64_t n36 = tp_Slab_insert_reserved(p1 + 40, p10);
-								uint64_t n37 = load64(p1 + 104) + n36;
-								byte *p38 = loadptr(p1 + 80);
-								byte *p39 = inside(p38, n34 << 3);
-								uint32_t n40 = load32(p39);
-								uint32_t n41 = (uint32_t)n37;
-								store32(inside(p38, (uint64_t)n40 << 3) + 4, n41);
-								byte *p42 = inside(p38, n37 << 3);
-								store32(p42, n40);
-								store32(p42 + 4, (uint32_t)n34);
-								store32(p39, n41);
-								store64(p1 + 24, n20);
-								uint8_t n43 = load8(p1);
-								if (b32) {
-									byte *p44 = inside(p1 + 128, (n34 >> 6) << 3);
-									uint64_t n45 = load64(p44);
-									uint64_t n46 = (uint64_t)1 << (n34 & 63);
-									if ((n45 & n46) == 0)
-										store64(p44, n45 | n46);
+								uint64_t n38 = tp_Slab_insert_reserved(p1 + 40, p10);
+								uint64_t n39 = load64(p1 + 104) + n38;
+								byte *p40 = loadptr(p1 + 80);
+								byte *p41 = inside(p40, n36 << 3);
+								uint32_t n42 = load32(p41);
+								uint32_t n43 = (uint32_t)n39;
+								store32(inside(p40, (uint64_t)n42 << 3) + 4, n43);
+								byte *p44 = inside(p40, n39 << 3);
+								store32(p44, n42);
+								store32(p44 + 4, (uint32_t)n36);
+								store32(p41, n43);
+								store64(p1 + 24, n22);
+								uint8_t n45 = load8(p1);
+								if (b34) {
+									byte *p46 = inside(p1 + 128, (n36 >> 3) & 536870904);
+									store64(p46, load64(p46) | ((uint64_t)1 << (n36 & 63)));
 									if ((load8(p1 + 232) & 1) != 0) {
-										if ((uint64_t)((n43 == 0) ? 64 : 60) <= n34) {
-											byte *p47 = at(loadptr(p1 + 208), n34 << 4);
+										if ((uint64_t)((n45 == 0) ? 64 : 60) <= n36) {
+											byte *p47 = at(loadptr(p1 + 208), n36 << 4);
 											uint64_t n48 = load64(p47);
-											if (n31 < n48) {
-												store64(p47, n31);
+											if (n33 < n48) {
+												store64(p47, n33);
 												store64(p47 + 8, 1);
-											} else if (n31 == n48) {
+											} else if (n33 == n48) {
 												store64(p47 + 8, load64(p47 + 8) + 1);
 											}
 										}
@@ -59847,27 +60456,27 @@ static NOINLINE uint8_t tp_script_run_play_start(byte *p1, uint64_t n2, uint64_t
 								}
 								store64(p1 + 240, load64(p1 + 240) + 1);
 								store64(p1 + 280, load64(p1 + 280) + 1);
-								byte *p49 = inside(p1 + 800, n15);
+								byte *p49 = inside(p1 + 800, n17);
 								store64(p49, load64(p49) + 1);
-								store64(p16, n3 + 1);
+								store64(p18, n3 + 1);
 								uint64_t n50 = load64(p1 + 1360);
 								byte *p51 = inside(loadptr(p1 + 1352), n50 << 4);
-								store64u(p51, n36);
-								store64u(p51 + 8, n20);
+								store64u(p51, n38);
+								store64u(p51 + 8, n22);
 								store64(p1 + 1360, n50 + 1);
-								n52 = n31;
+								n52 = n33;
 								n53 = 0;
 								n54 = 0;
-								n55 = n20;
+								n55 = n22;
 								goto L1;
 							}
-							n18 = 3;
+							n20 = 3;
 						}
 					}
 				}
-				store64(p16, n3 + 1);
+				store64(p18, n3 + 1);
 				n52 = 0;
-				n53 = n18;
+				n53 = n20;
 				n54 = 3;
 				n55 = 0;
 L1:
@@ -59897,7 +60506,7 @@ L1:
 					}
 					if ((((n56 - n63) << 1) + 64) < load64(p1 + 1360))
 						tp_handles_sweep(p1 + 1352, p1);
-					memset(p11, 0, 16);
+					memset(p12, 0, 16);
 					memset(p9, 0, 16);
 					if (n54 == 0) {
 						uint64_t n94;
@@ -60059,18 +60668,18 @@ L3:
 					goto L5;
 				}
 			}
-			store64(p11, n2);
-			store64(p11 + 8, n3);
-			n13 = 5;
-			p14 = (byte *)tp_static_221;
+			store64(p12, n2);
+			store64(p12 + 8, n3);
+			n15 = 5;
+			p16 = (byte *)tp_static_221;
 		}
 	} else {
-		store64(p11, n2);
-		store64(p11 + 8, n3);
-		n13 = 9;
-		p14 = (byte *)tp_static_218;
+		store64(p12, n2);
+		store64(p12 + 8, n3);
+		n15 = 9;
+		p16 = (byte *)tp_static_218;
 	}
-	n110 = tp_text_push_refused(p6, (byte *)tp_static_203, 7, p11, 2, p14, n13);
+	n110 = tp_text_push_refused(p6, (byte *)tp_static_203, 7, p12, 2, p16, n15);
 	n109 = n110;
 L5:
 	{
@@ -60252,355 +60861,336 @@ L1:
 	}
 L2:
 	{
-		uint64_t n25;
-		byte *p26;
-		uint8_t n88, n89;
-		if (load64(p1 + 1368) == n12) {
-			bool b24 = tp_std_alloc_vec_Vec_grow_amortized_5(p1 + 1352);
-			if (!b24)
-				return 1;
-		}
+		uint64_t n24;
+		byte *p25;
 		if ((load8(p1 + 1312) & 1) != 0) {
 			store64(p10, n2);
 			store64(p10 + 8, n3);
-			n25 = 6;
-			p26 = (byte *)tp_static_208;
+			n24 = 6;
+			p25 = (byte *)tp_static_208;
 		} else if (load64(p1 + 264) > n2) {
-			uint64_t n27 = n2 << 3;
-			byte *p28 = inside(p1 + 288, n27);
-			uint64_t n29 = load64(p28);
-			if (n3 < n29) {
+			uint64_t n26 = n2 << 3;
+			byte *p27 = inside(p1 + 288, n26);
+			uint64_t n28 = load64(p27);
+			if (n3 < n28) {
 				store64(p10, n2);
 				store64(p10 + 8, n3);
-				n25 = 8;
-				p26 = (byte *)tp_static_219;
-			} else if (n29 > UINT64_C(1152921504606846975)) {
+				n24 = 8;
+				p25 = (byte *)tp_static_219;
+			} else if (n28 > UINT64_C(1152921504606846975)) {
 				store64(p10, n2);
 				store64(p10 + 8, n3);
-				n25 = 13;
-				p26 = (byte *)tp_static_220;
+				n24 = 13;
+				p25 = (byte *)tp_static_220;
 			} else {
-				if (n29 >= n3) {
-					uint64_t n32, n42;
-					uint8_t n33, n34, n47;
-					byte *p30 = at(loadptr(p1 + 40), n15 * 56);
+				if (n28 >= n3) {
+					uint64_t n31, n32, n40;
+					uint8_t n45;
+					byte *p29 = at(loadptr(p1 + 40), n15 * 56);
 					if (n15 < load64(p1 + 48)) {
-						if (load8(p30) == 1) {
-							if (load64u(p30 + 8) == n4) {
-								if (load64u(p30 + 16) == n2) {
+						if (load8(p29) == 1) {
+							if (load64u(p29 + 8) == n4) {
+								if (load64u(p29 + 16) == n2) {
 									tp_HierWheelWheel_stop(p9, p1, n15, n4);
-									byte *p31 = inside(p1 + 800, n27);
-									store64(p31, load64(p31) - 1);
-									n32 = n4;
-									n33 = 0;
-									n34 = 1;
+									byte *p30 = inside(p1 + 800, n26);
+									store64(p30, load64(p30) - 1);
+									n31 = n4;
+									n32 = 1;
 								} else {
-									n32 = 0;
-									n33 = 4;
-									n34 = 3;
+									n31 = 0;
+									n32 = 1027;
 								}
 							} else {
-								n32 = 0;
-								n33 = 4;
-								n34 = 3;
+								n31 = 0;
+								n32 = 1027;
 							}
 						} else {
-							n32 = 0;
-							n33 = 4;
-							n34 = 3;
+							n31 = 0;
+							n32 = 1027;
 						}
 					} else {
-						n32 = 0;
-						n33 = 4;
-						n34 = 3;
+						n31 = 0;
+						n32 = 1027;
 					}
-					store64(p28, n3 + 1);
-					uint64_t n35 = load64(p1 + 64);
-					byte *p36 = loadptr(p1 + 80);
-					uint64_t n37 = load64(p1 + 104);
-					uint64_t n38 = (uint64_t)load32(at(p36, load64(p1 + 32) << 3) + 4);
-					uint64_t n39 = usub_sat64(n38, n37);
-					uint64_t n40 = 0;
-					uint64_t n41 = n38;
+					store64(p27, n3 + 1);
+					uint64_t n33 = load64(p1 + 64);
+					byte *p34 = loadptr(p1 + 80);
+					uint64_t n35 = load64(p1 + 104);
+					uint64_t n36 = (uint64_t)load32(at(p34, load64(p1 + 32) << 3) + 4);
+					uint64_t n37 = usub_sat64(n36, n35);
+					uint64_t n38 = 0;
+					uint64_t n39 = n36;
 					for (;;) {
-						if (n40 == n35) {
-							n42 = n35;
+						if (n38 == n33) {
+							n40 = n33;
 							break;
 						}
-						if (n37 > n41) {
-							n42 = n40;
+						if (n35 > n39) {
+							n40 = n38;
 							break;
 						}
-						uint64_t n43 = (uint64_t)load32(at(p36, (n37 + n39) << 3) + 4);
-						n39 = usub_sat64(n43, n37);
-						n40 = n40 + 1;
-						n41 = n43;
+						uint64_t n41 = (uint64_t)load32(at(p34, (n35 + n37) << 3) + 4);
+						n37 = usub_sat64(n41, n35);
+						n38 = n38 + 1;
+						n39 = n41;
 					}
-					if ((((n35 - n42) << 1) + 64) < load64(p1 + 1360))
+					if ((((n33 - n40) << 1) + 64) < load64(p1 + 1360))
 						tp_handles_sweep(p1 + 1352, p1);
 					memset(p10, 0, 16);
 					memset(p8, 0, 16);
-					if (n34 == 3) {
-						uint64_t n44;
-						byte *p45;
+					if ((uint8_t)n32 == 3) {
+						uint64_t n42;
+						byte *p43;
 						store64(p8, n2);
 						store64(p8 + 8, n3);
-						if (n33 == 0) {
-							n44 = 13;
-							p45 = (byte *)tp_static_213;
+						if ((uint8_t)(n32 >> 8) == 0) {
+							n42 = 13;
+							p43 = (byte *)tp_static_213;
 						} else {
-							n44 = 7;
-							p45 = (byte *)tp_static_217;
+							n42 = 7;
+							p43 = (byte *)tp_static_217;
 						}
-						uint8_t n46 = tp_text_push_refused(p5, (byte *)tp_static_203, 7, p8, 2, p45, n44);
-						n47 = n46;
+						uint8_t n44 = tp_text_push_refused(p5, (byte *)tp_static_203, 7, p8, 2, p43, n42);
+						n45 = n44;
 					} else {
-						uint64_t n77;
+						uint64_t n75;
 						store64(p7, n2);
 						store64(p7 + 8, n3);
-						store64(p7 + 16, n32);
+						store64(p7 + 16, n31);
 						memset(p6, 0, 117);
 						store8(p6 + 117, 10);
-						uint64_t n48 = 3;
-						uint64_t n49 = 117;
-						while (n48 != 0) {
-							uint64_t n61;
-							uint64_t n50 = n48 - 1;
-							uint64_t n51 = load64(inside(p7, n50 << 3));
-							uint64_t n52 = n49;
-							while (n51 > 9999) {
-								uint16_t n53 = (uint16_t)(n51 % 10000);
-								byte *p54 = inside((byte *)tp_static_224, (uint64_t)(uint16_t)((uint32_t)(uint16_t)(n53 % 100) << 1));
-								byte *p55 = at(p6, n52);
-								uint8_t n56 = load8(p54 + 1);
-								store8(at(p55, UINT64_C(18446744073709551614)), load8(p54));
-								store8(at(p55, UINT64_MAX), n56);
-								uint64_t n57 = n52 - 4;
-								byte *p58 = inside((byte *)tp_static_224, (uint64_t)(uint16_t)((uint32_t)(uint16_t)(n53 / 100) << 1));
-								uint8_t n59 = load8(p58 + 1);
-								store8(inside(p6, n57), load8(p58));
-								store8(at(p55, UINT64_C(18446744073709551613)), n59);
-								n51 = n51 / 10000;
-								n52 = n57;
+						uint64_t n46 = 3;
+						uint64_t n47 = 117;
+						while (n46 != 0) {
+							uint64_t n59;
+							uint64_t n48 = n46 - 1;
+							uint64_t n49 = load64(inside(p7, n48 << 3));
+							uint64_t n50 = n47;
+							while (n49 > 9999) {
+								uint16_t n51 = (uint16_t)(n49 % 10000);
+								byte *p52 = inside((byte *)tp_static_224, (uint64_t)(uint16_t)((uint32_t)(uint16_t)(n51 % 100) << 1));
+								byte *p53 = at(p6, n50);
+								uint8_t n54 = load8(p52 + 1);
+								store8(at(p53, UINT64_C(18446744073709551614)), load8(p52));
+								store8(at(p53, UINT64_MAX), n54);
+								uint64_t n55 = n50 - 4;
+								byte *p56 = inside((byte *)tp_static_224, (uint64_t)(uint16_t)((uint32_t)(uint16_t)(n51 / 100) << 1));
+								uint8_t n57 = load8(p56 + 1);
+								store8(inside(p6, n55), load8(p56));
+								store8(at(p53, UINT64_C(18446744073709551613)), n57);
+								n49 = n49 / 10000;
+								n50 = n55;
 							}
-							if (n51 < 100) {
-								if (n51 < 10) {
-									uint64_t n60 = n52 - 1;
-									store8(inside(p6, n60), (uint8_t)((uint8_t)n51 | 48));
-									n61 = n60;
+							if (n49 < 100) {
+								if (n49 < 10) {
+									uint64_t n58 = n50 - 1;
+									store8(inside(p6, n58), (uint8_t)((uint8_t)n49 | 48));
+									n59 = n58;
 								} else {
-									uint64_t n62 = n52 - 2;
-									byte *p63 = inside((byte *)tp_static_224, n51 << 1);
-									uint8_t n64 = load8(p63 + 1);
-									store8(inside(p6, n62), load8(p63));
-									store8(at(at(p6, n52), UINT64_MAX), n64);
-									n61 = n62;
+									uint64_t n60 = n50 - 2;
+									byte *p61 = inside((byte *)tp_static_224, n49 << 1);
+									uint8_t n62 = load8(p61 + 1);
+									store8(inside(p6, n60), load8(p61));
+									store8(at(at(p6, n50), UINT64_MAX), n62);
+									n59 = n60;
 								}
 							} else {
-								uint16_t n65 = (uint16_t)n51;
-								byte *p66 = inside((byte *)tp_static_224, (uint64_t)(uint16_t)((uint32_t)(uint16_t)(n65 % 100) << 1));
-								byte *p67 = at(p6, n52);
-								uint8_t n68 = load8(p66 + 1);
-								store8(at(p67, UINT64_C(18446744073709551614)), load8(p66));
-								store8(at(p67, UINT64_MAX), n68);
-								uint16_t n69 = (uint16_t)(n65 / 100);
-								if (n51 < 1000) {
-									uint64_t n70 = n52 - 3;
-									store8(inside(p6, n70), (uint8_t)((uint8_t)n69 | 48));
-									n61 = n70;
+								uint16_t n63 = (uint16_t)n49;
+								byte *p64 = inside((byte *)tp_static_224, (uint64_t)(uint16_t)((uint32_t)(uint16_t)(n63 % 100) << 1));
+								byte *p65 = at(p6, n50);
+								uint8_t n66 = load8(p64 + 1);
+								store8(at(p65, UINT64_C(18446744073709551614)), load8(p64));
+								store8(at(p65, UINT64_MAX), n66);
+								uint16_t n67 = (uint16_t)(n63 / 100);
+								if (n49 < 1000) {
+									uint64_t n68 = n50 - 3;
+									store8(inside(p6, n68), (uint8_t)((uint8_t)n67 | 48));
+									n59 = n68;
 								} else {
-									uint64_t n71 = n52 - 4;
-									byte *p72 = inside((byte *)tp_static_224, (uint64_t)(uint16_t)((uint32_t)n69 << 1));
-									uint8_t n73 = load8(p72 + 1);
-									store8(inside(p6, n71), load8(p72));
-									store8(at(p67, UINT64_C(18446744073709551613)), n73);
-									n61 = n71;
+									uint64_t n69 = n50 - 4;
+									byte *p70 = inside((byte *)tp_static_224, (uint64_t)(uint16_t)((uint32_t)n67 << 1));
+									uint8_t n71 = load8(p70 + 1);
+									store8(inside(p6, n69), load8(p70));
+									store8(at(p65, UINT64_C(18446744073709551613)), n71);
+									n59 = n69;
 								}
 							}
-							uint64_t n74 = n61 - 1;
-							store8(inside(p6, n74), 32);
-							n48 = n50;
-							n49 = n74;
+							uint64_t n72 = n59 - 1;
+							store8(inside(p6, n72), 32);
+							n46 = n48;
+							n47 = n72;
 						}
-						byte *p75 = at(at(p6, n49), UINT64_C(18446744073709551609));
-						uint64_t n76 = (uint64_t)(uintptr_t)p75;
-						if ((n76 - (uint64_t)(uintptr_t)(byte *)tp_static_211) >= 7) {
-							memcpy(p75, (byte *)tp_static_211, 7);
+						byte *p73 = at(at(p6, n47), UINT64_C(18446744073709551609));
+						uint64_t n74 = (uint64_t)(uintptr_t)p73;
+						if ((n74 - (uint64_t)(uintptr_t)(byte *)tp_static_211) >= 7) {
+							memcpy(p73, (byte *)tp_static_211, 7);
 							goto L3;
 						}
-						n77 = 0;
-						while (n77 != 7) {
-							store8(inside(p75, n77), load8(inside((byte *)tp_static_211, n77)));
-							n77 = n77 + 1;
+						n75 = 0;
+						while (n75 != 7) {
+							store8(inside(p73, n75), load8(inside((byte *)tp_static_211, n75)));
+							n75 = n75 + 1;
 						}
 L3:
 						{
-							uint64_t n82, n83, n87;
-							uint8_t n84;
-							byte *p85, *p86;
-							uint64_t n78 = 125 - n49;
-							uint64_t n79 = load64(p5 + 16);
-							uint64_t n80 = load64(p5 + 8);
-							if (n78 > (n79 - n80)) {
-								bool b81 = tp_std_alloc_vec_Vec_grow_amortized_9(p5, n78);
-								if (!b81) {
-									n84 = 1;
+							uint64_t n80, n81, n85;
+							uint8_t n82;
+							byte *p83, *p84;
+							uint64_t n76 = 125 - n47;
+							uint64_t n77 = load64(p5 + 16);
+							uint64_t n78 = load64(p5 + 8);
+							if (n76 > (n77 - n78)) {
+								bool b79 = tp_std_alloc_vec_Vec_grow_amortized_9(p5, n76);
+								if (!b79) {
+									n82 = 1;
 									goto L4;
 								}
-								n82 = load64(p5 + 16);
-								n83 = load64(p5 + 8);
+								n80 = load64(p5 + 16);
+								n81 = load64(p5 + 8);
 							} else {
-								n82 = n79;
-								n83 = n80;
+								n80 = n77;
+								n81 = n78;
 							}
-							p85 = loadptr(p5);
-							p86 = at(p85, n83);
-							if (((uint64_t)(uintptr_t)p86 - n76) >= n78) {
-								memcpy(p86, p75, (size_t)n78);
+							p83 = loadptr(p5);
+							p84 = at(p83, n81);
+							if (((uint64_t)(uintptr_t)p84 - n74) >= n76) {
+								memcpy(p84, p73, (size_t)n76);
 								goto L5;
 							}
-							n87 = 0;
-							while (n87 != n78) {
-								store8(inside(p86, n87), load8(inside(p75, n87)));
-								n87 = n87 + 1;
+							n85 = 0;
+							while (n85 != n76) {
+								store8(inside(p84, n85), load8(inside(p73, n85)));
+								n85 = n85 + 1;
 							}
 L5:
 							{
-								storeptr(p5, p85);
-								store64(p5 + 8, n83 + n78);
-								store64(p5 + 16, n82);
-								n84 = 0;
+								storeptr(p5, p83);
+								store64(p5 + 8, n81 + n76);
+								store64(p5 + 16, n80);
+								n82 = 0;
 							}
 L4:
 							{
-								n47 = n84;
+								n45 = n82;
 							}
 						}
 					}
-					n88 = n47;
-					goto L6;
+					return n45;
 				}
 				store64(p10, n2);
 				store64(p10 + 8, n3);
-				n25 = 5;
-				p26 = (byte *)tp_static_221;
+				n24 = 5;
+				p25 = (byte *)tp_static_221;
 			}
 		} else {
 			store64(p10, n2);
 			store64(p10 + 8, n3);
-			n25 = 9;
-			p26 = (byte *)tp_static_218;
+			n24 = 9;
+			p25 = (byte *)tp_static_218;
 		}
-		n89 = tp_text_push_refused(p5, (byte *)tp_static_203, 7, p10, 2, p26, n25);
-		n88 = n89;
-L6:
-		{
-			return n88;
-		}
+		uint8_t n86 = tp_text_push_refused(p5, (byte *)tp_static_203, 7, p10, 2, p25, n24);
+		return n86;
 	}
 }
 
 /* timer_facility::facility::Facility::take_restart: crates/timer_facility/src/facility.rt */
-static void tp_Facility_take_restart(byte *p1, byte *p2, uint64_t n3, uint64_t n4, uint64_t n5, uint64_t n6, uint64_t n7, uint64_t n8)
+static void tp_Facility_take_restart(byte *p1, byte *p2, uint64_t n3, uint64_t n4, uint64_t n5, uint64_t n6, uint64_t n7, uint64_t n8, uint64_t n9)
 {
-	byte *p9 = at(loadptr(p2 + 40), n5 * 56);
+	byte *p10 = at(loadptr(p2 + 40), n5 * 56);
 	if (n5 < load64(p2 + 48)) {
-		if (load8(p9) == 1) {
-			if (load64u(p9 + 8) == n6) {
-				if (load64u(p9 + 16) == n3) {
-					uint8_t n10;
+		if (load8(p10) == 1) {
+			if (load64u(p10 + 8) == n6) {
+				if (load64u(p10 + 16) == n3) {
+					uint8_t n11;
 					if (n7 == 0) {
-						n10 = 0;
+						n11 = 0;
 					} else {
-						uint64_t n11 = load64(p2 + 16);
-						if ((load64(p2 + 8) - n11) < n7) {
-							n10 = 1;
+						uint64_t n12 = load64(p2 + 16);
+						if ((load64(p2 + 8) - n12) < n7) {
+							n11 = 1;
 						} else {
-							uint64_t n12 = load64(p2 + 280);
-							if (n12 <= UINT64_C(1152921504606846975)) {
-								uint64_t n16;
-								uint64_t n13 = n11 + n7;
-								bool b14 = n11 < n13;
-								if (b14) {
+							uint64_t n13 = load64(p2 + 280);
+							if (n13 <= UINT64_C(1152921504606846975)) {
+								uint64_t n17;
+								uint64_t n14 = n12 + n8;
+								bool b15 = n12 < n14;
+								if (b15) {
 									if (load8(p2) == 0) {
-										uint32_t n15 = ((uint32_t)ctlz64(n11 ^ n13) ^ 62) / 6;
-										n16 = ((n13 >> ((uint64_t)(n15 * 6) & 63)) & 63) | (uint64_t)(n15 << 6);
+										uint32_t n16 = (63 - (uint32_t)ctlz64(n12 ^ n14)) / 6;
+										n17 = ((uint64_t)n16 << 6) | ((n14 >> ((uint64_t)(n16 * 6) & 63)) & 63);
 									} else {
-										uint64_t n17 = n13 / 60;
-										if ((n11 / 60) == n17) {
-											n16 = n13 % 60;
+										uint64_t n18 = n14 / 60;
+										if ((n12 / 60) == n18) {
+											n17 = n14 % 60;
 										} else {
-											uint64_t n18 = n13 / 3600;
-											if ((n11 / 3600) == n18) {
-												n16 = (n17 % 60) + 60;
+											uint64_t n19 = n14 / 3600;
+											if ((n12 / 3600) == n19) {
+												n17 = (n18 % 60) + 60;
 											} else {
-												uint64_t n19 = n13 / 86400;
-												if ((n11 / 86400) == n19) {
-													n16 = (n18 % 24) + 120;
+												uint64_t n20 = n14 / 86400;
+												if ((n12 / 86400) == n20) {
+													n17 = (n19 % 24) + 120;
 												} else {
-													n16 = n19 + 144;
+													n17 = n20 + 144;
 												}
 											}
 										}
 									}
 								} else {
-									n16 = load64(p2 + 32);
+									n17 = load64(p2 + 32);
 								}
-								uint64_t n20 = load64u(p9 + 32);
-								store64u(p9 + 8, n12);
-								store64u(p9 + 16, n3);
-								store64u(p9 + 24, n4);
-								store64u(p9 + 32, n13);
-								store64u(p9 + 40, n8);
-								store64u(p9 + 48, 0);
-								uint64_t n21 = load64(p2 + 104) + n5;
-								byte *p22 = loadptr(p2 + 80);
-								byte *p23 = at(p22, n21 << 3);
-								uint32_t n24 = load32(p23);
-								uint32_t n25 = load32(p23 + 4);
-								uint64_t n26 = (uint64_t)n24;
-								store32(inside(p22, n26 << 3) + 4, n25);
-								store32(inside(p22, (uint64_t)n25 << 3), n24);
-								byte *p27 = inside(p22, n16 << 3);
-								uint32_t n28 = load32(p27);
-								uint32_t n29 = (uint32_t)n21;
-								store32(inside(p22, (uint64_t)n28 << 3) + 4, n29);
-								store32(p23, n28);
-								store32(p23 + 4, (uint32_t)n16);
-								store32(p27, n29);
-								bool b30 = n24 == n25;
-								uint64_t n31 = b30 ? n26 : 0;
-								store64(p2 + 24, n12);
-								uint8_t n32 = load8(p2);
-								if (b30) {
-									if (n11 < n20) {
-										byte *p33 = inside(p2 + 128, (n31 >> 3) & 536870904);
-										store64(p33, load64(p33) & (((uint64_t)1 << (n31 & 63)) ^ UINT64_MAX));
+								uint64_t n21 = load64u(p10 + 32);
+								store64u(p10 + 8, n13);
+								store64u(p10 + 16, n3);
+								store64u(p10 + 24, n4);
+								store64u(p10 + 32, n14);
+								store64u(p10 + 40, n9);
+								store64u(p10 + 48, 0);
+								uint64_t n22 = load64(p2 + 104) + n5;
+								byte *p23 = loadptr(p2 + 80);
+								byte *p24 = at(p23, n22 << 3);
+								uint32_t n25 = load32(p24);
+								uint32_t n26 = load32(p24 + 4);
+								uint64_t n27 = (uint64_t)n25;
+								store32(inside(p23, n27 << 3) + 4, n26);
+								store32(inside(p23, (uint64_t)n26 << 3), n25);
+								byte *p28 = inside(p23, n17 << 3);
+								uint32_t n29 = load32(p28);
+								uint32_t n30 = (uint32_t)n22;
+								store32(inside(p23, (uint64_t)n29 << 3) + 4, n30);
+								store32(p24, n29);
+								store32(p24 + 4, (uint32_t)n17);
+								store32(p28, n30);
+								bool b31 = n25 == n26;
+								uint64_t n32 = b31 ? n27 : 0;
+								store64(p2 + 24, n13);
+								uint8_t n33 = load8(p2);
+								if (b31) {
+									if (n12 < n21) {
+										byte *p34 = inside(p2 + 128, (n32 >> 3) & 536870904);
+										store64(p34, load64(p34) & (((uint64_t)1 << (n32 & 63)) ^ UINT64_MAX));
 										if ((load8(p2 + 232) & 1) != 0) {
-											byte *p34 = at(loadptr(p2 + 208), n31 << 4);
-											store64u(p34, UINT64_MAX);
-											store64u(p34 + 8, 0);
+											byte *p35 = at(loadptr(p2 + 208), n32 << 4);
+											store64u(p35, UINT64_MAX);
+											store64u(p35 + 8, 0);
 										}
 									}
 								} else if ((load8(p2 + 232) & 1) != 0) {
-									tp_firsts_leave_bucket(loadptr(p2 + 208), n32, n11, n20);
+									tp_firsts_leave_bucket(loadptr(p2 + 208), n33, n12, n21);
 								}
-								uint8_t n35 = load8(p2);
-								if (b14) {
-									byte *p36 = inside(p2 + 128, (n16 >> 6) << 3);
-									uint64_t n37 = load64(p36);
-									uint64_t n38 = (uint64_t)1 << (n16 & 63);
-									if ((n37 & n38) == 0)
-										store64(p36, n37 | n38);
+								uint8_t n36 = load8(p2);
+								if (b15) {
+									byte *p37 = inside(p2 + 128, (n17 >> 3) & 536870904);
+									store64(p37, load64(p37) | ((uint64_t)1 << (n17 & 63)));
 									if ((load8(p2 + 232) & 1) != 0) {
-										if ((uint64_t)((n35 == 0) ? 64 : 60) <= n16) {
-											byte *p39 = at(loadptr(p2 + 208), n16 << 4);
-											uint64_t n40 = load64(p39);
-											if (n13 < n40) {
-												store64(p39, n13);
-												store64(p39 + 8, 1);
-											} else if (n13 == n40) {
-												store64(p39 + 8, load64(p39 + 8) + 1);
+										if ((uint64_t)((n36 == 0) ? 64 : 60) <= n17) {
+											byte *p38 = at(loadptr(p2 + 208), n17 << 4);
+											uint64_t n39 = load64(p38);
+											if (n14 < n39) {
+												store64(p38, n14);
+												store64(p38 + 8, 1);
+											} else if (n14 == n39) {
+												store64(p38 + 8, load64(p38 + 8) + 1);
 											}
 										}
 									}
@@ -60610,16 +61200,16 @@ static void tp_Facility_take_restart(byte *p1, byte *p2, uint64_t n3, uint64_t n
 								store8(p1, 2);
 								store8(p1 + 1, 0);
 								store64u(p1 + 8, n5);
-								store64u(p1 + 16, n12);
-								store64u(p1 + 24, n13);
+								store64u(p1 + 16, n13);
+								store64u(p1 + 24, n14);
 								store64u(p1 + 32, n6);
 								return;
 							}
-							n10 = 2;
+							n11 = 2;
 						}
 					}
 					store8(p1, 3);
-					store8(p1 + 1, n10);
+					store8(p1 + 1, n11);
 					memset(p1 + 8, 0, 32);
 					return;
 				}
@@ -60643,60 +61233,61 @@ static NOINLINE uint8_t tp_script_run_play_restart(byte *p1, uint64_t n2, uint64
 	ALIGN(8) byte p13[40];
 	ALIGN(8) byte p14[16];
 	ALIGN(8) byte p15[40];
-	ALIGN(8) byte p16[16];
-	uint64_t n21;
-	byte *p17 = loadptr(p1 + 1352);
-	uint64_t n18 = load64(p1 + 1360);
-	if (n18 != 0) {
-		uint64_t n19 = load64(at(at(p17, n18 << 4), UINT64_C(18446744073709551608))) - n4;
-		if (n18 > n19) {
-			byte *p20 = inside(p17, (n18 + (n19 ^ UINT64_MAX)) << 4);
-			if (load64(p20 + 8) != n4)
+	ALIGN(8) byte p16[40];
+	ALIGN(8) byte p17[16];
+	uint64_t n22;
+	byte *p18 = loadptr(p1 + 1352);
+	uint64_t n19 = load64(p1 + 1360);
+	if (n19 != 0) {
+		uint64_t n20 = load64(at(at(p18, n19 << 4), UINT64_C(18446744073709551608))) - n4;
+		if (n19 > n20) {
+			byte *p21 = inside(p18, (n19 + (n20 ^ UINT64_MAX)) << 4);
+			if (load64(p21 + 8) != n4)
 				goto L1;
-			n21 = load64(p20);
+			n22 = load64(p21);
 			goto L2;
 		}
 	}
-	if (n18 == 0) {
-		n21 = 0;
+	if (n19 == 0) {
+		n22 = 0;
 		goto L2;
 	}
 L1:
 	{
-		uint64_t n22 = 0;
-		uint64_t n23 = n18;
-		while (n23 > 1) {
-			uint64_t n27;
-			uint64_t n24 = n23 >> 1;
-			uint64_t n25 = n22 + n24;
-			uint64_t n26 = load64(at(p17, n25 << 4) + 8);
-			switch ((n26 == n4) ? 1 : (uint8_t)((n26 < n4) ? 0 : 2)) {
+		uint64_t n23 = 0;
+		uint64_t n24 = n19;
+		while (n24 > 1) {
+			uint64_t n28;
+			uint64_t n25 = n24 >> 1;
+			uint64_t n26 = n23 + n25;
+			uint64_t n27 = load64(at(p18, n26 << 4) + 8);
+			switch ((n27 == n4) ? 1 : (uint8_t)((n27 < n4) ? 0 : 2)) {
 			case 0:
 			case 1: {
-				n27 = n25;
+				n28 = n26;
 				break;
 			}
 			case 2: {
-				n27 = n22;
+				n28 = n23;
 				break;
 			}
 			default: {
 				UNREACHABLE();
 			}
 			}
-			n22 = n27;
-			n23 = n23 - n24;
+			n23 = n28;
+			n24 = n24 - n25;
 		}
-		byte *p28 = at(p17, n22 << 4);
-		uint64_t n29 = load64(p28 + 8);
-		switch ((n29 == n4) ? 1 : (uint8_t)((n29 < n4) ? 0 : 2)) {
+		byte *p29 = at(p18, n23 << 4);
+		uint64_t n30 = load64(p29 + 8);
+		switch ((n30 == n4) ? 1 : (uint8_t)((n30 < n4) ? 0 : 2)) {
 		case 1: {
-			n21 = load64(p28);
+			n22 = load64(p29);
 			break;
 		}
 		case 0:
 		case 2: {
-			n21 = 0;
+			n22 = 0;
 			break;
 		}
 		default: {
@@ -60706,60 +61297,68 @@ L1:
 	}
 L2:
 	{
-		uint64_t n31;
-		byte *p32;
-		uint8_t n178, n179;
-		if (load64(p1 + 1368) == n18) {
-			bool b30 = tp_std_alloc_vec_Vec_grow_amortized_5(p1 + 1352);
-			if (!b30)
-				return 1;
+		uint64_t n33;
+		byte *p34;
+		uint8_t n180, n181;
+		store64u(p16, 3);
+		store64u(p16 + 8, n22);
+		store64u(p16 + 16, n4);
+		store64u(p16 + 24, n5);
+		store64u(p16 + 32, n6);
+		if (load64(p1 + 1368) == n19) {
+			bool b31 = tp_std_alloc_vec_Vec_grow_amortized_5(p1 + 1352);
+			if (!b31) {
+				bool b32 = tp_Facility_makes_timer(p1, n2, n3, p16);
+				if (b32)
+					return 1;
+			}
 		}
 		if ((load8(p1 + 1312) & 1) != 0) {
-			store64(p16, n2);
-			store64(p16 + 8, n3);
-			n31 = 6;
-			p32 = (byte *)tp_static_208;
+			store64(p17, n2);
+			store64(p17 + 8, n3);
+			n33 = 6;
+			p34 = (byte *)tp_static_208;
 		} else if (load64(p1 + 264) > n2) {
-			byte *p33 = inside(p1 + 288, n2 << 3);
-			uint64_t n34 = load64(p33);
-			if (n3 < n34) {
-				store64(p16, n2);
-				store64(p16 + 8, n3);
-				n31 = 8;
-				p32 = (byte *)tp_static_219;
-			} else if (n34 > UINT64_C(1152921504606846975)) {
-				store64(p16, n2);
-				store64(p16 + 8, n3);
-				n31 = 13;
-				p32 = (byte *)tp_static_220;
+			byte *p35 = inside(p1 + 288, n2 << 3);
+			uint64_t n36 = load64(p35);
+			if (n3 < n36) {
+				store64(p17, n2);
+				store64(p17 + 8, n3);
+				n33 = 8;
+				p34 = (byte *)tp_static_219;
+			} else if (n36 > UINT64_C(1152921504606846975)) {
+				store64(p17, n2);
+				store64(p17 + 8, n3);
+				n33 = 13;
+				p34 = (byte *)tp_static_220;
 			} else {
-				if (n34 >= n3) {
-					uint64_t n52;
-					uint8_t n94;
+				if (n36 >= n3) {
+					uint64_t n54;
+					uint8_t n96;
 					memset(p15, 0, 40);
-					tp_Facility_take_restart(p15, p1, n2, n3, n21, n4, n5, n6);
-					uint8_t n35 = load8(p15);
-					uint8_t n36 = load8(p15 + 1);
-					uint64_t n37 = load64u(p15 + 8);
-					uint64_t n38 = load64u(p15 + 16);
-					uint64_t n39 = load64u(p15 + 24);
-					uint64_t n40 = load64u(p15 + 32);
-					store64(p33, n3 + 1);
-					switch (n35) {
+					tp_Facility_take_restart(p15, p1, n2, n3, n22, n4, n5, n5, n6);
+					uint8_t n37 = load8(p15);
+					uint8_t n38 = load8(p15 + 1);
+					uint64_t n39 = load64u(p15 + 8);
+					uint64_t n40 = load64u(p15 + 16);
+					uint64_t n41 = load64u(p15 + 24);
+					uint64_t n42 = load64u(p15 + 32);
+					store64(p35, n3 + 1);
+					switch (n37) {
 					case 0: {
-						uint64_t n41 = load64(p1 + 1360);
-						byte *p42 = inside(loadptr(p1 + 1352), n41 << 4);
-						store64u(p42, n37);
-						store64u(p42 + 8, n38);
-						store64(p1 + 1360, n41 + 1);
+						uint64_t n43 = load64(p1 + 1360);
+						byte *p44 = inside(loadptr(p1 + 1352), n43 << 4);
+						store64u(p44, n39);
+						store64u(p44 + 8, n40);
+						store64(p1 + 1360, n43 + 1);
 						break;
 					}
 					case 2: {
-						uint64_t n43 = load64(p1 + 1360);
-						byte *p44 = inside(loadptr(p1 + 1352), n43 << 4);
-						store64u(p44, n37);
-						store64u(p44 + 8, n38);
-						store64(p1 + 1360, n43 + 1);
+						uint64_t n45 = load64(p1 + 1360);
+						byte *p46 = inside(loadptr(p1 + 1352), n45 << 4);
+						store64u(p46, n39);
+						store64u(p46 + 8, n40);
+						store64(p1 + 1360, n45 + 1);
 						break;
 					}
 					case 1:
@@ -60770,469 +61369,469 @@ L2:
 						UNREACHABLE();
 					}
 					}
-					uint64_t n45 = load64(p1 + 64);
-					byte *p46 = loadptr(p1 + 80);
-					uint64_t n47 = load64(p1 + 104);
-					uint64_t n48 = (uint64_t)load32(at(p46, load64(p1 + 32) << 3) + 4);
-					uint64_t n49 = usub_sat64(n48, n47);
-					uint64_t n50 = 0;
-					uint64_t n51 = n48;
+					uint64_t n47 = load64(p1 + 64);
+					byte *p48 = loadptr(p1 + 80);
+					uint64_t n49 = load64(p1 + 104);
+					uint64_t n50 = (uint64_t)load32(at(p48, load64(p1 + 32) << 3) + 4);
+					uint64_t n51 = usub_sat64(n50, n49);
+					uint64_t n52 = 0;
+					uint64_t n53 = n50;
 					for (;;) {
-						if (n50 == n45) {
-							n52 = n45;
+						if (n52 == n47) {
+							n54 = n47;
 							break;
 						}
-						if (n47 > n51) {
-							n52 = n50;
+						if (n49 > n53) {
+							n54 = n52;
 							break;
 						}
-						uint64_t n53 = (uint64_t)load32(at(p46, (n47 + n49) << 3) + 4);
-						n49 = usub_sat64(n53, n47);
-						n50 = n50 + 1;
-						n51 = n53;
+						uint64_t n55 = (uint64_t)load32(at(p48, (n49 + n51) << 3) + 4);
+						n51 = usub_sat64(n55, n49);
+						n52 = n52 + 1;
+						n53 = n55;
 					}
-					if ((((n45 - n52) << 1) + 64) < load64(p1 + 1360))
+					if ((((n47 - n54) << 1) + 64) < load64(p1 + 1360))
 						tp_handles_sweep(p1 + 1352, p1);
-					memset(p16, 0, 16);
+					memset(p17, 0, 16);
 					memset(p14, 0, 16);
-					switch (n35) {
+					switch (n37) {
 					case 0: {
-						uint64_t n83;
+						uint64_t n85;
 						store64(p11, n2);
 						store64(p11 + 8, n3);
-						store64(p11 + 16, n38);
-						store64(p11 + 24, n39);
+						store64(p11 + 16, n40);
+						store64(p11 + 24, n41);
 						memset(p10, 0, 117);
 						store8(p10 + 117, 10);
-						uint64_t n54 = 4;
-						uint64_t n55 = 117;
-						while (n54 != 0) {
-							uint64_t n67;
-							uint64_t n56 = n54 - 1;
-							uint64_t n57 = load64(inside(p11, n56 << 3));
-							uint64_t n58 = n55;
-							while (n57 > 9999) {
-								uint16_t n59 = (uint16_t)(n57 % 10000);
-								byte *p60 = inside((byte *)tp_static_224, (uint64_t)(uint16_t)((uint32_t)(uint16_t)(n59 % 100) << 1));
-								byte *p61 = at(p10, n58);
-								uint8_t n62 = load8(p60 + 1);
-								store8(at(p61, UINT64_C(18446744073709551614)), load8(p60));
-								store8(at(p61, UINT64_MAX), n62);
-								uint64_t n63 = n58 - 4;
-								byte *p64 = inside((byte *)tp_static_224, (uint64_t)(uint16_t)((uint32_t)(uint16_t)(n59 / 100) << 1));
-								uint8_t n65 = load8(p64 + 1);
-								store8(inside(p10, n63), load8(p64));
-								store8(at(p61, UINT64_C(18446744073709551613)), n65);
-								n57 = n57 / 10000;
-								n58 = n63;
+						uint64_t n56 = 4;
+						uint64_t n57 = 117;
+						while (n56 != 0) {
+							uint64_t n69;
+							uint64_t n58 = n56 - 1;
+							uint64_t n59 = load64(inside(p11, n58 << 3));
+							uint64_t n60 = n57;
+							while (n59 > 9999) {
+								uint16_t n61 = (uint16_t)(n59 % 10000);
+								byte *p62 = inside((byte *)tp_static_224, (uint64_t)(uint16_t)((uint32_t)(uint16_t)(n61 % 100) << 1));
+								byte *p63 = at(p10, n60);
+								uint8_t n64 = load8(p62 + 1);
+								store8(at(p63, UINT64_C(18446744073709551614)), load8(p62));
+								store8(at(p63, UINT64_MAX), n64);
+								uint64_t n65 = n60 - 4;
+								byte *p66 = inside((byte *)tp_static_224, (uint64_t)(uint16_t)((uint32_t)(uint16_t)(n61 / 100) << 1));
+								uint8_t n67 = load8(p66 + 1);
+								store8(inside(p10, n65), load8(p66));
+								store8(at(p63, UINT64_C(18446744073709551613)), n67);
+								n59 = n59 / 10000;
+								n60 = n65;
 							}
-							if (n57 < 100) {
-								if (n57 < 10) {
-									uint64_t n66 = n58 - 1;
-									store8(inside(p10, n66), (uint8_t)((uint8_t)n57 | 48));
-									n67 = n66;
+							if (n59 < 100) {
+								if (n59 < 10) {
+									uint64_t n68 = n60 - 1;
+									store8(inside(p10, n68), (uint8_t)((uint8_t)n59 | 48));
+									n69 = n68;
 								} else {
-									uint64_t n68 = n58 - 2;
-									byte *p69 = inside((byte *)tp_static_224, n57 << 1);
-									uint8_t n70 = load8(p69 + 1);
-									store8(inside(p10, n68), load8(p69));
-									store8(at(at(p10, n58), UINT64_MAX), n70);
-									n67 = n68;
+									uint64_t n70 = n60 - 2;
+									byte *p71 = inside((byte *)tp_static_224, n59 << 1);
+									uint8_t n72 = load8(p71 + 1);
+									store8(inside(p10, n70), load8(p71));
+									store8(at(at(p10, n60), UINT64_MAX), n72);
+									n69 = n70;
 								}
 							} else {
-								uint16_t n71 = (uint16_t)n57;
-								byte *p72 = inside((byte *)tp_static_224, (uint64_t)(uint16_t)((uint32_t)(uint16_t)(n71 % 100) << 1));
-								byte *p73 = at(p10, n58);
-								uint8_t n74 = load8(p72 + 1);
-								store8(at(p73, UINT64_C(18446744073709551614)), load8(p72));
-								store8(at(p73, UINT64_MAX), n74);
-								uint16_t n75 = (uint16_t)(n71 / 100);
-								if (n57 < 1000) {
-									uint64_t n76 = n58 - 3;
-									store8(inside(p10, n76), (uint8_t)((uint8_t)n75 | 48));
-									n67 = n76;
+								uint16_t n73 = (uint16_t)n59;
+								byte *p74 = inside((byte *)tp_static_224, (uint64_t)(uint16_t)((uint32_t)(uint16_t)(n73 % 100) << 1));
+								byte *p75 = at(p10, n60);
+								uint8_t n76 = load8(p74 + 1);
+								store8(at(p75, UINT64_C(18446744073709551614)), load8(p74));
+								store8(at(p75, UINT64_MAX), n76);
+								uint16_t n77 = (uint16_t)(n73 / 100);
+								if (n59 < 1000) {
+									uint64_t n78 = n60 - 3;
+									store8(inside(p10, n78), (uint8_t)((uint8_t)n77 | 48));
+									n69 = n78;
 								} else {
-									uint64_t n77 = n58 - 4;
-									byte *p78 = inside((byte *)tp_static_224, (uint64_t)(uint16_t)((uint32_t)n75 << 1));
-									uint8_t n79 = load8(p78 + 1);
-									store8(inside(p10, n77), load8(p78));
-									store8(at(p73, UINT64_C(18446744073709551613)), n79);
-									n67 = n77;
+									uint64_t n79 = n60 - 4;
+									byte *p80 = inside((byte *)tp_static_224, (uint64_t)(uint16_t)((uint32_t)n77 << 1));
+									uint8_t n81 = load8(p80 + 1);
+									store8(inside(p10, n79), load8(p80));
+									store8(at(p75, UINT64_C(18446744073709551613)), n81);
+									n69 = n79;
 								}
 							}
-							uint64_t n80 = n67 - 1;
-							store8(inside(p10, n80), 32);
-							n54 = n56;
-							n55 = n80;
+							uint64_t n82 = n69 - 1;
+							store8(inside(p10, n82), 32);
+							n56 = n58;
+							n57 = n82;
 						}
-						byte *p81 = at(at(p10, n55), UINT64_C(18446744073709551609));
-						uint64_t n82 = (uint64_t)(uintptr_t)p81;
-						if ((n82 - (uint64_t)(uintptr_t)(byte *)tp_static_210) >= 7) {
-							memcpy(p81, (byte *)tp_static_210, 7);
+						byte *p83 = at(at(p10, n57), UINT64_C(18446744073709551609));
+						uint64_t n84 = (uint64_t)(uintptr_t)p83;
+						if ((n84 - (uint64_t)(uintptr_t)(byte *)tp_static_210) >= 7) {
+							memcpy(p83, (byte *)tp_static_210, 7);
 							goto L3;
 						}
-						n83 = 0;
-						while (n83 != 7) {
-							store8(inside(p81, n83), load8(inside((byte *)tp_static_210, n83)));
-							n83 = n83 + 1;
+						n85 = 0;
+						while (n85 != 7) {
+							store8(inside(p83, n85), load8(inside((byte *)tp_static_210, n85)));
+							n85 = n85 + 1;
 						}
 L3:
 						{
-							uint64_t n88, n89, n93;
-							uint8_t n90;
-							byte *p91, *p92;
-							uint64_t n84 = 125 - n55;
-							uint64_t n85 = load64(p7 + 16);
-							uint64_t n86 = load64(p7 + 8);
-							if (n84 > (n85 - n86)) {
-								bool b87 = tp_std_alloc_vec_Vec_grow_amortized_9(p7, n84);
-								if (!b87) {
-									n90 = 1;
+							uint64_t n90, n91, n95;
+							uint8_t n92;
+							byte *p93, *p94;
+							uint64_t n86 = 125 - n57;
+							uint64_t n87 = load64(p7 + 16);
+							uint64_t n88 = load64(p7 + 8);
+							if (n86 > (n87 - n88)) {
+								bool b89 = tp_std_alloc_vec_Vec_grow_amortized_9(p7, n86);
+								if (!b89) {
+									n92 = 1;
 									goto L4;
 								}
-								n88 = load64(p7 + 16);
-								n89 = load64(p7 + 8);
+								n90 = load64(p7 + 16);
+								n91 = load64(p7 + 8);
 							} else {
-								n88 = n85;
-								n89 = n86;
+								n90 = n87;
+								n91 = n88;
 							}
-							p91 = loadptr(p7);
-							p92 = at(p91, n89);
-							if (((uint64_t)(uintptr_t)p92 - n82) >= n84) {
-								memcpy(p92, p81, (size_t)n84);
+							p93 = loadptr(p7);
+							p94 = at(p93, n91);
+							if (((uint64_t)(uintptr_t)p94 - n84) >= n86) {
+								memcpy(p94, p83, (size_t)n86);
 								goto L5;
 							}
-							n93 = 0;
-							while (n93 != n84) {
-								store8(inside(p92, n93), load8(inside(p81, n93)));
-								n93 = n93 + 1;
+							n95 = 0;
+							while (n95 != n86) {
+								store8(inside(p94, n95), load8(inside(p83, n95)));
+								n95 = n95 + 1;
 							}
 L5:
 							{
-								storeptr(p7, p91);
-								store64(p7 + 8, n89 + n84);
-								store64(p7 + 16, n88);
-								n90 = 0;
+								storeptr(p7, p93);
+								store64(p7 + 8, n91 + n86);
+								store64(p7 + 16, n90);
+								n92 = 0;
 							}
 L4:
 							{
-								n94 = n90;
+								n96 = n92;
 							}
 						}
 						break;
 					}
 					case 1: {
-						uint64_t n124;
+						uint64_t n126;
 						store64(p12, n2);
 						store64(p12 + 8, n3);
-						store64(p12 + 16, n37);
+						store64(p12 + 16, n39);
 						memset(p9, 0, 117);
 						store8(p9 + 117, 10);
-						uint64_t n95 = 3;
-						uint64_t n96 = 117;
-						while (n95 != 0) {
-							uint64_t n108;
-							uint64_t n97 = n95 - 1;
-							uint64_t n98 = load64(inside(p12, n97 << 3));
-							uint64_t n99 = n96;
-							while (n98 > 9999) {
-								uint16_t n100 = (uint16_t)(n98 % 10000);
-								byte *p101 = inside((byte *)tp_static_224, (uint64_t)(uint16_t)((uint32_t)(uint16_t)(n100 % 100) << 1));
-								byte *p102 = at(p9, n99);
-								uint8_t n103 = load8(p101 + 1);
-								store8(at(p102, UINT64_C(18446744073709551614)), load8(p101));
-								store8(at(p102, UINT64_MAX), n103);
-								uint64_t n104 = n99 - 4;
-								byte *p105 = inside((byte *)tp_static_224, (uint64_t)(uint16_t)((uint32_t)(uint16_t)(n100 / 100) << 1));
-								uint8_t n106 = load8(p105 + 1);
-								store8(inside(p9, n104), load8(p105));
-								store8(at(p102, UINT64_C(18446744073709551613)), n106);
-								n98 = n98 / 10000;
-								n99 = n104;
+						uint64_t n97 = 3;
+						uint64_t n98 = 117;
+						while (n97 != 0) {
+							uint64_t n110;
+							uint64_t n99 = n97 - 1;
+							uint64_t n100 = load64(inside(p12, n99 << 3));
+							uint64_t n101 = n98;
+							while (n100 > 9999) {
+								uint16_t n102 = (uint16_t)(n100 % 10000);
+								byte *p103 = inside((byte *)tp_static_224, (uint64_t)(uint16_t)((uint32_t)(uint16_t)(n102 % 100) << 1));
+								byte *p104 = at(p9, n101);
+								uint8_t n105 = load8(p103 + 1);
+								store8(at(p104, UINT64_C(18446744073709551614)), load8(p103));
+								store8(at(p104, UINT64_MAX), n105);
+								uint64_t n106 = n101 - 4;
+								byte *p107 = inside((byte *)tp_static_224, (uint64_t)(uint16_t)((uint32_t)(uint16_t)(n102 / 100) << 1));
+								uint8_t n108 = load8(p107 + 1);
+								store8(inside(p9, n106), load8(p107));
+								store8(at(p104, UINT64_C(18446744073709551613)), n108);
+								n100 = n100 / 10000;
+								n101 = n106;
 							}
-							if (n98 < 100) {
-								if (n98 < 10) {
-									uint64_t n107 = n99 - 1;
-									store8(inside(p9, n107), (uint8_t)((uint8_t)n98 | 48));
-									n108 = n107;
+							if (n100 < 100) {
+								if (n100 < 10) {
+									uint64_t n109 = n101 - 1;
+									store8(inside(p9, n109), (uint8_t)((uint8_t)n100 | 48));
+									n110 = n109;
 								} else {
-									uint64_t n109 = n99 - 2;
-									byte *p110 = inside((byte *)tp_static_224, n98 << 1);
-									uint8_t n111 = load8(p110 + 1);
-									store8(inside(p9, n109), load8(p110));
-									store8(at(at(p9, n99), UINT64_MAX), n111);
-									n108 = n109;
+									uint64_t n111 = n101 - 2;
+									byte *p112 = inside((byte *)tp_static_224, n100 << 1);
+									uint8_t n113 = load8(p112 + 1);
+									store8(inside(p9, n111), load8(p112));
+									store8(at(at(p9, n101), UINT64_MAX), n113);
+									n110 = n111;
 								}
 							} else {
-								uint16_t n112 = (uint16_t)n98;
-								byte *p113 = inside((byte *)tp_static_224, (uint64_t)(uint16_t)((uint32_t)(uint16_t)(n112 % 100) << 1));
-								byte *p114 = at(p9, n99);
-								uint8_t n115 = load8(p113 + 1);
-								store8(at(p114, UINT64_C(18446744073709551614)), load8(p113));
-								store8(at(p114, UINT64_MAX), n115);
-								uint16_t n116 = (uint16_t)(n112 / 100);
-								if (n98 < 1000) {
-									uint64_t n117 = n99 - 3;
-									store8(inside(p9, n117), (uint8_t)((uint8_t)n116 | 48));
-									n108 = n117;
+								uint16_t n114 = (uint16_t)n100;
+								byte *p115 = inside((byte *)tp_static_224, (uint64_t)(uint16_t)((uint32_t)(uint16_t)(n114 % 100) << 1));
+								byte *p116 = at(p9, n101);
+								uint8_t n117 = load8(p115 + 1);
+								store8(at(p116, UINT64_C(18446744073709551614)), load8(p115));
+								store8(at(p116, UINT64_MAX), n117);
+								uint16_t n118 = (uint16_t)(n114 / 100);
+								if (n100 < 1000) {
+									uint64_t n119 = n101 - 3;
+									store8(inside(p9, n119), (uint8_t)((uint8_t)n118 | 48));
+									n110 = n119;
 								} else {
-									uint64_t n118 = n99 - 4;
-									byte *p119 = inside((byte *)tp_static_224, (uint64_t)(uint16_t)((uint32_t)n116 << 1));
-									uint8_t n120 = load8(p119 + 1);
-									store8(inside(p9, n118), load8(p119));
-									store8(at(p114, UINT64_C(18446744073709551613)), n120);
-									n108 = n118;
+									uint64_t n120 = n101 - 4;
+									byte *p121 = inside((byte *)tp_static_224, (uint64_t)(uint16_t)((uint32_t)n118 << 1));
+									uint8_t n122 = load8(p121 + 1);
+									store8(inside(p9, n120), load8(p121));
+									store8(at(p116, UINT64_C(18446744073709551613)), n122);
+									n110 = n120;
 								}
 							}
-							uint64_t n121 = n108 - 1;
-							store8(inside(p9, n121), 32);
-							n95 = n97;
-							n96 = n121;
+							uint64_t n123 = n110 - 1;
+							store8(inside(p9, n123), 32);
+							n97 = n99;
+							n98 = n123;
 						}
-						byte *p122 = at(at(p9, n96), UINT64_C(18446744073709551609));
-						uint64_t n123 = (uint64_t)(uintptr_t)p122;
-						if ((n123 - (uint64_t)(uintptr_t)(byte *)tp_static_211) >= 7) {
-							memcpy(p122, (byte *)tp_static_211, 7);
+						byte *p124 = at(at(p9, n98), UINT64_C(18446744073709551609));
+						uint64_t n125 = (uint64_t)(uintptr_t)p124;
+						if ((n125 - (uint64_t)(uintptr_t)(byte *)tp_static_211) >= 7) {
+							memcpy(p124, (byte *)tp_static_211, 7);
 							goto L6;
 						}
-						n124 = 0;
-						while (n124 != 7) {
-							store8(inside(p122, n124), load8(inside((byte *)tp_static_211, n124)));
-							n124 = n124 + 1;
+						n126 = 0;
+						while (n126 != 7) {
+							store8(inside(p124, n126), load8(inside((byte *)tp_static_211, n126)));
+							n126 = n126 + 1;
 						}
 L6:
 						{
-							uint64_t n129, n130, n134;
-							uint8_t n131;
-							byte *p132, *p133;
-							uint64_t n125 = 125 - n96;
-							uint64_t n126 = load64(p7 + 16);
-							uint64_t n127 = load64(p7 + 8);
-							if (n125 > (n126 - n127)) {
-								bool b128 = tp_std_alloc_vec_Vec_grow_amortized_9(p7, n125);
-								if (!b128) {
-									n131 = 1;
+							uint64_t n131, n132, n136;
+							uint8_t n133;
+							byte *p134, *p135;
+							uint64_t n127 = 125 - n98;
+							uint64_t n128 = load64(p7 + 16);
+							uint64_t n129 = load64(p7 + 8);
+							if (n127 > (n128 - n129)) {
+								bool b130 = tp_std_alloc_vec_Vec_grow_amortized_9(p7, n127);
+								if (!b130) {
+									n133 = 1;
 									goto L7;
 								}
-								n129 = load64(p7 + 16);
-								n130 = load64(p7 + 8);
+								n131 = load64(p7 + 16);
+								n132 = load64(p7 + 8);
 							} else {
-								n129 = n126;
-								n130 = n127;
+								n131 = n128;
+								n132 = n129;
 							}
-							p132 = loadptr(p7);
-							p133 = at(p132, n130);
-							if (((uint64_t)(uintptr_t)p133 - n123) >= n125) {
-								memcpy(p133, p122, (size_t)n125);
+							p134 = loadptr(p7);
+							p135 = at(p134, n132);
+							if (((uint64_t)(uintptr_t)p135 - n125) >= n127) {
+								memcpy(p135, p124, (size_t)n127);
 								goto L8;
 							}
-							n134 = 0;
-							while (n134 != n125) {
-								store8(inside(p133, n134), load8(inside(p122, n134)));
-								n134 = n134 + 1;
+							n136 = 0;
+							while (n136 != n127) {
+								store8(inside(p135, n136), load8(inside(p124, n136)));
+								n136 = n136 + 1;
 							}
 L8:
 							{
-								storeptr(p7, p132);
-								store64(p7 + 8, n130 + n125);
-								store64(p7 + 16, n129);
-								n131 = 0;
+								storeptr(p7, p134);
+								store64(p7 + 8, n132 + n127);
+								store64(p7 + 16, n131);
+								n133 = 0;
 							}
 L7:
 							{
-								n94 = n131;
+								n96 = n133;
 							}
 						}
 						break;
 					}
 					case 2: {
-						uint64_t n164;
+						uint64_t n166;
 						store64(p13, n2);
 						store64(p13 + 8, n3);
-						store64(p13 + 16, n40);
-						store64(p13 + 24, n38);
-						store64(p13 + 32, n39);
+						store64(p13 + 16, n42);
+						store64(p13 + 24, n40);
+						store64(p13 + 32, n41);
 						memset(p8, 0, 117);
 						store8(p8 + 117, 10);
-						uint64_t n135 = 5;
-						uint64_t n136 = 117;
-						while (n135 != 0) {
-							uint64_t n148;
-							uint64_t n137 = n135 - 1;
-							uint64_t n138 = load64(inside(p13, n137 << 3));
-							uint64_t n139 = n136;
-							while (n138 > 9999) {
-								uint16_t n140 = (uint16_t)(n138 % 10000);
-								byte *p141 = inside((byte *)tp_static_224, (uint64_t)(uint16_t)((uint32_t)(uint16_t)(n140 % 100) << 1));
-								byte *p142 = at(p8, n139);
-								uint8_t n143 = load8(p141 + 1);
-								store8(at(p142, UINT64_C(18446744073709551614)), load8(p141));
-								store8(at(p142, UINT64_MAX), n143);
-								uint64_t n144 = n139 - 4;
-								byte *p145 = inside((byte *)tp_static_224, (uint64_t)(uint16_t)((uint32_t)(uint16_t)(n140 / 100) << 1));
-								uint8_t n146 = load8(p145 + 1);
-								store8(inside(p8, n144), load8(p145));
-								store8(at(p142, UINT64_C(18446744073709551613)), n146);
-								n138 = n138 / 10000;
-								n139 = n144;
+						uint64_t n137 = 5;
+						uint64_t n138 = 117;
+						while (n137 != 0) {
+							uint64_t n150;
+							uint64_t n139 = n137 - 1;
+							uint64_t n140 = load64(inside(p13, n139 << 3));
+							uint64_t n141 = n138;
+							while (n140 > 9999) {
+								uint16_t n142 = (uint16_t)(n140 % 10000);
+								byte *p143 = inside((byte *)tp_static_224, (uint64_t)(uint16_t)((uint32_t)(uint16_t)(n142 % 100) << 1));
+								byte *p144 = at(p8, n141);
+								uint8_t n145 = load8(p143 + 1);
+								store8(at(p144, UINT64_C(18446744073709551614)), load8(p143));
+								store8(at(p144, UINT64_MAX), n145);
+								uint64_t n146 = n141 - 4;
+								byte *p147 = inside((byte *)tp_static_224, (uint64_t)(uint16_t)((uint32_t)(uint16_t)(n142 / 100) << 1));
+								uint8_t n148 = load8(p147 + 1);
+								store8(inside(p8, n146), load8(p147));
+								store8(at(p144, UINT64_C(18446744073709551613)), n148);
+								n140 = n140 / 10000;
+								n141 = n146;
 							}
-							if (n138 < 100) {
-								if (n138 < 10) {
-									uint64_t n147 = n139 - 1;
-									store8(inside(p8, n147), (uint8_t)((uint8_t)n138 | 48));
-									n148 = n147;
+							if (n140 < 100) {
+								if (n140 < 10) {
+									uint64_t n149 = n141 - 1;
+									store8(inside(p8, n149), (uint8_t)((uint8_t)n140 | 48));
+									n150 = n149;
 								} else {
-									uint64_t n149 = n139 - 2;
-									byte *p150 = inside((byte *)tp_static_224, n138 << 1);
-									uint8_t n151 = load8(p150 + 1);
-									store8(inside(p8, n149), load8(p150));
-									store8(at(at(p8, n139), UINT64_MAX), n151);
-									n148 = n149;
+									uint64_t n151 = n141 - 2;
+									byte *p152 = inside((byte *)tp_static_224, n140 << 1);
+									uint8_t n153 = load8(p152 + 1);
+									store8(inside(p8, n151), load8(p152));
+									store8(at(at(p8, n141), UINT64_MAX), n153);
+									n150 = n151;
 								}
 							} else {
-								uint16_t n152 = (uint16_t)n138;
-								byte *p153 = inside((byte *)tp_static_224, (uint64_t)(uint16_t)((uint32_t)(uint16_t)(n152 % 100) << 1));
-								byte *p154 = at(p8, n139);
-								uint8_t n155 = load8(p153 + 1);
-								store8(at(p154, UINT64_C(18446744073709551614)), load8(p153));
-								store8(at(p154, UINT64_MAX), n155);
-								uint16_t n156 = (uint16_t)(n152 / 100);
-								if (n138 < 1000) {
-									uint64_t n157 = n139 - 3;
-									store8(inside(p8, n157), (uint8_t)((uint8_t)n156 | 48));
-									n148 = n157;
+								uint16_t n154 = (uint16_t)n140;
+								byte *p155 = inside((byte *)tp_static_224, (uint64_t)(uint16_t)((uint32_t)(uint16_t)(n154 % 100) << 1));
+								byte *p156 = at(p8, n141);
+								uint8_t n157 = load8(p155 + 1);
+								store8(at(p156, UINT64_C(18446744073709551614)), load8(p155));
+								store8(at(p156, UINT64_MAX), n157);
+								uint16_t n158 = (uint16_t)(n154 / 100);
+								if (n140 < 1000) {
+									uint64_t n159 = n141 - 3;
+									store8(inside(p8, n159), (uint8_t)((uint8_t)n158 | 48));
+									n150 = n159;
 								} else {
-									uint64_t n158 = n139 - 4;
-									byte *p159 = inside((byte *)tp_static_224, (uint64_t)(uint16_t)((uint32_t)n156 << 1));
-									uint8_t n160 = load8(p159 + 1);
-									store8(inside(p8, n158), load8(p159));
-									store8(at(p154, UINT64_C(18446744073709551613)), n160);
-									n148 = n158;
+									uint64_t n160 = n141 - 4;
+									byte *p161 = inside((byte *)tp_static_224, (uint64_t)(uint16_t)((uint32_t)n158 << 1));
+									uint8_t n162 = load8(p161 + 1);
+									store8(inside(p8, n160), load8(p161));
+									store8(at(p156, UINT64_C(18446744073709551613)), n162);
+									n150 = n160;
 								}
 							}
-							uint64_t n161 = n148 - 1;
-							store8(inside(p8, n161), 32);
-							n135 = n137;
-							n136 = n161;
+							uint64_t n163 = n150 - 1;
+							store8(inside(p8, n163), 32);
+							n137 = n139;
+							n138 = n163;
 						}
-						byte *p162 = at(at(p8, n136), UINT64_C(18446744073709551607));
-						uint64_t n163 = (uint64_t)(uintptr_t)p162;
-						if ((n163 - (uint64_t)(uintptr_t)(byte *)tp_static_212) >= 9) {
-							memcpy(p162, (byte *)tp_static_212, 9);
+						byte *p164 = at(at(p8, n138), UINT64_C(18446744073709551607));
+						uint64_t n165 = (uint64_t)(uintptr_t)p164;
+						if ((n165 - (uint64_t)(uintptr_t)(byte *)tp_static_212) >= 9) {
+							memcpy(p164, (byte *)tp_static_212, 9);
 							goto L9;
 						}
-						n164 = 0;
-						while (n164 != 9) {
-							store8(inside(p162, n164), load8(inside((byte *)tp_static_212, n164)));
-							n164 = n164 + 1;
+						n166 = 0;
+						while (n166 != 9) {
+							store8(inside(p164, n166), load8(inside((byte *)tp_static_212, n166)));
+							n166 = n166 + 1;
 						}
 L9:
 						{
-							uint64_t n169, n170, n174;
-							uint8_t n171;
-							byte *p172, *p173;
-							uint64_t n165 = 127 - n136;
-							uint64_t n166 = load64(p7 + 16);
-							uint64_t n167 = load64(p7 + 8);
-							if (n165 > (n166 - n167)) {
-								bool b168 = tp_std_alloc_vec_Vec_grow_amortized_9(p7, n165);
-								if (!b168) {
-									n171 = 1;
+							uint64_t n171, n172, n176;
+							uint8_t n173;
+							byte *p174, *p175;
+							uint64_t n167 = 127 - n138;
+							uint64_t n168 = load64(p7 + 16);
+							uint64_t n169 = load64(p7 + 8);
+							if (n167 > (n168 - n169)) {
+								bool b170 = tp_std_alloc_vec_Vec_grow_amortized_9(p7, n167);
+								if (!b170) {
+									n173 = 1;
 									goto L10;
 								}
-								n169 = load64(p7 + 16);
-								n170 = load64(p7 + 8);
+								n171 = load64(p7 + 16);
+								n172 = load64(p7 + 8);
 							} else {
-								n169 = n166;
-								n170 = n167;
+								n171 = n168;
+								n172 = n169;
 							}
-							p172 = loadptr(p7);
-							p173 = at(p172, n170);
-							if (((uint64_t)(uintptr_t)p173 - n163) >= n165) {
-								memcpy(p173, p162, (size_t)n165);
+							p174 = loadptr(p7);
+							p175 = at(p174, n172);
+							if (((uint64_t)(uintptr_t)p175 - n165) >= n167) {
+								memcpy(p175, p164, (size_t)n167);
 								goto L11;
 							}
-							n174 = 0;
-							while (n174 != n165) {
-								store8(inside(p173, n174), load8(inside(p162, n174)));
-								n174 = n174 + 1;
+							n176 = 0;
+							while (n176 != n167) {
+								store8(inside(p175, n176), load8(inside(p164, n176)));
+								n176 = n176 + 1;
 							}
 L11:
 							{
-								storeptr(p7, p172);
-								store64(p7 + 8, n170 + n165);
-								store64(p7 + 16, n169);
-								n171 = 0;
+								storeptr(p7, p174);
+								store64(p7 + 8, n172 + n167);
+								store64(p7 + 16, n171);
+								n173 = 0;
 							}
 L10:
 							{
-								n94 = n171;
+								n96 = n173;
 							}
 						}
 						break;
 					}
 					case 3: {
-						uint64_t n175;
-						byte *p176;
+						uint64_t n177;
+						byte *p178;
 						store64(p14, n2);
 						store64(p14 + 8, n3);
-						switch (n36) {
+						switch (n38) {
 						case 0: {
-							n175 = 13;
-							p176 = (byte *)tp_static_213;
+							n177 = 13;
+							p178 = (byte *)tp_static_213;
 							break;
 						}
 						case 1: {
-							n175 = 8;
-							p176 = (byte *)tp_static_214;
+							n177 = 8;
+							p178 = (byte *)tp_static_214;
 							break;
 						}
 						case 2: {
-							n175 = 13;
-							p176 = (byte *)tp_static_215;
+							n177 = 13;
+							p178 = (byte *)tp_static_215;
 							break;
 						}
 						case 3: {
-							n175 = 4;
-							p176 = (byte *)tp_static_216;
+							n177 = 4;
+							p178 = (byte *)tp_static_216;
 							break;
 						}
 						case 4: {
-							n175 = 7;
-							p176 = (byte *)tp_static_217;
+							n177 = 7;
+							p178 = (byte *)tp_static_217;
 							break;
 						}
 						default: {
 							UNREACHABLE();
 						}
 						}
-						uint8_t n177 = tp_text_push_refused(p7, (byte *)tp_static_203, 7, p14, 2, p176, n175);
-						n94 = n177;
+						uint8_t n179 = tp_text_push_refused(p7, (byte *)tp_static_203, 7, p14, 2, p178, n177);
+						n96 = n179;
 						break;
 					}
 					default: {
 						UNREACHABLE();
 					}
 					}
-					n178 = n94;
+					n180 = n96;
 					goto L12;
 				}
-				store64(p16, n2);
-				store64(p16 + 8, n3);
-				n31 = 5;
-				p32 = (byte *)tp_static_221;
+				store64(p17, n2);
+				store64(p17 + 8, n3);
+				n33 = 5;
+				p34 = (byte *)tp_static_221;
 			}
 		} else {
-			store64(p16, n2);
-			store64(p16 + 8, n3);
-			n31 = 9;
-			p32 = (byte *)tp_static_218;
+			store64(p17, n2);
+			store64(p17 + 8, n3);
+			n33 = 9;
+			p34 = (byte *)tp_static_218;
 		}
-		n179 = tp_text_push_refused(p7, (byte *)tp_static_203, 7, p16, 2, p32, n31);
-		n178 = n179;
+		n181 = tp_text_push_refused(p7, (byte *)tp_static_203, 7, p17, 2, p34, n33);
+		n180 = n181;
 L12:
 		{
-			return n178;
+			return n180;
 		}
 	}
 }
@@ -61416,18 +62015,15 @@ static NOINLINE uint64_t tp_migration_migrate(uint8_t n1, byte *p2, byte *p3, by
 					store32(p41, n43);
 				}
 				byte *p44 = inside(p3, n35 >> 3);
-				uint64_t n45 = load64(p44);
-				uint64_t n46 = (uint64_t)1 << (n36 & 63);
-				if ((n45 & n46) == 0)
-					store64(p44, n45 | n46);
+				store64(p44, load64(p44) | ((uint64_t)1 << (n36 & 63)));
 				if (((load8(p4 + 24) & 1) != 0) && (n33 > 5)) {
-					byte *p47 = at(loadptr(p4), n37 << 4);
-					uint64_t n48 = load64(p47);
-					if (n16 < n48) {
-						store64(p47, n16);
-						store64(p47 + 8, 1);
-					} else if (n16 == n48) {
-						store64(p47 + 8, load64(p47 + 8) + 1);
+					byte *p45 = at(loadptr(p4), n37 << 4);
+					uint64_t n46 = load64(p45);
+					if (n16 < n46) {
+						store64(p45, n16);
+						store64(p45 + 8, 1);
+					} else if (n16 == n46) {
+						store64(p45 + 8, load64(p45 + 8) + 1);
 					}
 				}
 				n32 = n14 + 1;
@@ -61437,143 +62033,140 @@ static NOINLINE uint64_t tp_migration_migrate(uint8_t n1, byte *p2, byte *p3, by
 			n16 = n25;
 		}
 	} else {
-		uint8_t n54;
-		uint64_t n55;
-		uint64_t n49 = n5 << 3;
-		uint64_t n50 = load64(p2 + 64);
-		uint64_t n51 = (uint64_t)load32(at(loadptr(p2 + 40), n49) + 4);
-		if (n50 <= n51) {
-			uint64_t n52 = usub_sat64(n51, n50);
-			byte *p53 = at(loadptr(p2), n52 * 56);
-			if (n52 < load64(p2 + 8)) {
-				if (load8(p53) == 1) {
-					n54 = 1;
-					n55 = load64u(p53 + 32);
+		uint8_t n52;
+		uint64_t n53;
+		uint64_t n47 = n5 << 3;
+		uint64_t n48 = load64(p2 + 64);
+		uint64_t n49 = (uint64_t)load32(at(loadptr(p2 + 40), n47) + 4);
+		if (n48 <= n49) {
+			uint64_t n50 = usub_sat64(n49, n48);
+			byte *p51 = at(loadptr(p2), n50 * 56);
+			if (n50 < load64(p2 + 8)) {
+				if (load8(p51) == 1) {
+					n52 = 1;
+					n53 = load64u(p51 + 32);
 				} else {
-					n54 = 0;
-					n55 = 0;
+					n52 = 0;
+					n53 = 0;
 				}
 			} else {
-				n54 = 0;
-				n55 = 0;
+				n52 = 0;
+				n53 = 0;
 			}
 		} else {
-			n54 = 0;
-			n55 = 0;
+			n52 = 0;
+			n53 = 0;
 		}
-		uint64_t n56 = 0;
-		uint8_t n57 = n54;
-		uint64_t n58 = n55;
+		uint64_t n54 = 0;
+		uint8_t n55 = n52;
+		uint64_t n56 = n53;
 		for (;;) {
-			uint64_t n67, n74;
-			uint8_t n68;
-			if (n57 != 1)
-				return n56;
-			byte *p59 = loadptr(p2 + 40);
-			byte *p60 = at(p59, n49) + 4;
-			uint64_t n61 = load64(p2 + 64);
-			uint64_t n62 = (uint64_t)load32(p60);
-			bool b63 = n61 <= n62;
-			if (b63) {
-				uint64_t n64 = (uint64_t)load32(at(p59, umax64(n62, n61) << 3) + 4);
-				if (n61 <= n64) {
-					uint64_t n65 = usub_sat64(n64, n61);
-					byte *p66 = at(loadptr(p2), n65 * 56);
-					if (n65 < load64(p2 + 8)) {
-						if (load8(p66) == 1) {
-							n67 = load64u(p66 + 32);
-							n68 = 1;
+			uint64_t n65, n72;
+			uint8_t n66;
+			if (n55 != 1)
+				return n54;
+			byte *p57 = loadptr(p2 + 40);
+			byte *p58 = at(p57, n47) + 4;
+			uint64_t n59 = load64(p2 + 64);
+			uint64_t n60 = (uint64_t)load32(p58);
+			bool b61 = n59 <= n60;
+			if (b61) {
+				uint64_t n62 = (uint64_t)load32(at(p57, umax64(n60, n59) << 3) + 4);
+				if (n59 <= n62) {
+					uint64_t n63 = usub_sat64(n62, n59);
+					byte *p64 = at(loadptr(p2), n63 * 56);
+					if (n63 < load64(p2 + 8)) {
+						if (load8(p64) == 1) {
+							n65 = load64u(p64 + 32);
+							n66 = 1;
 						} else {
-							n67 = 0;
-							n68 = 0;
+							n65 = 0;
+							n66 = 0;
 						}
 					} else {
-						n67 = 0;
-						n68 = 0;
+						n65 = 0;
+						n66 = 0;
 					}
 				} else {
-					n67 = 0;
-					n68 = 0;
+					n65 = 0;
+					n66 = 0;
 				}
 			} else {
-				n67 = 0;
-				n68 = 0;
+				n65 = 0;
+				n66 = 0;
 			}
-			if (n58 == n6) {
-				if (b63) {
-					uint64_t n69 = umax64(n62, n61);
-					byte *p70 = at(p59, n69 << 3);
-					uint32_t n71 = load32(p70 + 4);
-					store32(p60, n71);
-					store32(inside(p59, (uint64_t)n71 << 3), (uint32_t)n5);
-					uint32_t n72 = load32(p59 + 1952);
-					uint32_t n73 = (uint32_t)n69;
-					store32(inside(p59, (uint64_t)n72 << 3) + 4, n73);
-					store32(p70, n72);
-					store32(p70 + 4, 244);
-					store32(p59 + 1952, n73);
-					n74 = n56;
+			if (n56 == n6) {
+				if (b61) {
+					uint64_t n67 = umax64(n60, n59);
+					byte *p68 = at(p57, n67 << 3);
+					uint32_t n69 = load32(p68 + 4);
+					store32(p58, n69);
+					store32(inside(p57, (uint64_t)n69 << 3), (uint32_t)n5);
+					uint32_t n70 = load32(p57 + 1952);
+					uint32_t n71 = (uint32_t)n67;
+					store32(inside(p57, (uint64_t)n70 << 3) + 4, n71);
+					store32(p68, n70);
+					store32(p68 + 4, 244);
+					store32(p57 + 1952, n71);
+					n72 = n54;
 				} else {
-					n74 = n56;
+					n72 = n54;
 				}
 			} else {
-				uint64_t n76;
-				uint64_t n75 = n58 / 60;
-				if ((n6 / 60) == n75) {
-					n76 = n58 % 60;
+				uint64_t n74;
+				uint64_t n73 = n56 / 60;
+				if ((n6 / 60) == n73) {
+					n74 = n56 % 60;
 				} else {
-					uint64_t n77 = n58 / 3600;
-					if ((n6 / 3600) == n77) {
-						n76 = (n75 % 60) + 60;
+					uint64_t n75 = n56 / 3600;
+					if ((n6 / 3600) == n75) {
+						n74 = (n73 % 60) + 60;
 					} else {
-						uint64_t n78 = n58 / 86400;
-						if ((n6 / 86400) == n78) {
-							n76 = (n77 % 24) + 120;
+						uint64_t n76 = n56 / 86400;
+						if ((n6 / 86400) == n76) {
+							n74 = (n75 % 24) + 120;
 						} else {
-							n76 = n78 + 144;
+							n74 = n76 + 144;
 						}
 					}
 				}
-				if (b63) {
-					uint64_t n79 = umax64(n62, n61);
-					byte *p80 = at(p59, n79 << 3);
-					uint32_t n81 = load32(p80 + 4);
-					store32(p60, n81);
-					store32(inside(p59, (uint64_t)n81 << 3), (uint32_t)n5);
-					byte *p82 = inside(p59, n76 << 3);
-					uint32_t n83 = load32(p82);
-					uint32_t n84 = (uint32_t)n79;
-					store32(inside(p59, (uint64_t)n83 << 3) + 4, n84);
-					store32(p80, n83);
-					store32(p80 + 4, (uint32_t)n76);
-					store32(p82, n84);
+				if (b61) {
+					uint64_t n77 = umax64(n60, n59);
+					byte *p78 = at(p57, n77 << 3);
+					uint32_t n79 = load32(p78 + 4);
+					store32(p58, n79);
+					store32(inside(p57, (uint64_t)n79 << 3), (uint32_t)n5);
+					byte *p80 = inside(p57, n74 << 3);
+					uint32_t n81 = load32(p80);
+					uint32_t n82 = (uint32_t)n77;
+					store32(inside(p57, (uint64_t)n81 << 3) + 4, n82);
+					store32(p78, n81);
+					store32(p78 + 4, (uint32_t)n74);
+					store32(p80, n82);
 				}
-				byte *p85 = inside(p3, (n76 >> 6) << 3);
-				uint64_t n86 = load64(p85);
-				uint64_t n87 = (uint64_t)1 << (n76 & 63);
-				if ((n86 & n87) == 0)
-					store64(p85, n86 | n87);
-				if (((load8(p4 + 24) & 1) != 0) && (n76 > 59)) {
-					byte *p88 = at(loadptr(p4), n76 << 4);
-					uint64_t n89 = load64(p88);
-					if (n58 < n89) {
-						store64(p88, n58);
-						store64(p88 + 8, 1);
-					} else if (n58 == n89) {
-						store64(p88 + 8, load64(p88 + 8) + 1);
+				byte *p83 = inside(p3, (n74 >> 3) & 536870904);
+				store64(p83, load64(p83) | ((uint64_t)1 << (n74 & 63)));
+				if (((load8(p4 + 24) & 1) != 0) && (n74 > 59)) {
+					byte *p84 = at(loadptr(p4), n74 << 4);
+					uint64_t n85 = load64(p84);
+					if (n56 < n85) {
+						store64(p84, n56);
+						store64(p84 + 8, 1);
+					} else if (n56 == n85) {
+						store64(p84 + 8, load64(p84 + 8) + 1);
 					}
 				}
-				n74 = n56 + 1;
+				n72 = n54 + 1;
 			}
-			n56 = n74;
-			n57 = n68;
-			n58 = n67;
+			n54 = n72;
+			n55 = n66;
+			n56 = n65;
 		}
 	}
 }
 
-/* timer_wheels::hier::HierWheelWheel::advance: crates/timer_wheels/src/hier.rt */
-static uint64_t tp_HierWheelWheel_advance(byte *p1, uint64_t n2)
+/* timer_wheels::hier::HierWheel::advance_far: crates/timer_wheels/src/hier.rt */
+static NOINLINE uint64_t tp_HierWheel_advance_far(byte *p1, uint64_t n2)
 {
 	uint64_t n36, n38, n39, n40, n41;
 	byte *p37;
@@ -61853,263 +62446,269 @@ static uint8_t tp_script_run_play_outs(byte *p1, byte *p2, byte *p3, byte *p4)
 	ALIGN(8) byte p6[48];
 	ALIGN(8) byte p7[48];
 	ALIGN(8) byte p8[48];
-	uint8_t n9 = load8(p2);
-	uint64_t n10 = load64u(p2 + 8);
-	uint64_t n11 = load64u(p2 + 16);
-	uint64_t n12 = load64u(p2 + 24);
-	uint64_t n13 = load64u(p2 + 32);
-	uint64_t n14 = load64u(p2 + 40);
+	ALIGN(8) byte p9[40];
+	ALIGN(8) byte p10[40];
+	uint8_t n11 = load8(p2);
+	uint64_t n12 = load64u(p2 + 8);
+	uint64_t n13 = load64u(p2 + 16);
+	uint64_t n14 = load64u(p2 + 24);
+	uint64_t n15 = load64u(p2 + 32);
+	uint64_t n16 = load64u(p2 + 40);
 	if (load64(p3 + 8) != 0)
 		store64(p3 + 8, 0);
-	switch (n9) {
+	switch (n11) {
 	case 0: {
-		uint8_t n17, n19, n20;
-		uint64_t n18, n21, n22;
+		uint8_t n20, n22, n23;
+		uint64_t n21, n24, n25;
 		if (load64(p3 + 16) == 0) {
-			bool b15 = tp_std_alloc_vec_Vec_grow_amortized_6(p3, 1);
-			if (!b15)
+			bool b17 = tp_std_alloc_vec_Vec_grow_amortized_6(p3, 1);
+			if (!b17)
 				return 1;
 		}
+		store64(p10, 0);
+		store64u(p10 + 8, n14);
+		store64u(p10 + 16, n15);
+		memset(p10 + 24, 0, 16);
 		if (load64(p1 + 1368) == load64(p1 + 1360)) {
-			bool b16 = tp_std_alloc_vec_Vec_grow_amortized_5(p1 + 1352);
-			if (!b16)
-				return 1;
+			bool b18 = tp_std_alloc_vec_Vec_grow_amortized_5(p1 + 1352);
+			if (!b18) {
+				bool b19 = tp_Facility_makes_timer(p1, n12, n13, p10);
+				if (b19)
+					return 1;
+			}
 		}
 		if ((load8(p1 + 1312) & 1) != 0) {
-			n17 = 0;
-			n18 = 0;
-			n19 = 1;
 			n20 = 0;
 			n21 = 0;
-			n22 = 0;
-		} else if (load64(p1 + 264) > n10) {
-			uint64_t n23 = n10 << 3;
-			byte *p24 = inside(p1 + 288, n23);
-			uint64_t n25 = load64(p24);
-			if (n11 < n25) {
-				n17 = 2;
-				n18 = n25;
-				n19 = 1;
-				n20 = 0;
+			n22 = 1;
+			n23 = 0;
+			n24 = 0;
+			n25 = 0;
+		} else if (load64(p1 + 264) > n12) {
+			uint64_t n26 = n12 << 3;
+			byte *p27 = inside(p1 + 288, n26);
+			uint64_t n28 = load64(p27);
+			if (n13 < n28) {
+				n20 = 2;
+				n21 = n28;
+				n22 = 1;
+				n23 = 0;
+				n24 = 0;
+				n25 = 0;
+			} else if (n28 > UINT64_C(1152921504606846975)) {
+				n20 = 3;
 				n21 = 0;
-				n22 = 0;
-			} else if (n25 > UINT64_C(1152921504606846975)) {
-				n17 = 3;
-				n18 = 0;
-				n19 = 1;
-				n20 = 0;
-				n21 = 0;
-				n22 = 0;
-			} else if (n25 < n11) {
-				n17 = 4;
-				n18 = n25;
-				n19 = 1;
-				n20 = 0;
-				n21 = 0;
-				n22 = 0;
+				n22 = 1;
+				n23 = 0;
+				n24 = 0;
+				n25 = 0;
+			} else if (n28 < n13) {
+				n20 = 4;
+				n21 = n28;
+				n22 = 1;
+				n23 = 0;
+				n24 = 0;
+				n25 = 0;
 			} else {
-				uint64_t n27, n30, n31, n63;
-				uint8_t n28, n29;
-				of_i8_i8 s26 = tp_Facility_start_refusal(p1, n12);
-				if (s26.f0 == 1) {
-					store64(p24, n11 + 1);
-					n27 = 0;
-					n28 = s26.f1;
-					n29 = 3;
+				uint64_t n30, n33, n34, n64;
+				uint8_t n31, n32;
+				of_i8_i8 s29 = tp_Facility_start_refusal(p1, n14);
+				if (s29.f0 == 1) {
+					store64(p27, n13 + 1);
 					n30 = 0;
-					n31 = 0;
+					n31 = s29.f1;
+					n32 = 3;
+					n33 = 0;
+					n34 = 0;
 				} else {
-					uint64_t n37;
-					uint64_t n32 = load64(p1 + 280);
-					uint64_t n33 = load64(p1 + 16);
-					uint64_t n34 = n33 + n12;
-					bool b35 = n33 < n34;
-					if (b35) {
-						uint64_t n36 = tp_table_bucket_of(load8(p1), n33, n34);
-						n37 = n36;
+					uint64_t n40;
+					uint64_t n35 = load64(p1 + 280);
+					uint64_t n36 = load64(p1 + 16);
+					uint64_t n37 = n36 + n14;
+					bool b38 = n36 < n37;
+					if (b38) {
+						uint64_t n39 = tp_table_bucket_of(load8(p1), n36, n37);
+						n40 = n39;
 					} else {
-						n37 = load64(p1 + 32);
+						n40 = load64(p1 + 32);
 					}
-					store64u(p8, n32);
-					store64u(p8 + 8, n10);
-					store64u(p8 + 16, n11);
-					store64u(p8 + 24, n34);
-					store64u(p8 + 32, n13);
+					store64u(p8, n35);
+					store64u(p8 + 8, n12);
+					store64u(p8 + 16, n13);
+					store64u(p8 + 24, n37);
+					store64u(p8 + 32, n15);
 					store64u(p8 + 40, 0);
-					uint64_t n38 = load64(p1 + 104);
+					uint64_t n41 = load64(p1 + 104);
 					if (load64(p1 + 72) >= load64(p1 + 120)) {
-						uint8_t n39 = tp_links_make_ready(p1 + 40, p1 + 80, n38, load64(p1 + 112));
-						if ((n39 & 1) != 0)
+						uint8_t n42 = tp_links_make_ready(p1 + 40, p1 + 80, n41, load64(p1 + 112));
+						if ((n42 & 1) != 0)
 							return 1;
-						store64(p1 + 120, umin64(load64(p1 + 88) - n38, load64(p1 + 56)));
+						store64(p1 + 120, umin64(load64(p1 + 88) - n41, load64(p1 + 56)));
 					}
-					uint64_t n40 = tp_Slab_insert_reserved(p1 + 40, p8);
-					uint64_t n41 = load64(p1 + 104) + n40;
-					byte *p42 = loadptr(p1 + 80);
-					byte *p43 = inside(p42, n37 << 3);
-					uint32_t n44 = load32(p43);
-					uint32_t n45 = (uint32_t)n41;
-					store32(inside(p42, (uint64_t)n44 << 3) + 4, n45);
-					byte *p46 = inside(p42, n41 << 3);
-					store32(p46, n44);
-					store32(p46 + 4, (uint32_t)n37);
-					store32(p43, n45);
-					store64(p1 + 24, n32);
-					uint8_t n47 = load8(p1);
-					if (b35) {
-						byte *p48 = inside(p1 + 128, (n37 >> 6) << 3);
-						uint64_t n49 = load64(p48);
-						uint64_t n50 = (uint64_t)1 << (n37 & 63);
-						if ((n49 & n50) == 0)
-							store64(p48, n49 | n50);
+					uint64_t n43 = tp_Slab_insert_reserved(p1 + 40, p8);
+					uint64_t n44 = load64(p1 + 104) + n43;
+					byte *p45 = loadptr(p1 + 80);
+					byte *p46 = inside(p45, n40 << 3);
+					uint32_t n47 = load32(p46);
+					uint32_t n48 = (uint32_t)n44;
+					store32(inside(p45, (uint64_t)n47 << 3) + 4, n48);
+					byte *p49 = inside(p45, n44 << 3);
+					store32(p49, n47);
+					store32(p49 + 4, (uint32_t)n40);
+					store32(p46, n48);
+					store64(p1 + 24, n35);
+					uint8_t n50 = load8(p1);
+					if (b38) {
+						byte *p51 = inside(p1 + 128, (n40 >> 3) & 536870904);
+						store64(p51, load64(p51) | ((uint64_t)1 << (n40 & 63)));
 						if ((load8(p1 + 232) & 1) != 0) {
-							if ((uint64_t)((n47 == 0) ? 64 : 60) <= n37) {
-								byte *p51 = at(loadptr(p1 + 208), n37 << 4);
-								uint64_t n52 = load64(p51);
-								if (n34 < n52) {
-									store64(p51, n34);
-									store64(p51 + 8, 1);
-								} else if (n34 == n52) {
-									store64(p51 + 8, load64(p51 + 8) + 1);
+							if ((uint64_t)((n50 == 0) ? 64 : 60) <= n40) {
+								byte *p52 = at(loadptr(p1 + 208), n40 << 4);
+								uint64_t n53 = load64(p52);
+								if (n37 < n53) {
+									store64(p52, n37);
+									store64(p52 + 8, 1);
+								} else if (n37 == n53) {
+									store64(p52 + 8, load64(p52 + 8) + 1);
 								}
 							}
 						}
 					}
 					store64(p1 + 240, load64(p1 + 240) + 1);
 					store64(p1 + 280, load64(p1 + 280) + 1);
-					byte *p53 = inside(p1 + 800, n23);
-					store64(p53, load64(p53) + 1);
-					store64(p24, n11 + 1);
-					uint64_t n54 = load64(p1 + 1360);
-					byte *p55 = inside(loadptr(p1 + 1352), n54 << 4);
-					store64u(p55, n40);
-					store64u(p55 + 8, n32);
-					store64(p1 + 1360, n54 + 1);
-					n27 = n34;
-					n28 = 0;
-					n29 = 0;
-					n30 = n32;
-					n31 = n40;
+					byte *p54 = inside(p1 + 800, n26);
+					store64(p54, load64(p54) + 1);
+					store64(p27, n13 + 1);
+					uint64_t n55 = load64(p1 + 1360);
+					byte *p56 = inside(loadptr(p1 + 1352), n55 << 4);
+					store64u(p56, n43);
+					store64u(p56 + 8, n35);
+					store64(p1 + 1360, n55 + 1);
+					n30 = n37;
+					n31 = 0;
+					n32 = 0;
+					n33 = n35;
+					n34 = n43;
 				}
-				uint64_t n56 = load64(p1 + 64);
-				byte *p57 = loadptr(p1 + 80);
-				uint64_t n58 = load64(p1 + 104);
-				uint64_t n59 = (uint64_t)load32(at(p57, load64(p1 + 32) << 3) + 4);
-				uint64_t n60 = usub_sat64(n59, n58);
-				uint64_t n61 = 0;
-				uint64_t n62 = n59;
+				uint64_t n57 = load64(p1 + 64);
+				byte *p58 = loadptr(p1 + 80);
+				uint64_t n59 = load64(p1 + 104);
+				uint64_t n60 = (uint64_t)load32(at(p58, load64(p1 + 32) << 3) + 4);
+				uint64_t n61 = usub_sat64(n60, n59);
+				uint64_t n62 = 0;
+				uint64_t n63 = n60;
 				for (;;) {
-					if (n61 == n56) {
-						n63 = n56;
+					if (n62 == n57) {
+						n64 = n57;
 						break;
 					}
-					if (n58 > n62) {
-						n63 = n61;
+					if (n59 > n63) {
+						n64 = n62;
 						break;
 					}
-					uint64_t n64 = (uint64_t)load32(at(p57, (n58 + n60) << 3) + 4);
-					n60 = usub_sat64(n64, n58);
-					n61 = n61 + 1;
-					n62 = n64;
+					uint64_t n65 = (uint64_t)load32(at(p58, (n59 + n61) << 3) + 4);
+					n61 = usub_sat64(n65, n59);
+					n62 = n62 + 1;
+					n63 = n65;
 				}
-				if ((((n56 - n63) << 1) + 64) < load64(p1 + 1360)) {
+				if ((((n57 - n64) << 1) + 64) < load64(p1 + 1360)) {
 					tp_handles_sweep(p1 + 1352, p1);
-					n17 = n29;
-					n18 = n31;
-					n19 = 0;
-					n20 = n28;
-					n21 = n30;
-					n22 = n27;
+					n20 = n32;
+					n21 = n34;
+					n22 = 0;
+					n23 = n31;
+					n24 = n33;
+					n25 = n30;
 				} else {
-					n17 = n29;
-					n18 = n31;
-					n19 = 0;
-					n20 = n28;
-					n21 = n30;
-					n22 = n27;
+					n20 = n32;
+					n21 = n34;
+					n22 = 0;
+					n23 = n31;
+					n24 = n33;
+					n25 = n30;
 				}
 			}
 		} else {
-			n17 = 1;
-			n18 = 0;
-			n19 = 1;
-			n20 = 0;
+			n20 = 1;
 			n21 = 0;
-			n22 = 0;
+			n22 = 1;
+			n23 = 0;
+			n24 = 0;
+			n25 = 0;
 		}
-		uint64_t n65 = load64(p3 + 8);
-		byte *p66 = inside(loadptr(p3), n65 << 6);
-		store8(p66, n19);
-		store8(p66 + 1, 0);
-		store64u(p66 + 8, n10);
-		store64u(p66 + 16, n11);
-		store64u(p66 + 24, ((uint64_t)n20 << 8) | (uint64_t)n17);
-		store64u(p66 + 32, n18);
-		store64u(p66 + 40, n21);
-		store64u(p66 + 48, n22);
-		store64u(p66 + 56, 0);
-		store64(p3 + 8, n65 + 1);
+		uint64_t n66 = load64(p3 + 8);
+		byte *p67 = inside(loadptr(p3), n66 << 6);
+		store8(p67, n22);
+		store8(p67 + 1, 0);
+		store64u(p67 + 8, n12);
+		store64u(p67 + 16, n13);
+		store64u(p67 + 24, ((uint64_t)n23 << 8) | (uint64_t)n20);
+		store64u(p67 + 32, n21);
+		store64u(p67 + 40, n24);
+		store64u(p67 + 48, n25);
+		store64u(p67 + 56, 0);
+		store64(p3 + 8, n66 + 1);
 		break;
 	}
 	case 1: {
-		uint64_t n72;
+		uint64_t n73;
 		if (load64(p3 + 16) == 0) {
-			bool b67 = tp_std_alloc_vec_Vec_grow_amortized_6(p3, 1);
-			if (!b67)
+			bool b68 = tp_std_alloc_vec_Vec_grow_amortized_6(p3, 1);
+			if (!b68)
 				return 1;
 		}
-		byte *p68 = loadptr(p1 + 1352);
-		uint64_t n69 = load64(p1 + 1360);
-		if (n69 != 0) {
-			uint64_t n70 = load64(at(at(p68, n69 << 4), UINT64_C(18446744073709551608))) - n12;
-			if (n69 > n70) {
-				byte *p71 = inside(p68, (n69 + (n70 ^ UINT64_MAX)) << 4);
-				if (load64(p71 + 8) != n12)
+		byte *p69 = loadptr(p1 + 1352);
+		uint64_t n70 = load64(p1 + 1360);
+		if (n70 != 0) {
+			uint64_t n71 = load64(at(at(p69, n70 << 4), UINT64_C(18446744073709551608))) - n14;
+			if (n70 > n71) {
+				byte *p72 = inside(p69, (n70 + (n71 ^ UINT64_MAX)) << 4);
+				if (load64(p72 + 8) != n14)
 					goto L1;
-				n72 = load64(p71);
+				n73 = load64(p72);
 				goto L2;
 			}
 		}
-		if (n69 == 0) {
-			n72 = 0;
+		if (n70 == 0) {
+			n73 = 0;
 			goto L2;
 		}
 L1:
 		{
-			uint64_t n73 = 0;
-			uint64_t n74 = n69;
-			while (n74 > 1) {
-				uint64_t n78;
-				uint64_t n75 = n74 >> 1;
-				uint64_t n76 = n73 + n75;
-				uint64_t n77 = load64(at(p68, n76 << 4) + 8);
-				switch ((n77 == n12) ? 1 : (uint8_t)((n77 < n12) ? 0 : 2)) {
+			uint64_t n74 = 0;
+			uint64_t n75 = n70;
+			while (n75 > 1) {
+				uint64_t n79;
+				uint64_t n76 = n75 >> 1;
+				uint64_t n77 = n74 + n76;
+				uint64_t n78 = load64(at(p69, n77 << 4) + 8);
+				switch ((n78 == n14) ? 1 : (uint8_t)((n78 < n14) ? 0 : 2)) {
 				case 0:
 				case 1: {
-					n78 = n76;
+					n79 = n77;
 					break;
 				}
 				case 2: {
-					n78 = n73;
+					n79 = n74;
 					break;
 				}
 				default: {
 					UNREACHABLE();
 				}
 				}
-				n73 = n78;
-				n74 = n74 - n75;
+				n74 = n79;
+				n75 = n75 - n76;
 			}
-			byte *p79 = at(p68, n73 << 4);
-			uint64_t n80 = load64(p79 + 8);
-			switch ((n80 == n12) ? 1 : (uint8_t)((n80 < n12) ? 0 : 2)) {
+			byte *p80 = at(p69, n74 << 4);
+			uint64_t n81 = load64(p80 + 8);
+			switch ((n81 == n14) ? 1 : (uint8_t)((n81 < n14) ? 0 : 2)) {
 			case 1: {
-				n72 = load64(p79);
+				n73 = load64(p80);
 				break;
 			}
 			case 0:
 			case 2: {
-				n72 = 0;
+				n73 = 0;
 				break;
 			}
 			default: {
@@ -62119,168 +62718,153 @@ L1:
 		}
 L2:
 		{
-			uint8_t n82, n84, n85;
-			uint64_t n83;
-			if (load64(p1 + 1368) == n69) {
-				bool b81 = tp_std_alloc_vec_Vec_grow_amortized_5(p1 + 1352);
-				if (!b81)
-					return 1;
-			}
+			uint64_t n82, n84;
+			uint8_t n83;
 			if ((load8(p1 + 1312) & 1) != 0) {
 				n82 = 0;
-				n83 = 0;
-				n84 = 1;
-				n85 = 0;
-			} else if (load64(p1 + 264) > n10) {
-				uint64_t n86 = n10 << 3;
-				byte *p87 = inside(p1 + 288, n86);
-				uint64_t n88 = load64(p87);
-				if (n11 < n88) {
-					n82 = 2;
-					n83 = n88;
-					n84 = 1;
-					n85 = 0;
-				} else if (n88 > UINT64_C(1152921504606846975)) {
-					n82 = 3;
-					n83 = 0;
-					n84 = 1;
-					n85 = 0;
-				} else if (n88 < n11) {
-					n82 = 4;
-					n83 = n88;
-					n84 = 1;
-					n85 = 0;
+				n83 = 1;
+				n84 = 0;
+			} else if (load64(p1 + 264) > n12) {
+				uint64_t n85 = n12 << 3;
+				byte *p86 = inside(p1 + 288, n85);
+				uint64_t n87 = load64(p86);
+				if (n13 < n87) {
+					n82 = n87;
+					n83 = 1;
+					n84 = 2;
+				} else if (n87 > UINT64_C(1152921504606846975)) {
+					n82 = 0;
+					n83 = 1;
+					n84 = 3;
+				} else if (n87 < n13) {
+					n82 = n87;
+					n83 = 1;
+					n84 = 4;
 				} else {
-					uint64_t n89, n101;
-					uint8_t n90, n91;
+					uint64_t n88, n89, n99;
 					memset(p6, 0, 48);
-					tp_Facility_find_named(p6, p1, n10, n72, n12);
+					tp_Facility_find_named(p6, p1, n12, n73, n14);
 					if (load8(p6) == 0) {
-						n89 = 0;
-						n90 = 4;
-						n91 = 3;
+						n88 = 0;
+						n89 = 1027;
 					} else {
-						uint64_t n92 = load64u(p6 + 8);
-						tp_HierWheelWheel_stop(p7, p1, n72, n12);
-						byte *p93 = inside(p1 + 800, n86);
-						store64(p93, load64(p93) - 1);
-						n89 = n92;
-						n90 = 0;
-						n91 = 1;
+						uint64_t n90 = load64u(p6 + 8);
+						tp_HierWheelWheel_stop(p7, p1, n73, n14);
+						byte *p91 = inside(p1 + 800, n85);
+						store64(p91, load64(p91) - 1);
+						n88 = n90;
+						n89 = 1;
 					}
-					store64(p87, n11 + 1);
-					uint64_t n94 = load64(p1 + 64);
-					byte *p95 = loadptr(p1 + 80);
-					uint64_t n96 = load64(p1 + 104);
-					uint64_t n97 = (uint64_t)load32(at(p95, load64(p1 + 32) << 3) + 4);
-					uint64_t n98 = usub_sat64(n97, n96);
-					uint64_t n99 = 0;
-					uint64_t n100 = n97;
+					store64(p86, n13 + 1);
+					uint64_t n92 = load64(p1 + 64);
+					byte *p93 = loadptr(p1 + 80);
+					uint64_t n94 = load64(p1 + 104);
+					uint64_t n95 = (uint64_t)load32(at(p93, load64(p1 + 32) << 3) + 4);
+					uint64_t n96 = usub_sat64(n95, n94);
+					uint64_t n97 = 0;
+					uint64_t n98 = n95;
 					for (;;) {
-						if (n99 == n94) {
-							n101 = n94;
+						if (n97 == n92) {
+							n99 = n92;
 							break;
 						}
-						if (n96 > n100) {
-							n101 = n99;
+						if (n94 > n98) {
+							n99 = n97;
 							break;
 						}
-						uint64_t n102 = (uint64_t)load32(at(p95, (n96 + n98) << 3) + 4);
-						n98 = usub_sat64(n102, n96);
-						n99 = n99 + 1;
-						n100 = n102;
+						uint64_t n100 = (uint64_t)load32(at(p93, (n94 + n96) << 3) + 4);
+						n96 = usub_sat64(n100, n94);
+						n97 = n97 + 1;
+						n98 = n100;
 					}
-					if ((((n94 - n101) << 1) + 64) < load64(p1 + 1360)) {
+					if ((((n92 - n99) << 1) + 64) < load64(p1 + 1360)) {
 						tp_handles_sweep(p1 + 1352, p1);
-						n82 = n91;
-						n83 = n89;
-						n84 = 0;
-						n85 = n90;
+						n82 = n88;
+						n83 = 0;
+						n84 = n89;
 					} else {
-						n82 = n91;
-						n83 = n89;
-						n84 = 0;
-						n85 = n90;
+						n82 = n88;
+						n83 = 0;
+						n84 = n89;
 					}
 				}
 			} else {
-				n82 = 1;
-				n83 = 0;
+				n82 = 0;
+				n83 = 1;
 				n84 = 1;
-				n85 = 0;
 			}
-			uint64_t n103 = load64(p3 + 8);
-			byte *p104 = inside(loadptr(p3), n103 << 6);
-			store8(p104, n84);
-			store8(p104 + 1, 0);
-			store64u(p104 + 8, n10);
-			store64u(p104 + 16, n11);
-			store64u(p104 + 24, ((uint64_t)n85 << 8) | (uint64_t)n82);
-			store64u(p104 + 32, n83);
-			memset(p104 + 40, 0, 24);
-			store64(p3 + 8, n103 + 1);
+			uint64_t n101 = load64(p3 + 8);
+			byte *p102 = inside(loadptr(p3), n101 << 6);
+			store8(p102, n83);
+			store8(p102 + 1, 0);
+			store64u(p102 + 8, n12);
+			store64u(p102 + 16, n13);
+			store64u(p102 + 24, n84);
+			store64u(p102 + 32, n82);
+			memset(p102 + 40, 0, 24);
+			store64(p3 + 8, n101 + 1);
 		}
 		break;
 	}
 	case 2: {
-		uint64_t n110;
+		uint64_t n108;
 		if (load64(p3 + 16) == 0) {
-			bool b105 = tp_std_alloc_vec_Vec_grow_amortized_6(p3, 1);
-			if (!b105)
+			bool b103 = tp_std_alloc_vec_Vec_grow_amortized_6(p3, 1);
+			if (!b103)
 				return 1;
 		}
-		byte *p106 = loadptr(p1 + 1352);
-		uint64_t n107 = load64(p1 + 1360);
-		if (n107 != 0) {
-			uint64_t n108 = load64(at(at(p106, n107 << 4), UINT64_C(18446744073709551608))) - n12;
-			if (n107 > n108) {
-				byte *p109 = inside(p106, (n107 + (n108 ^ UINT64_MAX)) << 4);
-				if (load64(p109 + 8) != n12)
+		byte *p104 = loadptr(p1 + 1352);
+		uint64_t n105 = load64(p1 + 1360);
+		if (n105 != 0) {
+			uint64_t n106 = load64(at(at(p104, n105 << 4), UINT64_C(18446744073709551608))) - n14;
+			if (n105 > n106) {
+				byte *p107 = inside(p104, (n105 + (n106 ^ UINT64_MAX)) << 4);
+				if (load64(p107 + 8) != n14)
 					goto L3;
-				n110 = load64(p109);
+				n108 = load64(p107);
 				goto L4;
 			}
 		}
-		if (n107 == 0) {
-			n110 = 0;
+		if (n105 == 0) {
+			n108 = 0;
 			goto L4;
 		}
 L3:
 		{
-			uint64_t n111 = 0;
-			uint64_t n112 = n107;
-			while (n112 > 1) {
-				uint64_t n116;
-				uint64_t n113 = n112 >> 1;
-				uint64_t n114 = n111 + n113;
-				uint64_t n115 = load64(at(p106, n114 << 4) + 8);
-				switch ((n115 == n12) ? 1 : (uint8_t)((n115 < n12) ? 0 : 2)) {
+			uint64_t n109 = 0;
+			uint64_t n110 = n105;
+			while (n110 > 1) {
+				uint64_t n114;
+				uint64_t n111 = n110 >> 1;
+				uint64_t n112 = n109 + n111;
+				uint64_t n113 = load64(at(p104, n112 << 4) + 8);
+				switch ((n113 == n14) ? 1 : (uint8_t)((n113 < n14) ? 0 : 2)) {
 				case 0:
 				case 1: {
-					n116 = n114;
+					n114 = n112;
 					break;
 				}
 				case 2: {
-					n116 = n111;
+					n114 = n109;
 					break;
 				}
 				default: {
 					UNREACHABLE();
 				}
 				}
-				n111 = n116;
-				n112 = n112 - n113;
+				n109 = n114;
+				n110 = n110 - n111;
 			}
-			byte *p117 = at(p106, n111 << 4);
-			uint64_t n118 = load64(p117 + 8);
-			switch ((n118 == n12) ? 1 : (uint8_t)((n118 < n12) ? 0 : 2)) {
+			byte *p115 = at(p104, n109 << 4);
+			uint64_t n116 = load64(p115 + 8);
+			switch ((n116 == n14) ? 1 : (uint8_t)((n116 < n14) ? 0 : 2)) {
 			case 1: {
-				n110 = load64(p117);
+				n108 = load64(p115);
 				break;
 			}
 			case 0:
 			case 2: {
-				n110 = 0;
+				n108 = 0;
 				break;
 			}
 			default: {
@@ -62290,74 +62874,82 @@ L3:
 		}
 L4:
 		{
-			uint8_t n120, n122, n123;
-			uint64_t n121, n124, n125, n126;
-			if (load64(p1 + 1368) == n107) {
-				bool b119 = tp_std_alloc_vec_Vec_grow_amortized_5(p1 + 1352);
-				if (!b119)
-					return 1;
+			uint8_t n119, n121, n122;
+			uint64_t n120, n123, n124, n125;
+			store64u(p9, 3);
+			store64u(p9 + 8, n108);
+			store64u(p9 + 16, n14);
+			store64u(p9 + 24, n15);
+			store64u(p9 + 32, n16);
+			if (load64(p1 + 1368) == n105) {
+				bool b117 = tp_std_alloc_vec_Vec_grow_amortized_5(p1 + 1352);
+				if (!b117) {
+					bool b118 = tp_Facility_makes_timer(p1, n12, n13, p9);
+					if (b118)
+						return 1;
+				}
 			}
 			if ((load8(p1 + 1312) & 1) != 0) {
+				n119 = 0;
 				n120 = 0;
-				n121 = 0;
-				n122 = 1;
+				n121 = 1;
+				n122 = 0;
 				n123 = 0;
 				n124 = 0;
 				n125 = 0;
-				n126 = 0;
-			} else if (load64(p1 + 264) > n10) {
-				byte *p127 = inside(p1 + 288, n10 << 3);
-				uint64_t n128 = load64(p127);
-				if (n11 < n128) {
-					n120 = 2;
-					n121 = n128;
-					n122 = 1;
+			} else if (load64(p1 + 264) > n12) {
+				byte *p126 = inside(p1 + 288, n12 << 3);
+				uint64_t n127 = load64(p126);
+				if (n13 < n127) {
+					n119 = 2;
+					n120 = n127;
+					n121 = 1;
+					n122 = 0;
 					n123 = 0;
 					n124 = 0;
 					n125 = 0;
-					n126 = 0;
-				} else if (n128 > UINT64_C(1152921504606846975)) {
-					n120 = 3;
-					n121 = 0;
-					n122 = 1;
+				} else if (n127 > UINT64_C(1152921504606846975)) {
+					n119 = 3;
+					n120 = 0;
+					n121 = 1;
+					n122 = 0;
 					n123 = 0;
 					n124 = 0;
 					n125 = 0;
-					n126 = 0;
-				} else if (n128 < n11) {
-					n120 = 4;
-					n121 = n128;
-					n122 = 1;
+				} else if (n127 < n13) {
+					n119 = 4;
+					n120 = n127;
+					n121 = 1;
+					n122 = 0;
 					n123 = 0;
 					n124 = 0;
 					n125 = 0;
-					n126 = 0;
 				} else {
-					uint64_t n146;
+					uint64_t n145;
 					memset(p5, 0, 40);
-					tp_Facility_take_restart(p5, p1, n10, n11, n110, n12, n13, n14);
-					uint8_t n129 = load8(p5);
-					uint8_t n130 = load8(p5 + 1);
-					uint64_t n131 = load64u(p5 + 8);
-					uint64_t n132 = load64u(p5 + 16);
-					uint64_t n133 = load64u(p5 + 24);
-					uint64_t n134 = load64u(p5 + 32);
-					store64(p127, n11 + 1);
-					switch (n129) {
+					tp_Facility_take_restart(p5, p1, n12, n13, n108, n14, n15, n15, n16);
+					uint8_t n128 = load8(p5);
+					uint8_t n129 = load8(p5 + 1);
+					uint64_t n130 = load64u(p5 + 8);
+					uint64_t n131 = load64u(p5 + 16);
+					uint64_t n132 = load64u(p5 + 24);
+					uint64_t n133 = load64u(p5 + 32);
+					store64(p126, n13 + 1);
+					switch (n128) {
 					case 0: {
-						uint64_t n135 = load64(p1 + 1360);
-						byte *p136 = inside(loadptr(p1 + 1352), n135 << 4);
-						store64u(p136, n131);
-						store64u(p136 + 8, n132);
-						store64(p1 + 1360, n135 + 1);
+						uint64_t n134 = load64(p1 + 1360);
+						byte *p135 = inside(loadptr(p1 + 1352), n134 << 4);
+						store64u(p135, n130);
+						store64u(p135 + 8, n131);
+						store64(p1 + 1360, n134 + 1);
 						break;
 					}
 					case 2: {
-						uint64_t n137 = load64(p1 + 1360);
-						byte *p138 = inside(loadptr(p1 + 1352), n137 << 4);
-						store64u(p138, n131);
-						store64u(p138 + 8, n132);
-						store64(p1 + 1360, n137 + 1);
+						uint64_t n136 = load64(p1 + 1360);
+						byte *p137 = inside(loadptr(p1 + 1352), n136 << 4);
+						store64u(p137, n130);
+						store64u(p137 + 8, n131);
+						store64(p1 + 1360, n136 + 1);
 						break;
 					}
 					case 1:
@@ -62368,228 +62960,253 @@ L4:
 						UNREACHABLE();
 					}
 					}
-					uint64_t n139 = load64(p1 + 64);
-					byte *p140 = loadptr(p1 + 80);
-					uint64_t n141 = load64(p1 + 104);
-					uint64_t n142 = (uint64_t)load32(at(p140, load64(p1 + 32) << 3) + 4);
-					uint64_t n143 = usub_sat64(n142, n141);
-					uint64_t n144 = 0;
-					uint64_t n145 = n142;
+					uint64_t n138 = load64(p1 + 64);
+					byte *p139 = loadptr(p1 + 80);
+					uint64_t n140 = load64(p1 + 104);
+					uint64_t n141 = (uint64_t)load32(at(p139, load64(p1 + 32) << 3) + 4);
+					uint64_t n142 = usub_sat64(n141, n140);
+					uint64_t n143 = 0;
+					uint64_t n144 = n141;
 					for (;;) {
-						if (n144 == n139) {
-							n146 = n139;
+						if (n143 == n138) {
+							n145 = n138;
 							break;
 						}
-						if (n141 > n145) {
-							n146 = n144;
+						if (n140 > n144) {
+							n145 = n143;
 							break;
 						}
-						uint64_t n147 = (uint64_t)load32(at(p140, (n141 + n143) << 3) + 4);
-						n143 = usub_sat64(n147, n141);
-						n144 = n144 + 1;
-						n145 = n147;
+						uint64_t n146 = (uint64_t)load32(at(p139, (n140 + n142) << 3) + 4);
+						n142 = usub_sat64(n146, n140);
+						n143 = n143 + 1;
+						n144 = n146;
 					}
-					if ((((n139 - n146) << 1) + 64) < load64(p1 + 1360)) {
+					if ((((n138 - n145) << 1) + 64) < load64(p1 + 1360)) {
 						tp_handles_sweep(p1 + 1352, p1);
-						n120 = n129;
-						n121 = n131;
-						n122 = 0;
-						n123 = n130;
+						n119 = n128;
+						n120 = n130;
+						n121 = 0;
+						n122 = n129;
+						n123 = n131;
 						n124 = n132;
 						n125 = n133;
-						n126 = n134;
 					} else {
-						n120 = n129;
-						n121 = n131;
-						n122 = 0;
-						n123 = n130;
+						n119 = n128;
+						n120 = n130;
+						n121 = 0;
+						n122 = n129;
+						n123 = n131;
 						n124 = n132;
 						n125 = n133;
-						n126 = n134;
 					}
 				}
 			} else {
-				n120 = 1;
-				n121 = 0;
-				n122 = 1;
+				n119 = 1;
+				n120 = 0;
+				n121 = 1;
+				n122 = 0;
 				n123 = 0;
 				n124 = 0;
 				n125 = 0;
-				n126 = 0;
 			}
-			uint64_t n148 = load64(p3 + 8);
-			byte *p149 = inside(loadptr(p3), n148 << 6);
-			store8(p149, n122);
-			store8(p149 + 1, 0);
-			store64u(p149 + 8, n10);
-			store64u(p149 + 16, n11);
-			store64u(p149 + 24, ((uint64_t)n123 << 8) | (uint64_t)n120);
-			store64u(p149 + 32, n121);
-			store64u(p149 + 40, n124);
-			store64u(p149 + 48, n125);
-			store64u(p149 + 56, n126);
-			store64(p3 + 8, n148 + 1);
+			uint64_t n147 = load64(p3 + 8);
+			byte *p148 = inside(loadptr(p3), n147 << 6);
+			store8(p148, n121);
+			store8(p148 + 1, 0);
+			store64u(p148 + 8, n12);
+			store64u(p148 + 16, n13);
+			store64u(p148 + 24, ((uint64_t)n122 << 8) | (uint64_t)n119);
+			store64u(p148 + 32, n120);
+			store64u(p148 + 40, n123);
+			store64u(p148 + 48, n124);
+			store64u(p148 + 56, n125);
+			store64(p3 + 8, n147 + 1);
 		}
 		break;
 	}
 	case 3: {
-		uint64_t n157, n166;
-		uint8_t n162;
-		byte *p167;
-		uint64_t n150 = load64(p1 + 64);
-		byte *p151 = loadptr(p1 + 80);
-		uint64_t n152 = load64(p1 + 104);
-		uint64_t n153 = (uint64_t)load32(at(p151, load64(p1 + 32) << 3) + 4);
-		uint64_t n154 = usub_sat64(n153, n152);
-		uint64_t n155 = 0;
-		uint64_t n156 = n153;
+		uint64_t n156, n170;
+		uint8_t n161;
+		byte *p171;
+		uint64_t n149 = load64(p1 + 64);
+		byte *p150 = loadptr(p1 + 80);
+		uint64_t n151 = load64(p1 + 104);
+		uint64_t n152 = (uint64_t)load32(at(p150, load64(p1 + 32) << 3) + 4);
+		uint64_t n153 = usub_sat64(n152, n151);
+		uint64_t n154 = 0;
+		uint64_t n155 = n152;
 		for (;;) {
-			if (n155 == n150) {
-				n157 = n150;
+			if (n154 == n149) {
+				n156 = n149;
 				break;
 			}
-			if (n152 > n156) {
-				n157 = n155;
+			if (n151 > n155) {
+				n156 = n154;
 				break;
 			}
-			uint64_t n158 = (uint64_t)load32(at(p151, (n152 + n154) << 3) + 4);
-			n154 = usub_sat64(n158, n152);
-			n155 = n155 + 1;
-			n156 = n158;
+			uint64_t n157 = (uint64_t)load32(at(p150, (n151 + n153) << 3) + 4);
+			n153 = usub_sat64(n157, n151);
+			n154 = n154 + 1;
+			n155 = n157;
 		}
-		uint64_t n159 = (n150 - n157) + 1;
-		if (n159 > load64(p3 + 16)) {
-			bool b160 = tp_std_alloc_vec_Vec_grow_amortized_6(p3, n159);
-			if (!b160)
+		uint64_t n158 = (n149 - n156) + 1;
+		if (n158 > load64(p3 + 16)) {
+			bool b159 = tp_std_alloc_vec_Vec_grow_amortized_6(p3, n158);
+			if (!b159)
 				return 1;
 		}
-		uint64_t n161 = n10;
+		uint64_t n160 = n12;
 		for (;;) {
-			if (n161 == 0)
+			uint64_t n168, n169;
+			if (n160 == 0)
 				goto L5;
 			if ((load8(p1 + 1312) & 1) != 0) {
-				n162 = 0;
+				n161 = 0;
 				break;
 			}
-			uint64_t n163 = load64(p1 + 16);
-			uint64_t n164 = load64(p1 + 8);
-			if (n163 == n164) {
-				n162 = 1;
+			uint64_t n162 = load64(p1 + 16);
+			uint64_t n163 = load64(p1 + 8);
+			if (n162 == n163) {
+				n161 = 1;
 				break;
 			}
-			uint64_t n165 = tp_HierWheelWheel_advance(p1, umin64(n164 - n163, n161));
-			tp_player_hand_out(p1, p3);
-			n161 = n161 - n165;
+			uint64_t n164 = umin64(n163 - n162, n160);
+			uint64_t n165 = n162 + n164;
+			if (load8(p1) == 0) {
+				if ((n165 ^ n162) < 64) {
+					uint64_t n166 = load64(p1 + 128);
+					if ((n166 == 0) || ((n165 & 63) < cttz64(n166)))
+						goto L6;
+				}
+			} else if ((n165 / 60) == (n162 / 60)) {
+				uint64_t n167 = load64(p1 + 128);
+				if ((n167 == 0) || ((n165 % 60) < cttz64(n167)))
+					goto L6;
+			}
+			n168 = tp_HierWheel_advance_far(p1, n164);
+			n169 = n168;
+			goto L7;
+L6:
+			{
+				store64(p1 + 16, n165);
+				store64(p1 + 256, load64(p1 + 256) + n164);
+				n169 = n164;
+			}
+L7:
+			{
+				tp_player_hand_out(p1, p3);
+				n160 = n160 - n169;
+			}
 		}
-		n166 = load64(p3 + 8);
-		p167 = inside(loadptr(p3), n166 << 6);
-		store8(p167, 3);
-		store8(p167 + 1, n162);
-		memset(p167 + 8, 0, 56);
-		store64(p3 + 8, n166 + 1);
+		n170 = load64(p3 + 8);
+		p171 = inside(loadptr(p3), n170 << 6);
+		store8(p171, 3);
+		store8(p171 + 1, n161);
+		memset(p171 + 8, 0, 56);
+		store64(p3 + 8, n170 + 1);
 L5:
 		{
-			uint64_t n175;
-			uint64_t n168 = load64(p1 + 64);
-			byte *p169 = loadptr(p1 + 80);
-			uint64_t n170 = load64(p1 + 104);
-			uint64_t n171 = (uint64_t)load32(at(p169, load64(p1 + 32) << 3) + 4);
-			uint64_t n172 = usub_sat64(n171, n170);
-			uint64_t n173 = 0;
-			uint64_t n174 = n171;
+			uint64_t n179;
+			uint64_t n172 = load64(p1 + 64);
+			byte *p173 = loadptr(p1 + 80);
+			uint64_t n174 = load64(p1 + 104);
+			uint64_t n175 = (uint64_t)load32(at(p173, load64(p1 + 32) << 3) + 4);
+			uint64_t n176 = usub_sat64(n175, n174);
+			uint64_t n177 = 0;
+			uint64_t n178 = n175;
 			for (;;) {
-				if (n173 == n168) {
-					n175 = n168;
+				if (n177 == n172) {
+					n179 = n172;
 					break;
 				}
-				if (n170 > n174) {
-					n175 = n173;
+				if (n174 > n178) {
+					n179 = n177;
 					break;
 				}
-				uint64_t n176 = (uint64_t)load32(at(p169, (n170 + n172) << 3) + 4);
-				n172 = usub_sat64(n176, n170);
-				n173 = n173 + 1;
-				n174 = n176;
+				uint64_t n180 = (uint64_t)load32(at(p173, (n174 + n176) << 3) + 4);
+				n176 = usub_sat64(n180, n174);
+				n177 = n177 + 1;
+				n178 = n180;
 			}
-			if ((((n168 - n175) << 1) + 64) < load64(p1 + 1360))
+			if ((((n172 - n179) << 1) + 64) < load64(p1 + 1360))
 				tp_handles_sweep(p1 + 1352, p1);
 		}
 		break;
 	}
 	case 4: {
-		uint64_t n184;
-		uint64_t n177 = load64(p1 + 64);
-		byte *p178 = loadptr(p1 + 80);
-		uint64_t n179 = load64(p1 + 104);
-		uint64_t n180 = (uint64_t)load32(at(p178, load64(p1 + 32) << 3) + 4);
-		uint64_t n181 = usub_sat64(n180, n179);
-		uint64_t n182 = 0;
-		uint64_t n183 = n180;
+		uint64_t n188;
+		uint64_t n181 = load64(p1 + 64);
+		byte *p182 = loadptr(p1 + 80);
+		uint64_t n183 = load64(p1 + 104);
+		uint64_t n184 = (uint64_t)load32(at(p182, load64(p1 + 32) << 3) + 4);
+		uint64_t n185 = usub_sat64(n184, n183);
+		uint64_t n186 = 0;
+		uint64_t n187 = n184;
 		for (;;) {
-			if (n182 == n177) {
-				n184 = n177;
+			if (n186 == n181) {
+				n188 = n181;
 				break;
 			}
-			if (n179 > n183) {
-				n184 = n182;
+			if (n183 > n187) {
+				n188 = n186;
 				break;
 			}
-			uint64_t n185 = (uint64_t)load32(at(p178, (n179 + n181) << 3) + 4);
-			n181 = usub_sat64(n185, n179);
-			n182 = n182 + 1;
-			n183 = n185;
+			uint64_t n189 = (uint64_t)load32(at(p182, (n183 + n185) << 3) + 4);
+			n185 = usub_sat64(n189, n183);
+			n186 = n186 + 1;
+			n187 = n189;
 		}
-		uint64_t n186 = (n177 - n184) + 1;
-		if (n186 > load64(p3 + 16)) {
-			bool b187 = tp_std_alloc_vec_Vec_grow_amortized_6(p3, n186);
-			if (!b187)
+		uint64_t n190 = (n181 - n188) + 1;
+		if (n190 > load64(p3 + 16)) {
+			bool b191 = tp_std_alloc_vec_Vec_grow_amortized_6(p3, n190);
+			if (!b191)
 				return 1;
 		}
 		if ((load8(p1 + 1312) & 1) != 0) {
-			uint64_t n188 = load64(p3 + 8);
-			byte *p189 = inside(loadptr(p3), n188 << 6);
-			store8(p189, 5);
-			store8(p189 + 1, 0);
-			memset(p189 + 8, 0, 56);
-			store64(p3 + 8, n188 + 1);
+			uint64_t n192 = load64(p3 + 8);
+			byte *p193 = inside(loadptr(p3), n192 << 6);
+			store8(p193, 5);
+			store8(p193 + 1, 0);
+			memset(p193 + 8, 0, 56);
+			store64(p3 + 8, n192 + 1);
 		} else {
-			uint64_t n201;
-			uint8_t n190 = tp_facility_take_all(p1, p1 + 1320);
-			if ((n190 & 1) != 0)
+			uint64_t n205;
+			uint8_t n194 = tp_facility_take_all(p1, p1 + 1320);
+			if ((n194 & 1) != 0)
 				return 1;
 			store64(p1 + 1344, 0);
 			store8(p1 + 1312, 1);
-			uint64_t n191 = load64(p3 + 8);
-			byte *p192 = inside(loadptr(p3), n191 << 6);
-			uint64_t n193 = load64(p1 + 1328);
-			store8(p192, 4);
-			store8(p192 + 1, 0);
-			store64u(p192 + 8, n193);
-			memset(p192 + 16, 0, 48);
-			store64(p3 + 8, n191 + 1);
+			uint64_t n195 = load64(p3 + 8);
+			byte *p196 = inside(loadptr(p3), n195 << 6);
+			uint64_t n197 = load64(p1 + 1328);
+			store8(p196, 4);
+			store8(p196 + 1, 0);
+			store64u(p196 + 8, n197);
+			memset(p196 + 16, 0, 48);
+			store64(p3 + 8, n195 + 1);
 			tp_player_hand_out(p1, p3);
-			uint64_t n194 = load64(p1 + 64);
-			byte *p195 = loadptr(p1 + 80);
-			uint64_t n196 = load64(p1 + 104);
-			uint64_t n197 = (uint64_t)load32(at(p195, load64(p1 + 32) << 3) + 4);
-			uint64_t n198 = usub_sat64(n197, n196);
-			uint64_t n199 = 0;
-			uint64_t n200 = n197;
+			uint64_t n198 = load64(p1 + 64);
+			byte *p199 = loadptr(p1 + 80);
+			uint64_t n200 = load64(p1 + 104);
+			uint64_t n201 = (uint64_t)load32(at(p199, load64(p1 + 32) << 3) + 4);
+			uint64_t n202 = usub_sat64(n201, n200);
+			uint64_t n203 = 0;
+			uint64_t n204 = n201;
 			for (;;) {
-				if (n199 == n194) {
-					n201 = n194;
+				if (n203 == n198) {
+					n205 = n198;
 					break;
 				}
-				if (n196 > n200) {
-					n201 = n199;
+				if (n200 > n204) {
+					n205 = n203;
 					break;
 				}
-				uint64_t n202 = (uint64_t)load32(at(p195, (n196 + n198) << 3) + 4);
-				n198 = usub_sat64(n202, n196);
-				n199 = n199 + 1;
-				n200 = n202;
+				uint64_t n206 = (uint64_t)load32(at(p199, (n200 + n202) << 3) + 4);
+				n202 = usub_sat64(n206, n200);
+				n203 = n203 + 1;
+				n204 = n206;
 			}
-			if ((((n194 - n201) << 1) + 64) < load64(p1 + 1360))
+			if ((((n198 - n205) << 1) + 64) < load64(p1 + 1360))
 				tp_handles_sweep(p1 + 1352, p1);
 		}
 		break;
@@ -62598,8 +63215,8 @@ L5:
 		UNREACHABLE();
 	}
 	}
-	uint8_t n203 = tp_text_push_outs(p4, loadptr(p3), load64(p3 + 8));
-	return n203;
+	uint8_t n207 = tp_text_push_outs(p4, loadptr(p3), load64(p3 + 8));
+	return n207;
 }
 
 /* timer_script::script_run::play_ticks: crates/timer_script/src/script_run.rt */
@@ -65548,8 +66165,8 @@ static byte *tp_call_once_thread_called_by_C_0(byte *p1)
 		}
 L3:
 		{
-			uint8_t n55, n58, n72, n75;
-			uint64_t n56, n57, n59, n60, n61, n62, n63, n68, n69, n71, n73, n74;
+			uint8_t n55, n58, n73, n75;
+			uint64_t n56, n57, n59, n60, n61, n62, n63, n68, n69, n71, n72, n74;
 			byte *p70;
 			uint64_t n53 = n18 << 1;
 			if (n30 == (n29 - ((n29 > n30) ? n53 : 0))) {
@@ -65602,10 +66219,10 @@ L3:
 				n68 = n30;
 			}
 			n69 = (n29 < (n53 - 1)) ? (n29 + 1) : 0;
-			p70 = inside(p17, (n29 - ((n29 < n18) ? 0 : n18)) * 56);
+			p70 = inside(p17, (n29 - ((n29 < n18) ? 0 : n18)) << 6);
 			n71 = load64u(p70 + 8);
-			n72 = load8(p70 + 16);
-			n73 = load56u(p70 + 17);
+			n72 = load64u(p70 + 16);
+			n73 = load8(p70 + 24);
 			n74 = load64u(p70 + 40);
 			n75 = load8(p70);
 			BARRIER();
@@ -65613,7 +66230,7 @@ L3:
 			BARRIER();
 			switch (n75) {
 			case 0: {
-				switch (n72) {
+				switch (n73) {
 				case 0: {
 					uint8_t n76;
 					if (n21 > n33) {
@@ -65660,7 +66277,7 @@ L3:
 							if (n37 < n74) {
 								n77 = 0;
 							} else if (n37 == n74) {
-								n77 = (uint8_t)(n36 >= ((n73 << 8) | (uint64_t)n72));
+								n77 = (uint8_t)(n36 >= n72);
 							} else {
 								n77 = 1;
 							}
@@ -65672,7 +66289,7 @@ L3:
 					}
 					n55 = n77;
 					n56 = n74;
-					n57 = (n73 << 8) | (uint64_t)n72;
+					n57 = n72;
 					n58 = 1;
 					n59 = n34 + 1;
 					n60 = n33;
@@ -65927,16 +66544,16 @@ static COLD bool tp_std_alloc_vec_Vec_grow_amortized_3(byte *p1, uint64_t n2)
 	uint64_t n5 = umax64(n3 + n2, 4);
 	uint64_t n6 = umax64(n5, n4 << 1);
 	uint64_t n7 = (n4 < UINT64_C(4611686018427387904)) ? n6 : n5;
-	if (n7 > UINT64_C(72057594037927935))
+	if (n7 > UINT64_C(67818912035696880))
 		return false;
 	if (n4 == 0) {
-		of_i64_i64 s8 = rattle_alloc(n6 << 7, 8);
+		of_i64_i64 s8 = rattle_alloc(n6 * 136, 8);
 		bool b9 = (s8.f0 & 1) != 0;
 		if (!b9)
 			return false;
 		p10 = b9 ? (byte *)(uintptr_t)s8.f1 : NULL;
 	} else {
-		of_i64_i64 s11 = rattle_realloc(loadptr(p1), n3 << 7, n7 << 7, 8);
+		of_i64_i64 s11 = rattle_realloc(loadptr(p1), n3 * 136, n7 * 136, 8);
 		bool b12 = (s11.f0 & 1) != 0;
 		if (!b12)
 			return false;
@@ -65945,6 +66562,89 @@ static COLD bool tp_std_alloc_vec_Vec_grow_amortized_3(byte *p1, uint64_t n2)
 	storeptr(p1, p10);
 	store64(p1 + 16, n7);
 	return true;
+}
+
+/* timer_desk::dispatch::hand_out_and_report: crates/timer_desk/src/dispatch.rt */
+static void tp_dispatch_hand_out_and_report(byte *p1, byte *p2, byte *p3)
+{
+	ALIGN(8) byte p4[24];
+	ALIGN(8) byte p5[24];
+	ALIGN(8) byte p6[24];
+	for (;;) {
+		uint64_t n21, n22, n23;
+		uint64_t n7 = load64(p1 + 32);
+		byte *p8 = loadptr(p1 + 80);
+		uint64_t n9 = n7 << 3;
+		uint64_t n10 = load64(p1 + 104);
+		uint64_t n11 = (uint64_t)load32(at(p8, n9) + 4);
+		uint64_t n12 = usub_sat64(n11, n10);
+		if (n10 <= n11) {
+			uint32_t n13 = load32(at(p8, (n10 + n12) << 3) + 4);
+			byte *p14 = at(loadptr(p1 + 40), n12 * 56);
+			uint64_t n15 = load64u(p14 + 8);
+			uint64_t n16 = load64u(p14 + 16);
+			uint64_t n17 = load64(p1 + 72);
+			uint8_t n18 = load8(p14);
+			memcpy(p4, p14 + 24, 24);
+			store64u(p14, 0);
+			store64u(p14 + 8, n17);
+			memset(p14 + 16, 0, 40);
+			if (n18 != 1) {
+				TRAP();
+				UNREACHABLE();
+			}
+			store64(p1 + 64, load64(p1 + 64) - 1);
+			store64(p1 + 72, n12);
+			memcpy(p5, p4, 24);
+			byte *p19 = loadptr(p1 + 80);
+			store32(inside(p19, n9) + 4, n13);
+			store32(inside(p19, (uint64_t)n13 << 3), (uint32_t)n7);
+			byte *p20 = inside(p1 + 800, n16 << 3);
+			store64(p20, load64(p20) - 1);
+			n21 = 0;
+			n22 = n15;
+			n23 = n16;
+		} else {
+			uint64_t n24 = load64(p1 + 1344);
+			if (n24 == load64(p1 + 1328))
+				return;
+			byte *p25 = at(loadptr(p1 + 1320), n24 * 40);
+			uint64_t n26 = load64u(p25 + 8);
+			uint64_t n27 = load64u(p25);
+			memcpy(p5, p25 + 16, 24);
+			store64(p1 + 1344, n24 + 1);
+			byte *p28 = inside(p1 + 800, n26 << 3);
+			store64(p28, load64(p28) - 1);
+			n21 = 1;
+			n22 = n27;
+			n23 = n26;
+		}
+		byte *p29 = at(loadptr(p2), n23 * 88);
+		uint64_t n30 = load64(p29 + 16);
+		uint64_t n31 = load64(p29 + 8);
+		if (n31 > n30) {
+			uint64_t n32 = load64(p29 + 24) + n30;
+			byte *p33 = inside(loadptru(p29), (n32 - ((n32 < n31) ? 0 : n31)) << 6);
+			store64u(p33, 2);
+			store64u(p33 + 8, n21);
+			store64u(p33 + 16, n22);
+			store64u(p33 + 24, n23);
+			memcpy(p33 + 32, p5, 24);
+			store64u(p33 + 56, 0);
+			store64(p29 + 16, load64(p29 + 16) + 1);
+		}
+		memcpy(p6, p5, 24);
+		uint64_t n34 = load64(p3 + 8);
+		byte *p35 = inside(loadptr(p3), n34 * 136);
+		store8(p35, 4);
+		memset(p35 + 1, 0, 7);
+		store64u(p35 + 8, n21);
+		store64u(p35 + 16, n22);
+		store64u(p35 + 24, n23);
+		memcpy(p35 + 32, p6, 24);
+		memset(p35 + 56, 0, 80);
+		store64(p3 + 8, n34 + 1);
+	}
 }
 
 /* timer_desk::ring::RingInletInlet::put_slice: crates/timer_desk/src/ring.rt */
@@ -65981,41 +66681,45 @@ static uint64_t tp_RingInletInlet_put_slice(byte *p1, byte *p2, uint64_t n3)
 		byte *p20 = loadptru(p1 + 48);
 		uint64_t n21 = 0;
 		while (n21 != n18) {
-			byte *p22 = inside(p2, n21 * 56);
-			byte *p23 = inside(p20, (n17 + n21) * 56);
+			byte *p22 = inside(p2, n21 << 6);
+			byte *p23 = inside(p20, (n17 + n21) << 6);
 			uint64_t n24 = (uint64_t)load8(p22);
 			uint64_t n25 = load64u(p22 + 8);
+			uint64_t n26 = load64u(p22 + 56);
 			memcpy(p5, p22 + 16, 40);
 			store64u(p23, n24);
 			store64u(p23 + 8, n25);
 			memcpy(p23 + 16, p5, 40);
+			store64u(p23 + 56, n26);
 			n21 = n21 + 1;
 		}
-		byte *p26 = at(p2, n18 * 56);
-		uint64_t n27 = n15 - n18;
+		byte *p27 = at(p2, n18 << 6);
+		uint64_t n28 = n15 - n18;
 		storeptru(p1 + 40, p19);
 		storeptru(p1 + 48, p20);
-		uint64_t n28 = 0;
-		while (n28 != n27) {
-			uint64_t n29 = n28 * 56;
-			byte *p30 = inside(p26, n29);
-			byte *p31 = inside(p20, n29);
-			uint64_t n32 = (uint64_t)load8(p30);
-			uint64_t n33 = load64u(p30 + 8);
-			memcpy(p4, p30 + 16, 40);
-			store64u(p31, n32);
-			store64u(p31 + 8, n33);
-			memcpy(p31 + 16, p4, 40);
-			n28 = n28 + 1;
+		uint64_t n29 = 0;
+		while (n29 != n28) {
+			uint64_t n30 = n29 << 6;
+			byte *p31 = inside(p27, n30);
+			byte *p32 = inside(p20, n30);
+			uint64_t n33 = (uint64_t)load8(p31);
+			uint64_t n34 = load64u(p31 + 8);
+			uint64_t n35 = load64u(p31 + 56);
+			memcpy(p4, p31 + 16, 40);
+			store64u(p32, n33);
+			store64u(p32 + 8, n34);
+			memcpy(p32 + 16, p4, 40);
+			store64u(p32 + 56, n35);
+			n29 = n29 + 1;
 		}
 		storeptru(p1 + 40, p19);
 		storeptru(p1 + 48, p20);
-		uint64_t n34 = (n14 << 1) - n13;
-		uint64_t n35 = n15 + ((n15 < n34) ? n13 : (0 - n34));
+		uint64_t n36 = (n14 << 1) - n13;
+		uint64_t n37 = n15 + ((n15 < n36) ? n13 : (0 - n36));
 		BARRIER();
-		atomic_store64(p19 + 128, n35, ORDER_SEQ_CST);
+		atomic_store64(p19 + 128, n37, ORDER_SEQ_CST);
 		BARRIER();
-		n16 = n35;
+		n16 = n37;
 	}
 	store64(p1 + 72, n16);
 	return n15;
@@ -66213,13 +66917,13 @@ static void tp_threads_drive_beside(byte *p1, byte *p2, byte *p3, byte *p4, uint
 	ALIGN(8) byte p8[40];
 	ALIGN(8) byte p9[40];
 	ALIGN(8) byte p10[24];
-	ALIGN(8) byte p11[24];
-	ALIGN(8) byte p12[24];
-	ALIGN(8) byte p13[24];
-	ALIGN(8) byte p14[40];
-	ALIGN(8) byte p15[40];
-	ALIGN(8) byte p16[48];
-	ALIGN(8) byte p17[24];
+	ALIGN(8) byte p11[40];
+	ALIGN(8) byte p12[40];
+	ALIGN(8) byte p13[48];
+	ALIGN(1) byte p14[7];
+	ALIGN(8) byte p15[24];
+	ALIGN(8) byte p16[24];
+	ALIGN(1) byte p17[31];
 	ALIGN(8) byte p18[1424];
 	ALIGN(8) byte p19[24];
 	ALIGN(8) byte p20[16];
@@ -66777,7 +67481,7 @@ static void tp_threads_drive_beside(byte *p1, byte *p2, byte *p3, byte *p4, uint
 	for (;;) {
 		if (n377 == n191)
 			goto L2;
-		of_i64_i64 s378 = rattle_alloc(57344, 8);
+		of_i64_i64 s378 = rattle_alloc(65536, 8);
 		if ((s378.f0 & 1) == 0)
 			break;
 		byte *p379 = inside(p199, n377 * 88);
@@ -67715,16 +68419,16 @@ L6:
 		p427 = p6;
 L7:
 		{
-			uint64_t n497, n783, n785, n787, n789, n791, n793, n794, n796, n797, n799;
-			byte *p499, *p782, *p784, *p786, *p788, *p790, *p792, *p795, *p798;
+			byte *p731, *p754, *p756, *p758, *p760, *p762, *p764, *p767, *p770;
+			uint64_t n733, n755, n757, n759, n761, n763, n765, n766, n768, n769, n771;
 			storeptru(p19, p6);
 			memset(p19 + 8, 0, 16);
 			uint64_t n460 = 0;
 			while (n460 < 10000000) {
 				byte *p463, *p480, *p482, *p486;
-				uint64_t n464, n465, n466, n467, n468, n469, n471, n473, n474, n479, n481, n483, n485, n487, n488, n489, n490, n491, n492, n494, n495, n498, n500, n501, n762, n773;
+				uint64_t n464, n465, n466, n467, n468, n469, n471, n473, n474, n479, n481, n483, n485, n487, n488, n489, n490, n491, n492, n494, n496, n732, n734, n745;
 				bool b484;
-				uint8_t n763;
+				uint8_t n735;
 				uint64_t n461 = 0;
 				for (;;) {
 					if (n461 == n200)
@@ -67738,7 +68442,7 @@ L7:
 				}
 				p463 = loadptr(p18 + 80);
 				if (n461 >= n200) {
-					p782 = p463;
+					p754 = p463;
 					goto L10;
 				}
 				n464 = load64(p18 + 64);
@@ -67793,6 +68497,7 @@ L7:
 				n481 = n479 + 1;
 				store64(p19 + 8, n481);
 				p482 = loadptr(p19);
+				memset(p17, 0, 7);
 				n483 = n481 << 1;
 				b484 = (int64_t)n481 > (int64_t)UINT64_MAX;
 				n485 = load64(p18 + 64);
@@ -67817,74 +68522,75 @@ L7:
 					n491 = n493;
 				}
 				n494 = b484 ? uadd_sat64(n485 - n492, n483) : UINT64_MAX;
-				memcpy(p17, p18 + 1400, 24);
+				memcpy(p15, p18 + 1400, 24);
 				storeptru(p18 + 1400, p6);
 				memset(p18 + 1408, 0, 16);
-				if (load64(p17 + 8) != 0)
-					store64(p17 + 8, 0);
-				n495 = load64(p17 + 16);
-				if (n494 > n495) {
-					bool b496 = tp_std_alloc_vec_Vec_grow_amortized_3(p17, n494);
-					if (!b496)
+				if (load64(p15 + 8) != 0)
+					store64(p15 + 8, 0);
+				if (n494 > load64(p15 + 16)) {
+					bool b495 = tp_std_alloc_vec_Vec_grow_amortized_3(p15, n494);
+					if (!b495)
 						goto L12;
-					n497 = load64(p17 + 16);
-					n498 = load64(p17 + 8);
-				} else {
-					n497 = n495;
-					n498 = 0;
 				}
-				p499 = loadptr(p17);
-				n500 = n498;
-				n501 = 0;
-				while (n501 != n481) {
-					uint64_t n676, n692, n693, n694, n695, n696, n697, n698;
-					uint8_t n690, n691;
-					byte *p502 = at(p482, n501 << 4);
-					uint8_t n503 = load8(p502);
-					uint64_t n504 = load64u(p502 + 8);
-					switch (n503) {
+				memcpy(p17 + 7, p15, 24);
+				memcpy(p16, p17 + 7, 24);
+				n496 = 0;
+				while (n496 != n481) {
+					uint8_t n684, n685;
+					uint64_t n686, n687, n688, n689, n690, n691, n692;
+					byte *p497 = at(p482, n496 << 4);
+					uint8_t n498 = load8(p497);
+					uint64_t n499 = load64u(p497 + 8);
+					memset(p14, 0, 7);
+					switch (n498) {
 					case 0: {
-						uint64_t n510, n511, n512, n513, n514, n515, n516, n517, n518, n519, n520, n521, n522, n523;
-						uint64_t n505 = n504 * 88;
-						byte *p506 = at(loadptr(p18 + 1376), n505);
-						byte *p507 = at(loadptr(p18 + 1352), n505);
-						uint64_t n508 = load64(p506 + 8);
-						uint64_t n509 = load64(p506 + 16);
-						if (load64(p18 + 264) > n504) {
-							n510 = load64(inside(p18 + 800, n504 << 3));
+						uint64_t n505, n506, n507, n508, n509, n510, n511, n512, n513, n514, n515, n516, n517, n518, n519;
+						uint64_t n500 = n499 * 88;
+						byte *p501 = at(loadptr(p18 + 1376), n500);
+						byte *p502 = at(loadptr(p18 + 1352), n500);
+						uint64_t n503 = load64(p501 + 8);
+						uint64_t n504 = load64(p501 + 16);
+						if (load64(p18 + 264) > n499) {
+							n505 = load64(inside(p18 + 800, n499 << 3));
 						} else {
-							n510 = 0;
+							n505 = 0;
 						}
-						if ((n508 - (n509 + n510)) < 2) {
+						if ((n503 - (n504 + n505)) < 2) {
+							n506 = 0;
+							n507 = 0;
+							n508 = 0;
+							n509 = 0;
+							n510 = 0;
 							n511 = 0;
 							n512 = 0;
 							n513 = 0;
 							n514 = 0;
 							n515 = 0;
 							n516 = 0;
-							n517 = 0;
+							n517 = 1;
 							n518 = 0;
 							n519 = 0;
-							n520 = 0;
-							n521 = 0;
-							n522 = 1;
-							n523 = 0;
 						} else {
-							uint64_t n524, n525, n526, n528, n529, n565, n566, n567, n568, n569, n570;
-							uint8_t n527;
-							if (load8(p506 + 32) == 1) {
-								n524 = load64u(p506 + 56);
-								n525 = load64u(p506 + 64);
-								n526 = load64(p506 + 40);
-								n527 = load8(p506 + 48);
-								n528 = load64u(p506 + 72);
-								n529 = load64u(p506 + 80);
-							} else if ((load8(p507 + 80) & 1) != 0) {
-								uint64_t n530 = load64(p507 + 16);
-								uint64_t n531 = load64(p507 + 24);
-								uint64_t n532 = load64(p507 + 32);
-								uint64_t n533 = n530 << 1;
-								if (n532 == (n531 - ((n531 > n532) ? n533 : 0))) {
+							uint64_t n520, n521, n522, n524, n525, n561, n562, n563, n564, n565, n566, n567;
+							uint8_t n523;
+							if (load8(p501 + 32) == 1) {
+								n520 = load64u(p501 + 56);
+								n521 = load64u(p501 + 64);
+								n522 = load64(p501 + 40);
+								n523 = load8(p501 + 48);
+								n524 = load64u(p501 + 72);
+								n525 = load64u(p501 + 80);
+							} else if ((load8(p502 + 80) & 1) != 0) {
+								uint64_t n526 = load64(p502 + 16);
+								uint64_t n527 = load64(p502 + 24);
+								uint64_t n528 = load64(p502 + 32);
+								uint64_t n529 = n526 << 1;
+								if (n528 == (n527 - ((n527 > n528) ? n529 : 0))) {
+									n506 = 0;
+									n507 = 0;
+									n508 = 0;
+									n509 = 0;
+									n510 = 0;
 									n511 = 0;
 									n512 = 0;
 									n513 = 0;
@@ -67894,47 +68600,48 @@ L7:
 									n517 = 0;
 									n518 = 0;
 									n519 = 0;
-									n520 = 0;
-									n521 = 0;
-									n522 = 0;
-									n523 = 0;
 									goto L13;
 								}
-								uint64_t n534 = (n531 < (n533 - 1)) ? (n531 + 1) : 0;
-								byte *p535 = inside(loadptr(p507 + 8), (n531 - ((n531 < n530) ? 0 : n530)) * 48);
-								byte *p536 = loadptr(p507);
-								uint64_t n537 = load64u(p535);
-								uint8_t n538 = load8(p535 + 8);
-								uint64_t n539 = load64u(p535 + 16);
-								uint64_t n540 = load64u(p535 + 24);
-								uint64_t n541 = load64u(p535 + 32);
-								uint64_t n542 = load64u(p535 + 40);
+								uint64_t n530 = (n527 < (n529 - 1)) ? (n527 + 1) : 0;
+								byte *p531 = inside(loadptr(p502 + 8), (n527 - ((n527 < n526) ? 0 : n526)) * 48);
+								byte *p532 = loadptr(p502);
+								uint64_t n533 = load64u(p531);
+								uint8_t n534 = load8(p531 + 8);
+								uint64_t n535 = load64u(p531 + 16);
+								uint64_t n536 = load64u(p531 + 24);
+								uint64_t n537 = load64u(p531 + 32);
+								uint64_t n538 = load64u(p531 + 40);
 								BARRIER();
-								atomic_store64(p536, n534, ORDER_SEQ_CST);
+								atomic_store64(p532, n530, ORDER_SEQ_CST);
 								BARRIER();
-								store64(p507 + 24, n534);
-								n524 = n539;
-								n525 = n540;
-								n526 = n537;
-								n527 = n538;
-								n528 = n541;
-								n529 = n542;
+								store64(p502 + 24, n530);
+								n520 = n535;
+								n521 = n536;
+								n522 = n533;
+								n523 = n534;
+								n524 = n537;
+								n525 = n538;
 							} else {
-								uint64_t n552, n553, n554;
-								uint64_t n543 = load64(p507 + 16);
-								uint64_t n544 = load64(p507 + 24);
-								uint64_t n545 = load64(p507 + 32);
-								uint64_t n546 = n543 << 1;
-								if (n545 == (n544 - ((n544 > n545) ? n546 : 0))) {
-									byte *p547 = loadptr(p507) + 128;
+								uint64_t n548, n549, n550;
+								uint64_t n539 = load64(p502 + 16);
+								uint64_t n540 = load64(p502 + 24);
+								uint64_t n541 = load64(p502 + 32);
+								uint64_t n542 = n539 << 1;
+								if (n541 == (n540 - ((n540 > n541) ? n542 : 0))) {
+									byte *p543 = loadptr(p502) + 128;
 									BARRIER();
-									uint64_t n548 = atomic_load64(p547, ORDER_SEQ_CST);
+									uint64_t n544 = atomic_load64(p543, ORDER_SEQ_CST);
 									BARRIER();
-									store64(p507 + 32, n548);
-									uint64_t n549 = load64(p507 + 16);
-									uint64_t n550 = load64(p507 + 24);
-									uint64_t n551 = n549 << 1;
-									if (n548 == (n550 - ((n550 > n548) ? n551 : 0))) {
+									store64(p502 + 32, n544);
+									uint64_t n545 = load64(p502 + 16);
+									uint64_t n546 = load64(p502 + 24);
+									uint64_t n547 = n545 << 1;
+									if (n544 == (n546 - ((n546 > n544) ? n547 : 0))) {
+										n506 = 0;
+										n507 = 0;
+										n508 = 0;
+										n509 = 0;
+										n510 = 0;
 										n511 = 0;
 										n512 = 0;
 										n513 = 0;
@@ -67944,493 +68651,493 @@ L7:
 										n517 = 0;
 										n518 = 0;
 										n519 = 0;
-										n520 = 0;
-										n521 = 0;
-										n522 = 0;
-										n523 = 0;
 										goto L13;
 									}
-									n552 = n551;
-									n553 = n549;
-									n554 = n550;
+									n548 = n547;
+									n549 = n545;
+									n550 = n546;
 								} else {
-									n552 = n546;
-									n553 = n543;
-									n554 = n544;
+									n548 = n542;
+									n549 = n539;
+									n550 = n540;
 								}
-								uint64_t n555 = (n554 < (n552 - 1)) ? (n554 + 1) : 0;
-								byte *p556 = inside(loadptr(p507 + 8), (n554 - ((n554 < n553) ? 0 : n553)) * 48);
-								byte *p557 = loadptr(p507);
-								uint64_t n558 = load64u(p556);
-								uint8_t n559 = load8(p556 + 8);
-								uint64_t n560 = load64u(p556 + 16);
-								uint64_t n561 = load64u(p556 + 24);
-								uint64_t n562 = load64u(p556 + 32);
-								uint64_t n563 = load64u(p556 + 40);
+								uint64_t n551 = (n550 < (n548 - 1)) ? (n550 + 1) : 0;
+								byte *p552 = inside(loadptr(p502 + 8), (n550 - ((n550 < n549) ? 0 : n549)) * 48);
+								byte *p553 = loadptr(p502);
+								uint64_t n554 = load64u(p552);
+								uint8_t n555 = load8(p552 + 8);
+								uint64_t n556 = load64u(p552 + 16);
+								uint64_t n557 = load64u(p552 + 24);
+								uint64_t n558 = load64u(p552 + 32);
+								uint64_t n559 = load64u(p552 + 40);
 								BARRIER();
-								atomic_store64(p557, n555, ORDER_SEQ_CST);
+								atomic_store64(p553, n551, ORDER_SEQ_CST);
 								BARRIER();
-								store64(p507 + 24, n555);
-								n524 = n560;
-								n525 = n561;
-								n526 = n558;
-								n527 = n559;
-								n528 = n562;
-								n529 = n563;
+								store64(p502 + 24, n551);
+								n520 = n556;
+								n521 = n557;
+								n522 = n554;
+								n523 = n555;
+								n524 = n558;
+								n525 = n559;
 							}
-							uint64_t n564 = (uint64_t)n527;
+							uint64_t n560 = (uint64_t)n523;
+							switch (n523) {
+							case 0:
+							case 1: {
+								n561 = n521;
+								break;
+							}
+							case 3:
+							case 4: {
+								n561 = n525;
+								break;
+							}
+							case 2: {
+								n561 = 0;
+								break;
+							}
+							default: {
+								UNREACHABLE();
+							}
+							}
 							if ((load8(p18 + 1312) & 1) != 0) {
+								n562 = 0;
+								n563 = 1;
+								n564 = 0;
 								n565 = 0;
 								n566 = 0;
 								n567 = 0;
-								n568 = 0;
-								n569 = 0;
-								n570 = 1;
-							} else if (load64(p18 + 264) > n504) {
-								uint64_t n571 = n504 << 3;
-								byte *p572 = inside(p18 + 288, n571);
-								uint64_t n573 = load64(p572);
-								if (n526 < n573) {
-									n565 = 2;
-									n566 = n573;
-									n567 = 0;
-									n568 = 0;
-									n569 = 0;
-									n570 = 1;
-								} else if (n573 > UINT64_C(1152921504606846975)) {
-									n565 = 3;
+							} else if (load64(p18 + 264) > n499) {
+								uint64_t n568 = n499 << 3;
+								byte *p569 = inside(p18 + 288, n568);
+								uint64_t n570 = load64(p569);
+								if (n522 < n570) {
+									n562 = n570;
+									n563 = 1;
+									n564 = 2;
+									n565 = 0;
 									n566 = 0;
 									n567 = 0;
-									n568 = 0;
-									n569 = 0;
-									n570 = 1;
-								} else if (n573 < n526) {
-									n565 = 4;
-									n566 = n573;
+								} else if (n570 > UINT64_C(1152921504606846975)) {
+									n562 = 0;
+									n563 = 1;
+									n564 = 3;
+									n565 = 0;
+									n566 = 0;
 									n567 = 0;
-									n568 = 0;
-									n569 = 0;
-									n570 = 1;
+								} else if (n570 < n522) {
+									n562 = n570;
+									n563 = 1;
+									n564 = 4;
+									n565 = 0;
+									n566 = 0;
+									n567 = 0;
 								} else {
-									uint64_t n574, n575, n578, n579;
-									uint8_t n576, n577;
-									switch (n527) {
+									uint64_t n571, n572, n575, n576;
+									uint8_t n573, n574;
+									switch (n523) {
 									case 0: {
-										uint64_t n590;
-										if (n524 == 0) {
+										uint64_t n587;
+										if (n520 == 0) {
+											n571 = 0;
+											n572 = 0;
+											n573 = 3;
 											n574 = 0;
 											n575 = 0;
-											n576 = 3;
-											n577 = 0;
-											n578 = 0;
-											n579 = 0;
+											n576 = 0;
 											goto L14;
 										}
-										uint64_t n580 = load64(p18 + 16);
-										if ((load64(p18 + 8) - n580) < n524) {
-											n574 = 0;
+										uint64_t n577 = load64(p18 + 16);
+										if ((load64(p18 + 8) - n577) < n520) {
+											n571 = 0;
+											n572 = 0;
+											n573 = 3;
+											n574 = 1;
 											n575 = 0;
-											n576 = 3;
-											n577 = 1;
-											n578 = 0;
-											n579 = 0;
+											n576 = 0;
 											goto L14;
 										}
-										uint64_t n581 = load64(p18 + 280);
-										if (n581 > UINT64_C(1152921504606846975)) {
-											n574 = 0;
+										uint64_t n578 = load64(p18 + 280);
+										if (n578 > UINT64_C(1152921504606846975)) {
+											n571 = 0;
+											n572 = 0;
+											n573 = 3;
+											n574 = 2;
 											n575 = 0;
-											n576 = 3;
-											n577 = 2;
-											n578 = 0;
-											n579 = 0;
+											n576 = 0;
 											goto L14;
 										}
-										uint64_t n582 = load64(p18 + 64);
-										uint64_t n583 = load64(p18 + 32);
-										byte *p584 = loadptr(p18 + 80);
-										uint64_t n585 = load64(p18 + 104);
-										uint64_t n586 = (uint64_t)load32(at(p584, n583 << 3) + 4);
-										uint64_t n587 = usub_sat64(n586, n585);
-										uint64_t n588 = 0;
-										uint64_t n589 = n586;
+										uint64_t n579 = load64(p18 + 64);
+										uint64_t n580 = load64(p18 + 32);
+										byte *p581 = loadptr(p18 + 80);
+										uint64_t n582 = load64(p18 + 104);
+										uint64_t n583 = (uint64_t)load32(at(p581, n580 << 3) + 4);
+										uint64_t n584 = usub_sat64(n583, n582);
+										uint64_t n585 = 0;
+										uint64_t n586 = n583;
 										for (;;) {
-											if (n588 == n582) {
-												n590 = n582;
+											if (n585 == n579) {
+												n587 = n579;
 												break;
 											}
-											if (n585 > n589) {
-												n590 = n588;
+											if (n582 > n586) {
+												n587 = n585;
 												break;
 											}
-											uint64_t n591 = (uint64_t)load32(at(p584, (n585 + n587) << 3) + 4);
-											n587 = usub_sat64(n591, n585);
-											n588 = n588 + 1;
-											n589 = n591;
+											uint64_t n588 = (uint64_t)load32(at(p581, (n582 + n584) << 3) + 4);
+											n584 = usub_sat64(n588, n582);
+											n585 = n585 + 1;
+											n586 = n588;
 										}
-										if ((n582 - n590) != load64(p18 + 272)) {
-											uint64_t n595, n600, n601, n605;
-											uint64_t n592 = n580 + n524;
-											bool b593 = n580 < n592;
-											if (b593) {
+										if ((n579 - n587) != load64(p18 + 272)) {
+											uint64_t n592, n597, n598, n602;
+											uint64_t n589 = n577 + n520;
+											bool b590 = n577 < n589;
+											if (b590) {
 												if (load8(p18) == 0) {
-													uint32_t n594 = (uint32_t)(uint8_t)((uint8_t)((uint8_t)ctlz64(n580 ^ n592) ^ 62) / 6);
-													n595 = ((n592 >> ((uint64_t)(n594 * 6) & 63)) & 63) | (uint64_t)(n594 << 6);
+													uint32_t n591 = (uint32_t)(uint8_t)((uint8_t)((uint8_t)ctlz64(n577 ^ n589) ^ 62) / 6);
+													n592 = ((n589 >> ((uint64_t)(n591 * 6) & 63)) & 63) | (uint64_t)(n591 << 6);
 												} else {
-													uint64_t n596 = n592 / 60;
-													if ((n580 / 60) == n596) {
-														n595 = n592 % 60;
+													uint64_t n593 = n589 / 60;
+													if ((n577 / 60) == n593) {
+														n592 = n589 % 60;
 													} else {
-														uint64_t n597 = n592 / 3600;
-														if ((n580 / 3600) == n597) {
-															n595 = (n596 % 60) + 60;
+														uint64_t n594 = n589 / 3600;
+														if ((n577 / 3600) == n594) {
+															n592 = (n593 % 60) + 60;
 														} else {
-															uint64_t n598 = n592 / 86400;
-															if ((n580 / 86400) == n598) {
-																n595 = (n597 % 24) + 120;
+															uint64_t n595 = n589 / 86400;
+															if ((n577 / 86400) == n595) {
+																n592 = (n594 % 24) + 120;
 															} else {
-																n595 = n598 + 144;
+																n592 = n595 + 144;
 															}
 														}
 													}
 												}
 											} else {
-												n595 = n583;
+												n592 = n580;
 											}
-											uint64_t n599 = load64(p18 + 72);
-											if (n599 < load64(p18 + 120)) {
-												n600 = n582;
-												n601 = n599;
+											uint64_t n596 = load64(p18 + 72);
+											if (n596 < load64(p18 + 120)) {
+												n597 = n579;
+												n598 = n596;
 											} else {
-												uint8_t n602 = tp_links_make_ready(p18 + 40, p18 + 80, n585, load64(p18 + 112));
-												if ((n602 & 1) != 0)
+												uint8_t n599 = tp_links_make_ready(p18 + 40, p18 + 80, n582, load64(p18 + 112));
+												if ((n599 & 1) != 0)
 													goto L15;
-												store64(p18 + 120, umin64(load64(p18 + 88) - n585, load64(p18 + 56)));
-												n600 = load64(p18 + 64);
-												n601 = load64(p18 + 72);
+												store64(p18 + 120, umin64(load64(p18 + 88) - n582, load64(p18 + 56)));
+												n597 = load64(p18 + 64);
+												n598 = load64(p18 + 72);
 											}
-											store64(p18 + 64, n600 + 1);
-											if (n601 == load64(p18 + 48)) {
-												byte *p603 = inside(loadptr(p18 + 40), n601 * 56);
-												store64u(p603, 1);
-												store64u(p603 + 8, n581);
-												store64u(p603 + 16, n504);
-												store64u(p603 + 24, n526);
-												store64u(p603 + 32, n592);
-												store64u(p603 + 40, n525);
-												store64u(p603 + 48, 0);
-												uint64_t n604 = n601 + 1;
-												store64(p18 + 48, n604);
-												n605 = n604;
+											store64(p18 + 64, n597 + 1);
+											if (n598 == load64(p18 + 48)) {
+												byte *p600 = inside(loadptr(p18 + 40), n598 * 56);
+												store64u(p600, 1);
+												store64u(p600 + 8, n578);
+												store64u(p600 + 16, n499);
+												store64u(p600 + 24, n522);
+												store64u(p600 + 32, n589);
+												store64u(p600 + 40, n521);
+												store64u(p600 + 48, 0);
+												uint64_t n601 = n598 + 1;
+												store64(p18 + 48, n601);
+												n602 = n601;
 											} else {
-												byte *p606 = at(loadptr(p18 + 40), n601 * 56);
-												uint8_t n607 = load8(p606);
-												uint64_t n608 = load64u(p606 + 8);
-												store64u(p606, 1);
-												store64u(p606 + 8, n581);
-												store64u(p606 + 16, n504);
-												store64u(p606 + 24, n526);
-												store64u(p606 + 32, n592);
-												store64u(p606 + 40, n525);
-												store64u(p606 + 48, 0);
-												if (n607 != 0) {
+												byte *p603 = at(loadptr(p18 + 40), n598 * 56);
+												uint8_t n604 = load8(p603);
+												uint64_t n605 = load64u(p603 + 8);
+												store64u(p603, 1);
+												store64u(p603 + 8, n578);
+												store64u(p603 + 16, n499);
+												store64u(p603 + 24, n522);
+												store64u(p603 + 32, n589);
+												store64u(p603 + 40, n521);
+												store64u(p603 + 48, 0);
+												if (n604 != 0) {
 													TRAP();
 													UNREACHABLE();
 												}
-												n605 = n608;
+												n602 = n605;
 											}
-											store64(p18 + 72, n605);
-											uint64_t n609 = load64(p18 + 104) + n601;
-											byte *p610 = loadptr(p18 + 80);
-											byte *p611 = inside(p610, n595 << 3);
-											uint32_t n612 = load32(p611);
-											uint32_t n613 = (uint32_t)n609;
-											store32(inside(p610, (uint64_t)n612 << 3) + 4, n613);
-											byte *p614 = inside(p610, n609 << 3);
-											store32(p614, n612);
-											store32(p614 + 4, (uint32_t)n595);
-											store32(p611, n613);
-											store64(p18 + 24, n581);
-											uint8_t n615 = load8(p18);
-											if (b593) {
-												byte *p616 = inside(p18 + 128, (n595 >> 6) << 3);
-												uint64_t n617 = load64(p616);
-												uint64_t n618 = (uint64_t)1 << (n595 & 63);
-												if ((n617 & n618) == 0)
-													store64(p616, n617 | n618);
+											store64(p18 + 72, n602);
+											uint64_t n606 = load64(p18 + 104) + n598;
+											byte *p607 = loadptr(p18 + 80);
+											byte *p608 = inside(p607, n592 << 3);
+											uint32_t n609 = load32(p608);
+											uint32_t n610 = (uint32_t)n606;
+											store32(inside(p607, (uint64_t)n609 << 3) + 4, n610);
+											byte *p611 = inside(p607, n606 << 3);
+											store32(p611, n609);
+											store32(p611 + 4, (uint32_t)n592);
+											store32(p608, n610);
+											store64(p18 + 24, n578);
+											uint8_t n612 = load8(p18);
+											if (b590) {
+												byte *p613 = inside(p18 + 128, (n592 >> 3) & 536870904);
+												store64(p613, load64(p613) | ((uint64_t)1 << (n592 & 63)));
 												if ((load8(p18 + 232) & 1) != 0) {
-													if ((uint64_t)((n615 == 0) ? 64 : 60) <= n595) {
-														byte *p619 = at(loadptr(p18 + 208), n595 << 4);
-														uint64_t n620 = load64(p619);
-														if (n592 < n620) {
-															store64(p619, n592);
-															store64(p619 + 8, 1);
-														} else if (n592 == n620) {
-															store64(p619 + 8, load64(p619 + 8) + 1);
+													if ((uint64_t)((n612 == 0) ? 64 : 60) <= n592) {
+														byte *p614 = at(loadptr(p18 + 208), n592 << 4);
+														uint64_t n615 = load64(p614);
+														if (n589 < n615) {
+															store64(p614, n589);
+															store64(p614 + 8, 1);
+														} else if (n589 == n615) {
+															store64(p614 + 8, load64(p614 + 8) + 1);
 														}
 													}
 												}
 											}
 											store64(p18 + 240, load64(p18 + 240) + 1);
 											store64(p18 + 280, load64(p18 + 280) + 1);
-											byte *p621 = inside(p18 + 800, n571);
-											store64(p621, load64(p621) + 1);
-											n574 = n601;
-											n575 = n581;
+											byte *p616 = inside(p18 + 800, n568);
+											store64(p616, load64(p616) + 1);
+											n571 = n598;
+											n572 = n578;
+											n573 = 0;
+											n574 = 0;
+											n575 = n589;
 											n576 = 0;
-											n577 = 0;
-											n578 = n592;
-											n579 = 0;
 											goto L14;
 										}
-										n574 = 0;
+										n571 = 0;
+										n572 = 0;
+										n573 = 3;
+										n574 = 3;
 										n575 = 0;
-										n576 = 3;
-										n577 = 3;
-										n578 = 0;
-										n579 = 0;
+										n576 = 0;
 										goto L14;
 									}
 									case 1: {
-										uint64_t n633;
-										uint64_t n622 = load64(p18 + 16);
-										uint64_t n623 = usub_sat64(n524, n622);
-										if (n524 <= n622) {
-											n574 = 0;
+										uint64_t n628;
+										uint64_t n617 = load64(p18 + 16);
+										uint64_t n618 = usub_sat64(n520, n617);
+										if ((load64(p18 + 8) - n617) < umax64(n618, 1)) {
+											n571 = 0;
+											n572 = 0;
+											n573 = 3;
+											n574 = 1;
 											n575 = 0;
-											n576 = 3;
-											n577 = 0;
-											n578 = 0;
-											n579 = 0;
+											n576 = 0;
 											goto L14;
 										}
-										if ((load64(p18 + 8) - n622) < n623) {
-											n574 = 0;
+										uint64_t n619 = load64(p18 + 280);
+										if (n619 > UINT64_C(1152921504606846975)) {
+											n571 = 0;
+											n572 = 0;
+											n573 = 3;
+											n574 = 2;
 											n575 = 0;
-											n576 = 3;
-											n577 = 1;
-											n578 = 0;
-											n579 = 0;
+											n576 = 0;
 											goto L14;
 										}
-										uint64_t n624 = load64(p18 + 280);
-										if (n624 > UINT64_C(1152921504606846975)) {
-											n574 = 0;
-											n575 = 0;
-											n576 = 3;
-											n577 = 2;
-											n578 = 0;
-											n579 = 0;
-											goto L14;
-										}
-										uint64_t n625 = load64(p18 + 64);
-										uint64_t n626 = load64(p18 + 32);
-										byte *p627 = loadptr(p18 + 80);
-										uint64_t n628 = load64(p18 + 104);
-										uint64_t n629 = (uint64_t)load32(at(p627, n626 << 3) + 4);
-										uint64_t n630 = usub_sat64(n629, n628);
-										uint64_t n631 = 0;
-										uint64_t n632 = n629;
+										uint64_t n620 = load64(p18 + 64);
+										uint64_t n621 = load64(p18 + 32);
+										byte *p622 = loadptr(p18 + 80);
+										uint64_t n623 = load64(p18 + 104);
+										uint64_t n624 = (uint64_t)load32(at(p622, n621 << 3) + 4);
+										uint64_t n625 = usub_sat64(n624, n623);
+										uint64_t n626 = 0;
+										uint64_t n627 = n624;
 										for (;;) {
-											if (n631 == n625) {
-												n633 = n625;
+											if (n626 == n620) {
+												n628 = n620;
 												break;
 											}
-											if (n628 > n632) {
-												n633 = n631;
+											if (n623 > n627) {
+												n628 = n626;
 												break;
 											}
-											uint64_t n634 = (uint64_t)load32(at(p627, (n628 + n630) << 3) + 4);
-											n630 = usub_sat64(n634, n628);
-											n631 = n631 + 1;
-											n632 = n634;
+											uint64_t n629 = (uint64_t)load32(at(p622, (n623 + n625) << 3) + 4);
+											n625 = usub_sat64(n629, n623);
+											n626 = n626 + 1;
+											n627 = n629;
 										}
-										if ((n625 - n633) != load64(p18 + 272)) {
-											uint64_t n638, n643, n644, n648;
-											uint64_t n635 = n622 + n623;
-											bool b636 = n622 < n635;
-											if (b636) {
+										if ((n620 - n628) != load64(p18 + 272)) {
+											uint64_t n633, n638, n639, n643;
+											uint64_t n630 = n617 + n618;
+											bool b631 = n617 < n630;
+											if (b631) {
 												if (load8(p18) == 0) {
-													uint32_t n637 = (63 - (uint32_t)ctlz64(n622 ^ n635)) / 6;
-													n638 = ((uint64_t)n637 << 6) | ((n635 >> ((uint64_t)(n637 * 6) & 63)) & 63);
+													uint32_t n632 = (63 - (uint32_t)ctlz64(n617 ^ n630)) / 6;
+													n633 = ((uint64_t)n632 << 6) | ((n630 >> ((uint64_t)(n632 * 6) & 63)) & 63);
 												} else {
-													uint64_t n639 = n635 / 60;
-													if ((n622 / 60) == n639) {
-														n638 = n635 % 60;
+													uint64_t n634 = n630 / 60;
+													if ((n617 / 60) == n634) {
+														n633 = n630 % 60;
 													} else {
-														uint64_t n640 = n635 / 3600;
-														if ((n622 / 3600) == n640) {
-															n638 = (n639 % 60) + 60;
+														uint64_t n635 = n630 / 3600;
+														if ((n617 / 3600) == n635) {
+															n633 = (n634 % 60) + 60;
 														} else {
-															uint64_t n641 = n635 / 86400;
-															if ((n622 / 86400) == n641) {
-																n638 = (n640 % 24) + 120;
+															uint64_t n636 = n630 / 86400;
+															if ((n617 / 86400) == n636) {
+																n633 = (n635 % 24) + 120;
 															} else {
-																n638 = n641 + 144;
+																n633 = n636 + 144;
 															}
 														}
 													}
 												}
 											} else {
-												n638 = n626;
+												n633 = n621;
 											}
-											uint64_t n642 = load64(p18 + 72);
-											if (n642 < load64(p18 + 120)) {
-												n643 = n625;
-												n644 = n642;
+											uint64_t n637 = load64(p18 + 72);
+											if (n637 < load64(p18 + 120)) {
+												n638 = n620;
+												n639 = n637;
 											} else {
-												uint8_t n645 = tp_links_make_ready(p18 + 40, p18 + 80, n628, load64(p18 + 112));
-												if ((n645 & 1) != 0)
+												uint8_t n640 = tp_links_make_ready(p18 + 40, p18 + 80, n623, load64(p18 + 112));
+												if ((n640 & 1) != 0)
 													goto L15;
-												store64(p18 + 120, umin64(load64(p18 + 88) - n628, load64(p18 + 56)));
-												n643 = load64(p18 + 64);
-												n644 = load64(p18 + 72);
+												store64(p18 + 120, umin64(load64(p18 + 88) - n623, load64(p18 + 56)));
+												n638 = load64(p18 + 64);
+												n639 = load64(p18 + 72);
 											}
-											store64(p18 + 64, n643 + 1);
-											if (n644 == load64(p18 + 48)) {
-												byte *p646 = inside(loadptr(p18 + 40), n644 * 56);
-												store64u(p646, 1);
-												store64u(p646 + 8, n624);
-												store64u(p646 + 16, n504);
-												store64u(p646 + 24, n526);
-												store64u(p646 + 32, n635);
-												store64u(p646 + 40, n525);
-												store64u(p646 + 48, 0);
-												uint64_t n647 = n644 + 1;
-												store64(p18 + 48, n647);
-												n648 = n647;
+											store64(p18 + 64, n638 + 1);
+											if (n639 == load64(p18 + 48)) {
+												byte *p641 = inside(loadptr(p18 + 40), n639 * 56);
+												store64u(p641, 1);
+												store64u(p641 + 8, n619);
+												store64u(p641 + 16, n499);
+												store64u(p641 + 24, n522);
+												store64u(p641 + 32, n630);
+												store64u(p641 + 40, n521);
+												store64u(p641 + 48, 0);
+												uint64_t n642 = n639 + 1;
+												store64(p18 + 48, n642);
+												n643 = n642;
 											} else {
-												byte *p649 = at(loadptr(p18 + 40), n644 * 56);
-												uint8_t n650 = load8(p649);
-												uint64_t n651 = load64u(p649 + 8);
-												store64u(p649, 1);
-												store64u(p649 + 8, n624);
-												store64u(p649 + 16, n504);
-												store64u(p649 + 24, n526);
-												store64u(p649 + 32, n635);
-												store64u(p649 + 40, n525);
-												store64u(p649 + 48, 0);
-												if (n650 != 0) {
+												byte *p644 = at(loadptr(p18 + 40), n639 * 56);
+												uint8_t n645 = load8(p644);
+												uint64_t n646 = load64u(p644 + 8);
+												store64u(p644, 1);
+												store64u(p644 + 8, n619);
+												store64u(p644 + 16, n499);
+												store64u(p644 + 24, n522);
+												store64u(p644 + 32, n630);
+												store64u(p644 + 40, n521);
+												store64u(p644 + 48, 0);
+												if (n645 != 0) {
 													TRAP();
 													UNREACHABLE();
 												}
-												n648 = n651;
+												n643 = n646;
 											}
-											store64(p18 + 72, n648);
-											uint64_t n652 = load64(p18 + 104) + n644;
-											byte *p653 = loadptr(p18 + 80);
-											byte *p654 = inside(p653, n638 << 3);
-											uint32_t n655 = load32(p654);
-											uint32_t n656 = (uint32_t)n652;
-											store32(inside(p653, (uint64_t)n655 << 3) + 4, n656);
-											byte *p657 = inside(p653, n652 << 3);
-											store32(p657, n655);
-											store32(p657 + 4, (uint32_t)n638);
-											store32(p654, n656);
-											store64(p18 + 24, n624);
-											uint8_t n658 = load8(p18);
-											if (b636) {
-												byte *p659 = inside(p18 + 128, (n638 >> 6) << 3);
-												uint64_t n660 = load64(p659);
-												uint64_t n661 = (uint64_t)1 << (n638 & 63);
-												if ((n660 & n661) == 0)
-													store64(p659, n660 | n661);
+											store64(p18 + 72, n643);
+											uint64_t n647 = load64(p18 + 104) + n639;
+											byte *p648 = loadptr(p18 + 80);
+											byte *p649 = inside(p648, n633 << 3);
+											uint32_t n650 = load32(p649);
+											uint32_t n651 = (uint32_t)n647;
+											store32(inside(p648, (uint64_t)n650 << 3) + 4, n651);
+											byte *p652 = inside(p648, n647 << 3);
+											store32(p652, n650);
+											store32(p652 + 4, (uint32_t)n633);
+											store32(p649, n651);
+											store64(p18 + 24, n619);
+											uint8_t n653 = load8(p18);
+											if (b631) {
+												byte *p654 = inside(p18 + 128, (n633 >> 3) & 536870904);
+												store64(p654, load64(p654) | ((uint64_t)1 << (n633 & 63)));
 												if ((load8(p18 + 232) & 1) != 0) {
-													if ((uint64_t)((n658 == 0) ? 64 : 60) <= n638) {
-														byte *p662 = at(loadptr(p18 + 208), n638 << 4);
-														uint64_t n663 = load64(p662);
-														if (n635 < n663) {
-															store64(p662, n635);
-															store64(p662 + 8, 1);
-														} else if (n635 == n663) {
-															store64(p662 + 8, load64(p662 + 8) + 1);
+													if ((uint64_t)((n653 == 0) ? 64 : 60) <= n633) {
+														byte *p655 = at(loadptr(p18 + 208), n633 << 4);
+														uint64_t n656 = load64(p655);
+														if (n630 < n656) {
+															store64(p655, n630);
+															store64(p655 + 8, 1);
+														} else if (n630 == n656) {
+															store64(p655 + 8, load64(p655 + 8) + 1);
 														}
 													}
 												}
 											}
 											store64(p18 + 240, load64(p18 + 240) + 1);
 											store64(p18 + 280, load64(p18 + 280) + 1);
-											byte *p664 = inside(p18 + 800, n571);
-											store64(p664, load64(p664) + 1);
-											n574 = n644;
-											n575 = n624;
+											byte *p657 = inside(p18 + 800, n568);
+											store64(p657, load64(p657) + 1);
+											n571 = n639;
+											n572 = n619;
+											n573 = 0;
+											n574 = 0;
+											n575 = n630;
 											n576 = 0;
-											n577 = 0;
-											n578 = n635;
-											n579 = 0;
 											goto L14;
 										}
-										n574 = 0;
+										n571 = 0;
+										n572 = 0;
+										n573 = 3;
+										n574 = 3;
 										n575 = 0;
-										n576 = 3;
-										n577 = 3;
-										n578 = 0;
-										n579 = 0;
+										n576 = 0;
 										goto L14;
 									}
 									case 2: {
-										uint8_t n667, n668;
-										uint64_t n669;
-										byte *p665 = at(loadptr(p18 + 40), n524 * 56);
-										if (n524 < load64(p18 + 48)) {
-											if (load8(p665) == 1) {
-												if (load64u(p665 + 8) == n525) {
-													if (load64u(p665 + 16) == n504) {
-														tp_HierWheelWheel_stop(p16, p18, n524, n525);
-														byte *p666 = inside(p18 + 800, n571);
-														store64(p666, load64(p666) - 1);
-														n667 = 1;
-														n668 = 0;
-														n669 = n525;
+										uint8_t n660, n661;
+										uint64_t n662;
+										byte *p658 = at(loadptr(p18 + 40), n520 * 56);
+										if (n520 < load64(p18 + 48)) {
+											if (load8(p658) == 1) {
+												if (load64u(p658 + 8) == n521) {
+													if (load64u(p658 + 16) == n499) {
+														tp_HierWheelWheel_stop(p13, p18, n520, n521);
+														byte *p659 = inside(p18 + 800, n568);
+														store64(p659, load64(p659) - 1);
+														n660 = 1;
+														n661 = 0;
+														n662 = n521;
 													} else {
-														n667 = 3;
-														n668 = 4;
-														n669 = 0;
+														n660 = 3;
+														n661 = 4;
+														n662 = 0;
 													}
 												} else {
-													n667 = 3;
-													n668 = 4;
-													n669 = 0;
+													n660 = 3;
+													n661 = 4;
+													n662 = 0;
 												}
 											} else {
-												n667 = 3;
-												n668 = 4;
-												n669 = 0;
+												n660 = 3;
+												n661 = 4;
+												n662 = 0;
 											}
 										} else {
-											n667 = 3;
-											n668 = 4;
-											n669 = 0;
+											n660 = 3;
+											n661 = 4;
+											n662 = 0;
 										}
-										n574 = n669;
+										n571 = n662;
+										n572 = 0;
+										n573 = n660;
+										n574 = n661;
 										n575 = 0;
-										n576 = n667;
-										n577 = n668;
-										n578 = 0;
-										n579 = 0;
+										n576 = 0;
 										goto L14;
 									}
 									case 3: {
-										memset(p15, 0, 40);
-										tp_Facility_take_restart(p15, p18, n504, n526, n524, n525, n528, n529);
-										n574 = load64u(p15 + 8);
-										n575 = load64u(p15 + 16);
-										n576 = load8(p15);
-										n577 = load8(p15 + 1);
-										n578 = load64u(p15 + 24);
-										n579 = load64u(p15 + 32);
+										memset(p12, 0, 40);
+										tp_Facility_take_restart(p12, p18, n499, n522, n520, n521, n524, n524, n525);
+										n571 = load64u(p12 + 8);
+										n572 = load64u(p12 + 16);
+										n573 = load8(p12);
+										n574 = load8(p12 + 1);
+										n575 = load64u(p12 + 24);
+										n576 = load64u(p12 + 32);
 										goto L14;
 									}
 									case 4: {
-										uint64_t n670 = usub_sat64(n528, load64(p18 + 16));
-										memset(p14, 0, 40);
-										tp_Facility_take_restart(p14, p18, n504, n526, n524, n525, n670, n529);
-										n574 = load64u(p14 + 8);
-										n575 = load64u(p14 + 16);
-										n576 = load8(p14);
-										n577 = load8(p14 + 1);
-										n578 = load64u(p14 + 24);
-										n579 = load64u(p14 + 32);
+										uint64_t n663 = usub_sat64(n524, load64(p18 + 16));
+										memset(p11, 0, 40);
+										tp_Facility_take_restart(p11, p18, n499, n522, n520, n521, umax64(n663, 1), n663, n525);
+										n571 = load64u(p11 + 8);
+										n572 = load64u(p11 + 16);
+										n573 = load8(p11);
+										n574 = load8(p11 + 1);
+										n575 = load64u(p11 + 24);
+										n576 = load64u(p11 + 32);
 										goto L14;
 									}
 									default: {
@@ -68439,347 +69146,379 @@ L7:
 									}
 L15:
 									{
-										store64u(p506 + 32, 1);
-										store64u(p506 + 40, n526);
-										store64u(p506 + 48, n564);
-										store64u(p506 + 56, n524);
-										store64u(p506 + 64, n525);
-										store64u(p506 + 72, n528);
-										store64u(p506 + 80, n529);
+										store64u(p501 + 32, 1);
+										store64u(p501 + 40, n522);
+										store64u(p501 + 48, n560);
+										store64u(p501 + 56, n520);
+										store64u(p501 + 64, n521);
+										store64u(p501 + 72, n524);
+										store64u(p501 + 80, n525);
+										n506 = 0;
+										n507 = 0;
+										n508 = 0;
+										n509 = 0;
+										n510 = 0;
 										n511 = 0;
 										n512 = 0;
 										n513 = 0;
 										n514 = 0;
 										n515 = 0;
 										n516 = 0;
-										n517 = 0;
+										n517 = 2;
 										n518 = 0;
 										n519 = 0;
-										n520 = 0;
-										n521 = 0;
-										n522 = 2;
-										n523 = 0;
 										goto L13;
 									}
 L14:
 									{
-										store64(p572, n526 + 1);
-										n565 = ((uint64_t)n577 << 8) | (uint64_t)n576;
-										n566 = n574;
-										n567 = n575;
-										n568 = n578;
-										n569 = n579;
-										n570 = 0;
+										store64(p569, n522 + 1);
+										n562 = n571;
+										n563 = 0;
+										n564 = ((uint64_t)n574 << 8) | (uint64_t)n573;
+										n565 = n572;
+										n566 = n575;
+										n567 = n576;
 									}
 								}
 							} else {
-								n565 = 1;
+								n562 = 0;
+								n563 = 1;
+								n564 = 1;
+								n565 = 0;
 								n566 = 0;
 								n567 = 0;
-								n568 = 0;
-								n569 = 0;
-								n570 = 1;
 							}
-							if (load8(p506 + 32) == 1)
-								memset(p506 + 32, 0, 56);
-							uint64_t n671 = load64(p506 + 16);
-							uint64_t n672 = load64(p506 + 8);
-							if (n672 > n671) {
-								uint64_t n673 = load64(p506 + 24) + n671;
-								byte *p674 = inside(loadptru(p506), (n673 - ((n673 < n672) ? 0 : n672)) * 56);
-								store64u(p674, n570);
-								store64u(p674 + 8, n526);
-								store64u(p674 + 16, n565);
-								store64u(p674 + 24, n566);
-								store64u(p674 + 32, n567);
-								store64u(p674 + 40, n568);
-								store64u(p674 + 48, n569);
-								store64(p506 + 16, load64(p506 + 16) + 1);
-								n511 = n565;
-								n512 = n566;
-								n513 = n567;
-								n514 = n568;
-								n515 = n569;
-								n516 = n524;
-								n517 = n525;
-								n518 = n526;
-								n519 = n564;
-								n520 = n528;
-								n521 = n529;
-								n522 = 3;
-								n523 = n570;
+							if (load8(p501 + 32) == 1)
+								memset(p501 + 32, 0, 56);
+							uint64_t n664 = load64(p501 + 16);
+							uint64_t n665 = load64(p501 + 8);
+							if (n665 > n664) {
+								uint64_t n666 = load64(p501 + 24) + n664;
+								byte *p667 = inside(loadptru(p501), (n666 - ((n666 < n665) ? 0 : n665)) << 6);
+								store64u(p667, n563);
+								store64u(p667 + 8, n522);
+								store64u(p667 + 16, n561);
+								store64u(p667 + 24, n564);
+								store64u(p667 + 32, n562);
+								store64u(p667 + 40, n565);
+								store64u(p667 + 48, n566);
+								store64u(p667 + 56, n567);
+								store64(p501 + 16, load64(p501 + 16) + 1);
+								n506 = n561;
+								n507 = n564;
+								n508 = n562;
+								n509 = n565;
+								n510 = n566;
+								n511 = n520;
+								n512 = n521;
+								n513 = n522;
+								n514 = n560;
+								n515 = n524;
+								n516 = n525;
+								n517 = 3;
+								n518 = n563;
+								n519 = n567;
 							} else {
-								n511 = n565;
-								n512 = n566;
-								n513 = n567;
-								n514 = n568;
-								n515 = n569;
-								n516 = n524;
-								n517 = n525;
-								n518 = n526;
-								n519 = n564;
-								n520 = n528;
-								n521 = n529;
-								n522 = 3;
-								n523 = n570;
+								n506 = n561;
+								n507 = n564;
+								n508 = n562;
+								n509 = n565;
+								n510 = n566;
+								n511 = n520;
+								n512 = n521;
+								n513 = n522;
+								n514 = n560;
+								n515 = n524;
+								n516 = n525;
+								n517 = 3;
+								n518 = n563;
+								n519 = n567;
 							}
 						}
 L13:
 						{
-							byte *p675 = inside(p499, n500 << 7);
-							store8(p675, 0);
-							store8(p675 + 1, 0);
-							store8(p675 + 2, 0);
-							store64u(p675 + 8, n504);
-							store64u(p675 + 16, n522);
-							store64u(p675 + 24, n518);
-							store64u(p675 + 32, n519);
-							store64u(p675 + 40, n516);
-							store64u(p675 + 48, n517);
-							store64u(p675 + 56, n520);
-							store64u(p675 + 64, n521);
-							store64u(p675 + 72, n523);
-							store64u(p675 + 80, n518);
-							store64u(p675 + 88, n511);
-							store64u(p675 + 96, n512);
-							store64u(p675 + 104, n513);
-							store64u(p675 + 112, n514);
-							store64u(p675 + 120, n515);
-							n676 = n500 + 1;
+							uint64_t n668 = load64(p16 + 8);
+							byte *p669 = inside(loadptr(p16), n668 * 136);
+							store8(p669, 0);
+							memcpy(p669 + 1, p14, 7);
+							store64u(p669 + 8, n499);
+							store64u(p669 + 16, n517);
+							store64u(p669 + 24, n513);
+							store64u(p669 + 32, n514);
+							store64u(p669 + 40, n511);
+							store64u(p669 + 48, n512);
+							store64u(p669 + 56, n515);
+							store64u(p669 + 64, n516);
+							store64u(p669 + 72, n518);
+							store64u(p669 + 80, n513);
+							store64u(p669 + 88, n506);
+							store64u(p669 + 96, n507);
+							store64u(p669 + 104, n508);
+							store64u(p669 + 112, n509);
+							store64u(p669 + 120, n510);
+							store64u(p669 + 128, n519);
+							store64(p16 + 8, n668 + 1);
+							tp_dispatch_hand_out_and_report(p18, p18 + 1376, p16);
 							goto L16;
 						}
 					}
 					case 4: {
-						uint64_t n681;
-						uint64_t n677 = n504 * 88;
-						byte *p678 = at(loadptr(p18 + 1376), n677);
-						byte *p679 = at(loadptr(p18 + 1352), n677);
-						uint64_t n680 = load64(p678 + 16);
-						if (n680 == 0) {
-							n681 = 0;
+						uint64_t n674;
+						uint64_t n670 = n499 * 88;
+						byte *p671 = at(loadptr(p18 + 1376), n670);
+						byte *p672 = at(loadptr(p18 + 1352), n670);
+						uint64_t n673 = load64(p671 + 16);
+						if (n673 == 0) {
+							n674 = 0;
 						} else {
-							uint64_t n686;
-							uint64_t n682 = load64(p678 + 24);
-							uint64_t n683 = load64(p678 + 8) - n682;
-							if (n680 > n683) {
-								byte *p684 = loadptru(p678);
-								uint64_t n685 = tp_RingInletInlet_put_slice(p679, at(p684, n682 * 56), n683);
-								if (n685 < n683) {
-									n686 = n685;
+							uint64_t n679;
+							uint64_t n675 = load64(p671 + 24);
+							uint64_t n676 = load64(p671 + 8) - n675;
+							if (n673 > n676) {
+								byte *p677 = loadptru(p671);
+								uint64_t n678 = tp_RingInletInlet_put_slice(p672, at(p677, n675 << 6), n676);
+								if (n678 < n676) {
+									n679 = n678;
 								} else {
-									uint64_t n687 = tp_RingInletInlet_put_slice(p679, p684, n680 - n683);
-									n686 = n685 + n687;
+									uint64_t n680 = tp_RingInletInlet_put_slice(p672, p677, n673 - n676);
+									n679 = n678 + n680;
 								}
 							} else {
-								uint64_t n688 = tp_RingInletInlet_put_slice(p679, at(loadptru(p678), n682 * 56), n680);
-								if (n688 >= n680) {
-									if (load64(p678 + 16) == 0) {
-										n681 = n688;
+								uint64_t n681 = tp_RingInletInlet_put_slice(p672, at(loadptru(p671), n675 << 6), n673);
+								if (n681 >= n673) {
+									if (load64(p671 + 16) == 0) {
+										n674 = n681;
 										goto L17;
 									}
-									store64(p678 + 16, 0);
-									n681 = n688;
+									store64(p671 + 16, 0);
+									n674 = n681;
 									goto L17;
 								}
-								n686 = n688;
+								n679 = n681;
 							}
-							tp_Backlog_remove(p678, n686);
-							n681 = n686;
+							tp_Backlog_remove(p671, n679);
+							n674 = n679;
 						}
 L17:
 						{
-							byte *p689 = inside(p499, n500 << 7);
-							store8(p689, 5);
-							store8(p689 + 1, 0);
-							store8(p689 + 2, 0);
-							store64u(p689 + 8, n504);
-							store64u(p689 + 16, n681);
-							memset(p689 + 24, 0, 104);
-							n676 = n500 + 1;
+							uint64_t n682 = load64(p16 + 8);
+							byte *p683 = inside(loadptr(p16), n682 * 136);
+							store8(p683, 5);
+							memset(p683 + 1, 0, 7);
+							store64u(p683 + 8, n499);
+							store64u(p683 + 16, n674);
+							memset(p683 + 24, 0, 112);
+							store64(p16 + 8, n682 + 1);
 							goto L16;
 						}
 					}
 					case 1: {
 						if ((load8(p18 + 1312) & 1) != 0) {
-							n690 = 1;
+							n684 = 1;
+							n685 = 0;
+							n686 = 0;
+							n687 = 0;
+							n688 = 0;
+							n689 = 0;
+							n690 = 0;
 							n691 = 0;
 							n692 = 0;
-							n693 = 0;
-							n694 = 0;
-							n695 = 0;
-							n696 = 0;
-							n697 = 0;
-							n698 = 0;
 						} else {
-							uint64_t n699 = load64(p18 + 16);
-							if (n699 == load64(p18 + 8)) {
-								n690 = 1;
-								n691 = 1;
-								n692 = 0;
-								n693 = 0;
-								n694 = 0;
-								n695 = 0;
-								n696 = 0;
-								n697 = 0;
-								n698 = 0;
-							} else {
-								uint64_t n704;
-								uint8_t n700 = load8(p18);
-								uint64_t n701 = n699 + 1;
-								if (n700 == 0) {
-									uint64_t n702 = n701 & 63;
-									if (n702 == 0) {
-										uint8_t n703 = (uint8_t)((uint8_t)cttz64(n701) / 6);
-										n704 = ((uint64_t)n703 << 6) | ((n701 >> ((uint64_t)(uint8_t)(1u * n703 * 6) & 63)) & 63);
-									} else {
-										n704 = n702;
-									}
-								} else {
-									uint64_t n705 = n701 % 60;
-									if (n705 == 0) {
-										uint64_t n706 = (n701 / 60) % 60;
-										if (n706 == 0) {
-											uint64_t n707 = (n701 / 3600) % 24;
-											if (n707 == 0) {
-												n704 = (n701 / 86400) + 144;
-											} else {
-												n704 = n707 + 120;
-											}
-										} else {
-											n704 = n706 + 60;
-										}
-									} else {
-										n704 = n705;
-									}
-								}
-								byte *p708 = loadptr(p18 + 80);
-								byte *p709 = at(p708, n704 << 3);
-								if (n704 != (uint64_t)load32(p709 + 4)) {
-									byte *p710 = inside(p18 + 128, (n704 >> 6) << 3);
-									store64(p710, load64(p710) & (((uint64_t)1 << (n704 & 63)) ^ UINT64_MAX));
-									bool b711 = n700 == 0;
-									if (n704 >= (uint64_t)(b711 ? 64 : 60)) {
-										if ((load8(p18 + 232) & 1) != 0) {
-											byte *p719 = at(loadptr(p18 + 208), n704 << 4);
-											store64u(p719, UINT64_MAX);
-											store64u(p719 + 8, 0);
-										}
-										uint64_t n720 = tp_migration_migrate(n700, p18 + 40, p18 + 128, p18 + 208, n704, n701);
-										store64(p18 + 16, n701);
-										if (n720 == 0) {
-											n690 = 0;
-											n691 = 0;
-											n692 = 0;
-											n693 = 0;
-											n694 = 0;
-											n695 = 0;
-											n696 = 0;
-											n697 = 0;
-											n698 = 0;
-											goto L18;
-										}
-										store64(p18 + 248, load64(p18 + 248) + n720);
-										n690 = 0;
-										n691 = 0;
-										n692 = 0;
-										n693 = 0;
-										n694 = 0;
-										n695 = 0;
-										n696 = 0;
-										n697 = 0;
-										n698 = 0;
-										goto L18;
-									}
-									uint32_t n712 = load32(p709 + 4);
-									uint64_t n713 = (uint64_t)n712;
-									if (load64(p18 + 104) <= n713) {
-										uint64_t n714 = (uint64_t)(b711 ? 640 : 244);
-										uint32_t n715 = load32(p709);
-										byte *p716 = at(p708, n714 << 3);
-										uint32_t n717 = load32(p716);
-										store32(inside(p708, (uint64_t)n717 << 3) + 4, n712);
-										store32(inside(p708, n713 << 3), n717);
-										store32(inside(p708, (uint64_t)n715 << 3) + 4, (uint32_t)n714);
-										store32(p716, n715);
-										uint32_t n718 = (uint32_t)n704;
-										store32(p709 + 4, n718);
-										store32(p709, n718);
-									}
-								}
-								store64(p18 + 16, n701);
+							uint64_t n693 = load64(p18 + 16);
+							if (n693 == load64(p18 + 8)) {
+								n684 = 1;
+								n685 = 1;
+								n686 = 0;
+								n687 = 0;
+								n688 = 0;
+								n689 = 0;
 								n690 = 0;
 								n691 = 0;
 								n692 = 0;
-								n693 = 0;
-								n694 = 0;
-								n695 = 0;
-								n696 = 0;
-								n697 = 0;
-								n698 = 0;
+							} else {
+								uint64_t n698;
+								uint8_t n694 = load8(p18);
+								uint64_t n695 = n693 + 1;
+								if (n694 == 0) {
+									uint64_t n696 = n695 & 63;
+									if (n696 == 0) {
+										uint8_t n697 = (uint8_t)((uint8_t)cttz64(n695) / 6);
+										n698 = ((uint64_t)n697 << 6) | ((n695 >> ((uint64_t)(uint8_t)(1u * n697 * 6) & 63)) & 63);
+									} else {
+										n698 = n696;
+									}
+								} else {
+									uint64_t n699 = n695 % 60;
+									if (n699 == 0) {
+										uint64_t n700 = (n695 / 60) % 60;
+										if (n700 == 0) {
+											uint64_t n701 = (n695 / 3600) % 24;
+											if (n701 == 0) {
+												n698 = (n695 / 86400) + 144;
+											} else {
+												n698 = n701 + 120;
+											}
+										} else {
+											n698 = n700 + 60;
+										}
+									} else {
+										n698 = n699;
+									}
+								}
+								byte *p702 = loadptr(p18 + 80);
+								byte *p703 = at(p702, n698 << 3);
+								if (n698 != (uint64_t)load32(p703 + 4)) {
+									byte *p704 = inside(p18 + 128, (n698 >> 6) << 3);
+									store64(p704, load64(p704) & (((uint64_t)1 << (n698 & 63)) ^ UINT64_MAX));
+									bool b705 = n694 == 0;
+									if (n698 >= (uint64_t)(b705 ? 64 : 60)) {
+										if ((load8(p18 + 232) & 1) != 0) {
+											byte *p713 = at(loadptr(p18 + 208), n698 << 4);
+											store64u(p713, UINT64_MAX);
+											store64u(p713 + 8, 0);
+										}
+										uint64_t n714 = tp_migration_migrate(n694, p18 + 40, p18 + 128, p18 + 208, n698, n695);
+										store64(p18 + 16, n695);
+										if (n714 == 0) {
+											n684 = 0;
+											n685 = 0;
+											n686 = 0;
+											n687 = 0;
+											n688 = 0;
+											n689 = 0;
+											n690 = 0;
+											n691 = 0;
+											n692 = 0;
+											goto L18;
+										}
+										store64(p18 + 248, load64(p18 + 248) + n714);
+										n684 = 0;
+										n685 = 0;
+										n686 = 0;
+										n687 = 0;
+										n688 = 0;
+										n689 = 0;
+										n690 = 0;
+										n691 = 0;
+										n692 = 0;
+										goto L18;
+									}
+									uint32_t n706 = load32(p703 + 4);
+									uint64_t n707 = (uint64_t)n706;
+									if (load64(p18 + 104) <= n707) {
+										uint64_t n708 = (uint64_t)(b705 ? 640 : 244);
+										uint32_t n709 = load32(p703);
+										byte *p710 = at(p702, n708 << 3);
+										uint32_t n711 = load32(p710);
+										store32(inside(p702, (uint64_t)n711 << 3) + 4, n706);
+										store32(inside(p702, n707 << 3), n711);
+										store32(inside(p702, (uint64_t)n709 << 3) + 4, (uint32_t)n708);
+										store32(p710, n709);
+										uint32_t n712 = (uint32_t)n698;
+										store32(p703 + 4, n712);
+										store32(p703, n712);
+									}
+								}
+								store64(p18 + 16, n695);
+								n684 = 0;
+								n685 = 0;
+								n686 = 0;
+								n687 = 0;
+								n688 = 0;
+								n689 = 0;
+								n690 = 0;
+								n691 = 0;
+								n692 = 0;
 							}
 						}
 						break;
 					}
 					case 2: {
-						uint64_t n721, n722, n723;
+						uint64_t n715, n716, n717;
 						if ((load8(p18 + 1312) & 1) != 0) {
-							n721 = 1;
-							n722 = 0;
-							n723 = 0;
+							n715 = 1;
+							n716 = 0;
+							n717 = 0;
 						} else {
-							uint64_t n724 = load64(p18 + 16);
-							uint64_t n725 = load64(p18 + 8);
-							if (n724 == n725) {
-								n721 = 1;
-								n722 = 256;
-								n723 = 0;
+							uint64_t n718 = load64(p18 + 16);
+							uint64_t n719 = load64(p18 + 8);
+							if (n718 == n719) {
+								n715 = 1;
+								n716 = 256;
+								n717 = 0;
 							} else {
-								uint64_t n726 = tp_HierWheelWheel_advance(p18, umin64(n725 - n724, n504));
-								n721 = 0;
-								n722 = 0;
-								n723 = n726;
+								uint64_t n724;
+								uint64_t n720 = umin64(n719 - n718, n499);
+								uint64_t n721 = n718 + n720;
+								if (load8(p18) == 0) {
+									if ((n721 ^ n718) < 64) {
+										uint64_t n722 = load64(p18 + 128);
+										if ((n722 == 0) || ((n721 & 63) < cttz64(n722)))
+											goto L19;
+									}
+								} else if ((n721 / 60) == (n718 / 60)) {
+									uint64_t n723 = load64(p18 + 128);
+									if ((n723 == 0) || ((n721 % 60) < cttz64(n723)))
+										goto L19;
+								}
+								n724 = tp_HierWheel_advance_far(p18, n720);
+								n715 = 0;
+								n716 = 0;
+								n717 = n724;
+								goto L20;
+L19:
+								{
+									store64(p18 + 16, n721);
+									store64(p18 + 256, load64(p18 + 256) + n720);
+									n715 = 0;
+									n716 = 0;
+									n717 = n720;
+								}
 							}
 						}
-						n690 = 0;
-						n691 = 0;
-						n692 = n504;
-						n693 = n504;
-						n694 = n504 & UINT64_C(18446744073709486080);
-						n695 = n721;
-						n696 = n722;
-						n697 = 0;
-						n698 = n723;
+L20:
+						{
+							n684 = 0;
+							n685 = 0;
+							n686 = n499;
+							n687 = n499;
+							n688 = n499 & UINT64_C(18446744073709486080);
+							n689 = n715;
+							n690 = n716;
+							n691 = 0;
+							n692 = n717;
+						}
 						break;
 					}
 					case 3: {
-						uint64_t n727, n728, n729;
+						uint64_t n725, n726, n727;
 						if ((load8(p18 + 1312) & 1) != 0) {
-							n727 = 1;
-							n728 = 0;
-							n729 = 0;
+							n725 = 1;
+							n726 = 0;
+							n727 = 0;
 						} else {
-							uint8_t n730 = tp_facility_take_all(p18, p18 + 1320);
-							if ((n730 & 1) != 0) {
-								n727 = 1;
-								n728 = 256;
-								n729 = 0;
+							uint8_t n728 = tp_facility_take_all(p18, p18 + 1320);
+							if ((n728 & 1) != 0) {
+								n725 = 1;
+								n726 = 256;
+								n727 = 0;
 							} else {
 								store64(p18 + 1344, 0);
 								store8(p18 + 1312, 1);
-								n727 = 0;
-								n728 = 0;
-								n729 = load64(p18 + 1328);
+								n725 = 0;
+								n726 = 0;
+								n727 = load64(p18 + 1328);
 							}
 						}
-						n690 = 0;
-						n691 = 0;
-						n692 = n727;
-						n693 = n728;
-						n694 = 0;
-						n695 = n729;
-						n696 = n729;
-						n697 = n729 & UINT64_C(18446744073709486080);
-						n698 = 0;
+						n684 = 0;
+						n685 = 0;
+						n686 = n725;
+						n687 = n726;
+						n688 = 0;
+						n689 = n727;
+						n690 = n727;
+						n691 = n727 & UINT64_C(18446744073709486080);
+						n692 = 0;
 						break;
 					}
 					default: {
@@ -68788,128 +69527,56 @@ L17:
 					}
 L18:
 					{
-						byte *p731 = inside(p499, n500 << 7);
-						store8(p731, n503);
-						store8(p731 + 1, n690);
-						store8(p731 + 2, n691);
-						store64u(p731 + 8, (n694 | (n693 & 65280)) | (n692 & 255));
-						store64u(p731 + 16, (n697 | (n696 & 65280)) | (n695 & 255));
-						store64u(p731 + 24, n698);
-						memset(p731 + 32, 0, 96);
-						uint64_t n732 = n500;
-						for (;;) {
-							uint64_t n748, n749, n750;
-							uint64_t n733 = n732 + 1;
-							uint64_t n734 = load64(p18 + 32);
-							byte *p735 = loadptr(p18 + 80);
-							uint64_t n736 = n734 << 3;
-							uint64_t n737 = load64(p18 + 104);
-							uint64_t n738 = (uint64_t)load32(at(p735, n736) + 4);
-							uint64_t n739 = usub_sat64(n738, n737);
-							if (n737 <= n738) {
-								uint32_t n740 = load32(at(p735, (n737 + n739) << 3) + 4);
-								byte *p741 = at(loadptr(p18 + 40), n739 * 56);
-								uint64_t n742 = load64u(p741 + 8);
-								uint64_t n743 = load64u(p741 + 16);
-								uint64_t n744 = load64(p18 + 72);
-								uint8_t n745 = load8(p741);
-								memcpy(p11, p741 + 24, 24);
-								store64u(p741, 0);
-								store64u(p741 + 8, n744);
-								memset(p741 + 16, 0, 40);
-								if (n745 != 1) {
-									TRAP();
-									UNREACHABLE();
-								}
-								store64(p18 + 64, load64(p18 + 64) - 1);
-								store64(p18 + 72, n739);
-								memcpy(p12, p11, 24);
-								byte *p746 = loadptr(p18 + 80);
-								store32(inside(p746, n736) + 4, n740);
-								store32(inside(p746, (uint64_t)n740 << 3), (uint32_t)n734);
-								byte *p747 = inside(p18 + 800, n743 << 3);
-								store64(p747, load64(p747) - 1);
-								n748 = 0;
-								n749 = n742;
-								n750 = n743;
-							} else {
-								uint64_t n751 = load64(p18 + 1344);
-								if (n751 == load64(p18 + 1328)) {
-									n676 = n733;
-									break;
-								}
-								byte *p752 = at(loadptr(p18 + 1320), n751 * 40);
-								uint64_t n753 = load64u(p752 + 8);
-								uint64_t n754 = load64u(p752);
-								memcpy(p12, p752 + 16, 24);
-								store64(p18 + 1344, n751 + 1);
-								byte *p755 = inside(p18 + 800, n753 << 3);
-								store64(p755, load64(p755) - 1);
-								n748 = 1;
-								n749 = n754;
-								n750 = n753;
-							}
-							byte *p756 = at(loadptr(p18 + 1376), n750 * 88);
-							uint64_t n757 = load64(p756 + 16);
-							uint64_t n758 = load64(p756 + 8);
-							if (n758 > n757) {
-								uint64_t n759 = load64(p756 + 24) + n757;
-								byte *p760 = inside(loadptru(p756), (n759 - ((n759 < n758) ? 0 : n758)) * 56);
-								store64u(p760, 2);
-								store64u(p760 + 8, n748);
-								store64u(p760 + 16, n749);
-								store64u(p760 + 24, n750);
-								memcpy(p760 + 32, p12, 24);
-								store64(p756 + 16, load64(p756 + 16) + 1);
-							}
-							memcpy(p13, p12, 24);
-							byte *p761 = inside(p499, n733 << 7);
-							store8(p761, 4);
-							store8(p761 + 1, 0);
-							store8(p761 + 2, 0);
-							store64u(p761 + 8, n748);
-							store64u(p761 + 16, n749);
-							store64u(p761 + 24, n750);
-							memcpy(p761 + 32, p13, 24);
-							memset(p761 + 56, 0, 72);
-							n732 = n733;
-						}
+						uint64_t n729 = load64(p16 + 8);
+						byte *p730 = inside(loadptr(p16), n729 * 136);
+						store8(p730, n498);
+						store8(p730 + 1, n684);
+						store8(p730 + 2, n685);
+						memset(p730 + 3, 0, 5);
+						store64u(p730 + 8, (n688 | (n687 & 65280)) | (n686 & 255));
+						store64u(p730 + 16, (n691 | (n690 & 65280)) | (n689 & 255));
+						store64u(p730 + 24, n692);
+						memset(p730 + 32, 0, 104);
+						store64(p16 + 8, n729 + 1);
+						tp_dispatch_hand_out_and_report(p18, p18 + 1376, p16);
 					}
 L16:
 					{
-						n500 = n676;
-						n501 = n501 + 1;
+						n496 = n496 + 1;
 					}
 				}
-				n762 = 0;
-				n763 = 0;
-				while (n762 != n500) {
-					uint8_t n769;
-					byte *p764 = at(p499, n762 << 7);
-					uint64_t n765 = load64u(p764 + 8);
-					uint64_t n766 = load64u(p764 + 16);
-					switch (load8(p764)) {
+				p731 = loadptr(p16);
+				n732 = load64(p16 + 8);
+				n733 = load64(p16 + 16);
+				n734 = 0;
+				n735 = 0;
+				while (n734 != n732) {
+					uint8_t n741;
+					byte *p736 = at(p731, n734 * 136);
+					uint64_t n737 = load64u(p736 + 8);
+					uint64_t n738 = load64u(p736 + 16);
+					switch (load8(p736)) {
 					case 0: {
-						switch ((uint8_t)n766) {
+						switch ((uint8_t)n738) {
 						case 3: {
-							if (n200 > n765) {
-								byte *p767 = at(p427, n765 << 4);
-								uint64_t n768 = load64(p767);
-								if (n5 > n768) {
-									store64(p767, n768 + 1);
-									n769 = 1;
+							if (n200 > n737) {
+								byte *p739 = at(p427, n737 << 4);
+								uint64_t n740 = load64(p739);
+								if (n5 > n740) {
+									store64(p739, n740 + 1);
+									n741 = 1;
 								} else {
-									n769 = n763;
+									n741 = n735;
 								}
 							} else {
-								n769 = n763;
+								n741 = n735;
 							}
 							break;
 						}
 						case 0:
 						case 1:
 						case 2: {
-							n769 = n763;
+							n741 = n735;
 							break;
 						}
 						default: {
@@ -68919,22 +69586,22 @@ L16:
 						break;
 					}
 					case 5: {
-						if ((n200 <= n765) || (n766 == 0)) {
-							n769 = n763;
+						if ((n200 <= n737) || (n738 == 0)) {
+							n741 = n735;
 						} else {
-							byte *p770 = at(p427, n765 << 4) + 8;
-							uint64_t n771 = load64(p770);
-							uint64_t n772 = n5 << 1;
-							if (n772 > n771) {
-								if (n766 < (n772 - n771)) {
-									store64(p770, n771 + n766);
-									n769 = 1;
+							byte *p742 = at(p427, n737 << 4) + 8;
+							uint64_t n743 = load64(p742);
+							uint64_t n744 = n5 << 1;
+							if (n744 > n743) {
+								if (n738 < (n744 - n743)) {
+									store64(p742, n743 + n738);
+									n741 = 1;
 								} else {
-									store64(p770, n772);
-									n769 = 1;
+									store64(p742, n744);
+									n741 = 1;
 								}
 							} else {
-								n769 = n763;
+								n741 = n735;
 							}
 						}
 						break;
@@ -68943,26 +69610,26 @@ L16:
 					case 2:
 					case 3:
 					case 4: {
-						n769 = n763;
+						n741 = n735;
 						break;
 					}
 					default: {
 						UNREACHABLE();
 					}
 					}
-					n762 = n762 + 1;
-					n763 = n769;
+					n734 = n734 + 1;
+					n735 = n741;
 				}
-				n773 = 0;
+				n745 = 0;
 				for (;;) {
-					if (n773 == n500)
-						goto L19;
-					byte *p774 = at(p499, n773 << 7);
-					switch (load8(p774)) {
+					if (n745 == n732)
+						goto L21;
+					byte *p746 = at(p731, n745 * 136);
+					switch (load8(p746)) {
 					case 0: {
-						switch (load8(p774 + 16)) {
+						switch (load8(p746 + 16)) {
 						case 2: {
-							goto L20;
+							goto L22;
 						}
 						case 0:
 						case 1:
@@ -68986,275 +69653,275 @@ L16:
 						UNREACHABLE();
 					}
 					}
-					n773 = n773 + 1;
+					n745 = n745 + 1;
 				}
-L20:
+L22:
 				{
-					if (n773 < n500)
-						goto L21;
+					if (n745 < n732)
+						goto L23;
 				}
-L19:
+L21:
 				{
-					uint64_t n777;
-					byte *p775 = loadptru(p18 + 1400);
-					uint64_t n776 = load64u(p18 + 1416);
-					storeptru(p18 + 1400, p499);
-					store64u(p18 + 1408, n500);
-					store64u(p18 + 1416, n497);
-					if (n776 != 0)
-						rattle_dealloc(p775);
-					if ((n763 & 1) != 0) {
-						n777 = 0;
+					uint64_t n749;
+					byte *p747 = loadptru(p18 + 1400);
+					uint64_t n748 = load64u(p18 + 1416);
+					storeptru(p18 + 1400, p731);
+					store64u(p18 + 1408, n732);
+					store64u(p18 + 1416, n733);
+					if (n748 != 0)
+						rattle_dealloc(p747);
+					if ((n735 & 1) != 0) {
+						n749 = 0;
 					} else {
-						uint64_t n778 = n460 + 1;
+						uint64_t n750 = n460 + 1;
 						(void)os_sched_yield();
-						uint8_t n779 = load8_volatile((byte *)tp_static);
-						if (n779 != 0) {
+						uint8_t n751 = load8_volatile((byte *)tp_static);
+						if (n751 != 0) {
 							TRAP();
 							UNREACHABLE();
 						}
-						uint8_t n780 = load8_volatile((byte *)tp_static);
-						if (n780 != 0) {
+						uint8_t n752 = load8_volatile((byte *)tp_static);
+						if (n752 != 0) {
 							TRAP();
 							UNREACHABLE();
 						}
-						uint8_t n781 = load8_volatile((byte *)tp_static);
-						if (n781 != 0) {
+						uint8_t n753 = load8_volatile((byte *)tp_static);
+						if (n753 != 0) {
 							TRAP();
 							UNREACHABLE();
 						}
-						n777 = n778;
+						n749 = n750;
 					}
-					n460 = n777;
+					n460 = n749;
 					continue;
 				}
 L9:
 				{
-					p782 = loadptr(p18 + 80);
+					p754 = loadptr(p18 + 80);
 					goto L10;
 				}
 			}
-			n783 = load64(p18);
-			p784 = loadptr(p18 + 40);
-			n785 = load64(p18 + 56);
-			p786 = loadptr(p18 + 80);
-			n787 = load64(p18 + 96);
-			p788 = loadptr(p18 + 208);
-			n789 = load64(p18 + 224);
-			p790 = loadptr(p18 + 1320);
-			n791 = load64(p18 + 1336);
-			p792 = loadptr(p18 + 1352);
-			n793 = load64(p18 + 1360);
-			n794 = load64(p18 + 1368);
-			p795 = loadptr(p18 + 1376);
-			n796 = load64(p18 + 1384);
-			n797 = load64(p18 + 1392);
-			p798 = loadptr(p18 + 1400);
-			n799 = load64(p18 + 1416);
+			n755 = load64(p18);
+			p756 = loadptr(p18 + 40);
+			n757 = load64(p18 + 56);
+			p758 = loadptr(p18 + 80);
+			n759 = load64(p18 + 96);
+			p760 = loadptr(p18 + 208);
+			n761 = load64(p18 + 224);
+			p762 = loadptr(p18 + 1320);
+			n763 = load64(p18 + 1336);
+			p764 = loadptr(p18 + 1352);
+			n765 = load64(p18 + 1360);
+			n766 = load64(p18 + 1368);
+			p767 = loadptr(p18 + 1376);
+			n768 = load64(p18 + 1384);
+			n769 = load64(p18 + 1392);
+			p770 = loadptr(p18 + 1400);
+			n771 = load64(p18 + 1416);
 			if (load64u(p19 + 16) != 0)
 				rattle_dealloc(loadptru(p19));
 			if (b426) {
-				n442 = n783;
-				p443 = p784;
-				n444 = n785;
-				p445 = p786;
-				n446 = n787;
-				p447 = p788;
-				n448 = n789;
-				p449 = p790;
-				n450 = n791;
-				p451 = p792;
-				n452 = n793;
-				n453 = n794;
-				p454 = p795;
-				n455 = n796;
-				n456 = n797;
-				p457 = p798;
-				n458 = n799;
+				n442 = n755;
+				p443 = p756;
+				n444 = n757;
+				p445 = p758;
+				n446 = n759;
+				p447 = p760;
+				n448 = n761;
+				p449 = p762;
+				n450 = n763;
+				p451 = p764;
+				n452 = n765;
+				n453 = n766;
+				p454 = p767;
+				n455 = n768;
+				n456 = n769;
+				p457 = p770;
+				n458 = n771;
 				n459 = 1;
 				goto L8;
 			}
 			rattle_dealloc(p427);
-			n442 = n783;
-			p443 = p784;
-			n444 = n785;
-			p445 = p786;
-			n446 = n787;
-			p447 = p788;
-			n448 = n789;
-			p449 = p790;
-			n450 = n791;
-			p451 = p792;
-			n452 = n793;
-			n453 = n794;
-			p454 = p795;
-			n455 = n796;
-			n456 = n797;
-			p457 = p798;
-			n458 = n799;
+			n442 = n755;
+			p443 = p756;
+			n444 = n757;
+			p445 = p758;
+			n446 = n759;
+			p447 = p760;
+			n448 = n761;
+			p449 = p762;
+			n450 = n763;
+			p451 = p764;
+			n452 = n765;
+			n453 = n766;
+			p454 = p767;
+			n455 = n768;
+			n456 = n769;
+			p457 = p770;
+			n458 = n771;
 			n459 = 1;
 			goto L8;
-L21:
+L23:
 			{
-				if (n497 == 0)
+				if (n733 == 0)
 					goto L11;
-				rattle_dealloc(p499);
+				rattle_dealloc(p731);
 				goto L11;
 			}
 L12:
 			{
-				if (load64u(p17 + 16) != 0)
-					rattle_dealloc(loadptru(p17));
+				if (load64u(p15 + 16) != 0)
+					rattle_dealloc(loadptru(p15));
 			}
 L11:
 			{
-				uint64_t n800 = load64(p18);
-				byte *p801 = loadptr(p18 + 40);
-				uint64_t n802 = load64(p18 + 56);
-				byte *p803 = loadptr(p18 + 80);
-				uint64_t n804 = load64(p18 + 96);
-				byte *p805 = loadptr(p18 + 208);
-				uint64_t n806 = load64(p18 + 224);
-				byte *p807 = loadptr(p18 + 1320);
-				uint64_t n808 = load64(p18 + 1336);
-				byte *p809 = loadptr(p18 + 1352);
-				uint64_t n810 = load64(p18 + 1360);
-				uint64_t n811 = load64(p18 + 1368);
-				byte *p812 = loadptr(p18 + 1376);
-				uint64_t n813 = load64(p18 + 1384);
-				uint64_t n814 = load64(p18 + 1392);
-				byte *p815 = loadptr(p18 + 1400);
-				uint64_t n816 = load64(p18 + 1416);
+				uint64_t n772 = load64(p18);
+				byte *p773 = loadptr(p18 + 40);
+				uint64_t n774 = load64(p18 + 56);
+				byte *p775 = loadptr(p18 + 80);
+				uint64_t n776 = load64(p18 + 96);
+				byte *p777 = loadptr(p18 + 208);
+				uint64_t n778 = load64(p18 + 224);
+				byte *p779 = loadptr(p18 + 1320);
+				uint64_t n780 = load64(p18 + 1336);
+				byte *p781 = loadptr(p18 + 1352);
+				uint64_t n782 = load64(p18 + 1360);
+				uint64_t n783 = load64(p18 + 1368);
+				byte *p784 = loadptr(p18 + 1376);
+				uint64_t n785 = load64(p18 + 1384);
+				uint64_t n786 = load64(p18 + 1392);
+				byte *p787 = loadptr(p18 + 1400);
+				uint64_t n788 = load64(p18 + 1416);
 				if (load64u(p19 + 16) != 0)
 					rattle_dealloc(loadptru(p19));
 				rattle_dealloc(p427);
-				n442 = n800;
-				p443 = p801;
-				n444 = n802;
-				p445 = p803;
-				n446 = n804;
-				p447 = p805;
-				n448 = n806;
-				p449 = p807;
-				n450 = n808;
-				p451 = p809;
-				n452 = n810;
-				n453 = n811;
-				p454 = p812;
-				n455 = n813;
-				n456 = n814;
-				p457 = p815;
-				n458 = n816;
+				n442 = n772;
+				p443 = p773;
+				n444 = n774;
+				p445 = p775;
+				n446 = n776;
+				p447 = p777;
+				n448 = n778;
+				p449 = p779;
+				n450 = n780;
+				p451 = p781;
+				n452 = n782;
+				n453 = n783;
+				p454 = p784;
+				n455 = n785;
+				n456 = n786;
+				p457 = p787;
+				n458 = n788;
 				n459 = 2;
 				goto L8;
 			}
 L10:
 			{
-				uint64_t n817 = load64(p18);
-				byte *p818 = loadptr(p18 + 40);
-				uint64_t n819 = load64(p18 + 56);
-				uint64_t n820 = load64(p18 + 96);
-				byte *p821 = loadptr(p18 + 208);
-				uint64_t n822 = load64(p18 + 224);
-				byte *p823 = loadptr(p18 + 1320);
-				uint64_t n824 = load64(p18 + 1336);
-				byte *p825 = loadptr(p18 + 1352);
-				uint64_t n826 = load64(p18 + 1360);
-				uint64_t n827 = load64(p18 + 1368);
-				byte *p828 = loadptr(p18 + 1376);
-				uint64_t n829 = load64(p18 + 1384);
-				uint64_t n830 = load64(p18 + 1392);
-				byte *p831 = loadptr(p18 + 1400);
-				uint64_t n832 = load64(p18 + 1416);
+				uint64_t n789 = load64(p18);
+				byte *p790 = loadptr(p18 + 40);
+				uint64_t n791 = load64(p18 + 56);
+				uint64_t n792 = load64(p18 + 96);
+				byte *p793 = loadptr(p18 + 208);
+				uint64_t n794 = load64(p18 + 224);
+				byte *p795 = loadptr(p18 + 1320);
+				uint64_t n796 = load64(p18 + 1336);
+				byte *p797 = loadptr(p18 + 1352);
+				uint64_t n798 = load64(p18 + 1360);
+				uint64_t n799 = load64(p18 + 1368);
+				byte *p800 = loadptr(p18 + 1376);
+				uint64_t n801 = load64(p18 + 1384);
+				uint64_t n802 = load64(p18 + 1392);
+				byte *p803 = loadptr(p18 + 1400);
+				uint64_t n804 = load64(p18 + 1416);
 				if (load64u(p19 + 16) != 0)
 					rattle_dealloc(loadptru(p19));
 				if (b426) {
-					n442 = n817;
-					p443 = p818;
-					n444 = n819;
-					p445 = p782;
-					n446 = n820;
-					p447 = p821;
-					n448 = n822;
-					p449 = p823;
-					n450 = n824;
-					p451 = p825;
-					n452 = n826;
-					n453 = n827;
-					p454 = p828;
-					n455 = n829;
-					n456 = n830;
-					p457 = p831;
-					n458 = n832;
+					n442 = n789;
+					p443 = p790;
+					n444 = n791;
+					p445 = p754;
+					n446 = n792;
+					p447 = p793;
+					n448 = n794;
+					p449 = p795;
+					n450 = n796;
+					p451 = p797;
+					n452 = n798;
+					n453 = n799;
+					p454 = p800;
+					n455 = n801;
+					n456 = n802;
+					p457 = p803;
+					n458 = n804;
 					n459 = 0;
 				} else {
 					rattle_dealloc(p427);
-					n442 = n817;
-					p443 = p818;
-					n444 = n819;
-					p445 = p782;
-					n446 = n820;
-					p447 = p821;
-					n448 = n822;
-					p449 = p823;
-					n450 = n824;
-					p451 = p825;
-					n452 = n826;
-					n453 = n827;
-					p454 = p828;
-					n455 = n829;
-					n456 = n830;
-					p457 = p831;
-					n458 = n832;
+					n442 = n789;
+					p443 = p790;
+					n444 = n791;
+					p445 = p754;
+					n446 = n792;
+					p447 = p793;
+					n448 = n794;
+					p449 = p795;
+					n450 = n796;
+					p451 = p797;
+					n452 = n798;
+					n453 = n799;
+					p454 = p800;
+					n455 = n801;
+					n456 = n802;
+					p457 = p803;
+					n458 = n804;
 					n459 = 0;
 				}
 			}
 		}
 L8:
 		{
-			uint64_t n856, n857, n858, n859;
-			uint8_t n833 = load8_volatile((byte *)tp_static);
-			if (n833 != 0) {
+			uint64_t n828, n829, n830, n831;
+			uint8_t n805 = load8_volatile((byte *)tp_static);
+			if (n805 != 0) {
 				TRAP();
 				UNREACHABLE();
 			}
-			uint8_t n834 = load8_volatile((byte *)tp_static);
-			if (n834 != 0) {
+			uint8_t n806 = load8_volatile((byte *)tp_static);
+			if (n806 != 0) {
 				TRAP();
 				UNREACHABLE();
 			}
 			tp_Children_join(p197, p193);
-			uint8_t n835 = load8_volatile((byte *)tp_static);
-			if (n835 != 0) {
+			uint8_t n807 = load8_volatile((byte *)tp_static);
+			if (n807 != 0) {
 				TRAP();
 				UNREACHABLE();
 			}
-			byte *p836 = loadptru(p197);
-			uint64_t n837 = load64u(p197 + 8);
-			uint64_t n838 = load64u(p197 + 16);
+			byte *p808 = loadptru(p197);
+			uint64_t n809 = load64u(p197 + 8);
+			uint64_t n810 = load64u(p197 + 16);
 			switch (n459) {
 			case 2: {
-				uint64_t n839;
-				if (n837 == 0)
-					goto L22;
-				n839 = 0;
-				while (n839 != n837) {
-					byte *p840 = inside(p836, n839 * 112);
-					byte *p841 = loadptru(p840 + 24);
-					byte *p842 = loadptru(p840 + 32);
-					uint64_t n843 = load64u(p840 + 40);
+				uint64_t n811;
+				if (n809 == 0)
+					goto L24;
+				n811 = 0;
+				while (n811 != n809) {
+					byte *p812 = inside(p808, n811 * 112);
+					byte *p813 = loadptru(p812 + 24);
+					byte *p814 = loadptru(p812 + 32);
+					uint64_t n815 = load64u(p812 + 40);
 					BARRIER();
-					uint64_t n844 = atomic_exchange64(p841 + 256, 1, ORDER_SEQ_CST);
+					uint64_t n816 = atomic_exchange64(p813 + 256, 1, ORDER_SEQ_CST);
 					BARRIER();
-					if (n844 != 0)
-						tp_release_drop_slow(p841, p842, n843);
-					n839 = n839 + 1;
+					if (n816 != 0)
+						tp_release_drop_slow(p813, p814, n815);
+					n811 = n811 + 1;
 				}
-L22:
+L24:
 				{
-					uint64_t n845;
-					if (n838 != 0)
-						rattle_dealloc(p836);
+					uint64_t n817;
+					if (n810 != 0)
+						rattle_dealloc(p808);
 					if (n444 != 0)
 						rattle_dealloc(p443);
 					if (n446 != 0)
@@ -69264,55 +69931,55 @@ L22:
 					if (n450 != 0)
 						rattle_dealloc(p449);
 					if (n452 == 0)
-						goto L23;
-					n845 = 0;
-					while (n845 != n452) {
-						byte *p846 = inside(p451, n845 * 88);
-						byte *p847 = loadptru(p846);
-						byte *p848 = loadptru(p846 + 8);
-						uint64_t n849 = load64u(p846 + 16);
-						byte *p850 = loadptru(p846 + 40);
-						byte *p851 = loadptru(p846 + 48);
-						uint64_t n852 = load64u(p846 + 56);
+						goto L25;
+					n817 = 0;
+					while (n817 != n452) {
+						byte *p818 = inside(p451, n817 * 88);
+						byte *p819 = loadptru(p818);
+						byte *p820 = loadptru(p818 + 8);
+						uint64_t n821 = load64u(p818 + 16);
+						byte *p822 = loadptru(p818 + 40);
+						byte *p823 = loadptru(p818 + 48);
+						uint64_t n824 = load64u(p818 + 56);
 						BARRIER();
-						uint64_t n853 = atomic_exchange64(p847 + 256, 1, ORDER_SEQ_CST);
+						uint64_t n825 = atomic_exchange64(p819 + 256, 1, ORDER_SEQ_CST);
 						BARRIER();
-						if (n853 != 0)
-							tp_release_drop_slow(p847, p848, n849);
+						if (n825 != 0)
+							tp_release_drop_slow(p819, p820, n821);
 						BARRIER();
-						uint64_t n854 = atomic_exchange64(p850 + 256, 1, ORDER_SEQ_CST);
+						uint64_t n826 = atomic_exchange64(p822 + 256, 1, ORDER_SEQ_CST);
 						BARRIER();
-						if (n854 != 0)
-							tp_release_drop_slow(p850, p851, n852);
-						n845 = n845 + 1;
+						if (n826 != 0)
+							tp_release_drop_slow(p822, p823, n824);
+						n817 = n817 + 1;
 					}
-L23:
+L25:
 					{
-						uint64_t n855;
+						uint64_t n827;
 						if (n453 != 0)
 							rattle_dealloc(p451);
 						if (n455 == 0)
-							goto L24;
-						n855 = 0;
-						while (n855 != n455) {
-							rattle_dealloc(loadptru(inside(p454, n855 * 88)));
-							n855 = n855 + 1;
+							goto L26;
+						n827 = 0;
+						while (n827 != n455) {
+							rattle_dealloc(loadptru(inside(p454, n827 * 88)));
+							n827 = n827 + 1;
 						}
-L24:
+L26:
 						{
 							if (n456 != 0)
 								rattle_dealloc(p454);
 							if (n458 == 0) {
-								n856 = 1;
-								n857 = 0;
-								n858 = 0;
-								n859 = 0;
+								n828 = 1;
+								n829 = 0;
+								n830 = 0;
+								n831 = 0;
 							} else {
 								rattle_dealloc(p457);
-								n856 = 1;
-								n857 = 0;
-								n858 = 0;
-								n859 = 0;
+								n828 = 1;
+								n829 = 0;
+								n830 = 0;
+								n831 = 0;
 							}
 						}
 					}
@@ -69321,158 +69988,158 @@ L24:
 			}
 			case 0:
 			case 1: {
-				bool b861;
-				uint64_t n863;
-				uint64_t n860 = 0;
+				bool b833;
+				uint64_t n835;
+				uint64_t n832 = 0;
 				for (;;) {
-					b861 = n860 != n837;
-					if (!b861) {
-						n863 = 0;
+					b833 = n832 != n809;
+					if (!b833) {
+						n835 = 0;
 						break;
 					}
-					byte *p862 = at(p836, n860 * 112);
-					if ((load8(p862 + 96) & 1) != 0) {
-						n863 = n860;
+					byte *p834 = at(p808, n832 * 112);
+					if ((load8(p834 + 96) & 1) != 0) {
+						n835 = n832;
 						break;
 					}
-					if (load8(p862) != 1) {
-						n863 = n860;
+					if (load8(p834) != 1) {
+						n835 = n832;
 						break;
 					}
-					n860 = n860 + 1;
+					n832 = n832 + 1;
 				}
 				storeptru(p10, p6);
 				memset(p10 + 8, 0, 16);
-				uint64_t n864 = 0;
-				uint64_t n865 = 0;
+				uint64_t n836 = 0;
+				uint64_t n837 = 0;
 				for (;;) {
-					uint64_t n873;
-					if (n865 == n837)
-						goto L25;
-					byte *p866 = at(p836, n865 * 112);
-					uint8_t n867 = tp_threads_text_push_count(p10, (byte *)tp_static_287, 7, n865);
-					if ((n867 & 1) != 0)
+					uint64_t n845;
+					if (n837 == n809)
+						goto L27;
+					byte *p838 = at(p808, n837 * 112);
+					uint8_t n839 = tp_threads_text_push_count(p10, (byte *)tp_static_287, 7, n837);
+					if ((n839 & 1) != 0)
 						break;
-					uint8_t n868 = tp_threads_text_push_count(p10, (byte *)tp_static_288, 6, load64(p866 + 72));
-					if ((n868 & 1) != 0)
+					uint8_t n840 = tp_threads_text_push_count(p10, (byte *)tp_static_288, 6, load64(p838 + 72));
+					if ((n840 & 1) != 0)
 						break;
-					uint8_t n869 = tp_threads_text_push_count(p10, (byte *)tp_static_289, 9, load64(p866 + 80));
-					if ((n869 & 1) != 0)
+					uint8_t n841 = tp_threads_text_push_count(p10, (byte *)tp_static_289, 9, load64(p838 + 80));
+					if ((n841 & 1) != 0)
 						break;
-					uint8_t n870 = tp_threads_text_push_count(p10, (byte *)tp_static_290, 9, load64(p866 + 88));
-					if ((n870 & 1) != 0)
+					uint8_t n842 = tp_threads_text_push_count(p10, (byte *)tp_static_290, 9, load64(p838 + 88));
+					if ((n842 & 1) != 0)
 						break;
-					uint64_t n871 = load64(p10 + 8);
-					if (load64(p10 + 16) == n871) {
-						bool b872 = tp_vec_Vec_grow_amortized(p10, 1);
-						if (!b872)
+					uint64_t n843 = load64(p10 + 8);
+					if (load64(p10 + 16) == n843) {
+						bool b844 = tp_vec_Vec_grow_amortized(p10, 1);
+						if (!b844)
 							break;
-						n873 = load64(p10 + 8);
+						n845 = load64(p10 + 8);
 					} else {
-						n873 = n871;
+						n845 = n843;
 					}
-					store8(inside(loadptr(p10), n873), 10);
-					uint64_t n874 = n873 + 1;
-					store64(p10 + 8, n874);
-					n864 = n874;
-					n865 = n865 + 1;
+					store8(inside(loadptr(p10), n845), 10);
+					uint64_t n846 = n845 + 1;
+					store64(p10 + 8, n846);
+					n836 = n846;
+					n837 = n837 + 1;
 				}
 				if (load64u(p10 + 16) == 0)
-					goto L26;
+					goto L28;
 				rattle_dealloc(loadptru(p10));
-				goto L26;
-L25:
-				{
-					uint64_t n877, n878, n881;
-					uint64_t n875 = load64(p10 + 16);
-					if ((n875 - n864) < 4) {
-						bool b876 = tp_vec_Vec_grow_amortized(p10, 4);
-						if (!b876) {
-							if (load64u(p10 + 16) == 0)
-								goto L26;
-							rattle_dealloc(loadptru(p10));
-							goto L26;
-						}
-						n877 = load64(p10 + 16);
-						n878 = load64(p10 + 8);
-					} else {
-						n877 = n875;
-						n878 = n864;
-					}
-					byte *p879 = loadptr(p10);
-					byte *p880 = at(p879, n878);
-					if (((uint64_t)(uintptr_t)p880 - (uint64_t)(uintptr_t)(byte *)tp_static_286) >= 4) {
-						store32u(p880, 174354021);
-						goto L27;
-					}
-					n881 = 0;
-					while (n881 != 4) {
-						store8(inside(p880, n881), load8(inside((byte *)tp_static_286, n881)));
-						n881 = n881 + 1;
-					}
+				goto L28;
 L27:
+				{
+					uint64_t n849, n850, n853;
+					uint64_t n847 = load64(p10 + 16);
+					if ((n847 - n836) < 4) {
+						bool b848 = tp_vec_Vec_grow_amortized(p10, 4);
+						if (!b848) {
+							if (load64u(p10 + 16) == 0)
+								goto L28;
+							rattle_dealloc(loadptru(p10));
+							goto L28;
+						}
+						n849 = load64(p10 + 16);
+						n850 = load64(p10 + 8);
+					} else {
+						n849 = n847;
+						n850 = n836;
+					}
+					byte *p851 = loadptr(p10);
+					byte *p852 = at(p851, n850);
+					if (((uint64_t)(uintptr_t)p852 - (uint64_t)(uintptr_t)(byte *)tp_static_286) >= 4) {
+						store32u(p852, 174354021);
+						goto L29;
+					}
+					n853 = 0;
+					while (n853 != 4) {
+						store8(inside(p852, n853), load8(inside((byte *)tp_static_286, n853)));
+						n853 = n853 + 1;
+					}
+L29:
 					{
-						byte *p885, *p886;
-						uint64_t n882 = n878 + 4;
-						uint64_t n883 = (uint64_t)(uintptr_t)p879;
+						byte *p857, *p858;
+						uint64_t n854 = n850 + 4;
+						uint64_t n855 = (uint64_t)(uintptr_t)p851;
 						memset(p7, 0, 16);
 						memset(p8, 0, 40);
 						memset(p9, 0, 40);
-						bool b884 = n837 == 0;
-						if (!b884) {
-							uint64_t n896;
-							if (n837 <= UINT64_C(576460752303423487)) {
-								of_i64_i64 s887 = rattle_alloc(n837 << 4, 8);
-								if ((s887.f0 & 1) != 0) {
-									byte *p888 = (byte *)(uintptr_t)s887.f1;
-									if (n837 <= UINT64_C(192153584101141162)) {
-										of_i64_i64 s889 = rattle_alloc(n837 * 48, 8);
-										if ((s889.f0 & 1) != 0) {
-											p885 = p888;
-											p886 = (byte *)(uintptr_t)s889.f1;
-											goto L28;
+						bool b856 = n809 == 0;
+						if (!b856) {
+							uint64_t n868;
+							if (n809 <= UINT64_C(576460752303423487)) {
+								of_i64_i64 s859 = rattle_alloc(n809 << 4, 8);
+								if ((s859.f0 & 1) != 0) {
+									byte *p860 = (byte *)(uintptr_t)s859.f1;
+									if (n809 <= UINT64_C(192153584101141162)) {
+										of_i64_i64 s861 = rattle_alloc(n809 * 48, 8);
+										if ((s861.f0 & 1) != 0) {
+											p857 = p860;
+											p858 = (byte *)(uintptr_t)s861.f1;
+											goto L30;
 										}
 									}
-									rattle_dealloc(p888);
-									uint64_t n890 = 0;
-									while (n890 != n837) {
-										byte *p891 = inside(p836, n890 * 112);
-										byte *p892 = loadptru(p891 + 24);
-										byte *p893 = loadptru(p891 + 32);
-										uint64_t n894 = load64u(p891 + 40);
+									rattle_dealloc(p860);
+									uint64_t n862 = 0;
+									while (n862 != n809) {
+										byte *p863 = inside(p808, n862 * 112);
+										byte *p864 = loadptru(p863 + 24);
+										byte *p865 = loadptru(p863 + 32);
+										uint64_t n866 = load64u(p863 + 40);
 										BARRIER();
-										uint64_t n895 = atomic_exchange64(p892 + 256, 1, ORDER_SEQ_CST);
+										uint64_t n867 = atomic_exchange64(p864 + 256, 1, ORDER_SEQ_CST);
 										BARRIER();
-										if (n895 != 0)
-											tp_release_drop_slow(p892, p893, n894);
-										n890 = n890 + 1;
+										if (n867 != 0)
+											tp_release_drop_slow(p864, p865, n866);
+										n862 = n862 + 1;
 									}
-									if (n838 == 0)
-										goto L29;
-									rattle_dealloc(p836);
-									goto L29;
+									if (n810 == 0)
+										goto L31;
+									rattle_dealloc(p808);
+									goto L31;
 								}
 							}
-							n896 = 0;
-							while (n896 != n837) {
-								byte *p897 = inside(p836, n896 * 112);
-								byte *p898 = loadptru(p897 + 24);
-								byte *p899 = loadptru(p897 + 32);
-								uint64_t n900 = load64u(p897 + 40);
+							n868 = 0;
+							while (n868 != n809) {
+								byte *p869 = inside(p808, n868 * 112);
+								byte *p870 = loadptru(p869 + 24);
+								byte *p871 = loadptru(p869 + 32);
+								uint64_t n872 = load64u(p869 + 40);
 								BARRIER();
-								uint64_t n901 = atomic_exchange64(p898 + 256, 1, ORDER_SEQ_CST);
+								uint64_t n873 = atomic_exchange64(p870 + 256, 1, ORDER_SEQ_CST);
 								BARRIER();
-								if (n901 != 0)
-									tp_release_drop_slow(p898, p899, n900);
-								n896 = n896 + 1;
+								if (n873 != 0)
+									tp_release_drop_slow(p870, p871, n872);
+								n868 = n868 + 1;
 							}
-							if (n838 != 0)
-								rattle_dealloc(p836);
-L29:
+							if (n810 != 0)
+								rattle_dealloc(p808);
+L31:
 							{
-								uint64_t n902;
-								if (n877 != 0)
-									rattle_dealloc(p879);
+								uint64_t n874;
+								if (n849 != 0)
+									rattle_dealloc(p851);
 								if (n444 != 0)
 									rattle_dealloc(p443);
 								if (n446 != 0)
@@ -69482,130 +70149,130 @@ L29:
 								if (n450 != 0)
 									rattle_dealloc(p449);
 								if (n452 == 0)
-									goto L30;
-								n902 = 0;
-								while (n902 != n452) {
-									byte *p903 = inside(p451, n902 * 88);
-									byte *p904 = loadptru(p903);
-									byte *p905 = loadptru(p903 + 8);
-									uint64_t n906 = load64u(p903 + 16);
-									byte *p907 = loadptru(p903 + 40);
-									byte *p908 = loadptru(p903 + 48);
-									uint64_t n909 = load64u(p903 + 56);
+									goto L32;
+								n874 = 0;
+								while (n874 != n452) {
+									byte *p875 = inside(p451, n874 * 88);
+									byte *p876 = loadptru(p875);
+									byte *p877 = loadptru(p875 + 8);
+									uint64_t n878 = load64u(p875 + 16);
+									byte *p879 = loadptru(p875 + 40);
+									byte *p880 = loadptru(p875 + 48);
+									uint64_t n881 = load64u(p875 + 56);
 									BARRIER();
-									uint64_t n910 = atomic_exchange64(p904 + 256, 1, ORDER_SEQ_CST);
+									uint64_t n882 = atomic_exchange64(p876 + 256, 1, ORDER_SEQ_CST);
 									BARRIER();
-									if (n910 != 0)
-										tp_release_drop_slow(p904, p905, n906);
+									if (n882 != 0)
+										tp_release_drop_slow(p876, p877, n878);
 									BARRIER();
-									uint64_t n911 = atomic_exchange64(p907 + 256, 1, ORDER_SEQ_CST);
+									uint64_t n883 = atomic_exchange64(p879 + 256, 1, ORDER_SEQ_CST);
 									BARRIER();
-									if (n911 != 0)
-										tp_release_drop_slow(p907, p908, n909);
-									n902 = n902 + 1;
+									if (n883 != 0)
+										tp_release_drop_slow(p879, p880, n881);
+									n874 = n874 + 1;
 								}
-L30:
+L32:
 								{
-									uint64_t n912;
+									uint64_t n884;
 									if (n453 != 0)
 										rattle_dealloc(p451);
 									if (n455 == 0)
-										goto L31;
-									n912 = 0;
-									while (n912 != n455) {
-										rattle_dealloc(loadptru(inside(p454, n912 * 88)));
-										n912 = n912 + 1;
+										goto L33;
+									n884 = 0;
+									while (n884 != n455) {
+										rattle_dealloc(loadptru(inside(p454, n884 * 88)));
+										n884 = n884 + 1;
 									}
-L31:
+L33:
 									{
 										if (n456 != 0)
 											rattle_dealloc(p454);
 										if (n458 == 0) {
-											n856 = 1;
-											n857 = 0;
-											n858 = 0;
-											n859 = 0;
-											goto L32;
+											n828 = 1;
+											n829 = 0;
+											n830 = 0;
+											n831 = 0;
+											goto L34;
 										}
 										rattle_dealloc(p457);
-										n856 = 1;
-										n857 = 0;
-										n858 = 0;
-										n859 = 0;
-										goto L32;
+										n828 = 1;
+										n829 = 0;
+										n830 = 0;
+										n831 = 0;
+										goto L34;
 									}
 								}
 							}
 						}
-						p885 = p6;
-						p886 = p6;
-L28:
+						p857 = p6;
+						p858 = p6;
+L30:
 						{
-							uint64_t n915, n916, n922, n927, n928, n945;
-							byte *p920, *p921;
-							uint8_t n946;
-							uint64_t n913 = 0;
-							uint64_t n914 = n837;
+							uint64_t n887, n888, n894, n899, n900, n917;
+							byte *p892, *p893;
+							uint8_t n918;
+							uint64_t n885 = 0;
+							uint64_t n886 = n809;
 							for (;;) {
-								if (n914 == 0)
-									goto L33;
-								n915 = n913 + 1;
-								n916 = n914 - 1;
-								byte *p917 = inside(p836, n913 * 112);
-								byte *p918 = loadptru(p917 + 8);
-								byte *p919 = loadptru(p917 + 16);
-								p920 = loadptru(p917 + 24);
-								p921 = loadptru(p917 + 32);
-								n922 = load64u(p917 + 40);
-								uint64_t n923 = load64u(p917 + 64);
-								uint8_t n924 = load8(p917);
-								memcpy(p7, p917 + 48, 16);
-								if (n924 != 1)
+								if (n886 == 0)
+									goto L35;
+								n887 = n885 + 1;
+								n888 = n886 - 1;
+								byte *p889 = inside(p808, n885 * 112);
+								byte *p890 = loadptru(p889 + 8);
+								byte *p891 = loadptru(p889 + 16);
+								p892 = loadptru(p889 + 24);
+								p893 = loadptru(p889 + 32);
+								n894 = load64u(p889 + 40);
+								uint64_t n895 = load64u(p889 + 64);
+								uint8_t n896 = load8(p889);
+								memcpy(p7, p889 + 48, 16);
+								if (n896 != 1)
 									break;
-								byte *p925 = inside(p885, n913 << 4);
-								storeptru(p925, p918);
-								storeptru(p925 + 8, p919);
-								byte *p926 = inside(p886, n913 * 48);
-								storeptru(p926, p920);
-								storeptru(p926 + 8, p921);
-								store64u(p926 + 16, n922);
-								memcpy(p926 + 24, p7, 16);
-								store64u(p926 + 40, n923);
-								n913 = n915;
-								n914 = n916;
+								byte *p897 = inside(p857, n885 << 4);
+								storeptru(p897, p890);
+								storeptru(p897 + 8, p891);
+								byte *p898 = inside(p858, n885 * 48);
+								storeptru(p898, p892);
+								storeptru(p898 + 8, p893);
+								store64u(p898 + 16, n894);
+								memcpy(p898 + 24, p7, 16);
+								store64u(p898 + 40, n895);
+								n885 = n887;
+								n886 = n888;
 							}
 							BARRIER();
-							n927 = atomic_exchange64(p920 + 256, 1, ORDER_SEQ_CST);
+							n899 = atomic_exchange64(p892 + 256, 1, ORDER_SEQ_CST);
 							BARRIER();
-							if (n927 != 0)
-								tp_release_drop_slow(p920, p921, n922);
-							storeptru(p8, p836);
-							store64u(p8 + 8, n916);
-							store64u(p8 + 16, n838);
-							store64u(p8 + 24, n915);
+							if (n899 != 0)
+								tp_release_drop_slow(p892, p893, n894);
+							storeptru(p8, p808);
+							store64u(p8 + 8, n888);
+							store64u(p8 + 16, n810);
+							store64u(p8 + 24, n887);
 							store64u(p8 + 32, 0);
 							tp_VecDeque_drop(p8);
-							if (n913 == 0)
-								goto L34;
-							n928 = 0;
-							while (n928 != n913) {
-								byte *p929 = inside(p886, n928 * 48);
-								byte *p930 = loadptru(p929);
-								byte *p931 = loadptru(p929 + 8);
-								uint64_t n932 = load64u(p929 + 16);
+							if (n885 == 0)
+								goto L36;
+							n900 = 0;
+							while (n900 != n885) {
+								byte *p901 = inside(p858, n900 * 48);
+								byte *p902 = loadptru(p901);
+								byte *p903 = loadptru(p901 + 8);
+								uint64_t n904 = load64u(p901 + 16);
 								BARRIER();
-								uint64_t n933 = atomic_exchange64(p930 + 256, 1, ORDER_SEQ_CST);
+								uint64_t n905 = atomic_exchange64(p902 + 256, 1, ORDER_SEQ_CST);
 								BARRIER();
-								if (n933 != 0)
-									tp_release_drop_slow(p930, p931, n932);
-								n928 = n928 + 1;
+								if (n905 != 0)
+									tp_release_drop_slow(p902, p903, n904);
+								n900 = n900 + 1;
 							}
-L34:
+L36:
 							{
-								uint64_t n934;
-								if (!b884) {
-									rattle_dealloc(p886);
-									rattle_dealloc(p885);
+								uint64_t n906;
+								if (!b856) {
+									rattle_dealloc(p858);
+									rattle_dealloc(p857);
 								}
 								if (n444 != 0)
 									rattle_dealloc(p443);
@@ -69616,164 +70283,164 @@ L34:
 								if (n450 != 0)
 									rattle_dealloc(p449);
 								if (n452 == 0)
-									goto L35;
-								n934 = 0;
-								while (n934 != n452) {
-									byte *p935 = inside(p451, n934 * 88);
-									byte *p936 = loadptru(p935);
-									byte *p937 = loadptru(p935 + 8);
-									uint64_t n938 = load64u(p935 + 16);
-									byte *p939 = loadptru(p935 + 40);
-									byte *p940 = loadptru(p935 + 48);
-									uint64_t n941 = load64u(p935 + 56);
+									goto L37;
+								n906 = 0;
+								while (n906 != n452) {
+									byte *p907 = inside(p451, n906 * 88);
+									byte *p908 = loadptru(p907);
+									byte *p909 = loadptru(p907 + 8);
+									uint64_t n910 = load64u(p907 + 16);
+									byte *p911 = loadptru(p907 + 40);
+									byte *p912 = loadptru(p907 + 48);
+									uint64_t n913 = load64u(p907 + 56);
 									BARRIER();
-									uint64_t n942 = atomic_exchange64(p936 + 256, 1, ORDER_SEQ_CST);
+									uint64_t n914 = atomic_exchange64(p908 + 256, 1, ORDER_SEQ_CST);
 									BARRIER();
-									if (n942 != 0)
-										tp_release_drop_slow(p936, p937, n938);
+									if (n914 != 0)
+										tp_release_drop_slow(p908, p909, n910);
 									BARRIER();
-									uint64_t n943 = atomic_exchange64(p939 + 256, 1, ORDER_SEQ_CST);
+									uint64_t n915 = atomic_exchange64(p911 + 256, 1, ORDER_SEQ_CST);
 									BARRIER();
-									if (n943 != 0)
-										tp_release_drop_slow(p939, p940, n941);
-									n934 = n934 + 1;
+									if (n915 != 0)
+										tp_release_drop_slow(p911, p912, n913);
+									n906 = n906 + 1;
 								}
-L35:
+L37:
 								{
-									uint64_t n944;
+									uint64_t n916;
 									if (n453 != 0)
 										rattle_dealloc(p451);
 									if (n455 == 0)
-										goto L36;
-									n944 = 0;
-									while (n944 != n455) {
-										rattle_dealloc(loadptru(inside(p454, n944 * 88)));
-										n944 = n944 + 1;
+										goto L38;
+									n916 = 0;
+									while (n916 != n455) {
+										rattle_dealloc(loadptru(inside(p454, n916 * 88)));
+										n916 = n916 + 1;
 									}
-L36:
+L38:
 									{
 										if (n456 != 0)
 											rattle_dealloc(p454);
 										if (n458 == 0) {
-											n945 = 0;
-											n946 = 0;
-											goto L37;
+											n917 = 0;
+											n918 = 0;
+											goto L39;
 										}
 										rattle_dealloc(p457);
-										n945 = 0;
-										n946 = 0;
-										goto L37;
+										n917 = 0;
+										n918 = 0;
+										goto L39;
 									}
 								}
 							}
-L33:
+L35:
 							{
-								bool b948, b972, b974, b976, b978, b981;
-								uint64_t n955, n959, n970, n980;
-								byte *p971, *p973, *p975, *p977, *p979;
-								storeptru(p9, p836);
+								bool b920, b944, b946, b948, b950, b953;
+								uint64_t n927, n931, n942, n952;
+								byte *p943, *p945, *p947, *p949, *p951;
+								storeptru(p9, p808);
 								store64u(p9 + 8, 0);
-								store64u(p9 + 16, n838);
-								store64u(p9 + 24, n837);
+								store64u(p9 + 16, n810);
+								store64u(p9 + 24, n809);
 								store64u(p9 + 32, 0);
 								tp_VecDeque_drop(p9);
-								uint64_t n947 = 0;
+								uint64_t n919 = 0;
 								for (;;) {
-									b948 = n947 != n837;
-									if (!b948)
+									b920 = n919 != n809;
+									if (!b920)
 										break;
-									uint64_t n949 = n947 * 88;
-									byte *p950 = at(p454, n949);
-									if (load8(p950 + 32) == 1)
-										goto L38;
-									if (load64(p950 + 16) != 0)
-										goto L38;
-									byte *p951 = at(p451, n949);
-									store8(p951 + 80, 1);
-									byte *p952 = loadptr(p951) + 128;
+									uint64_t n921 = n919 * 88;
+									byte *p922 = at(p454, n921);
+									if (load8(p922 + 32) == 1)
+										goto L40;
+									if (load64(p922 + 16) != 0)
+										goto L40;
+									byte *p923 = at(p451, n921);
+									store8(p923 + 80, 1);
+									byte *p924 = loadptr(p923) + 128;
 									BARRIER();
-									uint64_t n953 = atomic_load64(p952, ORDER_SEQ_CST);
+									uint64_t n925 = atomic_load64(p924, ORDER_SEQ_CST);
 									BARRIER();
-									store64(p951 + 32, n953);
-									uint64_t n954 = load64(p951 + 24);
-									if (n953 != (n954 - ((n954 > n953) ? (load64(p951 + 16) << 1) : 0)))
-										goto L38;
-									n947 = n947 + 1;
+									store64(p923 + 32, n925);
+									uint64_t n926 = load64(p923 + 24);
+									if (n925 != (n926 - ((n926 > n925) ? (load64(p923 + 16) << 1) : 0)))
+										goto L40;
+									n919 = n919 + 1;
 								}
-								n955 = 0;
-								while (n955 != n837) {
-									byte *p956 = at(p886, n955 * 48);
-									store8(p956 + 40, 1);
-									byte *p957 = loadptr(p956) + 128;
+								n927 = 0;
+								while (n927 != n809) {
+									byte *p928 = at(p858, n927 * 48);
+									store8(p928 + 40, 1);
+									byte *p929 = loadptr(p928) + 128;
 									BARRIER();
-									uint64_t n958 = atomic_load64(p957, ORDER_SEQ_CST);
+									uint64_t n930 = atomic_load64(p929, ORDER_SEQ_CST);
 									BARRIER();
-									store64(p956 + 32, n958);
-									n955 = n955 + 1;
+									store64(p928 + 32, n930);
+									n927 = n927 + 1;
 								}
 								if (n455 == 0)
-									goto L39;
-								n959 = 0;
-								while (n959 != n455) {
-									rattle_dealloc(loadptru(inside(p454, n959 * 88)));
-									n959 = n959 + 1;
+									goto L41;
+								n931 = 0;
+								while (n931 != n455) {
+									rattle_dealloc(loadptru(inside(p454, n931 * 88)));
+									n931 = n931 + 1;
 								}
-L39:
+L41:
 								{
-									uint64_t n960;
+									uint64_t n932;
 									if (n456 != 0)
 										rattle_dealloc(p454);
 									if (n458 != 0)
 										rattle_dealloc(p457);
 									if (n452 == 0)
-										goto L40;
-									n960 = 0;
-									while (n960 != n452) {
-										byte *p961 = inside(p451, n960 * 88);
-										byte *p962 = loadptru(p961);
-										byte *p963 = loadptru(p961 + 8);
-										uint64_t n964 = load64u(p961 + 16);
-										byte *p965 = loadptru(p961 + 40);
-										byte *p966 = loadptru(p961 + 48);
-										uint64_t n967 = load64u(p961 + 56);
+										goto L42;
+									n932 = 0;
+									while (n932 != n452) {
+										byte *p933 = inside(p451, n932 * 88);
+										byte *p934 = loadptru(p933);
+										byte *p935 = loadptru(p933 + 8);
+										uint64_t n936 = load64u(p933 + 16);
+										byte *p937 = loadptru(p933 + 40);
+										byte *p938 = loadptru(p933 + 48);
+										uint64_t n939 = load64u(p933 + 56);
 										BARRIER();
-										uint64_t n968 = atomic_exchange64(p962 + 256, 1, ORDER_SEQ_CST);
+										uint64_t n940 = atomic_exchange64(p934 + 256, 1, ORDER_SEQ_CST);
 										BARRIER();
-										if (n968 != 0)
-											tp_release_drop_slow(p962, p963, n964);
+										if (n940 != 0)
+											tp_release_drop_slow(p934, p935, n936);
 										BARRIER();
-										uint64_t n969 = atomic_exchange64(p965 + 256, 1, ORDER_SEQ_CST);
+										uint64_t n941 = atomic_exchange64(p937 + 256, 1, ORDER_SEQ_CST);
 										BARRIER();
-										if (n969 != 0)
-											tp_release_drop_slow(p965, p966, n967);
-										n960 = n960 + 1;
+										if (n941 != 0)
+											tp_release_drop_slow(p937, p938, n939);
+										n932 = n932 + 1;
 									}
-L40:
+L42:
 									{
 										if (n453 != 0)
 											rattle_dealloc(p451);
-										if (!b884)
-											rattle_dealloc(p885);
-										n970 = n442;
-										p971 = p443;
-										b972 = n444 == 0;
-										p973 = p445;
-										b974 = n446 == 0;
-										p975 = p447;
-										b976 = n448 == 0;
-										p977 = p449;
-										b978 = n450 == 0;
-										p979 = p886;
-										n980 = n837;
-										b981 = b884;
-										goto L41;
+										if (!b856)
+											rattle_dealloc(p857);
+										n942 = n442;
+										p943 = p443;
+										b944 = n444 == 0;
+										p945 = p445;
+										b946 = n446 == 0;
+										p947 = p447;
+										b948 = n448 == 0;
+										p949 = p449;
+										b950 = n450 == 0;
+										p951 = p858;
+										n952 = n809;
+										b953 = b856;
+										goto L43;
 									}
 								}
-L38:
+L40:
 								{
-									uint64_t n982;
-									if (!b884)
-										rattle_dealloc(p885);
+									uint64_t n954;
+									if (!b856)
+										rattle_dealloc(p857);
 									if (n444 != 0)
 										rattle_dealloc(p443);
 									if (n446 != 0)
@@ -69783,252 +70450,252 @@ L38:
 									if (n450 != 0)
 										rattle_dealloc(p449);
 									if (n452 == 0)
-										goto L42;
-									n982 = 0;
-									while (n982 != n452) {
-										byte *p983 = inside(p451, n982 * 88);
-										byte *p984 = loadptru(p983);
-										byte *p985 = loadptru(p983 + 8);
-										uint64_t n986 = load64u(p983 + 16);
-										byte *p987 = loadptru(p983 + 40);
-										byte *p988 = loadptru(p983 + 48);
-										uint64_t n989 = load64u(p983 + 56);
+										goto L44;
+									n954 = 0;
+									while (n954 != n452) {
+										byte *p955 = inside(p451, n954 * 88);
+										byte *p956 = loadptru(p955);
+										byte *p957 = loadptru(p955 + 8);
+										uint64_t n958 = load64u(p955 + 16);
+										byte *p959 = loadptru(p955 + 40);
+										byte *p960 = loadptru(p955 + 48);
+										uint64_t n961 = load64u(p955 + 56);
 										BARRIER();
-										uint64_t n990 = atomic_exchange64(p984 + 256, 1, ORDER_SEQ_CST);
+										uint64_t n962 = atomic_exchange64(p956 + 256, 1, ORDER_SEQ_CST);
 										BARRIER();
-										if (n990 != 0)
-											tp_release_drop_slow(p984, p985, n986);
+										if (n962 != 0)
+											tp_release_drop_slow(p956, p957, n958);
 										BARRIER();
-										uint64_t n991 = atomic_exchange64(p987 + 256, 1, ORDER_SEQ_CST);
+										uint64_t n963 = atomic_exchange64(p959 + 256, 1, ORDER_SEQ_CST);
 										BARRIER();
-										if (n991 != 0)
-											tp_release_drop_slow(p987, p988, n989);
-										n982 = n982 + 1;
+										if (n963 != 0)
+											tp_release_drop_slow(p959, p960, n961);
+										n954 = n954 + 1;
 									}
-L42:
+L44:
 									{
-										uint64_t n992;
+										uint64_t n964;
 										if (n453 != 0)
 											rattle_dealloc(p451);
 										if (n455 == 0)
-											goto L43;
-										n992 = 0;
-										while (n992 != n455) {
-											rattle_dealloc(loadptru(inside(p454, n992 * 88)));
-											n992 = n992 + 1;
+											goto L45;
+										n964 = 0;
+										while (n964 != n455) {
+											rattle_dealloc(loadptru(inside(p454, n964 * 88)));
+											n964 = n964 + 1;
 										}
-L43:
+L45:
 										{
 											if (n456 != 0)
 												rattle_dealloc(p454);
 											if (n458 != 0)
 												rattle_dealloc(p457);
-											if (b884) {
-												n970 = n947;
-												p971 = NULL;
-												b972 = true;
-												p973 = NULL;
-												b974 = true;
-												p975 = NULL;
-												b976 = true;
-												p977 = NULL;
-												b978 = true;
-												p979 = NULL;
-												n980 = 0;
-												b981 = true;
-												goto L41;
+											if (b856) {
+												n942 = n919;
+												p943 = NULL;
+												b944 = true;
+												p945 = NULL;
+												b946 = true;
+												p947 = NULL;
+												b948 = true;
+												p949 = NULL;
+												b950 = true;
+												p951 = NULL;
+												n952 = 0;
+												b953 = true;
+												goto L43;
 											}
-											uint64_t n993 = 0;
-											while (n993 != n837) {
-												byte *p994 = inside(p886, n993 * 48);
-												byte *p995 = loadptru(p994);
-												byte *p996 = loadptru(p994 + 8);
-												uint64_t n997 = load64u(p994 + 16);
+											uint64_t n965 = 0;
+											while (n965 != n809) {
+												byte *p966 = inside(p858, n965 * 48);
+												byte *p967 = loadptru(p966);
+												byte *p968 = loadptru(p966 + 8);
+												uint64_t n969 = load64u(p966 + 16);
 												BARRIER();
-												uint64_t n998 = atomic_exchange64(p995 + 256, 1, ORDER_SEQ_CST);
+												uint64_t n970 = atomic_exchange64(p967 + 256, 1, ORDER_SEQ_CST);
 												BARRIER();
-												if (n998 != 0)
-													tp_release_drop_slow(p995, p996, n997);
-												n993 = n993 + 1;
+												if (n970 != 0)
+													tp_release_drop_slow(p967, p968, n969);
+												n965 = n965 + 1;
 											}
-											rattle_dealloc(p886);
-											n970 = n947;
-											p971 = NULL;
-											b972 = true;
-											p973 = NULL;
-											b974 = true;
-											p975 = NULL;
-											b976 = true;
-											p977 = NULL;
-											b978 = true;
-											p979 = NULL;
-											n980 = 0;
-											b981 = true;
+											rattle_dealloc(p858);
+											n942 = n919;
+											p943 = NULL;
+											b944 = true;
+											p945 = NULL;
+											b946 = true;
+											p947 = NULL;
+											b948 = true;
+											p949 = NULL;
+											b950 = true;
+											p951 = NULL;
+											n952 = 0;
+											b953 = true;
 										}
 									}
 								}
-L41:
+L43:
 								{
-									uint64_t n1000, n1005;
-									uint8_t n1001;
-									if (b948) {
-										n945 = n970;
-										n946 = 1;
-										goto L37;
+									uint64_t n972, n977;
+									uint8_t n973;
+									if (b920) {
+										n917 = n942;
+										n918 = 1;
+										goto L39;
 									}
-									uint64_t n999 = 0;
+									uint64_t n971 = 0;
 									for (;;) {
-										if (n999 == n980) {
-											n1000 = 0;
-											n1001 = 0;
+										if (n971 == n952) {
+											n972 = 0;
+											n973 = 0;
 											break;
 										}
-										byte *p1002 = at(p979, n999 * 48);
-										if ((load8(p1002 + 40) & 1) == 0) {
-											n1000 = n999;
-											n1001 = 1;
+										byte *p974 = at(p951, n971 * 48);
+										if ((load8(p974 + 40) & 1) == 0) {
+											n972 = n971;
+											n973 = 1;
 											break;
 										}
-										uint64_t n1003 = load64(p1002 + 24);
-										uint64_t n1004 = load64(p1002 + 32);
-										if (n1004 != (n1003 - ((n1003 > n1004) ? (load64(p1002 + 16) << 1) : 0))) {
-											n1000 = n999;
-											n1001 = 1;
+										uint64_t n975 = load64(p974 + 24);
+										uint64_t n976 = load64(p974 + 32);
+										if (n976 != (n975 - ((n975 > n976) ? (load64(p974 + 16) << 1) : 0))) {
+											n972 = n971;
+											n973 = 1;
 											break;
 										}
-										n999 = n999 + 1;
+										n971 = n971 + 1;
 									}
-									if (n980 == 0)
-										goto L44;
-									n1005 = 0;
-									while (n1005 != n980) {
-										byte *p1006 = inside(p979, n1005 * 48);
-										byte *p1007 = loadptru(p1006);
-										byte *p1008 = loadptru(p1006 + 8);
-										uint64_t n1009 = load64u(p1006 + 16);
+									if (n952 == 0)
+										goto L46;
+									n977 = 0;
+									while (n977 != n952) {
+										byte *p978 = inside(p951, n977 * 48);
+										byte *p979 = loadptru(p978);
+										byte *p980 = loadptru(p978 + 8);
+										uint64_t n981 = load64u(p978 + 16);
 										BARRIER();
-										uint64_t n1010 = atomic_exchange64(p1007 + 256, 1, ORDER_SEQ_CST);
+										uint64_t n982 = atomic_exchange64(p979 + 256, 1, ORDER_SEQ_CST);
 										BARRIER();
-										if (n1010 != 0)
-											tp_release_drop_slow(p1007, p1008, n1009);
-										n1005 = n1005 + 1;
+										if (n982 != 0)
+											tp_release_drop_slow(p979, p980, n981);
+										n977 = n977 + 1;
 									}
-L44:
+L46:
 									{
-										if (!b981)
-											rattle_dealloc(p979);
-										if (!b972)
-											rattle_dealloc(p971);
-										if (!b974)
-											rattle_dealloc(p973);
-										if (!b976)
-											rattle_dealloc(p975);
-										if (b978) {
-											n945 = n1000;
-											n946 = n1001;
+										if (!b953)
+											rattle_dealloc(p951);
+										if (!b944)
+											rattle_dealloc(p943);
+										if (!b946)
+											rattle_dealloc(p945);
+										if (!b948)
+											rattle_dealloc(p947);
+										if (b950) {
+											n917 = n972;
+											n918 = n973;
 										} else {
-											rattle_dealloc(p977);
-											n945 = n1000;
-											n946 = n1001;
+											rattle_dealloc(p949);
+											n917 = n972;
+											n918 = n973;
 										}
 									}
 								}
 							}
-L37:
+L39:
 							{
-								uint64_t n1011;
-								if (b861) {
-									if (n946 == 1) {
-										n1011 = umin64(n945, n863);
+								uint64_t n983;
+								if (b833) {
+									if (n918 == 1) {
+										n983 = umin64(n917, n835);
 									} else {
-										n1011 = n863;
+										n983 = n835;
 									}
-								} else if (n946 == 1) {
-									n1011 = n945;
+								} else if (n918 == 1) {
+									n983 = n917;
 								} else {
 									switch (n459) {
 									case 0: {
-										n856 = 0;
-										n857 = n883;
-										n858 = n882;
-										n859 = n877;
-										goto L32;
+										n828 = 0;
+										n829 = n855;
+										n830 = n854;
+										n831 = n849;
+										goto L34;
 									}
 									case 1: {
-										if (n877 == 0) {
-											n856 = 1;
-											n857 = 2;
-											n858 = 0;
-											n859 = 0;
-											goto L32;
+										if (n849 == 0) {
+											n828 = 1;
+											n829 = 2;
+											n830 = 0;
+											n831 = 0;
+											goto L34;
 										}
-										rattle_dealloc(p879);
-										n856 = 1;
-										n857 = 2;
-										n858 = 0;
-										n859 = 0;
-										goto L32;
+										rattle_dealloc(p851);
+										n828 = 1;
+										n829 = 2;
+										n830 = 0;
+										n831 = 0;
+										goto L34;
 									}
 									case 2: {
-										if (n877 == 0) {
-											n856 = 1;
-											n857 = 0;
-											n858 = 0;
-											n859 = 0;
-											goto L32;
+										if (n849 == 0) {
+											n828 = 1;
+											n829 = 0;
+											n830 = 0;
+											n831 = 0;
+											goto L34;
 										}
-										rattle_dealloc(p879);
-										n856 = 1;
-										n857 = 0;
-										n858 = 0;
-										n859 = 0;
-										goto L32;
+										rattle_dealloc(p851);
+										n828 = 1;
+										n829 = 0;
+										n830 = 0;
+										n831 = 0;
+										goto L34;
 									}
 									default: {
 										UNREACHABLE();
 									}
 									}
 								}
-								if (n877 == 0) {
-									n856 = 1;
-									n857 = 1;
-									n858 = n1011;
-									n859 = 0;
-									goto L32;
+								if (n849 == 0) {
+									n828 = 1;
+									n829 = 1;
+									n830 = n983;
+									n831 = 0;
+									goto L34;
 								}
-								rattle_dealloc(p879);
-								n856 = 1;
-								n857 = 1;
-								n858 = n1011;
-								n859 = 0;
-								goto L32;
+								rattle_dealloc(p851);
+								n828 = 1;
+								n829 = 1;
+								n830 = n983;
+								n831 = 0;
+								goto L34;
 							}
 						}
 					}
 				}
-L26:
+L28:
 				{
-					uint64_t n1012;
-					if (n837 == 0)
-						goto L45;
-					n1012 = 0;
-					while (n1012 != n837) {
-						byte *p1013 = inside(p836, n1012 * 112);
-						byte *p1014 = loadptru(p1013 + 24);
-						byte *p1015 = loadptru(p1013 + 32);
-						uint64_t n1016 = load64u(p1013 + 40);
+					uint64_t n984;
+					if (n809 == 0)
+						goto L47;
+					n984 = 0;
+					while (n984 != n809) {
+						byte *p985 = inside(p808, n984 * 112);
+						byte *p986 = loadptru(p985 + 24);
+						byte *p987 = loadptru(p985 + 32);
+						uint64_t n988 = load64u(p985 + 40);
 						BARRIER();
-						uint64_t n1017 = atomic_exchange64(p1014 + 256, 1, ORDER_SEQ_CST);
+						uint64_t n989 = atomic_exchange64(p986 + 256, 1, ORDER_SEQ_CST);
 						BARRIER();
-						if (n1017 != 0)
-							tp_release_drop_slow(p1014, p1015, n1016);
-						n1012 = n1012 + 1;
+						if (n989 != 0)
+							tp_release_drop_slow(p986, p987, n988);
+						n984 = n984 + 1;
 					}
-L45:
+L47:
 					{
-						uint64_t n1018;
-						if (n838 != 0)
-							rattle_dealloc(p836);
+						uint64_t n990;
+						if (n810 != 0)
+							rattle_dealloc(p808);
 						if (n444 != 0)
 							rattle_dealloc(p443);
 						if (n446 != 0)
@@ -70038,55 +70705,55 @@ L45:
 						if (n450 != 0)
 							rattle_dealloc(p449);
 						if (n452 == 0)
-							goto L46;
-						n1018 = 0;
-						while (n1018 != n452) {
-							byte *p1019 = inside(p451, n1018 * 88);
-							byte *p1020 = loadptru(p1019);
-							byte *p1021 = loadptru(p1019 + 8);
-							uint64_t n1022 = load64u(p1019 + 16);
-							byte *p1023 = loadptru(p1019 + 40);
-							byte *p1024 = loadptru(p1019 + 48);
-							uint64_t n1025 = load64u(p1019 + 56);
+							goto L48;
+						n990 = 0;
+						while (n990 != n452) {
+							byte *p991 = inside(p451, n990 * 88);
+							byte *p992 = loadptru(p991);
+							byte *p993 = loadptru(p991 + 8);
+							uint64_t n994 = load64u(p991 + 16);
+							byte *p995 = loadptru(p991 + 40);
+							byte *p996 = loadptru(p991 + 48);
+							uint64_t n997 = load64u(p991 + 56);
 							BARRIER();
-							uint64_t n1026 = atomic_exchange64(p1020 + 256, 1, ORDER_SEQ_CST);
+							uint64_t n998 = atomic_exchange64(p992 + 256, 1, ORDER_SEQ_CST);
 							BARRIER();
-							if (n1026 != 0)
-								tp_release_drop_slow(p1020, p1021, n1022);
+							if (n998 != 0)
+								tp_release_drop_slow(p992, p993, n994);
 							BARRIER();
-							uint64_t n1027 = atomic_exchange64(p1023 + 256, 1, ORDER_SEQ_CST);
+							uint64_t n999 = atomic_exchange64(p995 + 256, 1, ORDER_SEQ_CST);
 							BARRIER();
-							if (n1027 != 0)
-								tp_release_drop_slow(p1023, p1024, n1025);
-							n1018 = n1018 + 1;
+							if (n999 != 0)
+								tp_release_drop_slow(p995, p996, n997);
+							n990 = n990 + 1;
 						}
-L46:
+L48:
 						{
-							uint64_t n1028;
+							uint64_t n1000;
 							if (n453 != 0)
 								rattle_dealloc(p451);
 							if (n455 == 0)
-								goto L47;
-							n1028 = 0;
-							while (n1028 != n455) {
-								rattle_dealloc(loadptru(inside(p454, n1028 * 88)));
-								n1028 = n1028 + 1;
+								goto L49;
+							n1000 = 0;
+							while (n1000 != n455) {
+								rattle_dealloc(loadptru(inside(p454, n1000 * 88)));
+								n1000 = n1000 + 1;
 							}
-L47:
+L49:
 							{
 								if (n456 != 0)
 									rattle_dealloc(p454);
 								if (n458 == 0) {
-									n856 = 1;
-									n857 = 0;
-									n858 = 0;
-									n859 = 0;
+									n828 = 1;
+									n829 = 0;
+									n830 = 0;
+									n831 = 0;
 								} else {
 									rattle_dealloc(p457);
-									n856 = 1;
-									n857 = 0;
-									n858 = 0;
-									n859 = 0;
+									n828 = 1;
+									n829 = 0;
+									n830 = 0;
+									n831 = 0;
 								}
 							}
 						}
@@ -70098,12 +70765,12 @@ L47:
 				UNREACHABLE();
 			}
 			}
-L32:
+L34:
 			{
-				store64u(p1, n856);
-				store64u(p1 + 8, n857);
-				store64u(p1 + 16, n858);
-				store64u(p1 + 24, n859);
+				store64u(p1, n828);
+				store64u(p1 + 8, n829);
+				store64u(p1 + 16, n830);
+				store64u(p1 + 24, n831);
 				return;
 			}
 		}
@@ -72349,7 +73016,7 @@ L29:
 										p543 = b541 ? p542 : NULL;
 										if (!b541)
 											goto L32;
-										of_i64_i64 s544 = rattle_alloc(3584, 8);
+										of_i64_i64 s544 = rattle_alloc(4096, 8);
 										if ((s544.f0 & 1) == 0) {
 											rattle_dealloc(p543);
 											goto L32;

@@ -9,10 +9,12 @@
  *
  *     struct connection { int socket; struct timers_event idle; } *c;   // begins as 0 bytes
  *     struct timers_loop loop = TIMERS_LOOP_INIT;
- *     timers_loop_new(&loop, NULL, NULL, 1000000);                      // CLOCK_MONOTONIC, in milliseconds
+ *     if (timers_loop_new(&loop, NULL, NULL, 1000000) != TIMERS_OK)     // CLOCK_MONOTONIC, in milliseconds
+ *         return 1;
  *     c->idle.run = hang_up;
- *     timers_event_after(&loop, &c->idle, 60000);                       // in a minute
- *     while (loop.alive > 0) {
+ *     if (timers_event_after(&loop, &c->idle, 60000) != TIMERS_OK)      // in a minute
+ *         return 1;
+ *     for (;;) {                               // or while loop.alive > 0
  *         ready = epoll_wait(poller, events, 64, timers_loop_timeout(&loop));
  *         timers_loop_polled(&loop, ready, 64);
  *         for (i = 0; i < ready; i++)
@@ -22,13 +24,15 @@
  *
  * DESCRIPTION
  *     Inline functions in C99 and C++11. They are tested against a model, and not proved. What they call is proved
- *     (timers.h), and its rules hold. One thread uses a loop and its events; several threads have a loop each.
+ *     (timers.h), and its rules hold. So link with -ltimers. One thread uses a loop and its events; several threads have a
+ *     loop each.
  *
  *     An event is part of a struct of the caller: timers_event_owner(event, type, field) is that struct. An event is
  *     armed from a timers_event_at or timers_event_after that returned TIMERS_OK until it runs, is paused or is
  *     cancelled. One that is armed or paused may not be moved, freed or set to 0: cancel it first. That also holds
- *     after timers_loop_free, and before an event goes to another loop. In C++ a destructor cancels it.
+ *     after timers_loop_free, and before an event goes to another loop. In C++ cancel it in your destructor.
  *
+ *     An event that runs once is no longer armed in its callback, which may free it. A periodic one is: cancel it first.
  *     Callbacks may arm, push back and pause any event, their own too, and cancel and then free it. They may free the
  *     loop, but not the memory of its struct. They may poll the same descriptors and dispatch, as a loop within the
  *     loop: an event is taken before it runs, so none runs twice, unless it is armed again. What the inner dispatch
@@ -36,11 +40,12 @@
  *
  * TIME
  *     No event runs early. One that is armed or pushed back for n ticks from now is due after n ticks or more, and less
- *     than n + 1. A loop that sleeps in poll is woken less than a millisecond later. The clock may jump and stand
+ *     than n + 1. A loop that sleeps in poll asks to be woken less than a millisecond later. The clock may jump and stand
  *     still. One that goes back counts as one that stands still, until it has passed its old time.
  *
- *     The next tick of a periodic event is a period after the one at which it was due, so it has no drift. The ticks
- *     that a late loop has missed are left out. If `catches_up` is set, the event runs once for each, in the order of
+ *     The next tick of a periodic event is a period after the one at which it was due, so it has no drift. Of the ticks
+ *     that a late loop has missed the first runs late, and the others are left out. If `catches_up` is set, the event runs
+ *     once for each, in the order of
  *     all ticks. It is armed anew before it runs, so that it may cancel itself. One whose callback takes longer than
  *     its period runs once in each turn of the loop, and input is polled in between.
  *
@@ -56,7 +61,9 @@
  * STALLS
  *     A loop that was late, since the program was stopped or had much to do, has to handle input before it acts on
  *     time-outs. So a dispatch runs what was due when the loop began to poll, and nothing more if the poll filled its
- *     array, since more input may wait then. When an event runs, all input that had come by its tick was handed out.
+ *     array, since more input may wait then. What a callback or input arms for a tick that has passed runs all the same.
+ *     When an event runs, all input that had come by its tick was handed out. For that read a datagram socket until it
+ *     is empty, or call timers_loop_polled(loop, 1, 1) if you stop before.
  *     So where input pushes a time-out back, no connection is closed while its input waits, however long the stall.
  *     Answer first and push back then: a client that waits for an answer can't be silent before it is sent.
  *
@@ -104,7 +111,7 @@ extern "C" {
 #endif
 
 /* `timers` is for timers_reserve and calls that only read. `alive`, `now` and `later` may be read, and `watched` set
- * once the loop is made. The rest is private. */
+ * after the loop is made. The rest is private. */
 struct timers_loop {
 	struct timers timers;
 	size_t alive;          /* how many events are armed and not in the background */
@@ -135,7 +142,8 @@ struct timers_event {
 	struct timers_handle handle;  /* of its timer; the serial is 0 if there is none */
 };
 
-/* The struct in which the event is a field. */
+/* The struct in which the event is a field. g++ and clang++ warn of a class that is not of standard layout: put the event
+ * and a pointer to the object in a struct of their own there. */
 #ifdef __cplusplus
 #define timers_event_owner(event, type, field) \
 	reinterpret_cast<type *>(reinterpret_cast<char *>(event) - offsetof(type, field))
@@ -370,11 +378,12 @@ static inline int timers_loop_timeout(struct timers_loop *loop)
 }
 
 /* Tells the loop what epoll_wait or kevent returned, and how many events its array has room for: between the poll and the
- * dispatch. If the array is full, or the poll failed, more input may wait: then the next dispatch runs only what an
- * earlier one had to leave. Polls that fill their arrays again and again don't hold events up for ever. What was due
- * before the first of them runs once they have handed out `loop.watched` descriptors, since ready ones take turns. That
- * is 65,536, unless the caller sets it to the most that are watched. poll hands out all that is ready: with that, this
- * call is left out. */
+ * dispatch. If the array is full, or the poll failed (EINTR), more input may wait: then the next dispatch runs only what
+ * an earlier one had to leave, and what was armed for a tick that has passed. Polls that fill their arrays again and
+ * again don't hold events up for ever. What was due before the first of them runs once they have handed out
+ * `loop.watched` descriptors, since ready ones take turns. That is 65,536, unless the caller sets it to the most that are
+ * watched, a listener among them. A poll that fails each time hands out none: end the loop then. poll hands out all that
+ * is ready: with that, this call is left out, and a failed poll is repeated before the dispatch. */
 static inline void timers_loop_polled(struct timers_loop *loop, int ready, int room)
 {
 	loop->full = ready < 0 || ready >= room;
