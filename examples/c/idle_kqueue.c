@@ -60,7 +60,8 @@ static void serve(struct connection *c)
 }
 int main(int argc, char **argv)
 {
-	struct sockaddr_in at = { .sin_family = AF_INET, .sin_port = htons(argc > 1 ? (uint16_t)atoi(argv[1]) : 7000) };
+	struct sockaddr_in at = { .sin_family = AF_INET, .sin_addr.s_addr = htonl(INADDR_LOOPBACK),
+	                          .sin_port = htons(argc > 1 ? (uint16_t)atoi(argv[1]) : 7000) };
 	struct kevent events[ROOM];
 	poller = kqueue(), listener = socket(AF_INET, SOCK_STREAM, 0);
 	need(bind(listener, (struct sockaddr *)&at, sizeof at) == 0 && listen(listener, 4096) == 0, "listen");

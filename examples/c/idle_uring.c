@@ -61,7 +61,7 @@ static void serve(struct connection *c, int result)
 }
 int main(int argc, char **argv)
 {
-	struct sockaddr_in at = { .sin_family = AF_INET, .sin_port = htons(argc > 1 ? (uint16_t)atoi(argv[1]) : 7000) };
+	struct sockaddr_in at = { AF_INET, htons(argc > 1 ? (uint16_t)atoi(argv[1]) : 7000), { htonl(INADDR_LOOPBACK) }, { 0 } };
 	listener = socket(AF_INET, SOCK_STREAM, 0);
 	need(bind(listener, (struct sockaddr *)&at, sizeof at) == 0 && listen(listener, 4096) == 0, "listen");
 	need(timers_loop_new(&loop, NULL, NULL, 1000000) == TIMERS_OK && io_uring_queue_init(1024, &ring, 0) == 0, "io_uring");
