@@ -233,7 +233,7 @@ enum timers_word_kind {
 	TIMERS_WORD_STARTED = 1,     /* number, handle, deadline, action */
 	TIMERS_WORD_RESTARTED = 2,   /* number, handle, deadline and action of the new timer, the old serial in `other` */
 	TIMERS_WORD_STOPPED = 3,     /* number, handle.serial of the stopped timer */
-	TIMERS_WORD_REFUSED = 4,     /* number, reason, action: its number is used up, and nothing else changed */
+	TIMERS_WORD_REFUSED = 4,     /* number, reason, action (0 of a stop): its number is used up, and nothing else changed */
 	TIMERS_WORD_NOT_TAKEN = 5,   /* number, reason, action (REPEATED, AHEAD: next number in `other`); nothing changed */
 	TIMERS_WORD_EXPIRED = 6,     /* number of its start or restart, handle.serial, deadline, action */
 	TIMERS_WORD_RETURNED = 7     /* the same: the desk was closed before its deadline */

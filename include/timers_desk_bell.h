@@ -37,8 +37,8 @@
  *     one of them comes first. If the ring does, the look after the announcement sees what was done before the ring. If
  *     the announcement does, the ring finds it and wakes the thread.
  *
- *     A thread that sleeps in a poll of its own calls timers_bell_listen, looks once more, polls the descriptor
- *     `bell.wakes` beside others, and then calls timers_bell_hush.
+ *     A thread that sleeps in a poll of its own calls timers_bell_listen, and looks once more for words. If there are
+ *     none, it polls the descriptor `bell.wakes` beside others. In either case it then calls timers_bell_hush.
  */
 /* SPDX-License-Identifier: MIT OR Apache-2.0 */
 #ifndef TIMERS_DESK_BELL_H
