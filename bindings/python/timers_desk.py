@@ -53,6 +53,11 @@ def size(value):
     return number(value, 8 * ctypes.sizeof(c_size_t))
 
 
+def room_for(timers, requests):
+    """The room of an outbox for which no request of such a client is held back."""
+    return number(number(timers) + number(requests) + 1)
+
+
 def check(status):
     if status != OK:
         raise DeskError(status)
@@ -210,7 +215,7 @@ class Desk:
         # The library looks at all lines before it refuses so many: an array for them need not be made.
         check(OUT_OF_RANGE if clients > CLIENTS else OK)
         lines = (HeldLine * max(clients, 1))()
-        room = number(number(timers) + requests + 1)
+        room = room_for(timers, requests)
         config = Config(ctypes.sizeof(Config), number(first_tick), number(capacity), room, requests, number(table, 32))
         check(loaded.timers_desk_new(byref(held), lines, clients, byref(config)))
         self.__del__()  # frees that of an earlier call
