@@ -319,6 +319,7 @@ calls_unread() {
         line_{finish,ended,abandoned} event_{armed,push_back} bell_new desk_turn | diff - "$work/silent"
 }
 @test "short enumerations are refused in C and C++" {
+    needs "$CXX"
     for language in c c++; do
         for header in timers.h timers_desk.h; do
             says "no -fshort-enums" "$CC" -x $language -fshort-enums -Iinclude -fsyntax-only - <<< "#include <$header>"

@@ -318,5 +318,7 @@ fn main() {
     }
 }
 EOT
-    rooms in_rust rooms
+    cut -d' ' -f1,2 "$work/rooms" > "$work/asked"
+    in_rust rooms < "$work/asked" > "$work/out"
+    diff <(cut -d' ' -f3 "$work/rooms") "$work/out"
 }
