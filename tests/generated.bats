@@ -125,13 +125,6 @@ link_time() {
 @test "gcc inlines the calls at link time" { link_time gcc; }
 @test "clang inlines the calls at link time" { link_time clang; }
 
-# is_hardened FILE: relocations are read only before it runs, and no stack is executable
-is_hardened() {
-    readelf -d "$1" | grep -wE 'NOW|BIND_NOW'
-    readelf -lW "$1" | grep GNU_RELRO
-    run grep 'GNU_STACK.*RWE' <(readelf -lW "$1")
-    [ "$status" -eq 1 ]
-}
 @test "the program and the shared object that make builds are hardened" {
     needs readelf objdump
     is_hardened "$program"
@@ -182,12 +175,15 @@ cmake_finds() {
     cmake --build "$work/installed/build"
     cmake --install "$work/installed/build"
     cmake_app finds -DCMAKE_PREFIX_PATH="$work/installed/prefix" << 'EOT'
-find_package(timers 99 QUIET)
-if(timers_FOUND)
-  message(FATAL_ERROR "version 99 was found")
-endif()
+foreach(other 0.9 99)
+  find_package(timers ${other} QUIET)
+  if(timers_FOUND)
+    message(FATAL_ERROR "version ${other} was found")
+  endif()
+endforeach()
 find_package(timers 1.0 REQUIRED)
 EOT
+    diff <(ls include) <(ls "$work/installed/prefix/include")
     has_licences "$work/installed/prefix/share/doc/timers"
     rm -rf "$work/installed"
 }
@@ -198,7 +194,10 @@ EOT
     [ ! -e "$work/cmake/prefix/lib" ]
     [ ! -e "$work/cmake/prefix/include" ]
 }
-@test "as a shared object, too" { cmake_app cmake -DBUILD_SHARED_LIBS=ON <<< "add_subdirectory($top timers)"; }
+@test "as a shared object, too, which is linked as make does" {
+    cmake_app cmake -DBUILD_SHARED_LIBS=ON <<< "add_subdirectory($top timers)"
+    is_linked_alike "$work/cmake/build/timers/libtimers.so"
+}
 
 @test "FetchContent makes it available" {
     cmake_app fetches <<< "include(FetchContent)
@@ -216,6 +215,7 @@ meson_app() {
     cp examples/c/first.c "$work/meson"
     cat > "$work/meson/meson.build" << 'EOT'
 project('app', 'c')
+assert(not dependency('timers', version: '>= 99', fallback: 'timers', required: false).found())
 executable('app', 'first.c', dependencies: dependency('timers', fallback: 'timers'))
 EOT
     rm -rf "$work/meson/build"
@@ -225,7 +225,10 @@ EOT
 }
 
 @test "a Meson project builds it as a subproject" { meson_app; }
-@test "a Meson project builds it as a shared object" { meson_app -Dtimers:default_library=shared; }
+@test "a Meson project builds it as a shared object, which is linked as make does" {
+    meson_app -Dtimers:default_library=shared
+    is_linked_alike "$work/meson/build/subprojects/timers/libtimers.so"
+}
 
 @test "pkg-config finds what Meson installs" {
     needs meson ninja pkg-config cc
@@ -234,5 +237,60 @@ EOT
     # shellcheck disable=SC2046
     cc -o "$work/first" examples/c/first.c $(PKG_CONFIG_PATH=$work/meson_prefix/lib/pkgconfig pkg-config --cflags --libs timers)
     prints_first "$work/first"
+    diff <(ls include) <(ls "$work/meson_prefix/include")
     has_licences "$work/meson_prefix/share/doc/timers"
+}
+
+sources="generated/timers.c include/timers.h"
+# builds_anew FILE SOURCES COMMAND..: in a copy of the tree, FILE has what each of SOURCES got after a first build
+builds_anew() {
+    local source name
+    export CFLAGS="-O0 -DTIMERS_NO_DESK"
+    [ -e "$work/copy" ] || copy_tree "$work/copy"
+    cd "$work/copy" || return
+    "${@:3}"
+    for source in $2; do
+        name=${source//[^a-z]/_}
+        run grep "anew_$name" $1
+        [ "$status" -eq 1 ]
+        printf '#ifndef OF_%s\n#define OF_%s\nstatic const char %s[] __attribute__((used)) = "anew_%s";\n#endif\n' $name $name $name $name >> "$source"
+        "${@:3}"
+        grep "anew_$name" $1
+    done
+    for source in $2; do cp "$top/$source" "$source"; done
+}
+# by_copies COMMAND..: with a compiler that only copies what it reads
+by_copies() {
+    # shellcheck disable=SC2016
+    printf '#!/bin/sh\nwhile [ "$1" != -o ]; do shift; done\ncat generated/*.c include/*.h > "$2"\n' > "$work/copies"
+    chmod 755 "$work/copies"
+    CC=$work/copies AR=ar "$@"
+}
+@test "make builds the program anew if its code has changed" { builds_anew timers generated/program.c by_copies make timers; }
+@test "make builds the libraries anew if their code or a header has changed" {
+    builds_anew build/lib/libtimers.so.1 "$sources include/timers_desk.h" by_copies make build/lib/libtimers.a
+}
+@test "so does CMake" {
+    needs cmake
+    by_cmake() { cmake -S . -B build/cmake && cmake --build build/cmake; }
+    builds_anew build/cmake/libtimers.a "$sources" by_cmake
+}
+@test "so does Meson" {
+    needs meson ninja
+    by_meson() { { [ -e build/meson ] || meson setup build/meson; } && ninja -C build/meson; }
+    builds_anew build/meson/libtimers.a "$sources" by_meson
+}
+@test "so does cargo" {
+    needs cargo
+    cargo --version || skip "no cargo"
+    builds_anew "build/cargo/debug/build/timers-*/out/libtimers.a" "$sources" \
+        cargo build --offline --manifest-path bindings/rust/Cargo.toml --target-dir build/cargo
+}
+@test "two builds, in folders of their own, have the same bytes" {
+    for folder in one another/one; do
+        copy_tree "$work/twice/$folder"
+        (cd "$work/twice/$folder" && CFLAGS=-O0 tools/lib "$work/twice/$folder/out")
+        ! command -v python3 || (cd "$work/twice/$folder/bindings/python" && CFLAGS=-O0 python3 -B -c 'import backend; backend.build_wheel("../../out")')
+    done
+    diff -r "$work/twice/one/out" "$work/twice/another/one/out"
 }

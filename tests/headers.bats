@@ -301,39 +301,28 @@ misuses_rust() { # misuses_rust FILE COUNT
 @test "misuses of timers.rs don't compile" { misuses_rust misuse 6; }
 @test "misuses of timers_desk.rs don't compile" { misuses_rust misuse_desk 4; }
 
-# ignores CALL: compiles a call whose status is not read
-ignores() {
-    echo "$1"
-    "$CC" $of_c -Wno-unused-parameter -Wno-missing-prototypes -c -o "$work/ignored.o" -x c - << EOT
-#include <timers_desk.h>
-void f(struct timers *t, struct timers_handle *h, struct timers_desk *d, struct timers_line *l, struct timers_word *w, uint64_t *n)
-{ $1; }
-EOT
+# A line for each function of the headers that returns a status or a bool: its name, and a call that reads no result.
+calls_unread() {
+    awk '/^[a-z]/ || text { text = text " " $0 } /[;{]/ { if (text) print text; text = "" }' include/timers.h include/timers_desk.h include/timers_loop.h include/timers_desk_bell.h |
+        sed -nE 's/.*(enum timers_[a-z_]*status|bool) (timers_[a-z_]+)\((.*)\)[ ;{]*$/\2 \3/p' | while read -r name parameters; do
+        arguments=$(sed -E -e 's/\(\*([a-z]+)\)\([^)]*\)/\1/g' -e 's/[^,]*[ *]([a-z_]+)/\1/g' <<< "$parameters")
+        echo "$name void call_$name($parameters); void call_$name($parameters) { $name($arguments); }"
+    done
 }
-@test "the compiler warns if a status that matters is not read" {
-    # Those of ticks and of the owner's rounds may be ignored.
-    ignores 'timers_tick(t)'
-    ignores 'timers_desk_serve_all(d, 9); timers_desk_flush_all(d); timers_desk_advance(d, 9, n); timers_line_finish(l)'
-    while read -r call; do
-        run ignores "$call"
-        [ "$status" -ne 0 ]
-    done << 'EOT'
-timers_start(t, 1, 1, h)
-timers_new(t, 0, 0)
-timers_counts(t, 0)
-timers_desk_new(d, l, 1, NULL)
-timers_desk_close(d, n)
-timers_desk_open(d, 0, l, 1)
-timers_desk_stop_pending(d, 0, n)
-timers_desk_reserve(d)
-timers_desk_settle(d, 0, l, n)
-timers_desk_end(d, 0, l, n)
-timers_desk_end_all(d, l, 1, n)
-timers_line_start(l, 1, 1, n)
-timers_line_stop(l, w->handle, n)
-timers_line_restart(l, w->handle, 1, 1, n)
-timers_line_start_at(l, 1, 1, n)
-timers_line_restart_at(l, w->handle, 1, 1, n)
-timers_line_receive(l, w)
-EOT
+@test "the compiler warns if a result that matters is not read, of each function but these" {
+    calls_unread > "$work/calls"
+    cut -d' ' -f2- "$work/calls" > "$work/unread.c"
+    "$CC" ${of_c/-Werror/} -D_POSIX_C_SOURCE=200809L -include timers_desk_bell.h -include timers_loop.h -c -o "$work/unread.o" "$work/unread.c" 2> "$work/said"
+    sed -nE 's/^[^:]*unread.c:([0-9]+):.*: ignoring return value.*/\1d/p' "$work/said" > "$work/warned"
+    sed -f "$work/warned" "$work/calls" | cut -d' ' -f1 > "$work/silent"
+    printf 'timers_%s\n' stop each tick advance advance_to take expire has_due desk_{serve,serve_all,flush_all,tick,advance,line_freed} \
+        line_{finish,ended,abandoned} event_{armed,push_back} bell_new desk_turn | diff - "$work/silent"
+}
+@test "short enumerations are refused in C and C++" {
+    needs "$CXX"
+    for language in c c++; do
+        for header in timers.h timers_desk.h; do
+            says "no -fshort-enums" "$CC" -x $language -fshort-enums -Iinclude -fsyntax-only - <<< "#include <$header>"
+        done
+    done
 }

@@ -53,3 +53,18 @@ notices() {
     run runs "$@"
     [ "$status" -gt 0 ]
 }
+
+# is_hardened FILE: relocations are read only before it runs, and no stack is executable
+is_hardened() {
+    readelf -d "$1" | grep -wE 'NOW|BIND_NOW'
+    readelf -lW "$1" | grep GNU_RELRO
+    run grep 'GNU_STACK.*RWE' <(readelf -lW "$1")
+    [ "$status" -eq 1 ]
+}
+# is_linked_alike FILE: a shared object with the name, exports, symbol versions and hardening of make's in $lib
+linked() { readelf -d "$1" | grep -o 'SONAME.*' && nm -D --defined-only "$1" | sed 's/^[0-9a-f]* //' | sort; }
+is_linked_alike() {
+    needs readelf nm
+    diff <(linked "$lib/libtimers.so") <(linked "$1")
+    is_hardened "$1"
+}

@@ -231,6 +231,20 @@ with Timers() as timers:
     [ ! -e "$work/none" ]
 }
 
+@test "if one of the files that were built is missing, it says so, and installs nothing" {
+    for file in timers build/lib/libtimers.a "build/lib/libtimers.so.$version" tools/install/{timers.1,timers{,_loop,_desk,_desk_bell}.3}; do
+        mv "$work/tree/$file" "$work/kept"
+        refused "$file is missing" in_tree install PREFIX="$work/none"
+        [ ! -e "$work/none" ]
+        mv "$work/kept" "$work/tree/$file"
+    done
+}
+@test "make clean leaves nothing of what was built, and so nothing to install" {
+    in_tree clean
+    diff <(cd "$work/clone" && find . | sort) <(cd "$work/tree" && find . | sort)
+    refused "is missing" in_tree install PREFIX="$work/none"
+}
+
 @test "tools/dist packs a tarball, and the same one of the same files" {
     tools/dist
     cp "build/$tarball" "$work/first.tar.gz"

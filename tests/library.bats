@@ -270,3 +270,55 @@ in_rust() {
 }
 @test "random calls in Rust agree with a sorted map" { in_rust timers_test; }
 @test "a desk in Rust agrees, and threads get all their words" { in_rust timers_desk_test; }
+
+# Room for a word to each timer and to each request, and one more. Python refuses what is above the last number.
+@test "the room that a desk needs is one sum in C++, Python and Rust, and does not wrap around" {
+    cat > "$work/rooms" << 'EOT'
+0 0 1
+0 1 2
+1 0 2
+50 8 59
+4294967295 4294967296 8589934592
+18446744073709551613 1 18446744073709551615
+1 18446744073709551613 18446744073709551615
+9223372036854775807 9223372036854775807 18446744073709551615
+18446744073709551614 0 18446744073709551615
+0 18446744073709551615 18446744073709551615
+18446744073709551614 1 18446744073709551615
+1 18446744073709551614 18446744073709551615
+18446744073709551615 1 18446744073709551615
+18446744073709551615 9 18446744073709551615
+9 18446744073709551615 18446744073709551615
+9223372036854775808 9223372036854775808 18446744073709551615
+18446744073709551615 18446744073709551615 18446744073709551615
+EOT
+    rooms() { cut -d' ' -f1,2 "$work/rooms" | "$@" | diff <(cut -d' ' -f3 "$work/rooms") -; }
+    needs "$CXX"
+    "$CXX" $of_cpp -x c++ -o "$work/program" - -x none $library << 'EOT'
+#include <iostream>
+#include <timers_desk.hpp>
+int main() { for (std::uint64_t t, r; std::cin >> t >> r; ) std::cout << timing::desk::config(1, t, r).room << "\n"; }
+EOT
+    rooms runs
+    needs python3
+    PYTHONPATH=bindings/python rooms python3 -B -c '
+import sys, timers_desk
+for line in sys.stdin:
+    try:
+        print(timers_desk.room_for(*map(int, line.split())))
+    except OverflowError:
+        print(2**64 - 1)'
+    mkdir -p "$work/rs"
+    cat > "$work/rs/rooms.rs" << 'EOT'
+mod timers_desk;
+fn main() {
+    for line in std::io::stdin().lines() {
+        let numbers: Vec<u64> = line.unwrap().split(' ').map(|number| number.parse().unwrap()).collect();
+        println!("{}", timers_desk::Config::new(1, numbers[0], numbers[1]).room);
+    }
+}
+EOT
+    cut -d' ' -f1,2 "$work/rooms" > "$work/asked"
+    in_rust rooms < "$work/asked" > "$work/out"
+    diff <(cut -d' ' -f3 "$work/rooms") "$work/out"
+}

@@ -6,7 +6,7 @@ load helpers
 setup_file() {
     cd "$BATS_TEST_DIRNAME/.." || return
     hide_toolchain
-    export work=$BATS_FILE_TMPDIR
+    export work=$BATS_FILE_TMPDIR lib=${LIB:-$PWD/build/lib}
     if command -v python3 > /dev/null; then python3 -m venv "$work/venv" || rm -rf "$work/venv"; fi
 }
 
@@ -81,6 +81,9 @@ pip() { "$work/venv/bin/pip" --disable-pip-version-check "$@"; }
     (cd / && "$work/venv/bin/python" -c 'from timers.timers_desk import Desk; Desk(1, 1, 1, 1).free()')
     cmp generated/NOTICE "$package"/../timers-*.dist-info/licenses/NOTICE
     pip show --files timers | grep timers/libtimers.so.1
+    is_linked_alike "$package/libtimers.so.1"
+    grep -x "Tag: py3-none-linux_$(uname -m)" "$package"/../timers-*.dist-info/WHEEL
+    grep -x "Root-Is-Purelib: false" "$package"/../timers-*.dist-info/WHEEL
     pip show timers | grep -x "Version: $(cat tools/install/version)"
     pip uninstall --yes timers
     [ ! -e "$package" ]

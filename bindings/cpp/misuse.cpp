@@ -2,7 +2,6 @@
  * tests/headers.bats compares what the compiler says with the comment of each. */
 #include <functional>
 #include <memory>
-#include <string>
 #include <utility>
 
 #include <timers.hpp>
@@ -19,13 +18,22 @@ static_assert(std::is_trivially_copyable_v<only_moved> && !std::is_copy_construc
 
 struct nine_bytes { char bytes[9]; };
 
+struct owner {
+	int *block;
+	owner() : block(new int(0)) {}
+	owner(const owner &other) : block(new int(*other.block)) {}
+	owner &operator=(const owner &) = delete;
+	~owner() { delete block; }
+};
+static_assert(sizeof(owner) <= 8 && std::is_copy_constructible_v<owner>);
+
 int main()
 {
 	timing::timers<> timers;
 #if MISUSE == 1     /* an action can be copied */
 	timing::timers<std::chrono::milliseconds, std::unique_ptr<int>> others;
 #elif MISUSE == 2   /* an action can be copied */
-	timing::timers<std::chrono::milliseconds, std::string> others;
+	timing::timers<std::chrono::milliseconds, owner> others;
 #elif MISUSE == 3   /* an action can be copied */
 	timing::timers<std::chrono::milliseconds, only_moved> others;
 #elif MISUSE == 4   /* an action can be copied */

@@ -10,6 +10,7 @@ import hashlib
 import os
 import shlex
 import subprocess
+import sys
 import sysconfig
 import tempfile
 import zipfile
@@ -17,6 +18,10 @@ import zipfile
 HERE = os.path.dirname(os.path.abspath(__file__))
 TOP = os.path.dirname(os.path.dirname(HERE))
 LIBRARY = "libtimers.so.1"
+LINKED = [
+    "-Wl,-soname," + LIBRARY, "-Wl,--version-script=" + os.path.join(TOP, "tools", "install", "timers.map"),
+    "-Wl,-z,defs", "-Wl,-z,relro,-z,now",
+]
 PACKAGE = '''"""Timers over hierarchical timing wheels, with the library that they need."""
 from .timers import *  # noqa: F401, F403
 '''
@@ -40,7 +45,8 @@ def library():
         made = os.path.join(folder, LIBRARY)
         subprocess.run([
             *words("CC", "cc"), "-shared", "-fPIC", "-O2", *words("CPPFLAGS"), *words("CFLAGS"), "-DTIMERS_SHARED",
-            "-I" + os.path.join(TOP, "include"), "-o", made, os.path.join(TOP, "generated", "timers.c"), *words("LDFLAGS"),
+            "-I" + os.path.join(TOP, "include"), "-o", made, os.path.join(TOP, "generated", "timers.c"),
+            *(LINKED if sys.platform != "darwin" else []), *words("LDFLAGS"),
         ], check=True)
         return contents(made)
 

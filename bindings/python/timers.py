@@ -59,6 +59,15 @@ class Handle(Structure):
     def __init__(self, *numbers):
         super().__init__(*map(word, numbers))
 
+    def __eq__(self, other):
+        return isinstance(other, Handle) and (self.place, self.serial) == (other.place, other.serial)
+
+    def __hash__(self):
+        return hash((self.place, self.serial))
+
+    def __repr__(self):
+        return f"Handle({self.place}, {self.serial})"
+
 
 class Expired(Structure):
     _fields_ = [("deadline", c_uint64), ("serial", c_uint64), ("action", c_uint64)]
@@ -110,16 +119,15 @@ class Timers:
     """
 
     def __init__(self, library="libtimers.so.1", table=WIDE, first_tick=0):
-        # Each call takes little time: so Python's lock is held meanwhile, and they come one at a time.
+        # Each call takes little time: so Python's lock, where it has one, is held meanwhile, and they come one at a time.
         loaded = ctypes.PyDLL(path_of(library))
-        self._call = {}
+        call, held, table = {}, Held(), word(table, 32)
         for name, (result, arguments) in CALLS.items():
-            function = getattr(loaded, "timers_" + name)
-            function.restype, function.argtypes = result, arguments
-            self._call[name] = function
-        self._last_tick = LAST_OF_CLOCK if table == CLOCK else LAST
-        self._held = Held()
-        self._do("new", word(table, 32), word(first_tick))
+            call[name] = getattr(loaded, "timers_" + name)
+            call[name].restype, call[name].argtypes = result, arguments
+        check(call["new"](held, table, word(first_tick)))
+        self.__del__()  # frees those of an earlier call
+        self._call, self._held, self._last_tick = call, held, LAST_OF_CLOCK if table == CLOCK else LAST
 
     def _do(self, name, *arguments):
         check(self._call[name](self._held, *arguments))

@@ -53,6 +53,11 @@ def size(value):
     return number(value, 8 * ctypes.sizeof(c_size_t))
 
 
+def room_for(timers, requests):
+    """The room of an outbox for which no request of such a client is held back."""
+    return number(number(timers) + number(requests) + 1)
+
+
 def check(status):
     if status != OK:
         raise DeskError(status)
@@ -137,6 +142,7 @@ class Line:
     """A client's end of its line."""
 
     def __init__(self, library, held):
+        self.__del__()  # frees that of an earlier call
         self._library, self._held = library, held
 
     def free(self):
@@ -150,7 +156,11 @@ class Line:
         self.free()
 
     def __del__(self):
-        self.free()
+        if hasattr(self, "_held"):
+            self.free()
+
+    def __reduce__(self):
+        raise TypeError("a line owns memory: it can't be copied or pickled")
 
     @property
     def client(self):
@@ -199,17 +209,19 @@ class Desk:
     `requests` requests without an answer: then none of its requests is held back for want of room."""
 
     def __init__(self, clients, capacity, timers, requests, first_tick=0, table=0, library="libtimers.so.1"):
-        self._library = load(library)
+        loaded, clients, requests = load(library), number(clients), number(requests)
         # each desk counts from another number, so that a line of another desk is refused
-        self._held = HeldDesk(lives=next(DESKS))
+        held = HeldDesk(lives=next(DESKS))
         # The library looks at all lines before it refuses so many: an array for them need not be made.
-        check(OUT_OF_RANGE if number(clients) > CLIENTS else OK)
+        check(OUT_OF_RANGE if clients > CLIENTS else OK)
         lines = (HeldLine * max(clients, 1))()
-        room = number(number(timers) + number(requests) + 1)
-        config = Config(ctypes.sizeof(Config), number(first_tick), number(capacity), room, number(requests), number(table, 32))
-        check(self._library.timers_desk_new(byref(self._held), lines, size(clients), byref(config)))
+        room = room_for(timers, requests)
+        config = Config(ctypes.sizeof(Config), number(first_tick), number(capacity), room, requests, number(table, 32))
+        check(loaded.timers_desk_new(byref(held), lines, clients, byref(config)))
+        self.__del__()  # frees that of an earlier call
+        self._library, self._held = loaded, held
         # each line is moved to a struct of its own, and not used in the array from here on
-        self.lines = [Line(self._library, HeldLine(line.at, line.mark, line.client, line.life)) for line in lines[:clients]]
+        self.lines = [Line(loaded, HeldLine(line.at, line.mark, line.client, line.life)) for line in lines[:clients]]
 
     def free(self):
         """Frees the desk. Its lines may be used on."""
@@ -224,6 +236,9 @@ class Desk:
     def __del__(self):
         if hasattr(self, "_held"):
             self.free()
+
+    def __reduce__(self):
+        raise TypeError("a desk owns memory: it can't be copied or pickled")
 
     def serve(self, client):
         """The status: OK, IDLE, NO_ROOM, NO_MEMORY or NO_CLIENT; NOT_OPEN after free()."""

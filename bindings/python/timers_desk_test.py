@@ -1,5 +1,8 @@
 """Runs of timers_desk.py over the library whose path is given: random calls against a dictionary, clients that come and go,
 and clients in threads."""
+import copy
+import gc
+import pickle
 import random
 import sys
 import threading
@@ -216,6 +219,54 @@ def numbers_out_of_range():
             assert clock.advance(9) == 1 and desk.advance(9) == 9
 
 
+def owns_what_it_holds():
+    """No copy frees it a second time. What nothing refers to is freed, and what is made anew frees what it held."""
+    desk = Desk(2, 9, 4, 4, library=LIBRARY)
+    first, second = desk.lines
+    for owner in (desk, first):
+        for owned in (copy.copy, copy.deepcopy, pickle.dumps):
+            try:
+                owned(owner)
+            except TypeError as error:
+                assert "can't be copied or pickled" in str(error), error
+            else:
+                raise AssertionError(f"copied: {owner}")
+    desk.lines, first.itself = [], first
+    del first, owner
+    gc.collect()
+    assert desk.line_freed(0) and not desk.line_freed(1)
+    refused(td.OUT_OF_RANGE, lambda: desk.__init__(1, 1, 1, 1, table=2, library=LIBRARY))
+    assert not second.abandoned
+    desk.__init__(2, 9, 4, 4, library=LIBRARY)
+    assert second.abandoned and not desk.line_freed(0)
+    second.__init__(desk._library, td.HeldLine())
+    first, second = desk.lines
+    first.__init__(desk._library, td.HeldLine())
+    assert desk.line_freed(0) and not desk.line_freed(1)
+    desk.itself = desk
+    del desk
+    gc.collect()
+    assert second.abandoned
+
+
+class Number:
+    """A whole number by `__index__` alone, which answers once."""
+
+    def __init__(self, value):
+        self.values = [value]
+
+    def __index__(self):
+        return self.values.pop()
+
+
+def whole_numbers():
+    with Desk(*map(Number, (2, 9, 4, 4, 5, td.CLOCK)), library=LIBRARY) as desk:
+        line = desk.lines[1]
+        assert (len(desk.lines), line.start(Number(3), Number(7)), desk.serve(Number(1)), desk.flush(Number(1))) == (2, 1, td.OK, 1)
+        assert line.stop(Handle(Number(line.receive().handle.place), Number(1))) == 2
+        assert desk.serve_all(Number(9)) == td.OK and desk.pending(Number(1)) == 0 and desk.advance(Number(9)) == 9
+
+
 assert Handle(1, 7) == Handle(1, 7) and hash(Handle(1, 7)) == hash(Handle(1, 7))
 assert Handle(1, 7) not in (Handle(1, 8), Handle(2, 7), (1, 7))
 assert (str(DeskError(td.NO_ROOM)), str(DeskError(99))) == ("no room", "status 99")
@@ -226,3 +277,5 @@ counts_by_client()
 refuses_a_line_of_another_desk()
 threads(4)
 numbers_out_of_range()
+owns_what_it_holds()
+whole_numbers()

@@ -3,10 +3,11 @@
     python3 timers_test.py libtimers.so
 """
 import copy
+import gc
 import pickle
 import random
 import sys
-import threading
+from _ctypes import FUNCFLAG_PYTHONAPI
 
 from timers import (CLOCK, CLOCK_END, DUE, MESSAGES, NO_MEMORY, NOT_OPEN, NOT_PENDING, OK, TOO_LATE, ZERO_INTERVAL, Handle, Timers,
                     TimersError)
@@ -256,44 +257,62 @@ def make_room(library):
 
 
 def free_what_is_closed(library):
-    """What is closed or forgotten gives its memory back, once: 60 times 6.4 MB would be 384 MB."""
+    """What is closed, forgotten or made anew gives its memory back, once: 12 times 6.4 MB would be 77 MB for each kind."""
     before = mapped()
     for round_of in range(60):
         timers = Timers(library)
         timers.reserve(100000)
         timers.start(1, round_of)
-        if round_of % 3 == 0:
+        if round_of % 5 == 0:
             timers.close()
             timers.close()
-        elif round_of % 3 == 1:
+        elif round_of % 5 == 1:
             with timers:
                 pass
-    del timers
-    assert mapped() < before + 100 * 2**20, mapped() - before
+        elif round_of % 5 == 2:
+            timers.itself = timers
+            del timers
+            gc.collect()
+        elif round_of % 5 == 3:
+            timers.__init__(library)
+            assert len(timers) == 0
+            timers = None
+        assert mapped() < before + 40 * 2**20, (round_of, mapped() - before)
+
+
+class Number:
+    """A whole number by `__index__` alone, which answers once."""
+
+    def __init__(self, value):
+        self.values = [value]
+
+    def __index__(self):
+        return self.values.pop()
+
+
+def take_whole_numbers(library):
+    """A number is read once, and stands for itself wherever it is used. Handles are equal if their numbers are."""
+    timers, last = Timers(library, Number(CLOCK), Number(8639990)), 8639999
+    timers.reserve(Number(9))
+    handle = timers.start(Number(1), Number(7))
+    for call in (timers.restart, timers.restart_at, timers.set_at):
+        handle = call(handle, Number(9 if call == timers.restart else last), Number(7))
+    assert timers.look(Handle(Number(handle.place), Number(handle.serial))) == (last, handle.serial, 7)
+    assert timers.take(Number(8639991)) is None and timers.advance(Number(1)) == []
+    timers.advance_to(Number(8639993))
+    timers.catch_up(Number(8639994), print)
+    assert refused(timers.catch_up, Number(last + 1), print) == TOO_LATE and timers.now() == 8639994
+    for wrong in ((2, 0), (CLOCK, last + 1)):
+        assert refused(timers.__init__, library, *wrong) != OK and len(timers) == 1  # and it keeps what it has
+    same, others = Handle(handle.place, handle.serial), (Handle(handle.place, 9), Handle(9, handle.serial), (handle.place, handle.serial))
+    assert handle == same and hash(handle) == hash(same) and repr(same) == f"Handle({handle.place}, {handle.serial})"
+    assert handle not in others and {handle: 1}[same] == 1
 
 
 def hold_the_lock(library):
-    """No other thread of Python runs during a call, so that calls of several threads come one at a time."""
-    counted, started, ended = [0], threading.Event(), threading.Event()
-
-    def count():
-        started.wait()
-        while not ended.is_set():
-            counted[0] += 1
-
-    counter, interval = threading.Thread(target=count), sys.getswitchinterval()
+    """Each call holds Python's lock, so that those of several threads come one at a time."""
     with Timers(library) as timers:
-        counter.start()
-        try:
-            sys.setswitchinterval(9)  # seconds: the other thread runs sooner only if a call gives up the lock
-            started.set()
-            timers.reserve(1000000)
-            meanwhile = counted[0]
-        finally:
-            sys.setswitchinterval(interval)
-            ended.set()
-            counter.join()
-    assert meanwhile == 0, f"the other thread counted to {meanwhile} in a call"
+        assert [name for name, call in timers._call.items() if not call._flags_ & FUNCFLAG_PYTHONAPI] == []
 
 
 def stop_what_expired(library):
@@ -373,4 +392,5 @@ if __name__ == "__main__":
     raise_from_a_run(library)
     make_room(library)
     free_what_is_closed(library)
+    take_whole_numbers(library)
     hold_the_lock(library)

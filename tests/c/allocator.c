@@ -54,6 +54,15 @@ void __wrap_free(void *block)
 }
 
 static unsigned char *newest;
+static void *take(size_t size);
+static void *resize(void *block, size_t size);
+static void release(void *block);
+
+/* From the first allocation on, while blocks are held and once none is: the functions stay. */
+static void stays(void)
+{
+	CHECK(timers_set_allocator(take, resize, release) == TIMERS_OPEN);
+}
 
 /* A block begins with its size, and is full of 0xa5. What was released is not given again, and is overwritten. */
 static void *take(size_t size)
@@ -61,6 +70,7 @@ static void *take(size_t size)
 	unsigned char *head = arena + used;
 	size_t length = 16 + (size + 15) / 16 * 16;
 
+	stays();
 	asked++;
 	if ((refuses && asked % 3 == 0) || length > sizeof arena - used)
 		return NULL;
@@ -92,6 +102,7 @@ static void release(void *block)
 	CHECK(!starting || is_copied_alone(size));
 	memset(block, 0x5a, size);
 	blocks--;
+	stays();
 }
 
 static void *resize(void *block, size_t size)

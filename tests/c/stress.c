@@ -638,6 +638,7 @@ static void want_closed(struct timers *t)
 	uint64_t place = 7;
 	WANT("reserve, not open", timers_reserve(t, 1), TIMERS_NOT_OPEN);
 	WANT("start, not open", timers_start(t, 1, 1, &handle), TIMERS_NOT_OPEN);
+	WANT("the text of no status", strcmp(timers_message((enum timers_status)11), "no status"), 0);
 	WANT("restart, not open", timers_restart(t, handle, 1, 1, &handle), TIMERS_NOT_OPEN);
 	WANT("start at, not open", timers_start_at(t, 1, 1, &handle), TIMERS_NOT_OPEN);
 	WANT("restart at, not open", timers_restart_at(t, handle, 1, 1, &handle), TIMERS_NOT_OPEN);
