@@ -60,7 +60,7 @@
  *     The clock of TIMERS_CLOCK ends after 100 days. Before that, free the timers, make them again at tick
  *     0 and start what is left. That of TIMERS_WIDE has ticks for 36 million years of milliseconds.
  *
- *     The functions are proved, and translated into C. Each of them meets the contract that the sources state for it
+ *     The functions were proved, and then translated into C. Each meets the contract that the sources state for it
  *     (crates/timer_c/src/exports.rt), for every call that keeps the rules below. Nothing checks that a caller keeps
  *     them. Not proved, but tested, are the translation and the C around it: it allocates, takes NULL where nobody
  *     wants an answer, and has timers_set_allocator and timers_message.

@@ -99,7 +99,7 @@
  *     holds: the client clears its signal, receives until there is no word, and then sleeps.
  *     timers_desk_bell.h does this; examples/c/desk_server.c uses it.
  *
- *     The functions are proved, and translated into C. Each of them meets the contract stated in
+ *     The functions were proved, and then translated into C. Each meets the contract stated in
  *     crates/timer_desk_c/src/desk_exports.rt or line_exports.rt, for every call that keeps the rules below. Nothing
  *     checks them, but the settling and ending calls check the client and the life of a line (rule 5). Not proved, but
  *     tested, are the translation, the C around it, which allocates, and timers_desk_message. Nothing is proved about

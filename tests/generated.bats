@@ -71,9 +71,8 @@ by_hand() {
 }
 @test "two files are enough without the desk" {
     mkdir "$work/two"
-    cp generated/timers.c include/timers.h "$work/two"
-    sed 's/<timers\.h>/"timers.h"/' examples/c/first.c > "$work/two/app.c"
-    (cd "$work/two" && "$CC" -o app app.c timers.c)
+    cp generated/timers.c include/timers.h examples/c/first.c "$work/two"
+    (cd "$work/two" && "$CC" -o app first.c timers.c)
     prints_first "$work/two/app"
 }
 @test "a program may include it, in C and in C++" {

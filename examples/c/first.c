@@ -2,7 +2,7 @@
 #include <inttypes.h>
 #include <stdio.h>
 
-#include <timers.h>
+#include "timers.h"
 
 int main(void)
 {

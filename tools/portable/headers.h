@@ -1,4 +1,4 @@
-/* Without timers_desk.h beside it the file has no desk. */
+/* Without timers_desk.h the file has no desk. A compiler that can't tell needs -DTIMERS_NO_DESK. */
 #if !defined(TIMERS_NO_DESK) && defined(__has_include)
 #if !__has_include("timers_desk.h")
 #define TIMERS_NO_DESK

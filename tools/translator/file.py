@@ -10,18 +10,19 @@ from translator.lines import Array, Bytes, Global, Offset, Parts, Struct, Zero
 from translator.names import TOP, Names, read, source_of
 
 # What the files are: the prefix of the module's names and of those that it declares, the crates that it is made from, the
-# functions that stand in the second place, and what stands where.
-Kind = namedtuple('Kind', 'prefix outside crates second title parts')
+# functions that stand in the second place, whose code is in them, and what stands where.
+Kind = namedtuple('Kind', 'prefix outside crates second title licence parts')
 STRUCTS, FUNCTIONS, SECOND = 'structs', 'functions', 'second functions'
 NOWHERE = '$.'
+LICENCE = '(MIT OR Apache-2.0) AND MIT AND BSD-3-Clause AND LicenseRef-Rattle-libraries'
 KINDS = {
     'timers': Kind('tm_', '', ('timer_c', 'timer_desk_c'), 'timers_(desk|line)_',
-                   'The library: the functions of timers.h and timers_desk.h.',
+                   'The library: the functions of timers.h and timers_desk.h.', LICENCE,
                    ('prelude.h', 'headers.h', STRUCTS, 'operations.h', 'heap.h', FUNCTIONS, 'timers_api.h',
                     '#ifndef TIMERS_NO_DESK', 'atomics.h', SECOND, 'desk_api.h', '#endif')),
-    'program': Kind('tp_', 'os_', ('timer_program',), NOWHERE, 'The program `timers`.',
+    'program': Kind('tp_', 'os_', ('timer_program',), NOWHERE, 'The program `timers`.', LICENCE + ' AND Unicode-3.0',
                     ('prelude.h', STRUCTS, 'operations.h', 'wide.h', 'atomics.h', 'heap.h', 'program_os.h', FUNCTIONS, 'program_main.h')),
-    'test': Kind('c_', '', (), NOWHERE, 'A test.', ('prelude.h', STRUCTS, 'operations.h', 'wide.h', 'atomics.h', FUNCTIONS)),
+    'test': Kind('c_', '', (), NOWHERE, 'A test.', 'MIT OR Apache-2.0', ('prelude.h', STRUCTS, 'operations.h', 'wide.h', 'atomics.h', FUNCTIONS)),
 }
 
 
@@ -38,7 +39,7 @@ class File:
         self.inlined = self.order.inlined(first) if second else ()
         made = {STRUCTS: self.structs(), FUNCTIONS: self.constants() + '\n' + self.functions(first), SECOND: self.functions(second)}
         parts = [made[part] if part in made else part if part.startswith('#') else by_hand(part) for part in self.kind.parts]
-        head = f'/* {self.kind.title} Made by tools/generate: do not edit.\n * SPDX-License-Identifier: MIT OR Apache-2.0 */'
+        head = f'/* {self.kind.title} Made by tools/generate: do not edit. NOTICE has whose code is in it.\n * SPDX-License-Identifier: {self.kind.licence} */'
         return '\n'.join([head, *without_unused(parts)]) + '\n'
 
     def functions(self, names):
