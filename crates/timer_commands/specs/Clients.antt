@@ -3,7 +3,7 @@ use Rattle.std.specs.Prelude.{◌≡◌, ℕ, ◌≤◌, ◌⊎◌, ◌++◌, tr
 use Rattle.std.specs.Io.KnownBytes.{Appends}
 use Rattle.timer_threads.specs.declared.fault.ThreadsFault.{ThreadsFault}
 use Rattle.timer_threads.specs.declared.fault.ThreadsFault.TheVariants as faults
-use Rattle.timer_threads.specs.Threads.{whole_text}
+use Rattle.timer_threads.specs.Threads.{whole_text, IsRun, IsExplained, HasSucceeded}
 use Rattle.timer_commands.specs.declared.threads_options.ThreadsOptions.{ThreadsOptions}
 use Rattle.timer_script.specs.declared.watched.Watched.{Watched}
 use Rattle.timer_script.specs.Watched.{inner_of, has_failed}
@@ -14,20 +14,6 @@ pub record AreFew (options : ThreadsOptions) : Type 0 where
   pub few_clients : options.clients ≤ 64
   pub some_timers : 1 ≤ options.timers
   pub few_timers : options.timers ≤ 10000
-
--- the clients finished and their whole text was written, or not
-pub record HasRunClients {S : Type 0} (options : ThreadsOptions) (contents : S
-    → Option (List ℕ)) (writer writer' : Watched S) (status : ℕ) : Type 0 where
-  pub in_range : status ≤ 2
-  -- 0: the whole text was written
-  pub written : status ≡ 0
-      → AreFew options × Appends (contents (inner_of writer)) (contents (inner_of writer'))
-      (whole_text options.clients options.timers)
-      × (has_failed writer' ≡ false)
-  -- 1: the writer failed, or nothing was written
-  pub failed : status ≡ 1 → AreFew options × ((has_failed writer' ≡ true) ⊎ (writer' ≡ writer))
-  -- 2: an option is out of range, and nothing was written
-  pub refused : status ≡ 2 → ¬ (AreFew options) × (writer' ≡ writer)
 
 -- the line of an error of this client
 abbrev pub client_fault : ℕ → List ℕ
@@ -55,3 +41,31 @@ HasEndedClients (Ok text) contents contents-of-faults writer writer' errors erro
     ⊎ ((status ≡ 1) × (has_failed writer' ≡ true))
 HasEndedClients (Err fault) contents contents-of-faults writer writer' errors errors' status =
     (status ≡ 1) × (writer' ≡ writer) × WritesWhole contents-of-faults errors errors' (fault_line fault)
+
+-- the line of options that are out of range
+abbrev pub range_line : List ℕ
+range_line = codes "the number of clients or of timers is out of range\n"
+
+-- the line of the first error of a run was written
+pub record IsReported {F : Type 0} (options : ThreadsOptions) (reports : F → Option (List ℕ))
+    (faults faults' : Watched F) : Type 0 where
+  pub fault : ThreadsFault
+  pub explained : IsExplained options.clients options.timers 10000000 fault
+  pub line : WritesWhole reports faults faults' (fault_line fault)
+
+-- The clients ran, with this limit of idle turns, and their whole text was written. Or it was not, and unless the writer
+-- failed, the line says why.
+pub record HasRunClients {S F : Type 0} (options : ThreadsOptions) (contents : S → Option (List ℕ))
+    (reports : F → Option (List ℕ)) (writer writer' : Watched S) (faults faults' : Watched F) (status : ℕ) : Type 0 where
+  pub in_range : status ≤ 2
+  -- 0: the whole text was written
+  pub written : status ≡ 0
+      → AreFew options × IsRun options.clients options.timers 10000000 HasSucceeded
+      × Appends (contents (inner_of writer)) (contents (inner_of writer'))
+      (whole_text options.clients options.timers)
+      × (has_failed writer' ≡ false)
+  -- 1: the writer failed, or nothing was written, for this reason
+  pub failed : status ≡ 1 → AreFew options × ((has_failed writer' ≡ true)
+      ⊎ ((writer' ≡ writer) × IsReported options reports faults faults'))
+  -- 2: an option is out of range, and nothing was written
+  pub refused : status ≡ 2 → ¬ (AreFew options) × (writer' ≡ writer) × WritesWhole reports faults faults' range_line

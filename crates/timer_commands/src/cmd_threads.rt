@@ -1,6 +1,7 @@
 //! The subcommand `threads`: clients in threads of their own, and one line for each.
-ghost use Rattle.std.specs.Prelude.{◌≡◌, IfOk, OnOk, OnErr, IsTrue, ◌↔◌, vec_len, true, false};
+ghost use Rattle.std.specs.Prelude.{◌≡◌, IfOk, IfErr, OnOk, OnErr, IsTrue, ◌↔◌, vec_len, true, false};
 ghost use Rattle.std.specs.Io.KnownBytes.{Appends};
+ghost use Rattle.timer_threads.specs.Threads.{whole_text, IsRun, IsExplained, HasSucceeded};
 ghost use Rattle.timer_commands.specs.Clients.{AreFew, HasRunClients, HasEndedClients, fault_line, client_fault};
 ghost use Rattle.timer_script.specs.Watched.{inner_of, has_failed};
 
@@ -10,33 +11,52 @@ use itoa::Buffer;
 use std::alloc::{AllocError, Global};
 use std::io::Write;
 use std::thread::Threads;
-use timer_script::{RunFault, Watched, WriteFault, write_text};
+use timer_script::{Watched, WriteFault, write_text};
 use timer_threads::{Open, ThreadsFault, threads_run};
 
 /// Idle turns, one after another, before a side gives up.
 const LIMIT: u64 = 10_000_000;
 
 /// Runs as many clients as the options say, writes their text, and returns the exit status. The writer is
-/// untouched if a number is out of range or the run fails. Waits for the clients' threads.
+/// untouched if a number is out of range or the run fails, and then `faults` gets a line. An error in writing that line
+/// is ignored. Waits for the clients' threads.
 pub fn run_clients<W: Write, F: Write>(
     rt: &impl Threads,
     alloc: Global,
     options: ThreadsOptions,
     writer: &mut Watched<W>,
-    faults: &mut F,
+    faults: &mut Watched<F>,
 ) -> u8
-    requires { has_failed writer.old ≡ false }
-    ensures { HasRunClients options W.contents writer.old writer.new result }
+    requires writer_good { has_failed writer.old ≡ false }
+    requires faults_good { has_failed faults.old ≡ false }
+    ensures { HasRunClients options W.contents F.contents writer.old writer.new faults.old faults.new result }
 {
     if !options.is_in_range() {
-        let _ = writeln!(faults, "the number of clients or of timers is out of range");
+        let _ = write_text(
+            faults,
+            b"the number of clients or of timers is out of range\n",
+        );
         return 2;
     }
-    let Ok(gates) = open_gates(alloc, options.clients as usize) else {
-        return report(RunFault::OutOfMemory, faults);
-    };
-    let ended = threads_run(rt, alloc, gates, options.timers, LIMIT);
-    end_clients(ended, writer, &mut Watched::new(faults))
+    let ended = run_open(rt, alloc, options);
+    end_clients(ended, writer, faults)
+}
+
+/// Runs as many clients as the options say, whose gates are open.
+fn run_open(
+    rt: &impl Threads,
+    alloc: Global,
+    options: ThreadsOptions,
+) -> Result<Vec<u8>, ThreadsFault>
+    requires { AreFew options }
+    ensures text { IfOk result (λ text. text.items ≡ whole_text options.clients options.timers) }
+    ensures ended { IfOk result (λ _. IsRun options.clients options.timers 10000000 HasSucceeded) }
+    ensures failed { IfErr result (λ fault. IsExplained options.clients options.timers 10000000 fault) }
+{
+    match open_gates(alloc, options.clients as usize) {
+        Ok(gates) => threads_run(rt, alloc, gates, options.timers, LIMIT),
+        Err(_) => Err(ThreadsFault::OutOfMemory),
+    }
 }
 
 /// Writes the text of clients that finished, or reports in one line why they did not, and returns the exit

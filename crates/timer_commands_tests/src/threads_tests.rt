@@ -17,11 +17,12 @@ fn check_ended<T: AllocGlobal + Abort + Threads>(
     faults: &str,
 ) {
     let mut writer = Watched::new(sink);
-    let mut reports = Vec::new(rt.alloc());
+    let mut reports = Watched::new(Vec::new(rt.alloc()));
     let ended = run_clients(rt, rt.alloc(), options, &mut writer, &mut reports);
     same_in(rt, text, ended, status);
     let output = writer.into_inner().bytes;
     same_in(rt, text, output.as_slice(), text.as_bytes());
+    let reports = reports.into_inner();
     same_in(rt, text, reports.as_slice(), faults.as_bytes());
 }
 

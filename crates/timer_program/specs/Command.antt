@@ -36,7 +36,7 @@ abbrev pub HasCalled : {R S F : Type 0} → Result Subcommand Error → Bytes R 
 HasCalled (Ok (calls.Run verb options)) bytes old new status = HasEnded verb options bytes old new status
 HasCalled (Ok (calls.Threads options)) bytes old new status =
     (new.streams.reader ≡ old.streams.reader)
-    × HasRunClients options bytes.contents old.streams.writer new.streams.writer status
+    × HasRunClients options bytes.contents bytes.reports old.streams.writer new.streams.writer old.faults new.faults status
 HasCalled (Ok calls.Check) bytes old new status = HasCheckedScript
     (record { remaining = bytes.remaining; contents = bytes.contents }) old.streams new.streams status
 HasCalled (Err error) bytes old new status =

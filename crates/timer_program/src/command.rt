@@ -24,7 +24,7 @@ use timer_script::{ScriptFault, Streams, Watched, write_text};
 /// 2: the arguments are refused, and `faults` gets the reason. The streams are untouched. Or a script could
 /// not be checked, which is reported in one line on `faults`.
 ///
-/// An error in writing to `faults` is ignored. Neither the reader nor the writer may have failed before.
+/// An error in writing to `faults` is ignored. Neither the reader nor a writer may have failed before.
 /// Waits if clients run in threads.
 pub fn command<T: AllocGlobal + Threads, S: AsStr, R: Read, W: Write, F: Write>(
     rt: &T,
@@ -34,6 +34,7 @@ pub fn command<T: AllocGlobal + Threads, S: AsStr, R: Read, W: Write, F: Write>(
 ) -> u8
     requires reader_good { has_failed streams.old.reader ≡ false }
     requires writer_good { has_failed streams.old.writer ≡ false }
+    requires faults_good { has_failed faults.old ≡ false }
     ensures { HasRunProgram S.text arguments.now
         (record { remaining = R.remaining; contents = W.contents; reports = F.contents })
         (record { streams = streams.old; faults = faults.old })
@@ -52,6 +53,7 @@ fn run_subcommand<T: AllocGlobal + Threads, R: Read, W: Write, F: Write>(
 ) -> u8
     requires reader_good { has_failed streams.old.reader ≡ false }
     requires writer_good { has_failed streams.old.writer ≡ false }
+    requires faults_good { has_failed faults.old ≡ false }
     ensures { HasCalled read
         (record { remaining = R.remaining; contents = W.contents; reports = F.contents })
         (record { streams = streams.old; faults = faults.old })
