@@ -9154,7 +9154,7 @@ static COLD bool tp_std_alloc_vec_Vec_grow_amortized_9(byte *p1, uint64_t n2)
 }
 
 /* core::fmt::formatter::Formatter::write_raw */
-static uint8_t tp_fmt_formatter_Formatter_write_raw(byte *p1, byte *p2, uint64_t n3)
+static uint8_t tp_formatter_Formatter_write_raw(byte *p1, byte *p2, uint64_t n3)
 {
 	uint64_t n18, n19, n22;
 	uint64_t n4 = 0;
@@ -9238,7 +9238,7 @@ L1:
 }
 
 /* core::fmt::formatter::Formatter::write_indented */
-static COLD uint8_t tp_fmt_formatter_Formatter_write_indented(byte *p1, byte *p2, uint64_t n3)
+static COLD uint8_t tp_formatter_Formatter_write_indented(byte *p1, byte *p2, uint64_t n3)
 {
 	uint64_t n4 = 0;
 	uint64_t n5 = 0;
@@ -9257,14 +9257,14 @@ static COLD uint8_t tp_fmt_formatter_Formatter_write_indented(byte *p1, byte *p2
 					uint64_t n12 = load64(p1 + 48);
 					uint64_t n13 = 0;
 					while (n13 != n12) {
-						uint8_t n14 = tp_fmt_formatter_Formatter_write_raw(p1, (byte *)tp_static_80, 4);
+						uint8_t n14 = tp_formatter_Formatter_write_raw(p1, (byte *)tp_static_80, 4);
 						if ((n14 & 1) != 0)
 							return 1;
 						n13 = n13 + 1;
 					}
 				}
 				store8(p1 + 56, 1);
-				uint8_t n15 = tp_fmt_formatter_Formatter_write_raw(p1, p9, n8);
+				uint8_t n15 = tp_formatter_Formatter_write_raw(p1, p9, n8);
 				if ((n15 & 1) != 0)
 					return 1;
 				n10 = n6;
@@ -9285,14 +9285,14 @@ static COLD uint8_t tp_fmt_formatter_Formatter_write_indented(byte *p1, byte *p2
 		uint64_t n18 = load64(p1 + 48);
 		uint64_t n19 = 0;
 		while (n19 != n18) {
-			uint8_t n20 = tp_fmt_formatter_Formatter_write_raw(p1, (byte *)tp_static_80, 4);
+			uint8_t n20 = tp_formatter_Formatter_write_raw(p1, (byte *)tp_static_80, 4);
 			if ((n20 & 1) != 0)
 				return 1;
 			n19 = n19 + 1;
 		}
 	}
 	store8(p1 + 56, 0);
-	uint8_t n21 = tp_fmt_formatter_Formatter_write_raw(p1, p17, n16);
+	uint8_t n21 = tp_formatter_Formatter_write_raw(p1, p17, n16);
 	return n21;
 }
 
@@ -9326,7 +9326,7 @@ static uint8_t tp_Formatter_write_piece(byte *p1, byte *p2)
 		n5 = 4;
 	}
 	if (load64(p1 + 48) != 0) {
-		uint8_t n14 = tp_fmt_formatter_Formatter_write_indented(p1, p3, n5);
+		uint8_t n14 = tp_formatter_Formatter_write_indented(p1, p3, n5);
 		return n14;
 	}
 	uint64_t n6 = load64(p1 + 16);
@@ -9416,7 +9416,7 @@ L2:
 					store64(p2 + 16, n15);
 				}
 			} else {
-				uint8_t n20 = tp_fmt_formatter_Formatter_write_indented(p2, (byte *)tp_static_81, 2);
+				uint8_t n20 = tp_formatter_Formatter_write_indented(p2, (byte *)tp_static_81, 2);
 				if ((n20 & 1) != 0)
 					goto L1;
 			}
@@ -9458,7 +9458,7 @@ L3:
 					goto L4;
 				}
 			}
-			n29 = tp_fmt_formatter_Formatter_write_indented(p2, p10, n11);
+			n29 = tp_formatter_Formatter_write_indented(p2, p10, n11);
 			memcpy(p2 + 24, p7, 24);
 			if ((n29 & 1) != 0)
 				return 1;
@@ -9515,7 +9515,7 @@ L6:
 					goto L7;
 				}
 			}
-			n38 = tp_fmt_formatter_Formatter_write_indented(p2, (byte *)tp_static_82, 1);
+			n38 = tp_formatter_Formatter_write_indented(p2, (byte *)tp_static_82, 1);
 			if ((n38 & 1) == 0)
 				goto L7;
 L5:
@@ -9594,7 +9594,7 @@ L10:
 				b45 = b47;
 			}
 		} else {
-			uint8_t n58 = tp_fmt_formatter_Formatter_write_indented(p2, p49, n48);
+			uint8_t n58 = tp_formatter_Formatter_write_indented(p2, p49, n48);
 			if ((n58 & 1) != 0)
 				return 1;
 			b45 = b47;
@@ -9669,7 +9669,7 @@ L13:
 					return 0;
 				}
 			}
-			uint8_t n71 = tp_fmt_formatter_Formatter_write_indented(p2, (byte *)tp_static_86, 3);
+			uint8_t n71 = tp_formatter_Formatter_write_indented(p2, (byte *)tp_static_86, 3);
 			if ((n71 & 1) != 0)
 				return 1;
 			b72 = b44;
@@ -9784,7 +9784,7 @@ L17:
 								store64(p2 + 16, n93);
 							}
 						} else {
-							uint8_t n98 = tp_fmt_formatter_Formatter_write_indented(p2, (byte *)tp_static_76, 1);
+							uint8_t n98 = tp_formatter_Formatter_write_indented(p2, (byte *)tp_static_76, 1);
 							if ((n98 & 1) != 0)
 								return 1;
 						}
@@ -9826,7 +9826,7 @@ L19:
 								store64(p2 + 16, n102);
 							}
 						} else {
-							uint8_t n107 = tp_fmt_formatter_Formatter_write_indented(p2, (byte *)tp_static_88, 1);
+							uint8_t n107 = tp_formatter_Formatter_write_indented(p2, (byte *)tp_static_88, 1);
 							if ((n107 & 1) != 0)
 								goto L18;
 						}
@@ -9866,7 +9866,7 @@ L20:
 								store64(p2 + 16, n111);
 							}
 						} else {
-							uint8_t n116 = tp_fmt_formatter_Formatter_write_indented(p2, p87, n86);
+							uint8_t n116 = tp_formatter_Formatter_write_indented(p2, p87, n86);
 							if ((n116 & 1) != 0)
 								goto L18;
 						}
@@ -9906,7 +9906,7 @@ L21:
 								memcpy(p2 + 24, p3, 24);
 							}
 						} else {
-							uint8_t n125 = tp_fmt_formatter_Formatter_write_indented(p2, (byte *)tp_static_87, 1);
+							uint8_t n125 = tp_formatter_Formatter_write_indented(p2, (byte *)tp_static_87, 1);
 							memcpy(p2 + 24, p3, 24);
 							if ((n125 & 1) != 0)
 								return 1;
@@ -9948,7 +9948,7 @@ L22:
 								store64(p2 + 16, n129);
 							}
 						} else {
-							uint8_t n134 = tp_fmt_formatter_Formatter_write_indented(p2, (byte *)tp_static_77, 1);
+							uint8_t n134 = tp_formatter_Formatter_write_indented(p2, (byte *)tp_static_77, 1);
 							if ((n134 & 1) != 0)
 								break;
 						}
@@ -9988,7 +9988,7 @@ L23:
 								store64(p2 + 16, n138);
 							}
 						} else {
-							uint8_t n143 = tp_fmt_formatter_Formatter_write_indented(p2, p87, n86);
+							uint8_t n143 = tp_formatter_Formatter_write_indented(p2, p87, n86);
 							if ((n143 & 1) != 0)
 								break;
 						}
@@ -10028,7 +10028,7 @@ L24:
 								memcpy(p2 + 24, p4, 24);
 							}
 						} else {
-							uint8_t n152 = tp_fmt_formatter_Formatter_write_indented(p2, (byte *)tp_static_79, 1);
+							uint8_t n152 = tp_formatter_Formatter_write_indented(p2, (byte *)tp_static_79, 1);
 							memcpy(p2 + 24, p4, 24);
 							if ((n152 & 1) != 0)
 								return 1;
@@ -10099,7 +10099,7 @@ L25:
 						return 0;
 					}
 				}
-				uint8_t n161 = tp_fmt_formatter_Formatter_write_indented(p2, (byte *)tp_static_86, 3);
+				uint8_t n161 = tp_formatter_Formatter_write_indented(p2, (byte *)tp_static_86, 3);
 				if ((n161 & 1) != 0)
 					return 1;
 				b72 = b61;
@@ -10114,7 +10114,7 @@ L14:
 		{
 			uint64_t n165, n166, n169;
 			if (load64(p2 + 48) != 0) {
-				uint8_t n170 = tp_fmt_formatter_Formatter_write_indented(p2, (byte *)tp_static_87, 1);
+				uint8_t n170 = tp_formatter_Formatter_write_indented(p2, (byte *)tp_static_87, 1);
 				return n170;
 			}
 			uint64_t n162 = load64(p2 + 16);
@@ -10348,7 +10348,7 @@ L9:
 										store64(p8 + 16, n59);
 									}
 								} else {
-									uint8_t n64 = tp_fmt_formatter_Formatter_write_indented(p8, (byte *)tp_static_76, 1);
+									uint8_t n64 = tp_formatter_Formatter_write_indented(p8, (byte *)tp_static_76, 1);
 									if ((n64 & 1) != 0)
 										goto L6;
 								}
@@ -10389,7 +10389,7 @@ L11:
 									store64(p8 + 16, n68);
 								}
 							} else {
-								uint8_t n73 = tp_fmt_formatter_Formatter_write_indented(p8, (byte *)tp_static_77, 1);
+								uint8_t n73 = tp_formatter_Formatter_write_indented(p8, (byte *)tp_static_77, 1);
 								if ((n73 & 1) != 0)
 									goto L10;
 							}
@@ -10431,7 +10431,7 @@ L12:
 									store64(p8 + 16, n79);
 								}
 							} else {
-								uint8_t n84 = tp_fmt_formatter_Formatter_write_indented(p8, p74, n75);
+								uint8_t n84 = tp_formatter_Formatter_write_indented(p8, p74, n75);
 								if ((n84 & 1) != 0)
 									goto L10;
 							}
@@ -10471,7 +10471,7 @@ L13:
 									memcpy(p8 + 24, p7, 24);
 								}
 							} else {
-								uint8_t n93 = tp_fmt_formatter_Formatter_write_indented(p8, (byte *)tp_static_79, 1);
+								uint8_t n93 = tp_formatter_Formatter_write_indented(p8, (byte *)tp_static_79, 1);
 								memcpy(p8 + 24, p7, 24);
 								if ((n93 & 1) != 0)
 									goto L6;
@@ -11616,7 +11616,7 @@ L3:
 				return 0;
 			}
 		}
-		uint8_t n26 = tp_fmt_formatter_Formatter_write_indented(p3, p6, n7);
+		uint8_t n26 = tp_formatter_Formatter_write_indented(p3, p6, n7);
 		memcpy(p4, p3, 24);
 		memcpy(p1, p4, 24);
 		if (n26 == 0)
@@ -11730,7 +11730,7 @@ L3:
 				return 0;
 			}
 		}
-		uint8_t n25 = tp_fmt_formatter_Formatter_write_indented(p3, p7, n8);
+		uint8_t n25 = tp_formatter_Formatter_write_indented(p3, p7, n8);
 		memcpy(p4, p3, 24);
 		memcpy(p1, p4, 24);
 		if (n25 == 0)
@@ -11931,7 +11931,7 @@ L3:
 				store64(p10 + 16, n25);
 			}
 		} else {
-			uint8_t n29 = tp_fmt_formatter_Formatter_write_indented(p10, p21, n22);
+			uint8_t n29 = tp_formatter_Formatter_write_indented(p10, p21, n22);
 			if ((n29 & 1) != 0)
 				goto L1;
 		}
@@ -11971,7 +11971,7 @@ L4:
 				memcpy(p10 + 24, p4, 24);
 			}
 		} else {
-			uint8_t n38 = tp_fmt_formatter_Formatter_write_indented(p10, p8, n9);
+			uint8_t n38 = tp_formatter_Formatter_write_indented(p10, p8, n9);
 			memcpy(p10 + 24, p4, 24);
 			if ((n38 & 1) != 0)
 				goto L5;
@@ -12423,7 +12423,7 @@ L16:
 												store64(p9 + 16, n88);
 											}
 										} else {
-											uint8_t n92 = tp_fmt_formatter_Formatter_write_indented(p9, p30, n29);
+											uint8_t n92 = tp_formatter_Formatter_write_indented(p9, p30, n29);
 											if ((n92 & 1) != 0)
 												goto L14;
 										}
@@ -12465,7 +12465,7 @@ L17:
 												store64(p9 + 16, n98);
 											}
 										} else {
-											uint8_t n103 = tp_fmt_formatter_Formatter_write_indented(p9, p93, n94);
+											uint8_t n103 = tp_formatter_Formatter_write_indented(p9, p93, n94);
 											memcpy(p9 + 24, p8, 24);
 											if ((n103 & 1) != 0)
 												goto L18;
@@ -12569,7 +12569,7 @@ L21:
 												store64(p7 + 16, n120);
 											}
 										} else {
-											uint8_t n124 = tp_fmt_formatter_Formatter_write_indented(p7, (byte *)tp_static_76, 1);
+											uint8_t n124 = tp_formatter_Formatter_write_indented(p7, (byte *)tp_static_76, 1);
 											if ((n124 & 1) != 0)
 												goto L19;
 										}
@@ -12608,7 +12608,7 @@ L22:
 												p135 = p130;
 											}
 										} else {
-											uint8_t n136 = tp_fmt_formatter_Formatter_write_indented(p7, p107, n108);
+											uint8_t n136 = tp_formatter_Formatter_write_indented(p7, p107, n108);
 											memcpy(p7 + 24, p6, 24);
 											if ((n136 & 1) != 0)
 												goto L23;
@@ -12770,7 +12770,7 @@ L29:
 														store64(p5 + 16, n161);
 													}
 												} else {
-													uint8_t n165 = tp_fmt_formatter_Formatter_write_indented(p5, (byte *)tp_static_82, 1);
+													uint8_t n165 = tp_formatter_Formatter_write_indented(p5, (byte *)tp_static_82, 1);
 													if ((n165 & 1) != 0)
 														goto L27;
 												}
@@ -12809,7 +12809,7 @@ L30:
 														p176 = p171;
 													}
 												} else {
-													uint8_t n177 = tp_fmt_formatter_Formatter_write_indented(p5, p107, n108);
+													uint8_t n177 = tp_formatter_Formatter_write_indented(p5, p107, n108);
 													memcpy(p5 + 24, p4, 24);
 													if ((n177 & 1) != 0)
 														goto L31;
@@ -14011,7 +14011,7 @@ L3:
 				memcpy(p8 + 24, p4, 24);
 			}
 		} else {
-			uint8_t n27 = tp_fmt_formatter_Formatter_write_indented(p8, p19, n20);
+			uint8_t n27 = tp_formatter_Formatter_write_indented(p8, p19, n20);
 			memcpy(p8 + 24, p4, 24);
 			if ((n27 & 1) != 0)
 				goto L4;
@@ -15212,7 +15212,7 @@ L3:
 				store64(p3 + 16, n23);
 			}
 		} else {
-			uint8_t n27 = tp_fmt_formatter_Formatter_write_indented(p3, p7, n8);
+			uint8_t n27 = tp_formatter_Formatter_write_indented(p3, p7, n8);
 			if ((n27 & 1) != 0)
 				goto L1;
 		}
@@ -15254,7 +15254,7 @@ L4:
 				return 0;
 			}
 		}
-		uint8_t n36 = tp_fmt_formatter_Formatter_write_indented(p3, p9, n10);
+		uint8_t n36 = tp_formatter_Formatter_write_indented(p3, p9, n10);
 		memcpy(p4, p3, 24);
 		memcpy(p1, p4, 24);
 		if (n36 == 0)
@@ -16470,7 +16470,7 @@ L3:
 				return 0;
 			}
 		}
-		uint8_t n26 = tp_fmt_formatter_Formatter_write_indented(p3, p18, n19);
+		uint8_t n26 = tp_formatter_Formatter_write_indented(p3, p18, n19);
 		memcpy(p4, p3, 24);
 		memcpy(p1, p4, 24);
 		if (n26 == 0)
@@ -16586,7 +16586,7 @@ L3:
 				store64(p3 + 16, n26);
 			}
 		} else {
-			uint8_t n30 = tp_fmt_formatter_Formatter_write_indented(p3, p7, n8);
+			uint8_t n30 = tp_formatter_Formatter_write_indented(p3, p7, n8);
 			if ((n30 & 1) != 0)
 				goto L1;
 		}
@@ -16625,7 +16625,7 @@ L4:
 				store64(p3 + 16, n34);
 			}
 		} else {
-			uint8_t n39 = tp_fmt_formatter_Formatter_write_indented(p3, p9, n10);
+			uint8_t n39 = tp_formatter_Formatter_write_indented(p3, p9, n10);
 			if ((n39 & 1) != 0)
 				goto L1;
 		}
@@ -16667,7 +16667,7 @@ L5:
 				store64(p3 + 16, n45);
 			}
 		} else {
-			uint8_t n50 = tp_fmt_formatter_Formatter_write_indented(p3, p40, n41);
+			uint8_t n50 = tp_formatter_Formatter_write_indented(p3, p40, n41);
 			if ((n50 & 1) != 0)
 				goto L1;
 		}
@@ -16709,7 +16709,7 @@ L6:
 				return 0;
 			}
 		}
-		uint8_t n59 = tp_fmt_formatter_Formatter_write_indented(p3, p12, n13);
+		uint8_t n59 = tp_formatter_Formatter_write_indented(p3, p12, n13);
 		memcpy(p4, p3, 24);
 		memcpy(p1, p4, 24);
 		if (n59 == 0)
@@ -18599,7 +18599,7 @@ L3:
 				memcpy(p9 + 24, p4, 24);
 			}
 		} else {
-			uint8_t n26 = tp_fmt_formatter_Formatter_write_indented(p9, p7, n8);
+			uint8_t n26 = tp_formatter_Formatter_write_indented(p9, p7, n8);
 			memcpy(p9 + 24, p4, 24);
 			if ((n26 & 1) != 0)
 				goto L4;
@@ -18660,10 +18660,10 @@ static uint8_t tp_Formatter_write_code_point(byte *p1, uint32_t n2)
 		n4 = 4;
 	}
 	if (load64(p1 + 48) == 0) {
-		uint8_t n5 = tp_fmt_formatter_Formatter_write_raw(p1, p3, n4);
+		uint8_t n5 = tp_formatter_Formatter_write_raw(p1, p3, n4);
 		return n5;
 	}
-	uint8_t n6 = tp_fmt_formatter_Formatter_write_indented(p1, p3, n4);
+	uint8_t n6 = tp_formatter_Formatter_write_indented(p1, p3, n4);
 	return n6;
 }
 
@@ -18962,10 +18962,10 @@ static NOINLINE uint8_t tp_Formatter_write_quoted_in_runs(byte *p1, byte *p2, ui
 	ALIGN(1) byte p9[64];
 	uint8_t n11, n121;
 	if (load64(p1 + 48) == 0) {
-		uint8_t n10 = tp_fmt_formatter_Formatter_write_raw(p1, (byte *)tp_static_117, 1);
+		uint8_t n10 = tp_formatter_Formatter_write_raw(p1, (byte *)tp_static_117, 1);
 		n11 = n10;
 	} else {
-		uint8_t n12 = tp_fmt_formatter_Formatter_write_indented(p1, (byte *)tp_static_117, 1);
+		uint8_t n12 = tp_formatter_Formatter_write_indented(p1, (byte *)tp_static_117, 1);
 		n11 = n12;
 	}
 	if ((n11 & 1) != 0)
@@ -19004,10 +19004,10 @@ L1:
 				byte *p17 = at(p2, n13);
 				uint64_t n18 = n16 - n13;
 				if (load64(p1 + 48) == 0) {
-					uint8_t n19 = tp_fmt_formatter_Formatter_write_raw(p1, p17, n18);
+					uint8_t n19 = tp_formatter_Formatter_write_raw(p1, p17, n18);
 					n20 = n19;
 				} else {
-					uint8_t n21 = tp_fmt_formatter_Formatter_write_indented(p1, p17, n18);
+					uint8_t n21 = tp_formatter_Formatter_write_indented(p1, p17, n18);
 					n20 = n21;
 				}
 				if ((n20 & 1) != 0)
@@ -19441,10 +19441,10 @@ L9:
 						}
 						}
 						if (load64(p1 + 48) == 0) {
-							uint8_t n88 = tp_fmt_formatter_Formatter_write_raw(p1, (byte *)tp_static_118, 1);
+							uint8_t n88 = tp_formatter_Formatter_write_raw(p1, (byte *)tp_static_118, 1);
 							n89 = n88;
 						} else {
-							uint8_t n90 = tp_fmt_formatter_Formatter_write_indented(p1, (byte *)tp_static_118, 1);
+							uint8_t n90 = tp_formatter_Formatter_write_indented(p1, (byte *)tp_static_118, 1);
 							n89 = n90;
 						}
 						if ((n89 & 1) != 0)
@@ -19521,10 +19521,10 @@ L6:
 							n104 = n106;
 						}
 						if (load64(p1 + 48) == 0) {
-							uint8_t n109 = tp_fmt_formatter_Formatter_write_raw(p1, (byte *)tp_static_119, 3);
+							uint8_t n109 = tp_formatter_Formatter_write_raw(p1, (byte *)tp_static_119, 3);
 							n110 = n109;
 						} else {
-							uint8_t n111 = tp_fmt_formatter_Formatter_write_indented(p1, (byte *)tp_static_119, 3);
+							uint8_t n111 = tp_formatter_Formatter_write_indented(p1, (byte *)tp_static_119, 3);
 							n110 = n111;
 						}
 						uint64_t n112 = usub_sat64(64, n105);
@@ -19534,21 +19534,21 @@ L6:
 						if (n105 <= 63) {
 							uint8_t n115;
 							if (load64(p1 + 48) == 0) {
-								uint8_t n114 = tp_fmt_formatter_Formatter_write_raw(p1, p113, n112);
+								uint8_t n114 = tp_formatter_Formatter_write_raw(p1, p113, n112);
 								n115 = n114;
 							} else {
-								uint8_t n116 = tp_fmt_formatter_Formatter_write_indented(p1, p113, n112);
+								uint8_t n116 = tp_formatter_Formatter_write_indented(p1, p113, n112);
 								n115 = n116;
 							}
 							if ((n115 & 1) != 0)
 								goto L10;
 						}
 						if (load64(p1 + 48) == 0) {
-							uint8_t n117 = tp_fmt_formatter_Formatter_write_raw(p1, (byte *)tp_static_92, 1);
+							uint8_t n117 = tp_formatter_Formatter_write_raw(p1, (byte *)tp_static_92, 1);
 							n92 = n117;
 							goto L11;
 						}
-						uint8_t n118 = tp_fmt_formatter_Formatter_write_indented(p1, (byte *)tp_static_92, 1);
+						uint8_t n118 = tp_formatter_Formatter_write_indented(p1, (byte *)tp_static_92, 1);
 						n92 = n118;
 						goto L11;
 					}
@@ -19569,10 +19569,10 @@ L11:
 		}
 	}
 	if (load64(p1 + 48) == 0) {
-		uint8_t n120 = tp_fmt_formatter_Formatter_write_raw(p1, (byte *)tp_static_117, 1);
+		uint8_t n120 = tp_formatter_Formatter_write_raw(p1, (byte *)tp_static_117, 1);
 		return n120;
 	}
-	n121 = tp_fmt_formatter_Formatter_write_indented(p1, (byte *)tp_static_117, 1);
+	n121 = tp_formatter_Formatter_write_indented(p1, (byte *)tp_static_117, 1);
 	return n121;
 L10:
 	{
@@ -19727,26 +19727,26 @@ L5:
 		}
 L4:
 		{
-			uint8_t n32 = tp_fmt_formatter_Formatter_write_raw(p4, (byte *)tp_static_117, 1);
+			uint8_t n32 = tp_formatter_Formatter_write_raw(p4, (byte *)tp_static_117, 1);
 			if ((n32 & 1) == 0) {
 				if (!b6) {
 					uint8_t n34;
 					if (load64(p4 + 48) == 0) {
-						uint8_t n33 = tp_fmt_formatter_Formatter_write_raw(p4, p2, n3);
+						uint8_t n33 = tp_formatter_Formatter_write_raw(p4, p2, n3);
 						n34 = n33;
 					} else {
-						uint8_t n35 = tp_fmt_formatter_Formatter_write_indented(p4, p2, n3);
+						uint8_t n35 = tp_formatter_Formatter_write_indented(p4, p2, n3);
 						n34 = n35;
 					}
 					if ((n34 & 1) != 0)
 						goto L7;
 				}
 				if (load64(p4 + 48) == 0) {
-					uint8_t n36 = tp_fmt_formatter_Formatter_write_raw(p4, (byte *)tp_static_117, 1);
+					uint8_t n36 = tp_formatter_Formatter_write_raw(p4, (byte *)tp_static_117, 1);
 					n31 = n36;
 					goto L6;
 				}
-				uint8_t n37 = tp_fmt_formatter_Formatter_write_indented(p4, (byte *)tp_static_117, 1);
+				uint8_t n37 = tp_formatter_Formatter_write_indented(p4, (byte *)tp_static_117, 1);
 				n31 = n37;
 				goto L6;
 			}
@@ -19938,7 +19938,7 @@ L3:
 				store64(p3 + 16, n24);
 			}
 		} else {
-			uint8_t n28 = tp_fmt_formatter_Formatter_write_indented(p3, p20, n21);
+			uint8_t n28 = tp_formatter_Formatter_write_indented(p3, p20, n21);
 			if ((n28 & 1) != 0)
 				goto L1;
 		}
@@ -19980,7 +19980,7 @@ L4:
 				return 0;
 			}
 		}
-		uint8_t n37 = tp_fmt_formatter_Formatter_write_indented(p3, p8, n9);
+		uint8_t n37 = tp_formatter_Formatter_write_indented(p3, p8, n9);
 		memcpy(p4, p3, 24);
 		memcpy(p1, p4, 24);
 		if (n37 == 0)
@@ -23603,7 +23603,7 @@ L6:
 							return 0;
 						}
 					}
-					uint8_t n32 = tp_fmt_formatter_Formatter_write_indented(p4, (byte *)tp_static_126, 3);
+					uint8_t n32 = tp_formatter_Formatter_write_indented(p4, (byte *)tp_static_126, 3);
 					memcpy(p5, p4, 24);
 					memcpy(p1, p5, 24);
 					if (n32 == 0)
@@ -24273,7 +24273,7 @@ L3:
 				store64(p3 + 16, n27);
 			}
 		} else {
-			uint8_t n31 = tp_fmt_formatter_Formatter_write_indented(p3, p7, n8);
+			uint8_t n31 = tp_formatter_Formatter_write_indented(p3, p7, n8);
 			if ((n31 & 1) != 0)
 				goto L1;
 		}
@@ -24312,7 +24312,7 @@ L4:
 				store64(p3 + 16, n35);
 			}
 		} else {
-			uint8_t n40 = tp_fmt_formatter_Formatter_write_indented(p3, p9, n10);
+			uint8_t n40 = tp_formatter_Formatter_write_indented(p3, p9, n10);
 			if ((n40 & 1) != 0)
 				goto L1;
 		}
@@ -24351,7 +24351,7 @@ L5:
 				store64(p3 + 16, n44);
 			}
 		} else {
-			uint8_t n49 = tp_fmt_formatter_Formatter_write_indented(p3, p11, n12);
+			uint8_t n49 = tp_formatter_Formatter_write_indented(p3, p11, n12);
 			if ((n49 & 1) != 0)
 				goto L1;
 		}
@@ -24393,7 +24393,7 @@ L6:
 				return 0;
 			}
 		}
-		uint8_t n58 = tp_fmt_formatter_Formatter_write_indented(p3, p13, n14);
+		uint8_t n58 = tp_formatter_Formatter_write_indented(p3, p13, n14);
 		memcpy(p4, p3, 24);
 		memcpy(p1, p4, 24);
 		if (n58 == 0)
@@ -25297,7 +25297,7 @@ static uint8_t tp_formatter_Formatter_write_piece(byte *p1, byte *p2)
 	store8(at(p13, UINT64_MAX), 45);
 	uint64_t n14 = 24 - n11;
 	if (load64(p1 + 48) != 0) {
-		uint8_t n23 = tp_fmt_formatter_Formatter_write_indented(p1, p13, n14);
+		uint8_t n23 = tp_formatter_Formatter_write_indented(p1, p13, n14);
 		return n23;
 	}
 	uint64_t n15 = load64(p1 + 16);
@@ -25386,7 +25386,7 @@ L2:
 				store64(p4 + 16, n13);
 			}
 		} else {
-			uint8_t n18 = tp_fmt_formatter_Formatter_write_indented(p4, p8, n9);
+			uint8_t n18 = tp_formatter_Formatter_write_indented(p4, p8, n9);
 			if ((n18 & 1) != 0)
 				goto L1;
 		}
@@ -25428,7 +25428,7 @@ L3:
 				store64(p4 + 16, n24);
 			}
 		} else {
-			uint8_t n29 = tp_fmt_formatter_Formatter_write_indented(p4, p19, n20);
+			uint8_t n29 = tp_formatter_Formatter_write_indented(p4, p19, n20);
 			if ((n29 & 1) != 0)
 				goto L1;
 		}
@@ -25471,7 +25471,7 @@ L4:
 				p40 = p3 + 64;
 			}
 		} else {
-			uint8_t n41 = tp_fmt_formatter_Formatter_write_indented(p4, p30, n31);
+			uint8_t n41 = tp_formatter_Formatter_write_indented(p4, p30, n31);
 			if ((n41 & 1) != 0)
 				goto L1;
 			p40 = p3 + 64;
@@ -25519,7 +25519,7 @@ L5:
 					return 0;
 				}
 			}
-			uint8_t n53 = tp_fmt_formatter_Formatter_write_indented(p4, p43, n44);
+			uint8_t n53 = tp_formatter_Formatter_write_indented(p4, p43, n44);
 			memcpy(p5, p4, 24);
 			memcpy(p1, p5, 24);
 			if (n53 == 0)
@@ -25991,7 +25991,7 @@ L3:
 				store64(p3 + 16, n23);
 			}
 		} else {
-			uint8_t n27 = tp_fmt_formatter_Formatter_write_indented(p3, p19, n20);
+			uint8_t n27 = tp_formatter_Formatter_write_indented(p3, p19, n20);
 			if ((n27 & 1) != 0)
 				goto L1;
 		}
@@ -26036,7 +26036,7 @@ L4:
 				return 0;
 			}
 		}
-		uint8_t n38 = tp_fmt_formatter_Formatter_write_indented(p3, p28, n29);
+		uint8_t n38 = tp_formatter_Formatter_write_indented(p3, p28, n29);
 		memcpy(p4, p3, 24);
 		memcpy(p1, p4, 24);
 		if (n38 == 0)
@@ -27136,7 +27136,7 @@ L4:
 					store64(p9 + 16, n26);
 				}
 			} else {
-				uint8_t n30 = tp_fmt_formatter_Formatter_write_indented(p9, p3, n4);
+				uint8_t n30 = tp_formatter_Formatter_write_indented(p9, p3, n4);
 				if ((n30 & 1) != 0)
 					goto L2;
 			}
@@ -27175,7 +27175,7 @@ L5:
 					store64(p9 + 16, n34);
 				}
 			} else {
-				uint8_t n39 = tp_fmt_formatter_Formatter_write_indented(p9, (byte *)tp_static_132, 7);
+				uint8_t n39 = tp_formatter_Formatter_write_indented(p9, (byte *)tp_static_132, 7);
 				if ((n39 & 1) != 0)
 					goto L2;
 			}
@@ -27214,7 +27214,7 @@ L6:
 					store64(p9 + 16, n43);
 				}
 			} else {
-				uint8_t n48 = tp_fmt_formatter_Formatter_write_indented(p9, p5, n6);
+				uint8_t n48 = tp_formatter_Formatter_write_indented(p9, p5, n6);
 				if ((n48 & 1) != 0)
 					goto L2;
 			}
@@ -27253,7 +27253,7 @@ L7:
 					store64(p9 + 16, n52);
 				}
 			} else {
-				uint8_t n57 = tp_fmt_formatter_Formatter_write_indented(p9, (byte *)tp_static_164, 3);
+				uint8_t n57 = tp_formatter_Formatter_write_indented(p9, (byte *)tp_static_164, 3);
 				if ((n57 & 1) != 0)
 					goto L2;
 			}
@@ -27294,7 +27294,7 @@ L8:
 					memcpy(p11, p10, 24);
 				}
 			} else {
-				uint8_t n66 = tp_fmt_formatter_Formatter_write_indented(p9, p7, n8);
+				uint8_t n66 = tp_formatter_Formatter_write_indented(p9, p7, n8);
 				memcpy(p10, p9, 24);
 				memcpy(p11, p10, 24);
 				if (n66 != 0)
@@ -27370,7 +27370,7 @@ static uint8_t tp_fmt_formatter_Formatter_write_piece(byte *p1, byte *p2)
 	byte *p16 = at(p3, n15);
 	uint64_t n17 = 24 - n15;
 	if (load64(p1 + 48) != 0) {
-		uint8_t n26 = tp_fmt_formatter_Formatter_write_indented(p1, p16, n17);
+		uint8_t n26 = tp_formatter_Formatter_write_indented(p1, p16, n17);
 		return n26;
 	}
 	uint64_t n18 = load64(p1 + 16);
@@ -27512,7 +27512,7 @@ L4:
 					store64(p8 + 16, n29);
 				}
 			} else {
-				uint8_t n33 = tp_fmt_formatter_Formatter_write_indented(p8, p3, n4);
+				uint8_t n33 = tp_formatter_Formatter_write_indented(p8, p3, n4);
 				if ((n33 & 1) != 0)
 					goto L2;
 			}
@@ -27551,7 +27551,7 @@ L5:
 					store64(p8 + 16, n37);
 				}
 			} else {
-				uint8_t n42 = tp_fmt_formatter_Formatter_write_indented(p8, (byte *)tp_static_132, 7);
+				uint8_t n42 = tp_formatter_Formatter_write_indented(p8, (byte *)tp_static_132, 7);
 				if ((n42 & 1) != 0)
 					goto L2;
 			}
@@ -27590,7 +27590,7 @@ L6:
 					store64(p8 + 16, n46);
 				}
 			} else {
-				uint8_t n51 = tp_fmt_formatter_Formatter_write_indented(p8, p5, n6);
+				uint8_t n51 = tp_formatter_Formatter_write_indented(p8, p5, n6);
 				if ((n51 & 1) != 0)
 					goto L2;
 			}
@@ -27629,7 +27629,7 @@ L7:
 					store64(p8 + 16, n55);
 				}
 			} else {
-				uint8_t n60 = tp_fmt_formatter_Formatter_write_indented(p8, (byte *)tp_static_164, 3);
+				uint8_t n60 = tp_formatter_Formatter_write_indented(p8, (byte *)tp_static_164, 3);
 				if ((n60 & 1) != 0)
 					goto L2;
 			}
@@ -27670,7 +27670,7 @@ L8:
 					memcpy(p14, p9, 24);
 				}
 			} else {
-				uint8_t n69 = tp_fmt_formatter_Formatter_write_indented(p8, p11, n12);
+				uint8_t n69 = tp_formatter_Formatter_write_indented(p8, p11, n12);
 				memcpy(p9, p8, 24);
 				memcpy(p14, p9, 24);
 				if (n69 != 0)
@@ -28793,7 +28793,7 @@ L23:
 										store64(p13 + 16, n251);
 									}
 								} else {
-									uint8_t n255 = tp_fmt_formatter_Formatter_write_indented(p13, p4, n5);
+									uint8_t n255 = tp_formatter_Formatter_write_indented(p13, p4, n5);
 									if ((n255 & 1) != 0)
 										goto L21;
 								}
@@ -28832,7 +28832,7 @@ L24:
 										store64(p13 + 16, n259);
 									}
 								} else {
-									uint8_t n264 = tp_fmt_formatter_Formatter_write_indented(p13, (byte *)tp_static_132, 7);
+									uint8_t n264 = tp_formatter_Formatter_write_indented(p13, (byte *)tp_static_132, 7);
 									if ((n264 & 1) != 0)
 										goto L21;
 								}
@@ -28871,7 +28871,7 @@ L25:
 										store64(p13 + 16, n268);
 									}
 								} else {
-									uint8_t n273 = tp_fmt_formatter_Formatter_write_indented(p13, p225, n226);
+									uint8_t n273 = tp_formatter_Formatter_write_indented(p13, p225, n226);
 									if ((n273 & 1) != 0)
 										goto L21;
 								}
@@ -28910,7 +28910,7 @@ L26:
 										store64(p13 + 16, n277);
 									}
 								} else {
-									uint8_t n282 = tp_fmt_formatter_Formatter_write_indented(p13, (byte *)tp_static_164, 3);
+									uint8_t n282 = tp_formatter_Formatter_write_indented(p13, (byte *)tp_static_164, 3);
 									if ((n282 & 1) != 0)
 										goto L21;
 								}
@@ -28976,7 +28976,7 @@ L27:
 										memcpy(p15, p14, 24);
 									}
 								} else {
-									uint8_t n293 = tp_fmt_formatter_Formatter_write_indented(p13, p283, n284);
+									uint8_t n293 = tp_formatter_Formatter_write_indented(p13, p283, n284);
 									memcpy(p14, p13, 24);
 									memcpy(p15, p14, 24);
 									if (n293 != 0)
@@ -29078,7 +29078,7 @@ L32:
 								store64(p12 + 16, n302);
 							}
 						} else {
-							uint8_t n307 = tp_fmt_formatter_Formatter_write_indented(p12, (byte *)tp_static_159, 11);
+							uint8_t n307 = tp_formatter_Formatter_write_indented(p12, (byte *)tp_static_159, 11);
 							if ((n307 & 1) != 0)
 								goto L31;
 						}
@@ -29119,7 +29119,7 @@ L33:
 									store64(p12 + 16, n312);
 								}
 							} else {
-								uint8_t n317 = tp_fmt_formatter_Formatter_write_indented(p12, p296, n297);
+								uint8_t n317 = tp_formatter_Formatter_write_indented(p12, p296, n297);
 								if ((n317 & 1) != 0)
 									goto L31;
 							}
@@ -29221,7 +29221,7 @@ L36:
 								store64(p9 + 16, n328);
 							}
 						} else {
-							uint8_t n333 = tp_fmt_formatter_Formatter_write_indented(p9, (byte *)tp_static_159, 11);
+							uint8_t n333 = tp_formatter_Formatter_write_indented(p9, (byte *)tp_static_159, 11);
 							if ((n333 & 1) != 0)
 								goto L35;
 						}
@@ -29262,7 +29262,7 @@ L37:
 									store64(p9 + 16, n338);
 								}
 							} else {
-								uint8_t n343 = tp_fmt_formatter_Formatter_write_indented(p9, p322, n323);
+								uint8_t n343 = tp_formatter_Formatter_write_indented(p9, p322, n323);
 								if ((n343 & 1) != 0)
 									goto L35;
 							}
@@ -30473,7 +30473,7 @@ L5:
 							store64(p11 + 16, n50);
 						}
 					} else {
-						uint8_t n54 = tp_fmt_formatter_Formatter_write_indented(p11, (byte *)tp_static_76, 1);
+						uint8_t n54 = tp_formatter_Formatter_write_indented(p11, (byte *)tp_static_76, 1);
 						if ((n54 & 1) != 0)
 							goto L3;
 					}
@@ -30512,7 +30512,7 @@ L6:
 							store64(p11 + 16, n58);
 						}
 					} else {
-						uint8_t n63 = tp_fmt_formatter_Formatter_write_indented(p11, p37, n38);
+						uint8_t n63 = tp_formatter_Formatter_write_indented(p11, p37, n38);
 						if ((n63 & 1) != 0)
 							goto L3;
 					}
@@ -30551,7 +30551,7 @@ L7:
 							store64(p11 + 16, n67);
 						}
 					} else {
-						uint8_t n72 = tp_fmt_formatter_Formatter_write_indented(p11, (byte *)tp_static_93, 1);
+						uint8_t n72 = tp_formatter_Formatter_write_indented(p11, (byte *)tp_static_93, 1);
 						memcpy(p11 + 24, p10, 24);
 						if ((n72 & 1) != 0)
 							goto L8;
@@ -30660,7 +30660,7 @@ L12:
 							store64(p8 + 16, n86);
 						}
 					} else {
-						uint8_t n90 = tp_fmt_formatter_Formatter_write_indented(p8, (byte *)tp_static_76, 1);
+						uint8_t n90 = tp_formatter_Formatter_write_indented(p8, (byte *)tp_static_76, 1);
 						if ((n90 & 1) != 0)
 							goto L10;
 					}
@@ -30699,7 +30699,7 @@ L13:
 							store64(p8 + 16, n94);
 						}
 					} else {
-						uint8_t n99 = tp_fmt_formatter_Formatter_write_indented(p8, p37, n38);
+						uint8_t n99 = tp_formatter_Formatter_write_indented(p8, p37, n38);
 						if ((n99 & 1) != 0)
 							goto L10;
 					}
@@ -30738,7 +30738,7 @@ L14:
 							store64(p8 + 16, n103);
 						}
 					} else {
-						uint8_t n108 = tp_fmt_formatter_Formatter_write_indented(p8, (byte *)tp_static_93, 1);
+						uint8_t n108 = tp_formatter_Formatter_write_indented(p8, (byte *)tp_static_93, 1);
 						memcpy(p8 + 24, p7, 24);
 						if ((n108 & 1) != 0)
 							goto L15;
@@ -32891,7 +32891,7 @@ L3:
 				store64(p3 + 16, n32);
 			}
 		} else {
-			uint8_t n36 = tp_fmt_formatter_Formatter_write_indented(p3, p8, n9);
+			uint8_t n36 = tp_formatter_Formatter_write_indented(p3, p8, n9);
 			if ((n36 & 1) != 0)
 				goto L1;
 		}
@@ -32931,7 +32931,7 @@ L4:
 				store64(p3 + 16, n40);
 			}
 		} else {
-			uint8_t n45 = tp_fmt_formatter_Formatter_write_indented(p3, p10, n11);
+			uint8_t n45 = tp_formatter_Formatter_write_indented(p3, p10, n11);
 			if ((n45 & 1) != 0)
 				goto L1;
 		}
@@ -32971,7 +32971,7 @@ L5:
 				store64(p3 + 16, n49);
 			}
 		} else {
-			uint8_t n54 = tp_fmt_formatter_Formatter_write_indented(p3, p12, n13);
+			uint8_t n54 = tp_formatter_Formatter_write_indented(p3, p12, n13);
 			if ((n54 & 1) != 0)
 				goto L1;
 		}
@@ -33011,7 +33011,7 @@ L6:
 				store64(p3 + 16, n58);
 			}
 		} else {
-			uint8_t n63 = tp_fmt_formatter_Formatter_write_indented(p3, p14, n15);
+			uint8_t n63 = tp_formatter_Formatter_write_indented(p3, p14, n15);
 			if ((n63 & 1) != 0)
 				goto L1;
 		}
@@ -33051,7 +33051,7 @@ L7:
 				store64(p3 + 16, n67);
 			}
 		} else {
-			uint8_t n72 = tp_fmt_formatter_Formatter_write_indented(p3, p16, n17);
+			uint8_t n72 = tp_formatter_Formatter_write_indented(p3, p16, n17);
 			if ((n72 & 1) != 0)
 				goto L1;
 		}
@@ -33095,7 +33095,7 @@ L8:
 				return 0;
 			}
 		}
-		uint8_t n81 = tp_fmt_formatter_Formatter_write_indented(p3, p18, n19);
+		uint8_t n81 = tp_formatter_Formatter_write_indented(p3, p18, n19);
 		memcpy(p4, p3, 24);
 		memcpy(p5, p4, 24);
 		memcpy(p1, p5, 24);
@@ -37363,7 +37363,7 @@ L97:
 																			store64(p8 + 16, n916);
 																		}
 																	} else {
-																		uint8_t n920 = tp_fmt_formatter_Formatter_write_indented(p8, p912, n913);
+																		uint8_t n920 = tp_formatter_Formatter_write_indented(p8, p912, n913);
 																		if ((n920 & 1) != 0)
 																			goto L95;
 																	}
@@ -37404,7 +37404,7 @@ L98:
 																			memcpy(p10, p9, 24);
 																		}
 																	} else {
-																		uint8_t n929 = tp_fmt_formatter_Formatter_write_indented(p8, (byte *)tp_static_122, 1);
+																		uint8_t n929 = tp_formatter_Formatter_write_indented(p8, (byte *)tp_static_122, 1);
 																		memcpy(p9, p8, 24);
 																		memcpy(p10, p9, 24);
 																		if (n929 != 0)
@@ -49665,7 +49665,7 @@ static COLD uint8_t tp_Formatter_write_indented(byte *p1, byte *p2, uint64_t n3)
 }
 
 /* timer_commands::error_report::report: crates/timer_commands/src/error_report.rt */
-static void tp_timer_commands_error_report_report(uint8_t n1, uint64_t n2, byte *p3)
+static void tp_timer_commands_error_report_report_2(uint8_t n1, uint64_t n2, byte *p3)
 {
 	ALIGN(1) byte p4[24];
 	ALIGN(8) byte p5[144];
@@ -52724,7 +52724,7 @@ L14:
 		}
 L16:
 		{
-			tp_timer_commands_error_report_report(n204, n205, p4);
+			tp_timer_commands_error_report_report_2(n204, n205, p4);
 			return 1;
 		}
 	}
@@ -58430,7 +58430,7 @@ L14:
 		}
 L16:
 		{
-			tp_timer_commands_error_report_report(n232, n233, p4);
+			tp_timer_commands_error_report_report_2(n232, n233, p4);
 			return 1;
 		}
 	}
@@ -59965,7 +59965,7 @@ L52:
 }
 
 /* timer_commands::error_report::report: crates/timer_commands/src/error_report.rt */
-static void tp_timer_commands_error_report_report_2(uint8_t n1, byte *p2)
+static void tp_timer_commands_error_report_report(uint8_t n1, byte *p2)
 {
 	ALIGN(8) byte p3[144];
 	uint8_t n5;
@@ -64264,7 +64264,7 @@ L14:
 		}
 L16:
 		{
-			tp_timer_commands_error_report_report(n250, n251, p4);
+			tp_timer_commands_error_report_report_2(n250, n251, p4);
 			return 1;
 		}
 	}
@@ -70777,238 +70777,97 @@ L34:
 	}
 }
 
-/* std::io::traits::AdapterWrite::write_str */
-static uint8_t tp_traits_AdapterWrite_write_str(byte *p1, byte *p2, uint64_t n3)
+/* std::io::traits::Write::write_fmt */
+static void tp_Write_write_fmt(byte *p1, byte *p2, byte *p3)
 {
-	ALIGN(8) byte p4[88];
-	ALIGN(1) byte p5[41];
-	ALIGN(8) byte p6[88];
-	ALIGN(8) byte p7[88];
-	ALIGN(8) byte p8[88];
-	ALIGN(8) byte p9[80];
-	ALIGN(8) byte p10[80];
-	ALIGN(8) byte p11[80];
-	ALIGN(8) byte p12[80];
-	ALIGN(8) byte p13[80];
-	byte *p19;
-	uint64_t n21, n26, n27;
-	memset(p13, 0, 80);
-	if (n3 == 0)
-		return 0;
-	byte *p14 = loadptr(p1);
-	memset(p12, 0, 80);
-	memset(p9, 0, 80);
-	memset(p10, 0, 80);
-	memset(p11, 0, 80);
-	uint64_t n15 = UINT64_MAX;
-	uint64_t n16 = n3;
-	byte *p17 = p2;
-	for (;;) {
-		uint64_t n23;
-		byte *p24;
-		if (n15 == 0)
-			goto L1;
-		uint64_t n18 = n15 - 1;
-		if (n15 == 1)
-			tp_Error_from_bytes(p8, 22, (byte *)tp_static_232, 43, 43);
-		if (n16 == 0)
-			return 0;
-		p19 = loadptr(p14);
-		uint64_t n20 = os_write(2, p17, n16);
-		if ((int64_t)n20 < (int64_t)0) {
-			tp_error_last_error(p7);
-			n21 = load64u(p7);
-			memcpy(p9, p7 + 8, 80);
-			store8(p19, 1);
-			store8(p14 + 8, 1);
-			uint64_t n22 = n21 >> 8;
-			store8(p5, 0);
-			store8(p5 + 1, 1);
-			store8(p5 + 2, 2);
-			store8(p5 + 3, 3);
-			store8(p5 + 4, 4);
-			store8(p5 + 5, 5);
-			store8(p5 + 6, 6);
-			store8(p5 + 7, 7);
-			store8(p5 + 8, 8);
-			store8(p5 + 9, 9);
-			store8(p5 + 10, 10);
-			store8(p5 + 11, 11);
-			store8(p5 + 12, 12);
-			store8(p5 + 13, 13);
-			store8(p5 + 14, 14);
-			store8(p5 + 15, 15);
-			store8(p5 + 16, 16);
-			store8(p5 + 17, 17);
-			store8(p5 + 18, 18);
-			store8(p5 + 19, 19);
-			store8(p5 + 20, 20);
-			store8(p5 + 21, 21);
-			store8(p5 + 22, 22);
-			store8(p5 + 23, 23);
-			store8(p5 + 24, 24);
-			store8(p5 + 25, 25);
-			store8(p5 + 26, 26);
-			store8(p5 + 27, 27);
-			store8(p5 + 28, 28);
-			store8(p5 + 29, 29);
-			store8(p5 + 30, 30);
-			store8(p5 + 31, 31);
-			store8(p5 + 32, 32);
-			store8(p5 + 33, 33);
-			store8(p5 + 34, 34);
-			store8(p5 + 35, 35);
-			store8(p5 + 36, 36);
-			store8(p5 + 37, 37);
-			store8(p5 + 38, 38);
-			store8(p5 + 39, 39);
-			store8(p5 + 40, 40);
-			if ((uint8_t)n22 >= 41)
-				goto L2;
-			if (load8(inside(p5, n22 & 63)) != 35)
-				goto L2;
-			n23 = n16;
-			p24 = p17;
+	ALIGN(8) byte p4[64];
+	ALIGN(8) byte p5[64];
+	ALIGN(8) byte p8[144];
+	uint8_t n10, n21, n22, n23, n24, n25;
+	uint32_t n26;
+	uint64_t n27, n28;
+	byte *p6 = loadptru(p3 + 8);
+	uint64_t n7 = load64u(p3 + 16);
+	memset(p5, 0, 64);
+	store64u(p8, (uint64_t)(uintptr_t)p2);
+	memset(p8 + 8, 0, 96);
+	store32u(p8 + 104, 32);
+	memset(p8 + 108, 0, 12);
+	store64u(p8 + 120, UINT64_MAX);
+	memset(p8 + 128, 0, 16);
+	store32u(p8 + 104, 32);
+	memset(p8 + 108, 0, 12);
+	store64u(p8 + 120, UINT64_MAX);
+	store32u(p8 + 104, 32);
+	memset(p8 + 108, 0, 12);
+	store64u(p8 + 120, UINT64_MAX);
+	store32u(p8 + 104, 32);
+	memset(p8 + 108, 0, 12);
+	store64u(p8 + 120, UINT64_MAX);
+	uint8_t n9 = tp_AdapterWrite_write_str(p8, (byte *)tp_static_230, 12);
+	if ((n9 & 1) != 0) {
+		n10 = 1;
+	} else {
+		store32u(p8 + 104, 32);
+		memset(p8 + 108, 0, 12);
+		store64u(p8 + 120, UINT64_MAX);
+		if (load64(p8 + 128) == 0) {
+			uint8_t n11 = tp_AdapterWrite_write_str(p8, p6, n7);
+			n10 = n11;
 		} else {
-			if (n20 == 0)
-				break;
-			memset(p9, 0, 80);
-			uint64_t n25 = umin64(n20, n16);
-			n23 = n16 - n25;
-			p24 = at(p17, n25);
-		}
-		n15 = n18;
-		n16 = n23;
-		p17 = p24;
-	}
-	store8(p19, 1);
-	store8(p14 + 8, 1);
-	tp_Error_from_bytes(p6, 23, (byte *)tp_static_231, 28, 28);
-	n26 = load64(p6);
-	memcpy(p10, p6 + 8, 80);
-	memcpy(p12, p10, 80);
-	n27 = n26;
-	goto L3;
-L2:
-	{
-		memcpy(p12, p9, 80);
-		n27 = n21;
-		goto L3;
-	}
-L1:
-	{
-		tp_Error_from_bytes(p4, 22, (byte *)tp_static_232, 43, 43);
-		uint64_t n28 = load64(p4);
-		memcpy(p11, p4 + 8, 80);
-		memcpy(p12, p11, 80);
-		n27 = n28;
-	}
-L3:
-	{
-		memcpy(p13, p12, 80);
-		store64u(p1 + 8, 1);
-		store64u(p1 + 16, n27);
-		memcpy(p1 + 24, p13, 80);
-		return 1;
-	}
-}
-
-/* core::fmt::formatter::Formatter::write_raw */
-static uint8_t tp_formatter_Formatter_write_raw(byte *p1, byte *p2, uint64_t n3)
-{
-	uint64_t n4 = 0;
-	while (n4 < n3) {
-		uint64_t n7;
-		uint8_t n5 = load8(inside(p2, n4));
-		uint32_t n6 = (uint32_t)n5;
-		if ((int8_t)n5 > (int8_t)255) {
-			n7 = 1;
-		} else {
-			uint64_t n8 = n4 + 1;
-			if (n3 <= n8)
-				return 1;
-			uint8_t n9 = load8(inside(p2, n8));
-			if ((int8_t)n9 > (int8_t)255)
-				return 1;
-			uint8_t n10 = (uint8_t)(umin8(n9, 192) & 127);
-			uint32_t n11 = (uint32_t)n10;
-			if ((n5 < 194) || (n10 > 63))
-				return 1;
-			if (n5 < 224) {
-				n7 = 2;
-			} else {
-				uint64_t n12 = n4 + 2;
-				if (n3 <= n12)
-					return 1;
-				if ((int8_t)load8(inside(p2, n12)) >= (int8_t)192)
-					return 1;
-				if (n5 < 240) {
-					uint32_t n13 = ((n6 << 12) - 917504) | (n11 << 6);
-					if (n13 < 2048)
-						return 1;
-					if ((n13 > 55295) && (n5 < 238))
-						return 1;
-					n7 = 3;
-				} else {
-					if (n3 <= (n4 + 3))
-						return 1;
-					if ((int8_t)load8(p2 + 3) >= (int8_t)192)
-						return 1;
-					if (((((n6 << 18) - 62914560) | (n11 << 12)) - 65536) >= 1048576)
-						return 1;
-					n7 = 4;
-				}
-			}
-		}
-		n4 = n4 + n7;
-	}
-	uint8_t n14 = tp_traits_AdapterWrite_write_str(p1, p2, n3);
-	return n14;
-}
-
-/* core::fmt::formatter::Formatter::write_indented */
-static COLD void tp_formatter_Formatter_write_indented(byte *p1)
-{
-	uint64_t n2 = 0;
-	uint64_t n3 = 0;
-	while (n2 < 1) {
-		uint64_t n4 = 1 - n3;
-		byte *p5 = at((byte *)tp_static_93, false ? 0 : n3);
-		if (!((int)false | (int)(1 == n3))) {
-			if ((load8(p1 + 136) & 1) != 0) {
-				uint64_t n6 = load64(p1 + 128);
-				uint64_t n7 = 0;
-				while (n7 != n6) {
-					uint8_t n8 = tp_formatter_Formatter_write_raw(p1, (byte *)tp_static_80, 4);
-					if ((n8 & 1) != 0)
-						return;
-					n7 = n7 + 1;
-				}
-			}
-			store8(p1 + 136, 1);
-			uint8_t n9 = tp_formatter_Formatter_write_raw(p1, p5, n4);
-			if ((n9 & 1) != 0)
-				return;
-		}
-		n2 = 1;
-		n3 = 1;
-	}
-	uint64_t n10 = usub_sat64(1, n3);
-	byte *p11 = at((byte *)tp_static_93, false ? 0 : n3);
-	if (1 <= n3)
-		return;
-	if ((load8(p1 + 136) & 1) != 0) {
-		uint64_t n12 = load64(p1 + 128);
-		uint64_t n13 = 0;
-		while (n13 != n12) {
-			uint8_t n14 = tp_formatter_Formatter_write_raw(p1, (byte *)tp_static_80, 4);
-			if ((n14 & 1) != 0)
-				return;
-			n13 = n13 + 1;
+			uint8_t n12 = tp_Formatter_write_indented(p8, p6, n7);
+			n10 = n12;
 		}
 	}
-	store8(p1 + 136, 0);
-	(void)tp_formatter_Formatter_write_raw(p1, p11, n10);
+	uint8_t n13 = load8(p8 + 16);
+	uint8_t n14 = load8(p8 + 17);
+	uint8_t n15 = load8(p8 + 18);
+	uint8_t n16 = load8(p8 + 19);
+	uint32_t n17 = load32u(p8 + 20);
+	uint64_t n18 = load64u(p8 + 24);
+	uint64_t n19 = load64u(p8 + 32);
+	uint8_t n20 = (uint8_t)load64u(p8 + 8);
+	memset(p4, 0, 64);
+	if (n20 == 1) {
+		memcpy(p4, p8 + 40, 64);
+		n21 = 1;
+		n22 = n13;
+		n23 = n14;
+		n24 = n15;
+		n25 = n16;
+		n26 = n17;
+		n27 = n18;
+		n28 = n19;
+	} else if ((n10 & 1) != 0) {
+		memset(p4, 46, 64);
+		n21 = 1;
+		n22 = 2;
+		n23 = 41;
+		n24 = 15;
+		n25 = 0;
+		n26 = 0;
+		n27 = UINT64_C(7310596056926023526);
+		n28 = UINT64_C(3346860010425884786);
+	} else {
+		n21 = 0;
+		n22 = 0;
+		n23 = 0;
+		n24 = 0;
+		n25 = 0;
+		n26 = 0;
+		n27 = 0;
+		n28 = 0;
+	}
+	memcpy(p5, p4, 64);
+	store8(p1, n21);
+	store8(p1 + 8, n22);
+	store8(p1 + 9, n23);
+	store8(p1 + 10, n24);
+	store8(p1 + 11, n25);
+	store32u(p1 + 12, n26);
+	store64u(p1 + 16, n27);
+	store64u(p1 + 24, n28);
+	memcpy(p1 + 32, p5, 64);
 	return;
 }
 
@@ -71041,385 +70900,385 @@ static uint8_t tp_command_command(byte *p1, uint64_t n2, byte *p3, byte *p4)
 {
 	ALIGN(8) byte p5[1];
 	ALIGN(8) byte p6[144];
-	ALIGN(8) byte p7[144];
-	ALIGN(8) byte p8[144];
-	ALIGN(8) byte p9[88];
-	ALIGN(8) byte p10[24];
-	ALIGN(8) byte p11[64];
-	ALIGN(8) byte p12[144];
+	ALIGN(8) byte p7[8];
+	ALIGN(8) byte p8[96];
+	ALIGN(8) byte p9[24];
+	ALIGN(8) byte p10[88];
+	ALIGN(8) byte p11[24];
+	ALIGN(8) byte p12[64];
 	ALIGN(8) byte p13[144];
-	ALIGN(8) byte p14[88];
-	ALIGN(8) byte p15[72];
-	ALIGN(8) byte p16[16];
-	ALIGN(8) byte p17[24];
-	ALIGN(8) byte p18[16];
-	ALIGN(8) byte p19[32];
-	ALIGN(8) byte p20[88];
+	ALIGN(8) byte p14[144];
+	ALIGN(8) byte p15[88];
+	ALIGN(8) byte p16[72];
+	ALIGN(8) byte p17[16];
+	ALIGN(8) byte p18[24];
+	ALIGN(8) byte p19[16];
+	ALIGN(8) byte p20[32];
 	ALIGN(8) byte p21[88];
 	ALIGN(8) byte p22[88];
 	ALIGN(8) byte p23[88];
-	ALIGN(1) byte p24[40];
-	ALIGN(8) byte p25[88];
-	ALIGN(8) byte p26[144];
-	ALIGN(8) byte p27[88];
-	ALIGN(8) byte p28[64];
-	ALIGN(8) byte p29[16];
-	ALIGN(8) byte p30[16];
-	ALIGN(2) byte p31[6];
-	ALIGN(8) byte p32[24];
+	ALIGN(8) byte p24[88];
+	ALIGN(1) byte p25[40];
+	ALIGN(8) byte p26[88];
+	ALIGN(8) byte p27[8];
+	ALIGN(8) byte p28[96];
+	ALIGN(8) byte p29[24];
+	ALIGN(8) byte p30[88];
+	ALIGN(8) byte p31[64];
+	ALIGN(8) byte p32[16];
 	ALIGN(8) byte p33[16];
-	ALIGN(8) byte p34[24];
-	ALIGN(8) byte p35[80];
-	ALIGN(8) byte p36[24];
-	ALIGN(8) byte p37[512];
-	ALIGN(8) byte p38[520];
+	ALIGN(2) byte p34[6];
+	ALIGN(8) byte p35[24];
+	ALIGN(8) byte p36[16];
+	ALIGN(8) byte p37[24];
+	ALIGN(8) byte p38[80];
 	ALIGN(8) byte p39[24];
-	ALIGN(8) byte p40[16];
-	ALIGN(8) byte p41[24];
-	ALIGN(8) byte p42[80];
-	ALIGN(8) byte p43[24];
-	ALIGN(8) byte p44[512];
-	ALIGN(8) byte p45[520];
-	ALIGN(8) byte p46[512];
-	ALIGN(8) byte p47[272];
-	ALIGN(2) byte p48[24];
-	ALIGN(2) byte p49[16];
-	ALIGN(2) byte p50[24];
-	ALIGN(2) byte p51[80];
-	ALIGN(2) byte p52[24];
-	ALIGN(8) byte p53[32];
-	ALIGN(8) byte p54[24];
-	ALIGN(8) byte p55[16];
-	ALIGN(8) byte p56[24];
-	ALIGN(8) byte p57[80];
-	ALIGN(8) byte p58[24];
-	ALIGN(8) byte p59[512];
-	ALIGN(8) byte p60[520];
+	ALIGN(8) byte p40[512];
+	ALIGN(8) byte p41[520];
+	ALIGN(8) byte p42[24];
+	ALIGN(8) byte p43[16];
+	ALIGN(8) byte p44[24];
+	ALIGN(8) byte p45[80];
+	ALIGN(8) byte p46[24];
+	ALIGN(8) byte p47[512];
+	ALIGN(8) byte p48[520];
+	ALIGN(8) byte p49[512];
+	ALIGN(8) byte p50[272];
+	ALIGN(2) byte p51[24];
+	ALIGN(2) byte p52[16];
+	ALIGN(2) byte p53[24];
+	ALIGN(2) byte p54[80];
+	ALIGN(2) byte p55[24];
+	ALIGN(8) byte p56[32];
+	ALIGN(8) byte p57[24];
+	ALIGN(8) byte p58[16];
+	ALIGN(8) byte p59[24];
+	ALIGN(8) byte p60[80];
 	ALIGN(8) byte p61[24];
-	ALIGN(8) byte p62[16];
-	ALIGN(8) byte p63[24];
-	ALIGN(8) byte p64[80];
-	ALIGN(8) byte p65[24];
-	ALIGN(8) byte p66[512];
-	ALIGN(8) byte p67[520];
+	ALIGN(8) byte p62[512];
+	ALIGN(8) byte p63[520];
+	ALIGN(8) byte p64[24];
+	ALIGN(8) byte p65[16];
+	ALIGN(8) byte p66[24];
+	ALIGN(8) byte p67[80];
 	ALIGN(8) byte p68[24];
-	ALIGN(8) byte p69[16];
-	ALIGN(8) byte p70[24];
-	ALIGN(8) byte p71[80];
-	ALIGN(8) byte p72[24];
-	ALIGN(8) byte p73[512];
-	ALIGN(8) byte p74[520];
+	ALIGN(8) byte p69[512];
+	ALIGN(8) byte p70[520];
+	ALIGN(8) byte p71[24];
+	ALIGN(8) byte p72[16];
+	ALIGN(8) byte p73[24];
+	ALIGN(8) byte p74[80];
 	ALIGN(8) byte p75[24];
-	ALIGN(8) byte p76[16];
-	ALIGN(8) byte p77[24];
-	ALIGN(8) byte p78[80];
-	ALIGN(8) byte p79[24];
-	ALIGN(8) byte p80[512];
-	ALIGN(8) byte p81[520];
+	ALIGN(8) byte p76[512];
+	ALIGN(8) byte p77[520];
+	ALIGN(8) byte p78[24];
+	ALIGN(8) byte p79[16];
+	ALIGN(8) byte p80[24];
+	ALIGN(8) byte p81[80];
 	ALIGN(8) byte p82[24];
-	ALIGN(8) byte p83[48];
-	ALIGN(8) byte p84[1352];
+	ALIGN(8) byte p83[512];
+	ALIGN(8) byte p84[520];
 	ALIGN(8) byte p85[24];
 	ALIGN(8) byte p86[48];
-	ALIGN(8) byte p87[144];
-	ALIGN(1) byte p88[7];
-	ALIGN(8) byte p89[16];
-	ALIGN(1) byte p90[24];
-	ALIGN(8) byte p91[144];
-	ALIGN(8) byte p92[512];
-	ALIGN(1) byte p93[3];
-	ALIGN(8) byte p94[1352];
-	ALIGN(8) byte p95[512];
-	ALIGN(1) byte p96[3];
-	ALIGN(8) byte p97[1352];
-	ALIGN(8) byte p98[512];
-	ALIGN(1) byte p99[3];
-	ALIGN(8) byte p100[1216];
-	ALIGN(8) byte p101[128];
-	ALIGN(8) byte p102[512];
-	ALIGN(1) byte p103[3];
-	ALIGN(8) byte p104[1144];
-	ALIGN(2) byte p105[126];
-	ALIGN(8) byte p106[272];
+	ALIGN(8) byte p87[1352];
+	ALIGN(8) byte p88[24];
+	ALIGN(8) byte p89[48];
+	ALIGN(8) byte p90[88];
+	ALIGN(1) byte p91[24];
+	ALIGN(8) byte p92[144];
+	ALIGN(8) byte p93[512];
+	ALIGN(1) byte p94[3];
+	ALIGN(8) byte p95[1352];
+	ALIGN(8) byte p96[512];
+	ALIGN(1) byte p97[3];
+	ALIGN(8) byte p98[1352];
+	ALIGN(8) byte p99[512];
+	ALIGN(1) byte p100[3];
+	ALIGN(8) byte p101[1216];
+	ALIGN(8) byte p102[128];
+	ALIGN(8) byte p103[512];
+	ALIGN(1) byte p104[3];
+	ALIGN(8) byte p105[1144];
+	ALIGN(2) byte p106[126];
 	ALIGN(8) byte p107[272];
-	ALIGN(8) byte p108[56];
-	ALIGN(8) byte p109[40];
-	ALIGN(8) byte p110[56];
-	ALIGN(8) byte p111[40];
-	ALIGN(8) byte p112[56];
-	ALIGN(8) byte p113[40];
-	ALIGN(8) byte p114[672];
-	ALIGN(8) byte p115[608];
-	ALIGN(8) byte p116[24];
-	ALIGN(8) byte p117[48];
-	ALIGN(8) byte p118[672];
-	ALIGN(8) byte p119[680];
-	ALIGN(8) byte p120[56];
-	ALIGN(8) byte p121[48];
-	ALIGN(8) byte p122[56];
-	ALIGN(8) byte p123[40];
-	ALIGN(8) byte p124[56];
-	ALIGN(8) byte p125[40];
-	ALIGN(8) byte p126[56];
-	ALIGN(8) byte p127[40];
-	ALIGN(8) byte p128[672];
-	ALIGN(8) byte p129[608];
-	ALIGN(8) byte p130[24];
-	ALIGN(8) byte p131[48];
-	ALIGN(8) byte p132[672];
-	ALIGN(8) byte p133[680];
-	ALIGN(8) byte p134[56];
-	ALIGN(8) byte p135[48];
+	ALIGN(8) byte p108[272];
+	ALIGN(8) byte p109[56];
+	ALIGN(8) byte p110[40];
+	ALIGN(8) byte p111[56];
+	ALIGN(8) byte p112[40];
+	ALIGN(8) byte p113[56];
+	ALIGN(8) byte p114[40];
+	ALIGN(8) byte p115[672];
+	ALIGN(8) byte p116[608];
+	ALIGN(8) byte p117[24];
+	ALIGN(8) byte p118[48];
+	ALIGN(8) byte p119[672];
+	ALIGN(8) byte p120[680];
+	ALIGN(8) byte p121[56];
+	ALIGN(8) byte p122[48];
+	ALIGN(8) byte p123[56];
+	ALIGN(8) byte p124[40];
+	ALIGN(8) byte p125[56];
+	ALIGN(8) byte p126[40];
+	ALIGN(8) byte p127[56];
+	ALIGN(8) byte p128[40];
+	ALIGN(8) byte p129[672];
+	ALIGN(8) byte p130[608];
+	ALIGN(8) byte p131[24];
+	ALIGN(8) byte p132[48];
+	ALIGN(8) byte p133[672];
+	ALIGN(8) byte p134[680];
+	ALIGN(8) byte p135[56];
 	ALIGN(8) byte p136[48];
-	uint8_t n235, n236, n237, n238, n239, n399;
-	uint64_t n240, n241, n242, n243, n244;
-	memset(p136, 0, 48);
+	ALIGN(8) byte p137[48];
+	uint8_t n236, n237, n238, n239, n240, n399;
+	uint64_t n241, n242, n243, n244, n245;
+	memset(p137, 0, 48);
 	if (n2 != 0) {
-		uint8_t n202, n203, n204, n205, n206;
-		uint64_t n207, n208, n209, n210, n211;
-		byte *p137 = loadptr(p1);
-		uint64_t n138 = load64(p1 + 8);
-		memset(p133, 0, 680);
-		memset(p134, 0, 56);
-		memset(p135, 0, 48);
-		tp_arguments_program(p133);
-		if (load8(p133) == 0) {
-			uint64_t n148, n149, n150, n151, n152;
-			uint8_t n153, n154;
-			memcpy(p132, p133 + 8, 672);
-			memset(p131, 0, 48);
-			storeptru(p130, p5);
-			memset(p130 + 8, 0, 16);
-			uint64_t n139 = 0;
+		uint8_t n203, n204, n205, n206, n207;
+		uint64_t n208, n209, n210, n211, n212;
+		byte *p138 = loadptr(p1);
+		uint64_t n139 = load64(p1 + 8);
+		memset(p134, 0, 680);
+		memset(p135, 0, 56);
+		memset(p136, 0, 48);
+		tp_arguments_program(p134);
+		if (load8(p134) == 0) {
+			uint64_t n149, n150, n151, n152, n153;
+			uint8_t n154, n155;
+			memcpy(p133, p134 + 8, 672);
+			memset(p132, 0, 48);
+			storeptru(p131, p5);
+			memset(p131 + 8, 0, 16);
 			uint64_t n140 = 0;
+			uint64_t n141 = 0;
 			for (;;) {
-				uint64_t n145;
-				if (n140 == n2)
+				uint64_t n146;
+				if (n141 == n2)
 					goto L1;
-				byte *p141 = at(p1, n140 * 24);
-				byte *p142 = loadptr(p141);
-				uint64_t n143 = load64(p141 + 8);
-				if (load64(p130 + 16) == n139) {
-					bool b144 = tp_std_alloc_vec_Vec_grow_amortized_10(p130, 1);
-					if (!b144)
+				byte *p142 = at(p1, n141 * 24);
+				byte *p143 = loadptr(p142);
+				uint64_t n144 = load64(p142 + 8);
+				if (load64(p131 + 16) == n140) {
+					bool b145 = tp_std_alloc_vec_Vec_grow_amortized_10(p131, 1);
+					if (!b145)
 						break;
-					n145 = load64(p130 + 8);
+					n146 = load64(p131 + 8);
 				} else {
-					n145 = n139;
+					n146 = n140;
 				}
-				byte *p146 = inside(loadptr(p130), n145 << 4);
-				storeptru(p146, p142);
-				store64u(p146 + 8, n143);
-				uint64_t n147 = n145 + 1;
-				store64(p130 + 8, n147);
-				n139 = n147;
-				n140 = n140 + 1;
+				byte *p147 = inside(loadptr(p131), n146 << 4);
+				storeptru(p147, p143);
+				store64u(p147 + 8, n144);
+				uint64_t n148 = n146 + 1;
+				store64(p131 + 8, n148);
+				n140 = n148;
+				n141 = n141 + 1;
 			}
-			if (load64u(p130 + 16) != 0)
-				rattle_dealloc(loadptru(p130));
-			n148 = 0;
+			if (load64u(p131 + 16) != 0)
+				rattle_dealloc(loadptru(p131));
 			n149 = 0;
 			n150 = 0;
 			n151 = 0;
 			n152 = 0;
-			n153 = 16;
-			n154 = 1;
+			n153 = 0;
+			n154 = 16;
+			n155 = 1;
 			goto L2;
 L1:
 			{
-				byte *p155 = loadptr(p130);
-				bool b156 = load64(p130 + 16) == 0;
-				of_i8_i64 s157 = tp_Command_note_bin_name(p132, p155, n139);
-				if (s157.f0 == 0) {
-					if ((load8(p132 + 669) & 1) == 0) {
-						uint64_t n158 = tp_Command_depth(p132);
-						uint8_t n159 = tp_building_build_levels(uadd_sat64(n158, 2), p132);
-						store8(p132 + 669, n159);
-						if ((n159 & 1) == 0) {
-							uint64_t n160 = tp_Command_depth(p132);
-							uint8_t n161 = tp_building_name_levels(n160, p132);
-							if ((n161 & 1) == 0) {
-								tp_parse_parse_words(p131, p132, p155, n139, s157.f1);
-								if (!b156)
-									rattle_dealloc(p155);
-								n148 = load56u(p131 + 9) << 8;
-								n149 = load64(p131 + 40);
-								n150 = load64(p131 + 32);
-								n151 = load64(p131 + 24);
-								n152 = load64(p131 + 16);
-								n153 = load8(p131 + 8);
-								n154 = load8(p131);
+				byte *p156 = loadptr(p131);
+				bool b157 = load64(p131 + 16) == 0;
+				of_i8_i64 s158 = tp_Command_note_bin_name(p133, p156, n140);
+				if (s158.f0 == 0) {
+					if ((load8(p133 + 669) & 1) == 0) {
+						uint64_t n159 = tp_Command_depth(p133);
+						uint8_t n160 = tp_building_build_levels(uadd_sat64(n159, 2), p133);
+						store8(p133 + 669, n160);
+						if ((n160 & 1) == 0) {
+							uint64_t n161 = tp_Command_depth(p133);
+							uint8_t n162 = tp_building_name_levels(n161, p133);
+							if ((n162 & 1) == 0) {
+								tp_parse_parse_words(p132, p133, p156, n140, s158.f1);
+								if (!b157)
+									rattle_dealloc(p156);
+								n149 = load56u(p132 + 9) << 8;
+								n150 = load64(p132 + 40);
+								n151 = load64(p132 + 32);
+								n152 = load64(p132 + 24);
+								n153 = load64(p132 + 16);
+								n154 = load8(p132 + 8);
+								n155 = load8(p132);
 								goto L2;
 							}
 						}
 					}
-					if (b156) {
-						n148 = 0;
+					if (b157) {
 						n149 = 0;
 						n150 = 0;
 						n151 = 0;
 						n152 = 0;
-						n153 = 16;
-						n154 = 1;
+						n153 = 0;
+						n154 = 16;
+						n155 = 1;
 					} else {
-						rattle_dealloc(p155);
-						n148 = 0;
+						rattle_dealloc(p156);
 						n149 = 0;
 						n150 = 0;
 						n151 = 0;
 						n152 = 0;
-						n153 = 16;
-						n154 = 1;
+						n153 = 0;
+						n154 = 16;
+						n155 = 1;
 					}
-				} else if (b156) {
-					n148 = 0;
+				} else if (b157) {
 					n149 = 0;
 					n150 = 0;
 					n151 = 0;
 					n152 = 0;
-					n153 = 16;
-					n154 = 1;
+					n153 = 0;
+					n154 = 16;
+					n155 = 1;
 				} else {
-					rattle_dealloc(p155);
-					n148 = 0;
+					rattle_dealloc(p156);
 					n149 = 0;
 					n150 = 0;
 					n151 = 0;
 					n152 = 0;
-					n153 = 16;
-					n154 = 1;
+					n153 = 0;
+					n154 = 16;
+					n155 = 1;
 				}
 			}
 L2:
 			{
-				uint64_t n168;
-				byte *p162 = loadptru(p132 + 56);
-				if (load8(p132 + 48) == 1) {
-					if (load64u(p132 + 72) != 0)
-						rattle_dealloc(p162);
-				}
-				byte *p163 = loadptru(p132 + 88);
-				if (load8(p132 + 80) == 1) {
-					if (load64u(p132 + 104) != 0)
+				uint64_t n169;
+				byte *p163 = loadptru(p133 + 56);
+				if (load8(p133 + 48) == 1) {
+					if (load64u(p133 + 72) != 0)
 						rattle_dealloc(p163);
 				}
-				byte *p164 = loadptru(p132 + 120);
-				if (load8(p132 + 112) == 1) {
-					if (load64u(p132 + 136) != 0)
+				byte *p164 = loadptru(p133 + 88);
+				if (load8(p133 + 80) == 1) {
+					if (load64u(p133 + 104) != 0)
 						rattle_dealloc(p164);
 				}
-				if (load64u(p132 + 376) != 0)
-					rattle_dealloc(loadptru(p132 + 360));
-				if (load64u(p132 + 400) != 0)
-					rattle_dealloc(loadptru(p132 + 384));
-				if (load64u(p132 + 424) != 0)
-					rattle_dealloc(loadptru(p132 + 408));
-				byte *p165 = loadptru(p132 + 576);
-				uint64_t n166 = load64u(p132 + 584);
-				uint64_t n167 = load64u(p132 + 592);
-				if (n166 == 0)
+				byte *p165 = loadptru(p133 + 120);
+				if (load8(p133 + 112) == 1) {
+					if (load64u(p133 + 136) != 0)
+						rattle_dealloc(p165);
+				}
+				if (load64u(p133 + 376) != 0)
+					rattle_dealloc(loadptru(p133 + 360));
+				if (load64u(p133 + 400) != 0)
+					rattle_dealloc(loadptru(p133 + 384));
+				if (load64u(p133 + 424) != 0)
+					rattle_dealloc(loadptru(p133 + 408));
+				byte *p166 = loadptru(p133 + 576);
+				uint64_t n167 = load64u(p133 + 584);
+				uint64_t n168 = load64u(p133 + 592);
+				if (n167 == 0)
 					goto L3;
-				n168 = 0;
-				while (n168 != n166) {
-					memcpy(p129, inside(p165, n168 * 608), 608);
-					tp_clap_builder_arg_Arg_Destruct_drop(p129);
-					n168 = n168 + 1;
+				n169 = 0;
+				while (n169 != n167) {
+					memcpy(p130, inside(p166, n169 * 608), 608);
+					tp_clap_builder_arg_Arg_Destruct_drop(p130);
+					n169 = n169 + 1;
 				}
 L3:
 				{
-					uint64_t n172;
-					if (n167 != 0)
-						rattle_dealloc(p165);
-					byte *p169 = loadptru(p132 + 600);
-					uint64_t n170 = load64u(p132 + 608);
-					uint64_t n171 = load64u(p132 + 616);
-					if (n170 == 0)
+					uint64_t n173;
+					if (n168 != 0)
+						rattle_dealloc(p166);
+					byte *p170 = loadptru(p133 + 600);
+					uint64_t n171 = load64u(p133 + 608);
+					uint64_t n172 = load64u(p133 + 616);
+					if (n171 == 0)
 						goto L4;
-					n172 = 0;
-					while (n172 != n170) {
-						memcpy(p128, inside(p169, n172 * 672), 672);
-						tp_clap_builder_command_Command_Destruct_drop(p128);
-						n172 = n172 + 1;
+					n173 = 0;
+					while (n173 != n171) {
+						memcpy(p129, inside(p170, n173 * 672), 672);
+						tp_clap_builder_command_Command_Destruct_drop(p129);
+						n173 = n173 + 1;
 					}
 L4:
 					{
-						uint64_t n176;
-						if (n171 != 0)
-							rattle_dealloc(p169);
-						byte *p173 = loadptru(p132 + 624);
-						uint64_t n174 = load64u(p132 + 632);
-						uint64_t n175 = load64u(p132 + 640);
-						if (n174 == 0)
+						uint64_t n177;
+						if (n172 != 0)
+							rattle_dealloc(p170);
+						byte *p174 = loadptru(p133 + 624);
+						uint64_t n175 = load64u(p133 + 632);
+						uint64_t n176 = load64u(p133 + 640);
+						if (n175 == 0)
 							goto L5;
-						n176 = 0;
-						while (n176 != n174) {
-							byte *p177 = inside(p173, n176 * 104);
-							byte *p178 = loadptru(p177 + 48);
-							uint64_t n179 = load64u(p177 + 64);
-							byte *p180 = loadptru(p177 + 72);
-							uint64_t n181 = load64u(p177 + 88);
-							if (load64u(p177 + 32) != 0)
-								rattle_dealloc(loadptru(p177 + 16));
-							if (n179 != 0)
-								rattle_dealloc(p178);
-							if (n181 != 0)
-								rattle_dealloc(p180);
-							n176 = n176 + 1;
+						n177 = 0;
+						while (n177 != n175) {
+							byte *p178 = inside(p174, n177 * 104);
+							byte *p179 = loadptru(p178 + 48);
+							uint64_t n180 = load64u(p178 + 64);
+							byte *p181 = loadptru(p178 + 72);
+							uint64_t n182 = load64u(p178 + 88);
+							if (load64u(p178 + 32) != 0)
+								rattle_dealloc(loadptru(p178 + 16));
+							if (n180 != 0)
+								rattle_dealloc(p179);
+							if (n182 != 0)
+								rattle_dealloc(p181);
+							n177 = n177 + 1;
 						}
 L5:
 						{
-							if (n175 != 0)
-								rattle_dealloc(p173);
-							if (n154 == 0) {
-								uint8_t n182 = (uint8_t)n150;
-								byte *p183 = (byte *)(uintptr_t)(n148 | (uint64_t)n153);
-								if (n182 == 1) {
-									byte *p184 = (byte *)(uintptr_t)n149;
-									tp_arguments_subcommand_of(p134, p137, n138, p184 + 16);
-									if (load8(p134) == 1) {
-										uint64_t n194;
-										uint8_t n185 = load8(p134 + 8);
-										uint8_t n186 = load8(p134 + 9);
-										uint8_t n187 = load8(p134 + 10);
-										uint8_t n188 = load8(p134 + 11);
-										uint64_t n189 = load64u(p134 + 16);
-										uint64_t n190 = load64u(p134 + 24);
-										uint64_t n191 = load64u(p134 + 32);
-										uint64_t n192 = load64u(p134 + 40);
-										uint64_t n193 = load64u(p134 + 48);
-										if (n152 == 0)
+							if (n176 != 0)
+								rattle_dealloc(p174);
+							if (n155 == 0) {
+								uint8_t n183 = (uint8_t)n151;
+								byte *p184 = (byte *)(uintptr_t)(n149 | (uint64_t)n154);
+								if (n183 == 1) {
+									byte *p185 = (byte *)(uintptr_t)n150;
+									tp_arguments_subcommand_of(p135, p138, n139, p185 + 16);
+									if (load8(p135) == 1) {
+										uint64_t n195;
+										uint8_t n186 = load8(p135 + 8);
+										uint8_t n187 = load8(p135 + 9);
+										uint8_t n188 = load8(p135 + 10);
+										uint8_t n189 = load8(p135 + 11);
+										uint64_t n190 = load64u(p135 + 16);
+										uint64_t n191 = load64u(p135 + 24);
+										uint64_t n192 = load64u(p135 + 32);
+										uint64_t n193 = load64u(p135 + 40);
+										uint64_t n194 = load64u(p135 + 48);
+										if (n153 == 0)
 											goto L6;
-										n194 = 0;
-										while (n194 != n152) {
-											byte *p195 = inside(p183, n194 * 104);
-											byte *p196 = loadptru(p195 + 48);
-											uint64_t n197 = load64u(p195 + 64);
-											byte *p198 = loadptru(p195 + 72);
-											uint64_t n199 = load64u(p195 + 88);
-											if (load64u(p195 + 40) != 0)
-												rattle_dealloc(loadptru(p195 + 24));
-											if (n197 != 0)
-												rattle_dealloc(p196);
-											if (n199 != 0)
-												rattle_dealloc(p198);
-											n194 = n194 + 1;
+										n195 = 0;
+										while (n195 != n153) {
+											byte *p196 = inside(p184, n195 * 104);
+											byte *p197 = loadptru(p196 + 48);
+											uint64_t n198 = load64u(p196 + 64);
+											byte *p199 = loadptru(p196 + 72);
+											uint64_t n200 = load64u(p196 + 88);
+											if (load64u(p196 + 40) != 0)
+												rattle_dealloc(loadptru(p196 + 24));
+											if (n198 != 0)
+												rattle_dealloc(p197);
+											if (n200 != 0)
+												rattle_dealloc(p199);
+											n195 = n195 + 1;
 										}
 L6:
 										{
-											if (n151 != 0)
-												rattle_dealloc(p183);
-											uint64_t n200 = (uint64_t)load8(p184 + 40);
-											uint64_t n201 = load64u(p184 + 48);
-											memcpy(p127, p184, 16);
-											memcpy(p127 + 16, p184 + 16, 24);
-											rattle_dealloc(p184);
-											memcpy(p126, p127, 16);
-											memcpy(p126 + 16, p127 + 16, 24);
-											store64u(p126 + 40, n200);
-											store64u(p126 + 48, n201);
-											tp_clap_parser_matches_SubCommand_Destruct_drop(p126);
-											n202 = 0;
-											n203 = n185;
+											if (n152 != 0)
+												rattle_dealloc(p184);
+											uint64_t n201 = (uint64_t)load8(p185 + 40);
+											uint64_t n202 = load64u(p185 + 48);
+											memcpy(p128, p185, 16);
+											memcpy(p128 + 16, p185 + 16, 24);
+											rattle_dealloc(p185);
+											memcpy(p127, p128, 16);
+											memcpy(p127 + 16, p128 + 16, 24);
+											store64u(p127 + 40, n201);
+											store64u(p127 + 48, n202);
+											tp_clap_parser_matches_SubCommand_Destruct_drop(p127);
+											n203 = 0;
 											n204 = n186;
 											n205 = n187;
 											n206 = n188;
@@ -71428,112 +71287,112 @@ L6:
 											n209 = n191;
 											n210 = n192;
 											n211 = n193;
+											n212 = n194;
 											goto L7;
 										}
 									}
 								}
-								tp_arguments_refusal(p135);
-								if (load8(p135) == 0) {
-									uint64_t n217;
-									uint8_t n212 = load8(p135 + 8);
-									uint64_t n213 = load64u(p135 + 24);
-									uint64_t n214 = load64u(p135 + 32);
-									uint64_t n215 = load64u(p135 + 40);
-									uint64_t n216 = (uint64_t)load8(p135 + 16);
-									if (n152 == 0)
+								tp_arguments_refusal(p136);
+								if (load8(p136) == 0) {
+									uint64_t n218;
+									uint8_t n213 = load8(p136 + 8);
+									uint64_t n214 = load64u(p136 + 24);
+									uint64_t n215 = load64u(p136 + 32);
+									uint64_t n216 = load64u(p136 + 40);
+									uint64_t n217 = (uint64_t)load8(p136 + 16);
+									if (n153 == 0)
 										goto L8;
-									n217 = 0;
-									while (n217 != n152) {
-										byte *p218 = inside(p183, n217 * 104);
-										byte *p219 = loadptru(p218 + 48);
-										uint64_t n220 = load64u(p218 + 64);
-										byte *p221 = loadptru(p218 + 72);
-										uint64_t n222 = load64u(p218 + 88);
-										if (load64u(p218 + 40) != 0)
-											rattle_dealloc(loadptru(p218 + 24));
-										if (n220 != 0)
-											rattle_dealloc(p219);
-										if (n222 != 0)
-											rattle_dealloc(p221);
-										n217 = n217 + 1;
+									n218 = 0;
+									while (n218 != n153) {
+										byte *p219 = inside(p184, n218 * 104);
+										byte *p220 = loadptru(p219 + 48);
+										uint64_t n221 = load64u(p219 + 64);
+										byte *p222 = loadptru(p219 + 72);
+										uint64_t n223 = load64u(p219 + 88);
+										if (load64u(p219 + 40) != 0)
+											rattle_dealloc(loadptru(p219 + 24));
+										if (n221 != 0)
+											rattle_dealloc(p220);
+										if (n223 != 0)
+											rattle_dealloc(p222);
+										n218 = n218 + 1;
 									}
 L8:
 									{
-										if (n151 != 0)
-											rattle_dealloc(p183);
-										if (n182 == 1) {
-											byte *p223 = (byte *)(uintptr_t)n149;
-											uint64_t n224 = (uint64_t)load8(p223 + 40);
-											uint64_t n225 = load64u(p223 + 48);
-											memcpy(p123, p223, 16);
-											memcpy(p123 + 16, p223 + 16, 24);
-											rattle_dealloc(p223);
-											memcpy(p122, p123, 16);
-											memcpy(p122 + 16, p123 + 16, 24);
-											store64u(p122 + 40, n224);
-											store64u(p122 + 48, n225);
-											tp_clap_parser_matches_SubCommand_Destruct_drop(p122);
-											n202 = 1;
-											n203 = n212;
-											n204 = 0;
+										if (n152 != 0)
+											rattle_dealloc(p184);
+										if (n183 == 1) {
+											byte *p224 = (byte *)(uintptr_t)n150;
+											uint64_t n225 = (uint64_t)load8(p224 + 40);
+											uint64_t n226 = load64u(p224 + 48);
+											memcpy(p124, p224, 16);
+											memcpy(p124 + 16, p224 + 16, 24);
+											rattle_dealloc(p224);
+											memcpy(p123, p124, 16);
+											memcpy(p123 + 16, p124 + 16, 24);
+											store64u(p123 + 40, n225);
+											store64u(p123 + 48, n226);
+											tp_clap_parser_matches_SubCommand_Destruct_drop(p123);
+											n203 = 1;
+											n204 = n213;
 											n205 = 0;
 											n206 = 0;
-											n207 = n216;
-											n208 = n213;
+											n207 = 0;
+											n208 = n217;
 											n209 = n214;
 											n210 = n215;
-											n211 = 0;
+											n211 = n216;
+											n212 = 0;
 										} else {
-											n202 = 1;
-											n203 = n212;
-											n204 = 0;
+											n203 = 1;
+											n204 = n213;
 											n205 = 0;
 											n206 = 0;
-											n207 = n216;
-											n208 = n213;
+											n207 = 0;
+											n208 = n217;
 											n209 = n214;
 											n210 = n215;
-											n211 = 0;
+											n211 = n216;
+											n212 = 0;
 										}
 									}
 								} else {
-									uint64_t n226;
-									if (n152 == 0)
+									uint64_t n227;
+									if (n153 == 0)
 										goto L9;
-									n226 = 0;
-									while (n226 != n152) {
-										byte *p227 = inside(p183, n226 * 104);
-										byte *p228 = loadptru(p227 + 48);
-										uint64_t n229 = load64u(p227 + 64);
-										byte *p230 = loadptru(p227 + 72);
-										uint64_t n231 = load64u(p227 + 88);
-										if (load64u(p227 + 40) != 0)
-											rattle_dealloc(loadptru(p227 + 24));
-										if (n229 != 0)
-											rattle_dealloc(p228);
-										if (n231 != 0)
-											rattle_dealloc(p230);
-										n226 = n226 + 1;
+									n227 = 0;
+									while (n227 != n153) {
+										byte *p228 = inside(p184, n227 * 104);
+										byte *p229 = loadptru(p228 + 48);
+										uint64_t n230 = load64u(p228 + 64);
+										byte *p231 = loadptru(p228 + 72);
+										uint64_t n232 = load64u(p228 + 88);
+										if (load64u(p228 + 40) != 0)
+											rattle_dealloc(loadptru(p228 + 24));
+										if (n230 != 0)
+											rattle_dealloc(p229);
+										if (n232 != 0)
+											rattle_dealloc(p231);
+										n227 = n227 + 1;
 									}
 L9:
 									{
-										if (n151 != 0)
-											rattle_dealloc(p183);
-										if (n182 == 1) {
-											byte *p232 = (byte *)(uintptr_t)n149;
-											uint64_t n233 = (uint64_t)load8(p232 + 40);
-											uint64_t n234 = load64u(p232 + 48);
-											memcpy(p125, p232, 16);
-											memcpy(p125 + 16, p232 + 16, 24);
-											rattle_dealloc(p232);
-											memcpy(p124, p125, 16);
-											memcpy(p124 + 16, p125 + 16, 24);
-											store64u(p124 + 40, n233);
-											store64u(p124 + 48, n234);
-											tp_clap_parser_matches_SubCommand_Destruct_drop(p124);
-											n202 = 1;
-											n203 = 16;
-											n204 = 0;
+										if (n152 != 0)
+											rattle_dealloc(p184);
+										if (n183 == 1) {
+											byte *p233 = (byte *)(uintptr_t)n150;
+											uint64_t n234 = (uint64_t)load8(p233 + 40);
+											uint64_t n235 = load64u(p233 + 48);
+											memcpy(p126, p233, 16);
+											memcpy(p126 + 16, p233 + 16, 24);
+											rattle_dealloc(p233);
+											memcpy(p125, p126, 16);
+											memcpy(p125 + 16, p126 + 16, 24);
+											store64u(p125 + 40, n234);
+											store64u(p125 + 48, n235);
+											tp_clap_parser_matches_SubCommand_Destruct_drop(p125);
+											n203 = 1;
+											n204 = 16;
 											n205 = 0;
 											n206 = 0;
 											n207 = 0;
@@ -71541,10 +71400,10 @@ L9:
 											n209 = 0;
 											n210 = 0;
 											n211 = 0;
+											n212 = 0;
 										} else {
-											n202 = 1;
-											n203 = 16;
-											n204 = 0;
+											n203 = 1;
+											n204 = 16;
 											n205 = 0;
 											n206 = 0;
 											n207 = 0;
@@ -71552,29 +71411,29 @@ L9:
 											n209 = 0;
 											n210 = 0;
 											n211 = 0;
+											n212 = 0;
 										}
 									}
 								}
 							} else {
-								n202 = 1;
-								n203 = n153;
-								n204 = 0;
+								n203 = 1;
+								n204 = n154;
 								n205 = 0;
 								n206 = 0;
-								n207 = n152 & 255;
-								n208 = n151;
-								n209 = n150;
-								n210 = n149;
-								n211 = 0;
+								n207 = 0;
+								n208 = n153 & 255;
+								n209 = n152;
+								n210 = n151;
+								n211 = n150;
+								n212 = 0;
 							}
 						}
 					}
 				}
 			}
 		} else {
-			n202 = 1;
-			n203 = 16;
-			n204 = 0;
+			n203 = 1;
+			n204 = 16;
 			n205 = 0;
 			n206 = 0;
 			n207 = 0;
@@ -71582,10 +71441,10 @@ L9:
 			n209 = 0;
 			n210 = 0;
 			n211 = 0;
+			n212 = 0;
 		}
 L7:
 		{
-			n235 = n202;
 			n236 = n203;
 			n237 = n204;
 			n238 = n205;
@@ -71595,248 +71454,248 @@ L7:
 			n242 = n209;
 			n243 = n210;
 			n244 = n211;
+			n245 = n212;
 		}
 	} else {
-		uint8_t n305, n306, n307, n308, n309;
-		uint64_t n310, n311, n312, n313, n314;
-		memset(p119, 0, 680);
-		memset(p120, 0, 56);
-		memset(p121, 0, 48);
-		tp_arguments_program(p119);
-		if (load8(p119) == 0) {
-			uint64_t n251, n252, n253, n254, n255;
-			uint8_t n256, n257;
-			memcpy(p118, p119 + 8, 672);
-			memset(p117, 0, 48);
-			storeptru(p116, p5);
-			memset(p116 + 8, 0, 16);
-			uint64_t n245 = 0;
+		uint8_t n306, n307, n308, n309, n310;
+		uint64_t n311, n312, n313, n314, n315;
+		memset(p120, 0, 680);
+		memset(p121, 0, 56);
+		memset(p122, 0, 48);
+		tp_arguments_program(p120);
+		if (load8(p120) == 0) {
+			uint64_t n252, n253, n254, n255, n256;
+			uint8_t n257, n258;
+			memcpy(p119, p120 + 8, 672);
+			memset(p118, 0, 48);
+			storeptru(p117, p5);
+			memset(p117 + 8, 0, 16);
 			uint64_t n246 = 0;
+			uint64_t n247 = 0;
 			for (;;) {
-				uint64_t n248;
-				if (n246 == 1)
+				uint64_t n249;
+				if (n247 == 1)
 					goto L10;
-				if (load64(p116 + 16) == n245) {
-					bool b247 = tp_std_alloc_vec_Vec_grow_amortized_10(p116, 1);
-					if (!b247)
+				if (load64(p117 + 16) == n246) {
+					bool b248 = tp_std_alloc_vec_Vec_grow_amortized_10(p117, 1);
+					if (!b248)
 						break;
-					n248 = load64(p116 + 8);
+					n249 = load64(p117 + 8);
 				} else {
-					n248 = n245;
+					n249 = n246;
 				}
-				byte *p249 = inside(loadptr(p116), n248 << 4);
-				storeptru(p249, (byte *)&tp_static_4 + 16);
-				store64u(p249 + 8, 4);
-				uint64_t n250 = n248 + 1;
-				store64(p116 + 8, n250);
-				n245 = n250;
-				n246 = 1;
+				byte *p250 = inside(loadptr(p117), n249 << 4);
+				storeptru(p250, (byte *)&tp_static_4 + 16);
+				store64u(p250 + 8, 4);
+				uint64_t n251 = n249 + 1;
+				store64(p117 + 8, n251);
+				n246 = n251;
+				n247 = 1;
 			}
-			if (load64u(p116 + 16) != 0)
-				rattle_dealloc(loadptru(p116));
-			n251 = 0;
+			if (load64u(p117 + 16) != 0)
+				rattle_dealloc(loadptru(p117));
 			n252 = 0;
 			n253 = 0;
 			n254 = 0;
 			n255 = 0;
-			n256 = 16;
-			n257 = 1;
+			n256 = 0;
+			n257 = 16;
+			n258 = 1;
 			goto L11;
 L10:
 			{
-				byte *p258 = loadptr(p116);
-				bool b259 = load64(p116 + 16) == 0;
-				of_i8_i64 s260 = tp_Command_note_bin_name(p118, p258, n245);
-				if (s260.f0 == 0) {
-					if ((load8(p118 + 669) & 1) == 0) {
-						uint64_t n261 = tp_Command_depth(p118);
-						uint8_t n262 = tp_building_build_levels(uadd_sat64(n261, 2), p118);
-						store8(p118 + 669, n262);
-						if ((n262 & 1) == 0) {
-							uint64_t n263 = tp_Command_depth(p118);
-							uint8_t n264 = tp_building_name_levels(n263, p118);
-							if ((n264 & 1) == 0) {
-								tp_parse_parse_words(p117, p118, p258, n245, s260.f1);
-								if (!b259)
-									rattle_dealloc(p258);
-								n251 = load56u(p117 + 9) << 8;
-								n252 = load64(p117 + 40);
-								n253 = load64(p117 + 32);
-								n254 = load64(p117 + 24);
-								n255 = load64(p117 + 16);
-								n256 = load8(p117 + 8);
-								n257 = load8(p117);
+				byte *p259 = loadptr(p117);
+				bool b260 = load64(p117 + 16) == 0;
+				of_i8_i64 s261 = tp_Command_note_bin_name(p119, p259, n246);
+				if (s261.f0 == 0) {
+					if ((load8(p119 + 669) & 1) == 0) {
+						uint64_t n262 = tp_Command_depth(p119);
+						uint8_t n263 = tp_building_build_levels(uadd_sat64(n262, 2), p119);
+						store8(p119 + 669, n263);
+						if ((n263 & 1) == 0) {
+							uint64_t n264 = tp_Command_depth(p119);
+							uint8_t n265 = tp_building_name_levels(n264, p119);
+							if ((n265 & 1) == 0) {
+								tp_parse_parse_words(p118, p119, p259, n246, s261.f1);
+								if (!b260)
+									rattle_dealloc(p259);
+								n252 = load56u(p118 + 9) << 8;
+								n253 = load64(p118 + 40);
+								n254 = load64(p118 + 32);
+								n255 = load64(p118 + 24);
+								n256 = load64(p118 + 16);
+								n257 = load8(p118 + 8);
+								n258 = load8(p118);
 								goto L11;
 							}
 						}
 					}
-					if (b259) {
-						n251 = 0;
+					if (b260) {
 						n252 = 0;
 						n253 = 0;
 						n254 = 0;
 						n255 = 0;
-						n256 = 16;
-						n257 = 1;
+						n256 = 0;
+						n257 = 16;
+						n258 = 1;
 					} else {
-						rattle_dealloc(p258);
-						n251 = 0;
+						rattle_dealloc(p259);
 						n252 = 0;
 						n253 = 0;
 						n254 = 0;
 						n255 = 0;
-						n256 = 16;
-						n257 = 1;
+						n256 = 0;
+						n257 = 16;
+						n258 = 1;
 					}
-				} else if (b259) {
-					n251 = 0;
+				} else if (b260) {
 					n252 = 0;
 					n253 = 0;
 					n254 = 0;
 					n255 = 0;
-					n256 = 16;
-					n257 = 1;
+					n256 = 0;
+					n257 = 16;
+					n258 = 1;
 				} else {
-					rattle_dealloc(p258);
-					n251 = 0;
+					rattle_dealloc(p259);
 					n252 = 0;
 					n253 = 0;
 					n254 = 0;
 					n255 = 0;
-					n256 = 16;
-					n257 = 1;
+					n256 = 0;
+					n257 = 16;
+					n258 = 1;
 				}
 			}
 L11:
 			{
-				uint64_t n271;
-				byte *p265 = loadptru(p118 + 56);
-				if (load8(p118 + 48) == 1) {
-					if (load64u(p118 + 72) != 0)
-						rattle_dealloc(p265);
-				}
-				byte *p266 = loadptru(p118 + 88);
-				if (load8(p118 + 80) == 1) {
-					if (load64u(p118 + 104) != 0)
+				uint64_t n272;
+				byte *p266 = loadptru(p119 + 56);
+				if (load8(p119 + 48) == 1) {
+					if (load64u(p119 + 72) != 0)
 						rattle_dealloc(p266);
 				}
-				byte *p267 = loadptru(p118 + 120);
-				if (load8(p118 + 112) == 1) {
-					if (load64u(p118 + 136) != 0)
+				byte *p267 = loadptru(p119 + 88);
+				if (load8(p119 + 80) == 1) {
+					if (load64u(p119 + 104) != 0)
 						rattle_dealloc(p267);
 				}
-				if (load64u(p118 + 376) != 0)
-					rattle_dealloc(loadptru(p118 + 360));
-				if (load64u(p118 + 400) != 0)
-					rattle_dealloc(loadptru(p118 + 384));
-				if (load64u(p118 + 424) != 0)
-					rattle_dealloc(loadptru(p118 + 408));
-				byte *p268 = loadptru(p118 + 576);
-				uint64_t n269 = load64u(p118 + 584);
-				uint64_t n270 = load64u(p118 + 592);
-				if (n269 == 0)
+				byte *p268 = loadptru(p119 + 120);
+				if (load8(p119 + 112) == 1) {
+					if (load64u(p119 + 136) != 0)
+						rattle_dealloc(p268);
+				}
+				if (load64u(p119 + 376) != 0)
+					rattle_dealloc(loadptru(p119 + 360));
+				if (load64u(p119 + 400) != 0)
+					rattle_dealloc(loadptru(p119 + 384));
+				if (load64u(p119 + 424) != 0)
+					rattle_dealloc(loadptru(p119 + 408));
+				byte *p269 = loadptru(p119 + 576);
+				uint64_t n270 = load64u(p119 + 584);
+				uint64_t n271 = load64u(p119 + 592);
+				if (n270 == 0)
 					goto L12;
-				n271 = 0;
-				while (n271 != n269) {
-					memcpy(p115, inside(p268, n271 * 608), 608);
-					tp_clap_builder_arg_Arg_Destruct_drop(p115);
-					n271 = n271 + 1;
+				n272 = 0;
+				while (n272 != n270) {
+					memcpy(p116, inside(p269, n272 * 608), 608);
+					tp_clap_builder_arg_Arg_Destruct_drop(p116);
+					n272 = n272 + 1;
 				}
 L12:
 				{
-					uint64_t n275;
-					if (n270 != 0)
-						rattle_dealloc(p268);
-					byte *p272 = loadptru(p118 + 600);
-					uint64_t n273 = load64u(p118 + 608);
-					uint64_t n274 = load64u(p118 + 616);
-					if (n273 == 0)
+					uint64_t n276;
+					if (n271 != 0)
+						rattle_dealloc(p269);
+					byte *p273 = loadptru(p119 + 600);
+					uint64_t n274 = load64u(p119 + 608);
+					uint64_t n275 = load64u(p119 + 616);
+					if (n274 == 0)
 						goto L13;
-					n275 = 0;
-					while (n275 != n273) {
-						memcpy(p114, inside(p272, n275 * 672), 672);
-						tp_clap_builder_command_Command_Destruct_drop(p114);
-						n275 = n275 + 1;
+					n276 = 0;
+					while (n276 != n274) {
+						memcpy(p115, inside(p273, n276 * 672), 672);
+						tp_clap_builder_command_Command_Destruct_drop(p115);
+						n276 = n276 + 1;
 					}
 L13:
 					{
-						uint64_t n279;
-						if (n274 != 0)
-							rattle_dealloc(p272);
-						byte *p276 = loadptru(p118 + 624);
-						uint64_t n277 = load64u(p118 + 632);
-						uint64_t n278 = load64u(p118 + 640);
-						if (n277 == 0)
+						uint64_t n280;
+						if (n275 != 0)
+							rattle_dealloc(p273);
+						byte *p277 = loadptru(p119 + 624);
+						uint64_t n278 = load64u(p119 + 632);
+						uint64_t n279 = load64u(p119 + 640);
+						if (n278 == 0)
 							goto L14;
-						n279 = 0;
-						while (n279 != n277) {
-							byte *p280 = inside(p276, n279 * 104);
-							byte *p281 = loadptru(p280 + 48);
-							uint64_t n282 = load64u(p280 + 64);
-							byte *p283 = loadptru(p280 + 72);
-							uint64_t n284 = load64u(p280 + 88);
-							if (load64u(p280 + 32) != 0)
-								rattle_dealloc(loadptru(p280 + 16));
-							if (n282 != 0)
-								rattle_dealloc(p281);
-							if (n284 != 0)
-								rattle_dealloc(p283);
-							n279 = n279 + 1;
+						n280 = 0;
+						while (n280 != n278) {
+							byte *p281 = inside(p277, n280 * 104);
+							byte *p282 = loadptru(p281 + 48);
+							uint64_t n283 = load64u(p281 + 64);
+							byte *p284 = loadptru(p281 + 72);
+							uint64_t n285 = load64u(p281 + 88);
+							if (load64u(p281 + 32) != 0)
+								rattle_dealloc(loadptru(p281 + 16));
+							if (n283 != 0)
+								rattle_dealloc(p282);
+							if (n285 != 0)
+								rattle_dealloc(p284);
+							n280 = n280 + 1;
 						}
 L14:
 						{
-							if (n278 != 0)
-								rattle_dealloc(p276);
-							if (n257 == 0) {
-								uint8_t n285 = (uint8_t)n253;
-								byte *p286 = (byte *)(uintptr_t)(n251 | (uint64_t)n256);
-								if (n285 == 1) {
-									byte *p287 = (byte *)(uintptr_t)n252;
-									tp_arguments_subcommand_of(p120, (byte *)tp_static_3, 4, p287 + 16);
-									if (load8(p120) == 1) {
-										uint64_t n297;
-										uint8_t n288 = load8(p120 + 8);
-										uint8_t n289 = load8(p120 + 9);
-										uint8_t n290 = load8(p120 + 10);
-										uint8_t n291 = load8(p120 + 11);
-										uint64_t n292 = load64u(p120 + 16);
-										uint64_t n293 = load64u(p120 + 24);
-										uint64_t n294 = load64u(p120 + 32);
-										uint64_t n295 = load64u(p120 + 40);
-										uint64_t n296 = load64u(p120 + 48);
-										if (n255 == 0)
+							if (n279 != 0)
+								rattle_dealloc(p277);
+							if (n258 == 0) {
+								uint8_t n286 = (uint8_t)n254;
+								byte *p287 = (byte *)(uintptr_t)(n252 | (uint64_t)n257);
+								if (n286 == 1) {
+									byte *p288 = (byte *)(uintptr_t)n253;
+									tp_arguments_subcommand_of(p121, (byte *)tp_static_3, 4, p288 + 16);
+									if (load8(p121) == 1) {
+										uint64_t n298;
+										uint8_t n289 = load8(p121 + 8);
+										uint8_t n290 = load8(p121 + 9);
+										uint8_t n291 = load8(p121 + 10);
+										uint8_t n292 = load8(p121 + 11);
+										uint64_t n293 = load64u(p121 + 16);
+										uint64_t n294 = load64u(p121 + 24);
+										uint64_t n295 = load64u(p121 + 32);
+										uint64_t n296 = load64u(p121 + 40);
+										uint64_t n297 = load64u(p121 + 48);
+										if (n256 == 0)
 											goto L15;
-										n297 = 0;
-										while (n297 != n255) {
-											byte *p298 = inside(p286, n297 * 104);
-											byte *p299 = loadptru(p298 + 48);
-											uint64_t n300 = load64u(p298 + 64);
-											byte *p301 = loadptru(p298 + 72);
-											uint64_t n302 = load64u(p298 + 88);
-											if (load64u(p298 + 40) != 0)
-												rattle_dealloc(loadptru(p298 + 24));
-											if (n300 != 0)
-												rattle_dealloc(p299);
-											if (n302 != 0)
-												rattle_dealloc(p301);
-											n297 = n297 + 1;
+										n298 = 0;
+										while (n298 != n256) {
+											byte *p299 = inside(p287, n298 * 104);
+											byte *p300 = loadptru(p299 + 48);
+											uint64_t n301 = load64u(p299 + 64);
+											byte *p302 = loadptru(p299 + 72);
+											uint64_t n303 = load64u(p299 + 88);
+											if (load64u(p299 + 40) != 0)
+												rattle_dealloc(loadptru(p299 + 24));
+											if (n301 != 0)
+												rattle_dealloc(p300);
+											if (n303 != 0)
+												rattle_dealloc(p302);
+											n298 = n298 + 1;
 										}
 L15:
 										{
-											if (n254 != 0)
-												rattle_dealloc(p286);
-											uint64_t n303 = (uint64_t)load8(p287 + 40);
-											uint64_t n304 = load64u(p287 + 48);
-											memcpy(p113, p287, 16);
-											memcpy(p113 + 16, p287 + 16, 24);
-											rattle_dealloc(p287);
-											memcpy(p112, p113, 16);
-											memcpy(p112 + 16, p113 + 16, 24);
-											store64u(p112 + 40, n303);
-											store64u(p112 + 48, n304);
-											tp_clap_parser_matches_SubCommand_Destruct_drop(p112);
-											n305 = 0;
-											n306 = n288;
+											if (n255 != 0)
+												rattle_dealloc(p287);
+											uint64_t n304 = (uint64_t)load8(p288 + 40);
+											uint64_t n305 = load64u(p288 + 48);
+											memcpy(p114, p288, 16);
+											memcpy(p114 + 16, p288 + 16, 24);
+											rattle_dealloc(p288);
+											memcpy(p113, p114, 16);
+											memcpy(p113 + 16, p114 + 16, 24);
+											store64u(p113 + 40, n304);
+											store64u(p113 + 48, n305);
+											tp_clap_parser_matches_SubCommand_Destruct_drop(p113);
+											n306 = 0;
 											n307 = n289;
 											n308 = n290;
 											n309 = n291;
@@ -71845,112 +71704,112 @@ L15:
 											n312 = n294;
 											n313 = n295;
 											n314 = n296;
+											n315 = n297;
 											goto L16;
 										}
 									}
 								}
-								tp_arguments_refusal(p121);
-								if (load8(p121) == 0) {
-									uint64_t n320;
-									uint8_t n315 = load8(p121 + 8);
-									uint64_t n316 = load64u(p121 + 24);
-									uint64_t n317 = load64u(p121 + 32);
-									uint64_t n318 = load64u(p121 + 40);
-									uint64_t n319 = (uint64_t)load8(p121 + 16);
-									if (n255 == 0)
+								tp_arguments_refusal(p122);
+								if (load8(p122) == 0) {
+									uint64_t n321;
+									uint8_t n316 = load8(p122 + 8);
+									uint64_t n317 = load64u(p122 + 24);
+									uint64_t n318 = load64u(p122 + 32);
+									uint64_t n319 = load64u(p122 + 40);
+									uint64_t n320 = (uint64_t)load8(p122 + 16);
+									if (n256 == 0)
 										goto L17;
-									n320 = 0;
-									while (n320 != n255) {
-										byte *p321 = inside(p286, n320 * 104);
-										byte *p322 = loadptru(p321 + 48);
-										uint64_t n323 = load64u(p321 + 64);
-										byte *p324 = loadptru(p321 + 72);
-										uint64_t n325 = load64u(p321 + 88);
-										if (load64u(p321 + 40) != 0)
-											rattle_dealloc(loadptru(p321 + 24));
-										if (n323 != 0)
-											rattle_dealloc(p322);
-										if (n325 != 0)
-											rattle_dealloc(p324);
-										n320 = n320 + 1;
+									n321 = 0;
+									while (n321 != n256) {
+										byte *p322 = inside(p287, n321 * 104);
+										byte *p323 = loadptru(p322 + 48);
+										uint64_t n324 = load64u(p322 + 64);
+										byte *p325 = loadptru(p322 + 72);
+										uint64_t n326 = load64u(p322 + 88);
+										if (load64u(p322 + 40) != 0)
+											rattle_dealloc(loadptru(p322 + 24));
+										if (n324 != 0)
+											rattle_dealloc(p323);
+										if (n326 != 0)
+											rattle_dealloc(p325);
+										n321 = n321 + 1;
 									}
 L17:
 									{
-										if (n254 != 0)
-											rattle_dealloc(p286);
-										if (n285 == 1) {
-											byte *p326 = (byte *)(uintptr_t)n252;
-											uint64_t n327 = (uint64_t)load8(p326 + 40);
-											uint64_t n328 = load64u(p326 + 48);
-											memcpy(p109, p326, 16);
-											memcpy(p109 + 16, p326 + 16, 24);
-											rattle_dealloc(p326);
-											memcpy(p108, p109, 16);
-											memcpy(p108 + 16, p109 + 16, 24);
-											store64u(p108 + 40, n327);
-											store64u(p108 + 48, n328);
-											tp_clap_parser_matches_SubCommand_Destruct_drop(p108);
-											n305 = 1;
-											n306 = n315;
-											n307 = 0;
+										if (n255 != 0)
+											rattle_dealloc(p287);
+										if (n286 == 1) {
+											byte *p327 = (byte *)(uintptr_t)n253;
+											uint64_t n328 = (uint64_t)load8(p327 + 40);
+											uint64_t n329 = load64u(p327 + 48);
+											memcpy(p110, p327, 16);
+											memcpy(p110 + 16, p327 + 16, 24);
+											rattle_dealloc(p327);
+											memcpy(p109, p110, 16);
+											memcpy(p109 + 16, p110 + 16, 24);
+											store64u(p109 + 40, n328);
+											store64u(p109 + 48, n329);
+											tp_clap_parser_matches_SubCommand_Destruct_drop(p109);
+											n306 = 1;
+											n307 = n316;
 											n308 = 0;
 											n309 = 0;
-											n310 = n319;
-											n311 = n316;
+											n310 = 0;
+											n311 = n320;
 											n312 = n317;
 											n313 = n318;
-											n314 = 0;
+											n314 = n319;
+											n315 = 0;
 										} else {
-											n305 = 1;
-											n306 = n315;
-											n307 = 0;
+											n306 = 1;
+											n307 = n316;
 											n308 = 0;
 											n309 = 0;
-											n310 = n319;
-											n311 = n316;
+											n310 = 0;
+											n311 = n320;
 											n312 = n317;
 											n313 = n318;
-											n314 = 0;
+											n314 = n319;
+											n315 = 0;
 										}
 									}
 								} else {
-									uint64_t n329;
-									if (n255 == 0)
+									uint64_t n330;
+									if (n256 == 0)
 										goto L18;
-									n329 = 0;
-									while (n329 != n255) {
-										byte *p330 = inside(p286, n329 * 104);
-										byte *p331 = loadptru(p330 + 48);
-										uint64_t n332 = load64u(p330 + 64);
-										byte *p333 = loadptru(p330 + 72);
-										uint64_t n334 = load64u(p330 + 88);
-										if (load64u(p330 + 40) != 0)
-											rattle_dealloc(loadptru(p330 + 24));
-										if (n332 != 0)
-											rattle_dealloc(p331);
-										if (n334 != 0)
-											rattle_dealloc(p333);
-										n329 = n329 + 1;
+									n330 = 0;
+									while (n330 != n256) {
+										byte *p331 = inside(p287, n330 * 104);
+										byte *p332 = loadptru(p331 + 48);
+										uint64_t n333 = load64u(p331 + 64);
+										byte *p334 = loadptru(p331 + 72);
+										uint64_t n335 = load64u(p331 + 88);
+										if (load64u(p331 + 40) != 0)
+											rattle_dealloc(loadptru(p331 + 24));
+										if (n333 != 0)
+											rattle_dealloc(p332);
+										if (n335 != 0)
+											rattle_dealloc(p334);
+										n330 = n330 + 1;
 									}
 L18:
 									{
-										if (n254 != 0)
-											rattle_dealloc(p286);
-										if (n285 == 1) {
-											byte *p335 = (byte *)(uintptr_t)n252;
-											uint64_t n336 = (uint64_t)load8(p335 + 40);
-											uint64_t n337 = load64u(p335 + 48);
-											memcpy(p111, p335, 16);
-											memcpy(p111 + 16, p335 + 16, 24);
-											rattle_dealloc(p335);
-											memcpy(p110, p111, 16);
-											memcpy(p110 + 16, p111 + 16, 24);
-											store64u(p110 + 40, n336);
-											store64u(p110 + 48, n337);
-											tp_clap_parser_matches_SubCommand_Destruct_drop(p110);
-											n305 = 1;
-											n306 = 16;
-											n307 = 0;
+										if (n255 != 0)
+											rattle_dealloc(p287);
+										if (n286 == 1) {
+											byte *p336 = (byte *)(uintptr_t)n253;
+											uint64_t n337 = (uint64_t)load8(p336 + 40);
+											uint64_t n338 = load64u(p336 + 48);
+											memcpy(p112, p336, 16);
+											memcpy(p112 + 16, p336 + 16, 24);
+											rattle_dealloc(p336);
+											memcpy(p111, p112, 16);
+											memcpy(p111 + 16, p112 + 16, 24);
+											store64u(p111 + 40, n337);
+											store64u(p111 + 48, n338);
+											tp_clap_parser_matches_SubCommand_Destruct_drop(p111);
+											n306 = 1;
+											n307 = 16;
 											n308 = 0;
 											n309 = 0;
 											n310 = 0;
@@ -71958,10 +71817,10 @@ L18:
 											n312 = 0;
 											n313 = 0;
 											n314 = 0;
+											n315 = 0;
 										} else {
-											n305 = 1;
-											n306 = 16;
-											n307 = 0;
+											n306 = 1;
+											n307 = 16;
 											n308 = 0;
 											n309 = 0;
 											n310 = 0;
@@ -71969,29 +71828,29 @@ L18:
 											n312 = 0;
 											n313 = 0;
 											n314 = 0;
+											n315 = 0;
 										}
 									}
 								}
 							} else {
-								n305 = 1;
-								n306 = n256;
-								n307 = 0;
+								n306 = 1;
+								n307 = n257;
 								n308 = 0;
 								n309 = 0;
-								n310 = n255 & 255;
-								n311 = n254;
-								n312 = n253;
-								n313 = n252;
-								n314 = 0;
+								n310 = 0;
+								n311 = n256 & 255;
+								n312 = n255;
+								n313 = n254;
+								n314 = n253;
+								n315 = 0;
 							}
 						}
 					}
 				}
 			}
 		} else {
-			n305 = 1;
-			n306 = 16;
-			n307 = 0;
+			n306 = 1;
+			n307 = 16;
 			n308 = 0;
 			n309 = 0;
 			n310 = 0;
@@ -71999,10 +71858,10 @@ L18:
 			n312 = 0;
 			n313 = 0;
 			n314 = 0;
+			n315 = 0;
 		}
 L16:
 		{
-			n235 = n305;
 			n236 = n306;
 			n237 = n307;
 			n238 = n308;
@@ -72012,141 +71871,142 @@ L16:
 			n242 = n312;
 			n243 = n313;
 			n244 = n314;
+			n245 = n315;
 		}
 	}
-	uint8_t n338 = (uint8_t)n240;
-	byte *p339 = (byte *)(uintptr_t)n241;
-	if (n235 == 1) {
-		uint8_t n359, n363, n369;
-		uint64_t n360, n361, n362, n370, n371, n372, n373;
-		switch (n236) {
+	uint8_t n339 = (uint8_t)n241;
+	byte *p340 = (byte *)(uintptr_t)n242;
+	if (n236 == 1) {
+		uint8_t n360, n364, n370;
+		uint64_t n361, n362, n363, n371, n372, n373, n374;
+		switch (n237) {
 		case 11:
 		case 13: {
-			uint64_t n340 = 0;
+			uint64_t n341 = 0;
 			for (;;) {
-				uint64_t n347, n349, n351, n353, n355, n357;
-				bool b348, b350, b352, b354, b356, b358;
-				if (n340 == n2)
+				uint64_t n348, n350, n352, n354, n356, n358;
+				bool b349, b351, b353, b355, b357, b359;
+				if (n341 == n2)
 					goto L19;
-				byte *p341 = at(p1, n340 * 24);
-				byte *p342 = loadptr(p341);
-				uint64_t n343 = load64(p341 + 8);
-				bool b344 = tp_bytes_equal(p342, n343, (byte *)tp_static_66, 4);
-				if (b344)
-					break;
-				bool b345 = tp_bytes_equal(p342, n343, (byte *)tp_static_199, 6);
+				byte *p342 = at(p1, n341 * 24);
+				byte *p343 = loadptr(p342);
+				uint64_t n344 = load64(p342 + 8);
+				bool b345 = tp_bytes_equal(p343, n344, (byte *)tp_static_66, 4);
 				if (b345)
 					break;
-				bool b346 = tp_bytes_equal(p342, n343, (byte *)tp_static_200, 9);
+				bool b346 = tp_bytes_equal(p343, n344, (byte *)tp_static_199, 6);
 				if (b346)
 					break;
-				if (n343 < 2)
-					goto L20;
-				n347 = 0;
-				b348 = false;
-				while (n347 != 1) {
-					n347 = 1;
-					b348 = (int)b348 | (int)(45 != load8(p342));
-				}
-				n349 = 0;
-				b350 = false;
-				while (n349 != 1) {
-					n349 = 1;
-					b350 = (int)b350 | (int)(104 != load8(p342 + 1));
-				}
-				n351 = 0;
-				b352 = false;
-				while (n351 != 1) {
-					n351 = 1;
-					b352 = (int)b352 | (int)(104 != load8(p342 + 1));
-				}
-				if (!((int)((int)b348 | (int)b350) | (int)b352))
+				bool b347 = tp_bytes_equal(p343, n344, (byte *)tp_static_200, 9);
+				if (b347)
 					break;
-				n353 = 0;
-				b354 = false;
-				while (n353 != 1) {
-					n353 = 1;
-					b354 = (int)b354 | (int)(45 != load8(p342));
+				if (n344 < 2)
+					goto L20;
+				n348 = 0;
+				b349 = false;
+				while (n348 != 1) {
+					n348 = 1;
+					b349 = (int)b349 | (int)(45 != load8(p343));
 				}
-				n355 = 0;
-				b356 = false;
-				while (n355 != 1) {
-					n355 = 1;
-					b356 = (int)b356 | (int)(86 != load8(p342 + 1));
+				n350 = 0;
+				b351 = false;
+				while (n350 != 1) {
+					n350 = 1;
+					b351 = (int)b351 | (int)(104 != load8(p343 + 1));
 				}
-				n357 = 0;
-				b358 = false;
-				while (n357 != 1) {
-					n357 = 1;
-					b358 = (int)b358 | (int)(86 != load8(p342 + 1));
+				n352 = 0;
+				b353 = false;
+				while (n352 != 1) {
+					n352 = 1;
+					b353 = (int)b353 | (int)(104 != load8(p343 + 1));
 				}
-				if (!((int)((int)b354 | (int)b356) | (int)b358))
+				if (!((int)((int)b349 | (int)b351) | (int)b353))
+					break;
+				n354 = 0;
+				b355 = false;
+				while (n354 != 1) {
+					n354 = 1;
+					b355 = (int)b355 | (int)(45 != load8(p343));
+				}
+				n356 = 0;
+				b357 = false;
+				while (n356 != 1) {
+					n356 = 1;
+					b357 = (int)b357 | (int)(86 != load8(p343 + 1));
+				}
+				n358 = 0;
+				b359 = false;
+				while (n358 != 1) {
+					n358 = 1;
+					b359 = (int)b359 | (int)(86 != load8(p343 + 1));
+				}
+				if (!((int)((int)b355 | (int)b357) | (int)b359))
 					break;
 L20:
 				{
-					n340 = n340 + 1;
+					n341 = n341 + 1;
 				}
 			}
-			if (n340 < n2) {
-				n359 = n338;
-				n360 = n243;
-				n361 = n242;
-				n362 = n241;
-				n363 = n236;
+			if (n341 < n2) {
+				n360 = n339;
+				n361 = n244;
+				n362 = n243;
+				n363 = n242;
+				n364 = n237;
 				goto L21;
 			}
 L19:
 			{
-				tp_arguments_refusal(p136);
-				uint8_t n364 = load8(p136 + 8);
-				if (load8(p136) == 0) {
-					uint64_t n365 = (uint64_t)load8(p136 + 16);
-					uint64_t n366 = load64(p136 + 24);
-					uint64_t n367 = load64(p136 + 32);
-					uint64_t n368 = load64(p136 + 40);
-					if (n338 == 1) {
-						if (n243 == 0) {
-							n369 = n364;
+				tp_arguments_refusal(p137);
+				uint8_t n365 = load8(p137 + 8);
+				if (load8(p137) == 0) {
+					uint64_t n366 = (uint64_t)load8(p137 + 16);
+					uint64_t n367 = load64(p137 + 24);
+					uint64_t n368 = load64(p137 + 32);
+					uint64_t n369 = load64(p137 + 40);
+					if (n339 == 1) {
+						if (n244 == 0) {
 							n370 = n365;
 							n371 = n366;
 							n372 = n367;
 							n373 = n368;
+							n374 = n369;
 						} else {
-							rattle_dealloc(p339);
-							n369 = n364;
+							rattle_dealloc(p340);
 							n370 = n365;
 							n371 = n366;
 							n372 = n367;
 							n373 = n368;
+							n374 = n369;
 						}
 					} else {
-						n369 = n364;
 						n370 = n365;
 						n371 = n366;
 						n372 = n367;
 						n373 = n368;
+						n374 = n369;
 					}
-				} else if (n338 == 1) {
-					if (n243 == 0) {
-						n369 = 16;
-						n370 = 0;
+				} else if (n339 == 1) {
+					if (n244 == 0) {
+						n370 = 16;
 						n371 = 0;
 						n372 = 0;
 						n373 = 0;
+						n374 = 0;
 					} else {
-						rattle_dealloc(p339);
-						n369 = 16;
-						n370 = 0;
+						rattle_dealloc(p340);
+						n370 = 16;
 						n371 = 0;
 						n372 = 0;
 						n373 = 0;
+						n374 = 0;
 					}
 				} else {
-					n369 = 16;
-					n370 = 0;
+					n370 = 16;
 					n371 = 0;
 					n372 = 0;
 					n373 = 0;
+					n374 = 0;
 				}
 			}
 			break;
@@ -72166,26 +72026,26 @@ L19:
 		case 14:
 		case 15:
 		case 16: {
-			n369 = n236;
-			n370 = n240;
+			n370 = n237;
 			n371 = n241;
 			n372 = n242;
 			n373 = n243;
+			n374 = n244;
 			break;
 		}
 		default: {
 			UNREACHABLE();
 		}
 		}
-		n359 = (uint8_t)n370;
-		n360 = n373;
-		n361 = n372;
-		n362 = n371;
-		n363 = n369;
+		n360 = (uint8_t)n371;
+		n361 = n374;
+		n362 = n373;
+		n363 = n372;
+		n364 = n370;
 L21:
 		{
-			uint8_t n375;
-			switch (n363) {
+			uint8_t n376;
+			switch (n364) {
 			case 16: {
 				store64u(p6, (uint64_t)(uintptr_t)p4);
 				memset(p6 + 8, 0, 96);
@@ -72193,8 +72053,8 @@ L21:
 				store32u(p6 + 104, 32);
 				memset(p6 + 108, 0, 12);
 				store64u(p6 + 120, UINT64_MAX);
-				uint8_t n374 = tp_AdapterWrite_write_str(p6, (byte *)tp_static_229, 13);
-				if ((n374 & 1) == 0) {
+				uint8_t n375 = tp_AdapterWrite_write_str(p6, (byte *)tp_static_229, 13);
+				if ((n375 & 1) == 0) {
 					store32u(p6 + 104, 32);
 					memset(p6 + 108, 0, 12);
 					store64u(p6 + 120, UINT64_MAX);
@@ -72204,142 +72064,130 @@ L21:
 						(void)tp_Formatter_write_indented(p6, (byte *)tp_static_93, 1);
 					}
 				}
-				n375 = 1;
+				n376 = 1;
 				break;
 			}
 			case 11:
 			case 13: {
-				uint64_t n383, n384;
-				byte *p385;
-				bool b386;
-				memset(p11 + 8, 0, 16);
-				memset(p11 + 57, 0, 7);
-				storeptru(p11, p5);
-				store32u(p11 + 24, 32);
-				memset(p11 + 28, 0, 12);
-				store64u(p11 + 40, UINT64_MAX);
-				store64u(p11 + 48, 0);
-				store8(p11 + 56, 0);
-				memcpy(p10, p11 + 24, 24);
-				store32u(p11 + 24, 32);
-				memset(p11 + 28, 0, 12);
-				store64u(p11 + 40, UINT64_MAX);
-				if (n359 == 1) {
-					byte *p377;
-					uint64_t n378, n379, n382;
-					byte *p376 = (byte *)(uintptr_t)n362;
-					if (n361 == 0) {
-						p377 = p5;
-						n378 = 0;
+				uint64_t n384, n385;
+				byte *p386;
+				bool b387;
+				memset(p12 + 8, 0, 16);
+				memset(p12 + 57, 0, 7);
+				storeptru(p12, p5);
+				store32u(p12 + 24, 32);
+				memset(p12 + 28, 0, 12);
+				store64u(p12 + 40, UINT64_MAX);
+				store64u(p12 + 48, 0);
+				store8(p12 + 56, 0);
+				memcpy(p11, p12 + 24, 24);
+				store32u(p12 + 24, 32);
+				memset(p12 + 28, 0, 12);
+				store64u(p12 + 40, UINT64_MAX);
+				if (n360 == 1) {
+					byte *p378;
+					uint64_t n379, n380, n383;
+					byte *p377 = (byte *)(uintptr_t)n363;
+					if (n362 == 0) {
+						p378 = p5;
 						n379 = 0;
+						n380 = 0;
 					} else {
-						bool b380 = tp_Vec_grow_amortized(p11, n361);
-						if (!b380)
+						bool b381 = tp_Vec_grow_amortized(p12, n362);
+						if (!b381)
 							goto L22;
-						p377 = loadptr(p11);
-						n378 = load64(p11 + 16);
-						n379 = load64(p11 + 8);
+						p378 = loadptr(p12);
+						n379 = load64(p12 + 16);
+						n380 = load64(p12 + 8);
 					}
-					memset(p11 + 8, 0, 16);
-					byte *p381 = at(p377, n379);
-					if (((uint64_t)(uintptr_t)p381 - n362) >= n361) {
-						memmove(p381, p376, (size_t)n361);
+					memset(p12 + 8, 0, 16);
+					byte *p382 = at(p378, n380);
+					if (((uint64_t)(uintptr_t)p382 - n363) >= n362) {
+						memmove(p382, p377, (size_t)n362);
 						goto L23;
 					}
-					n382 = 0;
-					while (n382 != n361) {
-						store8(inside(p381, n382), load8(inside(p376, n382)));
-						n382 = n382 + 1;
+					n383 = 0;
+					while (n383 != n362) {
+						store8(inside(p382, n383), load8(inside(p377, n383)));
+						n383 = n383 + 1;
 					}
 L23:
 					{
-						n383 = n378;
-						n384 = n379 + n361;
-						p385 = p377;
+						n384 = n379;
+						n385 = n380 + n362;
+						p386 = p378;
 						goto L24;
 					}
 				}
-				b386 = tp_Vec_grow_amortized(p11, 21);
-				if (b386) {
-					uint64_t n391;
-					uint64_t n387 = load64(p11 + 8);
-					uint64_t n388 = load64(p11 + 16);
-					byte *p389 = loadptr(p11);
-					byte *p390 = at(p389, n387);
-					if (((uint64_t)(uintptr_t)p390 - (uint64_t)(uintptr_t)(byte *)tp_static_294) >= 21) {
-						memcpy(p390, (byte *)tp_static_294, 21);
+				b387 = tp_Vec_grow_amortized(p12, 21);
+				if (b387) {
+					uint64_t n392;
+					uint64_t n388 = load64(p12 + 8);
+					uint64_t n389 = load64(p12 + 16);
+					byte *p390 = loadptr(p12);
+					byte *p391 = at(p390, n388);
+					if (((uint64_t)(uintptr_t)p391 - (uint64_t)(uintptr_t)(byte *)tp_static_294) >= 21) {
+						memcpy(p391, (byte *)tp_static_294, 21);
 						goto L25;
 					}
-					n391 = 0;
-					while (n391 != 21) {
-						store8(inside(p390, n391), load8(inside((byte *)tp_static_294, n391)));
-						n391 = n391 + 1;
+					n392 = 0;
+					while (n392 != 21) {
+						store8(inside(p391, n392), load8(inside((byte *)tp_static_294, n392)));
+						n392 = n392 + 1;
 					}
 L25:
 					{
-						n383 = n388;
-						n384 = n387 + 21;
-						p385 = p389;
+						n384 = n389;
+						n385 = n388 + 21;
+						p386 = p390;
 						goto L24;
 					}
 				}
 L22:
 				{
-					memcpy(p11 + 24, p10, 24);
-					if (load64u(p11 + 16) != 0)
-						rattle_dealloc(loadptru(p11));
+					memcpy(p12 + 24, p11, 24);
+					if (load64u(p12 + 16) != 0)
+						rattle_dealloc(loadptru(p12));
 					tp_error_report_report(p4);
-					n375 = 1;
+					n376 = 1;
 					goto L26;
 				}
 L24:
 				{
-					bool b392 = n383 == 0;
-					uint64_t n393 = 0;
-					while (n393 < n384) {
-						uint64_t n394 = n384 - n393;
-						uint64_t n395 = os_write(1, at(p385, n393), n394);
-						if ((int64_t)n395 < (int64_t)0) {
-							tp_error_last_error(p9);
+					bool b393 = n384 == 0;
+					uint64_t n394 = 0;
+					while (n394 < n385) {
+						uint64_t n395 = n385 - n394;
+						uint64_t n396 = os_write(1, at(p386, n394), n395);
+						if ((int64_t)n396 < (int64_t)0) {
+							tp_error_last_error(p10);
 							goto L27;
 						}
-						uint64_t n396 = umin64(n395, n394);
-						if (n396 == 0)
+						uint64_t n397 = umin64(n396, n395);
+						if (n397 == 0)
 							goto L27;
-						n393 = n393 + n396;
+						n394 = n394 + n397;
 					}
-					if (b392) {
-						n375 = 0;
+					if (b393) {
+						n376 = 0;
 						goto L26;
 					}
-					rattle_dealloc(p385);
-					n375 = 0;
+					rattle_dealloc(p386);
+					n376 = 0;
 					goto L26;
 L27:
 					{
 						store8(p3 + 1, 1);
-						store64u(p8, (uint64_t)(uintptr_t)p4);
-						memset(p8 + 8, 0, 96);
-						memset(p8 + 128, 0, 16);
-						store32u(p8 + 104, 32);
-						memset(p8 + 108, 0, 12);
-						store64u(p8 + 120, UINT64_MAX);
-						uint8_t n397 = tp_AdapterWrite_write_str(p8, (byte *)tp_static_230, 12);
-						if ((n397 & 1) == 0) {
-							store32u(p8 + 104, 32);
-							memset(p8 + 108, 0, 12);
-							store64u(p8 + 120, UINT64_MAX);
-							if (load64(p8 + 128) == 0) {
-								(void)tp_AdapterWrite_write_str(p8, (byte *)tp_static_93, 1);
-							} else {
-								(void)tp_Formatter_write_indented(p8, (byte *)tp_static_93, 1);
-							}
-						}
-						if (b392) {
-							n375 = 1;
+						store64u(p7, n394);
+						storeptru(p9, p7);
+						storeptru(p9 + 8, (byte *)tp_static_93);
+						store64u(p9 + 16, 1);
+						tp_Write_write_fmt(p8, p4, p9);
+						if (b393) {
+							n376 = 1;
 						} else {
-							rattle_dealloc(p385);
-							n375 = 1;
+							rattle_dealloc(p386);
+							n376 = 1;
 						}
 					}
 				}
@@ -72359,18 +72207,18 @@ L27:
 			case 12:
 			case 14:
 			case 15: {
-				store64u(p12, (uint64_t)(uintptr_t)p4);
-				memset(p12 + 8, 0, 96);
-				memset(p12 + 128, 0, 16);
-				store32u(p12 + 104, 32);
-				memset(p12 + 108, 0, 12);
-				store64u(p12 + 120, UINT64_MAX);
-				if (n359 == 1) {
-					(void)tp_AdapterWrite_write_str(p12, (byte *)(uintptr_t)n362, n361);
+				store64u(p13, (uint64_t)(uintptr_t)p4);
+				memset(p13 + 8, 0, 96);
+				memset(p13 + 128, 0, 16);
+				store32u(p13 + 104, 32);
+				memset(p13 + 108, 0, 12);
+				store64u(p13 + 120, UINT64_MAX);
+				if (n360 == 1) {
+					(void)tp_AdapterWrite_write_str(p13, (byte *)(uintptr_t)n363, n362);
 				} else {
-					(void)tp_AdapterWrite_write_str(p12, (byte *)tp_static_294, 21);
+					(void)tp_AdapterWrite_write_str(p13, (byte *)tp_static_294, 21);
 				}
-				n375 = 2;
+				n376 = 2;
 				break;
 			}
 			default: {
@@ -72379,80 +72227,80 @@ L27:
 			}
 L26:
 			{
-				byte *p398 = (byte *)(uintptr_t)n362;
-				if (n359 == 1) {
-					if (n360 == 0) {
-						n399 = n375;
+				byte *p398 = (byte *)(uintptr_t)n363;
+				if (n360 == 1) {
+					if (n361 == 0) {
+						n399 = n376;
 					} else {
 						rattle_dealloc(p398);
-						n399 = n375;
+						n399 = n376;
 					}
 				} else {
-					n399 = n375;
+					n399 = n376;
 				}
 			}
 		}
 	} else {
-		switch (n236) {
+		switch (n237) {
 		case 0: {
 			byte *p401, *p402, *p403, *p404;
 			uint8_t n405;
-			if ((n242 - 65) < UINT64_C(18446744073709551552)) {
-				store64u(p91, (uint64_t)(uintptr_t)p4);
-				memset(p91 + 8, 0, 96);
-				memset(p91 + 128, 0, 16);
-				store32u(p91 + 104, 32);
-				memset(p91 + 108, 0, 12);
-				store64u(p91 + 120, UINT64_MAX);
-				uint8_t n400 = tp_AdapterWrite_write_str(p91, (byte *)tp_static_283, 37);
-				p401 = p91 + 128;
-				p402 = p91 + 120;
-				p403 = p91 + 108;
-				p404 = p91 + 104;
+			if ((n243 - 65) < UINT64_C(18446744073709551552)) {
+				store64u(p92, (uint64_t)(uintptr_t)p4);
+				memset(p92 + 8, 0, 96);
+				memset(p92 + 128, 0, 16);
+				store32u(p92 + 104, 32);
+				memset(p92 + 108, 0, 12);
+				store64u(p92 + 120, UINT64_MAX);
+				uint8_t n400 = tp_AdapterWrite_write_str(p92, (byte *)tp_static_283, 37);
+				p401 = p92 + 128;
+				p402 = p92 + 120;
+				p403 = p92 + 108;
+				p404 = p92 + 104;
 				n405 = n400;
-			} else if ((n243 - 1048577) < UINT64_C(18446744073708503040)) {
-				store64u(p91, (uint64_t)(uintptr_t)p4);
-				memset(p91 + 8, 0, 96);
-				memset(p91 + 128, 0, 16);
-				store32u(p91 + 104, 32);
-				memset(p91 + 108, 0, 12);
-				store64u(p91 + 120, UINT64_MAX);
-				uint8_t n406 = tp_AdapterWrite_write_str(p91, (byte *)tp_static_284, 28);
-				p401 = p91 + 128;
-				p402 = p91 + 120;
-				p403 = p91 + 108;
-				p404 = p91 + 104;
+			} else if ((n244 - 1048577) < UINT64_C(18446744073708503040)) {
+				store64u(p92, (uint64_t)(uintptr_t)p4);
+				memset(p92 + 8, 0, 96);
+				memset(p92 + 128, 0, 16);
+				store32u(p92 + 104, 32);
+				memset(p92 + 108, 0, 12);
+				store64u(p92 + 120, UINT64_MAX);
+				uint8_t n406 = tp_AdapterWrite_write_str(p92, (byte *)tp_static_284, 28);
+				p401 = p92 + 128;
+				p402 = p92 + 120;
+				p403 = p92 + 108;
+				p404 = p92 + 104;
 				n405 = n406;
-			} else if (n244 > UINT64_C(1152921504606846975)) {
-				store64u(p91, (uint64_t)(uintptr_t)p4);
-				memset(p91 + 8, 0, 96);
-				memset(p91 + 128, 0, 16);
-				store32u(p91 + 104, 32);
-				memset(p91 + 108, 0, 12);
-				store64u(p91 + 120, UINT64_MAX);
-				uint8_t n407 = tp_AdapterWrite_write_str(p91, (byte *)tp_static_269, 30);
-				p401 = p91 + 128;
-				p402 = p91 + 120;
-				p403 = p91 + 108;
-				p404 = p91 + 104;
+			} else if (n245 > UINT64_C(1152921504606846975)) {
+				store64u(p92, (uint64_t)(uintptr_t)p4);
+				memset(p92 + 8, 0, 96);
+				memset(p92 + 128, 0, 16);
+				store32u(p92 + 104, 32);
+				memset(p92 + 108, 0, 12);
+				store64u(p92 + 120, UINT64_MAX);
+				uint8_t n407 = tp_AdapterWrite_write_str(p92, (byte *)tp_static_269, 30);
+				p401 = p92 + 128;
+				p402 = p92 + 120;
+				p403 = p92 + 108;
+				p404 = p92 + 104;
 				n405 = n407;
-			} else if ((n241 - 65537) < UINT64_C(18446744073709486080)) {
-				store64u(p91, (uint64_t)(uintptr_t)p4);
-				memset(p91 + 8, 0, 96);
-				memset(p91 + 128, 0, 16);
-				store32u(p91 + 104, 32);
-				memset(p91 + 108, 0, 12);
-				store64u(p91 + 120, UINT64_MAX);
-				uint8_t n408 = tp_AdapterWrite_write_str(p91, (byte *)tp_static_268, 35);
-				p401 = p91 + 128;
-				p402 = p91 + 120;
-				p403 = p91 + 108;
-				p404 = p91 + 104;
+			} else if ((n242 - 65537) < UINT64_C(18446744073709486080)) {
+				store64u(p92, (uint64_t)(uintptr_t)p4);
+				memset(p92 + 8, 0, 96);
+				memset(p92 + 128, 0, 16);
+				store32u(p92 + 104, 32);
+				memset(p92 + 108, 0, 12);
+				store64u(p92 + 120, UINT64_MAX);
+				uint8_t n408 = tp_AdapterWrite_write_str(p92, (byte *)tp_static_268, 35);
+				p401 = p92 + 128;
+				p402 = p92 + 120;
+				p403 = p92 + 108;
+				p404 = p92 + 104;
 				n405 = n408;
 			} else {
 				uint64_t n409, n419;
 				uint8_t n424;
-				switch (n338) {
+				switch (n339) {
 				case 0:
 				case 1:
 				case 2: {
@@ -72467,72 +72315,72 @@ L26:
 					UNREACHABLE();
 				}
 				}
-				bool b410 = n409 < n244;
+				bool b410 = n409 < n245;
 				uint64_t n411 = (uint64_t)!b410;
 				if (!b410) {
 					uint8_t n429;
-					memset(p106, 0, 272);
 					memset(p107, 0, 272);
-					switch (n338) {
+					memset(p108, 0, 272);
+					switch (n339) {
 					case 0: {
-						store8(p103, n237);
-						store8(p103 + 1, n238);
-						store8(p103 + 2, n239);
-						memset(p102, 0, 512);
+						store8(p104, n238);
+						store8(p104 + 1, n239);
+						store8(p104 + 2, n240);
+						memset(p103, 0, 512);
 						uint64_t n426 = 0;
 						for (;;) {
-							store64(at(p102, n426), n411);
+							store64(at(p103, n426), n411);
 							uint64_t n427 = n426 + 8;
 							if (n427 == 512)
 								break;
 							n426 = n427;
 						}
-						store64(p104, n244);
-						store64(p104 + 8, 0);
-						storeptr(p104 + 16, p5);
-						memset(p104 + 24, 0, 32);
-						store64u(p104 + 56, n242);
-						store64u(p104 + 64, n243);
-						store64u(p104 + 72, n411);
-						memcpy(p104 + 80, p102, 512);
-						memset(p104 + 592, 0, 520);
-						storeptru(p104 + 1112, p5);
-						memset(p104 + 1120, 0, 24);
-						uint8_t n428 = tp_timer_commands_verbs_do_verb_2(p103, p104, p3, p4);
+						store64(p105, n245);
+						store64(p105 + 8, 0);
+						storeptr(p105 + 16, p5);
+						memset(p105 + 24, 0, 32);
+						store64u(p105 + 56, n243);
+						store64u(p105 + 64, n244);
+						store64u(p105 + 72, n411);
+						memcpy(p105 + 80, p103, 512);
+						memset(p105 + 592, 0, 520);
+						storeptru(p105 + 1112, p5);
+						memset(p105 + 1120, 0, 24);
+						uint8_t n428 = tp_timer_commands_verbs_do_verb_2(p104, p105, p3, p4);
 						n429 = n428;
 						break;
 					}
 					case 1: {
 						uint8_t n433;
-						memset(p101, 0, 128);
-						tp_Buckets_new(p101, n241, UINT64_C(1152921504606846975), n244);
-						if (load8(p101) == 0) {
-							memcpy(p105 + 6, p101 + 8, 120);
-							store8(p99, n237);
-							store8(p99 + 1, n238);
-							store8(p99 + 2, n239);
-							memset(p98, 0, 512);
+						memset(p102, 0, 128);
+						tp_Buckets_new(p102, n242, UINT64_C(1152921504606846975), n245);
+						if (load8(p102) == 0) {
+							memcpy(p106 + 6, p102 + 8, 120);
+							store8(p100, n238);
+							store8(p100 + 1, n239);
+							store8(p100 + 2, n240);
+							memset(p99, 0, 512);
 							uint64_t n430 = 0;
 							for (;;) {
-								store64(at(p98, n430), n411);
+								store64(at(p99, n430), n411);
 								uint64_t n431 = n430 + 8;
 								if (n431 == 512)
 									break;
 								n430 = n431;
 							}
-							memcpy(p100, p105 + 6, 120);
-							store64(p100 + 120, n244 % n241);
-							store64u(p100 + 128, n242);
-							store64u(p100 + 136, n243);
-							store64u(p100 + 144, n411);
-							memcpy(p100 + 152, p98, 512);
-							memset(p100 + 664, 0, 520);
-							storeptru(p100 + 1184, p5);
-							memset(p100 + 1192, 0, 24);
-							uint8_t n432 = tp_timer_commands_verbs_do_verb(p99, p100, p3, p4);
+							memcpy(p101, p106 + 6, 120);
+							store64(p101 + 120, n245 % n242);
+							store64u(p101 + 128, n243);
+							store64u(p101 + 136, n244);
+							store64u(p101 + 144, n411);
+							memcpy(p101 + 152, p99, 512);
+							memset(p101 + 664, 0, 520);
+							storeptru(p101 + 1184, p5);
+							memset(p101 + 1192, 0, 24);
+							uint8_t n432 = tp_timer_commands_verbs_do_verb(p100, p101, p3, p4);
 							n433 = n432;
 						} else {
-							tp_timer_commands_error_report_report_2(2, p4);
+							tp_timer_commands_error_report_report(2, p4);
 							n433 = 1;
 						}
 						n429 = n433;
@@ -72540,34 +72388,34 @@ L26:
 					}
 					case 2: {
 						uint8_t n439;
-						tp_HierWheel_with_table(p106, 0, n244);
-						uint8_t n434 = load8(p106 + 1);
-						uint8_t n435 = load8(p106);
-						store8(p96, n237);
-						store8(p96 + 1, n238);
-						store8(p96 + 2, n239);
+						tp_HierWheel_with_table(p107, 0, n245);
+						uint8_t n434 = load8(p107 + 1);
+						uint8_t n435 = load8(p107);
+						store8(p97, n238);
+						store8(p97 + 1, n239);
+						store8(p97 + 2, n240);
 						if (n435 == 0) {
-							memset(p95, 0, 512);
+							memset(p96, 0, 512);
 							uint64_t n436 = 0;
 							for (;;) {
-								store64(at(p95, n436), n411);
+								store64(at(p96, n436), n411);
 								uint64_t n437 = n436 + 8;
 								if (n437 == 512)
 									break;
 								n436 = n437;
 							}
-							memcpy(p97, p106 + 8, 264);
-							store64u(p97 + 264, n242);
-							store64u(p97 + 272, n243);
-							store64u(p97 + 280, n411);
-							memcpy(p97 + 288, p95, 512);
-							memset(p97 + 800, 0, 520);
-							storeptru(p97 + 1320, p5);
-							memset(p97 + 1328, 0, 24);
-							uint8_t n438 = tp_verbs_do_verb(p96, p97, p3, p4);
+							memcpy(p98, p107 + 8, 264);
+							store64u(p98 + 264, n243);
+							store64u(p98 + 272, n244);
+							store64u(p98 + 280, n411);
+							memcpy(p98 + 288, p96, 512);
+							memset(p98 + 800, 0, 520);
+							storeptru(p98 + 1320, p5);
+							memset(p98 + 1328, 0, 24);
+							uint8_t n438 = tp_verbs_do_verb(p97, p98, p3, p4);
 							n439 = n438;
 						} else {
-							tp_timer_commands_error_report_report_2(n434, p4);
+							tp_timer_commands_error_report_report(n434, p4);
 							n439 = 1;
 						}
 						n429 = n439;
@@ -72575,34 +72423,34 @@ L26:
 					}
 					case 3: {
 						uint8_t n445;
-						tp_HierWheel_with_table(p107, 1, n244);
-						uint8_t n440 = load8(p107 + 1);
-						uint8_t n441 = load8(p107);
-						store8(p93, n237);
-						store8(p93 + 1, n238);
-						store8(p93 + 2, n239);
+						tp_HierWheel_with_table(p108, 1, n245);
+						uint8_t n440 = load8(p108 + 1);
+						uint8_t n441 = load8(p108);
+						store8(p94, n238);
+						store8(p94 + 1, n239);
+						store8(p94 + 2, n240);
 						if (n441 == 0) {
-							memset(p92, 0, 512);
+							memset(p93, 0, 512);
 							uint64_t n442 = 0;
 							for (;;) {
-								store64(at(p92, n442), n411);
+								store64(at(p93, n442), n411);
 								uint64_t n443 = n442 + 8;
 								if (n443 == 512)
 									break;
 								n442 = n443;
 							}
-							memcpy(p94, p107 + 8, 264);
-							store64u(p94 + 264, n242);
-							store64u(p94 + 272, n243);
-							store64u(p94 + 280, n411);
-							memcpy(p94 + 288, p92, 512);
-							memset(p94 + 800, 0, 520);
-							storeptru(p94 + 1320, p5);
-							memset(p94 + 1328, 0, 24);
-							uint8_t n444 = tp_verbs_do_verb(p93, p94, p3, p4);
+							memcpy(p95, p108 + 8, 264);
+							store64u(p95 + 264, n243);
+							store64u(p95 + 272, n244);
+							store64u(p95 + 280, n411);
+							memcpy(p95 + 288, p93, 512);
+							memset(p95 + 800, 0, 520);
+							storeptru(p95 + 1320, p5);
+							memset(p95 + 1328, 0, 24);
+							uint8_t n444 = tp_verbs_do_verb(p94, p95, p3, p4);
 							n445 = n444;
 						} else {
-							tp_timer_commands_error_report_report_2(n440, p4);
+							tp_timer_commands_error_report_report(n440, p4);
 							n445 = 1;
 						}
 						n429 = n445;
@@ -72615,54 +72463,54 @@ L26:
 					n399 = n429;
 					goto L28;
 				}
-				store64u(p91, (uint64_t)(uintptr_t)p4);
-				memset(p91 + 8, 0, 96);
-				memset(p91 + 128, 0, 16);
-				store32u(p91 + 104, 32);
-				memset(p91 + 108, 0, 12);
-				store64u(p91 + 120, UINT64_MAX);
-				uint8_t n412 = tp_AdapterWrite_write_str(p91, (byte *)tp_static_282, 17);
+				store64u(p92, (uint64_t)(uintptr_t)p4);
+				memset(p92 + 8, 0, 96);
+				memset(p92 + 128, 0, 16);
+				store32u(p92 + 104, 32);
+				memset(p92 + 108, 0, 12);
+				store64u(p92 + 120, UINT64_MAX);
+				uint8_t n412 = tp_AdapterWrite_write_str(p92, (byte *)tp_static_282, 17);
 				if ((n412 & 1) != 0)
 					goto L29;
-				store32u(p91 + 104, 32);
-				memset(p91 + 108, 0, 12);
-				store64u(p91 + 120, UINT64_MAX);
-				memset(p90, 0, 24);
+				store32u(p92 + 104, 32);
+				memset(p92 + 108, 0, 12);
+				store64u(p92 + 120, UINT64_MAX);
+				memset(p91, 0, 24);
 				uint64_t n413 = n409;
 				uint64_t n414 = 24;
 				while (n413 > 99) {
 					uint8_t n415 = (uint8_t)(n413 % 100);
-					store8(at(at(p90, n414), UINT64_MAX), (uint8_t)((uint8_t)(n415 % 10) | 48));
+					store8(at(at(p91, n414), UINT64_MAX), (uint8_t)((uint8_t)(n415 % 10) | 48));
 					uint64_t n416 = n414 - 2;
-					store8(inside(p90, n416), (uint8_t)((uint8_t)(n415 / 10) | 48));
+					store8(inside(p91, n416), (uint8_t)((uint8_t)(n415 / 10) | 48));
 					n413 = n413 / 100;
 					n414 = n416;
 				}
 				if (n413 > 9) {
 					uint8_t n417 = (uint8_t)n413;
-					store8(at(at(p90, n414), UINT64_MAX), (uint8_t)((uint8_t)(n417 % 10) | 48));
+					store8(at(at(p91, n414), UINT64_MAX), (uint8_t)((uint8_t)(n417 % 10) | 48));
 					uint64_t n418 = n414 - 2;
-					store8(inside(p90, n418), (uint8_t)((uint8_t)(n417 / 10) | 48));
+					store8(inside(p91, n418), (uint8_t)((uint8_t)(n417 / 10) | 48));
 					n419 = n418;
 				} else {
 					uint64_t n420 = n414 - 1;
-					store8(inside(p90, n420), (uint8_t)((uint8_t)n413 | 48));
+					store8(inside(p91, n420), (uint8_t)((uint8_t)n413 | 48));
 					n419 = n420;
 				}
-				byte *p421 = at(p90, n419);
+				byte *p421 = at(p91, n419);
 				store8(at(p421, UINT64_MAX), 45);
 				uint64_t n422 = 24 - n419;
-				if (load64(p91 + 128) == 0) {
-					uint8_t n423 = tp_AdapterWrite_write_str(p91, p421, n422);
+				if (load64(p92 + 128) == 0) {
+					uint8_t n423 = tp_AdapterWrite_write_str(p92, p421, n422);
 					n424 = n423;
 				} else {
-					uint8_t n425 = tp_Formatter_write_indented(p91, p421, n422);
+					uint8_t n425 = tp_Formatter_write_indented(p92, p421, n422);
 					n424 = n425;
 				}
-				p401 = p91 + 128;
-				p402 = p91 + 120;
-				p403 = p91 + 108;
-				p404 = p91 + 104;
+				p401 = p92 + 128;
+				p402 = p92 + 120;
+				p403 = p92 + 108;
+				p404 = p92 + 104;
 				n405 = n424;
 			}
 			if (n405 == 0) {
@@ -72670,9 +72518,9 @@ L26:
 				memset(p403, 0, 12);
 				store64u(p402, UINT64_MAX);
 				if (load64(p401) == 0) {
-					(void)tp_AdapterWrite_write_str(p91, (byte *)tp_static_93, 1);
+					(void)tp_AdapterWrite_write_str(p92, (byte *)tp_static_93, 1);
 				} else {
-					(void)tp_Formatter_write_indented(p91, (byte *)tp_static_93, 1);
+					(void)tp_Formatter_write_indented(p92, (byte *)tp_static_93, 1);
 				}
 			}
 L29:
@@ -72682,1063 +72530,1011 @@ L29:
 			break;
 		}
 		case 1: {
-			uint8_t n446;
-			memset(p88, 0, 7);
-			memset(p89, 0, 16);
-			if ((int)((n240 - 65) < UINT64_C(18446744073709551552)) | (int)((n241 - 10001) < UINT64_C(18446744073709541616))) {
-				store64u(p87, (uint64_t)(uintptr_t)p4);
-				memset(p87 + 8, 0, 96);
-				memset(p87 + 128, 0, 16);
-				store32u(p87 + 104, 32);
-				memset(p87 + 108, 0, 12);
-				store64u(p87 + 120, UINT64_MAX);
-				(void)tp_AdapterWrite_write_str(p87, (byte *)tp_static_285, 51);
-				n446 = 2;
+			uint64_t n446;
+			uint8_t n605;
+			if ((int)((n241 - 65) < UINT64_C(18446744073709551552)) | (int)((n242 - 10001) < UINT64_C(18446744073709541616))) {
+				n446 = 0;
 			} else {
+				uint8_t n448;
+				uint64_t n449, n450, n451, n606, n642;
 				of_i64_i64 s447 = rattle_alloc(0, 1);
 				if ((s447.f0 & 1) == 0) {
-					store64u(p7, (uint64_t)(uintptr_t)p4);
-					memset(p7 + 8, 0, 96);
-					memset(p7 + 128, 0, 16);
-					store32u(p7 + 104, 32);
-					store64u(p7 + 120, UINT64_MAX);
-					memset(p7 + 108, 0, 12);
-					uint8_t n448 = tp_AdapterWrite_write_str(p7, (byte *)tp_static_229, 13);
-					if ((n448 & 1) == 0) {
-						store32u(p7 + 104, 32);
-						memset(p7 + 108, 0, 12);
-						store64u(p7 + 120, UINT64_MAX);
-						if (load64(p7 + 128) == 0) {
-							(void)tp_AdapterWrite_write_str(p7, (byte *)tp_static_93, 1);
-						} else {
-							(void)tp_Formatter_write_indented(p7, (byte *)tp_static_93, 1);
-						}
-					}
-					n446 = 1;
+					n448 = 1;
+					n449 = 0;
+					n450 = 0;
+					n451 = 0;
 				} else {
-					byte *p465, *p468, *p471, *p481, *p482, *p485, *p488, *p495, *p498, *p501, *p504, *p511;
-					uint64_t n466, n467, n469, n470, n472, n473, n474, n476, n477, n478, n479, n480, n483, n484, n486, n487, n489, n490, n491, n492, n493, n494, n496, n497, n499, n500, n502, n503, n505, n506, n507, n508, n509, n510, n512, n513, n514, n515;
-					bool b475;
-					uint8_t n516, n517;
-					byte *p449 = (byte *)(uintptr_t)s447.f1;
-					memset(p53, 0, 32);
-					memset(p54, 0, 24);
-					memset(p55, 0, 16);
-					memset(p56, 0, 24);
-					memset(p57, 0, 80);
-					memset(p58, 0, 24);
-					memset(p59, 0, 512);
-					memset(p60, 0, 520);
+					byte *p468, *p471, *p474, *p484, *p485, *p488, *p491, *p498, *p501, *p504, *p507, *p514;
+					uint64_t n469, n470, n472, n473, n475, n476, n477, n479, n480, n481, n482, n483, n486, n487, n489, n490, n492, n493, n494, n495, n496, n497, n499, n500, n502, n503, n505, n506, n508, n509, n510, n511, n512, n513, n515, n517, n518, n519;
+					bool b478;
+					uint8_t n516;
+					byte *p452 = (byte *)(uintptr_t)s447.f1;
+					memset(p56, 0, 32);
+					memset(p57, 0, 24);
+					memset(p58, 0, 16);
+					memset(p59, 0, 24);
+					memset(p60, 0, 80);
 					memset(p61, 0, 24);
-					memset(p62, 0, 16);
-					memset(p63, 0, 24);
-					memset(p64, 0, 80);
-					memset(p65, 0, 24);
-					memset(p66, 0, 512);
-					memset(p67, 0, 520);
+					memset(p62, 0, 512);
+					memset(p63, 0, 520);
+					memset(p64, 0, 24);
+					memset(p65, 0, 16);
+					memset(p66, 0, 24);
+					memset(p67, 0, 80);
 					memset(p68, 0, 24);
-					memset(p69, 0, 16);
-					memset(p70, 0, 24);
-					memset(p71, 0, 80);
-					memset(p72, 0, 24);
-					memset(p73, 0, 512);
-					memset(p74, 0, 520);
+					memset(p69, 0, 512);
+					memset(p70, 0, 520);
+					memset(p71, 0, 24);
+					memset(p72, 0, 16);
+					memset(p73, 0, 24);
+					memset(p74, 0, 80);
 					memset(p75, 0, 24);
-					memset(p76, 0, 16);
-					memset(p77, 0, 24);
-					memset(p78, 0, 80);
-					memset(p79, 0, 24);
-					memset(p80, 0, 512);
-					memset(p81, 0, 520);
-					memset(p82, 0, 24);
-					memset(p83, 0, 48);
-					memset(p84, 0, 1352);
+					memset(p76, 0, 512);
+					memset(p77, 0, 520);
+					memset(p78, 0, 24);
 					memset(p85, 0, 24);
 					memset(p86, 0, 48);
-					memset(p47, 0, 272);
-					tp_HierWheel_with_table(p47, 0, 0);
-					uint64_t n450 = load64(p47 + 8);
-					uint64_t n451 = load64(p47 + 16);
-					uint8_t n452 = load8(p47);
-					memcpy(p48, p47 + 24, 24);
-					byte *p453 = loadptr(p47 + 48);
-					uint64_t n454 = load64(p47 + 56);
-					uint64_t n455 = load64(p47 + 64);
-					memcpy(p49, p47 + 72, 16);
-					byte *p456 = loadptr(p47 + 88);
-					uint64_t n457 = load64(p47 + 96);
-					uint64_t n458 = load64(p47 + 104);
-					memcpy(p50, p47 + 112, 24);
-					memcpy(p51, p47 + 136, 80);
-					byte *p459 = loadptr(p47 + 216);
-					uint64_t n460 = load64(p47 + 224);
-					uint64_t n461 = load64(p47 + 232);
-					uint64_t n462 = load64(p47 + 240);
-					memcpy(p52, p47 + 248, 24);
-					if (n452 == 0) {
-						memset(p46, 0, 512);
-						uint64_t n463 = 0;
+					memset(p87, 0, 1352);
+					memset(p88, 0, 24);
+					memset(p89, 0, 48);
+					memset(p50, 0, 272);
+					tp_HierWheel_with_table(p50, 0, 0);
+					uint64_t n453 = load64(p50 + 8);
+					uint64_t n454 = load64(p50 + 16);
+					uint8_t n455 = load8(p50);
+					memcpy(p51, p50 + 24, 24);
+					byte *p456 = loadptr(p50 + 48);
+					uint64_t n457 = load64(p50 + 56);
+					uint64_t n458 = load64(p50 + 64);
+					memcpy(p52, p50 + 72, 16);
+					byte *p459 = loadptr(p50 + 88);
+					uint64_t n460 = load64(p50 + 96);
+					uint64_t n461 = load64(p50 + 104);
+					memcpy(p53, p50 + 112, 24);
+					memcpy(p54, p50 + 136, 80);
+					byte *p462 = loadptr(p50 + 216);
+					uint64_t n463 = load64(p50 + 224);
+					uint64_t n464 = load64(p50 + 232);
+					uint64_t n465 = load64(p50 + 240);
+					memcpy(p55, p50 + 248, 24);
+					if (n455 == 0) {
+						memset(p49, 0, 512);
+						uint64_t n466 = 0;
 						for (;;) {
-							store64(at(p46, n463), 1);
-							uint64_t n464 = n463 + 8;
-							if (n464 == 512)
+							store64(at(p49, n466), 1);
+							uint64_t n467 = n466 + 8;
+							if (n467 == 512)
 								break;
-							n463 = n464;
+							n466 = n467;
 						}
-						memcpy(p80, p46, 512);
-						memcpy(p75, p48, 24);
-						memcpy(p76, p49, 16);
-						memcpy(p77, p50, 24);
-						memcpy(p78, p51, 80);
-						memcpy(p79, p52, 24);
-						memset(p81, 0, 520);
-						p465 = p453;
-						n466 = n454;
-						n467 = n455;
+						memcpy(p83, p49, 512);
+						memcpy(p78, p51, 24);
+						memcpy(p79, p52, 16);
+						memcpy(p80, p53, 24);
+						memcpy(p81, p54, 80);
+						memcpy(p82, p55, 24);
+						memset(p84, 0, 520);
 						p468 = p456;
 						n469 = n457;
 						n470 = n458;
 						p471 = p459;
 						n472 = n460;
 						n473 = n461;
-						n474 = n462;
-						b475 = false;
-						n476 = n450;
-						n477 = n451;
-						n478 = n240;
-						n479 = 65536;
-						n480 = 1;
-						p481 = p5;
+						p474 = p462;
+						n475 = n463;
+						n476 = n464;
+						n477 = n465;
+						b478 = false;
+						n479 = n453;
+						n480 = n454;
+						n481 = n241;
+						n482 = 65536;
+						n483 = 1;
+						p484 = p5;
 					} else {
-						memset(p75, 0, 24);
-						memset(p76, 0, 16);
-						memset(p77, 0, 24);
-						memset(p78, 0, 80);
-						memset(p79, 0, 24);
-						memset(p80, 0, 512);
-						memset(p81, 0, 520);
-						p465 = NULL;
-						n466 = 0;
-						n467 = 0;
+						memset(p78, 0, 24);
+						memset(p79, 0, 16);
+						memset(p80, 0, 24);
+						memset(p81, 0, 80);
+						memset(p82, 0, 24);
+						memset(p83, 0, 512);
+						memset(p84, 0, 520);
 						p468 = NULL;
 						n469 = 0;
 						n470 = 0;
 						p471 = NULL;
 						n472 = 0;
 						n473 = 0;
-						n474 = 0;
-						b475 = true;
+						p474 = NULL;
+						n475 = 0;
 						n476 = 0;
 						n477 = 0;
-						n478 = 0;
+						b478 = true;
 						n479 = 0;
 						n480 = 0;
-						p481 = NULL;
-					}
-					memset(p39, 0, 24);
-					memset(p40, 0, 16);
-					memset(p41, 0, 24);
-					memset(p42, 0, 80);
-					memset(p43, 0, 24);
-					memset(p44, 0, 512);
-					memset(p45, 0, 520);
-					if (b475) {
-						p482 = NULL;
+						n481 = 0;
+						n482 = 0;
 						n483 = 0;
-						n484 = 0;
+						p484 = NULL;
+					}
+					memset(p42, 0, 24);
+					memset(p43, 0, 16);
+					memset(p44, 0, 24);
+					memset(p45, 0, 80);
+					memset(p46, 0, 24);
+					memset(p47, 0, 512);
+					memset(p48, 0, 520);
+					if (b478) {
 						p485 = NULL;
 						n486 = 0;
 						n487 = 0;
 						p488 = NULL;
 						n489 = 0;
 						n490 = 0;
-						n491 = 0;
+						p491 = NULL;
 						n492 = 0;
 						n493 = 0;
 						n494 = 0;
-						p495 = NULL;
+						n495 = 0;
 						n496 = 0;
 						n497 = 0;
+						p498 = NULL;
+						n499 = 0;
+						n500 = 0;
 					} else {
-						memcpy(p39, p75, 24);
-						memcpy(p40, p76, 16);
-						memcpy(p41, p77, 24);
-						memcpy(p42, p78, 80);
-						memcpy(p43, p79, 24);
-						memcpy(p44, p80, 512);
-						memcpy(p45, p81, 520);
-						p482 = p465;
-						n483 = n466;
-						n484 = n467;
+						memcpy(p42, p78, 24);
+						memcpy(p43, p79, 16);
+						memcpy(p44, p80, 24);
+						memcpy(p45, p81, 80);
+						memcpy(p46, p82, 24);
+						memcpy(p47, p83, 512);
+						memcpy(p48, p84, 520);
 						p485 = p468;
 						n486 = n469;
 						n487 = n470;
 						p488 = p471;
 						n489 = n472;
 						n490 = n473;
-						n491 = n474;
-						n492 = n478;
-						n493 = n479;
-						n494 = n480;
-						p495 = p481;
-						n496 = n476;
-						n497 = n477;
+						p491 = p474;
+						n492 = n475;
+						n493 = n476;
+						n494 = n477;
+						n495 = n481;
+						n496 = n482;
+						n497 = n483;
+						p498 = p484;
+						n499 = n479;
+						n500 = n480;
 					}
-					memcpy(p68, p39, 24);
-					memcpy(p69, p40, 16);
-					memcpy(p70, p41, 24);
-					memcpy(p71, p42, 80);
-					memcpy(p72, p43, 24);
-					memcpy(p73, p44, 512);
-					memcpy(p74, p45, 520);
-					memset(p32, 0, 24);
-					memset(p33, 0, 16);
-					memset(p34, 0, 24);
-					memset(p35, 0, 80);
-					memset(p36, 0, 24);
-					memset(p37, 0, 512);
-					memset(p38, 0, 520);
-					if (b475) {
-						p498 = NULL;
-						n499 = 0;
-						n500 = 0;
+					memcpy(p71, p42, 24);
+					memcpy(p72, p43, 16);
+					memcpy(p73, p44, 24);
+					memcpy(p74, p45, 80);
+					memcpy(p75, p46, 24);
+					memcpy(p76, p47, 512);
+					memcpy(p77, p48, 520);
+					memset(p35, 0, 24);
+					memset(p36, 0, 16);
+					memset(p37, 0, 24);
+					memset(p38, 0, 80);
+					memset(p39, 0, 24);
+					memset(p40, 0, 512);
+					memset(p41, 0, 520);
+					if (b478) {
 						p501 = NULL;
 						n502 = 0;
 						n503 = 0;
 						p504 = NULL;
 						n505 = 0;
 						n506 = 0;
-						n507 = 0;
+						p507 = NULL;
 						n508 = 0;
 						n509 = 0;
 						n510 = 0;
-						p511 = NULL;
-						n512 = n496 & 255;
+						n511 = 0;
+						n512 = 0;
+						n513 = 0;
+						p514 = NULL;
+						n515 = n499 & 255;
 					} else {
-						memcpy(p32, p68, 24);
-						memcpy(p33, p69, 16);
-						memcpy(p34, p70, 24);
-						memcpy(p35, p71, 80);
-						memcpy(p36, p72, 24);
-						memcpy(p37, p73, 512);
-						memcpy(p38, p74, 520);
-						p498 = p482;
-						n499 = n483;
-						n500 = n484;
+						memcpy(p35, p71, 24);
+						memcpy(p36, p72, 16);
+						memcpy(p37, p73, 24);
+						memcpy(p38, p74, 80);
+						memcpy(p39, p75, 24);
+						memcpy(p40, p76, 512);
+						memcpy(p41, p77, 520);
 						p501 = p485;
 						n502 = n486;
 						n503 = n487;
 						p504 = p488;
 						n505 = n489;
 						n506 = n490;
-						n507 = n491;
+						p507 = p491;
 						n508 = n492;
 						n509 = n493;
 						n510 = n494;
-						p511 = p495;
+						n511 = n495;
 						n512 = n496;
+						n513 = n497;
+						p514 = p498;
+						n515 = n499;
 					}
-					memcpy(p61, p32, 24);
-					memcpy(p62, p33, 16);
-					memcpy(p63, p34, 24);
-					memcpy(p64, p35, 80);
-					memcpy(p65, p36, 24);
-					memcpy(p66, p37, 512);
-					memcpy(p67, p38, 520);
-					if (b475) {
-						rattle_dealloc(p449);
-						n513 = 0;
-						n514 = n497;
-						n515 = 0;
-						n516 = (uint8_t)n512;
-						n517 = 1;
+					memcpy(p64, p35, 24);
+					memcpy(p65, p36, 16);
+					memcpy(p66, p37, 24);
+					memcpy(p67, p38, 80);
+					memcpy(p68, p39, 24);
+					memcpy(p69, p40, 512);
+					memcpy(p70, p41, 520);
+					if (b478) {
+						rattle_dealloc(p452);
+						n516 = 1;
+						n517 = n515 & 255;
+						n518 = n500;
+						n519 = 0;
 					} else {
-						bool b519, b525;
-						uint64_t n520, n521, n522;
-						byte *p523, *p524;
-						memcpy(p54, p61, 24);
-						memcpy(p55, p62, 16);
-						memcpy(p56, p63, 24);
-						memcpy(p57, p64, 80);
-						memcpy(p58, p65, 24);
-						memcpy(p59, p66, 512);
-						memcpy(p60, p67, 520);
-						memset(p29, 0, 16);
-						memset(p30, 0, 16);
-						memset(p31, 0, 6);
-						of_i64_i64 s518 = rattle_alloc(n240 * 88, 8);
-						if ((s518.f0 & 1) == 0) {
-							rattle_dealloc(p449);
-							b519 = true;
-							n520 = 0;
-							n521 = 0;
+						bool b521, b527;
+						uint64_t n522, n523, n524;
+						byte *p525, *p526;
+						memcpy(p57, p64, 24);
+						memcpy(p58, p65, 16);
+						memcpy(p59, p66, 24);
+						memcpy(p60, p67, 80);
+						memcpy(p61, p68, 24);
+						memcpy(p62, p69, 512);
+						memcpy(p63, p70, 520);
+						memset(p32, 0, 16);
+						memset(p33, 0, 16);
+						memset(p34, 0, 6);
+						of_i64_i64 s520 = rattle_alloc(n241 * 88, 8);
+						if ((s520.f0 & 1) == 0) {
+							rattle_dealloc(p452);
+							b521 = true;
 							n522 = 0;
-							p523 = NULL;
-							p524 = NULL;
-							b525 = true;
+							n523 = 0;
+							n524 = 0;
+							p525 = NULL;
+							p526 = NULL;
+							b527 = true;
 						} else {
-							byte *p526 = (byte *)(uintptr_t)s518.f1;
-							of_i64_i64 s527 = rattle_alloc(n240 * 112, 8);
-							if ((s527.f0 & 1) != 0) {
-								byte *p528 = (byte *)(uintptr_t)s527.f1;
-								of_i64_i64 s529 = rattle_alloc(n240 << 3, 8);
-								if ((s529.f0 & 1) != 0) {
-									byte *p537, *p539, *p543, *p545;
-									uint64_t n568, n569;
-									byte *p530 = (byte *)(uintptr_t)s529.f1;
-									uint64_t n531 = 0;
-									uint64_t n532 = n240;
+							byte *p528 = (byte *)(uintptr_t)s520.f1;
+							of_i64_i64 s529 = rattle_alloc(n241 * 112, 8);
+							if ((s529.f0 & 1) != 0) {
+								byte *p530 = (byte *)(uintptr_t)s529.f1;
+								of_i64_i64 s531 = rattle_alloc(n241 << 3, 8);
+								if ((s531.f0 & 1) != 0) {
+									byte *p539, *p541, *p545, *p547;
+									uint64_t n570, n571;
+									byte *p532 = (byte *)(uintptr_t)s531.f1;
+									uint64_t n533 = 0;
+									uint64_t n534 = n241;
 									for (;;) {
-										byte *p547, *p549, *p550, *p551;
-										uint64_t n548;
-										bool b552;
-										if (n532 == 0)
+										byte *p549, *p551, *p552, *p553;
+										uint64_t n550;
+										bool b554;
+										if (n534 == 0)
 											goto L30;
-										uint64_t n533 = n532 - 1;
-										of_i64_i64 s534 = rattle_alloc(384, 8);
-										bool b535 = (s534.f0 & 1) != 0;
-										byte *p536 = (byte *)(uintptr_t)s534.f1;
-										p537 = b535 ? p536 : NULL;
-										if (!b535)
+										uint64_t n535 = n534 - 1;
+										of_i64_i64 s536 = rattle_alloc(384, 8);
+										bool b537 = (s536.f0 & 1) != 0;
+										byte *p538 = (byte *)(uintptr_t)s536.f1;
+										p539 = b537 ? p538 : NULL;
+										if (!b537)
 											goto L31;
-										of_i64_i64 s538 = rattle_alloc(3072, 8);
-										if ((s538.f0 & 1) == 0) {
-											rattle_dealloc(p537);
+										of_i64_i64 s540 = rattle_alloc(3072, 8);
+										if ((s540.f0 & 1) == 0) {
+											rattle_dealloc(p539);
 											goto L31;
 										}
-										p539 = (byte *)(uintptr_t)s538.f1;
-										store64(p536, 0);
-										store64(p536 + 128, 0);
-										store64(p536 + 256, 0);
-										of_i64_i64 s540 = rattle_alloc(384, 8);
-										bool b541 = (s540.f0 & 1) != 0;
-										byte *p542 = (byte *)(uintptr_t)s540.f1;
-										p543 = b541 ? p542 : NULL;
-										if (!b541)
+										p541 = (byte *)(uintptr_t)s540.f1;
+										store64(p538, 0);
+										store64(p538 + 128, 0);
+										store64(p538 + 256, 0);
+										of_i64_i64 s542 = rattle_alloc(384, 8);
+										bool b543 = (s542.f0 & 1) != 0;
+										byte *p544 = (byte *)(uintptr_t)s542.f1;
+										p545 = b543 ? p544 : NULL;
+										if (!b543)
 											goto L32;
-										of_i64_i64 s544 = rattle_alloc(4096, 8);
-										if ((s544.f0 & 1) == 0) {
-											rattle_dealloc(p543);
+										of_i64_i64 s546 = rattle_alloc(4096, 8);
+										if ((s546.f0 & 1) == 0) {
+											rattle_dealloc(p545);
 											goto L32;
 										}
-										p545 = (byte *)(uintptr_t)s544.f1;
-										store64(p542, 0);
-										store64(p542 + 128, 0);
-										store64(p542 + 256, 0);
-										memset(p29, 0, 16);
-										memset(p30, 0, 16);
-										memset(p31, 0, 6);
-										byte *p546 = os_malloc(128);
-										if (p546 == NULL) {
-											p547 = p539;
-											n548 = 64;
-											p549 = p543;
-											p550 = p545;
-											p551 = p537;
-											b552 = true;
+										p547 = (byte *)(uintptr_t)s546.f1;
+										store64(p544, 0);
+										store64(p544 + 128, 0);
+										store64(p544 + 256, 0);
+										memset(p32, 0, 16);
+										memset(p33, 0, 16);
+										memset(p34, 0, 6);
+										byte *p548 = os_malloc(128);
+										if (p548 == NULL) {
+											p549 = p541;
+											n550 = 64;
+											p551 = p545;
+											p552 = p547;
+											p553 = p539;
+											b554 = true;
 										} else {
-											storeptru(p546 + 16, p537);
-											storeptru(p546 + 24, p539);
-											store64u(p546 + 32, 64);
-											memset(p546 + 40, 0, 16);
-											storeptru(p546 + 56, p543);
-											storeptru(p546 + 64, p545);
-											store64u(p546 + 72, 64);
-											memset(p546 + 80, 0, 16);
-											store64u(p546 + 96, 1);
-											store64u(p546 + 104, 0);
-											store64u(p546 + 112, n241);
-											store64u(p546 + 120, 10000000);
-											store64(p546 + 8, 0);
-											memset(p28, 0, 64);
-											uint32_t n553 = os_pthread_attr_init(p28);
-											if (n553 == 0) {
-												uint32_t n554 = os_pthread_attr_setguardsize(p28, 65536);
-												if (n554 == 0) {
-													uint32_t n555 = os_pthread_create(p546, p28, (byte *)(uintptr_t)tp_call_once_thread_called_by_C_0, p546);
-													(void)os_pthread_attr_destroy(p28);
-													if (n555 == 0) {
-														p547 = NULL;
-														n548 = 0;
+											storeptru(p548 + 16, p539);
+											storeptru(p548 + 24, p541);
+											store64u(p548 + 32, 64);
+											memset(p548 + 40, 0, 16);
+											storeptru(p548 + 56, p545);
+											storeptru(p548 + 64, p547);
+											store64u(p548 + 72, 64);
+											memset(p548 + 80, 0, 16);
+											store64u(p548 + 96, 1);
+											store64u(p548 + 104, 0);
+											store64u(p548 + 112, n242);
+											store64u(p548 + 120, 10000000);
+											store64(p548 + 8, 0);
+											memset(p31, 0, 64);
+											uint32_t n555 = os_pthread_attr_init(p31);
+											if (n555 == 0) {
+												uint32_t n556 = os_pthread_attr_setguardsize(p31, 65536);
+												if (n556 == 0) {
+													uint32_t n557 = os_pthread_create(p548, p31, (byte *)(uintptr_t)tp_call_once_thread_called_by_C_0, p548);
+													(void)os_pthread_attr_destroy(p31);
+													if (n557 == 0) {
 														p549 = NULL;
-														p550 = NULL;
-														p551 = p546;
-														b552 = false;
+														n550 = 0;
+														p551 = NULL;
+														p552 = NULL;
+														p553 = p548;
+														b554 = false;
 														goto L33;
 													}
 												} else {
-													(void)os_pthread_attr_destroy(p28);
+													(void)os_pthread_attr_destroy(p31);
 												}
 											}
-											os_free(p546);
-											p547 = p539;
-											n548 = 64;
-											p549 = p543;
-											p550 = p545;
-											p551 = p537;
-											b552 = true;
+											os_free(p548);
+											p549 = p541;
+											n550 = 64;
+											p551 = p545;
+											p552 = p547;
+											p553 = p539;
+											b554 = true;
 										}
 L33:
 										{
-											byte *p557, *p559, *p560, *p565;
-											uint64_t n558;
-											uint8_t n556 = load8_volatile((byte *)tp_static);
-											if (n556 != 0) {
+											byte *p559, *p561, *p562, *p567;
+											uint64_t n560;
+											uint8_t n558 = load8_volatile((byte *)tp_static);
+											if (n558 != 0) {
 												TRAP();
 												UNREACHABLE();
 											}
-											if (b552) {
-												p557 = p547;
-												n558 = n548;
+											if (b554) {
 												p559 = p549;
-												p560 = p550;
+												n560 = n550;
+												p561 = p551;
+												p562 = p552;
 											} else {
-												p557 = NULL;
-												n558 = 0;
 												p559 = NULL;
-												p560 = NULL;
+												n560 = 0;
+												p561 = NULL;
+												p562 = NULL;
 											}
-											uint8_t n561 = load8_volatile((byte *)tp_static);
-											if (n561 != 0) {
+											uint8_t n563 = load8_volatile((byte *)tp_static);
+											if (n563 != 0) {
 												TRAP();
 												UNREACHABLE();
 											}
-											uint8_t n562 = load8_volatile((byte *)tp_static);
-											if (n562 != 0) {
+											uint8_t n564 = load8_volatile((byte *)tp_static);
+											if (n564 != 0) {
 												TRAP();
 												UNREACHABLE();
 											}
-											if (b552) {
+											if (b554) {
 												BARRIER();
-												uint64_t n563 = atomic_exchange64(p551 + 256, 1, ORDER_SEQ_CST);
+												uint64_t n565 = atomic_exchange64(p553 + 256, 1, ORDER_SEQ_CST);
 												BARRIER();
-												if (n563 != 0)
-													tp_release_drop_slow(p551, p557, n558);
+												if (n565 != 0)
+													tp_release_drop_slow(p553, p559, n560);
 												BARRIER();
-												uint64_t n564 = atomic_exchange64(p559 + 256, 1, ORDER_SEQ_CST);
+												uint64_t n566 = atomic_exchange64(p561 + 256, 1, ORDER_SEQ_CST);
 												BARRIER();
-												if (n564 == 0) {
-													p565 = NULL;
+												if (n566 == 0) {
+													p567 = NULL;
 												} else {
-													tp_release_drop_slow(p559, p560, n558);
-													p565 = NULL;
+													tp_release_drop_slow(p561, p562, n560);
+													p567 = NULL;
 												}
 											} else {
-												p565 = p551;
+												p567 = p553;
 											}
-											uint8_t n566 = load8_volatile((byte *)tp_static);
-											if (n566 != 0) {
+											uint8_t n568 = load8_volatile((byte *)tp_static);
+											if (n568 != 0) {
 												TRAP();
 												UNREACHABLE();
 											}
-											if (b552)
+											if (b554)
 												break;
-											byte *p567 = inside(p526, n531 * 88);
-											storeptru(p567, p537);
-											storeptru(p567 + 8, p539);
-											store64u(p567 + 16, 64);
-											memcpy(p567 + 24, p29, 16);
-											storeptru(p567 + 40, p543);
-											storeptru(p567 + 48, p545);
-											store64u(p567 + 56, 64);
-											memcpy(p567 + 64, p30, 16);
-											store8(p567 + 80, 0);
-											store8(p567 + 81, 0);
-											memcpy(p567 + 82, p31, 6);
-											store64u(inside(p530, n531 << 3), (uint64_t)(uintptr_t)p565);
-											n531 = n531 + 1;
-											n532 = n533;
+											byte *p569 = inside(p528, n533 * 88);
+											storeptru(p569, p539);
+											storeptru(p569 + 8, p541);
+											store64u(p569 + 16, 64);
+											memcpy(p569 + 24, p32, 16);
+											storeptru(p569 + 40, p545);
+											storeptru(p569 + 48, p547);
+											store64u(p569 + 56, 64);
+											memcpy(p569 + 64, p33, 16);
+											store8(p569 + 80, 0);
+											store8(p569 + 81, 0);
+											memcpy(p569 + 82, p34, 6);
+											store64u(inside(p532, n533 << 3), (uint64_t)(uintptr_t)p567);
+											n533 = n533 + 1;
+											n534 = n535;
 										}
 									}
 									BARRIER();
-									n568 = atomic_exchange64(p537 + 256, 1, ORDER_SEQ_CST);
+									n570 = atomic_exchange64(p539 + 256, 1, ORDER_SEQ_CST);
 									BARRIER();
-									if (n568 != 0)
-										tp_release_drop_slow(p537, p539, 64);
+									if (n570 != 0)
+										tp_release_drop_slow(p539, p541, 64);
 									BARRIER();
-									n569 = atomic_exchange64(p543 + 256, 1, ORDER_SEQ_CST);
+									n571 = atomic_exchange64(p545 + 256, 1, ORDER_SEQ_CST);
 									BARRIER();
-									if (n569 != 0)
-										tp_release_drop_slow(p543, p545, 64);
-									rattle_dealloc(p449);
-									b519 = false;
-									n520 = s518.f1;
-									n521 = n531;
-									n522 = n240;
-									p523 = p530;
-									p524 = p528;
-									b525 = true;
+									if (n571 != 0)
+										tp_release_drop_slow(p545, p547, 64);
+									rattle_dealloc(p452);
+									b521 = false;
+									n522 = s520.f1;
+									n523 = n533;
+									n524 = n241;
+									p525 = p532;
+									p526 = p530;
+									b527 = true;
 									goto L34;
 L32:
 									{
 										BARRIER();
-										uint64_t n570 = atomic_exchange64(p537 + 256, 1, ORDER_SEQ_CST);
+										uint64_t n572 = atomic_exchange64(p539 + 256, 1, ORDER_SEQ_CST);
 										BARRIER();
-										if (n570 != 0)
-											tp_release_drop_slow(p537, p539, 64);
+										if (n572 != 0)
+											tp_release_drop_slow(p539, p541, 64);
 										BARRIER();
-										uint64_t n571 = atomic_exchange64(p537 + 256, 1, ORDER_SEQ_CST);
+										uint64_t n573 = atomic_exchange64(p539 + 256, 1, ORDER_SEQ_CST);
 										BARRIER();
-										if (n571 != 0)
-											tp_release_drop_slow(p537, p539, 64);
+										if (n573 != 0)
+											tp_release_drop_slow(p539, p541, 64);
 									}
 L31:
 									{
-										rattle_dealloc(p449);
-										b519 = false;
-										n520 = s518.f1;
-										n521 = n531;
-										n522 = n240;
-										p523 = p530;
-										p524 = p528;
-										b525 = true;
+										rattle_dealloc(p452);
+										b521 = false;
+										n522 = s520.f1;
+										n523 = n533;
+										n524 = n241;
+										p525 = p532;
+										p526 = p530;
+										b527 = true;
 										goto L34;
 									}
 L30:
 									{
-										rattle_dealloc(p449);
-										b519 = false;
-										n520 = s518.f1;
-										n521 = n240;
-										n522 = n240;
-										p523 = p530;
-										p524 = p528;
-										b525 = false;
+										rattle_dealloc(p452);
+										b521 = false;
+										n522 = s520.f1;
+										n523 = n241;
+										n524 = n241;
+										p525 = p532;
+										p526 = p530;
+										b527 = false;
 										goto L34;
 									}
 								}
-								rattle_dealloc(p528);
+								rattle_dealloc(p530);
 							}
-							rattle_dealloc(p526);
-							rattle_dealloc(p449);
-							b519 = true;
-							n520 = 0;
-							n521 = 0;
+							rattle_dealloc(p528);
+							rattle_dealloc(p452);
+							b521 = true;
 							n522 = 0;
-							p523 = NULL;
-							p524 = NULL;
-							b525 = true;
+							n523 = 0;
+							n524 = 0;
+							p525 = NULL;
+							p526 = NULL;
+							b527 = true;
 						}
 L34:
 						{
-							uint8_t n572 = load8_volatile((byte *)tp_static);
-							if (n572 != 0) {
+							uint8_t n574 = load8_volatile((byte *)tp_static);
+							if (n574 != 0) {
 								TRAP();
 								UNREACHABLE();
 							}
-							if (b519) {
-								store64u(p53, 1);
-								memset(p53 + 8, 0, 24);
-								if (n500 != 0)
-									rattle_dealloc(p498);
+							if (b521) {
+								store64u(p56, 1);
+								memset(p56 + 8, 0, 24);
 								if (n503 != 0)
 									rattle_dealloc(p501);
 								if (n506 != 0)
 									rattle_dealloc(p504);
-								n513 = load64(p53 + 24);
-								n514 = load64(p53 + 16);
-								n515 = load56u(p53 + 9);
-								n516 = load8(p53 + 8);
-								n517 = load8(p53);
-							} else if (b525) {
-								uint64_t n577;
-								storeptru(p83, p523);
-								store64u(p83 + 8, n521);
-								store64u(p83 + 16, n522);
-								storeptru(p83 + 24, p524);
-								store64u(p83 + 32, 0);
-								store64u(p83 + 40, n522);
-								tp_Children_join(p82, p83);
-								uint8_t n573 = load8_volatile((byte *)tp_static);
-								if (n573 != 0) {
+								if (n509 != 0)
+									rattle_dealloc(p507);
+								n516 = load8(p56);
+								n517 = load64(p56 + 8);
+								n518 = load64(p56 + 16);
+								n519 = load64(p56 + 24);
+							} else if (b527) {
+								uint64_t n579;
+								storeptru(p86, p525);
+								store64u(p86 + 8, n523);
+								store64u(p86 + 16, n524);
+								storeptru(p86 + 24, p526);
+								store64u(p86 + 32, 0);
+								store64u(p86 + 40, n524);
+								tp_Children_join(p85, p86);
+								uint8_t n575 = load8_volatile((byte *)tp_static);
+								if (n575 != 0) {
 									TRAP();
 									UNREACHABLE();
 								}
-								byte *p574 = loadptru(p82);
-								uint64_t n575 = load64u(p82 + 8);
-								uint64_t n576 = load64u(p82 + 16);
-								if (n575 == 0)
+								byte *p576 = loadptru(p85);
+								uint64_t n577 = load64u(p85 + 8);
+								uint64_t n578 = load64u(p85 + 16);
+								if (n577 == 0)
 									goto L35;
-								n577 = 0;
-								while (n577 != n575) {
-									byte *p578 = inside(p574, n577 * 112);
-									byte *p579 = loadptru(p578 + 24);
-									byte *p580 = loadptru(p578 + 32);
-									uint64_t n581 = load64u(p578 + 40);
+								n579 = 0;
+								while (n579 != n577) {
+									byte *p580 = inside(p576, n579 * 112);
+									byte *p581 = loadptru(p580 + 24);
+									byte *p582 = loadptru(p580 + 32);
+									uint64_t n583 = load64u(p580 + 40);
 									BARRIER();
-									uint64_t n582 = atomic_exchange64(p579 + 256, 1, ORDER_SEQ_CST);
+									uint64_t n584 = atomic_exchange64(p581 + 256, 1, ORDER_SEQ_CST);
 									BARRIER();
-									if (n582 != 0)
-										tp_release_drop_slow(p579, p580, n581);
-									n577 = n577 + 1;
+									if (n584 != 0)
+										tp_release_drop_slow(p581, p582, n583);
+									n579 = n579 + 1;
 								}
 L35:
 								{
-									uint64_t n584;
-									if (n576 != 0)
-										rattle_dealloc(p574);
-									store64u(p53, 1);
-									byte *p583 = (byte *)(uintptr_t)n520;
-									memset(p53 + 8, 0, 16);
-									if (n521 == 0)
+									uint64_t n586;
+									if (n578 != 0)
+										rattle_dealloc(p576);
+									store64u(p56, 1);
+									byte *p585 = (byte *)(uintptr_t)n522;
+									memset(p56 + 8, 0, 16);
+									if (n523 == 0)
 										goto L36;
-									n584 = 0;
-									while (n584 != n521) {
-										byte *p585 = inside(p583, n584 * 88);
-										byte *p586 = loadptru(p585);
-										byte *p587 = loadptru(p585 + 8);
-										uint64_t n588 = load64u(p585 + 16);
-										byte *p589 = loadptru(p585 + 40);
-										byte *p590 = loadptru(p585 + 48);
-										uint64_t n591 = load64u(p585 + 56);
+									n586 = 0;
+									while (n586 != n523) {
+										byte *p587 = inside(p585, n586 * 88);
+										byte *p588 = loadptru(p587);
+										byte *p589 = loadptru(p587 + 8);
+										uint64_t n590 = load64u(p587 + 16);
+										byte *p591 = loadptru(p587 + 40);
+										byte *p592 = loadptru(p587 + 48);
+										uint64_t n593 = load64u(p587 + 56);
 										BARRIER();
-										uint64_t n592 = atomic_exchange64(p586 + 256, 1, ORDER_SEQ_CST);
+										uint64_t n594 = atomic_exchange64(p588 + 256, 1, ORDER_SEQ_CST);
 										BARRIER();
-										if (n592 != 0)
-											tp_release_drop_slow(p586, p587, n588);
+										if (n594 != 0)
+											tp_release_drop_slow(p588, p589, n590);
 										BARRIER();
-										uint64_t n593 = atomic_exchange64(p589 + 256, 1, ORDER_SEQ_CST);
+										uint64_t n595 = atomic_exchange64(p591 + 256, 1, ORDER_SEQ_CST);
 										BARRIER();
-										if (n593 != 0)
-											tp_release_drop_slow(p589, p590, n591);
-										n584 = n584 + 1;
+										if (n595 != 0)
+											tp_release_drop_slow(p591, p592, n593);
+										n586 = n586 + 1;
 									}
 L36:
 									{
-										if (n522 != 0)
-											rattle_dealloc(p583);
-										if (n500 != 0)
-											rattle_dealloc(p498);
+										if (n524 != 0)
+											rattle_dealloc(p585);
 										if (n503 != 0)
 											rattle_dealloc(p501);
 										if (n506 != 0)
 											rattle_dealloc(p504);
-										n513 = load64(p53 + 24);
-										n514 = load64(p53 + 16);
-										n515 = load56u(p53 + 9);
-										n516 = load8(p53 + 8);
-										n517 = load8(p53);
+										if (n509 != 0)
+											rattle_dealloc(p507);
+										n516 = load8(p56);
+										n517 = load64(p56 + 8);
+										n518 = load64(p56 + 16);
+										n519 = load64(p56 + 24);
 									}
 								}
 							} else {
-								store64u(p84, n512);
-								store64u(p84 + 8, n497);
-								memcpy(p84 + 16, p54, 24);
-								storeptru(p84 + 40, p498);
-								store64u(p84 + 48, n499);
-								store64u(p84 + 56, n500);
-								memcpy(p84 + 64, p55, 16);
-								storeptru(p84 + 80, p501);
-								store64u(p84 + 88, n502);
-								store64u(p84 + 96, n503);
-								memcpy(p84 + 104, p56, 24);
-								memcpy(p84 + 128, p57, 80);
-								storeptru(p84 + 208, p504);
-								store64u(p84 + 216, n505);
-								store64u(p84 + 224, n506);
-								store64u(p84 + 232, n507);
-								memcpy(p84 + 240, p58, 24);
-								store64u(p84 + 264, n508);
-								store64u(p84 + 272, n509);
-								store64u(p84 + 280, n510);
-								memcpy(p84 + 288, p59, 512);
-								memcpy(p84 + 800, p60, 520);
-								storeptru(p84 + 1320, p511);
-								memset(p84 + 1328, 0, 24);
-								store64u(p85, n520);
-								store64u(p85 + 8, n521);
-								store64u(p85 + 16, n522);
-								storeptru(p86, p523);
-								store64u(p86 + 8, n521);
-								store64u(p86 + 16, n522);
-								storeptru(p86 + 24, p524);
-								store64u(p86 + 32, 0);
-								store64u(p86 + 40, n522);
-								tp_threads_drive_beside(p53, p84, p85, p86, n241);
-								uint8_t n594 = load8_volatile((byte *)tp_static);
-								if (n594 != 0) {
+								store64u(p87, n515);
+								store64u(p87 + 8, n500);
+								memcpy(p87 + 16, p57, 24);
+								storeptru(p87 + 40, p501);
+								store64u(p87 + 48, n502);
+								store64u(p87 + 56, n503);
+								memcpy(p87 + 64, p58, 16);
+								storeptru(p87 + 80, p504);
+								store64u(p87 + 88, n505);
+								store64u(p87 + 96, n506);
+								memcpy(p87 + 104, p59, 24);
+								memcpy(p87 + 128, p60, 80);
+								storeptru(p87 + 208, p507);
+								store64u(p87 + 216, n508);
+								store64u(p87 + 224, n509);
+								store64u(p87 + 232, n510);
+								memcpy(p87 + 240, p61, 24);
+								store64u(p87 + 264, n511);
+								store64u(p87 + 272, n512);
+								store64u(p87 + 280, n513);
+								memcpy(p87 + 288, p62, 512);
+								memcpy(p87 + 800, p63, 520);
+								storeptru(p87 + 1320, p514);
+								memset(p87 + 1328, 0, 24);
+								store64u(p88, n522);
+								store64u(p88 + 8, n523);
+								store64u(p88 + 16, n524);
+								storeptru(p89, p525);
+								store64u(p89 + 8, n523);
+								store64u(p89 + 16, n524);
+								storeptru(p89 + 24, p526);
+								store64u(p89 + 32, 0);
+								store64u(p89 + 40, n524);
+								tp_threads_drive_beside(p56, p87, p88, p89, n242);
+								uint8_t n596 = load8_volatile((byte *)tp_static);
+								if (n596 != 0) {
 									TRAP();
 									UNREACHABLE();
 								}
-								n513 = load64(p53 + 24);
-								n514 = load64(p53 + 16);
-								n515 = load56u(p53 + 9);
-								n516 = load8(p53 + 8);
-								n517 = load8(p53);
+								n516 = load8(p56);
+								n517 = load64(p56 + 8);
+								n518 = load64(p56 + 16);
+								n519 = load64(p56 + 24);
 							}
 						}
 					}
-					uint8_t n595 = load8_volatile((byte *)tp_static);
-					if (n595 != 0) {
+					uint8_t n597 = load8_volatile((byte *)tp_static);
+					if (n597 != 0) {
 						TRAP();
 						UNREACHABLE();
 					}
-					storeptru(p89, p4);
-					store8(p89 + 8, 0);
-					memcpy(p89 + 9, p88, 7);
-					if (n517 == 0) {
-						byte *p596 = (byte *)(uintptr_t)((n515 << 8) | (uint64_t)n516);
-						uint64_t n597 = 0;
-						while (n597 < n514) {
-							uint64_t n598 = n514 - n597;
-							uint64_t n599 = os_write(1, at(p596, n597), n598);
-							if ((int64_t)n599 < (int64_t)0) {
-								tp_error_last_error(p27);
-								goto L37;
-							}
-							uint64_t n600 = umin64(n599, n598);
-							if (n600 == 0)
-								goto L37;
-							n597 = n597 + n600;
-						}
-						if (n513 == 0) {
-							n446 = 0;
-							goto L38;
-						}
-						rattle_dealloc(p596);
-						n446 = 0;
-						goto L38;
-L37:
-						{
-							store8(p3 + 1, 1);
-							store64u(p26, (uint64_t)(uintptr_t)p89);
-							memset(p26 + 8, 0, 96);
-							memset(p26 + 128, 0, 16);
-							store32u(p26 + 104, 32);
-							memset(p26 + 108, 0, 12);
-							store64u(p26 + 120, UINT64_MAX);
-							uint8_t n601 = tp_traits_AdapterWrite_write_str(p26, (byte *)tp_static_230, 12);
-							if ((n601 & 1) == 0) {
-								store32u(p26 + 104, 32);
-								memset(p26 + 108, 0, 12);
-								store64u(p26 + 120, UINT64_MAX);
-								if (load64(p26 + 128) == 0) {
-									(void)tp_traits_AdapterWrite_write_str(p26, (byte *)tp_static_93, 1);
-								} else {
-									tp_formatter_Formatter_write_indented(p26);
-								}
-							}
-							if (n513 == 0) {
-								n446 = 1;
-							} else {
-								rattle_dealloc(p596);
-								n446 = 1;
-							}
-						}
-					} else {
-						uint64_t n602, n638;
-						switch (n516) {
-						case 0: {
-							n602 = 0;
-							goto L39;
-						}
-						case 1: {
-							uint64_t n606, n607, n616, n630, n631, n635;
-							byte *p629;
-							memset(p24, 0, 40);
-							uint64_t n603 = 0;
-							for (;;) {
-								if (n603 >= 7) {
-									n606 = n514;
-									n607 = 40;
-									break;
-								}
-								uint64_t n604 = 7 - n603;
-								uint64_t n605 = os_write(2, at((byte *)tp_static_287, n603), n604);
-								if ((int64_t)n605 < (int64_t)0) {
-									tp_error_last_error(p23);
-									store8(p4, 1);
-									goto L40;
-								}
-								if (n605 == 0) {
-									store8(p4, 1);
-									goto L40;
-								}
-								n603 = n603 + umin64(n605, n604);
-							}
-							while (n606 > 9999) {
-								uint16_t n608 = (uint16_t)(n606 % 10000);
-								byte *p609 = inside((byte *)tp_static_224, (uint64_t)(uint16_t)((uint32_t)(uint16_t)(n608 % 100) << 1));
-								byte *p610 = at(p24, n607);
-								uint8_t n611 = load8(p609 + 1);
-								store8(at(p610, UINT64_C(18446744073709551614)), load8(p609));
-								store8(at(p610, UINT64_MAX), n611);
-								uint64_t n612 = n607 - 4;
-								byte *p613 = inside((byte *)tp_static_224, (uint64_t)(uint16_t)((uint32_t)(uint16_t)(n608 / 100) << 1));
-								uint8_t n614 = load8(p613 + 1);
-								store8(inside(p24, n612), load8(p613));
-								store8(at(p610, UINT64_C(18446744073709551613)), n614);
-								n606 = n606 / 10000;
-								n607 = n612;
-							}
-							if (n606 < 100) {
-								if (n606 < 10) {
-									uint64_t n615 = n607 - 1;
-									store8(inside(p24, n615), (uint8_t)((uint8_t)n606 | 48));
-									n616 = n615;
-								} else {
-									uint64_t n617 = n607 - 2;
-									byte *p618 = inside((byte *)tp_static_224, n606 << 1);
-									uint8_t n619 = load8(p618 + 1);
-									store8(inside(p24, n617), load8(p618));
-									store8(at(at(p24, n607), UINT64_MAX), n619);
-									n616 = n617;
-								}
-							} else {
-								uint16_t n620 = (uint16_t)n606;
-								byte *p621 = inside((byte *)tp_static_224, (uint64_t)(uint16_t)((uint32_t)(uint16_t)(n620 % 100) << 1));
-								byte *p622 = at(p24, n607);
-								uint8_t n623 = load8(p621 + 1);
-								store8(at(p622, UINT64_C(18446744073709551614)), load8(p621));
-								store8(at(p622, UINT64_MAX), n623);
-								uint16_t n624 = (uint16_t)(n620 / 100);
-								if (n606 < 1000) {
-									uint64_t n625 = n607 - 3;
-									store8(inside(p24, n625), (uint8_t)((uint8_t)n624 | 48));
-									n616 = n625;
-								} else {
-									uint64_t n626 = n607 - 4;
-									byte *p627 = inside((byte *)tp_static_224, (uint64_t)(uint16_t)((uint32_t)n624 << 1));
-									uint8_t n628 = load8(p627 + 1);
-									store8(inside(p24, n626), load8(p627));
-									store8(at(p622, UINT64_C(18446744073709551613)), n628);
-									n616 = n626;
-								}
-							}
-							p629 = at(p24, n616);
-							n630 = 40 - n616;
-							n631 = 0;
-							for (;;) {
-								if (n631 >= n630) {
-									n635 = 0;
-									break;
-								}
-								uint64_t n632 = n630 - n631;
-								uint64_t n633 = os_write(2, at(p629, n631), n632);
-								if ((int64_t)n633 < (int64_t)0) {
-									tp_error_last_error(p22);
-									store8(p4, 1);
-									goto L40;
-								}
-								uint64_t n634 = umin64(n633, n632);
-								if (n634 == 0) {
-									store8(p4, 1);
-									goto L40;
-								}
-								n631 = n631 + n634;
-							}
-							while (n635 < 8) {
-								uint64_t n636 = 8 - n635;
-								uint64_t n637 = os_write(2, at((byte *)tp_static_293, n635), n636);
-								if ((int64_t)n637 < (int64_t)0) {
-									tp_error_last_error(p21);
-									store8(p4, 1);
-									break;
-								}
-								if (n637 == 0) {
-									store8(p4, 1);
-									break;
-								}
-								n635 = n635 + umin64(n637, n636);
-							}
-L40:
-							{
-								n446 = 1;
-								goto L38;
-							}
-						}
-						case 2: {
-							n638 = 0;
-							break;
-						}
-						default: {
-							UNREACHABLE();
-						}
-						}
-						for (;;) {
-							if (n638 >= 12) {
-								n446 = 1;
-								goto L38;
-							}
-							uint64_t n639 = 12 - n638;
-							uint64_t n640 = os_write(2, at((byte *)tp_static_292, n638), n639);
-							if ((int64_t)n640 < (int64_t)0) {
-								tp_error_last_error(p20);
-								store8(p4, 1);
-								n446 = 1;
-								goto L38;
-							}
-							if (n640 == 0) {
-								store8(p4, 1);
-								n446 = 1;
-								goto L38;
-							}
-							n638 = n638 + umin64(n640, n639);
-						}
-						{
-L39:
-							for (;;) {
-								if (n602 >= 14) {
-									n446 = 1;
-									break;
-								}
-								uint64_t n641 = 14 - n602;
-								uint64_t n642 = os_write(2, at((byte *)tp_static_291, n602), n641);
-								if ((int64_t)n642 < (int64_t)0) {
-									tp_error_last_error(p25);
-									store8(p4, 1);
-									n446 = 1;
-									break;
-								}
-								if (n642 == 0) {
-									store8(p4, 1);
-									n446 = 1;
-									break;
-								}
-								n602 = n602 + umin64(n642, n641);
-							}
-						}
-					}
+					n448 = n516;
+					n449 = n517;
+					n450 = n518;
+					n451 = n519;
 				}
-			}
-L38:
-			{
-				uint8_t n643 = load8_volatile((byte *)tp_static);
-				if (n643 != 0) {
+				uint8_t n598 = (uint8_t)n449;
+				uint8_t n599 = load8_volatile((byte *)tp_static);
+				if (n599 != 0) {
 					TRAP();
 					UNREACHABLE();
 				}
-				n399 = n446;
+				if (n448 == 0) {
+					byte *p600 = (byte *)(uintptr_t)n449;
+					uint64_t n601 = 0;
+					while (n601 < n450) {
+						uint64_t n602 = n450 - n601;
+						uint64_t n603 = os_write(1, at(p600, n601), n602);
+						if ((int64_t)n603 < (int64_t)0) {
+							tp_error_last_error(p30);
+							goto L37;
+						}
+						uint64_t n604 = umin64(n603, n602);
+						if (n604 == 0)
+							goto L37;
+						n601 = n601 + n604;
+					}
+					if (n451 == 0) {
+						n605 = 0;
+						goto L38;
+					}
+					rattle_dealloc(p600);
+					n605 = 0;
+					goto L38;
+L37:
+					{
+						store8(p3 + 1, 1);
+						store64u(p27, n601);
+						storeptru(p29, p27);
+						storeptru(p29 + 8, (byte *)tp_static_93);
+						store64u(p29 + 16, 1);
+						tp_Write_write_fmt(p28, p4, p29);
+						if (n451 == 0) {
+							n605 = 1;
+							goto L38;
+						}
+						rattle_dealloc(p600);
+						n605 = 1;
+						goto L38;
+					}
+				}
+				switch (n598) {
+				case 0: {
+					n606 = 0;
+					goto L39;
+				}
+				case 1: {
+					uint64_t n610, n611, n620, n634, n635, n639;
+					byte *p633;
+					memset(p25, 0, 40);
+					uint64_t n607 = 0;
+					for (;;) {
+						if (n607 >= 7) {
+							n610 = n450;
+							n611 = 40;
+							break;
+						}
+						uint64_t n608 = 7 - n607;
+						uint64_t n609 = os_write(2, at((byte *)tp_static_287, n607), n608);
+						if ((int64_t)n609 < (int64_t)0) {
+							tp_error_last_error(p24);
+							store8(p4, 1);
+							goto L40;
+						}
+						if (n609 == 0) {
+							store8(p4, 1);
+							goto L40;
+						}
+						n607 = n607 + umin64(n609, n608);
+					}
+					while (n610 > 9999) {
+						uint16_t n612 = (uint16_t)(n610 % 10000);
+						byte *p613 = inside((byte *)tp_static_224, (uint64_t)(uint16_t)((uint32_t)(uint16_t)(n612 % 100) << 1));
+						byte *p614 = at(p25, n611);
+						uint8_t n615 = load8(p613 + 1);
+						store8(at(p614, UINT64_C(18446744073709551614)), load8(p613));
+						store8(at(p614, UINT64_MAX), n615);
+						uint64_t n616 = n611 - 4;
+						byte *p617 = inside((byte *)tp_static_224, (uint64_t)(uint16_t)((uint32_t)(uint16_t)(n612 / 100) << 1));
+						uint8_t n618 = load8(p617 + 1);
+						store8(inside(p25, n616), load8(p617));
+						store8(at(p614, UINT64_C(18446744073709551613)), n618);
+						n610 = n610 / 10000;
+						n611 = n616;
+					}
+					if (n610 < 100) {
+						if (n610 < 10) {
+							uint64_t n619 = n611 - 1;
+							store8(inside(p25, n619), (uint8_t)((uint8_t)n610 | 48));
+							n620 = n619;
+						} else {
+							uint64_t n621 = n611 - 2;
+							byte *p622 = inside((byte *)tp_static_224, n610 << 1);
+							uint8_t n623 = load8(p622 + 1);
+							store8(inside(p25, n621), load8(p622));
+							store8(at(at(p25, n611), UINT64_MAX), n623);
+							n620 = n621;
+						}
+					} else {
+						uint16_t n624 = (uint16_t)n610;
+						byte *p625 = inside((byte *)tp_static_224, (uint64_t)(uint16_t)((uint32_t)(uint16_t)(n624 % 100) << 1));
+						byte *p626 = at(p25, n611);
+						uint8_t n627 = load8(p625 + 1);
+						store8(at(p626, UINT64_C(18446744073709551614)), load8(p625));
+						store8(at(p626, UINT64_MAX), n627);
+						uint16_t n628 = (uint16_t)(n624 / 100);
+						if (n610 < 1000) {
+							uint64_t n629 = n611 - 3;
+							store8(inside(p25, n629), (uint8_t)((uint8_t)n628 | 48));
+							n620 = n629;
+						} else {
+							uint64_t n630 = n611 - 4;
+							byte *p631 = inside((byte *)tp_static_224, (uint64_t)(uint16_t)((uint32_t)n628 << 1));
+							uint8_t n632 = load8(p631 + 1);
+							store8(inside(p25, n630), load8(p631));
+							store8(at(p626, UINT64_C(18446744073709551613)), n632);
+							n620 = n630;
+						}
+					}
+					p633 = at(p25, n620);
+					n634 = 40 - n620;
+					n635 = 0;
+					for (;;) {
+						if (n635 >= n634) {
+							n639 = 0;
+							break;
+						}
+						uint64_t n636 = n634 - n635;
+						uint64_t n637 = os_write(2, at(p633, n635), n636);
+						if ((int64_t)n637 < (int64_t)0) {
+							tp_error_last_error(p23);
+							store8(p4, 1);
+							goto L40;
+						}
+						uint64_t n638 = umin64(n637, n636);
+						if (n638 == 0) {
+							store8(p4, 1);
+							goto L40;
+						}
+						n635 = n635 + n638;
+					}
+					while (n639 < 8) {
+						uint64_t n640 = 8 - n639;
+						uint64_t n641 = os_write(2, at((byte *)tp_static_293, n639), n640);
+						if ((int64_t)n641 < (int64_t)0) {
+							tp_error_last_error(p22);
+							store8(p4, 1);
+							break;
+						}
+						if (n641 == 0) {
+							store8(p4, 1);
+							break;
+						}
+						n639 = n639 + umin64(n641, n640);
+					}
+L40:
+					{
+						n605 = 1;
+						goto L38;
+					}
+				}
+				case 2: {
+					n642 = 0;
+					break;
+				}
+				default: {
+					UNREACHABLE();
+				}
+				}
+				for (;;) {
+					if (n642 >= 12) {
+						n605 = 1;
+						goto L38;
+					}
+					uint64_t n643 = 12 - n642;
+					uint64_t n644 = os_write(2, at((byte *)tp_static_292, n642), n643);
+					if ((int64_t)n644 < (int64_t)0) {
+						tp_error_last_error(p21);
+						store8(p4, 1);
+						n605 = 1;
+						goto L38;
+					}
+					if (n644 == 0) {
+						store8(p4, 1);
+						n605 = 1;
+						goto L38;
+					}
+					n642 = n642 + umin64(n644, n643);
+				}
+				{
+L39:
+					for (;;) {
+						if (n606 >= 14) {
+							n605 = 1;
+							goto L38;
+						}
+						uint64_t n645 = 14 - n606;
+						uint64_t n646 = os_write(2, at((byte *)tp_static_291, n606), n645);
+						if ((int64_t)n646 < (int64_t)0) {
+							tp_error_last_error(p26);
+							store8(p4, 1);
+							n605 = 1;
+							goto L38;
+						}
+						if (n646 == 0) {
+							store8(p4, 1);
+							n605 = 1;
+							goto L38;
+						}
+						n606 = n606 + umin64(n646, n645);
+					}
+				}
+			}
+			for (;;) {
+				if (n446 >= 51) {
+					n605 = 2;
+					break;
+				}
+				uint64_t n647 = 51 - n446;
+				uint64_t n648 = os_write(2, at((byte *)tp_static_285, n446), n647);
+				if ((int64_t)n648 < (int64_t)0) {
+					tp_error_last_error(p90);
+					store8(p4, 1);
+					n605 = 2;
+					break;
+				}
+				if (n648 == 0) {
+					store8(p4, 1);
+					n605 = 2;
+					break;
+				}
+				n446 = n446 + umin64(n648, n647);
+			}
+L38:
+			{
+				uint8_t n649 = load8_volatile((byte *)tp_static);
+				if (n649 != 0) {
+					TRAP();
+					UNREACHABLE();
+				}
+				n399 = n605;
 			}
 			break;
 		}
 		case 2: {
-			byte *p742, *p743, *p744, *p745, *p753, *p754, *p755, *p756, *p759, *p760, *p761, *p762;
-			uint8_t n757, n763;
-			memset(p19, 0, 32);
-			tp_input_read_script(p19, p3);
-			if (load8(p19) == 0) {
-				byte *p644 = loadptru(p19 + 8);
-				bool b645 = load64u(p19 + 24) == 0;
-				uint64_t n646 = load64u(p19 + 16);
-				memset(p18, 0, 16);
-				storeptru(p17, p5);
-				memset(p17 + 8, 0, 16);
-				uint64_t n647 = n646;
-				byte *p648 = p644;
-				uint64_t n649 = 0;
-				uint64_t n650 = 0;
+			byte *p748, *p749, *p750, *p751, *p759, *p760, *p761, *p762, *p765, *p766, *p767, *p768;
+			uint8_t n763, n769;
+			memset(p20, 0, 32);
+			tp_input_read_script(p20, p3);
+			if (load8(p20) == 0) {
+				byte *p650 = loadptru(p20 + 8);
+				bool b651 = load64u(p20 + 24) == 0;
+				uint64_t n652 = load64u(p20 + 16);
+				memset(p19, 0, 16);
+				storeptru(p18, p5);
+				memset(p18 + 8, 0, 16);
+				uint64_t n653 = n652;
+				byte *p654 = p650;
+				uint64_t n655 = 0;
+				uint64_t n656 = 0;
 				for (;;) {
-					uint64_t n653, n694, n713, n737;
-					uint32_t n662;
-					uint8_t n714;
-					if (n647 == 0)
+					uint64_t n659, n700, n719, n743;
+					uint32_t n668;
+					uint8_t n720;
+					if (n653 == 0)
 						goto L41;
-					uint64_t n651 = n647 - 1;
-					uint64_t n652 = 0;
+					uint64_t n657 = n653 - 1;
+					uint64_t n658 = 0;
 					for (;;) {
-						if (n652 == n651) {
-							n653 = n647;
+						if (n658 == n657) {
+							n659 = n653;
 							break;
 						}
-						if (load8(inside(p648, n652)) == 10) {
-							n653 = n652 + 1;
+						if (load8(inside(p654, n658)) == 10) {
+							n659 = n658 + 1;
 							break;
 						}
-						n652 = n652 + 1;
+						n658 = n658 + 1;
 					}
-					uint64_t n654 = n650 + 1;
-					memset(p16, 0, 16);
-					if (n653 < 6) {
-						if (n653 != 5)
+					uint64_t n660 = n656 + 1;
+					memset(p17, 0, 16);
+					if (n659 < 6) {
+						if (n659 != 5)
 							goto L42;
-						uint32_t n655 = ((((uint32_t)load8(p648 + 3) << 24) | ((uint32_t)load8(p648 + 2) << 16)) | ((uint32_t)load8(p648 + 1) << 8)) | (uint32_t)load8(p648);
-						if (n655 == 1886352499) {
-							uint64_t n656 = 0;
-							bool b657 = false;
-							while (n656 != 1) {
-								n656 = 1;
-								b657 = (int)b657 | (int)(32 != load8(p648 + 4));
+						uint32_t n661 = ((((uint32_t)load8(p654 + 3) << 24) | ((uint32_t)load8(p654 + 2) << 16)) | ((uint32_t)load8(p654 + 1) << 8)) | (uint32_t)load8(p654);
+						if (n661 == 1886352499) {
+							uint64_t n662 = 0;
+							bool b663 = false;
+							while (n662 != 1) {
+								n662 = 1;
+								b663 = (int)b663 | (int)(32 != load8(p654 + 4));
 							}
-							uint64_t n658 = 0;
-							bool b659 = false;
-							while (n658 != 1) {
-								n658 = 1;
-								b659 = (int)b659 | (int)(32 != load8(p648 + 4));
-							}
-							uint64_t n660 = 0;
-							bool b661 = false;
-							while (n660 != 1) {
-								n660 = 1;
-								b661 = (int)b661 | (int)(32 != load8(p648 + 4));
-							}
-							if ((int)((int)b657 | (int)b659) | (int)b661)
-								goto L43;
-							goto L44;
-						}
-						n662 = n655;
-					} else {
-						uint32_t n663 = ((((uint32_t)load8(p648 + 3) << 24) | ((uint32_t)load8(p648 + 2) << 16)) | ((uint32_t)load8(p648 + 1) << 8)) | (uint32_t)load8(p648);
-						switch (n663) {
-						case 1918989427: {
-							uint64_t n673, n679, n685, n691;
 							uint64_t n664 = 0;
 							bool b665 = false;
 							while (n664 != 1) {
 								n664 = 1;
-								b665 = (int)b665 | (int)(116 != load8(p648 + 4));
+								b665 = (int)b665 | (int)(32 != load8(p654 + 4));
 							}
 							uint64_t n666 = 0;
 							bool b667 = false;
 							while (n666 != 1) {
 								n666 = 1;
-								b667 = (int)b667 | (int)(32 != load8(p648 + 5));
+								b667 = (int)b667 | (int)(32 != load8(p654 + 4));
 							}
-							uint64_t n668 = 0;
-							bool b669 = false;
-							while (n668 != 1) {
-								n668 = 1;
-								b669 = (int)b669 | (int)(32 != load8(p648 + 5));
+							if ((int)((int)b663 | (int)b665) | (int)b667)
+								goto L43;
+							goto L44;
+						}
+						n668 = n661;
+					} else {
+						uint32_t n669 = ((((uint32_t)load8(p654 + 3) << 24) | ((uint32_t)load8(p654 + 2) << 16)) | ((uint32_t)load8(p654 + 1) << 8)) | (uint32_t)load8(p654);
+						switch (n669) {
+						case 1918989427: {
+							uint64_t n679, n685, n691, n697;
+							uint64_t n670 = 0;
+							bool b671 = false;
+							while (n670 != 1) {
+								n670 = 1;
+								b671 = (int)b671 | (int)(116 != load8(p654 + 4));
 							}
-							if ((int)((int)b665 | (int)b667) | (int)b669)
-								goto L42;
-							uint64_t n670 = n653 - 6;
-							uint64_t n671 = 0;
 							uint64_t n672 = 0;
-							for (;;) {
-								if (n671 == n670) {
-									n673 = n670;
-									break;
-								}
-								uint8_t n674 = load8(at(p648 + 6, n671));
-								if ((uint8_t)(n674 - 48) >= 10) {
-									n673 = n671;
-									break;
-								}
-								n671 = n671 + 1;
-								n672 = (n672 * 10) + (uint64_t)(uint8_t)(n674 & 15);
+							bool b673 = false;
+							while (n672 != 1) {
+								n672 = 1;
+								b673 = (int)b673 | (int)(32 != load8(p654 + 5));
 							}
-							switch (n673) {
-							case 0: {
-								goto L45;
+							uint64_t n674 = 0;
+							bool b675 = false;
+							while (n674 != 1) {
+								n674 = 1;
+								b675 = (int)b675 | (int)(32 != load8(p654 + 5));
 							}
-							case 1: {
-								if (n672 > UINT64_C(1152921504606846975))
-									goto L45;
-								break;
-							}
-							default: {
-								if (((int)(load8(p648 + 6) == 48) | (int)(n673 > 19)) || (n672 > UINT64_C(1152921504606846975)))
-									goto L45;
-								break;
-							}
-							}
-							byte *p675 = at(p648 + 6, n673);
-							if (n670 == n673)
-								goto L45;
-							if (load8(p675) != 32)
-								goto L45;
-							uint64_t n676 = n670 + (n673 ^ UINT64_MAX);
+							if ((int)((int)b671 | (int)b673) | (int)b675)
+								goto L42;
+							uint64_t n676 = n659 - 6;
 							uint64_t n677 = 0;
 							uint64_t n678 = 0;
 							for (;;) {
@@ -73746,7 +73542,7 @@ L38:
 									n679 = n676;
 									break;
 								}
-								uint8_t n680 = load8(at(p675 + 1, n677));
+								uint8_t n680 = load8(at(p654 + 6, n677));
 								if ((uint8_t)(n680 - 48) >= 10) {
 									n679 = n677;
 									break;
@@ -73764,12 +73560,12 @@ L38:
 								break;
 							}
 							default: {
-								if (((int)(load8(p675 + 1) == 48) | (int)(n679 > 19)) || (n678 > UINT64_C(1152921504606846975)))
+								if (((int)(load8(p654 + 6) == 48) | (int)(n679 > 19)) || (n678 > UINT64_C(1152921504606846975)))
 									goto L45;
 								break;
 							}
 							}
-							byte *p681 = at(p675 + 1, n679);
+							byte *p681 = at(p654 + 6, n679);
 							if (n676 == n679)
 								goto L45;
 							if (load8(p681) != 32)
@@ -73831,165 +73627,165 @@ L38:
 								goto L45;
 							}
 							case 1: {
-								if ((int)(n690 > UINT64_C(1152921504606846975)) | (int)(n688 == 1))
+								if (n690 > UINT64_C(1152921504606846975))
 									goto L45;
 								break;
 							}
 							default: {
-								bool b693 = (int)(((int)(load8(p687 + 1) == 48) | (int)(n691 > 19)) || (n690 > UINT64_C(1152921504606846975))) | (int)(n688 == n691);
-								if (b693)
+								if (((int)(load8(p687 + 1) == 48) | (int)(n691 > 19)) || (n690 > UINT64_C(1152921504606846975)))
 									goto L45;
 								break;
 							}
 							}
-							if (load8(at(p687 + 1, n691)) != 10)
+							byte *p693 = at(p687 + 1, n691);
+							if (n688 == n691)
 								goto L45;
-							n694 = n688 + (n691 ^ UINT64_MAX);
+							if (load8(p693) != 32)
+								goto L45;
+							uint64_t n694 = n688 + (n691 ^ UINT64_MAX);
+							uint64_t n695 = 0;
+							uint64_t n696 = 0;
+							for (;;) {
+								if (n695 == n694) {
+									n697 = n694;
+									break;
+								}
+								uint8_t n698 = load8(at(p693 + 1, n695));
+								if ((uint8_t)(n698 - 48) >= 10) {
+									n697 = n695;
+									break;
+								}
+								n695 = n695 + 1;
+								n696 = (n696 * 10) + (uint64_t)(uint8_t)(n698 & 15);
+							}
+							switch (n697) {
+							case 0: {
+								goto L45;
+							}
+							case 1: {
+								if ((int)(n696 > UINT64_C(1152921504606846975)) | (int)(n694 == 1))
+									goto L45;
+								break;
+							}
+							default: {
+								bool b699 = (int)(((int)(load8(p693 + 1) == 48) | (int)(n697 > 19)) || (n696 > UINT64_C(1152921504606846975))) | (int)(n694 == n697);
+								if (b699)
+									goto L45;
+								break;
+							}
+							}
+							if (load8(at(p693 + 1, n697)) != 10)
+								goto L45;
+							n700 = n694 + (n697 ^ UINT64_MAX);
 							goto L46;
 						}
 						case 1886352499: {
-							uint64_t n695 = 0;
-							bool b696 = false;
-							while (n695 != 1) {
-								n695 = 1;
-								b696 = (int)b696 | (int)(32 != load8(p648 + 4));
-							}
-							uint64_t n697 = 0;
-							bool b698 = false;
-							while (n697 != 1) {
-								n697 = 1;
-								b698 = (int)b698 | (int)(32 != load8(p648 + 4));
-							}
-							uint64_t n699 = 0;
-							bool b700 = false;
-							while (n699 != 1) {
-								n699 = 1;
-								b700 = (int)b700 | (int)(32 != load8(p648 + 4));
-							}
-							if ((int)((int)b696 | (int)b698) | (int)b700)
-								goto L43;
-							goto L44;
-						}
-						case 1936682083: {
 							uint64_t n701 = 0;
 							bool b702 = false;
 							while (n701 != 1) {
 								n701 = 1;
-								b702 = (int)b702 | (int)(101 != load8(p648 + 4));
+								b702 = (int)b702 | (int)(32 != load8(p654 + 4));
 							}
 							uint64_t n703 = 0;
 							bool b704 = false;
 							while (n703 != 1) {
 								n703 = 1;
-								b704 = (int)b704 | (int)(10 != load8(p648 + 5));
+								b704 = (int)b704 | (int)(32 != load8(p654 + 4));
 							}
 							uint64_t n705 = 0;
 							bool b706 = false;
 							while (n705 != 1) {
 								n705 = 1;
-								b706 = (int)b706 | (int)(10 != load8(p648 + 5));
+								b706 = (int)b706 | (int)(32 != load8(p654 + 4));
 							}
 							if ((int)((int)b702 | (int)b704) | (int)b706)
 								goto L43;
-							n694 = n653 - 6;
+							goto L44;
+						}
+						case 1936682083: {
+							uint64_t n707 = 0;
+							bool b708 = false;
+							while (n707 != 1) {
+								n707 = 1;
+								b708 = (int)b708 | (int)(101 != load8(p654 + 4));
+							}
+							uint64_t n709 = 0;
+							bool b710 = false;
+							while (n709 != 1) {
+								n709 = 1;
+								b710 = (int)b710 | (int)(10 != load8(p654 + 5));
+							}
+							uint64_t n711 = 0;
+							bool b712 = false;
+							while (n711 != 1) {
+								n711 = 1;
+								b712 = (int)b712 | (int)(10 != load8(p654 + 5));
+							}
+							if ((int)((int)b708 | (int)b710) | (int)b712)
+								goto L43;
+							n700 = n659 - 6;
 							goto L46;
 						}
 						default: {
-							n662 = n663;
+							n668 = n669;
 							break;
 						}
 						}
 					}
-					memset(p15, 0, 72);
-					if (n662 == 1801677172) {
-						uint64_t n707 = 0;
-						bool b708 = false;
-						while (n707 != 1) {
-							n707 = 1;
-							b708 = (int)b708 | (int)(32 != load8(p648 + 4));
+					memset(p16, 0, 72);
+					if (n668 == 1801677172) {
+						uint64_t n713 = 0;
+						bool b714 = false;
+						while (n713 != 1) {
+							n713 = 1;
+							b714 = (int)b714 | (int)(32 != load8(p654 + 4));
 						}
-						uint64_t n709 = 0;
-						bool b710 = false;
-						while (n709 != 1) {
-							n709 = 1;
-							b710 = (int)b710 | (int)(32 != load8(p648 + 4));
-						}
-						uint64_t n711 = 0;
-						bool b712 = false;
-						while (n711 != 1) {
-							n711 = 1;
-							b712 = (int)b712 | (int)(32 != load8(p648 + 4));
-						}
-						if ((int)((int)b708 | (int)b710) | (int)b712)
-							goto L42;
-						tp_lines_read_tick(p15, p648 + 5, n653 - 5);
-						n713 = load64u(p15 + 64);
-						n714 = load8(p15);
-					} else {
-						if (!((int)(n653 > 7) & (int)(n662 == 1953719666)))
-							goto L42;
 						uint64_t n715 = 0;
 						bool b716 = false;
-						while (n715 != 4) {
-							b716 = (int)b716 | (int)(load8(at((byte *)tp_static_202 + 4, n715)) != load8(at(p648 + 4, n715)));
-							n715 = n715 + 1;
+						while (n715 != 1) {
+							n715 = 1;
+							b716 = (int)b716 | (int)(32 != load8(p654 + 4));
 						}
 						uint64_t n717 = 0;
 						bool b718 = false;
-						while (n717 != 4) {
-							b718 = (int)b718 | (int)(load8(at((byte *)tp_static_202 + 4, n717)) != load8(at(p648 + 4, n717)));
-							n717 = n717 + 1;
+						while (n717 != 1) {
+							n717 = 1;
+							b718 = (int)b718 | (int)(32 != load8(p654 + 4));
 						}
-						if ((int)b716 | (int)b718)
+						if ((int)((int)b714 | (int)b716) | (int)b718)
 							goto L42;
-						tp_lines_read_restart(p15, p648 + 8, n653 - 8);
-						n713 = load64u(p15 + 64);
-						n714 = load8(p15);
+						tp_lines_read_tick(p16, p654 + 5, n659 - 5);
+						n719 = load64u(p16 + 64);
+						n720 = load8(p16);
+					} else {
+						if (!((int)(n659 > 7) & (int)(n668 == 1953719666)))
+							goto L42;
+						uint64_t n721 = 0;
+						bool b722 = false;
+						while (n721 != 4) {
+							b722 = (int)b722 | (int)(load8(at((byte *)tp_static_202 + 4, n721)) != load8(at(p654 + 4, n721)));
+							n721 = n721 + 1;
+						}
+						uint64_t n723 = 0;
+						bool b724 = false;
+						while (n723 != 4) {
+							b724 = (int)b724 | (int)(load8(at((byte *)tp_static_202 + 4, n723)) != load8(at(p654 + 4, n723)));
+							n723 = n723 + 1;
+						}
+						if ((int)b722 | (int)b724)
+							goto L42;
+						tp_lines_read_restart(p16, p654 + 8, n659 - 8);
+						n719 = load64u(p16 + 64);
+						n720 = load8(p16);
 					}
-					if (n714 != 1)
+					if (n720 != 1)
 						goto L45;
-					n694 = n713;
+					n700 = n719;
 					goto L46;
 L44:
 					{
-						uint64_t n722, n728, n734;
-						uint64_t n719 = n653 - 5;
-						uint64_t n720 = 0;
-						uint64_t n721 = 0;
-						for (;;) {
-							if (n720 == n719) {
-								n722 = n719;
-								break;
-							}
-							uint8_t n723 = load8(at(p648 + 5, n720));
-							if ((uint8_t)(n723 - 48) >= 10) {
-								n722 = n720;
-								break;
-							}
-							n720 = n720 + 1;
-							n721 = (n721 * 10) + (uint64_t)(uint8_t)(n723 & 15);
-						}
-						switch (n722) {
-						case 0: {
-							goto L45;
-						}
-						case 1: {
-							if (n721 > UINT64_C(1152921504606846975))
-								goto L45;
-							break;
-						}
-						default: {
-							if (((int)(load8(p648 + 5) == 48) | (int)(n722 > 19)) || (n721 > UINT64_C(1152921504606846975)))
-								goto L45;
-							break;
-						}
-						}
-						byte *p724 = at(p648 + 5, n722);
-						if (n719 == n722)
-							goto L45;
-						if (load8(p724) != 32)
-							goto L45;
-						uint64_t n725 = n719 + (n722 ^ UINT64_MAX);
+						uint64_t n728, n734, n740;
+						uint64_t n725 = n659 - 5;
 						uint64_t n726 = 0;
 						uint64_t n727 = 0;
 						for (;;) {
@@ -73997,7 +73793,7 @@ L44:
 								n728 = n725;
 								break;
 							}
-							uint8_t n729 = load8(at(p724 + 1, n726));
+							uint8_t n729 = load8(at(p654 + 5, n726));
 							if ((uint8_t)(n729 - 48) >= 10) {
 								n728 = n726;
 								break;
@@ -74015,12 +73811,12 @@ L44:
 							break;
 						}
 						default: {
-							if (((int)(load8(p724 + 1) == 48) | (int)(n728 > 19)) || (n727 > UINT64_C(1152921504606846975)))
+							if (((int)(load8(p654 + 5) == 48) | (int)(n728 > 19)) || (n727 > UINT64_C(1152921504606846975)))
 								goto L45;
 							break;
 						}
 						}
-						byte *p730 = at(p724 + 1, n728);
+						byte *p730 = at(p654 + 5, n728);
 						if (n725 == n728)
 							goto L45;
 						if (load8(p730) != 32)
@@ -74046,148 +73842,184 @@ L44:
 							goto L45;
 						}
 						case 1: {
-							if ((int)(n733 > UINT64_C(1152921504606846975)) | (int)(n731 == 1))
+							if (n733 > UINT64_C(1152921504606846975))
 								goto L45;
 							break;
 						}
 						default: {
-							bool b736 = (int)(((int)(load8(p730 + 1) == 48) | (int)(n734 > 19)) || (n733 > UINT64_C(1152921504606846975))) | (int)(n731 == n734);
-							if (b736)
+							if (((int)(load8(p730 + 1) == 48) | (int)(n734 > 19)) || (n733 > UINT64_C(1152921504606846975)))
 								goto L45;
 							break;
 						}
 						}
-						if (load8(at(p730 + 1, n734)) != 10)
+						byte *p736 = at(p730 + 1, n734);
+						if (n731 == n734)
 							goto L45;
-						n694 = n731 + (n734 ^ UINT64_MAX);
+						if (load8(p736) != 32)
+							goto L45;
+						uint64_t n737 = n731 + (n734 ^ UINT64_MAX);
+						uint64_t n738 = 0;
+						uint64_t n739 = 0;
+						for (;;) {
+							if (n738 == n737) {
+								n740 = n737;
+								break;
+							}
+							uint8_t n741 = load8(at(p736 + 1, n738));
+							if ((uint8_t)(n741 - 48) >= 10) {
+								n740 = n738;
+								break;
+							}
+							n738 = n738 + 1;
+							n739 = (n739 * 10) + (uint64_t)(uint8_t)(n741 & 15);
+						}
+						switch (n740) {
+						case 0: {
+							goto L45;
+						}
+						case 1: {
+							if ((int)(n739 > UINT64_C(1152921504606846975)) | (int)(n737 == 1))
+								goto L45;
+							break;
+						}
+						default: {
+							bool b742 = (int)(((int)(load8(p736 + 1) == 48) | (int)(n740 > 19)) || (n739 > UINT64_C(1152921504606846975))) | (int)(n737 == n740);
+							if (b742)
+								goto L45;
+							break;
+						}
+						}
+						if (load8(at(p736 + 1, n740)) != 10)
+							goto L45;
+						n700 = n737 + (n740 ^ UINT64_MAX);
 					}
 L46:
 					{
-						if (n694 != 0)
+						if (n700 != 0)
 							goto L45;
-						n737 = n649;
+						n743 = n655;
 						goto L47;
 					}
 L43: ;
 L42: ;
 L45:
 					{
-						tp_diagnosis_fault_of_bad(p16, p648, n653);
-						uint8_t n738 = load8(p16 + 8);
-						uint8_t n739 = load8(p16 + 9);
-						uint8_t n740 = load8(p16 + 10);
-						store64u(p18, load64u(p16));
-						store8(p18 + 8, n738);
-						store8(p18 + 9, n739);
-						store8(p18 + 10, n740);
-						uint8_t n741 = tp_script_report_push_fault(p17, n654, p18);
-						if ((n741 & 1) != 0)
+						tp_diagnosis_fault_of_bad(p17, p654, n659);
+						uint8_t n744 = load8(p17 + 8);
+						uint8_t n745 = load8(p17 + 9);
+						uint8_t n746 = load8(p17 + 10);
+						store64u(p19, load64u(p17));
+						store8(p19 + 8, n744);
+						store8(p19 + 9, n745);
+						store8(p19 + 10, n746);
+						uint8_t n747 = tp_script_report_push_fault(p18, n660, p19);
+						if ((n747 & 1) != 0)
 							break;
-						n737 = n649 + 1;
+						n743 = n655 + 1;
 					}
 L47:
 					{
-						n647 = n647 - n653;
-						p648 = at(p648, n653);
-						n649 = n737;
-						n650 = n654;
+						n653 = n653 - n659;
+						p654 = at(p654, n659);
+						n655 = n743;
+						n656 = n660;
 					}
 				}
-				if (load64u(p17 + 16) != 0)
-					rattle_dealloc(loadptru(p17));
-				if (!b645)
-					rattle_dealloc(p644);
-				store64u(p13, (uint64_t)(uintptr_t)p4);
-				memset(p13 + 8, 0, 96);
-				memset(p13 + 128, 0, 16);
-				p742 = p13 + 128;
-				p743 = p13 + 120;
-				p744 = p13 + 108;
-				p745 = p13 + 104;
+				if (load64u(p18 + 16) != 0)
+					rattle_dealloc(loadptru(p18));
+				if (!b651)
+					rattle_dealloc(p650);
+				store64u(p14, (uint64_t)(uintptr_t)p4);
+				memset(p14 + 8, 0, 96);
+				memset(p14 + 128, 0, 16);
+				p748 = p14 + 128;
+				p749 = p14 + 120;
+				p750 = p14 + 108;
+				p751 = p14 + 104;
 				goto L48;
 L41:
 				{
-					byte *p746 = loadptr(p17);
-					uint64_t n747 = load64(p17 + 8);
-					bool b748 = load64(p17 + 16) == 0;
-					uint64_t n749 = 0;
-					while (n749 < n747) {
-						uint64_t n750 = n747 - n749;
-						uint64_t n751 = os_write(1, at(p746, n749), n750);
-						if ((int64_t)n751 < (int64_t)0) {
-							tp_error_last_error(p14);
+					byte *p752 = loadptr(p18);
+					uint64_t n753 = load64(p18 + 8);
+					bool b754 = load64(p18 + 16) == 0;
+					uint64_t n755 = 0;
+					while (n755 < n753) {
+						uint64_t n756 = n753 - n755;
+						uint64_t n757 = os_write(1, at(p752, n755), n756);
+						if ((int64_t)n757 < (int64_t)0) {
+							tp_error_last_error(p15);
 							goto L49;
 						}
-						uint64_t n752 = umin64(n751, n750);
-						if (n752 == 0)
+						uint64_t n758 = umin64(n757, n756);
+						if (n758 == 0)
 							goto L49;
-						n749 = n749 + n752;
+						n755 = n755 + n758;
 					}
-					if (!b748)
-						rattle_dealloc(p746);
-					if (!b645)
-						rattle_dealloc(p644);
-					n399 = (uint8_t)(n649 != 0);
+					if (!b754)
+						rattle_dealloc(p752);
+					if (!b651)
+						rattle_dealloc(p650);
+					n399 = (uint8_t)(n655 != 0);
 					goto L28;
 L49:
 					{
 						store8(p3 + 1, 1);
-						if (!b748)
-							rattle_dealloc(p746);
-						if (!b645)
-							rattle_dealloc(p644);
-						store64u(p13, (uint64_t)(uintptr_t)p4);
-						memset(p13 + 8, 0, 96);
-						memset(p13 + 128, 0, 16);
-						p753 = p13 + 128;
-						p754 = p13 + 120;
-						p755 = p13 + 108;
-						p756 = p13 + 104;
+						if (!b754)
+							rattle_dealloc(p752);
+						if (!b651)
+							rattle_dealloc(p650);
+						store64u(p14, (uint64_t)(uintptr_t)p4);
+						memset(p14 + 8, 0, 96);
+						memset(p14 + 128, 0, 16);
+						p759 = p14 + 128;
+						p760 = p14 + 120;
+						p761 = p14 + 108;
+						p762 = p14 + 104;
 						goto L50;
 					}
 				}
 			}
-			n757 = load8(p19 + 1);
-			store64u(p13, (uint64_t)(uintptr_t)p4);
-			memset(p13 + 8, 0, 96);
-			memset(p13 + 128, 0, 16);
-			switch (n757) {
+			n763 = load8(p20 + 1);
+			store64u(p14, (uint64_t)(uintptr_t)p4);
+			memset(p14 + 8, 0, 96);
+			memset(p14 + 128, 0, 16);
+			switch (n763) {
 			case 0: {
-				store32u(p13 + 104, 32);
-				memset(p13 + 108, 0, 12);
-				store64u(p13 + 120, UINT64_MAX);
-				uint8_t n758 = tp_AdapterWrite_write_str(p13, (byte *)tp_static_226, 11);
-				p759 = p13 + 128;
-				p760 = p13 + 120;
-				p761 = p13 + 108;
-				p762 = p13 + 104;
-				n763 = n758;
+				store32u(p14 + 104, 32);
+				memset(p14 + 108, 0, 12);
+				store64u(p14 + 120, UINT64_MAX);
+				uint8_t n764 = tp_AdapterWrite_write_str(p14, (byte *)tp_static_226, 11);
+				p765 = p14 + 128;
+				p766 = p14 + 120;
+				p767 = p14 + 108;
+				p768 = p14 + 104;
+				n769 = n764;
 				goto L51;
 			}
 			case 1: {
-				store32u(p13 + 104, 32);
-				memset(p13 + 108, 0, 12);
-				store64u(p13 + 120, UINT64_MAX);
-				uint8_t n764 = tp_AdapterWrite_write_str(p13, (byte *)tp_static_227, 8);
-				p759 = p13 + 128;
-				p760 = p13 + 120;
-				p761 = p13 + 108;
-				p762 = p13 + 104;
-				n763 = n764;
+				store32u(p14 + 104, 32);
+				memset(p14 + 108, 0, 12);
+				store64u(p14 + 120, UINT64_MAX);
+				uint8_t n770 = tp_AdapterWrite_write_str(p14, (byte *)tp_static_227, 8);
+				p765 = p14 + 128;
+				p766 = p14 + 120;
+				p767 = p14 + 108;
+				p768 = p14 + 104;
+				n769 = n770;
 				goto L51;
 			}
 			case 2: {
-				p742 = p13 + 128;
-				p743 = p13 + 120;
-				p744 = p13 + 108;
-				p745 = p13 + 104;
+				p748 = p14 + 128;
+				p749 = p14 + 120;
+				p750 = p14 + 108;
+				p751 = p14 + 104;
 				break;
 			}
 			case 3: {
-				p753 = p13 + 128;
-				p754 = p13 + 120;
-				p755 = p13 + 108;
-				p756 = p13 + 104;
+				p759 = p14 + 128;
+				p760 = p14 + 120;
+				p761 = p14 + 108;
+				p762 = p14 + 104;
 				goto L50;
 			}
 			default: {
@@ -74196,39 +74028,39 @@ L49:
 			}
 L48:
 			{
-				store32u(p745, 32);
-				memset(p744, 0, 12);
-				store64u(p743, UINT64_MAX);
-				uint8_t n765 = tp_AdapterWrite_write_str(p13, (byte *)tp_static_229, 13);
-				p759 = p742;
-				p760 = p743;
-				p761 = p744;
-				p762 = p745;
-				n763 = n765;
+				store32u(p751, 32);
+				memset(p750, 0, 12);
+				store64u(p749, UINT64_MAX);
+				uint8_t n771 = tp_AdapterWrite_write_str(p14, (byte *)tp_static_229, 13);
+				p765 = p748;
+				p766 = p749;
+				p767 = p750;
+				p768 = p751;
+				n769 = n771;
 				goto L51;
 			}
 L50:
 			{
-				store32u(p756, 32);
-				memset(p755, 0, 12);
-				store64u(p754, UINT64_MAX);
-				uint8_t n766 = tp_AdapterWrite_write_str(p13, (byte *)tp_static_230, 12);
-				p759 = p753;
-				p760 = p754;
-				p761 = p755;
-				p762 = p756;
-				n763 = n766;
+				store32u(p762, 32);
+				memset(p761, 0, 12);
+				store64u(p760, UINT64_MAX);
+				uint8_t n772 = tp_AdapterWrite_write_str(p14, (byte *)tp_static_230, 12);
+				p765 = p759;
+				p766 = p760;
+				p767 = p761;
+				p768 = p762;
+				n769 = n772;
 			}
 L51:
 			{
-				if ((n763 & 1) == 0) {
-					store32u(p762, 32);
-					memset(p761, 0, 12);
-					store64u(p760, UINT64_MAX);
-					if (load64(p759) == 0) {
-						(void)tp_AdapterWrite_write_str(p13, (byte *)tp_static_93, 1);
+				if ((n769 & 1) == 0) {
+					store32u(p768, 32);
+					memset(p767, 0, 12);
+					store64u(p766, UINT64_MAX);
+					if (load64(p765) == 0) {
+						(void)tp_AdapterWrite_write_str(p14, (byte *)tp_static_93, 1);
 					} else {
-						(void)tp_Formatter_write_indented(p13, (byte *)tp_static_93, 1);
+						(void)tp_Formatter_write_indented(p14, (byte *)tp_static_93, 1);
 					}
 				}
 				n399 = 2;
@@ -74242,8 +74074,8 @@ L51:
 	}
 L28:
 	{
-		uint8_t n767 = load8_volatile((byte *)tp_static);
-		if (n767 == 0)
+		uint8_t n773 = load8_volatile((byte *)tp_static);
+		if (n773 == 0)
 			return n399;
 		TRAP();
 		UNREACHABLE();
