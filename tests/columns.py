@@ -9,9 +9,12 @@ import subprocess
 import sys
 
 TOP = os.path.dirname(os.path.dirname(os.path.abspath(__file__)))
+sys.path.insert(0, os.path.join(TOP, "tools"))
+from formats import LIMITS  # noqa: E402
+
 with open(os.path.join(TOP, "crates/timer_script/src/line_fault.rt"), encoding="utf-8") as source:
     WORDS = dict(re.findall(r'LineReason::(\w+) => "([^"]+)"', source.read()))
-LAST = 2**60 - 1
+LAST, TICKS = LIMITS["LAST"], LIMITS["MAX_TICKS"]
 FORMS = {
     "start": ["client", "number", "interval", "action"],
     "stop": ["client", "number", "serial"],
@@ -24,7 +27,7 @@ OF_A_FIELD = [(b"\n", 0, "MissingField"), (b"x\n", 0, "NotANumber"), (b"-1\n", 0
 OF_A_FIELD += [(b"+1\n", 0, "NotANumber"), (b"1x\n", 1, "NotANumber"), (b"1.5\n", 1, "NotANumber")]
 OF_A_NUMBER = [(b"01\n", 1, "LeadingZero"), (b"%d\n" % (LAST + 1), 18, "OutOfRange")]
 OF_A_NUMBER += [(b"%d1\n" % LAST, 19, "OutOfRange")]
-OF_TICKS = [(b"01\n", 0, "OutOfTicks"), (b"1000001\n", 6, "OutOfTicks"), (b"10000000\n", 7, "OutOfTicks")]
+OF_TICKS = [(b"01\n", 0, "OutOfTicks"), (b"%d\n" % (TICKS + 1), 6, "OutOfTicks"), (b"%d0\n" % TICKS, 7, "OutOfTicks")]
 OF_NO_FIELD = [(b" 1\n", 0, "Space"), (b"\t1\n", 0, "Tab"), (b"\r\n", 0, "CarriageReturn"), (b"", 0, "NoLineEnd")]
 OF_NO_FIELD += [(b"1\t\n", 1, "Tab"), (b"1\r\n", 1, "CarriageReturn"), (b"1\r", 1, "CarriageReturn")]
 OF_NO_FIELD += [(b"1", 1, "NoLineEnd")]
@@ -35,13 +38,13 @@ WHOLE = [(b"\r\n", 1, "CarriageReturn"), (b"\ttick 1\n", 1, "Tab"), (b" close\n"
 WHOLE += [(b"\xef\xbb\xbfclose\n", 1, "ByteOrderMark"), (b"\xef\xbbclose\n", 1, "UnknownWord")]
 WHOLE += [(b"close5\n", 6, "UnknownWord"), (b"stat 0 1 5 7\n", 4, "UnknownWord")]
 WHOLE += [(b"starts 0 1 5 7\n", 6, "UnknownWord"), (b"tic", 4, "NoLineEnd")]
-CHANGED = [b"start 0 1 5 7\n", b"start 10 1 1152921504606846975 7\n", b"stop 0 12 1\n", b"restart 0 1 10 5 9\n"]
-CHANGED += [b"tick 1\n", b"tick 1000000\n", b"tick 999999\n", b"close\n"]
+CHANGED = [b"start 0 1 5 7\n", b"start 10 1 %d 7\n" % LAST, b"stop 0 12 1\n", b"restart 0 1 10 5 9\n"]
+CHANGED += [b"tick 1\n", b"tick %d\n" % TICKS, b"tick %d\n" % (TICKS - 1), b"close\n"]
 BYTES = b"\x00\t\r 0159:/-+aeorstSz\x7f\xef\xff"
 
 
 def is_number(text, field):
-    low, high = (1, 1000000) if field == "count" else (0, LAST)
+    low, high = (1, TICKS) if field == "count" else (0, LAST)
     return re.fullmatch("0|[1-9][0-9]*", text) and low <= int(text) <= high
 
 

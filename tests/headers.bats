@@ -21,7 +21,7 @@ hold() {
 }
 # constants PREFIX: each constant of the Rattle code on standard input is the header's, whose name has the prefix
 constants() {
-    sed -nE -e 's/u64::MAX;$/18446744073709551615;/' -e 's/LAST_OF_CLOCK/CLOCK_LAST/' \
+    sed -nE -e 's/u64::MAX;$/18446744073709551615;/' \
         -e "s/^pub const ([A-Z_]+): u(32|64) = ([0-9]+);\$/_Static_assert($1\1 == \3u, \"\1\");/p"
 }
 # fields CRATE/FILE STRUCT C-STRUCT FIRST: the struct's fields of eight bytes follow each other in the header's, from FIRST on
@@ -38,27 +38,23 @@ fields() {
 # The enumerators of a header, as NAME NUMBER without a prefix.
 enumerators() { sed -nE 's/^\tTIMERS_((DESK|WORD)_)?([A-Z_]+) = ([0-9]+).*/\3 \4/p' include/$1.h | sort; }
 
-@test "the numbers and layouts of timers.h are the crates', and it has no other number" {
+# Limits and statuses are made of facts/ in both, and compared by tools/facts.
+@test "the layouts of timers.h are the crates', and so are the numbers that are by hand" {
     {
-        constants TIMERS_ < crates/timer_c/src/status.rt
-        grep '^pub const LAST:' crates/timer_base/src/limits.rt | constants TIMERS_
-        grep '^pub const LAST_OF_CLOCK:' crates/timer_wheels/src/table.rt | constants TIMERS_
+        sed '1,/by hand/d' crates/timer_c/src/status.rt | constants TIMERS_
         constants TIMERS_ < crates/timer_wheels/src/table/number.rt
         fields timer_c/owned_cell.rt OwnedCell timers 0
         fields timer_c/c_timers.rt CTimers timers 16
         fields timer_c/layout.rt CHandle timers_handle 0
         fields timer_c/layout.rt Expired timers_expired 0
         fields timer_c/layout.rt Counts timers_counters 0
-    } | hold $((17 + 11))
+    } | hold $((4 + 11))
     [ "$(enumerators timers | wc -l)" -eq 13 ]
 }
 
-@test "the numbers and layouts of timers_desk.h are the crate's, and it has no other number" {
-    status=crates/timer_desk_c/src/status.rt
+@test "the layouts of timers_desk.h are the crate's, and so are the numbers that are by hand" {
     {
-        sed '/The kinds of a word/,$d' $status | grep -v ' NEVER:' | constants TIMERS_DESK_
-        { grep ' NEVER:' $status; cat crates/timer_wheels/src/table/number.rt; } | constants TIMERS_
-        sed -n '/The kinds of a word/,$p' $status | constants TIMERS_WORD_
+        grep ' NEVER:' crates/timer_desk_c/src/status.rt | constants TIMERS_
         fields timer_desk_c/desk_cell.rt DeskCell timers_desk 0
         fields timer_desk_c/line_cell.rt LineCell timers_line 0
         fields timer_desk_c/c_structs.rt CDesk timers_desk 16
@@ -67,7 +63,7 @@ enumerators() { sed -nE 's/^\tTIMERS_((DESK|WORD)_)?([A-Z_]+) = ([0-9]+).*/\3 \4
         fields timer_desk_c/layout.rt DeskConfig timers_desk_config 0
         sed -nE 's/^pub const CONFIG_SIZE: usize = ([0-9]+);$/_Static_assert(sizeof(struct timers_desk_config) == \1, "CONFIG_SIZE");/p' \
             crates/timer_desk_c/src/layout.rt
-    } | hold $((34 + 17))
+    } | hold $((1 + 17))
     [ "$(enumerators timers_desk | wc -l)" -eq 31 ]
 }
 

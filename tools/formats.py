@@ -1,7 +1,10 @@
-"""The numbers and tables of docs/formats.md, for the tools that need them. Run, it prints a header for tools/fuzz."""
+"""The limits of facts/ and the tables of docs/formats.md, for the tools that need them. Run, it prints a header for tools/fuzz."""
 import os
 import re
+import tomllib
 
+with open(os.path.join(os.path.dirname(os.path.abspath(__file__)), "../facts/limits.toml"), "rb") as limits:
+    LIMITS = tomllib.load(limits)["limits"]
 with open(os.path.join(os.path.dirname(os.path.abspath(__file__)), "../docs/formats.md"), encoding="utf-8") as page:
     TEXT = page.read()
 
@@ -46,26 +49,22 @@ def fields():
 FIELDS = fields()
 
 
+def named(text):
+    """A text in which limits stand for their names in braces, as in the cases of the command line."""
+    return re.sub(r"\{(\w+)([+-]1)?\}", lambda found: str(LIMITS[found[1]] + int(found[2] or 0)) if found[1] in LIMITS else found[0], text)
+
+
 def parts(line):
     """The word with which a line begins, and its fields by their names."""
     word, *values = line.split(" ")
     return word, dict(zip(FIELDS[word], values))
 
 
-NUMBERS = {
-    "LAST": number(r"`out of range 0 to (\d+)`"),
-    "LAST_OF_CLOCK": number(r"(\d+) with `clock`"),
-    "MAX_TICKS": number(r"`out of range 1 to (\d+)`"),
-    "MAX_SCRIPT": number(r"A script has at most ([\d,]+) bytes"),
-    "MAX_LINE": number(r"at most (\d+) bytes of an incomplete line"),
-    "CHECK_FAILED": number(r"or with (\d) if `check` read its input"),
-    "MAX_CLIENTS": number(r"`--clients` \| how many clients there are[^|]*\| 1 to (\d+) \|"),
-    "MAX_PENDING": number(r"`--capacity` \|[^|]*\| 1 to (\d+) \|"),
-}
+NUMBERS = {name: LIMITS[name] for name in "LAST LAST_OF_CLOCK MAX_TICKS MAX_SCRIPT MAX_LINE MAX_CLIENTS MAX_PENDING".split()}
+NUMBERS |= {"CAPACITY": LIMITS["DEFAULT_CAPACITY"], "CHECK_FAILED": number(r"or with (\d) if `check` read its input")}
 # Of the options of `timers play`.
 OPTIONS = find(r"^### `timers play`(.*?)^###")
 DEFAULTS = dict(re.findall(r"^\| `(--[a-z-]+)` \|.*\| `?(\w+)`? \|$", OPTIONS, flags=re.MULTILINE))
-NUMBERS["CAPACITY"] = int(DEFAULTS["--capacity"])
 REASONS_OF_A_LINE = rows(r"### `timers check`[^\n]*")
 # The words of refusals, in the order of the page.
 NAMES = "CLOSED NO_CLIENT REPEATED NUMBERS_SPENT AHEAD ZERO_INTERVAL TOO_LATE SERIALS_SPENT FULL NO_SUCH CLOCK_END"
