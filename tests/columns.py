@@ -10,10 +10,8 @@ import sys
 
 TOP = os.path.dirname(os.path.dirname(os.path.abspath(__file__)))
 sys.path.insert(0, os.path.join(TOP, "tools"))
-from formats import LIMITS  # noqa: E402
+from formats import LIMITS, WORDS, named  # noqa: E402
 
-with open(os.path.join(TOP, "crates/timer_script/src/line_fault.rt"), encoding="utf-8") as source:
-    WORDS = dict(re.findall(r'LineReason::(\w+) => "([^"]+)"', source.read()))
 LAST, TICKS = LIMITS["LAST"], LIMITS["MAX_TICKS"]
 FORMS = {
     "start": ["client", "number", "interval", "action"],
@@ -121,7 +119,8 @@ def is_at(at):
 
 
 def is_said(at, field, reason):
-    said = f"{field}: {WORDS[reason]}" if field else WORDS[reason]
+    words = named(WORDS["check"][reason]["word"])
+    said = f"{field}: {words}" if field else words
     return lambda found: found == (at, said)
 
 
