@@ -234,5 +234,5 @@ offered() {
     [[ $output == *"--timers=[The number of timers that each client starts, 1 to 10000"*"]:TIMERS:"* ]]
     [[ $output == *"--help[Print help"* ]]
     run -0 zsh -f -c "$given" zsh argument show
-    [[ $output == *"]:SCHEME:(plain hashed hier clock)"* ]]
+    [[ $output == *"]:SCHEME:($(tools/facts SCHEMES))"* ]]
 }

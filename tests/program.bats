@@ -3,7 +3,11 @@
 # ./timers). An input is a file: what a call leaves unread is read by `cat` after it.
 bats_require_minimum_version 1.5.0
 
-setup_file() { "$BATS_TEST_DIRNAME/../crates/timer_program/cases/names" > "$BATS_FILE_TMPDIR/names"; }
+setup_file() {
+    "$BATS_TEST_DIRNAME/../crates/timer_program/cases/names" > "$BATS_FILE_TMPDIR/names"
+    schemes=$("$BATS_TEST_DIRNAME/../tools/facts" SCHEMES)
+    export schemes
+}
 setup() {
     TIMERS=$(realpath "${TIMERS:-timers}")
     EXAMPLES=$BATS_TEST_DIRNAME/../examples
@@ -17,7 +21,7 @@ named() { cmp "$1" <(put_names "$2"); }
 # leaves STATUS ARGUMENTS OUTPUT ERRORS: a call that reads the file has this status and writes these texts
 leaves() {
     local status=0
-    # shellcheck disable=SC2086  # words
+    # shellcheck disable=SC2046,SC2086  # words
     "$TIMERS" $(put_names <<< "$2") < input > output 2> errors || status=$?
     [ "$status" -eq "$1" ] && named output <(printf '%b' "$3") && named errors <(printf '%b' "$4") && return
     echo "timers $2: status $status"
@@ -35,7 +39,7 @@ gives() {
 # row NAME OPTIONS SCRIPT TEXT..: played and served with each scheme, whose wheels may have any number of slots
 row() {
     local scheme verb
-    for scheme in plain hashed "hashed --slots 1" "hashed --slots 8" "hashed --slots {MAX_SLOTS}" hier clock; do
+    for scheme in $schemes "hashed --slots 1" "hashed --slots 8" "hashed --slots {MAX_SLOTS}"; do
         # The clock of days ends earlier.
         if [ "$1 $scheme" = "clock_end clock" ]; then continue; fi
         for verb in play serve; do
@@ -92,7 +96,7 @@ clock_row() {
 @test "bad_lines: a bad line is named and nothing is written, with each scheme" {
     local scheme
     bad() {
-        for scheme in plain hashed hier clock; do gives 1 "play --scheme $scheme" "$2" "" "bad line $1\n"; done
+        for scheme in $schemes; do gives 1 "play --scheme $scheme" "$2" "" "bad line $1\n"; done
     }
     bad 2 'start 0 1 5 0\nstart 0 01 5 0\n'
     bad 2 'start 0 1 5 0\nstart 0 2 5 0'
@@ -120,7 +124,7 @@ clock_row() {
     local -A ends=([0]='end 0 0\n' [16]="${one}end 0 1\n" [25]="${one}end 128 1\n" [39]="$one${two}end 128 2\n"
         [46]="$one${two}expired 130 0 1 1\nexpired 130 1 2 2\nend 130 0\n")
     printf 'start 0 1 130 1\ntick 128\nstart 1 1 2 2\ntick 2\n' > whole
-    for scheme in plain hashed hier clock; do
+    for scheme in $schemes; do
         for length in {0..46}; do
             head -c "$length" whole > input
             if [ -n "${ends[$length]:-}" ]; then
@@ -137,7 +141,7 @@ clock_row() {
     most=$("$BATS_TEST_DIRNAME/../tools/facts" MAX_SCRIPT)
     for line in 'close' 'x' '' $'\001\377' 'tick 0'; do
         { yes "$line" || true; } | head -c $((most + 1)) > input
-        for scheme in plain hashed hier clock; do leaves 1 "play --scheme $scheme" "" "{TooLong}\n"; done
+        for scheme in $schemes; do leaves 1 "play --scheme $scheme" "" "{TooLong}\n"; done
     done
 }
 
@@ -258,7 +262,7 @@ clock_row() {
 shown() { gives 0 "show $1" "$2" "$(printf '%s\\n' "${@:3}")"; }
 
 @test "show has a line for each hand of the clock, at its first and its last slot that a timer can be in" {
-    local ticks=(1 59 60 3599 3600 86399 86400 {LAST_OF_CLOCK}) script='' lines=() left=() i
+    local ticks=(1 59 60 3599 3600 86399 86400 '{LAST_OF_CLOCK}') script='' lines=() left=() i
     local places=('second 1' 'second 59' 'minute 1' 'minute 59' 'hour 1' 'hour 23' 'day 1' 'day 99')
     for i in {1..8}; do
         script+="start 0 $i ${ticks[i - 1]} 0\\n"

@@ -11,7 +11,7 @@ def facts(name):
         return tomllib.load(file)
 
 
-LIMITS, WORDS = facts("limits.toml")["limits"], facts("words.toml")
+LIMITS, WORDS, SCHEMES = facts("limits.toml")["limits"], facts("words.toml"), facts("schemes.toml")
 with open(os.path.join(TOP, "docs/formats.md"), encoding="utf-8") as page:
     TEXT = page.read()
 
@@ -67,9 +67,8 @@ REFUSALS = {
     re.sub(r"(?<!^)(?=[A-Z])", "_", name).upper(): fact["word"]
     for section in ("not_taken", "refused", "tick_refused") for name, fact in WORDS[section].items()
 }
-# Where `timers show` says that timers are, by the scheme: K is the wheel, and S the slot. A clock has hands.
-PLACES = dict(re.findall(r"^\| `(plain|hashed|hier)` \| `([^:`]+):", TEXT, flags=re.MULTILINE))
-HANDS = re.findall(r"`([a-z]+)", find(r"^\| `clock` \| ([^|]*) \|"))
+PLACES = {name: scheme["place"] for name, scheme in SCHEMES.items() if "place" in scheme}
+HANDS = SCHEMES["clock"]["hands"]
 
 # The lines on standard error, in the order of the table.
 ERRORS = said("errors", "line")
