@@ -217,6 +217,7 @@ serves() {
     build desk_end.c
     runs 64 1000
 }
+@test "an end is gone once it is freed, and after its last item, over lines of 1 to 60,000" { build desk_gone.c && runs; }
 @test "desks and lines may be freed while the other side calls" { build desk_frees.c && runs 200 8; }
 @test "clients come and go in threads, and lines are opened again" { lives; }
 @test "valgrind finds no error and no leak in them, either" { build desk_frees.c && by_valgrind 20 4; }
