@@ -82,8 +82,8 @@ impl Clock {
         self.start.checked_add(self.length(tick)?)
     }
 
-    /// How long it is until a tick begins: how long to sleep, or to wait for input. Zero if it has begun, and
-    /// [`Duration::MAX`] if that is later than an `Instant` can be.
+    /// How long it is until a tick begins: how long to sleep, or to wait for input. Zero if it has begun, which the time-outs
+    /// of sockets don't take, and [`Duration::MAX`] if that is later than an `Instant` can be.
     #[must_use]
     pub fn until(&self, tick: u64) -> Duration {
         self.instant(tick).map_or(Duration::MAX, |instant| instant.saturating_duration_since(Instant::now()))

@@ -286,19 +286,15 @@ impl<T> Timers<T> {
         written(|out| unsafe { ffi::timers_look(&self.held, handle, out) })
     }
 
-    fn shown(&self, raw: Raw) -> Timer<&T> {
-        Timer { deadline: raw.deadline, serial: raw.serial, value: self.values.get(raw.action as usize) }
-    }
-
     fn taken(&mut self, raw: Raw) -> Timer<T> {
         Timer { deadline: raw.deadline, serial: raw.serial, value: self.values.take(raw.action as usize) }
     }
 
-    /// The timer with this handle, pending or expired; `None` if there is none. It is pending if its deadline is after
-    /// [`now`](Timers::now).
+    /// The value of the timer with this handle, pending or expired; `None` if there is none.
     #[must_use]
-    pub fn get(&self, handle: Handle) -> Option<Timer<&T>> {
-        self.look(handle).ok().map(|raw| self.shown(raw))
+    pub fn get(&self, handle: Handle) -> Option<&T> {
+        let slot = self.look(handle).ok()?.action;
+        Some(self.values.get(slot as usize))
     }
 
     /// The value of the timer with this handle, to be changed; `None` if there is none.
@@ -306,6 +302,13 @@ impl<T> Timers<T> {
     pub fn get_mut(&mut self, handle: Handle) -> Option<&mut T> {
         let slot = self.look(handle).ok()?.action;
         Some(self.values.get_mut(slot as usize))
+    }
+
+    /// The deadline of the timer with this handle; `None` if there is none. It is pending if that is after
+    /// [`now`](Timers::now), and has expired otherwise.
+    #[must_use]
+    pub fn deadline(&self, handle: Handle) -> Option<u64> {
+        self.look(handle).ok().map(|raw| raw.deadline)
     }
 
     /// All timers with their handles, pending and expired, in no particular order. A whole iteration takes time for the
@@ -438,7 +441,8 @@ impl<'a, T> Iterator for Iter<'a, T> {
     fn next(&mut self) -> Option<Self::Item> {
         let (mut handle, mut raw) = (Handle::default(), Raw::default());
         let found = unsafe { ffi::timers_each(&self.timers.held, &mut self.cursor, &mut handle, &mut raw) };
-        found.then(|| (handle, self.timers.shown(raw)))
+        let value = |raw: Raw| self.timers.values.get(raw.action as usize);
+        found.then(|| (handle, Timer { deadline: raw.deadline, serial: raw.serial, value: value(raw) }))
     }
 }
 

@@ -28,11 +28,14 @@ fn a_refusal_changes_nothing_and_gives_the_value_back() {
     assert_eq!(timers.restart(handle, 10), Err(Error::TooLate));
     assert_eq!(timers.restart_at(handle, u64::MAX), Err(Error::TooLate));
     assert_eq!(timers.set_at(&mut handle, u64::MAX, 5).err(), Some(Refused { error: Error::TooLate, value: 5 }));
-    assert_eq!((handle, timers.len(), timers.get(handle).map(|timer| *timer.value)), (started, 1, Some(4)));
+    assert_eq!(
+        (handle, timers.len(), timers.get(handle), timers.deadline(handle)),
+        (started, 1, Some(&4), Some(LAST_OF_CLOCK - 6))
+    );
     assert_eq!(timers.reserve(usize::MAX), Err(Error::NoMemory));
     assert_eq!(timers.stop(handle), Some(4));
     for dead in [handle, Handle::default()] {
-        assert_eq!((timers.stop(dead), timers.get(dead)), (None, None));
+        assert_eq!((timers.stop(dead), timers.get(dead), timers.deadline(dead)), (None, None, None));
         assert_eq!(timers.get_mut(dead), None);
         assert_eq!(timers.restart(dead, 0), Err(Error::NotPending));
         assert_eq!(timers.restart_at(dead, 0), Err(Error::NotPending));

@@ -36,9 +36,9 @@ impl Model {
     }
 }
 
-/// What a look at a timer shows.
-fn shown(timers: &Timers<u64>, handle: Handle) -> Option<(u64, u64, u64)> {
-    timers.get(handle).map(|timer| (timer.deadline, timer.serial, *timer.value))
+/// What a look at a timer shows: its deadline and value.
+fn shown(timers: &Timers<u64>, handle: Handle) -> Option<(u64, u64)> {
+    timers.deadline(handle).zip(timers.get(handle).copied())
 }
 
 /// A tick that is mostly after now.
@@ -73,7 +73,7 @@ fn change_one(random: &mut Random, timers: &mut Timers<u64>, model: &mut Model) 
     let at = random.below(model.handles.len() as u64) as usize;
     let (handle, deadline) = model.handles[at];
     let there = model.held.remove(&(deadline, handle.serial()));
-    assert_eq!(shown(timers, handle), there.map(|value| (deadline, handle.serial(), value)));
+    assert_eq!(shown(timers, handle), there.map(|value| (deadline, value)));
     assert_eq!(timers.get_mut(handle).copied(), there);
     let (made, deadline) = match random.below(5) {
         0 => {
@@ -151,12 +151,12 @@ fn compare_state(timers: &mut Timers<u64>, model: &Model) {
 
 /// All that an iteration shows.
 fn visited(timers: &Timers<u64>) -> BTreeMap<(u64, u64), u64> {
-    let (by_handle, by_iteration): (Vec<_>, Vec<_>) = timers
-        .iter()
-        .map(|(handle, timer)| (shown(timers, handle), (timer.deadline, handle.serial(), *timer.value)))
-        .unzip();
-    assert!(by_handle.iter().flatten().eq(&by_iteration));
-    by_iteration.into_iter().map(|(deadline, serial, value)| ((deadline, serial), value)).collect()
+    let show = |(handle, timer): (Handle, Timer<&u64>)| {
+        assert_eq!(shown(timers, handle), Some((timer.deadline, *timer.value)));
+        assert_eq!(timer.serial, handle.serial());
+        ((timer.deadline, timer.serial), *timer.value)
+    };
+    timers.iter().map(show).collect()
 }
 
 #[test]

@@ -72,7 +72,7 @@ fn a_refused_start_gives_the_value_back() {
 fn a_set_gives_the_old_value_back() {
     let (living, mut timers, mut handles) = ten();
     let old = timers.set_at(&mut handles[4], 50, Counted::new(&living, 11)).unwrap().unwrap();
-    assert_eq!((*old.number, *timers.get(handles[4]).unwrap().value.number, living.get()), (4, 11, 11));
+    assert_eq!((*old.number, *timers.get(handles[4]).unwrap().number, living.get()), (4, 11, 11));
 }
 
 #[test]
