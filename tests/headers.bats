@@ -92,17 +92,17 @@ for name, value in vars($module).items():
     done
 }
 
-# in_rust FILE COUNT: the numbers that it maps to names, and those of constants, are the header's, of which it has so many
+# in_rust FILE HEADER COUNT: the numbers that it maps to names, and those of constants, are the header's, of which it has so many
 in_rust() {
     sed -nE -e 's/^ *([0-9]+) => (Err\(Error|Error|Word)::([A-Za-z]+).*/\1 \3/p' -e 's/^const ([A-Z]+): c_uint = ([0-9]+);/\2 \1/p' \
-        bindings/rust/$1.rs |
+        bindings/rust/src/$1.rs |
         sed -E -e 's/([a-z])([A-Z])/\1_\2/g' -e 's/^([0-9]+) (.*)/\U\2 \1/' | sort > "$work/numbers"
-    [ "$(wc -l < "$work/numbers")" -eq "$2" ]
-    [ -z "$(comm -13 <(enumerators $1) "$work/numbers")" ]
+    [ "$(wc -l < "$work/numbers")" -eq "$3" ]
+    [ -z "$(comm -13 <(enumerators $2) "$work/numbers")" ]
 }
 @test "those in Rust are the headers', too" {
-    in_rust timers 8
-    in_rust timers_desk 28
+    in_rust error timers 8
+    in_rust desk timers_desk 28
 }
 
 @test "the version of the header, as a text and as a number, is that of the library" {
@@ -118,6 +118,7 @@ int main(void)
 EOT
     "$CC" $of_c -o "$work/version" "$work/version.c" "$lib/libtimers.a"
     awk -F. '{ number = $1 * 10000 + $2 * 100 + $3; print $0, number, number }' tools/install/version | diff - <("$work/version")
+    grep -Fx "version = \"$(cat tools/install/version)\"" bindings/rust/Cargo.toml
 }
 
 # The functions that the headers declare.
@@ -285,17 +286,18 @@ says() {
     number=0
     while read -r text; do says "$text" misuse $((++number)); done < "$work/misuses"
 }
-misuses_rust() { # misuses_rust FILE COUNT
-    needs rustc
-    misuse() { rustc --edition 2021 -A unexpected_cfgs --emit=metadata -o "$work/misuse" "bindings/rust/$file.rs" "$@"; }
-    file=$1
+@test "misuses in Rust don't compile" {
+    needs_cargo
+    cargo build --quiet --offline --manifest-path bindings/rust/Cargo.toml --target-dir "$work/cargo"
+    misuse() {
+        rustc --edition 2021 -A unexpected_cfgs --emit=metadata --extern "timers=$work/cargo/debug/libtimers.rlib" -o "$work/misuse" \
+            bindings/rust/tests/misuse/misuse.rs "$@"
+    }
     misuse
-    sed -n 's/^    #\[cfg(\([a-z_]*\))\] \/\/ \(.*\)$/\1 \2/p' "bindings/rust/$1.rs" > "$work/misuses"
-    [ "$(wc -l < "$work/misuses")" -eq "$2" ]
+    sed -n 's/^ *#\[cfg(\([a-z_]*\))\] \/\/ \(.*\)$/\1 \2/p' bindings/rust/tests/misuse/misuse.rs > "$work/misuses"
+    [ "$(wc -l < "$work/misuses")" -eq 13 ]
     while read -r name text; do says "$text" misuse --cfg "$name"; done < "$work/misuses"
 }
-@test "misuses of timers.rs don't compile" { misuses_rust misuse 6; }
-@test "misuses of timers_desk.rs don't compile" { misuses_rust misuse_desk 4; }
 
 # A line for each function of the headers that returns a status or a bool: its name, and a call that reads no result.
 calls_unread() {

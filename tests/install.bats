@@ -56,7 +56,7 @@ EOT
             echo "link share/man/man3/$function.3 $page"
         done
     done
-    for path in bindings/*/timers.* bindings/*/timers_desk.*; do
+    for path in bindings/python/timers{,_desk}.py bindings/rust/{Cargo.toml,README.md,build.rs,src/*,c/*}; do
         echo "644 share/timers/${path#bindings/} $path"
     done
     git ls-files examples | grep -v gitignore | while read -r path; do
@@ -166,6 +166,18 @@ from timers import Timers
 with Timers() as timers:
     timers.start(25, 7)
     assert timers.advance(100) == [(25, 1, 7)]"
+}
+
+@test "installed: the crate for Rust" {
+    needs_cargo
+    mkdir -p "$work/app/src"
+    cp bindings/rust/examples/first.rs "$work/app/src/main.rs"
+    printf '[package]\nname = "app"\nversion = "1.0.0"\nedition = "2021"\n[dependencies]\ntimers = { path = "%s" }\n' "$work/prefix/share/timers/rust" \
+        > "$work/app/Cargo.toml"
+    chmod -R a-w "$work/prefix/share/timers/rust"
+    cargo run --quiet --offline --manifest-path "$work/app/Cargo.toml" > "$work/out"
+    chmod -R u+w "$work/prefix/share/timers/rust"
+    printf '240: egg\n300: tea\n' | diff - "$work/out"
 }
 
 @test "make uninstall, in a tree in which nothing was built and after two installs, leaves what was there before" {

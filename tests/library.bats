@@ -255,22 +255,14 @@ of_desks() {
     python3 -B bindings/python/timers_desk_test.py "$lib/libtimers.so"
 }
 
-# in_rust PROGRAM: of examples/c or bindings/rust, with timers.rs beside it, as its head says
-in_rust() {
-    needs rustc
-    echo 'unsafe extern "C" {} fn main() {}' > "$work/new.rs"
-    rustc --edition 2021 -o "$work/new" "$work/new.rs" || skip "rustc is older than 1.82"
-    mkdir -p "$work/rs"
-    cp examples/c/first.rs bindings/rust/*.rs "$work/rs"
-    rustc --edition 2021 -D warnings -L "$lib" -o "$work/program" "$work/rs/$1.rs"
-    LD_LIBRARY_PATH=$lib "$work/program"
+# over_lib WORD..: a command of cargo for the crate, over the archive in $lib in place of what its build script compiles
+over_lib() {
+    needs_cargo
+    target=target.$(rustc -vV | sed -n 's/^host: //p').timers
+    cargo "$1" --quiet --offline --manifest-path bindings/rust/Cargo.toml --target-dir "$work/cargo" \
+        --config "$target.rustc-link-search=['$lib']" --config "$target.rustc-link-lib=['static=timers']" "${@:2}"
 }
-@test "the first program in Rust prints what it should" {
-    in_rust first > "$work/out"
-    diff <(printf '240: egg\n300: tea\n') "$work/out"
-}
-@test "random calls in Rust agree with a sorted map" { in_rust timers_test; }
-@test "a desk in Rust agrees, and threads get all their words" { in_rust timers_desk_test; }
+@test "random calls in Rust agree with a sorted map, and values come back" { over_lib test --tests; }
 
 # Room for a word to each timer and to each request, and one more. Python refuses what is above the last number.
 @test "the room that a desk needs is one sum in C++, Python and Rust, and does not wrap around" {
@@ -309,17 +301,14 @@ for line in sys.stdin:
         print(timers_desk.room_for(*map(int, line.split())))
     except OverflowError:
         print(2**64 - 1)'
-    mkdir -p "$work/rs"
-    cat > "$work/rs/rooms.rs" << 'EOT'
-mod timers_desk;
+    over_lib build
+    rustc --edition 2021 -D warnings --extern "timers=$work/cargo/debug/libtimers.rlib" -o "$work/program" - << 'EOT'
 fn main() {
     for line in std::io::stdin().lines() {
         let numbers: Vec<u64> = line.unwrap().split(' ').map(|number| number.parse().unwrap()).collect();
-        println!("{}", timers_desk::Config::new(1, numbers[0], numbers[1]).room);
+        println!("{}", timers::desk::Config::new(1, numbers[0], numbers[1]).room);
     }
 }
 EOT
-    cut -d' ' -f1,2 "$work/rooms" > "$work/asked"
-    in_rust rooms < "$work/asked" > "$work/out"
-    diff <(cut -d' ' -f3 "$work/rooms") "$work/out"
+    rooms "$work/program"
 }
