@@ -263,7 +263,10 @@ in_cpp() {
         "$1" -std=$standard $warnings -Wold-style-cast -Iinclude -fsyntax-only tests/c/agree.cpp tests/c/desk_agree.cpp
     done
     says "needs C++11" as_header c++ "$1" c++98
-    says "needs C++17" "$1" -std=c++14 -DMISUSE=0 -Iinclude -fsyntax-only bindings/cpp/misuse.cpp
+    for header in timers.hpp timers_desk.hpp; do
+        says "needs C++17" "$1" -std=c++14 -Iinclude -fsyntax-only -x c++ - <<< "#include <$header>"
+        [ "$(grep -c 'error:' <<< "$output")" -eq 1 ]
+    done
 }
 # says TEXT COMMAND..: the command fails, and what it writes has the text
 says() {
@@ -276,15 +279,59 @@ says() {
 @test "g++ has no warning about any header, and says which C++ they need" { in_cpp g++; }
 @test "clang++ has no warning about any header, and says which C++ they need" { in_cpp clang++; }
 
+# A call that would throw says its status in the program's words, and ends the program.
+@test "without exceptions a call that is refused ends the program" {
+    cat > "$work/refused.cpp" << 'EOT'
+#include <cstdio>
+#ifdef SAYS
+#define TIMERS_REFUSED(status) std::puts(timers_message(status)), std::fflush(stdout)
+#define TIMERS_DESK_REFUSED(status) std::puts(timers_desk_message(status)), std::fflush(stdout)
+#endif
+#include <timers.hpp>
+#include <timers_desk.hpp>
+using namespace std::chrono_literals;
+int main(int count, char **)
+{
+    timing::timers<> timers;
+    timers.reserve(2);
+    timers.start(3ms, 7);
+    if (timers.take(timers.at(3ms))->action != 7)
+        return 1;
+    if (count > 1) {
+        std::vector<timing::line> lines;
+        timing::desk desk(lines, 65, timing::desk::config(1, 1, 1));
+    }
+    timers.start(0ms, 1);
+}
+EOT
+    for compiler in g++ clang++; do
+        command -v $compiler || continue
+        for flag in "" -DSAYS; do
+            $compiler -std=c++17 -fno-exceptions -fno-rtti $warnings $flag -Iinclude -o "$work/refused" "$work/refused.cpp" "$lib/libtimers.a"
+            run "$work/refused"
+            [ "$status" -eq 134 ]
+            [ "$output" = "${flag:+the interval is 0}" ]
+            run "$work/refused" desk
+            [ "$status" -eq 134 ]
+            [ "$output" = "${flag:+a number of clients, room or configuration is out of range}" ]
+        done
+    done
+}
+
 # The comment beside each misuse is part of what the compiler says.
 @test "misuses in C++ don't compile" {
     needs "$CXX"
-    misuse() { "$CXX" -std=c++17 -DMISUSE="$1" -Werror -Wall -Wextra -Iinclude -fsyntax-only bindings/cpp/misuse.cpp; }
-    misuse 0
     sed -n 's/^#.*if MISUSE == [0-9]* *\/\* \(.*\) \*\/$/\1/p' bindings/cpp/misuse.cpp > "$work/misuses"
-    [ "$(wc -l < "$work/misuses")" -eq 9 ]
-    number=0
-    while read -r text; do says "$text" misuse $((++number)); done < "$work/misuses"
+    [ "$(wc -l < "$work/misuses")" -eq 15 ]
+    for compiler in "$CXX" g++ clang++; do
+        command -v "$compiler" || continue
+        misuse() { "$compiler" -std="$2" -DMISUSE="$1" -Werror -Wall -Wextra -Iinclude -fsyntax-only bindings/cpp/misuse.cpp; }
+        for standard in c++17 c++20; do
+            misuse 0 $standard
+            number=0
+            while read -r text; do says "$text" misuse $((++number)) $standard; done < "$work/misuses"
+        done
+    done
 }
 @test "misuses in Rust don't compile" {
     needs_cargo

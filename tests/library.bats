@@ -132,6 +132,7 @@ lives() {
     build first.cpp
     prints <(printf '2400: egg\n3000: tea\n')
 }
+@test "connections in C++ time out over a real clock, in order" { build connections.cpp && prints examples/c/connections.stdout; }
 @test "a program may give NULL for what it does not want" { build unwanted.c && runs; }
 
 @test "random calls agree with a sorted list" { build stress.c && runs $calls 1; }
@@ -144,6 +145,13 @@ lives() {
 @test "valgrind finds no error and no leak in them" { build stress.c && by_valgrind $((calls / 10)) 4; }
 @test "nor if allocations are refused" { build stress.c -DREFUSE $wraps && by_valgrind $((calls / 10)) 5; }
 @test "random calls in C++ agree with a sorted map" { build agree.cpp $wrap && runs; }
+@test "so they do in C++20, by g++ and by clang++" {
+    needs g++ clang++
+    for compiler in g++ clang++; do
+        CXX=$compiler of_cpp=${of_cpp/c++17/c++20} build agree.cpp $wrap
+        runs
+    done
+}
 @test "they agree under the sanitizers, too" {
     sanitizers address,undefined
     build agree.cpp -O0 $wrap $sanitize
