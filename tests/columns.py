@@ -37,7 +37,8 @@ WHOLE += [(b"\xef\xbb\xbfclose\n", 1, "ByteOrderMark"), (b"\xef\xbbclose\n", 1, 
 WHOLE += [(b"close5\n", 6, "UnknownWord"), (b"stat 0 1 5 7\n", 4, "UnknownWord")]
 WHOLE += [(b"starts 0 1 5 7\n", 6, "UnknownWord"), (b"tic", 4, "NoLineEnd")]
 CHANGED = [b"start 0 1 5 7\n", b"start 10 1 %d 7\n" % LAST, b"stop 0 12 1\n", b"restart 0 1 10 5 9\n"]
-CHANGED += [b"tick 1\n", b"tick %d\n" % TICKS, b"tick %d\n" % (TICKS - 1), b"close\n"]
+LONGEST = b"restart" + b" %d" % LAST * 5
+CHANGED += [b"tick 1\n", b"tick %d\n" % TICKS, b"tick %d\n" % (TICKS - 1), b"close\n", LONGEST + b"\n"]
 BYTES = b"\x00\t\r 0159:/-+aeorstSz\x7f\xef\xff"
 
 
@@ -93,21 +94,43 @@ def cases():
     yield b"tick " + b"1" * 10000 + b"\n", (12, "count", "OutOfTicks")
 
 
-def reports(program, script):
+def longer():
+    """The same of lines that go on behind the byte at fault, above the 108 bytes of the longest good line."""
+    for line, (at, field, reason) in cases():
+        if line.endswith(b"\n") and at < len(line) and reason != "Space":
+            for more in (108, 200, 1000):
+                yield line[:-1] + b"1" * more + b"\n", (at, field, reason)
+    for more in (108, 200, 1000):
+        yield b"start  " + b"1" * more + b"\n", (7, None, "Space")
+        yield b" " + b"1" * more + b"\n", (1, None, "Space")
+        yield b"stop 1 1 " + b"0" * more + b"\n", (11, "serial", "LeadingZero")
+        yield b"close" + b" 1" * more + b"\n", (6, None, "TooManyFields")
+        yield b"restart" + b" 1" * more + b"\n", (18, None, "TooManyFields")
+        yield LONGEST + b"1" * more + b"\n", (108, "action", "OutOfRange")
+        yield LONGEST + b" 1" * more + b"\n", (108, None, "TooManyFields")
+        yield LONGEST + b"\r" * more + b"\n", (108, None, "CarriageReturn")
+        yield LONGEST + b"x" * more + b"\n", (108, "action", "NotANumber")
+        yield b"s" * more + b"\n", (2, None, "UnknownWord")
+        yield b"s" * more, (2, None, "UnknownWord")
+
+
+def reports(program, script, serves=False):
     """What is reported of each line by its number: the column, and what comes after it."""
-    told = subprocess.run([program, "check"], input=script, capture_output=True, check=False).stdout.decode()
-    found = re.findall(r"^line (\d+), column (\d+): (.*)$", told, flags=re.MULTILINE)
+    call = [program, "serve", "--keep-going"] if serves else [program, "check"]
+    done = subprocess.run(call, input=script, capture_output=True, check=False)
+    told = (done.stderr if serves else done.stdout).decode()
+    found = re.findall(r"^(?:bad )?line (\d+), column (\d+): (.*)$", told, flags=re.MULTILINE)
     return {int(number): (int(at), said) for number, at, said in found}
 
 
-def see_all(program, wanted):
+def see_all(program, wanted, serves=False):
     """Compares the reports of these lines. Those with a line end are in one script, and each other one is alone."""
     ended = [line for line in wanted if line.endswith(b"\n")]
-    found = reports(program, b"".join(ended))
+    found = reports(program, b"".join(ended), serves)
     found = {line: found.get(number) for number, line in enumerate(ended, start=1)}
     for line in wanted:
         if not line.endswith(b"\n"):
-            found[line] = reports(program, line).get(1)
+            found[line] = reports(program, line, serves).get(1)
     wrong = [line for line in wanted if not wanted[line](found[line])]
     for line in wrong[:10]:
         print(f"{line[:60]}: {found[line]}")
@@ -125,6 +148,11 @@ def is_said(at, field, reason):
 
 
 by_definition = {line: (lambda found: found is None) if is_good(line) else is_at(column(line)) for line in changed()}
-wrongs = see_all(sys.argv[1], by_definition) + see_all(sys.argv[1], {line: is_said(*fault) for line, fault in cases()})
-print(f"{len(by_definition)} changed lines, {wrongs} wrong reports")
+wrongs = see_all(sys.argv[1], by_definition)
+by_table = {line: is_said(*fault) for line, fault in (*cases(), *longer())}
+wrongs += see_all(sys.argv[1], by_table)
+# `serve` looks at the first 108 bytes of a longer line, of which this space is the last.
+fronts = {line: is_said(108, None, "Space") for line in by_table if line.startswith(LONGEST + b" 1")}
+wrongs += see_all(sys.argv[1], by_table | fronts, serves=True)
+print(f"{len(by_definition)} changed lines, {len(by_table)} others, {wrongs} wrong reports")
 sys.exit(wrongs > 0)
