@@ -198,6 +198,12 @@ serves() {
 @test "a free that forgets is noticed" { build leaks.c -DFORGETS $wrap && notices; }
 @test "starts allocate nothing if room was made" { build reserve.c $wraps && runs; }
 @test "that no room was made is noticed" { build reserve.c -DFORGETS $wraps && notices; }
+@test "there is room for as many timers as links can name, and for no more" {
+    build most.c
+    run runs
+    [ "$status" -ne 77 ] || skip "no addresses for 4.29 billion timers"
+    [ "$status" -eq 0 ]
+}
 @test "all memory comes from an allocator that was set, and goes back" {
     build allocator.c $wrap
     runs resizes
