@@ -118,7 +118,7 @@
   // What has the focus, in a word.
   window.focused = () => {
     const node = document.activeElement;
-    return node.dataset.focus ?? (node.id || node.hash || node.localName);
+    return node.dataset.focus ?? (node.id || node.hash || text(node.localName === "body" ? document.createElement("i") : node) || node.localName);
   };
   // The parts of arrows that run through a text or a ring.
   window.crossed = () => {

@@ -5,6 +5,7 @@
 const MAX_ARROWS = 3;  // of one step; if there are more, one thick arrow goes to each wheel
 const TRAVEL = 900;    // milliseconds for which a timer travels along its arrow
 const ROUND = 8;       // pixels by which a corner is rounded
+const INSIDE = 6;      // pixels from the edge of a card, where it has no text, and from there to the next card
 
 function onRing({x, y, size}, turn, radius) {
   const [awayX, awayY] = point(turn, radius * size);
@@ -25,10 +26,12 @@ function wayOf(from, to, between) {
   const isRow = Math.abs(from.y - to.y) < wide;
   if (isRow && !between) return from.x < to.x ? [0.25, 0.75, []] : [0.75, 0.25, []];
   if (isRow) return from.x < to.x ? [0.04, 0.96, []] : [0.96, 0.04, []];
-  if (Math.abs(from.x - to.x) < wide && !between && Math.abs(from.y - to.y) < 4 * wide)
-    return from.y < to.y ? [0.5, 0, []] : [0, 0.5, []];
-  const gutter = Math.min(from.card.left, to.card.left) + 6;
-  return [0.75, 0.75, [[gutter, from.y], [gutter, to.y]]];
+  const isColumn = Math.abs(from.x - to.x) < wide;
+  if (isColumn && !between && Math.abs(from.y - to.y) < 3 * wide) return from.y < to.y ? [0.5, 0, []] : [0, 0.5, []];
+  if (isColumn) return [0.75, 0.75, [[from.card.left + INSIDE, from.y], [to.card.left + INSIDE, to.y]]];
+  const isLeft = to.x < from.x;
+  const gutter = isLeft ? from.card.left - INSIDE : from.card.right + INSIDE;
+  return [isLeft ? 0.75 : 0.25, isLeft ? 0.25 : 0.75, [[gutter, from.y], [gutter, to.y]]];
 }
 
 // A path through points, with round corners.
@@ -77,7 +80,7 @@ class Arrows {
     const spot = (key) => {
       const {wheel, slot} = placeOf(key);
       const found = cards.get(wheel).spot(slot);
-      const card = {left: found.card.left - origin.left};
+      const card = {left: found.card.left - origin.left, right: found.card.right - origin.left};
       return {...found, x: found.x - origin.left, y: found.y - origin.top, card};
     };
     const order = [...cards.keys()];

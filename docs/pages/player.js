@@ -468,5 +468,6 @@ async function begin() {
   }
   listen();
   loadLink();
+  shown.openedAt = performance.now();
   document.body.dataset.ready = "";
 }
