@@ -45,7 +45,7 @@ link lib/libtimers.so libtimers.so.${version%%.*}
 644 share/fish/vendor_completions.d/timers.fish tools/install/completions/timers.fish
 644 share/doc/timers/NOTICE generated/NOTICE
 EOT
-    for path in CHANGELOG.md LICENSE-APACHE LICENSE-MIT docs/{embedding,formats,platforms,porting,server,versions,walkthroughs}.md docs/pages/*; do
+    for path in CHANGELOG.md LICENSE-APACHE LICENSE-MIT docs/{embedding,formats,platforms,porting,server,versions,walkthroughs,wheels}.md docs/pages/*; do
         echo "644 share/doc/timers/$path $path"
     done
     for path in include/*.h; do
