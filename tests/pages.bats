@@ -110,12 +110,13 @@ run_examples() {
     [ "$count" -gt 0 ]
 }
 
-@test "the examples of the help and of docs/formats.md print what stands below them" {
+@test "the examples of the help, of docs/formats.md and of docs/wheels.md print what stands below them" {
     for command in "" play show threads check; do
         # shellcheck disable=SC2086
         run_examples < <(timers $command --help)
     done
     run_examples < docs/formats.md
+    run_examples < docs/wheels.md
 }
 
 @test "the example of serve has what is written on the left, and what is read on the right" {
