@@ -28,6 +28,9 @@ of_crate() { cargo "$1" --quiet --offline --manifest-path bindings/rust/Cargo.to
     of_crate run --example retries > "$work/out"
     printf '%s\n' '50 ms: tea has arrived, at attempt 1' '1450 ms: egg has arrived, at attempt 4' '6200 ms: call is given up' |
         diff - "$work/out"
+    # After a pause of the machine both futures may be ready at once.
+    of_crate run --example sleep > "$work/out"
+    printf '%s\n' egg tea | diff - <(sort "$work/out")
     # On a machine that stands still one of those who talk may be silent for too long, too.
     of_crate run --example idle_server > "$work/out"
     printf 'client %d was silent for too long\n' 0 2 4 | diff - <(grep -E '^client [024] ' "$work/out")
