@@ -197,7 +197,7 @@ EOT
 }
 
 # The build script by itself, as cargo runs it for another processor: the compiler that it takes, and that of a variable.
-@test "the build script compiles for another processor, by the conventions of cc" {
+@test "the build script compiles for other processors and systems, by the conventions of cc" {
     needs_cargo
     needs rustc readelf aarch64-linux-gnu-gcc
     rustc --edition 2021 -D warnings -o "$work/build" bindings/rust/build.rs
@@ -207,6 +207,16 @@ EOT
     grep -x "cargo::rustc-link-lib=static=timers" "$work/out"
     [ -e "$(sed -n 's/^cargo::metadata=include=//p' "$work/out")/timers.h" ]
     readelf -h "$work/libtimers.a" | grep AArch64
+    while read -r target compiler; do
+        ! command -v "$compiler" || TARGET=$target "$work/build" | grep -x "cargo::rustc-link-lib=static=timers"
+    done << EOT
+i686-unknown-linux-gnu i686-linux-gnu-gcc
+armv7-unknown-linux-gnueabihf arm-linux-gnueabihf-gcc
+riscv64gc-unknown-linux-gnu riscv64-linux-gnu-gcc
+s390x-unknown-linux-gnu s390x-linux-gnu-gcc
+x86_64-unknown-linux-musl musl-gcc
+x86_64-pc-windows-gnu x86_64-w64-mingw32-gcc
+EOT
     printf '#!/bin/sh\necho "$@" > "%s/asked"\nexec aarch64-linux-gnu-gcc "$@"\n' "$work" > "$work/given"
     chmod 755 "$work/given"
     CC=false TARGET_CC=false CC_aarch64_unknown_linux_gnu=$work/given CFLAGS="-DONE -DTWO" AR_aarch64_unknown_linux_gnu=aarch64-linux-gnu-ar "$work/build" > "$work/out"
