@@ -28,6 +28,9 @@ of_crate() { cargo "$1" --quiet --offline --manifest-path bindings/rust/Cargo.to
     of_crate run --example retries > "$work/out"
     printf '%s\n' '50 ms: tea has arrived, at attempt 1' '1450 ms: egg has arrived, at attempt 4' '6200 ms: call is given up' |
         diff - "$work/out"
+    # After a pause of the machine both futures may be ready at once.
+    of_crate run --example sleep > "$work/out"
+    printf '%s\n' egg tea | diff - <(sort "$work/out")
     # On a machine that stands still one of those who talk may be silent for too long, too.
     of_crate run --example idle_server > "$work/out"
     printf 'client %d was silent for too long\n' 0 2 4 | diff - <(grep -E '^client [024] ' "$work/out")
@@ -194,7 +197,7 @@ EOT
 }
 
 # The build script by itself, as cargo runs it for another processor: the compiler that it takes, and that of a variable.
-@test "the build script compiles for another processor, by the conventions of cc" {
+@test "the build script compiles for other processors and systems, by the conventions of cc" {
     needs_cargo
     needs rustc readelf aarch64-linux-gnu-gcc
     rustc --edition 2021 -D warnings -o "$work/build" bindings/rust/build.rs
@@ -204,6 +207,16 @@ EOT
     grep -x "cargo::rustc-link-lib=static=timers" "$work/out"
     [ -e "$(sed -n 's/^cargo::metadata=include=//p' "$work/out")/timers.h" ]
     readelf -h "$work/libtimers.a" | grep AArch64
+    while read -r target compiler; do
+        ! command -v "$compiler" || TARGET=$target "$work/build" | grep -x "cargo::rustc-link-lib=static=timers"
+    done << EOT
+i686-unknown-linux-gnu i686-linux-gnu-gcc
+armv7-unknown-linux-gnueabihf arm-linux-gnueabihf-gcc
+riscv64gc-unknown-linux-gnu riscv64-linux-gnu-gcc
+s390x-unknown-linux-gnu s390x-linux-gnu-gcc
+x86_64-unknown-linux-musl musl-gcc
+x86_64-pc-windows-gnu x86_64-w64-mingw32-gcc
+EOT
     printf '#!/bin/sh\necho "$@" > "%s/asked"\nexec aarch64-linux-gnu-gcc "$@"\n' "$work" > "$work/given"
     chmod 755 "$work/given"
     CC=false TARGET_CC=false CC_aarch64_unknown_linux_gnu=$work/given CFLAGS="-DONE -DTWO" AR_aarch64_unknown_linux_gnu=aarch64-linux-gnu-ar "$work/build" > "$work/out"

@@ -40,7 +40,7 @@
 //! is_sent::<timers::desk::Line>();
 //! ```
 //!
-//! timers_desk_tick, timers_desk_settle and timers_desk_end_all of timers_desk.h are not wrapped.
+//! `timers_desk_tick`, `timers_desk_settle` and `timers_desk_end_all` of the C library are not wrapped.
 
 // SPDX-License-Identifier: MIT OR Apache-2.0
 use crate::Table;

@@ -29,18 +29,27 @@ pub enum Error {
 }
 
 impl Error {
-    /// The error of a status of C. `Timers` are always open and have a table that is there.
+    /// What a status of C says. `Timers` are always open and have a table that is there.
+    #[inline]
     pub(crate) fn of(status: c_uint) -> Result<(), Error> {
+        if status == OK {
+            Ok(())
+        } else {
+            Err(Error::named(status))
+        }
+    }
+
+    #[cold]
+    fn named(status: c_uint) -> Error {
         match status {
-            OK => Ok(()),
-            4 => Err(Error::NoMemory),
-            5 => Err(Error::Due),
-            6 => Err(Error::NotPending),
-            7 => Err(Error::ZeroInterval),
-            8 => Err(Error::TooLate),
-            9 => Err(Error::SerialsSpent),
-            10 => Err(Error::ClockEnd),
-            other => Err(Error::Other(other)),
+            4 => Error::NoMemory,
+            5 => Error::Due,
+            6 => Error::NotPending,
+            7 => Error::ZeroInterval,
+            8 => Error::TooLate,
+            9 => Error::SerialsSpent,
+            10 => Error::ClockEnd,
+            other => Error::Other(other),
         }
     }
 }

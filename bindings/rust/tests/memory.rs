@@ -25,6 +25,21 @@ fn make_room() {
     }
 }
 
+/// A timer that comes and goes adds nothing: 500,000 would be 32 MB, and 8 MB of values.
+fn use_places_again() {
+    let mut timers = Timers::new().unwrap();
+    for value in 0..1000 {
+        timers.start(LAST / 2, value).unwrap();
+    }
+    let before = mapped();
+    for value in 0..500_000 {
+        timers.start(1, value).unwrap();
+        let handle = timers.start(2, value).unwrap();
+        assert_eq!((timers.stop(handle), timers.expired(value + 1).count()), (Some(value), 1));
+    }
+    assert!(mapped() < before + (1 << 20), "{} bytes were added", mapped() - before);
+}
+
 /// What is dropped or replaced gives its memory back: 60 times 8 MB would be 480 MB.
 fn free_what_is_dropped() {
     let before = mapped();
@@ -44,5 +59,6 @@ fn free_what_is_dropped() {
 #[test]
 fn room_is_enough_and_is_given_back() {
     make_room();
+    use_places_again();
     free_what_is_dropped();
 }
