@@ -37,6 +37,8 @@ wanted_files() {
 link lib/libtimers.so.${version%%.*} libtimers.so.$version
 link lib/libtimers.so libtimers.so.${version%%.*}
 644 lib/pkgconfig/timers.pc -
+644 lib/cmake/timers/timers-config.cmake -
+644 lib/cmake/timers/timers-config-version.cmake -
 644 include/timers.hpp include/timers.hpp
 644 include/timers_desk.hpp include/timers_desk.hpp
 644 share/man/man1/timers.1 tools/install/timers.1
@@ -116,6 +118,35 @@ builds_with_the_shared_object() {
     readelf -d "$work/first" | grep "NEEDED.*\[libtimers.so.${version%%.*}\]"
     LD_LIBRARY_PATH=$1/lib "$work/first" | diff examples/c/first.stdout -
 }
+# A project of CMake by the installed files alone, with each of the two targets. Another major version is none, and neither
+# is a later minor one.
+builds_by_cmake() {
+    needs cmake cc readelf
+    rm -rf "$work/project"
+    mkdir "$work/project"
+    cp examples/c/first.c "$work/project"
+    cat > "$work/project/CMakeLists.txt" << EOT
+cmake_minimum_required(VERSION 3.15)
+project(app C)
+foreach(other 0.9 1.99 2.0 99)
+  find_package(timers \${other} CONFIG QUIET)
+  if(timers_FOUND)
+    message(FATAL_ERROR "version \${other} was found")
+  endif()
+endforeach()
+find_package(timers $version EXACT CONFIG REQUIRED)
+find_package(timers 1.0 CONFIG REQUIRED)
+foreach(kind timers static)
+  add_executable(of_\${kind} first.c)
+  target_link_libraries(of_\${kind} PRIVATE timers::\${kind})
+endforeach()
+EOT
+    cmake -S "$work/project" -B "$work/project/build" -DCMAKE_PREFIX_PATH="$1"
+    cmake --build "$work/project/build"
+    for kind in timers static; do "$work/project/build/of_$kind" | diff examples/c/first.stdout -; done
+    readelf -d "$work/project/build/of_timers" | grep "NEEDED.*\[libtimers.so.${version%%.*}\]"
+    [ -z "$(readelf -d "$work/project/build/of_static" | grep libtimers)" ]
+}
 # refused WORDS COMMAND..: it fails, and says these words
 refused() {
     run "${@:2}"
@@ -144,6 +175,7 @@ refused() {
     [ "$(pc "$work/prefix" --variable=includedir)" = "$work/prefix/include" ]
 }
 
+@test "installed: a project of CMake" { builds_by_cmake "$work/prefix"; }
 @test "installed: a C program with the shared object" { builds_with_the_shared_object "$work/prefix"; }
 
 # The archive stands behind no link here, so it is what is linked.
@@ -299,4 +331,5 @@ with Timers() as timers:
     mv "$work/dist" "$work/moved"
     plays "$work/moved"
     builds_with_the_shared_object "$work/moved"
+    builds_by_cmake "$work/moved"
 }

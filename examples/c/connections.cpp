@@ -23,6 +23,11 @@ struct connection {
 	void heard(std::chrono::milliseconds patience) { idle.start_at(real::now() + patience, this); }
 };
 
+static void hang_up(const idle_timers::expired &timer)
+{
+	std::cout << timer.action->name << " is idle\n";
+}
+
 int main()
 {
 	idle_timers timers;
@@ -32,6 +37,6 @@ int main()
 	gone.reset();
 	while (const auto next = timers.wakeup()) {
 		std::this_thread::sleep_until(*next);
-		timers.catch_up(real::now(), [](const auto &timer) { std::cout << timer.action->name << " is idle\n"; });
+		timers.catch_up(real::now(), hang_up);
 	}
 }

@@ -430,7 +430,7 @@ static void stop_by_scope()
 		HOLDS(timers.size() == 1 && !idle.look() && moved.look() && idle.stop() == std::nullopt);
 		idle.start(2ms, nullptr);
 		idle = std::move(moved);                              /* which stops what it had */
-		HOLDS(timers.size() == 1 && timers.next() == at(9));
+		HOLDS(timers.size() == 1 && timers.next() == at(9) && !moved.look());
 		timer &same = idle;
 		idle = std::move(same);
 		HOLDS(timers.size() == 1 && idle.look());
