@@ -92,7 +92,7 @@ private:
 /* The clock of timers without a real one. Its time begins at tick 0. What the time is, each `timers` says for itself. */
 template <class Tick>
 struct tick_clock {
-	using duration = std::chrono::duration<std::uint64_t, typename Tick::period>;
+	using duration = std::chrono::duration<std::int64_t, typename Tick::period>;
 	using rep = typename duration::rep;
 	using period = typename duration::period;
 	using time_point = std::chrono::time_point<tick_clock>;
@@ -123,7 +123,8 @@ class timers {
 	              "an action can be copied, trivially, and has at most 8 bytes: for larger things give a pointer");
 
 public:
-	using ticks = std::chrono::duration<std::uint64_t, typename Tick::period>;
+	/* Signed, as all of std::chrono: the difference of two may be below 0. */
+	using ticks = std::chrono::duration<std::int64_t, typename Tick::period>;
 	using time_point = std::chrono::time_point<Clock, ticks>;
 	using action_type = Action;
 	using clock_type = Clock;
@@ -160,12 +161,12 @@ public:
 		return *this;
 	}
 
-	/* The ticks of an interval, rounded up. One that 64 bits can't hold becomes their greatest number,
+	/* The ticks of an interval, rounded up. One that they can't hold becomes their greatest number,
 	 * which is after every last tick. One of 0 or less becomes 0. The calls that take it refuse both. */
 	template <class Rep, class Period>
 	static constexpr ticks in_ticks(std::chrono::duration<Rep, Period> interval) noexcept
 	{
-		return scaled(interval, true);
+		return ticks(static_cast<std::int64_t>(scaled(interval, true)));
 	}
 
 	/* The interval of a time-out that must last no less than this: one tick more, as the present one has
@@ -194,7 +195,7 @@ public:
 	handle start(std::chrono::duration<Rep, Period> interval, Action action)
 	{
 		timers_handle started;
-		check(timers_start(&raw_, in_ticks(interval).count(), bits(action), &started));
+		check(timers_start(&raw_, scaled(interval, true), bits(action), &started));
 		return handle(started);
 	}
 
@@ -215,7 +216,7 @@ public:
 	[[nodiscard]] bool restart(handle &of, std::chrono::duration<Rep, Period> interval, Action action)
 	{
 		return restarted(of, [&](timers_handle *to) {
-			return timers_restart(&raw_, of.raw(), in_ticks(interval).count(), bits(action), to);
+			return timers_restart(&raw_, of.raw(), scaled(interval, true), bits(action), to);
 		});
 	}
 
@@ -276,8 +277,8 @@ public:
 	ticks advance(ticks most)
 	{
 		std::uint64_t passed;
-		check(timers_advance(&raw_, most.count(), &passed));
-		return ticks(passed);
+		check(timers_advance(&raw_, scaled(most, false), &passed));
+		return ticks(static_cast<std::int64_t>(passed));
 	}
 
 	/* timers_advance_to: passes the ticks up to this one, or up to the first at which a timer expires. Does nothing
@@ -316,13 +317,13 @@ public:
 	template <class Duration, class Run>
 	void catch_up(std::chrono::time_point<Clock, Duration> present, Run &&run)
 	{
-		const time_point tick(ticks(tick_by(present)));
+		const std::uint64_t tick = tick_by(present);
 		check(timers_advance_to(&raw_, 0));
-		if (tick_by(tick) > last_tick_)
+		if (tick > last_tick_)
 			refuse(TIMERS_TOO_LATE);
-		if (tick < now())
+		if (tick < timers_now(&raw_))
 			return;
-		while (const std::optional<expired> timer = take(tick))
+		while (const std::optional<expired> timer = take(present))
 			run(*timer);
 	}
 
@@ -330,7 +331,7 @@ public:
 	void clear() noexcept { timers_clear(&raw_); }
 
 	bool has_due() const noexcept { return timers_has_due(&raw_); }
-	time_point now() const noexcept { return time_point(ticks(timers_now(&raw_))); }
+	time_point now() const noexcept { return point(timers_now(&raw_)); }
 
 	/* How many timers are pending. */
 	std::size_t size() const noexcept { return timers_len(&raw_); }
@@ -365,31 +366,36 @@ private:
 	template <class Duration>
 	static constexpr std::uint64_t tick_of(std::chrono::time_point<Clock, Duration> deadline) noexcept
 	{
-		return in_ticks(deadline.time_since_epoch()).count();
+		return scaled(deadline.time_since_epoch(), true);
 	}
 	template <class Duration>
 	static constexpr std::uint64_t tick_by(std::chrono::time_point<Clock, Duration> present) noexcept
 	{
-		return scaled(present.time_since_epoch(), false).count();
+		return scaled(present.time_since_epoch(), false);
 	}
 
-	/* The ticks of a time, rounded up or down. */
+	static constexpr time_point point(std::uint64_t tick) noexcept
+	{
+		return time_point(ticks(static_cast<std::int64_t>(tick)));
+	}
+
+	/* The ticks of a time, rounded up or down: 0 for one below 0, and at most the greatest number of `ticks`. */
 	template <class Rep, class Period>
-	static constexpr ticks scaled(std::chrono::duration<Rep, Period> time, bool up) noexcept
+	static constexpr std::uint64_t scaled(std::chrono::duration<Rep, Period> time, bool up) noexcept
 	{
 		static_assert(std::is_integral_v<Rep> && sizeof(Rep) <= 8,
 		              "an interval is a whole number: round it by std::chrono::ceil");
 		using ratio = std::ratio_divide<Period, typename Tick::period>;
 		constexpr std::uint64_t num = ratio::num, den = ratio::den;
-		constexpr std::uint64_t most = std::numeric_limits<std::uint64_t>::max();
+		constexpr std::uint64_t most = std::numeric_limits<std::int64_t>::max();
 		static_assert(num < most / den, "the lengths of a tick and of the interval's unit are too far apart");
 		if (time.count() <= 0)
-			return ticks::zero();
+			return 0;
 		const std::uint64_t count = static_cast<std::uint64_t>(time.count());
 		const std::uint64_t rest = (count % den * num + (up ? den - 1 : 0)) / den;
 		if (count / den > (most - rest) / num)
-			return ticks(most);
-		return ticks(count / den * num + rest);
+			return most;
+		return count / den * num + rest;
 	}
 
 	static std::uint64_t bits(const Action &action) noexcept
@@ -408,12 +414,12 @@ private:
 
 	static expired cooked(const timers_expired &timer) noexcept
 	{
-		return expired{ time_point(ticks(timer.deadline)), timer.serial, action_of(timer.action) };
+		return expired{ point(timer.deadline), timer.serial, action_of(timer.action) };
 	}
 
 	static std::optional<time_point> unless_never(std::uint64_t tick) noexcept
 	{
-		return tick == TIMERS_NEVER ? std::nullopt : std::optional<time_point>(ticks(tick));
+		return tick == TIMERS_NEVER ? std::nullopt : std::optional<time_point>(point(tick));
 	}
 
 	template <class Call>

@@ -64,6 +64,19 @@ EOT
     qemu-arm-static "$work/static" | diff examples/c/static_memory.stdout -
 }
 
+@test "a project of CMake builds it so" {
+    needs cmake cc
+    mkdir "$work/app"
+    printf '%s\n' 'cmake_minimum_required(VERSION 3.15)' 'project(app C)' "add_subdirectory($PWD timers)" \
+        "add_executable(app $PWD/examples/c/static_memory.c)" 'target_link_libraries(app PRIVATE timers::timers)' > "$work/app/CMakeLists.txt"
+    sed -n 's/^    \(target_compile_definitions(.*)\)$/\1/p' "$page" >> "$work/app/CMakeLists.txt"
+    cmake -S "$work/app" -B "$work/app/build"
+    cmake --build "$work/app/build"
+    "$work/app/build/app" | diff examples/c/static_memory.stdout -
+    run nm -u "$work/app/build/timers/libtimers.a"
+    [[ $output != *malloc* ]]
+}
+
 @test "the memory of 10, 100 and 1,000 timers is what the page says" {
     needs cc
     cc $small -o "$work/small" tests/c/small.c generated/timers.c

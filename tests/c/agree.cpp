@@ -20,7 +20,7 @@ using ticks = Timers::ticks;
 using moment = Timers::time_point;
 
 /* The time point of a tick. */
-static constexpr moment at(std::uint64_t tick) { return moment(ticks(tick)); }
+static constexpr moment at(std::uint64_t tick) { return moment(ticks(static_cast<std::int64_t>(tick))); }
 
 #define HOLDS(fact) \
 	do { \
@@ -93,9 +93,11 @@ struct model {
 
 static std::mt19937 lots(7);
 
+static std::uint64_t number_of(moment tick) { return static_cast<std::uint64_t>(tick.time_since_epoch().count()); }
+
 static moment random_tick(moment now)
 {
-	return lots() % 4 ? now + ticks(1 + lots() % 3000) : at(lots() % (now.time_since_epoch().count() + 1));
+	return lots() % 4 ? now + ticks(1 + lots() % 3000) : at(lots() % (number_of(now) + 1));
 }
 
 static void start_one(Timers &timers, model &m, const int *action)
@@ -256,8 +258,12 @@ static void round_intervals()
 	/* 2^63 - 1 microseconds are 9223372036854775.807 milliseconds, or 553402322211286.5.. frames */
 	HOLDS(Timers::in_ticks(std::chrono::microseconds::max()).count() == 9223372036854776);
 	HOLDS(frames::in_ticks(std::chrono::microseconds::max()).count() == 553402322211287);
-	/* 2 * 6148914691236517205 and one more times 1.5 milliseconds: rounded up, one tick more than 64 bits hold */
-	HOLDS(Timers::in_ticks(std::chrono::duration<std::uint64_t, std::ratio<3, 2000>>(12297829382473034411u)) == ticks::max());
+	/* times of 1.5 milliseconds: one of 2^63 - 2 ticks, and three that need more than 2^63 - 1 */
+	using longer = std::chrono::duration<std::uint64_t, std::ratio<3, 2000>>;
+	HOLDS(Timers::in_ticks(longer(6148914691236517204u)).count() == 9223372036854775806);
+	HOLDS(Timers::in_ticks(longer(6148914691236517205u)) == ticks::max());
+	HOLDS(Timers::in_ticks(longer(6148914691236517206u)) == ticks::max());
+	HOLDS(Timers::in_ticks(longer(12297829382473034411u)) == ticks::max());
 }
 
 static void meet_the_edges()
@@ -401,6 +407,8 @@ static void follow_a_real_clock()
 	timers.advance_to(time(-1));
 	HOLDS(timers.now() == time(8000000));
 	HOLDS(*timers.next() - time(8999999) == std::chrono::nanoseconds(1));
+	HOLDS(*timers.next() - time(9000001) == std::chrono::nanoseconds(-1));
+	HOLDS(timers.advance(-1ms) == 0ms && timers.now() == time(8000000));
 
 	timing::timers<std::chrono::milliseconds, int, std::chrono::steady_clock> steady;
 	const auto begun = std::chrono::steady_clock::now();
