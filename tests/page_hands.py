@@ -294,6 +294,15 @@ def arrows(reader):
                 reader.expect(f"{link}, step {step}, at {width} pixels", reader.tab.value("crossed()"), [])
 
 
+def busiest(entries):
+    """The lines at which the most timers go from one bucket to another."""
+    changed = []
+    for line, (before, after) in enumerate(zip(entries, entries[1:]), 2):
+        old, new = places(before), places(after)
+        changed.append((sum(old.get(serial, place) != place for serial, place in new.items()), line))
+    return [line for count, line in sorted(changed)[-3:] if count]
+
+
 def long_scripts(reader, case, path):
     """A script whose whole `show` is too much for the page: the places are asked for step by step, to and fro. The present
     line is always in sight."""
@@ -304,6 +313,7 @@ def long_scripts(reader, case, path):
     last = len(entries)
     jumps = [chance.randrange(1, last - 40) for _ in range(4)] + [1, last]
     lines = [line for jump in jumps for line in (jump, jump + 1, jump + 2, jump + 1) if line <= last]
+    lines += [line for busy in busiest(entries) for line in range(busy - 2, busy + 2)]
     lines += [*range(last - 30, last), *range(last, last - 45, -1)]
     for line in lines:
         reader.tab.run(f"go(lines.stepsOf[{line - 1}].at(-1))")
