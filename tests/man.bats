@@ -36,7 +36,7 @@ setup_file() {
 }
 
 # What a text says, a word a line, and what of the first text's words the second has less often.
-words() { tr 'A-Z' 'a-z' | tr -c 'a-z0-9' '\n' | sed '/^$/d' | sort; }
+words() { tr '[:upper:]' '[:lower:]' | tr -c '[:lower:]0-9' '\n' | sed '/^$/d' | sort; }
 lost_words() { comm -23 <(words < "$1") <(sed -E -e 's/\\f[BR]//g' -e 's/\\(\(..|[&e])/ /g' -e 's/\\-/-/g' "$2" | words); }
 
 # The first comment of a header but for its first line, and those of its functions.
