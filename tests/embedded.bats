@@ -53,6 +53,16 @@ EOT
     [[ $output != *alloc* ]]
 }
 
+@test "the page's code is that of the example" {
+    squeezed() { tr -s ' \t' ' ' | sed 's/^ //'; }
+    squeezed < examples/c/static_memory.c > "$work/example"
+    sed -n '/^## In a static buffer/,/^## /s/^    //p' "$page" | grep -vE '^(cc |add_subdirectory|target_|\.\.)' | squeezed > "$work/page"
+    [ "$(wc -l < "$work/page")" -gt 10 ]
+    while read -r line; do
+        echo "$line"
+        grep -qxF -- "$line" "$work/example"
+    done < "$work/page"
+}
 @test "the example runs in a static buffer" {
     needs cc
     cc $small -o "$work/static" examples/c/static_memory.c generated/timers.c
