@@ -212,6 +212,17 @@ with Timers() as timers:
     chmod -R u+w "$work/prefix/share/timers/rust"
     printf '240: egg\n300: tea\n' | diff - "$work/out"
 }
+@test "installed: the crate over the shared object, by the configuration in its README" {
+    needs_cargo
+    cd "$work/app"
+    mkdir .cargo
+    sed -n '/^\[target/,/^```/p' "$work/prefix/share/timers/rust/README.md" | sed -e '/^```/d' -e "s|/usr/local/lib|$work/prefix/lib|" \
+        -e "s|x86_64-unknown-linux-gnu|$(rustc -vV | sed -n 's/^host: //p')|" > .cargo/config.toml
+    cargo build --quiet --offline
+    LD_LIBRARY_PATH=$work/prefix/lib ldd target/debug/app | grep "$work/prefix/lib/libtimers.so"
+    LD_LIBRARY_PATH=$work/prefix/lib target/debug/app > "$work/out"
+    printf '240: egg\n300: tea\n' | diff - "$work/out"
+}
 
 @test "make uninstall, in a tree in which nothing was built and after two installs, leaves what was there before" {
     in_tree install PREFIX="$work/prefix"
