@@ -8,6 +8,7 @@
 # make dist        a tarball of program and libraries, for machines without a compiler: build/timers-*.tar.gz (for another
 #                  processor give it CC, too)
 # make deb         Debian packages, binary and source: build/deb
+# make rpm         RPM packages: build/rpm
 # make hostile     the program under memory limits and input and output errors
 # make fuzz        an hour of scripts, against a model of docs/formats.md (MINUTES=N)
 # make fuzz-loop   ten million random operations of timers_loop.h, against a model, under the sanitizers
@@ -96,6 +97,9 @@ dist: all
 deb:
 	tools/deb
 
+rpm:
+	tools/rpm/build
+
 bench: lib
 	cd crates/timer_bench && rt lib
 	$(MAKE) -C bench run PRODUCT=$(CURDIR)/crates/timer_bench/out/libtimer_bench.a PRODUCT_HEAP=$(KIT)c/liblibc_c.a \
@@ -134,4 +138,4 @@ clean:
 	rm -rf crates/*/out build timers tools/install/*.[13]
 	$(MAKE) -C bench clean
 
-.PHONY: FORCE all lib pages run test prove try generate install uninstall dist deb bench bench-lines bench-scale bench-tail bench-next bench-desk hostile fuzz fuzz-loop soak docs ports clean
+.PHONY: FORCE all lib pages run test prove try generate install uninstall dist deb rpm bench bench-lines bench-scale bench-tail bench-next bench-desk hostile fuzz fuzz-loop soak docs ports clean

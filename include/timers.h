@@ -57,8 +57,8 @@
  *     The clock never goes back. A real time that does, and so is before timers_now, is no error for
  *     timers_advance_to and timers_take: they pass no tick then.
  *
- *     The clock of TIMERS_CLOCK ends after 100 days. Before that, free the timers, make them again at tick
- *     0 and start what is left. That of TIMERS_WIDE has ticks for 36 million years of milliseconds.
+ *     The clock of TIMERS_CLOCK ends after 8,640,000 ticks: 100 days of seconds, 2.4 hours of milliseconds. Before
+ *     that, free the timers, make them again at tick 0 and start what is left. That of TIMERS_WIDE has ticks for 36 million years of milliseconds.
  *
  *     The functions were proved, and then translated into C. Each meets the contract that the sources state for it
  *     (crates/timer_c/src/exports.rt), for every call that keeps the rules below. Nothing checks that a caller keeps
@@ -123,7 +123,8 @@
  *
  *     timers_set_allocator gives the library other functions than malloc, realloc and free, once for the
  *     process: for all its timers, and for its desks (timers_desk.h). A plug-in that embeds the archive has a
- *     copy of the library, with functions of its own.
+ *     copy of the library, with functions of its own. If timers.c was compiled with TIMERS_NO_MALLOC, there is
+ *     no memory before: timers_new returns TIMERS_NO_MEMORY.
  *
  * PORTING
  *     What stands for the calls of a heap or of libuv's timers, if `now` is the real time in ticks:
@@ -205,8 +206,8 @@
  *     description. Unless it is TIMERS_OK, neither the timers nor what the arguments point to has changed.
  */
 /* SPDX-License-Identifier: MIT OR Apache-2.0 */
-#ifndef TIMERS_H
-#define TIMERS_H
+#ifndef LIBTIMERS_TIMERS_H
+#define LIBTIMERS_TIMERS_H
 
 #if defined(__cplusplus) && __cplusplus < 201103L
 #error "timers.h needs C++11 or later"
@@ -254,11 +255,12 @@ extern "C" {
 #endif
 
 enum timers_status {
-	TIMERS_OK = 0,
+	/* made by tools/facts: statuses of timers */
+	TIMERS_OK = 0,             /* the call was done */
 	TIMERS_NOT_OPEN = 1,       /* not open: timers_new was not called, or timers_free was since */
 	TIMERS_OPEN = 2,           /* already open; of timers_set_allocator, memory was asked for already */
 	TIMERS_NO_TABLE = 3,       /* the table is none of enum timers_table */
-	TIMERS_NO_MEMORY = 4,      /* no memory for it: malloc or realloc returned NULL; or some 4.29 billion timers are held,
+	TIMERS_NO_MEMORY = 4,      /* out of memory: malloc or realloc returned NULL; or some 4.29 billion timers are held,
 	                              after a timers_reserve maybe half as many */
 	TIMERS_DUE = 5,            /* an expired timer was not yet taken: call timers_expire */
 	TIMERS_NOT_PENDING = 6,    /* no timer has this handle: it was stopped, restarted, taken or dropped */
@@ -510,6 +512,7 @@ static TIMERS_INLINE const char *timers_message(enum timers_status status)
 	const uint32_t number = status;   /* that of no status has a text too */
 
 	switch (number) {
+	/* made by tools/facts: texts of timers */
 	case TIMERS_OK: return "done";
 	case TIMERS_NOT_OPEN: return "not open";
 	case TIMERS_OPEN: return "already open";

@@ -8,10 +8,21 @@
  * throws: the owner is a `struct timers` and the last tick of its clock, 32 bytes. Each call is one of C, but for
  * catch_up and each, which make several, and in_ticks, at_least and raw, which make none.
  *
- * TICKS. `Tick` is the length of a tick, a std::chrono::duration. The clock and deadlines are `ticks`,
- * counted from tick 0. An interval is a duration of whole numbers, and is rounded up to ticks. An
- * interval of n ticks lasts more than n - 1 and at most n, since the present tick has begun. `at_least`
- * adds the tick that a time-out needs if it must not come early.
+ * TICKS. `Tick` is the length of a tick, a std::chrono::duration. A deadline is a std::chrono::time_point of `Clock`,
+ * and so are `now` and the deadlines that come back: an interval given in place of one does not compile. An interval is
+ * a duration. Both are whole numbers, and are rounded up to ticks. An interval of n ticks lasts more than n - 1 and at
+ * most n, since the present tick has begun. `at_least` adds the tick that a time-out needs if it must not come early.
+ *
+ * CLOCKS. By default the time is one of ticks alone, which goes on as the caller says: `timers.at(5s)` is a time
+ * point 5 seconds after tick 0. With a real clock as the third parameter its time points are taken as they are. Tick 0
+ * is the clock's epoch, a deadline is rounded up to a tick, and a present time down, so that no timer comes early:
+ *
+ *     timing::timers<std::chrono::milliseconds, void (*)(), std::chrono::steady_clock> timers;
+ *     timers.start_at(std::chrono::steady_clock::now() + 500ms, run);
+ *     timers.catch_up(std::chrono::steady_clock::now(), [](const auto &timer) { timer.action(); });
+ *
+ * An interval counts from `now`, the tick up to which the timers have come. In a loop over a real clock that is late, so
+ * give start_at a time point there.
  *
  * ACTIONS. An `Action` can be copied, trivially, and has at most 8 bytes. It may be a pointer to an object or a
  * function, an index, an enum, or a lambda that captures one pointer. Its bytes are the action of C, so that
@@ -21,19 +32,25 @@
  * ERRORS. As in the standard library's containers, what a caller can't expect is an exception. It is
  * std::bad_alloc if a call runs out of memory, and otherwise `timing::error` with the status of C. What may
  * well happen is a result: no timer has the handle (it was stopped, restarted or taken), or nothing has
- * expired. After an exception of the library nothing has changed. */
+ * expired. After an exception of the library nothing has changed.
+ *
+ * WITHOUT EXCEPTIONS (-fno-exceptions) a call that would throw runs TIMERS_REFUSED(status) and then std::abort. A
+ * program may define that before, to log the status. After `reserve` no start lacks memory; what is refused then is a
+ * mistake of the caller. Whoever wants each status calls timers.h. */
 /* SPDX-License-Identifier: MIT OR Apache-2.0 */
 #ifndef TIMERS_HPP
 #define TIMERS_HPP
 
 #if __cplusplus < 201703L
 #error "timers.hpp needs C++17 or later: C++11 and C++14 have timers.h"
-#endif
+#else
 
 #include <chrono>
 #include <cstddef>
 #include <cstdint>
+#include <cstdlib>
 #include <cstring>
+#include <functional>
 #include <limits>
 #include <new>
 #include <optional>
@@ -43,6 +60,10 @@
 #include <utility>
 
 #include "timers.h"
+
+#ifndef TIMERS_REFUSED
+#define TIMERS_REFUSED(status) (void)(status)
+#endif
 
 namespace timing {
 
@@ -54,6 +75,28 @@ public:
 
 private:
 	enum timers_status status_;
+};
+
+[[noreturn]] inline void refuse(enum timers_status status)
+{
+#ifdef __cpp_exceptions
+	if (status == TIMERS_NO_MEMORY)
+		throw std::bad_alloc();
+	throw error(status);
+#else
+	TIMERS_REFUSED(status);
+	std::abort();
+#endif
+}
+
+/* The clock of timers without a real one. Its time begins at tick 0. What the time is, each `timers` says for itself. */
+template <class Tick>
+struct tick_clock {
+	using duration = std::chrono::duration<std::int64_t, typename Tick::period>;
+	using rep = typename duration::rep;
+	using period = typename duration::period;
+	using time_point = std::chrono::time_point<tick_clock>;
+	static constexpr bool is_steady = true;
 };
 
 /* The name of a timer. One that was made without a timer names none. */
@@ -73,26 +116,32 @@ private:
 	timers_handle raw_;
 };
 
-template <class Tick = std::chrono::milliseconds, class Action = std::uint64_t>
+template <class Tick = std::chrono::milliseconds, class Action = std::uint64_t, class Clock = tick_clock<Tick>>
 class timers {
 	/* A type that can only be moved may be trivially copyable all the same. */
 	static_assert(std::is_trivially_copyable_v<Action> && std::is_copy_constructible_v<Action> && sizeof(Action) <= 8,
 	              "an action can be copied, trivially, and has at most 8 bytes: for larger things give a pointer");
 
 public:
-	using ticks = std::chrono::duration<std::uint64_t, typename Tick::period>;
+	/* Signed, as all of std::chrono: the difference of two may be below 0. */
+	using ticks = std::chrono::duration<std::int64_t, typename Tick::period>;
+	using time_point = std::chrono::time_point<Clock, ticks>;
+	using action_type = Action;
+	using clock_type = Clock;
 
 	struct expired {
-		ticks deadline;
+		time_point deadline;
 		std::uint64_t serial;     /* that of its handle */
 		Action action;
 	};
 
 	/* Throws error: TIMERS_TOO_LATE; std::bad_alloc. */
-	explicit timers(enum timers_table table = TIMERS_WIDE, ticks first_tick = ticks::zero())
+	explicit timers(enum timers_table table = TIMERS_WIDE) : timers(table, time_point()) {}
+	template <class Duration>
+	timers(enum timers_table table, std::chrono::time_point<Clock, Duration> present)
 		: last_tick_(table == TIMERS_CLOCK ? TIMERS_CLOCK_LAST : TIMERS_LAST)
 	{
-		check(timers_new(&raw_, table, first_tick.count()));
+		check(timers_new(&raw_, table, tick_by(present)));
 	}
 	~timers() { timers_free(&raw_); }
 	timers(const timers &) = delete;
@@ -100,7 +149,7 @@ public:
 
 	/* The other one is left without timers. It may be destroyed and assigned to. Its stop, look and expire
 	 * return nothing, each visits nothing, and now and size return 0. A call that may throw `error` throws
-	 * it with TIMERS_NOT_OPEN. */
+	 * it with TIMERS_NOT_OPEN. A `timer` below names its owner by its place: so the owner must not move then. */
 	timers(timers &&other) noexcept : raw_(std::exchange(other.raw_, none())), last_tick_(other.last_tick_) {}
 	timers &operator=(timers &&other) noexcept
 	{
@@ -112,24 +161,12 @@ public:
 		return *this;
 	}
 
-	/* The ticks of an interval, rounded up. One that 64 bits can't hold becomes their greatest number,
+	/* The ticks of an interval, rounded up. One that they can't hold becomes their greatest number,
 	 * which is after every last tick. One of 0 or less becomes 0. The calls that take it refuse both. */
 	template <class Rep, class Period>
 	static constexpr ticks in_ticks(std::chrono::duration<Rep, Period> interval) noexcept
 	{
-		static_assert(std::is_integral_v<Rep> && sizeof(Rep) <= 8,
-		              "an interval is a whole number: round it by std::chrono::ceil");
-		using ratio = std::ratio_divide<Period, typename Tick::period>;
-		constexpr std::uint64_t num = ratio::num, den = ratio::den;
-		constexpr std::uint64_t most = std::numeric_limits<std::uint64_t>::max();
-		static_assert(num < most / den, "the lengths of a tick and of the interval's unit are too far apart");
-		if (interval.count() <= 0)
-			return ticks::zero();
-		const std::uint64_t count = static_cast<std::uint64_t>(interval.count());
-		const std::uint64_t rest = (count % den * num + den - 1) / den;
-		if (count / den > (most - rest) / num)
-			return ticks(most);
-		return ticks(count / den * num + rest);
+		return ticks(static_cast<std::int64_t>(scaled(interval, true)));
 	}
 
 	/* The interval of a time-out that must last no less than this: one tick more, as the present one has
@@ -139,6 +176,13 @@ public:
 	{
 		const ticks whole = in_ticks(time);
 		return whole == ticks::max() ? whole : whole + ticks(1);
+	}
+
+	/* The time point that is so long after tick 0, rounded up. */
+	template <class Rep, class Period>
+	static constexpr time_point at(std::chrono::duration<Rep, Period> time) noexcept
+	{
+		return time_point(in_ticks(time));
 	}
 
 	/* timers_reserve: room for `most` timers at once. While fewer are held, no start throws std::bad_alloc.
@@ -151,16 +195,17 @@ public:
 	handle start(std::chrono::duration<Rep, Period> interval, Action action)
 	{
 		timers_handle started;
-		check(timers_start(&raw_, in_ticks(interval).count(), bits(action), &started));
+		check(timers_start(&raw_, scaled(interval, true), bits(action), &started));
 		return handle(started);
 	}
 
 	/* timers_start_at. If the deadline is not after now(), the timer is due at once: it is taken after those
 	 * that have expired already. Throws as start, except TIMERS_ZERO_INTERVAL. */
-	handle start_at(ticks deadline, Action action)
+	template <class Duration>
+	handle start_at(std::chrono::time_point<Clock, Duration> deadline, Action action)
 	{
 		timers_handle started;
-		check(timers_start_at(&raw_, deadline.count(), bits(action), &started));
+		check(timers_start_at(&raw_, tick_of(deadline), bits(action), &started));
 		return handle(started);
 	}
 
@@ -171,24 +216,26 @@ public:
 	[[nodiscard]] bool restart(handle &of, std::chrono::duration<Rep, Period> interval, Action action)
 	{
 		return restarted(of, [&](timers_handle *to) {
-			return timers_restart(&raw_, of.raw(), in_ticks(interval).count(), bits(action), to);
+			return timers_restart(&raw_, of.raw(), scaled(interval, true), bits(action), to);
 		});
 	}
 
 	/* timers_restart_at, as restart. The deadline is one of start_at. */
-	[[nodiscard]] bool restart_at(handle &of, ticks deadline, Action action)
+	template <class Duration>
+	[[nodiscard]] bool restart_at(handle &of, std::chrono::time_point<Clock, Duration> deadline, Action action)
 	{
 		return restarted(of, [&](timers_handle *to) {
-			return timers_restart_at(&raw_, of.raw(), deadline.count(), bits(action), to);
+			return timers_restart_at(&raw_, of.raw(), tick_of(deadline), bits(action), to);
 		});
 	}
 
 	/* timers_set_at: restarts the timer with the handle `of`, and if there is none starts one. Writes the new
 	 * handle to `of`. Throws as start_at; std::bad_alloc only if no timer has the handle. */
-	void set_at(handle &of, ticks deadline, Action action)
+	template <class Duration>
+	void set_at(handle &of, std::chrono::time_point<Clock, Duration> deadline, Action action)
 	{
 		timers_handle to = of.raw();
-		check(timers_set_at(&raw_, &to, deadline.count(), bits(action)));
+		check(timers_set_at(&raw_, &to, tick_of(deadline), bits(action)));
 		of = handle(to);
 	}
 
@@ -230,19 +277,24 @@ public:
 	ticks advance(ticks most)
 	{
 		std::uint64_t passed;
-		check(timers_advance(&raw_, most.count(), &passed));
-		return ticks(passed);
+		check(timers_advance(&raw_, scaled(most, false), &passed));
+		return ticks(static_cast<std::int64_t>(passed));
 	}
 
 	/* timers_advance_to: passes the ticks up to this one, or up to the first at which a timer expires. Does nothing
 	 * if it is not after now(). Throws as tick. */
-	void advance_to(ticks tick) { check(timers_advance_to(&raw_, tick.count())); }
+	template <class Duration>
+	void advance_to(std::chrono::time_point<Clock, Duration> present)
+	{
+		check(timers_advance_to(&raw_, tick_by(present)));
+	}
 
 	/* timers_take: takes the next timer that is due by this tick, and passes the ticks up to it. */
-	std::optional<expired> take(ticks tick) noexcept
+	template <class Duration>
+	std::optional<expired> take(std::chrono::time_point<Clock, Duration> present) noexcept
 	{
 		timers_expired timer;
-		if (!timers_take(&raw_, tick.count(), &timer))
+		if (!timers_take(&raw_, tick_by(present), &timer))
 			return std::nullopt;
 		return cooked(timer);
 	}
@@ -256,21 +308,22 @@ public:
 		return cooked(timer);
 	}
 
-	/* Passes the ticks up to `real_time`, and calls run(expired) for each timer that expires on the way. Does
-	 * nothing if `real_time` is before now(), as after a step back of the real clock. It takes the timers one at a
+	/* Passes the ticks up to `present`, and calls run(expired) for each timer that expires on the way. Does
+	 * nothing if `present` is before now(), as after a step back of the real clock. It takes the timers one at a
 	 * time, so `run` may start, stop and restart any. It returns only once nothing is due: a `run` that always
 	 * starts a timer which is due at once keeps it from returning.
-	 * Throws error: TIMERS_NOT_OPEN, TIMERS_TOO_LATE (`real_time` is after the last tick of the clock): nothing was
+	 * Throws error: TIMERS_NOT_OPEN, TIMERS_TOO_LATE (`present` is after the last tick of the clock): nothing was
 	 * run then. What `run` throws leaves the call: that timer is taken, and a further call continues. */
-	template <class Run>
-	void catch_up(ticks real_time, Run &&run)
+	template <class Duration, class Run>
+	void catch_up(std::chrono::time_point<Clock, Duration> present, Run &&run)
 	{
+		const std::uint64_t tick = tick_by(present);
 		check(timers_advance_to(&raw_, 0));
-		if (real_time.count() > last_tick_)
-			throw error(TIMERS_TOO_LATE);
-		if (real_time < now())
+		if (tick > last_tick_)
+			refuse(TIMERS_TOO_LATE);
+		if (tick < timers_now(&raw_))
 			return;
-		while (const std::optional<expired> timer = take(real_time))
+		while (const std::optional<expired> timer = take(present))
 			run(*timer);
 	}
 
@@ -278,16 +331,16 @@ public:
 	void clear() noexcept { timers_clear(&raw_); }
 
 	bool has_due() const noexcept { return timers_has_due(&raw_); }
-	ticks now() const noexcept { return ticks(timers_now(&raw_)); }
+	time_point now() const noexcept { return point(timers_now(&raw_)); }
 
 	/* How many timers are pending. */
 	std::size_t size() const noexcept { return timers_len(&raw_); }
 
-	/* A tick until which the caller may sleep, and the exact first deadline; nothing if no timer is held.
+	/* A time until which the caller may sleep, and the exact first deadline; nothing if no timer is held.
 	 * find_next keeps what it found: it is for a loop that asks in each turn. */
-	std::optional<ticks> wakeup() const noexcept { return unless_never(timers_wakeup(&raw_)); }
-	std::optional<ticks> next() const noexcept { return unless_never(timers_next(&raw_)); }
-	std::optional<ticks> find_next() noexcept { return unless_never(timers_find_next(&raw_)); }
+	std::optional<time_point> wakeup() const noexcept { return unless_never(timers_wakeup(&raw_)); }
+	std::optional<time_point> next() const noexcept { return unless_never(timers_next(&raw_)); }
+	std::optional<time_point> find_next() noexcept { return unless_never(timers_find_next(&raw_)); }
 
 	/* timers_counts: the starts, moves and visits since the timers were made. Throws error: TIMERS_NOT_OPEN. */
 	timers_counters counts() const
@@ -305,10 +358,44 @@ private:
 
 	static void check(enum timers_status status)
 	{
-		if (status == TIMERS_NO_MEMORY)
-			throw std::bad_alloc();
 		if (status != TIMERS_OK)
-			throw error(status);
+			refuse(status);
+	}
+
+	/* The tick at which a deadline has come, and the one that has come at a present time. */
+	template <class Duration>
+	static constexpr std::uint64_t tick_of(std::chrono::time_point<Clock, Duration> deadline) noexcept
+	{
+		return scaled(deadline.time_since_epoch(), true);
+	}
+	template <class Duration>
+	static constexpr std::uint64_t tick_by(std::chrono::time_point<Clock, Duration> present) noexcept
+	{
+		return scaled(present.time_since_epoch(), false);
+	}
+
+	static constexpr time_point point(std::uint64_t tick) noexcept
+	{
+		return time_point(ticks(static_cast<std::int64_t>(tick)));
+	}
+
+	/* The ticks of a time, rounded up or down: 0 for one below 0, and at most the greatest number of `ticks`. */
+	template <class Rep, class Period>
+	static constexpr std::uint64_t scaled(std::chrono::duration<Rep, Period> time, bool up) noexcept
+	{
+		static_assert(std::is_integral_v<Rep> && sizeof(Rep) <= 8,
+		              "an interval is a whole number: round it by std::chrono::ceil");
+		using ratio = std::ratio_divide<Period, typename Tick::period>;
+		constexpr std::uint64_t num = ratio::num, den = ratio::den;
+		constexpr std::uint64_t most = std::numeric_limits<std::int64_t>::max();
+		static_assert(num < most / den, "the lengths of a tick and of the interval's unit are too far apart");
+		if (time.count() <= 0)
+			return 0;
+		const std::uint64_t count = static_cast<std::uint64_t>(time.count());
+		const std::uint64_t rest = (count % den * num + (up ? den - 1 : 0)) / den;
+		if (count / den > (most - rest) / num)
+			return most;
+		return count / den * num + rest;
 	}
 
 	static std::uint64_t bits(const Action &action) noexcept
@@ -327,12 +414,12 @@ private:
 
 	static expired cooked(const timers_expired &timer) noexcept
 	{
-		return expired{ ticks(timer.deadline), timer.serial, action_of(timer.action) };
+		return expired{ point(timer.deadline), timer.serial, action_of(timer.action) };
 	}
 
-	static std::optional<ticks> unless_never(std::uint64_t tick) noexcept
+	static std::optional<time_point> unless_never(std::uint64_t tick) noexcept
 	{
-		return tick == TIMERS_NEVER ? std::nullopt : std::optional<ticks>(ticks(tick));
+		return tick == TIMERS_NEVER ? std::nullopt : std::optional<time_point>(point(tick));
 	}
 
 	template <class Call>
@@ -351,6 +438,56 @@ private:
 	std::uint64_t last_tick_;
 };
 
+/* One timer, which is stopped when this object goes: a member of what its action points to, say. It is pending or not,
+ * and knows by its handle if it was taken. Its owner outlives it and does not move. It can be moved itself, and not copied.
+ * `Timers` is the owner's type. */
+template <class Timers>
+class timer {
+public:
+	explicit timer(Timers &owner) noexcept : owner_(&owner) {}
+	~timer() { stop(); }
+	timer(const timer &) = delete;
+	timer &operator=(const timer &) = delete;
+	timer(timer &&other) noexcept : owner_(other.owner_), handle_(std::exchange(other.handle_, handle())) {}
+	timer &operator=(timer &&other) noexcept
+	{
+		if (this != &other) {
+			stop();
+			owner_ = other.owner_;
+			handle_ = std::exchange(other.handle_, handle());
+		}
+		return *this;
+	}
+
+	/* Start it, or start it anew if it is pending or was not yet taken. They throw what the calls of the owner throw. */
+	template <class Rep, class Period>
+	void start(std::chrono::duration<Rep, Period> interval, typename Timers::action_type action)
+	{
+		if (!owner_->restart(handle_, interval, action))
+			handle_ = owner_->start(interval, action);
+	}
+	template <class Duration>
+	void start_at(std::chrono::time_point<typename Timers::clock_type, Duration> deadline, typename Timers::action_type action)
+	{
+		owner_->set_at(handle_, deadline, action);
+	}
+
+	/* Its action, if it was pending or not yet taken. */
+	std::optional<typename Timers::action_type> stop() noexcept { return owner_->stop(std::exchange(handle_, handle())); }
+	std::optional<typename Timers::expired> look() const noexcept { return owner_->look(handle_); }
+
+private:
+	Timers *owner_;
+	handle handle_;
+};
+
 } // namespace timing
 
+/* Serials differ within one `timers`. */
+template <>
+struct std::hash<timing::handle> {
+	std::size_t operator()(timing::handle of) const noexcept { return std::hash<std::uint64_t>()(of.serial()); }
+};
+
+#endif
 #endif

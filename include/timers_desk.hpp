@@ -6,18 +6,21 @@
  * A `timing::desk` is the owner's, and a `timing::line` a client's end, for the client's thread. Both can be moved and
  * not copied, and free what they hold, in any order. timers_desk.h says what each call does; this header says what
  * differs. A call that is refused throws `timing::desk_error` with the status of C, and nothing has changed; but `serve`
- * and `serve_all` return it. What may well happen is a result: a line is full, no word has come, nothing was done. */
+ * and `serve_all` return it. What may well happen is a result: a line is full, no word has come, nothing was done. Without
+ * exceptions (-fno-exceptions) a call that would throw runs TIMERS_DESK_REFUSED(status), which a program may define before,
+ * and then std::abort. */
 /* SPDX-License-Identifier: MIT OR Apache-2.0 */
 #ifndef TIMERS_DESK_HPP
 #define TIMERS_DESK_HPP
 
 #if __cplusplus < 201703L
 #error "timers_desk.hpp needs C++17 or later: C++11 and C++14 have timers_desk.h"
-#endif
+#else
 
 #include <atomic>
 #include <cstddef>
 #include <cstdint>
+#include <cstdlib>
 #include <limits>
 #include <optional>
 #include <stdexcept>
@@ -25,6 +28,10 @@
 #include <vector>
 
 #include "timers_desk.h"
+
+#ifndef TIMERS_DESK_REFUSED
+#define TIMERS_DESK_REFUSED(status) (void)(status)
+#endif
 
 namespace timing {
 
@@ -37,6 +44,16 @@ public:
 private:
 	enum timers_desk_status status_;
 };
+
+[[noreturn]] inline void refuse(enum timers_desk_status status)
+{
+#ifdef __cpp_exceptions
+	throw desk_error(status);
+#else
+	TIMERS_DESK_REFUSED(status);
+	std::abort();
+#endif
+}
 
 /* A client's end of its line. One that was moved from holds none: its calls throw TIMERS_DESK_NOT_OPEN, or return
  * nothing. */
@@ -98,7 +115,7 @@ public:
 	{
 		const enum timers_desk_status status = timers_line_finish(&raw_);
 		if (status != TIMERS_DESK_OK)
-			throw desk_error(status);
+			refuse(status);
 	}
 	bool ended() const noexcept { return timers_line_ended(&raw_); }
 	bool abandoned() noexcept { return timers_line_abandoned(&raw_); }
@@ -110,7 +127,7 @@ private:
 		if (status == TIMERS_DESK_LINE_FULL)
 			return std::nullopt;
 		if (status != TIMERS_DESK_OK)
-			throw desk_error(status);
+			refuse(status);
 		return number;
 	}
 	timers_line raw_;
@@ -137,7 +154,7 @@ public:
 	{
 		raw_.lives = count();           /* so that a line of another desk is refused */
 		if (clients > TIMERS_DESK_CLIENTS)
-			throw desk_error(TIMERS_DESK_OUT_OF_RANGE);
+			refuse(TIMERS_DESK_OUT_OF_RANGE);
 		std::vector<timers_line> raw(clients + 1, timers_line TIMERS_LINE_INIT);
 		std::vector<line> ends(clients);
 		check(timers_desk_new(&raw_, raw.data(), clients, &config));
@@ -224,7 +241,7 @@ private:
 	static void check(enum timers_desk_status status)
 	{
 		if (status != TIMERS_DESK_OK)
-			throw desk_error(status);
+			refuse(status);
 	}
 	static std::optional<std::uint64_t> tick(std::uint64_t tick) noexcept
 	{
@@ -235,4 +252,5 @@ private:
 
 }
 
+#endif
 #endif

@@ -1,6 +1,6 @@
 #!/usr/bin/env bats
 # Makes the Debian packages, and installs, uses and removes them in a clean root. No command here sees the toolchain. The
-# clean root is a Debian of the machine's release with a C compiler and pkg-config, and comes from the machine's mirrors,
+# clean root is a Debian of the machine's release with compilers, pkg-config and CMake, and comes from the machine's mirrors,
 # within 900 seconds.
 load helpers
 
@@ -82,7 +82,7 @@ EOT
     cd "$work/a tree"
     debian/rules override_dh_auto_install
     [ -x debian/tmp/usr/bin/timers ]
-    sed -i 's/local: /&timers_take; /' tools/install/timers.map
+    sed -i '/timers_take;/d' tools/install/timers.map
     tools/lib build/lib
     cp "build/lib/libtimers.so.$version" debian/libtimers1/usr/lib/*/
     run dh_makeshlibs --package=libtimers1
@@ -90,10 +90,14 @@ EOT
     grep 'timers_take@TIMERS_1' <<< "$output"
 }
 
-@test "lintian finds no error" {
+# Long lines, and what lintian calls an experiment, are left out.
+@test "lintian finds nothing" {
     needs_debian
     needs lintian
-    lintian --fail-on error --allow-root build/deb/*.changes
+    run lintian --display-info --pedantic --allow-root build/deb/*.changes
+    echo "$output"
+    [ "$status" -eq 0 ]
+    [ -z "$output" ]
 }
 
 @test "packages for arm64 are made" {
@@ -139,7 +143,7 @@ files() {
     [ "$(id -u)" -eq 0 ] || skip "not root"
     # shellcheck source=/dev/null
     release=$(. /etc/os-release && echo "$VERSION_CODENAME")
-    if ! timeout 900 mmdebstrap --quiet --variant=apt --include=gcc,libc6-dev,pkgconf "$release" "$root" 2> "$work/log"; then
+    if ! timeout 900 mmdebstrap --quiet --variant=apt --include=gcc,g++,libc6-dev,make,pkgconf,cmake,dpkg-dev "$release" "$root" 2> "$work/log"; then
         rm -rf --one-file-system "$root"
         skip "no clean root: $(tail -n 1 "$work/log")"
     fi
@@ -174,4 +178,13 @@ files() {
     needs_root
     inside dpkg --purge timers libtimers-dev libtimers1
     files | diff "$work/before" -
+}
+
+@test "the tests of the source package pass there (autopkgtest)" {
+    needs_root
+    needs autopkgtest
+    run timeout 900 autopkgtest --no-built-binaries build/deb/{libtimers1,libtimers-dev,timers}_*.deb build/deb/timers_*.dsc -- chroot "$root"
+    echo "$output"
+    [ "$status" -eq 0 ]
+    [ "$(grep -c ' PASS$' <<< "$output")" -eq "$(find tools/debian/tests -type f -executable | wc -l)" ]
 }

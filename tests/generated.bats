@@ -174,14 +174,19 @@ cmake_finds() {
     cmake --build "$work/installed/build"
     cmake --install "$work/installed/build"
     cmake_app finds -DCMAKE_PREFIX_PATH="$work/installed/prefix" << 'EOT'
-foreach(other 0.9 99)
+foreach(other 0.9 2.0 99)
   find_package(timers ${other} QUIET)
   if(timers_FOUND)
     message(FATAL_ERROR "version ${other} was found")
   endif()
 endforeach()
-find_package(timers 1.0 REQUIRED)
+find_package(timers 1.0 CONFIG REQUIRED)
 EOT
+    # pkg-config finds it, too
+    needs pkg-config cc
+    # shellcheck disable=SC2046
+    cc -o "$work/first" examples/c/first.c $(PKG_CONFIG_PATH=$work/installed/prefix/lib/pkgconfig pkg-config --cflags --libs timers)
+    LD_LIBRARY_PATH=$work/installed/prefix/lib prints_first "$work/first"
     diff <(ls include) <(ls "$work/installed/prefix/include")
     has_licences "$work/installed/prefix/share/doc/timers"
     rm -rf "$work/installed"

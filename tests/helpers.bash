@@ -9,6 +9,13 @@ needs() {
     done
 }
 
+# needs_cargo: skips the test without a Rust that is as new as the crate needs it
+needs_cargo() {
+    { command -v rustc && cargo --version; } > /dev/null 2>&1 || skip "no cargo"
+    oldest=$(sed -n 's/^rust-version = "\(.*\)"$/\1/p' bindings/rust/Cargo.toml)
+    printf '%s\n' "$oldest" "$(rustc --version | cut -d ' ' -f 2)" | sort -CV || skip "rustc is older than $oldest"
+}
+
 # From here on no command sees the toolchain.
 hide_toolchain() {
     mkdir -p "$BATS_FILE_TMPDIR/bin"

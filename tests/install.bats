@@ -37,6 +37,8 @@ wanted_files() {
 link lib/libtimers.so.${version%%.*} libtimers.so.$version
 link lib/libtimers.so libtimers.so.${version%%.*}
 644 lib/pkgconfig/timers.pc -
+644 lib/cmake/timers/timers-config.cmake -
+644 lib/cmake/timers/timers-config-version.cmake -
 644 include/timers.hpp include/timers.hpp
 644 include/timers_desk.hpp include/timers_desk.hpp
 644 share/man/man1/timers.1 tools/install/timers.1
@@ -44,8 +46,9 @@ link lib/libtimers.so libtimers.so.${version%%.*}
 644 share/zsh/site-functions/_timers tools/install/completions/_timers
 644 share/fish/vendor_completions.d/timers.fish tools/install/completions/timers.fish
 644 share/doc/timers/NOTICE generated/NOTICE
+644 share/timers/c/timers.c generated/timers.c
 EOT
-    for path in CHANGELOG.md LICENSE-APACHE LICENSE-MIT docs/{embedding,formats,platforms,porting,server,versions,walkthroughs,wheels}.md docs/pages/*; do
+    for path in CHANGELOG.md LICENSE-APACHE LICENSE-MIT docs/{embedded,embedding,formats,platforms,porting,server,versions,walkthroughs,wheels}.md docs/pages/*; do
         echo "644 share/doc/timers/$path $path"
     done
     for path in include/*.h; do
@@ -56,7 +59,7 @@ EOT
             echo "link share/man/man3/$function.3 $page"
         done
     done
-    for path in bindings/*/timers.* bindings/*/timers_desk.*; do
+    for path in bindings/python/timers{,_desk}.py bindings/rust/{Cargo.toml,README.md,build.rs,src/*,c/*}; do
         echo "644 share/timers/${path#bindings/} $path"
     done
     git ls-files examples | grep -v gitignore | while read -r path; do
@@ -115,6 +118,35 @@ builds_with_the_shared_object() {
     readelf -d "$work/first" | grep "NEEDED.*\[libtimers.so.${version%%.*}\]"
     LD_LIBRARY_PATH=$1/lib "$work/first" | diff examples/c/first.stdout -
 }
+# A project of CMake by the installed files alone, with each of the two targets. Another major version is none, and neither
+# is a later minor one.
+builds_by_cmake() {
+    needs cmake cc readelf
+    rm -rf "$work/project"
+    mkdir "$work/project"
+    cp examples/c/first.c "$work/project"
+    cat > "$work/project/CMakeLists.txt" << EOT
+cmake_minimum_required(VERSION 3.15)
+project(app C)
+foreach(other 0.9 1.99 2.0 99)
+  find_package(timers \${other} CONFIG QUIET)
+  if(timers_FOUND)
+    message(FATAL_ERROR "version \${other} was found")
+  endif()
+endforeach()
+find_package(timers $version EXACT CONFIG REQUIRED)
+find_package(timers 1.0 CONFIG REQUIRED)
+foreach(kind timers static)
+  add_executable(of_\${kind} first.c)
+  target_link_libraries(of_\${kind} PRIVATE timers::\${kind})
+endforeach()
+EOT
+    cmake -S "$work/project" -B "$work/project/build" -DCMAKE_PREFIX_PATH="$1"
+    cmake --build "$work/project/build"
+    for kind in timers static; do "$work/project/build/of_$kind" | diff examples/c/first.stdout -; done
+    readelf -d "$work/project/build/of_timers" | grep "NEEDED.*\[libtimers.so.${version%%.*}\]"
+    [ -z "$(readelf -d "$work/project/build/of_static" | grep libtimers)" ]
+}
 # refused WORDS COMMAND..: it fails, and says these words
 refused() {
     run "${@:2}"
@@ -143,6 +175,7 @@ refused() {
     [ "$(pc "$work/prefix" --variable=includedir)" = "$work/prefix/include" ]
 }
 
+@test "installed: a project of CMake" { builds_by_cmake "$work/prefix"; }
 @test "installed: a C program with the shared object" { builds_with_the_shared_object "$work/prefix"; }
 
 # The archive stands behind no link here, so it is what is linked.
@@ -166,6 +199,29 @@ from timers import Timers
 with Timers() as timers:
     timers.start(25, 7)
     assert timers.advance(100) == [(25, 1, 7)]"
+}
+
+@test "installed: the crate for Rust" {
+    needs_cargo
+    mkdir -p "$work/app/src"
+    cp bindings/rust/examples/first.rs "$work/app/src/main.rs"
+    printf '[package]\nname = "app"\nversion = "1.0.0"\nedition = "2021"\n[dependencies]\ntimers = { path = "%s" }\n' "$work/prefix/share/timers/rust" \
+        > "$work/app/Cargo.toml"
+    chmod -R a-w "$work/prefix/share/timers/rust"
+    cargo run --quiet --offline --manifest-path "$work/app/Cargo.toml" > "$work/out"
+    chmod -R u+w "$work/prefix/share/timers/rust"
+    printf '240: egg\n300: tea\n' | diff - "$work/out"
+}
+@test "installed: the crate over the shared object, by the configuration in its README" {
+    needs_cargo
+    cd "$work/app"
+    mkdir .cargo
+    sed -n '/^\[target/,/^```/p' "$work/prefix/share/timers/rust/README.md" | sed -e '/^```/d' -e "s|/usr/local/lib|$work/prefix/lib|" \
+        -e "s|x86_64-unknown-linux-gnu|$(rustc -vV | sed -n 's/^host: //p')|" > .cargo/config.toml
+    cargo build --quiet --offline
+    LD_LIBRARY_PATH=$work/prefix/lib ldd target/debug/app | grep "$work/prefix/lib/libtimers.so"
+    LD_LIBRARY_PATH=$work/prefix/lib target/debug/app > "$work/out"
+    printf '240: egg\n300: tea\n' | diff - "$work/out"
 }
 
 @test "make uninstall, in a tree in which nothing was built and after two installs, leaves what was there before" {
@@ -286,4 +342,5 @@ with Timers() as timers:
     mv "$work/dist" "$work/moved"
     plays "$work/moved"
     builds_with_the_shared_object "$work/moved"
+    builds_by_cmake "$work/moved"
 }

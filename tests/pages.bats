@@ -9,8 +9,7 @@ setup_file() {
     cd "$BATS_TEST_DIRNAME/.." || return
     mkdir "$BATS_FILE_TMPDIR/bin"
     ln -s "$(realpath "${TIMERS:-timers}")" "$BATS_FILE_TMPDIR/bin/timers"
-    LAST=$(sed -n 's/^| `out of range 0 to \([0-9]*\)`.*/\1/p' docs/formats.md)
-    TICKS=$(sed -n 's/^| `out of range 1 to \([0-9]*\)`.*/\1/p' docs/formats.md)
+    read -r LAST TICKS < <(tools/facts LAST MAX_TICKS)
     export LAST TICKS PATH=$BATS_FILE_TMPDIR/bin:$PATH
 }
 
@@ -236,5 +235,5 @@ offered() {
     [[ $output == *"--timers=[The number of timers that each client starts, 1 to 10000"*"]:TIMERS:"* ]]
     [[ $output == *"--help[Print help"* ]]
     run -0 zsh -f -c "$given" zsh argument show
-    [[ $output == *"]:SCHEME:(plain hashed hier clock)"* ]]
+    [[ $output == *"]:SCHEME:($(tools/facts SCHEMES))"* ]]
 }

@@ -50,6 +50,19 @@ int main()
 #elif MISUSE == 9   /* too far apart */
 	timing::timers<std::chrono::duration<int, std::ratio<1, 4611686014132420609>>> others;
 	others.start(std::chrono::duration<int, std::ratio<1, 1000000007>>(1), 1);
+#elif MISUSE == 10  /* no matching */
+	timers.start_at(500ms, 1);
+#elif MISUSE == 11  /* no matching */
+	timing::handle handle;
+	timers.set_at(handle, 500ms, 1);
+#elif MISUSE == 12  /* no matching */
+	timers.take(500ms);
+#elif MISUSE == 13  /* no matching */
+	timers.start_at(std::chrono::steady_clock::now(), 1);
+#elif MISUSE == 14  /* no matching */
+	timers.start(timers.now(), 1);
+#elif MISUSE == 15  /* deleted */
+	timing::timer<timing::timers<>> one(timers), other(one);
 #else
 	timers.start(1s, 1);
 #endif

@@ -18,7 +18,7 @@ int main()
 	timers.stop(call);
 	while (const auto next = timers.find_next()) {                         /* a server sleeps until then */
 		timers.catch_up(*next, [](const auto &timer) {
-			std::cout << timer.deadline.count() << ": ";
+			std::cout << timer.deadline.time_since_epoch().count() << ": ";
 			timer.action();
 		});
 	}

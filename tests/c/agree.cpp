@@ -8,6 +8,7 @@
 #include <iostream>
 #include <map>
 #include <random>
+#include <unordered_set>
 #include <utility>
 #include <vector>
 
@@ -16,6 +17,10 @@
 using namespace std::chrono_literals;
 using Timers = timing::timers<std::chrono::milliseconds, const int *>;
 using ticks = Timers::ticks;
+using moment = Timers::time_point;
+
+/* The time point of a tick. */
+static constexpr moment at(std::uint64_t tick) { return moment(ticks(static_cast<std::int64_t>(tick))); }
 
 #define HOLDS(fact) \
 	do { \
@@ -68,10 +73,10 @@ static enum timers_status refusal(Call call)
 
 /* The timers that are held, by deadline and serial, and handles, dead ones too, with the deadlines of their timers. */
 struct model {
-	std::map<std::pair<ticks, std::uint64_t>, const int *> held;
-	std::vector<std::pair<timing::handle, ticks>> handles;
+	std::map<std::pair<moment, std::uint64_t>, const int *> held;
+	std::vector<std::pair<timing::handle, moment>> handles;
 
-	void add(timing::handle h, ticks deadline, const int *action)
+	void add(timing::handle h, moment deadline, const int *action)
 	{
 		HOLDS(held.emplace(std::make_pair(deadline, h.serial()), action).second);
 	}
@@ -88,14 +93,17 @@ struct model {
 
 static std::mt19937 lots(7);
 
-static ticks random_tick(ticks now)
+static std::uint64_t number_of(moment tick) { return static_cast<std::uint64_t>(tick.time_since_epoch().count()); }
+
+static moment random_tick(moment now)
 {
-	return lots() % 4 ? now + ticks(1 + lots() % 3000) : ticks(lots() % (now.count() + 1));
+	return lots() % 4 ? now + ticks(1 + lots() % 3000) : at(lots() % (number_of(now) + 1));
 }
 
 static void start_one(Timers &timers, model &m, const int *action)
 {
-	const ticks now = timers.now(), interval(1 + lots() % 3000), tick = random_tick(now);
+	const moment now = timers.now(), tick = random_tick(now);
+	const ticks interval(1 + lots() % 3000);
 	timing::handle h;
 	switch (lots() % 3) {
 	case 0:
@@ -122,7 +130,8 @@ static void change_one(Timers &timers, model &m, const int *action)
 	const auto seen = timers.look(h);
 	HOLDS(seen.has_value() == there);
 	HOLDS(!there || (seen->deadline == deadline && seen->serial == h.serial() && seen->action == found->second));
-	const ticks now = timers.now(), interval(1 + lots() % 3000), tick = random_tick(now);
+	const moment now = timers.now(), tick = random_tick(now);
+	const ticks interval(1 + lots() % 3000);
 	const timing::handle old = h;
 	bool started = there;
 	switch (lots() % 4) {
@@ -155,7 +164,7 @@ static void change_one(Timers &timers, model &m, const int *action)
 /* Passes ticks, and takes what expires: by catch_up, one take, or an advance. */
 static void pass_some(Timers &timers, model &m)
 {
-	const ticks now = timers.now(), until = now + ticks(lots() % 200);
+	const moment now = timers.now(), until = now + ticks(lots() % 200);
 	switch (lots() % 3) {
 	case 0:
 		timers.catch_up(until, [&](const Timers::expired &timer) {
@@ -212,7 +221,7 @@ static void compare(unsigned calls)
 {
 	const int numbers[100] = {};
 	model m;
-	Timers timers(TIMERS_WIDE, 1000ms);
+	Timers timers(TIMERS_WIDE, Timers::at(1000ms));
 	for (unsigned i = 0; i < calls; i++) {
 		const int *action = &numbers[lots() % 100];
 		const auto which = lots() % 5;
@@ -249,28 +258,32 @@ static void round_intervals()
 	/* 2^63 - 1 microseconds are 9223372036854775.807 milliseconds, or 553402322211286.5.. frames */
 	HOLDS(Timers::in_ticks(std::chrono::microseconds::max()).count() == 9223372036854776);
 	HOLDS(frames::in_ticks(std::chrono::microseconds::max()).count() == 553402322211287);
-	/* 2 * 6148914691236517205 and one more times 1.5 milliseconds: rounded up, one tick more than 64 bits hold */
-	HOLDS(Timers::in_ticks(std::chrono::duration<std::uint64_t, std::ratio<3, 2000>>(12297829382473034411u)) == ticks::max());
+	/* times of 1.5 milliseconds: one of 2^63 - 2 ticks, and three that need more than 2^63 - 1 */
+	using longer = std::chrono::duration<std::uint64_t, std::ratio<3, 2000>>;
+	HOLDS(Timers::in_ticks(longer(6148914691236517204u)).count() == 9223372036854775806);
+	HOLDS(Timers::in_ticks(longer(6148914691236517205u)) == ticks::max());
+	HOLDS(Timers::in_ticks(longer(6148914691236517206u)) == ticks::max());
+	HOLDS(Timers::in_ticks(longer(12297829382473034411u)) == ticks::max());
 }
 
 static void meet_the_edges()
 {
 	const int number = 3;
-	Timers timers(TIMERS_CLOCK, ticks(8639990));
+	Timers timers(TIMERS_CLOCK, at(8639990));
 	HOLDS(refusal([&] { timers.start(0s, &number); }) == TIMERS_ZERO_INTERVAL);
 	HOLDS(refusal([&] { timers.start(-1s, &number); }) == TIMERS_ZERO_INTERVAL);
 	HOLDS(refusal([&] { timers.start(10ms, &number); }) == TIMERS_TOO_LATE);
-	HOLDS(refusal([&] { Timers(TIMERS_CLOCK, ticks(8640000)); }) == TIMERS_TOO_LATE);
+	HOLDS(refusal([&] { Timers(TIMERS_CLOCK, at(8640000)); }) == TIMERS_TOO_LATE);
 	HOLDS(!timers.stop(timing::handle()) && !timers.look(timing::handle()) && !timers.next());
 
 	/* What is due at once goes to the back: the first is restarted, so that the second comes out before it. */
 	timing::handle once = timers.start_at(timers.now(), nullptr);
-	const timing::handle before = timers.start_at(ticks(3), &number);
-	HOLDS(timers.restart_at(once, ticks(0), nullptr));
+	const timing::handle before = timers.start_at(at(3), &number);
+	HOLDS(timers.restart_at(once, at(0), nullptr));
 	HOLDS(timers.has_due() && timers.size() == 0 && timers.next() == timers.now());
 	Timers at_zero;
-	at_zero.start_at(ticks(0), nullptr);
-	HOLDS(at_zero.wakeup() == ticks(0) && at_zero.next() == ticks(0) && at_zero.find_next() == ticks(0));
+	at_zero.start_at(at(0), nullptr);
+	HOLDS(at_zero.wakeup() == at(0) && at_zero.next() == at(0) && at_zero.find_next() == at(0));
 	HOLDS(timers.look(before)->deadline == timers.now() && timers.expire()->serial == before.serial());
 	HOLDS(timers.expire()->serial == once.serial() && !timers.has_due());
 
@@ -279,7 +292,7 @@ static void meet_the_edges()
 	HOLDS(timers.stop(first) == &number && !timers.stop(first));          /* expired, and not yet taken */
 	HOLDS(refusal([&] { (void)timers.restart(second, 0ms, nullptr); }) == TIMERS_ZERO_INTERVAL);
 	HOLDS(refusal([&] { (void)timers.restart(second, 10ms, nullptr); }) == TIMERS_TOO_LATE);
-	HOLDS(refusal([&] { (void)timers.restart_at(second, ticks(8640000), nullptr); }) == TIMERS_TOO_LATE);
+	HOLDS(refusal([&] { (void)timers.restart_at(second, at(8640000), nullptr); }) == TIMERS_TOO_LATE);
 	HOLDS(timers.look(second));
 	const auto taken = timers.expire();
 	HOLDS(taken && taken->serial == second.serial() && !taken->action && !timers.expire());
@@ -289,22 +302,22 @@ static void meet_the_edges()
 	HOLDS(moved.size() == 1 && timers.size() == 0 && !timers.stop(first));
 	HOLDS(refusal([&] { timers.start(1ms, &number); }) == TIMERS_NOT_OPEN);
 	HOLDS(refusal([&] { timers.counts(); }) == TIMERS_NOT_OPEN);
-	HOLDS(refusal([&] { timers.catch_up(ticks(9), [](const auto &) {}); }) == TIMERS_NOT_OPEN);
-	HOLDS(refusal([&] { timers.advance_to(ticks(9)); }) == TIMERS_NOT_OPEN && !timers.take(ticks(9)));
-	HOLDS(refusal([&] { timers.set_at(first, ticks(9), &number); }) == TIMERS_NOT_OPEN);
+	HOLDS(refusal([&] { timers.catch_up(at(9), [](const auto &) {}); }) == TIMERS_NOT_OPEN);
+	HOLDS(refusal([&] { timers.advance_to(at(9)); }) == TIMERS_NOT_OPEN && !timers.take(at(9)));
+	HOLDS(refusal([&] { timers.set_at(first, at(9), &number); }) == TIMERS_NOT_OPEN);
 	timers.clear();
 	timers = std::move(moved);
 	Timers &same = timers;
 	timers = std::move(same);
 	HOLDS(timers.stop(first) == &number);
-	timers.catch_up(ticks(8639999), [](const auto &) {});
-	HOLDS(timers.now().count() == 8639999 && refusal([&] { timers.tick(); }) == TIMERS_CLOCK_END);
+	timers.catch_up(at(8639999), [](const auto &) {});
+	HOLDS(timers.now() == at(8639999) && refusal([&] { timers.tick(); }) == TIMERS_CLOCK_END);
 	HOLDS(timers.advance(ticks(0)) == ticks(0));
-	HOLDS(refusal([&] { timers.advance_to(ticks(8640000)); }) == TIMERS_CLOCK_END);
+	HOLDS(refusal([&] { timers.advance_to(at(8640000)); }) == TIMERS_CLOCK_END);
 	timers.advance_to(timers.now());
-	HOLDS(!timers.take(ticks::max()));
+	HOLDS(!timers.take(moment::max()));
 	HOLDS(refusal([&] { timers.start_at(timers.now(), &number); }) == TIMERS_TOO_LATE);
-	HOLDS(refusal([&] { timers.start_at(ticks(0), &number); }) == TIMERS_TOO_LATE);
+	HOLDS(refusal([&] { timers.start_at(at(0), &number); }) == TIMERS_TOO_LATE);
 
 	/* A lambda with one pointer is an action. */
 	int runs = 0;
@@ -312,7 +325,7 @@ static void meet_the_edges()
 	timing::timers<std::chrono::seconds, decltype(count)> counters;
 	counters.start(1min, count);
 	counters.start(59s, count);
-	counters.catch_up(1min, [](const auto &timer) { timer.action(); });
+	counters.catch_up(counters.at(1min), [](const auto &timer) { timer.action(); });
 	HOLDS(runs == 2);
 	std::cout << "the edges are as the header says\n";
 }
@@ -323,30 +336,30 @@ static void catch_up_with_other_times()
 {
 	unsigned ran = 0;
 	const auto run = [&ran](const Timers::expired &) { ran++; };
-	Timers timers(TIMERS_CLOCK, ticks(1000));
+	Timers timers(TIMERS_CLOCK, at(1000));
 	timers.start(500ms, nullptr);
-	timers.catch_up(ticks(999), run);
-	timers.catch_up(ticks(0), run);
-	timers.advance_to(ticks(3));
-	HOLDS(timers.now() == ticks(1000) && timers.size() == 1);
-	timers.start_at(ticks(0), nullptr);
-	timers.catch_up(ticks(999), run);
+	timers.catch_up(at(999), run);
+	timers.catch_up(at(0), run);
+	timers.advance_to(at(3));
+	HOLDS(timers.now() == at(1000) && timers.size() == 1);
+	timers.start_at(at(0), nullptr);
+	timers.catch_up(at(999), run);
 	HOLDS(ran == 0 && timers.has_due());
-	HOLDS(refusal([&] { timers.catch_up(ticks(8640000), run); }) == TIMERS_TOO_LATE);
-	HOLDS(refusal([&] { timers.catch_up(ticks::max(), run); }) == TIMERS_TOO_LATE);
-	HOLDS(ran == 0 && timers.has_due() && timers.now() == ticks(1000) && timers.size() == 1);
-	timers.catch_up(ticks(1000), run);
-	HOLDS(ran == 1 && !timers.has_due() && timers.now() == ticks(1000));
-	timers.catch_up(ticks(8639999), run);
-	HOLDS(ran == 2 && timers.now() == ticks(8639999));
+	HOLDS(refusal([&] { timers.catch_up(at(8640000), run); }) == TIMERS_TOO_LATE);
+	HOLDS(refusal([&] { timers.catch_up(moment::max(), run); }) == TIMERS_TOO_LATE);
+	HOLDS(ran == 0 && timers.has_due() && timers.now() == at(1000) && timers.size() == 1);
+	timers.catch_up(at(1000), run);
+	HOLDS(ran == 1 && !timers.has_due() && timers.now() == at(1000));
+	timers.catch_up(at(8639999), run);
+	HOLDS(ran == 2 && timers.now() == at(8639999));
 	Timers wide;
-	HOLDS(refusal([&] { wide.catch_up(ticks(TIMERS_LAST + 1), run); }) == TIMERS_TOO_LATE && wide.now() == ticks(0));
+	HOLDS(refusal([&] { wide.catch_up(at(TIMERS_LAST + 1), run); }) == TIMERS_TOO_LATE && wide.now() == at(0));
 	Timers moved(TIMERS_CLOCK);
 	moved = std::move(wide);
-	moved.catch_up(ticks(TIMERS_LAST), run);
-	HOLDS(moved.now() == ticks(TIMERS_LAST));
+	moved.catch_up(at(TIMERS_LAST), run);
+	HOLDS(moved.now() == at(TIMERS_LAST));
 	Timers clock(TIMERS_CLOCK), by_move(std::move(clock));
-	HOLDS(refusal([&] { by_move.catch_up(ticks(8640000), run); }) == TIMERS_TOO_LATE && by_move.now() == ticks(0));
+	HOLDS(refusal([&] { by_move.catch_up(at(8640000), run); }) == TIMERS_TOO_LATE && by_move.now() == at(0));
 }
 
 /* Handles are those of one timer if place and serial are. */
@@ -356,6 +369,87 @@ static void compare_handles()
 	HOLDS(one == timing::handle(one.raw()) && !(one != timing::handle(one.raw())));
 	HOLDS(one != later && one != beside && later != beside);
 	HOLDS(!(one == later) && !(one == beside) && !(later == beside));
+	std::unordered_set<timing::handle> set{ one, later };
+	HOLDS(set.count(timing::handle(one.raw())) == 1 && set.count(beside) == 0 && set.insert(beside).second && set.size() == 3);
+}
+
+/* A clock of nanoseconds, which may be before its epoch. */
+struct fine_clock {
+	using duration = std::chrono::nanoseconds;
+	using rep = duration::rep;
+	using period = duration::period;
+	using time_point = std::chrono::time_point<fine_clock>;
+	static constexpr bool is_steady = false;
+};
+
+/* Deadlines are rounded up and present times down, so no timer comes early, and none later than the next tick. */
+static void follow_a_real_clock()
+{
+	using timers_of = timing::timers<std::chrono::milliseconds, int, fine_clock>;
+	const auto time = [](std::int64_t ns) { return fine_clock::time_point(std::chrono::nanoseconds(ns)); };
+	timers_of timers(TIMERS_WIDE, time(5999999));
+	HOLDS(timers.now() == time(5000000));
+	timers.start_at(time(7000001), 1);
+	timers.start_at(time(7000000), 2);
+	HOLDS(*timers.next() == time(7000000));
+	HOLDS(!timers.take(time(6999999)) && timers.now() == time(6000000));
+	const auto second = timers.take(time(7000000));
+	HOLDS(second && second->action == 2 && second->deadline == time(7000000));
+	HOLDS(!timers.take(time(7000001)) && !timers.take(time(7999999)));
+	unsigned ran = 0;
+	timers.catch_up(time(8000000), [&](const auto &timer) { ran += timer.action == 1 && timer.deadline == time(8000000); });
+	HOLDS(ran == 1);
+	timing::handle passed = timers.start_at(time(-3), 3);            /* before the epoch: due at once */
+	HOLDS(timers.has_due() && timers.look(passed)->deadline == timers.now());
+	HOLDS(timers.restart_at(passed, time(9000001), 3) && *timers.next() == time(10000000));
+	timers.set_at(passed, time(8000001), 3);
+	HOLDS(*timers.next() == time(9000000));
+	timers.advance_to(time(-1));
+	HOLDS(timers.now() == time(8000000));
+	HOLDS(*timers.next() - time(8999999) == std::chrono::nanoseconds(1));
+	HOLDS(*timers.next() - time(9000001) == std::chrono::nanoseconds(-1));
+	HOLDS(timers.advance(-1ms) == 0ms && timers.now() == time(8000000));
+
+	timing::timers<std::chrono::milliseconds, int, std::chrono::steady_clock> steady;
+	const auto begun = std::chrono::steady_clock::now();
+	steady.start_at(begun + 2ms, 1);
+	while (!steady.take(std::chrono::steady_clock::now()))
+		;
+	HOLDS(std::chrono::steady_clock::now() >= begun + 2ms);
+}
+
+/* A timer is stopped when its object goes, and by nothing before. */
+static void stop_by_scope()
+{
+	const int number = 3;
+	Timers timers;
+	using timer = timing::timer<Timers>;
+	static_assert(!std::is_copy_constructible_v<timer> && !std::is_copy_assignable_v<timer>);
+	static_assert(std::is_nothrow_move_constructible_v<timer> && std::is_nothrow_move_assignable_v<timer>);
+	{
+		timer idle(timers), never(timers);
+		HOLDS(!idle.look() && !idle.stop());
+		idle.start(5ms, &number);
+		idle.start(7ms, nullptr);                             /* the same one, anew */
+		HOLDS(timers.size() == 1 && idle.look()->deadline == at(7) && !idle.look()->action);
+		idle.start_at(at(9), &number);
+		HOLDS(timers.size() == 1 && timers.next() == at(9));
+		timer moved(std::move(idle));
+		HOLDS(timers.size() == 1 && !idle.look() && moved.look() && idle.stop() == std::nullopt);
+		idle.start(2ms, nullptr);
+		idle = std::move(moved);                              /* which stops what it had */
+		HOLDS(timers.size() == 1 && timers.next() == at(9) && !moved.look());
+		timer &same = idle;
+		idle = std::move(same);
+		HOLDS(timers.size() == 1 && idle.look());
+		HOLDS(idle.stop() == &number && timers.size() == 0);
+		idle.start(1ms, &number);
+		never.start(2ms, nullptr);
+		HOLDS(timers.size() == 2);
+		HOLDS(timers.take(at(1))->action == &number && !idle.look());     /* taken, so there is nothing to stop */
+		timers.start(3ms, nullptr);                                     /* perhaps at its place */
+	}
+	HOLDS(timers.size() == 1 && timers.next() == at(4));
 }
 
 /* All timers of a tick are taken in one call, however many there are, in the order of their starts. */
@@ -365,7 +459,7 @@ static void take_many()
 	for (int i = 0; i < 1000; i++)
 		timers.start(5ms, nullptr);
 	std::uint64_t last = 0;
-	timers.catch_up(ticks(5), [&last](const Timers::expired &timer) { HOLDS(timer.serial == ++last); });
+	timers.catch_up(at(5), [&last](const Timers::expired &timer) { HOLDS(timer.serial == ++last); });
 	HOLDS(last == 1000 && !timers.has_due() && timers.size() == 0);
 }
 
@@ -376,14 +470,14 @@ static void stop_what_expired()
 	timers.start(5ms, nullptr);
 	const timing::handle second = timers.start(5ms, nullptr);
 	std::vector<std::uint64_t> ran;
-	timers.catch_up(ticks(9), [&](const Timers::expired &timer) {
+	timers.catch_up(at(9), [&](const Timers::expired &timer) {
 		ran.push_back(timer.serial);
 		if (ran.size() == 1) {
 			HOLDS(timers.stop(second));
-			timers.start_at(ticks(0), nullptr);
+			timers.start_at(at(0), nullptr);
 		}
 	});
-	HOLDS((ran == std::vector<std::uint64_t>{ 1, 3 }) && timers.now() == ticks(9));
+	HOLDS((ran == std::vector<std::uint64_t>{ 1, 3 }) && timers.now() == at(9));
 }
 
 /* What `run` throws leaves catch_up. The timer is taken, and the others of its tick are not. */
@@ -400,13 +494,13 @@ static void throw_from_a_run()
 	};
 	for (int tries = 0; tries < 34; tries++) {
 		try {
-			timers.catch_up(ticks(9), run);
-		} catch (unsigned at) {
+			timers.catch_up(at(9), run);
+		} catch (unsigned last) {
 			thrown++;
-			HOLDS(at == 3 * thrown && timers.now() == ticks(5) && timers.has_due() == (at < 100));
+			HOLDS(last == 3 * thrown && timers.now() == at(5) && timers.has_due() == (last < 100));
 		}
 	}
-	HOLDS(ran == 100 && thrown == 33 && timers.now() == ticks(9) && !timers.has_due());
+	HOLDS(ran == 100 && thrown == 33 && timers.now() == at(9) && !timers.has_due());
 }
 
 /* Leaves ones on the stack, where a call puts its action next. */
@@ -438,9 +532,9 @@ static void keep(Action action)
 	HOLDS(timers.restart(h, 2ms, action));
 	holds_word();
 	fill_the_stack();
-	timers.set_at(h, ticks(3), action);
+	timers.set_at(h, at(3), action);
 	holds_word();
-	const auto taken = timers.take(ticks(3));
+	const auto taken = timers.take(at(3));
 	HOLDS(taken && std::memcmp(&taken->action, &action, sizeof action) == 0);
 }
 
@@ -472,7 +566,7 @@ static void own_one_at_a_time()
 		third.start(6ms, nullptr);
 		HOLDS(blocks == before + 2 * of_one);
 		third = std::move(second);
-		HOLDS(blocks == before + of_one && third.size() == 1 && *third.next() == ticks(5));
+		HOLDS(blocks == before + of_one && third.size() == 1 && *third.next() == at(5));
 		first = std::move(third);
 		HOLDS(blocks == before + of_one && first.size() == 1);
 		first.clear();
@@ -497,7 +591,7 @@ static void count_the_moves()
 	timing::timers<std::chrono::seconds> timers(TIMERS_CLOCK);
 	timers.start(61s, 1);
 	timers.start(59s, 2);
-	timers.catch_up(std::chrono::seconds(61), [](const auto &) {});
+	timers.catch_up(timers.at(61s), [](const auto &) {});
 	const timers_counters counts = timers.counts();
 	HOLDS(counts.starts == 2 && counts.moves == 1 && counts.visits == 3);
 }
@@ -558,6 +652,8 @@ int main()
 	meet_the_edges();
 	catch_up_with_other_times();
 	compare_handles();
+	follow_a_real_clock();
+	stop_by_scope();
 	take_many();
 	stop_what_expired();
 	throw_from_a_run();

@@ -1,7 +1,7 @@
-/* The memory of the timers, over malloc, realloc and free or what timers_set_allocator was given. By hand: the proofs rest
- * on what is said of each function. Every alignment that is asked for divides 16, and is at most 8. A block has at most
+/* The memory of the timers, over malloc, realloc and free or what timers_set_allocator was given. With TIMERS_NO_MALLOC there
+ * is none until it was given. By hand: the proofs rest on what is said of each function. Every alignment that is asked for divides 16, and is at most 8. A block has at most
  * SIZE_MAX / 2 bytes, so that offsets in it are those of C. */
-#if defined(__GNUC__)
+#if defined(__GNUC__) && __GCC_ATOMIC_BOOL_LOCK_FREE == 2
 #define IN_USE_LOAD() __atomic_load_n(&in_use, __ATOMIC_RELAXED)
 #define IN_USE_STORE() __atomic_store_n(&in_use, true, __ATOMIC_RELAXED)
 #else
@@ -9,9 +9,20 @@
 #define IN_USE_STORE() (in_use = true)
 #endif
 static byte nothing;                                  /* where a refusal points to: nothing is read or written there */
+#ifdef TIMERS_NO_MALLOC
+static void *no_block(size_t size)
+{
+	(void)size;
+	return NULL;
+}
+static void *(*allocate_block)(size_t) = no_block;
+static void *(*resize_block)(void *, size_t) = NULL;
+static void (*release_block)(void *) = NULL;          /* of no block */
+#else
 static void *(*allocate_block)(size_t) = malloc;
 static void *(*resize_block)(void *, size_t) = realloc;
 static void (*release_block)(void *) = free;
+#endif
 static volatile bool in_use;                          /* from the first block on the functions stay the same */
 
 static of_i64_i64 answer(void *block)

@@ -3,8 +3,16 @@
 #include <stdbool.h>
 #include <stddef.h>
 #include <stdint.h>
+#if !defined(TIMERS_NO_MALLOC) || !defined(__GNUC__)
 #include <stdlib.h>
 #include <string.h>
+#elif __has_include(<string.h>)
+#include <string.h>
+#else                                                 /* without headers of C these three are still there: compilers call them */
+void *memcpy(void *to, const void *from, size_t size);
+void *memmove(void *to, const void *from, size_t size);
+void *memset(void *to, int value, size_t size);
+#endif
 
 #if CHAR_BIT != 8 || UINT_MAX != 0xffffffffu
 #error "the code needs bytes of 8 bits, and an int of 32"

@@ -14,6 +14,7 @@ from translator.names import TOP, Names, read, source_of
 Kind = namedtuple('Kind', 'prefix outside crates second title licence parts')
 STRUCTS, FUNCTIONS, SECOND = 'structs', 'functions', 'second functions'
 NOWHERE = '$.'
+LICENCE_TAG = 'SPDX-License' + '-Identifier'   # in two parts: what reads licences doesn't take it for this file's
 LICENCE = '(MIT OR Apache-2.0) AND MIT AND BSD-3-Clause AND LicenseRef-Rattle-libraries'
 KINDS = {
     'timers': Kind('tm_', '', ('timer_c', 'timer_desk_c'), 'timers_(desk|line)_',
@@ -39,7 +40,7 @@ class File:
         self.inlined = self.order.inlined(first) if second else ()
         made = {STRUCTS: self.structs(), FUNCTIONS: self.constants() + '\n' + self.functions(first), SECOND: self.functions(second)}
         parts = [made[part] if part in made else part if part.startswith('#') else by_hand(part) for part in self.kind.parts]
-        head = f'/* {self.kind.title} Made by tools/generate: do not edit. NOTICE has whose code is in it.\n * SPDX-License-Identifier: {self.kind.licence} */'
+        head = f'/* {self.kind.title} Made by tools/generate: do not edit. NOTICE has whose code is in it.\n * {LICENCE_TAG}: {self.kind.licence} */'
         return '\n'.join([head, *without_unused(parts)]) + '\n'
 
     def functions(self, names):

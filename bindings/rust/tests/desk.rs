@@ -1,10 +1,11 @@
-//! Runs of timers_desk.rs: random calls in one thread against a sorted map, clients that come and go, and clients in
-//! threads whose words are counted.
-mod timers_desk;
-
+//! Runs of a desk: random calls in one thread against a sorted map, clients that come and go, and clients in threads
+//! whose words are counted.
+// SPDX-License-Identifier: MIT OR Apache-2.0
+#![cfg(feature = "std")]
 use std::collections::BTreeMap;
 use std::thread;
-use timers_desk::{Config, Desk, Error, Handle, Line, Table, Timer, Word};
+use timers::desk::{Config, Desk, Error, Handle, Line, Timer, Word};
+use timers::Table;
 
 struct Random(u64);
 
@@ -82,7 +83,9 @@ fn agrees_with_a_map(seed: u64) {
                     }
                     (Some((_, timer)), Word::Restarted { number: n, handle, deadline, action: a, old }) => {
                         serial += 1;
-                        assert!(restarts && n == number && old == timer.serial && handle.serial() == serial && a == action);
+                        assert!(
+                            restarts && n == number && old == timer.serial && handle.serial() == serial && a == action
+                        );
                         assert_eq!(deadline, desk.now() + interval);
                         model.remove(&(timer.deadline, timer.serial)).unwrap();
                         model.insert((deadline, serial), (handle, Timer { number, serial, deadline, action }));
@@ -126,6 +129,7 @@ fn agrees_with_a_map(seed: u64) {
 }
 
 /// Each client's timers and words are counted for it alone.
+#[test]
 fn counts_by_client() {
     let (mut desk, mut lines) = Desk::new(2, Config::new(9, 4, 4)).unwrap();
     lines[0].start(5, 1).unwrap();
@@ -139,6 +143,7 @@ fn counts_by_client() {
 }
 
 /// A line of another desk ends nothing, even if its client has the same number.
+#[test]
 fn refuses_a_line_of_another_desk() {
     let (mut desk, mut lines) = Desk::new(1, Config::new(9, 4, 4)).unwrap();
     let (mut other, mut strangers) = Desk::new(1, Config::new(9, 4, 4)).unwrap();
@@ -152,6 +157,7 @@ fn refuses_a_line_of_another_desk() {
 }
 
 /// A client that is dropped makes room for another, whose numbers go on.
+#[test]
 fn clients_come_and_go() {
     let (mut desk, mut lines) = Desk::new(2, Config::new(100, 4, 4)).unwrap();
     let mut other = lines.pop().unwrap();
@@ -235,6 +241,7 @@ fn threads(clients: usize) {
     assert_eq!((expired, desk.pending()), (2_000 * clients as u64, 0));
 }
 
+#[test]
 fn passes_the_last_tick() {
     let mut config = Config::new(1, 1, 1);
     config.first_tick = 8_639_990;
@@ -246,21 +253,25 @@ fn passes_the_last_tick() {
     assert_eq!(format!("{desk:?} {:?}", lines[0]), "Desk { now: 8639999, pending: 0, .. } Line { client: 0, .. }");
 }
 
-fn main() {
+#[test]
+fn random_requests_agree_with_a_map() {
     for seed in 1..=4 {
         agrees_with_a_map(seed);
     }
-    clients_come_and_go();
-    counts_by_client();
-    refuses_a_line_of_another_desk();
+}
+
+#[test]
+fn clients_in_threads_get_all_their_words() {
     threads(1);
     threads(8);
+}
+
+#[test]
+fn numbers_out_of_range_are_refused() {
     for clients in [0, 65, 100_000_000_000, usize::MAX] {
         assert_eq!(Desk::new(clients, Config::new(1, 1, 1)).unwrap_err(), Error::OutOfRange);
     }
     for (timers, requests) in [(u64::MAX, 1), (1, u64::MAX), (u64::MAX, u64::MAX)] {
         assert_eq!(Desk::new(1, Config::new(1, timers, requests)).unwrap_err(), Error::OutOfRange);
     }
-    passes_the_last_tick();
-    println!("ok");
 }

@@ -1,22 +1,57 @@
-//! timers_desk.h for Rust: a wrapper over the C library, in one file that you can copy into your project.
+//! A desk: one thread keeps the timers of up to 64 others, which send it requests and receive words, without a lock.
+//!
+//! It is for threads that block, in a database or in code of others. One that runs a loop is better served by
+//! [`Timers`](crate::Timers) of its own.
 //!
 //! A [`Desk`] is the owner's, and stays in the thread that made it: so it is plain which thread owns it. A [`Line`] is a
 //! client's end: it can be sent to the client's thread, and not be shared by two. Both are freed when they are dropped,
-//! in any order. timers_desk(3) says what each call does, and how threads wake each other.
+//! in any order. Neither wakes the other up: a thread that has nothing to do sleeps until the other unparks it, or asks
+//! again after a while.
 //!
 //! A call that is refused returns an [`Error`], and has changed nothing unless its text says so. Errors are listed in the
-//! order in which they are tested. Rust 1.82 or later.
+//! order in which they are tested.
+//!
+//! ```
+//! use timers::desk::{Config, Desk, Error, Word};
+//!
+//! let (mut desk, mut lines) = Desk::new(1, Config::new(10, 2, 2))?; // one client, which has at most 2 timers and 2 requests
+//! let mut line = lines.remove(0); // sent to the client's thread
+//! line.start(5, 7)?;
+//! desk.serve_all(64)?;
+//! desk.advance_to(5)?;
+//! desk.flush_all();
+//! assert!(matches!(line.receive(), Some(Word::Started { number: 1, .. })));
+//! assert!(matches!(line.receive(), Some(Word::Expired(timer)) if timer.action == 7 && timer.deadline == 5));
+//! # Ok::<(), Error>(())
+//! ```
+//!
+//! Who may have which:
+//!
+//! ```compile_fail,E0277
+//! fn is_sent<S: Send>() {}
+//! is_sent::<timers::desk::Desk>();
+//! ```
+//! ```compile_fail,E0277
+//! fn is_shared<S: Sync>() {}
+//! is_shared::<timers::desk::Line>();
+//! ```
+//! ```
+//! fn is_sent<S: Send>() {}
+//! is_sent::<timers::desk::Line>();
+//! ```
+//!
+//! `timers_desk_tick`, `timers_desk_settle` and `timers_desk_end_all` of the C library are not wrapped.
 
 // SPDX-License-Identifier: MIT OR Apache-2.0
-#![allow(dead_code)]
-
-use std::cell::Cell;
-use std::error;
-use std::ffi::c_uint;
-use std::fmt;
-use std::marker::PhantomData;
-use std::mem::MaybeUninit;
-use std::sync::atomic::{AtomicU64, Ordering};
+use crate::Table;
+use alloc::vec::Vec;
+use core::cell::Cell;
+use core::error;
+use core::ffi::c_uint;
+use core::fmt;
+use core::marker::PhantomData;
+use core::mem::MaybeUninit;
+use core::sync::atomic::{AtomicU64, Ordering};
 
 const OK: c_uint = 0;
 const IDLE: c_uint = 20;
@@ -130,21 +165,20 @@ impl fmt::Display for Error {
 impl error::Error for Error {}
 
 fn done<T>(status: c_uint, value: T) -> Result<T, Error> {
-    if status == OK { Ok(value) } else { Err(Error::of(status)) }
+    if status == OK {
+        Ok(value)
+    } else {
+        Err(Error::of(status))
+    }
 }
 
 /// Whether a serve has done a request.
 fn served(status: c_uint) -> Result<bool, Error> {
-    if status == IDLE { Ok(false) } else { done(status, true) }
-}
-
-/// The slots of the wheels.
-#[derive(Clone, Copy, Debug, Eq, PartialEq)]
-pub enum Table {
-    /// Ten wheels of 64 slots.
-    Wide = 0,
-    /// 60 seconds, 60 minutes, 24 hours, 100 days.
-    Clock = 1,
+    if status == IDLE {
+        Ok(false)
+    } else {
+        done(status, true)
+    }
 }
 
 /// What a desk is made with. [`Config::new`] gives room enough for clients that keep to its numbers.
@@ -159,6 +193,7 @@ pub struct Config {
     pub room: u64,
     /// How many requests, and how many words, a line has room for.
     pub line: u64,
+    /// The slots of the wheels.
     pub table: Table,
 }
 
@@ -206,19 +241,58 @@ pub struct Timer {
 #[derive(Clone, Copy, Debug, Eq, PartialEq)]
 #[non_exhaustive]
 pub enum Word {
-    /// The timer of this request has started. The action is that of the request, here and below.
-    Started { number: u64, handle: Handle, deadline: u64, action: u64 },
-    /// The same, in place of the timer with the serial `old`.
-    Restarted { number: u64, handle: Handle, deadline: u64, action: u64, old: u64 },
-    /// The timer with this serial was stopped.
-    Stopped { number: u64, serial: u64 },
-    /// The request was taken and refused. Nothing else changed. The action of a stop is 0.
-    Refused { number: u64, action: u64, reason: Error },
-    /// The request was not taken.
-    NotTaken { number: u64, action: u64, reason: Error },
-    /// The timer has expired.
+    /// The timer of a request has started.
+    Started {
+        /// The number of the request.
+        number: u64,
+        /// The handle of the timer.
+        handle: Handle,
+        /// The tick at which it expires.
+        deadline: u64,
+        /// The action that the request had.
+        action: u64,
+    },
+    /// The timer of a request has started in place of another.
+    Restarted {
+        /// The number of the request.
+        number: u64,
+        /// The handle of the new timer.
+        handle: Handle,
+        /// The tick at which it expires.
+        deadline: u64,
+        /// The action that the request had.
+        action: u64,
+        /// The serial of the timer that it replaced.
+        old: u64,
+    },
+    /// A timer was stopped.
+    Stopped {
+        /// The number of the request.
+        number: u64,
+        /// The serial of the timer.
+        serial: u64,
+    },
+    /// A request was taken and refused. Nothing else changed.
+    Refused {
+        /// The number of the request.
+        number: u64,
+        /// The action that the request had; 0 of a stop.
+        action: u64,
+        /// Why it was refused.
+        reason: Error,
+    },
+    /// A request was not taken.
+    NotTaken {
+        /// The number of the request.
+        number: u64,
+        /// The action that the request had; 0 of a stop.
+        action: u64,
+        /// Why it was not taken.
+        reason: Error,
+    },
+    /// A timer has expired.
     Expired(Timer),
-    /// The desk was closed, and returns the timer.
+    /// The desk was closed, and returns a timer.
     Returned(Timer),
 }
 
@@ -283,7 +357,6 @@ impl RawLine {
     }
 }
 
-#[link(name = "timers")]
 unsafe extern "C" {
     fn timers_desk_new(d: *mut RawDesk, lines: *mut RawLine, clients: usize, config: *const RawConfig) -> c_uint;
     fn timers_desk_free(d: *mut RawDesk);
@@ -308,7 +381,13 @@ unsafe extern "C" {
     fn timers_line_start_at(line: *mut RawLine, deadline: u64, action: u64, number: *mut u64) -> c_uint;
     fn timers_line_stop(line: *mut RawLine, handle: Handle, number: *mut u64) -> c_uint;
     fn timers_line_restart(line: *mut RawLine, handle: Handle, interval: u64, action: u64, number: *mut u64) -> c_uint;
-    fn timers_line_restart_at(line: *mut RawLine, handle: Handle, deadline: u64, action: u64, number: *mut u64) -> c_uint;
+    fn timers_line_restart_at(
+        line: *mut RawLine,
+        handle: Handle,
+        deadline: u64,
+        action: u64,
+        number: *mut u64,
+    ) -> c_uint;
     fn timers_line_receive(line: *mut RawLine, word: *mut RawWord) -> bool;
     fn timers_line_finish(line: *mut RawLine) -> c_uint;
     fn timers_line_ended(line: *const RawLine) -> bool;
@@ -354,7 +433,7 @@ impl Desk {
             return Err(Error::OutOfRange);
         }
         let Config { first_tick, capacity, room, line, table } = config;
-        let (size, table) = (size_of::<RawConfig>() as u64, table as u32);
+        let (size, table) = (core::mem::size_of::<RawConfig>() as u64, table as u32);
         let raw = RawConfig { size, first_tick, capacity, room, line, table, unnamed: 0 };
         // Each desk counts from another number, so that a line of another desk is refused.
         let lives = DESKS.fetch_add(1, Ordering::Relaxed);

@@ -1,0 +1,106 @@
+#!/usr/bin/env bats
+# What is said of licences: each file has one, and all packages say the same.
+# shellcheck disable=SC2154
+load helpers
+
+setup_file() {
+    cd "$BATS_TEST_DIRNAME/.." || return
+    export work=$BATS_FILE_TMPDIR
+}
+
+# Of a list of licences from before 2024, as Debian 12's, Unicode-3.0 alone is missing.
+@test "each file has a licence and a copyright, and each licence has its text (reuse lint)" {
+    needs reuse
+    copy_tree "$work/tree"
+    run reuse --root "$work/tree" lint
+    if [ "$status" -ne 0 ]; then
+        echo "$output"
+        grep -xE '\* Bad licenses: ?(Unicode-3\.0)?' <<< "$output"
+        for none in 'Deprecated licenses:' 'Licenses without file extension:' 'Missing licenses:' 'Unused licenses:' 'Read errors: 0'; do
+            grep -xE "\* $none ?" <<< "$output"
+        done
+        for all in copyright license; do grep -xE "\* Files with $all information: ([0-9]+) / \1" <<< "$output"; done
+    fi
+}
+
+@test "the licences that packages have are those of LICENSES" {
+    cmp LICENSE-MIT LICENSES/MIT.txt
+    cmp LICENSE-APACHE LICENSES/Apache-2.0.txt
+    squeezed() { tr -s ' \n' ' ' < "$1"; }
+    for name in BSD-3-Clause Unicode-3.0; do
+        [[ $(squeezed generated/NOTICE) == *"$(squeezed "LICENSES/$name.txt")"* ]]
+    done
+}
+
+# The expression at the head of timers.c; Debian's names are others.
+@test "the library's licence is one expression in the code and in each package" {
+    licence=$(sed -n '2s/.*SPDX-License-Identifier: \(.*\) \*\//\1/p' generated/timers.c)
+    [[ $licence == *LicenseRef-Rattle-libraries* ]]
+    for file in meson.build tools/install/timers.pc.in bindings/rust/Cargo.toml bindings/python/pyproject.toml generated/README.md .reuse/dep5; do
+        echo "$file"
+        grep -qF "$licence" "$file"
+    done
+    grep -qF "$licence AND Unicode-3.0" generated/program.c
+    sed -e 's/MIT/Expat/g; s/3-Clause/3-clause/; s/ AND / and /g; s/ OR / or /; s/.*/License: & and Unicode-3.0/' <<< "$licence" > "$work/debian"
+    grep -qxFf "$work/debian" tools/debian/copyright
+}
+
+sentence="the compiled code has parts of the toolchain's own libraries, whose licence is not known"
+@test "where people look they read that the licence of parts is not known" {
+    said() { sed -e 's/^[#* ]*//' "$1" | tr -s ' \n' ' ' | grep -qF "$sentence"; }
+    for file in README.md generated/README.md tools/install/dist_readme tools/debian/copyright docs/embedding.md CMakeLists.txt meson.build; do
+        echo "$file"
+        said "$file"
+    done
+    [ "$(sed 's/^ *//' tools/debian/control | tr -s ' \n' ' ' | grep -oF "$sentence" | wc -l)" -eq "$(grep -c ^Package: tools/debian/control)" ]
+}
+
+# The lines of a file that are the toolchain's, and all that are in functions.
+lines_of() { tools/origins "$1" | awk '{ all += $3 } $1 ~ /^(core|std.*)$/ { theirs += $3 } END { print theirs, all }'; }
+@test "whose functions are in the code is counted" {
+    for file in timers.c program.c; do
+        grep -xF "    origins    $(tools/origins "generated/$file" | paste -sd ,)" generated/PROVENANCE
+    done
+    sed '/^\/\* The functions of timers.h, by hand/,$d' generated/timers.c > "$work/wheels.c"
+    read -r theirs all <<< "$(lines_of "$work/wheels.c")"
+    [ "$theirs" -gt 0 ]
+    wheels=$((theirs * 100 / all + 1))
+    read -r theirs all <<< "$(lines_of generated/timers.c)"
+    grep -qF "under $wheels % of the wheels' lines, and under $((theirs * 100 / all + 1)) % with the desk" README.md
+}
+
+@test "tools/origins counts functions of ours, of a library, and of a module" {
+    cat > "$work/two.c" << 'EOT'
+/* std_alloc::vec::Vec::drop */
+static void a(void)
+{
+	if (1) {
+	}
+}
+
+/* timer_links::ring::grow: crates/timer_links/src/ring.rt */
+static void b(void)
+{
+}
+/* by hand */
+static void c(void)
+{
+}
+EOT
+    printf 'crates 1 4\nstd_alloc 1 6\n' | diff - <(tools/origins "$work/two.c")
+    cat > "$work/two.ll" << 'EOT'
+define internal i64 @"core::slice::len<u8>"(ptr %0) {
+  ret i64 0
+}
+
+define void @timers_free(ptr %0) {
+entry:
+  call void @x()
+
+  ret void
+}
+EOT
+    printf 'core 1 3\ncrates 1 5\n' | diff - <(tools/origins "$work/two.ll")
+    run tools/origins
+    [ "$status" -eq 2 ]
+}
