@@ -320,7 +320,8 @@ is_made_anew() {
     for folder in one another/one; do
         copy_tree "$work/twice/$folder"
         (cd "$work/twice/$folder" && CFLAGS=-O0 tools/lib "$work/twice/$folder/out")
-        ! command -v python3 || (cd "$work/twice/$folder/bindings/python" && CFLAGS=-O0 python3 -B -c 'import backend; backend.build_wheel("../../out")')
+        ! python3 -c 'import tomllib' || (cd "$work/twice/$folder/bindings/python" &&
+            CFLAGS=-O0 python3 -B -c 'import backend; backend.build_wheel("../../out"); backend.build_sdist("../../out")')
     done
     diff -r "$work/twice/one/out" "$work/twice/another/one/out"
 }

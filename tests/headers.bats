@@ -79,19 +79,6 @@ enumerators() { sed -nE 's/^\tTIMERS_((DESK|WORD)_)?([A-Z_]+) = ([0-9]+).*/\3 \4
     done
 }
 
-@test "the names and numbers in Python are the headers'" {
-    needs python3
-    # timers_desk.py has the tables and the most clients, too.
-    more() { sed -n 's/^#define TIMERS_DESK_\(CLIENTS\) \([0-9]*\).*/\1 \2/p' include/timers_desk.h; enumerators timers | grep -E '^(WIDE|CLOCK) '; }
-    for module in timers timers_desk; do
-        diff <({ enumerators $module; [ $module = timers ] || more; } | sort) <(cd bindings/python && python3 -B -c "
-import $module
-for name, value in vars($module).items():
-    if name.isupper() and isinstance(value, int) and value < 100:
-        print(name, value)" | sort)
-    done
-}
-
 # in_rust FILE HEADER COUNT: the numbers that it maps to names, and those of constants, are the header's, of which it has so many
 in_rust() {
     sed -nE -e 's/^ *([0-9]+) => (Err\(Error|Error|Word)::([A-Za-z]+).*/\1 \3/p' -e 's/^const ([A-Z]+): c_uint = ([0-9]+);/\2 \1/p' \
@@ -100,7 +87,7 @@ in_rust() {
     [ "$(wc -l < "$work/numbers")" -eq "$3" ]
     [ -z "$(comm -13 <(enumerators $2) "$work/numbers")" ]
 }
-@test "those in Rust are the headers', too" {
+@test "the names and numbers in Rust are the headers'" {
     in_rust error timers 8
     in_rust desk timers_desk 28
 }

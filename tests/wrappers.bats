@@ -1,6 +1,6 @@
 #!/usr/bin/env bats
-# Builds the wrappers as the tools of their languages do, and runs a first program with each. cargo, pip and CMake compile
-# the library from generated/. None needs a registry or the toolchain.
+# Builds the wrappers as the tools of their languages do, and runs a first program with each. cargo and CMake compile
+# the library from generated/. Neither needs a registry or the toolchain.
 load helpers
 
 setup_file() {
@@ -8,12 +8,9 @@ setup_file() {
     hide_toolchain
     export work=$BATS_FILE_TMPDIR lib=${LIB:-$PWD/build/lib}
     export CARGO_HOME=$work/cargo_home CARGO_TARGET_DIR=$work/cargo
-    if command -v python3 > /dev/null; then python3 -m venv "$work/venv" || rm -rf "$work/venv"; fi
 }
 
-needs_venv() { [ -e "$work/venv" ] || skip "no python3 with venv"; }
 egg_and_tea() { printf '240: egg\n300: tea\n'; }
-pip() { "$work/venv/bin/pip" --disable-pip-version-check "$@"; }
 
 # of_crate WORD..: a command of cargo for the crate, without a network
 of_crate() { cargo "$1" --quiet --offline --manifest-path bindings/rust/Cargo.toml "${@:2}"; }
@@ -223,31 +220,6 @@ EOT
     grep -e '-DONE -DTWO .*c/timers.c' "$work/asked"
     run env AR=false "$work/build"
     [ "$status" -ne 0 ]
-}
-
-@test "pip installs the module, and the first program runs" {
-    needs_venv
-    top=$PWD
-    pip install --no-index ./bindings/python
-    cd /
-    "$work/venv/bin/python" "$top/examples/c/first.py" > "$work/out"
-    egg_and_tea | diff - "$work/out"
-}
-
-@test "the wheel has the module and each file that its record names, and is removed again" {
-    needs_venv
-    package=$(cd / && "$work/venv/bin/python" -c 'import os, timers; print(os.path.dirname(timers.__file__))')
-    cmp bindings/python/timers.py "$package/timers.py"
-    cmp bindings/python/timers_desk.py "$package/timers_desk.py"
-    (cd / && "$work/venv/bin/python" -c 'from timers.timers_desk import Desk; Desk(1, 1, 1, 1).free()')
-    cmp generated/NOTICE "$package"/../timers-*.dist-info/licenses/NOTICE
-    pip show --files timers | grep timers/libtimers.so.1
-    is_linked_alike "$package/libtimers.so.1"
-    grep -x "Tag: py3-none-linux_$(uname -m)" "$package"/../timers-*.dist-info/WHEEL
-    grep -x "Root-Is-Purelib: false" "$package"/../timers-*.dist-info/WHEEL
-    pip show timers | grep -x "Version: $(cat tools/install/version)"
-    pip uninstall --yes timers
-    [ ! -e "$package" ]
 }
 
 @test "CMake builds and runs the first program in C++" {
