@@ -246,7 +246,7 @@ refused() {
     folders=()
     for name in BINDIR LIBDIR INCLUDEDIR DATADIR MANDIR DOCDIR; do folders+=("$name=$work/apart/$name"); done
     in_tree install PREFIX="$work/apart/PREFIX" "${folders[@]}"
-    for path in BINDIR/timers LIBDIR/libtimers.a INCLUDEDIR/timers.hpp DATADIR/timers/rust/timers.rs MANDIR/man1/timers.1 \
+    for path in BINDIR/timers LIBDIR/libtimers.a INCLUDEDIR/timers.hpp DATADIR/timers/rust/Cargo.toml MANDIR/man1/timers.1 \
         MANDIR/man3/timers_start.3 DOCDIR/CHANGELOG.md; do
         echo "$path"
         [ -e "$work/apart/$path" ]
