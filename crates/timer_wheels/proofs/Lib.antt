@@ -35,3 +35,17 @@ pub mod SlotLaws
 pub mod DeadlineLemmas
 pub mod IterationLemmas
 pub mod ExactWakeUps
+pub mod SmoothSlots
+pub mod SmoothLaws
+pub mod SmoothPace
+pub mod SmoothTurns
+pub mod SmoothLists
+pub mod SmoothMoves
+pub mod SmoothPlaces
+pub mod SmoothSteps
+pub mod SmoothTicks
+pub mod FilledLemmas
+pub mod SmoothDescent
+pub mod BankLemmas
+pub mod SmoothSkips
+pub mod BankStops

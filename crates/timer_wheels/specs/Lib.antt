@@ -21,3 +21,5 @@ pub mod FirstDeadline
 pub mod Firsts
 pub mod HeldPlaces
 pub mod WakeUps
+pub mod Smooth
+pub mod Bank
