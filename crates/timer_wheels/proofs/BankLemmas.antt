@@ -356,21 +356,21 @@ module _ (t : Table) (b : Buckets) (words : List ℕ) (h : IsBank t b words) (ti
       (λ j z l. omega (arith, ap moved_to (same (next_list (radices t) b.tick j) (start_ranges j (slot_in (radices t) j b.tick + 1) l))))
       (λ s l. sound.in_order s (omega arith)) start_placed)
 
-pub start_marked : (b : Buckets) (words words2 : List ℕ) (row : Row) (list d : ℕ) → AreMarked b.slots words b.links.lists
-    → length b.links.lists ≡ b.slots + 1 → ((list < b.slots) × (b.tick < d)) ⊎ ((list ≡ b.slots) × (d ≡ b.tick))
-    → (b.tick < d → (bit_of words2 list ≡ 1) × ((s : ℕ) → s ≢ list → bit_of words2 s ≡ bit_of words s))
-    → (d ≤ b.tick → words2 ≡ words) → AreMarked b.slots words2 (with_row list row b.links.lists)
-start_marked b words words2 row list d marked len (inl q) pending due =
+pub start_marked : (n now : ℕ) (lists : KeyedLists) (words words2 : List ℕ) (row : Row) (list d : ℕ) → AreMarked n words lists
+    → length lists ≡ n + 1 → ((list < n) × (now < d)) ⊎ ((list ≡ n) × (d ≡ now))
+    → (now < d → (bit_of words2 list ≡ 1) × ((s : ℕ) → s ≢ list → bit_of words2 s ≡ bit_of words s))
+    → (d ≤ now → words2 ≡ words) → AreMarked n words2 (with_row list row lists)
+start_marked n now lists words words2 row list d marked len (inl q) pending due =
     let p = pending q.1 in
     let r = q.0 in
-    marked_set b.slots words words2 list (list_at list b.links.lists ++ row ∷ []) b.links.lists q.0 (omega arith)
-    (p.0 ∙ sym (filled_behind (list_at list b.links.lists) row)) p.1 marked
-start_marked b words words2 row list d marked len (inr q) pending due =
+    marked_set n words words2 list (list_at list lists ++ row ∷ []) lists q.0 (omega arith)
+    (p.0 ∙ sym (filled_behind (list_at list lists) row)) p.1 marked
+start_marked n now lists words words2 row list d marked len (inr q) pending due =
     let at = q.0 in
     let e : words2 ≡ words = due (omega (arith, q.1)) in
-    subst (λ (x : List ℕ). AreMarked b.slots x (with_row list row b.links.lists)) (sym e)
-    (marked_same b.slots words b.links.lists (with_row list row b.links.lists)
-    (λ s h. get_or-set_other b.links.lists list s (list_at list b.links.lists ++ row ∷ []) [] (λ (y : s ≡ list). omega arith)) marked)
+    subst (λ (x : List ℕ). AreMarked n x (with_row list row lists)) (sym e)
+    (marked_same n words lists (with_row list row lists)
+    (λ s h. get_or-set_other lists list s (list_at list lists ++ row ∷ []) [] (λ (y : s ≡ list). omega arith)) marked)
 
 -- A change of the due timers alone.
 

@@ -49,3 +49,5 @@ pub mod SmoothDescent
 pub mod BankLemmas
 pub mod SmoothSkips
 pub mod BankStops
+pub mod SmoothStarts
+pub mod BankRestarts

@@ -20,7 +20,7 @@
 //! At tick 4032 slot 64 begins to be the next bucket of wheel 1, and timer 1 goes to slot 4100 of wheel 0.
 //!
 //! What stands here is the bank: the buckets, their bits, and the placement law as their invariant. No scheme uses it
-//! yet. Open: a restart, the paces and the bound of a tick, `advance`, the wake-up, and `impl Wheel`.
+//! yet. Open: the paces and the bound of a tick, `advance`, the wake-up, and `impl Wheel`.
 
 pub mod bank;
 mod descent;

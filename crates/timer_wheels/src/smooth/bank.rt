@@ -1,6 +1,6 @@
 //! The buckets of a smooth wheel and their bits: each timer stands where the placement law says.
-ghost use Rattle.std.specs.Prelude.{IfOk, OnErr, ◌≡◌, ◌≢◌, ◌<◌, ◌≤◌, ◌+◌, ◌-◌, ℕ, [], length, true, false};
-ghost use Rattle.timer_base.specs.WheelState.{first_due, after_expiry, empty_wheel, held_at, held_count, after_held_start, after_removal, after_tick, after_clear};
+ghost use Rattle.std.specs.Prelude.{IfOk, IfSome, OnErr, ◌≡◌, ◌≢◌, ◌<◌, ◌≤◌, ◌+◌, ◌-◌, ℕ, [], length, true, false};
+ghost use Rattle.timer_base.specs.WheelState.{first_due, after_expiry, empty_wheel, held_at, held_count, old_timer, after_held_start, after_removal, after_replacement, after_tick, after_clear};
 ghost use Rattle.timer_base.specs.declared.limits.TheConstants.{LAST};
 ghost use Rattle.timer_wheels.specs.Digits.{level};
 ghost use Rattle.timer_links.specs.Lists.{list_at};
@@ -200,6 +200,27 @@ impl Bank {
         let (timer, emptied) = self.buckets.take(handle)?;
         leave(&mut self.filled, self.buckets.slots, emptied);
         Some(timer)
+    }
+
+    /// Removes the timer with just this handle, and starts another at its place. Does not allocate.
+    pub fn restart(&mut self, handle: Handle, timer: Timer) -> Option<(Handle, Timer)>
+        requires not_past { self.old.buckets.tick ≤ timer.deadline }
+        requires deadline { timer.deadline ≤ self.old.buckets.last_tick }
+        requires fresh { self.old.buckets.last_serial < timer.serial }
+        requires serial { timer.serial ≤ LAST }
+        ensures old { old_timer result ≡ held_at handle (state_of self.old.buckets) }
+        ensures named { IfSome result (λ r. r.0.serial ≡ timer.serial) }
+        ensures restarted { state_of self.new.buckets
+            ≡ after_replacement result handle timer (state_of self.old.buckets) }
+        ensures table { self.new.table ≡ self.old.table }
+    {
+        self.buckets.links.lemma_keys_unique();
+        let tick = self.buckets.tick;
+        let list = self.list_of(timer.deadline);
+        let (restarted, emptied) = self.buckets.replace(handle, list, timer, 0)?;
+        leave(&mut self.filled, self.buckets.slots, emptied);
+        enter(&mut self.filled, tick, timer.deadline, list);
+        Some(restarted)
     }
 
     /// Takes the first of the due timers.

@@ -37,7 +37,7 @@ invariant_of-self-2 c =
           sound (c.list_of-list.ensures.due past)
     ] in
     let marked : AreMarked b.slots c.enter.new.filled (with_row list (row_at place timer 0) b.links.lists) =
-    start_marked b w.filled c.enter.new.filled (row_at place timer 0) list timer.deadline w.bank.marked b.sound.has_lists
+    start_marked b.slots b.tick b.links.lists w.filled c.enter.new.filled (row_at place timer 0) list timer.deadline w.bank.marked b.sound.has_lists
     c.list_of-list.ensures.list c.enter.ensures.pending c.enter.ensures.due in
     record {
       bank = record {
