@@ -13,7 +13,7 @@ use Rattle.timer_wheels.specs.BucketLists.{timer_in, entries_of, rows_below, Are
 use Rattle.timer_wheels.specs.Digits.{IsTable, HasDigits, last_of, radix, level}
 use Rattle.timer_wheels.specs.Migration.{first_deadline}
 use Rattle.timer_wheels.specs.Occupied.{bit_of, filled, AreMarked}
-use Rattle.timer_wheels.specs.Smooth.{slot_in, smooth_list, smooth_slots, next_list, moved_to, mark, smooth_bucket, smooth_level, descend, descend_by, HasTurns, IsByLaw, IsSmooth, Stands, IsStep, IsTicked, stepped}
+use Rattle.timer_wheels.specs.Smooth.{slot_in, smooth_list, smooth_slots, next_list, heights, ticks_left, moved_to, mark, smooth_bucket, smooth_level, descend, descend_by, HasTurns, IsByLaw, IsSmooth, Stands, IsStep, IsTicked, stepped}
 use Rattle.timer_wheels.specs.Tables.{radices, wide, clock}
 use Rattle.timer_wheels.specs.declared.buckets.Buckets.{Buckets}
 use Rattle.timer_wheels.specs.declared.table.Table.{Table}
@@ -25,9 +25,13 @@ use Rattle.timer_wheels.proofs.RowLemmas.{all-list_at}
 use Rattle.timer_wheels.proofs.SmoothLaws.{started_stands, stands_by_law}
 use Rattle.timer_wheels.proofs.SmoothMoves.{after_from, after_to, after_others}
 use Rattle.timer_wheels.proofs.SmoothDescent.{descend_is}
+use Rattle.timer_wheels.proofs.SmoothHeights.{height_is, heights_fall, heights_mono}
+use Rattle.timer_wheels.proofs.SmoothLists.{one_wheel, same_rest_of, radix_above, ahead_within}
+use Rattle.timer_wheels.proofs.SmoothPace.{past_half}
+use Rattle.timer_wheels.proofs.SmoothWeights.{multiples, weight_some}
 use Rattle.timer_wheels.proofs.SmoothPlaces.{weaker, places_with_row, places_left}
 use Rattle.timer_wheels.proofs.SmoothSteps.{step, bit_is_mark}
-use Rattle.timer_wheels.proofs.SmoothTicks.{ticked, new_l, new_others}
+use Rattle.timer_wheels.proofs.SmoothTicks.{ticked, new_l, new_others, next_same, shorter}
 use Rattle.timer_wheels.proofs.BucketLemmas.{no_rows}
 use Rattle.timer_wheels.proofs.SmoothTurns.{wide_length, wide_radix, wide_list_in_range, wide_list, clock_slots}
 use Rattle.timer_wheels.proofs.TableLaws.{of_table}
@@ -112,7 +116,7 @@ no_first [] e = refl
 no_first (x ∷ xs) e = absurd (some_none (timer_in x).deadline (sym e))
 
 -- what one move leaves
-pub record IsMoved (t : Table) (b : Buckets) (from to : ℕ) (new : KeyedLists) : Type 0 where
+pub record IsMoved (t : Table) (b : Buckets) (wheel from to : ℕ) (new : KeyedLists) : Type 0 where
   pub sound : AreBuckets b.slots b.last_tick b.tick b.last_serial new
   pub state : wheel_state b.slots b.last_tick b.tick b.last_serial new ≡ wheel_state b.slots b.last_tick b.tick b.last_serial b.links.lists
   pub placed : EachRow (IsByLaw (radices t) b.tick (mark (radices t) b.tick new)) b.slots new
@@ -123,6 +127,10 @@ pub record IsMoved (t : Table) (b : Buckets) (from to : ℕ) (new : KeyedLists) 
   pub others : (s : ℕ) → s ≢ from → s ≢ to → list_at s new ≡ list_at s b.links.lists
   pub there : filled (list_at to new) ≡ 1
   pub was : filled (list_at from b.links.lists) ≡ 1
+  pub falls : heights (radices t) b.slots new + 1 ≤ heights (radices t) b.slots b.links.lists
+  -- in the first half of the bucket's time it comes to no next bucket
+  pub next_same : (ticks_left (radices t) b.tick wheel ≡ 0 → length (list_at from b.links.lists) ≡ 0) → (j : ℕ) → 0 < j
+      → j < length (radices t) → j ≢ wheel → list_at (next_list (radices t) b.tick j) new ≡ list_at (next_list (radices t) b.tick j) b.links.lists
 
 module _ (t : Table) (b : Buckets) (words : List ℕ) (h : IsBank t b words) (k d to : ℕ) (wheel : suc k < length (radices t))
     (e : Some d ≡ first_deadline (list_at (next_list (radices t) b.tick (suc k)) b.links.lists))
@@ -162,7 +170,31 @@ module _ (t : Table) (b : Buckets) (words : List ℕ) (h : IsBank t b words) (k 
   from_after : list_at (next_list (radices t) b.tick (suc k)) (stepped (radices t) b.tick k a_step.on b.links.lists f.row f.rest) ≡ f.rest
   from_after = after_from b.sound a_step.move
 
-  moved_lists : IsMoved t b (next_list (radices t) b.tick (suc k))
+  -- where it goes is no next bucket, while ticks are left
+  not_next : ticks_left (radices t) b.tick (suc k) ≢ 0 → (j : ℕ) → 0 < j → j < length (radices t)
+      → next_list (radices t) b.tick j ≢ smooth_list (radices t) a_step.on (slot_in (radices t) a_step.on (timer_in f.row).deadline)
+  not_next some j z l = λ (y : next_list (radices t) b.tick j ≡ smooth_list (radices t) a_step.on
+      (slot_in (radices t) a_step.on (timer_in f.row).deadline)).
+      let w : a_step.on ≡ j = sym (one_wheel (radices t) j a_step.on (slot_in (radices t) j b.tick + 1)
+      (slot_in (radices t) a_step.on (timer_in f.row).deadline) i (turns_of_table t) l a_step.wheel y) in
+      let in_next : slot_in (radices t) a_step.on (timer_in f.row).deadline ≡ slot_in (radices t) a_step.on b.tick + 1 =
+      same_rest_of (2 * radix a_step.on (radices t)) (slot_in (radices t) a_step.on b.tick)
+      (slot_in (radices t) a_step.on (timer_in f.row).deadline) (slot_in (radices t) a_step.on b.tick + 1)
+      (omega (arith, radix_above (radices t) a_step.on i)) a_step.ahead (omega arith)
+      (ahead_within (radices t) b.tick a_step.on (timer_in f.row).deadline i
+      (record { wheel = a_step.wheel; ahead = a_step.ahead; near = a_step.near }))
+      (omega (arith, radix_above (radices t) a_step.on i))
+      (same_rests a_step.on (slot_in (radices t) a_step.on (timer_in f.row).deadline) (slot_in (radices t) a_step.on b.tick + 1)
+      (sym y ∙ ap (λ (x : ℕ). smooth_list (radices t) x (slot_in (radices t) x b.tick + 1)) (sym w))) in
+      let m = multiples t a_step.on (suc k) (omega (arith, a_step.lower)) wheel in
+      some (past_half (radices t) a_step.on (suc k) b.tick (timer_in f.row).deadline m.by m.is m.two
+      (weight_some (radices t) a_step.on i) a_step.in_next in_next)
+    where
+      same_rests : (x y z : ℕ) → smooth_list (radices t) x y ≡ smooth_list (radices t) x z
+          → y % (2 * radix x (radices t)) ≡ z % (2 * radix x (radices t))
+      same_rests x y z e = omega arith
+
+  moved_lists : IsMoved t b (suc k) (next_list (radices t) b.tick (suc k))
       (smooth_list (radices t) a_step.on (slot_in (radices t) a_step.on (timer_in f.row).deadline))
       (stepped (radices t) b.tick k a_step.on b.links.lists f.row f.rest)
   moved_lists = record {
@@ -179,12 +211,27 @@ module _ (t : Table) (b : Buckets) (words : List ℕ) (h : IsBank t b words) (k 
     there = ap filled (after_to b.sound a_step.move) ∙ filled_behind (list_at (smooth_list (radices t) a_step.on
         (slot_in (radices t) a_step.on (timer_in f.row).deadline)) b.links.lists) f.row;
     was = ap filled f.at;
+    falls = heights_fall (radices t) b.slots (next_list (radices t) b.tick (suc k))
+        (smooth_list (radices t) a_step.on (slot_in (radices t) a_step.on (timer_in f.row).deadline)) b.links.lists f.row f.rest
+        (omega (arith, b.sound.has_lists)) a_step.move.from_in a_step.move.to_in f.at
+        (omega (
+          arith,
+          height_is (radices t) (suc k) (slot_in (radices t) (suc k) b.tick + 1) i (turns_of_table t) wheel,
+          height_is (radices t) a_step.on (slot_in (radices t) a_step.on (timer_in f.row).deadline) i (turns_of_table t) a_step.wheel,
+          a_step.lower,
+        ));
+    next_same = λ early j z l n. after_others b.sound a_step.move (next_list (radices t) b.tick j)
+        (λ (y : next_list (radices t) b.tick j ≡ next_list (radices t) b.tick (suc k)).
+        n (one_wheel (radices t) j (suc k) (slot_in (radices t) j b.tick + 1) (slot_in (radices t) (suc k) b.tick + 1) i
+        (turns_of_table t) l wheel y))
+        (not_next (λ (e : ticks_left (radices t) b.tick (suc k) ≡ 0).
+        omega (arith, early e, ap (λ (r : Rows). length r) f.at)) j z l);
   }
 
   pub moved : (new : KeyedLists) → new ≡ front_moved (next_list (radices t) b.tick (suc k)) to b.links.lists
-      → IsMoved t b (next_list (radices t) b.tick (suc k)) to new
-  moved new q = subst (λ (x : KeyedLists). IsMoved t b (next_list (radices t) b.tick (suc k)) to x) (sym (new_is new q))
-      (subst (λ (x : ℕ). IsMoved t b (next_list (radices t) b.tick (suc k)) x (stepped (radices t) b.tick k a_step.on b.links.lists f.row f.rest))
+      → IsMoved t b (suc k) (next_list (radices t) b.tick (suc k)) to new
+  moved new q = subst (λ (x : KeyedLists). IsMoved t b (suc k) (next_list (radices t) b.tick (suc k)) to x) (sym (new_is new q))
+      (subst (λ (x : ℕ). IsMoved t b (suc k) (next_list (radices t) b.tick (suc k)) x (stepped (radices t) b.tick k a_step.on b.links.lists f.row f.rest))
       (sym to_is) moved_lists)
 
 -- The bits after a move.
@@ -199,11 +246,11 @@ is_none (x ∷ xs) = inr (λ (e : x ∷ xs ≡ []). nothing x xs e) where
   nothing : (x : Row) (xs : Rows) → x ∷ xs ≡ [] → ⊥
   nothing x xs e = let q : suc (length xs) ≡ 0 = ap (λ (r : Rows). length r) e in omega arith
 
-pub marked_moved : {t : Table} {b : Buckets} {from to : ℕ} {new : KeyedLists} (words words2 words3 : List ℕ) → IsMoved t b from to new
+pub marked_moved : {t : Table} {b : Buckets} {wheel from to : ℕ} {new : KeyedLists} (words words2 words3 : List ℕ) → IsMoved t b wheel from to new
     → AreMarked b.slots words b.links.lists → bit_of words2 to ≡ 1 → ((s : ℕ) → s ≢ to → bit_of words2 s ≡ bit_of words s)
     → (list_at from new ≡ [] → bit_of words3 from ≡ 0) → (list_at from new ≢ [] → bit_of words3 from ≡ bit_of words2 from)
     → ((s : ℕ) → s ≢ from → bit_of words3 s ≡ bit_of words2 s) → AreMarked b.slots words3 new
-marked_moved {t} {b} {from} {to} {new} words words2 words3 m marked here others empty kept others2 = (
+marked_moved {t} {b} {wheel} {from} {to} {new} words words2 words3 m marked here others empty kept others2 = (
   (λ (s : ℕ) (h : s < b.slots). elim (cases_eq s from) [
     | inl e ↦ subst (λ (x : ℕ). bit_of words3 x ≡ filled (list_at x new)) (sym e) (elim (is_none (list_at from new)) [
       | inl z ↦ empty z ∙ sym (ap filled z)
@@ -222,14 +269,14 @@ marked_moved {t} {b} {from} {to} {new} words words2 words3 m marked here others 
 pub moved_by : (t : Table) (b : Buckets) (words : List ℕ) (h : IsBank t b words) (wheel from d below slot to : ℕ) → 0 < wheel
     → wheel < length (radices t) → from ≡ next_list (radices t) b.tick wheel → Some d ≡ first_deadline (list_at from b.links.lists)
     → below ≡ descend_by (radices t) b.tick words d (wheel - 1) → slot ≡ slot_in (radices t) below d
-    → to ≡ smooth_list (radices t) below slot → (new : KeyedLists) → new ≡ front_moved from to b.links.lists → IsMoved t b from to new
+    → to ≡ smooth_list (radices t) below slot → (new : KeyedLists) → new ≡ front_moved from to b.links.lists → IsMoved t b wheel from to new
 moved_by t b words h zero from d below slot to z w ef ed eb es et new q = absurd (omega arith)
 moved_by t b words h (suc k) from d below slot to z w ef ed eb es et new q =
     let p : suc k - 1 ≡ k = omega arith in
     let goes : to ≡ smooth_list (radices t) (descend_by (radices t) b.tick words d k) (slot_in (radices t) (descend_by (radices t) b.tick words d k) d) =
     et ∙ (ap (smooth_list (radices t) below) es
     ∙ ap (λ (x : ℕ). smooth_list (radices t) x (slot_in (radices t) x d)) (eb ∙ ap (descend_by (radices t) b.tick words d) p)) in
-    subst (λ (x : ℕ). IsMoved t b x to new) (sym ef) (moved t b words h k d to w
+    subst (λ (x : ℕ). IsMoved t b (suc k) x to new) (sym ef) (moved t b words h k d to w
     (subst (λ (x : ℕ). Some d ≡ first_deadline (list_at x b.links.lists)) ef ed) goes new
     (q ∙ ap (λ (x : ℕ). front_moved x to b.links.lists) ef))
 
@@ -269,6 +316,18 @@ module _ (t : Table) (b : Buckets) (words : List ℕ) (h : IsBank t b words) (be
   tick_by_law = to_law (radices t) b.last_tick (b.tick + 1) b.last_serial (mark (radices t) (b.tick + 1)
       (appended (smooth_list (radices t) zero (b.tick + 1)) b.slots b.links.lists)) tick_table tick_digits b.slots
       (appended (smooth_list (radices t) zero (b.tick + 1)) b.slots b.links.lists) bank_ticked.sound bank_ticked.placed
+
+  pub tick_next : (j : ℕ) → 0 < j → j < length (radices t) → slot_in (radices t) j (b.tick + 1) ≡ slot_in (radices t) j b.tick
+      → list_at (next_list (radices t) (b.tick + 1) j) (appended (smooth_list (radices t) zero (b.tick + 1)) b.slots b.links.lists)
+      ≡ list_at (next_list (radices t) b.tick j) b.links.lists
+  tick_next = next_same (radices t) b.slots b.last_tick b.tick b.last_serial b.links.lists tick_table (turns_of_table t) tick_some b.sound
+      tick_placed before_last none_due tick_ranges empty
+
+  pub tick_falls : heights (radices t) b.slots (appended (smooth_list (radices t) zero (b.tick + 1)) b.slots b.links.lists)
+      ≤ heights (radices t) b.slots b.links.lists
+  tick_falls = heights_mono (radices t) b.slots b.links.lists (appended (smooth_list (radices t) zero (b.tick + 1)) b.slots b.links.lists)
+      (shorter (radices t) b.slots b.last_tick b.tick b.last_serial b.links.lists tick_table (turns_of_table t) tick_some b.sound
+      tick_placed before_last none_due tick_ranges empty)
 
   pub tick_marked : (words2 : List ℕ) → bit_of words2 (smooth_list (radices t) zero (b.tick + 1)) ≡ 0
       → ((s : ℕ) → s ≢ smooth_list (radices t) zero (b.tick + 1) → bit_of words2 s ≡ bit_of words s)

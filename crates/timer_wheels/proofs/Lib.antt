@@ -50,4 +50,7 @@ pub mod BankLemmas
 pub mod SmoothSkips
 pub mod BankStops
 pub mod SmoothStarts
+pub mod SmoothWeights
+pub mod SmoothHeights
+pub mod BankNext
 pub mod BankRestarts

@@ -229,6 +229,9 @@ module _ (table : List ℕ) (n last_tick now last k : ℕ) (lists : KeyedLists) 
     on = on;
     lower = lower;
     wheel = goes.wheel;
+    in_next = in_next;
+    ahead = goes.ahead;
+    near = goes.near;
     by_bits = on_by_bits;
     move = move;
     sound = moved_sound b move;

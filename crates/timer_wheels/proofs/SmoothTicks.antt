@@ -257,15 +257,30 @@ module _ (table : List ℕ) (n last_tick a last : ℕ) (lists : KeyedLists) (i :
   abbrev marks2 : ℕ → ℕ
   marks2 = mark table (a + 1) (appended (smooth_list table zero (a + 1)) n lists)
 
-  marks_same : (j : ℕ) → 0 < j → j < length table → slot_in table j (a + 1) ≡ slot_in table j a
-      → mark table (a + 1) (appended (smooth_list table zero (a + 1)) n lists) j ≡ mark table a lists j
-  marks_same j z h e =
+  -- a next bucket that stays the next one keeps its rows
+  pub next_same : (j : ℕ) → 0 < j → j < length table → slot_in table j (a + 1) ≡ slot_in table j a
+      → list_at (next_list table (a + 1) j) (appended (smooth_list table zero (a + 1)) n lists) ≡ list_at (next_list table a j) lists
+  next_same j z h e =
       let q : next_list table (a + 1) j ≡ next_list table a j = ap (λ (x : ℕ). smooth_list table j (x + 1)) e in
-      ap (λ (x : ℕ). moved_to (list_at x (appended (smooth_list table zero (a + 1)) n lists))) q
-      ∙ ap moved_to (new_others (next_list table a j)
+      ap (λ (x : ℕ). list_at x (appended (smooth_list table zero (a + 1)) n lists)) q
+      ∙ new_others (next_list table a j)
       (λ (y : next_list table a j ≡ smooth_list table zero (a + 1)).
       let w : j ≡ zero = one_wheel table j zero (slot_in table j a + 1) (a + 1) i turns h some y in omega arith)
-      (λ (y : next_list table a j ≡ n). let r = in_range j (slot_in table j a + 1) h in omega arith))
+      (λ (y : next_list table a j ≡ n). let r = in_range j (slot_in table j a + 1) h in omega arith)
+
+  marks_same : (j : ℕ) → 0 < j → j < length table → slot_in table j (a + 1) ≡ slot_in table j a
+      → mark table (a + 1) (appended (smooth_list table zero (a + 1)) n lists) j ≡ mark table a lists j
+  marks_same j z h e = ap moved_to (next_same j z h e)
+
+  -- no list of a bucket gets longer
+  pub shorter : (s : ℕ) → s < n → length (list_at s (appended (smooth_list table zero (a + 1)) n lists)) ≤ length (list_at s lists)
+  shorter s h = elim (cases_eq s (smooth_list table zero (a + 1))) [
+    | inl e ↦
+        let z : length (list_at s (appended (smooth_list table zero (a + 1)) n lists)) ≡ 0 =
+        ap (λ (x : ℕ). length (list_at x (appended (smooth_list table zero (a + 1)) n lists))) e ∙ ap (λ (r : Rows). length r) new_l in
+        omega arith
+    | inr x ↦ omega (arith, ap (λ (r : Rows). length r) (new_others s x (λ (e : s ≡ n). omega arith)))
+  ]
 
   record Known (s : ℕ) (row : Row) : Type 0 where
     placed_before : IsSmooth table a (mark table a lists) s row

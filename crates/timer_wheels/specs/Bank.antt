@@ -1,12 +1,14 @@
 -- The invariant of the buckets of a smooth wheel and of their bits.
-use Rattle.std.specs.Prelude.{◌≡◌, ◌≢◌, ◌<◌, ◌≤◌, ℕ, List, Option, Some, None}
+use Rattle.std.specs.Prelude.{◌≡◌, ◌≢◌, ◌<◌, ◌≤◌, ◌+◌, ◌-◌, ℕ, List, Option, Some, None, length}
 use Rattle.std.specs.Coded.{×_prop}
 use Rattle.std.proofs.Props.{props}
-use Rattle.timer_links.specs.Lists.{Row}
+use Rattle.timer_base.specs.declared.timer.Handle.{Handle}
+use Rattle.timer_base.specs.declared.timer.Timer.{Timer}
+use Rattle.timer_links.specs.Lists.{Row, KeyedLists, list_at}
 use Rattle.timer_wheels.specs.BucketLists.{EachRow, EachRow-prop}
 use Rattle.timer_wheels.specs.Digits.{last_of}
 use Rattle.timer_wheels.specs.Occupied.{bit_of, AreMarked, AreMarked-prop}
-use Rattle.timer_wheels.specs.Smooth.{smooth_slots, mark, IsByLaw}
+use Rattle.timer_wheels.specs.Smooth.{smooth_slots, mark, next_list, next_length, heights, ticks_left, IsByLaw}
 use Rattle.timer_wheels.specs.Tables.{radices}
 use Rattle.timer_wheels.specs.declared.buckets.Buckets.{Buckets}
 use Rattle.timer_wheels.specs.declared.table.Table.{Table}
@@ -37,3 +39,41 @@ abbrev pub LeavesBits : ℕ → Option ℕ → List ℕ → List ℕ → Type 0
 LeavesBits n None old new = new ≡ old
 LeavesBits n (Some l) old new = (l < n → (bit_of new l ≡ 0) × ((s : ℕ) → s ≢ l → bit_of new s ≡ bit_of old s))
     × (n ≤ l → new ≡ old)
+
+-- how many timers the next bucket of wheel k has
+abbrev pub next_len : Table → Buckets → ℕ → ℕ
+next_len table b k = next_length (radices table) b.tick b.links.lists k
+
+-- the potential of the timers: the wheels of all of them, added up
+abbrev pub potential_of : Table → Buckets → ℕ
+potential_of table b = heights (radices table) b.slots b.links.lists
+
+-- the next bucket of wheel k has timers only in the first half of its time
+abbrev pub IsEarly : Table → Buckets → ℕ → Type 0
+IsEarly table b k = ticks_left (radices table) b.tick k ≡ 0 → next_len table b k ≡ 0
+
+-- no other next bucket has more timers than before
+abbrev pub OthersShrink : Table → ℕ → Buckets → Buckets → Type 0
+OthersShrink table k old new = (j : ℕ) → 0 < j → j < length (radices table) → j ≢ k → next_len table new j ≤ next_len table old j
+
+-- no next bucket has more timers than before
+abbrev pub AllShrink : Table → Buckets → Buckets → Type 0
+AllShrink table old new = (j : ℕ) → 0 < j → j < length (radices table) → next_len table new j ≤ next_len table old j
+
+-- the list is the next bucket of a wheel, and has timers; or it is none's, if the wheel is 0
+pub record IsNextOf (table : List ℕ) (now : ℕ) (words : List ℕ) (list wheel : ℕ) : Type 0 where
+  pub in_table : wheel < length table
+  pub here : 0 < wheel → (list ≡ next_list table now wheel) × (bit_of words list ≡ 1)
+  pub no_other : (j : ℕ) → 0 < j → j < length table → j ≢ wheel → list ≢ next_list table now j
+
+-- a timer came: if the wheel is not 0, to that wheel's next bucket, which had timers
+pub record ComesTo (table : Table) (wheel : ℕ) (old new : Buckets) : Type 0 where
+  pub in_table : wheel < length (radices table)
+  pub others : OthersShrink table wheel old new
+  pub here : 0 < wheel → (0 < next_len table old wheel) × (next_len table new wheel ≤ next_len table old wheel + 1)
+  pub potential : potential_of table new ≤ potential_of table old + (length (radices table) - 1)
+
+-- the new handle and the old timer of a restart, without the wheel
+abbrev pub restarted_of : Option ((Handle × Timer) × ℕ) → Option (Handle × Timer)
+restarted_of None = None
+restarted_of (Some r) = Some r.0

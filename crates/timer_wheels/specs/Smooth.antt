@@ -35,6 +35,19 @@ is_in_next table now k t = slot_in table k t == slot_in table k now + 1
 abbrev pub HasTurns : List ℕ → Type 0
 HasTurns table = (k : ℕ) → k + 1 < length table → radix k table ≤ 64
 
+-- how many timers the next bucket of wheel k has
+abbrev pub next_length : List ℕ → ℕ → KeyedLists → ℕ → ℕ
+next_length table now lists k = length (list_at (next_list table now k) lists)
+
+-- the wheel of a list
+abbrev pub height : List ℕ → ℕ → ℕ
+height table s = if nat_lt (s / 128) (length table) then s / 128 else length table - 1
+
+-- the potential of the first n lists: the wheels of all their timers, added up
+abbrev pub heights : List ℕ → ℕ → KeyedLists → ℕ
+heights table zero lists = 0
+heights table (suc n) lists = heights table n lists + height table n * length (list_at n lists)
+
 -- The placement law.
 
 -- the serial up to which a bucket has moved on, if these timers are left in it: all, if none is
@@ -114,6 +127,10 @@ pub record IsStep (table : List ℕ) (n last_tick now last k : ℕ) (lists : Key
   pub on : ℕ
   pub lower : on ≤ k
   pub wheel : on < length table
+  -- where its deadline is
+  pub in_next : slot_in table (suc k) (timer_in row).deadline ≡ slot_in table (suc k) now + 1
+  pub ahead : slot_in table on now < slot_in table on (timer_in row).deadline
+  pub near : slot_in table (suc on) (timer_in row).deadline ≤ slot_in table (suc on) now + 1
   -- the bits of the lists lead there
   pub by_bits : (words : List ℕ) → ((s : ℕ) → s < n → bit_of words s ≡ filled (list_at s lists))
       → descend_by table now words (timer_in row).deadline k ≡ on
@@ -143,13 +160,7 @@ ticks_left table now k = (slot_in table k now + 1) * weight k table - now - weig
 -- the timers of each next bucket are gone by the half of its time, at this pace
 abbrev pub IsInTime : List ℕ → ℕ → (ℕ → ℕ) → KeyedLists → Type 0
 IsInTime table now pace lists = (k : ℕ) → 0 < k → k < length table
-    → length (list_at (next_list table now k) lists) ≤ pace k * ticks_left table now k
-
--- the most moves of one tick: the pace of each wheel from k downwards whose next bucket has timers
-abbrev pub pace_sum : List ℕ → ℕ → (ℕ → ℕ) → KeyedLists → ℕ → ℕ
-pace_sum table now pace lists zero = 0
-pace_sum table now pace lists (suc k) = pace_sum table now pace lists k
-    + (if length (list_at (next_list table now (suc k)) lists) == 0 then 0 else pace (suc k))
+    → next_length table now lists k ≤ pace k * ticks_left table now k
 
 -- the first list from the first number on, and before the second, whose bit is set
 abbrev pub IsFirstBetween : List ℕ → ℕ → ℕ → Option ℕ → Type 0

@@ -1,11 +1,11 @@
 //! The buckets of a smooth wheel and their bits: each timer stands where the placement law says.
-ghost use Rattle.std.specs.Prelude.{IfOk, IfSome, OnErr, ◌≡◌, ◌≢◌, ◌<◌, ◌≤◌, ◌+◌, ◌-◌, ℕ, [], length, true, false};
+ghost use Rattle.std.specs.Prelude.{IfOk, IfSome, IfNone, OnErr, ◌≡◌, ◌≢◌, ◌<◌, ◌≤◌, ◌+◌, ◌-◌, ℕ, [], length, true, false};
 ghost use Rattle.timer_base.specs.WheelState.{first_due, after_expiry, empty_wheel, held_at, held_count, old_timer, after_held_start, after_removal, after_replacement, after_tick, after_clear};
 ghost use Rattle.timer_base.specs.declared.limits.TheConstants.{LAST};
 ghost use Rattle.timer_wheels.specs.Digits.{level};
 ghost use Rattle.timer_links.specs.Lists.{list_at};
 ghost use Rattle.timer_wheels.specs.Buckets.{state_of, IsListOf};
-ghost use Rattle.timer_wheels.specs.Bank.{IsBank, IsBank-prop, LeavesBits};
+ghost use Rattle.timer_wheels.specs.Bank.{IsBank, IsBank-prop, LeavesBits, next_len, potential_of, IsEarly, OthersShrink, AllShrink, IsNextOf, ComesTo, restarted_of};
 ghost use Rattle.timer_wheels.specs.BucketLists.{EachRow};
 ghost use Rattle.timer_wheels.specs.Occupied.{bit_of};
 ghost use Rattle.timer_wheels.specs.Smooth.{IsAheadOf, slot_in, smooth_list, smooth_slots, next_list, descend_by};
@@ -15,7 +15,9 @@ ghost use Rattle.timer_wheels.specs.Tables.{radices, last_of_table};
 use crate::buckets::Buckets;
 use crate::smooth::descent::{descend, front_deadline};
 use crate::smooth::filled::Filled;
-use crate::smooth::turns::{MOST_LISTS, level_of, list_of_slot, lists_of, next_list, slot_of};
+use crate::smooth::turns::{
+    MOST_LISTS, is_in_next, level_of, list_of_slot, lists_of, next_list, slot_of,
+};
 use crate::table::{Table, last_tick_of};
 use std::alloc::Global;
 use timer_base::{Handle, OutOfMemory, Timer};
@@ -40,6 +42,7 @@ impl Bank {
         ensures state { IfOk result (λ bank. state_of bank.buckets
             ≡ empty_wheel (smooth_slots (radices table)) (last_of_table table) first_tick) }
         ensures table { IfOk result (λ bank. bank.table ≡ table) }
+        ensures empty { IfOk result (λ bank. (s : ℕ) → list_at s bank.buckets.links.lists ≡ []) }
     {
         let slots = lists_of(table);
         let buckets = Buckets::new(alloc, slots, last_tick_of(table), first_tick)?;
@@ -50,53 +53,68 @@ impl Bank {
         })
     }
 
-    /// The list of a timer that is started now, or the list of due timers if its deadline is now.
-    fn list_of(&self, deadline: u64) -> usize
+    /// The list of a timer that is started now, or the list of due timers if its deadline is now; and the wheel whose next
+    /// bucket that list is, or 0 if it is none's.
+    #[inline(always)]
+    fn place_of(&self, deadline: u64) -> (usize, usize)
         requires not_past { self.now.buckets.tick ≤ deadline }
         requires deadline { deadline ≤ self.now.buckets.last_tick }
-        ensures list { IsListOf result self.now.buckets.slots self.now.buckets.tick deadline }
-        ensures due { deadline ≤ self.now.buckets.tick → result ≡ self.now.buckets.slots }
-        ensures bucket { self.now.buckets.tick < deadline → result
+        ensures list { IsListOf result.0 self.now.buckets.slots self.now.buckets.tick deadline }
+        ensures due { deadline ≤ self.now.buckets.tick → result.0 ≡ self.now.buckets.slots }
+        ensures bucket { self.now.buckets.tick < deadline → result.0
             ≡ smooth_list (radices self.now.table)
             (descend_by (radices self.now.table) self.now.buckets.tick self.now.filled deadline
             (level (radices self.now.table) self.now.buckets.tick deadline))
             (slot_in (radices self.now.table)
             (descend_by (radices self.now.table) self.now.buckets.tick self.now.filled deadline
             (level (radices self.now.table) self.now.buckets.tick deadline)) deadline) }
+        ensures next { IsNextOf (radices self.now.table) self.now.buckets.tick self.now.filled result.0 result.1 }
     {
+        let table = self.table;
         let tick = self.buckets.tick;
         if deadline <= tick {
-            return self.buckets.slots;
+            return (self.buckets.slots, 0);
         }
         let wheel = descend(
-            self.table,
+            table,
             tick,
             &self.filled,
-            level_of(self.table, tick, deadline),
+            level_of(table, tick, deadline),
             deadline,
         );
-        list_of_slot(self.table, wheel, slot_of(self.table, wheel, deadline))
+        let list = list_of_slot(table, wheel, slot_of(table, wheel, deadline));
+        if is_in_next(table, tick, wheel, deadline) {
+            (list, wheel)
+        } else {
+            (list, 0)
+        }
     }
 
     /// Starts a timer, in its bucket or as the last of the due ones.
-    pub fn start(&mut self, timer: Timer) -> Result<Handle, OutOfMemory>
+    ///
+    /// Returns beside the handle the wheel whose next bucket it came to, or 0 if it came to none.
+    #[inline(always)]
+    pub fn start(&mut self, timer: Timer) -> Result<(Handle, usize), OutOfMemory>
         requires not_past { self.old.buckets.tick ≤ timer.deadline }
         requires deadline { timer.deadline ≤ self.old.buckets.last_tick }
         requires fresh { self.old.buckets.last_serial < timer.serial }
         requires serial { timer.serial ≤ LAST }
-        ensures named { IfOk result (λ handle. handle.serial ≡ timer.serial) }
-        ensures started { IfOk result (λ handle. state_of self.new.buckets
-            ≡ after_held_start handle.place timer (state_of self.old.buckets)) }
+        ensures named { IfOk result (λ r. r.0.serial ≡ timer.serial) }
+        ensures started { IfOk result (λ r. state_of self.new.buckets
+            ≡ after_held_start r.0.place timer (state_of self.old.buckets)) }
+        ensures comes { IfOk result (λ r. ComesTo self.old.table r.1 self.old.buckets self.new.buckets) }
         ensures full { OnErr result ((state_of self.old.buckets).room
             ≤ held_count (state_of self.old.buckets)) }
         ensures err { OnErr result (state_of self.new.buckets ≡ state_of self.old.buckets) }
+        ensures lists { OnErr result (self.new.buckets.links.lists ≡ self.old.buckets.links.lists) }
         ensures table { self.new.table ≡ self.old.table }
+        ensures tick { self.new.buckets.tick ≡ self.old.buckets.tick }
     {
         let tick = self.buckets.tick;
-        let list = self.list_of(timer.deadline);
+        let (list, wheel) = self.place_of(timer.deadline);
         let handle = self.buckets.start(list, timer, 0)?;
         enter(&mut self.filled, tick, timer.deadline, list);
-        Ok(handle)
+        Ok((handle, wheel))
     }
 
     /// Moves the first timer of a wheel's next bucket to a lower wheel, if there is one.
@@ -108,13 +126,14 @@ impl Bank {
         ensures state { state_of self.new.buckets ≡ state_of self.old.buckets }
         ensures table { self.new.table ≡ self.old.table }
         ensures tick { self.new.buckets.tick ≡ self.old.buckets.tick }
-        ensures none { result ≡ false
-            → list_at (next_list (radices self.old.table) self.old.buckets.tick wheel) self.new.buckets.links.lists ≡ [] }
-        ensures empty { result ≡ false
-            → list_at (next_list (radices self.old.table) self.old.buckets.tick wheel) self.old.buckets.links.lists ≡ [] }
-        ensures moved { result ≡ true
-            → length (list_at (next_list (radices self.old.table) self.old.buckets.tick wheel) self.new.buckets.links.lists) + 1
-            ≡ length (list_at (next_list (radices self.old.table) self.old.buckets.tick wheel) self.old.buckets.links.lists) }
+        ensures same { result ≡ false → self.new.buckets ≡ self.old.buckets }
+        ensures empty { result ≡ false → next_len self.old.table self.old.buckets wheel ≡ 0 }
+        ensures moved { result ≡ true → next_len self.old.table self.new.buckets wheel + 1
+            ≡ next_len self.old.table self.old.buckets wheel }
+        ensures falls { result ≡ true → potential_of self.old.table self.new.buckets + 1
+            ≤ potential_of self.old.table self.old.buckets }
+        ensures others { IsEarly self.old.table self.old.buckets wheel
+            → OthersShrink self.old.table wheel self.old.buckets self.new.buckets }
     {
         let tick = self.buckets.tick;
         let from = next_list(self.table, tick, wheel);
@@ -132,7 +151,7 @@ impl Bank {
 
     /// Moves timers from the front of a wheel's next bucket to lower wheels: so many, or all.
     ///
-    /// Returns how many. Does not allocate.
+    /// Returns how many. In the first half of the bucket's time none of them comes to a next bucket. Does not allocate.
     pub fn move_some(&mut self, wheel: usize, most: u64) -> u64
         requires above { 0 < wheel }
         requires wheel { wheel < length (radices self.old.table) }
@@ -140,8 +159,13 @@ impl Bank {
         ensures table { self.new.table ≡ self.old.table }
         ensures tick { self.new.buckets.tick ≡ self.old.buckets.tick }
         ensures at_most { result ≤ most }
-        ensures left { length (list_at (next_list (radices self.old.table) self.old.buckets.tick wheel) self.new.buckets.links.lists)
-            ≡ length (list_at (next_list (radices self.old.table) self.old.buckets.tick wheel) self.old.buckets.links.lists) - most }
+        ensures left { next_len self.old.table self.new.buckets wheel
+            ≡ next_len self.old.table self.old.buckets wheel - most }
+        ensures all { result < most → next_len self.old.table self.new.buckets wheel ≡ 0 }
+        ensures falls { potential_of self.old.table self.new.buckets + result
+            ≤ potential_of self.old.table self.old.buckets }
+        ensures others { IsEarly self.old.table self.old.buckets wheel
+            → OthersShrink self.old.table wheel self.old.buckets self.new.buckets }
     {
         let mut moved = 0;
         while moved < most {
@@ -165,6 +189,11 @@ impl Bank {
             → list_at (next_list (radices self.old.table) self.old.buckets.tick k) self.old.buckets.links.lists ≡ [] }
         ensures ticked { state_of self.new.buckets ≡ after_tick (state_of self.old.buckets) }
         ensures table { self.new.table ≡ self.old.table }
+        ensures tick { self.new.buckets.tick ≡ self.old.buckets.tick + 1 }
+        ensures kept { (j : ℕ) → 0 < j → j < length (radices self.old.table)
+            → slot_in (radices self.old.table) j (self.old.buckets.tick + 1) ≡ slot_in (radices self.old.table) j self.old.buckets.tick
+            → next_len self.old.table self.new.buckets j ≡ next_len self.old.table self.old.buckets j }
+        ensures falls { potential_of self.old.table self.new.buckets ≤ potential_of self.old.table self.old.buckets }
     {
         let tick = self.buckets.tick + 1;
         let list = list_of_slot(self.table, 0, tick);
@@ -184,6 +213,7 @@ impl Bank {
             self.old.buckets.links.lists }
         ensures state { state_of self.new.buckets ≡ record (state_of self.old.buckets) { now = tick } }
         ensures table { self.new.table ≡ self.old.table }
+        ensures tick { self.new.buckets.tick ≡ tick }
         ensures lists { self.new.buckets.links.lists ≡ self.old.buckets.links.lists }
     {
         let buckets = &mut self.buckets;
@@ -195,6 +225,9 @@ impl Bank {
         ensures timer { result ≡ held_at handle (state_of self.old.buckets) }
         ensures stopped { state_of self.new.buckets ≡ after_removal handle (state_of self.old.buckets) }
         ensures table { self.new.table ≡ self.old.table }
+        ensures tick { self.new.buckets.tick ≡ self.old.buckets.tick }
+        ensures shrinks { AllShrink self.old.table self.old.buckets self.new.buckets }
+        ensures falls { potential_of self.old.table self.new.buckets ≤ potential_of self.old.table self.old.buckets }
     {
         self.buckets.links.lemma_keys_unique();
         let (timer, emptied) = self.buckets.take(handle)?;
@@ -203,24 +236,31 @@ impl Bank {
     }
 
     /// Removes the timer with just this handle, and starts another at its place. Does not allocate.
-    pub fn restart(&mut self, handle: Handle, timer: Timer) -> Option<(Handle, Timer)>
+    ///
+    /// Returns beside the new handle and the old timer the wheel whose next bucket the new one came to, or 0 if it came
+    /// to none.
+    #[inline(always)]
+    pub fn restart(&mut self, handle: Handle, timer: Timer) -> Option<((Handle, Timer), usize)>
         requires not_past { self.old.buckets.tick ≤ timer.deadline }
         requires deadline { timer.deadline ≤ self.old.buckets.last_tick }
         requires fresh { self.old.buckets.last_serial < timer.serial }
         requires serial { timer.serial ≤ LAST }
-        ensures old { old_timer result ≡ held_at handle (state_of self.old.buckets) }
-        ensures named { IfSome result (λ r. r.0.serial ≡ timer.serial) }
+        ensures old { old_timer (restarted_of result) ≡ held_at handle (state_of self.old.buckets) }
+        ensures named { IfSome result (λ r. r.0.0.serial ≡ timer.serial) }
         ensures restarted { state_of self.new.buckets
-            ≡ after_replacement result handle timer (state_of self.old.buckets) }
+            ≡ after_replacement (restarted_of result) handle timer (state_of self.old.buckets) }
+        ensures comes { IfSome result (λ r. ComesTo self.old.table r.1 self.old.buckets self.new.buckets) }
+        ensures none { IfNone result (self.new.buckets.links.lists ≡ self.old.buckets.links.lists) }
         ensures table { self.new.table ≡ self.old.table }
+        ensures tick { self.new.buckets.tick ≡ self.old.buckets.tick }
     {
         self.buckets.links.lemma_keys_unique();
         let tick = self.buckets.tick;
-        let list = self.list_of(timer.deadline);
+        let (list, wheel) = self.place_of(timer.deadline);
         let (restarted, emptied) = self.buckets.replace(handle, list, timer, 0)?;
         leave(&mut self.filled, self.buckets.slots, emptied);
         enter(&mut self.filled, tick, timer.deadline, list);
-        Some(restarted)
+        Some((restarted, wheel))
     }
 
     /// Takes the first of the due timers.
@@ -228,6 +268,9 @@ impl Bank {
         ensures first { result ≡ first_due (state_of self.old.buckets) }
         ensures rest { state_of self.new.buckets ≡ after_expiry (state_of self.old.buckets) }
         ensures table { self.new.table ≡ self.old.table }
+        ensures tick { self.new.buckets.tick ≡ self.old.buckets.tick }
+        ensures shrinks { AllShrink self.old.table self.old.buckets self.new.buckets }
+        ensures falls { potential_of self.old.table self.new.buckets ≤ potential_of self.old.table self.old.buckets }
     {
         self.buckets.expire()
     }
@@ -236,6 +279,8 @@ impl Bank {
     pub fn clear(&mut self)
         ensures cleared { state_of self.new.buckets ≡ after_clear (state_of self.old.buckets) }
         ensures table { self.new.table ≡ self.old.table }
+        ensures tick { self.new.buckets.tick ≡ self.old.buckets.tick }
+        ensures empty { (s : ℕ) → s < self.old.buckets.slots → list_at s self.new.buckets.links.lists ≡ [] }
     {
         self.buckets.clear();
         self.filled = Filled::new();

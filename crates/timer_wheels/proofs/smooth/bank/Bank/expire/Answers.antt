@@ -1,10 +1,11 @@
-use Rattle.std.proofs.Common.{◌≡◌, ◌<◌, ℕ, ◌∙◌}
-use Rattle.timer_links.specs.Lists.{list_at}
+use Rattle.std.proofs.Common.{◌≡◌, ◌<◌, ◌≤◌, ℕ, ◌∙◌, ap, arith, length}
+use Rattle.timer_links.specs.Lists.{list_at, Rows}
 use Rattle.timer_wheels.specs.BucketLists.{AreBuckets, EachRow}
 use Rattle.timer_wheels.specs.Occupied.{AreMarked}
 use Rattle.timer_wheels.specs.Smooth.{mark, IsByLaw}
 use Rattle.timer_wheels.specs.Tables.{radices}
 use Rattle.timer_wheels.proofs.BankLemmas.{same_placed}
+use Rattle.timer_wheels.proofs.BankNext.{all_shrink, potential_falls}
 use Rattle.timer_wheels.proofs.OccupiedLemmas.{marked_same}
 use Rattle.timer_wheels.proofs.smooth.bank.Bank.expire.Goals as goal
 
@@ -27,3 +28,15 @@ invariant_of-self c =
         marked = rw f.slots marked;
       };
     }
+
+pub returns-clause-shrinks : goal.returns-clause-shrinks
+returns-clause-shrinks c =
+    let w = c.args.self.now in
+    all_shrink w.table w.buckets w.filled w.bank c.expire.new.self c.expire.ensures.frame
+    (λ s l. omega (arith, ap (λ (r : Rows). length r) (c.expire.ensures.lists s l)))
+
+pub returns-clause-falls : goal.returns-clause-falls
+returns-clause-falls c =
+    let w = c.args.self.now in
+    potential_falls w.table w.buckets w.filled w.bank c.expire.new.self c.expire.ensures.frame
+    (λ s l. omega (arith, ap (λ (r : Rows). length r) (c.expire.ensures.lists s l)))

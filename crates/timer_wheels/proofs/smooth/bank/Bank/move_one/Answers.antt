@@ -1,6 +1,8 @@
-use Rattle.std.proofs.Common.{◌≡◌, ◌<◌, ◌+◌, ℕ, length, sym, ◌∙◌, ap, subst, arith}
+use Rattle.std.proofs.Common.{◌≡◌, ◌≢◌, ◌<◌, ◌≤◌, ◌+◌, ℕ, length, sym, ◌∙◌, ap, subst, arith}
 use Rattle.timer_base.specs.WheelState.{with_room}
-use Rattle.timer_links.specs.Lists.{list_at}
+use Rattle.timer_links.specs.Lists.{list_at, Rows}
+use Rattle.timer_wheels.specs.Smooth.{ticks_left}
+use Rattle.timer_wheels.specs.Tables.{radices}
 use Rattle.timer_wheels.proofs.BankLemmas.{moved_by, marked_moved}
 use Rattle.timer_wheels.proofs.SmoothDescent.{few_lists}
 use Rattle.timer_wheels.proofs.smooth.bank.Bank.move_one.Goals as goal
@@ -55,3 +57,26 @@ returns-clause-moved c =
     c.move_front.new.self.lists c.move_front.ensures.moved in
     λ e. subst (λ (x : ℕ). length (list_at x c.move_front.new.self.lists) + 1 ≡ length (list_at x w.buckets.links.lists))
     c.next_list-from.ensures.value m.fewer
+
+pub returns-clause-falls : goal.returns-clause-falls
+returns-clause-falls c =
+    let w = c.args.self.now in
+    let m = moved_by w.table w.buckets w.filled w.bank c.args.wheel c.next_list-from.result c.in-Some.deadline
+    c.descend-below.result c.slot_of.result c.list_of_slot-to.result c.requires.above c.requires.wheel c.next_list-from.ensures.value
+    (sym c.in-Some.is ∙ c.front_deadline.ensures) c.descend-below.ensures.value c.slot_of.ensures c.list_of_slot-to.ensures.value
+    c.move_front.new.self.lists c.move_front.ensures.moved in
+    λ e. m.falls
+
+pub returns-clause-others : goal.returns-clause-others
+returns-clause-others c =
+    let w = c.args.self.now in
+    let m = moved_by w.table w.buckets w.filled w.bank c.args.wheel c.next_list-from.result c.in-Some.deadline
+    c.descend-below.result c.slot_of.result c.list_of_slot-to.result c.requires.above c.requires.wheel c.next_list-from.ensures.value
+    (sym c.in-Some.is ∙ c.front_deadline.ensures) c.descend-below.ensures.value c.slot_of.ensures c.list_of_slot-to.ensures.value
+    c.move_front.new.self.lists c.move_front.ensures.moved in
+    λ early j z l n. omega (
+      arith,
+      ap (λ (r : Rows). length r)
+          (m.next_same (subst (λ (x : ℕ). ticks_left (radices w.table) w.buckets.tick c.args.wheel ≡ 0 → length (list_at x w.buckets.links.lists) ≡ 0)
+          (sym c.next_list-from.ensures.value) early) j z l n),
+    )

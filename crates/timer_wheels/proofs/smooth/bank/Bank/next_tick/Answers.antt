@@ -1,7 +1,9 @@
-use Rattle.std.proofs.Common.{◌≡◌, ◌<◌, ◌≤◌, ◌+◌, ℕ, List, length, sym, ◌∙◌, ap, subst, arith}
+use Rattle.std.proofs.Common.{◌≡◌, ◌<◌, ◌≤◌, ◌+◌, ℕ, length, ap, ◌∙◌, arith}
 use Rattle.timer_base.specs.WheelState.{with_room, after_tick}
-use Rattle.timer_links.specs.Lists.{appended, KeyedLists}
-use Rattle.timer_wheels.proofs.BankLemmas.{bank_ticked, tick_by_law, tick_marked}
+use Rattle.timer_links.specs.Lists.{list_at, appended, KeyedLists, Rows}
+use Rattle.timer_wheels.specs.Smooth.{next_list, heights}
+use Rattle.timer_wheels.specs.Tables.{radices}
+use Rattle.timer_wheels.proofs.BankLemmas.{tick_next, tick_falls, bank_ticked, tick_by_law, tick_marked}
 use Rattle.timer_wheels.proofs.SmoothDescent.{few_lists}
 use Rattle.timer_wheels.proofs.smooth.bank.Bank.next_tick.Goals as goal
 
@@ -33,3 +35,21 @@ returns-clause-ticked c =
     let w = c.args.self.now in
     let q = c.append.ensures.appended ∙ ap (λ (x : ℕ). appended x w.buckets.slots w.buckets.links.lists) c.list_of_slot-list.ensures.value in
     rw (c.append.ensures.room, q) (ap (with_room w.buckets.links.room) (bank_ticked w.table w.buckets w.filled w.bank c.requires.before_last c.requires.nothing_due c.requires.empty).state)
+
+pub returns-clause-kept : goal.returns-clause-kept
+returns-clause-kept c =
+    let w = c.args.self.now in
+    let q = c.append.ensures.appended ∙ ap (λ (x : ℕ). appended x w.buckets.slots w.buckets.links.lists) c.list_of_slot-list.ensures.value in
+    λ j z l e. ap (λ (x : KeyedLists). length (list_at (next_list (radices w.table) (w.buckets.tick + 1) j) x)) q
+    ∙ ap (λ (r : Rows). length r)
+    (tick_next w.table w.buckets w.filled w.bank c.requires.before_last c.requires.nothing_due c.requires.empty j z l e)
+
+pub returns-clause-falls : goal.returns-clause-falls
+returns-clause-falls c =
+    let w = c.args.self.now in
+    let q = c.append.ensures.appended ∙ ap (λ (x : ℕ). appended x w.buckets.slots w.buckets.links.lists) c.list_of_slot-list.ensures.value in
+    omega (
+      arith,
+      ap (heights (radices w.table) w.buckets.slots) q,
+      tick_falls w.table w.buckets w.filled w.bank c.requires.before_last c.requires.nothing_due c.requires.empty,
+    )

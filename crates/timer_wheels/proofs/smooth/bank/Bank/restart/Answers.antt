@@ -7,6 +7,7 @@ use Rattle.timer_wheels.specs.Buckets.{state_of, row_at, replaced}
 use Rattle.timer_wheels.specs.Occupied.{AreMarked}
 use Rattle.timer_wheels.specs.Smooth.{mark, IsByLaw}
 use Rattle.timer_wheels.specs.Tables.{radices}
+use Rattle.timer_wheels.proofs.BankNext.{comes_to, without_shorter}
 use Rattle.timer_wheels.proofs.BankLemmas.{start_marked}
 use Rattle.timer_wheels.proofs.BankStops.{stopped_marked}
 use Rattle.timer_wheels.proofs.BankRestarts.{restarted_later, restarted_due}
@@ -18,7 +19,7 @@ pub leave-requires : goal.leave-requires
 leave-requires c = omega (arith, c.replace.ensures.frame.slots, c.args.self.now.bank.has_slots, few_lists c.args.self.now.table)
 
 pub enter-requires : goal.enter-requires
-enter-requires c = λ later. elim c.list_of-list.ensures.list [
+enter-requires c = λ later. elim c.place_of-list.ensures.list [
   | inl q ↦ let s = c.args.self.now.bank.has_slots in let f = few_lists c.args.self.now.table in let r = q.0 in omega arith
   | inr q ↦ absurd (let e = q.1 in omega arith)
 ]
@@ -28,7 +29,7 @@ invariant_of-self-2 c =
     let w = c.args.self.now in
     let b = w.buckets in
     let new = c.replace.new.self in
-    let list = c.list_of-list.result in
+    let list = c.place_of-list.result.0 in
     let timer = c.args.timer in
     let handle = c.args.handle in
     let r = c.in_ok-restarted in
@@ -42,9 +43,9 @@ invariant_of-self-2 c =
     (with_row list (row_at handle.place timer 0) (map (without_key handle.place) b.links.lists)))) b.slots
     (with_row list (row_at handle.place timer 0) (map (without_key handle.place) b.links.lists)) = elim (cases_lt b.tick timer.deadline) [
       | inl later ↦ restarted_later w.table b w.filled w.bank handle timer list new.last_serial c.requires.deadline c.requires.fresh
-          c.requires.serial sound later (c.list_of-list.ensures.bucket later)
+          c.requires.serial sound later (c.place_of-list.ensures.bucket later)
       | inr past ↦ restarted_due w.table b w.filled w.bank handle timer list new.last_serial c.requires.deadline c.requires.fresh
-          c.requires.serial sound (c.list_of-list.ensures.due past)
+          c.requires.serial sound (c.place_of-list.ensures.due past)
     ] in
     let left = stopped_marked w.table b w.filled w.bank handle c.lemma_keys_unique.ensures r.restarted.1 found r.emptied
     r.ensures.emptied c.leave.new.filled (rw (← f.slots) c.leave.ensures) in
@@ -52,7 +53,7 @@ invariant_of-self-2 c =
     (with_row list (row_at handle.place timer 0) (map (without_key handle.place) b.links.lists)) =
     start_marked b.slots b.tick (map (without_key handle.place) b.links.lists) c.leave.new.filled c.enter.new.filled
     (row_at handle.place timer 0) list timer.deadline left (removed b.sound handle.place).has_lists
-    c.list_of-list.ensures.list c.enter.ensures.pending c.enter.ensures.due in
+    c.place_of-list.ensures.list c.enter.ensures.pending c.enter.ensures.due in
     record {
       bank = record {
         has_slots = f.slots ∙ w.bank.has_slots;
@@ -61,3 +62,12 @@ invariant_of-self-2 c =
         marked = rw (f.slots, e) marked;
       };
     }
+
+pub returns-clause-comes : goal.returns-clause-comes
+returns-clause-comes c =
+    let w = c.args.self.now in
+    let b = w.buckets in
+    let key = c.args.handle.place in
+    comes_to w.table b w.filled w.bank c.replace.new.self c.replace.ensures.frame (map (without_key key) b.links.lists)
+    c.place_of-list.result.0 c.place_of-list.result.1 c.args.timer.deadline (row_at key c.args.timer 0) c.in_ok-restarted.ensures.lists
+    (λ s l. without_shorter key s b.links.lists) (removed b.sound key).has_lists c.place_of-list.ensures.list c.place_of-list.ensures.next

@@ -7,12 +7,13 @@ use Rattle.timer_wheels.specs.Buckets.{row_at}
 use Rattle.timer_wheels.specs.Occupied.{AreMarked}
 use Rattle.timer_wheels.specs.Smooth.{mark, IsByLaw}
 use Rattle.timer_wheels.specs.Tables.{radices}
+use Rattle.timer_wheels.proofs.BankNext.{comes_to}
 use Rattle.timer_wheels.proofs.BankLemmas.{later_placed, due_placed, start_marked}
 use Rattle.timer_wheels.proofs.SmoothDescent.{few_lists}
 use Rattle.timer_wheels.proofs.smooth.bank.Bank.start.Goals as goal
 
 pub enter-requires : goal.enter-requires
-enter-requires c = λ later. elim c.list_of-list.ensures.list [
+enter-requires c = λ later. elim c.place_of-list.ensures.list [
   | inl q ↦ let s = c.args.self.now.bank.has_slots in let f = few_lists c.args.self.now.table in let r = q.0 in omega arith
   | inr q ↦ absurd (let e = q.1 in omega arith)
 ]
@@ -22,7 +23,7 @@ invariant_of-self-2 c =
     let w = c.args.self.now in
     let b = w.buckets in
     let new = c.start.new.self in
-    let list = c.list_of-list.result in
+    let list = c.place_of-list.result.0 in
     let timer = c.args.timer in
     let place = c.in_ok-handle.handle.place in
     let f = c.start.ensures.frame in
@@ -32,13 +33,13 @@ invariant_of-self-2 c =
     let placed : EachRow (IsByLaw (radices w.table) b.tick (mark (radices w.table) b.tick (with_row list (row_at place timer 0) b.links.lists)))
     b.slots (with_row list (row_at place timer 0) b.links.lists) = elim (cases_lt b.tick timer.deadline) [
       | inl later ↦ later_placed w.table b w.filled w.bank timer place list new.last_serial c.requires.deadline c.requires.fresh c.requires.serial
-          sound later (c.list_of-list.ensures.bucket later)
+          sound later (c.place_of-list.ensures.bucket later)
       | inr past ↦ due_placed w.table b w.filled w.bank timer place list new.last_serial c.requires.deadline c.requires.fresh c.requires.serial
-          sound (c.list_of-list.ensures.due past)
+          sound (c.place_of-list.ensures.due past)
     ] in
     let marked : AreMarked b.slots c.enter.new.filled (with_row list (row_at place timer 0) b.links.lists) =
     start_marked b.slots b.tick b.links.lists w.filled c.enter.new.filled (row_at place timer 0) list timer.deadline w.bank.marked b.sound.has_lists
-    c.list_of-list.ensures.list c.enter.ensures.pending c.enter.ensures.due in
+    c.place_of-list.ensures.list c.enter.ensures.pending c.enter.ensures.due in
     record {
       bank = record {
         has_slots = f.slots ∙ w.bank.has_slots;
@@ -47,3 +48,11 @@ invariant_of-self-2 c =
         marked = rw (f.slots, e) marked;
       };
     }
+
+pub returns-clause-comes : goal.returns-clause-comes
+returns-clause-comes c =
+    let w = c.args.self.now in
+    let b = w.buckets in
+    comes_to w.table b w.filled w.bank c.start.new.self c.start.ensures.frame b.links.lists c.place_of-list.result.0 c.place_of-list.result.1
+    c.args.timer.deadline (row_at c.in_ok-handle.handle.place c.args.timer 0) c.in_ok-handle.ensures.lists (λ s l. omega arith)
+    b.sound.has_lists c.place_of-list.ensures.list c.place_of-list.ensures.next

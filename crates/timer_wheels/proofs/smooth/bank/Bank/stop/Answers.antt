@@ -1,8 +1,9 @@
-use Rattle.std.proofs.Common.{◌≡◌, ◌<◌, ◌≤◌, ℕ, sym, ◌∙◌, ap, arith, map, Some}
+use Rattle.std.proofs.Common.{◌≡◌, ◌<◌, ◌≤◌, ℕ, sym, ◌∙◌, ap, arith, map, length, Some}
 use Rattle.timer_base.specs.WheelState.{held_at}
-use Rattle.timer_links.specs.Lists.{without_key}
+use Rattle.timer_links.specs.Lists.{list_at, without_key, KeyedLists}
 use Rattle.timer_wheels.specs.BucketLists.{AreBuckets}
 use Rattle.timer_wheels.specs.Buckets.{state_of, taken_timer}
+use Rattle.timer_wheels.proofs.BankNext.{all_shrink, potential_falls, without_shorter}
 use Rattle.timer_wheels.proofs.BankStops.{stopped_placed, stopped_marked}
 use Rattle.timer_wheels.proofs.SmoothDescent.{few_lists}
 use Rattle.timer_wheels.proofs.smooth.bank.Bank.stop.Goals as goal
@@ -33,3 +34,23 @@ invariant_of-self-2 c =
         marked = rw (f.slots, e) marked;
       };
     }
+
+pub returns-clause-shrinks : goal.returns-clause-shrinks
+returns-clause-shrinks c =
+    let w = c.args.self.now in
+    all_shrink w.table w.buckets w.filled w.bank c.take.new.self c.take.ensures.frame
+    (λ s l. omega (
+      arith,
+      ap (λ (x : KeyedLists). length (list_at s x)) c.in_ok-timer.ensures.lists,
+      without_shorter c.args.handle.place s w.buckets.links.lists,
+    ))
+
+pub returns-clause-falls : goal.returns-clause-falls
+returns-clause-falls c =
+    let w = c.args.self.now in
+    potential_falls w.table w.buckets w.filled w.bank c.take.new.self c.take.ensures.frame
+    (λ s l. omega (
+      arith,
+      ap (λ (x : KeyedLists). length (list_at s x)) c.in_ok-timer.ensures.lists,
+      without_shorter c.args.handle.place s w.buckets.links.lists,
+    ))
