@@ -53,4 +53,5 @@ pub mod SmoothStarts
 pub mod SmoothWeights
 pub mod SmoothHeights
 pub mod BankNext
+pub mod PaceLemmas
 pub mod BankRestarts

@@ -23,3 +23,4 @@ pub mod HeldPlaces
 pub mod WakeUps
 pub mod Smooth
 pub mod Bank
+pub mod Paces

@@ -26,4 +26,6 @@ pub mod bank;
 mod descent;
 mod filled;
 pub mod laws;
+pub mod paces;
 mod turns;
+pub mod work;
