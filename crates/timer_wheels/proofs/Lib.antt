@@ -54,4 +54,5 @@ pub mod SmoothWeights
 pub mod SmoothHeights
 pub mod BankNext
 pub mod PaceLemmas
+pub mod SmoothTotals
 pub mod BankRestarts

@@ -24,3 +24,4 @@ pub mod WakeUps
 pub mod Smooth
 pub mod Bank
 pub mod Paces
+pub mod SmoothWheel

@@ -1,4 +1,5 @@
 -- The paces of a smooth wheel: how many timers of each wheel's next bucket move at a tick.
+use Rattle.std.specs.Coded.{Π_prop, le_prop}
 use Rattle.std.specs.Prelude.{◌≡◌, ◌≢◌, ◌<◌, ◌≤◌, ◌⊎◌, ◌+◌, ◌-◌, ◌*◌, ◌/◌, ◌&&◌, nat_lt, if◌then◌else◌, zero, suc, ℕ, List, length, slice_index_or}
 use Rattle.timer_links.specs.Lists.{KeyedLists}
 use Rattle.timer_wheels.specs.Bank.{next_len}
@@ -9,6 +10,7 @@ use Rattle.timer_wheels.specs.declared.buckets.Buckets.{Buckets}
 use Rattle.timer_wheels.specs.declared.smooth.paces.TheConstants.{MOST_PACE}
 use Rattle.timer_wheels.specs.declared.smooth.turns.TheConstants.{MOST_WHEELS}
 use Rattle.timer_wheels.specs.declared.table.Table.{Table}
+use Rattle.timer_wheels.specs.declared.table.Table.TheVariants.{Wide, Clock}
 
 -- the pace of wheel k
 abbrev pub pace_at : List ℕ → ℕ → ℕ
@@ -44,6 +46,14 @@ FitPaces table n paces = (k : ℕ) → pace_at paces k ≤ most_pace table n k
 -- the next buckets are in time at these paces
 abbrev pub AreInTime : Table → Buckets → List ℕ → Type 0
 AreInTime table b paces = IsInTime (radices table) b.tick (pace_at paces) b.links.lists
+
+pub AreInTime-prop : (table : Table) (b : Buckets) (paces : List ℕ) → IsProp (AreInTime table b paces)
+AreInTime-prop table b paces = Π_prop (λ k. Π_prop (λ z. Π_prop (λ l. le_prop)))
+
+-- the most moves of a tick, if the paces were fixed for at most n timers: 2n/63 + 18 in `Wide`
+abbrev pub tick_bound : Table → ℕ → ℕ
+tick_bound Wide n = 2 * n / 63 + 18
+tick_bound Clock n = n / 29 + 6
 
 -- as many timers of a wheel's next bucket as its pace went, or all; and the pace is the same, or 0 if all are gone
 pub record HasMoved (table : Table) (old new : Buckets) (paces paces2 : List ℕ) (k : ℕ) : Type 0 where

@@ -19,13 +19,241 @@
 //!
 //! At tick 4032 slot 64 begins to be the next bucket of wheel 1, and timer 1 goes to slot 4100 of wheel 0.
 //!
-//! What stands here is the bank: the buckets, their bits, and the placement law as their invariant. No scheme uses it
-//! yet. Open: the paces and the bound of a tick, `advance`, the wake-up, and `impl Wheel`.
+//! No scheme uses it yet. Open: `advance`, `quiet_until` and `next_deadline`, and so `impl Wheel`.
+ghost use Rattle.std.specs.Prelude.{◌≡◌, ◌+◌, ◌-◌, ◌*◌, ◌<◌, ◌≤◌, ◌↔◌, ℕ, [], length, IsTrue, IfOk, IfErr, IfSome, OnErr, MatchOption, MatchResult};
+ghost use Rattle.timer_base.specs.declared.limits.TheConstants.{LAST};
+ghost use Rattle.timer_base.specs.WakeUps.{IsQuietUntil, next_deadline};
+ghost use Rattle.timer_base.specs.WheelState.{empty_wheel, NamesOne, held_at, held_count, old_timer, first_due, after_held_start, after_removal, after_replacement, after_tick, after_expiry, after_clear, Advances};
+ghost use Rattle.timer_wheels.specs.Bank.{potential_of};
+ghost use Rattle.timer_wheels.specs.Buckets.{state_of-well_formed};
+ghost use Rattle.timer_wheels.specs.HeldPlaces.{IsFirstHeld};
+ghost use Rattle.timer_wheels.specs.Paces.{AreInTime, AreInTime-prop, tick_bound};
+ghost use Rattle.timer_wheels.specs.Placement.{most_moves};
+ghost use Rattle.timer_wheels.specs.Smooth.{smooth_slots};
+ghost use Rattle.timer_wheels.specs.Tables.{radices, last_of_table};
+ghost use Rattle.timer_wheels.specs.WakeUps.{next_visit};
 
-pub mod bank;
+use crate::iteration::held_from;
+use crate::smooth::bank::Bank;
+use crate::smooth::paces::Paces;
+use crate::smooth::work::{fix_paces, make_way, move_all};
+use crate::table::{Table, last_tick_of};
+use std::alloc::Global;
+use timer_base::{Handle, MakeFault, OutOfMemory, Timer, Wheel};
+use timer_links::Links;
+
+mod bank;
 mod descent;
 mod filled;
 pub mod laws;
-pub mod paces;
+mod paces;
 mod turns;
-pub mod work;
+mod work;
+
+/// Wheels with the slots of a table, whose timers go to lower wheels early and a few at a time.
+///
+/// A timer moves at most nine times in `Table::Wide` and three times in `Table::Clock`, and keeps its place in the order
+/// of starting.
+#[derive(Drop)]
+pub struct SmoothWheel {
+    /// The buckets and their bits.
+    bank: Bank,
+    /// How many timers of each next bucket move at a tick.
+    paces: Paces,
+    /// Timers that were started or restarted.
+    starts: u64,
+    /// How many times a timer was put into a lower wheel.
+    moves: u64,
+    // So each next bucket is empty before it begins to be the present one, and no tick moves a whole bucket.
+    ghost in_time: { AreInTime bank.table bank.buckets paces } by { AreInTime-prop bank.table bank.buckets paces },
+    ghost few_starts: { starts ≤ bank.buckets.last_serial },
+    // A start allows one move for each wheel but the highest, and each move lowers a wheel. So what is left to move is
+    // counted too.
+    ghost paid: { moves + potential_of bank.table bank.buckets ≤ most_moves (radices bank.table) * starts },
+}
+
+impl SmoothWheel {
+    ghost use Rattle.timer_wheels.specs.SmoothWheel.{smooth_state, smooth_table, starts_of, moves_of, next_moves, IsPacedFor, ShowsSmooth};
+    ghost use Rattle.timer_wheels.specs.HierWheel.{IsHierFault};
+
+    /// An empty wheel at its first tick.
+    ///
+    /// Errors, in this order: `FirstTick` above the table's last tick, which is `LAST` or
+    /// `LAST_OF_CLOCK`; `OutOfMemory`.
+    pub fn with_table(
+        alloc: Global,
+        table: Table,
+        first_tick: u64,
+    ) -> Result<SmoothWheel, MakeFault>
+        ensures state { IfOk result (λ wheel. smooth_state wheel
+            ≡ empty_wheel (smooth_slots (radices table)) (last_of_table table) first_tick) }
+        ensures table { IfOk result (λ wheel. smooth_table wheel ≡ table) }
+        ensures starts { IfOk result (λ wheel. starts_of wheel ≡ 0) }
+        ensures moves { IfOk result (λ wheel. moves_of wheel ≡ 0) }
+        ensures paced { IfOk result (λ wheel. IsPacedFor 0 wheel) }
+        ensures in_range { IfOk result (λ wheel. first_tick ≤ last_of_table table) }
+        ensures fault { IfErr result (λ fault. IsHierFault (last_of_table table) first_tick fault) }
+    {
+        if first_tick > last_tick_of(table) {
+            return Err(MakeFault::FirstTick);
+        }
+        let Ok(bank) = Bank::new(alloc, table, first_tick) else {
+            return Err(MakeFault::OutOfMemory);
+        };
+        Ok(SmoothWheel {
+            bank,
+            paces: Paces::new(),
+            starts: 0,
+            moves: 0,
+        })
+    }
+
+    /// The buckets, and after them the list of due timers, which is list 1,280 of `Table::Wide` and list 584 of
+    /// `Table::Clock`.
+    ///
+    /// Slot i of wheel k, of the slots counted from tick 0 on, is list `128 * k + i % (2 * r)`, r the wheel's radix. The
+    /// timers of a bucket stand by serial, each under its handle's place, with rounds 0. Does not allocate.
+    pub fn links(&self) -> &Links
+        ensures { ShowsSmooth (smooth_table self.now) (smooth_state self.now) result.now.lists }
+    {
+        &self.bank.buckets.links
+    }
+
+    /// The table whose radices the wheels have, which stays as it was chosen. Does not allocate.
+    pub fn table(&self) -> Table
+        ensures table { result ≡ smooth_table self.now }
+        ensures slots { smooth_slots (radices result) ≡ (smooth_state self.now).slots }
+    {
+        self.bank.table
+    }
+
+    /// How many timers were started or restarted since the wheel was made. Does not allocate.
+    pub fn starts(&self) -> u64
+        ensures { result ≡ starts_of self.now }
+    {
+        self.starts
+    }
+
+    /// How many times a timer was put into a lower wheel since the wheel was made. Does not allocate.
+    pub fn moves(&self) -> u64
+        ensures value { result ≡ moves_of self.now }
+        ensures at_most { result ≤ most_moves (radices (smooth_table self.now)) * starts_of self.now }
+    {
+        self.moves
+    }
+
+    /// The most timers that the next tick moves, and 0 only if it moves none. Does not allocate.
+    pub fn next_moves(&self) -> u64
+        ensures { result ≡ next_moves self.now }
+    {
+        self.paces.sum()
+    }
+
+    /// The handle of the timer, pending or due, at this place or the first later one that has a timer, or
+    /// None when there is none. Does not allocate.
+    ///
+    /// It looks at each place on the way: in practice at most 63 more than there ever were timers at one time.
+    pub fn held_from(&self, place: usize) -> Option<Handle>
+        ensures first { IsFirstHeld place (smooth_state self.now) result }
+        ensures in_range { IfSome result (λ handle. handle.place < 4294967296) }
+    {
+        held_from(&self.bank.buckets, place)
+    }
+}
+
+impl SmoothWheel {
+    ghost use Rattle.timer_wheels.specs.SmoothWheel.{smooth_state, smooth_table, starts_of, moves_of, next_moves, IsPacedFor};
+
+    /// Starts a timer, and moves at most two.
+    #[inline(always)]
+    pub fn start_timer(&mut self, timer: Timer) -> Result<Handle, OutOfMemory>
+        requires not_past { (smooth_state self.old).now ≤ timer.deadline }
+        requires deadline { timer.deadline ≤ (smooth_state self.old).last_tick }
+        requires fresh { (smooth_state self.old).last_serial < timer.serial }
+        requires serial { timer.serial ≤ LAST }
+        ensures named { IfOk result (λ handle. handle.serial ≡ timer.serial) }
+        ensures started { IfOk result (λ handle. smooth_state self.new
+            ≡ after_held_start handle.place timer (smooth_state self.old)) }
+        ensures full { OnErr result ((smooth_state self.old).room ≤ held_count (smooth_state self.old)) }
+        ensures err { OnErr result (smooth_state self.new ≡ smooth_state self.old) }
+        ensures two { moves_of self.new ≤ moves_of self.old + 2 }
+        ensures paced { (n : ℕ) → IsPacedFor n self.old → IsPacedFor n self.new }
+        ensures table { smooth_table self.new ≡ smooth_table self.old }
+    {
+        let (handle, wheel) = self.bank.start(timer)?;
+        self.starts += 1;
+        self.moves += make_way(&mut self.bank, wheel);
+        Ok(handle)
+    }
+
+    /// Removes a timer, and starts another in its place. Moves at most two.
+    #[inline(always)]
+    pub fn restart_timer(&mut self, handle: Handle, timer: Timer) -> Option<(Handle, Timer)>
+        requires not_past { (smooth_state self.old).now ≤ timer.deadline }
+        requires deadline { timer.deadline ≤ (smooth_state self.old).last_tick }
+        requires fresh { (smooth_state self.old).last_serial < timer.serial }
+        requires serial { timer.serial ≤ LAST }
+        ensures old { old_timer result ≡ held_at handle (smooth_state self.old) }
+        ensures named { IfSome result (λ r. r.0.serial ≡ timer.serial) }
+        ensures restarted { smooth_state self.new ≡ after_replacement result handle timer (smooth_state self.old) }
+        ensures two { moves_of self.new ≤ moves_of self.old + 2 }
+        ensures paced { (n : ℕ) → IsPacedFor n self.old → IsPacedFor n self.new }
+        ensures table { smooth_table self.new ≡ smooth_table self.old }
+    {
+        let (restarted, wheel) = self.bank.restart(handle, timer)?;
+        self.starts += 1;
+        self.moves += make_way(&mut self.bank, wheel);
+        Some(restarted)
+    }
+
+    /// Removes a timer. None moves.
+    pub fn stop_timer(&mut self, handle: Handle) -> Option<Timer>
+        ensures timer { result ≡ held_at handle (smooth_state self.old) }
+        ensures stopped { smooth_state self.new ≡ after_removal handle (smooth_state self.old) }
+        ensures moves { moves_of self.new ≡ moves_of self.old }
+        ensures paced { (n : ℕ) → IsPacedFor n self.old → IsPacedFor n self.new }
+        ensures table { smooth_table self.new ≡ smooth_table self.old }
+    {
+        self.bank.stop(handle)
+    }
+
+    /// Advances the clock by one tick. At most as many timers move as the paces are in sum.
+    #[inline(always)]
+    pub fn tick(&mut self)
+        requires nothing_due { (smooth_state self.old).due ≡ [] }
+        requires before_last { (smooth_state self.old).now < (smooth_state self.old).last_tick }
+        ensures ticked { smooth_state self.new ≡ after_tick (smooth_state self.old) }
+        ensures at_most { moves_of self.new ≤ moves_of self.old + next_moves self.old }
+        ensures bound { (n : ℕ) → IsPacedFor n self.old → moves_of self.new ≤ moves_of self.old
+            + tick_bound (smooth_table self.old) n }
+        ensures paced { (n : ℕ) → held_count (smooth_state self.new) ≤ n → IsPacedFor n self.old → IsPacedFor n self.new }
+        ensures table { smooth_table self.new ≡ smooth_table self.old }
+    {
+        let moves = move_all(&mut self.bank, &mut self.paces);
+        self.bank.next_tick();
+        fix_paces(&self.bank, &mut self.paces);
+        self.moves += moves;
+    }
+
+    /// Takes the first of the due timers.
+    pub fn expire_timer(&mut self) -> Option<Timer>
+        ensures first { result ≡ first_due (smooth_state self.old) }
+        ensures rest { smooth_state self.new ≡ after_expiry (smooth_state self.old) }
+        ensures moves { moves_of self.new ≡ moves_of self.old }
+        ensures paced { (n : ℕ) → IsPacedFor n self.old → IsPacedFor n self.new }
+        ensures table { smooth_table self.new ≡ smooth_table self.old }
+    {
+        self.bank.expire()
+    }
+
+    /// Drops the pending timers.
+    pub fn clear_timers(&mut self)
+        ensures cleared { smooth_state self.new ≡ after_clear (smooth_state self.old) }
+        ensures moves { moves_of self.new ≡ moves_of self.old }
+        ensures paced { IsPacedFor 0 self.new }
+        ensures table { smooth_table self.new ≡ smooth_table self.old }
+    {
+        self.bank.clear();
+        self.paces = Paces::new();
+    }
+}

@@ -16,6 +16,7 @@ ghost use Rattle.timer_wheels.specs.declared.smooth.paces.TheConstants.{MOST_PAC
 use crate::smooth::bank::Bank;
 use crate::smooth::paces::Paces;
 use crate::smooth::turns::{next_list, slot_of, weight_of, wheels_of};
+use crate::table::is_rollover;
 
 /// Moves timers of each wheel's next bucket at its pace, from the lowest wheel up, and returns how many moved.
 ///
@@ -83,8 +84,48 @@ fn move_next(bank: &mut Bank, paces: &mut Paces, wheel: usize) -> u64
     moved
 }
 
+/// A timer came to a wheel's next bucket, or to none if the wheel is 0: two timers of that bucket move.
+///
+/// Returns how many. Does not allocate.
+#[inline]
+pub fn make_way(bank: &mut Bank, wheel: usize) -> u64
+    requires wheel { wheel < length (radices bank.old.table) }
+    requires early { 0 < wheel → IsEarly bank.old.table bank.old.buckets wheel }
+    ensures state { state_of bank.new.buckets ≡ state_of bank.old.buckets }
+    ensures table { bank.new.table ≡ bank.old.table }
+    ensures tick { bank.new.buckets.tick ≡ bank.old.buckets.tick }
+    ensures at_most { result ≤ 2 }
+    ensures left { 0 < wheel → next_len bank.old.table bank.new.buckets wheel
+        ≡ next_len bank.old.table bank.old.buckets wheel - 2 }
+    ensures falls { potential_of bank.old.table bank.new.buckets + result ≤ potential_of bank.old.table bank.old.buckets }
+    ensures others { OthersShrink bank.old.table wheel bank.old.buckets bank.new.buckets }
+{
+    if wheel == 0 {
+        return 0;
+    }
+    bank.move_some(wheel, 2)
+}
+
 /// Fixes the paces as slots begin: of each wheel whose slot begins at this tick, for its new next bucket.
+#[inline]
 pub fn fix_paces(bank: &Bank, paces: &mut Paces)
+    ensures begun { (k : ℕ) → 0 < k → k < length (radices bank.now.table)
+        → slot_in (radices bank.now.table) k bank.now.buckets.tick * weight k (radices bank.now.table) ≡ bank.now.buckets.tick
+        → next_len bank.now.table bank.now.buckets k
+        ≤ pace_at paces.new k * ticks_left (radices bank.now.table) bank.now.buckets.tick k }
+    ensures others { (k : ℕ) → slot_in (radices bank.now.table) k bank.now.buckets.tick * weight k (radices bank.now.table)
+        ≢ bank.now.buckets.tick → pace_at paces.new k ≡ pace_at paces.old k }
+    ensures fit { (n : ℕ) → row_count bank.now.buckets.links.lists ≤ n → FitPaces (radices bank.now.table) n paces.old
+        → FitPaces (radices bank.now.table) n paces.new }
+{
+    // A slot of a higher wheel begins as one of wheel 1 does.
+    if is_rollover(bank.table, bank.buckets.tick) {
+        fix_each(bank, paces);
+    }
+}
+
+/// The same, wheel by wheel.
+fn fix_each(bank: &Bank, paces: &mut Paces)
     ensures begun { (k : ℕ) → 0 < k → k < length (radices bank.now.table)
         → slot_in (radices bank.now.table) k bank.now.buckets.tick * weight k (radices bank.now.table) ≡ bank.now.buckets.tick
         → next_len bank.now.table bank.now.buckets k

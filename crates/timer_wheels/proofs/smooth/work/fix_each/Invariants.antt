@@ -1,6 +1,6 @@
 use Rattle.std.proofs.Common.{◌<◌, ◌≤◌, ◌-◌}
 use Rattle.timer_wheels.proofs.PaceLemmas.{AreFixed}
-use Rattle.timer_wheels.proofs.smooth.work.fix_paces.Given as goal
+use Rattle.timer_wheels.proofs.smooth.work.fix_each.Given as goal
 
 abbrev pub invariant-loop-wheel : goal.invariant-loop-wheel
 invariant-loop-wheel l = record {
