@@ -55,4 +55,8 @@ pub mod SmoothHeights
 pub mod BankNext
 pub mod PaceLemmas
 pub mod SmoothTotals
+pub mod SmoothAhead
+pub mod SmoothVisits
+pub mod SmoothFirsts
+pub mod SmoothLeaps
 pub mod BankRestarts

@@ -19,7 +19,7 @@ use Rattle.timer_wheels.proofs.SmoothPlaces.{front_kept}
 use Rattle.timer_wheels.proofs.BankLemmas.{to_relation, to_law}
 use Rattle.timer_wheels.proofs.TableLaws.{of_table}
 
-slots_later : (table : List ℕ) (j a b : ℕ) → IsTable table → a ≤ b → slot_in table j a ≤ slot_in table j b
+pub slots_later : (table : List ℕ) (j a b : ℕ) → IsTable table → a ≤ b → slot_in table j a ≤ slot_in table j b
 slots_later table j a b i h = slots_mono table zero j b a i (omega arith) (omega (arith, slot_low table a, slot_low table b))
 
 pub skipped_stands : (table : List ℕ) (a b : ℕ) (marks marks2 : ℕ → ℕ) (s k : ℕ) (t : Timer) → IsTable table → a ≤ b

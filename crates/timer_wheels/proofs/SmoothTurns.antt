@@ -42,6 +42,9 @@ wide_slot k t h = ap (λ (x : ℕ). t / x) (sym (wide_weight k h))
 pub wide_radix : (k : ℕ) → k < 10 → radix k wide ≡ 64
 wide_radix k h = rw wide_is (radix_of_sixes 10 k h)
 
+pub wide_turns : (k : ℕ) → k < 10 → 128 ≡ 2 * radix k wide
+wide_turns k h = omega (arith, wide_radix k h)
+
 pub wide_list : (k s : ℕ) → k < 10 → 128 * k + s % 128 ≡ smooth_list wide k s
 wide_list k s h = ap (λ (x : ℕ). 128 * k + s % (2 * x)) (sym (wide_radix k h))
 

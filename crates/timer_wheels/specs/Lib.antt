@@ -25,3 +25,4 @@ pub mod Smooth
 pub mod Bank
 pub mod Paces
 pub mod SmoothWheel
+pub mod SmoothAhead

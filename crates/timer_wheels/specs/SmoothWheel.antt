@@ -1,7 +1,7 @@
 -- The names in the public clauses of `SmoothWheel`.
 use Rattle.std.proofs.Common.{refl}
-use Rattle.std.specs.Prelude.{◌≡◌, ◌≤◌, ◌==◌, if◌then◌else◌, ℕ, List}
-use Rattle.timer_base.specs.WheelState.{WheelState}
+use Rattle.std.specs.Prelude.{◌≡◌, ◌<◌, ◌-◌, ◌==◌, if◌then◌else◌, ℕ, List, []}
+use Rattle.timer_base.specs.WheelState.{WheelState, after_ticks}
 use Rattle.timer_links.specs.Lists.{KeyedLists}
 use Rattle.timer_wheels.specs.Buckets.{state_of}
 use Rattle.timer_wheels.specs.Paces.{pace_sum, FitPaces}
@@ -54,3 +54,9 @@ IsPacedFor n wheel = FitPaces (radices wheel.bank.table) n wheel.paces
 abbrev pub ShowsSmooth : Table → WheelState → KeyedLists → Type 0
 ShowsSmooth table w lists = ShowsBuckets (smooth_slots (radices table))
     (smooth_bucket (radices table) w.now (mark (radices table) w.now lists)) no_rounds w lists
+
+-- some ticks were passed, and nothing was due before the last of them
+pub record Passes (old new : WheelState) : Type 0 where
+  pub later : old.now < new.now
+  pub ticked : new ≡ after_ticks (new.now - old.now) old
+  pub quiet : (n : ℕ) → n < new.now - old.now → (after_ticks n old).due ≡ []

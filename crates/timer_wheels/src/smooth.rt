@@ -20,10 +20,11 @@
 //! At tick 4032 slot 64 begins to be the next bucket of wheel 1, and timer 1 goes to slot 4100 of wheel 0.
 //!
 //! No scheme uses it yet. Open: `advance`, `quiet_until` and `next_deadline`, and so `impl Wheel`.
-ghost use Rattle.std.specs.Prelude.{◌≡◌, ◌+◌, ◌-◌, ◌*◌, ◌<◌, ◌≤◌, ◌↔◌, ℕ, [], length, IsTrue, IfOk, IfErr, IfSome, OnErr, MatchOption, MatchResult};
+ghost use Rattle.std.specs.Prelude.{◌≡◌, ◌+◌, ◌-◌, ◌*◌, ◌<◌, ◌≤◌, ◌↔◌, ℕ, [], length, IsTrue, IfOk, IfErr, IfSome, OnOk, OnErr, MatchOption, MatchResult};
 ghost use Rattle.timer_base.specs.declared.limits.TheConstants.{LAST};
 ghost use Rattle.timer_base.specs.WakeUps.{IsQuietUntil, next_deadline};
-ghost use Rattle.timer_base.specs.WheelState.{empty_wheel, NamesOne, held_at, held_count, old_timer, first_due, after_held_start, after_removal, after_replacement, after_tick, after_expiry, after_clear, Advances};
+ghost use Rattle.timer_base.specs.TickLaws.{IsPassing};
+ghost use Rattle.timer_base.specs.WheelState.{empty_wheel, NamesOne, held_at, held_count, old_timer, first_due, after_reserve, after_held_start, after_removal, after_replacement, after_tick, after_expiry, after_clear, Advances};
 ghost use Rattle.timer_wheels.specs.Bank.{potential_of};
 ghost use Rattle.timer_wheels.specs.Buckets.{state_of-well_formed};
 ghost use Rattle.timer_wheels.specs.HeldPlaces.{IsFirstHeld};
@@ -42,6 +43,7 @@ use std::alloc::Global;
 use timer_base::{Handle, MakeFault, OutOfMemory, Timer, Wheel};
 use timer_links::Links;
 
+mod ahead;
 mod bank;
 mod descent;
 mod filled;
@@ -162,11 +164,78 @@ impl SmoothWheel {
 }
 
 impl SmoothWheel {
-    ghost use Rattle.timer_wheels.specs.SmoothWheel.{smooth_state, smooth_table, starts_of, moves_of, next_moves, IsPacedFor};
+    ghost use Rattle.timer_wheels.specs.SmoothWheel.{smooth_state, smooth_table, moves_of, next_moves, radices_by_turns, Passes, IsPacedFor};
 
-    /// Starts a timer, and moves at most two.
+    /// Sets the clock forward to the tick before the next event, or before the end if that comes first, unless a tick has
+    /// timers to move.
+    fn leap(&mut self, end: u64)
+        requires nothing_due { (smooth_state self.old).due ≡ [] }
+        requires later { (smooth_state self.old).now < end }
+        requires end { end ≤ (smooth_state self.old).last_tick }
+        ensures passing { IsPassing ((smooth_state self.new).now - (smooth_state self.old).now)
+            (smooth_state self.old) (smooth_state self.new) }
+        ensures later { (smooth_state self.old).now ≤ (smooth_state self.new).now }
+        ensures end { (smooth_state self.new).now < end }
+        ensures moves { moves_of self.new ≡ moves_of self.old }
+        ensures held { held_count (smooth_state self.new) ≡ held_count (smooth_state self.old) }
+        ensures paced { (n : ℕ) → IsPacedFor n self.old → IsPacedFor n self.new }
+        ensures table { smooth_table self.new ≡ smooth_table self.old }
+    {
+        if self.paces.sum() != 0 {
+            return;
+        }
+        let event = self.bank.next_event(end);
+        self.bank.skip_to(event - 1);
+    }
+
+    /// Passes at least one tick, and those before it at which nothing moves and nothing is due, up to an end.
+    fn pass(&mut self, end: u64)
+        requires nothing_due { (smooth_state self.old).due ≡ [] }
+        requires later { (smooth_state self.old).now < end }
+        requires end { end ≤ (smooth_state self.old).last_tick }
+        ensures passes { Passes (smooth_state self.old) (smooth_state self.new) }
+        ensures end { (smooth_state self.new).now ≤ end }
+        ensures held { held_count (smooth_state self.new) ≡ held_count (smooth_state self.old) }
+        ensures bound { (n : ℕ) → IsPacedFor n self.old → moves_of self.new ≤ moves_of self.old
+            + tick_bound (smooth_table self.old) n }
+        ensures paced { (n : ℕ) → held_count (smooth_state self.old) ≤ n → IsPacedFor n self.old → IsPacedFor n self.new }
+        ensures table { smooth_table self.new ≡ smooth_table self.old }
+    {
+        self.leap(end);
+        self.per_tick();
+    }
+}
+
+impl Wheel for SmoothWheel {
+    ghost use Rattle.timer_wheels.specs.SmoothWheel.{smooth_state, smooth_table, moves_of, next_moves, radices_by_turns, Passes, IsPacedFor};
+
+    ghost state = { λ wheel. smooth_state wheel };
+
+    ghost wake_up = { λ slots now pending. next_visit (radices_by_turns slots) now pending };
+
+    fn last_tick(&self) -> u64 {
+        self.bank.buckets.last_tick
+    }
+
+    fn now(&self) -> u64 {
+        self.bank.buckets.tick
+    }
+
+    fn len(&self) -> usize {
+        self.bank.buckets.len()
+    }
+
+    fn has_due(&self) -> bool {
+        self.bank.buckets.has_due()
+    }
+
+    fn last_serial(&self) -> u64 {
+        self.bank.buckets.last_serial
+    }
+
+    /// If the timer comes to a next bucket that has timers, two of that bucket move.
     #[inline(always)]
-    pub fn start_timer(&mut self, timer: Timer) -> Result<Handle, OutOfMemory>
+    fn start(&mut self, timer: Timer) -> Result<Handle, OutOfMemory>
         requires not_past { (smooth_state self.old).now ≤ timer.deadline }
         requires deadline { timer.deadline ≤ (smooth_state self.old).last_tick }
         requires fresh { (smooth_state self.old).last_serial < timer.serial }
@@ -186,9 +255,33 @@ impl SmoothWheel {
         Ok(handle)
     }
 
-    /// Removes a timer, and starts another in its place. Moves at most two.
+    fn reserve(&mut self, most: usize) -> Result<(), OutOfMemory>
+        ensures ok { OnOk result (smooth_state self.new ≡ after_reserve most (smooth_state self.old)) }
+        ensures err { OnErr result (smooth_state self.new ≡ smooth_state self.old) }
+        ensures moves { moves_of self.new ≡ moves_of self.old }
+        ensures paced { (n : ℕ) → IsPacedFor n self.old → IsPacedFor n self.new }
+        ensures table { smooth_table self.new ≡ smooth_table self.old }
+    {
+        self.bank.reserve(most)
+    }
+
+    fn look(&self, handle: Handle) -> Option<Timer> {
+        self.bank.buckets.look(handle)
+    }
+
+    fn stop(&mut self, handle: Handle) -> Option<Timer>
+        ensures timer { result ≡ held_at handle (smooth_state self.old) }
+        ensures stopped { smooth_state self.new ≡ after_removal handle (smooth_state self.old) }
+        ensures moves { moves_of self.new ≡ moves_of self.old }
+        ensures paced { (n : ℕ) → IsPacedFor n self.old → IsPacedFor n self.new }
+        ensures table { smooth_table self.new ≡ smooth_table self.old }
+    {
+        self.bank.stop(handle)
+    }
+
+    /// If the new timer comes to a next bucket that has timers, two of that bucket move.
     #[inline(always)]
-    pub fn restart_timer(&mut self, handle: Handle, timer: Timer) -> Option<(Handle, Timer)>
+    fn restart(&mut self, handle: Handle, timer: Timer) -> Option<(Handle, Timer)>
         requires not_past { (smooth_state self.old).now ≤ timer.deadline }
         requires deadline { timer.deadline ≤ (smooth_state self.old).last_tick }
         requires fresh { (smooth_state self.old).last_serial < timer.serial }
@@ -206,20 +299,10 @@ impl SmoothWheel {
         Some(restarted)
     }
 
-    /// Removes a timer. None moves.
-    pub fn stop_timer(&mut self, handle: Handle) -> Option<Timer>
-        ensures timer { result ≡ held_at handle (smooth_state self.old) }
-        ensures stopped { smooth_state self.new ≡ after_removal handle (smooth_state self.old) }
-        ensures moves { moves_of self.new ≡ moves_of self.old }
-        ensures paced { (n : ℕ) → IsPacedFor n self.old → IsPacedFor n self.new }
-        ensures table { smooth_table self.new ≡ smooth_table self.old }
-    {
-        self.bank.stop(handle)
-    }
-
-    /// Advances the clock by one tick. At most as many timers move as the paces are in sum.
+    /// At most as many timers move as the paces are in sum: in `Table::Wide` at most 2n/63 + 18, if never more than n were
+    /// held since the wheel was made.
     #[inline(always)]
-    pub fn tick(&mut self)
+    fn per_tick(&mut self)
         requires nothing_due { (smooth_state self.old).due ≡ [] }
         requires before_last { (smooth_state self.old).now < (smooth_state self.old).last_tick }
         ensures ticked { smooth_state self.new ≡ after_tick (smooth_state self.old) }
@@ -235,8 +318,42 @@ impl SmoothWheel {
         self.moves += moves;
     }
 
-    /// Takes the first of the due timers.
-    pub fn expire_timer(&mut self) -> Option<Timer>
+    /// It makes the moves of all ticks that it passes. While none is to be made, it leaps to the next event, and else it goes
+    /// tick by tick: no more of those than timers move, and one for each bucket with timers that begins to be a next one.
+    fn advance(&mut self, most: u64) -> u64
+        requires nothing_due { (smooth_state self.old).due ≡ [] }
+        requires some { 0 < most }
+        requires before_last { most ≤ (smooth_state self.old).last_tick - (smooth_state self.old).now }
+        ensures advances { Advances most result (smooth_state self.old) (smooth_state self.new) }
+        ensures bound { (n : ℕ) → held_count (smooth_state self.old) ≤ n → IsPacedFor n self.old → moves_of self.new
+            ≤ moves_of self.old + result * tick_bound (smooth_table self.old) n }
+        ensures paced { (n : ℕ) → held_count (smooth_state self.old) ≤ n → IsPacedFor n self.old → IsPacedFor n self.new }
+        ensures table { smooth_table self.new ≡ smooth_table self.old }
+    {
+        let first = self.bank.buckets.tick;
+        let end = first + most;
+        while self.bank.buckets.tick < end {
+            self.pass(end);
+            if self.bank.buckets.has_due() {
+                return self.bank.buckets.tick - first;
+            }
+        }
+        most
+    }
+
+    /// The next tick at which Scheme 7 would empty a bucket with a timer. It follows from the first slot with a timer of each
+    /// wheel, without a walk.
+    fn quiet_until(&self) -> Option<u64> {
+        self.bank.next_visit()
+    }
+
+    /// Found in the first bucket with a timer of each wheel: on wheel 0 without a look at its timers, and on a higher wheel
+    /// by a walk along that bucket, unless it begins after a deadline that was found already.
+    fn next_deadline(&self) -> Option<u64> {
+        self.bank.next_deadline()
+    }
+
+    fn expire(&mut self) -> Option<Timer>
         ensures first { result ≡ first_due (smooth_state self.old) }
         ensures rest { smooth_state self.new ≡ after_expiry (smooth_state self.old) }
         ensures moves { moves_of self.new ≡ moves_of self.old }
@@ -246,8 +363,15 @@ impl SmoothWheel {
         self.bank.expire()
     }
 
-    /// Drops the pending timers.
-    pub fn clear_timers(&mut self)
+    fn list(&self) -> Result<Vec<Timer>, OutOfMemory> {
+        self.bank.buckets.list()
+    }
+
+    fn list_into(&self, timers: &mut Vec<Timer>) -> Result<(), OutOfMemory> {
+        self.bank.buckets.list_into(timers)
+    }
+
+    fn clear(&mut self)
         ensures cleared { smooth_state self.new ≡ after_clear (smooth_state self.old) }
         ensures moves { moves_of self.new ≡ moves_of self.old }
         ensures paced { IsPacedFor 0 self.new }
@@ -256,4 +380,6 @@ impl SmoothWheel {
         self.bank.clear();
         self.paces = Paces::new();
     }
+
+    ghost well_formed = { λ wheel. state_of-well_formed wheel.bank.buckets };
 }

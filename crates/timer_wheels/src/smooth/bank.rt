@@ -1,6 +1,6 @@
 //! The buckets of a smooth wheel and their bits: each timer stands where the placement law says.
-ghost use Rattle.std.specs.Prelude.{IfOk, IfSome, IfNone, OnErr, ◌≡◌, ◌≢◌, ◌<◌, ◌≤◌, ◌+◌, ◌-◌, ℕ, [], length, true, false};
-ghost use Rattle.timer_base.specs.WheelState.{first_due, after_expiry, empty_wheel, held_at, held_count, old_timer, after_held_start, after_removal, after_replacement, after_tick, after_clear};
+ghost use Rattle.std.specs.Prelude.{IfOk, IfSome, IfNone, OnOk, OnErr, ◌≡◌, ◌≢◌, ◌<◌, ◌≤◌, ◌+◌, ◌-◌, ℕ, [], length, true, false};
+ghost use Rattle.timer_base.specs.WheelState.{first_due, after_expiry, after_reserve, empty_wheel, held_at, held_count, old_timer, after_held_start, after_removal, after_replacement, after_tick, after_clear};
 ghost use Rattle.timer_base.specs.declared.limits.TheConstants.{LAST};
 ghost use Rattle.timer_wheels.specs.Digits.{level};
 ghost use Rattle.timer_links.specs.Lists.{list_at};
@@ -51,6 +51,17 @@ impl Bank {
             buckets,
             filled: Filled::new(),
         })
+    }
+
+    /// Makes room for so many timers.
+    pub fn reserve(&mut self, most: usize) -> Result<(), OutOfMemory>
+        ensures ok { OnOk result (state_of self.new.buckets ≡ after_reserve most (state_of self.old.buckets)) }
+        ensures err { OnErr result (state_of self.new.buckets ≡ state_of self.old.buckets) }
+        ensures lists { self.new.buckets.links.lists ≡ self.old.buckets.links.lists }
+        ensures table { self.new.table ≡ self.old.table }
+        ensures tick { self.new.buckets.tick ≡ self.old.buckets.tick }
+    {
+        self.buckets.reserve(most)
     }
 
     /// The list of a timer that is started now, or the list of due timers if its deadline is now; and the wheel whose next

@@ -2,9 +2,9 @@
 //!
 //! The slots of wheel k are numbered from tick 0 on: that of a tick is the tick divided by the ticks of one slot.
 //! Slot i is list 128 * k + i mod 2r, r the radix: the present revolution and the next one have lists of their own.
-ghost use Rattle.std.specs.Prelude.{◌≡◌, ◌<◌, ◌≤◌, ◌/◌, length};
+ghost use Rattle.std.specs.Prelude.{◌≡◌, ◌<◌, ◌≤◌, ◌*◌, ◌/◌, length};
 ghost use Rattle.timer_base.specs.declared.limits.TheConstants.{LAST};
-ghost use Rattle.timer_wheels.specs.Digits.{level, weight, last_of};
+ghost use Rattle.timer_wheels.specs.Digits.{level, radix, weight, last_of};
 ghost use Rattle.timer_wheels.specs.Smooth.{slot_in, smooth_list, smooth_slots, next_list, is_in_next};
 ghost use Rattle.timer_wheels.specs.Tables.{radices};
 ghost use Rattle.timer_wheels.specs.declared.smooth.turns.TheConstants.{MOST_WHEELS, MOST_LISTS};
@@ -67,8 +67,11 @@ pub fn weight_of(table: Table, wheel: usize) -> u64
 
 /// How many slots a wheel has: two revolutions.
 #[inline]
+#[tactic(auto, using(crate::proofs::SmoothTurns::wide_turns, crate::proofs::SmoothTurns::wide_length), unfolding(crate::specs::Tables::clock))]
 pub fn turns_of(table: Table, wheel: usize) -> u64
     requires { wheel < length (radices table) }
+    ensures value { result ≡ 2 * radix wheel (radices table) }
+    ensures few { result ≤ 200 }
 {
     match table {
         Table::Wide => 128,

@@ -6,7 +6,7 @@ use Rattle.timer_wheels.specs.Buckets.{state_of}
 use Rattle.timer_wheels.specs.Paces.{AreInTime}
 use Rattle.timer_wheels.specs.Tables.{radices}
 use Rattle.timer_wheels.proofs.SmoothTotals.{ticks_empty, in_time_ticked, held_rows, paid_most, sum_bound, fit_lower}
-use Rattle.timer_wheels.proofs.smooth.SmoothWheel.tick.Goals as goal
+use Rattle.timer_wheels.proofs.smooth.SmoothWheelWheel.per_tick.Goals as goal
 
 pub next_tick-requires-clause-empty : goal.next_tick-requires-clause-empty
 next_tick-requires-clause-empty c =

@@ -5,7 +5,7 @@ use Rattle.timer_wheels.specs.Smooth.{slot_in, smooth_list, heights}
 use Rattle.timer_wheels.specs.Tables.{radices}
 use Rattle.timer_wheels.proofs.BankLemmas.{lists_in_range}
 use Rattle.timer_wheels.proofs.SmoothTotals.{heights_none}
-use Rattle.timer_wheels.proofs.smooth.SmoothWheel.clear_timers.Goals as goal
+use Rattle.timer_wheels.proofs.smooth.SmoothWheelWheel.clear.Goals as goal
 
 pub invariant_of-self : goal.invariant_of-self
 invariant_of-self c =
