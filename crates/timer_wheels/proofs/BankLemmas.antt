@@ -1,16 +1,16 @@
 -- Lemmas for `Bank`: its invariant, by the laws of the smooth wheel.
-use Rattle.std.proofs.Common.{◌≡◌, ◌≢◌, ◌<◌, ◌≤◌, ◌⊎◌, ◌+◌, ◌-◌, ◌*◌, ◌%◌, ℕ, zero, suc, List, [], ◌∷◌, ◌++◌, length, refl, sym, ◌∙◌, ap, inl, inr, subst, arith, slice_set, length-set, get_or-set_other, ◌==◌, Option, Some, None}
+use Rattle.std.proofs.Common.{◌≡◌, ◌≢◌, ◌<◌, ◌≤◌, ◌⊎◌, ◌+◌, ◌-◌, ◌*◌, ◌%◌, ℕ, zero, suc, List, [], ◌∷◌, ◌++◌, length, refl, sym, ◌∙◌, ap, inl, inr, subst, arith, slice_set, get_or-set_other, ◌==◌, Some, None}
 use Rattle.std.specs.List.{AllByRecursion}
-use Rattle.std.proofs.lemmas.Bool.{cases_eq, cases_lt}
+use Rattle.std.proofs.lemmas.Bool.{cases_eq}
 use Rattle.timer_base.specs.Basics.{some_same, some_none}
 use Rattle.timer_base.specs.declared.limits.TheConstants.{LAST}
 use Rattle.timer_base.specs.declared.timer.Timer.{Timer}
 use Rattle.timer_wheels.specs.Buckets.{row_at}
 use Rattle.timer_base.specs.WheelState.{IsPending}
 use Rattle.timer_links.specs.Lists.{list_at, with_row, appended, front_moved, first_row_moved, KeyedLists, Row, Rows}
-use Rattle.timer_wheels.specs.Bank.{IsBank, AreByLaw}
-use Rattle.timer_wheels.specs.BucketLists.{timer_in, entries_of, rows_below, AreBuckets, EachRow, wheel_state}
-use Rattle.timer_wheels.specs.Digits.{IsTable, HasDigits, last_of, radix, level}
+use Rattle.timer_wheels.specs.Bank.{IsBank}
+use Rattle.timer_wheels.specs.BucketLists.{timer_in, entries_of, AreBuckets, EachRow, wheel_state}
+use Rattle.timer_wheels.specs.Digits.{IsTable, HasDigits, radix, level}
 use Rattle.timer_wheels.specs.Migration.{first_deadline}
 use Rattle.timer_wheels.specs.Occupied.{bit_of, filled, AreMarked}
 use Rattle.timer_wheels.specs.Smooth.{slot_in, smooth_list, smooth_slots, next_list, heights, ticks_left, moved_to, mark, smooth_bucket, smooth_level, descend, descend_by, HasTurns, IsByLaw, IsSmooth, Stands, IsStep, IsTicked, stepped}
@@ -33,7 +33,7 @@ use Rattle.timer_wheels.proofs.SmoothPlaces.{weaker, places_with_row, places_lef
 use Rattle.timer_wheels.proofs.SmoothSteps.{step, bit_is_mark}
 use Rattle.timer_wheels.proofs.SmoothTicks.{ticked, new_l, new_others, next_same, shorter}
 use Rattle.timer_wheels.proofs.BucketLemmas.{no_rows}
-use Rattle.timer_wheels.proofs.SmoothTurns.{wide_length, wide_radix, wide_list_in_range, wide_list, clock_slots}
+use Rattle.timer_wheels.proofs.SmoothTurns.{wide_length, wide_radix, wide_list_in_range, wide_list}
 use Rattle.timer_wheels.proofs.TableLaws.{of_table}
 
 -- Both tables.

@@ -1,15 +1,15 @@
 -- Lemmas for `Bank`: how its calls change the next buckets, and the potential of its timers.
-use Rattle.std.proofs.Common.{◌≡◌, ◌≢◌, ◌<◌, ◌≤◌, ◌⊎◌, ◌+◌, ◌-◌, ◌*◌, ◌%◌, ℕ, zero, suc, List, [], ◌∷◌, ◌++◌, length, refl, sym, ◌∙◌, ap, inl, inr, subst, arith, get_or-set_same, get_or-set_other, map, filter, not, ◌==◌, Bool, true, false}
-use Rattle.std.proofs.lemmas.Bool.{cases_eq, cases_lt, eqb-true, eq-eqb}
+use Rattle.std.proofs.Common.{◌≡◌, ◌<◌, ◌≤◌, ◌+◌, ◌-◌, ◌*◌, ◌%◌, ℕ, List, [], ◌∷◌, ◌++◌, length, refl, sym, ◌∙◌, ap, inl, inr, subst, arith, get_or-set_same, get_or-set_other, map, filter, not, ◌==◌, Bool, true, false}
+use Rattle.std.proofs.lemmas.Bool.{eqb-true, eq-eqb}
 use Rattle.timer_base.specs.Basics.{either}
 use Rattle.timer_base.specs.declared.limits.TheConstants.{LAST}
 use Rattle.timer_base.specs.declared.timer.Timer.{Timer}
 use Rattle.timer_links.specs.Lists.{list_at, with_row, without_key, KeyedLists, Row, Rows}
-use Rattle.timer_wheels.specs.Bank.{IsBank, next_len, potential_of, OthersShrink, AllShrink, IsNextOf, ComesTo}
+use Rattle.timer_wheels.specs.Bank.{IsBank, next_len, potential_of, AllShrink, IsNextOf, ComesTo}
 use Rattle.timer_wheels.specs.Buckets.{IsSameFrame, IsListOf}
 use Rattle.timer_wheels.specs.Digits.{IsTable, HasDigits, radix, level}
 use Rattle.timer_wheels.specs.Occupied.{bit_of, filled}
-use Rattle.timer_wheels.specs.Smooth.{slot_in, smooth_list, is_in_next, next_list, height, heights, descend_by}
+use Rattle.timer_wheels.specs.Smooth.{slot_in, smooth_list, is_in_next, next_list, heights, descend_by}
 use Rattle.timer_wheels.specs.Tables.{radices}
 use Rattle.timer_wheels.specs.declared.buckets.Buckets.{Buckets}
 use Rattle.timer_wheels.specs.declared.table.Table.{Table}

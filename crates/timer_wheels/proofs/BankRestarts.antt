@@ -2,19 +2,18 @@
 --
 -- The list was found before the old row left: a timer that was alone in a next bucket may come back to that bucket, which
 -- is empty by then. It stands there by the law, since all others were started before it.
-use Rattle.std.proofs.Common.{◌≡◌, ◌≢◌, ◌<◌, ◌≤◌, ◌⊎◌, ◌+◌, ◌-◌, ◌*◌, ℕ, zero, suc, List, [], ◌∷◌, length, refl, sym, ◌∙◌, ap, inl, inr, subst, arith, get_or-set_other, ◌++◌, map, filter, not, ◌==◌}
+use Rattle.std.proofs.Common.{◌≡◌, ◌≢◌, ◌<◌, ◌≤◌, ◌+◌, ℕ, List, [], ◌∷◌, length, refl, sym, ◌∙◌, ap, subst, arith, get_or-set_other, ◌++◌, map}
 use Rattle.std.specs.List.{AllByRecursion}
 use Rattle.timer_base.specs.declared.limits.TheConstants.{LAST}
 use Rattle.timer_base.specs.declared.timer.Timer.{Timer}
 use Rattle.timer_base.specs.declared.timer.Handle.{Handle}
 use Rattle.timer_base.specs.WheelState.{IsPending}
-use Rattle.timer_links.specs.Lists.{list_at, with_row, without_key, KeyedLists, Row, Rows}
+use Rattle.timer_links.specs.Lists.{list_at, with_row, without_key, KeyedLists}
 use Rattle.timer_wheels.specs.Bank.{IsBank}
 use Rattle.timer_wheels.specs.BucketLists.{timer_in, AreBuckets, EachRow}
 use Rattle.timer_wheels.specs.Buckets.{row_at}
 use Rattle.timer_wheels.specs.Digits.{IsTable, HasDigits, level}
-use Rattle.timer_wheels.specs.Occupied.{bit_of, filled}
-use Rattle.timer_wheels.specs.Smooth.{slot_in, smooth_list, next_list, moved_to, mark, descend_by, IsByLaw, IsSmooth, Stands}
+use Rattle.timer_wheels.specs.Smooth.{slot_in, smooth_list, next_list, moved_to, mark, descend_by, IsByLaw, IsSmooth}
 use Rattle.timer_wheels.specs.Tables.{radices}
 use Rattle.timer_wheels.specs.declared.buckets.Buckets.{Buckets}
 use Rattle.timer_wheels.specs.declared.table.Table.{Table}

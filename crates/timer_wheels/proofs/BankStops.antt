@@ -1,5 +1,5 @@
 -- Lemmas for `Bank::stop`: a row leaves its list.
-use Rattle.std.proofs.Common.{◌≡◌, ◌≢◌, ◌<◌, ◌≤◌, ◌⊎◌, ◌+◌, ℕ, suc, List, [], ◌∷◌, ◌++◌, length, refl, sym, ◌∙◌, ap, inl, inr, subst, arith, slice_set, get_or-set_other, Bool, true, false, map, filter, not, ◌==◌, Option, Some, None}
+use Rattle.std.proofs.Common.{◌≡◌, ◌<◌, ◌≤◌, ◌+◌, ℕ, List, [], ◌∷◌, ◌++◌, sym, ◌∙◌, ap, inl, inr, subst, arith, slice_set, get_or-set_other, Bool, map, filter, not, ◌==◌, Option, Some}
 use Rattle.std.specs.List.{AllByRecursion}
 use Rattle.std.proofs.lemmas.Bool.{cases_lt}
 use Rattle.timer_base.specs.Basics.{either}
@@ -9,7 +9,7 @@ use Rattle.timer_base.specs.declared.timer.Handle.{Handle}
 use Rattle.timer_base.specs.Order.{AreRising}
 use Rattle.timer_base.specs.OrderLaws.{All-filter, AreRising-weaken}
 use Rattle.timer_base.specs.WheelState.{IsPending, held_at}
-use Rattle.timer_links.specs.Lists.{list_at, without_key, list_if_alone, AreApart, IsAloneIn, KeyedLists, Row, Rows}
+use Rattle.timer_links.specs.Lists.{list_at, without_key, list_if_alone, AreApart, IsAloneIn, Row, Rows}
 use Rattle.timer_wheels.specs.Bank.{IsBank, LeavesBits}
 use Rattle.timer_wheels.specs.BucketLists.{timer_in, timers_in, AreBuckets, EachRow}
 use Rattle.timer_wheels.specs.Buckets.{state_of}

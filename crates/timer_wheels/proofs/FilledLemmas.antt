@@ -1,7 +1,7 @@
 -- Lemmas about the bits of the lists of a smooth wheel: as those of `Occupied`, for more words.
-use Rattle.std.proofs.Common.{◌≡◌, ◌≢◌, ◌<◌, ◌≤◌, ◌+◌, ◌-◌, ◌*◌, ◌/◌, ◌%◌, ◌^◌, ℕ, List, [], ◌∷◌, ◌++◌, length, refl, sym, ◌∙◌, ap, inl, inr, arith, get_or-set_same, get_or-set_other, slice_index_or, slice_set, bit_and, bit_or}
+use Rattle.std.proofs.Common.{◌≡◌, ◌≢◌, ◌<◌, ◌-◌, ◌*◌, ◌/◌, ◌%◌, ◌^◌, ℕ, List, length, ◌∙◌, ap, inl, inr, arith, get_or-set_same, get_or-set_other, slice_index_or, slice_set, bit_and, bit_or}
 use Rattle.std.specs.Int.{bit_at, w64}
-use Rattle.std.proofs.lemmas.Bool.{cases_eq, cases_lt}
+use Rattle.std.proofs.lemmas.Bool.{cases_eq}
 use Rattle.std.proofs.lemmas.Nat.Bits.{bit_at_set_same, bit_at_set_other, bit_at_clear_same, bit_at_clear_other}
 use Rattle.timer_wheels.specs.declared.smooth.turns.TheConstants.{MOST_LISTS}
 use Rattle.timer_wheels.specs.declared.smooth.filled.TheConstants.{WORDS}

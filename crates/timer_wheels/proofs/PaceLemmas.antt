@@ -1,11 +1,11 @@
 -- Lemmas for `Paces` and `work`: sums of paces, and next buckets that stay in time.
-use Rattle.std.proofs.Common.{◌≡◌, ◌≢◌, ◌<◌, ◌≤◌, ◌⊎◌, ◌+◌, ◌-◌, ◌*◌, ◌/◌, ◌%◌, ℕ, zero, suc, List, [], ◌∷◌, length, refl, sym, ◌∙◌, ap, inl, inr, subst, arith, slice_set, slice_index_or, length-set, get_or-set_same, get_or-set_other, true, false, nat_lt, ◌&&◌}
-use Rattle.std.proofs.Math.Nat.{div-mul-le_self, mul-le-mul_left, mul-le-mul_right}
-use Rattle.std.proofs.lemmas.Bool.{cases_eq, cases_lt}
+use Rattle.std.proofs.Common.{◌≡◌, ◌≢◌, ◌<◌, ◌≤◌, ◌+◌, ◌-◌, ◌*◌, ◌/◌, ℕ, zero, suc, List, [], ◌∷◌, length, refl, sym, ◌∙◌, ap, inl, inr, subst, arith, slice_set, length-set, get_or-set_same, get_or-set_other, true, nat_lt}
+use Rattle.std.proofs.Math.Nat.{div-mul-le_self, mul-le-mul_left}
+use Rattle.std.proofs.lemmas.Bool.{cases_eq}
 use Rattle.std.proofs.lemmas.Bool.Decides.{nat_tests}
-use Rattle.timer_links.specs.Lists.{list_at, row_count, KeyedLists, Rows}
+use Rattle.timer_links.specs.Lists.{list_at, row_count, KeyedLists}
 use Rattle.timer_wheels.specs.Bank.{next_len, potential_of, IsEarly, OthersShrink}
-use Rattle.timer_wheels.specs.Digits.{IsTable, weight, lowest_radix}
+use Rattle.timer_wheels.specs.Digits.{IsTable, weight}
 use Rattle.timer_wheels.specs.Paces.{pace_at, sum_below, pace_sum, ArePaces, pace_for, most_pace, FitPaces, AreInTime, HasMoved}
 use Rattle.timer_wheels.specs.Smooth.{slot_in, next_list, ticks_left}
 use Rattle.timer_wheels.specs.Tables.{radices, wide, clock}
@@ -15,8 +15,7 @@ use Rattle.timer_wheels.specs.declared.smooth.turns.TheConstants.{MOST_WHEELS}
 use Rattle.timer_wheels.specs.declared.table.Table.{Table}
 use Rattle.timer_wheels.specs.declared.table.Table.TheVariants.{Wide, Clock}
 use Rattle.timer_wheels.proofs.DigitLaws.{quotient_mono}
-use Rattle.timer_wheels.proofs.SmoothPace.{pace_begun, pace_tick, none_left}
-use Rattle.timer_wheels.proofs.SmoothSlots.{slots_step, slots_mono}
+use Rattle.timer_wheels.proofs.SmoothPace.{pace_begun}
 use Rattle.timer_wheels.proofs.SmoothTurns.{wide_length, clock_length}
 use Rattle.timer_wheels.proofs.SmoothWeights.{weight_some, halves}
 use Rattle.timer_wheels.proofs.TableLaws.{of_table}

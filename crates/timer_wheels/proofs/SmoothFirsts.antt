@@ -1,5 +1,5 @@
 -- Lemmas for the first deadline and the first visit of a smooth wheel, found wheel by wheel.
-use Rattle.std.proofs.Common.{◌≡◌, ◌≢◌, ◌<◌, ◌≤◌, ◌⊎◌, ◌+◌, ◌-◌, ◌*◌, ◌/◌, ◌%◌, ℕ, zero, suc, List, [], ◌∷◌, ◌++◌, length, refl, sym, ◌∙◌, ap, inl, inr, subst, arith, map, min, Option, Some, None, IfSome}
+use Rattle.std.proofs.Common.{◌≡◌, ◌≢◌, ◌<◌, ◌≤◌, ◌⊎◌, ◌+◌, ◌*◌, ℕ, suc, List, [], ◌∷◌, ◌++◌, length, refl, sym, ◌∙◌, ap, inl, inr, subst, arith, min, Option, Some, None, IfSome}
 use Rattle.std.specs.List.{AllByRecursion}
 use Rattle.std.proofs.Math.Nat.{div-mul-le_self, mul-le-mul_right}
 use Rattle.std.proofs.lemmas.Bool.{cases_eq, cases_lt}
@@ -8,8 +8,7 @@ use Rattle.timer_base.specs.declared.timer.Timer.{Timer}
 use Rattle.timer_base.specs.OrderLaws.{All-in_order}
 use Rattle.timer_base.specs.Pending.{Entry, timer_of}
 use Rattle.timer_base.specs.PlainState.{earliest}
-use Rattle.timer_base.specs.WakeUps.{IsWakeUp, IsQuietUntil, next_deadline}
-use Rattle.timer_base.specs.WheelState.{IsPending}
+use Rattle.timer_base.specs.WakeUps.{IsWakeUp, next_deadline}
 use Rattle.timer_links.specs.Lists.{list_at, KeyedLists, Row, Rows}
 use Rattle.timer_wheels.specs.Bank.{IsBank}
 use Rattle.timer_wheels.specs.BucketLists.{timer_in, timers_in, entry_of, entries_of, pending_in, rows_below, EachRow}
@@ -27,8 +26,8 @@ use Rattle.timer_wheels.proofs.AllLemmas.{all-both, all-map, all-of_map}
 use Rattle.timer_wheels.proofs.BankLemmas.{lists_in_range}
 use Rattle.timer_wheels.proofs.DeadlineLemmas.{has-front, has-rest, next_is_least, least_is_next}
 use Rattle.timer_wheels.proofs.DigitLaws.{digits_down}
-use Rattle.timer_wheels.proofs.RowLemmas.{IsAround, around, all-rows_below, all-list_at, rows_below-none, timers-append}
-use Rattle.timer_wheels.proofs.SmoothAhead.{IsOn, placed, on_wheel, in_slot, not_before, each_with_rows, none_in}
+use Rattle.timer_wheels.proofs.RowLemmas.{around, all-rows_below, rows_below-none, timers-append}
+use Rattle.timer_wheels.proofs.SmoothAhead.{placed, on_wheel, in_slot, not_before, each_with_rows, none_in}
 use Rattle.timer_wheels.proofs.SmoothPlaces.{weaker}
 use Rattle.timer_wheels.proofs.SmoothSkips.{tick_ahead}
 use Rattle.timer_wheels.proofs.SmoothSlots.{slot_low}

@@ -1,11 +1,11 @@
 -- The potential of the lists of a smooth wheel: the wheels of all timers, added up. Each move lowers it.
-use Rattle.std.proofs.Common.{◌≡◌, ◌≢◌, ◌<◌, ◌≤◌, ◌+◌, ◌-◌, ◌*◌, ◌/◌, ◌%◌, ℕ, zero, suc, List, [], ◌∷◌, ◌++◌, length, refl, sym, ◌∙◌, ap, inl, inr, arith, slice_set, length-set, get_or-set_same, get_or-set_other, nat_lt, true, false, if◌then◌else◌}
+use Rattle.std.proofs.Common.{◌≡◌, ◌<◌, ◌≤◌, ◌+◌, ◌-◌, ◌*◌, ◌/◌, ◌%◌, ℕ, zero, suc, List, [], ◌∷◌, ◌++◌, length, refl, sym, ◌∙◌, ap, inl, inr, arith, slice_set, length-set, get_or-set_same, get_or-set_other, nat_lt, true, false}
 use Rattle.std.proofs.Math.Nat.{mul-le-mul_left}
 use Rattle.std.proofs.lemmas.Bool.{cases_eq, cases_lt}
 use Rattle.std.proofs.lemmas.Bool.Decides.{nat_tests}
 use Rattle.timer_links.specs.Lists.{list_at, with_row, KeyedLists, Row, Rows}
 use Rattle.timer_wheels.specs.Digits.{IsTable, radix}
-use Rattle.timer_wheels.specs.Smooth.{smooth_list, height, heights, HasTurns, IsMove}
+use Rattle.timer_wheels.specs.Smooth.{smooth_list, height, heights, HasTurns}
 use Rattle.timer_wheels.proofs.SmoothLists.{radix_above}
 
 -- the wheel of a list

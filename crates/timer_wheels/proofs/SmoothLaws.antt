@@ -1,6 +1,6 @@
 -- The placement law of a smooth wheel: each pending timer stands in one list, a start puts it there, and moves and
 -- ticks keep it.
-use Rattle.std.proofs.Common.{◌≡◌, ◌≢◌, ◌<◌, ◌≤◌, ◌⊎◌, ◌+◌, ℕ, zero, suc, List, length, refl, sym, ◌∙◌, ap, inl, inr, subst, arith, true, false, ◌==◌, ◌&&◌, not, nat_lt}
+use Rattle.std.proofs.Common.{◌≡◌, ◌≢◌, ◌<◌, ◌≤◌, ◌+◌, ℕ, zero, suc, List, length, refl, sym, ◌∙◌, ap, inl, inr, subst, arith, true, false, ◌&&◌, not, nat_lt}
 use Rattle.std.proofs.lemmas.Bool.{cases_eq, cases_lt, eq-eqb, ne_eqb}
 use Rattle.std.proofs.lemmas.Bool.Decides.{nat_tests}
 use Rattle.timer_base.specs.Basics.{either}

@@ -1,6 +1,5 @@
 -- Lemmas for `leap`, `pass` and `advance` of the smooth wheel: many ticks, and what they move.
-use Rattle.std.proofs.Common.{◌≡◌, ◌≢◌, ◌<◌, ◌≤◌, ◌⊎◌, ◌+◌, ◌-◌, ◌*◌, ℕ, zero, suc, List, [], ◌∷◌, length, refl, sym, ◌∙◌, ap, inl, inr, subst, arith, filter, not, Bool, true, false}
-use Rattle.std.specs.List.{AllByRecursion}
+use Rattle.std.proofs.Common.{◌≡◌, ◌<◌, ◌≤◌, ◌⊎◌, ◌+◌, ◌-◌, ◌*◌, ℕ, suc, List, [], ◌∷◌, length, refl, sym, ◌∙◌, ap, inl, inr, subst, arith, filter, not, Bool}
 use Rattle.std.proofs.Math.Nat.{mul-le-mul_right}
 use Rattle.std.proofs.lemmas.Bool.{cases_eq, cases_lt}
 use Rattle.timer_base.specs.Basics.{either}
@@ -8,7 +7,7 @@ use Rattle.timer_base.specs.OrderLaws.{All-in_order}
 use Rattle.timer_base.specs.Pending.{Entry, timer_of, is_due_at, entries_due, entries_left}
 use Rattle.timer_base.specs.TickLaws.{AreAfter, IsPassing, passing_quiet, after_ticks-add}
 use Rattle.timer_base.specs.WheelState.{WheelState, held_count, after_tick, after_ticks, Advances}
-use Rattle.timer_links.specs.Lists.{list_at, Row}
+use Rattle.timer_links.specs.Lists.{list_at}
 use Rattle.timer_wheels.specs.Bank.{IsBank, next_len}
 use Rattle.timer_wheels.specs.BucketLists.{timer_in, entry_of, entries_of, rows_below, EachRow}
 use Rattle.timer_wheels.specs.Buckets.{state_of}

@@ -1,8 +1,8 @@
 -- The number of a list determines its wheel and, among the slots that a wheel can have timers in, its slot.
-use Rattle.std.proofs.Common.{◌≡◌, ◌≢◌, ◌<◌, ◌≤◌, ◌⊎◌, ◌+◌, ◌-◌, ◌*◌, ◌/◌, ◌%◌, ℕ, zero, suc, List, [], ◌∷◌, length, refl, sym, ◌∙◌, ap, inl, inr, subst, arith}
+use Rattle.std.proofs.Common.{◌≡◌, ◌<◌, ◌≤◌, ◌+◌, ◌*◌, ◌/◌, ◌%◌, ℕ, zero, suc, List, [], ◌∷◌, length, sym, ◌∙◌, ap, inl, inr, subst, arith}
 use Rattle.std.proofs.lemmas.Bool.{cases_eq, cases_lt}
 use Rattle.timer_base.specs.declared.timer.Timer.{Timer}
-use Rattle.timer_wheels.specs.Digits.{IsTable, weight, radix}
+use Rattle.timer_wheels.specs.Digits.{IsTable, radix}
 use Rattle.timer_wheels.specs.Smooth.{slot_in, smooth_list, HasTurns, Stands}
 use Rattle.std.proofs.Math.Nat.{mul-le-mul_left}
 use Rattle.timer_wheels.proofs.DigitLaws.{quotient_mono}

@@ -1,9 +1,9 @@
 -- The pace of a smooth wheel: the next bucket of each wheel is empty before it begins to be the present one.
-use Rattle.std.proofs.Common.{◌≡◌, ◌≢◌, ◌<◌, ◌≤◌, ◌⊎◌, ◌+◌, ◌-◌, ◌*◌, ◌/◌, ◌%◌, ℕ, zero, suc, List, length, refl, sym, ◌∙◌, ap, inl, inr, subst, arith}
+use Rattle.std.proofs.Common.{◌≡◌, ◌<◌, ◌≤◌, ◌+◌, ◌-◌, ◌*◌, ◌/◌, ◌%◌, ℕ, suc, List, sym, ◌∙◌, ap, inl, inr, arith}
 use Rattle.std.proofs.Math.Nat.{mul-le-mul_right, div-mul-le_self}
 use Rattle.std.proofs.lemmas.Nat.{le-div}
-use Rattle.std.proofs.lemmas.Bool.{cases_eq, cases_lt}
-use Rattle.timer_wheels.specs.Digits.{IsTable, weight}
+use Rattle.std.proofs.lemmas.Bool.{cases_eq}
+use Rattle.timer_wheels.specs.Digits.{weight}
 use Rattle.timer_wheels.specs.Smooth.{slot_in, ticks_left}
 
 -- one more time

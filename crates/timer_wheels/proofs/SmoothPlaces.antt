@@ -1,9 +1,8 @@
 -- The places of all rows of a smooth wheel: after rows left their lists, and after a row came to the back of one.
 use Rattle.std.proofs.Common.{◌≡◌, ◌≢◌, ◌<◌, ◌≤◌, ◌⊎◌, ◌+◌, ◌-◌, ◌*◌, ℕ, suc, List, [], ◌∷◌, ◌++◌, length, refl, sym, ◌∙◌, ap, inl, inr, subst, arith, get_or-set_same, get_or-set_other}
 use Rattle.std.specs.List.{AllByRecursion}
-use Rattle.std.proofs.lemmas.Bool.{cases_eq, cases_lt}
+use Rattle.std.proofs.lemmas.Bool.{cases_eq}
 use Rattle.timer_base.specs.declared.limits.TheConstants.{LAST}
-use Rattle.timer_base.specs.declared.timer.Timer.{Timer}
 use Rattle.timer_base.specs.Order.{AreRising}
 use Rattle.timer_base.specs.OrderLaws.{AreRising-weaken}
 use Rattle.timer_links.specs.Lists.{list_at, with_row, KeyedLists, Row, Rows}
@@ -13,7 +12,7 @@ use Rattle.timer_wheels.specs.Smooth.{slot_in, smooth_list, next_list, moved_to,
 use Rattle.timer_wheels.proofs.AllLemmas.{all-both}
 use Rattle.timer_wheels.proofs.RowLemmas.{all-append}
 use Rattle.timer_wheels.proofs.SmoothLaws.{others_stand}
-use Rattle.timer_wheels.proofs.SmoothLists.{IsAhead, one_wheel, same_rest_of, radix_above, ahead_within}
+use Rattle.timer_wheels.proofs.SmoothLists.{one_wheel, same_rest_of, radix_above, ahead_within}
 
 -- a bucket has not moved on up to the serial of a row that is left in it
 rising_above : (low : ℕ) (rows : Rows) → AreRising low (timers_in rows) → AllByRecursion (λ row. low < (timer_in row).serial) rows

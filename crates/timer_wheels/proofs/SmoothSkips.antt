@@ -1,14 +1,14 @@
 -- Many ticks of a smooth wheel at once, in which no timer is due and no bucket with timers begins to be the present one.
-use Rattle.std.proofs.Common.{◌≡◌, ◌≢◌, ◌<◌, ◌≤◌, ◌+◌, ℕ, zero, suc, List, [], ◌∷◌, length, refl, sym, ◌∙◌, ap, inl, inr, subst, arith}
+use Rattle.std.proofs.Common.{◌≡◌, ◌<◌, ◌≤◌, ◌+◌, ℕ, zero, suc, List, [], length, sym, ◌∙◌, ap, inl, inr, subst, arith}
 use Rattle.std.specs.List.{AllByRecursion}
 use Rattle.std.proofs.lemmas.Bool.{cases_lt}
 use Rattle.timer_base.specs.declared.timer.Timer.{Timer}
 use Rattle.timer_base.specs.WheelState.{IsPending, IsDue}
-use Rattle.timer_links.specs.Lists.{list_at, KeyedLists, Row, Rows}
+use Rattle.timer_links.specs.Lists.{list_at, Row}
 use Rattle.timer_wheels.specs.Bank.{IsBank}
-use Rattle.timer_wheels.specs.BucketLists.{timer_in, rows_below, AreBuckets, EachRow}
+use Rattle.timer_wheels.specs.BucketLists.{timer_in, AreBuckets, EachRow}
 use Rattle.timer_wheels.specs.Digits.{IsTable, HasDigits}
-use Rattle.timer_wheels.specs.Smooth.{slot_in, smooth_list, next_list, moved_to, mark, IsByLaw, IsSmooth, Stands, IsAheadOf}
+use Rattle.timer_wheels.specs.Smooth.{slot_in, smooth_list, moved_to, mark, IsByLaw, IsSmooth, Stands, IsAheadOf}
 use Rattle.timer_wheels.specs.Tables.{radices}
 use Rattle.timer_wheels.specs.declared.buckets.Buckets.{Buckets}
 use Rattle.timer_wheels.specs.declared.table.Table.{Table}

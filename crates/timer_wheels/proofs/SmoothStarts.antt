@@ -1,7 +1,7 @@
 -- A timer that is started now: where the bits of the lists lead it, and that its row leaves all others where the law says.
-use Rattle.std.proofs.Common.{◌≡◌, ◌≢◌, ◌<◌, ◌≤◌, ◌⊎◌, ◌+◌, ◌-◌, ◌*◌, ℕ, zero, suc, List, [], ◌∷◌, ◌++◌, length, refl, sym, ◌∙◌, ap, inl, inr, subst, arith, get_or-set_same, get_or-set_other, Bool, true, false, ◌==◌, ◌&&◌, not, nat_lt, if◌then◌else◌}
+use Rattle.std.proofs.Common.{◌≡◌, ◌≢◌, ◌<◌, ◌≤◌, ◌+◌, ℕ, zero, suc, List, [], ◌∷◌, ◌++◌, length, refl, sym, ◌∙◌, ap, inl, inr, subst, arith, get_or-set_same, get_or-set_other, true, false, ◌==◌, ◌&&◌, nat_lt, if◌then◌else◌}
 use Rattle.std.specs.List.{AllByRecursion}
-use Rattle.std.proofs.lemmas.Bool.{cases_eq, cases_lt}
+use Rattle.std.proofs.lemmas.Bool.{cases_eq}
 use Rattle.std.proofs.lemmas.Bool.Decides.{nat_tests}
 use Rattle.timer_base.specs.Basics.{either}
 use Rattle.timer_base.specs.declared.limits.TheConstants.{LAST}
@@ -10,12 +10,12 @@ use Rattle.timer_links.specs.Lists.{list_at, with_row, KeyedLists, Row, Rows}
 use Rattle.timer_wheels.specs.BucketLists.{timer_in, AreInOrder, EachRow}
 use Rattle.timer_wheels.specs.Digits.{IsTable, HasDigits, level}
 use Rattle.timer_wheels.specs.Occupied.{bit_of}
-use Rattle.timer_wheels.specs.Smooth.{slot_in, smooth_list, is_in_next, next_list, moved_to, mark, descend, descend_by, smooth_level, smooth_bucket, IsSmooth, Stands}
+use Rattle.timer_wheels.specs.Smooth.{slot_in, smooth_list, is_in_next, next_list, moved_to, mark, descend, descend_by, smooth_level, IsSmooth, Stands}
 use Rattle.timer_wheels.proofs.AllLemmas.{all-both}
 use Rattle.timer_wheels.proofs.RowLemmas.{all-append, all-front, all-rest}
 use Rattle.timer_wheels.proofs.SmoothDescent.{descend_is}
 use Rattle.timer_wheels.proofs.SmoothLaws.{started_stands}
-use Rattle.timer_wheels.proofs.SmoothPlaces.{weaker, front_kept}
+use Rattle.timer_wheels.proofs.SmoothPlaces.{front_kept}
 
 -- Where the bits lead.
 

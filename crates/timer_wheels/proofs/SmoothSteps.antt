@@ -1,15 +1,13 @@
 -- One step of a smooth wheel's work: the first timer of a next bucket goes to a lower wheel.
-use Rattle.std.proofs.Common.{◌≡◌, ◌≢◌, ◌<◌, ◌≤◌, ◌+◌, ◌-◌, ◌*◌, ◌%◌, ◌==◌, ℕ, suc, not, nat_lt, true, false, List, [], ◌∷◌, ◌++◌, length, refl, sym, ◌∙◌, ap, inl, inr, subst, arith, slice_set, length-set, get_or-set_same, get_or-set_other}
+use Rattle.std.proofs.Common.{◌≡◌, ◌≢◌, ◌<◌, ◌≤◌, ◌+◌, ◌-◌, ◌*◌, ◌==◌, ℕ, suc, not, nat_lt, true, false, List, [], ◌∷◌, length, refl, sym, ◌∙◌, ap, inl, inr, subst, arith, slice_set, length-set, get_or-set_same, get_or-set_other}
 use Rattle.std.specs.List.{AllByRecursion}
-use Rattle.std.proofs.lemmas.Bool.{cases_eq, cases_lt, eqb-true}
+use Rattle.std.proofs.lemmas.Bool.{cases_eq, eqb-true}
 use Rattle.std.proofs.lemmas.Bool.Decides.{nat_tests}
 use Rattle.timer_base.specs.declared.limits.TheConstants.{LAST}
-use Rattle.timer_base.specs.declared.timer.Timer.{Timer}
-use Rattle.timer_base.specs.Order.{AreBelow, AreRising}
-use Rattle.timer_base.specs.OrderLaws.{AreRising-weaken}
+use Rattle.timer_base.specs.Order.{AreRising}
 use Rattle.timer_base.specs.WheelState.{IsPending}
-use Rattle.timer_links.specs.Lists.{list_at, with_row, KeyedLists, Row, Rows}
-use Rattle.timer_wheels.specs.BucketLists.{timer_in, timers_in, rows_below, AreInOrder, AreBuckets, EachRow, wheel_state}
+use Rattle.timer_links.specs.Lists.{list_at, KeyedLists, Row, Rows}
+use Rattle.timer_wheels.specs.BucketLists.{timer_in, timers_in, AreBuckets, EachRow}
 use Rattle.timer_wheels.specs.Digits.{IsTable, radix}
 use Rattle.timer_wheels.specs.Occupied.{bit_of, filled}
 use Rattle.timer_wheels.specs.Smooth.{slot_in, smooth_list, is_in_next, descend_by, next_list, moved_to, mark, descend, HasTurns, IsMove, Stands, IsSmooth, IsStep}

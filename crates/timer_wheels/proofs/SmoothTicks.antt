@@ -1,10 +1,9 @@
 -- One tick of a smooth wheel, after its moves: the timers of the tick become due, and the others stay where they are.
 use Rattle.std.proofs.Common.{◌≡◌, ◌≢◌, ◌<◌, ◌≤◌, ◌+◌, ◌*◌, ℕ, zero, suc, List, [], ◌∷◌, ◌++◌, length, refl, sym, ◌∙◌, ap, inl, inr, subst, arith, slice_set, length-set, get_or-set_same, get_or-set_other, filter, not, Bool, true, false}
 use Rattle.std.specs.List.{AllByRecursion}
-use Rattle.std.proofs.lemmas.Bool.{cases_eq, cases_lt, eq-eqb, ne_eqb}
+use Rattle.std.proofs.lemmas.Bool.{cases_eq, eq-eqb, ne_eqb}
 use Rattle.std.proofs.lemmas.List.Elements.{filter-append}
-use Rattle.timer_base.specs.declared.timer.Timer.{Timer}
-use Rattle.timer_base.specs.Order.{in_order, AreDistinct, AreRising}
+use Rattle.timer_base.specs.Order.{AreDistinct, AreRising}
 use Rattle.timer_base.specs.OrderLaws.{map-in_order, in_order-same}
 use Rattle.timer_base.specs.Pending.{Entry, timer_of, is_due_at, entries_due, entries_left}
 use Rattle.timer_base.specs.WheelState.{IsPending, IsDue, after_tick}
@@ -13,7 +12,7 @@ use Rattle.timer_wheels.specs.BucketLists.{timer_in, timers_in, entry_of, entrie
 use Rattle.timer_wheels.specs.Digits.{IsTable, radix}
 use Rattle.timer_wheels.specs.Smooth.{slot_in, smooth_list, next_list, moved_to, mark, HasTurns, Stands, IsSmooth, IsTicked}
 use Rattle.timer_wheels.proofs.AllLemmas.{all-both, all-map, filter_none, filter_each}
-use Rattle.timer_wheels.proofs.RowLemmas.{all-append, all-front, all-rest, all-rows_below, all-list_at, IsAround, around, append-nil, rows_below-above}
+use Rattle.timer_wheels.proofs.RowLemmas.{all-front, all-rest, all-rows_below, all-list_at, IsAround, around, append-nil, rows_below-above}
 use Rattle.timer_wheels.proofs.BucketLemmas.{filter-pending_in, AreDistinct-part}
 use Rattle.timer_wheels.proofs.SmoothSlots.{slot_low, slots_step}
 use Rattle.timer_wheels.proofs.SmoothLaws.{ticked_stands}

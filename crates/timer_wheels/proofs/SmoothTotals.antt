@@ -1,28 +1,24 @@
 -- Lemmas for `SmoothWheel`: its next buckets stay in time over a tick, and the sums of its paces and of its moves.
-use Rattle.std.proofs.Common.{◌≡◌, ◌≢◌, ◌<◌, ◌≤◌, ◌⊎◌, ◌+◌, ◌-◌, ◌*◌, ◌/◌, ◌%◌, ℕ, zero, suc, List, [], ◌∷◌, length, refl, sym, ◌∙◌, ap, inl, inr, subst, arith, true, false, nat_lt, ◌&&◌}
+use Rattle.std.proofs.Common.{◌≡◌, ◌≢◌, ◌<◌, ◌≤◌, ◌+◌, ◌-◌, ◌*◌, ◌/◌, ◌%◌, ℕ, zero, suc, List, [], ◌∷◌, length, refl, sym, ◌∙◌, ap, inl, inr, subst, arith}
 use Rattle.std.proofs.Math.Nat.{div-mul-le_self, mul-le-mul_left, mul-le-mul_right, mul-mod_left}
-use Rattle.std.proofs.lemmas.Bool.{cases_eq, cases_lt}
-use Rattle.std.proofs.lemmas.Bool.Decides.{nat_tests}
+use Rattle.std.proofs.lemmas.Bool.{cases_eq}
 use Rattle.timer_base.specs.declared.limits.TheConstants.{LAST}
 use Rattle.timer_base.specs.WheelState.{held_count}
 use Rattle.timer_links.specs.Lists.{list_at, row_count, KeyedLists, Rows}
 use Rattle.timer_wheels.specs.Bank.{next_len}
-use Rattle.timer_wheels.specs.BucketLists.{entries_of, entry_of, pending_in, rows_below}
+use Rattle.timer_wheels.specs.BucketLists.{entry_of, rows_below}
 use Rattle.timer_wheels.specs.Buckets.{state_of}
-use Rattle.timer_wheels.specs.Digits.{IsTable, weight, radix, lowest_radix}
-use Rattle.timer_wheels.specs.Paces.{pace_at, sum_below, pace_sum, pace_for, most_pace, FitPaces, AreInTime, HasMoved, tick_bound}
+use Rattle.timer_wheels.specs.Digits.{IsTable, weight, lowest_radix}
+use Rattle.timer_wheels.specs.Paces.{pace_at, pace_sum, FitPaces, AreInTime, HasMoved, tick_bound}
 use Rattle.timer_wheels.specs.Placement.{most_moves}
 use Rattle.timer_wheels.specs.Smooth.{slot_in, next_list, heights, height, ticks_left}
 use Rattle.timer_wheels.specs.Tables.{radices, wide, clock}
 use Rattle.timer_wheels.specs.declared.buckets.Buckets.{Buckets}
-use Rattle.timer_wheels.specs.declared.smooth.turns.TheConstants.{MOST_WHEELS}
 use Rattle.timer_wheels.specs.declared.table.Table.{Table}
 use Rattle.timer_wheels.specs.declared.table.Table.TheVariants.{Wide, Clock}
 use Rattle.timer_wheels.proofs.BucketLemmas.{row_count-parts, length-pending_in}
-use Rattle.timer_wheels.proofs.SmoothLists.{slot_above}
 use Rattle.timer_wheels.proofs.SmoothPace.{pace_tick, none_left}
-use Rattle.timer_wheels.proofs.SmoothSlots.{slots_step, slot_low}
-use Rattle.timer_wheels.proofs.SmoothTurns.{wide_length, wide_radix, clock_length}
+use Rattle.timer_wheels.proofs.SmoothSlots.{slots_step}
 use Rattle.timer_wheels.proofs.SmoothWeights.{weight_some, halves}
 use Rattle.timer_wheels.proofs.TableLaws.{of_table}
 use Rattle.std.proofs.lemmas.List.{length-map}

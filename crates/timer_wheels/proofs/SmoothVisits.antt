@@ -1,12 +1,12 @@
 -- The visits of Scheme 7, by slots: which tick it is, that it is the same for a slot's begin, and no earlier for a later deadline.
-use Rattle.std.proofs.Common.{◌≡◌, ◌≢◌, ◌<◌, ◌≤◌, ◌⊎◌, ◌+◌, ◌-◌, ◌*◌, ◌/◌, ◌%◌, ℕ, zero, suc, List, [], ◌∷◌, length, refl, sym, ◌∙◌, ap, inl, inr, subst, arith}
-use Rattle.std.proofs.Math.Nat.{mul-div_right, mul-le-mul_left, mul-le-mul_right, div-mul-le_self}
-use Rattle.std.proofs.lemmas.Bool.{cases_eq, cases_lt}
+use Rattle.std.proofs.Common.{◌≡◌, ◌≢◌, ◌<◌, ◌≤◌, ◌+◌, ◌*◌, ◌/◌, ◌%◌, ℕ, zero, suc, List, [], ◌∷◌, sym, ◌∙◌, ap, inl, inr, arith}
+use Rattle.std.proofs.Math.Nat.{mul-div_right, mul-le-mul_left, mul-le-mul_right}
+use Rattle.std.proofs.lemmas.Bool.{cases_eq}
 use Rattle.timer_wheels.specs.Digits.{IsTable, HasDigits, weight, level}
 use Rattle.timer_wheels.specs.Leap.{timer_visit}
 use Rattle.timer_wheels.specs.Smooth.{slot_in}
 use Rattle.timer_wheels.proofs.DigitLaws.{quotient_mono, level_near, level_far, less_quotient}
-use Rattle.timer_wheels.proofs.SmoothSlots.{slot_low, slot_up}
+use Rattle.timer_wheels.proofs.SmoothSlots.{slot_up}
 use Rattle.timer_wheels.proofs.SmoothWeights.{weight_some}
 use Rattle.timer_wheels.proofs.VisitLaws.{visit_near, visit_far, visit_later}
 

@@ -4,7 +4,7 @@ use Rattle.std.specs.Coded.{×_prop}
 use Rattle.std.proofs.Props.{props}
 use Rattle.timer_base.specs.declared.timer.Handle.{Handle}
 use Rattle.timer_base.specs.declared.timer.Timer.{Timer}
-use Rattle.timer_links.specs.Lists.{Row, KeyedLists, list_at}
+use Rattle.timer_links.specs.Lists.{Row}
 use Rattle.timer_wheels.specs.BucketLists.{EachRow, EachRow-prop}
 use Rattle.timer_wheels.specs.Digits.{last_of}
 use Rattle.timer_wheels.specs.Occupied.{bit_of, AreMarked, AreMarked-prop}

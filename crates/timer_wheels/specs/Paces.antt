@@ -1,7 +1,6 @@
 -- The paces of a smooth wheel: how many timers of each wheel's next bucket move at a tick.
 use Rattle.std.specs.Coded.{Π_prop, le_prop}
-use Rattle.std.specs.Prelude.{◌≡◌, ◌≢◌, ◌<◌, ◌≤◌, ◌⊎◌, ◌+◌, ◌-◌, ◌*◌, ◌/◌, ◌&&◌, nat_lt, if◌then◌else◌, zero, suc, ℕ, List, length, slice_index_or}
-use Rattle.timer_links.specs.Lists.{KeyedLists}
+use Rattle.std.specs.Prelude.{◌≡◌, ◌≤◌, ◌⊎◌, ◌+◌, ◌-◌, ◌*◌, ◌/◌, ◌&&◌, nat_lt, if◌then◌else◌, zero, suc, ℕ, List, length, slice_index_or}
 use Rattle.timer_wheels.specs.Bank.{next_len}
 use Rattle.timer_wheels.specs.Digits.{weight}
 use Rattle.timer_wheels.specs.Smooth.{IsInTime}

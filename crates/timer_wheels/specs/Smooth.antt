@@ -161,9 +161,3 @@ ticks_left table now k = (slot_in table k now + 1) * weight k table - now - weig
 abbrev pub IsInTime : List ℕ → ℕ → (ℕ → ℕ) → KeyedLists → Type 0
 IsInTime table now pace lists = (k : ℕ) → 0 < k → k < length table
     → next_length table now lists k ≤ pace k * ticks_left table now k
-
--- the first list from the first number on, and before the second, whose bit is set
-abbrev pub IsFirstBetween : List ℕ → ℕ → ℕ → Option ℕ → Type 0
-IsFirstBetween words from to None = (s : ℕ) → from ≤ s → s < to → bit_of words s ≡ 0
-IsFirstBetween words from to (Some l) = (from ≤ l) × (l < to) × (bit_of words l ≡ 1)
-    × ((s : ℕ) → from ≤ s → s < l → bit_of words s ≡ 0)

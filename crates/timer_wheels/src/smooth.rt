@@ -19,7 +19,12 @@
 //!
 //! At tick 4032 slot 64 begins to be the next bucket of wheel 1, and timer 1 goes to slot 4100 of wheel 0.
 //!
-//! No scheme uses it yet. Open: `advance`, `quiet_until` and `next_deadline`, and so `impl Wheel`.
+//! At each tick some timers of each next bucket move: its pace (`paces`), fixed as it begins to be the next one (`work`). So
+//! no tick moves a whole bucket, and in `Table::Wide` none moves more than 2n/63 + 18 timers, n the most that were held.
+//! `advance` leaps to the next tick that needs a look while nothing is to be moved (`ahead`).
+//!
+//! It meets the whole of `Wheel`, and no scheme uses it yet. Open: a scheme, a table for C, and speed: `first_slot` in
+//! `ahead` goes bit by bit, and the calls take the table as a value and not as a constant.
 ghost use Rattle.std.specs.Prelude.{◌≡◌, ◌+◌, ◌-◌, ◌*◌, ◌<◌, ◌≤◌, ◌↔◌, ℕ, [], length, IsTrue, IfOk, IfErr, IfSome, OnOk, OnErr, MatchOption, MatchResult};
 ghost use Rattle.timer_base.specs.declared.limits.TheConstants.{LAST};
 ghost use Rattle.timer_base.specs.WakeUps.{IsQuietUntil, next_deadline};

@@ -103,7 +103,10 @@ impl Bank {
             return earlier(first, Some(slot));
         }
         if is_after(first, slot * weight_of(self.table, wheel)) {
-            earlier(first, first_in(&self.buckets.links, list_of_slot(self.table, wheel, slot)).known())
+            earlier(
+                first,
+                first_in(&self.buckets.links, list_of_slot(self.table, wheel, slot)).known(),
+            )
         } else {
             first
         }

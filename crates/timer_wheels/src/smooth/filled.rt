@@ -1,9 +1,8 @@
 //! Which lists of a smooth wheel have a timer: a bit for each of them.
-ghost use Rattle.std.specs.Prelude.{◌≡◌, ◌≢◌, ◌<◌, ◌≤◌, ℕ, List, length, true, false};
+ghost use Rattle.std.specs.Prelude.{◌≡◌, ◌≢◌, ◌<◌, ℕ, List, length, true, false};
 ghost use Rattle.timer_wheels.specs.declared.smooth.filled.TheConstants.{WORDS};
 ghost use Rattle.timer_wheels.specs.declared.smooth.turns.TheConstants.{MOST_LISTS};
 ghost use Rattle.timer_wheels.specs.Occupied.{bit_of};
-ghost use Rattle.timer_wheels.specs.Smooth.{IsFirstBetween};
 
 use crate::smooth::turns::MOST_LISTS;
 use std::marker::Model;
@@ -75,19 +74,5 @@ impl Filled {
     {
         let word = list / WORD_BITS;
         self.words[word] = self.words[word] & !(1 << (list % WORD_BITS));
-    }
-
-    /// The first list from the first number on, and before the second, whose bit is set.
-    // Bit by bit: to be done by words, as `Occupied::first` does.
-    pub fn first_between(&self, from: usize, to: usize) -> Option<usize>
-        requires { to ≤ MOST_LISTS }
-        ensures { IsFirstBetween self.now from to result }
-    {
-        for list in from..to {
-            if self.has(list) {
-                return Some(list);
-            }
-        }
-        None
     }
 }

@@ -1,8 +1,8 @@
-use Rattle.std.proofs.Common.{◌≡◌, ◌<◌, ◌≤◌, ◌+◌, ◌-◌, ℕ, [], sym, ◌∙◌, ap, arith}
+use Rattle.std.proofs.Common.{◌≡◌, ◌-◌, ◌∙◌, ap, arith}
 use Rattle.timer_base.specs.TickLaws.{nothing_due}
 use Rattle.timer_base.specs.WheelState.{held_count}
 use Rattle.timer_wheels.specs.Paces.{tick_bound}
-use Rattle.timer_wheels.specs.SmoothWheel.{smooth_state, moves_of}
+use Rattle.timer_wheels.specs.SmoothWheel.{smooth_state}
 use Rattle.timer_wheels.specs.declared.table.Table.{Table}
 use Rattle.timer_wheels.proofs.SmoothLeaps.{leap_and_tick, held_ticked}
 use Rattle.timer_wheels.proofs.smooth.SmoothWheel.pass.Goals as goal

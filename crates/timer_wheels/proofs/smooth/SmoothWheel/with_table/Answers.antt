@@ -1,4 +1,4 @@
-use Rattle.std.proofs.Common.{◌≡◌, ◌<◌, ◌≤◌, ◌+◌, ◌*◌, length, ap, arith}
+use Rattle.std.proofs.Common.{◌+◌, length, ap, arith}
 use Rattle.timer_links.specs.Lists.{Rows}
 use Rattle.timer_wheels.specs.Smooth.{slot_in, smooth_list}
 use Rattle.timer_wheels.specs.Tables.{radices}

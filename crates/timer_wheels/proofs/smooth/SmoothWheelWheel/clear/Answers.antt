@@ -1,7 +1,7 @@
-use Rattle.std.proofs.Common.{◌≡◌, ◌<◌, ◌≤◌, ◌+◌, ◌*◌, ℕ, length, sym, ◌∙◌, ap, arith}
+use Rattle.std.proofs.Common.{◌≡◌, ◌<◌, ◌+◌, ℕ, length, ap, arith}
 use Rattle.timer_base.specs.WheelState.{WheelState}
 use Rattle.timer_links.specs.Lists.{list_at, Rows}
-use Rattle.timer_wheels.specs.Smooth.{slot_in, smooth_list, heights}
+use Rattle.timer_wheels.specs.Smooth.{slot_in, smooth_list}
 use Rattle.timer_wheels.specs.Tables.{radices}
 use Rattle.timer_wheels.proofs.BankLemmas.{lists_in_range}
 use Rattle.timer_wheels.proofs.SmoothTotals.{heights_none}

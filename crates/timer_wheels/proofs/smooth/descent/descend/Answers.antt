@@ -1,6 +1,6 @@
-use Rattle.std.proofs.Common.{◌≡◌, ◌<◌, ◌≤◌, ◌-◌, sym, ◌∙◌, arith, true, false, not}
+use Rattle.std.proofs.Common.{◌≡◌, sym, ◌∙◌, arith, true, false}
 use Rattle.timer_wheels.specs.Occupied.{bit_of}
-use Rattle.timer_wheels.specs.Smooth.{is_in_next, next_list, descend_by}
+use Rattle.timer_wheels.specs.Smooth.{is_in_next, next_list}
 use Rattle.timer_wheels.specs.Tables.{radices}
 use Rattle.timer_wheels.proofs.SmoothDescent.{few_lists, descend_stops, descend_full, descend_on}
 use Rattle.timer_wheels.proofs.smooth.descent.descend.Goals as goal

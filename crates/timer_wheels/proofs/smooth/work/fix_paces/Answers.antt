@@ -1,4 +1,4 @@
-use Rattle.std.proofs.Common.{◌≡◌, ◌<◌, ◌%◌, ◌==◌, sym, ◌∙◌, arith, true, false, rules}
+use Rattle.std.proofs.Common.{◌≡◌, ◌%◌, sym, ◌∙◌, true}
 use Rattle.std.proofs.lemmas.Bool.{eq-eqb}
 use Rattle.timer_wheels.specs.Digits.{lowest_radix}
 use Rattle.timer_wheels.specs.Tables.{radices}

@@ -1,4 +1,4 @@
-use Rattle.std.proofs.Common.{◌≡◌, sym, ◌∙◌, ap, arith}
+use Rattle.std.proofs.Common.{◌≡◌, arith}
 use Rattle.timer_wheels.specs.Paces.{pace_sum}
 use Rattle.timer_wheels.proofs.PaceLemmas.{none_to_move}
 use Rattle.timer_wheels.proofs.smooth.work.move_all.Goals as goal

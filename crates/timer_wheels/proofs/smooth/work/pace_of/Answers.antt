@@ -1,8 +1,5 @@
-use Rattle.std.proofs.Common.{◌≡◌, ◌<◌, ◌≤◌, ◌+◌, ◌*◌, ◌/◌, arith, rules}
-use Rattle.timer_links.specs.Lists.{row_count}
-use Rattle.timer_wheels.specs.Digits.{weight}
-use Rattle.timer_wheels.specs.Tables.{radices}
-use Rattle.timer_wheels.proofs.PaceLemmas.{held_quotient, pace_mono, enough, sixty_ticks}
+use Rattle.std.proofs.Common.{◌<◌, ◌≤◌, ◌+◌, ◌*◌, ◌/◌, arith, rules}
+use Rattle.timer_wheels.proofs.PaceLemmas.{held_quotient, enough, sixty_ticks}
 use Rattle.timer_wheels.proofs.TableLaws.{of_table}
 use Rattle.timer_wheels.proofs.SmoothDescent.{few_lists}
 use Rattle.timer_wheels.proofs.smooth.work.pace_of.Goals as goal

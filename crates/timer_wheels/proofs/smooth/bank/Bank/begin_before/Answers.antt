@@ -1,4 +1,4 @@
-use Rattle.std.proofs.Common.{◌≡◌, ◌<◌, ◌≤◌, ◌+◌, ◌*◌, ℕ, sym, ap, ◌∙◌, subst, arith, Option, Some}
+use Rattle.std.proofs.Common.{◌+◌, ◌*◌, ℕ, sym, ap, ◌∙◌, subst, Option, Some}
 use Rattle.timer_base.specs.PlainState.{earliest}
 use Rattle.timer_wheels.specs.SmoothAhead.{IsFoundBelow, IsBegin}
 use Rattle.timer_wheels.proofs.SmoothFirsts.{found_without, found_begin}

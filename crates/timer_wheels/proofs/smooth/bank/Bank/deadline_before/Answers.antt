@@ -1,5 +1,4 @@
-use Rattle.std.proofs.Common.{◌≡◌, ◌<◌, ◌≤◌, ◌+◌, ◌*◌, ℕ, sym, ap, ◌∙◌, subst, arith, Option, Some, false}
-use Rattle.timer_base.specs.PlainState.{earliest}
+use Rattle.std.proofs.Common.{◌≡◌, ◌+◌, ◌*◌, ℕ, sym, subst, arith, Option}
 use Rattle.timer_links.specs.Lists.{list_at}
 use Rattle.timer_wheels.specs.BucketLists.{timers_in}
 use Rattle.timer_wheels.specs.Deadlines.{IsLeastDeadline}

@@ -1,4 +1,4 @@
-use Rattle.std.proofs.Common.{◌≡◌, ◌<◌, ◌≤◌, arith, min}
+use Rattle.std.proofs.Common.{◌≡◌, ◌≤◌, arith, min}
 use Rattle.timer_wheels.specs.SmoothAhead.{event_tick}
 use Rattle.timer_wheels.specs.Tables.{radices}
 use Rattle.timer_wheels.proofs.SmoothAhead.{events_some, events_without, event_later}
@@ -8,8 +8,12 @@ pub returns-in-Some-clause-later : goal.returns-in-Some-clause-later
 returns-in-Some-clause-later c =
     let w = c.args.self.now in
     let e : c.min.result ≡ min c.args.event c.event_of.result = c.min.ensures in
-    omega (arith, c.event_of.ensures, c.requires.later,
-    event_later w.table w.buckets w.filled w.bank c.args.wheel c.in-Some.slot c.requires.wheel c.in-Some.ensures.first c.requires.open)
+    omega (
+      arith,
+      c.event_of.ensures,
+      c.requires.later,
+      event_later w.table w.buckets w.filled w.bank c.args.wheel c.in-Some.slot c.requires.wheel c.in-Some.ensures.first c.requires.open,
+    )
 
 pub returns-in-Some-clause-events : goal.returns-in-Some-clause-events
 returns-in-Some-clause-events c =

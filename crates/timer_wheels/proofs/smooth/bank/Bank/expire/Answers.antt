@@ -1,5 +1,5 @@
-use Rattle.std.proofs.Common.{◌≡◌, ◌<◌, ◌≤◌, ℕ, ◌∙◌, ap, arith, length}
-use Rattle.timer_links.specs.Lists.{list_at, Rows}
+use Rattle.std.proofs.Common.{◌∙◌, ap, arith, length}
+use Rattle.timer_links.specs.Lists.{Rows}
 use Rattle.timer_wheels.specs.BucketLists.{AreBuckets, EachRow}
 use Rattle.timer_wheels.specs.Occupied.{AreMarked}
 use Rattle.timer_wheels.specs.Smooth.{mark, IsByLaw}

@@ -1,4 +1,4 @@
-use Rattle.std.proofs.Common.{◌≡◌, ◌≤◌, length, arith, subst, ℕ}
+use Rattle.std.proofs.Common.{◌≡◌, length, arith, subst, ℕ}
 use Rattle.timer_wheels.specs.SmoothAhead.{IsFoundBelow, IsBegin}
 use Rattle.timer_wheels.specs.Tables.{radices}
 use Rattle.timer_wheels.proofs.SmoothFirsts.{found_none}

@@ -1,6 +1,6 @@
-use Rattle.std.proofs.Common.{◌≡◌, ◌<◌, ◌≤◌, ◌*◌, sym, ◌∙◌, ap, arith, rules, true, subst, ℕ}
+use Rattle.std.proofs.Common.{◌≡◌, arith}
 use Rattle.timer_wheels.specs.Occupied.{bit_of}
-use Rattle.timer_wheels.specs.Smooth.{slot_in, smooth_list}
+use Rattle.timer_wheels.specs.Smooth.{smooth_list}
 use Rattle.timer_wheels.specs.Tables.{radices}
 use Rattle.timer_wheels.proofs.SmoothAhead.{begins_in_range, some_by_bit}
 use Rattle.timer_wheels.proofs.SmoothDescent.{few_lists}

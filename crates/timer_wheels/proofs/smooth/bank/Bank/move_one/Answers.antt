@@ -1,4 +1,4 @@
-use Rattle.std.proofs.Common.{◌≡◌, ◌≢◌, ◌<◌, ◌≤◌, ◌+◌, ℕ, length, sym, ◌∙◌, ap, subst, arith}
+use Rattle.std.proofs.Common.{◌≡◌, ◌+◌, ℕ, length, sym, ◌∙◌, ap, subst, arith}
 use Rattle.timer_base.specs.WheelState.{with_room}
 use Rattle.timer_links.specs.Lists.{list_at, Rows}
 use Rattle.timer_wheels.specs.Smooth.{ticks_left}

@@ -1,5 +1,5 @@
-use Rattle.std.proofs.Common.{◌≡◌, ◌<◌, ◌≤◌, ◌+◌, ℕ, length, ap, ◌∙◌, arith}
-use Rattle.timer_base.specs.WheelState.{with_room, after_tick}
+use Rattle.std.proofs.Common.{◌+◌, ℕ, length, ap, ◌∙◌, arith}
+use Rattle.timer_base.specs.WheelState.{with_room}
 use Rattle.timer_links.specs.Lists.{list_at, appended, KeyedLists, Rows}
 use Rattle.timer_wheels.specs.Smooth.{next_list, heights}
 use Rattle.timer_wheels.specs.Tables.{radices}

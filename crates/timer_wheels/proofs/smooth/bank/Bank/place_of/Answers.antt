@@ -1,6 +1,6 @@
-use Rattle.std.proofs.Common.{◌≡◌, ◌<◌, ◌≤◌, sym, ◌∙◌, ap, arith, true, false}
+use Rattle.std.proofs.Common.{sym, ◌∙◌, ap, arith}
 use Rattle.timer_base.specs.declared.timer.Timer.{Timer}
-use Rattle.timer_wheels.specs.Smooth.{slot_in, smooth_list, descend_by}
+use Rattle.timer_wheels.specs.Smooth.{smooth_list, descend_by}
 use Rattle.timer_wheels.specs.Tables.{radices}
 use Rattle.timer_wheels.proofs.BankNext.{next_of_due, next_in, next_out}
 use Rattle.timer_wheels.proofs.smooth.bank.Bank.place_of.Goals as goal

@@ -1,4 +1,4 @@
-use Rattle.std.proofs.Common.{◌≡◌, ◌<◌, ◌≤◌, ℕ, sym, ◌∙◌, ap, subst, arith, inl, inr, map, Some}
+use Rattle.std.proofs.Common.{◌≡◌, sym, ◌∙◌, ap, arith, inl, inr, map, Some}
 use Rattle.std.proofs.lemmas.Bool.{cases_lt}
 use Rattle.timer_base.specs.WheelState.{held_at, old_timer}
 use Rattle.timer_links.specs.Lists.{with_row, without_key}

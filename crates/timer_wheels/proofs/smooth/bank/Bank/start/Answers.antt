@@ -1,7 +1,6 @@
-use Rattle.std.proofs.Common.{◌≡◌, ◌<◌, ◌≤◌, ℕ, sym, ◌∙◌, ap, subst, arith, inl, inr}
+use Rattle.std.proofs.Common.{◌∙◌, arith, inl, inr}
 use Rattle.std.proofs.lemmas.Bool.{cases_lt}
 use Rattle.timer_links.specs.Lists.{with_row}
-use Rattle.timer_wheels.specs.Bank.{AreByLaw}
 use Rattle.timer_wheels.specs.BucketLists.{AreBuckets, EachRow}
 use Rattle.timer_wheels.specs.Buckets.{row_at}
 use Rattle.timer_wheels.specs.Occupied.{AreMarked}

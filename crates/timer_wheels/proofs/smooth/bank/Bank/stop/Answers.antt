@@ -1,4 +1,4 @@
-use Rattle.std.proofs.Common.{◌≡◌, ◌<◌, ◌≤◌, ℕ, sym, ◌∙◌, ap, arith, map, length, Some}
+use Rattle.std.proofs.Common.{◌≡◌, sym, ◌∙◌, ap, arith, map, length, Some}
 use Rattle.timer_base.specs.WheelState.{held_at}
 use Rattle.timer_links.specs.Lists.{list_at, without_key, KeyedLists}
 use Rattle.timer_wheels.specs.BucketLists.{AreBuckets}
