@@ -9,15 +9,15 @@
 //! ends. Which list a pending timer stands in follows from now, its deadline, its serial and the serials up to which
 //! the next buckets have moved on (`smooth_bucket` in specs/Smooth.antt).
 //!
-//!     now 10; pending: 4100 (serial 1), 4161 (2) and 8191 (3), in slot 1 of wheel 2, which is its next bucket
+//! Three timers of Wide, started at tick 10 for 8196 (serial 1), 8257 (2) and 12287 (3), all in slot 2 of wheel 2. At tick
+//! 4096 it begins to be the next bucket, at a pace of 2:
 //!
-//!     wheel 2, slot 1    wheel 1 (a slot is 64 ticks)
-//!     1 2 3                                              a start for 4101 would go to the back of slot 1
-//!     2 3                slot 64: 1
-//!     3                  slot 64: 1   slot 65: 2
-//!     open               slot 64: 1   slot 65: 2   slot 127: 3       a start for 4101 goes to slot 64 of wheel 1
+//!      now   wheel 2, slot 2   wheel 1 (a slot is 64 ticks)
+//!     4096   1 2 3                                                a start for 8197 goes to the back, and 1 and 2 move
+//!     4097   3                 slot 128: 1   slot 129: 2
+//!     4098   open              slot 128: 1   slot 129: 2   slot 191: 3      a start for 8197 goes to slot 128 of wheel 1
 //!
-//! At tick 4032 slot 64 begins to be the next bucket of wheel 1, and timer 1 goes to slot 4100 of wheel 0.
+//! At tick 8128 slot 128 begins to be the next bucket of wheel 1, and at the next tick timer 1 goes to slot 8196 of wheel 0.
 //!
 //! At each tick some timers of each next bucket move: its pace (`paces`), fixed as it begins to be the next one (`work`). So
 //! no tick moves a whole bucket, and in `Table::Wide` none moves more than 2n/63 + 18 timers, n the most that were held.
