@@ -1,7 +1,7 @@
 -- Lemmas for `Bank`: its invariant, by the laws of the smooth wheel.
 use Rattle.std.proofs.Common.{◌≡◌, ◌≢◌, ◌<◌, ◌≤◌, ◌⊎◌, ◌+◌, ◌-◌, ◌*◌, ◌%◌, ℕ, zero, suc, List, [], ◌∷◌, ◌++◌, length, refl, sym, ◌∙◌, ap, inl, inr, subst, arith, slice_set, get_or-set_other, ◌==◌, Some, None}
 use Rattle.std.specs.List.{AllByRecursion}
-use Rattle.std.proofs.lemmas.Bool.{cases_eq}
+use Rattle.std.proofs.lemmas.Bool.{cases_eq, cases_lt}
 use Rattle.timer_base.specs.Basics.{some_same, some_none}
 use Rattle.timer_base.specs.declared.limits.TheConstants.{LAST}
 use Rattle.timer_base.specs.declared.timer.Timer.{Timer}
@@ -25,13 +25,14 @@ use Rattle.timer_wheels.proofs.RowLemmas.{all-list_at}
 use Rattle.timer_wheels.proofs.SmoothLaws.{started_stands, stands_by_law}
 use Rattle.timer_wheels.proofs.SmoothMoves.{after_from, after_to, after_others}
 use Rattle.timer_wheels.proofs.SmoothDescent.{descend_is}
-use Rattle.timer_wheels.proofs.SmoothHeights.{height_is, heights_fall, heights_mono}
+use Rattle.timer_wheels.proofs.SmoothHeights.{height_is, heights_moved, heights_due}
 use Rattle.timer_wheels.proofs.SmoothLists.{one_wheel, same_rest_of, radix_above, ahead_within}
 use Rattle.timer_wheels.proofs.SmoothPace.{past_half}
+use Rattle.timer_wheels.proofs.SmoothSlots.{slots_mono}
 use Rattle.timer_wheels.proofs.SmoothWeights.{multiples, weight_some}
 use Rattle.timer_wheels.proofs.SmoothPlaces.{weaker, places_with_row, places_left}
 use Rattle.timer_wheels.proofs.SmoothSteps.{step, bit_is_mark}
-use Rattle.timer_wheels.proofs.SmoothTicks.{ticked, new_l, new_others, next_same, shorter}
+use Rattle.timer_wheels.proofs.SmoothTicks.{ticked, new_l, new_others, next_same}
 use Rattle.timer_wheels.proofs.BucketLemmas.{no_rows}
 use Rattle.timer_wheels.proofs.SmoothTurns.{wide_length, wide_radix, wide_list_in_range, wide_list}
 use Rattle.timer_wheels.proofs.TableLaws.{of_table}
@@ -128,7 +129,10 @@ pub record IsMoved (t : Table) (b : Buckets) (wheel from to : ℕ) (new : KeyedL
   pub there : filled (list_at to new) ≡ 1
   pub was : filled (list_at from b.links.lists) ≡ 1
   pub falls : heights (radices t) b.slots new + 1 ≤ heights (radices t) b.slots b.links.lists
-  -- in the first half of the bucket's time it comes to no next bucket
+  -- in the first half of the bucket's time it goes one wheel down
+  pub one_down : (ticks_left (radices t) b.tick wheel ≡ 0 → length (list_at from b.links.lists) ≡ 0)
+      → heights (radices t) b.slots new + 1 ≡ heights (radices t) b.slots b.links.lists
+  -- and it comes to no next bucket
   pub next_same : (ticks_left (radices t) b.tick wheel ≡ 0 → length (list_at from b.links.lists) ≡ 0) → (j : ℕ) → 0 < j
       → j < length (radices t) → j ≢ wheel → list_at (next_list (radices t) b.tick j) new ≡ list_at (next_list (radices t) b.tick j) b.links.lists
 
@@ -194,6 +198,36 @@ module _ (t : Table) (b : Buckets) (words : List ℕ) (h : IsBank t b words) (k 
           → y % (2 * radix x (radices t)) ≡ z % (2 * radix x (radices t))
       same_rests x y z e = omega arith
 
+  one_lower : ticks_left (radices t) b.tick (suc k) ≢ 0 → a_step.on ≡ k
+  one_lower some = elim (cases_lt a_step.on k) [
+    | inl l ↦
+        let in_next : slot_in (radices t) (suc a_step.on) (timer_in f.row).deadline ≡ slot_in (radices t) (suc a_step.on) b.tick + 1 =
+        elim (cases_lt (slot_in (radices t) (suc a_step.on) b.tick) (slot_in (radices t) (suc a_step.on) (timer_in f.row).deadline)) [
+          | inl c ↦ (let n = a_step.near in omega arith)
+          | inr c ↦ absurd (omega (
+            arith,
+            a_step.in_next,
+            slots_mono (radices t) (suc a_step.on) (suc k) b.tick (timer_in f.row).deadline i
+                (omega arith) c,
+          ))
+        ] in
+        let m = multiples t (suc a_step.on) (suc k) (omega arith) wheel in
+        absurd (some (past_half (radices t) (suc a_step.on) (suc k) b.tick (timer_in f.row).deadline m.by m.is m.two
+        (weight_some (radices t) (suc a_step.on) i) a_step.in_next in_next))
+    | inr l ↦ (let h = a_step.lower in omega arith)
+  ]
+
+  row_moved : heights (radices t) b.slots (stepped (radices t) b.tick k a_step.on b.links.lists f.row f.rest) + suc k
+      ≡ heights (radices t) b.slots b.links.lists + a_step.on
+  row_moved = omega (
+    arith,
+    heights_moved (radices t) b.slots (next_list (radices t) b.tick (suc k))
+        (smooth_list (radices t) a_step.on (slot_in (radices t) a_step.on (timer_in f.row).deadline)) b.links.lists f.row f.rest
+        (omega (arith, b.sound.has_lists)) a_step.move.from_in a_step.move.to_in f.at,
+    height_is (radices t) (suc k) (slot_in (radices t) (suc k) b.tick + 1) i (turns_of_table t) wheel,
+    height_is (radices t) a_step.on (slot_in (radices t) a_step.on (timer_in f.row).deadline) i (turns_of_table t) a_step.wheel,
+  )
+
   moved_lists : IsMoved t b (suc k) (next_list (radices t) b.tick (suc k))
       (smooth_list (radices t) a_step.on (slot_in (radices t) a_step.on (timer_in f.row).deadline))
       (stepped (radices t) b.tick k a_step.on b.links.lists f.row f.rest)
@@ -211,15 +245,12 @@ module _ (t : Table) (b : Buckets) (words : List ℕ) (h : IsBank t b words) (k 
     there = ap filled (after_to b.sound a_step.move) ∙ filled_behind (list_at (smooth_list (radices t) a_step.on
         (slot_in (radices t) a_step.on (timer_in f.row).deadline)) b.links.lists) f.row;
     was = ap filled f.at;
-    falls = heights_fall (radices t) b.slots (next_list (radices t) b.tick (suc k))
-        (smooth_list (radices t) a_step.on (slot_in (radices t) a_step.on (timer_in f.row).deadline)) b.links.lists f.row f.rest
-        (omega (arith, b.sound.has_lists)) a_step.move.from_in a_step.move.to_in f.at
-        (omega (
-          arith,
-          height_is (radices t) (suc k) (slot_in (radices t) (suc k) b.tick + 1) i (turns_of_table t) wheel,
-          height_is (radices t) a_step.on (slot_in (radices t) a_step.on (timer_in f.row).deadline) i (turns_of_table t) a_step.wheel,
-          a_step.lower,
-        ));
+    falls = omega (arith, row_moved, a_step.lower);
+    one_down = λ early. omega (
+      arith,
+      row_moved,
+      one_lower (λ (e : ticks_left (radices t) b.tick (suc k) ≡ 0). omega (arith, early e, ap (λ (r : Rows). length r) f.at)),
+    );
     next_same = λ early j z l n. after_others b.sound a_step.move (next_list (radices t) b.tick j)
         (λ (y : next_list (radices t) b.tick j ≡ next_list (radices t) b.tick (suc k)).
         n (one_wheel (radices t) j (suc k) (slot_in (radices t) j b.tick + 1) (slot_in (radices t) (suc k) b.tick + 1) i
@@ -323,11 +354,11 @@ module _ (t : Table) (b : Buckets) (words : List ℕ) (h : IsBank t b words) (be
   tick_next = next_same (radices t) b.slots b.last_tick b.tick b.last_serial b.links.lists tick_table (turns_of_table t) tick_some b.sound
       tick_placed before_last none_due tick_ranges empty
 
-  pub tick_falls : heights (radices t) b.slots (appended (smooth_list (radices t) zero (b.tick + 1)) b.slots b.links.lists)
-      ≤ heights (radices t) b.slots b.links.lists
-  tick_falls = heights_mono (radices t) b.slots b.links.lists (appended (smooth_list (radices t) zero (b.tick + 1)) b.slots b.links.lists)
-      (shorter (radices t) b.slots b.last_tick b.tick b.last_serial b.links.lists tick_table (turns_of_table t) tick_some b.sound
-      tick_placed before_last none_due tick_ranges empty)
+  pub tick_heights : heights (radices t) b.slots (appended (smooth_list (radices t) zero (b.tick + 1)) b.slots b.links.lists)
+      ≡ heights (radices t) b.slots b.links.lists
+  tick_heights = heights_due (radices t) b.slots (smooth_list (radices t) zero (b.tick + 1)) b.links.lists
+      (omega (arith, b.sound.has_lists)) (tick_ranges zero (b.tick + 1) tick_some)
+      (height_is (radices t) zero (b.tick + 1) tick_table (turns_of_table t) tick_some)
 
   pub tick_marked : (words2 : List ℕ) → bit_of words2 (smooth_list (radices t) zero (b.tick + 1)) ≡ 0
       → ((s : ℕ) → s ≢ smooth_list (radices t) zero (b.tick + 1) → bit_of words2 s ≡ bit_of words s)

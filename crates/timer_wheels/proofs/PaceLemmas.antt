@@ -135,7 +135,7 @@ enough t b k n z e h =
 -- the wheels up to w have moved, and the others have not yet
 pub record AreMoving (t : Table) (old new : Buckets) (paces paces2 : List ℕ) (moves w : ℕ) : Type 0 where
   pub at_most : moves ≤ sum_below paces w
-  pub falls : potential_of t new + moves ≤ potential_of t old
+  pub falls : potential_of t new + moves ≡ potential_of t old
   pub done : (k : ℕ) → 0 < k → k < w → k < length (radices t) → HasMoved t old new paces paces2 k
   pub rest : (k : ℕ) → 0 < k → w ≤ k → k < length (radices t) → next_len t new k ≤ next_len t old k
   pub kept : (k : ℕ) → w ≤ k → pace_at paces2 k ≡ pace_at paces k
@@ -153,7 +153,7 @@ moving_none t b paces = record {
 
 pub moving_more : (t : Table) (old mid new : Buckets) (paces paces2 paces3 : List ℕ) (moves w more : ℕ) → AreMoving t old mid paces paces2 moves w
     → 0 < w → w < length (radices t) → HasMoved t mid new paces2 paces3 w → OthersShrink t w mid new
-    → ((k : ℕ) → k ≢ w → pace_at paces3 k ≡ pace_at paces2 k) → more ≤ pace_at paces2 w → potential_of t new + more ≤ potential_of t mid
+    → ((k : ℕ) → k ≢ w → pace_at paces3 k ≡ pace_at paces2 k) → more ≤ pace_at paces2 w → potential_of t new + more ≡ potential_of t mid
     → AreMoving t old new paces paces3 (moves + more) (w + 1)
 moving_more t old mid new paces paces2 paces3 moves w more m z l moved others paces_same most falls = record {
   at_most =

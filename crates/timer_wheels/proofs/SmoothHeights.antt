@@ -3,7 +3,7 @@ use Rattle.std.proofs.Common.{◌≡◌, ◌<◌, ◌≤◌, ◌+◌, ◌-◌, �
 use Rattle.std.proofs.Math.Nat.{mul-le-mul_left}
 use Rattle.std.proofs.lemmas.Bool.{cases_eq, cases_lt}
 use Rattle.std.proofs.lemmas.Bool.Decides.{nat_tests}
-use Rattle.timer_links.specs.Lists.{list_at, with_row, KeyedLists, Row, Rows}
+use Rattle.timer_links.specs.Lists.{list_at, with_row, appended, KeyedLists, Row, Rows}
 use Rattle.timer_wheels.specs.Digits.{IsTable, radix}
 use Rattle.timer_wheels.specs.Smooth.{smooth_list, height, heights, HasTurns}
 use Rattle.timer_wheels.proofs.SmoothLists.{radix_above}
@@ -105,14 +105,25 @@ pub heights_push_above : (table : List ℕ) (n s : ℕ) (row : Row) (lists : Key
     → heights table n (with_row s row lists) ≡ heights table n lists
 heights_push_above table n s row lists h = heights_above table n s (list_at s lists ++ row ∷ []) lists h
 
--- a row moves to a list of a lower wheel
-pub heights_fall : (table : List ℕ) (n from to : ℕ) (lists : KeyedLists) (row : Row) (rest : Rows) → n < length lists → from < n → to < n
-    → list_at from lists ≡ row ∷ rest → height table to < height table from
-    → heights table n (with_row to row (slice_set lists from rest)) + 1 ≤ heights table n lists
-heights_fall table n from to lists row rest len a b at less =
+-- a row moves to another list
+pub heights_moved : (table : List ℕ) (n from to : ℕ) (lists : KeyedLists) (row : Row) (rest : Rows) → n < length lists → from < n → to < n
+    → list_at from lists ≡ row ∷ rest
+    → heights table n (with_row to row (slice_set lists from rest)) + height table from ≡ heights table n lists + height table to
+heights_moved table n from to lists row rest len a b at =
     let e = heights_set table n from rest lists a (omega arith) in
     let was : height table from * length (list_at from lists) ≡ height table from * suc (length rest) =
     ap (λ (r : Rows). height table from * length r) at in
     let m : height table from * suc (length rest) ≡ height table from * length rest + height table from = omega arith in
     let p = heights_push table n to row (slice_set lists from rest) b (omega (arith, length-set lists from rest)) in
+    omega arith
+
+-- a list of the lowest wheel goes to a list above the first n
+pub heights_due : (table : List ℕ) (n from : ℕ) (lists : KeyedLists) → n < length lists → from < n → height table from ≡ 0
+    → heights table n (appended from n lists) ≡ heights table n lists
+heights_due table n from lists len a z =
+    let e = heights_set table n from [] lists a (omega arith) in
+    let was : height table from * length (list_at from lists) ≡ 0 * length (list_at from lists) =
+    ap (λ (x : ℕ). x * length (list_at from lists)) z in
+    let is : height table from * 0 ≡ 0 = omega arith in
+    let above = heights_above table n n (list_at n lists ++ list_at from lists) (slice_set lists from []) (omega arith) in
     omega arith

@@ -1,5 +1,5 @@
 -- One tick of a smooth wheel, after its moves: the timers of the tick become due, and the others stay where they are.
-use Rattle.std.proofs.Common.{◌≡◌, ◌≢◌, ◌<◌, ◌≤◌, ◌+◌, ◌*◌, ℕ, zero, suc, List, [], ◌∷◌, ◌++◌, length, refl, sym, ◌∙◌, ap, inl, inr, subst, arith, slice_set, length-set, get_or-set_same, get_or-set_other, filter, not, Bool, true, false}
+use Rattle.std.proofs.Common.{◌≡◌, ◌≢◌, ◌<◌, ◌+◌, ◌*◌, ℕ, zero, suc, List, [], ◌∷◌, ◌++◌, length, refl, sym, ◌∙◌, ap, inl, inr, subst, arith, slice_set, length-set, get_or-set_same, get_or-set_other, filter, not, Bool, true, false}
 use Rattle.std.specs.List.{AllByRecursion}
 use Rattle.std.proofs.lemmas.Bool.{cases_eq, eq-eqb, ne_eqb}
 use Rattle.std.proofs.lemmas.List.Elements.{filter-append}
@@ -270,16 +270,6 @@ module _ (table : List ℕ) (n last_tick a last : ℕ) (lists : KeyedLists) (i :
   marks_same : (j : ℕ) → 0 < j → j < length table → slot_in table j (a + 1) ≡ slot_in table j a
       → mark table (a + 1) (appended (smooth_list table zero (a + 1)) n lists) j ≡ mark table a lists j
   marks_same j z h e = ap moved_to (next_same j z h e)
-
-  -- no list of a bucket gets longer
-  pub shorter : (s : ℕ) → s < n → length (list_at s (appended (smooth_list table zero (a + 1)) n lists)) ≤ length (list_at s lists)
-  shorter s h = elim (cases_eq s (smooth_list table zero (a + 1))) [
-    | inl e ↦
-        let z : length (list_at s (appended (smooth_list table zero (a + 1)) n lists)) ≡ 0 =
-        ap (λ (x : ℕ). length (list_at x (appended (smooth_list table zero (a + 1)) n lists))) e ∙ ap (λ (r : Rows). length r) new_l in
-        omega arith
-    | inr x ↦ omega (arith, ap (λ (r : Rows). length r) (new_others s x (λ (e : s ≡ n). omega arith)))
-  ]
 
   record Known (s : ℕ) (row : Row) : Type 0 where
     placed_before : IsSmooth table a (mark table a lists) s row

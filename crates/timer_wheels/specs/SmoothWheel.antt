@@ -3,6 +3,7 @@ use Rattle.std.proofs.Common.{refl}
 use Rattle.std.specs.Prelude.{◌≡◌, ◌<◌, ◌-◌, ◌==◌, if◌then◌else◌, ℕ, List, []}
 use Rattle.timer_base.specs.WheelState.{WheelState, after_ticks}
 use Rattle.timer_links.specs.Lists.{KeyedLists}
+use Rattle.timer_wheels.specs.Bank.{potential_of}
 use Rattle.timer_wheels.specs.Buckets.{state_of}
 use Rattle.timer_wheels.specs.Paces.{pace_sum, FitPaces}
 use Rattle.timer_wheels.specs.Placement.{no_rounds}
@@ -44,6 +45,11 @@ moves_of wheel = wheel.moves
 -- the most moves of the next tick: the sum of the paces
 abbrev pub next_moves : SmoothWheel → ℕ
 next_moves wheel = pace_sum wheel.paces
+
+-- the wheels in which its pending timers stand, added up: how many moves are left, if none is stopped and each goes one
+-- wheel down at a time
+abbrev pub wheels_left : SmoothWheel → ℕ
+wheels_left wheel = potential_of wheel.bank.table wheel.bank.buckets
 
 -- each pace was fixed when at most n timers were held
 abbrev pub IsPacedFor : ℕ → SmoothWheel → Type 0

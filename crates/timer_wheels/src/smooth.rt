@@ -169,7 +169,7 @@ impl SmoothWheel {
 }
 
 impl SmoothWheel {
-    ghost use Rattle.timer_wheels.specs.SmoothWheel.{smooth_state, smooth_table, moves_of, next_moves, radices_by_turns, Passes, IsPacedFor};
+    ghost use Rattle.timer_wheels.specs.SmoothWheel.{smooth_state, smooth_table, moves_of, next_moves, wheels_left, radices_by_turns, Passes, IsPacedFor};
 
     /// Sets the clock forward to the tick before the next event, or before the end if that comes first, unless a tick has
     /// timers to move.
@@ -182,6 +182,7 @@ impl SmoothWheel {
         ensures later { (smooth_state self.old).now ≤ (smooth_state self.new).now }
         ensures end { (smooth_state self.new).now < end }
         ensures moves { moves_of self.new ≡ moves_of self.old }
+        ensures counted { wheels_left self.new ≡ wheels_left self.old }
         ensures held { held_count (smooth_state self.new) ≡ held_count (smooth_state self.old) }
         ensures paced { (n : ℕ) → IsPacedFor n self.old → IsPacedFor n self.new }
         ensures table { smooth_table self.new ≡ smooth_table self.old }
@@ -203,6 +204,7 @@ impl SmoothWheel {
         ensures held { held_count (smooth_state self.new) ≡ held_count (smooth_state self.old) }
         ensures bound { (n : ℕ) → IsPacedFor n self.old → moves_of self.new ≤ moves_of self.old
             + tick_bound (smooth_table self.old) n }
+        ensures counted { moves_of self.new + wheels_left self.new ≡ moves_of self.old + wheels_left self.old }
         ensures paced { (n : ℕ) → held_count (smooth_state self.old) ≤ n → IsPacedFor n self.old → IsPacedFor n self.new }
         ensures table { smooth_table self.new ≡ smooth_table self.old }
     {
@@ -212,7 +214,7 @@ impl SmoothWheel {
 }
 
 impl Wheel for SmoothWheel {
-    ghost use Rattle.timer_wheels.specs.SmoothWheel.{smooth_state, smooth_table, moves_of, next_moves, radices_by_turns, Passes, IsPacedFor};
+    ghost use Rattle.timer_wheels.specs.SmoothWheel.{smooth_state, smooth_table, moves_of, next_moves, wheels_left, radices_by_turns, Passes, IsPacedFor};
 
     ghost state = { λ wheel. smooth_state wheel };
 
@@ -304,7 +306,7 @@ impl Wheel for SmoothWheel {
         Some(restarted)
     }
 
-    /// At most as many timers move as the paces are in sum: in `Table::Wide` at most 2n/63 + 18, if never more than n were
+    /// Each timer that moves goes just one wheel down, and is counted. At most as many move as the paces are in sum: in `Table::Wide` at most 2n/63 + 18, if never more than n were
     /// held since the wheel was made.
     #[inline(always)]
     fn per_tick(&mut self)
@@ -314,6 +316,7 @@ impl Wheel for SmoothWheel {
         ensures at_most { moves_of self.new ≤ moves_of self.old + next_moves self.old }
         ensures bound { (n : ℕ) → IsPacedFor n self.old → moves_of self.new ≤ moves_of self.old
             + tick_bound (smooth_table self.old) n }
+        ensures counted { moves_of self.new + wheels_left self.new ≡ moves_of self.old + wheels_left self.old }
         ensures paced { (n : ℕ) → held_count (smooth_state self.new) ≤ n → IsPacedFor n self.old → IsPacedFor n self.new }
         ensures table { smooth_table self.new ≡ smooth_table self.old }
     {
@@ -332,6 +335,7 @@ impl Wheel for SmoothWheel {
         ensures advances { Advances most result (smooth_state self.old) (smooth_state self.new) }
         ensures bound { (n : ℕ) → held_count (smooth_state self.old) ≤ n → IsPacedFor n self.old → moves_of self.new
             ≤ moves_of self.old + result * tick_bound (smooth_table self.old) n }
+        ensures counted { moves_of self.new + wheels_left self.new ≡ moves_of self.old + wheels_left self.old }
         ensures paced { (n : ℕ) → held_count (smooth_state self.old) ≤ n → IsPacedFor n self.old → IsPacedFor n self.new }
         ensures table { smooth_table self.new ≡ smooth_table self.old }
     {

@@ -143,6 +143,8 @@ impl Bank {
             ≡ next_len self.old.table self.old.buckets wheel }
         ensures falls { result ≡ true → potential_of self.old.table self.new.buckets + 1
             ≤ potential_of self.old.table self.old.buckets }
+        ensures exact { IsEarly self.old.table self.old.buckets wheel → result ≡ true
+            → potential_of self.old.table self.new.buckets + 1 ≡ potential_of self.old.table self.old.buckets }
         ensures others { IsEarly self.old.table self.old.buckets wheel
             → OthersShrink self.old.table wheel self.old.buckets self.new.buckets }
     {
@@ -162,7 +164,8 @@ impl Bank {
 
     /// Moves timers from the front of a wheel's next bucket to lower wheels: so many, or all.
     ///
-    /// Returns how many. In the first half of the bucket's time none of them comes to a next bucket. Does not allocate.
+    /// Returns how many. In the first half of the bucket's time each goes just one wheel down, and none comes to a next
+    /// bucket. Does not allocate.
     pub fn move_some(&mut self, wheel: usize, most: u64) -> u64
         requires above { 0 < wheel }
         requires wheel { wheel < length (radices self.old.table) }
@@ -175,6 +178,8 @@ impl Bank {
         ensures all { result < most → next_len self.old.table self.new.buckets wheel ≡ 0 }
         ensures falls { potential_of self.old.table self.new.buckets + result
             ≤ potential_of self.old.table self.old.buckets }
+        ensures exact { IsEarly self.old.table self.old.buckets wheel
+            → potential_of self.old.table self.new.buckets + result ≡ potential_of self.old.table self.old.buckets }
         ensures others { IsEarly self.old.table self.old.buckets wheel
             → OthersShrink self.old.table wheel self.old.buckets self.new.buckets }
     {
@@ -204,7 +209,7 @@ impl Bank {
         ensures kept { (j : ℕ) → 0 < j → j < length (radices self.old.table)
             → slot_in (radices self.old.table) j (self.old.buckets.tick + 1) ≡ slot_in (radices self.old.table) j self.old.buckets.tick
             → next_len self.old.table self.new.buckets j ≡ next_len self.old.table self.old.buckets j }
-        ensures falls { potential_of self.old.table self.new.buckets ≤ potential_of self.old.table self.old.buckets }
+        ensures potential { potential_of self.old.table self.new.buckets ≡ potential_of self.old.table self.old.buckets }
     {
         let tick = self.buckets.tick + 1;
         let list = list_of_slot(self.table, 0, tick);

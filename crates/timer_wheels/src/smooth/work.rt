@@ -28,7 +28,7 @@ pub fn move_all(bank: &mut Bank, paces: &mut Paces) -> u64
     ensures table { bank.new.table ≡ bank.old.table }
     ensures tick { bank.new.buckets.tick ≡ bank.old.buckets.tick }
     ensures at_most { result ≤ pace_sum paces.old }
-    ensures falls { potential_of bank.old.table bank.new.buckets + result ≤ potential_of bank.old.table bank.old.buckets }
+    ensures falls { potential_of bank.old.table bank.new.buckets + result ≡ potential_of bank.old.table bank.old.buckets }
     ensures moved { (k : ℕ) → 0 < k → k < length (radices bank.old.table)
         → HasMoved bank.old.table bank.old.buckets bank.new.buckets paces.old paces.new k }
     ensures paces { (k : ℕ) → pace_at paces.new k ≤ pace_at paces.old k }
@@ -47,7 +47,7 @@ fn move_each(bank: &mut Bank, paces: &mut Paces) -> u64
     ensures table { bank.new.table ≡ bank.old.table }
     ensures tick { bank.new.buckets.tick ≡ bank.old.buckets.tick }
     ensures at_most { result ≤ pace_sum paces.old }
-    ensures falls { potential_of bank.old.table bank.new.buckets + result ≤ potential_of bank.old.table bank.old.buckets }
+    ensures falls { potential_of bank.old.table bank.new.buckets + result ≡ potential_of bank.old.table bank.old.buckets }
     ensures moved { (k : ℕ) → 0 < k → k < length (radices bank.old.table)
         → HasMoved bank.old.table bank.old.buckets bank.new.buckets paces.old paces.new k }
     ensures paces { (k : ℕ) → pace_at paces.new k ≤ pace_at paces.old k }
@@ -71,7 +71,7 @@ fn move_next(bank: &mut Bank, paces: &mut Paces, wheel: usize) -> u64
     ensures table { bank.new.table ≡ bank.old.table }
     ensures tick { bank.new.buckets.tick ≡ bank.old.buckets.tick }
     ensures at_most { result ≤ pace_at paces.old wheel }
-    ensures falls { potential_of bank.old.table bank.new.buckets + result ≤ potential_of bank.old.table bank.old.buckets }
+    ensures falls { potential_of bank.old.table bank.new.buckets + result ≡ potential_of bank.old.table bank.old.buckets }
     ensures moved { HasMoved bank.old.table bank.old.buckets bank.new.buckets paces.old paces.new wheel }
     ensures others { OthersShrink bank.old.table wheel bank.old.buckets bank.new.buckets }
     ensures paces { (k : ℕ) → k ≢ wheel → pace_at paces.new k ≡ pace_at paces.old k }
@@ -97,7 +97,7 @@ pub fn make_way(bank: &mut Bank, wheel: usize) -> u64
     ensures at_most { result ≤ 2 }
     ensures left { 0 < wheel → next_len bank.old.table bank.new.buckets wheel
         ≡ next_len bank.old.table bank.old.buckets wheel - 2 }
-    ensures falls { potential_of bank.old.table bank.new.buckets + result ≤ potential_of bank.old.table bank.old.buckets }
+    ensures falls { potential_of bank.old.table bank.new.buckets + result ≡ potential_of bank.old.table bank.old.buckets }
     ensures others { OthersShrink bank.old.table wheel bank.old.buckets bank.new.buckets }
 {
     if wheel == 0 {

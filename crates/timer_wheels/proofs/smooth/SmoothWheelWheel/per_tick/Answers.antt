@@ -40,7 +40,7 @@ invariant_of-self c =
         w.paid,
         m.ensures.falls,
         (let f : potential_of w.bank.table n.new.self.buckets
-            ≤ potential_of w.bank.table m.new.bank.buckets = rw (← m.ensures.table) n.ensures.falls in f),
+            ≡ potential_of w.bank.table m.new.bank.buckets = rw (← m.ensures.table) n.ensures.potential in f),
       ));
     }
 
@@ -55,3 +55,12 @@ returns-clause-paced c =
     let table = n.ensures.table ∙ m.ensures.table in
     λ most held f. c.fix_paces.ensures.fit most (omega (arith, held_rows n.new.self.buckets, held))
     (rw table (fit_lower (radices w.bank.table) most w.paces m.new.paces f m.ensures.paces))
+
+pub returns-clause-counted : goal.returns-clause-counted
+returns-clause-counted c =
+    let w = c.args.self.now in
+    let m = c.move_all-moves in
+    let n = c.next_tick in
+    let f : potential_of w.bank.table n.new.self.buckets ≡ potential_of w.bank.table m.new.bank.buckets =
+    rw (← m.ensures.table) n.ensures.potential in
+    rw (n.ensures.table ∙ m.ensures.table) (omega (arith, m.ensures.falls))

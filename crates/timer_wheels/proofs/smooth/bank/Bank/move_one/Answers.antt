@@ -80,3 +80,13 @@ returns-clause-others c =
           (m.next_same (subst (λ (x : ℕ). ticks_left (radices w.table) w.buckets.tick c.args.wheel ≡ 0 → length (list_at x w.buckets.links.lists) ≡ 0)
           (sym c.next_list-from.ensures.value) early) j z l n),
     )
+
+pub returns-clause-exact : goal.returns-clause-exact
+returns-clause-exact c =
+    let w = c.args.self.now in
+    let m = moved_by w.table w.buckets w.filled w.bank c.args.wheel c.next_list-from.result c.in-Some.deadline
+    c.descend-below.result c.slot_of.result c.list_of_slot-to.result c.requires.above c.requires.wheel c.next_list-from.ensures.value
+    (sym c.in-Some.is ∙ c.front_deadline.ensures) c.descend-below.ensures.value c.slot_of.ensures c.list_of_slot-to.ensures.value
+    c.move_front.new.self.lists c.move_front.ensures.moved in
+    λ early e. m.one_down (subst (λ (x : ℕ). ticks_left (radices w.table) w.buckets.tick c.args.wheel ≡ 0
+    → length (list_at x w.buckets.links.lists) ≡ 0) (sym c.next_list-from.ensures.value) early)

@@ -11,6 +11,8 @@ invariant-loop-moved l = record {
   at_most : l.moved ≤ l.most;
   counted : l.moved + next_len l.initial.self.table l.self.buckets l.wheel ≡ next_len l.initial.self.table l.initial.self.buckets l.wheel;
   falls : potential_of l.initial.self.table l.self.buckets + l.moved ≤ potential_of l.initial.self.table l.initial.self.buckets;
+  exact : IsEarly l.initial.self.table l.initial.self.buckets l.wheel
+      → potential_of l.initial.self.table l.self.buckets + l.moved ≡ potential_of l.initial.self.table l.initial.self.buckets;
   others : IsEarly l.initial.self.table l.initial.self.buckets l.wheel
       → OthersShrink l.initial.self.table l.wheel l.initial.self.buckets l.self.buckets;
 }

@@ -3,7 +3,7 @@ use Rattle.timer_base.specs.WheelState.{with_room}
 use Rattle.timer_links.specs.Lists.{list_at, appended, KeyedLists, Rows}
 use Rattle.timer_wheels.specs.Smooth.{next_list, heights}
 use Rattle.timer_wheels.specs.Tables.{radices}
-use Rattle.timer_wheels.proofs.BankLemmas.{tick_next, tick_falls, bank_ticked, tick_by_law, tick_marked}
+use Rattle.timer_wheels.proofs.BankLemmas.{tick_next, tick_heights, bank_ticked, tick_by_law, tick_marked}
 use Rattle.timer_wheels.proofs.SmoothDescent.{few_lists}
 use Rattle.timer_wheels.proofs.smooth.bank.Bank.next_tick.Goals as goal
 
@@ -44,12 +44,12 @@ returns-clause-kept c =
     ∙ ap (λ (r : Rows). length r)
     (tick_next w.table w.buckets w.filled w.bank c.requires.before_last c.requires.nothing_due c.requires.empty j z l e)
 
-pub returns-clause-falls : goal.returns-clause-falls
-returns-clause-falls c =
+pub returns-clause-potential : goal.returns-clause-potential
+returns-clause-potential c =
     let w = c.args.self.now in
     let q = c.append.ensures.appended ∙ ap (λ (x : ℕ). appended x w.buckets.slots w.buckets.links.lists) c.list_of_slot-list.ensures.value in
     omega (
       arith,
       ap (heights (radices w.table) w.buckets.slots) q,
-      tick_falls w.table w.buckets w.filled w.bank c.requires.before_last c.requires.nothing_due c.requires.empty,
+      tick_heights w.table w.buckets w.filled w.bank c.requires.before_last c.requires.nothing_due c.requires.empty,
     )
