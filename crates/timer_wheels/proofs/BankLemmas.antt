@@ -375,6 +375,22 @@ module _ (t : Table) (b : Buckets) (words : List ℕ) (h : IsBank t b words) (be
         (λ (s : ℕ) (a : b.slots ≤ s) c. others s (λ (e : s ≡ smooth_list (radices t) zero (b.tick + 1)). omega arith) ∙ h.marked.1 s a c),
       )
 
+-- for a timer that is started now the bits lead where the law says
+pub bits_are_law : (t : Table) (b : Buckets) (words : List ℕ) (h : IsBank t b words) (timer : Timer) → b.last_serial < timer.serial
+    → timer.serial ≤ LAST → (k : ℕ) → k < length (radices t) → descend_by (radices t) b.tick words timer.deadline k
+    ≡ descend (radices t) b.tick (mark (radices t) b.tick b.links.lists) timer.deadline timer.serial k
+bits_are_law t b words h timer fresh serial k l =
+    descend_is (radices t) b.tick words (mark (radices t) b.tick b.links.lists) timer.deadline timer.serial k
+    (λ j z m e.
+    let r : next_list (radices t) b.tick j < b.slots = rw h.has_slots (lists_in_range t j (slot_in (radices t) j b.tick + 1) (omega arith)) in
+    ap (λ (x : ℕ). x == 0) (h.marked.0 (next_list (radices t) b.tick j) r)
+    ∙ bit_is_mark timer.serial (list_at (next_list (radices t) b.tick j) b.links.lists) serial (omega arith)
+    (weaker (λ u. IsPending b.last_tick b.tick b.last_serial (timer_in u)) (λ u. (timer_in u).serial < timer.serial)
+    (list_at (next_list (radices t) b.tick j) b.links.lists)
+    (λ u p. let q : (timer_in u).serial ≤ b.last_serial = p.serial in omega arith)
+    (all-list_at (λ u. IsPending b.last_tick b.tick b.last_serial (timer_in u)) b.slots b.links.lists b.sound.pending
+    (next_list (radices t) b.tick j) r)))
+
 -- A start.
 
 module _ (t : Table) (b : Buckets) (words : List ℕ) (h : IsBank t b words) (timer : Timer) (place list last2 : ℕ)
@@ -401,18 +417,9 @@ module _ (t : Table) (b : Buckets) (words : List ℕ) (h : IsBank t b words) (ti
       start_digits b.slots (with_row list (row_at place timer 0) b.links.lists) sound
 
   -- the bits lead to its list
-  older : (s : ℕ) → s < b.slots → AllByRecursion (λ u. (timer_in u).serial < timer.serial) (list_at s b.links.lists)
-  older s k = weaker (λ u. IsPending b.last_tick b.tick b.last_serial (timer_in u)) (λ u. (timer_in u).serial < timer.serial) (list_at s b.links.lists)
-      (λ u p. let q : (timer_in u).serial ≤ b.last_serial = p.serial in omega arith)
-      (all-list_at (λ u. IsPending b.last_tick b.tick b.last_serial (timer_in u)) b.slots b.links.lists b.sound.pending s k)
-
   level_by_bits : (k : ℕ) → k < length (radices t) → descend_by (radices t) b.tick words timer.deadline k
       ≡ descend (radices t) b.tick (mark (radices t) b.tick b.links.lists) timer.deadline timer.serial k
-  level_by_bits k l = descend_is (radices t) b.tick words (mark (radices t) b.tick b.links.lists) timer.deadline timer.serial k
-      (λ j z m e.
-      let r : next_list (radices t) b.tick j < b.slots = start_ranges j (slot_in (radices t) j b.tick + 1) (omega arith) in
-      ap (λ (x : ℕ). x == 0) (h.marked.0 (next_list (radices t) b.tick j) r)
-      ∙ bit_is_mark timer.serial (list_at (next_list (radices t) b.tick j) b.links.lists) serial (omega arith) (older (next_list (radices t) b.tick j) r))
+  level_by_bits = bits_are_law t b words h timer fresh serial
 
   pub later_placed : b.tick < timer.deadline
       → list ≡ smooth_list (radices t) (descend_by (radices t) b.tick words timer.deadline (level (radices t) b.tick timer.deadline))

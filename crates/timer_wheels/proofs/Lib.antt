@@ -53,6 +53,7 @@ pub mod SmoothStarts
 pub mod SmoothWeights
 pub mod SmoothHeights
 pub mod BankNext
+pub mod BankCounts
 pub mod PaceLemmas
 pub mod SmoothTotals
 pub mod SmoothAhead

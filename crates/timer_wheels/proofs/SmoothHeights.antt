@@ -39,7 +39,7 @@ height_most table s = elim (cases_lt (s / 128) (length table)) [
 ]
 
 -- one list changes
-heights_above : (table : List ℕ) (n s : ℕ) (rows : Rows) (lists : KeyedLists) → n ≤ s
+pub heights_above : (table : List ℕ) (n s : ℕ) (rows : Rows) (lists : KeyedLists) → n ≤ s
     → heights table n (slice_set lists s rows) ≡ heights table n lists
 heights_above table zero s rows lists h = refl
 heights_above table (suc n) s rows lists h =

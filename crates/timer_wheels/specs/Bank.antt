@@ -1,5 +1,5 @@
 -- The invariant of the buckets of a smooth wheel and of their bits.
-use Rattle.std.specs.Prelude.{◌≡◌, ◌≢◌, ◌<◌, ◌≤◌, ◌+◌, ◌-◌, ℕ, List, Option, Some, None, length}
+use Rattle.std.specs.Prelude.{◌≡◌, ◌≢◌, ◌<◌, ◌≤◌, ◌+◌, ◌-◌, ℕ, List, Option, Some, None, length, nat_lt, if◌then◌else◌}
 use Rattle.std.specs.Coded.{×_prop}
 use Rattle.std.proofs.Props.{props}
 use Rattle.timer_base.specs.declared.timer.Handle.{Handle}
@@ -8,7 +8,7 @@ use Rattle.timer_links.specs.Lists.{Row}
 use Rattle.timer_wheels.specs.BucketLists.{EachRow, EachRow-prop}
 use Rattle.timer_wheels.specs.Digits.{last_of}
 use Rattle.timer_wheels.specs.Occupied.{bit_of, AreMarked, AreMarked-prop}
-use Rattle.timer_wheels.specs.Smooth.{smooth_slots, mark, next_list, next_length, heights, ticks_left, IsByLaw}
+use Rattle.timer_wheels.specs.Smooth.{smooth_slots, smooth_level, mark, next_list, next_length, heights, ticks_left, IsByLaw}
 use Rattle.timer_wheels.specs.Tables.{radices}
 use Rattle.timer_wheels.specs.declared.buckets.Buckets.{Buckets}
 use Rattle.timer_wheels.specs.declared.table.Table.{Table}
@@ -47,6 +47,11 @@ next_len table b k = next_length (radices table) b.tick b.links.lists k
 -- the potential of the timers: the wheels of all of them, added up
 abbrev pub potential_of : Table → Buckets → ℕ
 potential_of table b = heights (radices table) b.slots b.links.lists
+
+-- the wheel of a timer, by the placement law; that of one for now, which is due, is 0
+abbrev pub wheel_of : Table → Buckets → Timer → ℕ
+wheel_of table b timer = if nat_lt b.tick timer.deadline
+    then smooth_level (radices table) b.tick (mark (radices table) b.tick b.links.lists) timer else 0
 
 -- the next bucket of wheel k has timers only in the first half of its time
 abbrev pub IsEarly : Table → Buckets → ℕ → Type 0

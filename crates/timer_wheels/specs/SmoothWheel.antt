@@ -1,9 +1,10 @@
 -- The names in the public clauses of `SmoothWheel`.
 use Rattle.std.proofs.Common.{refl}
 use Rattle.std.specs.Prelude.{◌≡◌, ◌<◌, ◌-◌, ◌==◌, if◌then◌else◌, ℕ, List, []}
+use Rattle.timer_base.specs.declared.timer.Timer.{Timer}
 use Rattle.timer_base.specs.WheelState.{WheelState, after_ticks}
 use Rattle.timer_links.specs.Lists.{KeyedLists}
-use Rattle.timer_wheels.specs.Bank.{potential_of}
+use Rattle.timer_wheels.specs.Bank.{potential_of, wheel_of}
 use Rattle.timer_wheels.specs.Buckets.{state_of}
 use Rattle.timer_wheels.specs.Paces.{pace_sum, FitPaces}
 use Rattle.timer_wheels.specs.Placement.{no_rounds}
@@ -50,6 +51,10 @@ next_moves wheel = pace_sum wheel.paces
 -- wheel down at a time
 abbrev pub wheels_left : SmoothWheel → ℕ
 wheels_left wheel = potential_of wheel.bank.table wheel.bank.buckets
+
+-- the wheel in which a timer stands or, if it is started now, comes to; 0 for one that is due
+abbrev pub wheel_in : SmoothWheel → Timer → ℕ
+wheel_in wheel timer = wheel_of wheel.bank.table wheel.bank.buckets timer
 
 -- each pace was fixed when at most n timers were held
 abbrev pub IsPacedFor : ℕ → SmoothWheel → Type 0

@@ -25,7 +25,7 @@
 //!
 //! It meets the whole of `Wheel`, and no scheme uses it yet. Open: a scheme, a table for C, and speed: `first_slot` in
 //! `ahead` goes bit by bit, and the calls take the table as a value and not as a constant.
-ghost use Rattle.std.specs.Prelude.{◌≡◌, ◌+◌, ◌-◌, ◌*◌, ◌<◌, ◌≤◌, ◌↔◌, ℕ, [], length, IsTrue, IfOk, IfErr, IfSome, OnOk, OnErr, MatchOption, MatchResult};
+ghost use Rattle.std.specs.Prelude.{◌≡◌, ◌+◌, ◌-◌, ◌*◌, ◌<◌, ◌≤◌, ◌↔◌, ℕ, [], length, IsTrue, IfOk, IfErr, IfSome, IfNone, OnOk, OnErr, MatchOption, MatchResult};
 ghost use Rattle.timer_base.specs.declared.limits.TheConstants.{LAST};
 ghost use Rattle.timer_base.specs.WakeUps.{IsQuietUntil, next_deadline};
 ghost use Rattle.timer_base.specs.TickLaws.{IsPassing};
@@ -169,7 +169,7 @@ impl SmoothWheel {
 }
 
 impl SmoothWheel {
-    ghost use Rattle.timer_wheels.specs.SmoothWheel.{smooth_state, smooth_table, moves_of, next_moves, wheels_left, radices_by_turns, Passes, IsPacedFor};
+    ghost use Rattle.timer_wheels.specs.SmoothWheel.{smooth_state, smooth_table, starts_of, moves_of, next_moves, wheels_left, wheel_in, radices_by_turns, Passes, IsPacedFor};
 
     /// Sets the clock forward to the tick before the next event, or before the end if that comes first, unless a tick has
     /// timers to move.
@@ -183,6 +183,7 @@ impl SmoothWheel {
         ensures end { (smooth_state self.new).now < end }
         ensures moves { moves_of self.new ≡ moves_of self.old }
         ensures counted { wheels_left self.new ≡ wheels_left self.old }
+        ensures starts { starts_of self.new ≡ starts_of self.old }
         ensures held { held_count (smooth_state self.new) ≡ held_count (smooth_state self.old) }
         ensures paced { (n : ℕ) → IsPacedFor n self.old → IsPacedFor n self.new }
         ensures table { smooth_table self.new ≡ smooth_table self.old }
@@ -205,6 +206,7 @@ impl SmoothWheel {
         ensures bound { (n : ℕ) → IsPacedFor n self.old → moves_of self.new ≤ moves_of self.old
             + tick_bound (smooth_table self.old) n }
         ensures counted { moves_of self.new + wheels_left self.new ≡ moves_of self.old + wheels_left self.old }
+        ensures starts { starts_of self.new ≡ starts_of self.old }
         ensures paced { (n : ℕ) → held_count (smooth_state self.old) ≤ n → IsPacedFor n self.old → IsPacedFor n self.new }
         ensures table { smooth_table self.new ≡ smooth_table self.old }
     {
@@ -214,7 +216,7 @@ impl SmoothWheel {
 }
 
 impl Wheel for SmoothWheel {
-    ghost use Rattle.timer_wheels.specs.SmoothWheel.{smooth_state, smooth_table, moves_of, next_moves, wheels_left, radices_by_turns, Passes, IsPacedFor};
+    ghost use Rattle.timer_wheels.specs.SmoothWheel.{smooth_state, smooth_table, starts_of, moves_of, next_moves, wheels_left, wheel_in, radices_by_turns, Passes, IsPacedFor};
 
     ghost state = { λ wheel. smooth_state wheel };
 
@@ -252,7 +254,12 @@ impl Wheel for SmoothWheel {
             ≡ after_held_start handle.place timer (smooth_state self.old)) }
         ensures full { OnErr result ((smooth_state self.old).room ≤ held_count (smooth_state self.old)) }
         ensures err { OnErr result (smooth_state self.new ≡ smooth_state self.old) }
+        ensures starts { MatchResult result (λ _. starts_of self.new ≡ starts_of self.old + 1)
+            (λ _. starts_of self.new ≡ starts_of self.old) }
+        ensures counted { IfOk result (λ _. moves_of self.new + wheels_left self.new
+            ≡ moves_of self.old + wheels_left self.old + wheel_in self.old timer) }
         ensures two { moves_of self.new ≤ moves_of self.old + 2 }
+        ensures none { OnErr result (moves_of self.new ≡ moves_of self.old) }
         ensures paced { (n : ℕ) → IsPacedFor n self.old → IsPacedFor n self.new }
         ensures table { smooth_table self.new ≡ smooth_table self.old }
     {
@@ -266,6 +273,7 @@ impl Wheel for SmoothWheel {
         ensures ok { OnOk result (smooth_state self.new ≡ after_reserve most (smooth_state self.old)) }
         ensures err { OnErr result (smooth_state self.new ≡ smooth_state self.old) }
         ensures moves { moves_of self.new ≡ moves_of self.old }
+        ensures starts { starts_of self.new ≡ starts_of self.old }
         ensures paced { (n : ℕ) → IsPacedFor n self.old → IsPacedFor n self.new }
         ensures table { smooth_table self.new ≡ smooth_table self.old }
     {
@@ -280,6 +288,7 @@ impl Wheel for SmoothWheel {
         ensures timer { result ≡ held_at handle (smooth_state self.old) }
         ensures stopped { smooth_state self.new ≡ after_removal handle (smooth_state self.old) }
         ensures moves { moves_of self.new ≡ moves_of self.old }
+        ensures starts { starts_of self.new ≡ starts_of self.old }
         ensures paced { (n : ℕ) → IsPacedFor n self.old → IsPacedFor n self.new }
         ensures table { smooth_table self.new ≡ smooth_table self.old }
     {
@@ -296,7 +305,12 @@ impl Wheel for SmoothWheel {
         ensures old { old_timer result ≡ held_at handle (smooth_state self.old) }
         ensures named { IfSome result (λ r. r.0.serial ≡ timer.serial) }
         ensures restarted { smooth_state self.new ≡ after_replacement result handle timer (smooth_state self.old) }
+        ensures starts { MatchOption result (starts_of self.new ≡ starts_of self.old)
+            (λ _. starts_of self.new ≡ starts_of self.old + 1) }
+        ensures counted { IfSome result (λ r. moves_of self.new + wheels_left self.new + wheel_in self.old r.1
+            ≡ moves_of self.old + wheels_left self.old + wheel_in self.old timer) }
         ensures two { moves_of self.new ≤ moves_of self.old + 2 }
+        ensures none { IfNone result (moves_of self.new ≡ moves_of self.old) }
         ensures paced { (n : ℕ) → IsPacedFor n self.old → IsPacedFor n self.new }
         ensures table { smooth_table self.new ≡ smooth_table self.old }
     {
@@ -317,6 +331,7 @@ impl Wheel for SmoothWheel {
         ensures bound { (n : ℕ) → IsPacedFor n self.old → moves_of self.new ≤ moves_of self.old
             + tick_bound (smooth_table self.old) n }
         ensures counted { moves_of self.new + wheels_left self.new ≡ moves_of self.old + wheels_left self.old }
+        ensures starts { starts_of self.new ≡ starts_of self.old }
         ensures paced { (n : ℕ) → held_count (smooth_state self.new) ≤ n → IsPacedFor n self.old → IsPacedFor n self.new }
         ensures table { smooth_table self.new ≡ smooth_table self.old }
     {
@@ -336,6 +351,7 @@ impl Wheel for SmoothWheel {
         ensures bound { (n : ℕ) → held_count (smooth_state self.old) ≤ n → IsPacedFor n self.old → moves_of self.new
             ≤ moves_of self.old + result * tick_bound (smooth_table self.old) n }
         ensures counted { moves_of self.new + wheels_left self.new ≡ moves_of self.old + wheels_left self.old }
+        ensures starts { starts_of self.new ≡ starts_of self.old }
         ensures paced { (n : ℕ) → held_count (smooth_state self.old) ≤ n → IsPacedFor n self.old → IsPacedFor n self.new }
         ensures table { smooth_table self.new ≡ smooth_table self.old }
     {
@@ -366,6 +382,7 @@ impl Wheel for SmoothWheel {
         ensures first { result ≡ first_due (smooth_state self.old) }
         ensures rest { smooth_state self.new ≡ after_expiry (smooth_state self.old) }
         ensures moves { moves_of self.new ≡ moves_of self.old }
+        ensures starts { starts_of self.new ≡ starts_of self.old }
         ensures paced { (n : ℕ) → IsPacedFor n self.old → IsPacedFor n self.new }
         ensures table { smooth_table self.new ≡ smooth_table self.old }
     {
@@ -383,6 +400,7 @@ impl Wheel for SmoothWheel {
     fn clear(&mut self)
         ensures cleared { smooth_state self.new ≡ after_clear (smooth_state self.old) }
         ensures moves { moves_of self.new ≡ moves_of self.old }
+        ensures starts { starts_of self.new ≡ starts_of self.old }
         ensures paced { IsPacedFor 0 self.new }
         ensures table { smooth_table self.new ≡ smooth_table self.old }
     {

@@ -5,7 +5,7 @@ ghost use Rattle.timer_base.specs.declared.limits.TheConstants.{LAST};
 ghost use Rattle.timer_wheels.specs.Digits.{level};
 ghost use Rattle.timer_links.specs.Lists.{list_at};
 ghost use Rattle.timer_wheels.specs.Buckets.{state_of, IsListOf};
-ghost use Rattle.timer_wheels.specs.Bank.{IsBank, IsBank-prop, LeavesBits, next_len, potential_of, IsEarly, OthersShrink, AllShrink, IsNextOf, ComesTo, restarted_of};
+ghost use Rattle.timer_wheels.specs.Bank.{IsBank, IsBank-prop, LeavesBits, next_len, potential_of, wheel_of, IsEarly, OthersShrink, AllShrink, IsNextOf, ComesTo, restarted_of};
 ghost use Rattle.timer_wheels.specs.BucketLists.{EachRow};
 ghost use Rattle.timer_wheels.specs.Occupied.{bit_of};
 ghost use Rattle.timer_wheels.specs.Smooth.{IsAheadOf, slot_in, smooth_list, smooth_slots, next_list, descend_by};
@@ -114,6 +114,8 @@ impl Bank {
         ensures started { IfOk result (λ r. state_of self.new.buckets
             ≡ after_held_start r.0.place timer (state_of self.old.buckets)) }
         ensures comes { IfOk result (λ r. ComesTo self.old.table r.1 self.old.buckets self.new.buckets) }
+        ensures potential { IfOk result (λ r. potential_of self.old.table self.new.buckets
+            ≡ potential_of self.old.table self.old.buckets + wheel_of self.old.table self.old.buckets timer) }
         ensures full { OnErr result ((state_of self.old.buckets).room
             ≤ held_count (state_of self.old.buckets)) }
         ensures err { OnErr result (state_of self.new.buckets ≡ state_of self.old.buckets) }
@@ -266,6 +268,9 @@ impl Bank {
         ensures restarted { state_of self.new.buckets
             ≡ after_replacement (restarted_of result) handle timer (state_of self.old.buckets) }
         ensures comes { IfSome result (λ r. ComesTo self.old.table r.1 self.old.buckets self.new.buckets) }
+        ensures potential { IfSome result (λ r. potential_of self.old.table self.new.buckets
+            + wheel_of self.old.table self.old.buckets r.0.1 ≡ potential_of self.old.table self.old.buckets
+            + wheel_of self.old.table self.old.buckets timer) }
         ensures none { IfNone result (self.new.buckets.links.lists ≡ self.old.buckets.links.lists) }
         ensures table { self.new.table ≡ self.old.table }
         ensures tick { self.new.buckets.tick ≡ self.old.buckets.tick }

@@ -47,6 +47,7 @@ loop-self-preserved c =
       bound = λ n h f. moves_more old.bank.buckets.tick mid.bank.buckets.tick new.bank.buckets.tick (moves_of old) (moves_of mid)
           (moves_of new) (tick_bound (smooth_table old) n) w.later p.later (w.bound n h f)
           (omega (arith, c.pass.ensures.bound n (w.paced n h f), ap (λ (t : Table). tick_bound t n) w.table));
+      starts = c.pass.ensures.starts ∙ w.starts;
       counted = c.pass.ensures.counted ∙ w.counted;
       paced = λ n h f. c.pass.ensures.paced n (omega (arith, w.held, h)) (w.paced n h f);
     }

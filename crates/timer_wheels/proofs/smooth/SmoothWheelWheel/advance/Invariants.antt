@@ -2,7 +2,7 @@ use Rattle.std.proofs.Common.{◌≡◌, ◌≤◌, ◌+◌, ◌-◌, ◌*◌, �
 use Rattle.timer_base.specs.TickLaws.{IsPassing}
 use Rattle.timer_base.specs.WheelState.{held_count}
 use Rattle.timer_wheels.specs.Paces.{tick_bound}
-use Rattle.timer_wheels.specs.SmoothWheel.{smooth_state, smooth_table, moves_of, wheels_left, IsPacedFor}
+use Rattle.timer_wheels.specs.SmoothWheel.{smooth_state, smooth_table, starts_of, moves_of, wheels_left, IsPacedFor}
 use Rattle.timer_wheels.proofs.smooth.SmoothWheelWheel.advance.Given as goal
 
 abbrev pub invariant-loop-self : goal.invariant-loop-self
@@ -15,6 +15,7 @@ invariant-loop-self l = record {
   held : held_count (smooth_state l.self) ≡ held_count (smooth_state l.initial.self);
   bound : (n : ℕ) → held_count (smooth_state l.initial.self) ≤ n → IsPacedFor n l.initial.self → moves_of l.self
       ≤ moves_of l.initial.self + (l.self.bank.buckets.tick - l.first) * tick_bound (smooth_table l.initial.self) n;
+  starts : starts_of l.self ≡ starts_of l.initial.self;
   counted : moves_of l.self + wheels_left l.self ≡ moves_of l.initial.self + wheels_left l.initial.self;
   paced : (n : ℕ) → held_count (smooth_state l.initial.self) ≤ n → IsPacedFor n l.initial.self → IsPacedFor n l.self;
 }

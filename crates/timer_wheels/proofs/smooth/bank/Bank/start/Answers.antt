@@ -1,11 +1,13 @@
-use Rattle.std.proofs.Common.{◌∙◌, arith, inl, inr}
+use Rattle.std.proofs.Common.{◌≡◌, ℕ, ◌∙◌, ap, arith, inl, inr}
 use Rattle.std.proofs.lemmas.Bool.{cases_lt}
 use Rattle.timer_links.specs.Lists.{with_row}
 use Rattle.timer_wheels.specs.BucketLists.{AreBuckets, EachRow}
 use Rattle.timer_wheels.specs.Buckets.{row_at}
 use Rattle.timer_wheels.specs.Occupied.{AreMarked}
-use Rattle.timer_wheels.specs.Smooth.{mark, IsByLaw}
+use Rattle.timer_wheels.specs.Smooth.{heights, mark, IsByLaw}
 use Rattle.timer_wheels.specs.Tables.{radices}
+use Rattle.timer_wheels.specs.Bank.{potential_of}
+use Rattle.timer_wheels.proofs.BankCounts.{later_heights, due_heights}
 use Rattle.timer_wheels.proofs.BankNext.{comes_to}
 use Rattle.timer_wheels.proofs.BankLemmas.{later_placed, due_placed, start_marked}
 use Rattle.timer_wheels.proofs.SmoothDescent.{few_lists}
@@ -55,3 +57,20 @@ returns-clause-comes c =
     comes_to w.table b w.filled w.bank c.start.new.self c.start.ensures.frame b.links.lists c.place_of-list.result.0 c.place_of-list.result.1
     c.args.timer.deadline (row_at c.in_ok-handle.handle.place c.args.timer 0) c.in_ok-handle.ensures.lists (λ s l. omega arith)
     b.sound.has_lists c.place_of-list.ensures.list c.place_of-list.ensures.next
+
+pub returns-clause-potential : goal.returns-clause-potential
+returns-clause-potential c =
+    let w = c.args.self.now in
+    let b = w.buckets in
+    let list = c.place_of-list.result.0 in
+    let timer = c.args.timer in
+    let row = row_at c.in_ok-handle.handle.place timer 0 in
+    let is : potential_of w.table c.start.new.self ≡ heights (radices w.table) b.slots (with_row list row b.links.lists) =
+    ap (λ (x : ℕ). heights (radices w.table) x c.start.new.self.links.lists) c.start.ensures.frame.slots
+    ∙ ap (heights (radices w.table) b.slots) c.in_ok-handle.ensures.lists in
+    is ∙ elim (cases_lt b.tick timer.deadline) [
+      | inl later ↦ later_heights w.table b w.filled w.bank timer list c.requires.deadline c.requires.fresh c.requires.serial row b.links.lists
+          b.sound.has_lists later (c.place_of-list.ensures.bucket later)
+      | inr past ↦ due_heights w.table b w.filled w.bank timer list c.requires.deadline c.requires.fresh c.requires.serial row b.links.lists
+          past (c.place_of-list.ensures.due past)
+    ]
