@@ -17,8 +17,8 @@
 # make bench-next  measures turns of an event loop that asks for its next deadline (bench/build/results)
 # make bench-desk  measures client threads over a desk, over C++ rings and around a mutex (bench/build/results)
 # make ports       libuv, nginx and lwIP on these timers: their tests, traces, memory, instructions (ports/README.md)
-# make docs        makes docs/moving.svg and docs/pages/plays.js from the scripts of examples/ and docs/formats.md, and
-#                  counts lines for docs/proofs.md
+# make docs        makes docs/moving.svg and docs/pages/lessons.js from the scripts of examples/ and docs/formats.md, and
+#                  counts lines for docs/proofs.md (tools/page_program makes docs/pages/program.js, with clang for wasm32)
 # make clean       removes what make built
 #
 # CC is the C compiler, by default cc: CC=aarch64-linux-gnu-gcc builds for another processor. CPPFLAGS, CFLAGS and LDFLAGS are

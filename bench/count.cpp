@@ -1,7 +1,8 @@
 // Runs one candidate once, in this process, for a tool that counts its instructions (instructions.py).
 //   count CANDIDATE WORKLOAD SCALE all|base
-// `base` replays the preparation alone. It prints the number of units and the length of the preparation. The
-// status is 1 if the candidate gave up, 2 if there is no such one, and 3 if the workload isn't for it.
+// `base` replays the preparation alone. It prints the number of units, the length of the preparation, and what came out but
+// for its order, which is the same for each candidate. The status is 1 if the candidate gave up, 2 if there is no such one,
+// and 3 if the workload isn't for it.
 #include "workloads.hpp"
 #include <cstring>
 
@@ -16,7 +17,10 @@ static int count(const Candidate &candidate, const Workload &workload, bool is_w
   uint64_t sums[SUM_COUNT] = {};
   size_t operations = is_whole ? workload.trace.ops.count : workload.base;
   if (operations) candidate.run(workload.trace.ops.at, operations, workload.trace.ids, sums, SUM_COUNT);
-  printf("units %llu base %llu\n", (unsigned long long)workload.count, (unsigned long long)workload.base);
+  printf("units %llu base %llu sums", (unsigned long long)workload.count, (unsigned long long)workload.base);
+  for (int s = 0; s < SUM_FAULT; ++s)
+    if (s != SUM_SEQ) printf(" %llu", (unsigned long long)sums[s]);
+  puts("");
   return sums[SUM_FAULT] ? 1 : 0;
 }
 

@@ -156,8 +156,12 @@ struct Libuv {
     uv__run_timers(&loop);
     return drain();
   }
-  uint64_t look(size_t i) { return uv_timer_get_due_in(&timers[i]); }
-  uint64_t next() { return (uint64_t)uv__next_timeout(&loop); }
+  uint64_t look(size_t i) { return loop.time + uv_timer_get_due_in(&timers[i]); }
+  // Its timeout is an int, and -1 if there is no timer.
+  uint64_t next() {
+    const int ticks = uv__next_timeout(&loop);
+    return ticks < 0 ? UINT64_MAX : loop.time + (uint64_t)ticks;
+  }
 };
 #endif
 

@@ -9,8 +9,8 @@ Each count is that of a run of build/count, inside the candidate's function alon
 preparation, the count of the preparation alone is subtracted. A peer that this machine lacks has empty cells.
 
 --check names each number that differs by more than 3 % from that of results/, or is not there. Status 1: one of the
-product is named. Peers are built by other compilers on other machines, so theirs are only named. Status 2: wrong
-arguments, or a program is not there. Without valgrind it says so and counts nothing: status 0 with --check, otherwise 2.
+product is named, or two candidates disagree on what expired or was stopped. Peers are built by other compilers on other
+machines, so their instructions are only named. Status 2: wrong arguments, or a program is not there. Without valgrind it says so and counts nothing: status 0 with --check, otherwise 2.
 """
 import argparse
 import os
@@ -41,27 +41,28 @@ def symbols():
 
 
 def run(candidate, symbol, workload, part):
-    """Instructions of a run, its units, and the length of its preparation; None if the candidate lacks it."""
+    """Instructions of a run, its units, the length of its preparation and what came out; None if the candidate lacks it."""
     callgrind = ["valgrind", "--tool=callgrind", "--callgrind-out-file=/dev/null", f"--toggle-collect={symbol}"]
     done = subprocess.run([*callgrind, COUNT, candidate, workload, SCALE, part], capture_output=True, text=True, check=False)
     if done.returncode in (2, 3):
         return None
     collected = re.search(r"Collected : (\d+)", done.stderr)
-    sizes = re.fullmatch(r"units (\d+) base (\d+)\n", done.stdout)
+    sizes = re.fullmatch(r"units (\d+) base (\d+) sums ([\d ]+)\n", done.stdout)
     if done.returncode or not collected or not sizes:
         fail(f"{candidate} {workload}: status {done.returncode}\n{done.stderr}", 2)
-    return int(collected[1]), int(sizes[1]), int(sizes[2])
+    return int(collected[1]), int(sizes[1]), int(sizes[2]), sizes[3]
 
 
 def instructions(candidate, symbol, workload):
-    """For one unit, or None."""
+    """For one unit, and what came out; or None twice."""
     found = run(candidate, symbol, workload, "all")
     if found is None:
-        return None
-    collected, units, base = found
+        return None, None
+    collected, units, base, sums = found
     if base:
-        collected -= run(candidate, symbol, workload, "base")[0]
-    return collected / units
+        before = run(candidate, symbol, workload, "base")
+        collected, sums = collected - before[0], f"{before[3]}, {sums}"
+    return collected / units, sums
 
 
 def count(rows, candidates, jobs):
@@ -72,7 +73,11 @@ def count(rows, candidates, jobs):
         fail(f"no such candidate: {', '.join(unknown)}", 2)
     with ThreadPoolExecutor(jobs) as pool:
         made = {row: [pool.submit(instructions, name, names[name], row) for name in candidates] for row in rows}
-        return {row: [cell.result() for cell in cells] for row, cells in made.items()}
+        found = {row: [cell.result() for cell in cells] for row, cells in made.items()}
+    for row, cells in found.items():
+        if len({sums for _, sums in cells if sums}) > 1:
+            fail(f"{row}: the candidates disagree: {[(name, sums) for name, (_, sums) in zip(candidates, cells)]}")
+    return {row: [cell for cell, _ in cells] for row, cells in found.items()}
 
 
 def differences(counted, candidates):

@@ -9,9 +9,12 @@
 //   first     the first one of timers 10 to 20 minutes away is pushed back by ten minutes
 //   expiry    time passes until a timer of those over ten minutes expires, and it is taken
 //   short     a timer of 100 ms is started and expires, before timers 60 to 61 s away
-// Prints the nanoseconds of a turn.
+// Prints the nanoseconds of a turn. The status is 1 if a timer expires, or an answer is, other than an ordered set says. Of
+// timers_wakeup an answer may come before the next deadline.
 #include "facilities.hpp"
 #include <algorithm>
+#include <math.h>
+#include <set>
 #include <string.h>
 #include <time.h>
 
@@ -47,7 +50,7 @@ struct Heap : Libuv {
     timers[i].data = (void *)(uintptr_t)i;
     uv_timer_start(&timers[i], took, deadline - loop.time, 0);
   }
-  uint64_t ask() { return loop.time + (uint64_t)uv__next_timeout(&loop); }
+  uint64_t ask() { return next(); }
   void pass_to(uint64_t tick, std::vector<uint32_t> &expired) {
     into = &expired;
     loop.time = tick;
@@ -56,6 +59,30 @@ struct Heap : Libuv {
 };
 #endif
 
+// What each facility is compared with.
+struct Model {
+  struct Timer {
+    uint64_t deadline, serial;
+    uint32_t owner;
+    bool operator<(const Timer &other) const {
+      return deadline < other.deadline || (deadline == other.deadline && serial < other.serial);
+    }
+  };
+  std::vector<Timer> timers;
+  std::set<Timer> held;
+  uint64_t serial = 0;
+  explicit Model(size_t owners) : timers(owners) {}
+  void set(size_t i, uint64_t deadline) {
+    held.erase(timers[i]);
+    timers[i] = {deadline, ++serial, (uint32_t)i};
+    held.insert(timers[i]);
+  }
+  uint64_t ask() { return held.empty() ? UINT64_MAX : held.begin()->deadline; }
+  void pass_to(uint64_t tick, std::vector<uint32_t> &expired) {
+    for (; ask() <= tick; held.erase(held.begin())) expired.push_back(held.begin()->owner);
+  }
+};
+
 static constexpr uint64_t MINUTE = 60000;
 static constexpr unsigned MOST_TURNS = 200000;
 static constexpr double MOST_NS = 4e8;
@@ -63,8 +90,11 @@ static constexpr double MOST_NS = 4e8;
 template <class F> struct Loop {
   F &facility;
   size_t pending;
+  size_t most = MOST_TURNS;
+  double most_ns = MOST_NS;
+  size_t count = 0;                   // turns so far
+  uint64_t now = 0, sum = 0, came = 0;  // the answers, and what has expired, in its order
   Random random{5};
-  uint64_t now = 0, sum = 0;
   std::vector<uint64_t> deadlines;
   std::vector<uint32_t> expired, order;
 
@@ -81,6 +111,7 @@ template <class F> struct Loop {
     expired.clear();
     facility.pass_to(tick, expired);
     now = tick;
+    for (uint32_t owner : expired) came = came * 31 + owner + tick;
   }
   // Sleeps until the answer, again and again, until a timer has expired.
   bool expires() {
@@ -112,12 +143,9 @@ template <class F> struct Loop {
   // The nanoseconds of a turn. `turn` returns whether there is another.
   template <class Turn> double timed(Turn turn) {
     const double first = now_ns();
-    size_t count = 0;
     bool more = true;
-    while (more && count < MOST_TURNS && ((count & 15) || now_ns() - first < MOST_NS)) more = turn(count++);
-    const double ns = (now_ns() - first) / (double)count;
-    if (sum == 1) give_up("the sum: next");
-    return ns;
+    while (more && count < most && ((count & 15) || now_ns() - first < most_ns)) more = turn(count++);
+    return (now_ns() - first) / (double)count;
   }
   // A random timer is pushed back to the last deadline of all.
   double pushes_any(uint64_t from, uint64_t span) {
@@ -142,9 +170,15 @@ template <class F> struct Loop {
   }
 };
 
-template <class F> static int report(F &facility, const char *turn, size_t pending) {
-  const double ns = Loop<F>{facility, pending}.run(turn);
+template <class F> static int report(F &facility, const char *turn, size_t pending, bool is_exact) {
+  Loop<F> loop{facility, pending};
+  const double ns = loop.run(turn);
   if (ns < 0) return 2;
+  Model model(pending + 1);
+  Loop<Model> wanted{model, pending, loop.count, INFINITY};
+  wanted.run(turn);
+  if (loop.came != wanted.came || loop.count != wanted.count) give_up("next: what expires");
+  if (is_exact ? loop.sum != wanted.sum : loop.sum > wanted.sum) give_up("next: the answers");
   printf("turn %.1f\n", ns);
   return 0;
 }
@@ -164,13 +198,13 @@ int main(int argc, char **argv) {
   if (name == "timers_wakeup") question = [](struct timers *t) { return timers_wakeup(t); };
   if (question) {
     Asked asked(pending + 1, question);
-    return report(asked, argv[3], pending);
+    return report(asked, argv[3], pending, name != "timers_wakeup");
   }
 #endif
 #ifdef WITH_LIBUV
   if (name == "libuv") {
     Heap heap(pending + 1);
-    return report(heap, argv[3], pending);
+    return report(heap, argv[3], pending, true);
   }
 #endif
   return 2;

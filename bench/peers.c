@@ -8,7 +8,7 @@
  *     expire    SETS timers are started, and all expire: some TIMERS of them are pending
  *
  * Prints nanoseconds of processor time for a set, a stop or an expiry, how many there were of each, how many turns, and a sum
- * of the order of expiries. */
+ * of the order of expiries. Aborts if sleeping until the next deadline leads to no timer, or past one. */
 #ifndef _GNU_SOURCE
 #define _GNU_SOURCE
 #endif
@@ -22,7 +22,7 @@
 
 struct owner {
 	struct node node;
-	uint64_t length;
+	uint64_t length, at;
 	uint32_t more[10];                       /* what else a connection has */
 };
 static struct owner *owners, **spare;        /* spare: those without a timer, in another order than that of memory */
@@ -41,7 +41,8 @@ static inline uint64_t draw(void)
 static inline void set_for(struct owner *o, uint64_t now, uint64_t ticks)
 {
 	o->length = ticks;
-	set(&o->node, now + ticks);
+	o->at = now + ticks;
+	set(&o->node, o->at);
 	sets++;
 }
 
@@ -86,6 +87,20 @@ __attribute__((noinline)) static void run(char load, uint64_t ticks)
 	}
 }
 
+/* Sleeps until a timer expires, at its own tick. A sleep may be in vain: of wheels, and of a loop for each time-out that was
+ * pushed back. */
+static void sleep_once(uint64_t now)
+{
+	struct owner *o = NULL;
+	for (size_t left = timers_in_all + 16; left > 0 && o == NULL; left--) {
+		uint64_t tick = next();
+		NEED(tick > now && tick <= now + 60000);
+		now = tick;
+		o = (struct owner *)take(now);
+	}
+	NEED(o && o->at == now);
+}
+
 static uint64_t processor(void)
 {
 	struct timespec t;
@@ -123,10 +138,12 @@ int main(int argc, char **argv)
 	for (size_t i = 0; load != 'e' && i < all; i++)
 		set_for(spare[i], 0, load == 'i' ? 1 + draw() % 6000 : 200 + draw() % 2801);
 	sets = 0;
-	uint64_t begin = processor();
-	run(load, strtoul(argv[3], NULL, 10));
+	uint64_t begin = processor(), ticks = strtoull(argv[3], NULL, 10);
+	run(load, ticks);
 	printf("%.1f %llu %llu %llu %llu %016llx\n", (double)(processor() - begin) / (double)(sets + stops + takes),
 	       (unsigned long long)sets, (unsigned long long)stops, (unsigned long long)takes, (unsigned long long)turns,
 	       (unsigned long long)sum);
+	if (HAS_NEXT && takes > 0)
+		sleep_once(ticks);
 	return 0;
 }

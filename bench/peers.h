@@ -1,10 +1,16 @@
-/* Timers of peers.c, of which a macro chooses one: struct node, and init, set (start or push back), stop, take and next. */
+/* Timers of peers.c, of which a macro chooses one: struct node, and init, set (start or push back), stop, take and next. Those
+ * whose loop alone asks for the next deadline have not HAS_NEXT. */
 #ifdef COUNT                                     /* out of line, so that callgrind counts each call */
 #define CALL __attribute__((noipa)) static
 #else
 #define CALL static inline
 #endif
 #define NEED(fact) ((fact) ? (void)0 : abort())
+#if defined(LIBEVENT) || defined(LIBEVENT_COMMON)
+#define HAS_NEXT 0
+#else
+#define HAS_NEXT 1
+#endif
 
 #if defined(SET_AT) || defined(FIND_NEXT)        /* timers.h; next is timers_wakeup or timers_find_next */
 #include <timers.h>

@@ -52,19 +52,20 @@ def output(run):
 
 
 def collected(peer, load, size, is_empty):
-    """Instructions within the calls, and what the run printed."""
+    """Instructions within the calls, and what the run printed: see output."""
     callgrind = ["valgrind", "--tool=callgrind", "--callgrind-out-file=/dev/null", *(f"--toggle-collect={call}" for call in CALLS)]
     run = subprocess.run([*callgrind, *command("counted", peer, load, size, is_empty)], capture_output=True, text=True, check=False)
-    found = output(run)
-    return int(re.search(r"Collected : (\d+)", run.stderr)[1]), found[1]
+    return int(re.search(r"Collected : (\d+)", run.stderr)[1]), output(run)
 
 
-def count(peer, load, size):
+def count(peers, load, size):
     """For an operation: what a run without a turn takes is the start of all timers. Only idle time-outs are of one length."""
-    if peer == "LIBEVENT_COMMON" and load != "idle":
-        return ""
-    whole, operations = collected(peer, load, size, False)
-    return f"{(whole - collected(peer, load, size, True)[0]) / sum(operations):.0f}"
+    peers = {peer: None if peer == "LIBEVENT_COMMON" and load != "idle" else collected(peer, load, size, False) for peer in peers}
+    compare(load, size, {peer: found[1] for peer, found in peers.items() if found})
+    return [
+        f"{(found[0] - collected(peer, load, size, True)[0]) / sum(found[1][1]):.0f}" if found else ""
+        for peer, found in peers.items()
+    ]
 
 
 def compare(load, size, runs):
@@ -98,7 +99,7 @@ def main():
     rows = [(load, int(size)) for load in LOADS for size in options.sizes.split(",")]
     head = ["load", "timers", *(PEERS[peer] for peer in peers)]
     if options.only != "time":
-        figures.write("peers", head, [[load, size, *(count(peer, load, size) for peer in peers)] for load, size in rows])
+        figures.write("peers", head, [[load, size, *count(peers, load, size)] for load, size in rows])
     if options.only != "count":
         figures.write("peers_ns", head, [[load, size, *time(peers, load, size, options.repeats)] for load, size in rows])
 

@@ -5,7 +5,10 @@
 // restarted; then come 50,000 single ticks, at which nothing is due, and the calls that only some facilities have.
 // Last, time passes until some OPERATIONS timers have expired, or all; not if a tick takes more than a microsecond.
 // One line for each: the name and the nanoseconds of one operation; of `each` and `expiry`, those of one timer.
+// A facility that has another answer, or another timer that expires, than the deadlines say has status 1.
 #include "facilities.hpp"
+#include <algorithm>
+#include <numeric>
 #include <time.h>
 
 static constexpr uint64_t FAR = 1ull << 24, TICKS = 50000;
@@ -20,10 +23,14 @@ static double now_ns() {
 struct Scale {
   size_t pending, operations;
   Random random{3};
-  uint64_t sum = 0;
+  uint64_t now = 0;
+  std::vector<uint64_t> deadlines;  // of each owner's timer
   uint64_t interval() { return FAR + random.below(FAR); }
   static void row(const char *name, double ns, size_t count) {
     printf("%s %.3f\n", name, ns / (double)count);
+  }
+  static void see(bool is_right, const char *what) {
+    if (!is_right) give_up(what);
   }
 
   // The owners whose timers are touched, in order, and an interval for each, so that nothing else is done
@@ -34,23 +41,30 @@ struct Scale {
     return made;
   }
 
-  // Times calls that change nothing. Their results are added up, so that none is left out.
-  template <class Call> void reads(const char *name, size_t count, size_t units, Call call) {
+  // Times calls that change nothing, and returns the sum of their answers.
+  template <class Call> uint64_t reads(const char *name, size_t count, size_t units, Call call) {
+    uint64_t sum = 0;
     double first = now_ns();
     for (size_t i = 0; i < count; ++i) sum += call(i);
     row(name, now_ns() - first, units);
+    return sum;
   }
 
   template <class F> void looks(F &facility, const std::vector<std::pair<uint32_t, uint64_t>> &touches) {
+    const uint64_t first = *std::min_element(deadlines.begin(), deadlines.end());
+    uint64_t wanted = 0;
     if constexpr (F::HAS_NEXT) {
-      reads("look", touches.size(), touches.size(), [&](size_t i) { return facility.look(touches[i].first); });
+      for (auto &[owner, interval] : touches) wanted += deadlines[owner];
+      see(reads("look", touches.size(), touches.size(), [&](size_t i) { return facility.look(touches[i].first); }) == wanted, "look");
       // The library may walk one bucket, here one with all timers.
       const size_t calls = pending < 100000 ? 1000 : 20;
-      reads("next", calls, calls, [&](size_t) { return facility.next(); });
+      see(reads("next", calls, calls, [&](size_t) { return facility.next(); }) == calls * first, "next");
     }
     if constexpr (F::HAS_ALL) {
-      reads("wakeup", operations, operations, [&](size_t) { return facility.wakeup(); });
-      reads("each", 1, pending, [&](size_t) { return facility.each(); });
+      const uint64_t sum = reads("wakeup", operations, operations, [&](size_t) { return facility.wakeup(); });
+      see(sum > operations * now && sum <= operations * first, "wakeup");
+      wanted = std::accumulate(deadlines.begin(), deadlines.end(), uint64_t{0});
+      see(reads("each", 1, pending, [&](size_t) { return facility.each(); }) == wanted, "each");
     }
   }
 
@@ -64,6 +78,7 @@ struct Scale {
         double first = now_ns();
         for (size_t i = 0; i < count; ++i) facility.start_at(i, touches[at + i].second);
         starting += now_ns() - first;
+        for (size_t i = 0; i < count; ++i) deadlines[i] = now + touches[at + i].second;
         done += count;
       }
       if (done) row("start_at", starting, done);
@@ -72,16 +87,24 @@ struct Scale {
 
   template <class F> void expiries(F &facility) {
     const uint64_t step = FAR / pending * operations / 16 + 1;
-    size_t expired = 0;
+    std::sort(deadlines.begin(), deadlines.end());
+    auto due = [&] { return (size_t)(std::upper_bound(deadlines.begin(), deadlines.end(), now) - deadlines.begin()); };
+    // The first of them comes at its tick, and not before.
+    see(facility.pass(deadlines.front() - 1 - now) == 0, "pass");
+    now = deadlines.front();
+    see(facility.pass(1) == due(), "pass");
+    const size_t before = due();
+    size_t expired = before;
     double passing = 0;
-    for (uint64_t passed = 0; passed < 2 * FAR + 1 && expired < operations; passed += step) {
+    while (expired < pending && expired < operations) {
       double first = now_ns();
       size_t count = facility.pass(step);
       if (count) passing += now_ns() - first;
       expired += count;
+      now += step;
+      see(expired == due(), "pass");
     }
-    if (!expired) give_up("no timer has expired: scale");
-    row("expiry", passing, expired);
+    if (expired > before) row("expiry", passing, expired - before);
   }
 
   template <class F>
@@ -104,7 +127,7 @@ struct Scale {
       starting += now_ns() - middle;
       stopping += middle - first;
       done += block.size();
-      for (auto &[owner, interval] : block) is_out[owner] = false;
+      for (auto &[owner, interval] : block) is_out[owner] = false, deadlines[owner] = now + interval;
     }
     row("stop", stopping, done);
     row("start", starting, done);
@@ -112,22 +135,23 @@ struct Scale {
 
   template <class F> void of() {
     F facility(pending);
-    for (size_t i = 0; i < pending; ++i) facility.start(i, interval());
+    for (size_t i = 0; i < pending; ++i) deadlines.push_back(interval()), facility.start(i, deadlines[i]);
     auto all = touches();
     stops_and_starts(facility, all);
     double first = now_ns();
     for (auto &[owner, interval] : all) facility.restart(owner, interval);
     row("restart", now_ns() - first, all.size());
+    for (auto &[owner, interval] : all) deadlines[owner] = now + interval;
     first = now_ns();
     for (uint64_t i = 0; i < TICKS; ++i) facility.tick();
     const double ticking = now_ns() - first;
     row("tick", ticking, TICKS);
-    if (facility.drain()) give_up("a timer came out too early: scale");
+    now += TICKS;
+    see(facility.drain() == 0, "tick");
     looks(facility, all);
     starts_by_tick(facility, all);
     // 2^24 ticks pass before the first timer expires: minutes, with a facility that walks at each of them.
     if (ticking < MOST_A_TICK * TICKS) expiries(facility);
-    if (sum == 1) give_up("the sum: scale");
   }
 };
 

@@ -4,7 +4,7 @@
 //                                    empties it
 //   tail FACILITY PENDING growth     PENDING starts, one by one: those that make a table grow are the longest
 //   tail FACILITY PENDING room       the same again, once all of them were stopped: no table grows
-// One line for each figure: its name and its nanoseconds.
+// One line for each figure: its name and its nanoseconds. The status is 1 if another timer expires than the deadlines say.
 #include "facilities.hpp"
 #include <algorithm>
 #include <cstring>
@@ -29,24 +29,41 @@ struct Tail {
   size_t pending;
   const char *what;
 
+  static void see(size_t expired, size_t wanted) {
+    if (expired != wanted) give_up("tail: the timers that expire");
+  }
+
   template <class F> void ticks(F &facility, Random &random, size_t count) {
-    for (size_t i = 0; i < pending; ++i) facility.start(i, 1 + random.below(1 << 20));
+    std::vector<uint32_t> due(std::max<size_t>(count, 1 << 20) + 1);
+    for (size_t i = 0; i < pending; ++i) {
+      uint64_t interval = 1 + random.below(1 << 20);
+      facility.start(i, interval);
+      ++due[interval];
+    }
     std::vector<float> took(count);
-    for (auto &one : took) {
+    for (size_t i = 0; i < count; ++i) {
       double first = now_ns();
       facility.tick();
-      facility.drain();
-      one = (float)(now_ns() - first);
+      size_t expired = facility.drain();
+      took[i] = (float)(now_ns() - first);
+      see(expired, due[i + 1]);
     }
     rows(took);
   }
 
   template <class F> void moves(F &facility, Random &random) {
-    for (size_t i = 0; i < pending; ++i) facility.start(i, 4096 + random.below(4096));
-    facility.pass(4095);
+    size_t due = 0;
+    for (size_t i = 0; i < pending; ++i) {
+      uint64_t interval = 4096 + random.below(4096);
+      facility.start(i, interval);
+      due += interval == 4096;
+    }
+    see(facility.pass(4095), 0);
     double first = now_ns();
     facility.tick();
     double took = now_ns() - first;
+    see(facility.drain(), due);
+    see(facility.pass(4095), pending - due);
     printf("longest %.0f\neach %.3f\n", took, took / (double)pending);
   }
 
@@ -58,6 +75,7 @@ struct Tail {
       facility.start(i, interval);
       took[i] = (float)(now_ns() - first);
     }
+    see(facility.pass(1 << 20), pending);
     rows(took);
   }
 

@@ -255,11 +255,12 @@ extern "C" {
 #endif
 
 enum timers_status {
-	TIMERS_OK = 0,
+	/* made by tools/facts: statuses of timers */
+	TIMERS_OK = 0,             /* the call was done */
 	TIMERS_NOT_OPEN = 1,       /* not open: timers_new was not called, or timers_free was since */
 	TIMERS_OPEN = 2,           /* already open; of timers_set_allocator, memory was asked for already */
 	TIMERS_NO_TABLE = 3,       /* the table is none of enum timers_table */
-	TIMERS_NO_MEMORY = 4,      /* no memory for it: malloc or realloc returned NULL; or some 4.29 billion timers are held,
+	TIMERS_NO_MEMORY = 4,      /* out of memory: malloc or realloc returned NULL; or some 4.29 billion timers are held,
 	                              after a timers_reserve maybe half as many */
 	TIMERS_DUE = 5,            /* an expired timer was not yet taken: call timers_expire */
 	TIMERS_NOT_PENDING = 6,    /* no timer has this handle: it was stopped, restarted, taken or dropped */
@@ -511,6 +512,7 @@ static TIMERS_INLINE const char *timers_message(enum timers_status status)
 	const uint32_t number = status;   /* that of no status has a text too */
 
 	switch (number) {
+	/* made by tools/facts: texts of timers */
 	case TIMERS_OK: return "done";
 	case TIMERS_NOT_OPEN: return "not open";
 	case TIMERS_OPEN: return "already open";

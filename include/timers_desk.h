@@ -196,7 +196,8 @@ extern "C" {
 
 /* The numbers up to TIMERS_CLOCK_END are those of enum timers_status. */
 enum timers_desk_status {
-	TIMERS_DESK_OK = 0,
+	/* made by tools/facts: statuses of desks */
+	TIMERS_DESK_OK = 0,              /* the call was done */
 	TIMERS_DESK_NOT_OPEN = 1,        /* the struct holds nothing */
 	TIMERS_DESK_OPEN = 2,            /* the desk or one of the lines holds something already */
 	TIMERS_DESK_NO_MEMORY = 4,       /* out of memory: malloc or realloc returned NULL */
@@ -213,7 +214,7 @@ enum timers_desk_status {
 	TIMERS_DESK_AHEAD = 16,          /* of a word: an earlier number is missing; lines never cause it */
 	TIMERS_DESK_LINE_FULL = 17,      /* the line has no room for another request now */
 	TIMERS_DESK_FINISHED = 18,       /* the line has finished */
-	TIMERS_DESK_OUT_OF_RANGE = 19,   /* a number of the configuration, or the number of lines */
+	TIMERS_DESK_OUT_OF_RANGE = 19,   /* a number of the configuration, or the number of lines, is out of its range */
 	TIMERS_DESK_IDLE = 20,           /* no request was served */
 	TIMERS_DESK_NO_ROOM = 21,        /* the outbox has no room for the words of another request */
 	TIMERS_DESK_OTHER_LINE = 22,     /* the line is another client's, or of an earlier life of the desk's struct */
@@ -230,13 +231,15 @@ enum timers_desk_status {
  * SERIALS_SPENT; and a stop for NOT_PENDING. A start or restart that was sent with a deadline is never refused for
  * ZERO_INTERVAL. `action` of an answer is that of the start or restart which it answers, also if that was refused. */
 enum timers_word_kind {
-	TIMERS_WORD_STARTED = 1,     /* number, handle, deadline, action */
-	TIMERS_WORD_RESTARTED = 2,   /* number, handle, deadline and action of the new timer, the old serial in `other` */
-	TIMERS_WORD_STOPPED = 3,     /* number, handle.serial of the stopped timer */
-	TIMERS_WORD_REFUSED = 4,     /* number, reason, action (0 of a stop): its number is used up, and nothing else changed */
-	TIMERS_WORD_NOT_TAKEN = 5,   /* number, reason, action (REPEATED, AHEAD: next number in `other`); nothing changed */
-	TIMERS_WORD_EXPIRED = 6,     /* number of its start or restart, handle.serial, deadline, action */
-	TIMERS_WORD_RETURNED = 7     /* the same: the desk was closed before its deadline */
+	/* made by tools/facts: kinds of words */
+	TIMERS_WORD_STARTED = 1,    /* number, handle, deadline, action */
+	TIMERS_WORD_RESTARTED = 2,  /* number, handle, deadline and action of the new timer, the old serial in `other` */
+	TIMERS_WORD_STOPPED = 3,    /* number, handle.serial of the stopped timer */
+	TIMERS_WORD_REFUSED = 4,    /* number, reason, action (0 of a stop): its number is used up, and nothing else changed
+	                               */
+	TIMERS_WORD_NOT_TAKEN = 5,  /* number, reason, action (REPEATED, AHEAD: next number in `other`); nothing changed */
+	TIMERS_WORD_EXPIRED = 6,    /* number of its start or restart, handle.serial, deadline, action */
+	TIMERS_WORD_RETURNED = 7    /* the same: the desk was closed before its deadline */
 };
 
 /* Private: see rule 1. */
@@ -525,6 +528,7 @@ static TIMERS_INLINE const char *timers_desk_message(enum timers_desk_status sta
 	const uint32_t number = status;   /* that of no status has a text too */
 
 	switch (number) {
+	/* made by tools/facts: texts of desks */
 	case TIMERS_DESK_OK: return "done";
 	case TIMERS_DESK_NOT_OPEN: return "no desk or no line is held";
 	case TIMERS_DESK_OPEN: return "a desk or a line is held already";

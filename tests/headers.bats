@@ -21,7 +21,7 @@ hold() {
 }
 # constants PREFIX: each constant of the Rattle code on standard input is the header's, whose name has the prefix
 constants() {
-    sed -nE -e 's/u64::MAX;$/18446744073709551615;/' -e 's/LAST_OF_CLOCK/CLOCK_LAST/' \
+    sed -nE -e 's/u64::MAX;$/18446744073709551615;/' \
         -e "s/^pub const ([A-Z_]+): u(32|64) = ([0-9]+);\$/_Static_assert($1\1 == \3u, \"\1\");/p"
 }
 # fields CRATE/FILE STRUCT C-STRUCT FIRST: the struct's fields of eight bytes follow each other in the header's, from FIRST on
@@ -38,27 +38,23 @@ fields() {
 # The enumerators of a header, as NAME NUMBER without a prefix.
 enumerators() { sed -nE 's/^\tTIMERS_((DESK|WORD)_)?([A-Z_]+) = ([0-9]+).*/\3 \4/p' include/$1.h | sort; }
 
-@test "the numbers and layouts of timers.h are the crates', and it has no other number" {
+# Limits and statuses are made of facts/ in both, and compared by tools/facts.
+@test "the layouts of timers.h are the crates', and so are the numbers that are by hand" {
     {
-        constants TIMERS_ < crates/timer_c/src/status.rt
-        grep '^pub const LAST:' crates/timer_base/src/limits.rt | constants TIMERS_
-        grep '^pub const LAST_OF_CLOCK:' crates/timer_wheels/src/table.rt | constants TIMERS_
+        sed '1,/by hand/d' crates/timer_c/src/status.rt | constants TIMERS_
         constants TIMERS_ < crates/timer_wheels/src/table/number.rt
         fields timer_c/owned_cell.rt OwnedCell timers 0
         fields timer_c/c_timers.rt CTimers timers 16
         fields timer_c/layout.rt CHandle timers_handle 0
         fields timer_c/layout.rt Expired timers_expired 0
         fields timer_c/layout.rt Counts timers_counters 0
-    } | hold $((17 + 11))
+    } | hold $((4 + 11))
     [ "$(enumerators timers | wc -l)" -eq 13 ]
 }
 
-@test "the numbers and layouts of timers_desk.h are the crate's, and it has no other number" {
-    status=crates/timer_desk_c/src/status.rt
+@test "the layouts of timers_desk.h are the crate's, and so are the numbers that are by hand" {
     {
-        sed '/The kinds of a word/,$d' $status | grep -v ' NEVER:' | constants TIMERS_DESK_
-        { grep ' NEVER:' $status; cat crates/timer_wheels/src/table/number.rt; } | constants TIMERS_
-        sed -n '/The kinds of a word/,$p' $status | constants TIMERS_WORD_
+        grep ' NEVER:' crates/timer_desk_c/src/status.rt | constants TIMERS_
         fields timer_desk_c/desk_cell.rt DeskCell timers_desk 0
         fields timer_desk_c/line_cell.rt LineCell timers_line 0
         fields timer_desk_c/c_structs.rt CDesk timers_desk 16
@@ -67,7 +63,7 @@ enumerators() { sed -nE 's/^\tTIMERS_((DESK|WORD)_)?([A-Z_]+) = ([0-9]+).*/\3 \4
         fields timer_desk_c/layout.rt DeskConfig timers_desk_config 0
         sed -nE 's/^pub const CONFIG_SIZE: usize = ([0-9]+);$/_Static_assert(sizeof(struct timers_desk_config) == \1, "CONFIG_SIZE");/p' \
             crates/timer_desk_c/src/layout.rt
-    } | hold $((34 + 17))
+    } | hold $((1 + 17))
     [ "$(enumerators timers_desk | wc -l)" -eq 31 ]
 }
 
@@ -83,30 +79,17 @@ enumerators() { sed -nE 's/^\tTIMERS_((DESK|WORD)_)?([A-Z_]+) = ([0-9]+).*/\3 \4
     done
 }
 
-@test "the names and numbers in Python are the headers'" {
-    needs python3
-    # timers_desk.py has the tables and the most clients, too.
-    more() { sed -n 's/^#define TIMERS_DESK_\(CLIENTS\) \([0-9]*\).*/\1 \2/p' include/timers_desk.h; enumerators timers | grep -E '^(WIDE|CLOCK) '; }
-    for module in timers timers_desk; do
-        diff <({ enumerators $module; [ $module = timers ] || more; } | sort) <(cd bindings/python && python3 -B -c "
-import $module
-for name, value in vars($module).items():
-    if name.isupper() and isinstance(value, int) and value < 100:
-        print(name, value)" | sort)
-    done
-}
-
-# in_rust FILE COUNT: the numbers that it maps to names, and those of constants, are the header's, of which it has so many
+# in_rust FILE HEADER COUNT: the numbers that it maps to names, and those of constants, are the header's, of which it has so many
 in_rust() {
     sed -nE -e 's/^ *([0-9]+) => (Err\(Error|Error|Word)::([A-Za-z]+).*/\1 \3/p' -e 's/^const ([A-Z]+): c_uint = ([0-9]+);/\2 \1/p' \
-        bindings/rust/$1.rs |
+        bindings/rust/src/$1.rs |
         sed -E -e 's/([a-z])([A-Z])/\1_\2/g' -e 's/^([0-9]+) (.*)/\U\2 \1/' | sort > "$work/numbers"
-    [ "$(wc -l < "$work/numbers")" -eq "$2" ]
-    [ -z "$(comm -13 <(enumerators $1) "$work/numbers")" ]
+    [ "$(wc -l < "$work/numbers")" -eq "$3" ]
+    [ -z "$(comm -13 <(enumerators $2) "$work/numbers")" ]
 }
-@test "those in Rust are the headers', too" {
-    in_rust timers 8
-    in_rust timers_desk 28
+@test "the names and numbers in Rust are the headers'" {
+    in_rust error timers 8
+    in_rust desk timers_desk 28
 }
 
 @test "the version of the header, as a text and as a number, is that of the library" {
@@ -122,6 +105,7 @@ int main(void)
 EOT
     "$CC" $of_c -o "$work/version" "$work/version.c" "$lib/libtimers.a"
     awk -F. '{ number = $1 * 10000 + $2 * 100 + $3; print $0, number, number }' tools/install/version | diff - <("$work/version")
+    grep -Fx "version = \"$(cat tools/install/version)\"" bindings/rust/Cargo.toml
 }
 
 # The functions that the headers declare.
@@ -334,17 +318,18 @@ EOT
         while read -r text; do says "$text" misuse $((++number)); done < "$work/misuses"
     done
 }
-misuses_rust() { # misuses_rust FILE COUNT
-    needs rustc
-    misuse() { rustc --edition 2021 -A unexpected_cfgs --emit=metadata -o "$work/misuse" "bindings/rust/$file.rs" "$@"; }
-    file=$1
+@test "misuses in Rust don't compile" {
+    needs_cargo
+    cargo build --quiet --offline --manifest-path bindings/rust/Cargo.toml --target-dir "$work/cargo"
+    misuse() {
+        rustc --edition 2021 -A unexpected_cfgs --emit=metadata --extern "timers=$work/cargo/debug/libtimers.rlib" -o "$work/misuse" \
+            bindings/rust/tests/misuse/misuse.rs "$@"
+    }
     misuse
-    sed -n 's/^    #\[cfg(\([a-z_]*\))\] \/\/ \(.*\)$/\1 \2/p' "bindings/rust/$1.rs" > "$work/misuses"
-    [ "$(wc -l < "$work/misuses")" -eq "$2" ]
+    sed -n 's/^ *#\[cfg(\([a-z_]*\))\] \/\/ \(.*\)$/\1 \2/p' bindings/rust/tests/misuse/misuse.rs > "$work/misuses"
+    [ "$(wc -l < "$work/misuses")" -eq 13 ]
     while read -r name text; do says "$text" misuse --cfg "$name"; done < "$work/misuses"
 }
-@test "misuses of timers.rs don't compile" { misuses_rust misuse 6; }
-@test "misuses of timers_desk.rs don't compile" { misuses_rust misuse_desk 4; }
 
 # A line for each function of the headers that returns a status or a bool: its name, and a call that reads no result.
 calls_unread() {

@@ -9,6 +9,13 @@ needs() {
     done
 }
 
+# needs_cargo: skips the test without a Rust that is as new as the crate needs it
+needs_cargo() {
+    { command -v rustc && cargo --version; } > /dev/null 2>&1 || skip "no cargo"
+    oldest=$(sed -n 's/^rust-version = "\(.*\)"$/\1/p' bindings/rust/Cargo.toml)
+    printf '%s\n' "$oldest" "$(rustc --version | cut -d ' ' -f 2)" | sort -CV || skip "rustc is older than $oldest"
+}
+
 # From here on no command sees the toolchain.
 hide_toolchain() {
     mkdir -p "$BATS_FILE_TMPDIR/bin"
@@ -21,6 +28,16 @@ hide_toolchain() {
 copy_tree() {
     mkdir -p "$1"
     git ls-files -z --cached --others --exclude-standard | xargs -0 cp -pP --parents -t "$1"
+}
+
+# needs_python_package: the package for Python, as it is installed, in $work/python; skips the test if it can't be compiled here
+needs_python_package() {
+    local python=${python:-python3} folder
+    needs "$python" cc
+    folder=$("$python" -c 'import sysconfig; print(sysconfig.get_paths()["include"])')
+    [ -e "$folder/Python.h" ] || skip "no Python.h for $python: python3-dev"
+    "$python" -c 'import sys; sys.exit(sys.version_info < (3, 11))' || skip "$python is older than 3.11"
+    [ -e "$work/python" ] || "$python" -B bindings/python/backend.py "$work/python"
 }
 
 # What follows builds with $CC or $CXX over $library, files or an archive, into the folder $work.

@@ -48,7 +48,7 @@ link lib/libtimers.so libtimers.so.${version%%.*}
 644 share/doc/timers/NOTICE generated/NOTICE
 644 share/timers/c/timers.c generated/timers.c
 EOT
-    for path in CHANGELOG.md LICENSE-APACHE LICENSE-MIT docs/{embedded,embedding,formats,platforms,porting,server,versions,walkthroughs}.md docs/pages/*; do
+    for path in CHANGELOG.md LICENSE-APACHE LICENSE-MIT docs/{embedded,embedding,formats,platforms,porting,server,versions,walkthroughs,wheels}.md docs/pages/*; do
         echo "644 share/doc/timers/$path $path"
     done
     for path in include/*.h; do
@@ -59,7 +59,7 @@ EOT
             echo "link share/man/man3/$function.3 $page"
         done
     done
-    for path in bindings/*/timers.* bindings/*/timers_desk.*; do
+    for path in bindings/rust/{Cargo.toml,README.md,build.rs,src/*,c/*}; do
         echo "644 share/timers/${path#bindings/} $path"
     done
     git ls-files examples | grep -v gitignore | while read -r path; do
@@ -192,13 +192,27 @@ refused() {
     builds_with_the_shared_object "$work/prefix"
 }
 
-@test "installed: the module for Python" {
-    needs python3
-    PYTHONPATH=$work/prefix/share/timers/python LD_LIBRARY_PATH=$work/prefix/lib python3 -B -c "
-from timers import Timers
-with Timers() as timers:
-    timers.start(25, 7)
-    assert timers.advance(100) == [(25, 1, 7)]"
+@test "installed: the crate for Rust" {
+    needs_cargo
+    mkdir -p "$work/app/src"
+    cp bindings/rust/examples/first.rs "$work/app/src/main.rs"
+    printf '[package]\nname = "app"\nversion = "1.0.0"\nedition = "2021"\n[dependencies]\ntimers = { path = "%s" }\n' "$work/prefix/share/timers/rust" \
+        > "$work/app/Cargo.toml"
+    chmod -R a-w "$work/prefix/share/timers/rust"
+    cargo run --quiet --offline --manifest-path "$work/app/Cargo.toml" > "$work/out"
+    chmod -R u+w "$work/prefix/share/timers/rust"
+    printf '240: egg\n300: tea\n' | diff - "$work/out"
+}
+@test "installed: the crate over the shared object, by the configuration in its README" {
+    needs_cargo
+    cd "$work/app"
+    mkdir .cargo
+    sed -n '/^\[target/,/^```/p' "$work/prefix/share/timers/rust/README.md" | sed -e '/^```/d' -e "s|/usr/local/lib|$work/prefix/lib|" \
+        -e "s|x86_64-unknown-linux-gnu|$(rustc -vV | sed -n 's/^host: //p')|" > .cargo/config.toml
+    cargo build --quiet --offline
+    LD_LIBRARY_PATH=$work/prefix/lib ldd target/debug/app | grep "$work/prefix/lib/libtimers.so"
+    LD_LIBRARY_PATH=$work/prefix/lib target/debug/app > "$work/out"
+    printf '240: egg\n300: tea\n' | diff - "$work/out"
 }
 
 @test "make uninstall, in a tree in which nothing was built and after two installs, leaves what was there before" {
@@ -232,7 +246,7 @@ with Timers() as timers:
     folders=()
     for name in BINDIR LIBDIR INCLUDEDIR DATADIR MANDIR DOCDIR; do folders+=("$name=$work/apart/$name"); done
     in_tree install PREFIX="$work/apart/PREFIX" "${folders[@]}"
-    for path in BINDIR/timers LIBDIR/libtimers.a INCLUDEDIR/timers.hpp DATADIR/timers/python/timers.py MANDIR/man1/timers.1 \
+    for path in BINDIR/timers LIBDIR/libtimers.a INCLUDEDIR/timers.hpp DATADIR/timers/rust/Cargo.toml MANDIR/man1/timers.1 \
         MANDIR/man3/timers_start.3 DOCDIR/CHANGELOG.md; do
         echo "$path"
         [ -e "$work/apart/$path" ]

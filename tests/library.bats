@@ -198,6 +198,12 @@ serves() {
 @test "a free that forgets is noticed" { build leaks.c -DFORGETS $wrap && notices; }
 @test "starts allocate nothing if room was made" { build reserve.c $wraps && runs; }
 @test "that no room was made is noticed" { build reserve.c -DFORGETS $wraps && notices; }
+@test "there is room for as many timers as links can name, and for no more" {
+    build most.c
+    run runs
+    [ "$status" -ne 77 ] || skip "no addresses for 4.29 billion timers"
+    [ "$status" -eq 0 ]
+}
 @test "all memory comes from an allocator that was set, and goes back" {
     build allocator.c $wrap
     runs resizes
@@ -225,6 +231,7 @@ serves() {
     build desk_end.c
     runs 64 1000
 }
+@test "an end is gone once it is freed, and after its last item, over lines of 1 to 60,000" { build desk_gone.c && runs; }
 @test "desks and lines may be freed while the other side calls" { build desk_frees.c && runs 200 8; }
 @test "clients come and go in threads, and lines are opened again" { lives; }
 @test "valgrind finds no error and no leak in them, either" { build desk_frees.c && by_valgrind 20 4; }
@@ -253,31 +260,14 @@ of_desks() {
 @test "threads do the same under the sanitizers of addresses and of undefined behaviour" { sanitizers address,undefined && threads 2000; }
 @test "threads do the same under the sanitizer of threads" { sanitizers thread && threads 2000; }
 
-@test "random calls from Python agree" {
-    needs python3
-    python3 -B bindings/python/timers_test.py "$lib/libtimers.so"
+# over_lib WORD..: a command of cargo for the crate, over the archive in $lib in place of what its build script compiles
+over_lib() {
+    needs_cargo
+    target=target.$(rustc -vV | sed -n 's/^host: //p').timers
+    cargo "$1" --quiet --offline --manifest-path bindings/rust/Cargo.toml --target-dir "$work/cargo" \
+        --config "$target.rustc-link-search=['$lib']" --config "$target.rustc-link-lib=['static=timers']" "${@:2}"
 }
-@test "a desk in Python agrees, and threads get all their words" {
-    needs python3
-    python3 -B bindings/python/timers_desk_test.py "$lib/libtimers.so"
-}
-
-# in_rust PROGRAM: of examples/c or bindings/rust, with timers.rs beside it, as its head says
-in_rust() {
-    needs rustc
-    echo 'unsafe extern "C" {} fn main() {}' > "$work/new.rs"
-    rustc --edition 2021 -o "$work/new" "$work/new.rs" || skip "rustc is older than 1.82"
-    mkdir -p "$work/rs"
-    cp examples/c/first.rs bindings/rust/*.rs "$work/rs"
-    rustc --edition 2021 -D warnings -L "$lib" -o "$work/program" "$work/rs/$1.rs"
-    LD_LIBRARY_PATH=$lib "$work/program"
-}
-@test "the first program in Rust prints what it should" {
-    in_rust first > "$work/out"
-    diff <(printf '240: egg\n300: tea\n') "$work/out"
-}
-@test "random calls in Rust agree with a sorted map" { in_rust timers_test; }
-@test "a desk in Rust agrees, and threads get all their words" { in_rust timers_desk_test; }
+@test "random calls in Rust agree with a sorted map, and values come back" { over_lib test --tests; }
 
 # Room for a word to each timer and to each request, and one more. Python refuses what is above the last number.
 @test "the room that a desk needs is one sum in C++, Python and Rust, and does not wrap around" {
@@ -308,25 +298,22 @@ EOT
 int main() { for (std::uint64_t t, r; std::cin >> t >> r; ) std::cout << timing::desk::config(1, t, r).room << "\n"; }
 EOT
     rooms runs
-    needs python3
-    PYTHONPATH=bindings/python rooms python3 -B -c '
-import sys, timers_desk
+    needs_python_package
+    PYTHONPATH=$work/python rooms python3 -B -c '
+import sys, timers.desk
 for line in sys.stdin:
     try:
-        print(timers_desk.room_for(*map(int, line.split())))
+        print(timers.desk.room_for(*map(int, line.split())))
     except OverflowError:
         print(2**64 - 1)'
-    mkdir -p "$work/rs"
-    cat > "$work/rs/rooms.rs" << 'EOT'
-mod timers_desk;
+    over_lib build
+    rustc --edition 2021 -D warnings --extern "timers=$work/cargo/debug/libtimers.rlib" -o "$work/program" - << 'EOT'
 fn main() {
     for line in std::io::stdin().lines() {
         let numbers: Vec<u64> = line.unwrap().split(' ').map(|number| number.parse().unwrap()).collect();
-        println!("{}", timers_desk::Config::new(1, numbers[0], numbers[1]).room);
+        println!("{}", timers::desk::Config::new(1, numbers[0], numbers[1]).room);
     }
 }
 EOT
-    cut -d' ' -f1,2 "$work/rooms" > "$work/asked"
-    in_rust rooms < "$work/asked" > "$work/out"
-    diff <(cut -d' ' -f3 "$work/rooms") "$work/out"
+    rooms "$work/program"
 }

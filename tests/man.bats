@@ -35,6 +35,34 @@ setup_file() {
     done
 }
 
+# What a text says, a word a line, and what of the first text's words the second has less often.
+words() { tr '[:upper:]' '[:lower:]' | tr -c '[:lower:]0-9' '\n' | sed '/^$/d' | sort; }
+lost_words() { comm -23 <(words < "$1") <(sed -E -e 's/\\f[BR]//g' -e 's/\\(\(..|[&e])/ /g' -e 's/\\-/-/g' "$2" | words); }
+
+# The first comment of a header but for its first line, and those of its functions.
+comments() {
+    awk 'NR == 1 { inside = 1; next }
+        /^\/\* / { inside = 1; text = "" }
+        inside { text = text "\n" $0; if (/\*\/$/) { inside = 0; if (!heads++) print text; else ended = 1 }; next }
+        ended && /^TIMERS_C/ { next }
+        ended { ended = 0; if (/^(static [A-Za-z_]* )?(enum|struct|void|bool|int|const char|size_t|uint).*[ *]timers_[a-z_]+\(/) print text }' "$1"
+}
+# The command line in docs/formats.md, without headings and the heads of tables.
+command_line() {
+    sed -n '/^## The command line/,$p' docs/formats.md | sed -e '/^#/d' -e 's/plain|hashed|hier|clock//' |
+        awk '/^\|---/ { held = ""; next } { if (NR > 1) print held; held = $0 } END { print held }'
+}
+@test "no word of a header's comments is lost in its man page, nor one of docs/formats.md in timers(1)" {
+    for page in tools/install/*.[13]; do
+        header=include/$(basename "$page" .3).h
+        if [ -e "$header" ]; then comments "$header"; else command_line; fi > "$BATS_TEST_TMPDIR/said"
+        [ "$(wc -w < "$BATS_TEST_TMPDIR/said")" -gt 400 ]
+        lost=$(lost_words "$BATS_TEST_TMPDIR/said" "$page")
+        echo "$page: $lost"
+        [ -z "$lost" ]
+    done
+}
+
 # What `whatis` and `apropos` read: a line for each name, with one dash, and what it does.
 @test "whatis reads the man pages" {
     needs lexgrog

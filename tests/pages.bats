@@ -9,8 +9,7 @@ setup_file() {
     cd "$BATS_TEST_DIRNAME/.." || return
     mkdir "$BATS_FILE_TMPDIR/bin"
     ln -s "$(realpath "${TIMERS:-timers}")" "$BATS_FILE_TMPDIR/bin/timers"
-    LAST=$(sed -n 's/^| `out of range 0 to \([0-9]*\)`.*/\1/p' docs/formats.md)
-    TICKS=$(sed -n 's/^| `out of range 1 to \([0-9]*\)`.*/\1/p' docs/formats.md)
+    read -r LAST TICKS < <(tools/facts LAST MAX_TICKS)
     export LAST TICKS PATH=$BATS_FILE_TMPDIR/bin:$PATH
 }
 
@@ -111,12 +110,13 @@ run_examples() {
     [ "$count" -gt 0 ]
 }
 
-@test "the examples of the help and of docs/formats.md print what stands below them" {
+@test "the examples of the help, of docs/formats.md and of docs/wheels.md print what stands below them" {
     for command in "" play show threads check; do
         # shellcheck disable=SC2086
         run_examples < <(timers $command --help)
     done
     run_examples < docs/formats.md
+    run_examples < docs/wheels.md
 }
 
 @test "the example of serve has what is written on the left, and what is read on the right" {
@@ -235,5 +235,5 @@ offered() {
     [[ $output == *"--timers=[The number of timers that each client starts, 1 to 10000"*"]:TIMERS:"* ]]
     [[ $output == *"--help[Print help"* ]]
     run -0 zsh -f -c "$given" zsh argument show
-    [[ $output == *"]:SCHEME:(plain hashed hier clock)"* ]]
+    [[ $output == *"]:SCHEME:($(tools/facts SCHEMES))"* ]]
 }

@@ -3,20 +3,26 @@
 # ./timers). An input is a file: what a call leaves unread is read by `cat` after it.
 bats_require_minimum_version 1.5.0
 
-setup_file() { "$BATS_TEST_DIRNAME/../crates/timer_program/cases/names" > "$BATS_FILE_TMPDIR/names"; }
+setup_file() {
+    "$BATS_TEST_DIRNAME/../crates/timer_program/cases/names" > "$BATS_FILE_TMPDIR/names"
+    schemes=$("$BATS_TEST_DIRNAME/../tools/facts" SCHEMES)
+    export schemes
+}
 setup() {
     TIMERS=$(realpath "${TIMERS:-timers}")
     EXAMPLES=$BATS_TEST_DIRNAME/../examples
     cd "$BATS_TEST_TMPDIR" || return
 }
 
-# named FILE WANTED: the file has this text, in which names as {NoSuch} stand for words
-named() { cmp "$1" <(sed -f "$BATS_FILE_TMPDIR/names" "$2"); }
+# In arguments, inputs and outputs names as {NoSuch} and {LAST} stand for words and limits.
+put_names() { LC_ALL=C sed -f "$BATS_FILE_TMPDIR/names" "$@"; }
+# named FILE WANTED: the file has this text
+named() { cmp "$1" <(put_names "$2"); }
 # leaves STATUS ARGUMENTS OUTPUT ERRORS: a call that reads the file has this status and writes these texts
 leaves() {
     local status=0
-    # shellcheck disable=SC2086  # words
-    "$TIMERS" $2 < input > output 2> errors || status=$?
+    # shellcheck disable=SC2046,SC2086  # words
+    "$TIMERS" $(put_names <<< "$2") < input > output 2> errors || status=$?
     [ "$status" -eq "$1" ] && named output <(printf '%b' "$3") && named errors <(printf '%b' "$4") && return
     echo "timers $2: status $status"
     return 1
@@ -24,7 +30,7 @@ leaves() {
 
 # gives STATUS ARGUMENTS INPUT OUTPUT [ERRORS]: the same with this input
 gives() {
-    printf '%b' "$3" > input
+    printf '%b' "$3" | put_names > input
     leaves "$1" "$2" "$4" "${5:-}" && return
     echo "for $3"
     return 1
@@ -33,7 +39,7 @@ gives() {
 # row NAME OPTIONS SCRIPT TEXT..: played and served with each scheme, whose wheels may have any number of slots
 row() {
     local scheme verb
-    for scheme in plain hashed "hashed --slots 1" "hashed --slots 8" "hashed --slots 65536" hier clock; do
+    for scheme in $schemes "hashed --slots 1" "hashed --slots 8" "hashed --slots {MAX_SLOTS}"; do
         # The clock of days ends earlier.
         if [ "$1 $scheme" = "clock_end clock" ]; then continue; fi
         for verb in play serve; do
@@ -61,14 +67,14 @@ clock_row() {
         'started 0 1 1 5\nstopped 0 2 1\nrefused 0 3 {NoSuch}\nend 5 0\n'
     row zero_interval '' 'start 0 1 0 9\nstart 0 2 1 9\ntick 1\n' \
         'refused 0 1 {ZeroInterval}\nstarted 0 2 1 1\nexpired 1 0 1 9\nend 1 0\n'
-    row clock_end '--first-tick 1152921504606846974' 'start 0 1 2 5\nstart 0 2 1 5\ntick 5\n' \
-        'refused 0 1 {TooLate}\nstarted 0 2 1 1152921504606846975\nexpired 1152921504606846975 0 1 5\n' \
-        'tick refused {ClockEnd}\nend 1152921504606846975 0\n'
+    row clock_end '--first-tick {LAST-1}' 'start 0 1 2 5\nstart 0 2 1 5\ntick 5\n' \
+        'refused 0 1 {TooLate}\nstarted 0 2 1 {LAST}\nexpired {LAST} 0 1 5\n' \
+        'tick refused {ClockEnd}\nend {LAST} 0\n'
     row capacity '--capacity 1' 'start 0 1 1 4\nstart 0 2 1 4\ntick 1\nstart 0 3 2 6\n' \
         'started 0 1 1 1\nrefused 0 2 {Full}\nexpired 1 0 1 4\nstarted 0 3 2 3\nend 1 1\n'
     row other_client '' 'start 0 1 3 7\nstop 1 1 1\ntick 3\n' \
         'started 0 1 1 3\nrefused 1 1 {NoSuch}\nexpired 3 0 1 7\nend 3 0\n'
-    row no_client '' 'start 64 1 5 0\n' 'refused 64 1 {NoClient}\nend 0 0\n'
+    row no_client '' 'start {MAX_CLIENTS} 1 5 0\n' 'refused {MAX_CLIENTS} 1 {NoClient}\nend 0 0\n'
     row restart '' 'start 0 1 5 1\ntick 3\nrestart 0 2 1 5 2\ntick 5\n' \
         'started 0 1 1 5\nrestarted 0 2 1 2 8\nexpired 8 0 2 2\nend 8 0\n'
     row restart_order '' 'start 0 1 5 1\nstart 1 1 5 2\nrestart 0 2 1 5 3\ntick 5\n' \
@@ -81,8 +87,8 @@ clock_row() {
 
 @test "worked examples of the clock of days" {
     clock_row clock_too_late '--first-tick 8639990' 'start 0 1 10 1\nstart 0 2 9 2\ntick 20\n' \
-        'refused 0 1 {TooLate}\nstarted 0 2 1 8639999\nexpired 8639999 0 1 2\ntick refused {ClockEnd}\n' \
-        'end 8639999 0\n'
+        'refused 0 1 {TooLate}\nstarted 0 2 1 {LAST_OF_CLOCK}\nexpired {LAST_OF_CLOCK} 0 1 2\ntick refused {ClockEnd}\n' \
+        'end {LAST_OF_CLOCK} 0\n'
     clock_row clock_day '--first-tick 86399' 'start 0 1 1 1\ntick 1\n' \
         'started 0 1 1 86400\nexpired 86400 0 1 1\nend 86400 0\n'
 }
@@ -90,14 +96,14 @@ clock_row() {
 @test "bad_lines: a bad line is named and nothing is written, with each scheme" {
     local scheme
     bad() {
-        for scheme in plain hashed hier clock; do gives 1 "play --scheme $scheme" "$2" "" "bad line $1\n"; done
+        for scheme in $schemes; do gives 1 "play --scheme $scheme" "$2" "" "bad line $1\n"; done
     }
     bad 2 'start 0 1 5 0\nstart 0 01 5 0\n'
     bad 2 'start 0 1 5 0\nstart 0 2 5 0'
     bad 1 'tick 0\n'
-    bad 1 'tick 1000001\n'
+    bad 1 'tick {MAX_TICKS+1}\n'
     bad 1 '\n'
-    bad 1 'start 0 1 5 1152921504606846976\n'
+    bad 1 'start 0 1 5 {LAST+1}\n'
     bad 1 'start 0 1 5 99999999999999999999\n'
     bad 1 'start  0 1 5 0\n'
     bad 1 'start 0 1 5 0 \n'
@@ -118,7 +124,7 @@ clock_row() {
     local -A ends=([0]='end 0 0\n' [16]="${one}end 0 1\n" [25]="${one}end 128 1\n" [39]="$one${two}end 128 2\n"
         [46]="$one${two}expired 130 0 1 1\nexpired 130 1 2 2\nend 130 0\n")
     printf 'start 0 1 130 1\ntick 128\nstart 1 1 2 2\ntick 2\n' > whole
-    for scheme in plain hashed hier clock; do
+    for scheme in $schemes; do
         for length in {0..46}; do
             head -c "$length" whole > input
             if [ -n "${ends[$length]:-}" ]; then
@@ -132,10 +138,10 @@ clock_row() {
 
 @test "io_faults: a script of one byte too many is too long whatever stands in it, with each scheme" {
     local scheme line most
-    most=$(sed -n 's/^- A script has at most \([0-9,]*\) bytes.*/\1/p' "$BATS_TEST_DIRNAME/../docs/formats.md" | tr -d ,)
+    most=$("$BATS_TEST_DIRNAME/../tools/facts" MAX_SCRIPT)
     for line in 'close' 'x' '' $'\001\377' 'tick 0'; do
         { yes "$line" || true; } | head -c $((most + 1)) > input
-        for scheme in plain hashed hier clock; do leaves 1 "play --scheme $scheme" "" "{TooLong}\n"; done
+        for scheme in $schemes; do leaves 1 "play --scheme $scheme" "" "{TooLong}\n"; done
     done
 }
 
@@ -159,18 +165,13 @@ clock_row() {
         return 1
     }
     refused play --slots 0
-    refused play --slots 65537
     refused play --clients 0
-    refused play --clients 65
     refused play --capacity 0
-    refused play --capacity 1048577
-    refused play --first-tick 1152921504606846976
     refused play --first-tick -1
     refused play --scheme wheel
     refused play --scheme
     refused play x
     refused serve --slots 0
-    refused serve --clients 65
     refused serve --timers 1
     refused serve --keep-going --slots 0
     refused serve --keep-going=1
@@ -187,9 +188,7 @@ clock_row() {
     refused show --slots 0
     refused show script
     refused threads --clients 0
-    refused threads --clients 65
     refused threads --timers 0
-    refused threads --timers 10001
     refused threads --slots 8
     refused check --slots=8
     refused check x
@@ -208,8 +207,8 @@ clock_row() {
     gives 0 "play --first-tick=4 --capacity=1 --clients=2 --slots=8 --scheme=hashed" \
         'start 1 1 5 0\nstart 2 1 5 0\nstart 1 2 5 0\n' \
         'started 1 1 1 9\nrefused 2 1 {NoClient}\nrefused 1 2 {Full}\nend 4 1\n'
-    gives 0 "play --slots=65536 --clients=64 --capacity=1048576 --first-tick=1152921504606846975" \
-        'start 63 1 1 0\n' 'refused 63 1 {TooLate}\nend 1152921504606846975 0\n'
+    gives 0 "play --slots={MAX_SLOTS} --clients={MAX_CLIENTS} --capacity={MAX_PENDING} --first-tick={LAST}" \
+        'start {MAX_CLIENTS-1} 1 1 0\n' 'refused {MAX_CLIENTS-1} 1 {TooLate}\nend {LAST} 0\n'
     gives 0 "serve --wakeups" 'start 0 1 11 7\ntick 11\n' \
         'started 0 1 1 11\nwakeup 11\nexpired 11 0 1 7\nwakeup never\nend 11 0\n'
     gives 0 "show --moves" 'start 0 1 65 7\ntick 65\n' "$(printf %s 'started 0 1 1 65\n  now 0\n  wheel 1 slot 1: 1\n' \
@@ -263,7 +262,7 @@ clock_row() {
 shown() { gives 0 "show $1" "$2" "$(printf '%s\\n' "${@:3}")"; }
 
 @test "show has a line for each hand of the clock, at its first and its last slot that a timer can be in" {
-    local ticks=(1 59 60 3599 3600 86399 86400 8639999) script='' lines=() left=() i
+    local ticks=(1 59 60 3599 3600 86399 86400 '{LAST_OF_CLOCK}') script='' lines=() left=() i
     local places=('second 1' 'second 59' 'minute 1' 'minute 59' 'hour 1' 'hour 23' 'day 1' 'day 99')
     for i in {1..8}; do
         script+="start 0 $i ${ticks[i - 1]} 0\\n"
@@ -310,9 +309,9 @@ shown() { gives 0 "show $1" "$2" "$(printf '%s\\n' "${@:3}")"; }
     shown "--first-tick 987870" 'start 0 1 3045 5\ntick 3041\ntick 1\ntick 3\n' \
         'started 0 1 1 990915' '  now 987870' '  wheel 1 slot 59: 1' '  now 990911' '  wheel 1 slot 59: 1' \
         '  now 990912' '  wheel 0 slot 3: 1' 'expired 990915 0 1 5' '  now 990915' 'end 990915 0'
-    shown "--first-tick 1152921504606846974" 'start 0 1 1 5\ntick 1\n' \
-        'started 0 1 1 1152921504606846975' '  now 1152921504606846974' '  wheel 0 slot 63: 1' \
-        'expired 1152921504606846975 0 1 5' '  now 1152921504606846975' 'end 1152921504606846975 0'
+    shown "--first-tick {LAST-1}" 'start 0 1 1 5\ntick 1\n' \
+        'started 0 1 1 {LAST}' '  now {LAST-1}' '  wheel 0 slot 63: 1' \
+        'expired {LAST} 0 1 5' '  now {LAST}' 'end {LAST} 0'
     shown "" 'start 0 1 4161 1\ntick 4096\ntick 64\ntick 1\n' \
         'started 0 1 1 4161' '  now 0' '  wheel 2 slot 1: 1' '  now 4096' '  wheel 1 slot 1: 1' \
         '  now 4160' '  wheel 0 slot 1: 1' 'expired 4161 0 1 1' '  now 4161' 'end 4161 0'
@@ -354,10 +353,10 @@ shown() { gives 0 "show $1" "$2" "$(printf '%s\\n' "${@:3}")"; }
         '  now 4161' 'end 4161 0'
     # Ticks of which the last ones are refused, and a move at the last tick of a line.
     shown "--moves --scheme clock --first-tick 8639939" 'start 0 1 59 1\ntick 1\ntick 100\nclose\ntick 9\n' \
-        'started 0 1 1 8639998' '  now 8639939' '  minute 59: 1' \
+        'started 0 1 1 {LAST_OF_CLOCK-1}' '  now 8639939' '  minute 59: 1' \
         '  moved at 8639940 from minute 59 to second 58: 1' '  now 8639940' '  second 58: 1' \
-        'expired 8639998 0 1 1' 'tick refused {ClockEnd}' '  now 8639999' 'closed 0' '  now 8639999' \
-        'tick refused {Closed}' '  now 8639999' 'end 8639999 0'
+        'expired {LAST_OF_CLOCK-1} 0 1 1' 'tick refused {ClockEnd}' '  now {LAST_OF_CLOCK}' 'closed 0' '  now {LAST_OF_CLOCK}' \
+        'tick refused {Closed}' '  now {LAST_OF_CLOCK}' 'end {LAST_OF_CLOCK} 0'
     shown "--moves --scheme hashed --slots 8" 'start 0 1 17 0\ntick 17\n' \
         'started 0 1 1 17' '  now 0' '  slot 1: 1:2' 'expired 17 0 1 0' '  now 17' 'end 17 0'
     shown "--moves --scheme plain" 'start 0 1 1 0\ntick 1\n' \

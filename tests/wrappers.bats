@@ -1,92 +1,225 @@
 #!/usr/bin/env bats
-# Builds the wrappers as the tools of their languages do, and runs a first program with each. cargo, pip and CMake compile
-# the library from generated/. None needs a registry or the toolchain.
+# Builds the wrappers as the tools of their languages do, and runs a first program with each. cargo and CMake compile
+# the library from generated/. Neither needs a registry or the toolchain.
 load helpers
 
 setup_file() {
     cd "$BATS_TEST_DIRNAME/.." || return
     hide_toolchain
     export work=$BATS_FILE_TMPDIR lib=${LIB:-$PWD/build/lib}
-    if command -v python3 > /dev/null; then python3 -m venv "$work/venv" || rm -rf "$work/venv"; fi
+    export CARGO_HOME=$work/cargo_home CARGO_TARGET_DIR=$work/cargo
 }
 
-needs_cargo() { { command -v cargo && cargo --version; } > /dev/null 2>&1 || skip "no cargo"; }
-needs_venv() { [ -e "$work/venv" ] || skip "no python3 with venv"; }
 egg_and_tea() { printf '240: egg\n300: tea\n'; }
-pip() { "$work/venv/bin/pip" --disable-pip-version-check "$@"; }
 
-@test "cargo runs the first program" {
+# of_crate WORD..: a command of cargo for the crate, without a network
+of_crate() { cargo "$1" --quiet --offline --manifest-path bindings/rust/Cargo.toml "${@:2}"; }
+
+@test "cargo runs the examples of the crate" {
     needs_cargo
-    cargo run --quiet --offline --manifest-path bindings/rust/Cargo.toml --target-dir "$work/cargo" --example first > "$work/out"
+    of_crate run --example first > "$work/out"
     egg_and_tea | diff - "$work/out"
-}
-
-@test "cargo runs a client thread at a desk" {
-    needs_cargo
-    cargo run --quiet --offline --manifest-path bindings/rust/Cargo.toml --target-dir "$work/cargo" --example desk > "$work/out"
+    of_crate run --example desk > "$work/out"
     printf '240: 8\n300: 7\n' | diff - "$work/out"
+    # A round trip takes 50 ms. An attempt waits 200, 400, 800, 1600 or 3200 ms: of egg three are in vain, of call all.
+    of_crate run --example retries > "$work/out"
+    printf '%s\n' '50 ms: tea has arrived, at attempt 1' '1450 ms: egg has arrived, at attempt 4' '6200 ms: call is given up' |
+        diff - "$work/out"
+    # After a pause of the machine both futures may be ready at once.
+    of_crate run --example sleep > "$work/out"
+    printf '%s\n' egg tea | diff - <(sort "$work/out")
+    # On a machine that stands still one of those who talk may be silent for too long, too.
+    of_crate run --example idle_server > "$work/out"
+    printf 'client %d was silent for too long\n' 0 2 4 | diff - <(grep -E '^client [024] ' "$work/out")
 }
 
 # What it was linked with needs no library beside it: cargo alone sets a path for those.
 @test "a program of cargo runs by itself" {
     needs_cargo
-    cargo build --quiet --offline --manifest-path bindings/rust/Cargo.toml --target-dir "$work/cargo" --examples
+    of_crate build --examples
     "$work/cargo/debug/examples/first" > "$work/out"
     egg_and_tea | diff - "$work/out"
     "$work/cargo/debug/examples/desk" > "$work/out"
 }
 
-@test "a crate that depends on it by its path builds and runs" {
+@test "clippy has no warning about the crate, with std and without" {
     needs_cargo
+    needs cargo-clippy
+    of_crate clippy --all-targets -- -D warnings
+    of_crate clippy --no-default-features --tests -- -D warnings
+}
+@test "the crate is formatted" {
+    needs_cargo
+    needs cargo-fmt
+    cargo fmt --check --manifest-path bindings/rust/Cargo.toml
+}
+@test "rustdoc has no warning about the crate, and each item has a text" {
+    needs_cargo
+    needs rustdoc
+    RUSTDOCFLAGS="-D warnings -D missing_docs" of_crate doc
+    grep -F 'Timers that own their values' "$work/cargo/doc/timers/index.html"
+}
+
+# An index of our own stands for a registry's. It is empty, and nothing is sent.
+@test "the crate is packed, what was packed is built, and all but the upload is done" {
+    needs_cargo
+    needs git
+    git init --quiet "$work/index"
+    printf '{"dl":"file://%s/none","api":"file://%s/none"}\n' "$work" "$work" > "$work/index/config.json"
+    git -C "$work/index" add config.json
+    git -C "$work/index" -c user.name=index -c user.email=index@localhost commit --quiet --message index
+    cargo publish --dry-run --allow-dirty --manifest-path bindings/rust/Cargo.toml --index "file://$work/index" > "$work/out" 2>&1 ||
+        { cat "$work/out" && false; }
+    grep 'Verifying timers' "$work/out"
+    grep 'aborting upload due to dry run' "$work/out"
+}
+
+# unpacks_crate: unpacks the crate's file into $crate, where nothing else is
+unpacks_crate() {
+    crate=$work/unpacked/timers-$(cat tools/install/version)
+    if [ ! -e "$crate" ]; then
+        of_crate package --no-verify --allow-dirty
+        mkdir "$work/unpacked"
+        tar -C "$work/unpacked" -xf "$work/cargo/package/${crate##*/}.crate"
+    fi
+}
+@test "a packed crate has files in place of links, licences too" {
+    needs_cargo
+    unpacks_crate
+    [ -z "$(find "$crate" -type l)" ]
+    cmp generated/timers.c "$crate/c/timers.c"
+    cmp include/timers.h "$crate/c/timers.h"
+    cmp include/timers_desk.h "$crate/c/timers_desk.h"
+    for name in generated/NOTICE LICENSE-MIT LICENSE-APACHE; do cmp "$name" "$crate/${name##*/}"; done
+}
+@test "the tests of a packed crate pass, and so does each program in its README and its pages" {
+    needs_cargo
+    needs rustdoc
+    unpacks_crate
+    cargo test --quiet --offline --manifest-path "$crate/Cargo.toml"
+    [ "$(grep -c '^```' "$crate/README.md")" -eq 10 ] # three programs, and two texts for cargo
+    [ "$(grep -cx '```rust' "$crate/README.md")" -eq 3 ]
+}
+@test "a program that depends on a packed crate builds and runs" {
+    needs_cargo
+    unpacks_crate
     mkdir -p "$work/app/src"
     cp bindings/rust/examples/first.rs "$work/app/src/main.rs"
-    printf '[package]\nname = "app"\nversion = "1.0.0"\nedition = "2021"\n[dependencies]\ntimers = { path = "%s" }\n' "$PWD/bindings/rust" \
-        > "$work/app/Cargo.toml"
+    printf '[package]\nname = "app"\nversion = "1.0.0"\nedition = "2021"\n[dependencies]\ntimers = { path = "%s" }\n' "$crate" > "$work/app/Cargo.toml"
     cargo run --quiet --offline --manifest-path "$work/app/Cargo.toml" > "$work/out"
     egg_and_tea | diff - "$work/out"
 }
 
+@test "each value in Rust comes back or is dropped, under valgrind" {
+    needs_cargo
+    needs valgrind
+    leaks=definite,indirect # others are std's own: of the threads of tests
+    of_crate test --test values --test edges --config "target.'cfg(all())'.runner='valgrind -q --leak-check=full --errors-for-leak-kinds=$leaks --show-leak-kinds=$leaks --error-exitcode=9'" \
+        -- --test-threads 1
+}
+
+# A program that has no std: it would not link if the crate had one.
+@test "without std the crate is for programs without std" {
+    needs_cargo
+    of_crate test --no-default-features --tests
+    mkdir -p "$work/bare/src"
+    cat > "$work/bare/Cargo.toml" << EOT
+[package]
+name = "bare"
+version = "1.0.0"
+edition = "2021"
+[profile.dev]
+panic = "abort"
+[dependencies]
+timers = { path = "$PWD/bindings/rust", default-features = false }
+EOT
+    cat > "$work/bare/src/main.rs" << 'EOT'
+#![no_std]
+#![no_main]
+use core::alloc::{GlobalAlloc, Layout};
+use core::ffi::{c_int, c_void};
+use core::time::Duration;
+use timers::{at_least, Timers};
+
+#[link(name = "c")]
+unsafe extern "C" {
+    fn malloc(size: usize) -> *mut c_void;
+    fn free(block: *mut c_void);
+    fn abort() -> !;
+}
+struct OfC;
+unsafe impl GlobalAlloc for OfC {
+    unsafe fn alloc(&self, layout: Layout) -> *mut u8 {
+        unsafe { malloc(layout.size()).cast() }
+    }
+    unsafe fn dealloc(&self, block: *mut u8, _: Layout) {
+        unsafe { free(block.cast()) }
+    }
+}
+#[global_allocator]
+static ALLOCATOR: OfC = OfC;
+
+#[panic_handler]
+fn panic(_: &core::panic::PanicInfo) -> ! {
+    unsafe { abort() }
+}
+#[no_mangle]
+extern "C" fn rust_eh_personality() {} // alloc names it, and nothing unwinds here
+
+#[no_mangle]
+extern "C" fn main() -> c_int {
+    let mut timers = Timers::new().unwrap();
+    timers.start(at_least(Duration::from_secs(3), Duration::from_secs(1)), 5).unwrap();
+    timers.take(4).map_or(0, |timer| timer.value)
+}
+EOT
+    run cargo run --quiet --offline --manifest-path "$work/bare/Cargo.toml"
+    [ "$status" -eq 5 ]
+}
+
+# Git leaves a file with the path in place of a link.
+@test "a checkout without symbolic links builds the crate, and packs none that is broken" {
+    needs_cargo
+    copy_tree "$work/plain"
+    for link in $(cd bindings/rust && find . -type l); do
+        rm "$work/plain/bindings/rust/$link"
+        printf %s "$(readlink "bindings/rust/$link")" > "$work/plain/bindings/rust/$link"
+    done
+    cd "$work/plain"
+    of_crate run --example first > "$work/out"
+    egg_and_tea | diff - "$work/out"
+    run of_crate package
+    [ "$status" -ne 0 ]
+    [[ $output == *"the crate was packed from a checkout without symbolic links"* ]]
+}
+
 # The build script by itself, as cargo runs it for another processor: the compiler that it takes, and that of a variable.
-@test "the build script compiles for another processor, by the conventions of cc" {
+@test "the build script compiles for other processors and systems, by the conventions of cc" {
     needs_cargo
     needs rustc readelf aarch64-linux-gnu-gcc
     rustc --edition 2021 -D warnings -o "$work/build" bindings/rust/build.rs
     export HOST=x86_64-unknown-linux-gnu TARGET=aarch64-unknown-linux-gnu OUT_DIR=$work CARGO_MANIFEST_DIR=$PWD/bindings/rust
     unset CC CFLAGS AR
     "$work/build" > "$work/out"
-    grep -x "cargo:rustc-link-lib=static=timers" "$work/out"
+    grep -x "cargo::rustc-link-lib=static=timers" "$work/out"
+    [ -e "$(sed -n 's/^cargo::metadata=include=//p' "$work/out")/timers.h" ]
     readelf -h "$work/libtimers.a" | grep AArch64
+    while read -r target compiler; do
+        ! command -v "$compiler" || TARGET=$target "$work/build" | grep -x "cargo::rustc-link-lib=static=timers"
+    done << EOT
+i686-unknown-linux-gnu i686-linux-gnu-gcc
+armv7-unknown-linux-gnueabihf arm-linux-gnueabihf-gcc
+riscv64gc-unknown-linux-gnu riscv64-linux-gnu-gcc
+s390x-unknown-linux-gnu s390x-linux-gnu-gcc
+x86_64-unknown-linux-musl musl-gcc
+x86_64-pc-windows-gnu x86_64-w64-mingw32-gcc
+EOT
     printf '#!/bin/sh\necho "$@" > "%s/asked"\nexec aarch64-linux-gnu-gcc "$@"\n' "$work" > "$work/given"
     chmod 755 "$work/given"
     CC=false TARGET_CC=false CC_aarch64_unknown_linux_gnu=$work/given CFLAGS="-DONE -DTWO" AR_aarch64_unknown_linux_gnu=aarch64-linux-gnu-ar "$work/build" > "$work/out"
-    grep -e '-DONE -DTWO .*generated/timers.c' "$work/asked"
+    grep -e '-DONE -DTWO .*c/timers.c' "$work/asked"
     run env AR=false "$work/build"
     [ "$status" -ne 0 ]
-}
-
-@test "pip installs the module, and the first program runs" {
-    needs_venv
-    top=$PWD
-    pip install --no-index ./bindings/python
-    cd /
-    "$work/venv/bin/python" "$top/examples/c/first.py" > "$work/out"
-    egg_and_tea | diff - "$work/out"
-}
-
-@test "the wheel has the module and each file that its record names, and is removed again" {
-    needs_venv
-    package=$(cd / && "$work/venv/bin/python" -c 'import os, timers; print(os.path.dirname(timers.__file__))')
-    cmp bindings/python/timers.py "$package/timers.py"
-    cmp bindings/python/timers_desk.py "$package/timers_desk.py"
-    (cd / && "$work/venv/bin/python" -c 'from timers.timers_desk import Desk; Desk(1, 1, 1, 1).free()')
-    cmp generated/NOTICE "$package"/../timers-*.dist-info/licenses/NOTICE
-    pip show --files timers | grep timers/libtimers.so.1
-    is_linked_alike "$package/libtimers.so.1"
-    grep -x "Tag: py3-none-linux_$(uname -m)" "$package"/../timers-*.dist-info/WHEEL
-    grep -x "Root-Is-Purelib: false" "$package"/../timers-*.dist-info/WHEEL
-    pip show timers | grep -x "Version: $(cat tools/install/version)"
-    pip uninstall --yes timers
-    [ ! -e "$package" ]
 }
 
 @test "CMake builds and runs the first program in C++" {

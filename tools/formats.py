@@ -1,8 +1,18 @@
-"""The numbers and tables of docs/formats.md, for the tools that need them. Run, it prints a header for tools/fuzz."""
+"""What facts/ and docs/formats.md say, for the tools that need it. Run, it prints a header for tools/fuzz."""
 import os
 import re
+import tomllib
 
-with open(os.path.join(os.path.dirname(os.path.abspath(__file__)), "../docs/formats.md"), encoding="utf-8") as page:
+TOP = os.path.dirname(os.path.dirname(os.path.abspath(__file__)))
+
+
+def facts(name):
+    with open(os.path.join(TOP, "facts", name), "rb") as file:
+        return tomllib.load(file)
+
+
+LIMITS, WORDS, SCHEMES = facts("limits.toml")["limits"], facts("words.toml"), facts("schemes.toml")
+with open(os.path.join(TOP, "docs/formats.md"), encoding="utf-8") as page:
     TEXT = page.read()
 
 
@@ -13,34 +23,28 @@ def find(pattern):
     return found[1]
 
 
-def number(pattern):
-    return int(find(pattern).replace(",", ""))
+def named(text):
+    """A text in which limits stand for their names in braces, as in the cases of the command line."""
+    return re.sub(r"\{(\w+)([+-]1)?\}", lambda found: str(LIMITS[found[1]] + int(found[2] or 0)) if found[1] in LIMITS else found[0], text)
 
 
-def rows(start, end=r"^#"):
-    """The first cells of the tables from below a heading up to the next one."""
-    return re.findall(r"^\| `([^`]+)` \|", find(rf"^{start}$\n(.*?)(?:{end}|\Z)"), flags=re.MULTILINE)
-
-
-def cells(start, end=r"^#"):
-    """The first two cells of the rows of those tables."""
-    table = find(rf"^{start}$\n(.*?)(?:{end}|\Z)")
-    return re.findall(r"^\| `([^`]+)` \| ([^|]*?) \|", table, flags=re.MULTILINE)
+def said(section, what):
+    """What the facts of a section of words.toml say, in its order."""
+    return [named(fact[what]) for fact in WORDS[section].values()]
 
 
 def reasons():
-    """Why requests and ticks are refused, by their words, without what is in brackets and without which requests."""
-    said = {word: re.sub(r" \(.*\)|^.*: ", "", text) for word, text in cells("### Reasons")}
-    return {**said, **dict(re.findall(r"or else as `([^`]+)` if ([^.]*)\.", TEXT))}
+    """Why requests and ticks are refused, by their words, without what is in brackets."""
+    sections = ("not_taken", "refused", "tick_refused")
+    return {word: re.sub(r" \(.*\)", "", when) for name in sections for word, when in zip(said(name, "word"), said(name, "when"))}
 
 
 def fields():
     """The names of the fields of the lines of a script and of the output, by the words with which they begin."""
-    lines = rows("## The script, on standard input", r"^###? [BT]") + rows("## The output, on standard output", r"^###")
-    said = {}
-    for line in lines:
-        said.setdefault(line.split()[0], [name.lower() for name in re.findall(r"[A-Z]+", line)])
-    return said
+    found = {}
+    for line in said("script", "line") + said("output", "line"):
+        found.setdefault(line.split()[0], [name.lower() for name in re.findall(r"[A-Z]+", line)])
+    return found
 
 
 FIELDS = fields()
@@ -52,30 +56,22 @@ def parts(line):
     return word, dict(zip(FIELDS[word], values))
 
 
-NUMBERS = {
-    "LAST": number(r"`out of range 0 to (\d+)`"),
-    "LAST_OF_CLOCK": number(r"(\d+) with `clock`"),
-    "MAX_TICKS": number(r"`out of range 1 to (\d+)`"),
-    "MAX_SCRIPT": number(r"A script has at most ([\d,]+) bytes"),
-    "MAX_LINE": number(r"at most (\d+) bytes of an incomplete line"),
-    "CHECK_FAILED": number(r"or with (\d) if `check` read its input"),
-    "MAX_CLIENTS": number(r"`--clients` \| how many clients there are[^|]*\| 1 to (\d+) \|"),
-    "MAX_PENDING": number(r"`--capacity` \|[^|]*\| 1 to (\d+) \|"),
-}
+NUMBERS = {name: LIMITS[name] for name in "LAST LAST_OF_CLOCK MAX_TICKS MAX_SCRIPT MAX_LINE MAX_CLIENTS MAX_PENDING".split()}
+NUMBERS |= {"CAPACITY": LIMITS["DEFAULT_CAPACITY"], "CHECK_FAILED": int(find(r"or with (\d) if `check` read its input"))}
 # Of the options of `timers play`.
 OPTIONS = find(r"^### `timers play`(.*?)^###")
 DEFAULTS = dict(re.findall(r"^\| `(--[a-z-]+)` \|.*\| `?(\w+)`? \|$", OPTIONS, flags=re.MULTILINE))
-NUMBERS["CAPACITY"] = int(DEFAULTS["--capacity"])
-REASONS_OF_A_LINE = rows(r"### `timers check`[^\n]*")
-# The words of refusals, in the order of the page.
-NAMES = "CLOSED NO_CLIENT REPEATED NUMBERS_SPENT AHEAD ZERO_INTERVAL TOO_LATE SERIALS_SPENT FULL NO_SUCH CLOCK_END"
-REFUSALS = dict(zip(NAMES.split(), reasons(), strict=True))
-# Where `timers show` says that timers are, by the scheme: K is the wheel, and S the slot. A clock has hands.
-PLACES = dict(re.findall(r"^\| `(plain|hashed|hier)` \| `([^:`]+):", TEXT, flags=re.MULTILINE))
-HANDS = re.findall(r"`([a-z]+)", find(r"^\| `clock` \| ([^|]*) \|"))
+REASONS_OF_A_LINE = said("check", "word")
+# The words of refusals, by names of C.
+REFUSALS = {
+    re.sub(r"(?<!^)(?=[A-Z])", "_", name).upper(): fact["word"]
+    for section in ("not_taken", "refused", "tick_refused") for name, fact in WORDS[section].items()
+}
+PLACES = {name: scheme["place"] for name, scheme in SCHEMES.items() if "place" in scheme}
+HANDS = SCHEMES["clock"]["hands"]
 
 # The lines on standard error, in the order of the table.
-ERRORS = rows("## Errors, on standard error", r"^The table says")
+ERRORS = said("errors", "line")
 OF_ANY = dict(zip(["TOO_LONG", "READ_FAILED", "WRITE_FAILED", "OUT_OF_MEMORY"], ERRORS[1:5]))
 TOO_LONG, READ_FAILED, WRITE_FAILED, OUT_OF_MEMORY = (f"{line}\n".encode() for line in OF_ANY.values())
 

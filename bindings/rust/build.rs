@@ -1,17 +1,20 @@
-// Compiles generated/timers.c into libtimers.a, by the conventions of the crate `cc`, which it does without: the compiler is
+// Compiles c/timers.c into libtimers.a, by the conventions of the crate `cc`, which it does without: the compiler is
 // CC, its flags CFLAGS, the archiver AR, each of them also as CC_TARGET, HOST_CC or TARGET_CC. It takes gcc's options.
+// SPDX-License-Identifier: MIT OR Apache-2.0
 use std::env;
-use std::path::Path;
+use std::fs;
+use std::path::{Path, PathBuf};
 use std::process::Command;
 
 /// A variable for the target, in the order in which `cc` looks for it.
 fn of_target(name: &str) -> Option<String> {
     let target = env::var("TARGET").unwrap();
     let kind = if env::var("HOST").as_ref() == Ok(&target) { "HOST" } else { "TARGET" };
+    let underscored = target.replace('-', "_");
     let variables =
-        [format!("{name}_{target}"), format!("{name}_{}", target.replace('-', "_")), format!("{kind}_{name}"), name.to_string()];
+        [format!("{name}_{target}"), format!("{name}_{underscored}"), format!("{kind}_{name}"), name.to_string()];
     for variable in &variables {
-        println!("cargo:rerun-if-env-changed={variable}");
+        println!("cargo::rerun-if-env-changed={variable}");
     }
     variables.iter().find_map(|variable| env::var(variable).ok())
 }
@@ -42,23 +45,44 @@ fn run(command: &mut Command) {
 /// The archiver that belongs to the compiler.
 fn archiver_of(compiler: &[&str]) -> String {
     let said = Command::new(compiler[0]).args(&compiler[1..]).arg("-print-prog-name=ar").output();
-    said.ok().and_then(|said| String::from_utf8(said.stdout).ok()).map_or("ar".to_string(), |name| name.trim().to_string())
+    said.ok()
+        .and_then(|said| String::from_utf8(said.stdout).ok())
+        .map_or("ar".to_string(), |name| name.trim().to_string())
+}
+
+/// A file of c/. In the repository it is a symbolic link. A checkout without these, as on Windows, has a file there that
+/// holds the path.
+fn source(name: &str) -> PathBuf {
+    let folder = Path::new(&env::var("CARGO_MANIFEST_DIR").unwrap()).join("c");
+    let path = folder.join(name);
+    let text = fs::read_to_string(&path).unwrap_or_else(|error| panic!("{}: {error}", path.display()));
+    let path = if text.starts_with("../") { folder.join(text.trim_end()) } else { path };
+    assert!(
+        path.exists(),
+        "{} is not there: the crate was packed from a checkout without symbolic links",
+        path.display()
+    );
+    println!("cargo::rerun-if-changed={}", path.display());
+    path
 }
 
 fn main() {
-    let top = Path::new(&env::var("CARGO_MANIFEST_DIR").unwrap()).join("../..");
     let folder = env::var("OUT_DIR").unwrap();
     let (object, archive) = (format!("{folder}/timers.o"), format!("{folder}/libtimers.a"));
+    let (code, header, _) = (source("timers.c"), source("timers.h"), source("timers_desk.h"));
+    let include = header.parent().unwrap();
     let (compiler, flags) = (of_target("CC").unwrap_or_else(default_compiler), of_target("CFLAGS").unwrap_or_default());
     let compiler: Vec<&str> = compiler.split_whitespace().collect();
     let mut compile = Command::new(compiler[0]);
     compile.args(&compiler[1..]).args(["-O2", "-g", "-fPIC", "-ffunction-sections"]).args(flags.split_whitespace());
-    run(compile.arg("-I").arg(top.join("include")).args(["-c", "-o", &object]).arg(top.join("generated/timers.c")));
+    if env::var_os("CARGO_FEATURE_STD").is_none() {
+        compile.arg("-DTIMERS_NO_DESK");
+    }
+    run(compile.arg("-I").arg(include).args(["-c", "-o", &object]).arg(code));
     let archiver = of_target("AR").unwrap_or_else(|| archiver_of(&compiler));
     run(Command::new(archiver).args(["crs", &archive, &object]));
-    println!("cargo:rustc-link-search=native={folder}");
-    println!("cargo:rustc-link-lib=static=timers");
-    for path in ["generated/timers.c", "include/timers.h", "include/timers_desk.h"] {
-        println!("cargo:rerun-if-changed={}", top.join(path).display());
-    }
+    println!("cargo::rustc-link-search=native={folder}");
+    println!("cargo::rustc-link-lib=static=timers");
+    // Build scripts of crates that depend on this one get it as DEP_TIMERS_INCLUDE.
+    println!("cargo::metadata=include={}", include.display());
 }

@@ -4,12 +4,20 @@
 const SVG = "http://www.w3.org/2000/svg";
 const INNER = 78;
 const OUTER = 98;
+const EDGE = 148;      // of the drawing
 const MAX_NUMBERS = 8; // slots of one wheel that have their number on the ring
 const NEAR = 0.06;     // of a turn: two numbers on the ring don't touch
 const SIDE = 45;       // a number that is so far from the middle is beside the ring, or else above or below it
+const FOLDED = 10;     // timers of a bucket that are shown before it is unfolded
+const MAX_ROWS = 12;   // slots of a wheel, and so are these
+
+// Whether two lists of written timers are the same.
+function isSame(one, other) {
+  return one === other || (one.length === other.length && one.every((written, k) => written === other[k]));
+}
 
 function make(tag, attributes, ...children) {
-  const svg = ["svg", "circle", "path", "text", "g", "line", "title"].includes(tag);
+  const svg = ["svg", "circle", "path", "text", "g", "line"].includes(tag);
   const made = svg ? document.createElementNS(SVG, tag) : document.createElement(tag);
   for (const [name, value] of Object.entries(attributes || {})) {
     if (name.startsWith("on")) made.addEventListener(name.slice(2), value);
@@ -45,48 +53,97 @@ function slotSegment(slot, slots) {
 }
 
 class WheelCard {
-  constructor(play, words, wheel, follow) {
-    Object.assign(this, {play, words, wheel, follow});
-    this.rows = new Map();
-    this.segments = new Map();
-    this.turn = null;
+  // `acts` has what the reader does: follow(serial), aim(wheel, slot) and turn(wheel, slot).
+  constructor(play, words, wheel, acts) {
+    Object.assign(this, {wheel, acts, rows: new Map(), segments: new Map(), unfolded: new Set(), turn: null});
+    this.take(play, words);
     const {name, slots, ticks} = play.wheels[wheel];
-    const each = {plain: "", hashed: `${slots} slots, one a tick`}[play.scheme] ??
-        `${slots} slots of ${ticksOf(ticks)}`;
-    this.list = make("ul", {class: "buckets"});
-    this.body = make("div", {class: "wheel-body"}, play.scheme === "plain" ? null : this.ring(slots), this.list);
+    const isPlain = this.scheme === "plain";
+    const each = {plain: "", hashed: `${slots} slots, one a tick`}[this.scheme] ?? `${slots} slots of ${ticksOf(ticks)}`;
+    this.list = make("ul", {class: "buckets", onkeydown: (event) => this.walk(event)});
+    this.body = make("div", {class: "wheel-body"}, isPlain ? null : this.ring(slots), this.list);
     this.element = make("article", {class: "wheel", "aria-label": name},
-        make("header", {}, make("h3", {}, play.scheme === "plain" ? "Pending, by deadline" : upper(name)),
-            make("p", {}, each)),
-        this.body);
+        make("header", {}, make("h3", {}, isPlain ? "Pending, by deadline" : upper(name)), make("p", {}, each)), this.body);
   }
+
+  // Another play on the same wheels.
+  take(play, words) { Object.assign(this, {play, words, scheme: play.scheme.name}); }
 
   ring(slots) {
     this.held = make("path", {class: "held"});
     this.chosen = make("path", {class: "held-followed"});
     this.left = make("path", {class: "left"});
-    const tip = point(0, INNER - 12);
-    this.hand = make("g", {class: "turns"}, make("line", {class: "hand", x1: 0, y1: -26, x2: tip[0], y2: tip[1] + 4}),
-        make("path", {class: "hand-tip", d: `M-5 ${- INNER + 13}L5 ${- INNER + 13}L0 ${- INNER + 4}Z`}));
+    this.aimed = make("path", {class: "aimed"});
+    this.grip = make("g", {class: "turns grip", tabindex: 0, role: "slider", "data-focus": `hand-${this.scheme}-${this.wheel}`,
+      "aria-valuemin": 0, "aria-valuemax": slots - 1, onkeydown: (event) => this.pushHand(event)},
+        make("path", {class: "grip-area", d: segment(-0.04, 0.04, 26, INNER - 2)}),
+        make("line", {class: "hand", x1: 0, y1: -32, x2: 0, y2: -INNER + 12}),
+        make("path", {class: "hand-tip", d: `M-6 ${-INNER + 14}L6 ${-INNER + 14}L0 ${-INNER + 3}Z`}));
     this.digit = make("text", {class: "digit", y: 0});
-    const dashes = slots > 1 && slots <= 128 ? "0.84 0.16" : "none";
-    const track = make("circle", {class: "track", r: (INNER + OUTER) / 2, "stroke-width": OUTER - INNER, pathLength: slots,
-      "stroke-dasharray": dashes, "stroke-dashoffset": "-0.08", transform: "rotate(-90)"});
-    this.title = make("title", {});
+    const dashes = slots > 1 && slots <= 128 ? "0.8 0.2" : "none";
+    const track = make("circle", {class: "track", r: (INNER + OUTER) / 2, pathLength: slots, "stroke-dasharray": dashes,
+      "stroke-dashoffset": "-0.1", transform: "rotate(-90)"});
     this.scale = make("g", {});
-    this.svg = make("svg", {viewBox: "-120 -120 240 240", role: "img"}, this.title, track, this.held, this.chosen,
-        this.left, this.hand, this.digit, this.scale);
+    const target = make("circle", {class: "target", r: (INNER + OUTER) / 2, "stroke-width": OUTER - INNER + 16});
+    this.svg = make("svg", {viewBox: `${-EDGE} ${-EDGE} ${2 * EDGE} ${2 * EDGE}`, role: "group"},
+        target, track, this.held, this.chosen, this.left, this.aimed, this.digit, this.scale, this.grip);
+    target.addEventListener("click", (event) => this.acts.aim(this.wheel, this.slotAt(event)));
+    for (const path of [this.held, this.chosen])
+      path.addEventListener("click", (event) => this.acts.aim(this.wheel, this.slotAt(event)));
+    this.grip.addEventListener("pointerdown", (event) => this.drag(event));
     return this.svg;
   }
 
-  // Where an arrow to or from a slot ends on the screen, outside of the slot's number, and the way outwards.
+  // The slot at which the pointer is.
+  slotAt({clientX, clientY}) {
+    const {slots} = this.play.wheels[this.wheel];
+    const {e, f} = this.svg.getScreenCTM();
+    const turn = Math.atan2(clientY - f, clientX - e) / (2 * Math.PI) + 0.25;
+    return Math.floor((turn - Math.floor(turn)) * slots);
+  }
+
+  // The hand follows the pointer, always forwards; where it is let go, the clock goes on to that slot.
+  drag(event) {
+    event.preventDefault();
+    this.grip.focus();
+    this.grip.setPointerCapture(event.pointerId);
+    let slot = null;
+    const move = (moved) => {
+      slot = this.slotAt(moved);
+      const {slots} = this.play.wheels[this.wheel];
+      this.grip.style.transition = "none";
+      this.grip.style.transform = `rotate(${((slot + 0.5) / slots) * 360}deg)`;
+      this.digit.textContent = String(slot);
+    };
+    const end = () => {
+      this.grip.removeEventListener("pointermove", move);
+      this.grip.style.transition = "";
+      if (slot === null || slot === this.digitNow) this.point();
+      else this.acts.turn(this.wheel, slot);
+    };
+    this.grip.addEventListener("pointermove", move);
+    this.grip.addEventListener("lostpointercapture", end, {once: true});
+  }
+
+  pushHand(event) {
+    if (!["ArrowRight", "ArrowUp"].includes(event.key)) return;
+    event.preventDefault();
+    event.stopPropagation();
+    this.acts.turn(this.wheel, (this.digitNow + 1) % this.play.wheels[this.wheel].slots);
+  }
+
+  // The slot to which a timer would go.
+  aim(slot) { this.aimed?.setAttribute("d", slot === null ? "" : this.segment(slot)); }
+
+  // Where a slot is on the screen: the middle of its ring, the scale, and the turn at which the slot is. Arrows end at the
+  // radius `end`, outside of the slot's number, and go round the ring at the radius `corridor`, outside of all numbers.
   spot(slot) {
+    const {a, e, f} = this.svg.getScreenCTM();
     const turn = (slot + 0.5) / this.play.wheels[this.wheel].slots;
-    const [awayX, awayY] = point(turn, 1);
     const number = parseFloat(getComputedStyle(this.scale.firstChild).fontSize);
-    const [x, y] = point(turn, OUTER + 8 + number * (Math.abs(awayX) * OUTER < SIDE ? 1 : 1.3));
-    const {a, d, e, f} = this.svg.getScreenCTM();
-    return {x: a * x + e, y: d * y + f, awayX, awayY};
+    const isAside = Math.abs(point(turn, OUTER)[0]) >= SIDE;
+    const end = OUTER + 8 + number * (isAside ? 1.3 : 0.95);
+    return {x: e, y: f, size: a, turn, end, corridor: OUTER + 17 + 1.35 * number, card: this.element.getBoundingClientRect()};
   }
 
   // `held` are the slots that have timers and their lists; `chosen` is the slot of the followed timer, or
@@ -97,6 +154,7 @@ class WheelCard {
       this.renderScale(held, chosen, left, came, followed);
     }
     this.renderBuckets(held, chosen, left, came, followed);
+    this.element.classList.toggle("is-empty", !held.length && !left.size);
   }
 
   // The numbers around the ring: where timers moved, where timers are if those are few, and the quarters.
@@ -134,16 +192,26 @@ class WheelCard {
   }
 
   renderRing(held, chosen, left, now) {
-    const {slots, name} = this.play.wheels[this.wheel];
-    const digit = digitsOf(this.play.wheels, now)[this.wheel];
+    const {slots, name, ticks} = this.play.wheels[this.wheel];
+    this.digitNow = digitsOf(this.play.wheels, now)[this.wheel];
     this.held.setAttribute("d", held.map(([slot]) => (slot === chosen ? "" : this.segment(slot))).join(""));
     this.chosen.setAttribute("d", chosen === null ? "" : this.segment(chosen));
     this.left.setAttribute("d", [...left.keys()].map((slot) => this.segment(slot)).join(""));
-    this.digit.textContent = String(digit);
+    this.digit.classList.toggle("is-long", this.digitNow > 99);
     this.turnTo(now);
-    this.hand.setAttribute("style", `transform: rotate(${(((this.turn + 0.5) / slots) * 360).toFixed(3)}deg)`);
-    this.title.textContent = `${upper(name)}: the hand is at slot ${digit}, ${held.length} slot${
-        held.length === 1 ? " has" : "s have"} timers`;
+    this.point();
+    const does = ticks === 1n ? "each tick" : `each ${ticks} ticks`;
+    this.grip.setAttribute("aria-label", `Hand of ${name}, a slot ${does}: right arrow passes ticks up to the next slot`);
+    this.grip.setAttribute("aria-valuenow", this.digitNow);
+    this.grip.setAttribute("aria-valuetext", `slot ${this.digitNow}`);
+    this.svg.setAttribute("aria-label", `${upper(name)}: the hand is at slot ${this.digitNow}, ${held.length} slot${
+        held.length === 1 ? " has" : "s have"} timers`);
+  }
+
+  point() {
+    const {slots} = this.play.wheels[this.wheel];
+    this.digit.textContent = String(this.digitNow);
+    this.grip.style.transform = `rotate(${(((this.turn + 0.5) / slots) * 360).toFixed(3)}deg)`;
   }
 
   // The hand turns the way the clock went, also over slot 0. Many turns are drawn as one.
@@ -158,37 +226,79 @@ class WheelCard {
     this.at = at;
   }
 
+  // A slot has one row, also if some timers stand there and others have just left.
   renderBuckets(held, chosen, left, came, followed) {
-    const rows =
-        held.map(([slot, list]) => this.row(slot, list, slot === chosen ? followed : null, came.get(slot), followed));
-    for (const [slot, events] of [...left].slice(0, MAX_NUMBERS))
-      rows.push(make("li", {class: "gone"}, make("span", {class: "name"}, this.slotName(slot)),
-          this.went(this.words.gone(events), events, followed)));
+    const rows = this.listed(held, chosen, left, came).map(
+        ([slot, list]) => this.row(slot, list, slot === chosen ? followed : null, came.get(slot), left.get(slot), followed));
+    const isGone = ([slot]) => !held.some(([other]) => other === slot);
+    for (const [slot, events] of [...left].filter(isGone).slice(0, MAX_NUMBERS))
+      rows.push(make("li", {class: "gone"}, make("span", {class: "name"}, this.slotName(slot)), this.gone(events, followed)));
+    if (rows.length < held.length) rows.push(make("li", {}, this.unfold(-1, held.length - MAX_ROWS, "slots")));
     if (!held.length && !left.size) rows.push(make("li", {}, make("span", {class: "none"}, "empty")));
     this.list.replaceChildren(...rows);
-    // In a list that scrolls by itself the first row that has changed is in sight.
-    const changed = this.list.querySelector(".went")?.closest("li");
-    if (changed) this.list.scrollTop = changed.offsetTop - this.list.offsetTop;
+    const chips = this.list.querySelectorAll("button");
+    chips.forEach((chip, at) => { chip.tabIndex = at ? -1 : 0; });
     const live = new Set(held.map(([slot]) => slot));
     for (const slot of this.rows.keys())
       if (!live.has(slot)) this.rows.delete(slot);
   }
 
+  // In a list that scrolls by itself the first row that has changed is in sight.
+  reveal() {
+    const changed = this.list.querySelector(".went")?.closest("li");
+    if (changed) this.list.scrollTop = changed.offsetTop - this.list.offsetTop;
+  }
+
+  // The slots that are listed: all, or so many, those at which something happened among them.
+  listed(held, chosen, left, came) {
+    if (held.length <= MAX_ROWS + 1 || this.unfolded.has(-1)) return held;
+    const isNews = ([slot]) => slot === chosen || left.has(slot) || came.has(slot);
+    const found = new Set([...held.filter(isNews), ...held].slice(0, MAX_ROWS));
+    return held.filter((pair) => found.has(pair));
+  }
+
+  // The timers of a wheel are one stop of the Tab key: the arrows up and down go from one to the next.
+  walk(event) {
+    const by = {ArrowDown: 1, ArrowUp: -1}[event.key];
+    const chips = [...this.list.querySelectorAll("button")];
+    const next = by && chips[chips.indexOf(document.activeElement) + by];
+    if (!next) return;
+    event.preventDefault();
+    chips.forEach((chip) => { chip.tabIndex = chip === next ? 0 : -1; });
+    next.focus();
+  }
+
   slotName(slot) { return this.words.place(keyOf(this.wheel, slot)).replace(/^wheel \d+ /, ""); }
 
-  went(said, moved, followed) { return make("span", {class: `went ${colour(moved, followed)}`}, said); }
+  gone(events, followed) { return make("span", {class: `went left-it ${colour(events, followed)}`}, this.words.gone(events)); }
 
-  // The row of a bucket, where `has` is the followed timer if it stands there, and `came` are the moves to it
-  // at this step. It is made anew only if it changed.
-  row(slot, list, has, came, followed) {
+  // The row of a bucket, where `has` is the followed timer if it stands there, and `came` and `left` are what happened
+  // there at this step. It is made anew only if it changed.
+  row(slot, list, has, came, left, followed) {
     const old = this.rows.get(slot);
-    if (old && old.list === list && old.has === has && !came && !old.came) return old.element;
-    const chips = list.map((written) => this.chip(written, has));
-    if (came) chips.push(this.went(this.words.came(came), came, followed));
-    const element = make("li", {class: "bucket"}, make("span", {class: "name"}, this.slotName(slot)),
+    const isOpen = this.unfolded.has(slot) || list.length <= FOLDED + 1;
+    if (old && isSame(old.list, list) && old.has === has && !came && !left && !old.came && !old.left && old.isOpen === isOpen)
+      return old.element;
+    const shown = isOpen ? list : list.slice(0, FOLDED);
+    if (!isOpen && has !== null && !shown.some((written) => serialOf(written) === has))
+      shown[FOLDED - 1] = list.find((written) => serialOf(written) === has);
+    const chips = shown.map((written) => this.chip(written, has));
+    if (!isOpen) chips.push(this.unfold(slot, list.length - FOLDED));
+    if (came) chips.push(make("span", {class: `went ${colour(came, followed)}`}, this.words.came(came)));
+    if (left) chips.push(this.gone(left, followed));
+    const element = make("li", {class: `bucket${left ? " gone" : ""}`}, make("span", {class: "name"}, this.slotName(slot)),
         make("div", {class: "chips"}, ...chips));
-    this.rows.set(slot, {list, has, came, element});
+    this.rows.set(slot, {list, has, came, left, isOpen, element});
     return element;
+  }
+
+  unfold(slot, more, what = "timers") {
+    const act = () => {
+      this.unfolded.add(slot);
+      this.acts.follow(null);
+    };
+    const name = {"aria-label": `${more} more ${what}`, "data-focus": `more-${this.wheel}-${slot}`};
+    return make("button", {type: "button", class: "more", onclick: act, ...name}, `+ ${more}${what === "slots" ? " slots" : ""}`);
   }
 
   chip(written, has) {
@@ -198,8 +308,8 @@ class WheelCard {
     const {deadline, client, action} = timer ?? {};
     const title = `timer ${serial}${timer ? `, deadline ${deadline}, client ${client}, action ${action}` : ""}`;
     const kind = `chip${serial === has ? " is-followed" : ""}`;
-    const pressed = {"data-serial": serial, "aria-pressed": String(serial === has)};
-    return make("button", {type: "button", class: kind, title, onclick: () => this.follow(serial), ...pressed}, serial,
+    const pressed = {"data-focus": `chip-${serial}`, "aria-pressed": String(serial === has)};
+    return make("button", {type: "button", class: kind, title, onclick: () => this.acts.follow(serial), ...pressed}, serial,
         note === undefined ? null : make("span", {class: "part"}, `:${note}`));
   }
 }

@@ -1,31 +1,33 @@
-// The page: steps, the script's lines, the followed timer, and the controls.
+// The page: steps, the followed timer, and the controls.
 "use strict";
 
-const MAX_ARROWS = 12;   // of one step
 const READ_FIRST = 2000; // milliseconds that Play rests, at speed 1, where a timer moves or expires
 const READ_LETTER = 20;  // and for each letter that is said there
-const EDGE = 8;          // pixels between what is brought into sight and the edge of the screen
+const GAP = 8;           // pixels between what is brought into sight and the edge of the screen
+const MAX_COUNTED = 3000; // timers of a script for which it is counted at how many each scheme looks
 
 const $ = (id) => document.getElementById(id);
-const play = new Play(PLAYS.find(({name}) => location.hash === `#${name}`) ?? PLAYS[0]);
-const words = new Words(play);
-const shown = {
-  step: 0,
-  followed: play.longest(),
-  timer: null
-};
+const shown = {step: 0, followed: null, timer: null, isCompared: false};
 const wide = window.matchMedia("(min-width: 860px)");
+const calm = window.matchMedia("(prefers-reduced-motion: reduce)");
+const arrows = new Arrows();
+const lines = new LineList($("lines"), go);
+const comparison = new Comparison($("comparison"));
+let play = null;
+let words = null;
+let cards = new Map();
 
 function follow(serial) {
   if (serial !== null) shown.followed = serial;
   render(shown.step);
 }
 
-// The wheels that ever hold a timer, and the lowest, whose hand moves at each tick.
-const drawn = play.wheels.map((_, k) => k).filter((k) => k === 0 || play.used.has(k)).reverse();
-const cards = new Map(drawn.map((k) => [k, new WheelCard(play, words, k, follow)]));
+// The wheels that ever hold a timer, the lowest, whose hand moves at each tick, and these.
+function drawnOf(of, more) {
+  return of.wheels.map((_, k) => k).filter((k) => k === 0 || of.used.has(k) || more.includes(k)).reverse();
+}
 
-const lines = new LineList(play, $("lines"), go);
+function cardsOf(of, said, acts, more) { return new Map(drawnOf(of, more).map((k) => [k, new WheelCard(of, said, k, acts)])); }
 
 // What kind of news a sentence is, for its colour.
 function kindOf(said, isBad) {
@@ -55,9 +57,9 @@ function digitRow(name, tick, level) {
 // stands.
 function digitTable(timer, now) {
   const level = levelOf(play.wheels, now, timer.deadline);
-  const name = (k) => (play.scheme === "hier" ? String(k) : play.wheels[k].name);
-  const names = words.levels.map((k) => make("th", {scope: "col"}, name(k)));
-  const head = make("tr", {}, make("th", {}, play.scheme === "hier" ? "wheel" : ""), ...names);
+  const isHier = play.scheme.name === "hier";
+  const names = words.levels.map((k) => make("th", {scope: "col"}, isHier ? String(k) : play.wheels[k].name));
+  const head = make("tr", {}, make(isHier ? "th" : "td", isHier ? {scope: "row"} : {}, isHier ? "wheel" : ""), ...names);
   const deadline = digitRow(`deadline ${timer.deadline}`, timer.deadline, level);
   const body = make("tbody", {}, digitRow(`now ${now}`, now, level), deadline);
   return make("div", {class: "scroll"}, make("table", {class: "digits"}, make("thead", {}, head), body));
@@ -66,26 +68,26 @@ function digitTable(timer, now) {
 function historyRow(event, step) {
   const past = event.step <= step;
   const line = play.steps[event.step - 1].line + 1;
-  const by = event.tick === undefined && play.whole.includes(line - 1) ? "by " : "";
+  const by = event.tick === undefined && play.whole.has(line - 1) ? "by " : "";
   const tick = event.tick === undefined ? play.now(event.step) : event.tick;
   const state = `${past ? "is-past" : ""} ${event.step === step ? "is-now" : ""}`;
   return make("li", {class: state.trim()},
-      make("button", {type: "button", onclick: () => go(event.step)}, words.event(event),
-          make("small", {}, `${by}tick ${tick}, line ${line}`)));
+      make("button", {type: "button", onclick: () => go(event.step), "data-focus": `event-${event.step}-${event.kind}`},
+          words.event(event), make("small", {}, `${by}tick ${tick}, line ${line}`)));
 }
 
 // A timer's history. Of the rounds only the present one is listed.
-function history(timer, step) {
-  const events = timer.events.filter((event) => event.kind !== "round" || event.step === step);
-  const rows = events.map((event) => historyRow(event, step));
-  return make("div", {class: "rows"}, make("ol", {class: "history"}, ...rows));
+function eventsOf(timer, step) {
+  const rounds = play.events(step).filter(({kind, serial}) => kind === "round" && serial === timer.serial);
+  const events = [...play.history(timer.serial), ...rounds].sort((a, b) => a.step - b.step);
+  return make("div", {class: "rows"}, make("ol", {class: "history"}, ...events.map((event) => historyRow(event, step))));
 }
 
 function renderFollowed(step) {
   const timer = play.timers.get(shown.followed);
   if (document.activeElement !== $("serial") || !shown.isTyped) $("serial").value = shown.followed || "";
-  $("before").disabled = !timer || !play.timers.has(String(BigInt(timer.serial) - 1n));
-  $("after").disabled = !timer || !play.timers.has(String(BigInt(timer.serial) + 1n));
+  setOff("before", !timer || !play.timers.has(String(BigInt(timer.serial) - 1n)));
+  setOff("after", !timer || !play.timers.has(String(BigInt(timer.serial) + 1n)));
   if (!timer) {
     $("followed")
         .replaceChildren(make("p", {},
@@ -100,25 +102,25 @@ function renderFollowed(step) {
     parts.push(make("p", {class: "because"}, words.why(timer, now)));
   } else
     parts.push(make("p", {class: "because"},
-        timer.events[0].step > step ? "It has not been started yet." : "It is no longer pending."));
-  parts.push(history(timer, step));
+        timer.from > step ? "It has not been started yet." : "It is no longer pending."));
+  parts.push(eventsOf(timer, step));
   $("followed").replaceChildren(...parts);
-  showEvent();
 }
 
 // The present event of the followed timer is brought into sight where its history scrolls by itself.
 function showEvent() {
-  if (isColumn()) document.querySelector(".history .is-now")?.scrollIntoView({block: "nearest"});
+  const box = $("followed").closest(".follow");
+  const event = isColumn() && document.querySelector(".history .is-now");
+  if (!event) return;
+  const [outer, inner] = [box.getBoundingClientRect(), event.getBoundingClientRect()];
+  if (inner.bottom > outer.bottom) box.scrollTop += inner.bottom - outer.bottom + GAP;
+  else if (inner.top < outer.top) box.scrollTop += inner.top - outer.top - GAP;
 }
 
-function eventsOf(step) { return step ? play.steps[step - 1].events : []; }
-
-function movesOf(step) { return eventsOf(step).filter((event) => event.kind === "moved"); }
-
-// The events of timers that left a slot at this step: they moved, or came out, or were stopped or restarted.
-function leavesOf(step) {
-  const isAway = ({kind, by, from}) => kind !== "restarted" || play.timers.get(by).events[0].to !== from;
-  return eventsOf(step).filter((event) => event.from !== undefined && isAway(event));
+// The events of timers that left a slot at a step: they moved, or came out, or were stopped or restarted.
+function leavesOf(of, step) {
+  const isAway = ({kind, by, from}) => kind !== "restarted" || of.whereIs(by, step) !== from;
+  return of.events(step).filter((event) => event.from !== undefined && isAway(event));
 }
 
 function addTo(map, slot, event) {
@@ -126,92 +128,82 @@ function addTo(map, slot, event) {
   map.get(slot).push(event);
 }
 
-function renderWheels(step) {
-  const parts = new Map(drawn.map((k) => [k, {held: [], chosen: null, left: new Map(), came: new Map()}]));
-  const buckets = play.buckets(step);
+// Draws where the timers of a play stand. How many are pending.
+function renderCards(of, on, step, followed) {
+  const parts = new Map([...on.keys()].map((k) => [k, {held: [], chosen: null, left: new Map(), came: new Map()}]));
+  const {buckets} = of.state(step);
   let count = 0;
   for (const key of [...buckets.keys()].sort((a, b) => a - b)) {
     const {wheel, slot} = placeOf(key);
     parts.get(wheel).held.push([slot, buckets.get(key)]);
     count += buckets.get(key).length;
   }
-  const chosen = play.whereIs(shown.followed, step);
+  const chosen = of.whereIs(followed, step);
   if (chosen !== null) parts.get(placeOf(chosen).wheel).chosen = placeOf(chosen).slot;
-  for (const event of play.scheme === "plain" ? [] : leavesOf(step))
+  for (const event of of.scheme.name === "plain" ? [] : leavesOf(of, step))
     addTo(parts.get(placeOf(event.from).wheel).left, placeOf(event.from).slot, event);
-  for (const event of movesOf(step)) addTo(parts.get(placeOf(event.to).wheel).came, placeOf(event.to).slot, event);
-  for (const [k, card] of cards) card.render(parts.get(k), play.now(step), shown.followed);
-  $("count").textContent = `${count} pending`;
+  for (const event of of.events(step).filter(({kind}) => kind === "moved"))
+    addTo(parts.get(placeOf(event.to).wheel).came, placeOf(event.to).slot, event);
+  for (const [k, card] of on) card.render(parts.get(k), of.now(step), followed);
+  return count;
 }
 
-function spots(event) {
-  return [event.from, event.to].map((key) => cards.get(placeOf(key).wheel).spot(placeOf(key).slot));
+function renderArrows(travels) {
+  if (shown.isCompared || !play) return;
+  arrows.render(play.events(shown.step).filter(({kind}) => kind === "moved"), cards, shown.followed, travels);
 }
 
-// Where a curve from a slot to another is drawn to: away from the slot's ring, and aside if the ring is in between.
-function bent(spot, other, [sideX, sideY]) {
-  const far = Math.hypot(other.x - spot.x, other.y - spot.y) || 1;
-  const ahead = (spot.awayX * (other.x - spot.x) + spot.awayY * (other.y - spot.y)) / far;
-  const [away, side, reach] = ahead < -0.3 ? [0.35, 1, Math.min(far * 0.44, 170)] : [1, 0.5, Math.min(far * 0.25, 48)];
-  const [x, y] = [away * spot.awayX + side * sideX, away * spot.awayY + side * sideY];
-  const length = Math.hypot(x, y) || 1;
-  return [spot.x + reach * x / length, spot.y + reach * y / length];
+// What can't be done now stays where the Tab key finds it, so that the focus isn't lost.
+function setOff(id, isOff) { $(id).setAttribute("aria-disabled", String(isOff)); }
+
+function isOff(id) { return $(id).getAttribute("aria-disabled") === "true"; }
+
+// Renders, and then gives the focus to what stands for what had it: most of it was made anew.
+function keepFocus(renders) {
+  const name = document.activeElement?.dataset?.focus;
+  renders();
+  if (name === undefined || document.activeElement?.dataset?.focus === name) return;
+  const same = document.querySelector(`[data-focus="${CSS.escape(name)}"]`);
+  (same ?? $("serial")).focus({preventScroll: true});
 }
 
-// An arrow from one slot to another: it leaves the one ring and comes to the other from outside.
-function arrow(from, to, kind) {
-  const {x, y} = from;
-  const [toX, toY] = [to.x, to.y];
-  const isAcross = Math.abs(toX - x) > Math.abs(toY - y);
-  const side = isAcross ? [0, from.awayY + to.awayY > 0.8 ? 1 : -1] : [1, 0];
-  const [leaveX, leaveY] = bent(from, to, side);
-  const [comeX, comeY] = bent(to, from, side);
-  const length = Math.hypot(toX - comeX, toY - comeY) || 1;
-  const [along, down] = [(toX - comeX) / length, (toY - comeY) / length];
-  const at = (back, side) =>
-      `${(toX - back * along - side * down).toFixed(1)} ${(toY - back * down + side * along).toFixed(1)}`;
-  const bend = [leaveX, leaveY, comeX, comeY].map((n) => n.toFixed(1)).join(" ");
-  return [
-    make("path", {class: `arrow ${kind}`, d: `M${x.toFixed(1)} ${y.toFixed(1)}C${bend} ${at(7, 0)}`}),
-    make("path", {class: `arrow-tip ${kind}`, d: `M${at(0, 0)}L${at(11, 5)}L${at(11, -5)}Z`}),
-  ];
-}
+function render(step) { keepFocus(() => renderStep(step)); }
 
-// Arrows from where timers were to where they moved at this step; they stay until the next one.
-function renderArrows() {
-  const moved = movesOf(shown.step);
-  shown.arrows.replaceChildren();
-  if (!moved.length) return;
-  const {left, top} = $("wheels").getBoundingClientRect();
-  const seen = new Map();
-  for (const event of moved) {
-    const pair = `${event.from} ${event.to}`;
-    if (!seen.has(pair) || event.serial === shown.followed) seen.set(pair, event);
-  }
-  for (const event of [...seen.values()].slice(0, MAX_ARROWS)) {
-    const [from, to] = spots(event).map((spot) => ({...spot, x: spot.x - left, y: spot.y - top}));
-    shown.arrows.append(...arrow(from, to, event.serial === shown.followed ? "is-followed" : ""));
-  }
-}
-
-function render(step) {
+function renderStep(step) {
   const from = shown.step;
   shown.step = step;
   document.body.classList.toggle("is-jump", Math.abs(step - from) > 1);
   $("now").textContent = String(play.now(step));
   $("face").textContent = words.face(play.now(step));
   $("news").replaceChildren(...newsOf(step));
-  renderWheels(step);
-  renderArrows();
+  $("count").textContent = `${renderCards(play, cards, step, shown.followed)} pending`;
+  $("looks").textContent = play.timers.size > MAX_COUNTED ? "" : `looked at ${timersCounted(play.looks(step))} so far`;
+  if (shown.isCompared) comparison.render(play, step, shown.followed, actsOf);
   lines.render(step);
   if (step !== from) closeHelp();
   renderFollowed(step);
-  if (step !== from) showStep(step);
+  renderHands();
   $("slider").value = String(step);
   $("slider").setAttribute("aria-valuetext", `step ${step} of ${play.last}, tick ${play.now(step)}`);
   $("at").textContent = `${step} of ${play.last}`;
-  $("first").disabled = $("back").disabled = step === 0;
-  $("next").disabled = $("last").disabled = step === play.last;
+  for (const id of ["first", "back"]) setOff(id, step === 0);
+  for (const id of ["next", "last"]) setOff(id, step === play.last);
+  keepLink();
+  // All is drawn: now it is measured, so that the page is laid out once.
+  for (const card of shown.isCompared ? [] : cards.values()) card.reveal();
+  lines.reveal();
+  showEvent();
+  if (step !== from) showStep(step);
+  renderArrows(step === from + 1 && !calm.matches);
+}
+
+// The address follows, some time after the last of many steps: browsers refuse to write it too often.
+function keepLink() {
+  clearTimeout(shown.linking);
+  shown.linking = setTimeout(() => {
+    const link = linkOf(play, shown.step, shown.followed, shown.isLesson, shown.isCompared);
+    if (location.hash !== link) window.history.replaceState(null, "", link);
+  }, 300);
 }
 
 // What can be seen of the stage: on a wide screen it scrolls by itself, on a phone with the page.
@@ -226,35 +218,38 @@ function isColumn() { return getComputedStyle($("stage")).overflowY === "auto"; 
 
 // The wheels that timers left at a step, and those to which they moved; they are all that matters, or all wheels.
 function boundsOf(step) {
-  const used = new Set(leavesOf(step).flatMap(({from, to}) => (to === undefined ? [from] : [from, to]))
+  const used = new Set(leavesOf(play, step).flatMap(({from, to}) => (to === undefined ? [from] : [from, to]))
       .map((key) => placeOf(key).wheel));
-  const rects = [...cards].filter(([k]) => !used.size || used.has(k)).map(([, card]) => card.element.getBoundingClientRect());
+  const rects = [...cards].filter(([k]) => !used.size || used.has(k)).map(([, card]) => (card.svg ?? card.element).getBoundingClientRect());
   return {top: Math.min(...rects.map(({top}) => top)), bottom: Math.max(...rects.map(({bottom}) => bottom))};
 }
 
 // Brings the wheels of a step's news into sight, with the clock above them if there is room. A reader who looks at
 // what is below the stage is fetched back only if a timer left its slot, or while it plays.
 function showStep(step) {
+  if (shown.isCompared) return;
   const {top, bottom} = sight();
-  const isNews = leavesOf(step).length > 0 || shown.timer !== null;
-  if (!isNews && $("stage").getBoundingClientRect().bottom < top) return;
+  const isNews = leavesOf(play, step).length > 0 || shown.timer !== null;
+  if (!isNews && $("wheels").getBoundingClientRect().bottom < top) return;
   const wheels = boundsOf(step);
   const clock = $("clock").getBoundingClientRect();
   const news = $("news").getBoundingClientRect();
   if (wheels.top >= top && Math.max(wheels.bottom, isColumn() ? 0 : news.bottom) <= bottom) return;
-  const fits = wheels.bottom - clock.top <= bottom - top - 2 * EDGE;
-  const by = fits ? clock.top - top - EDGE : Math.min(wheels.top - top, Math.max(wheels.bottom - bottom, 0) + EDGE);
+  const last = isColumn() ? wheels.bottom : Math.max(wheels.bottom, news.bottom);
+  const fits = last - clock.top <= bottom - top - 2 * GAP;
+  const by = fits ? clock.top - top - GAP : Math.min(Math.floor(wheels.top - top) - 1, Math.max(last - bottom, 0) + GAP);
   (isColumn() ? $("stage") : window).scrollBy({top: by, behavior: "instant"});
 }
 
-// The help makes room at a step: on a phone for the wheels, and beside them for the timer's history, unless
-// the reader has opened it.
+// On a phone the help makes room at a step for the wheels.
 function closeHelp() {
-  if (!wide.matches) $("intro").open = false;
-  if (!wide.matches || $("fields").dataset.kept === undefined) $("fields").open = false;
+  if (wide.matches) return;
+  $("intro").open = false;
+  $("fields").open = false;
 }
 
 function go(step) {
+  stopThrough();
   render(Math.min(Math.max(step, 0), play.last));
   if (shown.step === play.last) pause();
 }
@@ -268,8 +263,7 @@ function pause() {
 
 // How long Play rests at a step: at speed 1 a second, and longer where a timer moves or expires, by what is said.
 function rest(step) {
-  const isNews =
-      step > 0 && play.steps[step - 1].events.some((event) => event.kind === "moved" || event.kind === "expired");
+  const isNews = play.events(step).some((event) => event.kind === "moved" || event.kind === "expired");
   const reading = isNews ? READ_FIRST + READ_LETTER * $("news").textContent.length : 1000;
   return reading / Number($("speed").value);
 }
@@ -294,9 +288,9 @@ function toggle() {
 
 function key(event) {
   const {target} = event;
-  if (event.ctrlKey || event.metaKey || event.altKey || target.matches("select")) return;
+  if (event.ctrlKey || event.metaKey || event.altKey || target.matches("select, textarea, input[type=range]")) return;
   if (target.matches("input[type=text]")) {
-    if (event.key === "Enter" || event.key === "Escape") target.blur();
+    if (event.key === "Escape" || (event.key === "Enter" && target.id === "serial")) target.blur();
     return;
   }
   const acts = {
@@ -304,17 +298,16 @@ function key(event) {
     ArrowRight: () => go(shown.step + 1),
     Home: () => go(0),
     End: () => go(play.last),
-    f: () => $("serial").select()
   };
   if (event.key === " " && !target.matches("button, summary")) acts[" "] = toggle;
-  if (!acts[event.key]) return;
+  if (!acts[event.key] || !play) return;
   event.preventDefault();
   acts[event.key]();
 }
 
 function setTheme(theme) {
   document.documentElement.dataset.theme = theme;
-  $("theme").textContent = theme === "dark" ? "Light" : "Dark";
+  $("theme").setAttribute("aria-pressed", String(theme === "dark"));
 }
 
 // The theme that was chosen here before, or else the system's.
@@ -361,57 +354,120 @@ function legendRow([kind, said]) {
 }
 
 // A page with several scripts has a link to each.
-function playLink({name, title}) {
-  return make("a", {href: `#${name}`, ...(title === play.title ? {"aria-current": "page"} : {})}, title);
+function lessonLink({name, title}) {
+  const isHere = shown.isLesson && name === play.name;
+  return make("a", {href: `#lesson=${name}`, ...(isHere ? {"aria-current": "page"} : {})}, title);
+}
+
+function fillGuide() {
+  const keys = make("p", {class: "keys"}, "Keys: ", make("kbd", {}, "←"), " ", make("kbd", {}, "→"), " a step, ",
+      make("kbd", {}, "space"), " play and pause, ", make("kbd", {}, "Home"), " ", make("kbd", {}, "End"),
+      " first and last. Within the lines, and within the timers of a wheel: ", make("kbd", {}, "↑"), " ", make("kbd", {}, "↓"),
+      ". At a hand: ", make("kbd", {}, "→"), " goes on to its next slot.");
+  const folded = cards.size < play.wheels.length ? ["Wheels that are not drawn are empty at every step."] : [];
+  const hands = words.scheme === "plain" ? [] : ["Drag a hand to advance the clock. Click a slot to aim a timer at it."];
+  $("guide").replaceChildren(...[...words.guide(), ...hands, ...folded, ...PROVED].map((said) => make("p", {}, said)), keys);
 }
 
 function fill() {
   $("title").textContent = play.title;
   document.title = `${play.title} · timing wheels`;
-  if (PLAYS.length > 1) $("plays").replaceChildren(...PLAYS.map(playLink));
-  $("command").textContent = play.command;
-  $("scheme").textContent = words.scheme();
-  $("opening").textContent = OPENING[play.scheme];
-  const keys = make("p", {class: "keys"}, "Keys: ", make("kbd", {}, "←"), " ", make("kbd", {}, "→"), " a step, ",
-      make("kbd", {}, "space"), " play and pause, ", make("kbd", {}, "Home"), " ", make("kbd", {}, "End"),
-      " first and last, ", make("kbd", {}, "f"), " another timer to follow, up to ", make("kbd", {}, "Enter"), ".");
-  const folded = cards.size < play.wheels.length ? ["Wheels that are not drawn are empty at every step."] : [];
-  $("guide").replaceChildren(...[...words.guide(), ...folded].map((said) => make("p", {}, said)), keys);
-  if (play.scheme !== "plain") $("legend").replaceChildren(...LEGEND.filter(isDrawn).map(legendRow));
+  $("plays").replaceChildren(...(LESSONS.length > 1 ? LESSONS.map(lessonLink) : []));
+  $("command").textContent = ["./timers show", ...play.options, ...(play.path ? ["<", play.path] : [])].join(" ");
+  $("scheme-name").textContent = words.schemeName();
+  $("opening").textContent = OPENING[words.scheme];
+  fillGuide();
+  $("legend").replaceChildren(...(words.scheme === "plain" ? [] : LEGEND.filter(isDrawn).map(legendRow)));
   const row = ([word, said], between) => make("p", {}, make("b", {}, word), `${between}${said}`);
   $("fields").replaceChildren(make("summary", {}, "What the numbers in a line are"),
       ...words.fields().map((pair) => row(pair, " ")), ...words.glossary().map((pair) => row(pair, ": ")));
-  $("fields").querySelector("summary").onclick = () => { $("fields").dataset.kept = ""; };
-  $("intro").open = true;
-  shown.arrows = make("svg", {class: "arrows", "aria-hidden": "true"});
-  $("wheels").replaceChildren(...[...cards.values()].map((card) => card.element), shown.arrows);
-  $("wheels").classList.toggle("is-single", cards.size === 1);
   $("slider").max = String(play.last);
 }
 
-// Another script begins at its top.
-function showAnother() {
-  window.scrollTo({top: 0, behavior: "instant"});
-  location.reload();
+// The same wheels stay, so that their hands turn on.
+function drawWheels(isLesson) {
+  const more = isLesson || !play.scheme.isHierarchy ? [] : [0, 1, 2];
+  const sign = `${words.scheme} ${play.wheels[0].slots} ${drawnOf(play, more)}`;
+  if (sign === shown.sign) {
+    for (const card of cards.values()) card.take(play, words);
+    return;
+  }
+  shown.sign = sign;
+  cards = cardsOf(play, words, actsOf(() => play), more);
+  $("wheels").replaceChildren(...[...cards.values()].map((card) => card.element), arrows.element);
+  $("wheels").dataset.count = cards.size;
+}
+
+// Shows a script at a step. It may be refused by the program, which says why: then all stays as it is.
+function load(lesson, {step, followed, isLesson = false} = {}) {
+  let made = null;
+  try {
+    made = new Play(lesson);
+  } catch (error) {
+    trouble(`The program refuses this: ${error.message}`);
+    return false;
+  }
+  trouble("");
+  pause();
+  stopThrough();
+  play = Object.assign(made, {path: lesson.path});
+  words = new Words(play);
+  shown.isLesson = isLesson;
+  drawWheels(isLesson);
+  lines.take(play);
+  const isThere = followed !== undefined && play.timers.has(followed);
+  shown.followed = isThere ? followed : play.longest();
+  fill();
+  fillHands();
+  const at = Math.min(step ?? 1, play.last);
+  shown.step = at;
+  render(at);
+  return true;
+}
+
+function trouble(said) {
+  $("trouble").textContent = said;
+  $("trouble").hidden = !said;
+}
+
+function loadLink() {
+  const {lesson, isCompared, ...more} = readLink(location.hash);
+  $("deadline").value = "";
+  setCompared(isCompared);
+  if (!load(lesson, {...more, isLesson: LESSONS.includes(lesson)})) load(LESSONS[0], {isLesson: true});
 }
 
 function listen() {
-  $("first").onclick = () => go(0);
-  $("back").onclick = () => go(shown.step - 1);
-  $("next").onclick = () => go(shown.step + 1);
-  $("last").onclick = () => go(play.last);
+  const act = (id, does) => { $(id).onclick = () => { if (!isOff(id)) does(); }; };
+  act("first", () => go(0));
+  act("back", () => go(shown.step - 1));
+  act("next", () => go(shown.step + 1));
+  act("last", () => go(play.last));
+  act("before", () => followNext(-1n));
+  act("after", () => followNext(1n));
   $("play").onclick = toggle;
   $("slider").oninput = () => go(Number($("slider").value));
   $("serial").oninput = followTyped;
   $("choose").onsubmit = (event) => event.preventDefault();
-  $("before").onclick = () => followNext(-1n);
-  $("after").onclick = () => followNext(1n);
   document.addEventListener("keydown", key);
-  window.addEventListener("hashchange", showAnother);
-  window.addEventListener("resize", renderArrows);
-  listenToTheme();
+  window.addEventListener("hashchange", () => {
+    window.scrollTo({top: 0, behavior: "instant"});
+    loadLink();
+  });
+  window.addEventListener("resize", () => renderArrows(false));
+  listenToHands();
 }
 
-fill();
-listen();
-render(0);
+async function begin() {
+  listenToTheme();
+  try {
+    await ENGINE.load();
+  } catch (error) {
+    trouble(`This browser can't run the program: ${error.message}. The page needs WebAssembly and DecompressionStream.`);
+    return;
+  }
+  listen();
+  loadLink();
+  shown.openedAt = performance.now();
+  document.body.dataset.ready = "";
+}

@@ -4,9 +4,11 @@
 // What the page is about, in two sentences above the clock.
 const OPENING = {
   plain: "All pending timers wait in one list, as they were started. It is shown by deadline.",
-  hashed: "A timer waits in one slot. The hand passes it once for each of its rounds, and takes it out when due.",
-  hier: "A timer far from its deadline waits in a high wheel. It moves to a lower one as its deadline comes near.",
-  clock: "A timer far from its deadline waits in the days or hours. It moves to minutes and seconds as it comes near.",
+  hashed: "A timer waits in slot (deadline mod slots). The hand passes it once for each of its rounds, and then takes it out.",
+  hier: "Write now and the deadline in base 64. A timer waits in the wheel of the highest digit in which they differ, and moves" +
+      " down when the clock reaches that digit.",
+  clock: "A timer waits at the day, hour, minute or second that is the first to differ from now. It moves down when the clock" +
+      " reaches that.",
 };
 
 // How to read the wheels.
@@ -23,14 +25,15 @@ const GUIDE = {
   hier: [
     "Each wheel has a hand: wheel 0's goes on with each tick, wheel 1's with every 64, and so on.",
     "So the hands show the digits of the present tick in base 64. At tick 128 wheel 1 is at 2, and wheel 0 at 0.",
-    "A timer is in the highest wheel in which the digits of now and of its deadline differ, in the slot of its digit.",
+    "A timer is in the highest wheel in which the digits of now and of its deadline differ, in the slot of its digit. So one" +
+        " for tick 65 is in wheel 1 while now is 63, two ticks before: the carry changes digit 1.",
     "A tick empties one slot: that of its lowest digit that isn't 0. Each timer there moves to a lower wheel, or is due.",
     "So slot 0 of a wheel is never used. At tick 128, slot 2 of wheel 1 is emptied, and no slot of wheel 0.",
   ],
   clock: [
     "A tick is a second here. The wheels are those of a clock: 60 seconds, 60 minutes, 24 hours, 100 days.",
     "A timer is in the highest wheel in which its deadline differs from now: one for the next hour is in its hour.",
-    "When the hand reaches that hour, the timer moves to its minute, then to its second, and then it is due.",
+    "When the hand reaches that hour, the timer moves to its minute, and then to its second. At that second it is due.",
     "A tick empties one slot. At 11:00:00 that is hour 11, and not minute 0 or second 0, which are never used.",
   ],
 };
@@ -44,12 +47,12 @@ const GUIDE_OF_ONE = [
 const LEGEND = [
   ["hand", "hand: now"],
   ["held", "blue: has timers"],
-  ["held-followed", "orange: has the followed timer"],
+  ["held-followed", "orange, framed: has the followed timer"],
   ["left", "dashed: timers just left it"],
   ["arrow", "arrow: a timer moved"],
 ];
 
-// The words of the fields of lines (FIELDS of plays.js), in half a sentence each.
+// The words of the fields of lines (FIELDS of lessons.js), in half a sentence each.
 const GLOSSARY = [
   ["client", "who asks, numbered from 0"],
   ["number", "the client's count of requests"],
@@ -89,14 +92,15 @@ function unbroken(formula) {
 class Words {
   constructor(play) {
     this.play = play;
-    this.isHierarchy = play.scheme === "hier" || play.scheme === "clock";
+    this.scheme = play.scheme.name;
+    this.isHierarchy = play.scheme.isHierarchy;
     const highest = Math.max(0, ...play.used);
     // The wheels whose digits are spoken of, from the highest down.
-    this.levels = play.wheels.map((_, k) => k).filter((k) => k <= highest || play.scheme === "clock").reverse();
+    this.levels = play.wheels.map((_, k) => k).filter((k) => k <= highest || this.scheme === "clock").reverse();
     this.hasDigits = this.isHierarchy && this.levels.length > 1;
   }
 
-    // A slot as `timers show` names it.
+  // A slot as `timers show` names it.
   place(key) {
     const {wheel, slot} = placeOf(key);
     return this.play.wheels[wheel].place.replace("S", slot);
@@ -107,34 +111,35 @@ class Words {
     return this.levels.map((k) => all[k]);
   }
 
-  // A tick by its digits: '2 × 64 + 0', or days and hours.
+  // A tick by its digits: '2 × 64 + 0', or days and hours. Of many digits the zeros are left out, but for the last.
   written(tick) {
     const d = digitsOf(this.play.wheels, tick);
     const two = (n) => String(n).padStart(2, "0");
-    if (this.play.scheme === "clock") return unbroken(`${d[3]} days ${two(d[2])}:${two(d[1])}:${two(d[0])}`);
+    if (this.scheme === "clock") return unbroken(`${d[3]} days ${two(d[2])}:${two(d[1])}:${two(d[0])}`);
     while (d.length > this.levels.length && d[d.length - 1] === 0) d.pop();
-    return unbroken(d.map((digit, k) => `${digit}${WEIGHTS[k]}`).reverse().join(" + "));
+    const isLong = d.length > 4;
+    const parts = d.map((digit, k) => (digit || !isLong || !k ? `${digit}${WEIGHTS[k]}` : "")).filter((part) => part);
+    return unbroken(parts.reverse().join(" + "));
   }
 
   // The clock's face: digits, days and hours, or the slot.
   face(tick) {
     if (this.isHierarchy) return this.hasDigits ? `=\u00a0${this.written(tick)}` : "";
-    if (this.play.scheme === "plain") return "";
+    if (this.scheme === "plain") return "";
     return `at slot ${this.digits(tick)[0]} (slots 0 to ${this.play.wheels[0].slots - 1})`;
   }
 
-  wheelName(k) { return this.play.scheme === "clock" ? `the wheel of ${this.play.wheels[k].name}s` : `wheel ${k}`; }
+  wheelName(k) { return this.scheme === "clock" ? `the wheel of ${this.play.wheels[k].name}s` : `wheel ${k}`; }
 
   // Why a timer stands where it stands while the clock is at `now`.
   why(timer, now) {
-    const {wheels, scheme} = this.play;
-    if (scheme === "plain") return "The list is shown by deadline, and by serial where deadlines are equal.";
-    if (scheme === "hashed") {
+    const {wheels} = this.play;
+    if (this.scheme === "plain") return "The list is shown by deadline, and by serial where deadlines are equal.";
+    if (this.scheme === "hashed") {
       const slots = BigInt(wheels[0].slots);
       const rounds = (timer.deadline - now - 1n) / slots;
-      return `${timer.deadline} mod ${slots} is ${
-          timer.deadline % slots}, so it is in that slot. The clock passes it ${rounds} time${
-          rounds === 1n ? "" : "s"} before it is due.`;
+      return `${timer.deadline} mod ${slots} is ${timer.deadline % slots}, so it is in that slot. ${
+          rounds ? `The hand passes it ${times(rounds)} before it is due.` : "It is due when the hand comes there."}`;
     }
     const level = levelOf(wheels, now, timer.deadline);
     if (level < 0) return "";
@@ -163,7 +168,7 @@ class Words {
   // A place in a sentence.
   placed(key) {
     const {wheel, slot} = placeOf(key);
-    return this.play.scheme === "hier" ? `slot ${slot} of wheel ${wheel}` : this.place(key);
+    return this.scheme === "hier" ? `slot ${slot} of wheel ${wheel}` : this.place(key);
   }
 
   started(event) {
@@ -213,7 +218,7 @@ class Words {
 
   // How far the hand of the lowest wheel went, where more than one tick passed.
   turned(ticks) {
-    if (this.play.scheme === "plain" || ticks <= 1n) return [];
+    if (this.scheme === "plain" || ticks <= 1n) return [];
     const slots = BigInt(this.play.wheels[0].slots);
     const whose = this.isHierarchy ? `The hand of ${this.wheelName(0)}` : "The hand";
     const turns = ticks / slots;
@@ -249,23 +254,24 @@ class Words {
     if (step.now === before) return [];
     const said =
         [[`The clock goes from tick ${before} to tick ${step.now}.`, ...this.turned(step.now - before)].join(" ")];
-    const more = [...this.moves(step.events, step.now), ...this.expired(step.events), ...this.passed(step.events)];
+    const events = this.play.events(at);
+    const more = [...this.moves(events, step.now), ...this.expired(events), ...this.passed(events)];
     if (!more.length)
       said.push(this.isHierarchy ? "Only empty slots were reached, so nothing moves, and nothing expires." :
                                    "Nothing expires.");
-    if (this.play.whole.includes(step.line))
+    if (this.play.whole.has(step.line))
       more.push(`This line is shown as one step${this.isHierarchy ? ", in which timers may have moved more than once" : ""}.`);
     return [...said, ...more];
   }
 
   // The sentences of a step.
   of(at) {
-    if (at === 0) return ["Before the first line. No timer is pending. Press Play, or step on."];
+    if (at === 0) return ["Before the first line. No timer is pending. Press Play, or start a timer."];
     const step = this.play.steps[at - 1];
     if (step.isBad) return [`Line ${step.line + 1} is bad: ${this.play.reason}. Nothing from it on is played.`];
     const said = [];
     if (this.play.lines[step.line].startsWith("tick ")) said.push(...this.ticked(step, at));
-    for (const event of step.events) {
+    for (const event of this.play.events(at)) {
       if (event.kind === "started") said.push(this.started(event));
       else if (event.kind === "stopped")
         said.push(`Timer ${event.serial} is stopped, and will never come out.`);
@@ -288,7 +294,7 @@ class Words {
   // What happened to a timer, in a few words.
   event(event) {
     const timer = this.play.timers.get(event.serial);
-    const stands = (key) => (this.play.scheme === "plain" ? "" : `, in ${this.place(key)}`);
+    const stands = (key) => (this.scheme === "plain" ? "" : `, in ${this.place(key)}`);
     if (event.kind === "started")
       return `${timer.old ? `Started in place of timer ${timer.old}` : "Started"}${stands(event.to)}`;
     if (event.kind === "moved") return `Moved from ${this.place(event.from)} to ${this.place(event.to)}`;
@@ -298,20 +304,20 @@ class Words {
     return event.kind === "stopped" ? "Stopped" : "Returned by the close";
   }
 
-  scheme() {
+  schemeName() {
     return {
       plain: "Scheme 1, one list",
       hashed: "Scheme 6, a hashed wheel with rounds",
       hier: "Scheme 7, a hierarchy of ten wheels",
       clock: "Scheme 7, the wheels of a clock",
-    }[this.play.scheme];
+    }[this.scheme];
   }
 
   guide() {
     const follow = "Choose a timer's serial to follow that timer: it is orange then," +
-        " and its history is below 'Follow timer'.";
-    const isOne = this.play.scheme === "hier" && !this.hasDigits;
-    return [...(isOne ? GUIDE_OF_ONE : GUIDE[this.play.scheme]), follow];
+        " with a frame, and its history is below 'Follow timer'.";
+    const isOne = this.scheme === "hier" && !this.hasDigits;
+    return [...(isOne ? GUIDE_OF_ONE : GUIDE[this.scheme]), follow];
   }
 
   // What a timer did that came to a slot at this step, or left it.
@@ -325,17 +331,16 @@ class Words {
     const went = {
       moved: (some) => {
         const to = new Set(some.map((event) => event.to));
-        return `here → ${to.size === 1 ? this.place(some[0].to) : `${to.size} slots of lower wheels`}`;
+        return `left → ${to.size === 1 ? this.place(some[0].to) : `${to.size} slots of lower wheels`}`;
       },
-      expired: () => "here, and expired",
-      stopped: () => "here, and stopped",
-      returned: () => "here, and returned",
-      restarted: (some) => `here, restarted as ${timersNamed(some.map((event) => event.by))}`,
+      expired: () => "left: expired",
+      stopped: () => "left: stopped",
+      returned: () => "left: returned",
+      restarted: (some) => `left: restarted as ${timersNamed(some.map((event) => event.by))}`,
     };
     return Object.entries(went).map(([kind, how]) => [events.filter((event) => event.kind === kind), how])
         .filter(([some]) => some.length)
-        .map(([some, how]) => `${timersNamed(some.map(({serial}) => serial))} ${some.length === 1 ? "was" : "were"} ${
-            how(some)}`).join("; ");
+        .map(([some, how]) => `${timersNamed(some.map(({serial}) => serial))} ${how(some)}`).join("; ");
   }
 
   // The words of the fields that lines of this script have.
@@ -347,7 +352,8 @@ class Words {
   // The words that begin lines of this script or their answers, with their fields.
   fields() {
     const answers = this.play.steps.flatMap((step) => step.answers);
-    const used = new Set([...this.play.lines, ...answers].map((line) => line.split(" ")[0]));
+    const used = new Set();
+    for (const line of [this.play.lines, answers].flat()) used.add(line.split(" ", 1)[0]);
     return Object.entries(FIELDS).filter(([word]) => used.has(word)).map(([word, names]) => [word, names.join(" · ")]);
   }
 }

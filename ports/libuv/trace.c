@@ -4,7 +4,8 @@
  *
  * The clock and epoll_wait are replaced by functions of this file, so that a seed always gives the same trace with the
  * same timers. Two builds of libuv agree if their traces do: which callbacks run, in which order and at which time, how
- * long each poll waits, and what each call returns. */
+ * long each poll waits, and what each call returns. The clock moves within callbacks, too. Each call that wants memory for
+ * these timers is refused once: it has to return UV_ENOMEM and leave the timer as it was. */
 #include <errno.h>
 #include <inttypes.h>
 #include <stdio.h>
@@ -15,6 +16,7 @@
 
 #include <uv.h>
 
+#include "../memory.h"
 #include "../random.h"
 
 enum { TIMERS = 120, POLLS_A_RUN = 40, CALLS_A_RUN = 400 };
@@ -116,13 +118,42 @@ static void on_close(uv_handle_t *h)
 
 static void count_active(uv_handle_t *h, void *count) { *(int *)count += uv_is_active(h); }
 
+/* Whether a call has failed for want of memory. Then there is some, for another try. */
+static int is_for_memory(size_t k, const uv_timer_t *before, int result)
+{
+	if (result != UV_ENOMEM)
+		return 0;
+	if (memcmp(before, &timers[k], sizeof *before) != 0)
+		print_timer("changed without memory", k, result);
+	is_scarce = 0;
+	return 1;
+}
+
 static void start(size_t k)
 {
 	uint64_t timeout = some_timeout(), repeat = below(3) == 0 ? some_timeout() : 0;
 	/* What is due again at once would keep uv_run from ever ending. */
 	if (calls_left <= 0 && timeout == 0)
 		timeout = 1;
-	print_timer("start", k, uv_timer_start(&timers[k], below(4) ? on_timer : on_other, timeout, repeat));
+	uv_timer_cb callback = below(4) ? on_timer : on_other;
+	const uv_timer_t before = timers[k];
+	int result = uv_timer_start(&timers[k], callback, timeout, repeat);
+	if (is_for_memory(k, &before, result)) {
+		result = uv_timer_start(&timers[k], callback, timeout, repeat);
+		is_scarce = 1;
+	}
+	print_timer("start", k, result);
+}
+
+static void again(size_t k)
+{
+	const uv_timer_t before = timers[k];
+	int result = uv_timer_again(&timers[k]);
+	if (is_for_memory(k, &before, result)) {
+		result = uv_timer_again(&timers[k]);
+		is_scarce = 1;
+	}
+	print_timer("again", k, result);
 }
 
 static void step(void)
@@ -133,7 +164,7 @@ static void step(void)
 	switch (below(20)) {
 	default: start(k); break;
 	case 1: case 2: case 3: print_timer("stop", k, uv_timer_stop(t)); break;
-	case 4: case 5: print_timer("again", k, uv_timer_again(t)); break;
+	case 4: case 5: again(k); break;
 	case 6: uv_timer_set_repeat(t, below(3) ? some_timeout() : 0); print_timer("repeat", k, 0); break;
 	case 7: uv_ref((uv_handle_t *)t); print_timer("ref", k, uv_loop_alive(&loop)); break;
 	case 8: uv_unref((uv_handle_t *)t); print_timer("unref", k, uv_loop_alive(&loop)); break;
@@ -182,7 +213,14 @@ int main(int argc, char **argv)
 		return 2;
 	seed(argv[1]);
 	clock_ns = below(3) ? below(UINT64_C(1) << 50) : (UINT64_C(1) << (6 * (1 + below(6)))) * 1000000 - below(64) * 1000000;
-	if (uv_loop_init(&loop) != 0)
+	make_memory_scarce(below(6));
+	int made = uv_loop_init(&loop);
+	if (made == UV_ENOMEM) {
+		is_scarce = 0;
+		made = uv_loop_init(&loop);
+		is_scarce = 1;
+	}
+	if (made != 0)
 		return 1;
 	for (size_t k = 0; k < TIMERS; k++)
 		init(k);

@@ -3,7 +3,8 @@
  *     trace SEED STEPS
  *
  * sys_now() is a number here, of 32 bits as lwIP's. Half of the programs start shortly before it wraps. Two builds
- * agree if their traces do: which handlers run, in which order and when, and each answer of sys_timeouts_sleeptime(). */
+ * agree if their traces do: which handlers run, in which order and when, and each answer of sys_timeouts_sleeptime(). Once
+ * the timeouts are made, these timers get no more memory. */
 #include <inttypes.h>
 #include <stdio.h>
 #include <stdlib.h>
@@ -11,6 +12,7 @@
 #include "lwip/memp.h"
 #include "lwip/timeouts.h"
 
+#include "../memory.h"
 #include "../random.h"
 
 enum { ARGUMENTS = 20, MOST_HELD = 100, CYCLES = 4 };
@@ -149,7 +151,9 @@ int main(int argc, char **argv)
 	seed(argv[1]);
 	clock_ms = below(2) ? below(LWIP_UINT32_MAX) : (u32_t)-1 - below(100000);
 	memp_init();
+	make_memory_scarce(UINT64_MAX);
 	sys_timeouts_init();
+	given_before = 0;
 	for (left = atoi(argv[2]); left > 0; left--) {
 		some_steps(20);
 		if (below(10) == 0)

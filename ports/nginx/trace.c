@@ -2,8 +2,9 @@
  *
  *     trace SEED STEPS
  *
- * ngx_current_msec is a number here. Two builds agree if their traces do: which handlers run, in which order and when.
- * A third of the timers is cancelable. How long a loop waits is no part of the trace, since it may be less than up to the
+ * ngx_current_msec is a number here, which moves within handlers, too. Two builds agree if their traces do: which handlers
+ * run, in which order and when. A third of the timers is cancelable. Memory is refused once where these timers want some:
+ * while they are made, and beyond the room of the connections, each time with an alert. How long a loop waits is no part of the trace, since it may be less than up to the
  * first timer. It is checked here: never longer, no turn without any wait, and few turns up to the first timer. */
 #include <inttypes.h>
 #include <stdarg.h>
@@ -14,12 +15,13 @@
 #include <ngx_core.h>
 #include <ngx_event.h>
 
+#include "../memory.h"
 #include "../random.h"
 
-enum { EVENTS = 150, MOST_TURNS = 12 };
+enum { EVENTS = 150, CONNECTIONS = 4, ROOM = 2 * CONNECTIONS + 64, MOST_TURNS = 12 };
 
 static ngx_event_t events[EVENTS];
-static int calls_left;
+static int calls_left, alerts;
 
 static ngx_cycle_t cycle;
 static ngx_log_t standard_error;
@@ -28,8 +30,8 @@ volatile ngx_msec_t ngx_current_msec;
 
 void ngx_log_error_core(ngx_uint_t level, ngx_log_t *log, ngx_err_t err, const char *text, ...)
 {
-	(void)level, (void)log, (void)err;
-	printf("logged: %s\n", text);
+	(void)level, (void)log, (void)err, (void)text;
+	alerts++;
 }
 
 static ngx_msec_t some_time(void)
@@ -58,18 +60,43 @@ static void on_timer(ngx_event_t *ev)
 {
 	print_event("ran", (size_t)(ev - events));
 	ev->timedout = 0;
+	if (below(8) == 0)
+		ngx_current_msec += below(8) == 0 ? below(1000) : below(4);
 	if (--calls_left > 0)
 		some_steps(2);
+}
+
+/* What failed has to have left an alert. Then there is memory, for another try. */
+static void allow_memory(const char *what)
+{
+	if (alerts != 1)
+		printf("%s: %d alerts\n", what, alerts);
+	alerts = 0;
+	is_scarce = 0;
+}
+
+static void add(size_t k)
+{
+	ngx_msec_t ms = some_time();
+	size_t set = 0;
+	for (size_t i = 0; i < EVENTS; i++)
+		set += events[i].timer_set;
+	ngx_add_timer(&events[k], ms);
+	if (!events[k].timer_set) {
+		allow_memory("no memory for a timer");
+		if (set < ROOM)
+			printf("no room for a timer beside %zu\n", set);
+		ngx_add_timer(&events[k], ms);
+		is_scarce = 1;
+	}
+	print_event("add", k);
 }
 
 static void step(void)
 {
 	size_t k = below(EVENTS);
 	switch (below(8)) {
-	default:
-		ngx_add_timer(&events[k], some_time());
-		print_event("add", k);
-		break;
+	default: add(k); break;
 	case 5: case 6:
 		if (events[k].timer_set)
 			ngx_del_timer(&events[k]);
@@ -151,14 +178,21 @@ int main(int argc, char **argv)
 		return 2;
 	seed(argv[1]);
 	ngx_current_msec = below(UINT64_C(1) << 36);
-	cycle.connection_n = EVENTS / 2;
+	cycle.connection_n = CONNECTIONS;
+	standard_error.log_level = NGX_LOG_ALERT;
 	for (size_t k = 0; k < EVENTS; k++) {
 		events[k].handler = on_timer;
 		events[k].log = &standard_error;
 		events[k].cancelable = k % 3 == 0;
 	}
-	if (ngx_event_timer_init(&standard_error) != NGX_OK)
-		return 1;
+	make_memory_scarce(below(8));
+	if (ngx_event_timer_init(&standard_error) != NGX_OK) {
+		allow_memory("no memory for timers");
+		if (ngx_event_timer_init(&standard_error) != NGX_OK)
+			return 1;
+	}
+	is_scarce = 1;
+	given_before = 0;
 	for (int left = atoi(argv[2]); left > 0; left--) {
 		some_steps(20);
 		turn();

@@ -186,6 +186,23 @@ static void edges_of_bells(void)
 	MUST(calls(bell) == 0 && timers_loop_monotonic(NULL) - begin >= 20000000);
 }
 
+/* The descriptors of a bell never wait, stay in no program that is called, and are given back. */
+static void edges_of_descriptors(void)
+{
+	int wakes = -1, rung = -1, i;
+
+	for (i = 0; i < 3; i++) {
+		struct timers_bell bell;
+
+		MUST(timers_bell_new(&bell) && (i == 0 || (bell.wakes == wakes && bell.rung == rung)));
+		wakes = bell.wakes;
+		rung = bell.rung;
+		MUST((fcntl(wakes, F_GETFL) & O_NONBLOCK) != 0 && (fcntl(rung, F_GETFL) & O_NONBLOCK) != 0);
+		MUST((fcntl(wakes, F_GETFD) & FD_CLOEXEC) != 0 && (fcntl(rung, F_GETFD) & FD_CLOEXEC) != 0);
+		timers_bell_free(&bell);
+	}
+}
+
 /* Of turns at a desk with one client, and how long its owner may sleep. */
 static void edges_of_turns(void)
 {
@@ -201,6 +218,11 @@ static void edges_of_turns(void)
 	MUST(timers_desk_turn(&desk, 7, bells, 1) == TIMERS_DESK_IDLE && timers_desk_now(&desk) == 7);
 	MUST(timers_desk_patience(&desk, 7, TIMERS_DESK_IDLE) == -1);
 	MUST(timers_desk_patience(&desk, 7, TIMERS_DESK_NO_MEMORY) == 10);
+	MUST(timers_line_start(&lines[0], UINT64_C(1) << 36, 1, &request) == TIMERS_DESK_OK);
+	MUST(timers_desk_turn(&desk, 7, bells, 1) == TIMERS_DESK_OK && timers_line_receive(&lines[0], &word));
+	MUST(timers_desk_patience(&desk, 7, TIMERS_DESK_IDLE) == INT_MAX);
+	MUST(timers_line_stop(&lines[0], word.handle, &request) == TIMERS_DESK_OK);
+	MUST(timers_desk_turn(&desk, 7, bells, 1) == TIMERS_DESK_OK && timers_line_receive(&lines[0], &word));
 	MUST(timers_line_start(&lines[0], 20, 1, &request) == TIMERS_DESK_OK);
 	MUST(timers_desk_turn(&desk, 8, bells, 1) == TIMERS_DESK_OK && timers_line_receive(&lines[0], &word));
 	MUST(word.deadline == 28 && timers_desk_patience(&desk, 8, TIMERS_DESK_IDLE) == 20);
@@ -228,6 +250,7 @@ int main(int argc, char **argv)
 		MUST(timers_bell_new(&bells[c]));
 	alarm(60);
 	edges_of_bells();
+	edges_of_descriptors();
 	edges_of_turns();
 	writes = 0;
 	if (strcmp(argv[1], "pass") == 0)

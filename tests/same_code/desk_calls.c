@@ -310,6 +310,7 @@ static void choose(void)
 	const size_t which = below(8) == 0;
 
 	d = &desks[which];
+	watch(&d->at);
 	made = &clients[which];
 	lines = all_lines[which];
 	if (below(64) == 0)
@@ -373,10 +374,27 @@ static void use_up(void)
 	}
 }
 
+/* Starts that are served in both ways follow. */
 static void spend(void)
 {
+	uint64_t left;
+
 	use_up();
 	forget_requests();
+	for (left = below(24); left > 0; left--) {
+		if (below(2) == 0)
+			make_start();
+		else
+			make_start_at();
+		if (below(2) == 0)
+			make_serve();
+		else
+			make_serve_all();
+		if (left % 4 == 1) {
+			make_flush();
+			receive_all();
+		}
+	}
 }
 
 static const struct step STEPS[] = {

@@ -197,19 +197,33 @@ void memory_set(const struct followers *words, uint64_t value)
 		memcpy(arena + words->at[i], &value, sizeof value);
 }
 
-uint64_t memory_hash(void)
+static uint64_t hash_of(const unsigned char *bytes, size_t size)
 {
-	uint64_t hash = used, word;
+	uint64_t hash = size, word;
 	size_t i;
 
-	for (i = 0; i < used; i += sizeof word) {
-		memcpy(&word, arena + i, sizeof word);
+	for (i = 0; i < size; i += sizeof word) {
+		memcpy(&word, bytes + i, sizeof word);
 		if (word >> 40 == STACK)
 			word = 0;
 		hash = (hash ^ word) * UINT64_C(0x9e3779b97f4a7c15);
 		hash ^= hash >> 32;
 	}
 	return hash;
+}
+
+uint64_t memory_hash(void)
+{
+	return hash_of(arena, used);
+}
+
+uint64_t memory_hash_at(uint64_t address)
+{
+	const uint64_t offset = address - (uint64_t)(uintptr_t)arena;
+
+	if (offset < HEAD || offset >= used)
+		return 0;
+	return hash_of(arena + offset, (size_t)head_of(arena + offset)->size / 8 * 8);
 }
 
 uint64_t memory_blocks(void)

@@ -17,6 +17,9 @@ void memory_begin(uint64_t seed, uint64_t refuses);
 /* Of all bytes that were asked for since the program began, freed ones too. */
 uint64_t memory_hash(void);
 
+/* The same of the block at this address, or 0 if it is not one of a block. */
+uint64_t memory_hash_at(uint64_t address);
+
 /* Words of blocks that count something: those that had its values at each call of memory_follow. memory_set gives them
  * another value. It is for counts that no program reaches by counting. */
 struct followers {

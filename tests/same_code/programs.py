@@ -11,6 +11,7 @@ TOP = os.path.dirname(os.path.dirname(HERE))
 sys.path.insert(0, os.path.join(TOP, "tools"))
 sys.path.insert(0, os.path.join(TOP, "tools", "fuzz"))
 import counts  # noqa: E402
+from formats import named  # noqa: E402
 from random_scripts import Script  # noqa: E402
 
 SCRIPTS = 2000
@@ -37,7 +38,7 @@ def examples():
         yield os.path.basename(script), lines(script + ".args"), read(script)
     for status in sorted(glob.glob(os.path.join(TOP, "crates", "timer_program", "cases", "*.status"))):
         case = status[: -len(".status")]
-        yield os.path.basename(case), lines(case + ".args"), read(case + ".stdin")
+        yield os.path.basename(case), list(map(named, lines(case + ".args"))), named(read(case + ".stdin").decode("latin-1")).encode("latin-1")
 
 
 def random_scripts(arguments):

@@ -296,6 +296,7 @@ static void make_counts(void)
 static void choose(void)
 {
 	t = &both[below(8) == 0];
+	watch(&t->at);
 	name = &names[below(NAMES)];
 	if (timers_now(t) >= last && below(4) == 0)
 		make_free();
@@ -343,6 +344,7 @@ void call_timers(uint64_t length)
 	last = table == TIMERS_CLOCK ? TIMERS_CLOCK_LAST : TIMERS_LAST;
 	spread = 2 + below(table == TIMERS_CLOCK ? 22 : 58);
 	t = both;
+	watch(&t->at);
 	name = names;
 	if (below(8) == 0)
 		t->last_serial = (below(3) != 0 ? TIMERS_LAST : UINT64_C(1) << 32) - below(64);

@@ -14,6 +14,7 @@ uint64_t calls;
 static uint64_t hash, state, requests;
 static uint32_t status_of_call;
 static struct call *known;
+static const uint64_t *watched;
 
 static void mix(uint64_t value)
 {
@@ -43,6 +44,8 @@ void told(struct call *call, const uint64_t *values, size_t count)
 	mix_text(call->name);
 	for (i = 0; i < count; i++)
 		mix(values[i]);
+	if (watched != NULL)
+		mix(memory_hash_at(*watched));
 	if (!traces)
 		return;
 	printf("%" PRIu64 " %s", calls, call->name);
@@ -70,6 +73,11 @@ void told_memory(const char *what, uint64_t size, uint64_t block)
 	mix(block);
 	if (traces)
 		printf("  %s %" PRIu64 " bytes, block %" PRIu64 "\n", what, size, block);
+}
+
+void watch(const uint64_t *at)
+{
+	watched = at;
 }
 
 void begin_trace(void)

@@ -38,6 +38,7 @@ uint32_t returned(uint32_t status);   /* the call that is told next returned it 
 void forget_requests(void);           /* those since the call before were of calls that are not told */
 void told_memory(const char *what, uint64_t size, uint64_t block);
 void begin_trace(void);
+void watch(const uint64_t *at);  /* from now on each call tells the block at this address, too: what it holds there */
 void told_state(void);           /* the bytes of all blocks, as they are now */
 uint64_t trace_hash(void);
 void print_counts(void);

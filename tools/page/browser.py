@@ -29,8 +29,9 @@ class Browser:
     def __exit__(self, *_):
         self.driver.quit()
 
-    def open(self, path, width=1280, height=900, is_dark=False, is_calm=True, parts=()):
-        """Loads a file, and waits until it has run. It may load these files beside it, and nothing else."""
+    def open(self, path, width=1280, height=900, is_dark=False, is_calm=True, parts=(), link=""):
+        """Loads a file, and waits until it has run. It may load these files beside it, and nothing else. `link` is what
+        follows its name in the address."""
         scheme = {"name": "prefers-color-scheme", "value": "dark" if is_dark else "light"}
         motion = {"name": "prefers-reduced-motion", "value": "reduce" if is_calm else "no-preference"}
         size = {"width": width, "height": height, "deviceScaleFactor": 1, "mobile": width < 600}
@@ -39,7 +40,8 @@ class Browser:
         self.faults()  # those of an earlier page are not of this one
         folder = os.path.dirname(os.path.abspath(path))
         self.parts = {f"file://{folder}/{part}" for part in parts}
-        self.driver.get(f"file://{os.path.abspath(path)}")
+        self.driver.get("about:blank")  # so that another link is another load
+        self.driver.get(f"file://{os.path.abspath(path)}{link}")
 
     def run(self, script):
         self.driver.execute_script(script)

@@ -2,7 +2,8 @@
 import math
 
 INNER, OUTER = 74, 94
-ROOM = 260  # the width of a wheel
+ROOM = 300  # the width of a wheel
+CORRIDOR = 142  # the radius at which arrows go round a ring, outside of the serials
 MAX_SERIALS = 6  # written at one slot
 
 STYLE = """
@@ -12,10 +13,12 @@ text { font: 18px system-ui, -apple-system, "Segoe UI", Roboto, "DejaVu Sans", s
 .soft { fill: #56616f; } .slot { fill: #56616f; }
 .name { font-size: 21px; font-weight: 600; } .digit { font-size: 30px; font-weight: 600; }
 .hand { stroke: #1a222d; stroke-width: 2.5; stroke-linecap: round; } .tip { fill: #1a222d; }
+.arrow { fill: none; stroke: #b94a00; stroke-width: 2.5; stroke-linejoin: round; } .head { fill: #b94a00; }
 @media (prefers-color-scheme: dark) {
 text { fill: #e7ebf0; } .paper { fill: #0d1117; } .track { stroke: #27303b; }
 .held, .serial { fill: #6cb0f5; }
 .soft, .slot { fill: #9ba7b5; } .hand { stroke: #e7ebf0; } .tip { fill: #e7ebf0; }
+.arrow { stroke: #ffa463; } .head { fill: #ffa463; }
 }"""
 
 
@@ -64,11 +67,10 @@ def heading(wheel, middle):
 
 def track(slots):
     """An empty wheel around the origin, with the numbers of some slots."""
-    dashes = ' stroke-dasharray="0.84 0.16" stroke-dashoffset="-0.08"' if 1 < slots <= 128 else ""
-    parts = [
-        f'<circle class="track" r="{(INNER + OUTER) / 2}" pathLength="{slots}"{dashes}'
-        ' transform="rotate(-90)"/>'
-    ]
+    share = math.pi * (INNER + OUTER) / slots
+    lengths = f'stroke-dasharray="{0.84 * share:.3f} {0.16 * share:.3f}" stroke-dashoffset="{-0.08 * share:.3f}"'
+    dashes = f" {lengths}" if 1 < slots <= 128 else ""
+    parts = [f'<circle class="track" r="{(INNER + OUTER) / 2}"{dashes} transform="rotate(-90)"/>']
     for mark in range(0, slots, max(1, slots // 4)):
         x, y = point((mark + 0.5) / slots, INNER - 15)
         parts.append(text(x, y + 6.5, mark, "slot"))
@@ -83,3 +85,22 @@ def standing(slots, digit, held):
         hand(digit, slots),
         text(0, 10.5, digit, "digit"),
     ]
+
+
+def around(middle, start, end):
+    """Points around a ring whose middle is there, from one turn to another by the shorter side."""
+    by = end - start - round(end - start)
+    steps = max(2, math.ceil(abs(by) * 48))
+    places = [point(start + by * k / steps, CORRIDOR) for k in range(steps + 1)]
+    return [(middle + x, y) for x, y in places]
+
+
+def arrow(source, target, is_near):
+    """An arrow from a slot, (middle of its ring, turn), to another: around the rings, and straight or above what is between."""
+    (here, start), (there, end) = source, target
+    leave, come = (0.25, 0.75) if is_near else (0.04, 0.96)
+    x, y = point(start, OUTER + 5)
+    points = [(here + x, y), *around(here, start, leave), *around(there, come, end)]
+    corner = [point(end + aside, OUTER + far) for aside, far in ((0, 34), (-0.011, 45), (0.011, 45))]
+    tip = "L".join(f"{there + x:.1f} {y:.1f}" for x, y in corner)
+    return [f'<path class="arrow" d="M{"L".join(f"{x:.1f} {y:.1f}" for x, y in points)}"/>', f'<path class="head" d="M{tip}Z"/>']

@@ -74,6 +74,25 @@ def many():
     return starts.encode() + b"tick 29\n" * 2000
 
 
+def crowded(seed, lines):
+    """A script with many timers, which expire late."""
+    chance = random.Random(seed)
+    made, number = [], 0
+    for _ in range(lines):
+        kind = chance.random()
+        if kind < 0.3 and number:
+            made.append(f"tick {1 + chance.randrange(60)}")
+            continue
+        number += 1
+        if kind < 0.4 and number > 1:
+            made.append(f"restart 0 {number} {1 + chance.randrange(number)} {1 + chance.randrange(50000)} 2")
+        elif kind < 0.5 and number > 1:
+            made.append(f"stop 0 {number} {1 + chance.randrange(number)}")
+        else:
+            made.append(f"start 0 {number} {1 + chance.randrange(1 << (1 + chance.randrange(17)))} 1")
+    return "".join(f"{line}\n" for line in made).encode()
+
+
 @dataclass
 class Case:
     name: str
@@ -95,3 +114,8 @@ def cases(top):
     made.append(Case("refused", REFUSED, ["--scheme", "clock", "--clients", "5", "--capacity", "2"]))
     made.append(Case("empty", b""))
     return made + [Case(name, script) for name, script in BAD.items()]
+
+
+def crowded_cases():
+    """Scripts whose whole `show` is more than a page takes, on each scheme."""
+    return [Case(f"crowded_{at}", crowded(at, 2600), [*options, *ROOM]) for at, options in enumerate(SCHEMES)]

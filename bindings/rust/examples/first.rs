@@ -1,19 +1,17 @@
-// The shortest whole use of the crate: three timers, of which one is stopped.
+// The shortest whole use: three timers, of which one is stopped.
 //
 //     cargo run --example first
-use timers::{Error, Table, Timers};
-
-const NAMES: [&str; 3] = ["tea", "egg", "call"];
+// SPDX-License-Identifier: MIT OR Apache-2.0
+use timers::{Error, Timers};
 
 fn main() -> Result<(), Error> {
-    let mut timers = Timers::new(Table::Wide, 0)?;
-    timers.start(300, 0)?; // the action is an index into NAMES
-    timers.start(240, 1)?;
-    let call = timers.start(900, 2)?;
-    timers.stop(call);
-    while let Some(tick) = timers.wakeup() {
-        // a server sleeps until then first
-        timers.catch_up(tick, |_, timer| println!("{}: {}", timer.deadline, NAMES[timer.action as usize]))?;
+    let mut timers = Timers::new()?; // the clock is at tick 0
+    timers.start(300, "tea")?;
+    timers.start(240, "egg")?;
+    let call = timers.start(900, "call")?;
+    assert_eq!(timers.stop(call), Some("call"));
+    for timer in timers.expired(1000) {
+        println!("{}: {}", timer.deadline, timer.value);
     }
     Ok(())
 }

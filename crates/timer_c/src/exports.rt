@@ -18,6 +18,7 @@ ghost use Rattle.timer_wheels.specs.HierWheel.{counts_of_advance};
 
 use crate::c_timers::CTimers;
 use crate::calls::{self, from_c_handle, to_c_counts, to_c_expired, to_c_handle};
+use crate::const_timers::ConstTimers;
 use crate::layout::{CHandle, Counts, Expired};
 use crate::status::{
     CLOCK_END, DUE, NEVER, NO_MEMORY, NOT_OPEN, NOT_PENDING, OK, OPEN, VERSION_NUMBER,
@@ -220,10 +221,10 @@ pub extern "C" fn timers_set_at(
 
 /// Writes the timer with exactly this handle, pending or expired and not yet taken, and changes nothing.
 #[unsafe(no_mangle)]
-pub extern "C" fn timers_look(t: &mut CTimers, handle: CHandle, out: &mut Expired) -> u32
-    ensures seen { result ≡ OK → IsOpen t.old × IsSeen handle t.old.slot.state.wheel out.new }
-    ensures refused { 0 < result → ((result ≡ NOT_OPEN) × IsShut t.old)
-        ⊎ (IsOpen t.old × WhyNotStopped handle t.old.slot.state result) }
+pub extern "C" fn timers_look(t: &mut ConstTimers, handle: CHandle, out: &mut Expired) -> u32
+    ensures seen { result ≡ OK → IsOpen t.old.held × IsSeen handle t.old.held.slot.state.wheel out.new }
+    ensures refused { 0 < result → ((result ≡ NOT_OPEN) × IsShut t.old.held)
+        ⊎ (IsOpen t.old.held × WhyNotStopped handle t.old.held.slot.state result) }
     ensures kept { 0 < result → out.new ≡ out.old }
     ensures same { t.new ≡ t.old }
 {
@@ -384,9 +385,9 @@ pub extern "C" fn timers_expire_batch(t: &mut CTimers, out: &mut [Expired]) -> u
 
 /// Whether a timer expired and was not yet taken.
 #[unsafe(no_mangle)]
-pub extern "C" fn timers_has_due(t: &mut CTimers) -> bool
-    ensures due { IsOpen t.old → (IsTrue result ↔ (0 < length t.old.slot.state.wheel.due)) }
-    ensures not_open { IsShut t.old → result ≡ false }
+pub extern "C" fn timers_has_due(t: &mut ConstTimers) -> bool
+    ensures due { IsOpen t.old.held → (IsTrue result ↔ (0 < length t.old.held.slot.state.wheel.due)) }
+    ensures not_open { IsShut t.old.held → result ≡ false }
     ensures same { t.new ≡ t.old }
 {
     match t.timers() {
@@ -397,9 +398,9 @@ pub extern "C" fn timers_has_due(t: &mut CTimers) -> bool
 
 /// The present tick, or 0 if `t` is not open.
 #[unsafe(no_mangle)]
-pub extern "C" fn timers_now(t: &mut CTimers) -> u64
-    ensures now { IsOpen t.old → result ≡ t.old.slot.state.wheel.now }
-    ensures not_open { IsShut t.old → result ≡ 0 }
+pub extern "C" fn timers_now(t: &mut ConstTimers) -> u64
+    ensures now { IsOpen t.old.held → result ≡ t.old.held.slot.state.wheel.now }
+    ensures not_open { IsShut t.old.held → result ≡ 0 }
     ensures same { t.new ≡ t.old }
 {
     match t.timers() {
@@ -411,9 +412,9 @@ pub extern "C" fn timers_now(t: &mut CTimers) -> u64
 /// How many timers are pending, or 0 if `t` is not open. Expired timers that were not yet taken are
 /// not counted.
 #[unsafe(no_mangle)]
-pub extern "C" fn timers_len(t: &mut CTimers) -> usize
-    ensures pending { IsOpen t.old → result ≡ length t.old.slot.state.wheel.pending }
-    ensures not_open { IsShut t.old → result ≡ 0 }
+pub extern "C" fn timers_len(t: &mut ConstTimers) -> usize
+    ensures pending { IsOpen t.old.held → result ≡ length t.old.held.slot.state.wheel.pending }
+    ensures not_open { IsShut t.old.held → result ≡ 0 }
     ensures same { t.new ≡ t.old }
 {
     match t.timers() {
@@ -426,9 +427,9 @@ pub extern "C" fn timers_len(t: &mut CTimers) -> usize
 /// nothing is pending or `t` is not open, and otherwise the first at which a timer expires or moves to a lower
 /// wheel.
 #[unsafe(no_mangle)]
-pub extern "C" fn timers_wakeup(t: &mut CTimers) -> u64
-    ensures tick { IsOpen t.old → IsNextCall result t.old.slot.state.wheel }
-    ensures not_open { IsShut t.old → result ≡ NEVER }
+pub extern "C" fn timers_wakeup(t: &mut ConstTimers) -> u64
+    ensures tick { IsOpen t.old.held → IsNextCall result t.old.held.slot.state.wheel }
+    ensures not_open { IsShut t.old.held → result ≡ NEVER }
     ensures same { t.new ≡ t.old }
 {
     match t.timers() {
@@ -440,9 +441,9 @@ pub extern "C" fn timers_wakeup(t: &mut CTimers) -> u64
 /// The deadline of the timer that is handed out next: the present tick when an expired one waits, `NEVER`
 /// when no timer is held, and otherwise exactly the first pending deadline.
 #[unsafe(no_mangle)]
-pub extern "C" fn timers_next(t: &mut CTimers) -> u64
-    ensures deadline { IsOpen t.old → IsNextDeadline result t.old.slot.state.wheel }
-    ensures not_open { IsShut t.old → result ≡ NEVER }
+pub extern "C" fn timers_next(t: &mut ConstTimers) -> u64
+    ensures deadline { IsOpen t.old.held → IsNextDeadline result t.old.held.slot.state.wheel }
+    ensures not_open { IsShut t.old.held → result ≡ NEVER }
     ensures same { t.new ≡ t.old }
 {
     let Some(timers) = t.timers() else {
@@ -475,14 +476,14 @@ pub extern "C" fn timers_find_next(t: &mut CTimers) -> u64
 /// and moves the cursor past it. Returns whether there was one.
 #[unsafe(no_mangle)]
 pub extern "C" fn timers_each(
-    t: &mut CTimers,
+    t: &mut ConstTimers,
     cursor: &mut usize,
     handle: &mut CHandle,
     out: &mut Expired,
 ) -> bool
     ensures visited { result ≡ true
-        → IsOpen t.old × IsVisited cursor.old t.old.slot.state.wheel cursor.new handle.new out.new }
-    ensures ended { result ≡ false → IsOpen t.old → IsAllVisited cursor.old t.old.slot.state.wheel }
+        → IsOpen t.old.held × IsVisited cursor.old t.old.held.slot.state.wheel cursor.new handle.new out.new }
+    ensures ended { result ≡ false → IsOpen t.old.held → IsAllVisited cursor.old t.old.held.slot.state.wheel }
     ensures kept { result ≡ false
         → (cursor.new ≡ cursor.old) × (handle.new ≡ handle.old) × (out.new ≡ out.old) }
     ensures same { t.new ≡ t.old }
@@ -506,11 +507,11 @@ pub extern "C" fn timers_each(
 /// Writes what the wheels counted since `timers_new`, and changes nothing. What each call adds to the counts is in
 /// its contract.
 #[unsafe(no_mangle)]
-pub extern "C" fn timers_counts(t: &mut CTimers, counts: &mut Counts) -> u32
-    ensures counted { result ≡ OK → IsOpen t.old
-        × (counts.new ≡ tell_counts t.old.slot.state.counts) }
+pub extern "C" fn timers_counts(t: &mut ConstTimers, counts: &mut Counts) -> u32
+    ensures counted { result ≡ OK → IsOpen t.old.held
+        × (counts.new ≡ tell_counts t.old.held.slot.state.counts) }
     ensures few_moves { result ≡ OK → counts.new.moves ≤ 9 * counts.new.starts }
-    ensures refused { 0 < result → (result ≡ NOT_OPEN) × IsShut t.old }
+    ensures refused { 0 < result → (result ≡ NOT_OPEN) × IsShut t.old.held }
     ensures kept { 0 < result → counts.new ≡ counts.old }
     ensures same { t.new ≡ t.old }
 {

@@ -7,6 +7,7 @@
 //!     calls        the calls, with C's statuses and structs
 //!     wheel_maker  a wheel by C's number for its table
 //!     c_timers     `struct timers`: the slot, and the last serial while the slot is empty
+//!     const_timers `struct timers` behind a const pointer, whose timers can only be read
 //!     owned_cell   the slot: the two machine words by which it owns the timers on the heap
 //!     layout       the structs of the header
 //!     status       the statuses of the header
@@ -14,6 +15,7 @@
 
 mod c_timers;
 mod calls;
+mod const_timers;
 mod exports;
 mod layout;
 mod owned_cell;
@@ -21,5 +23,6 @@ mod status;
 mod wheel_maker;
 
 pub use c_timers::CTimers;
+pub use const_timers::ConstTimers;
 pub use layout::{CHandle, Counts, Expired};
 pub use owned_cell::OwnedCell;

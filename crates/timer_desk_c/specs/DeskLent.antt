@@ -5,6 +5,7 @@ use Rattle.timer_desk_c.specs.declared.desk_cell.DeskCell.{DeskCell}
 pub use Rattle.timer_desk_c.specs.DeskSlots.{the_desk}
 pub use Rattle.timer_desk_c.specs.contracts.desk_cell.DeskCell.{the_row as the_desk_slot}
 pub use Rattle.timer_desk_c.specs.contracts.c_structs.CDesk.{the_row as c_desk}
+pub use Rattle.timer_desk_c.specs.contracts.const_structs.ConstDesk.{the_row as const_desk}
 
 abbrev pub as_cell : DeskCell → HeapCell DeskState
 as_cell slot = record { at = slot.at; mark = slot.mark; state = slot.state }

@@ -5,6 +5,7 @@ use Rattle.timer_desk_c.specs.declared.line_cell.LineCell.{LineCell}
 pub use Rattle.timer_desk_c.specs.contracts.line.Line.{the_row as the_line}
 pub use Rattle.timer_desk_c.specs.contracts.line_cell.LineCell.{the_row as the_line_slot}
 pub use Rattle.timer_desk_c.specs.contracts.c_structs.CLine.{the_row as c_line}
+pub use Rattle.timer_desk_c.specs.contracts.const_structs.ConstLine.{the_row as const_line}
 
 abbrev pub as_cell : LineCell → HeapCell Line
 as_cell slot = record { at = slot.at; mark = slot.mark; state = slot.state }

@@ -19,6 +19,7 @@ ghost use Rattle.timer_desk_c.specs.Stopping.{HasStopped, WhyNotStopped};
 ghost use Rattle.timer_desk_c.specs.declared.status.TheConstants.{OK, NOT_OPEN, OPEN, NO_CLIENT, NO_MEMORY, LEFT, NEVER};
 
 use crate::c_structs::{CDesk, CLine, is_line_of};
+use crate::const_structs::ConstDesk;
 use crate::desk_maker::{Made, make};
 use crate::layout::DeskConfig;
 use crate::line::Line;
@@ -225,9 +226,9 @@ pub extern "C" fn timers_desk_close(d: &mut CDesk, returned: &mut u64) -> u32
 
 /// The present tick, or 0 if there is no desk.
 #[unsafe(no_mangle)]
-pub extern "C" fn timers_desk_now(d: &mut CDesk) -> u64
-    ensures now { IsOpen d.old → result ≡ d.old.slot.state.facility.now }
-    ensures not_open { IsShut d.old → result ≡ 0 }
+pub extern "C" fn timers_desk_now(d: &mut ConstDesk) -> u64
+    ensures now { IsOpen d.old.held → result ≡ d.old.held.slot.state.facility.now }
+    ensures not_open { IsShut d.old.held → result ≡ 0 }
     ensures same { d.new ≡ d.old }
 {
     match d.desk() {
@@ -238,9 +239,9 @@ pub extern "C" fn timers_desk_now(d: &mut CDesk) -> u64
 
 /// How many timers are pending, or 0 if there is no desk.
 #[unsafe(no_mangle)]
-pub extern "C" fn timers_desk_len(d: &mut CDesk) -> usize
-    ensures pending { IsOpen d.old → result ≡ length d.old.slot.state.facility.pending }
-    ensures not_open { IsShut d.old → result ≡ 0 }
+pub extern "C" fn timers_desk_len(d: &mut ConstDesk) -> usize
+    ensures pending { IsOpen d.old.held → result ≡ length d.old.held.slot.state.facility.pending }
+    ensures not_open { IsShut d.old.held → result ≡ 0 }
     ensures same { d.new ≡ d.old }
 {
     match d.desk() {
@@ -252,9 +253,9 @@ pub extern "C" fn timers_desk_len(d: &mut CDesk) -> usize
 /// The first tick at which a timer expires or moves to a lower wheel; `NEVER` if nothing is pending or there is no
 /// desk. It is after the present one and at most the first deadline, and nothing expires before it.
 #[unsafe(no_mangle)]
-pub extern "C" fn timers_desk_wakeup(d: &mut CDesk) -> u64
-    ensures tick { IsOpen d.old → IsNextTick result d.old.slot.state.facility }
-    ensures not_open { IsShut d.old → result ≡ NEVER }
+pub extern "C" fn timers_desk_wakeup(d: &mut ConstDesk) -> u64
+    ensures tick { IsOpen d.old.held → IsNextTick result d.old.held.slot.state.facility }
+    ensures not_open { IsShut d.old.held → result ≡ NEVER }
     ensures same { d.new ≡ d.old }
 {
     match d.desk() {
@@ -265,9 +266,9 @@ pub extern "C" fn timers_desk_wakeup(d: &mut CDesk) -> u64
 
 /// The first pending deadline; `NEVER` if nothing is pending or there is no desk.
 #[unsafe(no_mangle)]
-pub extern "C" fn timers_desk_next(d: &mut CDesk) -> u64
-    ensures deadline { IsOpen d.old → IsFirstDeadline result d.old.slot.state.facility }
-    ensures not_open { IsShut d.old → result ≡ NEVER }
+pub extern "C" fn timers_desk_next(d: &mut ConstDesk) -> u64
+    ensures deadline { IsOpen d.old.held → IsFirstDeadline result d.old.held.slot.state.facility }
+    ensures not_open { IsShut d.old.held → result ≡ NEVER }
     ensures same { d.new ≡ d.old }
 {
     match d.desk() {
@@ -372,11 +373,11 @@ pub extern "C" fn timers_desk_reserve(d: &mut CDesk) -> u32
 
 /// How many timers of a client are pending. 0 if there is no such client or no desk.
 #[unsafe(no_mangle)]
-pub extern "C" fn timers_desk_pending(d: &mut CDesk, client: usize) -> usize
-    ensures pending { IsOpen d.old → client < clients_of d.old.slot.state
-        → result ≡ pending_of d.old.slot.state.facility client }
-    ensures none { IsOpen d.old → clients_of d.old.slot.state ≤ client → result ≡ 0 }
-    ensures not_open { IsShut d.old → result ≡ 0 }
+pub extern "C" fn timers_desk_pending(d: &mut ConstDesk, client: usize) -> usize
+    ensures pending { IsOpen d.old.held → client < clients_of d.old.held.slot.state
+        → result ≡ pending_of d.old.held.slot.state.facility client }
+    ensures none { IsOpen d.old.held → clients_of d.old.held.slot.state ≤ client → result ≡ 0 }
+    ensures not_open { IsShut d.old.held → result ≡ 0 }
     ensures same { d.new ≡ d.old }
 {
     match d.desk() {
@@ -387,11 +388,11 @@ pub extern "C" fn timers_desk_pending(d: &mut CDesk, client: usize) -> usize
 
 /// How many words wait in a client's outbox. 0 if there is no such client or no desk.
 #[unsafe(no_mangle)]
-pub extern "C" fn timers_desk_outbox(d: &mut CDesk, client: usize) -> usize
-    ensures len { IsOpen d.old → client < clients_of d.old.slot.state
-        → result ≡ length (backlog_at d.old.slot.state client).outbox }
-    ensures none { IsOpen d.old → clients_of d.old.slot.state ≤ client → result ≡ 0 }
-    ensures not_open { IsShut d.old → result ≡ 0 }
+pub extern "C" fn timers_desk_outbox(d: &mut ConstDesk, client: usize) -> usize
+    ensures len { IsOpen d.old.held → client < clients_of d.old.held.slot.state
+        → result ≡ length (backlog_at d.old.held.slot.state client).outbox }
+    ensures none { IsOpen d.old.held → clients_of d.old.held.slot.state ≤ client → result ≡ 0 }
+    ensures not_open { IsShut d.old.held → result ≡ 0 }
     ensures same { d.new ≡ d.old }
 {
     match d.desk() {

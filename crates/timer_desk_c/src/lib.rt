@@ -12,11 +12,13 @@
 //!     messages       words as C's struct
 //!     desk_maker, placement    a new desk, and its lines put into C's structs
 //!     c_structs      the two structs
+//!     const_structs  the same behind const pointers, of which a call can only read
 //!     desk_cell, line_cell    the machine words by which they own something on the heap
 //!     layout, status    the other structs and the numbers of the header
 #![tactic(auto)]
 
 mod c_structs;
+mod const_structs;
 mod desk_cell;
 mod desk_exports;
 mod desk_maker;
@@ -34,6 +36,7 @@ mod status;
 mod stopping;
 
 pub use c_structs::{CDesk, CLine};
+pub use const_structs::{ConstDesk, ConstLine};
 pub use desk_cell::DeskCell;
 pub use line::Line;
 pub use line_cell::LineCell;

@@ -13,6 +13,7 @@ ghost use Rattle.timer_desk_c.specs.Messages.{base_handle};
 ghost use Rattle.timer_desk_c.specs.declared.status.TheConstants.{OK, NOT_OPEN, FINISHED};
 
 use crate::c_structs::CLine;
+use crate::const_structs::ConstLine;
 use crate::layout::{CHandle, Message};
 use crate::messages::from_c_handle;
 use crate::status::NOT_OPEN;
@@ -140,9 +141,9 @@ pub extern "C" fn timers_line_receive(line: &mut CLine, out: &mut Message) -> bo
 
 /// Whether no further word will arrive: the owner has ended the words, and all of them were received.
 #[unsafe(no_mangle)]
-pub extern "C" fn timers_line_ended(line: &mut CLine) -> bool
-    ensures yes { result ≡ true → HasLine line.old × IsReadToEnd line.old.slot.state }
-    ensures no { result ≡ false → HasLine line.old → MayReceive line.old.slot.state }
+pub extern "C" fn timers_line_ended(line: &mut ConstLine) -> bool
+    ensures yes { result ≡ true → HasLine line.old.held × IsReadToEnd line.old.held.slot.state }
+    ensures no { result ≡ false → HasLine line.old.held → MayReceive line.old.held.slot.state }
     ensures same { line.new ≡ line.old }
 {
     match line.line() {

@@ -119,12 +119,12 @@ fn show_command<'a>(alloc: Global) -> Result<Command<'a>, AllocError> {
 
 /// The subcommand `threads` with its options.
 fn threads_command<'a>(alloc: Global) -> Result<Command<'a>, AllocError> {
-    let clients = "The number of clients, 1 to 64, each in a thread of its own";
+    let threads = "The number of clients, 1 to 64, each in a thread of its own";
     let timers = "The number of timers that each client starts, 1 to 10000";
     Command::new(alloc, "threads")
         .about(THREADS_ABOUT)
         .after_long_help(THREADS)
-        .arg(number(alloc, "clients", "CLIENTS", (1, 64), "4", clients))?
+        .arg(number(alloc, "clients", "CLIENTS", (1, 64), "4", threads))?
         .arg(number(alloc, "timers", "TIMERS", (1, 10000), "1000", timers))
 }
 

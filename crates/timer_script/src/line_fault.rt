@@ -73,6 +73,7 @@ impl LineReason {
         ensures { result.now ≡ reason_words self }
     {
         match self {
+            // made by tools/facts: words of check
             LineReason::NoLineEnd => "no line end",
             LineReason::EmptyLine => "empty line",
             LineReason::CarriageReturn => "carriage return",

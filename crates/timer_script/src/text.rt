@@ -28,6 +28,7 @@ fn reason_of(reason: Reason) -> &'static [u8]
     ensures { result.now ≡ reason_word reason }
 {
     match reason {
+        // made by tools/facts: words of refusals
         Reason::ZeroInterval => b"zero-interval",
         Reason::TooLate => b"too-late",
         Reason::SerialsSpent => b"serials-spent",
@@ -41,11 +42,13 @@ fn refusal_of(reason: NotTaken) -> &'static [u8]
     ensures { result.now ≡ refusal_word reason }
 {
     match reason {
+        // made by tools/facts: words of requests that are not taken
         NotTaken::Closed => b"closed",
         NotTaken::NoClient => b"no-client",
         NotTaken::Repeated { .. } => b"repeated",
         NotTaken::NumbersSpent => b"numbers-spent",
         NotTaken::Ahead { .. } => b"ahead",
+        // by hand: a request that ran out of memory is repeated, and no script sees this
         NotTaken::OutOfMemory => b"out-of-memory",
     }
 }
@@ -55,6 +58,7 @@ fn tick_refusal_of(fault: TickFault) -> &'static [u8]
     ensures { result.now ≡ fault_word fault }
 {
     match fault {
+        // made by tools/facts: words of refused ticks
         TickFault::Closed => b"closed",
         TickFault::ClockEnd => b"clock-end",
     }

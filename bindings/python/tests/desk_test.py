@@ -1,0 +1,345 @@
+"""Desks: random calls against a dictionary, clients that come and go, clients in threads, and memory."""
+import copy
+import gc
+import pickle
+import random
+import threading
+
+import timers.desk as td
+from timers.desk import Desk, DeskError, Handle
+
+try:
+    import _testcapi
+except ImportError:
+    _testcapi = None
+
+
+def refused(status, call, *arguments):
+    try:
+        call(*arguments)
+    except DeskError as error:
+        assert error.status == status, (error.status, status)
+    else:
+        raise AssertionError(f"not refused: {status}")
+
+
+def turn(desk):
+    while (desk.serve_all() == td.OK) | desk.flush_all():
+        pass
+
+
+def agrees(seed):
+    draw = random.Random(seed)
+    model = {}                          # by (deadline, serial): handle, number, action
+    with Desk(1, 20, 20, 1) as desk:
+        line, sent, serial = desk.lines[0], 0, 0
+        assert desk and len(desk) == 0
+        for _ in range(4000):
+            interval, action = draw.randrange(200), draw.randrange(2**64)
+            chosen = draw.choice(sorted(model)) if model and draw.random() < .9 else None
+            handle = model[chosen][0] if chosen else Handle()
+            choice = draw.randrange(5)
+            if choice < 4:
+                sent += 1
+                deadline = desk.now + interval if interval else draw.randrange(desk.now + 1)
+                at = choice == 1 or choice == 3 and action % 2
+                calls = [(line.start, interval, action), (line.start_at, deadline, action), (line.stop, handle),
+                         (line.restart, handle, interval, action), (line.restart_at, handle, deadline, action)]
+                call, *arguments = calls[4 if choice == 3 and at else choice]
+                assert call(*arguments) == sent
+                refused(td.LINE_FULL, line.start, 1, 1)
+                turn(desk)
+                word = line.receive()
+                assert (word.number, word.action) == (sent, 0 if choice == 2 else action) and line.receive() is None
+                assert repr(word).startswith(f"timers.desk.Word(kind={word.kind}, reason={word.reason}, number={sent}, handle=Handle(")
+            if choice < 2:
+                reason = td.ZERO_INTERVAL if interval == 0 and not at else td.CAPACITY if len(model) == 20 else 0
+                assert (word.kind, word.reason) == (td.REFUSED if reason else td.STARTED, reason)
+            elif choice == 2:
+                assert (word.kind, word.reason) == ((td.STOPPED, 0) if chosen else (td.REFUSED, td.NOT_PENDING))
+                assert not chosen or word.handle.serial == chosen[1]
+            elif choice == 3:
+                reason = td.NOT_PENDING if not chosen else td.ZERO_INTERVAL if interval == 0 and not at else 0
+                assert (word.kind, word.reason) == (td.REFUSED if reason else td.RESTARTED, reason)
+                assert word.other == (0 if reason else chosen[1])
+            if choice < 4 and word.kind in (td.STOPPED, td.RESTARTED):
+                del model[chosen]
+            if choice < 4 and word.kind in (td.STARTED, td.RESTARTED):
+                serial += 1
+                assert (word.handle.serial, word.deadline) == (serial, desk.now + interval)
+                if interval:
+                    model[word.deadline, serial] = word.handle, sent, action
+                else:       # it expires at once, after its answer
+                    turn(desk)
+                    word = line.receive()
+                    assert (word.kind, word.number, word.action) == (td.EXPIRED, sent, action)
+                    assert (word.handle.serial, word.deadline) == (serial, desk.now)
+            if choice == 4:
+                tick = desk.now + interval
+                while desk.now < tick:
+                    desk.advance(tick - desk.now)
+                    turn(desk)
+                    while word := line.receive():
+                        assert (word.deadline, word.handle.serial) == min(model) and word.deadline == desk.now
+                        assert (word.kind, word.number, word.action) == (td.EXPIRED, *model.pop(min(model))[1:])
+                        turn(desk)
+                    assert not model or min(model)[0] > desk.now
+            assert len(desk) == desk.pending(0) == len(model)
+            assert desk.next() == (min(model)[0] if model else None)
+            assert (desk.wakeup() or 0) <= (desk.next() or 0)
+        assert desk.close() == len(model)
+        turn(desk)
+        for key in sorted(model):
+            word = line.receive()
+            assert (word.kind, word.deadline, word.handle.serial, word.action) == (td.RETURNED, *key, model[key][2])
+            turn(desk)
+        assert line.start(1, 1) == sent + 1
+        turn(desk)
+        word = line.receive()
+        assert (word.kind, word.reason, word.number) == (td.NOT_TAKEN, td.CLOSED, sent + 1)
+        line.finish()
+        assert desk.end(0, line) == 0 and line.ended and not line.abandoned
+        refused(td.FINISHED, line.start, 1, 1)
+
+
+def come_and_go():
+    with Desk(2, 100, 4, 4) as desk:
+        line, other = desk.lines
+        sent = 0
+        assert (line.client, other.client) == (0, 1)
+        for life in range(60):
+            refused(td.NOT_FREED, desk.open, 0, 4)
+            for _ in range(life % 4):
+                sent += 1
+                assert line.start(5, life) == sent
+            line.free()
+            assert desk.line_freed(0) and not desk.line_freed(1)
+            if life % 4:
+                refused(td.LEFT, desk.open, 0, 4)
+                turn(desk)
+                if life % 8 > 4:
+                    assert desk.stop_pending(0) == life % 4 and desk.pending(0) == desk.stop_pending(0) == 0
+                    sent += life % 4            # the stops have their numbers
+                else:
+                    while desk.pending(0):
+                        desk.advance(5)
+                    assert desk.outbox(0) > 0 and desk.flush(0) > 0 and desk.outbox(0) == 0
+            line = desk.open(0, 4)
+            assert not desk.line_freed(0) and line.receive() is None
+        refused(td.OUT_OF_RANGE, desk.open, 0, 0)
+        refused(td.NOT_FREED, desk.stop_pending, 0)
+        refused(td.NO_CLIENT, desk.stop_pending, 2)
+        assert (desk.serve(0), desk.serve(2)) == (td.IDLE, td.NO_CLIENT)
+        desk.reserve()
+    assert line.abandoned and other.abandoned
+
+
+def counts_by_client():
+    with Desk(2, 9, 4, 4) as desk:
+        first, second = desk.lines
+        first.start(5, 1), second.start(3, 2), second.start(9, 3)
+        turn(desk)
+        assert (desk.pending(0), desk.pending(1), len(desk)) == (1, 2, 3)
+        assert (desk.advance(20), desk.now) == (3, 3)
+        assert (desk.pending(1), desk.outbox(0), desk.outbox(1), len(desk)) == (1, 0, 1, 2)
+        assert desk.flush(0) == 0 and desk.flush(1) == 1
+    refused(td.NOT_OPEN, desk.reserve)
+
+
+def refuses_a_line_of_another_desk():
+    with Desk(1, 9, 4, 4) as desk, Desk(1, 9, 4, 4) as other:
+        line, stranger = desk.lines[0], other.lines[0]
+        line.finish(), stranger.finish()
+        refused(td.OTHER_LINE, desk.end, 0, stranger)
+        refused(td.OTHER_LINE, other.end, 0, line)
+        assert not line.ended and not stranger.ended
+        assert desk.end(0, line) == other.end(0, stranger) == 0 and line.ended and stranger.ended
+
+
+def work(line, counts):
+    sent = answered = expired = 0
+    while expired < 300:
+        if sent < 300 and sent - answered < 8 and sent - expired < 50:
+            assert line.start(1 + sent % 7, sent) == sent + 1
+            sent += 1
+        word = line.receive()
+        if word and word.kind == td.STARTED:
+            answered += 1
+            assert word.number == answered
+        elif word:
+            assert word.kind == td.EXPIRED and word.number == word.action + 1
+            expired += 1
+    counts.append(expired)
+
+
+def threads(clients):
+    counts = []
+    with Desk(clients, 10000, 50, 8) as desk:
+        workers = [threading.Thread(target=work, args=(line, counts)) for line in desk.lines]
+        for worker in workers:
+            worker.start()
+        while any(worker.is_alive() for worker in workers):
+            desk.serve_all(), desk.flush_all(), desk.advance(1)
+        assert counts == [300] * clients and len(desk) == 0
+
+
+def out_of_range(value, bits, call, *arguments, **named):
+    try:
+        call(*arguments, **named)
+    except OverflowError as error:
+        assert str(error) == f"{value} is not from 0 to 2^{bits} - 1", error
+    else:
+        raise AssertionError(f"not refused: {arguments} {named}")
+
+
+def numbers_out_of_range():
+    """No number is cut off: what has too many bits is refused, and so is a room that has."""
+    for name in ("clients", "capacity", "timers", "requests", "first_tick"):
+        fine = {"clients": 1, "capacity": 1, "timers": 1, "requests": 1, "table": 0}
+        for wrong in (-1, 2**64, 2**64 + 1):
+            out_of_range(wrong, 64, Desk, **{**fine, name: wrong})
+    for wrong in (-1, 2**32, 2**32 + 1):
+        out_of_range(wrong, 32, Desk, 1, 1, 1, 1, table=wrong)
+    for timers, requests in ((2**64 - 1, 2), (2**64 - 2, 1), (2**63, 2**63)):
+        for call in (td.room_for, lambda *room: Desk(1, 1, *room)):
+            try:
+                call(timers, requests)
+            except OverflowError as error:
+                assert str(error) == f"the room for {timers} timers and {requests} requests is not from 0 to 2^64 - 1"
+            else:
+                raise AssertionError(f"not refused: {timers} {requests}")
+    assert td.room_for(2**64 - 2, 0) == 2**64 - 1
+    for table in (2, 2**32 - 1):
+        refused(td.OUT_OF_RANGE, lambda table=table: Desk(1, 1, 1, 1, table=table))
+    for clients in (0, 65, 10**11, 2**64 - 1):
+        refused(td.OUT_OF_RANGE, lambda clients=clients: Desk(clients, 1, 1, 1))
+    for wrong in (-1, 2**64):
+        out_of_range(wrong, 64, Handle, wrong, 1)
+        out_of_range(wrong, 64, Handle, 1, wrong)
+    with Desk(1, 1, 1, 1) as desk:
+        calls = [desk.serve, desk.serve_all, desk.flush, desk.advance, desk.stop_pending, desk.pending, desk.outbox,
+                 desk.line_freed, lambda value: desk.end(value, desk.lines[0]), lambda value: desk.open(0, value),
+                 lambda value: desk.open(value, 1), lambda value: desk.lines[0].start(value, 1),
+                 lambda value: desk.lines[0].restart_at(Handle(), 1, value)]
+        for call in calls:
+            for wrong in (-1, 2**64):
+                out_of_range(wrong, 64, call, wrong)
+        with Desk(1, 1, 1, 1, first_tick=8639998, table=td.CLOCK) as clock:
+            assert clock.advance(9) == 1 and desk.advance(9) == 9
+
+
+def owns_what_it_holds():
+    """No copy frees it a second time. What nothing refers to is freed, and what is made anew frees what it held."""
+    class Named(Desk):
+        pass
+
+    desk = Named(2, 9, 4, 4)
+    first, second = desk.lines
+    for owner in (desk, first):
+        for owned in (copy.copy, copy.deepcopy, pickle.dumps):
+            try:
+                owned(owner)
+            except TypeError as error:
+                assert "can't be copied or pickled" in str(error), error
+            else:
+                raise AssertionError(f"copied: {owner}")
+    for made in (lambda: td.Line(), lambda: setattr(desk, "lines", [])):
+        try:
+            made()
+        except (TypeError, AttributeError):
+            pass
+        else:
+            raise AssertionError("a line was made, or the list of lines was exchanged")
+    desk.lines.clear()
+    del first, owner
+    assert desk.line_freed(0) and not desk.line_freed(1)
+    refused(td.OUT_OF_RANGE, lambda: desk.__init__(1, 1, 1, 1, table=2))
+    assert not second.abandoned
+    desk.__init__(2, 9, 4, 4)
+    assert second.abandoned and not desk.line_freed(0)
+    refused(td.OTHER_LINE, desk.end, 1, second)
+    for wrong in (None, desk, Handle()):
+        try:
+            desk.end(1, wrong)
+        except TypeError as error:
+            assert str(error) == f"not a Line: {wrong}"
+        else:
+            raise AssertionError(f"ended: {wrong}")
+    first, second = desk.lines
+    desk.lines.append(desk)
+    desk.itself = desk
+    del desk, wrong
+    gc.collect()
+    assert second.abandoned
+    empty = Desk.__new__(Desk)
+    refused(td.NOT_OPEN, empty.reserve)
+    assert empty.serve_all() == td.NOT_OPEN and len(empty) == 0
+
+
+def refuse_memory():
+    """Each allocation of each call is refused once, and nothing leaks or is lost but a word that was received."""
+    if _testcapi is None:
+        print("skipped: no _testcapi, which refuses memory")
+        return
+    refusals = 0
+    for call in (lambda: Desk(3, 9, 4, 4), lambda: desk.__init__(3, 9, 4, 4), lambda: desk.reserve(), lambda: desk.serve_all(),
+                 lambda: line.start(2**40, 2**63), lambda: line.receive(), lambda: desk.open(1, 4), lambda: desk.close(),
+                 lambda: desk.flush(0), lambda: line.finish(), lambda: desk.next(), lambda: line.free(), lambda: repr(line)):
+        more, failed = 0, True
+        while failed or more < 4:
+            desk = Desk(2, 2000, 2000, 2000)
+            line = desk.lines[0]
+            desk.lines.pop().free()
+            for number in range(60):
+                line.start(2**40 + number, 2**63)
+                if number < 9:
+                    turn(desk)
+            _testcapi.set_nomemory(more, more + 1)
+            try:
+                failed = call() == td.NO_MEMORY
+            except MemoryError:
+                failed = True
+            except DeskError as error:
+                assert error.status == td.NO_MEMORY
+                failed = True
+            finally:
+                _testcapi.remove_mem_hooks()
+            refusals += failed
+            more += 1
+            assert more < 999
+            turn(desk)
+            assert len(desk) in (0, 60, 61), len(desk)
+    assert refusals > 20, refusals
+
+
+class Number:
+    """A whole number by `__index__` alone, which answers once."""
+
+    def __init__(self, value):
+        self.values = [value]
+
+    def __index__(self):
+        return self.values.pop()
+
+
+def whole_numbers():
+    with Desk(*map(Number, (2, 9, 4, 4, 5, td.CLOCK))) as desk:
+        line = desk.lines[1]
+        assert (len(desk.lines), line.start(Number(3), Number(7)), desk.serve(Number(1)), desk.flush(Number(1))) == (2, 1, td.OK, 1)
+        assert line.stop(Handle(Number(line.receive().handle.place), Number(1))) == 2
+        assert desk.serve_all(Number(9)) == td.OK and desk.pending(Number(1)) == 0 and desk.advance(Number(9)) == 9
+
+
+assert Handle(1, 7) == Handle(1, 7) and hash(Handle(1, 7)) == hash(Handle(1, 7))
+assert Handle(1, 7) not in (Handle(1, 8), Handle(2, 7), (1, 7))
+assert (str(DeskError(td.NO_ROOM)), str(DeskError(99))) == ("the outbox has no room", "no status")
+for seed in range(3):
+    agrees(seed)
+come_and_go()
+counts_by_client()
+refuses_a_line_of_another_desk()
+threads(4)
+numbers_out_of_range()
+owns_what_it_holds()
+whole_numbers()
+refuse_memory()

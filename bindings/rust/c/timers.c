@@ -1,0 +1,1 @@
+../../../generated/timers.c

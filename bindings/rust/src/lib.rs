@@ -1,0 +1,23 @@
+#![cfg_attr(feature = "std", doc = include_str!("../README.md"))]
+#![cfg_attr(not(feature = "std"), doc = "Timers over hierarchical timing wheels, without std.")]
+#![no_std]
+#![warn(missing_debug_implementations, missing_docs)]
+// SPDX-License-Identifier: MIT OR Apache-2.0
+extern crate alloc;
+#[cfg(feature = "std")]
+extern crate std;
+
+#[cfg(feature = "std")]
+mod clock;
+#[cfg(feature = "std")]
+pub mod desk;
+mod error;
+mod ffi;
+mod timers;
+mod values;
+
+#[cfg(feature = "std")]
+pub use clock::Clock;
+pub use error::{Error, Refused};
+pub use timers::{at_least, Counts, Expired, Handle, Iter, Table, Timer, Timers, LAST, LAST_OF_CLOCK};
+pub use values::Drain;

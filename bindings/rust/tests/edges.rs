@@ -1,0 +1,166 @@
+//! What is refused and what stands then, limits, and what comes at one tick.
+// SPDX-License-Identifier: MIT OR Apache-2.0
+use std::collections::HashSet;
+use std::error;
+use std::thread;
+use std::time::Duration;
+use timers::{at_least, Counts, Error, Handle, Refused, Table, Timers, LAST, LAST_OF_CLOCK};
+
+#[test]
+fn a_clock_begins_no_later_than_its_last_tick() {
+    for (table, last) in [(Table::Wide, LAST), (Table::Clock, LAST_OF_CLOCK)] {
+        assert_eq!(Timers::<u8>::with_table(table, last).unwrap().now(), last);
+        assert_eq!(Timers::<u8>::with_table(table, last + 1).err(), Some(Error::TooLate));
+    }
+    assert_eq!((Timers::<u8>::new().unwrap().now(), Table::default()), (0, Table::Wide));
+}
+
+#[test]
+fn a_refusal_changes_nothing_and_gives_the_value_back() {
+    let mut timers = Timers::with_table(Table::Clock, LAST_OF_CLOCK - 9).unwrap();
+    let refused = |error, value| Err(Refused { error, value });
+    assert_eq!(timers.start(0, 1), refused(Error::ZeroInterval, 1));
+    assert_eq!(timers.start(10, 2), refused(Error::TooLate, 2));
+    assert_eq!(timers.start_at(LAST_OF_CLOCK + 1, 3), refused(Error::TooLate, 3));
+    let mut handle = timers.start(3, 4).unwrap();
+    let started = handle;
+    assert_eq!(timers.restart(handle, 0), Err(Error::ZeroInterval));
+    assert_eq!(timers.restart(handle, 10), Err(Error::TooLate));
+    assert_eq!(timers.restart_at(handle, u64::MAX), Err(Error::TooLate));
+    assert_eq!(timers.set_at(&mut handle, u64::MAX, 5).err(), Some(Refused { error: Error::TooLate, value: 5 }));
+    assert_eq!(
+        (handle, timers.len(), timers.get(handle), timers.deadline(handle)),
+        (started, 1, Some(&4), Some(LAST_OF_CLOCK - 6))
+    );
+    assert_eq!(timers.reserve(usize::MAX), Err(Error::NoMemory));
+    assert_eq!(timers.stop(handle), Some(4));
+    for dead in [handle, Handle::default()] {
+        assert_eq!((timers.stop(dead), timers.get(dead), timers.deadline(dead)), (None, None, None));
+        assert_eq!(timers.get_mut(dead), None);
+        assert_eq!(timers.restart(dead, 0), Err(Error::NotPending));
+        assert_eq!(timers.restart_at(dead, 0), Err(Error::NotPending));
+        let mut unchanged = dead;
+        assert_eq!(timers.set_at(&mut unchanged, u64::MAX, 6), Err(Refused { error: Error::TooLate, value: 6 }));
+        assert_eq!(unchanged, dead);
+    }
+    assert_eq!((timers.wakeup(), timers.next_deadline(), timers.expire()), (None, None, None));
+    assert!(timers.is_empty());
+}
+
+#[test]
+fn what_is_due_at_once_goes_to_the_back() {
+    let mut timers = Timers::with_table(Table::Wide, 7).unwrap();
+    let (first, second) = (timers.start_at(7, 1).unwrap(), timers.start_at(0, 2).unwrap());
+    let first = timers.restart_at(first, 3).unwrap();
+    assert_eq!((timers.len(), timers.has_due(), timers.next_deadline()), (2, true, Some(7)));
+    for (handle, value) in [(second, 2), (first, 1)] {
+        let timer = timers.expire().unwrap();
+        assert_eq!((timer.deadline, timer.serial, timer.value), (7, handle.serial(), value));
+    }
+    assert!(!timers.has_due());
+}
+
+#[test]
+fn no_tick_passes_while_an_expired_timer_waits() {
+    let mut timers = Timers::new().unwrap();
+    let handles: Vec<Handle> = (0..4).map(|value| timers.start(3, value).unwrap()).collect();
+    assert_eq!(timers.advance(100), Ok(3));
+    assert_eq!((timers.has_due(), timers.advance(0), timers.advance(1)), (true, Ok(0), Err(Error::Due)));
+    assert_eq!((timers.advance_to(3), timers.advance_to(4), timers.now()), (Ok(()), Err(Error::Due), 3));
+    assert_eq!((timers.stop(handles[1]), timers.stop(handles[1])), (Some(1), None)); // expired, not yet taken
+    assert!(timers.expired(3).map(|timer| timer.value).eq([0, 2, 3]));
+    assert_eq!((timers.advance(1), timers.now()), (Ok(1), 4));
+}
+
+#[test]
+fn the_work_of_a_timer_stops_another_of_its_tick_in_another_thread() {
+    let mut timers = Timers::with_table(Table::Clock, 0).unwrap();
+    let values = thread::spawn(move || {
+        let first = timers.start(1, 10).unwrap();
+        let second = timers.start(1, 11).unwrap();
+        let mut values = Vec::new();
+        while let Some(timer) = timers.take(LAST_OF_CLOCK) {
+            assert_eq!((timer.serial, timers.stop(second)), (first.serial(), Some(11)));
+            values.push(timer.value);
+        }
+        assert_eq!(timers.now(), LAST_OF_CLOCK);
+        values
+    });
+    assert_eq!(values.join().unwrap(), [10]);
+}
+
+#[test]
+fn the_last_tick_is_the_end_of_the_clock() {
+    let mut timers = Timers::with_table(Table::Clock, LAST_OF_CLOCK - 1).unwrap();
+    timers.start(1, 1).unwrap();
+    assert_eq!(timers.take(u64::MAX).map(|timer| timer.deadline), Some(LAST_OF_CLOCK));
+    assert_eq!((timers.take(u64::MAX), timers.now()), (None, LAST_OF_CLOCK));
+    assert_eq!((timers.advance(0), timers.advance(1)), (Ok(0), Err(Error::ClockEnd)));
+    assert_eq!((timers.advance_to(LAST_OF_CLOCK), timers.advance_to(u64::MAX)), (Ok(()), Err(Error::ClockEnd)));
+    for deadline in [0, LAST_OF_CLOCK] {
+        assert_eq!(timers.start_at(deadline, 1).map_err(Error::from), Err(Error::TooLate));
+    }
+}
+
+/// A time before the clock passes no tick, and takes only what is due already.
+#[test]
+fn the_clock_does_not_go_back() {
+    let mut timers = Timers::with_table(Table::Wide, 1000).unwrap();
+    timers.start(500, 1).unwrap();
+    assert_eq!((timers.take(999), timers.now()), (None, 1000));
+    timers.start_at(0, 2).unwrap();
+    assert_eq!((timers.take(0).map(|timer| timer.value), timers.take(0), timers.now()), (Some(2), None, 1000));
+}
+
+/// An iterator that is dropped early has taken what it gave out, and no more.
+#[test]
+fn an_iterator_that_is_dropped_leaves_the_rest() {
+    let mut timers = Timers::new().unwrap();
+    for value in 0..300 {
+        timers.start(9, value).unwrap();
+    }
+    assert!(timers.expired(9).take(100).map(|timer| timer.value).eq(0..100));
+    assert_eq!((timers.len(), timers.expired(8).count(), timers.len()), (200, 200, 0));
+}
+
+#[test]
+fn intervals_are_rounded_up() {
+    let (ms, us) = (Duration::from_millis, Duration::from_micros);
+    assert_eq!((at_least(ms(5), ms(1)), at_least(us(4999), ms(1)), at_least(us(5001), ms(1))), (6, 6, 7));
+    assert_eq!((at_least(ms(0), ms(1)), at_least(Duration::MAX, Duration::from_nanos(1))), (1, u64::MAX));
+    assert_eq!(Timers::new().unwrap().start(u64::MAX, 1).map_err(Error::from), Err(Error::TooLate));
+}
+
+/// At tick 0 a timer for tick 65 is in wheel 1. It moves to wheel 0 at tick 64, and expires at 65. One for
+/// tick 64 expires as its bucket of wheel 1 is visited.
+#[test]
+fn moves_are_counted() {
+    let mut timers = Timers::new().unwrap();
+    let counts = |starts, moves, visits| Counts { starts, moves, visits };
+    assert_eq!(timers.counts(), counts(0, 0, 0));
+    timers.start(65, 1).unwrap();
+    timers.start(64, 2).unwrap();
+    assert_eq!((timers.advance(63), timers.counts()), (Ok(63), counts(2, 0, 0)));
+    assert_eq!((timers.advance(1), timers.counts()), (Ok(1), counts(2, 1, 1)));
+    assert_eq!((timers.expire().map(|timer| timer.value), timers.expire()), (Some(2), None));
+    assert_eq!((timers.advance(9), timers.counts()), (Ok(1), counts(2, 1, 2)));
+}
+
+#[test]
+fn errors_and_handles_are_as_std_expects() {
+    fn boxed() -> Result<Handle, Box<dyn error::Error + Send + Sync>> {
+        Ok(Timers::new()?.start(0, "tea")?)
+    }
+    fn plain() -> Result<Handle, Error> {
+        Ok(Timers::new()?.start(0, "tea")?)
+    }
+    assert_eq!(boxed().unwrap_err().to_string(), "the timer was not started: the interval is 0");
+    assert_eq!(plain().unwrap_err().to_string(), "the interval is 0");
+    assert_eq!(format!("{:?}, {}", Error::Due, Error::Other(99)), "Due, status 99");
+    let mut timers = Timers::new().unwrap();
+    let refused = timers.start(0, thread::current()).unwrap_err();
+    assert_eq!(format!("{refused:?} {timers:?}"), "Refused { error: ZeroInterval, .. } Timers { now: 0, len: 0, .. }");
+    let handle = timers.start(1, thread::current()).unwrap();
+    assert!(HashSet::from([handle, Handle::default()]).contains(&handle) && handle != Handle::default());
+    assert_eq!((handle.serial(), Handle::default().serial()), (1, 0));
+}

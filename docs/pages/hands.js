@@ -1,0 +1,251 @@
+// What the reader does: starts, stops and restarts timers, advances the clock, changes the scheme. Each is a line at the end
+// of the script up to the present step, and then the program plays that script.
+"use strict";
+
+const MOST_LINES = 64n;    // of ticks that one act adds
+const STEP_TIME = 900;     // milliseconds for each piece of a line of ticks that was just added
+const THROUGH_TIME = 5000; // and for all of them
+const MOST_THROUGH = 40;   // pieces that are shown one after the other
+const FIRST_INTERVAL = 130n;
+const REACH = 18;          // the slider's largest interval is 2 to this power
+const ACTION = "1";
+
+const PROVED = [
+  "Proved: this page runs the program timers itself, compiled to WebAssembly. Its answers, its refusals and the slots in" +
+      " which timers stand are what the program writes (timers show).",
+  "Not proved: the drawing. Rings, arrows, digits, sentences and the counts of timers that were looked at are made of" +
+      " that text by JavaScript, which a test compares with the program's output. Neither are the compiler and the browser.",
+];
+
+function stopThrough() {
+  clearTimeout(shown.through?.timer);
+  shown.through = null;
+}
+
+// Shows the steps up to the last one after the other, if there are not too many.
+function goThrough(from) {
+  const count = play.last - from + 1;
+  if (calm.matches || count < 2 || count > MOST_THROUGH) {
+    render(play.last);
+    return;
+  }
+  const time = Math.min(STEP_TIME, THROUGH_TIME / count);
+  const on = () => {
+    render(shown.step + 1);
+    shown.through = shown.step < play.last ? {timer: setTimeout(on, time)} : null;
+  };
+  on();
+}
+
+// The script up to the present step. A line of ticks may have been played in part.
+function soFar() {
+  const step = play.steps[shown.step - 1];
+  if (!step) return [];
+  const before = play.lines.slice(0, step.line);
+  if (step.isBad) return before;
+  const text = play.lines[step.line];
+  return [...before, text.startsWith("tick ") && step.passed ? `tick ${step.passed}` : text];
+}
+
+function scriptOf(texts) { return texts.map((text) => `${text}\n`).join(""); }
+
+function remember() { shown.undo.push({lesson: play, step: shown.step, followed: shown.followed, isLesson: shown.isLesson}); }
+
+// Adds lines, and follows the timer that they start or else the one that was followed.
+function add(texts) {
+  if (shown.through) go(play.last);
+  pause();
+  remember();
+  const before = soFar();
+  const count = play.timers.size;
+  const from = shown.step;
+  const lesson = {title: "Your script", options: play.options, script: scriptOf([...before, ...texts])};
+  const {followed} = shown;
+  load(lesson, {step: from, followed});
+  const latest = [...play.timers.keys()].pop();
+  const isStart = /^(re)?start /.test(texts[0]);
+  if (isStart && play.timers.get(latest)?.from === play.last) shown.followed = latest;
+  if (count !== play.timers.size) fillGuide();
+  goThrough(from + 1);
+}
+
+function startFor(deadline) {
+  const now = play.now(shown.step);
+  add([`start 0 ${play.nextNumber("0", shown.step)} ${deadline > now ? deadline - now : 0n} ${ACTION}`]);
+}
+
+// The followed timer, if it is pending now.
+function present() {
+  const timer = play.timers.get(shown.followed);
+  return timer && play.whereIs(timer.serial, shown.step) !== null ? timer : null;
+}
+
+function stopIt() {
+  const {client, serial} = present();
+  add([`stop ${client} ${play.nextNumber(client, shown.step)} ${serial}`]);
+}
+
+function restartFor(deadline) {
+  const {client, serial, action} = present();
+  const now = play.now(shown.step);
+  add([`restart ${client} ${play.nextNumber(client, shown.step)} ${serial} ${deadline > now ? deadline - now : 0n} ${action}`]);
+}
+
+function advance(count) {
+  if (count > MOST_LINES * MAX_TICKS) trouble(`That is ${count} ticks away. A line passes at most ${MAX_TICKS}.`);
+  else add(ticksFor(count));
+}
+
+// The next tick at which the hand of a wheel comes to a slot.
+function tickAt({slots, ticks}, slot, now) {
+  const turn = ticks * BigInt(slots);
+  const tick = now - now % turn + BigInt(slot) * ticks;
+  return tick > now ? tick : tick + turn;
+}
+
+// What is done at the wheels of a play.
+function actsOf(of) {
+  return {
+    follow,
+    aim: (wheel, slot) => setDeadline(tickAt(of().wheels[wheel], slot, play.now(shown.step))),
+    turn: (wheel, slot) => {
+      if (shown.through) go(play.last);
+      const now = play.now(shown.step);
+      advance(tickAt(of().wheels[wheel], slot, now) - now);
+    },
+  };
+}
+
+function deadlineTyped() {
+  const typed = $("deadline").value.trim();
+  return /^\d{1,19}$/.test(typed) ? BigInt(typed) : null;
+}
+
+function setDeadline(tick) {
+  $("deadline").value = String(tick);
+  renderAim();
+}
+
+// Where the timer would go: the program is asked.
+function renderAim() {
+  const now = play.now(shown.step);
+  const deadline = deadlineTyped();
+  for (const card of cards.values()) card.aim(null);
+  const isRefused = deadline === null || deadline <= now || deadline > play.scheme.last;
+  setOff("restart", isRefused || !present());
+  name("restart", "Restart", present() && `Restart timer ${shown.followed} for tick ${$("deadline").value}`);
+  if (isRefused) {
+    $("preview").textContent = deadline === null ? "a number, please" : deadline <= now ? "has passed" : "after the last tick";
+    return;
+  }
+  const interval = Number(deadline - now);
+  if (document.activeElement !== $("interval")) $("interval").value = String((Math.log2(interval) / REACH) * 240);
+  const found = play.placeFor(now, deadline);
+  $("preview").textContent = words.scheme === "plain" ? "" : `goes to ${found.name}`;
+  const {wheel, slot} = placeOf(found.key);
+  cards.get(wheel)?.aim(words.scheme === "plain" ? null : slot);
+}
+
+// A button has room for a word or two and for what it is about. The whole of what it does is its name.
+function name(id, said, whole, about = shown.followed) {
+  $(id).textContent = whole ? `${said} ${about}` : said;
+  $(id).title = whole || said;
+  $(id).setAttribute("aria-label", whole || said);
+}
+
+function renderHands() {
+  const now = play.now(shown.step);
+  const typed = deadlineTyped();
+  if (document.activeElement !== $("deadline") && (typed === null || typed <= now)) $("deadline").value = String(now + FIRST_INTERVAL);
+  const wakeup = shown.step ? play.steps[shown.step - 1].wakeup : null;
+  name("tickNext", "Next event", wakeup !== null && `To the next event, at tick ${wakeup}`, wakeup);
+  setOff("tickNext", wakeup === null);
+  setOff("stop", !present());
+  name("stop", "Stop", present() && `Stop timer ${shown.followed}`);
+  setOff("undo", !shown.undo.length);
+  renderAim();
+}
+
+function fillHands() {
+  $("scheme").value = schemeNumber(words.scheme);
+  $("slots-label").hidden = words.scheme !== "hashed";
+  if (words.scheme === "hashed") $("slots").value = String(play.scheme.slots);
+  if ($("edit").open) $("text").value = play.script;
+}
+
+// The same script on another scheme, at the step that is the same line.
+function changeScheme() {
+  const options = ["--scheme", SCHEMES[$("scheme").value]];
+  if ($("scheme").value === "6") options.push("--slots", $("slots").value.trim());
+  for (const name of ["--first-tick", "--clients", "--capacity"]) {
+    const value = play.scheme.option(name, null);
+    if (value !== null) options.push(name, value);
+  }
+  const {line = -1, passed = 0n} = play.steps[shown.step - 1] ?? {};
+  remember();
+  const {followed} = shown;
+  if (!load({title: play.title, options, script: play.script}, {step: 0, followed})) {
+    shown.undo.pop();
+    fillHands();
+    return;
+  }
+  const at = play.steps.findLastIndex((step) => step.line < line || (step.line === line && step.passed <= passed));
+  render(at + 1);
+}
+
+function undo() {
+  const {lesson, ...more} = shown.undo.pop();
+  load(lesson, more);
+}
+
+function clear() {
+  remember();
+  load({title: "Your script", options: play.options, script: ""});
+}
+
+function setCompared(isCompared) {
+  shown.isCompared = isCompared;
+  $("compare").setAttribute("aria-pressed", String(isCompared));
+  $("comparison").hidden = !isCompared;
+  $("wheels").hidden = isCompared;
+  $("legend").hidden = isCompared;
+}
+
+function apply() {
+  const script = $("text").value.replace(/[^\0-\xff]/g, "?");
+  remember();
+  load({title: "Your script", options: play.options, script: script && !script.endsWith("\n") ? `${script}\n` : script}, {step: 1});
+}
+
+function listenToHands() {
+  shown.undo = [];
+  const act = (id, does) => { $(id).onclick = () => { if (!isOff(id)) does(); }; };
+  $("starter").onsubmit = (event) => {
+    event.preventDefault();
+    if (deadlineTyped() !== null) startFor(deadlineTyped());
+  };
+  $("deadline").oninput = renderAim;
+  $("interval").oninput = () =>
+    setDeadline(play.now(shown.step) + BigInt(Math.max(1, Math.round(2 ** ((Number($("interval").value) / 240) * REACH)))));
+  act("restart", () => restartFor(deadlineTyped()));
+  act("stop", stopIt);
+  act("tick1", () => advance(1n));
+  act("tick64", () => advance(64n));
+  act("tickNext", () => {
+    if (shown.through) go(play.last);
+    const left = play.steps[shown.step - 1].wakeup - play.now(shown.step);
+    advance(left < MAX_TICKS ? left : MAX_TICKS);
+  });
+  act("undo", undo);
+  act("clear", clear);
+  act("compare", () => {
+    setCompared(!shown.isCompared);
+    render(shown.step);
+  });
+  act("apply", apply);
+  $("scheme").onchange = changeScheme;
+  $("slots").onchange = changeScheme;
+  $("edit").ontoggle = fillHands;
+}
+
+begin();

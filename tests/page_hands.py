@@ -1,0 +1,339 @@
+"""What a reader does on the page of docs/: by mouse and by keyboard, at three widths, and with a screen reader's eyes.
+
+After each act the page's script is given to the program, and the page has to show what the program writes."""
+import json
+import random
+import time
+
+from formats import parts
+from selenium.webdriver.common.action_chains import ActionChains
+from selenium.webdriver.common.by import By
+from selenium.webdriver.common.keys import Keys
+
+WIDTHS = ((390, 844), (900, 700), (1280, 800))
+MOST_STOPS = 70  # of the Tab key, on the page of docs/
+SPOKEN = ["trouble alert", "news polite"]
+CALM = "document.querySelector('#news').getAttribute('aria-live')"
+FIRST = ["#play", "#lesson=shown_migration", "#lesson=shown_carry", "#lesson=shown_rounds", "#lesson=shown_clock", "theme",
+         "deadline", "interval"]
+
+
+class Reader:
+    """A tab with the page, and what compares it. `same` tells whether a step shows an entry of `show`."""
+
+    def __init__(self, tab, open_page, shown, same):
+        self.tab, self.open_page, self.shown, self.same = tab, open_page, shown, same
+        self.faults = []
+
+    def open(self, width=1280, height=800, link="", **how):
+        self.open_page(width, height, link, **how)
+
+    def expect(self, what, got, wanted):
+        if got != wanted:
+            self.faults.append(f"{what}: {got}, and not {wanted}")
+
+    def wait(self, expression, wanted):
+        until = time.monotonic() + 30
+        while (got := self.tab.value(expression)) != wanted and time.monotonic() < until:
+            time.sleep(0.05)
+        self.expect(expression, got, wanted)
+
+    def find(self, selector):
+        return self.tab.driver.find_element(By.CSS_SELECTOR, selector)
+
+    def click(self, selector):
+        self.find(selector).click()
+
+    def keys(self, *keys):
+        ActionChains(self.tab.driver).send_keys(*keys).perform()
+
+    def type(self, selector, text):
+        self.find(selector).send_keys(Keys.CONTROL, "a", Keys.NULL, text, Keys.ENTER)
+
+    def current(self):
+        return json.loads(self.tab.value("current()"))
+
+    def script(self):
+        script, options = self.tab.value("[play.script, play.options]")
+        return script.encode("latin-1"), options
+
+    def as_shown(self, what, lines=None):
+        """The page's last step is what the program writes for its script, which has these lines."""
+        script, options = self.script()
+        if lines is not None:
+            self.expect(f"{what}, the script", script.decode().split("\n")[:-1], lines)
+        step, entry = self.current(), self.shown(script, options)[-1]
+        if step["now"] != entry["now"] or not self.same(step, entry):
+            self.faults.append(f"{what}: {step['now']} {step['buckets']}, and not {entry['now']} {entry['buckets']}")
+
+
+def acts(reader):
+    """Starts, stops, restarts and advances, by their buttons."""
+    reader.open()
+    reader.click("#clear")
+    lines = []
+    for deadline, place in (("130", "wheel 1 slot 2"), ("70", "wheel 1 slot 1"), ("5", "wheel 0 slot 5")):
+        lines.append(f"start 0 {len(lines) + 1} {deadline} 1")
+        reader.tab.run(f"setDeadline({deadline}n)")
+        reader.expect("where it would go", reader.find("#preview").text, f"goes to {place}")
+        reader.type("#deadline", deadline)
+        reader.as_shown(f"a start for {deadline}", lines)
+    reader.click("#tickNext")
+    reader.as_shown("the next event", [*lines, "tick 5"])
+    reader.click("#tick1")
+    reader.click("#tick64")
+    lines += ["tick 5", "tick 1", "tick 64"]
+    reader.as_shown("ticks", lines)
+    reader.type("#serial", "1")
+    reader.tab.run("setDeadline(5000n)")
+    reader.click("#restart")
+    reader.as_shown("a restart", [*lines, "restart 0 4 1 4930 1"])
+    reader.click("#undo")
+    reader.as_shown("undone", lines)
+    reader.type("#serial", "1")
+    reader.click("#stop")
+    reader.as_shown("a stop", [*lines, "stop 0 4 1"])
+    reader.tab.run("go(play.steps.findIndex(({now}) => now === 64n) + 1)")
+    reader.click("#tick1")
+    reader.as_shown("an act within a line of ticks", [*lines[:5], "tick 58", "tick 1"])
+    reader.tab.run("slide(4)")
+    reader.click("#tick64")
+    reader.as_shown("an act at an earlier step", [*lines[:3], "tick 5", "tick 64"])
+
+
+def hands(reader):
+    """The hand is dragged and pushed, and a slot is aimed at."""
+    reader.open()
+    reader.click("#clear")
+    reader.type("#deadline", "130")
+    reader.tab.run("document.querySelector('#wheels').scrollIntoView({block: 'end'})")
+    middle = "(() => { const {a, e, f} = cards.get(0).svg.getScreenCTM(); return [e, f, 60 * a] })()"
+    x, y, far = map(int, reader.tab.value(middle))
+    drag = ActionChains(reader.tab.driver, duration=50)
+    drag.w3c_actions.pointer_action.move_to_location(x + 2, y - far).pointer_down()
+    drag.w3c_actions.pointer_action.move_to_location(x + far // 2, y - far // 2).move_to_location(x + far, y + 3).pointer_up()
+    drag.perform()
+    reader.as_shown("the hand dragged to a quarter", ["start 0 1 130 1", "tick 16"])
+    reader.tab.run("document.querySelector('[data-focus=hand-hier-0]').focus()")
+    reader.keys(Keys.ARROW_RIGHT)
+    reader.as_shown("the hand pushed", ["start 0 1 130 1", "tick 16", "tick 1"])
+    reader.expect("the focus after a push", reader.tab.value("focused()"), "hand-hier-0")
+    reader.tab.run("document.querySelector('[data-focus=hand-hier-1]').focus()")
+    reader.keys(Keys.ARROW_UP)
+    reader.as_shown("the hand of wheel 1", ["start 0 1 130 1", "tick 16", "tick 1", "tick 47"])
+    x, y, far = map(int, reader.tab.value("(() => { const {a, e, f} = cards.get(1).svg.getScreenCTM(); return [e, f, 88 * a] })()"))
+    aim = ActionChains(reader.tab.driver)
+    aim.w3c_actions.pointer_action.move_to_location(x + far, y + 4).click()
+    aim.perform()
+    reader.expect("the slot aimed at", reader.tab.value("document.querySelector('#deadline').value"), str(16 * 64))
+
+
+def schemes(reader):
+    """The same script on each scheme, and other slots."""
+    reader.open(link="#lesson=shown_rounds")
+    reader.tab.run("go(play.last - 2)")
+    now = reader.tab.value("document.querySelector('#now').textContent")
+    for number in ("7", "1", "clock", "6"):
+        reader.tab.run(f"$('scheme').value = '{number}'; changeScheme()")
+        reader.expect(f"the tick on scheme {number}", reader.tab.value("document.querySelector('#now').textContent"), now)
+        reader.tab.run("go(play.last - 3); go(play.last)")
+        reader.as_shown(f"scheme {number}")
+        reader.tab.run("go(play.last - 2)")
+        now = reader.tab.value("document.querySelector('#now').textContent")
+    reader.type("#slots", "3")
+    reader.tab.run("go(play.last)")
+    reader.as_shown("three slots")
+    reader.expect("the slots", reader.script()[1][-1], "3")
+    reader.type("#slots", "0")
+    reader.expect("no slots are refused", "refuses" in reader.find("#trouble").text, True)
+    reader.expect("the slots stay", reader.script()[1][-1], "3")
+
+
+def places(entry):
+    return {timer.split(":")[0]: place for place, timers in entry["buckets"] for timer in timers}
+
+
+def looked(reader, script, slots):
+    """At how many timers each scheme looks, one tick after another, by what `show` writes."""
+    single = []
+    for line in script.decode().split("\n")[:-1]:
+        single += ["tick 1"] * int(line.split(" ")[1]) if line.startswith("tick ") else [line]
+    text = "".join(f"{line}\n" for line in single).encode()
+    looks = []
+    for options in (["--scheme", "plain"], ["--scheme", "hashed", "--slots", str(slots)], []):
+        entries = reader.shown(text, options)
+        sum_of = 0
+        for line, before, after in zip(single[1:], entries, entries[1:]):
+            if line != "tick 1":
+                continue
+            old, new = places(before), places(after)
+            expired = sum(parts(answer)[0] == "expired" for answer in after["answers"])
+            if "plain" in options:
+                sum_of += len(old)
+            elif "hashed" in options:
+                sum_of += sum(place == f"slot {int(after['now']) % slots}" for place in old.values())
+            else:
+                sum_of += expired + sum(old[serial] != place for serial, place in new.items())
+        looks.append(sum_of)
+    return looks
+
+
+def compared(reader):
+    """Schemes 1, 6 and 7 side by side: how many timers they looked at, and where these stand."""
+    script = "start 0 1 130 1;start 0 2 5 1;start 0 3 4161 1;tick 70;stop 0 4 3;start 0 5 64 2;restart 0 6 1 100 3;tick 200"
+    reader.open(link=f"#scheme=7&script={script.replace(' ', '+')}&step=99")
+    reader.click("#compare")
+    numbers = "[...document.querySelectorAll('.column strong')].map((node) => parseInt(node.textContent, 10))"
+    wanted = looked(reader, reader.script()[0], 8)
+    reader.expect("timers looked at", reader.tab.value(numbers), wanted)
+    reader.expect("of the scheme alone", reader.tab.value("parseInt(document.querySelector('#looks').textContent.split(' ')[2], 10)"), wanted[2])
+    reader.tab.run("go(play.steps.findIndex(({line}) => line === 6) + 1)")
+    read = ("[...document.querySelectorAll('.column')].map((node) => [...node.querySelectorAll('.bucket')].map((row) =>"
+            " [row.closest('article').querySelector('h3').textContent, row.querySelector('.name').textContent,"
+            " [...row.querySelectorAll('.chip')].map((chip) => chip.textContent)]))")
+    first = b"".join(line + b"\n" for line in reader.script()[0].split(b"\n")[:7])
+    for buckets, options in zip(reader.tab.value(read), (["--scheme", "plain"], ["--scheme", "hashed", "--slots", "8"], [])):
+        if not reader.same({"buckets": buckets}, reader.shown(first, options)[-1]):
+            reader.faults.append(f"{options}: {buckets}, and not {reader.shown(first, options)[-1]['buckets']}")
+    reader.click("#compare")
+    reader.expect("the wheels are back", reader.tab.value("document.querySelector('#wheels').checkVisibility()"), True)
+
+
+def links(reader):
+    """The address has the state: another reader sees the same."""
+    reader.open(link="#scheme=6&slots=4&first=7&script=start+0+1+9+1;tick+3&step=99&follow=1")
+    reader.as_shown("a link", ["start 0 1 9 1", "tick 3"])
+    reader.expect("its options", reader.script()[1], ["--scheme", "hashed", "--slots", "4", "--first-tick", "7"])
+    reader.tab.run("$('scheme').value = '7'; changeScheme()")
+    reader.type("#deadline", "300")
+    before = reader.current()
+    reader.wait("location.hash.includes('300') || location.hash.includes('290')", True)
+    reader.open(link=reader.tab.value("location.hash"), keep=True)
+    reader.expect("the same by its link", reader.current()["buckets"], before["buckets"])
+    reader.open(link="#lesson=shown_clock&step=3", keep=True)
+    reader.expect("a lesson's step", reader.tab.value("document.querySelector('#at').textContent"), "3 of 4")
+    reader.open(link="#scheme=7&script=nonsense&step=1", keep=True)
+    reader.expect("a bad script is said to be", "bad" in reader.find("#news").text, True)
+    reader.tab.run("$('edit').open = true")
+    reader.wait("$('text').value", "nonsense\n")
+    reader.tab.run("$('text').value = 'start 0 1 5 7\\ntick 5'")
+    reader.click("#apply")
+    reader.tab.run("go(play.last)")
+    reader.as_shown("a script that is typed", ["start 0 1 5 7", "tick 5"])
+
+
+def by_keyboard(reader):
+    """Without a mouse: each control is reached, and the focus is never lost."""
+    reader.open()
+    reader.tab.run("slide(1)")
+    stops = []
+    while len(stops) <= MOST_STOPS:
+        reader.keys(Keys.TAB)
+        stop = reader.tab.value("focused()")
+        if stop in ("body", "html") or stops and stop == stops[0]:
+            break
+        stops.append(stop)
+    reader.expect("the first stops", stops[:len(FIRST)], FIRST)
+    ids = reader.tab.value("[...document.querySelectorAll('button[id], input[id], select[id]')].filter((node) =>"
+                           " node.checkVisibility()).map(({id}) => id)")
+    reader.expect("never reached", [name for name in ids if name not in stops], [])
+    reader.expect("stops of the Tab key that come twice", sorted({stop for stop in stops if stops.count(stop) > 1}), [])
+    reader.expect("so many stops of the Tab key", len(stops) <= MOST_STOPS, True)
+    reader.open()
+    reader.keys(Keys.TAB, Keys.ENTER)
+    reader.expect("after the skip link", reader.tab.value("focused()"), "play")
+    reader.tab.run("document.querySelector('#deadline').focus()")
+    ActionChains(reader.tab.driver).key_down(Keys.CONTROL).send_keys("a").key_up(Keys.CONTROL).send_keys("9", Keys.ENTER).perform()
+    reader.as_shown("a start by keyboard")
+    reader.open(link="#lesson=shown_rounds&step=3", keep=True)
+    for selector in (".chip", ".history button", "#lines button[tabindex='0']"):
+        reader.tab.run(f"document.querySelector(\"{selector}\").focus()")
+        had = reader.tab.value("focused()")
+        reader.keys(Keys.ENTER)
+        reader.expect(f"the focus after Enter at {selector}", reader.tab.value("focused()"), had)
+    reader.tab.run("go(play.last - 1); document.querySelector('#next').focus()")
+    reader.keys(Keys.ENTER, Keys.ENTER)
+    reader.expect("the focus at the end", reader.tab.value("focused()"), "next")
+    reader.open(link="#lesson=shown_rounds&step=3", keep=True)
+    for selector in ("#lines button[tabindex='0']", "#wheels .chip"):
+        reader.tab.run(f"document.querySelector(\"{selector}\").focus()")
+        had = reader.tab.value("focused()")
+        reader.keys(Keys.ARROW_DOWN)
+        reader.expect(f"another after an arrow at {selector}", reader.tab.value("focused()") != had, True)
+        reader.keys(Keys.ARROW_UP)
+        reader.expect(f"back at {selector}", reader.tab.value("focused()"), had)
+
+
+def accessible(reader):
+    """Names, roles, contrast and what is spoken, in light and dark, at three widths."""
+    for width, height in WIDTHS:
+        for is_dark in (False, True):
+            reader.open(width, height, is_dark=is_dark)
+            for link in ("#lesson=shown_migration&step=3", "#lesson=shown_rounds&step=6", "#lesson=shown_clock&step=2"):
+                reader.open(width, height, link, is_dark=is_dark, keep=True)
+                where = f"{link} at {width} pixels{', dark' if is_dark else ''}"
+                reader.expect(f"too faint, {where}", reader.tab.value("faint()"), [])
+                reader.expect(f"misused, {where}", reader.tab.value("misused()"), [])
+                reader.expect(f"without a name, {where}", reader.tab.value("unnamed()"), 0)
+                reader.expect(f"wider than the screen, {where}",
+                              reader.tab.value("document.documentElement.scrollWidth > window.innerWidth"), False)
+            reader.tab.run("document.querySelector('#compare').click()")
+            reader.expect(f"compared at {width}", [reader.tab.value("faint()"), reader.tab.value("misused()")], [[], []])
+    reader.expect("what is spoken", reader.tab.value("spoken()"), SPOKEN)
+    reader.tab.run("go(0); document.querySelector('#play').click()")
+    reader.expect("what is spoken while it plays", reader.tab.value(CALM), "off")
+    reader.tab.run("document.querySelector('#play').click()")
+    reader.expect("and then", reader.tab.value(CALM), "polite")
+
+
+def arrows(reader):
+    """No arrow runs through a text or a ring, at three widths."""
+    own = "#scheme=7&script=start+0+1+4161+1;start+0+2+4097+1;start+0+3+130+1;start+0+4+63+1;tick+4161&step=1"
+    for width, height in WIDTHS:
+        for link in ("#lesson=shown_migration", "#lesson=shown_carry", "#lesson=shown_clock", own):
+            reader.open(width, height, link)
+            for step in range(1, reader.tab.value("play.last") + 1):
+                reader.tab.run(f"slide({step})")
+                reader.expect(f"{link}, step {step}, at {width} pixels", reader.tab.value("crossed()"), [])
+
+
+def busiest(entries):
+    """The lines at which the most timers go from one bucket to another."""
+    changed = []
+    for line, (before, after) in enumerate(zip(entries, entries[1:]), 2):
+        old, new = places(before), places(after)
+        changed.append((sum(old.get(serial, place) != place for serial, place in new.items()), line))
+    return [line for count, line in sorted(changed)[-3:] if count]
+
+
+def long_scripts(reader, case, path):
+    """A script whose whole `show` is too much for the page: the places are asked for step by step, to and fro. The present
+    line is always in sight."""
+    reader.open_page(1280, 800, "", path=path)
+    reader.expect(f"{case.name} is long", reader.tab.value("play.isShort"), False)
+    entries = reader.shown(case.script, case.options)
+    chance = random.Random(7)
+    last = len(entries)
+    jumps = [chance.randrange(1, last - 40) for _ in range(4)] + [1, last]
+    lines = [line for jump in jumps for line in (jump, jump + 1, jump + 2, jump + 1) if line <= last]
+    lines += [line for busy in busiest(entries) for line in range(busy - 2, busy + 2)]
+    lines += [*range(last - 30, last), *range(last, last - 45, -1)]
+    for line in lines:
+        reader.tab.run(f"go(lines.stepsOf[{line - 1}].at(-1))")
+        step, entry = reader.current(), entries[line - 1]
+        if step["now"] != entry["now"] or not reader.same(step, entry) or step["line"] != line:
+            reader.faults.append(f"{case.name}, line {line}: it shows other timers")
+        if not reader.tab.value("lineIsSeen()"):
+            reader.faults.append(f"{case.name}, line {line} is out of sight")
+
+
+def speed(reader, path):
+    """20,000 lines: how long they take to open, and a step. Only looked at: a busy machine is no failure."""
+    reader.open_page(1280, 800, "", path=path)
+    opened = reader.tab.value("shown.openedAt")
+    times = "(() => { go(play.last - 60); const times = []; for (let k = 0; k < 50; k += 1) { const start = performance.now();" \
+        " go(shown.step + 1); document.body.getBoundingClientRect(); times.push(performance.now() - start); }" \
+        " return times.sort((a, b) => a - b); })()"
+    steps = reader.tab.value(times)
+    print(f"20,000 lines: open after {opened:.0f} ms; a step takes {steps[25]:.1f} ms, {steps[-1]:.1f} ms at most")
+    reader.expect("the lines", reader.tab.value("play.lines.length"), 20000)
