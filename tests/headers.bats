@@ -309,15 +309,13 @@ EOT
 @test "misuses in C++ don't compile" {
     needs "$CXX"
     sed -n 's/^#.*if MISUSE == [0-9]* *\/\* \(.*\) \*\/$/\1/p' bindings/cpp/misuse.cpp > "$work/misuses"
-    [ "$(wc -l < "$work/misuses")" -eq 15 ]
-    for compiler in "$CXX" g++ clang++; do
+    [ "$(wc -l < "$work/misuses")" -eq 16 ]
+    for compiler in g++ clang++; do
         command -v "$compiler" || continue
-        misuse() { "$compiler" -std="$2" -DMISUSE="$1" -Werror -Wall -Wextra -Iinclude -fsyntax-only bindings/cpp/misuse.cpp; }
-        for standard in c++17 c++20; do
-            misuse 0 $standard
-            number=0
-            while read -r text; do says "$text" misuse $((++number)) $standard; done < "$work/misuses"
-        done
+        misuse() { "$compiler" -std=c++17 -DMISUSE="$1" -Werror -Wall -Wextra -Iinclude -fsyntax-only bindings/cpp/misuse.cpp; }
+        misuse 0
+        number=0
+        while read -r text; do says "$text" misuse $((++number)); done < "$work/misuses"
     done
 }
 @test "misuses in Rust don't compile" {

@@ -46,7 +46,7 @@ link lib/libtimers.so libtimers.so.${version%%.*}
 644 share/zsh/site-functions/_timers tools/install/completions/_timers
 644 share/fish/vendor_completions.d/timers.fish tools/install/completions/timers.fish
 644 share/doc/timers/NOTICE generated/NOTICE
-644 share/timers/c/timers.c generated/timers.c
+link share/timers/c/timers.c ../rust/c/timers.c
 EOT
     for path in CHANGELOG.md LICENSE-APACHE LICENSE-MIT docs/{embedded,embedding,formats,platforms,porting,server,versions,walkthroughs,wheels}.md docs/pages/*; do
         echo "644 share/doc/timers/$path $path"
