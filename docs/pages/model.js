@@ -446,8 +446,12 @@ class Play {
   looks(step) {
     let looks = 0n;
     const now = this.now(step);
-    for (const {start, deadline, from, to, end} of this.timers.values())
-      if (from <= step) looks += this.scheme.looks(start, deadline, to !== null && to <= step ? end : now);
+    for (const timer of this.timers.values()) {
+      const {start, deadline, from, to, end} = timer;
+      if (from > step) break;
+      if (to === null || to > step) looks += this.scheme.looks(start, deadline, now);
+      else looks += timer.looks ??= this.scheme.looks(start, deadline, end);
+    }
     return looks;
   }
 
