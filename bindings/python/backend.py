@@ -27,7 +27,9 @@ OF_LIBRARY = [
     "LICENSE-MIT", "LICENSE-APACHE",
 ]
 OF_PACKAGE = ["*.py", "*.pyi", "py.typed"]
-OF_SOURCES = ["pyproject.toml", "backend.py", "README.md", "extension/*", "tests/*.py", *("src/timers/" + name for name in OF_PACKAGE)]
+OF_SOURCES = [
+    "pyproject.toml", "backend.py", "README.md", "extension/*", "tests/*.py", *("src/timers/" + name for name in OF_PACKAGE),
+]
 EXTENSION = "_timers.abi3.so"
 
 
@@ -99,7 +101,8 @@ def metadata(table):
         *(("Classifier", name) for name in table["classifiers"]), ("Requires-Python", table["requires-python"]),
         ("Description-Content-Type", "text/markdown"),
     ]
-    return "".join(f"{name}: {value}\n" for name, value in fields).encode() + b"\n" + contents(os.path.join(HERE, table["readme"]))
+    head = "".join(f"{name}: {value}\n" for name, value in fields)
+    return head.encode() + b"\n" + contents(os.path.join(HERE, table["readme"]))
 
 
 def record(files, path):

@@ -271,7 +271,7 @@ static PyMemberDef handle_members[] = {
 };
 
 static PyMethodDef handle_methods[] = {
-	{ "__reduce__", handle_reduce, METH_NOARGS, NULL },
+	{ "__reduce__", handle_reduce, METH_NOARGS, "For copies and pickles." },
 	{ NULL, NULL, 0, NULL },
 };
 

@@ -191,7 +191,8 @@ static PyObject *line_abandoned(PyObject *self, void *unused)
 static PyGetSetDef line_attributes[] = {
 	{ "client", line_client, NULL, "The number of its client.", NULL },
 	{ "ended", line_ended, NULL, "Whether the owner has ended the words (Desk.end), and all were received.", NULL },
-	{ "abandoned", line_abandoned, NULL, "Whether the desk was freed, and all words that it had put into the line were received.", NULL },
+	{ "abandoned", line_abandoned, NULL, "Whether the desk was freed, and all words that it had put into the line were received.",
+	  NULL },
 	{ NULL, NULL, NULL, NULL, NULL },
 };
 
@@ -220,9 +221,9 @@ static PyMethodDef line_methods[] = {
 	{ "free", line_free, METH_NOARGS,
 	  "free($self, /)\n--\n\n"
 	  "Frees it. What it sent is still taken, and words to it are lost." },
-	{ "__enter__", enter, METH_NOARGS, NULL },
-	{ "__exit__", FAST(line_exit), NULL },
-	{ "__reduce__", refuse_copy, METH_NOARGS, NULL },
+	{ "__enter__", enter, METH_NOARGS, "The line itself." },
+	{ "__exit__", FAST(line_exit), "Frees it." },
+	{ "__reduce__", refuse_copy, METH_NOARGS, "Refused: a line owns memory." },
 	{ NULL, NULL, 0, NULL },
 };
 
@@ -600,9 +601,9 @@ static PyMethodDef desk_methods[] = {
 	{ "free", desk_free, METH_NOARGS,
 	  "free($self, /)\n--\n\n"
 	  "Frees the desk. Its lines may be used on." },
-	{ "__enter__", enter, METH_NOARGS, NULL },
-	{ "__exit__", FAST(desk_exit), NULL },
-	{ "__reduce__", refuse_copy, METH_NOARGS, NULL },
+	{ "__enter__", enter, METH_NOARGS, "The desk itself." },
+	{ "__exit__", FAST(desk_exit), "Frees it." },
+	{ "__reduce__", refuse_copy, METH_NOARGS, "Refused: a desk owns memory." },
 	{ NULL, NULL, 0, NULL },
 };
 

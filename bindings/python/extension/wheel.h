@@ -92,7 +92,8 @@ static int timers_object_init(PyObject *self, PyObject *arguments, PyObject *nam
 
 	if (!PyArg_ParseTupleAndKeywords(arguments, named, "|OO:Timers", names, &table_given, &tick_given))
 		return -1;
-	if ((table_given != NULL && !read_index(table_given, 32, &table)) || (tick_given != NULL && !read_number(tick_given, &first_tick)))
+	if ((table_given != NULL && !read_index(table_given, 32, &table))
+	    || (tick_given != NULL && !read_number(tick_given, &first_tick)))
 		return -1;
 	status = timers_new(&made, (uint32_t)table, first_tick);
 	if (status != TIMERS_OK) {
@@ -172,7 +173,8 @@ static inline PyObject *started(PyObject *self, enum timers_status status, struc
 	return (PyObject *)made;
 }
 
-static inline PyObject *start_by(start_call *start, const char *name, PyObject *self, PyObject *const *arguments, Py_ssize_t given)
+static inline PyObject *start_by(start_call *start, const char *name, PyObject *self, PyObject *const *arguments,
+                                 Py_ssize_t given)
 {
 	struct handle_object *made;
 	uint64_t tick;
@@ -603,11 +605,11 @@ static PyMethodDef timers_methods[] = {
 	  "Starts a timer that expires at this tick, and returns its handle.\n\n"
 	  "One that is not after now() is due at once: it is taken after those that have expired already." },
 	{ "restart", FAST(timers_object_restart),
-	  "restart($self, handle, interval, action=<the old one>, /)\n--\n\n"
+	  "restart($self, handle, interval, action=..., /)\n--\n\n"
 	  "Stops the timer with this handle, starts another in its place, and returns the new handle.\n\n"
 	  "The old handle names no timer any more. Without an action the new timer has that of the old one." },
 	{ "restart_at", FAST(timers_object_restart_at),
-	  "restart_at($self, handle, deadline, action=<the old one>, /)\n--\n\n"
+	  "restart_at($self, handle, deadline, action=..., /)\n--\n\n"
 	  "The same as restart, for a timer that expires at this tick, or at once, as by start_at." },
 	{ "set_at", FAST(timers_object_set_at),
 	  "set_at($self, handle, deadline, action, /)\n--\n\n"
@@ -678,9 +680,9 @@ static PyMethodDef timers_methods[] = {
 	  "close($self, /)\n--\n\n"
 	  "Frees all timers, and releases their actions.\n\n"
 	  "From then on each call that can be refused is (NOT_OPEN). The others find no timer." },
-	{ "__enter__", enter, METH_NOARGS, NULL },
-	{ "__exit__", FAST(timers_object_exit), NULL },
-	{ "__reduce__", refuse_copy, METH_NOARGS, NULL },
+	{ "__enter__", enter, METH_NOARGS, "The timers themselves." },
+	{ "__exit__", FAST(timers_object_exit), "Frees all timers, as close." },
+	{ "__reduce__", refuse_copy, METH_NOARGS, "Refused: timers own memory." },
 	{ "__class_getitem__", Py_GenericAlias, METH_O | METH_CLASS, "For annotations: Timers[T] has actions of type T." },
 	{ NULL, NULL, 0, NULL },
 };

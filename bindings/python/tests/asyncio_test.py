@@ -58,7 +58,7 @@ def main(names):
     use_the_wheel()
     failed = run(load(names))
     again = [test for test in load(names) if test.id() in failed]
-    sys.exit(len(again) < len(failed) or bool(run(again)))
+    sys.exit(bool(failed) and (len(again) < len(failed) or bool(run(again))))
 
 
 if __name__ == "__main__":

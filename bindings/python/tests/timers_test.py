@@ -359,7 +359,8 @@ def take_whole_numbers():
     assert refused(timers.catch_up, Number(last + 1), print) == TOO_LATE and timers.now() == 8639994
     for wrong in ((2, 0), (CLOCK, last + 1)):
         assert refused(timers.__init__, *wrong) != OK and len(timers) == 1  # and it keeps what it has
-    same, others = Handle(handle.place, handle.serial), (Handle(handle.place, 9), Handle(9, handle.serial), (handle.place, handle.serial))
+    place, serial = handle.place, handle.serial
+    same, others = Handle(place, serial), (Handle(place, 9), Handle(9, serial), (place, serial))
     assert handle == same and hash(handle) == hash(same) and repr(same) == f"Handle({handle.place}, {handle.serial})"
     assert handle not in others and {handle: 1}[same] == 1
 
@@ -406,17 +407,17 @@ def release_what_calls_back():
     """What is run by the release of an action may call the same timers, and finds them as they are by then."""
     ways = [Timers.clear, Timers.close, Timers.__init__, lambda timers: timers.stop(handles[0]), Timers.expired, Timers.expire,
             lambda timers: timers.restart(handles[0], 3, None), lambda timers: timers.set_at(handles[0], 3, None),
-            lambda timers: timers.advance(9), lambda timers: timers.take(9), lambda timers: timers.catch_up(9, lambda *timer: None)]
-    calls = [lambda: timers.start(1, "new"), lambda: timers.start_at(0, "due"), lambda: timers.stop(handles[1]), Timers.__len__,
-             lambda: list(timers), lambda: timers.clear(), lambda: timers.close(), lambda: timers.__init__(), lambda: timers.expired(),
-             lambda: timers.restart(handles[1], 7, "other"), lambda: timers.reserve(5000), gc.collect]
+            lambda timers: timers.advance(9), lambda timers: timers.take(9), lambda timers: timers.catch_up(9, lambda *_: None)]
+    calls = [lambda: timers.start(1, "new"), lambda: timers.start_at(0, "due"), lambda: timers.stop(handles[1]), lambda: len(timers),
+             lambda: list(timers), lambda: timers.clear(), lambda: timers.close(), lambda: timers.__init__(),
+             lambda: timers.expired(), lambda: timers.restart(handles[1], 7, "other"), lambda: timers.reserve(5000), gc.collect]
     for way in ways:
         for call in calls:
             ran = []
 
             def run(call=call, ran=ran):
                 ran.append(1)
-                with contextlib.suppress(TimersError, TypeError):
+                with contextlib.suppress(TimersError):
                     call()
 
             timers = Timers()
