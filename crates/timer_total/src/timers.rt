@@ -133,26 +133,30 @@ impl<W: Wheel + Drop> Timers<W> {
             ⊎ ((fault ≡ StartFault.OutOfMemory) × IsStartable interval self.old × IsRoomUsed self.old)) }
         ensures err { OnErr result (self.new ≡ self.old) }
     {
-        self.admit(interval)?;
-        let deadline = self.wheel.now() + interval;
+        let deadline = self.admit(interval)?;
         self.launch(deadline, action)
     }
 
-    /// Whether a start with this interval is accepted if memory is available.
-    fn admit(&self, interval: u64) -> Result<(), StartFault>
+    /// The deadline of a timer with this interval, if its start is accepted once memory is available.
+    // An interval of 0 is told by its deadline: so the wheel need not ask again whether that is later than now.
+    #[inline(always)]
+    fn admit(&self, interval: u64) -> Result<u64, StartFault>
+        ensures deadline { IfOk result (λ deadline. deadline ≡ self.now.wheel.now + interval) }
         ensures in_order { IfOk result (λ _. IsStartable interval self.now) }
         ensures fault { IfErr result (WhyNotStarted interval self.now) }
     {
-        if interval == 0 {
-            return Err(StartFault::ZeroInterval);
-        }
-        if interval > self.wheel.last_tick() - self.wheel.now() {
+        let now = self.wheel.now();
+        if interval > self.wheel.last_tick() - now {
             return Err(StartFault::TooLate);
+        }
+        let deadline = now + interval;
+        if deadline <= now {
+            return Err(StartFault::ZeroInterval);
         }
         if self.last_serial >= LAST {
             return Err(StartFault::SerialsSpent);
         }
-        Ok(())
+        Ok(deadline)
     }
 
     /// Starts a timer for this tick, which is now or later, under the next serial.
@@ -277,8 +281,7 @@ impl<W: Wheel + Drop> Timers<W> {
         ensures fault { IfErr result (WhyNotRestarted handle interval self.old) }
         ensures err { OnErr result (self.new ≡ self.old) }
     {
-        self.check_restart(handle, interval)?;
-        let deadline = self.wheel.now() + interval;
+        let deadline = self.check_restart(handle, interval)?;
         self.replace(handle, deadline, action)
     }
 
@@ -387,24 +390,28 @@ impl<W: Wheel + Drop> Timers<W> {
         }
     }
 
-    /// Whether a restart of the timer with this handle is accepted.
-    fn check_restart(&self, handle: Handle, interval: u64) -> Result<(), RestartFault>
+    /// The deadline of a timer with this interval, if a restart of the one with this handle is accepted.
+    #[inline(always)]
+    fn check_restart(&self, handle: Handle, interval: u64) -> Result<u64, RestartFault>
+        ensures deadline { IfOk result (λ deadline. deadline ≡ self.now.wheel.now + interval) }
         ensures in_order { IfOk result (λ _. IsAt handle self.now × IsStartable interval self.now) }
         ensures fault { IfErr result (WhyNotRestarted handle interval self.now) }
     {
         if self.look(handle).is_none() {
             return Err(RestartFault::NotPending);
         }
-        if interval == 0 {
-            return Err(RestartFault::ZeroInterval);
-        }
-        if interval > self.wheel.last_tick() - self.wheel.now() {
+        let now = self.wheel.now();
+        if interval > self.wheel.last_tick() - now {
             return Err(RestartFault::TooLate);
+        }
+        let deadline = now + interval;
+        if deadline <= now {
+            return Err(RestartFault::ZeroInterval);
         }
         if self.last_serial >= LAST {
             return Err(RestartFault::SerialsSpent);
         }
-        Ok(())
+        Ok(deadline)
     }
 
     /// Advances the clock by one tick: the pending timers with that deadline expire, and wait to be taken.

@@ -116,18 +116,23 @@ has_top a b h r =
     let nz : bit_xor a b ≢ 0 = λ (e : bit_xor a b ≡ 0). let q : a ≡ b = equal_when a b e in omega arith in
     leading_top 64 (bit_xor a b) (omega arith) (omega arith)
 
+-- a number of 64 bits' bit, divided by 6
+sixth : (j : ℕ) → j ≤ 63 → j / 6 ≡ j * 43 / 256
+sixth j h = omega arith
+
 -- the result of `leading_zeros`
-pub level_by_top : (a b : ℕ) → a < b → b ≤ 1152921504606846975 → level wide a b ≡ (63 - count_leading_zeros 64 (bit_xor a b)) / 6
+pub level_by_top : (a b : ℕ) → a < b → b ≤ 1152921504606846975
+    → level wide a b ≡ (63 - count_leading_zeros 64 (bit_xor a b)) * 43 / 256
 level_by_top a b h r =
     let t = has_top a b h r in
     let z : count_leading_zeros 64 (bit_xor a b) + suc t.0 ≡ 64 = t.1 in
     let e : level (wides 10) a b ≡ t.0 / 6 = top_level 10 a b t.0 (has_digits 10 a (omega arith)) (has_digits 10 b (omega arith)) t.2 t.3 in
-    rw wide_is (e ∙ ap (λ (y : ℕ). y / 6) (omega arith))
+    rw wide_is (e ∙ (sixth t.0 (omega arith) ∙ ap (λ (y : ℕ). y * 43 / 256) (omega arith)))
 
 pub zeros_bound : (a b : ℕ) → a < b → b ≤ 1152921504606846975 → count_leading_zeros 64 (bit_xor a b) ≤ 63
 zeros_bound a b h r = omega (arith, (has_top a b h r).1)
 
-pub level_below_ten : (a b : ℕ) → a < b → b ≤ 1152921504606846975 → (63 - count_leading_zeros 64 (bit_xor a b)) / 6 < 10
+pub level_below_ten : (a b : ℕ) → a < b → b ≤ 1152921504606846975 → (63 - count_leading_zeros 64 (bit_xor a b)) * 43 / 256 < 10
 level_below_ten a b h r = omega (arith, level_in_table wide a b wide_is_table (in_wide b r) h, level_by_top a b h r, length-wide)
 
 -- Digits and slots.
