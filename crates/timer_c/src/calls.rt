@@ -142,14 +142,13 @@ pub(crate) fn stop(timers: &mut Timers<HierWheel>, handle: CHandle, action: &mut
     ensures refused { 0 < result → WhyNotStopped handle timers.old result }
     ensures kept { 0 < result → (timers.new ≡ timers.old) × (action.new ≡ action.old) }
 {
-    let handle = from_c_handle(handle);
-    let Some(timer) = timers.look(handle) else {
-        return NOT_PENDING;
-    };
-    // Written before the stop: so nothing has to be kept for after a call that it makes.
-    *action = timer.action;
-    let _stopped = timers.stop(handle);
-    OK
+    match timers.stop(from_c_handle(handle)) {
+        Some(timer) => {
+            *action = timer.action;
+            OK
+        }
+        None => NOT_PENDING,
+    }
 }
 
 /// Takes as many expired timers as there are, or as fit into `out`.

@@ -1,5 +1,5 @@
 //! A wheel whose calls, once it is made, have no preconditions.
-ghost use Rattle.std.specs.Prelude.{◌≡◌, ◌+◌, ◌<◌, ◌≤◌, ◌↔◌, ◌⊎◌, ℕ, [], length, IsTrue, IfOk, IfErr, OnOk, OnErr, None, Some, true, false};
+ghost use Rattle.std.specs.Prelude.{◌≡◌, ◌+◌, ◌<◌, ◌≤◌, ◌↔◌, ◌⊎◌, ℕ, ◌-◌, [], length, min, IsTrue, IfOk, IfErr, OnOk, OnErr, None, Some, true, false};
 ghost use Rattle.timer_base.specs.declared.limits.TheConstants.{LAST};
 ghost use Rattle.timer_base.specs.WakeUps.{IsQuietUntil, next_deadline};
 ghost use Rattle.timer_base.specs.WheelState.{held_at, first_due, after_start, after_held_start, after_removal, after_reserve, after_tick, after_expiry};
@@ -454,7 +454,19 @@ impl<W: Wheel + Drop> Timers<W> {
         if left == 0 {
             return Err(AdvanceFault::ClockEnd);
         }
-        Ok(self.wheel.advance(most.min(left)))
+        Ok(self.pass(most.min(left)))
+    }
+
+    /// Passes at most so many ticks, some and no more than are left of the clock, while nothing is due.
+    #[inline(always)]
+    fn pass(&mut self, ticks: u64) -> u64
+        requires nothing_due { self.old.wheel.due ≡ [] }
+        requires some { 0 < ticks }
+        requires left { ticks ≤ self.old.wheel.last_tick - self.old.wheel.now }
+        ensures { (most : ℕ) → ticks ≡ min most (self.old.wheel.last_tick - self.old.wheel.now)
+            → IsAdvanced W.count_advance most result self.old self.new }
+    {
+        self.wheel.advance(ticks)
     }
 
     /// Passes ticks up to this one, as `advance`, and stops at the first at which a timer expires. A tick that
@@ -465,7 +477,19 @@ impl<W: Wheel + Drop> Timers<W> {
         ensures fault { IfErr result (WhyNotAdvanced (left_until tick self.old) self.old) }
         ensures err { OnErr result (self.new ≡ self.old) }
     {
-        self.advance(self.until(tick))
+        // In ticks and not in how many are left of them: it is the end that a wheel asks for.
+        let now = self.wheel.now();
+        if tick <= now {
+            return Ok(0);
+        }
+        if self.wheel.has_due() {
+            return Err(AdvanceFault::Due);
+        }
+        let last = self.wheel.last_tick();
+        if now == last {
+            return Err(AdvanceFault::ClockEnd);
+        }
+        Ok(self.pass(tick.min(last) - now))
     }
 
     /// Removes the first of the expired timers, in order of starting, and returns it.

@@ -129,7 +129,7 @@ impl Wheels {
             &self.table,
             &mut self.occupied,
             &mut self.firsts,
-            self.buckets.tick,
+            &self.buckets.tick,
             timer.deadline,
             emptied,
         );
@@ -158,7 +158,7 @@ impl Wheels {
             &self.table,
             &mut self.occupied,
             &mut self.firsts,
-            tick,
+            &tick,
             old.deadline,
             emptied,
         );
@@ -309,30 +309,31 @@ fn enter_list(
 
 /// A timer with this deadline left its list. If that was a bucket, the timer is no longer counted there. If it left
 /// the bucket empty, the bucket's bit is cleared.
+// Table and tick are borrowed, to be read only where they are needed.
 #[inline(always)]
 fn leave_list(
     table: &Table,
     occupied: &mut Occupied,
     firsts: &mut Firsts,
-    tick: u64,
+    tick: &u64,
     deadline: u64,
     emptied: Option<usize>,
 )
     requires deadline { deadline ≤ last_of (radices table.now) }
     requires size { length firsts.old ≡ slots (radices table.now) }
-    requires emptied { tick < deadline → IfSome emptied (λ list. list < slots (radices table.now)) }
-    requires counted { tick < deadline → lowest_radix (radices table.now) ≤ bucket (radices table.now) tick deadline
-        → (first_at (bucket (radices table.now) tick deadline) firsts.old).bound ≡ deadline
-        → 0 < (first_at (bucket (radices table.now) tick deadline) firsts.old).count }
-    ensures pending { tick < deadline → Goes (lowest_radix (radices table.now)) (bucket (radices table.now) tick deadline)
+    requires emptied { tick.now < deadline → IfSome emptied (λ list. list < slots (radices table.now)) }
+    requires counted { tick.now < deadline → lowest_radix (radices table.now) ≤ bucket (radices table.now) tick.now deadline
+        → (first_at (bucket (radices table.now) tick.now deadline) firsts.old).bound ≡ deadline
+        → 0 < (first_at (bucket (radices table.now) tick.now deadline) firsts.old).count }
+    ensures pending { tick.now < deadline → Goes (lowest_radix (radices table.now)) (bucket (radices table.now) tick.now deadline)
         deadline emptied occupied.old occupied.new firsts.old firsts.new }
-    ensures due { deadline ≤ tick → (occupied.new ≡ occupied.old) × (firsts.new ≡ firsts.old) }
+    ensures due { deadline ≤ tick.now → (occupied.new ≡ occupied.old) × (firsts.new ≡ firsts.old) }
 {
     let Some(list) = emptied else {
         firsts.leave(table, tick, deadline);
         return;
     };
-    if deadline > tick {
+    if deadline > *tick {
         occupied.remove(list);
         firsts.empty(list);
     }

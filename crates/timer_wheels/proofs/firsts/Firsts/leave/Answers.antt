@@ -9,4 +9,4 @@ returns-else-self-clause-pending c later =
     let f = c.self.inside in
     let t = radices c.args.table.now in
     left_unknown f.is_kept f.firsts.items c.args.self.now c.if-self.false c.self.view_is (lowest_radix t)
-    (bucket t c.args.tick c.args.deadline) c.args.deadline (let h = later in omega arith)
+    (bucket t c.args.tick.now c.args.deadline) c.args.deadline (let h = later in omega arith)
