@@ -240,13 +240,6 @@ impl<W: Wheel + Drop> Timers<W> {
         Ok(())
     }
 
-    /// How many ticks are left until this one, or 0 if it is not after the present one.
-    pub fn until(&self, deadline: u64) -> u64
-        ensures { result ≡ left_until deadline self.now }
-    {
-        deadline.saturating_sub(self.wheel.now())
-    }
-
     /// The timer with exactly this handle, pending or expired and not yet taken, or None if there is none.
     /// Does not allocate.
     pub fn look(&self, handle: Handle) -> Option<Timer>
