@@ -6,7 +6,7 @@
  * A `timing::timers<Tick, Action>` owns timers and frees them. It can be moved and not copied. timers.h
  * says what each call does; this header says what differs. It takes no lock, and allocates nothing but what it
  * throws: the owner is a `struct timers` and the last tick of its clock, 32 bytes. Each call is one of C, but for
- * catch_up and each, which make several, and in_ticks, at_least and raw, which make none.
+ * catch_up and each, which make several, and in_ticks, at_least, at and raw, which make none.
  *
  * TICKS. `Tick` is the length of a tick, a std::chrono::duration. A deadline is a std::chrono::time_point of `Clock`,
  * and so are `now` and the deadlines that come back: an interval given in place of one does not compile. An interval is
@@ -21,8 +21,8 @@
  *     timers.start_at(std::chrono::steady_clock::now() + 500ms, run);
  *     timers.catch_up(std::chrono::steady_clock::now(), [](const auto &timer) { timer.action(); });
  *
- * An interval counts from `now`, the tick up to which the timers have come. In a loop over a real clock that is late, so
- * give start_at a time point there.
+ * An interval counts from `now`, the tick up to which the timers have come. Over a real clock that is late, so start and
+ * restart do not compile there.
  *
  * ACTIONS. An `Action` can be copied, trivially, and has at most 8 bytes. It may be a pointer to an object or a
  * function, an index, an enum, or a lambda that captures one pointer. Its bytes are the action of C, so that
@@ -194,6 +194,7 @@ public:
 	template <class Rep, class Period>
 	handle start(std::chrono::duration<Rep, Period> interval, Action action)
 	{
+		has_own_time();
 		timers_handle started;
 		check(timers_start(&raw_, scaled(interval, true), bits(action), &started));
 		return handle(started);
@@ -215,6 +216,7 @@ public:
 	template <class Rep, class Period>
 	[[nodiscard]] bool restart(handle &of, std::chrono::duration<Rep, Period> interval, Action action)
 	{
+		has_own_time();
 		return restarted(of, [&](timers_handle *to) {
 			return timers_restart(&raw_, of.raw(), scaled(interval, true), bits(action), to);
 		});
@@ -360,6 +362,12 @@ private:
 	{
 		if (status != TIMERS_OK)
 			refuse(status);
+	}
+
+	template <class Of = Clock>
+	static constexpr void has_own_time() noexcept
+	{
+		static_assert(std::is_same_v<Of, tick_clock<Tick>>, "over a real clock give start_at a time point: an interval counts from a late one");
 	}
 
 	/* The tick at which a deadline has come, and the one that has come at a present time. */

@@ -274,7 +274,33 @@ by_copies() {
 @test "make builds the libraries anew if their code or a header has changed" {
     builds_anew build/lib/libtimers.so.1 "$sources include/timers_desk.h" by_copies make build/lib/libtimers.a
 }
-@test "so does CMake" {
+# is_made_anew FILE COMMAND..: by this command, or not by it if the first word is `not`
+is_made_anew() {
+    local file=$1 wanted=0 before
+    shift
+    [ "$1" != not ] || { wanted=1 && shift; }
+    before=$(stat -c %y "$file")
+    "$@"
+    run [ "$before" != "$(stat -c %y "$file")" ]
+    echo "$file, $*"
+    [ "$status" -eq "$wanted" ]
+}
+@test "other flags make program and libraries anew, and a text that has changed its man page" {
+    [ -e "$work/copy" ] || copy_tree "$work/copy"
+    cd "$work/copy"
+    for file in timers build/lib/libtimers.a; do
+        CFLAGS=-DONE by_copies make "$file"
+        CFLAGS=-DONE is_made_anew "$file" not by_copies make "$file"
+        CFLAGS=-DTWO is_made_anew "$file" by_copies make "$file"
+    done
+    make pages
+    for page in timers.1:docs/formats.md timers.3:include/timers.h timers_loop.3:include/timers_loop.h; do
+        is_made_anew "tools/install/${page%:*}" not make pages
+        touch "${page#*:}"
+        is_made_anew "tools/install/${page%:*}" make pages
+    done
+}
+@test "CMake builds anew if its code or a header has changed" {
     needs cmake
     by_cmake() { cmake -S . -B build/cmake && cmake --build build/cmake; }
     builds_anew build/cmake/libtimers.a "$sources" by_cmake
@@ -294,7 +320,8 @@ by_copies() {
     for folder in one another/one; do
         copy_tree "$work/twice/$folder"
         (cd "$work/twice/$folder" && CFLAGS=-O0 tools/lib "$work/twice/$folder/out")
-        ! command -v python3 || (cd "$work/twice/$folder/bindings/python" && CFLAGS=-O0 python3 -B -c 'import backend; backend.build_wheel("../../out")')
+        ! python3 -c 'import tomllib' || (cd "$work/twice/$folder/bindings/python" &&
+            CFLAGS=-O0 python3 -B -c 'import backend; backend.build_wheel("../../out"); backend.build_sdist("../../out")')
     done
     diff -r "$work/twice/one/out" "$work/twice/another/one/out"
 }

@@ -30,6 +30,16 @@ copy_tree() {
     git ls-files -z --cached --others --exclude-standard | xargs -0 cp -pP --parents -t "$1"
 }
 
+# needs_python_package: the package for Python, as it is installed, in $work/python; skips the test if it can't be compiled here
+needs_python_package() {
+    local python=${python:-python3} folder
+    needs "$python" cc
+    folder=$("$python" -c 'import sysconfig; print(sysconfig.get_paths()["include"])')
+    [ -e "$folder/Python.h" ] || skip "no Python.h for $python: python3-dev"
+    "$python" -c 'import sys; sys.exit(sys.version_info < (3, 11))' || skip "$python is older than 3.11"
+    [ -e "$work/python" ] || "$python" -B bindings/python/backend.py "$work/python"
+}
+
 # What follows builds with $CC or $CXX over $library, files or an archive, into the folder $work.
 of_c="-std=c11 -O2 -g -Wall -Wextra -Werror -pedantic -Iinclude"
 of_cpp="-std=c++17 -O1 -Wall -Wextra -Werror -pedantic -Iinclude"

@@ -46,7 +46,7 @@ link lib/libtimers.so libtimers.so.${version%%.*}
 644 share/zsh/site-functions/_timers tools/install/completions/_timers
 644 share/fish/vendor_completions.d/timers.fish tools/install/completions/timers.fish
 644 share/doc/timers/NOTICE generated/NOTICE
-644 share/timers/c/timers.c generated/timers.c
+link share/timers/c/timers.c ../rust/c/timers.c
 EOT
     for path in CHANGELOG.md LICENSE-APACHE LICENSE-MIT docs/{embedded,embedding,formats,platforms,porting,server,versions,walkthroughs,wheels}.md docs/pages/*; do
         echo "644 share/doc/timers/$path $path"
@@ -59,7 +59,7 @@ EOT
             echo "link share/man/man3/$function.3 $page"
         done
     done
-    for path in bindings/python/timers{,_desk}.py bindings/rust/{Cargo.toml,README.md,build.rs,src/*,c/*}; do
+    for path in bindings/rust/{Cargo.toml,README.md,build.rs,src/*,c/*}; do
         echo "644 share/timers/${path#bindings/} $path"
     done
     git ls-files examples | grep -v gitignore | while read -r path; do
@@ -192,15 +192,6 @@ refused() {
     builds_with_the_shared_object "$work/prefix"
 }
 
-@test "installed: the module for Python" {
-    needs python3
-    PYTHONPATH=$work/prefix/share/timers/python LD_LIBRARY_PATH=$work/prefix/lib python3 -B -c "
-from timers import Timers
-with Timers() as timers:
-    timers.start(25, 7)
-    assert timers.advance(100) == [(25, 1, 7)]"
-}
-
 @test "installed: the crate for Rust" {
     needs_cargo
     mkdir -p "$work/app/src"
@@ -255,7 +246,7 @@ with Timers() as timers:
     folders=()
     for name in BINDIR LIBDIR INCLUDEDIR DATADIR MANDIR DOCDIR; do folders+=("$name=$work/apart/$name"); done
     in_tree install PREFIX="$work/apart/PREFIX" "${folders[@]}"
-    for path in BINDIR/timers LIBDIR/libtimers.a INCLUDEDIR/timers.hpp DATADIR/timers/python/timers.py MANDIR/man1/timers.1 \
+    for path in BINDIR/timers LIBDIR/libtimers.a INCLUDEDIR/timers.hpp DATADIR/timers/rust/Cargo.toml MANDIR/man1/timers.1 \
         MANDIR/man3/timers_start.3 DOCDIR/CHANGELOG.md; do
         echo "$path"
         [ -e "$work/apart/$path" ]

@@ -260,15 +260,6 @@ of_desks() {
 @test "threads do the same under the sanitizers of addresses and of undefined behaviour" { sanitizers address,undefined && threads 2000; }
 @test "threads do the same under the sanitizer of threads" { sanitizers thread && threads 2000; }
 
-@test "random calls from Python agree" {
-    needs python3
-    python3 -B bindings/python/timers_test.py "$lib/libtimers.so"
-}
-@test "a desk in Python agrees, and threads get all their words" {
-    needs python3
-    python3 -B bindings/python/timers_desk_test.py "$lib/libtimers.so"
-}
-
 # over_lib WORD..: a command of cargo for the crate, over the archive in $lib in place of what its build script compiles
 over_lib() {
     needs_cargo
@@ -307,12 +298,12 @@ EOT
 int main() { for (std::uint64_t t, r; std::cin >> t >> r; ) std::cout << timing::desk::config(1, t, r).room << "\n"; }
 EOT
     rooms runs
-    needs python3
-    PYTHONPATH=bindings/python rooms python3 -B -c '
-import sys, timers_desk
+    needs_python_package
+    PYTHONPATH=$work/python rooms python3 -B -c '
+import sys, timers.desk
 for line in sys.stdin:
     try:
-        print(timers_desk.room_for(*map(int, line.split())))
+        print(timers.desk.room_for(*map(int, line.split())))
     except OverflowError:
         print(2**64 - 1)'
     over_lib build

@@ -14,7 +14,8 @@ setup_file() {
 @test "the program and all files have one version" {
     [ "$("$TIMERS" --version < /dev/null)" = "timers $VERSION" ]
     grep -q "^## $VERSION\b" CHANGELOG.md
-    for page in tools/install/*.[13]; do head -n 1 "$page" | grep -qE "^\.TH .* \"[0-9]{4}(-[0-9]{2}){2}\" \"timers $VERSION\""; done
+    tools/install/date | grep -xE '[0-9]{4}(-[0-9]{2}){2}'
+    for page in tools/install/*.[13]; do head -n 1 "$page" | grep -q "^\.TH .* \"$(tools/install/date)\" \"timers $VERSION\""; done
 }
 
 # Lines of a source may be longer than 80 bytes, as elsewhere in this repository.
@@ -47,9 +48,9 @@ comments() {
         ended && /^TIMERS_C/ { next }
         ended { ended = 0; if (/^(static [A-Za-z_]* )?(enum|struct|void|bool|int|const char|size_t|uint).*[ *]timers_[a-z_]+\(/) print text }' "$1"
 }
-# The command line in docs/formats.md, without headings and the heads of tables.
+# The command line in docs/formats.md, without headings, comments and the heads of tables.
 command_line() {
-    sed -n '/^## The command line/,$p' docs/formats.md | sed -e '/^#/d' -e 's/plain|hashed|hier|clock//' |
+    sed -n '/^## The command line/,$p' docs/formats.md | sed -e '/^#/d' -e '/^<!--/d' -e 's/plain|hashed|hier|clock//' |
         awk '/^\|---/ { held = ""; next } { if (NR > 1) print held; held = $0 } END { print held }'
 }
 @test "no word of a header's comments is lost in its man page, nor one of docs/formats.md in timers(1)" {
@@ -60,6 +61,15 @@ command_line() {
         lost=$(lost_words "$BATS_TEST_TMPDIR/said" "$page")
         echo "$page: $lost"
         [ -z "$lost" ]
+    done
+}
+
+# Of the functions whose comments list statuses. No other comment has a line that begins with one.
+@test "each list of statuses in a man page has its title" {
+    for header in include/*.h; do
+        lists=$(comments "$header" | awk 'BEGIN { RS = "/[*] " } /\n \* TIMERS_[A-Z_]+(, |:|\.| \()/ { count++ } END { print count + 0 }')
+        echo "$header: $lists"
+        [ "$(grep -cE '^(Errors|Returns):$' "tools/install/$(basename "$header" .h).3")" -eq "$lists" ]
     done
 }
 

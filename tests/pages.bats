@@ -196,6 +196,7 @@ completed() {
     [ "$(completed timers s)" = "serve show" ]
     [ "$(completed timers -)" = "--help --version" ]
     [ "$(completed timers help th)" = threads ]
+    [ -z "$(completed timers help -)" ]
     [ "$(completed timers threads --)" = "--clients --timers --help" ]
     [ "$(completed timers serve --k)" = --keep-going ]
     [ "$(completed timers show --scheme h)" = "hashed hier" ]

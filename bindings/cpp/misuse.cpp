@@ -63,6 +63,9 @@ int main()
 	timers.start(timers.now(), 1);
 #elif MISUSE == 15  /* deleted */
 	timing::timer<timing::timers<>> one(timers), other(one);
+#elif MISUSE == 16  /* over a real clock give start_at a time point */
+	timing::timers<std::chrono::milliseconds, int, std::chrono::steady_clock> others;
+	others.start(1s, 1);
 #else
 	timers.start(1s, 1);
 #endif

@@ -76,7 +76,8 @@ fn main() {
     let mut compile = Command::new(compiler[0]);
     compile.args(&compiler[1..]).args(["-O2", "-g", "-fPIC", "-ffunction-sections"]).args(flags.split_whitespace());
     if env::var_os("CARGO_FEATURE_STD").is_none() {
-        compile.arg("-DTIMERS_NO_DESK");
+        compile.args(["-DTIMERS_NO_DESK", "-Dmalloc=timers_rust_allocate"]); // src/memory.rs
+        compile.args(["-Drealloc=timers_rust_resize", "-Dfree=timers_rust_release"]);
     }
     run(compile.arg("-I").arg(include).args(["-c", "-o", &object]).arg(code));
     let archiver = of_target("AR").unwrap_or_else(|| archiver_of(&compiler));

@@ -5,14 +5,12 @@
 """
 from timers import Timers
 
-NAMES = ["tea", "egg", "call"]
-
 with Timers() as timers:
-    timers.start(300, 0)  # the action is an index into NAMES
-    timers.start(240, 1)
-    call = timers.start(900, 2)
+    timers.start(300, "tea")  # an action is any object
+    timers.start(240, "egg")
+    call = timers.start(900, "call")
     timers.stop(call)
     while len(timers) > 0:
         # a server sleeps until then first
         for deadline, _, action in timers.advance(timers.wakeup() - timers.now()):
-            print(f"{deadline}: {NAMES[action]}")
+            print(f"{deadline}: {action}")

@@ -13,6 +13,8 @@ mod clock;
 pub mod desk;
 mod error;
 mod ffi;
+#[cfg(not(feature = "std"))]
+mod memory;
 mod timers;
 mod values;
 

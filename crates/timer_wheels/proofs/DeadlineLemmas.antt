@@ -36,12 +36,12 @@ use Rattle.timer_wheels.proofs.WalkLemmas.{IsGathering}
 
 -- The least deadline of two lists together.
 
-has-front : (d : ℕ) (xs ys : List Timer) → HasDeadline d xs → HasDeadline d (xs ++ ys)
+pub has-front : (d : ℕ) (xs ys : List Timer) → HasDeadline d xs → HasDeadline d (xs ++ ys)
 has-front d [] ys h = absurd h
 has-front d (x ∷ xs) ys (inl e) = inl e
 has-front d (x ∷ xs) ys (inr h) = inr (has-front d xs ys h)
 
-has-rest : (d : ℕ) (xs ys : List Timer) → HasDeadline d ys → HasDeadline d (xs ++ ys)
+pub has-rest : (d : ℕ) (xs ys : List Timer) → HasDeadline d ys → HasDeadline d (xs ++ ys)
 has-rest d [] ys h = h
 has-rest d (x ∷ xs) ys h = inr (has-rest d xs ys h)
 
@@ -113,7 +113,7 @@ next-insert e (f ∷ es) = elim (either (is_before e.timer f.timer)) [
   | inr h ↦ rw h (ap Some (least_if_after e.timer f.timer h))
 ]
 
-next_is_least : (rows : Rows) → IsLeastDeadline (next_deadline (pending_in rows)) (timers_in rows)
+pub next_is_least : (rows : Rows) → IsLeastDeadline (next_deadline (pending_in rows)) (timers_in rows)
 next_is_least [] = refl
 next_is_least (r ∷ rs) = rw (next-insert (entry_of r) (pending_in rs)) (least-append (Some (timer_in r).deadline)
     (next_deadline (pending_in rs)) (timer_in r ∷ []) (timers_in rs) (least-one (timer_in r)) (next_is_least rs))

@@ -35,7 +35,7 @@ module _ (n : ℕ) (words words2 : List ℕ) (l : ℕ) (lists : KeyedLists) (h :
       (λ s m. ap (λ (w : List ℕ). bit_of w s) c) t
 
   -- one row is removed from a bucket, and its bit is cleared if no other row is left in it
-  taken_out : (key : ℕ) (node : Node) (front rest : Rows) → list_at l lists ≡ front ++ (key, node) ∷ rest
+  pub taken_out : (key : ℕ) (node : Node) (front rest : Rows) → list_at l lists ≡ front ++ (key, node) ∷ rest
       → Clears (list_if_alone l front rest) words words2 → AreMarked n words2 (slice_set lists l (front ++ rest))
   taken_out key node [] [] at c = marked_set n words words2 l [] lists h b c.0 c.1 t
   taken_out key node [] (x ∷ xs) at c = stays_marked (x ∷ xs) (ap filled at) c

@@ -21,3 +21,8 @@ pub mod FirstDeadline
 pub mod Firsts
 pub mod HeldPlaces
 pub mod WakeUps
+pub mod Smooth
+pub mod Bank
+pub mod Paces
+pub mod SmoothWheel
+pub mod SmoothAhead

@@ -189,7 +189,7 @@ fn tick_until(rt: &impl Abort, wheel: &mut HierWheel, tick: u64) {
 }
 
 /// Goes on only if the timers of a list have these serials, from its front.
-fn has_serials(rt: &impl Abort, links: &Links, list: usize, serials: &[u64]) {
+pub fn has_serials(rt: &impl Abort, links: &Links, list: usize, serials: &[u64]) {
     assert!(rt; list < links.lists());
     let mut at = links.front(list);
     for serial in serials {

@@ -19,6 +19,8 @@ mod links_tests;
 #[cfg(test)]
 mod player_tests;
 #[cfg(test)]
+mod smooth_rows;
+#[cfg(test)]
 mod support;
 #[cfg(test)]
 mod wheel_tests;

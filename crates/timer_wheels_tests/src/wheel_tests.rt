@@ -6,7 +6,7 @@ use std::alloc::Global;
 use std::process::Abort;
 use std::test::Fail;
 use timer_base::{Handle, LAST, OutOfMemory, PlainWheel, Timer, Wheel};
-use timer_wheels::{HashedWheel, HierWheel, Table};
+use timer_wheels::{HashedWheel, HierWheel, SmoothWheel, Table};
 
 fn timer(serial: u64, deadline: u64) -> Timer
     ensures { result ≡ record {
@@ -127,6 +127,7 @@ fn each_wheel_starts_restarts_stops_and_expires(rt: HostRuntime) -> Result<(), F
     }
     for table in [Table::Wide, Table::Clock] {
         use_wheel(&rt, alloc, &mut HierWheel::with_table(alloc, table, 0)?)?;
+        use_wheel(&rt, alloc, &mut SmoothWheel::with_table(alloc, table, 0)?)?;
     }
     Ok(())
 }

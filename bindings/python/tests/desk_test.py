@@ -1,15 +1,17 @@
-"""Runs of timers_desk.py over the library whose path is given: random calls against a dictionary, clients that come and go,
-and clients in threads."""
+"""Desks: random calls against a dictionary, clients that come and go, clients in threads, and memory."""
 import copy
 import gc
 import pickle
 import random
-import sys
 import threading
-import timers_desk as td
-from timers_desk import Desk, DeskError, Handle
 
-LIBRARY = sys.argv[1]
+import timers.desk as td
+from timers.desk import Desk, DeskError, Handle
+
+try:
+    import _testcapi
+except ImportError:
+    _testcapi = None
 
 
 def refused(status, call, *arguments):
@@ -29,7 +31,7 @@ def turn(desk):
 def agrees(seed):
     draw = random.Random(seed)
     model = {}                          # by (deadline, serial): handle, number, action
-    with Desk(1, 20, 20, 1, library=LIBRARY) as desk:
+    with Desk(1, 20, 20, 1) as desk:
         line, sent, serial = desk.lines[0], 0, 0
         assert desk and len(desk) == 0
         for _ in range(4000):
@@ -49,7 +51,7 @@ def agrees(seed):
                 turn(desk)
                 word = line.receive()
                 assert (word.number, word.action) == (sent, 0 if choice == 2 else action) and line.receive() is None
-                assert repr(word).startswith(f"Word(kind={word.kind}, reason={word.reason}, number={sent}, handle=Handle(")
+                assert repr(word).startswith(f"timers.desk.Word(kind={word.kind}, reason={word.reason}, number={sent}, ")
             if choice < 2:
                 reason = td.ZERO_INTERVAL if interval == 0 and not at else td.CAPACITY if len(model) == 20 else 0
                 assert (word.kind, word.reason) == (td.REFUSED if reason else td.STARTED, reason)
@@ -101,7 +103,7 @@ def agrees(seed):
 
 
 def come_and_go():
-    with Desk(2, 100, 4, 4, library=LIBRARY) as desk:
+    with Desk(2, 100, 4, 4) as desk:
         line, other = desk.lines
         sent = 0
         assert (line.client, other.client) == (0, 1)
@@ -133,7 +135,7 @@ def come_and_go():
 
 
 def counts_by_client():
-    with Desk(2, 9, 4, 4, library=LIBRARY) as desk:
+    with Desk(2, 9, 4, 4) as desk:
         first, second = desk.lines
         first.start(5, 1), second.start(3, 2), second.start(9, 3)
         turn(desk)
@@ -145,7 +147,7 @@ def counts_by_client():
 
 
 def refuses_a_line_of_another_desk():
-    with Desk(1, 9, 4, 4, library=LIBRARY) as desk, Desk(1, 9, 4, 4, library=LIBRARY) as other:
+    with Desk(1, 9, 4, 4) as desk, Desk(1, 9, 4, 4) as other:
         line, stranger = desk.lines[0], other.lines[0]
         line.finish(), stranger.finish()
         refused(td.OTHER_LINE, desk.end, 0, stranger)
@@ -172,7 +174,7 @@ def work(line, counts):
 
 def threads(clients):
     counts = []
-    with Desk(clients, 10000, 50, 8, library=LIBRARY) as desk:
+    with Desk(clients, 10000, 50, 8) as desk:
         workers = [threading.Thread(target=work, args=(line, counts)) for line in desk.lines]
         for worker in workers:
             worker.start()
@@ -193,21 +195,28 @@ def out_of_range(value, bits, call, *arguments, **named):
 def numbers_out_of_range():
     """No number is cut off: what has too many bits is refused, and so is a room that has."""
     for name in ("clients", "capacity", "timers", "requests", "first_tick"):
-        fine = {"clients": 1, "capacity": 1, "timers": 1, "requests": 1, "library": LIBRARY}
+        fine = {"clients": 1, "capacity": 1, "timers": 1, "requests": 1, "table": 0}
         for wrong in (-1, 2**64, 2**64 + 1):
             out_of_range(wrong, 64, Desk, **{**fine, name: wrong})
     for wrong in (-1, 2**32, 2**32 + 1):
-        out_of_range(wrong, 32, Desk, 1, 1, 1, 1, table=wrong, library=LIBRARY)
+        out_of_range(wrong, 32, Desk, 1, 1, 1, 1, table=wrong)
     for timers, requests in ((2**64 - 1, 2), (2**64 - 2, 1), (2**63, 2**63)):
-        out_of_range(timers + requests + 1, 64, Desk, 1, 1, timers, requests, library=LIBRARY)
+        for call in (td.room_for, lambda *room: Desk(1, 1, *room)):
+            try:
+                call(timers, requests)
+            except OverflowError as error:
+                assert str(error) == f"the room for {timers} timers and {requests} requests is not from 0 to 2^64 - 1"
+            else:
+                raise AssertionError(f"not refused: {timers} {requests}")
+    assert td.room_for(2**64 - 2, 0) == 2**64 - 1
     for table in (2, 2**32 - 1):
-        refused(td.OUT_OF_RANGE, lambda table=table: Desk(1, 1, 1, 1, table=table, library=LIBRARY))
+        refused(td.OUT_OF_RANGE, lambda table=table: Desk(1, 1, 1, 1, table=table))
     for clients in (0, 65, 10**11, 2**64 - 1):
-        refused(td.OUT_OF_RANGE, lambda clients=clients: Desk(clients, 1, 1, 1, library=LIBRARY))
+        refused(td.OUT_OF_RANGE, lambda clients=clients: Desk(clients, 1, 1, 1))
     for wrong in (-1, 2**64):
         out_of_range(wrong, 64, Handle, wrong, 1)
         out_of_range(wrong, 64, Handle, 1, wrong)
-    with Desk(1, 1, 1, 1, library=LIBRARY) as desk:
+    with Desk(1, 1, 1, 1) as desk:
         calls = [desk.serve, desk.serve_all, desk.flush, desk.advance, desk.stop_pending, desk.pending, desk.outbox,
                  desk.line_freed, lambda value: desk.end(value, desk.lines[0]), lambda value: desk.open(0, value),
                  lambda value: desk.open(value, 1), lambda value: desk.lines[0].start(value, 1),
@@ -215,13 +224,16 @@ def numbers_out_of_range():
         for call in calls:
             for wrong in (-1, 2**64):
                 out_of_range(wrong, 64, call, wrong)
-        with Desk(1, 1, 1, 1, first_tick=8639998, table=td.CLOCK, library=LIBRARY) as clock:
+        with Desk(1, 1, 1, 1, first_tick=8639998, table=td.CLOCK) as clock:
             assert clock.advance(9) == 1 and desk.advance(9) == 9
 
 
 def owns_what_it_holds():
     """No copy frees it a second time. What nothing refers to is freed, and what is made anew frees what it held."""
-    desk = Desk(2, 9, 4, 4, library=LIBRARY)
+    class Named(Desk):
+        pass
+
+    desk = Named(2, 9, 4, 4)
     first, second = desk.lines
     for owner in (desk, first):
         for owned in (copy.copy, copy.deepcopy, pickle.dumps):
@@ -231,22 +243,73 @@ def owns_what_it_holds():
                 assert "can't be copied or pickled" in str(error), error
             else:
                 raise AssertionError(f"copied: {owner}")
-    desk.lines, first.itself = [], first
+    for made in (lambda: td.Line(), lambda: setattr(desk, "lines", [])):
+        try:
+            made()
+        except (TypeError, AttributeError):
+            pass
+        else:
+            raise AssertionError("a line was made, or the list of lines was exchanged")
+    desk.lines.clear()
     del first, owner
-    gc.collect()
     assert desk.line_freed(0) and not desk.line_freed(1)
-    refused(td.OUT_OF_RANGE, lambda: desk.__init__(1, 1, 1, 1, table=2, library=LIBRARY))
+    refused(td.OUT_OF_RANGE, lambda: desk.__init__(1, 1, 1, 1, table=2))
     assert not second.abandoned
-    desk.__init__(2, 9, 4, 4, library=LIBRARY)
+    desk.__init__(2, 9, 4, 4)
     assert second.abandoned and not desk.line_freed(0)
-    second.__init__(desk._library, td.HeldLine())
+    refused(td.OTHER_LINE, desk.end, 1, second)
+    for wrong in (None, desk, Handle()):
+        try:
+            desk.end(1, wrong)
+        except TypeError as error:
+            assert str(error) == f"not a Line: {wrong}"
+        else:
+            raise AssertionError(f"ended: {wrong}")
     first, second = desk.lines
-    first.__init__(desk._library, td.HeldLine())
-    assert desk.line_freed(0) and not desk.line_freed(1)
+    desk.lines.append(desk)
     desk.itself = desk
-    del desk
+    del desk, wrong
     gc.collect()
     assert second.abandoned
+    empty = Desk.__new__(Desk)
+    refused(td.NOT_OPEN, empty.reserve)
+    assert empty.serve_all() == td.NOT_OPEN and len(empty) == 0
+
+
+def refuse_memory():
+    """Each allocation of each call is refused once, and nothing leaks or is lost but a word that was received."""
+    if _testcapi is None:
+        print("skipped: no _testcapi, which refuses memory")
+        return
+    refusals = 0
+    for call in (lambda: Desk(3, 9, 4, 4), lambda: desk.__init__(3, 9, 4, 4), lambda: desk.reserve(), lambda: desk.serve_all(),
+                 lambda: line.start(2**40, 2**63), lambda: line.receive(), lambda: desk.open(1, 4), lambda: desk.close(),
+                 lambda: desk.flush(0), lambda: line.finish(), lambda: desk.next(), lambda: line.free(), lambda: repr(line)):
+        more, failed = 0, True
+        while failed or more < 4:
+            desk = Desk(2, 2000, 2000, 2000)
+            line = desk.lines[0]
+            desk.lines.pop().free()
+            for number in range(60):
+                line.start(2**40 + number, 2**63)
+                if number < 9:
+                    turn(desk)
+            _testcapi.set_nomemory(more, more + 1)
+            try:
+                failed = call() == td.NO_MEMORY
+            except MemoryError:
+                failed = True
+            except DeskError as error:
+                assert error.status == td.NO_MEMORY
+                failed = True
+            finally:
+                _testcapi.remove_mem_hooks()
+            refusals += failed
+            more += 1
+            assert more < 999
+            turn(desk)
+            assert len(desk) in (0, 60, 61), len(desk)
+    assert refusals > 20, refusals
 
 
 class Number:
@@ -260,16 +323,17 @@ class Number:
 
 
 def whole_numbers():
-    with Desk(*map(Number, (2, 9, 4, 4, 5, td.CLOCK)), library=LIBRARY) as desk:
+    with Desk(*map(Number, (2, 9, 4, 4, 5, td.CLOCK))) as desk:
         line = desk.lines[1]
-        assert (len(desk.lines), line.start(Number(3), Number(7)), desk.serve(Number(1)), desk.flush(Number(1))) == (2, 1, td.OK, 1)
+        assert len(desk.lines) == 2 and line.start(Number(3), Number(7)) == 1
+        assert desk.serve(Number(1)) == td.OK and desk.flush(Number(1)) == 1
         assert line.stop(Handle(Number(line.receive().handle.place), Number(1))) == 2
         assert desk.serve_all(Number(9)) == td.OK and desk.pending(Number(1)) == 0 and desk.advance(Number(9)) == 9
 
 
 assert Handle(1, 7) == Handle(1, 7) and hash(Handle(1, 7)) == hash(Handle(1, 7))
 assert Handle(1, 7) not in (Handle(1, 8), Handle(2, 7), (1, 7))
-assert (str(DeskError(td.NO_ROOM)), str(DeskError(99))) == ("no room", "status 99")
+assert (str(DeskError(td.NO_ROOM)), str(DeskError(99))) == ("the outbox has no room", "no status")
 for seed in range(3):
     agrees(seed)
 come_and_go()
@@ -279,3 +343,4 @@ threads(4)
 numbers_out_of_range()
 owns_what_it_holds()
 whole_numbers()
+refuse_memory()

@@ -1,0 +1,151 @@
+/* The extension module timers._timers, over CPython's stable ABI: the library itself, which is compiled in, and its types.
+ *
+ * Each call holds Python's lock from its beginning to its end, so that calls come one at a time. None waits. Memory comes
+ * from Python's allocator.
+ */
+/* SPDX-License-Identifier: MIT OR Apache-2.0 */
+#define PY_SSIZE_T_CLEAN
+#define Py_LIMITED_API 0x030b0000
+#include <Python.h>
+#include <structmember.h>
+#ifdef Py_GIL_DISABLED
+#error "calls come one at a time by Python's lock, which a free-threaded Python does not have"
+#endif
+#define TIMERS_STATIC
+#include "timers.c"
+#include "common.h"
+#include "wheel.h"
+#include "desk.h"
+
+/* What the headers name, under the names of Python. Those of both enumerations of statuses have the same numbers. */
+#define OF_TIMERS(name) { #name, TIMERS_##name }
+#define OF_DESK(name) { #name, TIMERS_DESK_##name }
+#define OF_WORD(name) { #name, TIMERS_WORD_##name }
+static const struct { const char *name; uint64_t value; } constants[] = {
+	OF_TIMERS(OK), OF_TIMERS(NOT_OPEN), OF_TIMERS(OPEN), OF_TIMERS(NO_TABLE), OF_TIMERS(NO_MEMORY), OF_TIMERS(DUE),
+	OF_TIMERS(NOT_PENDING), OF_TIMERS(ZERO_INTERVAL), OF_TIMERS(TOO_LATE), OF_TIMERS(SERIALS_SPENT), OF_TIMERS(CLOCK_END),
+	OF_TIMERS(WIDE), OF_TIMERS(CLOCK), OF_TIMERS(LAST), OF_TIMERS(CLOCK_LAST),
+	OF_DESK(CLOSED), OF_DESK(CAPACITY), OF_DESK(NO_CLIENT), OF_DESK(NUMBERS_SPENT), OF_DESK(REPEATED), OF_DESK(AHEAD),
+	OF_DESK(LINE_FULL), OF_DESK(FINISHED), OF_DESK(OUT_OF_RANGE), OF_DESK(IDLE), OF_DESK(NO_ROOM), OF_DESK(OTHER_LINE),
+	OF_DESK(NOT_FINISHED), OF_DESK(LEFT), OF_DESK(NOT_FREED), OF_DESK(CLIENTS),
+	OF_WORD(STARTED), OF_WORD(RESTARTED), OF_WORD(STOPPED), OF_WORD(REFUSED), OF_WORD(NOT_TAKEN), OF_WORD(EXPIRED),
+	OF_WORD(RETURNED),
+};
+
+static bool add_constants(PyObject *module)
+{
+	PyObject *value;
+	size_t i;
+
+	for (i = 0; i < sizeof constants / sizeof constants[0]; i++) {
+		value = PyLong_FromUnsignedLongLong(constants[i].value);
+		if (value == NULL || PyModule_AddObjectRef(module, constants[i].name, value) < 0) {
+			Py_XDECREF(value);
+			return false;
+		}
+		Py_DECREF(value);
+	}
+	return PyModule_AddStringConstant(module, "__version__", TIMERS_VERSION) == 0;
+}
+
+static bool add_type(PyObject *module, PyTypeObject **type, PyType_Spec *spec, PyObject *base)
+{
+	*type = (PyTypeObject *)PyType_FromModuleAndSpec(module, spec, base);
+	return *type != NULL && PyModule_AddType(module, *type) == 0;
+}
+
+static bool add_error(PyObject *module, PyObject **error, PyType_Spec *spec)
+{
+	PyTypeObject *type;
+	const bool added = add_type(module, &type, spec, PyExc_Exception);
+
+	*error = (PyObject *)type;
+	return added;
+}
+
+static bool add_types(PyObject *module, struct module_state *state)
+{
+	state->word_type = PyStructSequence_NewType(&word_description);
+	return state->word_type != NULL && PyModule_AddType(module, state->word_type) == 0
+	       && add_error(module, &state->timers_error, &timers_error_spec)
+	       && add_error(module, &state->desk_error, &desk_error_spec)
+	       && add_type(module, &state->handle_type, &handle_spec, NULL)
+	       && add_type(module, &state->timers_type, &timers_spec, NULL)
+	       && add_type(module, &state->iterator_type, &iterator_spec, NULL)
+	       && add_type(module, &state->desk_type, &desk_spec, NULL)
+	       && add_type(module, &state->line_type, &line_spec, NULL);
+}
+
+static int execute(PyObject *module)
+{
+	/* TIMERS_OPEN: an earlier import in this process, which gave the same functions, has asked for memory. */
+	const enum timers_status given = timers_set_allocator(PyMem_Malloc, PyMem_Realloc, PyMem_Free);
+
+	(void)given;
+	return add_types(module, PyModule_GetState(module)) && add_constants(module) ? 0 : -1;
+}
+
+static int traverse(PyObject *module, visitproc visit, void *arg)
+{
+	struct module_state *state = PyModule_GetState(module);
+
+	Py_VISIT(state->handle_type);
+	Py_VISIT(state->timers_type);
+	Py_VISIT(state->iterator_type);
+	Py_VISIT(state->desk_type);
+	Py_VISIT(state->line_type);
+	Py_VISIT(state->word_type);
+	Py_VISIT(state->timers_error);
+	Py_VISIT(state->desk_error);
+	return 0;
+}
+
+static int clear(PyObject *module)
+{
+	struct module_state *state = PyModule_GetState(module);
+
+	Py_CLEAR(state->handle_type);
+	Py_CLEAR(state->timers_type);
+	Py_CLEAR(state->iterator_type);
+	Py_CLEAR(state->desk_type);
+	Py_CLEAR(state->line_type);
+	Py_CLEAR(state->word_type);
+	Py_CLEAR(state->timers_error);
+	Py_CLEAR(state->desk_error);
+	return 0;
+}
+
+static void free_module(void *module) { clear(module); }
+
+static PyModuleDef_Slot module_slots[] = {
+	{ Py_mod_exec, execute },
+	{ 0, NULL },
+};
+
+static PyMethodDef module_functions[] = {
+	{ "room_for", FAST(room_for),
+	  "room_for($module, timers, requests, /)\n--\n\n"
+	  "The room of an outbox for which no request of such a client is held back." },
+	{ NULL, NULL, 0, NULL },
+};
+
+static PyModuleDef definition = {
+	PyModuleDef_HEAD_INIT, "timers._timers", "The types of timers and timers.desk.", sizeof(struct module_state),
+	module_functions, module_slots, traverse, clear, free_module,
+};
+
+static struct module_state *state_of(PyTypeObject *type)
+{
+	PyObject *module;
+
+	for (; type != NULL; type = PyType_GetSlot(type, Py_tp_base)) {
+		module = PyType_GetModule(type);
+		if (module != NULL && PyModule_GetDef(module) == &definition)
+			return PyModule_GetState(module);
+		PyErr_Clear();
+	}
+	Py_FatalError("a type of timers has no base of the module");
+}
+
+PyMODINIT_FUNC PyInit__timers(void);
+PyMODINIT_FUNC PyInit__timers(void) { return PyModuleDef_Init(&definition); }

@@ -1,0 +1,720 @@
+/* The type Timers: a `struct timers` whose actions are objects. It owns a reference to each action that it holds. */
+/* SPDX-License-Identifier: MIT OR Apache-2.0 */
+
+struct timers_object {
+	PyObject_HEAD
+	struct timers held;
+	uint64_t last_tick;
+	struct module_state *state;
+	PyObject *weak_references;
+};
+
+static struct timers_object *timers_in(PyObject *self) { return (struct timers_object *)self; }
+static struct timers *held_by(PyObject *self) { return &timers_in(self)->held; }
+
+static uint64_t action_of(PyObject *object) { return (uint64_t)(uintptr_t)object; }
+static PyObject *object_of(uint64_t action) { return (PyObject *)(uintptr_t)action; }
+
+static PyObject *refused(PyObject *self, enum timers_status status)
+{
+	return refuse(timers_in(self)->state->timers_error, status);
+}
+
+static PyObject *none_or_refused(PyObject *self, enum timers_status status)
+{
+	if (status != TIMERS_OK)
+		return refused(self, status);
+	Py_RETURN_NONE;
+}
+
+/* The timer as a tuple, which takes over its reference to the action. If there is no memory for it, the action is released. */
+static PyObject *timer_tuple(const struct timers_expired *timer)
+{
+	PyObject *tuple = PyTuple_New(3), *deadline = NULL, *serial = NULL;
+
+	if (tuple != NULL)
+		deadline = PyLong_FromUnsignedLongLong(timer->deadline);
+	if (deadline != NULL)
+		serial = PyLong_FromUnsignedLongLong(timer->serial);
+	if (serial == NULL) {
+		Py_XDECREF(tuple);
+		Py_XDECREF(deadline);
+		Py_DECREF(object_of(timer->action));
+		return NULL;
+	}
+	PyTuple_SetItem(tuple, 0, deadline);
+	PyTuple_SetItem(tuple, 1, serial);
+	PyTuple_SetItem(tuple, 2, object_of(timer->action));
+	return tuple;
+}
+
+/* The same for a timer that stays where it is. */
+static PyObject *copied_tuple(const struct timers_expired *timer)
+{
+	Py_INCREF(object_of(timer->action));
+	return timer_tuple(timer);
+}
+
+/* Making and freeing */
+
+/* Frees what the struct holds. To release an action may call any code: so it is emptied first. */
+static void drop_held(struct timers *held)
+{
+	struct timers dropped = *held;
+	struct timers_handle handle;
+	struct timers_expired timer;
+	uint64_t cursor = 0;
+
+	*held = (struct timers)TIMERS_INIT;
+	while (timers_each(&dropped, &cursor, &handle, &timer))
+		Py_DECREF(object_of(timer.action));
+	timers_free(&dropped);
+}
+
+static PyObject *timers_object_new(PyTypeObject *type, PyObject *arguments, PyObject *named)
+{
+	PyObject *self = ((allocfunc)PyType_GetSlot(type, Py_tp_alloc))(type, 0);
+
+	(void)arguments;
+	(void)named;
+	if (self != NULL)
+		timers_in(self)->state = state_of(type);
+	return self;
+}
+
+static int timers_object_init(PyObject *self, PyObject *arguments, PyObject *named)
+{
+	static char *names[] = { "table", "first_tick", NULL };
+	PyObject *table_given = NULL, *tick_given = NULL;
+	uint64_t table = TIMERS_WIDE, first_tick = 0;
+	struct timers made = TIMERS_INIT, earlier;
+	enum timers_status status;
+
+	if (!PyArg_ParseTupleAndKeywords(arguments, named, "|OO:Timers", names, &table_given, &tick_given))
+		return -1;
+	if ((table_given != NULL && !read_index(table_given, 32, &table))
+	    || (tick_given != NULL && !read_number(tick_given, &first_tick)))
+		return -1;
+	status = timers_new(&made, (uint32_t)table, first_tick);
+	if (status != TIMERS_OK) {
+		refused(self, status);
+		return -1;
+	}
+	earlier = *held_by(self);
+	*held_by(self) = made;
+	timers_in(self)->last_tick = table == TIMERS_CLOCK ? TIMERS_CLOCK_LAST : TIMERS_LAST;
+	drop_held(&earlier);
+	return 0;
+}
+
+static int timers_object_traverse(PyObject *self, visitproc visit, void *arg)
+{
+	struct timers_handle handle;
+	struct timers_expired timer;
+	uint64_t cursor = 0;
+
+	Py_VISIT(Py_TYPE(self));
+	while (timers_each(held_by(self), &cursor, &handle, &timer))
+		Py_VISIT(object_of(timer.action));
+	return 0;
+}
+
+static int timers_object_clear(PyObject *self)
+{
+	drop_held(held_by(self));
+	return 0;
+}
+
+static void timers_object_dealloc(PyObject *self)
+{
+	PyObject_GC_UnTrack(self);
+	if (timers_in(self)->weak_references != NULL)
+		PyObject_ClearWeakRefs(self);
+	drop_held(held_by(self));
+	free_object(self);
+}
+
+static PyObject *timers_object_close(PyObject *self, PyObject *unused)
+{
+	(void)unused;
+	drop_held(held_by(self));
+	Py_RETURN_NONE;
+}
+
+static PyObject *timers_object_exit(PyObject *self, PyObject *const *arguments, Py_ssize_t given)
+{
+	(void)arguments;
+	(void)given;
+	return timers_object_close(self, NULL);
+}
+
+/* Starts and stops */
+
+static PyObject *timers_object_reserve(PyObject *self, PyObject *most)
+{
+	size_t room;
+
+	if (!read_size(most, &room))
+		return NULL;
+	return none_or_refused(self, timers_reserve(held_by(self), room));
+}
+
+typedef enum timers_status start_call(struct timers *, uint64_t, uint64_t, struct timers_handle *);
+typedef enum timers_status restart_call(struct timers *, struct timers_handle, uint64_t, uint64_t, struct timers_handle *);
+
+/* The handle, whose timer has taken a reference to the action; or the refusal. */
+static inline PyObject *started(PyObject *self, enum timers_status status, struct handle_object *made, PyObject *action)
+{
+	if (status != TIMERS_OK) {
+		Py_DECREF(made);
+		return refused(self, status);
+	}
+	Py_INCREF(action);
+	return (PyObject *)made;
+}
+
+static inline PyObject *start_by(start_call *start, const char *name, PyObject *self, PyObject *const *arguments,
+                                 Py_ssize_t given)
+{
+	struct handle_object *made;
+	uint64_t tick;
+
+	if (!has_arguments(name, given, 2, 2) || !read_number(arguments[0], &tick))
+		return NULL;
+	made = new_handle(timers_in(self)->state);
+	if (made == NULL)
+		return NULL;
+	return started(self, start(held_by(self), tick, action_of(arguments[1]), &made->handle), made, arguments[1]);
+}
+
+static PyObject *timers_object_start(PyObject *self, PyObject *const *arguments, Py_ssize_t given)
+{
+	return start_by(timers_start, "start", self, arguments, given);
+}
+
+static PyObject *timers_object_start_at(PyObject *self, PyObject *const *arguments, Py_ssize_t given)
+{
+	return start_by(timers_start_at, "start_at", self, arguments, given);
+}
+
+/* Without an action the new timer has that of the old one. */
+static inline PyObject *restart_by(restart_call *restart, const char *name, PyObject *self, PyObject *const *arguments,
+                                   Py_ssize_t given)
+{
+	const struct module_state *state = timers_in(self)->state;
+	struct timers_handle handle;
+	struct timers_expired old;
+	struct handle_object *made;
+	enum timers_status status;
+	PyObject *action, *result;
+	uint64_t tick;
+
+	if (!has_arguments(name, given, 2, 3) || !read_handle(state, arguments[0], &handle) || !read_number(arguments[1], &tick))
+		return NULL;
+	status = timers_look(held_by(self), handle, &old);
+	if (status != TIMERS_OK)
+		return refused(self, status);
+	made = new_handle(state);
+	if (made == NULL)
+		return NULL;
+	action = given == 3 ? arguments[2] : object_of(old.action);
+	status = restart(held_by(self), handle, tick, action_of(action), &made->handle);
+	result = started(self, status, made, action);
+	if (result != NULL)
+		Py_DECREF(object_of(old.action));
+	return result;
+}
+
+static PyObject *timers_object_restart(PyObject *self, PyObject *const *arguments, Py_ssize_t given)
+{
+	return restart_by(timers_restart, "restart", self, arguments, given);
+}
+
+static PyObject *timers_object_restart_at(PyObject *self, PyObject *const *arguments, Py_ssize_t given)
+{
+	return restart_by(timers_restart_at, "restart_at", self, arguments, given);
+}
+
+static PyObject *timers_object_set_at(PyObject *self, PyObject *const *arguments, Py_ssize_t given)
+{
+	const struct module_state *state = timers_in(self)->state;
+	struct timers_handle handle = { 0, 0 };
+	struct timers_expired old;
+	struct handle_object *made;
+	uint64_t deadline;
+	PyObject *result;
+	bool held;
+
+	if (!has_arguments("set_at", given, 3, 3) || (arguments[0] != Py_None && !read_handle(state, arguments[0], &handle)))
+		return NULL;
+	if (!read_number(arguments[1], &deadline))
+		return NULL;
+	made = new_handle(state);
+	if (made == NULL)
+		return NULL;
+	made->handle = handle;
+	held = timers_look(held_by(self), handle, &old) == TIMERS_OK;
+	result = started(self, timers_set_at(held_by(self), &made->handle, deadline, action_of(arguments[2])), made, arguments[2]);
+	if (result != NULL && held)
+		Py_DECREF(object_of(old.action));
+	return result;
+}
+
+static PyObject *timers_object_stop(PyObject *self, PyObject *given)
+{
+	struct timers_handle handle;
+	enum timers_status status;
+	uint64_t action;
+
+	if (!read_handle(timers_in(self)->state, given, &handle))
+		return NULL;
+	status = timers_stop(held_by(self), handle, &action);
+	return status == TIMERS_OK ? object_of(action) : refused(self, status);
+}
+
+static PyObject *timers_object_look(PyObject *self, PyObject *given)
+{
+	struct timers_handle handle;
+	struct timers_expired timer;
+	enum timers_status status;
+
+	if (!read_handle(timers_in(self)->state, given, &handle))
+		return NULL;
+	status = timers_look(held_by(self), handle, &timer);
+	return status == TIMERS_OK ? copied_tuple(&timer) : refused(self, status);
+}
+
+static int timers_object_contains(PyObject *self, PyObject *given)
+{
+	struct timers_handle handle;
+	struct timers_expired timer;
+
+	if (!read_handle(timers_in(self)->state, given, &handle))
+		return -1;
+	return timers_look(held_by(self), handle, &timer) == TIMERS_OK;
+}
+
+/* One after the other, since to release an action may call any code. */
+static PyObject *timers_object_clear_all(PyObject *self, PyObject *unused)
+{
+	struct timers_handle handle;
+	struct timers_expired timer;
+	uint64_t cursor = 0;
+
+	(void)unused;
+	while (timers_each(held_by(self), &cursor, &handle, &timer))
+		if (timers_stop(held_by(self), handle, NULL) == TIMERS_OK)
+			Py_DECREF(object_of(timer.action));
+	Py_RETURN_NONE;
+}
+
+/* The clock */
+
+static PyObject *timers_object_tick(PyObject *self, PyObject *unused)
+{
+	(void)unused;
+	return none_or_refused(self, timers_tick(held_by(self)));
+}
+
+static PyObject *timers_object_advance_to(PyObject *self, PyObject *given)
+{
+	uint64_t tick;
+
+	if (!read_number(given, &tick))
+		return NULL;
+	return none_or_refused(self, timers_advance_to(held_by(self), tick));
+}
+
+static PyObject *timers_object_expire(PyObject *self, PyObject *unused)
+{
+	struct timers_expired timer;
+
+	(void)unused;
+	if (!timers_expire(held_by(self), &timer))
+		Py_RETURN_NONE;
+	return timer_tuple(&timer);
+}
+
+static PyObject *timers_object_take(PyObject *self, PyObject *given)
+{
+	struct timers_expired timer;
+	uint64_t tick;
+
+	if (!read_number(given, &tick))
+		return NULL;
+	if (!timers_take(held_by(self), tick, &timer))
+		Py_RETURN_NONE;
+	return timer_tuple(&timer);
+}
+
+/* Calls `run` with the timer, or if there is none the action. Both release the action. */
+static PyObject *run_timer(PyObject *run, const struct timers_expired *timer)
+{
+	PyObject *tuple, *result;
+
+	if (run == Py_None) {
+		result = PyObject_CallNoArgs(object_of(timer->action));
+		Py_DECREF(object_of(timer->action));
+		return result;
+	}
+	tuple = timer_tuple(timer);
+	if (tuple == NULL)
+		return NULL;
+	result = PyObject_Call(run, tuple, NULL);
+	Py_DECREF(tuple);
+	return result;
+}
+
+static PyObject *timers_object_catch_up(PyObject *self, PyObject *const *arguments, Py_ssize_t given)
+{
+	struct timers_expired timer;
+	enum timers_status status;
+	PyObject *result;
+	uint64_t now;
+
+	if (!has_arguments("catch_up", given, 1, 2) || !read_number(arguments[0], &now))
+		return NULL;
+	status = timers_advance_to(held_by(self), 0);    /* refused if they are closed */
+	if (status != TIMERS_OK)
+		return refused(self, status);
+	if (now > timers_in(self)->last_tick)
+		return refused(self, TIMERS_TOO_LATE);
+	if (now < timers_now(held_by(self)))
+		Py_RETURN_NONE;
+	while (timers_take(held_by(self), now, &timer)) {
+		result = run_timer(given == 2 ? arguments[1] : Py_None, &timer);
+		if (result == NULL)
+			return NULL;
+		Py_DECREF(result);
+	}
+	Py_RETURN_NONE;
+}
+
+#define BATCH 64
+
+/* Takes all that expired to the end of the list. Returns false with an exception if there is no memory for them. */
+static bool take_expired(PyObject *self, PyObject *list)
+{
+	struct timers_expired batch[BATCH];
+	PyObject *timer;
+	size_t taken, i;
+	bool fails = false;
+
+	while (!fails && (taken = timers_expire_batch(held_by(self), batch, BATCH)) > 0)
+		for (i = 0; i < taken; i++) {
+			if (fails) {
+				Py_DECREF(object_of(batch[i].action));
+				continue;
+			}
+			timer = timer_tuple(&batch[i]);
+			fails = timer == NULL || PyList_Append(list, timer) < 0;
+			Py_XDECREF(timer);
+		}
+	return !fails;
+}
+
+static PyObject *timers_object_expired(PyObject *self, PyObject *unused)
+{
+	PyObject *list = PyList_New(0);
+
+	(void)unused;
+	if (list != NULL && !take_expired(self, list))
+		Py_CLEAR(list);
+	return list;
+}
+
+/* Takes what expires up to this tick to the end of the list. An action that is released may start what is due again. */
+static bool advance_until(PyObject *self, uint64_t until, PyObject *list)
+{
+	enum timers_status status;
+
+	while (take_expired(self, list)) {
+		if (timers_now(held_by(self)) == until)
+			return true;
+		status = timers_advance_to(held_by(self), until);
+		if (status != TIMERS_OK && status != TIMERS_DUE) {
+			refused(self, status);
+			return false;
+		}
+	}
+	return false;
+}
+
+static PyObject *timers_object_advance(PyObject *self, PyObject *given)
+{
+	const uint64_t last = timers_in(self)->last_tick;
+	enum timers_status status;
+	uint64_t most, now;
+	PyObject *list;
+
+	if (!read_number(given, &most))
+		return NULL;
+	status = timers_advance_to(held_by(self), 0);    /* refused if they are closed */
+	if (status != TIMERS_OK)
+		return refused(self, status);
+	now = timers_now(held_by(self));
+	if (most > 0 && now == last && !timers_has_due(held_by(self)))
+		return refused(self, TIMERS_CLOCK_END);
+	list = PyList_New(0);
+	if (list != NULL && !advance_until(self, most > last - now ? last : now + most, list))
+		Py_CLEAR(list);
+	return list;
+}
+
+/* The state */
+
+static PyObject *timers_object_has_due(PyObject *self, PyObject *unused)
+{
+	(void)unused;
+	return PyBool_FromLong(timers_has_due(held_by(self)));
+}
+
+static PyObject *timers_object_now(PyObject *self, PyObject *unused)
+{
+	(void)unused;
+	return PyLong_FromUnsignedLongLong(timers_now(held_by(self)));
+}
+
+static PyObject *timers_object_wakeup(PyObject *self, PyObject *unused)
+{
+	(void)unused;
+	return tick_or_none(timers_wakeup(held_by(self)));
+}
+
+static PyObject *timers_object_next(PyObject *self, PyObject *unused)
+{
+	(void)unused;
+	return tick_or_none(timers_next(held_by(self)));
+}
+
+static PyObject *timers_object_find_next(PyObject *self, PyObject *unused)
+{
+	(void)unused;
+	return tick_or_none(timers_find_next(held_by(self)));
+}
+
+static PyObject *timers_object_counts(PyObject *self, PyObject *unused)
+{
+	struct timers_counters counts;
+	enum timers_status status = timers_counts(held_by(self), &counts);
+
+	(void)unused;
+	if (status != TIMERS_OK)
+		return refused(self, status);
+	return Py_BuildValue("(KKK)", (unsigned long long)counts.starts, (unsigned long long)counts.moves,
+	                     (unsigned long long)counts.visits);
+}
+
+static Py_ssize_t timers_object_length(PyObject *self) { return (Py_ssize_t)timers_len(held_by(self)); }
+
+/* Also if none is pending: the length would say no. */
+static int timers_object_is_true(PyObject *self) { (void)self; return 1; }
+
+static PyObject *timers_object_repr(PyObject *self)
+{
+	struct timers_counters counts;
+
+	if (timers_counts(held_by(self), &counts) != TIMERS_OK)
+		return PyUnicode_FromString("<timers, closed>");
+	return PyUnicode_FromFormat("<timers, %zu pending, tick %llu>", timers_len(held_by(self)),
+	                            (unsigned long long)timers_now(held_by(self)));
+}
+
+/* Iteration */
+
+struct iterator_object {
+	PyObject_HEAD
+	PyObject *timers;
+	uint64_t cursor;
+};
+
+static struct iterator_object *iterator_in(PyObject *self) { return (struct iterator_object *)self; }
+
+static PyObject *timers_object_iter(PyObject *self)
+{
+	PyTypeObject *type = timers_in(self)->state->iterator_type;
+	PyObject *iterator = ((allocfunc)PyType_GetSlot(type, Py_tp_alloc))(type, 0);
+
+	if (iterator != NULL) {
+		Py_INCREF(self);
+		iterator_in(iterator)->timers = self;
+	}
+	return iterator;
+}
+
+static PyObject *iterator_next(PyObject *self)
+{
+	PyObject *timers = iterator_in(self)->timers, *name, *tuple, *pair = NULL;
+	struct timers_handle handle;
+	struct timers_expired timer;
+
+	if (timers == NULL || !timers_each(held_by(timers), &iterator_in(self)->cursor, &handle, &timer))
+		return NULL;
+	tuple = copied_tuple(&timer);
+	name = tuple == NULL ? NULL : make_handle(timers_in(timers)->state, handle);
+	if (name != NULL)
+		pair = PyTuple_Pack(2, name, tuple);
+	Py_XDECREF(name);
+	Py_XDECREF(tuple);
+	return pair;
+}
+
+static int iterator_traverse(PyObject *self, visitproc visit, void *arg)
+{
+	Py_VISIT(Py_TYPE(self));
+	Py_VISIT(iterator_in(self)->timers);
+	return 0;
+}
+
+static int iterator_clear(PyObject *self)
+{
+	Py_CLEAR(iterator_in(self)->timers);
+	return 0;
+}
+
+static void iterator_dealloc(PyObject *self)
+{
+	PyObject_GC_UnTrack(self);
+	iterator_clear(self);
+	free_object(self);
+}
+
+static PyType_Slot iterator_slots[] = {
+	{ Py_tp_iter, PyObject_SelfIter },
+	{ Py_tp_iternext, iterator_next },
+	{ Py_tp_traverse, iterator_traverse },
+	{ Py_tp_clear, iterator_clear },
+	{ Py_tp_dealloc, iterator_dealloc },
+	{ 0, NULL },
+};
+static PyType_Spec iterator_spec = {
+	"timers.TimersIterator", sizeof(struct iterator_object), 0,
+	Py_TPFLAGS_DEFAULT | Py_TPFLAGS_HAVE_GC | Py_TPFLAGS_DISALLOW_INSTANTIATION | Py_TPFLAGS_IMMUTABLETYPE, iterator_slots,
+};
+
+/* The type */
+
+static PyMethodDef timers_methods[] = {
+	{ "start", FAST(timers_object_start),
+	  "start($self, interval, action, /)\n--\n\n"
+	  "Starts a timer that expires after `interval` ticks, 1 or more, and returns its handle.\n\n"
+	  "The interval counts from now(), the tick to which the clock was advanced last. If that may be\n"
+	  "behind the real time, give start_at the tick that is meant." },
+	{ "start_at", FAST(timers_object_start_at),
+	  "start_at($self, deadline, action, /)\n--\n\n"
+	  "Starts a timer that expires at this tick, and returns its handle.\n\n"
+	  "One that is not after now() is due at once: it is taken after those that have expired already." },
+	{ "restart", FAST(timers_object_restart),
+	  "restart($self, handle, interval, action=..., /)\n--\n\n"
+	  "Stops the timer with this handle, starts another in its place, and returns the new handle.\n\n"
+	  "The old handle names no timer any more. Without an action the new timer has that of the old one." },
+	{ "restart_at", FAST(timers_object_restart_at),
+	  "restart_at($self, handle, deadline, action=..., /)\n--\n\n"
+	  "The same as restart, for a timer that expires at this tick, or at once, as by start_at." },
+	{ "set_at", FAST(timers_object_set_at),
+	  "set_at($self, handle, deadline, action, /)\n--\n\n"
+	  "Restarts the timer with this handle for this tick, or starts one if there is none. Returns its handle.\n\n"
+	  "Before the first start the handle is None. The old handle names no timer any more." },
+	{ "stop", timers_object_stop, METH_O,
+	  "stop($self, handle, /)\n--\n\n"
+	  "Stops the timer with this handle, pending or expired, and returns its action." },
+	{ "look", timers_object_look, METH_O,
+	  "look($self, handle, /)\n--\n\n"
+	  "The timer with this handle, pending or expired, as (deadline, serial, action)." },
+	{ "take", timers_object_take, METH_O,
+	  "take($self, tick, /)\n--\n\n"
+	  "Takes the next timer that is due by this tick, and passes the ticks up to its deadline.\n\n"
+	  "Returns it as (deadline, serial, action), or None. After None the ticks up to `tick` have passed, as far\n"
+	  "as the clock has them. A tick before now() is none to pass." },
+	{ "catch_up", FAST(timers_object_catch_up),
+	  "catch_up($self, now, run=None, /)\n--\n\n"
+	  "Passes the ticks up to `now`, and calls run(deadline, serial, action) for each timer on the way.\n\n"
+	  "Without `run` it calls action(). The timers are taken one at a time: what one of them stops does not come\n"
+	  "out. If a call raises, that timer is taken, and a further catch_up continues. It returns only once nothing\n"
+	  "is due: work that always starts a timer which is due at once keeps it from returning. With a tick before\n"
+	  "now() it does nothing. One after the last tick is refused (TOO_LATE), and nothing was run then." },
+	{ "expire", timers_object_expire, METH_NOARGS,
+	  "expire($self, /)\n--\n\n"
+	  "Takes the first of the expired timers, and returns it as (deadline, serial, action), or None." },
+	{ "expired", timers_object_expired, METH_NOARGS,
+	  "expired($self, /)\n--\n\n"
+	  "Takes all that expired, and returns it as a list of (deadline, serial, action)." },
+	{ "advance", timers_object_advance, METH_O,
+	  "advance($self, most, /)\n--\n\n"
+	  "Passes this many ticks, and returns what expired on the way as a list of (deadline, serial, action).\n\n"
+	  "These are taken, and can't be stopped any more. It passes fewer ticks if the clock comes to its last\n"
+	  "one. There it is refused (CLOCK_END) if nothing was left to take, unless `most` is 0." },
+	{ "advance_to", timers_object_advance_to, METH_O,
+	  "advance_to($self, tick, /)\n--\n\n"
+	  "Passes the ticks up to this one, or up to the first at which a timer expires.\n\n"
+	  "What expires waits to be taken. A tick that is not after now() is none to pass." },
+	{ "tick", timers_object_tick, METH_NOARGS,
+	  "tick($self, /)\n--\n\n"
+	  "Passes one tick. What expires then waits to be taken." },
+	{ "clear", timers_object_clear_all, METH_NOARGS,
+	  "clear($self, /)\n--\n\n"
+	  "Drops all timers, pending and expired. Their actions are released." },
+	{ "reserve", timers_object_reserve, METH_O,
+	  "reserve($self, most, /)\n--\n\n"
+	  "Makes room for this many timers at once: the wheels allocate nothing while fewer are held." },
+	{ "has_due", timers_object_has_due, METH_NOARGS,
+	  "has_due($self, /)\n--\n\n"
+	  "Whether an expired timer was not yet taken." },
+	{ "now", timers_object_now, METH_NOARGS,
+	  "now($self, /)\n--\n\n"
+	  "The present tick." },
+	{ "wakeup", timers_object_wakeup, METH_NOARGS,
+	  "wakeup($self, /)\n--\n\n"
+	  "A tick until which nothing expires, at most the next deadline, or None if no timer is held.\n\n"
+	  "Constant time. At that tick maybe nothing has expired: then ask again." },
+	{ "next", timers_object_next, METH_NOARGS,
+	  "next($self, /)\n--\n\n"
+	  "The deadline of the timer that is taken next, exactly, or None if no timer is held." },
+	{ "find_next", timers_object_find_next, METH_NOARGS,
+	  "find_next($self, /)\n--\n\n"
+	  "The same as next. What it found is kept for later calls, for a loop that asks in each turn." },
+	{ "counts", timers_object_counts, METH_NOARGS,
+	  "counts($self, /)\n--\n\n"
+	  "What the wheels did since they were made, as (starts, moves, visits)." },
+	{ "close", timers_object_close, METH_NOARGS,
+	  "close($self, /)\n--\n\n"
+	  "Frees all timers, and releases their actions.\n\n"
+	  "From then on each call that can be refused is (NOT_OPEN). The others find no timer." },
+	{ "__enter__", enter, METH_NOARGS, "The timers themselves." },
+	{ "__exit__", FAST(timers_object_exit), "Frees all timers, as close." },
+	{ "__reduce__", refuse_copy, METH_NOARGS, "Refused: timers own memory." },
+	{ "__class_getitem__", Py_GenericAlias, METH_O | METH_CLASS, "For annotations: Timers[T] has actions of type T." },
+	{ NULL, NULL, 0, NULL },
+};
+
+static PyMemberDef timers_members[] = {
+	{ "__weaklistoffset__", T_PYSSIZET, offsetof(struct timers_object, weak_references), READONLY, NULL },
+	{ NULL, 0, 0, 0, NULL },
+};
+
+static PyType_Slot timers_slots[] = {
+	{ Py_tp_doc, "Timers(table=WIDE, first_tick=0)\n--\n\n"
+		"Timers and their clock of ticks. An action is any object.\n\n"
+		"Only tick, advance, advance_to, take and catch_up pass ticks. A timer whose deadline is now() has expired,\n"
+		"and waits to be taken by expire, expired, take or catch_up. Timers are taken in the order of their\n"
+		"deadlines, and those of one deadline in the order of their starts.\n\n"
+		"len(timers) is how many are pending. `handle in timers` is whether a timer has this handle. An iteration\n"
+		"has all timers, pending and expired, in no order: pairs of a handle and what look returns. Meanwhile\n"
+		"timers may be started, stopped and taken. The object is true also if no timer is pending." },
+	{ Py_tp_new, timers_object_new },
+	{ Py_tp_init, timers_object_init },
+	{ Py_tp_dealloc, timers_object_dealloc },
+	{ Py_tp_traverse, timers_object_traverse },
+	{ Py_tp_clear, timers_object_clear },
+	{ Py_tp_repr, timers_object_repr },
+	{ Py_tp_iter, timers_object_iter },
+	{ Py_tp_methods, timers_methods },
+	{ Py_tp_members, timers_members },
+	{ Py_sq_contains, timers_object_contains },
+	{ Py_sq_length, timers_object_length },
+	{ Py_nb_bool, timers_object_is_true },
+	{ 0, NULL },
+};
+static PyType_Spec timers_spec = {
+	"timers.Timers", sizeof(struct timers_object), 0, Py_TPFLAGS_DEFAULT | Py_TPFLAGS_HAVE_GC | Py_TPFLAGS_BASETYPE, timers_slots,
+};

@@ -1,0 +1,13 @@
+import asyncio
+from collections.abc import Callable
+from contextvars import Context
+from typing import Any
+
+__all__ = ["EventLoop", "WheelMixin"]
+
+class WheelMixin:
+    def __init__(self, *arguments: Any, **named: Any) -> None: ...
+    def call_at(self, when: float, callback: Callable[..., object], *args: Any, context: Context | None = None) -> asyncio.TimerHandle: ...
+    def close(self) -> None: ...
+
+class EventLoop(WheelMixin, asyncio.SelectorEventLoop): ...

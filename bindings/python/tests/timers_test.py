@@ -1,0 +1,633 @@
+"""Random calls of Timers agree with a dictionary; then its edges, its memory, what it refers to, and the end of the clock."""
+import contextlib
+import copy
+import gc
+import pickle
+import random
+import sys
+import threading
+import weakref
+
+import timers as module
+from timers import (CLOCK, CLOCK_END, CLOCK_LAST, DUE, LAST, NO_MEMORY, NO_TABLE, NOT_OPEN, NOT_PENDING, OK, TOO_LATE, WIDE,
+                    ZERO_INTERVAL, Handle, Timers, TimersError)
+
+try:
+    import _testcapi
+except ImportError:
+    _testcapi = None
+
+
+class Action:
+    """An action with a number. `live` has the numbers of those that something refers to."""
+
+    made, live = 0, set()
+
+    def __init__(self):
+        Action.made += 1
+        self.number = Action.made
+        Action.live.add(self.number)
+
+    def __del__(self):
+        Action.live.remove(self.number)
+
+
+def refused(call, *arguments):
+    try:
+        call(*arguments)
+    except TimersError as error:
+        return error.status
+    return OK
+
+
+def numbered(timer):
+    deadline, serial, action = timer
+    return deadline, serial, action.number
+
+
+def start(timers, rng, tick, interval):
+    action = Action()
+    handle = timers.start_at(tick, action) if rng.randrange(2) else timers.start(interval, action)
+    return action.number, handle
+
+
+def restart(timers, rng, handle, tick, interval):
+    """Restarts it with another action, or with the same, in each way that there is. The number of the action, and the handle."""
+    call, end = rng.choice([(timers.restart, interval), (timers.restart_at, tick), (timers.set_at, tick)])
+    if call != timers.set_at and rng.randrange(2):
+        return timers.look(handle)[2].number, call(handle, end)
+    action = Action()
+    return action.number, call(handle, end, action)
+
+
+def pass_ticks(timers, rng, most):
+    """Passes so many ticks, and takes what expires, in each way that there is."""
+    got, how, end = [], rng.randrange(5), timers.now() + most
+    if how == 0:
+        got = timers.advance(most)
+    elif how == 1:
+        timers.catch_up(end, lambda *timer: got.append(timer))
+    elif how == 2:
+        while timer := timers.take(end):
+            got.append(timer)
+    elif how == 3:
+        got += timers.expired()
+        while timers.now() < end:
+            timers.advance_to(end)
+            got += timers.expired()
+    else:
+        while timers.now() < end or timers.has_due():
+            while timer := timers.expire():
+                got.append(timer)
+            timers.advance_to(end)
+    return [numbered(timer) for timer in got]
+
+
+def compare(calls=20000):
+    """Only the timers refer to an action that they hold, and nothing to one that they don't."""
+    rng = random.Random(5)
+    held, now = {}, 1000  # by serial: deadline, number of the action, handle
+    with Timers(first_tick=now) as timers:
+        for _ in range(calls):
+            which, interval = rng.randrange(5), 1 + rng.randrange(3000)
+            tick = now + interval if rng.randrange(4) else rng.randrange(now + 1)
+            if rng.randrange(64) == 0:
+                timers.reserve(rng.randrange(1000))
+            if which < 2 or (which < 4 and not held):
+                number, handle = start(timers, rng, tick, interval)
+                deadline = timers.look(handle)[0]
+                assert deadline in (max(tick, now), now + interval)  # at once, if it is not after now
+                assert numbered(timers.look(handle)) == (deadline, handle.serial, number)
+                held[handle.serial] = deadline, number, handle
+            elif which < 4:
+                serial = rng.choice(list(held)[:50])
+                _, number, old = held.pop(serial)
+                if which == 2:
+                    assert timers.stop(old).number == number
+                else:
+                    number, handle = restart(timers, rng, old, tick, interval)
+                    held[handle.serial] = timers.look(handle)[0], number, handle
+                assert old.serial == serial and refused(timers.stop, old) == NOT_PENDING and old not in timers
+                if which == 2 and rng.randrange(3) == 0:
+                    handle = timers.set_at(rng.choice([old, None]), tick, Action())
+                    held[handle.serial] = max(tick, now), Action.made, handle
+            else:
+                most = rng.randrange(200)
+                now += most
+                got = pass_ticks(timers, rng, most)
+                want = sorted((d, s, a) for s, (d, a, _) in held.items() if d <= now)
+                assert got == want, (got, want)
+                for _, serial, _ in got:
+                    del held[serial]
+                timers.advance_to(rng.randrange(now + 1))  # passes nothing
+                if rng.randrange(200) == 0:
+                    timers.clear()
+                    held.clear()
+            due = sum(d == now for d, _, _ in held.values())
+            first = min((d for d, _, _ in held.values()), default=None)
+            wakeup = timers.wakeup()
+            if due:
+                assert wakeup == now and refused(timers.tick) == DUE
+            else:
+                assert wakeup is None if first is None else now < wakeup <= first
+            assert timers.next() == timers.find_next() == timers.next() == first
+            assert timers.has_due() == (due > 0) and timers
+            assert timers.now() == now and len(timers) == len(held) - due
+            assert Action.live == {number for _, number, _ in held.values()}
+            assert all(handle in timers for _, _, handle in list(held.values())[:3])
+        visited = {handle.serial: numbered(timer) for handle, timer in timers}
+        assert visited == {serial: (deadline, serial, number) for serial, (deadline, number, _) in held.items()}
+    assert Action.live == set()
+    print(f"{calls} calls from Python agree; tick {now}")
+
+
+def raises(kind, call, *arguments):
+    try:
+        call(*arguments)
+    except kind:
+        return True
+    return False
+
+
+def text_of(kind, call, *arguments):
+    try:
+        call(*arguments)
+    except kind as error:
+        return str(error)
+    return None
+
+
+def meet_the_edges():
+    """What is no number of 64 bits is refused, and nothing has changed; truth is not emptiness."""
+    with Timers(first_tick=2**60 - 2) as timers:
+        handle = timers.start(1, 2**64 - 1)
+        calls = [timers.start, timers.start_at, lambda *two: timers.restart(handle, *two)]
+        calls += [lambda *two: timers.restart_at(handle, *two), lambda *two: timers.set_at(handle, *two)]
+        for call in calls + [lambda *two: timers.set_at(None, *two)]:
+            for value in (2**64, -1):
+                assert raises(OverflowError, call, value, 1)
+            for value in (1.5, 1.0, "1", None):
+                assert raises(TypeError, call, value, 1)
+        for value in (2**64, -1):
+            assert raises(OverflowError, timers.advance, value)
+            assert raises(OverflowError, timers.catch_up, value, print)
+            assert raises(OverflowError, lambda value=value: Timers(first_tick=value))
+        assert raises(OverflowError, lambda: Timers(table=2**32))
+        for value in (2**64, -1):
+            assert raises(OverflowError, Handle, value, 1) and raises(OverflowError, Handle, 1, value)
+        assert refused(timers.stop, Handle(handle.place, 2**64 - 1)) == NOT_PENDING
+        assert raises(OverflowError, timers.reserve, 2**64) and raises(TypeError, timers.reserve, 1.0)
+        assert refused(timers.reserve, 2**64 - 1) == NO_MEMORY
+        assert refused(timers.start, 0, 1) == refused(timers.restart, handle, 0, 1) == ZERO_INTERVAL
+        assert refused(timers.start, 2, 1) == TOO_LATE
+        assert refused(timers.set_at, handle, 2**60, 1) == refused(timers.set_at, None, 2**60, 1) == TOO_LATE
+        assert text_of(OverflowError, timers.start, 2**64, 1) == "18446744073709551616 is not from 0 to 2^64 - 1"
+        assert text_of(OverflowError, lambda: Timers(table=-1)) == "-1 is not from 0 to 2^32 - 1"
+        for owned in (copy.copy, copy.deepcopy, pickle.dumps):
+            assert text_of(TypeError, owned, timers).endswith(" owns memory: it can't be copied or pickled")
+        for wrong in (None, 7, (handle.place, handle.serial)):
+            assert text_of(TypeError, timers.stop, wrong) == f"not a Handle: {wrong}"
+            for call in (timers.look, timers.__contains__, lambda h: timers.restart(h, 1), lambda h: timers.restart_at(h, 1)):
+                assert raises(TypeError, call, wrong)
+        for call, *wrong in ((timers.start, 1), (timers.start_at, 1, 2, 3), (timers.restart, handle), (timers.set_at, handle, 1),
+                             (timers.catch_up,), (timers.take,), (timers.now, 1), (Handle, 1, 2, 3), (Timers, 0, 1, 2)):
+            assert raises(TypeError, call, *wrong)
+        assert timers.look(handle) == (2**60 - 1, 1, 2**64 - 1) and len(timers) == 1
+        assert timers.stop(handle) == 2**64 - 1
+        assert timers and len(timers) == 0 and timers.next() is timers.find_next() is timers.wakeup() is None
+    assert timers and refused(timers.start, 1, 1) == refused(timers.set_at, handle, 1, 1) == NOT_OPEN
+    assert refused(timers.advance, 0) == refused(timers.advance, 1) == refused(timers.advance_to, 1) == NOT_OPEN
+    assert refused(timers.catch_up, 0, print) == refused(timers.tick) == NOT_OPEN
+    assert timers.take(9) is None and timers.expired() == [] and list(timers) == []
+    timers.clear()
+    timers.close()
+
+
+def close_if_the_block_raises():
+    """A block that is left by an exception frees its timers, and the exception goes on."""
+    def leave():
+        with timers:
+            raise KeyError
+
+    timers = Timers()
+    assert raises(KeyError, leave) and refused(timers.start, 1, 1) == NOT_OPEN
+
+
+def take_nothing_if_refused():
+    """A number that is refused takes no timer, and passes no tick."""
+    with Timers() as timers:
+        first, second = timers.start_at(0, 7), timers.start(3, 8)
+        for call in (timers.advance, lambda value: timers.catch_up(value, print), timers.take, timers.advance_to):
+            for value, kind in ((-1, OverflowError), (2**64, OverflowError), (1.5, TypeError), (None, TypeError)):
+                assert raises(kind, call, value)
+        assert refused(timers.catch_up, 2**60, print) == refused(timers.catch_up, 2**64 - 1, print) == TOO_LATE
+        assert timers.now() == 0 and timers.has_due() and len(timers) == 1
+        assert timers.advance(3) == [(0, first.serial, 7), (3, second.serial, 8)]
+
+
+def catch_up_with_other_times():
+    """A time before the clock passes no tick and runs nothing. One after its end is refused, and nothing has run."""
+    with Timers(CLOCK, 1000) as timers:
+        ran = []
+        timers.start(500, 1)
+        timers.start_at(0, 2)
+        for now in (999, 0):
+            timers.catch_up(now, lambda *timer: ran.append(timer))
+            timers.advance_to(now)
+        for now in (8640000, 2**64 - 1):
+            assert refused(timers.catch_up, now, lambda *timer: ran.append(timer)) == TOO_LATE
+        assert ran == [] and timers.now() == 1000 and timers.has_due() and len(timers) == 1
+        timers.catch_up(1000, lambda *timer: ran.append(timer[2]))
+        timers.catch_up(8639999, lambda *timer: ran.append(timer[2]))
+        assert ran == [2, 1] and timers.now() == 8639999
+
+
+def take_many():
+    """All timers of a tick are taken, however many there are. What is dropped is not."""
+    with Timers() as timers:
+        for take in (timers.advance, lambda most: timers.advance_to(timers.now() + most) or timers.expired()):
+            for action in range(1000):
+                timers.start(9, action)
+            assert [action for _, _, action in take(9)] == list(range(1000)) and not timers.has_due()
+        ran = []
+        for action in range(200):
+            timers.start(9, action)
+        timers.catch_up(timers.now() + 9, lambda *timer: ran.append(timer[2]))
+        assert ran == list(range(200))
+        handles = [timers.start_at(0, 1), timers.start(5, 2)]
+        timers.clear()
+        assert len(timers) == 0 and timers.advance(99) == [] and timers.now() == 126
+        assert all(refused(timers.look, handle) == NOT_PENDING for handle in handles)
+
+
+def keep_what_an_iteration_gave():
+    """Each handle of an iteration names its own timer, also when it is used later."""
+    with Timers() as timers:
+        for action in range(50):
+            timers.start(1 + action, action)
+        found = list(timers)
+        assert sorted(action for _, (_, _, action) in found) == list(range(50))
+        assert all(timers.look(handle) == timer for handle, timer in found)
+        assert sorted(timers.stop(handle) for handle, _ in found) == list(range(50)) and len(timers) == 0
+
+
+def raise_from_a_run():
+    """What `run` raises leaves catch_up. The timer is taken, and the others of its tick are not."""
+    with Timers() as timers:
+        for action in range(10):
+            timers.start(5, action)
+        ran = []
+
+        def run(*timer):
+            ran.append(timer[2])
+            if timer[2] % 3 == 0:
+                raise KeyError(timer[2])
+
+        for _ in range(4):
+            assert raises(KeyError, timers.catch_up, 9, run)
+            assert timers.now() == 5 and ran == list(range(ran[-1] + 1))
+        timers.catch_up(9, run)
+        assert ran == list(range(10)) and timers.now() == 9
+
+
+def mapped():
+    """The bytes of memory that this process has mapped."""
+    with open("/proc/self/statm", encoding="ascii") as file:
+        return int(file.read().split()[0]) * 4096
+
+
+def make_room():
+    """Room for 100,000 timers is 6.4 MB. While fewer are held, nothing is added to it."""
+    most, before = 100000, mapped()
+    with Timers() as timers:
+        timers.reserve(most)
+        reserved = mapped()
+        assert 60 * most < reserved - before < 80 * most, reserved - before
+        for number in range(most):
+            timers.start(1 + number, None)
+        assert mapped() < reserved + 2**21 and len(timers) == most
+
+
+def free_what_is_closed():
+    """What is closed, forgotten or made anew gives its memory back, once: 12 times 6.4 MB would be 77 MB for each kind."""
+    before = mapped()
+    for round_of in range(60):
+        timers = Timers()
+        timers.reserve(100000)
+        timers.start(1, Action())
+        if round_of % 5 == 0:
+            timers.close()
+            timers.close()
+        elif round_of % 5 == 1:
+            with timers:
+                pass
+        elif round_of % 5 == 2:
+            timers.start(1, timers)
+            del timers
+            gc.collect()
+        elif round_of % 5 == 3:
+            timers.__init__()
+            assert len(timers) == 0
+            timers = None
+        else:
+            timers = None
+        assert Action.live == set()
+        assert mapped() < before + 40 * 2**20, (round_of, mapped() - before)
+
+
+class Number:
+    """A whole number by `__index__` alone, which answers once."""
+
+    def __init__(self, value):
+        self.values = [value]
+
+    def __index__(self):
+        return self.values.pop()
+
+
+def take_whole_numbers():
+    """A number is read once, and stands for itself wherever it is used. Handles are equal if their numbers are."""
+    timers, last = Timers(Number(CLOCK), Number(8639990)), 8639999
+    timers.reserve(Number(9))
+    handle = timers.start(Number(1), 7)
+    for call in (timers.restart, timers.restart_at, timers.set_at):
+        handle = call(handle, Number(9 if call == timers.restart else last), 7)
+    assert timers.look(Handle(Number(handle.place), Number(handle.serial))) == (last, handle.serial, 7)
+    assert timers.take(Number(8639991)) is None and timers.advance(Number(1)) == []
+    timers.advance_to(Number(8639993))
+    timers.catch_up(Number(8639994), print)
+    assert refused(timers.catch_up, Number(last + 1), print) == TOO_LATE and timers.now() == 8639994
+    for wrong in ((2, 0), (CLOCK, last + 1)):
+        assert refused(timers.__init__, *wrong) != OK and len(timers) == 1  # and it keeps what it has
+    place, serial = handle.place, handle.serial
+    same, others = Handle(place, serial), (Handle(place, 9), Handle(9, serial), (place, serial))
+    assert handle == same and hash(handle) == hash(same) and repr(same) == f"Handle({handle.place}, {handle.serial})"
+    assert handle not in others and {handle: 1}[same] == 1
+
+
+def hold_the_lock(most=3000):
+    """Calls of several threads on the same timers come one at a time: nothing is lost, and nothing comes twice."""
+    timers, stopped, taken = Timers(), [], []
+
+    def work(seed):
+        rng, handles = random.Random(seed), []
+        for number in range(most):
+            handles.append(timers.start(1 + rng.randrange(500), (seed, number)))
+            if rng.randrange(3) == 0:
+                with contextlib.suppress(TimersError):  # another thread has taken it
+                    stopped.append(timers.stop(handles.pop(rng.randrange(len(handles)))))
+            if rng.randrange(8) == 0:
+                with contextlib.suppress(TimersError):  # another thread has advanced it to what is due
+                    taken.extend(timers.advance(1))
+
+    interval = sys.getswitchinterval()
+    sys.setswitchinterval(1e-6)
+    workers = [threading.Thread(target=work, args=(seed,)) for seed in range(4)]
+    for worker in workers:
+        worker.start()
+    for worker in workers:
+        worker.join()
+    sys.setswitchinterval(interval)
+    taken += timers.advance(500)
+    assert len(timers) == 0
+    assert sorted(stopped + [action for _, _, action in taken]) == [(seed, number) for seed in range(4) for number in range(most)]
+
+
+class Calls:
+    """Runs a function once nothing refers to it."""
+
+    def __init__(self, run):
+        self.run = run
+
+    def __del__(self):
+        self.run()
+
+
+def release_what_calls_back():
+    """What is run by the release of an action may call the same timers, and finds them as they are by then."""
+    ways = [Timers.clear, Timers.close, Timers.__init__, lambda timers: timers.stop(handles[0]), Timers.expired, Timers.expire,
+            lambda timers: timers.restart(handles[0], 3, None), lambda timers: timers.set_at(handles[0], 3, None),
+            lambda timers: timers.advance(9), lambda timers: timers.take(9), lambda timers: timers.catch_up(9, lambda *_: None)]
+    calls = [lambda: timers.start(1, "new"), lambda: timers.start_at(0, "due"), lambda: timers.stop(handles[1]), lambda: len(timers),
+             lambda: list(timers), lambda: timers.clear(), lambda: timers.close(), lambda: timers.__init__(),
+             lambda: timers.expired(), lambda: timers.restart(handles[1], 7, "other"), lambda: timers.reserve(5000), gc.collect]
+    for way in ways:
+        for call in calls:
+            ran = []
+
+            def run(call=call, ran=ran):
+                ran.append(1)
+                with contextlib.suppress(TimersError):
+                    call()
+
+            timers = Timers()
+            handles = [timers.start(1 + number % 2, Calls(run)) for number in range(6)]
+            timers.start_at(0, Calls(run))
+            with contextlib.suppress(TimersError):
+                way(timers)
+            list(timers), timers.wakeup()
+            timers.close()
+            assert len(ran) == 7
+
+
+def refer_in_circles():
+    """What only refers to itself is freed by the collector: by an action, by an iteration, and by a class of the user's."""
+    class Named(Timers):
+        pass
+
+    for kind in (Timers, Named):
+        for circle in ("action", "iteration", "attribute", "many"):
+            timers = kind()
+            gone = weakref.ref(timers)
+            if circle == "action":
+                timers.start(5, timers)
+            elif circle == "iteration":
+                iteration = iter(timers)
+                timers.start(5, [iteration])
+                timers.start_at(0, next(iteration))
+                del iteration
+            elif circle == "attribute" and kind is Named:
+                timers.itself = timers
+            elif circle == "many":
+                for number in range(1000):
+                    timers.start(1 + number, [number, timers.start])
+                timers.advance(500)
+            timers.start(1, Action())
+            del timers
+            gc.collect()
+            assert gone() is None and Action.live == set()
+
+
+def derive():
+    """A class of the user's has the same calls, and may have more."""
+    class Named(Timers[str]):
+        def __init__(self, name):
+            super().__init__(CLOCK, 7)
+            self.name = name
+
+        def start(self, interval, action):
+            return super().start(interval, self.name + action)
+
+    named = Named("a")
+    handle = named.start(3, "b")
+    assert named.look(handle) == (10, handle.serial, "ab") and named.name == "a" and refused(named.start, 8639999, "") == TOO_LATE
+    assert repr(named) == "<timers, 1 pending, tick 7>"
+    empty = Timers.__new__(Timers)
+    assert refused(empty.start, 1, 1) == NOT_OPEN and repr(empty) == "<timers, closed>" and len(empty) == 0 and list(empty) == []
+
+
+def call_the_actions():
+    """Without a function catch_up calls the actions. One that can't be called is taken all the same."""
+    timers, ran = Timers(), []
+    timers.start(3, lambda: ran.append("c"))
+    timers.start(1, lambda: ran.append("a"))
+    timers.start(2, "no function")
+    assert raises(TypeError, timers.catch_up, 9) and timers.now() == 2 and ran == ["a"]
+    timers.catch_up(9, None)
+    assert ran == ["a", "c"] and timers.now() == 9
+
+
+def name_what_is_refused():
+    """An error has the number and the text of its reason, also once it was pickled."""
+    error = pickle.loads(pickle.dumps(TimersError(NOT_PENDING)))
+    assert (error.status, str(error), repr(error)) == (NOT_PENDING, "no timer has this handle", f"TimersError({NOT_PENDING})")
+    for status in (99, 2**40):
+        assert str(TimersError(status)) == "no status"
+    assert raises(TypeError, str, TimersError("x")) and raises(IndexError, str, TimersError())
+    for wrong, status in ((2, NO_TABLE), (2**32 - 1, NO_TABLE)):
+        assert refused(Timers, wrong) == status
+    assert refused(Timers, WIDE, LAST + 1) == refused(Timers, CLOCK, CLOCK_LAST + 1) == TOO_LATE
+    assert set(module.__all__) | {"asyncio", "desk"} >= {name for name in vars(module) if not name.startswith("_")}
+
+
+def keep_handles():
+    """Handles are kept by copies, pickles, sets and dictionaries. They can't be changed."""
+    handle = Handle(3, 2**64 - 1)
+    for same in (copy.copy(handle), copy.deepcopy(handle), pickle.loads(pickle.dumps(handle))):
+        assert same == handle and hash(same) == hash(handle) and not same != handle
+    assert Handle() == Handle(0, 0) == Handle(serial=0, place=0) and Handle() != Handle(0, 1) and Handle() != 0
+    assert raises(AttributeError, setattr, handle, "serial", 1) and raises(TypeError, lambda: handle < handle)
+    assert len({Handle(place, serial) for place in range(100) for serial in range(100)}) == 10000
+    timers = Timers()
+    by_handle = {timers.start(1, number): number for number in range(1000)}
+    assert all(timers.stop(handle) == number for handle, number in by_handle.items()) and list(timers) == []
+
+
+def refuse_memory():
+    """Each allocation of each call is refused once: nothing is lost but what the failing call had taken, and nothing leaks."""
+    if _testcapi is None:
+        print("skipped: no _testcapi, which refuses memory")
+        return
+    spare, refusals = [7], 0
+
+    # Made before: an interpreter that has no memory for a function may crash.
+    def ignore(*timer):
+        pass
+
+    def start_spare(interval):
+        return timers.start(1 + interval, spare)
+
+    calls = [lambda: timers.start(5, spare), lambda: timers.start_at(0, spare), lambda: timers.reserve(3000),
+             lambda: timers.restart(handle, 2), lambda: timers.restart(handle, 2, spare), lambda: timers.set_at(None, 2, spare),
+             lambda: timers.set_at(handle, 2, spare), lambda: timers.stop(handle), lambda: timers.look(handle),
+             lambda: timers.take(9), lambda: timers.expire(), lambda: timers.expired(), lambda: timers.advance(300),
+             lambda: timers.catch_up(300, ignore), lambda: list(timers), lambda: timers.counts(),
+             lambda: timers.__init__(), lambda: Timers(), lambda: repr(timers), lambda: Handle(2**70 % 2**64, 1),
+             lambda: list(map(start_spare, range(60)))]
+    references = sys.getrefcount(spare)
+    for call in calls:
+        more, failed = 0, True
+        while failed or more < 4:  # the call runs again, with one more allocation before that which is refused
+            timers = Timers()
+            handle = [timers.start_at(number % 3, Action()) for number in range(20)][0]
+            for number in range(200):
+                timers.start(1 + number, Action())
+            _testcapi.set_nomemory(more, more + 1)
+            try:
+                call()
+                failed = False
+            except MemoryError:
+                failed = True
+            except TimersError as error:
+                assert error.status == NO_MEMORY
+                failed = True
+            finally:
+                _testcapi.remove_mem_hooks()
+            assert sum(isinstance(timer[2], Action) for _, timer in timers) == len(Action.live), more
+            refusals += failed
+            more += 1
+            assert more < 999
+            timers.advance(1000)
+            timers.close()
+            assert Action.live == set() and sys.getrefcount(spare) == references
+    assert refusals > 40, refusals
+
+
+def stop_what_expired():
+    """The work of one timer stops another of its tick, which is not handed out then."""
+    with Timers() as timers:
+        handles = [timers.start(5, number) for number in range(3)]
+        ran = []
+
+        def run(deadline, serial, action):
+            ran.append((deadline, action))
+            if action == 0:
+                assert timers.stop(handles[1]) == 1
+
+        timers.catch_up(9, run)
+        assert ran == [(5, 0), (5, 2)] and timers.now() == 9 and timers.expire() is None
+
+
+def start_what_is_due_at_once():
+    """A tick that is not after now is due at once, behind what has expired already."""
+    with Timers(first_tick=7) as timers:
+        first, second = timers.start_at(7, 1), timers.start_at(0, 2)
+        assert timers.look(second) == (7, 2, 2) and timers.has_due() and len(timers) == 0
+        last = timers.restart_at(first, 3, 3)
+        assert timers.expire() == (7, 2, 2) and timers.expire() == (7, last.serial, 3)
+        assert timers.expire() is None and not timers.has_due() and timers.now() == 7
+
+
+def come_to_the_last_tick():
+    """Nothing that expired is lost at the end of the clock, and what is refused there has taken nothing."""
+    last = 8639999
+    with Timers(CLOCK, last - 9) as timers:
+        first, second = timers.start(5, 7), timers.start(9, 8)
+        assert refused(timers.start, 10, 9) == TOO_LATE
+        assert timers.advance(100) == [(last - 4, first.serial, 7), (last, second.serial, 8)]
+        assert timers.now() == last and refused(timers.advance, 1) == CLOCK_END
+        assert timers.advance(0) == [] and timers.now() == last
+        assert refused(timers.start_at, last, 1) == refused(timers.start_at, 0, 1) == TOO_LATE
+    with Timers(CLOCK, last - 9) as timers:
+        assert timers.advance(100) == [] and timers.now() == last
+        assert refused(timers.advance, 100) == CLOCK_END
+    with Timers(CLOCK, last - 1) as timers:
+        handle = timers.start(1, 6)
+        timers.tick()
+        assert timers.advance(1) == [(last, handle.serial, 6)]
+        assert refused(timers.advance, 1) == CLOCK_END
+
+
+def count_the_moves():
+    """A timer for 11 days 11:15:15, started at 10:24:30, moves at 11:00:00 and at 11:15:00."""
+    with Timers(CLOCK, 987870) as timers:
+        handle = timers.start_at(990915, 7)
+        assert timers.counts() == (1, 0, 0)
+        timers.advance(989999 - 987870)
+        assert timers.counts() == (1, 0, 35)
+        timers.advance(990899 - 989999)
+        assert timers.counts() == (1, 1, 50)
+        assert timers.advance(16) == [(990915, handle.serial, 7)]
+        assert timers.counts() == (1, 2, 52)
+        timers.stop(timers.restart(timers.start(1, 8), 2, 9))
+        assert timers.counts() == (3, 2, 52)
+    assert refused(timers.counts) == NOT_OPEN
+
+
+if __name__ == "__main__":
+    for test in (compare, meet_the_edges, close_if_the_block_raises, stop_what_expired, start_what_is_due_at_once,
+                 come_to_the_last_tick, count_the_moves, take_nothing_if_refused, catch_up_with_other_times, take_many,
+                 keep_what_an_iteration_gave, raise_from_a_run, make_room, free_what_is_closed, take_whole_numbers, hold_the_lock,
+                 release_what_calls_back, refer_in_circles, derive, call_the_actions, name_what_is_refused, keep_handles,
+                 refuse_memory):
+        test()

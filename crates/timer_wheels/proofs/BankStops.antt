@@ -1,0 +1,105 @@
+-- Lemmas for `Bank::stop`: a row leaves its list.
+use Rattle.std.proofs.Common.{◌≡◌, ◌<◌, ◌≤◌, ◌+◌, ℕ, List, [], ◌∷◌, ◌++◌, sym, ◌∙◌, ap, inl, inr, subst, arith, slice_set, get_or-set_other, Bool, map, filter, not, ◌==◌, Option, Some}
+use Rattle.std.specs.List.{AllByRecursion}
+use Rattle.std.proofs.lemmas.Bool.{cases_lt}
+use Rattle.timer_base.specs.Basics.{either}
+use Rattle.timer_base.specs.declared.limits.TheConstants.{LAST}
+use Rattle.timer_base.specs.declared.timer.Timer.{Timer}
+use Rattle.timer_base.specs.declared.timer.Handle.{Handle}
+use Rattle.timer_base.specs.Order.{AreRising}
+use Rattle.timer_base.specs.OrderLaws.{All-filter, AreRising-weaken}
+use Rattle.timer_base.specs.WheelState.{IsPending, held_at}
+use Rattle.timer_links.specs.Lists.{list_at, without_key, list_if_alone, AreApart, IsAloneIn, Row, Rows}
+use Rattle.timer_wheels.specs.Bank.{IsBank, LeavesBits}
+use Rattle.timer_wheels.specs.BucketLists.{timer_in, timers_in, AreBuckets, EachRow}
+use Rattle.timer_wheels.specs.Buckets.{state_of}
+use Rattle.timer_wheels.specs.Digits.{IsTable, HasDigits}
+use Rattle.timer_wheels.specs.Occupied.{AreMarked, Clears}
+use Rattle.timer_wheels.specs.Smooth.{slot_in, smooth_list, next_list, moved_to, mark, IsByLaw}
+use Rattle.timer_wheels.specs.Tables.{radices}
+use Rattle.timer_wheels.specs.declared.buckets.Buckets.{Buckets}
+use Rattle.timer_wheels.specs.declared.table.Table.{Table}
+use Rattle.timer_wheels.proofs.Handles.{held_node}
+use Rattle.timer_wheels.proofs.OccupiedLemmas.{marked_same}
+use Rattle.timer_wheels.proofs.RowLemmas.{all-list_at, list_at-without_key}
+use Rattle.timer_wheels.proofs.BankLemmas.{to_relation, to_law, lists_in_range}
+use Rattle.timer_wheels.proofs.SmoothPlaces.{weaker, places_left, front_gone}
+use Rattle.timer_wheels.proofs.TableLaws.{of_table}
+use Rattle.timer_wheels.proofs.WheelUpdates.{taken_out}
+use Rattle.timer_links.proofs.Rows.{stands_in}
+
+-- a mark only rises as rows leave
+filter_rises : (p : Row → Bool) (low : ℕ) (rows : Rows) → AllByRecursion (λ u. (timer_in u).serial ≤ LAST) rows → AreRising low (timers_in rows)
+    → moved_to rows ≤ moved_to (filter p rows)
+filter_rises p low [] a r = omega arith
+filter_rises p low (x ∷ xs) a r = elim (either (p x)) [
+  | inl k ↦ rw k (omega arith)
+  | inr k ↦
+      let r0 : AreRising 0 (timers_in (x ∷ xs)) = AreRising-weaken low 0 (timers_in (x ∷ xs)) (omega arith) r in
+      rw k (omega (arith, (front_gone x xs a.0 r0).0, filter_rises p (timer_in x).serial xs a.1 r.1))
+]
+
+to_clears : (n l : ℕ) (front rest : Rows) (words words2 : List ℕ) → l < n → LeavesBits n (list_if_alone l front rest) words words2
+    → Clears (list_if_alone l front rest) words words2
+to_clears n l [] [] words words2 h c = c.0 h
+to_clears n l [] (x ∷ xs) words words2 h c = c
+to_clears n l (x ∷ xs) rest words words2 h c = c
+
+not_cleared : (n l : ℕ) (front rest : Rows) (words words2 : List ℕ) → n ≤ l → LeavesBits n (list_if_alone l front rest) words words2
+    → words2 ≡ words
+not_cleared n l [] [] words words2 h c = c.1 h
+not_cleared n l [] (x ∷ xs) words words2 h c = c
+not_cleared n l (x ∷ xs) rest words words2 h c = c
+
+module _ (t : Table) (b : Buckets) (words : List ℕ) (h : IsBank t b words) (handle : Handle) where
+  pub stopped_placed : (last2 : ℕ) → AreBuckets b.slots b.last_tick b.tick last2 (map (without_key handle.place) b.links.lists)
+      → EachRow (IsByLaw (radices t) b.tick (mark (radices t) b.tick (map (without_key handle.place) b.links.lists))) b.slots
+      (map (without_key handle.place) b.links.lists)
+  stopped_placed last2 sound =
+      let digits : HasDigits (radices t) b.last_tick = rw h.clock (of_table t).digits in
+      let i : IsTable (radices t) = (of_table t).is_table in
+      to_law (radices t) b.last_tick b.tick last2 (mark (radices t) b.tick (map (without_key handle.place) b.links.lists)) i digits b.slots
+      (map (without_key handle.place) b.links.lists) sound
+      (places_left (radices t) b.tick b.slots b.links.lists (map (without_key handle.place) b.links.lists)
+      (λ s l P a. subst (AllByRecursion P) (sym (list_at-without_key s handle.place b.links.lists))
+      (All-filter P P (λ r. not (r.0 == handle.place)) (list_at s b.links.lists) (λ r e f. f) a))
+      (λ j z l.
+      let r : smooth_list (radices t) j (slot_in (radices t) j b.tick + 1) < b.slots =
+      rw h.has_slots (lists_in_range t j (slot_in (radices t) j b.tick + 1) l) in
+      let s : ℕ = next_list (radices t) b.tick j in
+      let known = weaker (λ u. IsPending b.last_tick b.tick b.last_serial (timer_in u)) (λ u. (timer_in u).serial ≤ LAST)
+      (list_at (next_list (radices t) b.tick j) b.links.lists)
+      (λ u p. let q : (timer_in u).serial ≤ b.last_serial = p.serial in let m = b.sound.serial_in_range in omega arith)
+      (all-list_at (λ u. IsPending b.last_tick b.tick b.last_serial (timer_in u)) b.slots b.links.lists b.sound.pending
+      (next_list (radices t) b.tick j) r) in
+      omega (
+        arith,
+        filter_rises (λ row. not (row.0 == handle.place)) 0 (list_at (next_list (radices t) b.tick j) b.links.lists) known
+            (b.sound.in_order (next_list (radices t) b.tick j) (omega arith)),
+        ap moved_to (list_at-without_key (next_list (radices t) b.tick j) handle.place b.links.lists),
+      ))
+      (λ s l. sound.in_order s (omega arith))
+      (to_relation (radices t) b.last_tick b.tick b.last_serial (mark (radices t) b.tick b.links.lists) i digits b.slots b.links.lists b.sound h.placed))
+
+  module _ (apart : AreApart b.links.lists) (timer : Timer) (e : held_at handle (state_of b) ≡ Some timer) (emptied : Option ℕ)
+      (alone : IsAloneIn handle.place b.links.lists emptied) (words2 : List ℕ) (leaves : LeavesBits b.slots emptied words words2) where
+    pub stopped_marked : AreMarked b.slots words2 (map (without_key handle.place) b.links.lists)
+    stopped_marked =
+        let there = stands_in handle.place (held_node b.sound apart handle timer e).node b.links.lists (held_node b.sound apart handle timer e).at in
+        let rest_is : map (without_key handle.place) b.links.lists ≡ slice_set b.links.lists there.l (there.front ++ there.rest) =
+        (apart there.l there.front (handle.place, (held_node b.sound apart handle timer e).node) there.rest there.in_range there.at).1 in
+        let emptied_is : emptied ≡ list_if_alone there.l there.front there.rest =
+        alone there.l there.front (held_node b.sound apart handle timer e).node there.rest there.in_range there.at in
+        let bits : LeavesBits b.slots (list_if_alone there.l there.front there.rest) words words2 =
+        subst (λ (o : Option ℕ). LeavesBits b.slots o words words2) emptied_is leaves in
+        elim (cases_lt there.l b.slots) [
+          | inl l ↦ subst (AreMarked b.slots words2) (sym rest_is) (taken_out b.slots words words2 there.l b.links.lists l there.in_range h.marked
+              handle.place (held_node b.sound apart handle timer e).node there.front there.rest there.at
+              (to_clears b.slots there.l there.front there.rest words words2 l bits))
+          | inr l ↦
+              let same : words2 ≡ words = not_cleared b.slots there.l there.front there.rest words words2 l bits in
+              subst (λ (x : List ℕ). AreMarked b.slots x (map (without_key handle.place) b.links.lists)) (sym same)
+              (marked_same b.slots words b.links.lists (map (without_key handle.place) b.links.lists)
+              (λ s k. ap (list_at s) rest_is ∙ get_or-set_other b.links.lists there.l s (there.front ++ there.rest) []
+              (λ (q : s ≡ there.l). omega arith)) h.marked)
+        ]

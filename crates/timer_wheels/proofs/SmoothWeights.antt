@@ -1,0 +1,89 @@
+-- The weights of both tables: how many ticks the slots of their wheels are.
+use Rattle.std.proofs.Common.{◌≡◌, ◌<◌, ◌≤◌, ◌*◌, ℕ, zero, suc, List, [], ◌∷◌, length, refl, sym, ◌∙◌, ap, inl, inr, arith}
+use Rattle.std.proofs.Math.Nat.{mul-le-mul_right, mul-le-mul_left}
+use Rattle.std.proofs.lemmas.Bool.{cases_eq}
+use Rattle.timer_wheels.specs.Digits.{IsTable, weight, radix}
+use Rattle.timer_wheels.specs.Tables.{wide, clock, radices}
+use Rattle.timer_wheels.specs.declared.table.Table.{Table}
+use Rattle.timer_wheels.specs.declared.table.Table.TheVariants.{Wide, Clock}
+use Rattle.timer_wheels.proofs.SmoothTurns.{wide_length, wide_radix}
+
+pub weight_up : (table : List ℕ) (k : ℕ) → k < length table → weight (suc k) table ≡ radix k table * weight k table
+weight_up [] k h = absurd (omega arith)
+weight_up (r ∷ []) zero h = refl
+weight_up (r ∷ s ∷ rs) zero h = refl
+weight_up (r ∷ rs) (suc k) h =
+    let e : weight (suc (suc k)) (r ∷ rs) ≡ r * (radix k rs * weight k rs) = ap (λ (x : ℕ). r * x) (weight_up rs k (omega arith)) in
+    e ∙ (let f : r * (radix k rs * weight k rs) ≡ radix k rs * (r * weight k rs) = omega arith in f)
+
+pub weight_some : (table : List ℕ) (k : ℕ) → IsTable table → 0 < weight k table
+weight_some [] k i = omega arith
+weight_some (r ∷ rs) zero i = omega arith
+weight_some (r ∷ rs) (suc k) i = omega (arith, i.0, weight_some rs k i.1, mul-le-mul_left r (weight_some rs k i.1))
+
+-- each wheel has at least two slots
+two_on_clock : (k : ℕ) → k < length clock → 2 ≤ radix k clock
+unfolding clock
+two_on_clock zero h = (let e : 2 ≤ 60 = omega arith in e)
+two_on_clock (suc zero) h = (let e : 2 ≤ 60 = omega arith in e)
+two_on_clock (suc (suc zero)) h = (let e : 2 ≤ 24 = omega arith in e)
+two_on_clock (suc (suc (suc zero))) h = (let e : 2 ≤ 100 = omega arith in e)
+two_on_clock (suc (suc (suc (suc k)))) h = absurd (omega arith)
+
+radix_two : (t : Table) (k : ℕ) → k < length (radices t) → 2 ≤ radix k (radices t)
+radix_two Wide k h = omega (arith, wide_length, wide_radix k (omega (arith, wide_length)))
+radix_two Clock k h = two_on_clock k h
+
+-- a slot of a wheel is at least two of a lower one
+pub record IsMultiple (more less : ℕ) : Type 0 where
+  pub by : ℕ
+  pub two : 2 ≤ by
+  pub is : more ≡ by * less
+
+pub multiples : (t : Table) (j k : ℕ) → j < k → k < length (radices t) → IsMultiple (weight k (radices t)) (weight j (radices t))
+multiples t j zero l h = absurd (omega arith)
+multiples t j (suc k) l h =
+    let r : 2 ≤ radix k (radices t) = radix_two t k (omega arith) in
+    let up : weight (suc k) (radices t) ≡ radix k (radices t) * weight k (radices t) = weight_up (radices t) k (omega arith) in
+    elim (cases_eq j k) [
+      | inl e ↦ record {
+        by = radix k (radices t);
+        two = r;
+        is = up ∙ ap (λ (x : ℕ). radix k (radices t) * weight x (radices t)) (sym e);
+      }
+      | inr n ↦
+          let m = multiples t j k (omega arith) (omega arith) in
+          record {
+            by = radix k (radices t) * m.by;
+            two = (let q : 2 * m.by ≤ radix k (radices t) * m.by = mul-le-mul_right m.by r in omega (arith, m.two));
+            is = up ∙ (ap (λ (x : ℕ). radix k (radices t) * x) m.is
+                ∙ (let q : radix k (radices t) * (m.by * weight j (radices t)) ≡ radix k (radices t) * m.by * weight j (radices t) = omega arith in q));
+          }
+    ]
+
+-- a slot above the lowest wheel has two halves
+pub record HasHalf (n : ℕ) : Type 0 where
+  pub half : ℕ
+  pub some : 0 < half
+  pub is : n ≡ 2 * half
+
+half_of : (r half : ℕ) (rs : List ℕ) (k : ℕ) → IsTable rs → r ≡ 2 * half → 0 < half → HasHalf (r * weight k rs)
+half_of r half rs k i e z = record {
+  half = half * weight k rs;
+  some = omega (arith, z, weight_some rs k i, mul-le-mul_left half (weight_some rs k i));
+  is = ap (λ (x : ℕ). x * weight k rs) e ∙ (let q : 2 * half * weight k rs ≡ 2 * (half * weight k rs) = omega arith in q);
+}
+
+halves_of_wide : (k : ℕ) → IsTable wide → 0 < k → HasHalf (weight k wide)
+unfolding wide
+halves_of_wide zero i z = absurd (omega arith)
+halves_of_wide (suc k) i z = half_of 64 32 (64 ∷ 64 ∷ 64 ∷ 64 ∷ 64 ∷ 64 ∷ 64 ∷ 64 ∷ 64 ∷ []) k i.1 (omega arith) (omega arith)
+
+halves_of_clock : (k : ℕ) → IsTable clock → 0 < k → HasHalf (weight k clock)
+unfolding clock
+halves_of_clock zero i z = absurd (omega arith)
+halves_of_clock (suc k) i z = half_of 60 30 (60 ∷ 24 ∷ 100 ∷ []) k i.1 (omega arith) (omega arith)
+
+pub halves : (t : Table) (k : ℕ) → IsTable (radices t) → 0 < k → HasHalf (weight k (radices t))
+halves Wide = halves_of_wide
+halves Clock = halves_of_clock

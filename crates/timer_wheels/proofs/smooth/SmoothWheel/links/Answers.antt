@@ -1,0 +1,19 @@
+use Rattle.std.proofs.Common.{ℕ, subst}
+use Rattle.timer_wheels.specs.Buckets.{state_of}
+use Rattle.timer_wheels.specs.Placement.{no_rounds}
+use Rattle.timer_wheels.specs.Shown.{ShowsBuckets}
+use Rattle.timer_wheels.specs.Smooth.{smooth_bucket, mark}
+use Rattle.timer_wheels.specs.Tables.{radices}
+use Rattle.timer_wheels.proofs.RoomLemmas.{shows-with_room}
+use Rattle.timer_wheels.proofs.ShownLemmas.{shows}
+use Rattle.timer_wheels.proofs.smooth.SmoothWheel.links.Goals as goal
+
+pub returns : goal.returns
+returns c =
+    let w = c.args.self.now.bank in
+    let b = w.buckets in
+    let P : ℕ → Type 0 = λ n. ShowsBuckets n (smooth_bucket (radices w.table) b.tick (mark (radices w.table) b.tick b.links.lists)) no_rounds
+    (state_of b) b.links.lists in
+    subst P w.bank.has_slots (shows-with_room b.links.room _ _ _ _ _ (shows b.slots
+    (smooth_bucket (radices w.table) b.tick (mark (radices w.table) b.tick b.links.lists)) no_rounds b.links.lists b.sound.has_lists
+    w.bank.placed b.last_tick b.tick b.last_serial b.sound.in_order))

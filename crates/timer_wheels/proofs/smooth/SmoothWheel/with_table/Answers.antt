@@ -1,0 +1,19 @@
+use Rattle.std.proofs.Common.{◌+◌, length, ap, arith}
+use Rattle.timer_links.specs.Lists.{Rows}
+use Rattle.timer_wheels.specs.Smooth.{slot_in, smooth_list}
+use Rattle.timer_wheels.specs.Tables.{radices}
+use Rattle.timer_wheels.proofs.SmoothTotals.{heights_none}
+use Rattle.timer_wheels.proofs.smooth.SmoothWheel.with_table.Goals as goal
+
+pub invariant_of-result : goal.invariant_of-result
+invariant_of-result c =
+    let b = c.in-Ok.bank in
+    record {
+      in_time = λ k z l. omega (
+        arith,
+        ap (λ (r : Rows). length r)
+            (c.in-Ok.ensures.empty (smooth_list (radices b.table) k (slot_in (radices b.table) k b.buckets.tick + 1))),
+      );
+      few_starts = omega arith;
+      paid = omega (arith, heights_none (radices b.table) b.buckets.slots b.buckets.links.lists (λ s l. c.in-Ok.ensures.empty s));
+    }

@@ -1,0 +1,47 @@
+use Rattle.std.proofs.Common.{◌≡◌, ◌+◌, ◌*◌, ℕ, sym, subst, arith, Option}
+use Rattle.timer_links.specs.Lists.{list_at}
+use Rattle.timer_wheels.specs.BucketLists.{timers_in}
+use Rattle.timer_wheels.specs.Deadlines.{IsLeastDeadline}
+use Rattle.timer_wheels.specs.Digits.{weight}
+use Rattle.timer_wheels.specs.SmoothAhead.{IsFoundBelow, IsPendingDeadline, IsFirst, IsNotBefore}
+use Rattle.timer_wheels.specs.Smooth.{smooth_list}
+use Rattle.timer_wheels.specs.Tables.{radices}
+use Rattle.timer_wheels.proofs.SmoothFirsts.{found_without, found_low, found_high, found_skip}
+use Rattle.timer_wheels.proofs.smooth.bank.Bank.deadline_before.Goals as goal
+
+pub returns-in_default : goal.returns-in_default
+returns-in_default c =
+    let w = c.args.self.now in
+    found_without w.table w.buckets w.filled w.bank (IsPendingDeadline w.buckets) c.args.wheel c.args.first c.requires.wheel c.requires.below
+    c.in_default.ensures.first
+
+pub returns-then-wheel-eq0 : goal.returns-then-wheel-eq0
+returns-then-wheel-eq0 c =
+    let w = c.args.self.now in
+    let z : 0 ≡ c.args.wheel = (let e = c.if-wheel-eq0.true in omega arith) in
+    let at : IsFoundBelow (IsPendingDeadline w.buckets) w.table w.buckets 0 c.args.first =
+    subst (λ (x : ℕ). IsFoundBelow (IsPendingDeadline w.buckets) w.table w.buckets x c.args.first) (sym z) c.requires.below in
+    let f : IsFirst (radices w.table) w.buckets.tick 0 w.buckets.links.lists c.in-Some.slot =
+    subst (λ (x : ℕ). IsFirst (radices w.table) w.buckets.tick x w.buckets.links.lists c.in-Some.slot) (sym z) c.in-Some.ensures.first in
+    subst (λ (x : ℕ). IsFoundBelow (IsPendingDeadline w.buckets) w.table w.buckets (x + 1) c.earlier.result) z
+    (subst (λ (o : Option ℕ). IsFoundBelow (IsPendingDeadline w.buckets) w.table w.buckets 1 o) (sym c.earlier.ensures)
+    (found_low w.table w.buckets w.filled w.bank c.in-Some.slot c.args.first at f))
+
+pub returns-then-is_after : goal.returns-then-is_after
+returns-then-is_after c =
+    let w = c.args.self.now in
+    let least : IsLeastDeadline c.known.result (timers_in (list_at (smooth_list (radices w.table) c.args.wheel c.in-Some.slot) w.buckets.links.lists)) =
+    subst (λ (x : ℕ). IsLeastDeadline c.known.result (timers_in (list_at x w.buckets.links.lists))) c.list_of_slot.ensures.value
+    (c.known.ensures (timers_in (list_at c.list_of_slot.result w.buckets.links.lists)) c.first_in.ensures) in
+    subst (λ (o : Option ℕ). IsFoundBelow (IsPendingDeadline w.buckets) w.table w.buckets (c.args.wheel + 1) o) (sym c.earlier-then-is_after.ensures)
+    (found_high w.table w.buckets w.filled w.bank c.args.wheel c.in-Some.slot c.args.first c.known.result c.requires.wheel c.requires.below
+    c.in-Some.ensures.first least)
+
+pub returns-else-is_after : goal.returns-else-is_after
+returns-else-is_after c =
+    let w = c.args.self.now in
+    let n : IsNotBefore c.args.first (c.in-Some.slot * c.weight_of.result) = c.is_after.ensures c.if-is_after.false in
+    let n2 : IsNotBefore c.args.first (c.in-Some.slot * weight c.args.wheel (radices w.table)) =
+    subst (λ (x : ℕ). IsNotBefore c.args.first (c.in-Some.slot * x)) c.weight_of.ensures n in
+    found_skip w.table w.buckets w.filled w.bank (IsPendingDeadline w.buckets) c.args.wheel c.in-Some.slot c.args.first c.requires.wheel
+    c.requires.below c.in-Some.ensures.first n2

@@ -1,0 +1,18 @@
+use Rattle.std.proofs.Common.{◌≡◌, length, arith, subst, ℕ}
+use Rattle.timer_wheels.specs.SmoothAhead.{IsFoundBelow, IsPendingDeadline}
+use Rattle.timer_wheels.specs.Tables.{radices}
+use Rattle.timer_wheels.proofs.SmoothFirsts.{found_none, first_found}
+use Rattle.timer_wheels.proofs.smooth.bank.Bank.next_deadline.Goals as goal
+
+pub loop-wheel-init : goal.loop-wheel-init
+loop-wheel-init c =
+    let w = c.args.self.now in
+    record { most = omega arith; found = found_none w.table w.buckets w.filled w.bank (IsPendingDeadline w.buckets) }
+
+pub returns : goal.returns
+returns c =
+    let w = c.args.self.now in
+    let e : c.loop-wheel.wheel ≡ length (radices w.table) =
+    omega (arith, c.wheels_of-wheels.ensures.value, c.loop-wheel.invariant.most, c.loop-wheel-test.false) in
+    first_found w.table w.buckets w.filled w.bank c.loop-wheel.first
+    (subst (λ (x : ℕ). IsFoundBelow (IsPendingDeadline w.buckets) w.table w.buckets x c.loop-wheel.first) e c.loop-wheel.invariant.found)

@@ -1,0 +1,12 @@
+use Rattle.std.proofs.Common.{◌≤◌, ◌-◌}
+use Rattle.timer_wheels.specs.SmoothAhead.{IsFoundBelow, IsPendingDeadline}
+use Rattle.timer_wheels.proofs.smooth.bank.Bank.next_deadline.Given as goal
+
+abbrev pub invariant-loop-wheel : goal.invariant-loop-wheel
+invariant-loop-wheel l = record {
+  most : l.wheel ≤ l.wheels;
+  found : IsFoundBelow (IsPendingDeadline l.self.buckets) l.self.table l.self.buckets l.wheel l.first;
+}
+
+abbrev pub decreases-loop-wheel : goal.decreases-loop-wheel
+decreases-loop-wheel l = l.wheels - l.wheel

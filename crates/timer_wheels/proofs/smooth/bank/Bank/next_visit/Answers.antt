@@ -1,0 +1,39 @@
+use Rattle.std.proofs.Common.{◌≡◌, ◌*◌, ℕ, sym, ap, ◌∙◌}
+use Rattle.timer_wheels.specs.Digits.{weight, level}
+use Rattle.timer_wheels.specs.Smooth.{slot_in}
+use Rattle.timer_wheels.specs.Tables.{radices}
+use Rattle.timer_wheels.specs.WakeUps.{next_visit}
+use Rattle.timer_wheels.proofs.SmoothFirsts.{none_visited, visit_is, visit_wakes}
+use Rattle.timer_wheels.proofs.smooth.bank.Bank.next_visit.Goals as goal
+
+pub returns-in-None-clause-quiet : goal.returns-in-None-clause-quiet
+returns-in-None-clause-quiet c =
+    let w = c.args.self.now in
+    none_visited w.table w.buckets w.filled w.bank c.in-None.ensures
+
+pub returns-in-None-clause-exact : goal.returns-in-None-clause-exact
+returns-in-None-clause-exact c =
+    let w = c.args.self.now in
+    sym (ap (next_visit (radices w.table) w.buckets.tick) (none_visited w.table w.buckets w.filled w.bank c.in-None.ensures))
+
+pub returns-in-Some-clause-quiet : goal.returns-in-Some-clause-quiet
+returns-in-Some-clause-quiet c =
+    let w = c.args.self.now in
+    let b = c.in-Some.begins in
+    let e : c.slot_of.result * c.weight_of.result ≡ slot_in (radices w.table) (level (radices w.table) w.buckets.tick b) b
+    * weight (level (radices w.table) w.buckets.tick b) (radices w.table) =
+    ap (λ (x : ℕ). x * c.weight_of.result) c.slot_of.ensures
+    ∙ (ap (λ (x : ℕ). slot_in (radices w.table) c.level_of-level.result b * x) c.weight_of.ensures
+    ∙ ap (λ (x : ℕ). slot_in (radices w.table) x b * weight x (radices w.table)) c.level_of-level.ensures.value) in
+    visit_wakes w.table w.buckets w.filled w.bank b c.in-Some.ensures (c.slot_of.result * c.weight_of.result) e
+
+pub returns-in-Some-clause-exact : goal.returns-in-Some-clause-exact
+returns-in-Some-clause-exact c =
+    let w = c.args.self.now in
+    let b = c.in-Some.begins in
+    let e : c.slot_of.result * c.weight_of.result ≡ slot_in (radices w.table) (level (radices w.table) w.buckets.tick b) b
+    * weight (level (radices w.table) w.buckets.tick b) (radices w.table) =
+    ap (λ (x : ℕ). x * c.weight_of.result) c.slot_of.ensures
+    ∙ (ap (λ (x : ℕ). slot_in (radices w.table) c.level_of-level.result b * x) c.weight_of.ensures
+    ∙ ap (λ (x : ℕ). slot_in (radices w.table) x b * weight x (radices w.table)) c.level_of-level.ensures.value) in
+    visit_is w.table w.buckets w.filled w.bank b c.in-Some.ensures (c.slot_of.result * c.weight_of.result) e

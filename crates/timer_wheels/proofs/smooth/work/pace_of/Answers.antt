@@ -1,0 +1,40 @@
+use Rattle.std.proofs.Common.{◌<◌, ◌≤◌, ◌+◌, ◌*◌, ◌/◌, arith, rules}
+use Rattle.timer_wheels.proofs.PaceLemmas.{held_quotient, enough, sixty_ticks}
+use Rattle.timer_wheels.proofs.TableLaws.{of_table}
+use Rattle.timer_wheels.proofs.SmoothDescent.{few_lists}
+use Rattle.timer_wheels.proofs.smooth.work.pace_of.Goals as goal
+
+pub has-requires : goal.has-requires
+has-requires c = omega (arith, c.next_list.ensures.in_range, few_lists c.args.bank.now.table)
+
+pub nonzero_div-result : goal.nonzero_div-result
+nonzero_div-result c =
+    let t = c.args.bank.now.table in
+    omega (arith, c.weight_of.ensures, sixty_ticks t c.args.wheel (of_table t).is_table c.requires.above)
+
+pub overflow_add-result : goal.overflow_add-result
+overflow_add-result c =
+    let q : c.len-held.result / c.weight_of.result ≤ 307445734561825860 =
+    rw c.weight_of.ensures (held_quotient c.args.bank.now.table c.args.wheel c.len-held.result c.requires.above
+    (omega (arith, c.len-held.ensures, c.lemma_countable.ensures))) in
+    let h : c.len-held.result / c.weight_of.result + 1 < 18446744073709551616 = omega arith in
+    search rules
+
+pub overflow_mul-result : goal.overflow_mul-result
+overflow_mul-result c =
+    let q : c.len-held.result / c.weight_of.result ≤ 307445734561825860 =
+    rw c.weight_of.ensures (held_quotient c.args.bank.now.table c.args.wheel c.len-held.result c.requires.above
+    (omega (arith, c.len-held.ensures, c.lemma_countable.ensures))) in
+    let h : 2 * (c.len-held.result / c.weight_of.result + 1) < 18446744073709551616 = omega arith in
+    search rules
+
+pub returns-clause-most : goal.returns-clause-most
+returns-clause-most c =
+    let q : c.len-held.result / c.weight_of.result ≤ 307445734561825860 =
+    rw c.weight_of.ensures (held_quotient c.args.bank.now.table c.args.wheel c.len-held.result c.requires.above
+    (omega (arith, c.len-held.ensures, c.lemma_countable.ensures))) in
+    omega arith
+
+pub returns-clause-enough : goal.returns-clause-enough
+returns-clause-enough c = λ h. rw c.weight_of.ensures (enough c.args.bank.now.table c.args.bank.now.buckets c.args.wheel c.len-held.result
+    c.requires.above c.len-held.ensures h)

@@ -1,0 +1,73 @@
+-- The names in the public clauses of `SmoothWheel`.
+use Rattle.std.proofs.Common.{refl}
+use Rattle.std.specs.Prelude.{◌≡◌, ◌<◌, ◌-◌, ◌==◌, if◌then◌else◌, ℕ, List, []}
+use Rattle.timer_base.specs.declared.timer.Timer.{Timer}
+use Rattle.timer_base.specs.WheelState.{WheelState, after_ticks}
+use Rattle.timer_links.specs.Lists.{KeyedLists}
+use Rattle.timer_wheels.specs.Bank.{potential_of, wheel_of}
+use Rattle.timer_wheels.specs.Buckets.{state_of}
+use Rattle.timer_wheels.specs.Paces.{pace_sum, FitPaces}
+use Rattle.timer_wheels.specs.Placement.{no_rounds}
+use Rattle.timer_wheels.specs.Shown.{ShowsBuckets}
+use Rattle.timer_wheels.specs.Smooth.{smooth_slots, smooth_bucket, mark}
+use Rattle.timer_wheels.specs.Tables.{radices, wide, clock}
+use Rattle.timer_wheels.specs.declared.smooth.SmoothWheel.{SmoothWheel}
+use Rattle.timer_wheels.specs.declared.table.Table.{Table}
+use Rattle.timer_wheels.specs.declared.table.Table.TheVariants.{Wide, Clock}
+
+-- the state of the wheel
+abbrev pub smooth_state : SmoothWheel → WheelState
+smooth_state wheel = state_of wheel.bank.buckets
+
+-- the table by which it reads its digits
+abbrev pub smooth_table : SmoothWheel → Table
+smooth_table wheel = wheel.bank.table
+
+-- the table whose wheels have this many slots in two revolutions
+abbrev pub table_by_turns : ℕ → Table
+table_by_turns n = if n == smooth_slots (radices Wide) then Wide else Clock
+
+pub by_its_turns : (table : Table) → table_by_turns (smooth_slots (radices table)) ≡ table
+unfolding wide clock
+by_its_turns Wide = refl
+by_its_turns Clock = refl
+
+-- its radices
+abbrev pub radices_by_turns : ℕ → List ℕ
+radices_by_turns n = radices (table_by_turns n)
+
+-- how many timers were started or restarted, and how many times one moved to a lower wheel
+abbrev pub starts_of : SmoothWheel → ℕ
+starts_of wheel = wheel.starts
+
+abbrev pub moves_of : SmoothWheel → ℕ
+moves_of wheel = wheel.moves
+
+-- the most moves of the next tick: the sum of the paces
+abbrev pub next_moves : SmoothWheel → ℕ
+next_moves wheel = pace_sum wheel.paces
+
+-- the wheels in which its pending timers stand, added up: how many moves are left, if none is stopped and each goes one
+-- wheel down at a time
+abbrev pub wheels_left : SmoothWheel → ℕ
+wheels_left wheel = potential_of wheel.bank.table wheel.bank.buckets
+
+-- the wheel in which a timer stands or, if it is started now, comes to; 0 for one that is due
+abbrev pub wheel_in : SmoothWheel → Timer → ℕ
+wheel_in wheel timer = wheel_of wheel.bank.table wheel.bank.buckets timer
+
+-- each pace was fixed when at most n timers were held
+abbrev pub IsPacedFor : ℕ → SmoothWheel → Type 0
+IsPacedFor n wheel = FitPaces (radices wheel.bank.table) n wheel.paces
+
+-- each list has the pending timers that stand there by the placement law, with the marks of the lists themselves, by
+-- serial, and the list after them has what is due
+abbrev pub ShowsSmooth : Table → WheelState → KeyedLists → Type 0
+ShowsSmooth table w lists = ShowsBuckets (smooth_slots (radices table))
+    (smooth_bucket (radices table) w.now (mark (radices table) w.now lists)) no_rounds w lists
+
+-- some ticks were passed, and nothing was due before the last of them
+pub record Passes (old new : WheelState) : Type 0 where
+  pub later : old.now < new.now
+  pub ticked : new ≡ after_ticks (new.now - old.now) old
+  pub quiet : (n : ℕ) → n < new.now - old.now → (after_ticks n old).due ≡ []

@@ -1,0 +1,412 @@
+//! The smooth wheel: Scheme 7 whose timers go to lower wheels early, and a few at a time.
+//!
+//! Scheme 7 empties a whole bucket at one tick. Here the next bucket of each wheel moves while the present one passes:
+//! at each tick some timers from its front, at a pace that empties it by the half of its time, and with each start
+//! into it two. Once it is empty it is open: a start whose deadline is in it goes to a lower wheel at once. So the
+//! timers of a bucket leave it in the order of starting, and none overtakes them.
+//!
+//! Each wheel has two revolutions of slots (`turns`), since timers come to a lower wheel before its last revolution
+//! ends. Which list a pending timer stands in follows from now, its deadline, its serial and the serials up to which
+//! the next buckets have moved on (`smooth_bucket` in specs/Smooth.antt).
+//!
+//! Three timers of Wide, started at tick 10 for 8196 (serial 1), 8257 (2) and 12287 (3), all in slot 2 of wheel 2. At tick
+//! 4096 it begins to be the next bucket, at a pace of 2:
+//!
+//!      now   wheel 2, slot 2   wheel 1 (a slot is 64 ticks)
+//!     4096   1 2 3                                                a start for 8197 goes to the back, and 1 and 2 move
+//!     4097   3                 slot 128: 1   slot 129: 2
+//!     4098   open              slot 128: 1   slot 129: 2   slot 191: 3      a start for 8197 goes to slot 128 of wheel 1
+//!
+//! At tick 8128 slot 128 begins to be the next bucket of wheel 1, and at the next tick timer 1 goes to slot 8196 of wheel 0.
+//!
+//! At each tick some timers of each next bucket move: its pace (`paces`), fixed as it begins to be the next one (`work`). So
+//! no tick moves a whole bucket, and in `Table::Wide` none moves more than 2n/63 + 18 timers, n the most that were held.
+//! `advance` leaps to the next tick that needs a look while nothing is to be moved (`ahead`).
+//!
+//! It meets the whole of `Wheel`, and no scheme uses it yet. Open: a scheme, a table for C, and speed: `first_slot` in
+//! `ahead` goes bit by bit, and the calls take the table as a value and not as a constant.
+ghost use Rattle.std.specs.Prelude.{◌≡◌, ◌+◌, ◌-◌, ◌*◌, ◌<◌, ◌≤◌, ◌↔◌, ℕ, [], length, IsTrue, IfOk, IfErr, IfSome, IfNone, OnOk, OnErr, MatchOption, MatchResult};
+ghost use Rattle.timer_base.specs.declared.limits.TheConstants.{LAST};
+ghost use Rattle.timer_base.specs.WakeUps.{IsQuietUntil, next_deadline};
+ghost use Rattle.timer_base.specs.TickLaws.{IsPassing};
+ghost use Rattle.timer_base.specs.WheelState.{empty_wheel, NamesOne, held_at, held_count, old_timer, first_due, after_reserve, after_held_start, after_removal, after_replacement, after_tick, after_expiry, after_clear, Advances};
+ghost use Rattle.timer_wheels.specs.Bank.{potential_of};
+ghost use Rattle.timer_wheels.specs.Buckets.{state_of-well_formed};
+ghost use Rattle.timer_wheels.specs.HeldPlaces.{IsFirstHeld};
+ghost use Rattle.timer_wheels.specs.Paces.{AreInTime, AreInTime-prop, tick_bound};
+ghost use Rattle.timer_wheels.specs.Placement.{most_moves};
+ghost use Rattle.timer_wheels.specs.Smooth.{smooth_slots};
+ghost use Rattle.timer_wheels.specs.Tables.{radices, last_of_table};
+ghost use Rattle.timer_wheels.specs.WakeUps.{next_visit};
+
+use crate::iteration::held_from;
+use crate::smooth::bank::Bank;
+use crate::smooth::paces::Paces;
+use crate::smooth::work::{fix_paces, make_way, move_all};
+use crate::table::{Table, last_tick_of};
+use std::alloc::Global;
+use timer_base::{Handle, MakeFault, OutOfMemory, Timer, Wheel};
+use timer_links::Links;
+
+mod ahead;
+mod bank;
+mod descent;
+mod filled;
+pub mod laws;
+mod paces;
+mod turns;
+mod work;
+
+/// Wheels with the slots of a table, whose timers go to lower wheels early and a few at a time.
+///
+/// A timer moves at most nine times in `Table::Wide` and three times in `Table::Clock`, and keeps its place in the order
+/// of starting.
+#[derive(Drop)]
+pub struct SmoothWheel {
+    /// The buckets and their bits.
+    bank: Bank,
+    /// How many timers of each next bucket move at a tick.
+    paces: Paces,
+    /// Timers that were started or restarted.
+    starts: u64,
+    /// How many times a timer was put into a lower wheel.
+    moves: u64,
+    // So each next bucket is empty before it begins to be the present one, and no tick moves a whole bucket.
+    ghost in_time: { AreInTime bank.table bank.buckets paces } by { AreInTime-prop bank.table bank.buckets paces },
+    ghost few_starts: { starts ≤ bank.buckets.last_serial },
+    // A start allows one move for each wheel but the highest, and each move lowers a wheel. So what is left to move is
+    // counted too.
+    ghost paid: { moves + potential_of bank.table bank.buckets ≤ most_moves (radices bank.table) * starts },
+}
+
+impl SmoothWheel {
+    ghost use Rattle.timer_wheels.specs.SmoothWheel.{smooth_state, smooth_table, starts_of, moves_of, next_moves, IsPacedFor, ShowsSmooth};
+    ghost use Rattle.timer_wheels.specs.HierWheel.{IsHierFault};
+
+    /// An empty wheel at its first tick.
+    ///
+    /// Errors, in this order: `FirstTick` above the table's last tick, which is `LAST` or
+    /// `LAST_OF_CLOCK`; `OutOfMemory`.
+    pub fn with_table(
+        alloc: Global,
+        table: Table,
+        first_tick: u64,
+    ) -> Result<SmoothWheel, MakeFault>
+        ensures state { IfOk result (λ wheel. smooth_state wheel
+            ≡ empty_wheel (smooth_slots (radices table)) (last_of_table table) first_tick) }
+        ensures table { IfOk result (λ wheel. smooth_table wheel ≡ table) }
+        ensures starts { IfOk result (λ wheel. starts_of wheel ≡ 0) }
+        ensures moves { IfOk result (λ wheel. moves_of wheel ≡ 0) }
+        ensures paced { IfOk result (λ wheel. IsPacedFor 0 wheel) }
+        ensures in_range { IfOk result (λ wheel. first_tick ≤ last_of_table table) }
+        ensures fault { IfErr result (λ fault. IsHierFault (last_of_table table) first_tick fault) }
+    {
+        if first_tick > last_tick_of(table) {
+            return Err(MakeFault::FirstTick);
+        }
+        let Ok(bank) = Bank::new(alloc, table, first_tick) else {
+            return Err(MakeFault::OutOfMemory);
+        };
+        Ok(SmoothWheel {
+            bank,
+            paces: Paces::new(),
+            starts: 0,
+            moves: 0,
+        })
+    }
+
+    /// The buckets, and after them the list of due timers, which is list 1,280 of `Table::Wide` and list 584 of
+    /// `Table::Clock`.
+    ///
+    /// Slot i of wheel k, of the slots counted from tick 0 on, is list `128 * k + i % (2 * r)`, r the wheel's radix. The
+    /// timers of a bucket stand by serial, each under its handle's place, with rounds 0. Does not allocate.
+    pub fn links(&self) -> &Links
+        ensures { ShowsSmooth (smooth_table self.now) (smooth_state self.now) result.now.lists }
+    {
+        &self.bank.buckets.links
+    }
+
+    /// The table whose radices the wheels have, which stays as it was chosen. Does not allocate.
+    pub fn table(&self) -> Table
+        ensures table { result ≡ smooth_table self.now }
+        ensures slots { smooth_slots (radices result) ≡ (smooth_state self.now).slots }
+    {
+        self.bank.table
+    }
+
+    /// How many timers were started or restarted since the wheel was made. Does not allocate.
+    pub fn starts(&self) -> u64
+        ensures { result ≡ starts_of self.now }
+    {
+        self.starts
+    }
+
+    /// How many times a timer was put into a lower wheel since the wheel was made. Does not allocate.
+    pub fn moves(&self) -> u64
+        ensures value { result ≡ moves_of self.now }
+        ensures at_most { result ≤ most_moves (radices (smooth_table self.now)) * starts_of self.now }
+    {
+        self.moves
+    }
+
+    /// The most timers that the next tick moves, and 0 only if it moves none. Does not allocate.
+    pub fn next_moves(&self) -> u64
+        ensures { result ≡ next_moves self.now }
+    {
+        self.paces.sum()
+    }
+
+    /// The handle of the timer, pending or due, at this place or the first later one that has a timer, or
+    /// None when there is none. Does not allocate.
+    ///
+    /// It looks at each place on the way: in practice at most 63 more than there ever were timers at one time.
+    pub fn held_from(&self, place: usize) -> Option<Handle>
+        ensures first { IsFirstHeld place (smooth_state self.now) result }
+        ensures in_range { IfSome result (λ handle. handle.place < 4294967296) }
+    {
+        held_from(&self.bank.buckets, place)
+    }
+}
+
+impl SmoothWheel {
+    ghost use Rattle.timer_wheels.specs.SmoothWheel.{smooth_state, smooth_table, starts_of, moves_of, next_moves, wheels_left, wheel_in, radices_by_turns, Passes, IsPacedFor};
+
+    /// Sets the clock forward to the tick before the next event, or before the end if that comes first, unless a tick has
+    /// timers to move.
+    fn leap(&mut self, end: u64)
+        requires nothing_due { (smooth_state self.old).due ≡ [] }
+        requires later { (smooth_state self.old).now < end }
+        requires end { end ≤ (smooth_state self.old).last_tick }
+        ensures passing { IsPassing ((smooth_state self.new).now - (smooth_state self.old).now)
+            (smooth_state self.old) (smooth_state self.new) }
+        ensures later { (smooth_state self.old).now ≤ (smooth_state self.new).now }
+        ensures end { (smooth_state self.new).now < end }
+        ensures moves { moves_of self.new ≡ moves_of self.old }
+        ensures counted { wheels_left self.new ≡ wheels_left self.old }
+        ensures starts { starts_of self.new ≡ starts_of self.old }
+        ensures held { held_count (smooth_state self.new) ≡ held_count (smooth_state self.old) }
+        ensures paced { (n : ℕ) → IsPacedFor n self.old → IsPacedFor n self.new }
+        ensures table { smooth_table self.new ≡ smooth_table self.old }
+    {
+        if self.paces.sum() != 0 {
+            return;
+        }
+        let event = self.bank.next_event(end);
+        self.bank.skip_to(event - 1);
+    }
+
+    /// Passes at least one tick, and those before it at which nothing moves and nothing is due, up to an end.
+    fn pass(&mut self, end: u64)
+        requires nothing_due { (smooth_state self.old).due ≡ [] }
+        requires later { (smooth_state self.old).now < end }
+        requires end { end ≤ (smooth_state self.old).last_tick }
+        ensures passes { Passes (smooth_state self.old) (smooth_state self.new) }
+        ensures end { (smooth_state self.new).now ≤ end }
+        ensures held { held_count (smooth_state self.new) ≡ held_count (smooth_state self.old) }
+        ensures bound { (n : ℕ) → IsPacedFor n self.old → moves_of self.new ≤ moves_of self.old
+            + tick_bound (smooth_table self.old) n }
+        ensures counted { moves_of self.new + wheels_left self.new ≡ moves_of self.old + wheels_left self.old }
+        ensures starts { starts_of self.new ≡ starts_of self.old }
+        ensures paced { (n : ℕ) → held_count (smooth_state self.old) ≤ n → IsPacedFor n self.old → IsPacedFor n self.new }
+        ensures table { smooth_table self.new ≡ smooth_table self.old }
+    {
+        self.leap(end);
+        self.per_tick();
+    }
+}
+
+impl Wheel for SmoothWheel {
+    ghost use Rattle.timer_wheels.specs.SmoothWheel.{smooth_state, smooth_table, starts_of, moves_of, next_moves, wheels_left, wheel_in, radices_by_turns, Passes, IsPacedFor};
+
+    ghost state = { λ wheel. smooth_state wheel };
+
+    ghost wake_up = { λ slots now pending. next_visit (radices_by_turns slots) now pending };
+
+    fn last_tick(&self) -> u64 {
+        self.bank.buckets.last_tick
+    }
+
+    fn now(&self) -> u64 {
+        self.bank.buckets.tick
+    }
+
+    fn len(&self) -> usize {
+        self.bank.buckets.len()
+    }
+
+    fn has_due(&self) -> bool {
+        self.bank.buckets.has_due()
+    }
+
+    fn last_serial(&self) -> u64 {
+        self.bank.buckets.last_serial
+    }
+
+    /// If the timer comes to a next bucket that has timers, two of that bucket move.
+    #[inline(always)]
+    fn start(&mut self, timer: Timer) -> Result<Handle, OutOfMemory>
+        requires not_past { (smooth_state self.old).now ≤ timer.deadline }
+        requires deadline { timer.deadline ≤ (smooth_state self.old).last_tick }
+        requires fresh { (smooth_state self.old).last_serial < timer.serial }
+        requires serial { timer.serial ≤ LAST }
+        ensures named { IfOk result (λ handle. handle.serial ≡ timer.serial) }
+        ensures started { IfOk result (λ handle. smooth_state self.new
+            ≡ after_held_start handle.place timer (smooth_state self.old)) }
+        ensures full { OnErr result ((smooth_state self.old).room ≤ held_count (smooth_state self.old)) }
+        ensures err { OnErr result (smooth_state self.new ≡ smooth_state self.old) }
+        ensures starts { MatchResult result (λ _. starts_of self.new ≡ starts_of self.old + 1)
+            (λ _. starts_of self.new ≡ starts_of self.old) }
+        ensures counted { IfOk result (λ _. moves_of self.new + wheels_left self.new
+            ≡ moves_of self.old + wheels_left self.old + wheel_in self.old timer) }
+        ensures two { moves_of self.new ≤ moves_of self.old + 2 }
+        ensures none { OnErr result (moves_of self.new ≡ moves_of self.old) }
+        ensures paced { (n : ℕ) → IsPacedFor n self.old → IsPacedFor n self.new }
+        ensures table { smooth_table self.new ≡ smooth_table self.old }
+    {
+        let (handle, wheel) = self.bank.start(timer)?;
+        self.starts += 1;
+        self.moves += make_way(&mut self.bank, wheel);
+        Ok(handle)
+    }
+
+    fn reserve(&mut self, most: usize) -> Result<(), OutOfMemory>
+        ensures ok { OnOk result (smooth_state self.new ≡ after_reserve most (smooth_state self.old)) }
+        ensures err { OnErr result (smooth_state self.new ≡ smooth_state self.old) }
+        ensures moves { moves_of self.new ≡ moves_of self.old }
+        ensures starts { starts_of self.new ≡ starts_of self.old }
+        ensures paced { (n : ℕ) → IsPacedFor n self.old → IsPacedFor n self.new }
+        ensures table { smooth_table self.new ≡ smooth_table self.old }
+    {
+        self.bank.reserve(most)
+    }
+
+    fn look(&self, handle: Handle) -> Option<Timer> {
+        self.bank.buckets.look(handle)
+    }
+
+    fn stop(&mut self, handle: Handle) -> Option<Timer>
+        ensures timer { result ≡ held_at handle (smooth_state self.old) }
+        ensures stopped { smooth_state self.new ≡ after_removal handle (smooth_state self.old) }
+        ensures moves { moves_of self.new ≡ moves_of self.old }
+        ensures starts { starts_of self.new ≡ starts_of self.old }
+        ensures paced { (n : ℕ) → IsPacedFor n self.old → IsPacedFor n self.new }
+        ensures table { smooth_table self.new ≡ smooth_table self.old }
+    {
+        self.bank.stop(handle)
+    }
+
+    /// If the new timer comes to a next bucket that has timers, two of that bucket move.
+    #[inline(always)]
+    fn restart(&mut self, handle: Handle, timer: Timer) -> Option<(Handle, Timer)>
+        requires not_past { (smooth_state self.old).now ≤ timer.deadline }
+        requires deadline { timer.deadline ≤ (smooth_state self.old).last_tick }
+        requires fresh { (smooth_state self.old).last_serial < timer.serial }
+        requires serial { timer.serial ≤ LAST }
+        ensures old { old_timer result ≡ held_at handle (smooth_state self.old) }
+        ensures named { IfSome result (λ r. r.0.serial ≡ timer.serial) }
+        ensures restarted { smooth_state self.new ≡ after_replacement result handle timer (smooth_state self.old) }
+        ensures starts { MatchOption result (starts_of self.new ≡ starts_of self.old)
+            (λ _. starts_of self.new ≡ starts_of self.old + 1) }
+        ensures counted { IfSome result (λ r. moves_of self.new + wheels_left self.new + wheel_in self.old r.1
+            ≡ moves_of self.old + wheels_left self.old + wheel_in self.old timer) }
+        ensures two { moves_of self.new ≤ moves_of self.old + 2 }
+        ensures none { IfNone result (moves_of self.new ≡ moves_of self.old) }
+        ensures paced { (n : ℕ) → IsPacedFor n self.old → IsPacedFor n self.new }
+        ensures table { smooth_table self.new ≡ smooth_table self.old }
+    {
+        let (restarted, wheel) = self.bank.restart(handle, timer)?;
+        self.starts += 1;
+        self.moves += make_way(&mut self.bank, wheel);
+        Some(restarted)
+    }
+
+    /// Each timer that moves goes just one wheel down, and is counted. At most as many move as the paces are in sum: in `Table::Wide` at most 2n/63 + 18, if never more than n were
+    /// held since the wheel was made.
+    #[inline(always)]
+    fn per_tick(&mut self)
+        requires nothing_due { (smooth_state self.old).due ≡ [] }
+        requires before_last { (smooth_state self.old).now < (smooth_state self.old).last_tick }
+        ensures ticked { smooth_state self.new ≡ after_tick (smooth_state self.old) }
+        ensures at_most { moves_of self.new ≤ moves_of self.old + next_moves self.old }
+        ensures bound { (n : ℕ) → IsPacedFor n self.old → moves_of self.new ≤ moves_of self.old
+            + tick_bound (smooth_table self.old) n }
+        ensures counted { moves_of self.new + wheels_left self.new ≡ moves_of self.old + wheels_left self.old }
+        ensures starts { starts_of self.new ≡ starts_of self.old }
+        ensures paced { (n : ℕ) → held_count (smooth_state self.new) ≤ n → IsPacedFor n self.old → IsPacedFor n self.new }
+        ensures table { smooth_table self.new ≡ smooth_table self.old }
+    {
+        let moves = move_all(&mut self.bank, &mut self.paces);
+        self.bank.next_tick();
+        fix_paces(&self.bank, &mut self.paces);
+        self.moves += moves;
+    }
+
+    /// It makes the moves of all ticks that it passes. While none is to be made, it leaps to the next event, and else it goes
+    /// tick by tick: no more of those than timers move, and one for each bucket with timers that begins to be a next one.
+    fn advance(&mut self, most: u64) -> u64
+        requires nothing_due { (smooth_state self.old).due ≡ [] }
+        requires some { 0 < most }
+        requires before_last { most ≤ (smooth_state self.old).last_tick - (smooth_state self.old).now }
+        ensures advances { Advances most result (smooth_state self.old) (smooth_state self.new) }
+        ensures bound { (n : ℕ) → held_count (smooth_state self.old) ≤ n → IsPacedFor n self.old → moves_of self.new
+            ≤ moves_of self.old + result * tick_bound (smooth_table self.old) n }
+        ensures counted { moves_of self.new + wheels_left self.new ≡ moves_of self.old + wheels_left self.old }
+        ensures starts { starts_of self.new ≡ starts_of self.old }
+        ensures paced { (n : ℕ) → held_count (smooth_state self.old) ≤ n → IsPacedFor n self.old → IsPacedFor n self.new }
+        ensures table { smooth_table self.new ≡ smooth_table self.old }
+    {
+        let first = self.bank.buckets.tick;
+        let end = first + most;
+        while self.bank.buckets.tick < end {
+            self.pass(end);
+            if self.bank.buckets.has_due() {
+                return self.bank.buckets.tick - first;
+            }
+        }
+        most
+    }
+
+    /// The next tick at which Scheme 7 would empty a bucket with a timer. It follows from the first slot with a timer of each
+    /// wheel, without a walk.
+    fn quiet_until(&self) -> Option<u64> {
+        self.bank.next_visit()
+    }
+
+    /// Found in the first bucket with a timer of each wheel: on wheel 0 without a look at its timers, and on a higher wheel
+    /// by a walk along that bucket, unless it begins after a deadline that was found already.
+    fn next_deadline(&self) -> Option<u64> {
+        self.bank.next_deadline()
+    }
+
+    fn expire(&mut self) -> Option<Timer>
+        ensures first { result ≡ first_due (smooth_state self.old) }
+        ensures rest { smooth_state self.new ≡ after_expiry (smooth_state self.old) }
+        ensures moves { moves_of self.new ≡ moves_of self.old }
+        ensures starts { starts_of self.new ≡ starts_of self.old }
+        ensures paced { (n : ℕ) → IsPacedFor n self.old → IsPacedFor n self.new }
+        ensures table { smooth_table self.new ≡ smooth_table self.old }
+    {
+        self.bank.expire()
+    }
+
+    fn list(&self) -> Result<Vec<Timer>, OutOfMemory> {
+        self.bank.buckets.list()
+    }
+
+    fn list_into(&self, timers: &mut Vec<Timer>) -> Result<(), OutOfMemory> {
+        self.bank.buckets.list_into(timers)
+    }
+
+    fn clear(&mut self)
+        ensures cleared { smooth_state self.new ≡ after_clear (smooth_state self.old) }
+        ensures moves { moves_of self.new ≡ moves_of self.old }
+        ensures starts { starts_of self.new ≡ starts_of self.old }
+        ensures paced { IsPacedFor 0 self.new }
+        ensures table { smooth_table self.new ≡ smooth_table self.old }
+    {
+        self.bank.clear();
+        self.paces = Paces::new();
+    }
+
+    ghost well_formed = { λ wheel. state_of-well_formed wheel.bank.buckets };
+}

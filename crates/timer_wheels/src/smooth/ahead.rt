@@ -1,0 +1,182 @@
+//! What is ahead of a smooth wheel: the first bucket with a timer of each wheel, and the next tick that needs a look.
+ghost use Rattle.std.specs.Prelude.{◌≡◌, ◌<◌, ◌≤◌, ◌+◌, ◌*◌, ℕ, IfSome, length, false};
+ghost use Rattle.timer_base.specs.declared.limits.TheConstants.{LAST};
+ghost use Rattle.timer_wheels.specs.Bank.{next_len};
+ghost use Rattle.timer_wheels.specs.BucketLists.{EachRow};
+ghost use Rattle.timer_wheels.specs.Digits.{weight};
+ghost use Rattle.timer_base.specs.WakeUps.{IsQuietUntil, next_deadline};
+ghost use Rattle.timer_wheels.specs.Buckets.{state_of};
+ghost use Rattle.timer_wheels.specs.SmoothAhead.{IsFirstSlot, IsEventFrom, event_tick, IsNotBefore, IsFoundBelow, IsPendingDeadline, IsBegin};
+ghost use Rattle.timer_wheels.specs.WakeUps.{next_visit};
+ghost use Rattle.timer_wheels.specs.Tables.{radices};
+
+use crate::deadlines::first_in;
+use crate::smooth::bank::Bank;
+use crate::smooth::turns::{level_of, list_of_slot, slot_of, turns_of, weight_of, wheels_of};
+use crate::table::Table;
+use timer_base::earlier;
+
+impl Bank {
+    /// The first slot of a wheel after the present one that has a timer.
+    pub fn first_slot(&self, wheel: usize) -> Option<u64>
+        requires { wheel < length (radices self.now.table) }
+        ensures first { IsFirstSlot (radices self.now.table) self.now.buckets.tick wheel self.now.buckets.links.lists result }
+        ensures begins { IfSome result (λ slot. slot * weight wheel (radices self.now.table) ≤ self.now.buckets.last_tick) }
+    {
+        let now = slot_of(self.table, wheel, self.buckets.tick);
+        let end = now + turns_of(self.table, wheel);
+        let mut slot = now + 1;
+        while slot < end {
+            if self.filled.has(list_of_slot(self.table, wheel, slot)) {
+                return Some(slot);
+            }
+            slot += 1;
+        }
+        None
+    }
+
+    /// The first tick ahead that needs a look, or the end if that comes first: a timer is due, or a bucket with timers
+    /// begins to be a wheel's next one. No next bucket has timers.
+    pub fn next_event(&self, end: u64) -> u64
+        requires open { (k : ℕ) → 0 < k → k < length (radices self.now.table) → next_len self.now.table self.now.buckets k ≡ 0 }
+        requires later { self.now.buckets.tick < end }
+        ensures later { self.now.buckets.tick < result }
+        ensures at_most { result ≤ end }
+        ensures events { EachRow (IsEventFrom (radices self.now.table) result (length (radices self.now.table)))
+            self.now.buckets.slots self.now.buckets.links.lists }
+    {
+        let wheels = wheels_of(self.table);
+        let mut event = end;
+        let mut wheel = 0;
+        while wheel < wheels {
+            event = self.event_before(wheel, event);
+            wheel += 1;
+        }
+        event
+    }
+
+    /// The event of a wheel, if it has one before that of the wheels below.
+    fn event_before(&self, wheel: usize, event: u64) -> u64
+        requires wheel { wheel < length (radices self.now.table) }
+        requires open { 0 < wheel → next_len self.now.table self.now.buckets wheel ≡ 0 }
+        requires later { self.now.buckets.tick < event }
+        requires below { EachRow (IsEventFrom (radices self.now.table) event wheel) self.now.buckets.slots
+            self.now.buckets.links.lists }
+        ensures later { self.now.buckets.tick < result }
+        ensures at_most { result ≤ event }
+        ensures events { EachRow (IsEventFrom (radices self.now.table) result (wheel + 1)) self.now.buckets.slots
+            self.now.buckets.links.lists }
+    {
+        match self.first_slot(wheel) {
+            Some(slot) => event.min(event_of(self.table, wheel, slot)),
+            None => event,
+        }
+    }
+
+    /// The first pending deadline. Does not allocate.
+    ///
+    /// On wheel 0 a slot is one tick, and needs no walk. Of a higher wheel the first bucket with a timer is walked, unless it
+    /// begins after a deadline that was found below.
+    pub fn next_deadline(&self) -> Option<u64>
+        ensures { result ≡ next_deadline (state_of self.now.buckets).pending }
+    {
+        let wheels = wheels_of(self.table);
+        let mut first = None;
+        let mut wheel = 0;
+        while wheel < wheels {
+            first = self.deadline_before(wheel, first);
+            wheel += 1;
+        }
+        first
+    }
+
+    /// The first deadline of a wheel, if it has one before that of the wheels below.
+    fn deadline_before(&self, wheel: usize, first: Option<u64>) -> Option<u64>
+        requires wheel { wheel < length (radices self.now.table) }
+        requires below { IsFoundBelow (IsPendingDeadline self.now.buckets) self.now.table self.now.buckets wheel first }
+        ensures { IsFoundBelow (IsPendingDeadline self.now.buckets) self.now.table self.now.buckets (wheel + 1) result }
+    {
+        let Some(slot) = self.first_slot(wheel) else {
+            return first;
+        };
+        if wheel == 0 {
+            return earlier(first, Some(slot));
+        }
+        if is_after(first, slot * weight_of(self.table, wheel)) {
+            earlier(
+                first,
+                first_in(&self.buckets.links, list_of_slot(self.table, wheel, slot)).known(),
+            )
+        } else {
+            first
+        }
+    }
+
+    /// The next tick at which Scheme 7 would visit a bucket with a timer, or None if nothing is pending. Does not allocate.
+    ///
+    /// It is the first deadline with zeros below the highest digit in which it differs from now, and follows from the first
+    /// slot with a timer of each wheel, without a walk.
+    pub fn next_visit(&self) -> Option<u64>
+        ensures quiet { IsQuietUntil result self.now.buckets.tick (state_of self.now.buckets).pending }
+        ensures exact { result ≡ next_visit (radices self.now.table) self.now.buckets.tick
+            (state_of self.now.buckets).pending }
+    {
+        match self.first_begin() {
+            Some(begins) => {
+                let level = level_of(self.table, self.buckets.tick, begins);
+                Some(slot_of(self.table, level, begins) * weight_of(self.table, level))
+            }
+            None => None,
+        }
+    }
+
+    /// The first tick at which a slot with a timer begins.
+    fn first_begin(&self) -> Option<u64>
+        ensures { IsFoundBelow (IsBegin self.now.table self.now.buckets) self.now.table self.now.buckets
+            (length (radices self.now.table)) result }
+    {
+        let wheels = wheels_of(self.table);
+        let mut first = None;
+        let mut wheel = 0;
+        while wheel < wheels {
+            first = self.begin_before(wheel, first);
+            wheel += 1;
+        }
+        first
+    }
+
+    /// The begin of a wheel's first slot with a timer, if it is before that of the wheels below.
+    fn begin_before(&self, wheel: usize, first: Option<u64>) -> Option<u64>
+        requires wheel { wheel < length (radices self.now.table) }
+        requires below { IsFoundBelow (IsBegin self.now.table self.now.buckets) self.now.table self.now.buckets wheel first }
+        ensures { IsFoundBelow (IsBegin self.now.table self.now.buckets) self.now.table self.now.buckets (wheel + 1) result }
+    {
+        match self.first_slot(wheel) {
+            Some(slot) => earlier(first, Some(slot * weight_of(self.table, wheel))),
+            None => first,
+        }
+    }
+}
+
+/// The tick at which a slot ahead matters: on wheel 0 its timers are due, on a higher one its bucket begins to be the next.
+fn event_of(table: Table, wheel: usize, slot: u64) -> u64
+    requires wheel { wheel < length (radices table) }
+    requires slot { 0 < slot }
+    requires begins { slot * weight wheel (radices table) ≤ LAST }
+    ensures { result ≡ event_tick (radices table) wheel slot }
+{
+    if wheel == 0 {
+        return slot;
+    }
+    (slot - 1) * weight_of(table, wheel)
+}
+
+/// Whether a first deadline is after a tick, or there is none yet.
+fn is_after(first: Option<u64>, tick: u64) -> bool
+    ensures { result ≡ false → IsNotBefore first tick }
+{
+    match first {
+        Some(deadline) => deadline > tick,
+        None => true,
+    }
+}

@@ -1,0 +1,347 @@
+//! The buckets of a smooth wheel and their bits: each timer stands where the placement law says.
+ghost use Rattle.std.specs.Prelude.{IfOk, IfSome, IfNone, OnOk, OnErr, ◌≡◌, ◌≢◌, ◌<◌, ◌≤◌, ◌+◌, ◌-◌, ℕ, [], length, true, false};
+ghost use Rattle.timer_base.specs.WheelState.{first_due, after_expiry, after_reserve, empty_wheel, held_at, held_count, old_timer, after_held_start, after_removal, after_replacement, after_tick, after_clear};
+ghost use Rattle.timer_base.specs.declared.limits.TheConstants.{LAST};
+ghost use Rattle.timer_wheels.specs.Digits.{level};
+ghost use Rattle.timer_links.specs.Lists.{list_at};
+ghost use Rattle.timer_wheels.specs.Buckets.{state_of, IsListOf};
+ghost use Rattle.timer_wheels.specs.Bank.{IsBank, IsBank-prop, LeavesBits, next_len, potential_of, wheel_of, IsEarly, OthersShrink, AllShrink, IsNextOf, ComesTo, restarted_of};
+ghost use Rattle.timer_wheels.specs.BucketLists.{EachRow};
+ghost use Rattle.timer_wheels.specs.Occupied.{bit_of};
+ghost use Rattle.timer_wheels.specs.Smooth.{IsAheadOf, slot_in, smooth_list, smooth_slots, next_list, descend_by};
+ghost use Rattle.timer_wheels.specs.declared.smooth.turns.TheConstants.{MOST_LISTS};
+ghost use Rattle.timer_wheels.specs.Tables.{radices, last_of_table};
+
+use crate::buckets::Buckets;
+use crate::smooth::descent::{descend, front_deadline};
+use crate::smooth::filled::Filled;
+use crate::smooth::turns::{
+    MOST_LISTS, is_in_next, level_of, list_of_slot, lists_of, next_list, slot_of,
+};
+use crate::table::{Table, last_tick_of};
+use std::alloc::Global;
+use timer_base::{Handle, OutOfMemory, Timer};
+use timer_links::Links;
+
+/// The buckets of a table, and which of them have a timer.
+#[derive(Drop)]
+pub struct Bank {
+    /// The radices, which no call changes.
+    pub table: Table,
+    /// The lists of two revolutions of each wheel.
+    pub buckets: Buckets,
+    /// Which lists have a timer.
+    pub filled: Filled,
+    ghost bank: { IsBank table buckets filled } by { IsBank-prop table buckets filled },
+}
+
+impl Bank {
+    /// The empty buckets of a table.
+    pub fn new(alloc: Global, table: Table, first_tick: u64) -> Result<Bank, OutOfMemory>
+        requires { first_tick ≤ last_of_table table }
+        ensures state { IfOk result (λ bank. state_of bank.buckets
+            ≡ empty_wheel (smooth_slots (radices table)) (last_of_table table) first_tick) }
+        ensures table { IfOk result (λ bank. bank.table ≡ table) }
+        ensures empty { IfOk result (λ bank. (s : ℕ) → list_at s bank.buckets.links.lists ≡ []) }
+    {
+        let slots = lists_of(table);
+        let buckets = Buckets::new(alloc, slots, last_tick_of(table), first_tick)?;
+        Ok(Bank {
+            table,
+            buckets,
+            filled: Filled::new(),
+        })
+    }
+
+    /// Makes room for so many timers.
+    pub fn reserve(&mut self, most: usize) -> Result<(), OutOfMemory>
+        ensures ok { OnOk result (state_of self.new.buckets ≡ after_reserve most (state_of self.old.buckets)) }
+        ensures err { OnErr result (state_of self.new.buckets ≡ state_of self.old.buckets) }
+        ensures lists { self.new.buckets.links.lists ≡ self.old.buckets.links.lists }
+        ensures table { self.new.table ≡ self.old.table }
+        ensures tick { self.new.buckets.tick ≡ self.old.buckets.tick }
+    {
+        self.buckets.reserve(most)
+    }
+
+    /// The list of a timer that is started now, or the list of due timers if its deadline is now; and the wheel whose next
+    /// bucket that list is, or 0 if it is none's.
+    #[inline(always)]
+    fn place_of(&self, deadline: u64) -> (usize, usize)
+        requires not_past { self.now.buckets.tick ≤ deadline }
+        requires deadline { deadline ≤ self.now.buckets.last_tick }
+        ensures list { IsListOf result.0 self.now.buckets.slots self.now.buckets.tick deadline }
+        ensures due { deadline ≤ self.now.buckets.tick → result.0 ≡ self.now.buckets.slots }
+        ensures bucket { self.now.buckets.tick < deadline → result.0
+            ≡ smooth_list (radices self.now.table)
+            (descend_by (radices self.now.table) self.now.buckets.tick self.now.filled deadline
+            (level (radices self.now.table) self.now.buckets.tick deadline))
+            (slot_in (radices self.now.table)
+            (descend_by (radices self.now.table) self.now.buckets.tick self.now.filled deadline
+            (level (radices self.now.table) self.now.buckets.tick deadline)) deadline) }
+        ensures next { IsNextOf (radices self.now.table) self.now.buckets.tick self.now.filled result.0 result.1 }
+    {
+        let table = self.table;
+        let tick = self.buckets.tick;
+        if deadline <= tick {
+            return (self.buckets.slots, 0);
+        }
+        let wheel = descend(
+            table,
+            tick,
+            &self.filled,
+            level_of(table, tick, deadline),
+            deadline,
+        );
+        let list = list_of_slot(table, wheel, slot_of(table, wheel, deadline));
+        if is_in_next(table, tick, wheel, deadline) {
+            (list, wheel)
+        } else {
+            (list, 0)
+        }
+    }
+
+    /// Starts a timer, in its bucket or as the last of the due ones.
+    ///
+    /// Returns beside the handle the wheel whose next bucket it came to, or 0 if it came to none.
+    #[inline(always)]
+    pub fn start(&mut self, timer: Timer) -> Result<(Handle, usize), OutOfMemory>
+        requires not_past { self.old.buckets.tick ≤ timer.deadline }
+        requires deadline { timer.deadline ≤ self.old.buckets.last_tick }
+        requires fresh { self.old.buckets.last_serial < timer.serial }
+        requires serial { timer.serial ≤ LAST }
+        ensures named { IfOk result (λ r. r.0.serial ≡ timer.serial) }
+        ensures started { IfOk result (λ r. state_of self.new.buckets
+            ≡ after_held_start r.0.place timer (state_of self.old.buckets)) }
+        ensures comes { IfOk result (λ r. ComesTo self.old.table r.1 self.old.buckets self.new.buckets) }
+        ensures potential { IfOk result (λ r. potential_of self.old.table self.new.buckets
+            ≡ potential_of self.old.table self.old.buckets + wheel_of self.old.table self.old.buckets timer) }
+        ensures full { OnErr result ((state_of self.old.buckets).room
+            ≤ held_count (state_of self.old.buckets)) }
+        ensures err { OnErr result (state_of self.new.buckets ≡ state_of self.old.buckets) }
+        ensures lists { OnErr result (self.new.buckets.links.lists ≡ self.old.buckets.links.lists) }
+        ensures table { self.new.table ≡ self.old.table }
+        ensures tick { self.new.buckets.tick ≡ self.old.buckets.tick }
+    {
+        let tick = self.buckets.tick;
+        let (list, wheel) = self.place_of(timer.deadline);
+        let handle = self.buckets.start(list, timer, 0)?;
+        enter(&mut self.filled, tick, timer.deadline, list);
+        Ok((handle, wheel))
+    }
+
+    /// Moves the first timer of a wheel's next bucket to a lower wheel, if there is one.
+    ///
+    /// Returns whether there was one. Does not allocate.
+    pub fn move_one(&mut self, wheel: usize) -> bool
+        requires above { 0 < wheel }
+        requires wheel { wheel < length (radices self.old.table) }
+        ensures state { state_of self.new.buckets ≡ state_of self.old.buckets }
+        ensures table { self.new.table ≡ self.old.table }
+        ensures tick { self.new.buckets.tick ≡ self.old.buckets.tick }
+        ensures same { result ≡ false → self.new.buckets ≡ self.old.buckets }
+        ensures empty { result ≡ false → next_len self.old.table self.old.buckets wheel ≡ 0 }
+        ensures moved { result ≡ true → next_len self.old.table self.new.buckets wheel + 1
+            ≡ next_len self.old.table self.old.buckets wheel }
+        ensures falls { result ≡ true → potential_of self.old.table self.new.buckets + 1
+            ≤ potential_of self.old.table self.old.buckets }
+        ensures exact { IsEarly self.old.table self.old.buckets wheel → result ≡ true
+            → potential_of self.old.table self.new.buckets + 1 ≡ potential_of self.old.table self.old.buckets }
+        ensures others { IsEarly self.old.table self.old.buckets wheel
+            → OthersShrink self.old.table wheel self.old.buckets self.new.buckets }
+    {
+        let tick = self.buckets.tick;
+        let from = next_list(self.table, tick, wheel);
+        let Some(deadline) = front_deadline(&self.buckets.links, from) else {
+            return false;
+        };
+        let below = descend(self.table, tick, &self.filled, wheel - 1, deadline);
+        let to = list_of_slot(self.table, below, slot_of(self.table, below, deadline));
+        let buckets = &mut self.buckets;
+        buckets.links.move_front(from, to);
+        self.filled.insert(to);
+        settle(&buckets.links, &mut self.filled, from);
+        true
+    }
+
+    /// Moves timers from the front of a wheel's next bucket to lower wheels: so many, or all.
+    ///
+    /// Returns how many. In the first half of the bucket's time each goes just one wheel down, and none comes to a next
+    /// bucket. Does not allocate.
+    pub fn move_some(&mut self, wheel: usize, most: u64) -> u64
+        requires above { 0 < wheel }
+        requires wheel { wheel < length (radices self.old.table) }
+        ensures state { state_of self.new.buckets ≡ state_of self.old.buckets }
+        ensures table { self.new.table ≡ self.old.table }
+        ensures tick { self.new.buckets.tick ≡ self.old.buckets.tick }
+        ensures at_most { result ≤ most }
+        ensures left { next_len self.old.table self.new.buckets wheel
+            ≡ next_len self.old.table self.old.buckets wheel - most }
+        ensures all { result < most → next_len self.old.table self.new.buckets wheel ≡ 0 }
+        ensures falls { potential_of self.old.table self.new.buckets + result
+            ≤ potential_of self.old.table self.old.buckets }
+        ensures exact { IsEarly self.old.table self.old.buckets wheel
+            → potential_of self.old.table self.new.buckets + result ≡ potential_of self.old.table self.old.buckets }
+        ensures others { IsEarly self.old.table self.old.buckets wheel
+            → OthersShrink self.old.table wheel self.old.buckets self.new.buckets }
+    {
+        let mut moved = 0;
+        while moved < most {
+            if !self.move_one(wheel) {
+                return moved;
+            }
+            moved += 1;
+        }
+        moved
+    }
+
+    /// Advances to the next tick: its timers become due.
+    ///
+    /// No timer is left in a next bucket that begins to be the present one. Does not allocate.
+    pub fn next_tick(&mut self)
+        requires nothing_due { (state_of self.old.buckets).due ≡ [] }
+        requires before_last { self.old.buckets.tick < self.old.buckets.last_tick }
+        requires empty { (k : ℕ) → 0 < k → k < length (radices self.old.table)
+            → slot_in (radices self.old.table) k (self.old.buckets.tick + 1)
+            ≡ slot_in (radices self.old.table) k self.old.buckets.tick + 1
+            → list_at (next_list (radices self.old.table) self.old.buckets.tick k) self.old.buckets.links.lists ≡ [] }
+        ensures ticked { state_of self.new.buckets ≡ after_tick (state_of self.old.buckets) }
+        ensures table { self.new.table ≡ self.old.table }
+        ensures tick { self.new.buckets.tick ≡ self.old.buckets.tick + 1 }
+        ensures kept { (j : ℕ) → 0 < j → j < length (radices self.old.table)
+            → slot_in (radices self.old.table) j (self.old.buckets.tick + 1) ≡ slot_in (radices self.old.table) j self.old.buckets.tick
+            → next_len self.old.table self.new.buckets j ≡ next_len self.old.table self.old.buckets j }
+        ensures potential { potential_of self.old.table self.new.buckets ≡ potential_of self.old.table self.old.buckets }
+    {
+        let tick = self.buckets.tick + 1;
+        let list = list_of_slot(self.table, 0, tick);
+        let buckets = &mut self.buckets;
+        let due = buckets.slots;
+        buckets.links.append(list, due);
+        buckets.tick = tick;
+        self.filled.remove(list);
+    }
+
+    /// Sets the clock to a later tick, if nothing is due and no bucket with a timer begins to be the present one.
+    pub fn skip_to(&mut self, tick: u64)
+        requires nothing_due { (state_of self.old.buckets).due ≡ [] }
+        requires later { self.old.buckets.tick ≤ tick }
+        requires in_range { tick ≤ self.old.buckets.last_tick }
+        requires ahead { EachRow (IsAheadOf (radices self.old.table) tick) self.old.buckets.slots
+            self.old.buckets.links.lists }
+        ensures state { state_of self.new.buckets ≡ record (state_of self.old.buckets) { now = tick } }
+        ensures table { self.new.table ≡ self.old.table }
+        ensures tick { self.new.buckets.tick ≡ tick }
+        ensures lists { self.new.buckets.links.lists ≡ self.old.buckets.links.lists }
+    {
+        let buckets = &mut self.buckets;
+        buckets.tick = tick;
+    }
+
+    /// Removes the timer with just this handle, pending or due. Does not allocate.
+    pub fn stop(&mut self, handle: Handle) -> Option<Timer>
+        ensures timer { result ≡ held_at handle (state_of self.old.buckets) }
+        ensures stopped { state_of self.new.buckets ≡ after_removal handle (state_of self.old.buckets) }
+        ensures table { self.new.table ≡ self.old.table }
+        ensures tick { self.new.buckets.tick ≡ self.old.buckets.tick }
+        ensures shrinks { AllShrink self.old.table self.old.buckets self.new.buckets }
+        ensures falls { potential_of self.old.table self.new.buckets ≤ potential_of self.old.table self.old.buckets }
+    {
+        self.buckets.links.lemma_keys_unique();
+        let (timer, emptied) = self.buckets.take(handle)?;
+        leave(&mut self.filled, self.buckets.slots, emptied);
+        Some(timer)
+    }
+
+    /// Removes the timer with just this handle, and starts another at its place. Does not allocate.
+    ///
+    /// Returns beside the new handle and the old timer the wheel whose next bucket the new one came to, or 0 if it came
+    /// to none.
+    #[inline(always)]
+    pub fn restart(&mut self, handle: Handle, timer: Timer) -> Option<((Handle, Timer), usize)>
+        requires not_past { self.old.buckets.tick ≤ timer.deadline }
+        requires deadline { timer.deadline ≤ self.old.buckets.last_tick }
+        requires fresh { self.old.buckets.last_serial < timer.serial }
+        requires serial { timer.serial ≤ LAST }
+        ensures old { old_timer (restarted_of result) ≡ held_at handle (state_of self.old.buckets) }
+        ensures named { IfSome result (λ r. r.0.0.serial ≡ timer.serial) }
+        ensures restarted { state_of self.new.buckets
+            ≡ after_replacement (restarted_of result) handle timer (state_of self.old.buckets) }
+        ensures comes { IfSome result (λ r. ComesTo self.old.table r.1 self.old.buckets self.new.buckets) }
+        ensures potential { IfSome result (λ r. potential_of self.old.table self.new.buckets
+            + wheel_of self.old.table self.old.buckets r.0.1 ≡ potential_of self.old.table self.old.buckets
+            + wheel_of self.old.table self.old.buckets timer) }
+        ensures none { IfNone result (self.new.buckets.links.lists ≡ self.old.buckets.links.lists) }
+        ensures table { self.new.table ≡ self.old.table }
+        ensures tick { self.new.buckets.tick ≡ self.old.buckets.tick }
+    {
+        self.buckets.links.lemma_keys_unique();
+        let tick = self.buckets.tick;
+        let (list, wheel) = self.place_of(timer.deadline);
+        let (restarted, emptied) = self.buckets.replace(handle, list, timer, 0)?;
+        leave(&mut self.filled, self.buckets.slots, emptied);
+        enter(&mut self.filled, tick, timer.deadline, list);
+        Some((restarted, wheel))
+    }
+
+    /// Takes the first of the due timers.
+    pub fn expire(&mut self) -> Option<Timer>
+        ensures first { result ≡ first_due (state_of self.old.buckets) }
+        ensures rest { state_of self.new.buckets ≡ after_expiry (state_of self.old.buckets) }
+        ensures table { self.new.table ≡ self.old.table }
+        ensures tick { self.new.buckets.tick ≡ self.old.buckets.tick }
+        ensures shrinks { AllShrink self.old.table self.old.buckets self.new.buckets }
+        ensures falls { potential_of self.old.table self.new.buckets ≤ potential_of self.old.table self.old.buckets }
+    {
+        self.buckets.expire()
+    }
+
+    /// Drops the pending timers. Does not allocate.
+    pub fn clear(&mut self)
+        ensures cleared { state_of self.new.buckets ≡ after_clear (state_of self.old.buckets) }
+        ensures table { self.new.table ≡ self.old.table }
+        ensures tick { self.new.buckets.tick ≡ self.old.buckets.tick }
+        ensures empty { (s : ℕ) → s < self.old.buckets.slots → list_at s self.new.buckets.links.lists ≡ [] }
+    {
+        self.buckets.clear();
+        self.filled = Filled::new();
+    }
+}
+
+/// A list lost a timer: its bit is cleared if it is empty.
+fn settle(links: &Links, filled: &mut Filled, list: usize)
+    requires list { list < length links.now.lists }
+    requires few { list < MOST_LISTS }
+    ensures empty { list_at list links.now.lists ≡ [] → bit_of filled.new list ≡ 0 }
+    ensures kept { list_at list links.now.lists ≢ [] → bit_of filled.new list ≡ bit_of filled.old list }
+    ensures others { (s : ℕ) → s ≢ list → bit_of filled.new s ≡ bit_of filled.old s }
+{
+    if links.is_empty(list) {
+        filled.remove(list);
+    }
+}
+
+/// A timer with this deadline came to the back of a list. If that is a bucket, its bit is set.
+fn enter(filled: &mut Filled, tick: u64, deadline: u64, list: usize)
+    requires { tick < deadline → list < MOST_LISTS }
+    ensures pending { tick < deadline
+        → (bit_of filled.new list ≡ 1) × ((s : ℕ) → s ≢ list → bit_of filled.new s ≡ bit_of filled.old s) }
+    ensures due { deadline ≤ tick → filled.new ≡ filled.old }
+{
+    if deadline > tick {
+        filled.insert(list);
+    }
+}
+
+/// A list became empty, if one did: if it is a bucket, its bit is cleared.
+fn leave(filled: &mut Filled, slots: usize, emptied: Option<usize>)
+    requires { slots ≤ MOST_LISTS }
+    ensures { LeavesBits slots emptied filled.old filled.new }
+{
+    let Some(list) = emptied else {
+        return;
+    };
+    if list < slots {
+        filled.remove(list);
+    }
+}

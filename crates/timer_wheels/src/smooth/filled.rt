@@ -1,0 +1,78 @@
+//! Which lists of a smooth wheel have a timer: a bit for each of them.
+ghost use Rattle.std.specs.Prelude.{◌≡◌, ◌≢◌, ◌<◌, ℕ, List, length, true, false};
+ghost use Rattle.timer_wheels.specs.declared.smooth.filled.TheConstants.{WORDS};
+ghost use Rattle.timer_wheels.specs.declared.smooth.turns.TheConstants.{MOST_LISTS};
+ghost use Rattle.timer_wheels.specs.Occupied.{bit_of};
+
+use crate::smooth::turns::MOST_LISTS;
+use std::marker::Model;
+
+/// The bits of a word.
+const WORD_BITS: usize = 64;
+
+/// How many words hold a bit for each list.
+const WORDS: usize = MOST_LISTS / WORD_BITS;
+
+// The words are whole: with a rest, the last lists would have no bit.
+const _: () = prove!(MOST_LISTS % WORD_BITS == 0);
+
+/// A bit for each list.
+#[derive(Drop)]
+pub struct Filled {
+    words: [u64; WORDS],
+}
+
+impl Model for Filled {
+    ghost Value = { List ℕ };
+
+    ghost view = { λ o. o.words };
+
+    ghost invariant = { λ o. length o.words ≡ WORDS };
+}
+
+impl Filled {
+    /// No bit is set.
+    #[inline]
+    pub fn new() -> Filled
+        ensures { (s : ℕ) → bit_of result s ≡ 0 }
+    {
+        Filled { words: [0; WORDS] }
+    }
+
+    /// Whether a list's bit is set.
+    #[inline]
+    pub fn has(&self, list: usize) -> bool
+        requires { list < MOST_LISTS }
+        ensures yes { result ≡ true → bit_of self.now list ≡ 1 }
+        ensures no { result ≡ false → bit_of self.now list ≡ 0 }
+    {
+        self.words[list / WORD_BITS] >> (list % WORD_BITS) & 1 == 1
+    }
+
+    /// Sets a list's bit.
+    #[inline]
+    #[tactic(auto, using(crate::proofs::FilledLemmas::set_here, crate::proofs::FilledLemmas::set_others))]
+    pub fn insert(&mut self, list: usize)
+        requires { list < MOST_LISTS }
+        ensures here { bit_of self.new list ≡ 1 }
+        ensures others { (s : ℕ) → s ≢ list → bit_of self.new s ≡ bit_of self.old s }
+    {
+        if self.has(list) {
+            return;
+        }
+        let word = list / WORD_BITS;
+        self.words[word] = self.words[word] | 1 << (list % WORD_BITS);
+    }
+
+    /// Clears a list's bit.
+    #[inline]
+    #[tactic(auto, using(crate::proofs::FilledLemmas::clear_here, crate::proofs::FilledLemmas::clear_others))]
+    pub fn remove(&mut self, list: usize)
+        requires { list < MOST_LISTS }
+        ensures here { bit_of self.new list ≡ 0 }
+        ensures others { (s : ℕ) → s ≢ list → bit_of self.new s ≡ bit_of self.old s }
+    {
+        let word = list / WORD_BITS;
+        self.words[word] = self.words[word] & !(1 << (list % WORD_BITS));
+    }
+}
