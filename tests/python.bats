@@ -58,6 +58,10 @@ wheels_of() { "$python" -c "import sys; sys.path[:0] = ['$1']; import backend; p
     done
 }
 
+@test "the loop over the wheel drops what is cancelled, and runs what is due in order" {
+    needs_python_package
+    in_package "$python" -W error -X dev "$PWD/bindings/python/tests/loop_test.py"
+}
 @test "CPython's own tests of asyncio pass with a loop over the wheel" {
     needs_python_package
     "$python" -c 'import test.test_asyncio' 2> /dev/null || skip "$python has no test.test_asyncio: libpython3-testsuite"

@@ -4,6 +4,7 @@ import gc
 import pickle
 import random
 import threading
+import tracemalloc
 
 import timers.desk as td
 from timers.desk import Desk, DeskError, Handle
@@ -282,10 +283,11 @@ def refuse_memory():
         print("skipped: no _testcapi, which refuses memory")
         return
     refusals = 0
-    for call in (lambda: Desk(3, 9, 4, 4), lambda: desk.__init__(3, 9, 4, 4), lambda: desk.reserve(), lambda: desk.serve_all(),
+    tracemalloc.start()
+    for call in (lambda: Desk(3, 9, 4, 400), lambda: desk.__init__(3, 9, 4, 400), lambda: desk.reserve(), lambda: desk.serve_all(),
                  lambda: line.start(2**40, 2**63), lambda: line.receive(), lambda: desk.open(1, 4), lambda: desk.close(),
                  lambda: desk.flush(0), lambda: line.finish(), lambda: desk.next(), lambda: line.free(), lambda: repr(line)):
-        more, failed = 0, True
+        more, failed, begun = 0, True, tracemalloc.get_traced_memory()[0]
         while failed or more < 4:
             desk = Desk(2, 2000, 2000, 2000)
             line = desk.lines[0]
@@ -308,7 +310,11 @@ def refuse_memory():
             more += 1
             assert more < 999
             turn(desk)
-            assert len(desk) in (0, 60, 61), len(desk)
+            assert len(desk) in (0, 60, 61) and (desk.line_freed(1) or not failed)
+        del desk, line
+        gc.collect()
+        assert tracemalloc.get_traced_memory()[0] < begun + 5000, tracemalloc.get_traced_memory()[0] - begun
+    tracemalloc.stop()
     assert refusals > 20, refusals
 
 

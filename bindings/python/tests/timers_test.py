@@ -6,6 +6,7 @@ import pickle
 import random
 import sys
 import threading
+import tracemalloc
 import weakref
 
 import timers as module
@@ -393,6 +394,23 @@ def hold_the_lock(most=3000):
     assert sorted(stopped + [action for _, _, action in taken]) == [(seed, number) for seed in range(4) for number in range(most)]
 
 
+def keep_what_is_refused():
+    """A call that is refused leaves the timer its action, and takes none."""
+    timers, shared = Timers(CLOCK, 5), [7]
+    handle, number = timers.start(3, Action()), Action.made
+    calls = ((timers.restart, handle, 0, shared), (timers.restart, handle, 0), (timers.restart, handle, CLOCK_LAST),
+             (timers.restart_at, handle, CLOCK_LAST + 1, shared), (timers.restart_at, handle, CLOCK_LAST + 1),
+             (timers.set_at, handle, CLOCK_LAST + 1, shared), (timers.set_at, None, CLOCK_LAST + 1, shared),
+             (timers.start, 0, shared), (timers.start_at, CLOCK_LAST + 1, shared), (timers.restart, Handle(), 1),
+             (timers.restart_at, Handle(), 1, shared), (timers.stop, Handle()), (timers.look, Handle()))
+    references = sys.getrefcount(shared)
+    for call, *arguments in calls:
+        assert refused(call, *arguments) in (ZERO_INTERVAL, TOO_LATE, NOT_PENDING)
+        arguments.clear()
+        assert Action.live == {number} and sys.getrefcount(shared) == references
+    assert timers.stop(handle).number == number and list(timers) == []
+
+
 class Calls:
     """Runs a function once nothing refers to it."""
 
@@ -435,6 +453,8 @@ def refer_in_circles():
     class Named(Timers):
         pass
 
+    shared = [7]  # the collector ends objects before it frees them: so it is references that are counted
+    references = sys.getrefcount(shared)
     for kind in (Timers, Named):
         for circle in ("action", "iteration", "attribute", "many"):
             timers = kind()
@@ -453,9 +473,10 @@ def refer_in_circles():
                     timers.start(1 + number, [number, timers.start])
                 timers.advance(500)
             timers.start(1, Action())
+            timers.start(1, shared)
             del timers
             gc.collect()
-            assert gone() is None and Action.live == set()
+            assert gone() is None and Action.live == set() and sys.getrefcount(shared) == references
 
 
 def derive():
@@ -530,15 +551,19 @@ def refuse_memory():
     calls = [lambda: timers.start(5, spare), lambda: timers.start_at(0, spare), lambda: timers.reserve(3000),
              lambda: timers.restart(handle, 2), lambda: timers.restart(handle, 2, spare), lambda: timers.set_at(None, 2, spare),
              lambda: timers.set_at(handle, 2, spare), lambda: timers.stop(handle), lambda: timers.look(handle),
-             lambda: timers.take(9), lambda: timers.expire(), lambda: timers.expired(), lambda: timers.advance(300),
-             lambda: timers.catch_up(300, ignore), lambda: list(timers), lambda: timers.counts(),
+             lambda: timers.take(1009), lambda: timers.expire(), lambda: timers.expired(), lambda: timers.advance(300),
+             lambda: timers.catch_up(1300, ignore), lambda: list(timers), lambda: timers.counts(),
              lambda: timers.__init__(), lambda: Timers(), lambda: repr(timers), lambda: Handle(2**70 % 2**64, 1),
              lambda: list(map(start_spare, range(60)))]
     references = sys.getrefcount(spare)
+    tracemalloc.start()
     for call in calls:
+        begun = tracemalloc.get_traced_memory()[0]
         more, failed = 0, True
         while failed or more < 4:  # the call runs again, with one more allocation before that which is refused
-            timers = Timers()
+            timers = Timers(first_tick=1000)
+            for number in range(300):  # numbers up to 256 need no memory
+                timers.stop(timers.start(1, number))
             handle = [timers.start_at(number % 3, Action()) for number in range(20)][0]
             for number in range(200):
                 timers.start(1 + number, Action())
@@ -560,6 +585,11 @@ def refuse_memory():
             timers.advance(1000)
             timers.close()
             assert Action.live == set() and sys.getrefcount(spare) == references
+        del timers, handle
+        gc.collect()
+        kept = tracemalloc.get_traced_memory()[0] - begun
+        assert kept < 5000 or call is calls[0], kept  # Python itself keeps some of the first
+    tracemalloc.stop()
     assert refusals > 40, refusals
 
 
@@ -628,6 +658,6 @@ if __name__ == "__main__":
     for test in (compare, meet_the_edges, close_if_the_block_raises, stop_what_expired, start_what_is_due_at_once,
                  come_to_the_last_tick, count_the_moves, take_nothing_if_refused, catch_up_with_other_times, take_many,
                  keep_what_an_iteration_gave, raise_from_a_run, make_room, free_what_is_closed, take_whole_numbers, hold_the_lock,
-                 release_what_calls_back, refer_in_circles, derive, call_the_actions, name_what_is_refused, keep_handles,
-                 refuse_memory):
+                 keep_what_is_refused, release_what_calls_back, refer_in_circles, derive, call_the_actions, name_what_is_refused,
+                 keep_handles, refuse_memory):
         test()
