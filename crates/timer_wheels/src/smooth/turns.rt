@@ -131,7 +131,8 @@ pub fn level_of(table: Table, now: u64, deadline: u64) -> usize
     ensures in_range { result < length (radices table) }
 {
     match table {
-        Table::Wide => ((63 - (now ^ deadline).leading_zeros()) / 6) as usize,
+        // As in `table/wide`: the highest bit, divided by 6.
+        Table::Wide => ((63 ^ (now ^ deadline).leading_zeros()) * 43 / 256) as usize,
         Table::Clock => {
             if now / 60 == deadline / 60 {
                 0
