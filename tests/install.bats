@@ -286,6 +286,21 @@ refused() {
         mv "$work/kept" "$work/tree/$file"
     done
 }
+@test "a tarball names the gate's last line if it is one of its commit, and if no file differs from that" {
+    cd "$work/tree"
+    git init -q && git add -A && git -c user.name=a -c user.email=a@b commit -qm "a tree"
+    gate_of() {
+        echo "$1 5 passed, 0 failed" > build/verdict
+        tools/dist && sed -n 's/^gate       //p' "build/dist/timers-$version/share/doc/timers/BUILT" > "$work/gate"
+    }
+    gate_of "$(git rev-parse HEAD)"
+    grep -x '5 passed, 0 failed' "$work/gate"
+    gate_of 0123456
+    grep -x 'not run' "$work/gate"
+    cp README.md "$work/kept" && echo >> README.md && gate_of "$(git rev-parse HEAD)"
+    grep -x 'not run' "$work/gate"
+    mv "$work/kept" README.md && rm -rf .git
+}
 @test "make clean leaves nothing of what was built, and so nothing to install" {
     in_tree clean
     diff <(cd "$work/clone" && find . | sort) <(cd "$work/tree" && find . | sort)
