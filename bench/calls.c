@@ -1,6 +1,7 @@
 /* The calls of timers.h in loops, whose instructions callgrind counts: bench/calls builds and runs it.
  *
- * With -DINCLUDED the library is a part of this file, so that the compiler sees both. */
+ * With -DINCLUDED the library is a part of this file, so that the compiler sees both. With -DKEPT it has other calls: each
+ * stands but once in a program, or a compiler would not inline it. */
 /* SPDX-License-Identifier: MIT OR Apache-2.0 */
 #ifdef INCLUDED
 #include "timers.c"
@@ -41,6 +42,7 @@ static void choose_ticks(void)
 		CALLGRIND_DUMP_STATS_AT(name); \
 	} while (0)
 
+#ifndef KEPT
 static void count_calls(void)
 {
 	struct timers_expired out;
@@ -70,13 +72,41 @@ static void count_ticks(void)
 		failed += timers_start_at(&t, far + (uint64_t)i, 7, &handles[i]) != TIMERS_OK;
 	COUNT("tick", failed += timers_tick(&t) != TIMERS_OK);
 }
+#endif
+
+#ifdef KEPT
+/* Ticks at which nothing expires, one a call, and the same calls once first deadlines are kept: of each bucket, after a walk
+ * and a clear. */
+static void count_kept(void)
+{
+	const uint64_t now = 2 * TIMERS + 1;
+	struct timers_expired out;
+	uint64_t action;
+	int i;
+
+	for (i = 0; i < TIMERS; i++)
+		failed += timers_start_at(&t, (UINT64_C(1) << 22) + (uint64_t)i, 7, &handles[i]) != TIMERS_OK;
+	COUNT("advance_to", failed += timers_advance_to(&t, 1 + (uint64_t)i) != TIMERS_OK);
+	COUNT("take_none", failed += timers_take(&t, 1 + TIMERS + (uint64_t)i, &out));
+	sum += timers_find_next(&t);
+	timers_clear(&t);
+	COUNT("kept_start", failed += timers_start(&t, ticks[i], 7, &handles[i]) != TIMERS_OK);
+	COUNT("kept_restart", failed += timers_restart(&t, handles[i], ticks[i], 8, &handles[i]) != TIMERS_OK);
+	COUNT("kept_set_at", failed += timers_set_at(&t, &handles[i], now + ticks[i], 9) != TIMERS_OK);
+	COUNT("kept_stop", failed += timers_stop(&t, handles[i], &action) != TIMERS_OK);
+}
+#endif
 
 int main(void)
 {
 	if (timers_new(&t, TIMERS_WIDE, 0) != TIMERS_OK || timers_reserve(&t, TIMERS) != TIMERS_OK)
 		return 1;
+#ifdef KEPT
+	count_kept();
+#else
 	count_calls();
 	count_ticks();
+#endif
 	timers_free(&t);
 	printf("%d\n", (int)(sum % 1000));
 	return failed != 0;

@@ -27,6 +27,7 @@ typedef unsigned char byte;
 #define NOINLINE __attribute__((noinline))
 #define COLD __attribute__((noinline, cold))
 #define ALIGN(n) __attribute__((aligned(n)))
+#define RARE(condition) __builtin_expect(condition, 0)
 #define TRAP() __builtin_trap()
 #define UNREACHABLE() __builtin_unreachable()
 #elif defined(_MSC_VER)
@@ -35,6 +36,7 @@ typedef unsigned char byte;
 #define NOINLINE __declspec(noinline)
 #define COLD __declspec(noinline)
 #define ALIGN(n) __declspec(align(n))
+#define RARE(condition) (condition)
 #define TRAP() __fastfail(7)
 #define UNREACHABLE() __assume(0)
 #else
@@ -43,6 +45,7 @@ typedef unsigned char byte;
 #define NOINLINE
 #define COLD
 #define ALIGN(n)
+#define RARE(condition) (condition)
 #define TRAP() abort()
 #define UNREACHABLE() abort()
 #endif
@@ -60226,8 +60229,8 @@ static bool tp_Facility_makes_timer(byte *p1, uint64_t n2, uint64_t n3, byte *p4
 static uint64_t tp_table_bucket_of(uint8_t n1, uint64_t n2, uint64_t n3)
 {
 	if (n1 == 0) {
-		uint32_t n4 = (63 - (uint32_t)ctlz64(n2 ^ n3)) / 6;
-		return ((uint64_t)n4 << 6) | ((n3 >> ((uint64_t)(n4 * 6) & 63)) & 63);
+		uint32_t n4 = (((uint32_t)ctlz64(n2 ^ n3) ^ 63) * 43) >> 8;
+		return ((n3 >> ((uint64_t)(n4 * 6) & 63)) & 63) | (uint64_t)(n4 << 6);
 	}
 	uint64_t n5 = n3 / 60;
 	if ((n2 / 60) == n5)
@@ -60270,6 +60273,26 @@ static uint64_t tp_Slab_insert_reserved(byte *p1, byte *p2)
 	}
 	store64(p1 + 32, n7);
 	return n4;
+}
+
+/* timer_wheels::firsts::Firsts::enter: crates/timer_wheels/src/firsts.rt */
+static void tp_Firsts_enter(byte *p1, byte *p2, uint64_t n3, uint64_t n4)
+{
+	if ((load8(p1 + 24) & 1) == 0)
+		return;
+	if ((uint64_t)((load8(p2) == 0) ? 64 : 60) > n3)
+		return;
+	byte *p5 = at(loadptr(p1), n3 << 4);
+	uint64_t n6 = load64(p5);
+	if (n4 < n6) {
+		store64(p5, n4);
+		store64(p5 + 8, 1);
+		return;
+	}
+	if (n4 != n6)
+		return;
+	store64(p5 + 8, load64(p5 + 8) + 1);
+	return;
 }
 
 /* timer_facility::handles::sweep: crates/timer_facility/src/handles.rt */
@@ -60352,7 +60375,7 @@ static NOINLINE uint8_t tp_script_run_play_start(byte *p1, uint64_t n2, uint64_t
 	ALIGN(8) byte p12[16];
 	uint64_t n15;
 	byte *p16;
-	uint8_t n109, n110;
+	uint8_t n106, n107;
 	store64(p11, 0);
 	store64u(p11 + 8, n4);
 	store64u(p11 + 16, n5);
@@ -60386,8 +60409,8 @@ static NOINLINE uint8_t tp_script_run_play_start(byte *p1, uint64_t n2, uint64_t
 			p16 = (byte *)tp_static_220;
 		} else {
 			if (n19 >= n3) {
-				uint8_t n20, n53, n54;
-				uint64_t n52, n55;
+				uint8_t n20, n50, n51;
+				uint64_t n49, n52;
 				if (n4 == 0) {
 					n20 = 0;
 				} else {
@@ -60456,37 +60479,25 @@ static NOINLINE uint8_t tp_script_run_play_start(byte *p1, uint64_t n2, uint64_t
 								store32(p44 + 4, (uint32_t)n36);
 								store32(p41, n43);
 								store64(p1 + 24, n22);
-								uint8_t n45 = load8(p1);
 								if (b34) {
-									byte *p46 = inside(p1 + 128, (n36 >> 3) & 536870904);
-									store64(p46, load64(p46) | ((uint64_t)1 << (n36 & 63)));
-									if ((load8(p1 + 232) & 1) != 0) {
-										if ((uint64_t)((n45 == 0) ? 64 : 60) <= n36) {
-											byte *p47 = at(loadptr(p1 + 208), n36 << 4);
-											uint64_t n48 = load64(p47);
-											if (n33 < n48) {
-												store64(p47, n33);
-												store64(p47 + 8, 1);
-											} else if (n33 == n48) {
-												store64(p47 + 8, load64(p47 + 8) + 1);
-											}
-										}
-									}
+									byte *p45 = inside(p1 + 128, (n36 >> 3) & 536870904);
+									store64(p45, load64(p45) | ((uint64_t)1 << (n36 & 63)));
+									tp_Firsts_enter(p1 + 208, p1, n36, n33);
 								}
 								store64(p1 + 240, load64(p1 + 240) + 1);
 								store64(p1 + 280, load64(p1 + 280) + 1);
-								byte *p49 = inside(p1 + 800, n17);
-								store64(p49, load64(p49) + 1);
+								byte *p46 = inside(p1 + 800, n17);
+								store64(p46, load64(p46) + 1);
 								store64(p18, n3 + 1);
-								uint64_t n50 = load64(p1 + 1360);
-								byte *p51 = inside(loadptr(p1 + 1352), n50 << 4);
-								store64u(p51, n38);
-								store64u(p51 + 8, n22);
-								store64(p1 + 1360, n50 + 1);
-								n52 = n33;
-								n53 = 0;
-								n54 = 0;
-								n55 = n22;
+								uint64_t n47 = load64(p1 + 1360);
+								byte *p48 = inside(loadptr(p1 + 1352), n47 << 4);
+								store64u(p48, n38);
+								store64u(p48 + 8, n22);
+								store64(p1 + 1360, n47 + 1);
+								n49 = n33;
+								n50 = 0;
+								n51 = 0;
+								n52 = n22;
 								goto L1;
 							}
 							n20 = 3;
@@ -60494,196 +60505,196 @@ static NOINLINE uint8_t tp_script_run_play_start(byte *p1, uint64_t n2, uint64_t
 					}
 				}
 				store64(p18, n3 + 1);
+				n49 = 0;
+				n50 = n20;
+				n51 = 3;
 				n52 = 0;
-				n53 = n20;
-				n54 = 3;
-				n55 = 0;
 L1:
 				{
-					uint64_t n63;
-					uint8_t n105;
-					uint64_t n56 = load64(p1 + 64);
-					byte *p57 = loadptr(p1 + 80);
-					uint64_t n58 = load64(p1 + 104);
-					uint64_t n59 = (uint64_t)load32(at(p57, load64(p1 + 32) << 3) + 4);
-					uint64_t n60 = usub_sat64(n59, n58);
-					uint64_t n61 = 0;
-					uint64_t n62 = n59;
+					uint64_t n60;
+					uint8_t n102;
+					uint64_t n53 = load64(p1 + 64);
+					byte *p54 = loadptr(p1 + 80);
+					uint64_t n55 = load64(p1 + 104);
+					uint64_t n56 = (uint64_t)load32(at(p54, load64(p1 + 32) << 3) + 4);
+					uint64_t n57 = usub_sat64(n56, n55);
+					uint64_t n58 = 0;
+					uint64_t n59 = n56;
 					for (;;) {
-						if (n61 == n56) {
-							n63 = n56;
+						if (n58 == n53) {
+							n60 = n53;
 							break;
 						}
-						if (n58 > n62) {
-							n63 = n61;
+						if (n55 > n59) {
+							n60 = n58;
 							break;
 						}
-						uint64_t n64 = (uint64_t)load32(at(p57, (n58 + n60) << 3) + 4);
-						n60 = usub_sat64(n64, n58);
-						n61 = n61 + 1;
-						n62 = n64;
+						uint64_t n61 = (uint64_t)load32(at(p54, (n55 + n57) << 3) + 4);
+						n57 = usub_sat64(n61, n55);
+						n58 = n58 + 1;
+						n59 = n61;
 					}
-					if ((((n56 - n63) << 1) + 64) < load64(p1 + 1360))
+					if ((((n53 - n60) << 1) + 64) < load64(p1 + 1360))
 						tp_handles_sweep(p1 + 1352, p1);
 					memset(p12, 0, 16);
 					memset(p9, 0, 16);
-					if (n54 == 0) {
-						uint64_t n94;
+					if (n51 == 0) {
+						uint64_t n91;
 						store64(p8, n2);
 						store64(p8 + 8, n3);
-						store64(p8 + 16, n55);
-						store64(p8 + 24, n52);
+						store64(p8 + 16, n52);
+						store64(p8 + 24, n49);
 						memset(p7, 0, 117);
 						store8(p7 + 117, 10);
-						uint64_t n65 = 4;
-						uint64_t n66 = 117;
-						while (n65 != 0) {
-							uint64_t n78;
-							uint64_t n67 = n65 - 1;
-							uint64_t n68 = load64(inside(p8, n67 << 3));
-							uint64_t n69 = n66;
-							while (n68 > 9999) {
-								uint16_t n70 = (uint16_t)(n68 % 10000);
-								byte *p71 = inside((byte *)tp_static_224, (uint64_t)(uint16_t)((uint32_t)(uint16_t)(n70 % 100) << 1));
-								byte *p72 = at(p7, n69);
-								uint8_t n73 = load8(p71 + 1);
-								store8(at(p72, UINT64_C(18446744073709551614)), load8(p71));
-								store8(at(p72, UINT64_MAX), n73);
-								uint64_t n74 = n69 - 4;
-								byte *p75 = inside((byte *)tp_static_224, (uint64_t)(uint16_t)((uint32_t)(uint16_t)(n70 / 100) << 1));
-								uint8_t n76 = load8(p75 + 1);
-								store8(inside(p7, n74), load8(p75));
-								store8(at(p72, UINT64_C(18446744073709551613)), n76);
-								n68 = n68 / 10000;
-								n69 = n74;
+						uint64_t n62 = 4;
+						uint64_t n63 = 117;
+						while (n62 != 0) {
+							uint64_t n75;
+							uint64_t n64 = n62 - 1;
+							uint64_t n65 = load64(inside(p8, n64 << 3));
+							uint64_t n66 = n63;
+							while (n65 > 9999) {
+								uint16_t n67 = (uint16_t)(n65 % 10000);
+								byte *p68 = inside((byte *)tp_static_224, (uint64_t)(uint16_t)((uint32_t)(uint16_t)(n67 % 100) << 1));
+								byte *p69 = at(p7, n66);
+								uint8_t n70 = load8(p68 + 1);
+								store8(at(p69, UINT64_C(18446744073709551614)), load8(p68));
+								store8(at(p69, UINT64_MAX), n70);
+								uint64_t n71 = n66 - 4;
+								byte *p72 = inside((byte *)tp_static_224, (uint64_t)(uint16_t)((uint32_t)(uint16_t)(n67 / 100) << 1));
+								uint8_t n73 = load8(p72 + 1);
+								store8(inside(p7, n71), load8(p72));
+								store8(at(p69, UINT64_C(18446744073709551613)), n73);
+								n65 = n65 / 10000;
+								n66 = n71;
 							}
-							if (n68 < 100) {
-								if (n68 < 10) {
-									uint64_t n77 = n69 - 1;
-									store8(inside(p7, n77), (uint8_t)((uint8_t)n68 | 48));
-									n78 = n77;
+							if (n65 < 100) {
+								if (n65 < 10) {
+									uint64_t n74 = n66 - 1;
+									store8(inside(p7, n74), (uint8_t)((uint8_t)n65 | 48));
+									n75 = n74;
 								} else {
-									uint64_t n79 = n69 - 2;
-									byte *p80 = inside((byte *)tp_static_224, n68 << 1);
-									uint8_t n81 = load8(p80 + 1);
-									store8(inside(p7, n79), load8(p80));
-									store8(at(at(p7, n69), UINT64_MAX), n81);
-									n78 = n79;
+									uint64_t n76 = n66 - 2;
+									byte *p77 = inside((byte *)tp_static_224, n65 << 1);
+									uint8_t n78 = load8(p77 + 1);
+									store8(inside(p7, n76), load8(p77));
+									store8(at(at(p7, n66), UINT64_MAX), n78);
+									n75 = n76;
 								}
 							} else {
-								uint16_t n82 = (uint16_t)n68;
-								byte *p83 = inside((byte *)tp_static_224, (uint64_t)(uint16_t)((uint32_t)(uint16_t)(n82 % 100) << 1));
-								byte *p84 = at(p7, n69);
-								uint8_t n85 = load8(p83 + 1);
-								store8(at(p84, UINT64_C(18446744073709551614)), load8(p83));
-								store8(at(p84, UINT64_MAX), n85);
-								uint16_t n86 = (uint16_t)(n82 / 100);
-								if (n68 < 1000) {
-									uint64_t n87 = n69 - 3;
-									store8(inside(p7, n87), (uint8_t)((uint8_t)n86 | 48));
-									n78 = n87;
+								uint16_t n79 = (uint16_t)n65;
+								byte *p80 = inside((byte *)tp_static_224, (uint64_t)(uint16_t)((uint32_t)(uint16_t)(n79 % 100) << 1));
+								byte *p81 = at(p7, n66);
+								uint8_t n82 = load8(p80 + 1);
+								store8(at(p81, UINT64_C(18446744073709551614)), load8(p80));
+								store8(at(p81, UINT64_MAX), n82);
+								uint16_t n83 = (uint16_t)(n79 / 100);
+								if (n65 < 1000) {
+									uint64_t n84 = n66 - 3;
+									store8(inside(p7, n84), (uint8_t)((uint8_t)n83 | 48));
+									n75 = n84;
 								} else {
-									uint64_t n88 = n69 - 4;
-									byte *p89 = inside((byte *)tp_static_224, (uint64_t)(uint16_t)((uint32_t)n86 << 1));
-									uint8_t n90 = load8(p89 + 1);
-									store8(inside(p7, n88), load8(p89));
-									store8(at(p84, UINT64_C(18446744073709551613)), n90);
-									n78 = n88;
+									uint64_t n85 = n66 - 4;
+									byte *p86 = inside((byte *)tp_static_224, (uint64_t)(uint16_t)((uint32_t)n83 << 1));
+									uint8_t n87 = load8(p86 + 1);
+									store8(inside(p7, n85), load8(p86));
+									store8(at(p81, UINT64_C(18446744073709551613)), n87);
+									n75 = n85;
 								}
 							}
-							uint64_t n91 = n78 - 1;
-							store8(inside(p7, n91), 32);
-							n65 = n67;
-							n66 = n91;
+							uint64_t n88 = n75 - 1;
+							store8(inside(p7, n88), 32);
+							n62 = n64;
+							n63 = n88;
 						}
-						byte *p92 = at(at(p7, n66), UINT64_C(18446744073709551609));
-						uint64_t n93 = (uint64_t)(uintptr_t)p92;
-						if ((n93 - (uint64_t)(uintptr_t)(byte *)tp_static_210) >= 7) {
-							memcpy(p92, (byte *)tp_static_210, 7);
+						byte *p89 = at(at(p7, n63), UINT64_C(18446744073709551609));
+						uint64_t n90 = (uint64_t)(uintptr_t)p89;
+						if ((n90 - (uint64_t)(uintptr_t)(byte *)tp_static_210) >= 7) {
+							memcpy(p89, (byte *)tp_static_210, 7);
 							goto L2;
 						}
-						n94 = 0;
-						while (n94 != 7) {
-							store8(inside(p92, n94), load8(inside((byte *)tp_static_210, n94)));
-							n94 = n94 + 1;
+						n91 = 0;
+						while (n91 != 7) {
+							store8(inside(p89, n91), load8(inside((byte *)tp_static_210, n91)));
+							n91 = n91 + 1;
 						}
 L2:
 						{
-							uint64_t n99, n100, n104;
-							uint8_t n101;
-							byte *p102, *p103;
-							uint64_t n95 = 125 - n66;
-							uint64_t n96 = load64(p6 + 16);
-							uint64_t n97 = load64(p6 + 8);
-							if (n95 > (n96 - n97)) {
-								bool b98 = tp_std_alloc_vec_Vec_grow_amortized_9(p6, n95);
-								if (!b98) {
-									n101 = 1;
+							uint64_t n96, n97, n101;
+							uint8_t n98;
+							byte *p99, *p100;
+							uint64_t n92 = 125 - n63;
+							uint64_t n93 = load64(p6 + 16);
+							uint64_t n94 = load64(p6 + 8);
+							if (n92 > (n93 - n94)) {
+								bool b95 = tp_std_alloc_vec_Vec_grow_amortized_9(p6, n92);
+								if (!b95) {
+									n98 = 1;
 									goto L3;
 								}
-								n99 = load64(p6 + 16);
-								n100 = load64(p6 + 8);
+								n96 = load64(p6 + 16);
+								n97 = load64(p6 + 8);
 							} else {
-								n99 = n96;
-								n100 = n97;
+								n96 = n93;
+								n97 = n94;
 							}
-							p102 = loadptr(p6);
-							p103 = at(p102, n100);
-							if (((uint64_t)(uintptr_t)p103 - n93) >= n95) {
-								memcpy(p103, p92, (size_t)n95);
+							p99 = loadptr(p6);
+							p100 = at(p99, n97);
+							if (((uint64_t)(uintptr_t)p100 - n90) >= n92) {
+								memcpy(p100, p89, (size_t)n92);
 								goto L4;
 							}
-							n104 = 0;
-							while (n104 != n95) {
-								store8(inside(p103, n104), load8(inside(p92, n104)));
-								n104 = n104 + 1;
+							n101 = 0;
+							while (n101 != n92) {
+								store8(inside(p100, n101), load8(inside(p89, n101)));
+								n101 = n101 + 1;
 							}
 L4:
 							{
-								storeptr(p6, p102);
-								store64(p6 + 8, n100 + n95);
-								store64(p6 + 16, n99);
-								n101 = 0;
+								storeptr(p6, p99);
+								store64(p6 + 8, n97 + n92);
+								store64(p6 + 16, n96);
+								n98 = 0;
 							}
 L3:
 							{
-								n105 = n101;
+								n102 = n98;
 							}
 						}
 					} else {
-						uint64_t n106;
-						byte *p107;
+						uint64_t n103;
+						byte *p104;
 						store64(p9, n2);
 						store64(p9 + 8, n3);
-						switch (n53) {
+						switch (n50) {
 						case 0: {
-							n106 = 13;
-							p107 = (byte *)tp_static_213;
+							n103 = 13;
+							p104 = (byte *)tp_static_213;
 							break;
 						}
 						case 1: {
-							n106 = 8;
-							p107 = (byte *)tp_static_214;
+							n103 = 8;
+							p104 = (byte *)tp_static_214;
 							break;
 						}
 						case 2: {
-							n106 = 13;
-							p107 = (byte *)tp_static_215;
+							n103 = 13;
+							p104 = (byte *)tp_static_215;
 							break;
 						}
 						case 3: {
-							n106 = 4;
-							p107 = (byte *)tp_static_216;
+							n103 = 4;
+							p104 = (byte *)tp_static_216;
 							break;
 						}
 						default: {
 							UNREACHABLE();
 						}
 						}
-						uint8_t n108 = tp_text_push_refused(p6, (byte *)tp_static_203, 7, p9, 2, p107, n106);
-						n105 = n108;
+						uint8_t n105 = tp_text_push_refused(p6, (byte *)tp_static_203, 7, p9, 2, p104, n103);
+						n102 = n105;
 					}
-					n109 = n105;
+					n106 = n102;
 					goto L5;
 				}
 			}
@@ -60698,49 +60709,11 @@ L3:
 		n15 = 9;
 		p16 = (byte *)tp_static_218;
 	}
-	n110 = tp_text_push_refused(p6, (byte *)tp_static_203, 7, p12, 2, p16, n15);
-	n109 = n110;
+	n107 = tp_text_push_refused(p6, (byte *)tp_static_203, 7, p12, 2, p16, n15);
+	n106 = n107;
 L5:
 	{
-		return n109;
-	}
-}
-
-/* timer_wheels::firsts::leave_bucket: crates/timer_wheels/src/firsts.rt */
-static NOINLINE void tp_firsts_leave_bucket(byte *p1, uint8_t n2, uint64_t n3, uint64_t n4)
-{
-	uint64_t n6, n10;
-	if (n4 <= n3)
-		return;
-	if (n2 == 0) {
-		uint32_t n5 = (63 - (uint32_t)ctlz64(n3 ^ n4)) / 6;
-		n6 = ((uint64_t)n5 << 6) | ((n4 >> ((uint64_t)(n5 * 6) & 63)) & 63);
-	} else {
-		uint64_t n7 = n4 / 60;
-		if ((n3 / 60) == n7)
-			return;
-		uint64_t n8 = n4 / 3600;
-		if ((n3 / 3600) != n8) {
-			uint64_t n9 = n4 / 86400;
-			if ((n3 / 86400) == n9) {
-				n10 = (n8 % 24) + 120;
-				goto L1;
-			}
-			n10 = n9 + 144;
-			goto L1;
-		}
-		n6 = (n7 % 60) + 60;
-	}
-	if ((uint64_t)((n2 == 0) ? 64 : 60) > n6)
-		return;
-	n10 = n6;
-L1:
-	{
-		byte *p11 = at(p1, n10 << 4);
-		if (n4 != load64(p11))
-			return;
-		store64(p11 + 8, load64(p11 + 8) - 1);
-		return;
+		return n106;
 	}
 }
 
@@ -60749,7 +60722,7 @@ static void tp_HierWheelWheel_stop(byte *p1, byte *p2, uint64_t n3, uint64_t n4)
 {
 	ALIGN(8) byte p5[16];
 	ALIGN(8) byte p6[16];
-	uint64_t n20, n21, n22, n23;
+	uint64_t n28, n29, n30, n31;
 	byte *p7 = at(loadptr(p2 + 40), n3 * 56);
 	if (n3 < load64(p2 + 48)) {
 		if (load8(p7) == 1) {
@@ -60770,42 +60743,76 @@ static void tp_HierWheelWheel_stop(byte *p1, byte *p2, uint64_t n3, uint64_t n4)
 				uint64_t n15 = (uint64_t)n11;
 				store32(inside(p14, n15 << 3) + 4, n12);
 				store32(inside(p14, (uint64_t)n12 << 3), n11);
-				uint8_t n16 = load8(p2);
-				uint64_t n17 = load64(p2 + 16);
 				if (n11 == n12) {
-					if (n17 < n8) {
-						byte *p18 = inside(p2 + 128, (n15 >> 3) & 536870904);
-						store64(p18, load64(p18) & (((uint64_t)1 << (n15 & 63)) ^ UINT64_MAX));
+					if (load64(p2 + 16) < n8) {
+						byte *p16 = inside(p2 + 128, (n15 >> 3) & 536870904);
+						store64(p16, load64(p16) & (((uint64_t)1 << (n15 & 63)) ^ UINT64_MAX));
 						if ((load8(p2 + 232) & 1) != 0) {
-							byte *p19 = at(loadptr(p2 + 208), n15 << 4);
-							store64u(p19, UINT64_MAX);
-							store64u(p19 + 8, 0);
+							byte *p17 = at(loadptr(p2 + 208), n15 << 4);
+							store64u(p17, UINT64_MAX);
+							store64u(p17 + 8, 0);
 						}
 					}
 				} else if ((load8(p2 + 232) & 1) != 0) {
-					tp_firsts_leave_bucket(loadptr(p2 + 208), n16, n17, n8);
+					byte *p18 = loadptr(p2 + 208);
+					uint8_t n19 = load8(p2);
+					uint64_t n20 = load64(p2 + 16);
+					if (n8 > n20) {
+						uint64_t n22, n26;
+						if (n19 == 0) {
+							uint32_t n21 = (((uint32_t)ctlz64(n20 ^ n8) ^ 63) * 43) >> 8;
+							n22 = ((n8 >> ((uint64_t)(n21 * 6) & 63)) & 63) | (uint64_t)(n21 << 6);
+						} else {
+							uint64_t n23 = n8 / 60;
+							if ((n20 / 60) == n23)
+								goto L1;
+							uint64_t n24 = n8 / 3600;
+							if ((n20 / 3600) != n24) {
+								uint64_t n25 = n8 / 86400;
+								if ((n20 / 86400) == n25) {
+									n26 = (n24 % 24) + 120;
+									goto L2;
+								}
+								n26 = n25 + 144;
+								goto L2;
+							}
+							n22 = (n23 % 60) + 60;
+						}
+						if ((uint64_t)((n19 == 0) ? 64 : 60) > n22)
+							goto L1;
+						n26 = n22;
+L2:
+						{
+							byte *p27 = at(p18, n26 << 4);
+							if (n8 == load64(p27))
+								store64(p27 + 8, load64(p27 + 8) - 1);
+						}
+					}
 				}
-				memcpy(p6, p5, 16);
-				n20 = n4;
-				n21 = n8;
-				n22 = n9;
-				n23 = 1;
-				goto L1;
+L1:
+				{
+					memcpy(p6, p5, 16);
+					n28 = n4;
+					n29 = n8;
+					n30 = n9;
+					n31 = 1;
+					goto L3;
+				}
 			}
 		}
 	}
 	memset(p6, 0, 16);
-	n20 = 0;
-	n21 = 0;
-	n22 = 0;
-	n23 = 0;
-L1:
+	n28 = 0;
+	n29 = 0;
+	n30 = 0;
+	n31 = 0;
+L3:
 	{
-		store64u(p1, n23);
-		store64u(p1 + 8, n20);
+		store64u(p1, n31);
+		store64u(p1 + 8, n28);
 		memcpy(p1 + 16, p6, 16);
-		store64u(p1 + 32, n21);
-		store64u(p1 + 40, n22);
+		store64u(p1 + 32, n29);
+		store64u(p1 + 40, n30);
 		return;
 	}
 }
@@ -61135,8 +61142,8 @@ static void tp_Facility_take_restart(byte *p1, byte *p2, uint64_t n3, uint64_t n
 								bool b15 = n12 < n14;
 								if (b15) {
 									if (load8(p2) == 0) {
-										uint32_t n16 = (63 - (uint32_t)ctlz64(n12 ^ n14)) / 6;
-										n17 = ((uint64_t)n16 << 6) | ((n14 >> ((uint64_t)(n16 * 6) & 63)) & 63);
+										uint32_t n16 = (((uint32_t)ctlz64(n12 ^ n14) ^ 63) * 43) >> 8;
+										n17 = ((n14 >> ((uint64_t)(n16 * 6) & 63)) & 63) | (uint64_t)(n16 << 6);
 									} else {
 										uint64_t n18 = n14 / 60;
 										if ((n12 / 60) == n18) {
@@ -61183,33 +61190,40 @@ static void tp_Facility_take_restart(byte *p1, byte *p2, uint64_t n3, uint64_t n
 								bool b31 = n25 == n26;
 								uint64_t n32 = b31 ? n27 : 0;
 								store64(p2 + 24, n13);
-								uint8_t n33 = load8(p2);
 								if (b31) {
 									if (n12 < n21) {
-										byte *p34 = inside(p2 + 128, (n32 >> 3) & 536870904);
-										store64(p34, load64(p34) & (((uint64_t)1 << (n32 & 63)) ^ UINT64_MAX));
+										byte *p33 = inside(p2 + 128, (n32 >> 3) & 536870904);
+										store64(p33, load64(p33) & (((uint64_t)1 << (n32 & 63)) ^ UINT64_MAX));
 										if ((load8(p2 + 232) & 1) != 0) {
-											byte *p35 = at(loadptr(p2 + 208), n32 << 4);
-											store64u(p35, UINT64_MAX);
-											store64u(p35 + 8, 0);
+											byte *p34 = at(loadptr(p2 + 208), n32 << 4);
+											store64u(p34, UINT64_MAX);
+											store64u(p34 + 8, 0);
 										}
 									}
 								} else if ((load8(p2 + 232) & 1) != 0) {
-									tp_firsts_leave_bucket(loadptr(p2 + 208), n33, n12, n21);
+									byte *p35 = loadptr(p2 + 208);
+									if (n21 > n12) {
+										uint8_t n36 = load8(p2);
+										uint64_t n37 = tp_table_bucket_of(n36, n12, n21);
+										if ((uint64_t)((n36 == 0) ? 64 : 60) <= n37) {
+											byte *p38 = at(p35, n37 << 4);
+											if (n21 == load64(p38))
+												store64(p38 + 8, load64(p38 + 8) - 1);
+										}
+									}
 								}
-								uint8_t n36 = load8(p2);
 								if (b15) {
-									byte *p37 = inside(p2 + 128, (n17 >> 3) & 536870904);
-									store64(p37, load64(p37) | ((uint64_t)1 << (n17 & 63)));
+									byte *p39 = inside(p2 + 128, (n17 >> 3) & 536870904);
+									store64(p39, load64(p39) | ((uint64_t)1 << (n17 & 63)));
 									if ((load8(p2 + 232) & 1) != 0) {
-										if ((uint64_t)((n36 == 0) ? 64 : 60) <= n17) {
-											byte *p38 = at(loadptr(p2 + 208), n17 << 4);
-											uint64_t n39 = load64(p38);
-											if (n14 < n39) {
-												store64(p38, n14);
-												store64(p38 + 8, 1);
-											} else if (n14 == n39) {
-												store64(p38 + 8, load64(p38 + 8) + 1);
+										if ((uint64_t)((load8(p2) == 0) ? 64 : 60) <= n17) {
+											byte *p40 = at(loadptr(p2 + 208), n17 << 4);
+											uint64_t n41 = load64(p40);
+											if (n14 < n41) {
+												store64(p40, n14);
+												store64(p40 + 8, 1);
+											} else if (n14 == n41) {
+												store64(p40 + 8, load64(p40 + 8) + 1);
 											}
 										}
 									}
@@ -62014,35 +62028,34 @@ static NOINLINE uint64_t tp_migration_migrate(uint8_t n1, byte *p2, byte *p3, by
 					n32 = n14;
 				}
 			} else {
-				uint32_t n33 = (uint32_t)ctlz64(n6 ^ n16) ^ 62;
-				uint32_t n34 = (uint32_t)(uint8_t)((uint8_t)n33 / 6);
-				uint64_t n35 = (uint64_t)(n34 << 6);
-				uint64_t n36 = (n16 >> ((uint64_t)(n34 * 6) & 63)) & 63;
-				uint64_t n37 = n36 | n35;
+				uint32_t n33 = (((uint32_t)ctlz64(n6 ^ n16) ^ 63) * 43) >> 8;
+				uint64_t n34 = (uint64_t)(n33 << 6);
+				uint64_t n35 = (n16 >> ((uint64_t)(n33 * 6) & 63)) & 63;
+				uint64_t n36 = n35 | n34;
 				if (b21) {
-					uint64_t n38 = umax64(n20, n19);
-					byte *p39 = at(p17, n38 << 3);
-					uint32_t n40 = load32(p39 + 4);
-					store32(p18, n40);
-					store32(inside(p17, (uint64_t)n40 << 3), (uint32_t)n5);
-					byte *p41 = inside(p17, n37 << 3);
-					uint32_t n42 = load32(p41);
-					uint32_t n43 = (uint32_t)n38;
-					store32(inside(p17, (uint64_t)n42 << 3) + 4, n43);
-					store32(p39, n42);
-					store32(p39 + 4, (uint32_t)n37);
-					store32(p41, n43);
+					uint64_t n37 = umax64(n20, n19);
+					byte *p38 = at(p17, n37 << 3);
+					uint32_t n39 = load32(p38 + 4);
+					store32(p18, n39);
+					store32(inside(p17, (uint64_t)n39 << 3), (uint32_t)n5);
+					byte *p40 = inside(p17, n36 << 3);
+					uint32_t n41 = load32(p40);
+					uint32_t n42 = (uint32_t)n37;
+					store32(inside(p17, (uint64_t)n41 << 3) + 4, n42);
+					store32(p38, n41);
+					store32(p38 + 4, (uint32_t)n36);
+					store32(p40, n42);
 				}
-				byte *p44 = inside(p3, n35 >> 3);
-				store64(p44, load64(p44) | ((uint64_t)1 << (n36 & 63)));
-				if (((load8(p4 + 24) & 1) != 0) && (n33 > 5)) {
-					byte *p45 = at(loadptr(p4), n37 << 4);
-					uint64_t n46 = load64(p45);
-					if (n16 < n46) {
-						store64(p45, n16);
-						store64(p45 + 8, 1);
-					} else if (n16 == n46) {
-						store64(p45 + 8, load64(p45 + 8) + 1);
+				byte *p43 = inside(p3, n34 >> 3);
+				store64(p43, load64(p43) | ((uint64_t)1 << (n35 & 63)));
+				if (((load8(p4 + 24) & 1) != 0) && (n33 != 0)) {
+					byte *p44 = at(loadptr(p4), n36 << 4);
+					uint64_t n45 = load64(p44);
+					if (n16 < n45) {
+						store64(p44, n16);
+						store64(p44 + 8, 1);
+					} else if (n16 == n45) {
+						store64(p44 + 8, load64(p44 + 8) + 1);
 					}
 				}
 				n32 = n14 + 1;
@@ -62052,134 +62065,134 @@ static NOINLINE uint64_t tp_migration_migrate(uint8_t n1, byte *p2, byte *p3, by
 			n16 = n25;
 		}
 	} else {
-		uint8_t n52;
-		uint64_t n53;
-		uint64_t n47 = n5 << 3;
-		uint64_t n48 = load64(p2 + 64);
-		uint64_t n49 = (uint64_t)load32(at(loadptr(p2 + 40), n47) + 4);
-		if (n48 <= n49) {
-			uint64_t n50 = usub_sat64(n49, n48);
-			byte *p51 = at(loadptr(p2), n50 * 56);
-			if (n50 < load64(p2 + 8)) {
-				if (load8(p51) == 1) {
-					n52 = 1;
-					n53 = load64u(p51 + 32);
+		uint8_t n51;
+		uint64_t n52;
+		uint64_t n46 = n5 << 3;
+		uint64_t n47 = load64(p2 + 64);
+		uint64_t n48 = (uint64_t)load32(at(loadptr(p2 + 40), n46) + 4);
+		if (n47 <= n48) {
+			uint64_t n49 = usub_sat64(n48, n47);
+			byte *p50 = at(loadptr(p2), n49 * 56);
+			if (n49 < load64(p2 + 8)) {
+				if (load8(p50) == 1) {
+					n51 = 1;
+					n52 = load64u(p50 + 32);
 				} else {
+					n51 = 0;
 					n52 = 0;
-					n53 = 0;
 				}
 			} else {
+				n51 = 0;
 				n52 = 0;
-				n53 = 0;
 			}
 		} else {
+			n51 = 0;
 			n52 = 0;
-			n53 = 0;
 		}
-		uint64_t n54 = 0;
-		uint8_t n55 = n52;
-		uint64_t n56 = n53;
+		uint64_t n53 = 0;
+		uint8_t n54 = n51;
+		uint64_t n55 = n52;
 		for (;;) {
-			uint64_t n65, n72;
-			uint8_t n66;
-			if (n55 != 1)
-				return n54;
-			byte *p57 = loadptr(p2 + 40);
-			byte *p58 = at(p57, n47) + 4;
-			uint64_t n59 = load64(p2 + 64);
-			uint64_t n60 = (uint64_t)load32(p58);
-			bool b61 = n59 <= n60;
-			if (b61) {
-				uint64_t n62 = (uint64_t)load32(at(p57, umax64(n60, n59) << 3) + 4);
-				if (n59 <= n62) {
-					uint64_t n63 = usub_sat64(n62, n59);
-					byte *p64 = at(loadptr(p2), n63 * 56);
-					if (n63 < load64(p2 + 8)) {
-						if (load8(p64) == 1) {
-							n65 = load64u(p64 + 32);
-							n66 = 1;
+			uint64_t n64, n71;
+			uint8_t n65;
+			if (n54 != 1)
+				return n53;
+			byte *p56 = loadptr(p2 + 40);
+			byte *p57 = at(p56, n46) + 4;
+			uint64_t n58 = load64(p2 + 64);
+			uint64_t n59 = (uint64_t)load32(p57);
+			bool b60 = n58 <= n59;
+			if (b60) {
+				uint64_t n61 = (uint64_t)load32(at(p56, umax64(n59, n58) << 3) + 4);
+				if (n58 <= n61) {
+					uint64_t n62 = usub_sat64(n61, n58);
+					byte *p63 = at(loadptr(p2), n62 * 56);
+					if (n62 < load64(p2 + 8)) {
+						if (load8(p63) == 1) {
+							n64 = load64u(p63 + 32);
+							n65 = 1;
 						} else {
+							n64 = 0;
 							n65 = 0;
-							n66 = 0;
 						}
 					} else {
+						n64 = 0;
 						n65 = 0;
-						n66 = 0;
 					}
 				} else {
+					n64 = 0;
 					n65 = 0;
-					n66 = 0;
 				}
 			} else {
+				n64 = 0;
 				n65 = 0;
-				n66 = 0;
 			}
-			if (n56 == n6) {
-				if (b61) {
-					uint64_t n67 = umax64(n60, n59);
-					byte *p68 = at(p57, n67 << 3);
-					uint32_t n69 = load32(p68 + 4);
-					store32(p58, n69);
-					store32(inside(p57, (uint64_t)n69 << 3), (uint32_t)n5);
-					uint32_t n70 = load32(p57 + 1952);
-					uint32_t n71 = (uint32_t)n67;
-					store32(inside(p57, (uint64_t)n70 << 3) + 4, n71);
-					store32(p68, n70);
-					store32(p68 + 4, 244);
-					store32(p57 + 1952, n71);
-					n72 = n54;
+			if (n55 == n6) {
+				if (b60) {
+					uint64_t n66 = umax64(n59, n58);
+					byte *p67 = at(p56, n66 << 3);
+					uint32_t n68 = load32(p67 + 4);
+					store32(p57, n68);
+					store32(inside(p56, (uint64_t)n68 << 3), (uint32_t)n5);
+					uint32_t n69 = load32(p56 + 1952);
+					uint32_t n70 = (uint32_t)n66;
+					store32(inside(p56, (uint64_t)n69 << 3) + 4, n70);
+					store32(p67, n69);
+					store32(p67 + 4, 244);
+					store32(p56 + 1952, n70);
+					n71 = n53;
 				} else {
-					n72 = n54;
+					n71 = n53;
 				}
 			} else {
-				uint64_t n74;
-				uint64_t n73 = n56 / 60;
-				if ((n6 / 60) == n73) {
-					n74 = n56 % 60;
+				uint64_t n73;
+				uint64_t n72 = n55 / 60;
+				if ((n6 / 60) == n72) {
+					n73 = n55 % 60;
 				} else {
-					uint64_t n75 = n56 / 3600;
-					if ((n6 / 3600) == n75) {
-						n74 = (n73 % 60) + 60;
+					uint64_t n74 = n55 / 3600;
+					if ((n6 / 3600) == n74) {
+						n73 = (n72 % 60) + 60;
 					} else {
-						uint64_t n76 = n56 / 86400;
-						if ((n6 / 86400) == n76) {
-							n74 = (n75 % 24) + 120;
+						uint64_t n75 = n55 / 86400;
+						if ((n6 / 86400) == n75) {
+							n73 = (n74 % 24) + 120;
 						} else {
-							n74 = n76 + 144;
+							n73 = n75 + 144;
 						}
 					}
 				}
-				if (b61) {
-					uint64_t n77 = umax64(n60, n59);
-					byte *p78 = at(p57, n77 << 3);
-					uint32_t n79 = load32(p78 + 4);
-					store32(p58, n79);
-					store32(inside(p57, (uint64_t)n79 << 3), (uint32_t)n5);
-					byte *p80 = inside(p57, n74 << 3);
-					uint32_t n81 = load32(p80);
-					uint32_t n82 = (uint32_t)n77;
-					store32(inside(p57, (uint64_t)n81 << 3) + 4, n82);
-					store32(p78, n81);
-					store32(p78 + 4, (uint32_t)n74);
-					store32(p80, n82);
+				if (b60) {
+					uint64_t n76 = umax64(n59, n58);
+					byte *p77 = at(p56, n76 << 3);
+					uint32_t n78 = load32(p77 + 4);
+					store32(p57, n78);
+					store32(inside(p56, (uint64_t)n78 << 3), (uint32_t)n5);
+					byte *p79 = inside(p56, n73 << 3);
+					uint32_t n80 = load32(p79);
+					uint32_t n81 = (uint32_t)n76;
+					store32(inside(p56, (uint64_t)n80 << 3) + 4, n81);
+					store32(p77, n80);
+					store32(p77 + 4, (uint32_t)n73);
+					store32(p79, n81);
 				}
-				byte *p83 = inside(p3, (n74 >> 3) & 536870904);
-				store64(p83, load64(p83) | ((uint64_t)1 << (n74 & 63)));
-				if (((load8(p4 + 24) & 1) != 0) && (n74 > 59)) {
-					byte *p84 = at(loadptr(p4), n74 << 4);
-					uint64_t n85 = load64(p84);
-					if (n56 < n85) {
-						store64(p84, n56);
-						store64(p84 + 8, 1);
-					} else if (n56 == n85) {
-						store64(p84 + 8, load64(p84 + 8) + 1);
+				byte *p82 = inside(p3, (n73 >> 3) & 536870904);
+				store64(p82, load64(p82) | ((uint64_t)1 << (n73 & 63)));
+				if (((load8(p4 + 24) & 1) != 0) && (n73 > 59)) {
+					byte *p83 = at(loadptr(p4), n73 << 4);
+					uint64_t n84 = load64(p83);
+					if (n55 < n84) {
+						store64(p83, n55);
+						store64(p83 + 8, 1);
+					} else if (n55 == n84) {
+						store64(p83 + 8, load64(p83 + 8) + 1);
 					}
 				}
-				n72 = n54 + 1;
+				n71 = n53 + 1;
 			}
-			n54 = n72;
-			n55 = n66;
-			n56 = n65;
+			n53 = n71;
+			n54 = n65;
+			n55 = n64;
 		}
 	}
 }
@@ -62529,7 +62542,7 @@ static uint8_t tp_script_run_play_outs(byte *p1, byte *p2, byte *p3, byte *p4)
 				n24 = 0;
 				n25 = 0;
 			} else {
-				uint64_t n30, n33, n34, n64;
+				uint64_t n30, n33, n34, n61;
 				uint8_t n31, n32;
 				of_i8_i8 s29 = tp_Facility_start_refusal(p1, n14);
 				if (s29.f0 == 1) {
@@ -62576,61 +62589,49 @@ static uint8_t tp_script_run_play_outs(byte *p1, byte *p2, byte *p3, byte *p4)
 					store32(p49 + 4, (uint32_t)n40);
 					store32(p46, n48);
 					store64(p1 + 24, n35);
-					uint8_t n50 = load8(p1);
 					if (b38) {
-						byte *p51 = inside(p1 + 128, (n40 >> 3) & 536870904);
-						store64(p51, load64(p51) | ((uint64_t)1 << (n40 & 63)));
-						if ((load8(p1 + 232) & 1) != 0) {
-							if ((uint64_t)((n50 == 0) ? 64 : 60) <= n40) {
-								byte *p52 = at(loadptr(p1 + 208), n40 << 4);
-								uint64_t n53 = load64(p52);
-								if (n37 < n53) {
-									store64(p52, n37);
-									store64(p52 + 8, 1);
-								} else if (n37 == n53) {
-									store64(p52 + 8, load64(p52 + 8) + 1);
-								}
-							}
-						}
+						byte *p50 = inside(p1 + 128, (n40 >> 3) & 536870904);
+						store64(p50, load64(p50) | ((uint64_t)1 << (n40 & 63)));
+						tp_Firsts_enter(p1 + 208, p1, n40, n37);
 					}
 					store64(p1 + 240, load64(p1 + 240) + 1);
 					store64(p1 + 280, load64(p1 + 280) + 1);
-					byte *p54 = inside(p1 + 800, n26);
-					store64(p54, load64(p54) + 1);
+					byte *p51 = inside(p1 + 800, n26);
+					store64(p51, load64(p51) + 1);
 					store64(p27, n13 + 1);
-					uint64_t n55 = load64(p1 + 1360);
-					byte *p56 = inside(loadptr(p1 + 1352), n55 << 4);
-					store64u(p56, n43);
-					store64u(p56 + 8, n35);
-					store64(p1 + 1360, n55 + 1);
+					uint64_t n52 = load64(p1 + 1360);
+					byte *p53 = inside(loadptr(p1 + 1352), n52 << 4);
+					store64u(p53, n43);
+					store64u(p53 + 8, n35);
+					store64(p1 + 1360, n52 + 1);
 					n30 = n37;
 					n31 = 0;
 					n32 = 0;
 					n33 = n35;
 					n34 = n43;
 				}
-				uint64_t n57 = load64(p1 + 64);
-				byte *p58 = loadptr(p1 + 80);
-				uint64_t n59 = load64(p1 + 104);
-				uint64_t n60 = (uint64_t)load32(at(p58, load64(p1 + 32) << 3) + 4);
-				uint64_t n61 = usub_sat64(n60, n59);
-				uint64_t n62 = 0;
-				uint64_t n63 = n60;
+				uint64_t n54 = load64(p1 + 64);
+				byte *p55 = loadptr(p1 + 80);
+				uint64_t n56 = load64(p1 + 104);
+				uint64_t n57 = (uint64_t)load32(at(p55, load64(p1 + 32) << 3) + 4);
+				uint64_t n58 = usub_sat64(n57, n56);
+				uint64_t n59 = 0;
+				uint64_t n60 = n57;
 				for (;;) {
-					if (n62 == n57) {
-						n64 = n57;
+					if (n59 == n54) {
+						n61 = n54;
 						break;
 					}
-					if (n59 > n63) {
-						n64 = n62;
+					if (n56 > n60) {
+						n61 = n59;
 						break;
 					}
-					uint64_t n65 = (uint64_t)load32(at(p58, (n59 + n61) << 3) + 4);
-					n61 = usub_sat64(n65, n59);
-					n62 = n62 + 1;
-					n63 = n65;
+					uint64_t n62 = (uint64_t)load32(at(p55, (n56 + n58) << 3) + 4);
+					n58 = usub_sat64(n62, n56);
+					n59 = n59 + 1;
+					n60 = n62;
 				}
-				if ((((n57 - n64) << 1) + 64) < load64(p1 + 1360)) {
+				if ((((n54 - n61) << 1) + 64) < load64(p1 + 1360)) {
 					tp_handles_sweep(p1 + 1352, p1);
 					n20 = n32;
 					n21 = n34;
@@ -62655,79 +62656,79 @@ static uint8_t tp_script_run_play_outs(byte *p1, byte *p2, byte *p3, byte *p4)
 			n24 = 0;
 			n25 = 0;
 		}
-		uint64_t n66 = load64(p3 + 8);
-		byte *p67 = inside(loadptr(p3), n66 << 6);
-		store8(p67, n22);
-		store8(p67 + 1, 0);
-		store64u(p67 + 8, n12);
-		store64u(p67 + 16, n13);
-		store64u(p67 + 24, ((uint64_t)n23 << 8) | (uint64_t)n20);
-		store64u(p67 + 32, n21);
-		store64u(p67 + 40, n24);
-		store64u(p67 + 48, n25);
-		store64u(p67 + 56, 0);
-		store64(p3 + 8, n66 + 1);
+		uint64_t n63 = load64(p3 + 8);
+		byte *p64 = inside(loadptr(p3), n63 << 6);
+		store8(p64, n22);
+		store8(p64 + 1, 0);
+		store64u(p64 + 8, n12);
+		store64u(p64 + 16, n13);
+		store64u(p64 + 24, ((uint64_t)n23 << 8) | (uint64_t)n20);
+		store64u(p64 + 32, n21);
+		store64u(p64 + 40, n24);
+		store64u(p64 + 48, n25);
+		store64u(p64 + 56, 0);
+		store64(p3 + 8, n63 + 1);
 		break;
 	}
 	case 1: {
-		uint64_t n73;
+		uint64_t n70;
 		if (load64(p3 + 16) == 0) {
-			bool b68 = tp_std_alloc_vec_Vec_grow_amortized_6(p3, 1);
-			if (!b68)
+			bool b65 = tp_std_alloc_vec_Vec_grow_amortized_6(p3, 1);
+			if (!b65)
 				return 1;
 		}
-		byte *p69 = loadptr(p1 + 1352);
-		uint64_t n70 = load64(p1 + 1360);
-		if (n70 != 0) {
-			uint64_t n71 = load64(at(at(p69, n70 << 4), UINT64_C(18446744073709551608))) - n14;
-			if (n70 > n71) {
-				byte *p72 = inside(p69, (n70 + (n71 ^ UINT64_MAX)) << 4);
-				if (load64(p72 + 8) != n14)
+		byte *p66 = loadptr(p1 + 1352);
+		uint64_t n67 = load64(p1 + 1360);
+		if (n67 != 0) {
+			uint64_t n68 = load64(at(at(p66, n67 << 4), UINT64_C(18446744073709551608))) - n14;
+			if (n67 > n68) {
+				byte *p69 = inside(p66, (n67 + (n68 ^ UINT64_MAX)) << 4);
+				if (load64(p69 + 8) != n14)
 					goto L1;
-				n73 = load64(p72);
+				n70 = load64(p69);
 				goto L2;
 			}
 		}
-		if (n70 == 0) {
-			n73 = 0;
+		if (n67 == 0) {
+			n70 = 0;
 			goto L2;
 		}
 L1:
 		{
-			uint64_t n74 = 0;
-			uint64_t n75 = n70;
-			while (n75 > 1) {
-				uint64_t n79;
-				uint64_t n76 = n75 >> 1;
-				uint64_t n77 = n74 + n76;
-				uint64_t n78 = load64(at(p69, n77 << 4) + 8);
-				switch ((n78 == n14) ? 1 : (uint8_t)((n78 < n14) ? 0 : 2)) {
+			uint64_t n71 = 0;
+			uint64_t n72 = n67;
+			while (n72 > 1) {
+				uint64_t n76;
+				uint64_t n73 = n72 >> 1;
+				uint64_t n74 = n71 + n73;
+				uint64_t n75 = load64(at(p66, n74 << 4) + 8);
+				switch ((n75 == n14) ? 1 : (uint8_t)((n75 < n14) ? 0 : 2)) {
 				case 0:
 				case 1: {
-					n79 = n77;
+					n76 = n74;
 					break;
 				}
 				case 2: {
-					n79 = n74;
+					n76 = n71;
 					break;
 				}
 				default: {
 					UNREACHABLE();
 				}
 				}
-				n74 = n79;
-				n75 = n75 - n76;
+				n71 = n76;
+				n72 = n72 - n73;
 			}
-			byte *p80 = at(p69, n74 << 4);
-			uint64_t n81 = load64(p80 + 8);
-			switch ((n81 == n14) ? 1 : (uint8_t)((n81 < n14) ? 0 : 2)) {
+			byte *p77 = at(p66, n71 << 4);
+			uint64_t n78 = load64(p77 + 8);
+			switch ((n78 == n14) ? 1 : (uint8_t)((n78 < n14) ? 0 : 2)) {
 			case 1: {
-				n73 = load64(p80);
+				n70 = load64(p77);
 				break;
 			}
 			case 0:
 			case 2: {
-				n73 = 0;
+				n70 = 0;
 				break;
 			}
 			default: {
@@ -62737,153 +62738,153 @@ L1:
 		}
 L2:
 		{
-			uint64_t n82, n84;
-			uint8_t n83;
+			uint64_t n79, n81;
+			uint8_t n80;
 			if ((load8(p1 + 1312) & 1) != 0) {
-				n82 = 0;
-				n83 = 1;
-				n84 = 0;
+				n79 = 0;
+				n80 = 1;
+				n81 = 0;
 			} else if (load64(p1 + 264) > n12) {
-				uint64_t n85 = n12 << 3;
-				byte *p86 = inside(p1 + 288, n85);
-				uint64_t n87 = load64(p86);
-				if (n13 < n87) {
-					n82 = n87;
-					n83 = 1;
-					n84 = 2;
-				} else if (n87 > UINT64_C(1152921504606846975)) {
-					n82 = 0;
-					n83 = 1;
-					n84 = 3;
-				} else if (n87 < n13) {
-					n82 = n87;
-					n83 = 1;
-					n84 = 4;
+				uint64_t n82 = n12 << 3;
+				byte *p83 = inside(p1 + 288, n82);
+				uint64_t n84 = load64(p83);
+				if (n13 < n84) {
+					n79 = n84;
+					n80 = 1;
+					n81 = 2;
+				} else if (n84 > UINT64_C(1152921504606846975)) {
+					n79 = 0;
+					n80 = 1;
+					n81 = 3;
+				} else if (n84 < n13) {
+					n79 = n84;
+					n80 = 1;
+					n81 = 4;
 				} else {
-					uint64_t n88, n89, n99;
+					uint64_t n85, n86, n96;
 					memset(p6, 0, 48);
-					tp_Facility_find_named(p6, p1, n12, n73, n14);
+					tp_Facility_find_named(p6, p1, n12, n70, n14);
 					if (load8(p6) == 0) {
-						n88 = 0;
-						n89 = 1027;
+						n85 = 0;
+						n86 = 1027;
 					} else {
-						uint64_t n90 = load64u(p6 + 8);
-						tp_HierWheelWheel_stop(p7, p1, n73, n14);
-						byte *p91 = inside(p1 + 800, n85);
-						store64(p91, load64(p91) - 1);
-						n88 = n90;
-						n89 = 1;
+						uint64_t n87 = load64u(p6 + 8);
+						tp_HierWheelWheel_stop(p7, p1, n70, n14);
+						byte *p88 = inside(p1 + 800, n82);
+						store64(p88, load64(p88) - 1);
+						n85 = n87;
+						n86 = 1;
 					}
-					store64(p86, n13 + 1);
-					uint64_t n92 = load64(p1 + 64);
-					byte *p93 = loadptr(p1 + 80);
-					uint64_t n94 = load64(p1 + 104);
-					uint64_t n95 = (uint64_t)load32(at(p93, load64(p1 + 32) << 3) + 4);
-					uint64_t n96 = usub_sat64(n95, n94);
-					uint64_t n97 = 0;
-					uint64_t n98 = n95;
+					store64(p83, n13 + 1);
+					uint64_t n89 = load64(p1 + 64);
+					byte *p90 = loadptr(p1 + 80);
+					uint64_t n91 = load64(p1 + 104);
+					uint64_t n92 = (uint64_t)load32(at(p90, load64(p1 + 32) << 3) + 4);
+					uint64_t n93 = usub_sat64(n92, n91);
+					uint64_t n94 = 0;
+					uint64_t n95 = n92;
 					for (;;) {
-						if (n97 == n92) {
-							n99 = n92;
+						if (n94 == n89) {
+							n96 = n89;
 							break;
 						}
-						if (n94 > n98) {
-							n99 = n97;
+						if (n91 > n95) {
+							n96 = n94;
 							break;
 						}
-						uint64_t n100 = (uint64_t)load32(at(p93, (n94 + n96) << 3) + 4);
-						n96 = usub_sat64(n100, n94);
-						n97 = n97 + 1;
-						n98 = n100;
+						uint64_t n97 = (uint64_t)load32(at(p90, (n91 + n93) << 3) + 4);
+						n93 = usub_sat64(n97, n91);
+						n94 = n94 + 1;
+						n95 = n97;
 					}
-					if ((((n92 - n99) << 1) + 64) < load64(p1 + 1360)) {
+					if ((((n89 - n96) << 1) + 64) < load64(p1 + 1360)) {
 						tp_handles_sweep(p1 + 1352, p1);
-						n82 = n88;
-						n83 = 0;
-						n84 = n89;
+						n79 = n85;
+						n80 = 0;
+						n81 = n86;
 					} else {
-						n82 = n88;
-						n83 = 0;
-						n84 = n89;
+						n79 = n85;
+						n80 = 0;
+						n81 = n86;
 					}
 				}
 			} else {
-				n82 = 0;
-				n83 = 1;
-				n84 = 1;
+				n79 = 0;
+				n80 = 1;
+				n81 = 1;
 			}
-			uint64_t n101 = load64(p3 + 8);
-			byte *p102 = inside(loadptr(p3), n101 << 6);
-			store8(p102, n83);
-			store8(p102 + 1, 0);
-			store64u(p102 + 8, n12);
-			store64u(p102 + 16, n13);
-			store64u(p102 + 24, n84);
-			store64u(p102 + 32, n82);
-			memset(p102 + 40, 0, 24);
-			store64(p3 + 8, n101 + 1);
+			uint64_t n98 = load64(p3 + 8);
+			byte *p99 = inside(loadptr(p3), n98 << 6);
+			store8(p99, n80);
+			store8(p99 + 1, 0);
+			store64u(p99 + 8, n12);
+			store64u(p99 + 16, n13);
+			store64u(p99 + 24, n81);
+			store64u(p99 + 32, n79);
+			memset(p99 + 40, 0, 24);
+			store64(p3 + 8, n98 + 1);
 		}
 		break;
 	}
 	case 2: {
-		uint64_t n108;
+		uint64_t n105;
 		if (load64(p3 + 16) == 0) {
-			bool b103 = tp_std_alloc_vec_Vec_grow_amortized_6(p3, 1);
-			if (!b103)
+			bool b100 = tp_std_alloc_vec_Vec_grow_amortized_6(p3, 1);
+			if (!b100)
 				return 1;
 		}
-		byte *p104 = loadptr(p1 + 1352);
-		uint64_t n105 = load64(p1 + 1360);
-		if (n105 != 0) {
-			uint64_t n106 = load64(at(at(p104, n105 << 4), UINT64_C(18446744073709551608))) - n14;
-			if (n105 > n106) {
-				byte *p107 = inside(p104, (n105 + (n106 ^ UINT64_MAX)) << 4);
-				if (load64(p107 + 8) != n14)
+		byte *p101 = loadptr(p1 + 1352);
+		uint64_t n102 = load64(p1 + 1360);
+		if (n102 != 0) {
+			uint64_t n103 = load64(at(at(p101, n102 << 4), UINT64_C(18446744073709551608))) - n14;
+			if (n102 > n103) {
+				byte *p104 = inside(p101, (n102 + (n103 ^ UINT64_MAX)) << 4);
+				if (load64(p104 + 8) != n14)
 					goto L3;
-				n108 = load64(p107);
+				n105 = load64(p104);
 				goto L4;
 			}
 		}
-		if (n105 == 0) {
-			n108 = 0;
+		if (n102 == 0) {
+			n105 = 0;
 			goto L4;
 		}
 L3:
 		{
-			uint64_t n109 = 0;
-			uint64_t n110 = n105;
-			while (n110 > 1) {
-				uint64_t n114;
-				uint64_t n111 = n110 >> 1;
-				uint64_t n112 = n109 + n111;
-				uint64_t n113 = load64(at(p104, n112 << 4) + 8);
-				switch ((n113 == n14) ? 1 : (uint8_t)((n113 < n14) ? 0 : 2)) {
+			uint64_t n106 = 0;
+			uint64_t n107 = n102;
+			while (n107 > 1) {
+				uint64_t n111;
+				uint64_t n108 = n107 >> 1;
+				uint64_t n109 = n106 + n108;
+				uint64_t n110 = load64(at(p101, n109 << 4) + 8);
+				switch ((n110 == n14) ? 1 : (uint8_t)((n110 < n14) ? 0 : 2)) {
 				case 0:
 				case 1: {
-					n114 = n112;
+					n111 = n109;
 					break;
 				}
 				case 2: {
-					n114 = n109;
+					n111 = n106;
 					break;
 				}
 				default: {
 					UNREACHABLE();
 				}
 				}
-				n109 = n114;
-				n110 = n110 - n111;
+				n106 = n111;
+				n107 = n107 - n108;
 			}
-			byte *p115 = at(p104, n109 << 4);
-			uint64_t n116 = load64(p115 + 8);
-			switch ((n116 == n14) ? 1 : (uint8_t)((n116 < n14) ? 0 : 2)) {
+			byte *p112 = at(p101, n106 << 4);
+			uint64_t n113 = load64(p112 + 8);
+			switch ((n113 == n14) ? 1 : (uint8_t)((n113 < n14) ? 0 : 2)) {
 			case 1: {
-				n108 = load64(p115);
+				n105 = load64(p112);
 				break;
 			}
 			case 0:
 			case 2: {
-				n108 = 0;
+				n105 = 0;
 				break;
 			}
 			default: {
@@ -62893,82 +62894,82 @@ L3:
 		}
 L4:
 		{
-			uint8_t n119, n121, n122;
-			uint64_t n120, n123, n124, n125;
+			uint8_t n116, n118, n119;
+			uint64_t n117, n120, n121, n122;
 			store64u(p9, 3);
-			store64u(p9 + 8, n108);
+			store64u(p9 + 8, n105);
 			store64u(p9 + 16, n14);
 			store64u(p9 + 24, n15);
 			store64u(p9 + 32, n16);
-			if (load64(p1 + 1368) == n105) {
-				bool b117 = tp_std_alloc_vec_Vec_grow_amortized_5(p1 + 1352);
-				if (!b117) {
-					bool b118 = tp_Facility_makes_timer(p1, n12, n13, p9);
-					if (b118)
+			if (load64(p1 + 1368) == n102) {
+				bool b114 = tp_std_alloc_vec_Vec_grow_amortized_5(p1 + 1352);
+				if (!b114) {
+					bool b115 = tp_Facility_makes_timer(p1, n12, n13, p9);
+					if (b115)
 						return 1;
 				}
 			}
 			if ((load8(p1 + 1312) & 1) != 0) {
+				n116 = 0;
+				n117 = 0;
+				n118 = 1;
 				n119 = 0;
 				n120 = 0;
-				n121 = 1;
+				n121 = 0;
 				n122 = 0;
-				n123 = 0;
-				n124 = 0;
-				n125 = 0;
 			} else if (load64(p1 + 264) > n12) {
-				byte *p126 = inside(p1 + 288, n12 << 3);
-				uint64_t n127 = load64(p126);
-				if (n13 < n127) {
-					n119 = 2;
-					n120 = n127;
-					n121 = 1;
-					n122 = 0;
-					n123 = 0;
-					n124 = 0;
-					n125 = 0;
-				} else if (n127 > UINT64_C(1152921504606846975)) {
-					n119 = 3;
+				byte *p123 = inside(p1 + 288, n12 << 3);
+				uint64_t n124 = load64(p123);
+				if (n13 < n124) {
+					n116 = 2;
+					n117 = n124;
+					n118 = 1;
+					n119 = 0;
 					n120 = 0;
-					n121 = 1;
+					n121 = 0;
 					n122 = 0;
-					n123 = 0;
-					n124 = 0;
-					n125 = 0;
-				} else if (n127 < n13) {
-					n119 = 4;
-					n120 = n127;
-					n121 = 1;
+				} else if (n124 > UINT64_C(1152921504606846975)) {
+					n116 = 3;
+					n117 = 0;
+					n118 = 1;
+					n119 = 0;
+					n120 = 0;
+					n121 = 0;
 					n122 = 0;
-					n123 = 0;
-					n124 = 0;
-					n125 = 0;
+				} else if (n124 < n13) {
+					n116 = 4;
+					n117 = n124;
+					n118 = 1;
+					n119 = 0;
+					n120 = 0;
+					n121 = 0;
+					n122 = 0;
 				} else {
-					uint64_t n145;
+					uint64_t n142;
 					memset(p5, 0, 40);
-					tp_Facility_take_restart(p5, p1, n12, n13, n108, n14, n15, n15, n16);
-					uint8_t n128 = load8(p5);
-					uint8_t n129 = load8(p5 + 1);
-					uint64_t n130 = load64u(p5 + 8);
-					uint64_t n131 = load64u(p5 + 16);
-					uint64_t n132 = load64u(p5 + 24);
-					uint64_t n133 = load64u(p5 + 32);
-					store64(p126, n13 + 1);
-					switch (n128) {
+					tp_Facility_take_restart(p5, p1, n12, n13, n105, n14, n15, n15, n16);
+					uint8_t n125 = load8(p5);
+					uint8_t n126 = load8(p5 + 1);
+					uint64_t n127 = load64u(p5 + 8);
+					uint64_t n128 = load64u(p5 + 16);
+					uint64_t n129 = load64u(p5 + 24);
+					uint64_t n130 = load64u(p5 + 32);
+					store64(p123, n13 + 1);
+					switch (n125) {
 					case 0: {
-						uint64_t n134 = load64(p1 + 1360);
-						byte *p135 = inside(loadptr(p1 + 1352), n134 << 4);
-						store64u(p135, n130);
-						store64u(p135 + 8, n131);
-						store64(p1 + 1360, n134 + 1);
+						uint64_t n131 = load64(p1 + 1360);
+						byte *p132 = inside(loadptr(p1 + 1352), n131 << 4);
+						store64u(p132, n127);
+						store64u(p132 + 8, n128);
+						store64(p1 + 1360, n131 + 1);
 						break;
 					}
 					case 2: {
-						uint64_t n136 = load64(p1 + 1360);
-						byte *p137 = inside(loadptr(p1 + 1352), n136 << 4);
-						store64u(p137, n130);
-						store64u(p137 + 8, n131);
-						store64(p1 + 1360, n136 + 1);
+						uint64_t n133 = load64(p1 + 1360);
+						byte *p134 = inside(loadptr(p1 + 1352), n133 << 4);
+						store64u(p134, n127);
+						store64u(p134 + 8, n128);
+						store64(p1 + 1360, n133 + 1);
 						break;
 					}
 					case 1:
@@ -62979,253 +62980,253 @@ L4:
 						UNREACHABLE();
 					}
 					}
-					uint64_t n138 = load64(p1 + 64);
-					byte *p139 = loadptr(p1 + 80);
-					uint64_t n140 = load64(p1 + 104);
-					uint64_t n141 = (uint64_t)load32(at(p139, load64(p1 + 32) << 3) + 4);
-					uint64_t n142 = usub_sat64(n141, n140);
-					uint64_t n143 = 0;
-					uint64_t n144 = n141;
+					uint64_t n135 = load64(p1 + 64);
+					byte *p136 = loadptr(p1 + 80);
+					uint64_t n137 = load64(p1 + 104);
+					uint64_t n138 = (uint64_t)load32(at(p136, load64(p1 + 32) << 3) + 4);
+					uint64_t n139 = usub_sat64(n138, n137);
+					uint64_t n140 = 0;
+					uint64_t n141 = n138;
 					for (;;) {
-						if (n143 == n138) {
-							n145 = n138;
+						if (n140 == n135) {
+							n142 = n135;
 							break;
 						}
-						if (n140 > n144) {
-							n145 = n143;
+						if (n137 > n141) {
+							n142 = n140;
 							break;
 						}
-						uint64_t n146 = (uint64_t)load32(at(p139, (n140 + n142) << 3) + 4);
-						n142 = usub_sat64(n146, n140);
-						n143 = n143 + 1;
-						n144 = n146;
+						uint64_t n143 = (uint64_t)load32(at(p136, (n137 + n139) << 3) + 4);
+						n139 = usub_sat64(n143, n137);
+						n140 = n140 + 1;
+						n141 = n143;
 					}
-					if ((((n138 - n145) << 1) + 64) < load64(p1 + 1360)) {
+					if ((((n135 - n142) << 1) + 64) < load64(p1 + 1360)) {
 						tp_handles_sweep(p1 + 1352, p1);
-						n119 = n128;
-						n120 = n130;
-						n121 = 0;
-						n122 = n129;
-						n123 = n131;
-						n124 = n132;
-						n125 = n133;
+						n116 = n125;
+						n117 = n127;
+						n118 = 0;
+						n119 = n126;
+						n120 = n128;
+						n121 = n129;
+						n122 = n130;
 					} else {
-						n119 = n128;
-						n120 = n130;
-						n121 = 0;
-						n122 = n129;
-						n123 = n131;
-						n124 = n132;
-						n125 = n133;
+						n116 = n125;
+						n117 = n127;
+						n118 = 0;
+						n119 = n126;
+						n120 = n128;
+						n121 = n129;
+						n122 = n130;
 					}
 				}
 			} else {
-				n119 = 1;
+				n116 = 1;
+				n117 = 0;
+				n118 = 1;
+				n119 = 0;
 				n120 = 0;
-				n121 = 1;
+				n121 = 0;
 				n122 = 0;
-				n123 = 0;
-				n124 = 0;
-				n125 = 0;
 			}
-			uint64_t n147 = load64(p3 + 8);
-			byte *p148 = inside(loadptr(p3), n147 << 6);
-			store8(p148, n121);
-			store8(p148 + 1, 0);
-			store64u(p148 + 8, n12);
-			store64u(p148 + 16, n13);
-			store64u(p148 + 24, ((uint64_t)n122 << 8) | (uint64_t)n119);
-			store64u(p148 + 32, n120);
-			store64u(p148 + 40, n123);
-			store64u(p148 + 48, n124);
-			store64u(p148 + 56, n125);
-			store64(p3 + 8, n147 + 1);
+			uint64_t n144 = load64(p3 + 8);
+			byte *p145 = inside(loadptr(p3), n144 << 6);
+			store8(p145, n118);
+			store8(p145 + 1, 0);
+			store64u(p145 + 8, n12);
+			store64u(p145 + 16, n13);
+			store64u(p145 + 24, ((uint64_t)n119 << 8) | (uint64_t)n116);
+			store64u(p145 + 32, n117);
+			store64u(p145 + 40, n120);
+			store64u(p145 + 48, n121);
+			store64u(p145 + 56, n122);
+			store64(p3 + 8, n144 + 1);
 		}
 		break;
 	}
 	case 3: {
-		uint64_t n156, n170;
-		uint8_t n161;
-		byte *p171;
-		uint64_t n149 = load64(p1 + 64);
-		byte *p150 = loadptr(p1 + 80);
-		uint64_t n151 = load64(p1 + 104);
-		uint64_t n152 = (uint64_t)load32(at(p150, load64(p1 + 32) << 3) + 4);
-		uint64_t n153 = usub_sat64(n152, n151);
-		uint64_t n154 = 0;
-		uint64_t n155 = n152;
+		uint64_t n153, n167;
+		uint8_t n158;
+		byte *p168;
+		uint64_t n146 = load64(p1 + 64);
+		byte *p147 = loadptr(p1 + 80);
+		uint64_t n148 = load64(p1 + 104);
+		uint64_t n149 = (uint64_t)load32(at(p147, load64(p1 + 32) << 3) + 4);
+		uint64_t n150 = usub_sat64(n149, n148);
+		uint64_t n151 = 0;
+		uint64_t n152 = n149;
 		for (;;) {
-			if (n154 == n149) {
-				n156 = n149;
+			if (n151 == n146) {
+				n153 = n146;
 				break;
 			}
-			if (n151 > n155) {
-				n156 = n154;
+			if (n148 > n152) {
+				n153 = n151;
 				break;
 			}
-			uint64_t n157 = (uint64_t)load32(at(p150, (n151 + n153) << 3) + 4);
-			n153 = usub_sat64(n157, n151);
-			n154 = n154 + 1;
-			n155 = n157;
+			uint64_t n154 = (uint64_t)load32(at(p147, (n148 + n150) << 3) + 4);
+			n150 = usub_sat64(n154, n148);
+			n151 = n151 + 1;
+			n152 = n154;
 		}
-		uint64_t n158 = (n149 - n156) + 1;
-		if (n158 > load64(p3 + 16)) {
-			bool b159 = tp_std_alloc_vec_Vec_grow_amortized_6(p3, n158);
-			if (!b159)
+		uint64_t n155 = (n146 - n153) + 1;
+		if (n155 > load64(p3 + 16)) {
+			bool b156 = tp_std_alloc_vec_Vec_grow_amortized_6(p3, n155);
+			if (!b156)
 				return 1;
 		}
-		uint64_t n160 = n12;
+		uint64_t n157 = n12;
 		for (;;) {
-			uint64_t n168, n169;
-			if (n160 == 0)
+			uint64_t n165, n166;
+			if (n157 == 0)
 				goto L5;
 			if ((load8(p1 + 1312) & 1) != 0) {
-				n161 = 0;
+				n158 = 0;
 				break;
 			}
-			uint64_t n162 = load64(p1 + 16);
-			uint64_t n163 = load64(p1 + 8);
-			if (n162 == n163) {
-				n161 = 1;
+			uint64_t n159 = load64(p1 + 16);
+			uint64_t n160 = load64(p1 + 8);
+			if (n159 == n160) {
+				n158 = 1;
 				break;
 			}
-			uint64_t n164 = umin64(n163 - n162, n160);
-			uint64_t n165 = n162 + n164;
+			uint64_t n161 = umin64(n160 - n159, n157);
+			uint64_t n162 = n159 + n161;
 			if (load8(p1) == 0) {
-				if ((n165 ^ n162) < 64) {
-					uint64_t n166 = load64(p1 + 128);
-					if ((n166 == 0) || ((n165 & 63) < cttz64(n166)))
+				if ((n162 ^ n159) < 64) {
+					uint64_t n163 = load64(p1 + 128);
+					if ((n163 == 0) || ((n162 & 63) < cttz64(n163)))
 						goto L6;
 				}
-			} else if ((n165 / 60) == (n162 / 60)) {
-				uint64_t n167 = load64(p1 + 128);
-				if ((n167 == 0) || ((n165 % 60) < cttz64(n167)))
+			} else if ((n162 / 60) == (n159 / 60)) {
+				uint64_t n164 = load64(p1 + 128);
+				if ((n164 == 0) || ((n162 % 60) < cttz64(n164)))
 					goto L6;
 			}
-			n168 = tp_HierWheel_advance_far(p1, n164);
-			n169 = n168;
+			n165 = tp_HierWheel_advance_far(p1, n161);
+			n166 = n165;
 			goto L7;
 L6:
 			{
-				store64(p1 + 16, n165);
-				store64(p1 + 256, load64(p1 + 256) + n164);
-				n169 = n164;
+				store64(p1 + 16, n162);
+				store64(p1 + 256, load64(p1 + 256) + n161);
+				n166 = n161;
 			}
 L7:
 			{
 				tp_player_hand_out(p1, p3);
-				n160 = n160 - n169;
+				n157 = n157 - n166;
 			}
 		}
-		n170 = load64(p3 + 8);
-		p171 = inside(loadptr(p3), n170 << 6);
-		store8(p171, 3);
-		store8(p171 + 1, n161);
-		memset(p171 + 8, 0, 56);
-		store64(p3 + 8, n170 + 1);
+		n167 = load64(p3 + 8);
+		p168 = inside(loadptr(p3), n167 << 6);
+		store8(p168, 3);
+		store8(p168 + 1, n158);
+		memset(p168 + 8, 0, 56);
+		store64(p3 + 8, n167 + 1);
 L5:
 		{
-			uint64_t n179;
-			uint64_t n172 = load64(p1 + 64);
-			byte *p173 = loadptr(p1 + 80);
-			uint64_t n174 = load64(p1 + 104);
-			uint64_t n175 = (uint64_t)load32(at(p173, load64(p1 + 32) << 3) + 4);
-			uint64_t n176 = usub_sat64(n175, n174);
-			uint64_t n177 = 0;
-			uint64_t n178 = n175;
+			uint64_t n176;
+			uint64_t n169 = load64(p1 + 64);
+			byte *p170 = loadptr(p1 + 80);
+			uint64_t n171 = load64(p1 + 104);
+			uint64_t n172 = (uint64_t)load32(at(p170, load64(p1 + 32) << 3) + 4);
+			uint64_t n173 = usub_sat64(n172, n171);
+			uint64_t n174 = 0;
+			uint64_t n175 = n172;
 			for (;;) {
-				if (n177 == n172) {
-					n179 = n172;
+				if (n174 == n169) {
+					n176 = n169;
 					break;
 				}
-				if (n174 > n178) {
-					n179 = n177;
+				if (n171 > n175) {
+					n176 = n174;
 					break;
 				}
-				uint64_t n180 = (uint64_t)load32(at(p173, (n174 + n176) << 3) + 4);
-				n176 = usub_sat64(n180, n174);
-				n177 = n177 + 1;
-				n178 = n180;
+				uint64_t n177 = (uint64_t)load32(at(p170, (n171 + n173) << 3) + 4);
+				n173 = usub_sat64(n177, n171);
+				n174 = n174 + 1;
+				n175 = n177;
 			}
-			if ((((n172 - n179) << 1) + 64) < load64(p1 + 1360))
+			if ((((n169 - n176) << 1) + 64) < load64(p1 + 1360))
 				tp_handles_sweep(p1 + 1352, p1);
 		}
 		break;
 	}
 	case 4: {
-		uint64_t n188;
-		uint64_t n181 = load64(p1 + 64);
-		byte *p182 = loadptr(p1 + 80);
-		uint64_t n183 = load64(p1 + 104);
-		uint64_t n184 = (uint64_t)load32(at(p182, load64(p1 + 32) << 3) + 4);
-		uint64_t n185 = usub_sat64(n184, n183);
-		uint64_t n186 = 0;
-		uint64_t n187 = n184;
+		uint64_t n185;
+		uint64_t n178 = load64(p1 + 64);
+		byte *p179 = loadptr(p1 + 80);
+		uint64_t n180 = load64(p1 + 104);
+		uint64_t n181 = (uint64_t)load32(at(p179, load64(p1 + 32) << 3) + 4);
+		uint64_t n182 = usub_sat64(n181, n180);
+		uint64_t n183 = 0;
+		uint64_t n184 = n181;
 		for (;;) {
-			if (n186 == n181) {
-				n188 = n181;
+			if (n183 == n178) {
+				n185 = n178;
 				break;
 			}
-			if (n183 > n187) {
-				n188 = n186;
+			if (n180 > n184) {
+				n185 = n183;
 				break;
 			}
-			uint64_t n189 = (uint64_t)load32(at(p182, (n183 + n185) << 3) + 4);
-			n185 = usub_sat64(n189, n183);
-			n186 = n186 + 1;
-			n187 = n189;
+			uint64_t n186 = (uint64_t)load32(at(p179, (n180 + n182) << 3) + 4);
+			n182 = usub_sat64(n186, n180);
+			n183 = n183 + 1;
+			n184 = n186;
 		}
-		uint64_t n190 = (n181 - n188) + 1;
-		if (n190 > load64(p3 + 16)) {
-			bool b191 = tp_std_alloc_vec_Vec_grow_amortized_6(p3, n190);
-			if (!b191)
+		uint64_t n187 = (n178 - n185) + 1;
+		if (n187 > load64(p3 + 16)) {
+			bool b188 = tp_std_alloc_vec_Vec_grow_amortized_6(p3, n187);
+			if (!b188)
 				return 1;
 		}
 		if ((load8(p1 + 1312) & 1) != 0) {
-			uint64_t n192 = load64(p3 + 8);
-			byte *p193 = inside(loadptr(p3), n192 << 6);
-			store8(p193, 5);
-			store8(p193 + 1, 0);
-			memset(p193 + 8, 0, 56);
-			store64(p3 + 8, n192 + 1);
+			uint64_t n189 = load64(p3 + 8);
+			byte *p190 = inside(loadptr(p3), n189 << 6);
+			store8(p190, 5);
+			store8(p190 + 1, 0);
+			memset(p190 + 8, 0, 56);
+			store64(p3 + 8, n189 + 1);
 		} else {
-			uint64_t n205;
-			uint8_t n194 = tp_facility_take_all(p1, p1 + 1320);
-			if ((n194 & 1) != 0)
+			uint64_t n202;
+			uint8_t n191 = tp_facility_take_all(p1, p1 + 1320);
+			if ((n191 & 1) != 0)
 				return 1;
 			store64(p1 + 1344, 0);
 			store8(p1 + 1312, 1);
-			uint64_t n195 = load64(p3 + 8);
-			byte *p196 = inside(loadptr(p3), n195 << 6);
-			uint64_t n197 = load64(p1 + 1328);
-			store8(p196, 4);
-			store8(p196 + 1, 0);
-			store64u(p196 + 8, n197);
-			memset(p196 + 16, 0, 48);
-			store64(p3 + 8, n195 + 1);
+			uint64_t n192 = load64(p3 + 8);
+			byte *p193 = inside(loadptr(p3), n192 << 6);
+			uint64_t n194 = load64(p1 + 1328);
+			store8(p193, 4);
+			store8(p193 + 1, 0);
+			store64u(p193 + 8, n194);
+			memset(p193 + 16, 0, 48);
+			store64(p3 + 8, n192 + 1);
 			tp_player_hand_out(p1, p3);
-			uint64_t n198 = load64(p1 + 64);
-			byte *p199 = loadptr(p1 + 80);
-			uint64_t n200 = load64(p1 + 104);
-			uint64_t n201 = (uint64_t)load32(at(p199, load64(p1 + 32) << 3) + 4);
-			uint64_t n202 = usub_sat64(n201, n200);
-			uint64_t n203 = 0;
-			uint64_t n204 = n201;
+			uint64_t n195 = load64(p1 + 64);
+			byte *p196 = loadptr(p1 + 80);
+			uint64_t n197 = load64(p1 + 104);
+			uint64_t n198 = (uint64_t)load32(at(p196, load64(p1 + 32) << 3) + 4);
+			uint64_t n199 = usub_sat64(n198, n197);
+			uint64_t n200 = 0;
+			uint64_t n201 = n198;
 			for (;;) {
-				if (n203 == n198) {
-					n205 = n198;
+				if (n200 == n195) {
+					n202 = n195;
 					break;
 				}
-				if (n200 > n204) {
-					n205 = n203;
+				if (n197 > n201) {
+					n202 = n200;
 					break;
 				}
-				uint64_t n206 = (uint64_t)load32(at(p199, (n200 + n202) << 3) + 4);
-				n202 = usub_sat64(n206, n200);
-				n203 = n203 + 1;
-				n204 = n206;
+				uint64_t n203 = (uint64_t)load32(at(p196, (n197 + n199) << 3) + 4);
+				n199 = usub_sat64(n203, n197);
+				n200 = n200 + 1;
+				n201 = n203;
 			}
-			if ((((n198 - n205) << 1) + 64) < load64(p1 + 1360))
+			if ((((n195 - n202) << 1) + 64) < load64(p1 + 1360))
 				tp_handles_sweep(p1 + 1352, p1);
 		}
 		break;
@@ -63234,8 +63235,8 @@ L5:
 		UNREACHABLE();
 	}
 	}
-	uint8_t n207 = tp_text_push_outs(p4, loadptr(p3), load64(p3 + 8));
-	return n207;
+	uint8_t n204 = tp_text_push_outs(p4, loadptr(p3), load64(p3 + 8));
+	return n204;
 }
 
 /* timer_script::script_run::play_ticks: crates/timer_script/src/script_run.rt */
@@ -68438,16 +68439,16 @@ L6:
 		p427 = p6;
 L7:
 		{
-			byte *p731, *p754, *p756, *p758, *p760, *p762, *p764, *p767, *p770;
-			uint64_t n733, n755, n757, n759, n761, n763, n765, n766, n768, n769, n771;
+			byte *p729, *p752, *p754, *p756, *p758, *p760, *p762, *p765, *p768;
+			uint64_t n731, n753, n755, n757, n759, n761, n763, n764, n766, n767, n769;
 			storeptru(p19, p6);
 			memset(p19 + 8, 0, 16);
 			uint64_t n460 = 0;
 			while (n460 < 10000000) {
 				byte *p463, *p480, *p482, *p486;
-				uint64_t n464, n465, n466, n467, n468, n469, n471, n473, n474, n479, n481, n483, n485, n487, n488, n489, n490, n491, n492, n494, n496, n732, n734, n745;
+				uint64_t n464, n465, n466, n467, n468, n469, n471, n473, n474, n479, n481, n483, n485, n487, n488, n489, n490, n491, n492, n494, n496, n730, n732, n743;
 				bool b484;
-				uint8_t n735;
+				uint8_t n733;
 				uint64_t n461 = 0;
 				for (;;) {
 					if (n461 == n200)
@@ -68461,7 +68462,7 @@ L7:
 				}
 				p463 = loadptr(p18 + 80);
 				if (n461 >= n200) {
-					p754 = p463;
+					p752 = p463;
 					goto L10;
 				}
 				n464 = load64(p18 + 64);
@@ -68555,8 +68556,8 @@ L7:
 				memcpy(p16, p17 + 7, 24);
 				n496 = 0;
 				while (n496 != n481) {
-					uint8_t n684, n685;
-					uint64_t n686, n687, n688, n689, n690, n691, n692;
+					uint8_t n682, n683;
+					uint64_t n684, n685, n686, n687, n688, n689, n690;
 					byte *p497 = at(p482, n496 << 4);
 					uint8_t n498 = load8(p497);
 					uint64_t n499 = load64u(p497 + 8);
@@ -68815,7 +68816,7 @@ L7:
 											bool b590 = n577 < n589;
 											if (b590) {
 												if (load8(p18) == 0) {
-													uint32_t n591 = (uint32_t)(uint8_t)((uint8_t)((uint8_t)ctlz64(n577 ^ n589) ^ 62) / 6);
+													uint32_t n591 = (((uint32_t)ctlz64(n577 ^ n589) ^ 63) * 43) >> 8;
 													n592 = ((n589 >> ((uint64_t)(n591 * 6) & 63)) & 63) | (uint64_t)(n591 << 6);
 												} else {
 													uint64_t n593 = n589 / 60;
@@ -68892,27 +68893,26 @@ L7:
 											store32(p611 + 4, (uint32_t)n592);
 											store32(p608, n610);
 											store64(p18 + 24, n578);
-											uint8_t n612 = load8(p18);
 											if (b590) {
-												byte *p613 = inside(p18 + 128, (n592 >> 3) & 536870904);
-												store64(p613, load64(p613) | ((uint64_t)1 << (n592 & 63)));
+												byte *p612 = inside(p18 + 128, (n592 >> 3) & 536870904);
+												store64(p612, load64(p612) | ((uint64_t)1 << (n592 & 63)));
 												if ((load8(p18 + 232) & 1) != 0) {
-													if ((uint64_t)((n612 == 0) ? 64 : 60) <= n592) {
-														byte *p614 = at(loadptr(p18 + 208), n592 << 4);
-														uint64_t n615 = load64(p614);
-														if (n589 < n615) {
-															store64(p614, n589);
-															store64(p614 + 8, 1);
-														} else if (n589 == n615) {
-															store64(p614 + 8, load64(p614 + 8) + 1);
+													if ((uint64_t)((load8(p18) == 0) ? 64 : 60) <= n592) {
+														byte *p613 = at(loadptr(p18 + 208), n592 << 4);
+														uint64_t n614 = load64(p613);
+														if (n589 < n614) {
+															store64(p613, n589);
+															store64(p613 + 8, 1);
+														} else if (n589 == n614) {
+															store64(p613 + 8, load64(p613 + 8) + 1);
 														}
 													}
 												}
 											}
 											store64(p18 + 240, load64(p18 + 240) + 1);
 											store64(p18 + 280, load64(p18 + 280) + 1);
-											byte *p616 = inside(p18 + 800, n568);
-											store64(p616, load64(p616) + 1);
+											byte *p615 = inside(p18 + 800, n568);
+											store64(p615, load64(p615) + 1);
 											n571 = n598;
 											n572 = n578;
 											n573 = 0;
@@ -68930,10 +68930,10 @@ L7:
 										goto L14;
 									}
 									case 1: {
-										uint64_t n628;
-										uint64_t n617 = load64(p18 + 16);
-										uint64_t n618 = usub_sat64(n520, n617);
-										if ((load64(p18 + 8) - n617) < umax64(n618, 1)) {
+										uint64_t n627;
+										uint64_t n616 = load64(p18 + 16);
+										uint64_t n617 = usub_sat64(n520, n616);
+										if ((load64(p18 + 8) - n616) < umax64(n617, 1)) {
 											n571 = 0;
 											n572 = 0;
 											n573 = 3;
@@ -68942,8 +68942,8 @@ L7:
 											n576 = 0;
 											goto L14;
 										}
-										uint64_t n619 = load64(p18 + 280);
-										if (n619 > UINT64_C(1152921504606846975)) {
+										uint64_t n618 = load64(p18 + 280);
+										if (n618 > UINT64_C(1152921504606846975)) {
 											n571 = 0;
 											n572 = 0;
 											n573 = 3;
@@ -68952,137 +68952,136 @@ L7:
 											n576 = 0;
 											goto L14;
 										}
-										uint64_t n620 = load64(p18 + 64);
-										uint64_t n621 = load64(p18 + 32);
-										byte *p622 = loadptr(p18 + 80);
-										uint64_t n623 = load64(p18 + 104);
-										uint64_t n624 = (uint64_t)load32(at(p622, n621 << 3) + 4);
-										uint64_t n625 = usub_sat64(n624, n623);
-										uint64_t n626 = 0;
-										uint64_t n627 = n624;
+										uint64_t n619 = load64(p18 + 64);
+										uint64_t n620 = load64(p18 + 32);
+										byte *p621 = loadptr(p18 + 80);
+										uint64_t n622 = load64(p18 + 104);
+										uint64_t n623 = (uint64_t)load32(at(p621, n620 << 3) + 4);
+										uint64_t n624 = usub_sat64(n623, n622);
+										uint64_t n625 = 0;
+										uint64_t n626 = n623;
 										for (;;) {
-											if (n626 == n620) {
-												n628 = n620;
+											if (n625 == n619) {
+												n627 = n619;
 												break;
 											}
-											if (n623 > n627) {
-												n628 = n626;
+											if (n622 > n626) {
+												n627 = n625;
 												break;
 											}
-											uint64_t n629 = (uint64_t)load32(at(p622, (n623 + n625) << 3) + 4);
-											n625 = usub_sat64(n629, n623);
-											n626 = n626 + 1;
-											n627 = n629;
+											uint64_t n628 = (uint64_t)load32(at(p621, (n622 + n624) << 3) + 4);
+											n624 = usub_sat64(n628, n622);
+											n625 = n625 + 1;
+											n626 = n628;
 										}
-										if ((n620 - n628) != load64(p18 + 272)) {
-											uint64_t n633, n638, n639, n643;
-											uint64_t n630 = n617 + n618;
-											bool b631 = n617 < n630;
-											if (b631) {
+										if ((n619 - n627) != load64(p18 + 272)) {
+											uint64_t n632, n637, n638, n642;
+											uint64_t n629 = n616 + n617;
+											bool b630 = n616 < n629;
+											if (b630) {
 												if (load8(p18) == 0) {
-													uint32_t n632 = (63 - (uint32_t)ctlz64(n617 ^ n630)) / 6;
-													n633 = ((uint64_t)n632 << 6) | ((n630 >> ((uint64_t)(n632 * 6) & 63)) & 63);
+													uint32_t n631 = (((uint32_t)ctlz64(n616 ^ n629) ^ 63) * 43) >> 8;
+													n632 = ((n629 >> ((uint64_t)(n631 * 6) & 63)) & 63) | (uint64_t)(n631 << 6);
 												} else {
-													uint64_t n634 = n630 / 60;
-													if ((n617 / 60) == n634) {
-														n633 = n630 % 60;
+													uint64_t n633 = n629 / 60;
+													if ((n616 / 60) == n633) {
+														n632 = n629 % 60;
 													} else {
-														uint64_t n635 = n630 / 3600;
-														if ((n617 / 3600) == n635) {
-															n633 = (n634 % 60) + 60;
+														uint64_t n634 = n629 / 3600;
+														if ((n616 / 3600) == n634) {
+															n632 = (n633 % 60) + 60;
 														} else {
-															uint64_t n636 = n630 / 86400;
-															if ((n617 / 86400) == n636) {
-																n633 = (n635 % 24) + 120;
+															uint64_t n635 = n629 / 86400;
+															if ((n616 / 86400) == n635) {
+																n632 = (n634 % 24) + 120;
 															} else {
-																n633 = n636 + 144;
+																n632 = n635 + 144;
 															}
 														}
 													}
 												}
 											} else {
-												n633 = n621;
+												n632 = n620;
 											}
-											uint64_t n637 = load64(p18 + 72);
-											if (n637 < load64(p18 + 120)) {
-												n638 = n620;
-												n639 = n637;
+											uint64_t n636 = load64(p18 + 72);
+											if (n636 < load64(p18 + 120)) {
+												n637 = n619;
+												n638 = n636;
 											} else {
-												uint8_t n640 = tp_links_make_ready(p18 + 40, p18 + 80, n623, load64(p18 + 112));
-												if ((n640 & 1) != 0)
+												uint8_t n639 = tp_links_make_ready(p18 + 40, p18 + 80, n622, load64(p18 + 112));
+												if ((n639 & 1) != 0)
 													goto L15;
-												store64(p18 + 120, umin64(load64(p18 + 88) - n623, load64(p18 + 56)));
-												n638 = load64(p18 + 64);
-												n639 = load64(p18 + 72);
+												store64(p18 + 120, umin64(load64(p18 + 88) - n622, load64(p18 + 56)));
+												n637 = load64(p18 + 64);
+												n638 = load64(p18 + 72);
 											}
-											store64(p18 + 64, n638 + 1);
-											if (n639 == load64(p18 + 48)) {
-												byte *p641 = inside(loadptr(p18 + 40), n639 * 56);
-												store64u(p641, 1);
-												store64u(p641 + 8, n619);
-												store64u(p641 + 16, n499);
-												store64u(p641 + 24, n522);
-												store64u(p641 + 32, n630);
-												store64u(p641 + 40, n521);
-												store64u(p641 + 48, 0);
-												uint64_t n642 = n639 + 1;
-												store64(p18 + 48, n642);
-												n643 = n642;
+											store64(p18 + 64, n637 + 1);
+											if (n638 == load64(p18 + 48)) {
+												byte *p640 = inside(loadptr(p18 + 40), n638 * 56);
+												store64u(p640, 1);
+												store64u(p640 + 8, n618);
+												store64u(p640 + 16, n499);
+												store64u(p640 + 24, n522);
+												store64u(p640 + 32, n629);
+												store64u(p640 + 40, n521);
+												store64u(p640 + 48, 0);
+												uint64_t n641 = n638 + 1;
+												store64(p18 + 48, n641);
+												n642 = n641;
 											} else {
-												byte *p644 = at(loadptr(p18 + 40), n639 * 56);
-												uint8_t n645 = load8(p644);
-												uint64_t n646 = load64u(p644 + 8);
-												store64u(p644, 1);
-												store64u(p644 + 8, n619);
-												store64u(p644 + 16, n499);
-												store64u(p644 + 24, n522);
-												store64u(p644 + 32, n630);
-												store64u(p644 + 40, n521);
-												store64u(p644 + 48, 0);
-												if (n645 != 0) {
+												byte *p643 = at(loadptr(p18 + 40), n638 * 56);
+												uint8_t n644 = load8(p643);
+												uint64_t n645 = load64u(p643 + 8);
+												store64u(p643, 1);
+												store64u(p643 + 8, n618);
+												store64u(p643 + 16, n499);
+												store64u(p643 + 24, n522);
+												store64u(p643 + 32, n629);
+												store64u(p643 + 40, n521);
+												store64u(p643 + 48, 0);
+												if (n644 != 0) {
 													TRAP();
 													UNREACHABLE();
 												}
-												n643 = n646;
+												n642 = n645;
 											}
-											store64(p18 + 72, n643);
-											uint64_t n647 = load64(p18 + 104) + n639;
-											byte *p648 = loadptr(p18 + 80);
-											byte *p649 = inside(p648, n633 << 3);
-											uint32_t n650 = load32(p649);
-											uint32_t n651 = (uint32_t)n647;
-											store32(inside(p648, (uint64_t)n650 << 3) + 4, n651);
-											byte *p652 = inside(p648, n647 << 3);
-											store32(p652, n650);
-											store32(p652 + 4, (uint32_t)n633);
-											store32(p649, n651);
-											store64(p18 + 24, n619);
-											uint8_t n653 = load8(p18);
-											if (b631) {
-												byte *p654 = inside(p18 + 128, (n633 >> 3) & 536870904);
-												store64(p654, load64(p654) | ((uint64_t)1 << (n633 & 63)));
+											store64(p18 + 72, n642);
+											uint64_t n646 = load64(p18 + 104) + n638;
+											byte *p647 = loadptr(p18 + 80);
+											byte *p648 = inside(p647, n632 << 3);
+											uint32_t n649 = load32(p648);
+											uint32_t n650 = (uint32_t)n646;
+											store32(inside(p647, (uint64_t)n649 << 3) + 4, n650);
+											byte *p651 = inside(p647, n646 << 3);
+											store32(p651, n649);
+											store32(p651 + 4, (uint32_t)n632);
+											store32(p648, n650);
+											store64(p18 + 24, n618);
+											if (b630) {
+												byte *p652 = inside(p18 + 128, (n632 >> 3) & 536870904);
+												store64(p652, load64(p652) | ((uint64_t)1 << (n632 & 63)));
 												if ((load8(p18 + 232) & 1) != 0) {
-													if ((uint64_t)((n653 == 0) ? 64 : 60) <= n633) {
-														byte *p655 = at(loadptr(p18 + 208), n633 << 4);
-														uint64_t n656 = load64(p655);
-														if (n630 < n656) {
-															store64(p655, n630);
-															store64(p655 + 8, 1);
-														} else if (n630 == n656) {
-															store64(p655 + 8, load64(p655 + 8) + 1);
+													if ((uint64_t)((load8(p18) == 0) ? 64 : 60) <= n632) {
+														byte *p653 = at(loadptr(p18 + 208), n632 << 4);
+														uint64_t n654 = load64(p653);
+														if (n629 < n654) {
+															store64(p653, n629);
+															store64(p653 + 8, 1);
+														} else if (n629 == n654) {
+															store64(p653 + 8, load64(p653 + 8) + 1);
 														}
 													}
 												}
 											}
 											store64(p18 + 240, load64(p18 + 240) + 1);
 											store64(p18 + 280, load64(p18 + 280) + 1);
-											byte *p657 = inside(p18 + 800, n568);
-											store64(p657, load64(p657) + 1);
-											n571 = n639;
-											n572 = n619;
+											byte *p655 = inside(p18 + 800, n568);
+											store64(p655, load64(p655) + 1);
+											n571 = n638;
+											n572 = n618;
 											n573 = 0;
 											n574 = 0;
-											n575 = n630;
+											n575 = n629;
 											n576 = 0;
 											goto L14;
 										}
@@ -69095,43 +69094,43 @@ L7:
 										goto L14;
 									}
 									case 2: {
-										uint8_t n660, n661;
-										uint64_t n662;
-										byte *p658 = at(loadptr(p18 + 40), n520 * 56);
+										uint8_t n658, n659;
+										uint64_t n660;
+										byte *p656 = at(loadptr(p18 + 40), n520 * 56);
 										if (n520 < load64(p18 + 48)) {
-											if (load8(p658) == 1) {
-												if (load64u(p658 + 8) == n521) {
-													if (load64u(p658 + 16) == n499) {
+											if (load8(p656) == 1) {
+												if (load64u(p656 + 8) == n521) {
+													if (load64u(p656 + 16) == n499) {
 														tp_HierWheelWheel_stop(p13, p18, n520, n521);
-														byte *p659 = inside(p18 + 800, n568);
-														store64(p659, load64(p659) - 1);
-														n660 = 1;
-														n661 = 0;
-														n662 = n521;
+														byte *p657 = inside(p18 + 800, n568);
+														store64(p657, load64(p657) - 1);
+														n658 = 1;
+														n659 = 0;
+														n660 = n521;
 													} else {
-														n660 = 3;
-														n661 = 4;
-														n662 = 0;
+														n658 = 3;
+														n659 = 4;
+														n660 = 0;
 													}
 												} else {
-													n660 = 3;
-													n661 = 4;
-													n662 = 0;
+													n658 = 3;
+													n659 = 4;
+													n660 = 0;
 												}
 											} else {
-												n660 = 3;
-												n661 = 4;
-												n662 = 0;
+												n658 = 3;
+												n659 = 4;
+												n660 = 0;
 											}
 										} else {
-											n660 = 3;
-											n661 = 4;
-											n662 = 0;
+											n658 = 3;
+											n659 = 4;
+											n660 = 0;
 										}
-										n571 = n662;
+										n571 = n660;
 										n572 = 0;
-										n573 = n660;
-										n574 = n661;
+										n573 = n658;
+										n574 = n659;
 										n575 = 0;
 										n576 = 0;
 										goto L14;
@@ -69148,9 +69147,9 @@ L7:
 										goto L14;
 									}
 									case 4: {
-										uint64_t n663 = usub_sat64(n524, load64(p18 + 16));
+										uint64_t n661 = usub_sat64(n524, load64(p18 + 16));
 										memset(p11, 0, 40);
-										tp_Facility_take_restart(p11, p18, n499, n522, n520, n521, umax64(n663, 1), n663, n525);
+										tp_Facility_take_restart(p11, p18, n499, n522, n520, n521, umax64(n661, 1), n661, n525);
 										n571 = load64u(p11 + 8);
 										n572 = load64u(p11 + 16);
 										n573 = load8(p11);
@@ -69209,19 +69208,19 @@ L14:
 							}
 							if (load8(p501 + 32) == 1)
 								memset(p501 + 32, 0, 56);
-							uint64_t n664 = load64(p501 + 16);
-							uint64_t n665 = load64(p501 + 8);
-							if (n665 > n664) {
-								uint64_t n666 = load64(p501 + 24) + n664;
-								byte *p667 = inside(loadptru(p501), (n666 - ((n666 < n665) ? 0 : n665)) << 6);
-								store64u(p667, n563);
-								store64u(p667 + 8, n522);
-								store64u(p667 + 16, n561);
-								store64u(p667 + 24, n564);
-								store64u(p667 + 32, n562);
-								store64u(p667 + 40, n565);
-								store64u(p667 + 48, n566);
-								store64u(p667 + 56, n567);
+							uint64_t n662 = load64(p501 + 16);
+							uint64_t n663 = load64(p501 + 8);
+							if (n663 > n662) {
+								uint64_t n664 = load64(p501 + 24) + n662;
+								byte *p665 = inside(loadptru(p501), (n664 - ((n664 < n663) ? 0 : n663)) << 6);
+								store64u(p665, n563);
+								store64u(p665 + 8, n522);
+								store64u(p665 + 16, n561);
+								store64u(p665 + 24, n564);
+								store64u(p665 + 32, n562);
+								store64u(p665 + 40, n565);
+								store64u(p665 + 48, n566);
+								store64u(p665 + 56, n567);
 								store64(p501 + 16, load64(p501 + 16) + 1);
 								n506 = n561;
 								n507 = n564;
@@ -69256,189 +69255,97 @@ L14:
 						}
 L13:
 						{
-							uint64_t n668 = load64(p16 + 8);
-							byte *p669 = inside(loadptr(p16), n668 * 136);
-							store8(p669, 0);
-							memcpy(p669 + 1, p14, 7);
-							store64u(p669 + 8, n499);
-							store64u(p669 + 16, n517);
-							store64u(p669 + 24, n513);
-							store64u(p669 + 32, n514);
-							store64u(p669 + 40, n511);
-							store64u(p669 + 48, n512);
-							store64u(p669 + 56, n515);
-							store64u(p669 + 64, n516);
-							store64u(p669 + 72, n518);
-							store64u(p669 + 80, n513);
-							store64u(p669 + 88, n506);
-							store64u(p669 + 96, n507);
-							store64u(p669 + 104, n508);
-							store64u(p669 + 112, n509);
-							store64u(p669 + 120, n510);
-							store64u(p669 + 128, n519);
-							store64(p16 + 8, n668 + 1);
+							uint64_t n666 = load64(p16 + 8);
+							byte *p667 = inside(loadptr(p16), n666 * 136);
+							store8(p667, 0);
+							memcpy(p667 + 1, p14, 7);
+							store64u(p667 + 8, n499);
+							store64u(p667 + 16, n517);
+							store64u(p667 + 24, n513);
+							store64u(p667 + 32, n514);
+							store64u(p667 + 40, n511);
+							store64u(p667 + 48, n512);
+							store64u(p667 + 56, n515);
+							store64u(p667 + 64, n516);
+							store64u(p667 + 72, n518);
+							store64u(p667 + 80, n513);
+							store64u(p667 + 88, n506);
+							store64u(p667 + 96, n507);
+							store64u(p667 + 104, n508);
+							store64u(p667 + 112, n509);
+							store64u(p667 + 120, n510);
+							store64u(p667 + 128, n519);
+							store64(p16 + 8, n666 + 1);
 							tp_dispatch_hand_out_and_report(p18, p18 + 1376, p16);
 							goto L16;
 						}
 					}
 					case 4: {
-						uint64_t n674;
-						uint64_t n670 = n499 * 88;
-						byte *p671 = at(loadptr(p18 + 1376), n670);
-						byte *p672 = at(loadptr(p18 + 1352), n670);
-						uint64_t n673 = load64(p671 + 16);
-						if (n673 == 0) {
-							n674 = 0;
+						uint64_t n672;
+						uint64_t n668 = n499 * 88;
+						byte *p669 = at(loadptr(p18 + 1376), n668);
+						byte *p670 = at(loadptr(p18 + 1352), n668);
+						uint64_t n671 = load64(p669 + 16);
+						if (n671 == 0) {
+							n672 = 0;
 						} else {
-							uint64_t n679;
-							uint64_t n675 = load64(p671 + 24);
-							uint64_t n676 = load64(p671 + 8) - n675;
-							if (n673 > n676) {
-								byte *p677 = loadptru(p671);
-								uint64_t n678 = tp_RingInletInlet_put_slice(p672, at(p677, n675 << 6), n676);
-								if (n678 < n676) {
-									n679 = n678;
+							uint64_t n677;
+							uint64_t n673 = load64(p669 + 24);
+							uint64_t n674 = load64(p669 + 8) - n673;
+							if (n671 > n674) {
+								byte *p675 = loadptru(p669);
+								uint64_t n676 = tp_RingInletInlet_put_slice(p670, at(p675, n673 << 6), n674);
+								if (n676 < n674) {
+									n677 = n676;
 								} else {
-									uint64_t n680 = tp_RingInletInlet_put_slice(p672, p677, n673 - n676);
-									n679 = n678 + n680;
+									uint64_t n678 = tp_RingInletInlet_put_slice(p670, p675, n671 - n674);
+									n677 = n676 + n678;
 								}
 							} else {
-								uint64_t n681 = tp_RingInletInlet_put_slice(p672, at(loadptru(p671), n675 << 6), n673);
-								if (n681 >= n673) {
-									if (load64(p671 + 16) == 0) {
-										n674 = n681;
+								uint64_t n679 = tp_RingInletInlet_put_slice(p670, at(loadptru(p669), n673 << 6), n671);
+								if (n679 >= n671) {
+									if (load64(p669 + 16) == 0) {
+										n672 = n679;
 										goto L17;
 									}
-									store64(p671 + 16, 0);
-									n674 = n681;
+									store64(p669 + 16, 0);
+									n672 = n679;
 									goto L17;
 								}
-								n679 = n681;
+								n677 = n679;
 							}
-							tp_Backlog_remove(p671, n679);
-							n674 = n679;
+							tp_Backlog_remove(p669, n677);
+							n672 = n677;
 						}
 L17:
 						{
-							uint64_t n682 = load64(p16 + 8);
-							byte *p683 = inside(loadptr(p16), n682 * 136);
-							store8(p683, 5);
-							memset(p683 + 1, 0, 7);
-							store64u(p683 + 8, n499);
-							store64u(p683 + 16, n674);
-							memset(p683 + 24, 0, 112);
-							store64(p16 + 8, n682 + 1);
+							uint64_t n680 = load64(p16 + 8);
+							byte *p681 = inside(loadptr(p16), n680 * 136);
+							store8(p681, 5);
+							memset(p681 + 1, 0, 7);
+							store64u(p681 + 8, n499);
+							store64u(p681 + 16, n672);
+							memset(p681 + 24, 0, 112);
+							store64(p16 + 8, n680 + 1);
 							goto L16;
 						}
 					}
 					case 1: {
 						if ((load8(p18 + 1312) & 1) != 0) {
-							n684 = 1;
+							n682 = 1;
+							n683 = 0;
+							n684 = 0;
 							n685 = 0;
 							n686 = 0;
 							n687 = 0;
 							n688 = 0;
 							n689 = 0;
 							n690 = 0;
-							n691 = 0;
-							n692 = 0;
 						} else {
-							uint64_t n693 = load64(p18 + 16);
-							if (n693 == load64(p18 + 8)) {
-								n684 = 1;
-								n685 = 1;
-								n686 = 0;
-								n687 = 0;
-								n688 = 0;
-								n689 = 0;
-								n690 = 0;
-								n691 = 0;
-								n692 = 0;
-							} else {
-								uint64_t n698;
-								uint8_t n694 = load8(p18);
-								uint64_t n695 = n693 + 1;
-								if (n694 == 0) {
-									uint64_t n696 = n695 & 63;
-									if (n696 == 0) {
-										uint8_t n697 = (uint8_t)((uint8_t)cttz64(n695) / 6);
-										n698 = ((uint64_t)n697 << 6) | ((n695 >> ((uint64_t)(uint8_t)(1u * n697 * 6) & 63)) & 63);
-									} else {
-										n698 = n696;
-									}
-								} else {
-									uint64_t n699 = n695 % 60;
-									if (n699 == 0) {
-										uint64_t n700 = (n695 / 60) % 60;
-										if (n700 == 0) {
-											uint64_t n701 = (n695 / 3600) % 24;
-											if (n701 == 0) {
-												n698 = (n695 / 86400) + 144;
-											} else {
-												n698 = n701 + 120;
-											}
-										} else {
-											n698 = n700 + 60;
-										}
-									} else {
-										n698 = n699;
-									}
-								}
-								byte *p702 = loadptr(p18 + 80);
-								byte *p703 = at(p702, n698 << 3);
-								if (n698 != (uint64_t)load32(p703 + 4)) {
-									byte *p704 = inside(p18 + 128, (n698 >> 6) << 3);
-									store64(p704, load64(p704) & (((uint64_t)1 << (n698 & 63)) ^ UINT64_MAX));
-									bool b705 = n694 == 0;
-									if (n698 >= (uint64_t)(b705 ? 64 : 60)) {
-										if ((load8(p18 + 232) & 1) != 0) {
-											byte *p713 = at(loadptr(p18 + 208), n698 << 4);
-											store64u(p713, UINT64_MAX);
-											store64u(p713 + 8, 0);
-										}
-										uint64_t n714 = tp_migration_migrate(n694, p18 + 40, p18 + 128, p18 + 208, n698, n695);
-										store64(p18 + 16, n695);
-										if (n714 == 0) {
-											n684 = 0;
-											n685 = 0;
-											n686 = 0;
-											n687 = 0;
-											n688 = 0;
-											n689 = 0;
-											n690 = 0;
-											n691 = 0;
-											n692 = 0;
-											goto L18;
-										}
-										store64(p18 + 248, load64(p18 + 248) + n714);
-										n684 = 0;
-										n685 = 0;
-										n686 = 0;
-										n687 = 0;
-										n688 = 0;
-										n689 = 0;
-										n690 = 0;
-										n691 = 0;
-										n692 = 0;
-										goto L18;
-									}
-									uint32_t n706 = load32(p703 + 4);
-									uint64_t n707 = (uint64_t)n706;
-									if (load64(p18 + 104) <= n707) {
-										uint64_t n708 = (uint64_t)(b705 ? 640 : 244);
-										uint32_t n709 = load32(p703);
-										byte *p710 = at(p702, n708 << 3);
-										uint32_t n711 = load32(p710);
-										store32(inside(p702, (uint64_t)n711 << 3) + 4, n706);
-										store32(inside(p702, n707 << 3), n711);
-										store32(inside(p702, (uint64_t)n709 << 3) + 4, (uint32_t)n708);
-										store32(p710, n709);
-										uint32_t n712 = (uint32_t)n698;
-										store32(p703 + 4, n712);
-										store32(p703, n712);
-									}
-								}
-								store64(p18 + 16, n695);
+							uint64_t n691 = load64(p18 + 16);
+							if (n691 == load64(p18 + 8)) {
+								n682 = 1;
+								n683 = 1;
 								n684 = 0;
 								n685 = 0;
 								n686 = 0;
@@ -69446,98 +69353,190 @@ L17:
 								n688 = 0;
 								n689 = 0;
 								n690 = 0;
-								n691 = 0;
-								n692 = 0;
+							} else {
+								uint64_t n696;
+								uint8_t n692 = load8(p18);
+								uint64_t n693 = n691 + 1;
+								if (n692 == 0) {
+									uint64_t n694 = n693 & 63;
+									if (n694 == 0) {
+										uint8_t n695 = (uint8_t)((uint8_t)cttz64(n693) / 6);
+										n696 = ((uint64_t)n695 << 6) | ((n693 >> ((uint64_t)(uint8_t)(1u * n695 * 6) & 63)) & 63);
+									} else {
+										n696 = n694;
+									}
+								} else {
+									uint64_t n697 = n693 % 60;
+									if (n697 == 0) {
+										uint64_t n698 = (n693 / 60) % 60;
+										if (n698 == 0) {
+											uint64_t n699 = (n693 / 3600) % 24;
+											if (n699 == 0) {
+												n696 = (n693 / 86400) + 144;
+											} else {
+												n696 = n699 + 120;
+											}
+										} else {
+											n696 = n698 + 60;
+										}
+									} else {
+										n696 = n697;
+									}
+								}
+								byte *p700 = loadptr(p18 + 80);
+								byte *p701 = at(p700, n696 << 3);
+								if (n696 != (uint64_t)load32(p701 + 4)) {
+									byte *p702 = inside(p18 + 128, (n696 >> 6) << 3);
+									store64(p702, load64(p702) & (((uint64_t)1 << (n696 & 63)) ^ UINT64_MAX));
+									bool b703 = n692 == 0;
+									if (n696 >= (uint64_t)(b703 ? 64 : 60)) {
+										if ((load8(p18 + 232) & 1) != 0) {
+											byte *p711 = at(loadptr(p18 + 208), n696 << 4);
+											store64u(p711, UINT64_MAX);
+											store64u(p711 + 8, 0);
+										}
+										uint64_t n712 = tp_migration_migrate(n692, p18 + 40, p18 + 128, p18 + 208, n696, n693);
+										store64(p18 + 16, n693);
+										if (n712 == 0) {
+											n682 = 0;
+											n683 = 0;
+											n684 = 0;
+											n685 = 0;
+											n686 = 0;
+											n687 = 0;
+											n688 = 0;
+											n689 = 0;
+											n690 = 0;
+											goto L18;
+										}
+										store64(p18 + 248, load64(p18 + 248) + n712);
+										n682 = 0;
+										n683 = 0;
+										n684 = 0;
+										n685 = 0;
+										n686 = 0;
+										n687 = 0;
+										n688 = 0;
+										n689 = 0;
+										n690 = 0;
+										goto L18;
+									}
+									uint32_t n704 = load32(p701 + 4);
+									uint64_t n705 = (uint64_t)n704;
+									if (load64(p18 + 104) <= n705) {
+										uint64_t n706 = (uint64_t)(b703 ? 640 : 244);
+										uint32_t n707 = load32(p701);
+										byte *p708 = at(p700, n706 << 3);
+										uint32_t n709 = load32(p708);
+										store32(inside(p700, (uint64_t)n709 << 3) + 4, n704);
+										store32(inside(p700, n705 << 3), n709);
+										store32(inside(p700, (uint64_t)n707 << 3) + 4, (uint32_t)n706);
+										store32(p708, n707);
+										uint32_t n710 = (uint32_t)n696;
+										store32(p701 + 4, n710);
+										store32(p701, n710);
+									}
+								}
+								store64(p18 + 16, n693);
+								n682 = 0;
+								n683 = 0;
+								n684 = 0;
+								n685 = 0;
+								n686 = 0;
+								n687 = 0;
+								n688 = 0;
+								n689 = 0;
+								n690 = 0;
 							}
 						}
 						break;
 					}
 					case 2: {
-						uint64_t n715, n716, n717;
+						uint64_t n713, n714, n715;
 						if ((load8(p18 + 1312) & 1) != 0) {
-							n715 = 1;
-							n716 = 0;
-							n717 = 0;
+							n713 = 1;
+							n714 = 0;
+							n715 = 0;
 						} else {
-							uint64_t n718 = load64(p18 + 16);
-							uint64_t n719 = load64(p18 + 8);
-							if (n718 == n719) {
-								n715 = 1;
-								n716 = 256;
-								n717 = 0;
+							uint64_t n716 = load64(p18 + 16);
+							uint64_t n717 = load64(p18 + 8);
+							if (n716 == n717) {
+								n713 = 1;
+								n714 = 256;
+								n715 = 0;
 							} else {
-								uint64_t n724;
-								uint64_t n720 = umin64(n719 - n718, n499);
-								uint64_t n721 = n718 + n720;
+								uint64_t n722;
+								uint64_t n718 = umin64(n717 - n716, n499);
+								uint64_t n719 = n716 + n718;
 								if (load8(p18) == 0) {
-									if ((n721 ^ n718) < 64) {
-										uint64_t n722 = load64(p18 + 128);
-										if ((n722 == 0) || ((n721 & 63) < cttz64(n722)))
+									if ((n719 ^ n716) < 64) {
+										uint64_t n720 = load64(p18 + 128);
+										if ((n720 == 0) || ((n719 & 63) < cttz64(n720)))
 											goto L19;
 									}
-								} else if ((n721 / 60) == (n718 / 60)) {
-									uint64_t n723 = load64(p18 + 128);
-									if ((n723 == 0) || ((n721 % 60) < cttz64(n723)))
+								} else if ((n719 / 60) == (n716 / 60)) {
+									uint64_t n721 = load64(p18 + 128);
+									if ((n721 == 0) || ((n719 % 60) < cttz64(n721)))
 										goto L19;
 								}
-								n724 = tp_HierWheel_advance_far(p18, n720);
-								n715 = 0;
-								n716 = 0;
-								n717 = n724;
+								n722 = tp_HierWheel_advance_far(p18, n718);
+								n713 = 0;
+								n714 = 0;
+								n715 = n722;
 								goto L20;
 L19:
 								{
-									store64(p18 + 16, n721);
-									store64(p18 + 256, load64(p18 + 256) + n720);
-									n715 = 0;
-									n716 = 0;
-									n717 = n720;
+									store64(p18 + 16, n719);
+									store64(p18 + 256, load64(p18 + 256) + n718);
+									n713 = 0;
+									n714 = 0;
+									n715 = n718;
 								}
 							}
 						}
 L20:
 						{
-							n684 = 0;
-							n685 = 0;
-							n686 = n499;
-							n687 = n499;
-							n688 = n499 & UINT64_C(18446744073709486080);
-							n689 = n715;
-							n690 = n716;
-							n691 = 0;
-							n692 = n717;
+							n682 = 0;
+							n683 = 0;
+							n684 = n499;
+							n685 = n499;
+							n686 = n499 & UINT64_C(18446744073709486080);
+							n687 = n713;
+							n688 = n714;
+							n689 = 0;
+							n690 = n715;
 						}
 						break;
 					}
 					case 3: {
-						uint64_t n725, n726, n727;
+						uint64_t n723, n724, n725;
 						if ((load8(p18 + 1312) & 1) != 0) {
-							n725 = 1;
-							n726 = 0;
-							n727 = 0;
+							n723 = 1;
+							n724 = 0;
+							n725 = 0;
 						} else {
-							uint8_t n728 = tp_facility_take_all(p18, p18 + 1320);
-							if ((n728 & 1) != 0) {
-								n725 = 1;
-								n726 = 256;
-								n727 = 0;
+							uint8_t n726 = tp_facility_take_all(p18, p18 + 1320);
+							if ((n726 & 1) != 0) {
+								n723 = 1;
+								n724 = 256;
+								n725 = 0;
 							} else {
 								store64(p18 + 1344, 0);
 								store8(p18 + 1312, 1);
-								n725 = 0;
-								n726 = 0;
-								n727 = load64(p18 + 1328);
+								n723 = 0;
+								n724 = 0;
+								n725 = load64(p18 + 1328);
 							}
 						}
-						n684 = 0;
-						n685 = 0;
-						n686 = n725;
-						n687 = n726;
-						n688 = 0;
-						n689 = n727;
-						n690 = n727;
-						n691 = n727 & UINT64_C(18446744073709486080);
-						n692 = 0;
+						n682 = 0;
+						n683 = 0;
+						n684 = n723;
+						n685 = n724;
+						n686 = 0;
+						n687 = n725;
+						n688 = n725;
+						n689 = n725 & UINT64_C(18446744073709486080);
+						n690 = 0;
 						break;
 					}
 					default: {
@@ -69546,17 +69545,17 @@ L20:
 					}
 L18:
 					{
-						uint64_t n729 = load64(p16 + 8);
-						byte *p730 = inside(loadptr(p16), n729 * 136);
-						store8(p730, n498);
-						store8(p730 + 1, n684);
-						store8(p730 + 2, n685);
-						memset(p730 + 3, 0, 5);
-						store64u(p730 + 8, (n688 | (n687 & 65280)) | (n686 & 255));
-						store64u(p730 + 16, (n691 | (n690 & 65280)) | (n689 & 255));
-						store64u(p730 + 24, n692);
-						memset(p730 + 32, 0, 104);
-						store64(p16 + 8, n729 + 1);
+						uint64_t n727 = load64(p16 + 8);
+						byte *p728 = inside(loadptr(p16), n727 * 136);
+						store8(p728, n498);
+						store8(p728 + 1, n682);
+						store8(p728 + 2, n683);
+						memset(p728 + 3, 0, 5);
+						store64u(p728 + 8, (n686 | (n685 & 65280)) | (n684 & 255));
+						store64u(p728 + 16, (n689 | (n688 & 65280)) | (n687 & 255));
+						store64u(p728 + 24, n690);
+						memset(p728 + 32, 0, 104);
+						store64(p16 + 8, n727 + 1);
 						tp_dispatch_hand_out_and_report(p18, p18 + 1376, p16);
 					}
 L16:
@@ -69564,38 +69563,38 @@ L16:
 						n496 = n496 + 1;
 					}
 				}
-				p731 = loadptr(p16);
-				n732 = load64(p16 + 8);
-				n733 = load64(p16 + 16);
-				n734 = 0;
-				n735 = 0;
-				while (n734 != n732) {
-					uint8_t n741;
-					byte *p736 = at(p731, n734 * 136);
-					uint64_t n737 = load64u(p736 + 8);
-					uint64_t n738 = load64u(p736 + 16);
-					switch (load8(p736)) {
+				p729 = loadptr(p16);
+				n730 = load64(p16 + 8);
+				n731 = load64(p16 + 16);
+				n732 = 0;
+				n733 = 0;
+				while (n732 != n730) {
+					uint8_t n739;
+					byte *p734 = at(p729, n732 * 136);
+					uint64_t n735 = load64u(p734 + 8);
+					uint64_t n736 = load64u(p734 + 16);
+					switch (load8(p734)) {
 					case 0: {
-						switch ((uint8_t)n738) {
+						switch ((uint8_t)n736) {
 						case 3: {
-							if (n200 > n737) {
-								byte *p739 = at(p427, n737 << 4);
-								uint64_t n740 = load64(p739);
-								if (n5 > n740) {
-									store64(p739, n740 + 1);
-									n741 = 1;
+							if (n200 > n735) {
+								byte *p737 = at(p427, n735 << 4);
+								uint64_t n738 = load64(p737);
+								if (n5 > n738) {
+									store64(p737, n738 + 1);
+									n739 = 1;
 								} else {
-									n741 = n735;
+									n739 = n733;
 								}
 							} else {
-								n741 = n735;
+								n739 = n733;
 							}
 							break;
 						}
 						case 0:
 						case 1:
 						case 2: {
-							n741 = n735;
+							n739 = n733;
 							break;
 						}
 						default: {
@@ -69605,22 +69604,22 @@ L16:
 						break;
 					}
 					case 5: {
-						if ((n200 <= n737) || (n738 == 0)) {
-							n741 = n735;
+						if ((n200 <= n735) || (n736 == 0)) {
+							n739 = n733;
 						} else {
-							byte *p742 = at(p427, n737 << 4) + 8;
-							uint64_t n743 = load64(p742);
-							uint64_t n744 = n5 << 1;
-							if (n744 > n743) {
-								if (n738 < (n744 - n743)) {
-									store64(p742, n743 + n738);
-									n741 = 1;
+							byte *p740 = at(p427, n735 << 4) + 8;
+							uint64_t n741 = load64(p740);
+							uint64_t n742 = n5 << 1;
+							if (n742 > n741) {
+								if (n736 < (n742 - n741)) {
+									store64(p740, n741 + n736);
+									n739 = 1;
 								} else {
-									store64(p742, n744);
-									n741 = 1;
+									store64(p740, n742);
+									n739 = 1;
 								}
 							} else {
-								n741 = n735;
+								n739 = n733;
 							}
 						}
 						break;
@@ -69629,24 +69628,24 @@ L16:
 					case 2:
 					case 3:
 					case 4: {
-						n741 = n735;
+						n739 = n733;
 						break;
 					}
 					default: {
 						UNREACHABLE();
 					}
 					}
-					n734 = n734 + 1;
-					n735 = n741;
+					n732 = n732 + 1;
+					n733 = n739;
 				}
-				n745 = 0;
+				n743 = 0;
 				for (;;) {
-					if (n745 == n732)
+					if (n743 == n730)
 						goto L21;
-					byte *p746 = at(p731, n745 * 136);
-					switch (load8(p746)) {
+					byte *p744 = at(p729, n743 * 136);
+					switch (load8(p744)) {
 					case 0: {
-						switch (load8(p746 + 16)) {
+						switch (load8(p744 + 16)) {
 						case 2: {
 							goto L22;
 						}
@@ -69672,119 +69671,119 @@ L16:
 						UNREACHABLE();
 					}
 					}
-					n745 = n745 + 1;
+					n743 = n743 + 1;
 				}
 L22:
 				{
-					if (n745 < n732)
+					if (n743 < n730)
 						goto L23;
 				}
 L21:
 				{
-					uint64_t n749;
-					byte *p747 = loadptru(p18 + 1400);
-					uint64_t n748 = load64u(p18 + 1416);
-					storeptru(p18 + 1400, p731);
-					store64u(p18 + 1408, n732);
-					store64u(p18 + 1416, n733);
-					if (n748 != 0)
-						rattle_dealloc(p747);
-					if ((n735 & 1) != 0) {
-						n749 = 0;
+					uint64_t n747;
+					byte *p745 = loadptru(p18 + 1400);
+					uint64_t n746 = load64u(p18 + 1416);
+					storeptru(p18 + 1400, p729);
+					store64u(p18 + 1408, n730);
+					store64u(p18 + 1416, n731);
+					if (n746 != 0)
+						rattle_dealloc(p745);
+					if ((n733 & 1) != 0) {
+						n747 = 0;
 					} else {
-						uint64_t n750 = n460 + 1;
+						uint64_t n748 = n460 + 1;
 						(void)os_sched_yield();
+						uint8_t n749 = load8_volatile((byte *)tp_static);
+						if (n749 != 0) {
+							TRAP();
+							UNREACHABLE();
+						}
+						uint8_t n750 = load8_volatile((byte *)tp_static);
+						if (n750 != 0) {
+							TRAP();
+							UNREACHABLE();
+						}
 						uint8_t n751 = load8_volatile((byte *)tp_static);
 						if (n751 != 0) {
 							TRAP();
 							UNREACHABLE();
 						}
-						uint8_t n752 = load8_volatile((byte *)tp_static);
-						if (n752 != 0) {
-							TRAP();
-							UNREACHABLE();
-						}
-						uint8_t n753 = load8_volatile((byte *)tp_static);
-						if (n753 != 0) {
-							TRAP();
-							UNREACHABLE();
-						}
-						n749 = n750;
+						n747 = n748;
 					}
-					n460 = n749;
+					n460 = n747;
 					continue;
 				}
 L9:
 				{
-					p754 = loadptr(p18 + 80);
+					p752 = loadptr(p18 + 80);
 					goto L10;
 				}
 			}
-			n755 = load64(p18);
-			p756 = loadptr(p18 + 40);
-			n757 = load64(p18 + 56);
-			p758 = loadptr(p18 + 80);
-			n759 = load64(p18 + 96);
-			p760 = loadptr(p18 + 208);
-			n761 = load64(p18 + 224);
-			p762 = loadptr(p18 + 1320);
-			n763 = load64(p18 + 1336);
-			p764 = loadptr(p18 + 1352);
-			n765 = load64(p18 + 1360);
-			n766 = load64(p18 + 1368);
-			p767 = loadptr(p18 + 1376);
-			n768 = load64(p18 + 1384);
-			n769 = load64(p18 + 1392);
-			p770 = loadptr(p18 + 1400);
-			n771 = load64(p18 + 1416);
+			n753 = load64(p18);
+			p754 = loadptr(p18 + 40);
+			n755 = load64(p18 + 56);
+			p756 = loadptr(p18 + 80);
+			n757 = load64(p18 + 96);
+			p758 = loadptr(p18 + 208);
+			n759 = load64(p18 + 224);
+			p760 = loadptr(p18 + 1320);
+			n761 = load64(p18 + 1336);
+			p762 = loadptr(p18 + 1352);
+			n763 = load64(p18 + 1360);
+			n764 = load64(p18 + 1368);
+			p765 = loadptr(p18 + 1376);
+			n766 = load64(p18 + 1384);
+			n767 = load64(p18 + 1392);
+			p768 = loadptr(p18 + 1400);
+			n769 = load64(p18 + 1416);
 			if (load64u(p19 + 16) != 0)
 				rattle_dealloc(loadptru(p19));
 			if (b426) {
-				n442 = n755;
-				p443 = p756;
-				n444 = n757;
-				p445 = p758;
-				n446 = n759;
-				p447 = p760;
-				n448 = n761;
-				p449 = p762;
-				n450 = n763;
-				p451 = p764;
-				n452 = n765;
-				n453 = n766;
-				p454 = p767;
-				n455 = n768;
-				n456 = n769;
-				p457 = p770;
-				n458 = n771;
+				n442 = n753;
+				p443 = p754;
+				n444 = n755;
+				p445 = p756;
+				n446 = n757;
+				p447 = p758;
+				n448 = n759;
+				p449 = p760;
+				n450 = n761;
+				p451 = p762;
+				n452 = n763;
+				n453 = n764;
+				p454 = p765;
+				n455 = n766;
+				n456 = n767;
+				p457 = p768;
+				n458 = n769;
 				n459 = 1;
 				goto L8;
 			}
 			rattle_dealloc(p427);
-			n442 = n755;
-			p443 = p756;
-			n444 = n757;
-			p445 = p758;
-			n446 = n759;
-			p447 = p760;
-			n448 = n761;
-			p449 = p762;
-			n450 = n763;
-			p451 = p764;
-			n452 = n765;
-			n453 = n766;
-			p454 = p767;
-			n455 = n768;
-			n456 = n769;
-			p457 = p770;
-			n458 = n771;
+			n442 = n753;
+			p443 = p754;
+			n444 = n755;
+			p445 = p756;
+			n446 = n757;
+			p447 = p758;
+			n448 = n759;
+			p449 = p760;
+			n450 = n761;
+			p451 = p762;
+			n452 = n763;
+			n453 = n764;
+			p454 = p765;
+			n455 = n766;
+			n456 = n767;
+			p457 = p768;
+			n458 = n769;
 			n459 = 1;
 			goto L8;
 L23:
 			{
-				if (n733 == 0)
+				if (n731 == 0)
 					goto L11;
-				rattle_dealloc(p731);
+				rattle_dealloc(p729);
 				goto L11;
 			}
 L12:
@@ -69794,153 +69793,153 @@ L12:
 			}
 L11:
 			{
-				uint64_t n772 = load64(p18);
-				byte *p773 = loadptr(p18 + 40);
-				uint64_t n774 = load64(p18 + 56);
-				byte *p775 = loadptr(p18 + 80);
-				uint64_t n776 = load64(p18 + 96);
-				byte *p777 = loadptr(p18 + 208);
-				uint64_t n778 = load64(p18 + 224);
-				byte *p779 = loadptr(p18 + 1320);
-				uint64_t n780 = load64(p18 + 1336);
-				byte *p781 = loadptr(p18 + 1352);
-				uint64_t n782 = load64(p18 + 1360);
-				uint64_t n783 = load64(p18 + 1368);
-				byte *p784 = loadptr(p18 + 1376);
-				uint64_t n785 = load64(p18 + 1384);
-				uint64_t n786 = load64(p18 + 1392);
-				byte *p787 = loadptr(p18 + 1400);
-				uint64_t n788 = load64(p18 + 1416);
+				uint64_t n770 = load64(p18);
+				byte *p771 = loadptr(p18 + 40);
+				uint64_t n772 = load64(p18 + 56);
+				byte *p773 = loadptr(p18 + 80);
+				uint64_t n774 = load64(p18 + 96);
+				byte *p775 = loadptr(p18 + 208);
+				uint64_t n776 = load64(p18 + 224);
+				byte *p777 = loadptr(p18 + 1320);
+				uint64_t n778 = load64(p18 + 1336);
+				byte *p779 = loadptr(p18 + 1352);
+				uint64_t n780 = load64(p18 + 1360);
+				uint64_t n781 = load64(p18 + 1368);
+				byte *p782 = loadptr(p18 + 1376);
+				uint64_t n783 = load64(p18 + 1384);
+				uint64_t n784 = load64(p18 + 1392);
+				byte *p785 = loadptr(p18 + 1400);
+				uint64_t n786 = load64(p18 + 1416);
 				if (load64u(p19 + 16) != 0)
 					rattle_dealloc(loadptru(p19));
 				rattle_dealloc(p427);
-				n442 = n772;
-				p443 = p773;
-				n444 = n774;
-				p445 = p775;
-				n446 = n776;
-				p447 = p777;
-				n448 = n778;
-				p449 = p779;
-				n450 = n780;
-				p451 = p781;
-				n452 = n782;
-				n453 = n783;
-				p454 = p784;
-				n455 = n785;
-				n456 = n786;
-				p457 = p787;
-				n458 = n788;
+				n442 = n770;
+				p443 = p771;
+				n444 = n772;
+				p445 = p773;
+				n446 = n774;
+				p447 = p775;
+				n448 = n776;
+				p449 = p777;
+				n450 = n778;
+				p451 = p779;
+				n452 = n780;
+				n453 = n781;
+				p454 = p782;
+				n455 = n783;
+				n456 = n784;
+				p457 = p785;
+				n458 = n786;
 				n459 = 2;
 				goto L8;
 			}
 L10:
 			{
-				uint64_t n789 = load64(p18);
-				byte *p790 = loadptr(p18 + 40);
-				uint64_t n791 = load64(p18 + 56);
-				uint64_t n792 = load64(p18 + 96);
-				byte *p793 = loadptr(p18 + 208);
-				uint64_t n794 = load64(p18 + 224);
-				byte *p795 = loadptr(p18 + 1320);
-				uint64_t n796 = load64(p18 + 1336);
-				byte *p797 = loadptr(p18 + 1352);
-				uint64_t n798 = load64(p18 + 1360);
-				uint64_t n799 = load64(p18 + 1368);
-				byte *p800 = loadptr(p18 + 1376);
-				uint64_t n801 = load64(p18 + 1384);
-				uint64_t n802 = load64(p18 + 1392);
-				byte *p803 = loadptr(p18 + 1400);
-				uint64_t n804 = load64(p18 + 1416);
+				uint64_t n787 = load64(p18);
+				byte *p788 = loadptr(p18 + 40);
+				uint64_t n789 = load64(p18 + 56);
+				uint64_t n790 = load64(p18 + 96);
+				byte *p791 = loadptr(p18 + 208);
+				uint64_t n792 = load64(p18 + 224);
+				byte *p793 = loadptr(p18 + 1320);
+				uint64_t n794 = load64(p18 + 1336);
+				byte *p795 = loadptr(p18 + 1352);
+				uint64_t n796 = load64(p18 + 1360);
+				uint64_t n797 = load64(p18 + 1368);
+				byte *p798 = loadptr(p18 + 1376);
+				uint64_t n799 = load64(p18 + 1384);
+				uint64_t n800 = load64(p18 + 1392);
+				byte *p801 = loadptr(p18 + 1400);
+				uint64_t n802 = load64(p18 + 1416);
 				if (load64u(p19 + 16) != 0)
 					rattle_dealloc(loadptru(p19));
 				if (b426) {
-					n442 = n789;
-					p443 = p790;
-					n444 = n791;
-					p445 = p754;
-					n446 = n792;
-					p447 = p793;
-					n448 = n794;
-					p449 = p795;
-					n450 = n796;
-					p451 = p797;
-					n452 = n798;
-					n453 = n799;
-					p454 = p800;
-					n455 = n801;
-					n456 = n802;
-					p457 = p803;
-					n458 = n804;
+					n442 = n787;
+					p443 = p788;
+					n444 = n789;
+					p445 = p752;
+					n446 = n790;
+					p447 = p791;
+					n448 = n792;
+					p449 = p793;
+					n450 = n794;
+					p451 = p795;
+					n452 = n796;
+					n453 = n797;
+					p454 = p798;
+					n455 = n799;
+					n456 = n800;
+					p457 = p801;
+					n458 = n802;
 					n459 = 0;
 				} else {
 					rattle_dealloc(p427);
-					n442 = n789;
-					p443 = p790;
-					n444 = n791;
-					p445 = p754;
-					n446 = n792;
-					p447 = p793;
-					n448 = n794;
-					p449 = p795;
-					n450 = n796;
-					p451 = p797;
-					n452 = n798;
-					n453 = n799;
-					p454 = p800;
-					n455 = n801;
-					n456 = n802;
-					p457 = p803;
-					n458 = n804;
+					n442 = n787;
+					p443 = p788;
+					n444 = n789;
+					p445 = p752;
+					n446 = n790;
+					p447 = p791;
+					n448 = n792;
+					p449 = p793;
+					n450 = n794;
+					p451 = p795;
+					n452 = n796;
+					n453 = n797;
+					p454 = p798;
+					n455 = n799;
+					n456 = n800;
+					p457 = p801;
+					n458 = n802;
 					n459 = 0;
 				}
 			}
 		}
 L8:
 		{
-			uint64_t n828, n829, n830, n831;
+			uint64_t n826, n827, n828, n829;
+			uint8_t n803 = load8_volatile((byte *)tp_static);
+			if (n803 != 0) {
+				TRAP();
+				UNREACHABLE();
+			}
+			uint8_t n804 = load8_volatile((byte *)tp_static);
+			if (n804 != 0) {
+				TRAP();
+				UNREACHABLE();
+			}
+			tp_Children_join(p197, p193);
 			uint8_t n805 = load8_volatile((byte *)tp_static);
 			if (n805 != 0) {
 				TRAP();
 				UNREACHABLE();
 			}
-			uint8_t n806 = load8_volatile((byte *)tp_static);
-			if (n806 != 0) {
-				TRAP();
-				UNREACHABLE();
-			}
-			tp_Children_join(p197, p193);
-			uint8_t n807 = load8_volatile((byte *)tp_static);
-			if (n807 != 0) {
-				TRAP();
-				UNREACHABLE();
-			}
-			byte *p808 = loadptru(p197);
-			uint64_t n809 = load64u(p197 + 8);
-			uint64_t n810 = load64u(p197 + 16);
+			byte *p806 = loadptru(p197);
+			uint64_t n807 = load64u(p197 + 8);
+			uint64_t n808 = load64u(p197 + 16);
 			switch (n459) {
 			case 2: {
-				uint64_t n811;
-				if (n809 == 0)
+				uint64_t n809;
+				if (n807 == 0)
 					goto L24;
-				n811 = 0;
-				while (n811 != n809) {
-					byte *p812 = inside(p808, n811 * 112);
-					byte *p813 = loadptru(p812 + 24);
-					byte *p814 = loadptru(p812 + 32);
-					uint64_t n815 = load64u(p812 + 40);
+				n809 = 0;
+				while (n809 != n807) {
+					byte *p810 = inside(p806, n809 * 112);
+					byte *p811 = loadptru(p810 + 24);
+					byte *p812 = loadptru(p810 + 32);
+					uint64_t n813 = load64u(p810 + 40);
 					BARRIER();
-					uint64_t n816 = atomic_exchange64(p813 + 256, 1, ORDER_SEQ_CST);
+					uint64_t n814 = atomic_exchange64(p811 + 256, 1, ORDER_SEQ_CST);
 					BARRIER();
-					if (n816 != 0)
-						tp_release_drop_slow(p813, p814, n815);
-					n811 = n811 + 1;
+					if (n814 != 0)
+						tp_release_drop_slow(p811, p812, n813);
+					n809 = n809 + 1;
 				}
 L24:
 				{
-					uint64_t n817;
-					if (n810 != 0)
-						rattle_dealloc(p808);
+					uint64_t n815;
+					if (n808 != 0)
+						rattle_dealloc(p806);
 					if (n444 != 0)
 						rattle_dealloc(p443);
 					if (n446 != 0)
@@ -69951,54 +69950,54 @@ L24:
 						rattle_dealloc(p449);
 					if (n452 == 0)
 						goto L25;
-					n817 = 0;
-					while (n817 != n452) {
-						byte *p818 = inside(p451, n817 * 88);
-						byte *p819 = loadptru(p818);
-						byte *p820 = loadptru(p818 + 8);
-						uint64_t n821 = load64u(p818 + 16);
-						byte *p822 = loadptru(p818 + 40);
-						byte *p823 = loadptru(p818 + 48);
-						uint64_t n824 = load64u(p818 + 56);
+					n815 = 0;
+					while (n815 != n452) {
+						byte *p816 = inside(p451, n815 * 88);
+						byte *p817 = loadptru(p816);
+						byte *p818 = loadptru(p816 + 8);
+						uint64_t n819 = load64u(p816 + 16);
+						byte *p820 = loadptru(p816 + 40);
+						byte *p821 = loadptru(p816 + 48);
+						uint64_t n822 = load64u(p816 + 56);
 						BARRIER();
-						uint64_t n825 = atomic_exchange64(p819 + 256, 1, ORDER_SEQ_CST);
+						uint64_t n823 = atomic_exchange64(p817 + 256, 1, ORDER_SEQ_CST);
 						BARRIER();
-						if (n825 != 0)
-							tp_release_drop_slow(p819, p820, n821);
+						if (n823 != 0)
+							tp_release_drop_slow(p817, p818, n819);
 						BARRIER();
-						uint64_t n826 = atomic_exchange64(p822 + 256, 1, ORDER_SEQ_CST);
+						uint64_t n824 = atomic_exchange64(p820 + 256, 1, ORDER_SEQ_CST);
 						BARRIER();
-						if (n826 != 0)
-							tp_release_drop_slow(p822, p823, n824);
-						n817 = n817 + 1;
+						if (n824 != 0)
+							tp_release_drop_slow(p820, p821, n822);
+						n815 = n815 + 1;
 					}
 L25:
 					{
-						uint64_t n827;
+						uint64_t n825;
 						if (n453 != 0)
 							rattle_dealloc(p451);
 						if (n455 == 0)
 							goto L26;
-						n827 = 0;
-						while (n827 != n455) {
-							rattle_dealloc(loadptru(inside(p454, n827 * 88)));
-							n827 = n827 + 1;
+						n825 = 0;
+						while (n825 != n455) {
+							rattle_dealloc(loadptru(inside(p454, n825 * 88)));
+							n825 = n825 + 1;
 						}
 L26:
 						{
 							if (n456 != 0)
 								rattle_dealloc(p454);
 							if (n458 == 0) {
-								n828 = 1;
+								n826 = 1;
+								n827 = 0;
+								n828 = 0;
 								n829 = 0;
-								n830 = 0;
-								n831 = 0;
 							} else {
 								rattle_dealloc(p457);
-								n828 = 1;
+								n826 = 1;
+								n827 = 0;
+								n828 = 0;
 								n829 = 0;
-								n830 = 0;
-								n831 = 0;
 							}
 						}
 					}
@@ -70007,61 +70006,61 @@ L26:
 			}
 			case 0:
 			case 1: {
-				bool b833;
-				uint64_t n835;
-				uint64_t n832 = 0;
+				bool b831;
+				uint64_t n833;
+				uint64_t n830 = 0;
 				for (;;) {
-					b833 = n832 != n809;
-					if (!b833) {
-						n835 = 0;
+					b831 = n830 != n807;
+					if (!b831) {
+						n833 = 0;
 						break;
 					}
-					byte *p834 = at(p808, n832 * 112);
-					if ((load8(p834 + 96) & 1) != 0) {
-						n835 = n832;
+					byte *p832 = at(p806, n830 * 112);
+					if ((load8(p832 + 96) & 1) != 0) {
+						n833 = n830;
 						break;
 					}
-					if (load8(p834) != 1) {
-						n835 = n832;
+					if (load8(p832) != 1) {
+						n833 = n830;
 						break;
 					}
-					n832 = n832 + 1;
+					n830 = n830 + 1;
 				}
 				storeptru(p10, p6);
 				memset(p10 + 8, 0, 16);
-				uint64_t n836 = 0;
-				uint64_t n837 = 0;
+				uint64_t n834 = 0;
+				uint64_t n835 = 0;
 				for (;;) {
-					uint64_t n845;
-					if (n837 == n809)
+					uint64_t n843;
+					if (n835 == n807)
 						goto L27;
-					byte *p838 = at(p808, n837 * 112);
-					uint8_t n839 = tp_threads_text_push_count(p10, (byte *)tp_static_287, 7, n837);
+					byte *p836 = at(p806, n835 * 112);
+					uint8_t n837 = tp_threads_text_push_count(p10, (byte *)tp_static_287, 7, n835);
+					if ((n837 & 1) != 0)
+						break;
+					uint8_t n838 = tp_threads_text_push_count(p10, (byte *)tp_static_288, 6, load64(p836 + 72));
+					if ((n838 & 1) != 0)
+						break;
+					uint8_t n839 = tp_threads_text_push_count(p10, (byte *)tp_static_289, 9, load64(p836 + 80));
 					if ((n839 & 1) != 0)
 						break;
-					uint8_t n840 = tp_threads_text_push_count(p10, (byte *)tp_static_288, 6, load64(p838 + 72));
+					uint8_t n840 = tp_threads_text_push_count(p10, (byte *)tp_static_290, 9, load64(p836 + 88));
 					if ((n840 & 1) != 0)
 						break;
-					uint8_t n841 = tp_threads_text_push_count(p10, (byte *)tp_static_289, 9, load64(p838 + 80));
-					if ((n841 & 1) != 0)
-						break;
-					uint8_t n842 = tp_threads_text_push_count(p10, (byte *)tp_static_290, 9, load64(p838 + 88));
-					if ((n842 & 1) != 0)
-						break;
-					uint64_t n843 = load64(p10 + 8);
-					if (load64(p10 + 16) == n843) {
-						bool b844 = tp_vec_Vec_grow_amortized(p10, 1);
-						if (!b844)
+					uint64_t n841 = load64(p10 + 8);
+					if (load64(p10 + 16) == n841) {
+						bool b842 = tp_vec_Vec_grow_amortized(p10, 1);
+						if (!b842)
 							break;
-						n845 = load64(p10 + 8);
+						n843 = load64(p10 + 8);
 					} else {
-						n845 = n843;
+						n843 = n841;
 					}
-					store8(inside(loadptr(p10), n845), 10);
-					uint64_t n846 = n845 + 1;
-					store64(p10 + 8, n846);
-					n836 = n846;
-					n837 = n837 + 1;
+					store8(inside(loadptr(p10), n843), 10);
+					uint64_t n844 = n843 + 1;
+					store64(p10 + 8, n844);
+					n834 = n844;
+					n835 = n835 + 1;
 				}
 				if (load64u(p10 + 16) == 0)
 					goto L28;
@@ -70069,96 +70068,96 @@ L26:
 				goto L28;
 L27:
 				{
-					uint64_t n849, n850, n853;
-					uint64_t n847 = load64(p10 + 16);
-					if ((n847 - n836) < 4) {
-						bool b848 = tp_vec_Vec_grow_amortized(p10, 4);
-						if (!b848) {
+					uint64_t n847, n848, n851;
+					uint64_t n845 = load64(p10 + 16);
+					if ((n845 - n834) < 4) {
+						bool b846 = tp_vec_Vec_grow_amortized(p10, 4);
+						if (!b846) {
 							if (load64u(p10 + 16) == 0)
 								goto L28;
 							rattle_dealloc(loadptru(p10));
 							goto L28;
 						}
-						n849 = load64(p10 + 16);
-						n850 = load64(p10 + 8);
+						n847 = load64(p10 + 16);
+						n848 = load64(p10 + 8);
 					} else {
-						n849 = n847;
-						n850 = n836;
+						n847 = n845;
+						n848 = n834;
 					}
-					byte *p851 = loadptr(p10);
-					byte *p852 = at(p851, n850);
-					if (((uint64_t)(uintptr_t)p852 - (uint64_t)(uintptr_t)(byte *)tp_static_286) >= 4) {
-						store32u(p852, 174354021);
+					byte *p849 = loadptr(p10);
+					byte *p850 = at(p849, n848);
+					if (((uint64_t)(uintptr_t)p850 - (uint64_t)(uintptr_t)(byte *)tp_static_286) >= 4) {
+						store32u(p850, 174354021);
 						goto L29;
 					}
-					n853 = 0;
-					while (n853 != 4) {
-						store8(inside(p852, n853), load8(inside((byte *)tp_static_286, n853)));
-						n853 = n853 + 1;
+					n851 = 0;
+					while (n851 != 4) {
+						store8(inside(p850, n851), load8(inside((byte *)tp_static_286, n851)));
+						n851 = n851 + 1;
 					}
 L29:
 					{
-						byte *p857, *p858;
-						uint64_t n854 = n850 + 4;
-						uint64_t n855 = (uint64_t)(uintptr_t)p851;
+						byte *p855, *p856;
+						uint64_t n852 = n848 + 4;
+						uint64_t n853 = (uint64_t)(uintptr_t)p849;
 						memset(p7, 0, 16);
 						memset(p8, 0, 40);
 						memset(p9, 0, 40);
-						bool b856 = n809 == 0;
-						if (!b856) {
-							uint64_t n868;
-							if (n809 <= UINT64_C(576460752303423487)) {
-								of_i64_i64 s859 = rattle_alloc(n809 << 4, 8);
-								if ((s859.f0 & 1) != 0) {
-									byte *p860 = (byte *)(uintptr_t)s859.f1;
-									if (n809 <= UINT64_C(192153584101141162)) {
-										of_i64_i64 s861 = rattle_alloc(n809 * 48, 8);
-										if ((s861.f0 & 1) != 0) {
-											p857 = p860;
-											p858 = (byte *)(uintptr_t)s861.f1;
+						bool b854 = n807 == 0;
+						if (!b854) {
+							uint64_t n866;
+							if (n807 <= UINT64_C(576460752303423487)) {
+								of_i64_i64 s857 = rattle_alloc(n807 << 4, 8);
+								if ((s857.f0 & 1) != 0) {
+									byte *p858 = (byte *)(uintptr_t)s857.f1;
+									if (n807 <= UINT64_C(192153584101141162)) {
+										of_i64_i64 s859 = rattle_alloc(n807 * 48, 8);
+										if ((s859.f0 & 1) != 0) {
+											p855 = p858;
+											p856 = (byte *)(uintptr_t)s859.f1;
 											goto L30;
 										}
 									}
-									rattle_dealloc(p860);
-									uint64_t n862 = 0;
-									while (n862 != n809) {
-										byte *p863 = inside(p808, n862 * 112);
-										byte *p864 = loadptru(p863 + 24);
-										byte *p865 = loadptru(p863 + 32);
-										uint64_t n866 = load64u(p863 + 40);
+									rattle_dealloc(p858);
+									uint64_t n860 = 0;
+									while (n860 != n807) {
+										byte *p861 = inside(p806, n860 * 112);
+										byte *p862 = loadptru(p861 + 24);
+										byte *p863 = loadptru(p861 + 32);
+										uint64_t n864 = load64u(p861 + 40);
 										BARRIER();
-										uint64_t n867 = atomic_exchange64(p864 + 256, 1, ORDER_SEQ_CST);
+										uint64_t n865 = atomic_exchange64(p862 + 256, 1, ORDER_SEQ_CST);
 										BARRIER();
-										if (n867 != 0)
-											tp_release_drop_slow(p864, p865, n866);
-										n862 = n862 + 1;
+										if (n865 != 0)
+											tp_release_drop_slow(p862, p863, n864);
+										n860 = n860 + 1;
 									}
-									if (n810 == 0)
+									if (n808 == 0)
 										goto L31;
-									rattle_dealloc(p808);
+									rattle_dealloc(p806);
 									goto L31;
 								}
 							}
-							n868 = 0;
-							while (n868 != n809) {
-								byte *p869 = inside(p808, n868 * 112);
-								byte *p870 = loadptru(p869 + 24);
-								byte *p871 = loadptru(p869 + 32);
-								uint64_t n872 = load64u(p869 + 40);
+							n866 = 0;
+							while (n866 != n807) {
+								byte *p867 = inside(p806, n866 * 112);
+								byte *p868 = loadptru(p867 + 24);
+								byte *p869 = loadptru(p867 + 32);
+								uint64_t n870 = load64u(p867 + 40);
 								BARRIER();
-								uint64_t n873 = atomic_exchange64(p870 + 256, 1, ORDER_SEQ_CST);
+								uint64_t n871 = atomic_exchange64(p868 + 256, 1, ORDER_SEQ_CST);
 								BARRIER();
-								if (n873 != 0)
-									tp_release_drop_slow(p870, p871, n872);
-								n868 = n868 + 1;
+								if (n871 != 0)
+									tp_release_drop_slow(p868, p869, n870);
+								n866 = n866 + 1;
 							}
-							if (n810 != 0)
-								rattle_dealloc(p808);
+							if (n808 != 0)
+								rattle_dealloc(p806);
 L31:
 							{
-								uint64_t n874;
-								if (n849 != 0)
-									rattle_dealloc(p851);
+								uint64_t n872;
+								if (n847 != 0)
+									rattle_dealloc(p849);
 								if (n444 != 0)
 									rattle_dealloc(p443);
 								if (n446 != 0)
@@ -70169,129 +70168,129 @@ L31:
 									rattle_dealloc(p449);
 								if (n452 == 0)
 									goto L32;
-								n874 = 0;
-								while (n874 != n452) {
-									byte *p875 = inside(p451, n874 * 88);
-									byte *p876 = loadptru(p875);
-									byte *p877 = loadptru(p875 + 8);
-									uint64_t n878 = load64u(p875 + 16);
-									byte *p879 = loadptru(p875 + 40);
-									byte *p880 = loadptru(p875 + 48);
-									uint64_t n881 = load64u(p875 + 56);
+								n872 = 0;
+								while (n872 != n452) {
+									byte *p873 = inside(p451, n872 * 88);
+									byte *p874 = loadptru(p873);
+									byte *p875 = loadptru(p873 + 8);
+									uint64_t n876 = load64u(p873 + 16);
+									byte *p877 = loadptru(p873 + 40);
+									byte *p878 = loadptru(p873 + 48);
+									uint64_t n879 = load64u(p873 + 56);
 									BARRIER();
-									uint64_t n882 = atomic_exchange64(p876 + 256, 1, ORDER_SEQ_CST);
+									uint64_t n880 = atomic_exchange64(p874 + 256, 1, ORDER_SEQ_CST);
 									BARRIER();
-									if (n882 != 0)
-										tp_release_drop_slow(p876, p877, n878);
+									if (n880 != 0)
+										tp_release_drop_slow(p874, p875, n876);
 									BARRIER();
-									uint64_t n883 = atomic_exchange64(p879 + 256, 1, ORDER_SEQ_CST);
+									uint64_t n881 = atomic_exchange64(p877 + 256, 1, ORDER_SEQ_CST);
 									BARRIER();
-									if (n883 != 0)
-										tp_release_drop_slow(p879, p880, n881);
-									n874 = n874 + 1;
+									if (n881 != 0)
+										tp_release_drop_slow(p877, p878, n879);
+									n872 = n872 + 1;
 								}
 L32:
 								{
-									uint64_t n884;
+									uint64_t n882;
 									if (n453 != 0)
 										rattle_dealloc(p451);
 									if (n455 == 0)
 										goto L33;
-									n884 = 0;
-									while (n884 != n455) {
-										rattle_dealloc(loadptru(inside(p454, n884 * 88)));
-										n884 = n884 + 1;
+									n882 = 0;
+									while (n882 != n455) {
+										rattle_dealloc(loadptru(inside(p454, n882 * 88)));
+										n882 = n882 + 1;
 									}
 L33:
 									{
 										if (n456 != 0)
 											rattle_dealloc(p454);
 										if (n458 == 0) {
-											n828 = 1;
+											n826 = 1;
+											n827 = 0;
+											n828 = 0;
 											n829 = 0;
-											n830 = 0;
-											n831 = 0;
 											goto L34;
 										}
 										rattle_dealloc(p457);
-										n828 = 1;
+										n826 = 1;
+										n827 = 0;
+										n828 = 0;
 										n829 = 0;
-										n830 = 0;
-										n831 = 0;
 										goto L34;
 									}
 								}
 							}
 						}
-						p857 = p6;
-						p858 = p6;
+						p855 = p6;
+						p856 = p6;
 L30:
 						{
-							uint64_t n887, n888, n894, n899, n900, n917;
-							byte *p892, *p893;
-							uint8_t n918;
-							uint64_t n885 = 0;
-							uint64_t n886 = n809;
+							uint64_t n885, n886, n892, n897, n898, n915;
+							byte *p890, *p891;
+							uint8_t n916;
+							uint64_t n883 = 0;
+							uint64_t n884 = n807;
 							for (;;) {
-								if (n886 == 0)
+								if (n884 == 0)
 									goto L35;
-								n887 = n885 + 1;
-								n888 = n886 - 1;
-								byte *p889 = inside(p808, n885 * 112);
-								byte *p890 = loadptru(p889 + 8);
-								byte *p891 = loadptru(p889 + 16);
-								p892 = loadptru(p889 + 24);
-								p893 = loadptru(p889 + 32);
-								n894 = load64u(p889 + 40);
-								uint64_t n895 = load64u(p889 + 64);
-								uint8_t n896 = load8(p889);
-								memcpy(p7, p889 + 48, 16);
-								if (n896 != 1)
+								n885 = n883 + 1;
+								n886 = n884 - 1;
+								byte *p887 = inside(p806, n883 * 112);
+								byte *p888 = loadptru(p887 + 8);
+								byte *p889 = loadptru(p887 + 16);
+								p890 = loadptru(p887 + 24);
+								p891 = loadptru(p887 + 32);
+								n892 = load64u(p887 + 40);
+								uint64_t n893 = load64u(p887 + 64);
+								uint8_t n894 = load8(p887);
+								memcpy(p7, p887 + 48, 16);
+								if (n894 != 1)
 									break;
-								byte *p897 = inside(p857, n885 << 4);
-								storeptru(p897, p890);
-								storeptru(p897 + 8, p891);
-								byte *p898 = inside(p858, n885 * 48);
-								storeptru(p898, p892);
-								storeptru(p898 + 8, p893);
-								store64u(p898 + 16, n894);
-								memcpy(p898 + 24, p7, 16);
-								store64u(p898 + 40, n895);
-								n885 = n887;
-								n886 = n888;
+								byte *p895 = inside(p855, n883 << 4);
+								storeptru(p895, p888);
+								storeptru(p895 + 8, p889);
+								byte *p896 = inside(p856, n883 * 48);
+								storeptru(p896, p890);
+								storeptru(p896 + 8, p891);
+								store64u(p896 + 16, n892);
+								memcpy(p896 + 24, p7, 16);
+								store64u(p896 + 40, n893);
+								n883 = n885;
+								n884 = n886;
 							}
 							BARRIER();
-							n899 = atomic_exchange64(p892 + 256, 1, ORDER_SEQ_CST);
+							n897 = atomic_exchange64(p890 + 256, 1, ORDER_SEQ_CST);
 							BARRIER();
-							if (n899 != 0)
-								tp_release_drop_slow(p892, p893, n894);
-							storeptru(p8, p808);
-							store64u(p8 + 8, n888);
-							store64u(p8 + 16, n810);
-							store64u(p8 + 24, n887);
+							if (n897 != 0)
+								tp_release_drop_slow(p890, p891, n892);
+							storeptru(p8, p806);
+							store64u(p8 + 8, n886);
+							store64u(p8 + 16, n808);
+							store64u(p8 + 24, n885);
 							store64u(p8 + 32, 0);
 							tp_VecDeque_drop(p8);
-							if (n885 == 0)
+							if (n883 == 0)
 								goto L36;
-							n900 = 0;
-							while (n900 != n885) {
-								byte *p901 = inside(p858, n900 * 48);
-								byte *p902 = loadptru(p901);
-								byte *p903 = loadptru(p901 + 8);
-								uint64_t n904 = load64u(p901 + 16);
+							n898 = 0;
+							while (n898 != n883) {
+								byte *p899 = inside(p856, n898 * 48);
+								byte *p900 = loadptru(p899);
+								byte *p901 = loadptru(p899 + 8);
+								uint64_t n902 = load64u(p899 + 16);
 								BARRIER();
-								uint64_t n905 = atomic_exchange64(p902 + 256, 1, ORDER_SEQ_CST);
+								uint64_t n903 = atomic_exchange64(p900 + 256, 1, ORDER_SEQ_CST);
 								BARRIER();
-								if (n905 != 0)
-									tp_release_drop_slow(p902, p903, n904);
-								n900 = n900 + 1;
+								if (n903 != 0)
+									tp_release_drop_slow(p900, p901, n902);
+								n898 = n898 + 1;
 							}
 L36:
 							{
-								uint64_t n906;
-								if (!b856) {
-									rattle_dealloc(p858);
-									rattle_dealloc(p857);
+								uint64_t n904;
+								if (!b854) {
+									rattle_dealloc(p856);
+									rattle_dealloc(p855);
 								}
 								if (n444 != 0)
 									rattle_dealloc(p443);
@@ -70303,163 +70302,163 @@ L36:
 									rattle_dealloc(p449);
 								if (n452 == 0)
 									goto L37;
-								n906 = 0;
-								while (n906 != n452) {
-									byte *p907 = inside(p451, n906 * 88);
-									byte *p908 = loadptru(p907);
-									byte *p909 = loadptru(p907 + 8);
-									uint64_t n910 = load64u(p907 + 16);
-									byte *p911 = loadptru(p907 + 40);
-									byte *p912 = loadptru(p907 + 48);
-									uint64_t n913 = load64u(p907 + 56);
+								n904 = 0;
+								while (n904 != n452) {
+									byte *p905 = inside(p451, n904 * 88);
+									byte *p906 = loadptru(p905);
+									byte *p907 = loadptru(p905 + 8);
+									uint64_t n908 = load64u(p905 + 16);
+									byte *p909 = loadptru(p905 + 40);
+									byte *p910 = loadptru(p905 + 48);
+									uint64_t n911 = load64u(p905 + 56);
 									BARRIER();
-									uint64_t n914 = atomic_exchange64(p908 + 256, 1, ORDER_SEQ_CST);
+									uint64_t n912 = atomic_exchange64(p906 + 256, 1, ORDER_SEQ_CST);
 									BARRIER();
-									if (n914 != 0)
-										tp_release_drop_slow(p908, p909, n910);
+									if (n912 != 0)
+										tp_release_drop_slow(p906, p907, n908);
 									BARRIER();
-									uint64_t n915 = atomic_exchange64(p911 + 256, 1, ORDER_SEQ_CST);
+									uint64_t n913 = atomic_exchange64(p909 + 256, 1, ORDER_SEQ_CST);
 									BARRIER();
-									if (n915 != 0)
-										tp_release_drop_slow(p911, p912, n913);
-									n906 = n906 + 1;
+									if (n913 != 0)
+										tp_release_drop_slow(p909, p910, n911);
+									n904 = n904 + 1;
 								}
 L37:
 								{
-									uint64_t n916;
+									uint64_t n914;
 									if (n453 != 0)
 										rattle_dealloc(p451);
 									if (n455 == 0)
 										goto L38;
-									n916 = 0;
-									while (n916 != n455) {
-										rattle_dealloc(loadptru(inside(p454, n916 * 88)));
-										n916 = n916 + 1;
+									n914 = 0;
+									while (n914 != n455) {
+										rattle_dealloc(loadptru(inside(p454, n914 * 88)));
+										n914 = n914 + 1;
 									}
 L38:
 									{
 										if (n456 != 0)
 											rattle_dealloc(p454);
 										if (n458 == 0) {
-											n917 = 0;
-											n918 = 0;
+											n915 = 0;
+											n916 = 0;
 											goto L39;
 										}
 										rattle_dealloc(p457);
-										n917 = 0;
-										n918 = 0;
+										n915 = 0;
+										n916 = 0;
 										goto L39;
 									}
 								}
 							}
 L35:
 							{
-								bool b920, b944, b946, b948, b950, b953;
-								uint64_t n927, n931, n942, n952;
-								byte *p943, *p945, *p947, *p949, *p951;
-								storeptru(p9, p808);
+								bool b918, b942, b944, b946, b948, b951;
+								uint64_t n925, n929, n940, n950;
+								byte *p941, *p943, *p945, *p947, *p949;
+								storeptru(p9, p806);
 								store64u(p9 + 8, 0);
-								store64u(p9 + 16, n810);
-								store64u(p9 + 24, n809);
+								store64u(p9 + 16, n808);
+								store64u(p9 + 24, n807);
 								store64u(p9 + 32, 0);
 								tp_VecDeque_drop(p9);
-								uint64_t n919 = 0;
+								uint64_t n917 = 0;
 								for (;;) {
-									b920 = n919 != n809;
-									if (!b920)
+									b918 = n917 != n807;
+									if (!b918)
 										break;
-									uint64_t n921 = n919 * 88;
-									byte *p922 = at(p454, n921);
-									if (load8(p922 + 32) == 1)
+									uint64_t n919 = n917 * 88;
+									byte *p920 = at(p454, n919);
+									if (load8(p920 + 32) == 1)
 										goto L40;
-									if (load64(p922 + 16) != 0)
+									if (load64(p920 + 16) != 0)
 										goto L40;
-									byte *p923 = at(p451, n921);
-									store8(p923 + 80, 1);
-									byte *p924 = loadptr(p923) + 128;
+									byte *p921 = at(p451, n919);
+									store8(p921 + 80, 1);
+									byte *p922 = loadptr(p921) + 128;
 									BARRIER();
-									uint64_t n925 = atomic_load64(p924, ORDER_SEQ_CST);
+									uint64_t n923 = atomic_load64(p922, ORDER_SEQ_CST);
 									BARRIER();
-									store64(p923 + 32, n925);
-									uint64_t n926 = load64(p923 + 24);
-									if (n925 != (n926 - ((n926 > n925) ? (load64(p923 + 16) << 1) : 0)))
+									store64(p921 + 32, n923);
+									uint64_t n924 = load64(p921 + 24);
+									if (n923 != (n924 - ((n924 > n923) ? (load64(p921 + 16) << 1) : 0)))
 										goto L40;
-									n919 = n919 + 1;
+									n917 = n917 + 1;
 								}
-								n927 = 0;
-								while (n927 != n809) {
-									byte *p928 = at(p858, n927 * 48);
-									store8(p928 + 40, 1);
-									byte *p929 = loadptr(p928) + 128;
+								n925 = 0;
+								while (n925 != n807) {
+									byte *p926 = at(p856, n925 * 48);
+									store8(p926 + 40, 1);
+									byte *p927 = loadptr(p926) + 128;
 									BARRIER();
-									uint64_t n930 = atomic_load64(p929, ORDER_SEQ_CST);
+									uint64_t n928 = atomic_load64(p927, ORDER_SEQ_CST);
 									BARRIER();
-									store64(p928 + 32, n930);
-									n927 = n927 + 1;
+									store64(p926 + 32, n928);
+									n925 = n925 + 1;
 								}
 								if (n455 == 0)
 									goto L41;
-								n931 = 0;
-								while (n931 != n455) {
-									rattle_dealloc(loadptru(inside(p454, n931 * 88)));
-									n931 = n931 + 1;
+								n929 = 0;
+								while (n929 != n455) {
+									rattle_dealloc(loadptru(inside(p454, n929 * 88)));
+									n929 = n929 + 1;
 								}
 L41:
 								{
-									uint64_t n932;
+									uint64_t n930;
 									if (n456 != 0)
 										rattle_dealloc(p454);
 									if (n458 != 0)
 										rattle_dealloc(p457);
 									if (n452 == 0)
 										goto L42;
-									n932 = 0;
-									while (n932 != n452) {
-										byte *p933 = inside(p451, n932 * 88);
-										byte *p934 = loadptru(p933);
-										byte *p935 = loadptru(p933 + 8);
-										uint64_t n936 = load64u(p933 + 16);
-										byte *p937 = loadptru(p933 + 40);
-										byte *p938 = loadptru(p933 + 48);
-										uint64_t n939 = load64u(p933 + 56);
+									n930 = 0;
+									while (n930 != n452) {
+										byte *p931 = inside(p451, n930 * 88);
+										byte *p932 = loadptru(p931);
+										byte *p933 = loadptru(p931 + 8);
+										uint64_t n934 = load64u(p931 + 16);
+										byte *p935 = loadptru(p931 + 40);
+										byte *p936 = loadptru(p931 + 48);
+										uint64_t n937 = load64u(p931 + 56);
 										BARRIER();
-										uint64_t n940 = atomic_exchange64(p934 + 256, 1, ORDER_SEQ_CST);
+										uint64_t n938 = atomic_exchange64(p932 + 256, 1, ORDER_SEQ_CST);
 										BARRIER();
-										if (n940 != 0)
-											tp_release_drop_slow(p934, p935, n936);
+										if (n938 != 0)
+											tp_release_drop_slow(p932, p933, n934);
 										BARRIER();
-										uint64_t n941 = atomic_exchange64(p937 + 256, 1, ORDER_SEQ_CST);
+										uint64_t n939 = atomic_exchange64(p935 + 256, 1, ORDER_SEQ_CST);
 										BARRIER();
-										if (n941 != 0)
-											tp_release_drop_slow(p937, p938, n939);
-										n932 = n932 + 1;
+										if (n939 != 0)
+											tp_release_drop_slow(p935, p936, n937);
+										n930 = n930 + 1;
 									}
 L42:
 									{
 										if (n453 != 0)
 											rattle_dealloc(p451);
-										if (!b856)
-											rattle_dealloc(p857);
-										n942 = n442;
-										p943 = p443;
-										b944 = n444 == 0;
-										p945 = p445;
-										b946 = n446 == 0;
-										p947 = p447;
-										b948 = n448 == 0;
-										p949 = p449;
-										b950 = n450 == 0;
-										p951 = p858;
-										n952 = n809;
-										b953 = b856;
+										if (!b854)
+											rattle_dealloc(p855);
+										n940 = n442;
+										p941 = p443;
+										b942 = n444 == 0;
+										p943 = p445;
+										b944 = n446 == 0;
+										p945 = p447;
+										b946 = n448 == 0;
+										p947 = p449;
+										b948 = n450 == 0;
+										p949 = p856;
+										n950 = n807;
+										b951 = b854;
 										goto L43;
 									}
 								}
 L40:
 								{
-									uint64_t n954;
-									if (!b856)
-										rattle_dealloc(p857);
+									uint64_t n952;
+									if (!b854)
+										rattle_dealloc(p855);
 									if (n444 != 0)
 										rattle_dealloc(p443);
 									if (n446 != 0)
@@ -70470,38 +70469,38 @@ L40:
 										rattle_dealloc(p449);
 									if (n452 == 0)
 										goto L44;
-									n954 = 0;
-									while (n954 != n452) {
-										byte *p955 = inside(p451, n954 * 88);
-										byte *p956 = loadptru(p955);
-										byte *p957 = loadptru(p955 + 8);
-										uint64_t n958 = load64u(p955 + 16);
-										byte *p959 = loadptru(p955 + 40);
-										byte *p960 = loadptru(p955 + 48);
-										uint64_t n961 = load64u(p955 + 56);
+									n952 = 0;
+									while (n952 != n452) {
+										byte *p953 = inside(p451, n952 * 88);
+										byte *p954 = loadptru(p953);
+										byte *p955 = loadptru(p953 + 8);
+										uint64_t n956 = load64u(p953 + 16);
+										byte *p957 = loadptru(p953 + 40);
+										byte *p958 = loadptru(p953 + 48);
+										uint64_t n959 = load64u(p953 + 56);
 										BARRIER();
-										uint64_t n962 = atomic_exchange64(p956 + 256, 1, ORDER_SEQ_CST);
+										uint64_t n960 = atomic_exchange64(p954 + 256, 1, ORDER_SEQ_CST);
 										BARRIER();
-										if (n962 != 0)
-											tp_release_drop_slow(p956, p957, n958);
+										if (n960 != 0)
+											tp_release_drop_slow(p954, p955, n956);
 										BARRIER();
-										uint64_t n963 = atomic_exchange64(p959 + 256, 1, ORDER_SEQ_CST);
+										uint64_t n961 = atomic_exchange64(p957 + 256, 1, ORDER_SEQ_CST);
 										BARRIER();
-										if (n963 != 0)
-											tp_release_drop_slow(p959, p960, n961);
-										n954 = n954 + 1;
+										if (n961 != 0)
+											tp_release_drop_slow(p957, p958, n959);
+										n952 = n952 + 1;
 									}
 L44:
 									{
-										uint64_t n964;
+										uint64_t n962;
 										if (n453 != 0)
 											rattle_dealloc(p451);
 										if (n455 == 0)
 											goto L45;
-										n964 = 0;
-										while (n964 != n455) {
-											rattle_dealloc(loadptru(inside(p454, n964 * 88)));
-											n964 = n964 + 1;
+										n962 = 0;
+										while (n962 != n455) {
+											rattle_dealloc(loadptru(inside(p454, n962 * 88)));
+											n962 = n962 + 1;
 										}
 L45:
 										{
@@ -70509,8 +70508,10 @@ L45:
 												rattle_dealloc(p454);
 											if (n458 != 0)
 												rattle_dealloc(p457);
-											if (b856) {
-												n942 = n919;
+											if (b854) {
+												n940 = n917;
+												p941 = NULL;
+												b942 = true;
 												p943 = NULL;
 												b944 = true;
 												p945 = NULL;
@@ -70518,27 +70519,27 @@ L45:
 												p947 = NULL;
 												b948 = true;
 												p949 = NULL;
-												b950 = true;
-												p951 = NULL;
-												n952 = 0;
-												b953 = true;
+												n950 = 0;
+												b951 = true;
 												goto L43;
 											}
-											uint64_t n965 = 0;
-											while (n965 != n809) {
-												byte *p966 = inside(p858, n965 * 48);
-												byte *p967 = loadptru(p966);
-												byte *p968 = loadptru(p966 + 8);
-												uint64_t n969 = load64u(p966 + 16);
+											uint64_t n963 = 0;
+											while (n963 != n807) {
+												byte *p964 = inside(p856, n963 * 48);
+												byte *p965 = loadptru(p964);
+												byte *p966 = loadptru(p964 + 8);
+												uint64_t n967 = load64u(p964 + 16);
 												BARRIER();
-												uint64_t n970 = atomic_exchange64(p967 + 256, 1, ORDER_SEQ_CST);
+												uint64_t n968 = atomic_exchange64(p965 + 256, 1, ORDER_SEQ_CST);
 												BARRIER();
-												if (n970 != 0)
-													tp_release_drop_slow(p967, p968, n969);
-												n965 = n965 + 1;
+												if (n968 != 0)
+													tp_release_drop_slow(p965, p966, n967);
+												n963 = n963 + 1;
 											}
-											rattle_dealloc(p858);
-											n942 = n919;
+											rattle_dealloc(p856);
+											n940 = n917;
+											p941 = NULL;
+											b942 = true;
 											p943 = NULL;
 											b944 = true;
 											p945 = NULL;
@@ -70546,128 +70547,126 @@ L45:
 											p947 = NULL;
 											b948 = true;
 											p949 = NULL;
-											b950 = true;
-											p951 = NULL;
-											n952 = 0;
-											b953 = true;
+											n950 = 0;
+											b951 = true;
 										}
 									}
 								}
 L43:
 								{
-									uint64_t n972, n977;
-									uint8_t n973;
-									if (b920) {
-										n917 = n942;
-										n918 = 1;
+									uint64_t n970, n975;
+									uint8_t n971;
+									if (b918) {
+										n915 = n940;
+										n916 = 1;
 										goto L39;
 									}
-									uint64_t n971 = 0;
+									uint64_t n969 = 0;
 									for (;;) {
-										if (n971 == n952) {
-											n972 = 0;
-											n973 = 0;
+										if (n969 == n950) {
+											n970 = 0;
+											n971 = 0;
 											break;
 										}
-										byte *p974 = at(p951, n971 * 48);
-										if ((load8(p974 + 40) & 1) == 0) {
-											n972 = n971;
-											n973 = 1;
+										byte *p972 = at(p949, n969 * 48);
+										if ((load8(p972 + 40) & 1) == 0) {
+											n970 = n969;
+											n971 = 1;
 											break;
 										}
-										uint64_t n975 = load64(p974 + 24);
-										uint64_t n976 = load64(p974 + 32);
-										if (n976 != (n975 - ((n975 > n976) ? (load64(p974 + 16) << 1) : 0))) {
-											n972 = n971;
-											n973 = 1;
+										uint64_t n973 = load64(p972 + 24);
+										uint64_t n974 = load64(p972 + 32);
+										if (n974 != (n973 - ((n973 > n974) ? (load64(p972 + 16) << 1) : 0))) {
+											n970 = n969;
+											n971 = 1;
 											break;
 										}
-										n971 = n971 + 1;
+										n969 = n969 + 1;
 									}
-									if (n952 == 0)
+									if (n950 == 0)
 										goto L46;
-									n977 = 0;
-									while (n977 != n952) {
-										byte *p978 = inside(p951, n977 * 48);
-										byte *p979 = loadptru(p978);
-										byte *p980 = loadptru(p978 + 8);
-										uint64_t n981 = load64u(p978 + 16);
+									n975 = 0;
+									while (n975 != n950) {
+										byte *p976 = inside(p949, n975 * 48);
+										byte *p977 = loadptru(p976);
+										byte *p978 = loadptru(p976 + 8);
+										uint64_t n979 = load64u(p976 + 16);
 										BARRIER();
-										uint64_t n982 = atomic_exchange64(p979 + 256, 1, ORDER_SEQ_CST);
+										uint64_t n980 = atomic_exchange64(p977 + 256, 1, ORDER_SEQ_CST);
 										BARRIER();
-										if (n982 != 0)
-											tp_release_drop_slow(p979, p980, n981);
-										n977 = n977 + 1;
+										if (n980 != 0)
+											tp_release_drop_slow(p977, p978, n979);
+										n975 = n975 + 1;
 									}
 L46:
 									{
-										if (!b953)
-											rattle_dealloc(p951);
+										if (!b951)
+											rattle_dealloc(p949);
+										if (!b942)
+											rattle_dealloc(p941);
 										if (!b944)
 											rattle_dealloc(p943);
 										if (!b946)
 											rattle_dealloc(p945);
-										if (!b948)
-											rattle_dealloc(p947);
-										if (b950) {
-											n917 = n972;
-											n918 = n973;
+										if (b948) {
+											n915 = n970;
+											n916 = n971;
 										} else {
-											rattle_dealloc(p949);
-											n917 = n972;
-											n918 = n973;
+											rattle_dealloc(p947);
+											n915 = n970;
+											n916 = n971;
 										}
 									}
 								}
 							}
 L39:
 							{
-								uint64_t n983;
-								if (b833) {
-									if (n918 == 1) {
-										n983 = umin64(n917, n835);
+								uint64_t n981;
+								if (b831) {
+									if (n916 == 1) {
+										n981 = umin64(n915, n833);
 									} else {
-										n983 = n835;
+										n981 = n833;
 									}
-								} else if (n918 == 1) {
-									n983 = n917;
+								} else if (n916 == 1) {
+									n981 = n915;
 								} else {
 									switch (n459) {
 									case 0: {
-										n828 = 0;
-										n829 = n855;
-										n830 = n854;
-										n831 = n849;
+										n826 = 0;
+										n827 = n853;
+										n828 = n852;
+										n829 = n847;
 										goto L34;
 									}
 									case 1: {
-										if (n849 == 0) {
-											n828 = 1;
-											n829 = 2;
-											n830 = 0;
-											n831 = 0;
+										if (n847 == 0) {
+											n826 = 1;
+											n827 = 2;
+											n828 = 0;
+											n829 = 0;
 											goto L34;
 										}
-										rattle_dealloc(p851);
-										n828 = 1;
-										n829 = 2;
-										n830 = 0;
-										n831 = 0;
+										rattle_dealloc(p849);
+										n826 = 1;
+										n827 = 2;
+										n828 = 0;
+										n829 = 0;
 										goto L34;
 									}
 									case 2: {
-										if (n849 == 0) {
-											n828 = 1;
+										if (n847 == 0) {
+											n826 = 1;
+											n827 = 0;
+											n828 = 0;
 											n829 = 0;
-											n830 = 0;
-											n831 = 0;
 											goto L34;
 										}
-										rattle_dealloc(p851);
-										n828 = 1;
+										rattle_dealloc(p849);
+										n826 = 1;
+										n827 = 0;
+										n828 = 0;
 										n829 = 0;
-										n830 = 0;
-										n831 = 0;
 										goto L34;
 									}
 									default: {
@@ -70675,18 +70674,18 @@ L39:
 									}
 									}
 								}
-								if (n849 == 0) {
-									n828 = 1;
-									n829 = 1;
-									n830 = n983;
-									n831 = 0;
+								if (n847 == 0) {
+									n826 = 1;
+									n827 = 1;
+									n828 = n981;
+									n829 = 0;
 									goto L34;
 								}
-								rattle_dealloc(p851);
-								n828 = 1;
-								n829 = 1;
-								n830 = n983;
-								n831 = 0;
+								rattle_dealloc(p849);
+								n826 = 1;
+								n827 = 1;
+								n828 = n981;
+								n829 = 0;
 								goto L34;
 							}
 						}
@@ -70694,27 +70693,27 @@ L39:
 				}
 L28:
 				{
-					uint64_t n984;
-					if (n809 == 0)
+					uint64_t n982;
+					if (n807 == 0)
 						goto L47;
-					n984 = 0;
-					while (n984 != n809) {
-						byte *p985 = inside(p808, n984 * 112);
-						byte *p986 = loadptru(p985 + 24);
-						byte *p987 = loadptru(p985 + 32);
-						uint64_t n988 = load64u(p985 + 40);
+					n982 = 0;
+					while (n982 != n807) {
+						byte *p983 = inside(p806, n982 * 112);
+						byte *p984 = loadptru(p983 + 24);
+						byte *p985 = loadptru(p983 + 32);
+						uint64_t n986 = load64u(p983 + 40);
 						BARRIER();
-						uint64_t n989 = atomic_exchange64(p986 + 256, 1, ORDER_SEQ_CST);
+						uint64_t n987 = atomic_exchange64(p984 + 256, 1, ORDER_SEQ_CST);
 						BARRIER();
-						if (n989 != 0)
-							tp_release_drop_slow(p986, p987, n988);
-						n984 = n984 + 1;
+						if (n987 != 0)
+							tp_release_drop_slow(p984, p985, n986);
+						n982 = n982 + 1;
 					}
 L47:
 					{
-						uint64_t n990;
-						if (n810 != 0)
-							rattle_dealloc(p808);
+						uint64_t n988;
+						if (n808 != 0)
+							rattle_dealloc(p806);
 						if (n444 != 0)
 							rattle_dealloc(p443);
 						if (n446 != 0)
@@ -70725,54 +70724,54 @@ L47:
 							rattle_dealloc(p449);
 						if (n452 == 0)
 							goto L48;
-						n990 = 0;
-						while (n990 != n452) {
-							byte *p991 = inside(p451, n990 * 88);
-							byte *p992 = loadptru(p991);
-							byte *p993 = loadptru(p991 + 8);
-							uint64_t n994 = load64u(p991 + 16);
-							byte *p995 = loadptru(p991 + 40);
-							byte *p996 = loadptru(p991 + 48);
-							uint64_t n997 = load64u(p991 + 56);
+						n988 = 0;
+						while (n988 != n452) {
+							byte *p989 = inside(p451, n988 * 88);
+							byte *p990 = loadptru(p989);
+							byte *p991 = loadptru(p989 + 8);
+							uint64_t n992 = load64u(p989 + 16);
+							byte *p993 = loadptru(p989 + 40);
+							byte *p994 = loadptru(p989 + 48);
+							uint64_t n995 = load64u(p989 + 56);
 							BARRIER();
-							uint64_t n998 = atomic_exchange64(p992 + 256, 1, ORDER_SEQ_CST);
+							uint64_t n996 = atomic_exchange64(p990 + 256, 1, ORDER_SEQ_CST);
 							BARRIER();
-							if (n998 != 0)
-								tp_release_drop_slow(p992, p993, n994);
+							if (n996 != 0)
+								tp_release_drop_slow(p990, p991, n992);
 							BARRIER();
-							uint64_t n999 = atomic_exchange64(p995 + 256, 1, ORDER_SEQ_CST);
+							uint64_t n997 = atomic_exchange64(p993 + 256, 1, ORDER_SEQ_CST);
 							BARRIER();
-							if (n999 != 0)
-								tp_release_drop_slow(p995, p996, n997);
-							n990 = n990 + 1;
+							if (n997 != 0)
+								tp_release_drop_slow(p993, p994, n995);
+							n988 = n988 + 1;
 						}
 L48:
 						{
-							uint64_t n1000;
+							uint64_t n998;
 							if (n453 != 0)
 								rattle_dealloc(p451);
 							if (n455 == 0)
 								goto L49;
-							n1000 = 0;
-							while (n1000 != n455) {
-								rattle_dealloc(loadptru(inside(p454, n1000 * 88)));
-								n1000 = n1000 + 1;
+							n998 = 0;
+							while (n998 != n455) {
+								rattle_dealloc(loadptru(inside(p454, n998 * 88)));
+								n998 = n998 + 1;
 							}
 L49:
 							{
 								if (n456 != 0)
 									rattle_dealloc(p454);
 								if (n458 == 0) {
-									n828 = 1;
+									n826 = 1;
+									n827 = 0;
+									n828 = 0;
 									n829 = 0;
-									n830 = 0;
-									n831 = 0;
 								} else {
 									rattle_dealloc(p457);
-									n828 = 1;
+									n826 = 1;
+									n827 = 0;
+									n828 = 0;
 									n829 = 0;
-									n830 = 0;
-									n831 = 0;
 								}
 							}
 						}
@@ -70786,10 +70785,10 @@ L49:
 			}
 L34:
 			{
-				store64u(p1, n828);
-				store64u(p1 + 8, n829);
-				store64u(p1 + 16, n830);
-				store64u(p1 + 24, n831);
+				store64u(p1, n826);
+				store64u(p1 + 8, n827);
+				store64u(p1 + 16, n828);
+				store64u(p1 + 24, n829);
 				return;
 			}
 		}

@@ -212,6 +212,8 @@ def links(reader):
     reader.expect("the same by its link", reader.current()["buckets"], before["buckets"])
     reader.open(link="#lesson=shown_clock&step=3", keep=True)
     reader.expect("a lesson's step", reader.tab.value("document.querySelector('#at').textContent"), "3 of 4")
+    reader.open(link="#scheme=clock&first=8640000&script=tick+1", keep=True)
+    reader.expect("what is refused", reader.find("#trouble").text, "The program refuses this: first tick above 8639999")
     reader.open(link="#scheme=7&script=nonsense&step=1", keep=True)
     reader.expect("a bad script is said to be", "bad" in reader.find("#news").text, True)
     reader.tab.run("$('edit').open = true")

@@ -63,8 +63,8 @@ const ENGINE = (() => {
         put(got, sum);
         return 0;
       },
-      proc_exit: (with_status) => {
-        status = with_status;
+      proc_exit: (code) => {
+        status = code;
         throw new Ended();
       },
     };

@@ -57,7 +57,6 @@ function add(texts) {
   pause();
   remember();
   const before = soFar();
-  const count = play.timers.size;
   const from = shown.step;
   const lesson = {title: "Your script", options: play.options, script: scriptOf([...before, ...texts])};
   const {followed} = shown;
@@ -65,7 +64,6 @@ function add(texts) {
   const latest = [...play.timers.keys()].pop();
   const isStart = /^(re)?start /.test(texts[0]);
   if (isStart && play.timers.get(latest)?.from === play.last) shown.followed = latest;
-  if (count !== play.timers.size) fillGuide();
   goThrough(from + 1);
 }
 

@@ -270,13 +270,15 @@ class Play {
     const at = this.steps[step - 1]?.isBad ? step - 1 : step;
     if (!at) return {buckets: new Map(), where: new Map()};
     if (this.isShort) return Play.whole(this.read(this.rows[at - 1]));
-    if (this.kept.has(at - 1)) return this.after(this.kept.get(at - 1), at);
-    // Steps back are then steps on from here.
-    if (this.kept.has(at + 1) && at > BACK) {
-      for (let before = at - BACK; before < at; before += 1) this.state(before);
-      return this.after(this.state(at - 1), at);
-    }
-    return Play.whole(this.placed(this.pending(at), at, new Map()).buckets);
+    if (!this.kept.has(at - 1)) this.begin(this.kept.has(at + 1) ? Math.max(at - BACK, 0) : at - 1, at);
+    return this.after(this.state(at - 1), at);
+  }
+
+  // The states from a step on, and before another: the program is asked of all timers at the first. A reader who goes back
+  // goes on from there when he does so again.
+  begin(from, to) {
+    this.kept.set(from, from ? Play.whole(this.placed(this.pending(from), from, new Map()).buckets) : this.stateOf(0));
+    for (let step = from + 1; step < to; step += 1) this.state(step);
   }
 
   // A state that needs no other.

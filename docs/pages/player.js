@@ -434,7 +434,10 @@ function loadLink() {
   const {lesson, isCompared, ...more} = readLink(location.hash);
   $("deadline").value = "";
   setCompared(isCompared);
-  if (!load(lesson, {...more, isLesson: LESSONS.includes(lesson)})) load(LESSONS[0], {isLesson: true});
+  if (load(lesson, {...more, isLesson: LESSONS.includes(lesson)})) return;
+  const said = $("trouble").textContent;
+  load(LESSONS[0], {isLesson: true});
+  trouble(said);
 }
 
 function listen() {

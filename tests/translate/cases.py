@@ -574,6 +574,8 @@ EXPECTED = [(f'define i64 @f(ptr %a) {{\n  %r = load atomic i64, ptr %a {order},
     ('define i8 @f(ptr %a) {\n  %r = load volatile i8, ptr %a, align 1\n  ret i8 %r\n}\n', 'load8_volatile(p1)'),
     ('define internal void @f() #0 {\n  ret void\n}\ndefine void @g() {\n  call void @f()\n  ret void\n}\n'
      'attributes #0 = { cold noinline }\n', 'static COLD void c_f(void)', 'c_f();'),
+    ('define i32 @f(i64 %a) {\n  %c = icmp eq i64 %a, 3\n  br i1 %c, label %x, label %y\nx:\n  ret i32 6\ny:\n'
+     '  tail call void @f()\n  ret i32 0\n}\n', '\tif (RARE(n1 == 3))\n\t\treturn 6;'),
 ]
 
 # Text, and the line that has to be named.

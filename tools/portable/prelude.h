@@ -25,6 +25,7 @@ typedef unsigned char byte;
 #define NOINLINE __attribute__((noinline))
 #define COLD __attribute__((noinline, cold))
 #define ALIGN(n) __attribute__((aligned(n)))
+#define RARE(condition) __builtin_expect(condition, 0)
 #define TRAP() __builtin_trap()
 #define UNREACHABLE() __builtin_unreachable()
 #elif defined(_MSC_VER)
@@ -33,6 +34,7 @@ typedef unsigned char byte;
 #define NOINLINE __declspec(noinline)
 #define COLD __declspec(noinline)
 #define ALIGN(n) __declspec(align(n))
+#define RARE(condition) (condition)
 #define TRAP() __fastfail(7)
 #define UNREACHABLE() __assume(0)
 #else
@@ -41,6 +43,7 @@ typedef unsigned char byte;
 #define NOINLINE
 #define COLD
 #define ALIGN(n)
+#define RARE(condition) (condition)
 #define TRAP() abort()
 #define UNREACHABLE() abort()
 #endif

@@ -1,6 +1,8 @@
 """The text of a function. Each variable is declared where it is set first, or else at the beginning of the innermost braces
 that hold all its uses. No goto jumps over a declaration that sets something, so that it is C++, too."""
 # SPDX-License-Identifier: MIT OR Apache-2.0
+import re
+
 from translator.expressions import declared, opposite
 from translator.statements import ends, labels_wanted, splice
 
@@ -8,6 +10,7 @@ from translator.statements import ends, labels_wanted, splice
 class Layout:
     def __init__(self, writer, body):
         self.types, self.lines = writer.types, []
+        self.of = writer.function.type
         self.labels = {label: None for label in labels_wanted(body)}
         splice(body, self.labels)
         self.scopes = {}                                # of each variable: the bodies that hold all of it, outermost first
@@ -103,7 +106,7 @@ class Layout:
     def branch(self, s, indent, word='if'):
         then, other = s.bodies
         if word == 'if' and not other and len(then) == 1 and not then[0].bodies and id(then) not in self.here:
-            self.lines.append(f'{indent}if ({s.e.text})')
+            self.lines.append(f'{indent}if (RARE({s.e.text}))' if self.is_refusal(then[0]) else f'{indent}if ({s.e.text})')
             self.statement(then[0], indent + '\t')
             return
         self.lines.append(f'{indent}{word} ({s.e.text}) {{')
@@ -114,6 +117,10 @@ class Layout:
             self.branch(other[0], indent, '} else if')
         else:
             self.braces('} else {', other, indent)
+
+    def is_refusal(self, s):
+        """Whether it returns a status other than 0: a call is seldom refused. It only tells a compiler which way is the short one."""
+        return self.of == 32 and s.kind == 'return' and re.fullmatch(r'[1-9]\d*', s.e.text)
 
     def switch(self, s, indent):
         self.lines.append(f'{indent}switch ({s.e.text}) {{')

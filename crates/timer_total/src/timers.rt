@@ -1,5 +1,5 @@
 //! A wheel whose calls, once it is made, have no preconditions.
-ghost use Rattle.std.specs.Prelude.{◌≡◌, ◌+◌, ◌<◌, ◌≤◌, ◌↔◌, ◌⊎◌, ℕ, [], length, IsTrue, IfOk, IfErr, OnOk, OnErr, None, Some, true, false};
+ghost use Rattle.std.specs.Prelude.{◌≡◌, ◌+◌, ◌<◌, ◌≤◌, ◌↔◌, ◌⊎◌, ℕ, ◌-◌, [], length, min, IsTrue, IfOk, IfErr, OnOk, OnErr, None, Some, true, false};
 ghost use Rattle.timer_base.specs.declared.limits.TheConstants.{LAST};
 ghost use Rattle.timer_base.specs.WakeUps.{IsQuietUntil, next_deadline};
 ghost use Rattle.timer_base.specs.WheelState.{held_at, first_due, after_start, after_held_start, after_removal, after_reserve, after_tick, after_expiry};
@@ -133,26 +133,30 @@ impl<W: Wheel + Drop> Timers<W> {
             ⊎ ((fault ≡ StartFault.OutOfMemory) × IsStartable interval self.old × IsRoomUsed self.old)) }
         ensures err { OnErr result (self.new ≡ self.old) }
     {
-        self.admit(interval)?;
-        let deadline = self.wheel.now() + interval;
+        let deadline = self.admit(interval)?;
         self.launch(deadline, action)
     }
 
-    /// Whether a start with this interval is accepted if memory is available.
-    fn admit(&self, interval: u64) -> Result<(), StartFault>
+    /// The deadline of a timer with this interval, if its start is accepted once memory is available.
+    // An interval of 0 is told by its deadline: so the wheel need not ask again whether that is later than now.
+    #[inline(always)]
+    fn admit(&self, interval: u64) -> Result<u64, StartFault>
+        ensures deadline { IfOk result (λ deadline. deadline ≡ self.now.wheel.now + interval) }
         ensures in_order { IfOk result (λ _. IsStartable interval self.now) }
         ensures fault { IfErr result (WhyNotStarted interval self.now) }
     {
-        if interval == 0 {
-            return Err(StartFault::ZeroInterval);
-        }
-        if interval > self.wheel.last_tick() - self.wheel.now() {
+        let now = self.wheel.now();
+        if interval > self.wheel.last_tick() - now {
             return Err(StartFault::TooLate);
+        }
+        let deadline = now + interval;
+        if deadline <= now {
+            return Err(StartFault::ZeroInterval);
         }
         if self.last_serial >= LAST {
             return Err(StartFault::SerialsSpent);
         }
-        Ok(())
+        Ok(deadline)
     }
 
     /// Starts a timer for this tick, which is now or later, under the next serial.
@@ -236,13 +240,6 @@ impl<W: Wheel + Drop> Timers<W> {
         Ok(())
     }
 
-    /// How many ticks are left until this one, or 0 if it is not after the present one.
-    pub fn until(&self, deadline: u64) -> u64
-        ensures { result ≡ left_until deadline self.now }
-    {
-        deadline.saturating_sub(self.wheel.now())
-    }
-
     /// The timer with exactly this handle, pending or expired and not yet taken, or None if there is none.
     /// Does not allocate.
     pub fn look(&self, handle: Handle) -> Option<Timer>
@@ -277,8 +274,7 @@ impl<W: Wheel + Drop> Timers<W> {
         ensures fault { IfErr result (WhyNotRestarted handle interval self.old) }
         ensures err { OnErr result (self.new ≡ self.old) }
     {
-        self.check_restart(handle, interval)?;
-        let deadline = self.wheel.now() + interval;
+        let deadline = self.check_restart(handle, interval)?;
         self.replace(handle, deadline, action)
     }
 
@@ -387,24 +383,28 @@ impl<W: Wheel + Drop> Timers<W> {
         }
     }
 
-    /// Whether a restart of the timer with this handle is accepted.
-    fn check_restart(&self, handle: Handle, interval: u64) -> Result<(), RestartFault>
+    /// The deadline of a timer with this interval, if a restart of the one with this handle is accepted.
+    #[inline(always)]
+    fn check_restart(&self, handle: Handle, interval: u64) -> Result<u64, RestartFault>
+        ensures deadline { IfOk result (λ deadline. deadline ≡ self.now.wheel.now + interval) }
         ensures in_order { IfOk result (λ _. IsAt handle self.now × IsStartable interval self.now) }
         ensures fault { IfErr result (WhyNotRestarted handle interval self.now) }
     {
         if self.look(handle).is_none() {
             return Err(RestartFault::NotPending);
         }
-        if interval == 0 {
-            return Err(RestartFault::ZeroInterval);
-        }
-        if interval > self.wheel.last_tick() - self.wheel.now() {
+        let now = self.wheel.now();
+        if interval > self.wheel.last_tick() - now {
             return Err(RestartFault::TooLate);
+        }
+        let deadline = now + interval;
+        if deadline <= now {
+            return Err(RestartFault::ZeroInterval);
         }
         if self.last_serial >= LAST {
             return Err(RestartFault::SerialsSpent);
         }
-        Ok(())
+        Ok(deadline)
     }
 
     /// Advances the clock by one tick: the pending timers with that deadline expire, and wait to be taken.
@@ -447,7 +447,19 @@ impl<W: Wheel + Drop> Timers<W> {
         if left == 0 {
             return Err(AdvanceFault::ClockEnd);
         }
-        Ok(self.wheel.advance(most.min(left)))
+        Ok(self.pass(most.min(left)))
+    }
+
+    /// Passes at most so many ticks, some and no more than are left of the clock, while nothing is due.
+    #[inline(always)]
+    fn pass(&mut self, ticks: u64) -> u64
+        requires nothing_due { self.old.wheel.due ≡ [] }
+        requires some { 0 < ticks }
+        requires left { ticks ≤ self.old.wheel.last_tick - self.old.wheel.now }
+        ensures { (most : ℕ) → ticks ≡ min most (self.old.wheel.last_tick - self.old.wheel.now)
+            → IsAdvanced W.count_advance most result self.old self.new }
+    {
+        self.wheel.advance(ticks)
     }
 
     /// Passes ticks up to this one, as `advance`, and stops at the first at which a timer expires. A tick that
@@ -458,7 +470,19 @@ impl<W: Wheel + Drop> Timers<W> {
         ensures fault { IfErr result (WhyNotAdvanced (left_until tick self.old) self.old) }
         ensures err { OnErr result (self.new ≡ self.old) }
     {
-        self.advance(self.until(tick))
+        // In ticks and not in how many are left of them: it is the end that a wheel asks for.
+        let now = self.wheel.now();
+        if tick <= now {
+            return Ok(0);
+        }
+        if self.wheel.has_due() {
+            return Err(AdvanceFault::Due);
+        }
+        let last = self.wheel.last_tick();
+        if now == last {
+            return Err(AdvanceFault::ClockEnd);
+        }
+        Ok(self.pass(tick.min(last) - now))
     }
 
     /// Removes the first of the expired timers, in order of starting, and returns it.

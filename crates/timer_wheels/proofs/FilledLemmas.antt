@@ -1,11 +1,13 @@
 -- Lemmas about the bits of the lists of a smooth wheel: as those of `Occupied`, for more words.
-use Rattle.std.proofs.Common.{◌≡◌, ◌≢◌, ◌<◌, ◌-◌, ◌*◌, ◌/◌, ◌%◌, ◌^◌, ℕ, List, length, ◌∙◌, ap, inl, inr, arith, get_or-set_same, get_or-set_other, slice_index_or, slice_set, bit_and, bit_or}
+use Rattle.std.proofs.Common.{◌≡◌, ◌≢◌, ◌<◌, ◌≤◌, ◌+◌, ◌-◌, ◌*◌, ◌/◌, ◌%◌, ◌^◌, ℕ, zero, suc, List, length, sym, ◌∙◌, ap, inl, inr, arith, get_or-set_same, get_or-set_other, slice_index_or, slice_set, bit_and, bit_or}
 use Rattle.std.specs.Int.{bit_at, w64}
-use Rattle.std.proofs.lemmas.Bool.{cases_eq}
-use Rattle.std.proofs.lemmas.Nat.Bits.{bit_at_set_same, bit_at_set_other, bit_at_clear_same, bit_at_clear_other}
+use Rattle.std.proofs.lemmas.Bool.{cases_eq, cases_lt}
+use Rattle.std.proofs.Math.Nat.{div-div-eq-div-mul}
+use Rattle.std.proofs.lemmas.Nat.{pow-add}
+use Rattle.std.proofs.lemmas.Nat.Bits.{bit_at_set_same, bit_at_set_other, bit_at_clear_same, bit_at_clear_other, bit_at-zero, bit_at-suc, bit_at_above}
 use Rattle.timer_wheels.specs.declared.smooth.turns.TheConstants.{MOST_LISTS}
 use Rattle.timer_wheels.specs.declared.smooth.filled.TheConstants.{WORDS}
-use Rattle.timer_wheels.specs.Occupied.{bit_of}
+use Rattle.timer_wheels.specs.Occupied.{bit_of, IsLowestSet}
 
 -- One word is written.
 
@@ -48,3 +50,46 @@ module _ (words : List ℕ) (l : ℕ) (len : length words ≡ WORDS) (h : l < MO
 
   pub clear_others : (s : ℕ) → s ≢ l → bit_of (slice_set words (l / 64) without_bit) s ≡ bit_of words s
   clear_others s n = written_others words l without_bit len h s n (λ i b m. bit_at_clear_other w64 word (l % 64) (omega arith) i b m)
+
+-- The bits of a word from one of them on.
+
+shifted : (n b i : ℕ) → bit_at (n / 2 ^ b) i ≡ bit_at n (b + i)
+shifted n zero i =
+    let e : n / 2 ^ 0 ≡ n = omega arith in
+    let z : 0 + i ≡ i = omega arith in
+    ap (λ (x : ℕ). bit_at x i) e ∙ ap (bit_at n) (sym z)
+shifted n (suc b) i =
+    let p : 2 ^ suc b ≡ 2 * 2 ^ b = (let q : suc b ≡ 1 + b = omega arith in ap (λ (k : ℕ). 2 ^ k) q ∙ pow-add 2 1 b) in
+    let e : n / 2 ^ suc b ≡ n / 2 / 2 ^ b = ap (λ (x : ℕ). n / x) p ∙ sym (div-div-eq-div-mul n 2 (2 ^ b)) in
+    let next : suc b + i ≡ suc (b + i) = omega arith in
+    ap (λ (x : ℕ). bit_at x i) e ∙ (shifted (n / 2) b i ∙ (sym (bit_at-suc n (b + i)) ∙ ap (bit_at n) (sym next)))
+
+module _ (n b : ℕ) where
+  at_rest : (i : ℕ) → b ≤ i → bit_at n i ≡ bit_at (n / 2 ^ b) (i - b)
+  at_rest i h = (let e : i ≡ b + (i - b) = omega arith in ap (bit_at n) e) ∙ sym (shifted n b (i - b))
+
+  pub clear_rest : n / 2 ^ b ≡ 0 → (i : ℕ) → b ≤ i → bit_at n i ≡ 0
+  clear_rest z i h = at_rest i h ∙ (ap (λ (x : ℕ). bit_at x (i - b)) z ∙ bit_at-zero (i - b))
+
+  pub clear_below : (low : ℕ) → IsLowestSet (n / 2 ^ b) low → (i : ℕ) → b ≤ i → i < b + low → bit_at n i ≡ 0
+  clear_below low f i h l = at_rest i h ∙ f.below (i - b) (omega arith)
+
+  pub set_below : (low : ℕ) → IsLowestSet (n / 2 ^ b) low → n < 2 ^ 64 → b + low ≤ 64
+  set_below low f r = elim (cases_lt (b + low) 64) [
+    | inl c ↦ omega arith
+    | inr c ↦
+        let above : bit_at n (b + low) ≡ 0 = bit_at_above n 64 (b + low) r c in
+        let set = f.is_set in
+        absurd (omega (arith, shifted n b low))
+  ]
+
+  pub set_first : IsLowestSet (n / 2 ^ b) 0 → bit_at n b ≡ 1
+  set_first f = at_rest b (omega arith) ∙ (let z : b - b ≡ 0 = omega arith in ap (bit_at (n / 2 ^ b)) z ∙ f.is_set)
+
+-- the same of the bits of lists
+pub clear_lists : (words : List ℕ) (list clear : ℕ) → list % 64 + clear ≤ 64
+    → ((i : ℕ) → list % 64 ≤ i → i < list % 64 + clear → bit_at (slice_index_or words (list / 64) 0) i ≡ 0)
+    → (s : ℕ) → list ≤ s → s < list + clear → bit_of words s ≡ 0
+clear_lists words list clear few f s a b =
+    let w : s / 64 ≡ list / 64 = omega arith in
+    ap (λ (x : ℕ). bit_at (slice_index_or words x 0) (s % 64)) w ∙ f (s % 64) (omega arith) (omega arith)

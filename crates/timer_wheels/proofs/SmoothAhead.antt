@@ -1,5 +1,5 @@
 -- Lemmas for `ahead`: first slots with timers, and that nothing happens before the next event.
-use Rattle.std.proofs.Common.{◌≡◌, ◌<◌, ◌≤◌, ◌+◌, ◌-◌, ◌*◌, ◌%◌, ℕ, zero, suc, List, [], ◌∷◌, length, refl, sym, ◌∙◌, ap, inl, inr, subst, arith}
+use Rattle.std.proofs.Common.{◌≡◌, ◌<◌, ◌≤◌, ◌+◌, ◌-◌, ◌*◌, ◌%◌, ℕ, zero, suc, List, [], ◌∷◌, length, refl, sym, ◌∙◌, ap, inl, inr, subst, arith, ◌/◌}
 use Rattle.std.specs.List.{AllByRecursion}
 use Rattle.std.proofs.Math.Nat.{div-mul-le_self, mul-le-mul_right}
 use Rattle.std.proofs.lemmas.Bool.{cases_eq, cases_lt}
@@ -17,6 +17,7 @@ use Rattle.timer_wheels.specs.declared.buckets.Buckets.{Buckets}
 use Rattle.timer_wheels.specs.declared.table.Table.{Table}
 use Rattle.timer_wheels.proofs.BankLemmas.{to_relation, lists_in_range, turns_of_table}
 use Rattle.timer_wheels.proofs.BankNext.{some_rows}
+use Rattle.timer_wheels.proofs.DigitLaws.{rest_is}
 use Rattle.timer_wheels.proofs.OccupiedLemmas.{no_rows_there}
 use Rattle.timer_wheels.proofs.RowLemmas.{all-list_at}
 use Rattle.timer_wheels.proofs.SmoothLists.{one_wheel, same_rest_of, radix_above, ahead_within}
@@ -108,6 +109,20 @@ module _ (t : Table) (b : Buckets) (words : List ℕ) (h : IsBank t b words) whe
       → 0 < length (list_at (smooth_list (radices t) k i) b.links.lists)
   some_by_bit k i l e = some_rows (list_at (smooth_list (radices t) k i) b.links.lists)
       (sym (h.marked.0 (smooth_list (radices t) k i) (ranges k i l)) ∙ e)
+
+  -- slots whose lists follow one another, and whose bits are clear, have no timers
+  pub run_empty : (k slot step clear : ℕ) → k < length (radices t)
+      → ((s : ℕ) → smooth_list (radices t) k slot ≤ s → s < smooth_list (radices t) k slot + clear → bit_of words s ≡ 0)
+      → step ≤ clear → step ≤ 2 * radix k (radices t) - slot % (2 * radix k (radices t)) → (i : ℕ) → slot ≤ i → i < slot + step
+      → list_at (smooth_list (radices t) k i) b.links.lists ≡ []
+  run_empty k slot step clear l f a c i g e =
+      let n : ℕ = 2 * radix k (radices t) in
+      let r : 0 < radix k (radices t) = radix_above (radices t) k table in
+      let m : slot % (2 * radix k (radices t)) < 2 * radix k (radices t) = omega arith in
+      let parts : slot ≡ (2 * radix k (radices t)) * (slot / (2 * radix k (radices t))) + slot % (2 * radix k (radices t)) = omega arith in
+      let rest : i % (2 * radix k (radices t)) ≡ slot % (2 * radix k (radices t)) + (i - slot) =
+      rest_is (2 * radix k (radices t)) (slot / (2 * radix k (radices t))) (slot % (2 * radix k (radices t)) + (i - slot)) i (omega arith) (omega arith) in
+      empty_by_bit k i l (f (smooth_list (radices t) k i) (omega arith) (omega arith))
 
   -- a slot with timers begins within the clock
   record Known (s : ℕ) (row : Row) : Type 0 where

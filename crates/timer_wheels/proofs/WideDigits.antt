@@ -1,6 +1,6 @@
 -- The digits, levels and visits of `Table::Wide`, by shifts and bit positions.
-use Rattle.std.proofs.Common.{◌≡◌, ◌≢◌, ◌<◌, ◌≤◌, ◌+◌, ◌-◌, ◌*◌, ◌/◌, ◌%◌, ◌^◌, ℕ, zero, suc, List, [], ◌∷◌, length, refl, sym, ◌∙◌, ap, inl, inr, arith, le_refl, ◌↔◌}
-use Rattle.std.proofs.lemmas.Bool.{cases_eq, cases_lt}
+use Rattle.std.proofs.Common.{◌≡◌, ◌≢◌, ◌<◌, ◌≤◌, ◌+◌, ◌-◌, ◌*◌, ◌/◌, ◌%◌, ◌^◌, ℕ, zero, suc, Bool, true, ◌==◌, ◌&&◌, List, [], ◌∷◌, length, refl, sym, ◌∙◌, ap, inl, inr, arith, le_refl, ◌↔◌}
+use Rattle.std.proofs.lemmas.Bool.{cases_eq, cases_lt, and_parts, eqb-true}
 use Rattle.std.proofs.lemmas.Nat.{xor_shr, xor_lt, pow-add, and_mask, leading_top, mod-pow-add, pow_pos, shr-shr, shr_le}
 use Rattle.std.proofs.lemmas.Nat.Bits.{bit_at-trailing_zeros}
 use Rattle.std.specs.Int.Bits.{bit_xor, bit_and, xor_self, xor_assoc, xor_zero_l, xor_zero_r}
@@ -116,18 +116,42 @@ has_top a b h r =
     let nz : bit_xor a b ≢ 0 = λ (e : bit_xor a b ≡ 0). let q : a ≡ b = equal_when a b e in omega arith in
     leading_top 64 (bit_xor a b) (omega arith) (omega arith)
 
+-- a bit of a number of 64 bits, divided by 6
+sixth : (j : ℕ) → j ≤ 63 → j / 6 ≡ j * 43 / 256
+sixth j h = omega arith
+
+-- whether that bit is told by the zeros above it, for each number of these below n
+abbrev are_turned : ℕ → Bool
+are_turned zero = true
+are_turned (suc n) = (bit_xor 63 n == 63 - n) && are_turned n
+
+turned_below : (n z : ℕ) → are_turned n ≡ true → z < n → bit_xor 63 z ≡ 63 - z
+turned_below zero z h b = absurd (omega arith)
+turned_below (suc n) z h b = elim (cases_eq z n) [
+  | inl e ↦ rw e (eqb-true (bit_xor 63 n) (63 - n) (and_parts (bit_xor 63 n == 63 - n) (are_turned n) h).0)
+  | inr k ↦ turned_below n z (and_parts (bit_xor 63 n == 63 - n) (are_turned n) h).1 (omega arith)
+]
+
+turned : (z : ℕ) → z < 64 → bit_xor 63 z ≡ 63 - z
+turned z b = turned_below 64 z refl b
+
 -- the result of `leading_zeros`
-pub level_by_top : (a b : ℕ) → a < b → b ≤ 1152921504606846975 → level wide a b ≡ (63 - count_leading_zeros 64 (bit_xor a b)) / 6
+pub level_by_top : (a b : ℕ) → a < b → b ≤ 1152921504606846975
+    → level wide a b ≡ bit_xor 63 (count_leading_zeros 64 (bit_xor a b)) * 43 / 256
 level_by_top a b h r =
     let t = has_top a b h r in
     let z : count_leading_zeros 64 (bit_xor a b) + suc t.0 ≡ 64 = t.1 in
     let e : level (wides 10) a b ≡ t.0 / 6 = top_level 10 a b t.0 (has_digits 10 a (omega arith)) (has_digits 10 b (omega arith)) t.2 t.3 in
-    rw wide_is (e ∙ ap (λ (y : ℕ). y / 6) (omega arith))
+    let top : t.0 ≡ bit_xor 63 (count_leading_zeros 64 (bit_xor a b)) =
+    omega (arith, turned (count_leading_zeros 64 (bit_xor a b)) (omega arith)) in
+    rw wide_is (e ∙ (sixth t.0 (omega arith) ∙ ap (λ (y : ℕ). y * 43 / 256) top))
 
-pub zeros_bound : (a b : ℕ) → a < b → b ≤ 1152921504606846975 → count_leading_zeros 64 (bit_xor a b) ≤ 63
-zeros_bound a b h r = omega (arith, (has_top a b h r).1)
+pub top_bound : (a b : ℕ) → a < b → b ≤ 1152921504606846975 → bit_xor 63 (count_leading_zeros 64 (bit_xor a b)) ≤ 63
+top_bound a b h r =
+    let z : count_leading_zeros 64 (bit_xor a b) < 64 = omega (arith, (has_top a b h r).1) in
+    omega (arith, turned (count_leading_zeros 64 (bit_xor a b)) z)
 
-pub level_below_ten : (a b : ℕ) → a < b → b ≤ 1152921504606846975 → (63 - count_leading_zeros 64 (bit_xor a b)) / 6 < 10
+pub level_below_ten : (a b : ℕ) → a < b → b ≤ 1152921504606846975 → bit_xor 63 (count_leading_zeros 64 (bit_xor a b)) * 43 / 256 < 10
 level_below_ten a b h r = omega (arith, level_in_table wide a b wide_is_table (in_wide b r) h, level_by_top a b h r, length-wide)
 
 -- Digits and slots.
@@ -270,7 +294,7 @@ visit_by_shift l a h r =
     ∙ rw wide_is (sym (visit_step 10 (l / 64) (l % 64) a (omega arith) (omega arith)) ∙ ap (λ (x : ℕ). list_visit (wides 10) x a) e)
 
 -- what the functions of the table return
-pub ruleset wide_levels = (level_by_top, zeros_bound, level_below_ten)
+pub ruleset wide_levels = (level_by_top, top_bound, level_below_ten)
 
 pub ruleset wide_lowest = (lowest_by_zeros, lowest_below_ten)
 

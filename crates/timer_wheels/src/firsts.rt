@@ -85,35 +85,35 @@ impl Firsts {
 
     /// A timer with this deadline comes to the back of a bucket.
     #[inline]
-    pub fn enter(&mut self, table: Table, list: usize, deadline: u64)
+    pub fn enter(&mut self, table: &Table, list: usize, deadline: u64)
         requires list { list < length self.old }
         requires positive { 0 < deadline }
-        requires few { lowest_radix (radices table) ≤ list
+        requires few { lowest_radix (radices table.now) ≤ list
             → (first_at list self.old).count < 18446744073709551615 }
-        ensures { Enters (lowest_radix (radices table)) list deadline self.old self.new }
+        ensures { Enters (lowest_radix (radices table.now)) list deadline self.old self.new }
     {
         if !self.is_kept {
             return;
         }
-        if list >= lowest_slots(table) {
+        if list >= lowest_slots(*table) {
             self.firsts[list].enter(deadline);
         }
     }
 
     /// A timer with this deadline leaves its list, wherever it stands there. What is due is in no bucket.
     #[inline(always)]
-    pub fn leave(&mut self, table: Table, tick: u64, deadline: u64)
-        requires deadline { deadline ≤ last_of (radices table) }
-        requires size { length self.old ≡ slots (radices table) }
-        requires counted { tick < deadline → lowest_radix (radices table) ≤ bucket (radices table) tick deadline
-            → (first_at (bucket (radices table) tick deadline) self.old).bound ≡ deadline
-            → 0 < (first_at (bucket (radices table) tick deadline) self.old).count }
-        ensures pending { tick < deadline → Leaves (lowest_radix (radices table)) (bucket (radices table) tick deadline)
+    pub fn leave(&mut self, table: &Table, tick: &u64, deadline: u64)
+        requires deadline { deadline ≤ last_of (radices table.now) }
+        requires size { length self.old ≡ slots (radices table.now) }
+        requires counted { tick.now < deadline → lowest_radix (radices table.now) ≤ bucket (radices table.now) tick.now deadline
+            → (first_at (bucket (radices table.now) tick.now deadline) self.old).bound ≡ deadline
+            → 0 < (first_at (bucket (radices table.now) tick.now deadline) self.old).count }
+        ensures pending { tick.now < deadline → Leaves (lowest_radix (radices table.now)) (bucket (radices table.now) tick.now deadline)
             deadline self.old self.new }
-        ensures due { deadline ≤ tick → self.new ≡ self.old }
+        ensures due { deadline ≤ tick.now → self.new ≡ self.old }
     {
         if self.is_kept {
-            leave_bucket(self.firsts.as_mut_slice(), table, tick, deadline);
+            leave_bucket(self.firsts.as_mut_slice(), *table, *tick, deadline);
         }
     }
 
@@ -157,8 +157,8 @@ fn begin(firsts: &mut [First], occupied: &Occupied)
 }
 
 /// A timer with this deadline leaves its list, and is no longer counted if that is a bucket.
-// Kept out of line, so that a stop is short as long as first deadlines are not kept.
-#[inline(never)]
+// Inlined: for a call a compiler saves registers at the start of each stop, also as long as first deadlines are not kept.
+#[inline(always)]
 fn leave_bucket(firsts: &mut [First], table: Table, tick: u64, deadline: u64)
     requires deadline { deadline ≤ last_of (radices table) }
     requires size { length firsts.old ≡ slots (radices table) }

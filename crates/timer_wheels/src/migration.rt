@@ -124,7 +124,7 @@ fn migrate_one_by_one(
             links.move_front(list, to);
             links.lemma_countable();
             occupied.insert(to);
-            firsts.enter(table, to, deadline);
+            firsts.enter(&table, to, deadline);
             moves += 1;
         }
     }

@@ -111,7 +111,7 @@ impl Occupied {
 /// The place of the lowest bit that is set.
 #[inline]
 #[tactic(auto, using(crate::proofs::OccupiedLemmas::lowest_set))]
-fn lowest_bit(word: u64) -> usize
+pub fn lowest_bit(word: u64) -> usize
     requires { word ≢ 0 }
     ensures { IsLowestSet word result }
 {

@@ -23,8 +23,9 @@
 //! no tick moves a whole bucket, and in `Table::Wide` none moves more than 2n/63 + 18 timers, n the most that were held.
 //! `advance` leaps to the next tick that needs a look while nothing is to be moved (`ahead`).
 //!
-//! It meets the whole of `Wheel`, and no scheme uses it yet. Open: a scheme, a table for C, and speed: `first_slot` in
-//! `ahead` goes bit by bit, and the calls take the table as a value and not as a constant.
+//! It meets the whole of `Wheel`, and no scheme uses it yet. Open: a scheme of the program, a table for C, calls that do
+//! moves ahead in idle time, and speed: the calls take the table as a value and not as a constant, and find the first slots
+//! anew each time.
 ghost use Rattle.std.specs.Prelude.{◌≡◌, ◌+◌, ◌-◌, ◌*◌, ◌<◌, ◌≤◌, ◌↔◌, ℕ, [], length, IsTrue, IfOk, IfErr, IfSome, IfNone, OnOk, OnErr, MatchOption, MatchResult};
 ghost use Rattle.timer_base.specs.declared.limits.TheConstants.{LAST};
 ghost use Rattle.timer_base.specs.WakeUps.{IsQuietUntil, next_deadline};

@@ -105,7 +105,7 @@ impl Wheels {
         let handle = self.buckets.start(list, timer, 0)?;
         self.buckets.lemma_countable();
         enter_list(
-            self.table,
+            &self.table,
             &mut self.occupied,
             &mut self.firsts,
             tick,
@@ -126,10 +126,10 @@ impl Wheels {
         self.buckets.links.lemma_keys_unique();
         let (timer, emptied) = self.buckets.take(handle)?;
         leave_list(
-            self.table,
+            &self.table,
             &mut self.occupied,
             &mut self.firsts,
-            self.buckets.tick,
+            &self.buckets.tick,
             timer.deadline,
             emptied,
         );
@@ -155,16 +155,16 @@ impl Wheels {
         let (restarted, emptied) = self.buckets.replace(handle, list, timer, 0)?;
         let (_made, old) = restarted;
         leave_list(
-            self.table,
+            &self.table,
             &mut self.occupied,
             &mut self.firsts,
-            tick,
+            &tick,
             old.deadline,
             emptied,
         );
         self.buckets.lemma_countable();
         enter_list(
-            self.table,
+            &self.table,
             &mut self.occupied,
             &mut self.firsts,
             tick,
@@ -285,18 +285,18 @@ impl Wheels {
 /// counted there. What is due has no bit.
 #[inline(always)]
 fn enter_list(
-    table: Table,
+    table: &Table,
     occupied: &mut Occupied,
     firsts: &mut Firsts,
     tick: u64,
     deadline: u64,
     list: usize,
 )
-    requires list { tick < deadline → list < slots (radices table) }
-    requires size { length firsts.old ≡ slots (radices table) }
-    requires few { tick < deadline → lowest_radix (radices table) ≤ list
+    requires list { tick < deadline → list < slots (radices table.now) }
+    requires size { length firsts.old ≡ slots (radices table.now) }
+    requires few { tick < deadline → lowest_radix (radices table.now) ≤ list
         → (first_at list firsts.old).count < 18446744073709551615 }
-    ensures pending { tick < deadline → Comes (lowest_radix (radices table)) list deadline occupied.old
+    ensures pending { tick < deadline → Comes (lowest_radix (radices table.now)) list deadline occupied.old
         occupied.new firsts.old firsts.new }
     ensures due { deadline ≤ tick → (occupied.new ≡ occupied.old) × (firsts.new ≡ firsts.old) }
 {
@@ -309,30 +309,31 @@ fn enter_list(
 
 /// A timer with this deadline left its list. If that was a bucket, the timer is no longer counted there. If it left
 /// the bucket empty, the bucket's bit is cleared.
+// Table and tick are borrowed, to be read only where they are needed.
 #[inline(always)]
 fn leave_list(
-    table: Table,
+    table: &Table,
     occupied: &mut Occupied,
     firsts: &mut Firsts,
-    tick: u64,
+    tick: &u64,
     deadline: u64,
     emptied: Option<usize>,
 )
-    requires deadline { deadline ≤ last_of (radices table) }
-    requires size { length firsts.old ≡ slots (radices table) }
-    requires emptied { tick < deadline → IfSome emptied (λ list. list < slots (radices table)) }
-    requires counted { tick < deadline → lowest_radix (radices table) ≤ bucket (radices table) tick deadline
-        → (first_at (bucket (radices table) tick deadline) firsts.old).bound ≡ deadline
-        → 0 < (first_at (bucket (radices table) tick deadline) firsts.old).count }
-    ensures pending { tick < deadline → Goes (lowest_radix (radices table)) (bucket (radices table) tick deadline)
+    requires deadline { deadline ≤ last_of (radices table.now) }
+    requires size { length firsts.old ≡ slots (radices table.now) }
+    requires emptied { tick.now < deadline → IfSome emptied (λ list. list < slots (radices table.now)) }
+    requires counted { tick.now < deadline → lowest_radix (radices table.now) ≤ bucket (radices table.now) tick.now deadline
+        → (first_at (bucket (radices table.now) tick.now deadline) firsts.old).bound ≡ deadline
+        → 0 < (first_at (bucket (radices table.now) tick.now deadline) firsts.old).count }
+    ensures pending { tick.now < deadline → Goes (lowest_radix (radices table.now)) (bucket (radices table.now) tick.now deadline)
         deadline emptied occupied.old occupied.new firsts.old firsts.new }
-    ensures due { deadline ≤ tick → (occupied.new ≡ occupied.old) × (firsts.new ≡ firsts.old) }
+    ensures due { deadline ≤ tick.now → (occupied.new ≡ occupied.old) × (firsts.new ≡ firsts.old) }
 {
     let Some(list) = emptied else {
         firsts.leave(table, tick, deadline);
         return;
     };
-    if deadline > tick {
+    if deadline > *tick {
         occupied.remove(list);
         firsts.empty(list);
     }

@@ -23,14 +23,19 @@ impl Bank {
         ensures first { IsFirstSlot (radices self.now.table) self.now.buckets.tick wheel self.now.buckets.links.lists result }
         ensures begins { IfSome result (λ slot. slot * weight wheel (radices self.now.table) ≤ self.now.buckets.last_tick) }
     {
+        let turns = turns_of(self.table, wheel);
         let now = slot_of(self.table, wheel, self.buckets.tick);
-        let end = now + turns_of(self.table, wheel);
+        let end = now + turns;
         let mut slot = now + 1;
         while slot < end {
-            if self.filled.has(list_of_slot(self.table, wheel, slot)) {
+            let clear = self
+                .filled
+                .clear_from(list_of_slot(self.table, wheel, slot)) as u64;
+            if clear == 0 {
                 return Some(slot);
             }
-            slot += 1;
+            // As far as the last list of the wheel, after which its first one comes.
+            slot += clear.min(turns - slot % turns);
         }
         None
     }

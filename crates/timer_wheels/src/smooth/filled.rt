@@ -1,9 +1,11 @@
 //! Which lists of a smooth wheel have a timer: a bit for each of them.
-ghost use Rattle.std.specs.Prelude.{◌≡◌, ◌≢◌, ◌<◌, ℕ, List, length, true, false};
-ghost use Rattle.timer_wheels.specs.declared.smooth.filled.TheConstants.{WORDS};
+ghost use Rattle.std.specs.Prelude.{◌≡◌, ◌≢◌, ◌<◌, ◌≤◌, ◌+◌, ℕ, List, length, true, false};
+ghost use Rattle.timer_wheels.specs.declared.smooth.filled.TheConstants.{WORDS, WORD_BITS};
 ghost use Rattle.timer_wheels.specs.declared.smooth.turns.TheConstants.{MOST_LISTS};
+ghost use Rattle.std.specs.Int.{bit_at};
 ghost use Rattle.timer_wheels.specs.Occupied.{bit_of};
 
+use crate::occupied::lowest_bit;
 use crate::smooth::turns::MOST_LISTS;
 use std::marker::Model;
 
@@ -74,5 +76,32 @@ impl Filled {
     {
         let word = list / WORD_BITS;
         self.words[word] = self.words[word] & !(1 << (list % WORD_BITS));
+    }
+
+    /// How many lists from this one on have no bit set, as far as its word shows: 0 exactly if this one's is set.
+    #[inline]
+    pub fn clear_from(&self, list: usize) -> usize
+        requires { list < MOST_LISTS }
+        ensures set { result ≡ 0 → bit_of self.now list ≡ 1 }
+        ensures clear { (s : ℕ) → list ≤ s → s < list + result → bit_of self.now s ≡ 0 }
+        ensures few { result ≤ WORD_BITS }
+    {
+        clear_bits(self.words[list / WORD_BITS], list % WORD_BITS)
+    }
+}
+
+/// How many bits of a word from this one on are clear.
+#[inline]
+fn clear_bits(word: u64, bit: usize) -> usize
+    requires { bit < WORD_BITS }
+    ensures set { result ≡ 0 → bit_at word bit ≡ 1 }
+    ensures clear { (i : ℕ) → bit ≤ i → i < bit + result → bit_at word i ≡ 0 }
+    ensures few { bit + result ≤ WORD_BITS }
+{
+    let rest = word >> bit;
+    if rest == 0 {
+        WORD_BITS - bit
+    } else {
+        lowest_bit(rest)
     }
 }

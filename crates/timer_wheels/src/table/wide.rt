@@ -78,6 +78,7 @@ fn digit_of(k: u32, tick: u64) -> usize
 }
 
 /// The wheel of a timer: the highest digit in which its deadline differs from now.
+// `63 ^ zeros` is the highest bit, which processors find in one step; and times 43 / 256 is divided by 6 for these.
 #[inline]
 #[tactic(auto, using(crate::proofs::WideDigits::wide_levels))]
 fn level_of(now: u64, deadline: u64) -> u32
@@ -86,7 +87,7 @@ fn level_of(now: u64, deadline: u64) -> u32
     ensures value { result ≡ level wide now deadline }
     ensures in_range { result < 10 }
 {
-    (63 - (now ^ deadline).leading_zeros()) / DIGIT_BITS
+    (63 ^ (now ^ deadline).leading_zeros()) * 43 / 256
 }
 
 /// The number of a tick's lowest digit that isn't zero.

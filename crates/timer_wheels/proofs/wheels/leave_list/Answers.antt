@@ -6,5 +6,5 @@ use Rattle.timer_wheels.proofs.wheels.leave_list.Goals as goal
 
 pub remove-requires : goal.remove-requires
 remove-requires c =
-    let P : Option ℕ → Type 0 = λ o. IfSome o (λ list. list < slots (radices c.args.table)) in
-    in_word c.args.table c.in-Some.list (subst P c.in-Some.is (c.requires.emptied c.if-deadline-tick.true))
+    let P : Option ℕ → Type 0 = λ o. IfSome o (λ list. list < slots (radices c.args.table.now)) in
+    in_word c.args.table.now c.in-Some.list (subst P c.in-Some.is (c.requires.emptied c.if-deadline-tick.true))

@@ -20,8 +20,8 @@ leave_list-requires c =
       counted = rw c.take.ensures.frame.tick (was_counted wheels w.buckets.sound apart c.args.handle t found);
     }
 
-pub invariant_of-self-2 : goal.invariant_of-self-2
-invariant_of-self-2 c =
+pub invariant_of-self-3 : goal.invariant_of-self-3
+invariant_of-self-3 c =
     let w = c.args.self.now in
     let t = c.in_ok-timer.timer in
     let found : held_at c.args.handle (state_of w.buckets) ≡ Some t = sym c.take.ensures.timer ∙ ap taken_timer c.in_ok-timer.was in
@@ -30,4 +30,8 @@ invariant_of-self-2 c =
     c.take.ensures.frame c.in_ok-timer.ensures.lists (gone_wheels (wheels_of w.hier w.foretold) w.buckets.sound
     c.lemma_keys_unique.ensures c.args.handle t found c.in_ok-timer.emptied c.in_ok-timer.ensures.emptied new.occupied new.firsts
     (rw (← c.take.ensures.frame.tick) c.leave_list.ensures.pending) (rw (← c.take.ensures.frame.tick) c.leave_list.ensures.due)) in
-    record { hier = kept.hier; foretold = kept.foretold }
+    let h = kept.hier in
+    record {
+      hier = record { has_slots = h.has_slots; clock = h.clock; placed = h.placed; marked = h.marked };
+      foretold = kept.foretold;
+    }
