@@ -3,8 +3,8 @@
 
     python.py [--pending 1000,50000] [--rounds 9] [--count]
 
-Processor time of an operation in ns, the least of the rounds, in which the candidates take turns in one process. The spread in
-parentheses is the greatest of the better half of the rounds. --count adds a table of instructions, by callgrind: those of a run
+Processor time of an operation in ns, the least of the rounds, in which the candidates take turns in one process. In
+parentheses is the median. --count adds a table of instructions, by callgrind: those of a run
 less those of one that does all but the operation. The package is compiled from the repository. Two tables: python (single
 operations, and loads) and python_instructions. Status 1: candidates disagree on what expired.
 
@@ -296,7 +296,7 @@ def run_operations(pending, rounds):
 
 
 def cell(values):
-    """The least, and in parentheses the greatest of the better half."""
+    """The least, and in parentheses the median."""
     ordered = sorted(values)
     return f"{number(ordered[0])} ({number(ordered[len(ordered) // 2])})"
 
