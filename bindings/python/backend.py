@@ -114,21 +114,49 @@ def record(files, path):
     return "".join([*lines, f"{path},,\n"]).encode()
 
 
-def write_wheel(directory, files):
-    """Writes a wheel of these files, and returns its name. It has the same bytes each time."""
-    table = project()
-    least = table["requires-python"].removeprefix(">=").replace(".", "")
-    tag = f"cp{least}-abi3-" + sysconfig.get_platform().replace("-", "_").replace(".", "_")
-    folder = f"timers-{table['version']}.dist-info"
+def tag():
+    least = project()["requires-python"].removeprefix(">=").replace(".", "")
+    return f"cp{least}-abi3-" + sysconfig.get_platform().replace("-", "_").replace(".", "_")
+
+
+def described(folder):
+    """The files that say what a wheel is, in this folder of it."""
     files = {
-        **files,
-        f"{folder}/METADATA": metadata(table),
-        f"{folder}/WHEEL": f"Wheel-Version: 1.0\nGenerator: timers\nRoot-Is-Purelib: false\nTag: {tag}\n".encode(),
+        f"{folder}/METADATA": metadata(project()),
+        f"{folder}/WHEEL": f"Wheel-Version: 1.0\nGenerator: timers\nRoot-Is-Purelib: false\nTag: {tag()}\n".encode(),
     }
     for name in ("LICENSE-MIT", "LICENSE-APACHE", "generated/NOTICE"):
         files[f"{folder}/licenses/{os.path.basename(name)}"] = contents(of_library(name))
+    return files
+
+
+def write_files(directory, files):
+    for name, data in files.items():
+        path = os.path.join(directory, name)
+        os.makedirs(os.path.dirname(path), exist_ok=True)
+        if os.path.exists(path):
+            os.remove(path)  # a program may have it in its memory
+        with open(path, "wb") as file:
+            file.write(data)
+
+
+def prepare_metadata_for_build_wheel(metadata_directory, config_settings=None):
+    """Without it pip builds a wheel to see what it is, and then builds it once more."""
+    folder = f"timers-{project()['version']}.dist-info"
+    write_files(metadata_directory, described(folder))
+    return folder
+
+
+prepare_metadata_for_build_editable = prepare_metadata_for_build_wheel
+
+
+def write_wheel(directory, files):
+    """Writes a wheel of these files, and returns its name. It has the same bytes each time."""
+    version = project()["version"]
+    folder = f"timers-{version}.dist-info"
+    files = {**files, **described(folder)}
     files[f"{folder}/RECORD"] = record(files, f"{folder}/RECORD")
-    name = f"timers-{table['version']}-{tag}.whl"
+    name = f"timers-{version}-{tag()}.whl"
     with zipfile.ZipFile(os.path.join(directory, name), "w", zipfile.ZIP_DEFLATED) as wheel:
         for path, data in files.items():
             entry = zipfile.ZipInfo(path)
@@ -177,10 +205,4 @@ def build_sdist(sdist_directory, config_settings=None):
 
 if __name__ == "__main__":
     # backend.py FOLDER   the package as it is installed, in this folder
-    for name, data in package().items():
-        path = os.path.join(sys.argv[1], name)
-        os.makedirs(os.path.dirname(path), exist_ok=True)
-        if os.path.exists(path):
-            os.remove(path)  # a program may have it in its memory
-        with open(path, "wb") as file:
-            file.write(data)
+    write_files(sys.argv[1], package())
