@@ -36,7 +36,7 @@ setup_file() {
 @test "the library's licence is one expression in the code and in each package" {
     licence=$(sed -n '2s/.*SPDX-License-Identifier: \(.*\) \*\//\1/p' generated/timers.c)
     [[ $licence == *LicenseRef-Rattle-libraries* ]]
-    for file in meson.build tools/install/timers.pc.in bindings/rust/Cargo.toml bindings/python/pyproject.toml generated/README.md .reuse/dep5; do
+    for file in meson.build tools/install/timers.pc.in bindings/rust/Cargo.toml bindings/python/pyproject.toml bindings/js/package.json generated/README.md .reuse/dep5; do
         echo "$file"
         grep -qF "$licence" "$file"
     done

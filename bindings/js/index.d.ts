@@ -1,0 +1,92 @@
+// SPDX-License-Identifier: MIT OR Apache-2.0
+
+declare global {
+  interface SymbolConstructor {
+    readonly dispose: unique symbol;
+  }
+}
+
+/** The last tick, 2^53 - 1. A tick, a deadline or an interval beyond it throws a RangeError. */
+export const LAST: number;
+
+/** The statuses of the C library. */
+export const Status: {
+  readonly OK: 0;
+  /** after `free` */
+  readonly NOT_OPEN: 1;
+  readonly OPEN: 2;
+  readonly NO_TABLE: 3;
+  readonly NO_MEMORY: 4;
+  /** an expired timer was not yet taken */
+  readonly DUE: 5;
+  /** no timer has this handle: it was stopped, restarted, taken or dropped */
+  readonly NOT_PENDING: 6;
+  readonly ZERO_INTERVAL: 7;
+  readonly TOO_LATE: 8;
+  readonly SERIALS_SPENT: 9;
+  readonly CLOCK_END: 10;
+};
+
+/** What C refuses. Nothing has changed then. */
+export class TimersError extends Error {
+  private constructor();
+  readonly name: "TimersError";
+  /** one of `Status` */
+  readonly status: number;
+}
+
+/** The name of a timer. Two are of one timer exactly if they are the same object. */
+export class Handle {
+  private constructor();
+  readonly place: number;
+  readonly serial: number;
+}
+
+export interface Timer<T> {
+  /** the tick at which it expired; of `look`, at which it expires */
+  readonly deadline: number;
+  /** that of its handle, which no other timer of these has */
+  readonly serial: number;
+  readonly value: T;
+}
+
+/** Timers that own their values, and a clock of ticks, which stands still until it is advanced. */
+export class Timers<T = unknown> {
+  /** @param first the tick at which the clock begins, by default 0 */
+  constructor(first?: number);
+  /** Starts a timer that expires so many ticks after `now`, 1 or more. */
+  start(interval: number, value: T): Handle;
+  /** Starts a timer that expires at this tick. One that is not after `now` has expired, and waits to be taken. */
+  startAt(deadline: number, value: T): Handle;
+  /** Stops the timer, and starts another in its place. Without a value it has the same. The old handle is dead. */
+  restart(handle: Handle, interval: number, value?: T): Handle;
+  restartAt(handle: Handle, deadline: number, value?: T): Handle;
+  /** Restarts the timer with this handle, or starts one if there is none. */
+  setAt(handle: Handle | null | undefined, deadline: number, value: T): Handle;
+  /** Stops the timer, and returns its value. */
+  stop(handle: Handle): T;
+  /** Whether a timer, pending or expired and not yet taken, has this handle. */
+  has(handle: Handle): boolean;
+  look(handle: Handle): Timer<T>;
+  /** Takes the next timer that is due by this tick, by default `now`, and passes the ticks up to its deadline. */
+  take(tick?: number): Timer<T> | undefined;
+  /** Takes all that are due by this tick, one by one. What one of them stops does not come out. */
+  expired(tick?: number): Generator<Timer<T>, void, undefined>;
+  /** Passes ticks up to this one, or to the first at which a timer expires. Returns the present tick. */
+  advanceTo(tick: number): number;
+  /** The present tick, to which the clock was advanced last. */
+  readonly now: number;
+  /** How many timers are pending. Expired ones that wait to be taken don't count. */
+  readonly length: number;
+  /** A tick before which nothing expires, in constant time. Infinity if no timer is held. */
+  wakeup(): number;
+  /** The next deadline, or `now` if an expired timer waits. Infinity if no timer is held. */
+  next(): number;
+  /** Makes room for so many timers: starts then don't run out of memory. */
+  reserve(most: number): void;
+  /** Drops all timers and their values. */
+  clear(): void;
+  /** Frees the memory, values too. Later calls are refused with NOT_OPEN, or find nothing. */
+  free(): void;
+  [Symbol.dispose](): void;
+}
