@@ -46,6 +46,8 @@ for (const handle of no_handles) {
   for (const call of ["stop", "look", "has", "restart", "restartAt"]) refuses(timers, TypeError, () => timers[call](handle, 9));
 }
 refuses(timers, Status.NOT_PENDING, () => timers.stop(new Handle(0, 0)));
+refuses(timers, Status.NOT_PENDING, () => timers.stop(new Handle(tea.place, tea.serial + 2 ** 32)));
+refuses(timers, Status.NOT_PENDING, () => timers.stop(new Handle(tea.place + 2 ** 32, tea.serial)));
 assert.deepEqual(timers.look(tea), { deadline: LAST, serial: 1, value: "tea" });
 
 // Handles: frozen, one object for each timer, keys of a map.
@@ -93,6 +95,7 @@ assert.deepEqual([...two.expired(LAST)], []);
 
 two.free();
 two.free();
+const another = new Timers(3); // what was freed twice is not its memory
 for (const call of [
   () => two.start(1, 1),
   () => two.startAt(1, 1),
@@ -107,8 +110,8 @@ for (const call of [
 }
 two.clear();
 assert.deepEqual([two.take(1), two.now, two.length, two.next(), two.wakeup()], [undefined, 0, 0, Infinity, Infinity]);
-const error = assert.throws(() => two.start(1, 1), { name: "TimersError", message: "not open", status: 1 });
-assert.equal(error, undefined);
+assert.throws(() => two.start(1, 1), { name: "TimersError", message: "not open", status: 1 });
+assert.equal(another.now, 3);
 if (Symbol.dispose) {
   const timers = new Timers();
   timers[Symbol.dispose]();
@@ -127,10 +130,21 @@ kept.start(1, value());
 kept.restart(kept.start(2, value()), 2, "another");
 kept.stop(kept.start(3, value()));
 for (const _ of kept.expired(5));
-kept.start(1, value());
-kept.clear();
+const cleared = new Timers();
+cleared.start(1, value());
+cleared.clear();
 await new Promise((resolve) => setTimeout(resolve, 0));
 gc();
 assert.deepEqual(values.map((reference) => reference.deref()), [undefined, undefined, undefined, undefined]);
+assert.equal(kept.length + cleared.length, 0);
+
+// Nor does a place of a value stay behind a start that was refused or stopped: 200,000 would take 1.6 MB.
+const used = () => (gc(), process.memoryUsage().heapUsed);
+const before = used();
+for (let time = 0; time < 200000; time++) {
+  if (time % 2 === 0) assert.ok(kept.stop(kept.start(1, kept)));
+  else assert.throws(() => kept.start(0, kept), TimersError);
+}
+assert.ok(used() - before < 400000);
 assert.equal(kept.length, 0);
 console.log("edges agree");

@@ -21,15 +21,21 @@ const most = fill();
 assert.ok(most > 1000);
 for (let time = 0; time < 5; time++) assert.equal(fill(), most);
 
-const many = [];
-assert.throws(() => {
-  for (;;) many.push(new Timers());
-}, is_refused);
-assert.ok(many.length > 10);
-for (const timers of many) timers.free();
+// As many each time.
+function make_many() {
+  const many = [];
+  assert.throws(() => {
+    for (;;) many.push(new Timers());
+  }, is_refused);
+  for (const timers of many) timers.free();
+  return many.length;
+}
+const room = make_many();
+assert.ok(room > 10);
+for (let time = 0; time < 5; time++) assert.equal(make_many(), room);
 
 // Twenty times as many as there is memory for.
-for (let made = 0; made < 20 * many.length; made++) {
+for (let made = 0; made < 20 * room; made++) {
   new Timers().start(1, made);
   if (made % 10 === 0) {
     await new Promise((resolve) => setTimeout(resolve, 0));
@@ -37,4 +43,15 @@ for (let made = 0; made < 20 * many.length; made++) {
     await new Promise((resolve) => setTimeout(resolve, 0));
   }
 }
+
+// What was freed is not freed again once it is garbage: others have the memory by then.
+for (let made = 0; made < 10; made++) new Timers().free();
+const held = Array.from({ length: 10 }, () => new Timers());
+for (const timers of held) timers.start(7, timers);
+for (let time = 0; time < 3; time++) {
+  await new Promise((resolve) => setTimeout(resolve, 0));
+  gc();
+}
+await new Promise((resolve) => setTimeout(resolve, 0));
+for (const timers of held) assert.equal(timers.take(7).value, timers);
 console.log("memory agrees");
