@@ -2,8 +2,10 @@
  * whose loop alone asks for the next deadline have not HAS_NEXT. */
 #ifdef COUNT                                     /* out of line, so that callgrind counts each call */
 #define CALL __attribute__((noipa)) static
+#define IS_COUNTED 1
 #else
 #define CALL static inline
+#define IS_COUNTED 0
 #endif
 #define NEED(fact) ((fact) ? (void)0 : abort())
 #if defined(LIBEVENT) || defined(LIBEVENT_COMMON)
