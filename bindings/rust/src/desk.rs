@@ -109,6 +109,7 @@ pub enum Error {
 impl Error {
     fn of(status: c_uint) -> Error {
         match status {
+            // made by tools/facts: errors of desks
             1 => Error::NotOpen,
             2 => Error::Open,
             4 => Error::NoMemory,
@@ -129,6 +130,7 @@ impl Error {
             23 => Error::NotFinished,
             24 => Error::Left,
             25 => Error::NotFreed,
+            // by hand
             other => Error::Other(other),
         }
     }
@@ -137,6 +139,7 @@ impl Error {
 impl fmt::Display for Error {
     fn fmt(&self, f: &mut fmt::Formatter<'_>) -> fmt::Result {
         f.write_str(match self {
+            // made by tools/facts: texts of errors of desks
             Error::NotOpen => "no desk or no line is held",
             Error::Open => "a desk or a line is held already",
             Error::NoMemory => "out of memory",
@@ -157,6 +160,7 @@ impl fmt::Display for Error {
             Error::NotFinished => "the line has not finished",
             Error::Left => "something of the client is left",
             Error::NotFreed => "the client's line was not freed",
+            // by hand
             Error::Other(status) => return write!(f, "status {status}"),
         })
     }

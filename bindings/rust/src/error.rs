@@ -42,6 +42,7 @@ impl Error {
     #[cold]
     fn named(status: c_uint) -> Error {
         match status {
+            // made by tools/facts: errors of timers
             4 => Error::NoMemory,
             5 => Error::Due,
             6 => Error::NotPending,
@@ -49,6 +50,7 @@ impl Error {
             8 => Error::TooLate,
             9 => Error::SerialsSpent,
             10 => Error::ClockEnd,
+            // by hand
             other => Error::Other(other),
         }
     }
@@ -57,6 +59,7 @@ impl Error {
 impl fmt::Display for Error {
     fn fmt(&self, f: &mut fmt::Formatter<'_>) -> fmt::Result {
         f.write_str(match self {
+            // made by tools/facts: texts of errors of timers
             Error::NoMemory => "out of memory",
             Error::Due => "an expired timer was not yet taken",
             Error::NotPending => "no timer has this handle",
@@ -64,6 +67,7 @@ impl fmt::Display for Error {
             Error::TooLate => "after the last tick",
             Error::SerialsSpent => "every serial was used",
             Error::ClockEnd => "the clock is at its last tick",
+            // by hand
             Error::Other(status) => return write!(f, "status {status}"),
         })
     }
