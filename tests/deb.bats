@@ -143,7 +143,7 @@ files() {
     [ "$(id -u)" -eq 0 ] || skip "not root"
     # shellcheck source=/dev/null
     release=$(. /etc/os-release && echo "$VERSION_CODENAME")
-    if ! timeout 900 mmdebstrap --quiet --variant=apt --include=gcc,g++,libc6-dev,make,pkgconf,cmake,dpkg-dev "$release" "$root" 2> "$work/log"; then
+    if ! timeout 900 mmdebstrap --quiet --variant=apt --include=apt-utils,gcc,g++,libc6-dev,make,pkgconf,cmake,dpkg-dev "$release" "$root" 2> "$work/log"; then
         rm -rf --one-file-system "$root"
         skip "no clean root: $(tail -n 1 "$work/log")"
     fi
@@ -186,5 +186,5 @@ files() {
     run timeout 900 autopkgtest --no-built-binaries build/deb/{libtimers1,libtimers-dev,timers}_*.deb build/deb/timers_*.dsc -- chroot "$root"
     echo "$output"
     [ "$status" -eq 0 ]
-    [ "$(grep -c ' PASS$' <<< "$output")" -eq "$(find tools/debian/tests -type f -executable | wc -l)" ]
+    [ "$(sed '1,/ summary$/d' <<< "$output" | grep -c ' PASS$')" -eq "$(find tools/debian/tests -type f -executable | wc -l)" ]
 }
