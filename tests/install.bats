@@ -59,9 +59,10 @@ EOT
             echo "link share/man/man3/$function.3 $page"
         done
     done
-    for path in bindings/rust/{Cargo.toml,README.md,build.rs,src/*,c/*}; do
+    for path in bindings/rust/{Cargo.toml,README.md,build.rs,src/*}; do
         echo "644 share/timers/${path#bindings/} $path"
     done
+    for path in generated/timers.c include/timers{,_desk}.h; do echo "644 share/timers/rust/c/${path##*/} $path"; done
     git ls-files examples | grep -v gitignore | while read -r path; do
         mode=644
         [ "$path" != examples/serve.py ] || mode=755

@@ -68,7 +68,8 @@ of_crate() { cargo "$1" --quiet --offline --manifest-path bindings/rust/Cargo.to
     printf '{"dl":"file://%s/none","api":"file://%s/none"}\n' "$work" "$work" > "$work/index/config.json"
     git -C "$work/index" add config.json
     git -C "$work/index" -c user.name=index -c user.email=index@localhost commit --quiet --message index
-    cargo publish --dry-run --allow-dirty --manifest-path bindings/rust/Cargo.toml --index "file://$work/index" > "$work/out" 2>&1 ||
+    tools/crate "$work/to_publish"
+    cargo publish --dry-run --allow-dirty --manifest-path "$work/to_publish/Cargo.toml" --index "file://$work/index" > "$work/out" 2>&1 ||
         { cat "$work/out" && false; }
     grep 'Verifying timers' "$work/out"
     grep 'aborting upload due to dry run' "$work/out"
@@ -78,15 +79,15 @@ of_crate() { cargo "$1" --quiet --offline --manifest-path bindings/rust/Cargo.to
 unpacks_crate() {
     crate=$work/unpacked/timers-$(cat tools/install/version)
     if [ ! -e "$crate" ]; then
-        of_crate package --no-verify --allow-dirty
+        tools/crate "$work/to_pack"
+        cargo package --quiet --offline --no-verify --allow-dirty --manifest-path "$work/to_pack/Cargo.toml"
         mkdir "$work/unpacked"
         tar -C "$work/unpacked" -xf "$work/cargo/package/${crate##*/}.crate"
     fi
 }
-@test "a packed crate has files in place of links, licences too" {
+@test "a packed crate has the C of the repository, and the licences" {
     needs_cargo
     unpacks_crate
-    [ -z "$(find "$crate" -type l)" ]
     cmp generated/timers.c "$crate/c/timers.c"
     cmp include/timers.h "$crate/c/timers.h"
     cmp include/timers_desk.h "$crate/c/timers_desk.h"
@@ -186,20 +187,12 @@ EOT
     [ "$status" -eq 1 ]
 }
 
-# Git leaves a file with the path in place of a link.
-@test "a checkout without symbolic links builds the crate, and packs none that is broken" {
+@test "the crate is not packed without its C, and the repository has no links" {
     needs_cargo
-    copy_tree "$work/plain"
-    for link in $(cd bindings/rust && find . -type l); do
-        rm "$work/plain/bindings/rust/$link"
-        printf %s "$(readlink "bindings/rust/$link")" > "$work/plain/bindings/rust/$link"
-    done
-    cd "$work/plain"
-    of_crate run --example first > "$work/out"
-    egg_and_tea | diff - "$work/out"
-    run of_crate package
+    run of_crate package --allow-dirty
     [ "$status" -ne 0 ]
-    [[ $output == *"the crate was packed from a checkout without symbolic links"* ]]
+    [[ $output == *"timers.c is not there: tools/crate makes the folder to pack"* ]]
+    [ -z "$(git ls-files --stage | grep '^120000')" ]
 }
 
 # The build script by itself, as cargo runs it for another processor: the compiler that it takes, and that of a variable.

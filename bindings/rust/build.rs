@@ -2,8 +2,7 @@
 // CC, its flags CFLAGS, the archiver AR, each of them also as CC_TARGET, HOST_CC or TARGET_CC. It takes gcc's options.
 // SPDX-License-Identifier: MIT OR Apache-2.0
 use std::env;
-use std::fs;
-use std::path::{Path, PathBuf};
+use std::path::PathBuf;
 use std::process::Command;
 
 /// A variable for the target, in the order in which `cc` looks for it.
@@ -50,18 +49,12 @@ fn archiver_of(compiler: &[&str]) -> String {
         .map_or("ar".to_string(), |name| name.trim().to_string())
 }
 
-/// A file of c/. In the repository it is a symbolic link. A checkout without these, as on Windows, has a file there that
-/// holds the path.
-fn source(name: &str) -> PathBuf {
-    let folder = Path::new(&env::var("CARGO_MANIFEST_DIR").unwrap()).join("c");
-    let path = folder.join(name);
-    let text = fs::read_to_string(&path).unwrap_or_else(|error| panic!("{}: {error}", path.display()));
-    let path = if text.starts_with("../") { folder.join(text.trim_end()) } else { path };
-    assert!(
-        path.exists(),
-        "{} is not there: the crate was packed from a checkout without symbolic links",
-        path.display()
-    );
+/// A file of the C: in c/, where a packed crate has it, or else where the repository does.
+fn source(name: &str, in_repository: &str) -> PathBuf {
+    let folder = PathBuf::from(env::var("CARGO_MANIFEST_DIR").unwrap());
+    let packed = folder.join("c").join(name);
+    let path = if packed.exists() { packed } else { folder.join("../..").join(in_repository).join(name) };
+    assert!(path.exists(), "{} is not there: tools/crate makes the folder to pack", path.display());
     println!("cargo::rerun-if-changed={}", path.display());
     path
 }
@@ -69,7 +62,8 @@ fn source(name: &str) -> PathBuf {
 fn main() {
     let folder = env::var("OUT_DIR").unwrap();
     let (object, archive) = (format!("{folder}/timers.o"), format!("{folder}/libtimers.a"));
-    let (code, header, _) = (source("timers.c"), source("timers.h"), source("timers_desk.h"));
+    let code = source("timers.c", "generated");
+    let (header, _) = (source("timers.h", "include"), source("timers_desk.h", "include"));
     let include = header.parent().unwrap();
     let (compiler, flags) = (of_target("CC").unwrap_or_else(default_compiler), of_target("CFLAGS").unwrap_or_default());
     let compiler: Vec<&str> = compiler.split_whitespace().collect();

@@ -1,1 +1,0 @@
-../../../generated/timers.c
