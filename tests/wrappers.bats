@@ -219,7 +219,7 @@ EOT
     printf '#!/bin/sh\necho "$@" > "%s/asked"\nexec aarch64-linux-gnu-gcc "$@"\n' "$work" > "$work/given"
     chmod 755 "$work/given"
     CC=false TARGET_CC=false CC_aarch64_unknown_linux_gnu=$work/given CFLAGS="-DONE -DTWO" AR_aarch64_unknown_linux_gnu=aarch64-linux-gnu-ar "$work/build" > "$work/out"
-    grep -e '-DONE -DTWO .*c/timers.c' "$work/asked"
+    grep -e '-DONE -DTWO .*generated/timers.c' "$work/asked"
     run env AR=false "$work/build"
     [ "$status" -ne 0 ]
 }
