@@ -250,7 +250,7 @@ fn over_each_wheel(rt: &impl Abort, alloc: Global, row: Row, way: Way) -> Result
     for slots in [1, 8, 65536] {
         play(rt, alloc, HashedWheel::new(alloc, slots, 0)?, row, way);
     }
-    for table in [Table::Wide, Table::Clock] {
+    for table in [Table::Wide, Table::Clock, Table::Small] {
         let wheel = HierWheel::with_table(alloc, table, 0)?;
         play(rt, alloc, wheel, row, way);
     }

@@ -1,7 +1,7 @@
 -- Lemmas about the room that was made: for nodes, and for the index of each key that they can get.
-use Rattle.std.proofs.Common.{◌≡◌, ◌<◌, ◌≤◌, ◌+◌, ℕ, List, length, refl, inl, inr, arith, length-set, cond, Option, Some, None, is_some, slice_set}
+use Rattle.std.proofs.Common.{◌≡◌, ◌<◌, ◌≤◌, ◌+◌, ◌-◌, ℕ, suc, List, [], ◌∷◌, length, refl, inl, inr, arith, length-set, cond, count_by, Option, Some, None, IsSome, is_some, slice_set, slice_index_or}
 use Rattle.std.proofs.lemmas.Bool.{cases_lt}
-use Rattle.std.proofs.lemmas.List.Sums.{count_by-le-length, sum_by-set}
+use Rattle.std.proofs.lemmas.List.Sums.{count_by-le-length, sum_by-cons, sum_by-set}
 use Rattle.slab.specs.Slab.{Slab, get, HasRoomFor}
 use Rattle.timer_links.specs.declared.node.Node.{Node}
 use Rattle.timer_links.specs.declared.ring.Neighbours.{Neighbours}
@@ -56,3 +56,16 @@ fits_one nodes key e b c = elim (cases_lt key (length nodes.slots)) [
       omega (arith, sum_by-set counted nodes.slots key (Some any) None low, count_by-le-length is_some full, length-set nodes.slots key (Some any))
   | inr past ↦ omega (arith, count_by-le-length is_some nodes.slots)
 ]
+
+-- Values at keys below a bound are no more than it.
+pub few_values : {T : Type 0} (slots : List (Option T)) (from bound : ℕ) → ((key : ℕ) → IsSome (slice_index_or slots key None) → from + key < bound)
+    → count_by is_some slots ≤ bound - from
+few_values [] from bound h = omega arith
+few_values (None ∷ slots) from bound h =
+    let none : count_by is_some (None ∷ slots) ≡ 0 + count_by is_some slots = sum_by-cons (λ slot. cond (is_some slot) 1 0) None slots in
+    omega (arith, few_values slots (from + 1) bound (λ key some. let l : from + suc key < bound = h (suc key) some in omega arith))
+few_values (Some value ∷ slots) from bound h =
+    let one : count_by is_some (Some value ∷ slots) ≡ 1 + count_by is_some slots =
+    sum_by-cons (λ slot. cond (is_some slot) 1 0) (Some value) slots in
+    let l : from + 0 < bound = h 0 refl in
+    omega (arith, few_values slots (from + 1) bound (λ key some. let m : from + suc key < bound = h (suc key) some in omega arith))

@@ -114,12 +114,13 @@ impl Links {
         let _nodes = &self.nodes;
     }
 
-    /// Does nothing at run time. Its contract is a lemma: the nodes of all lists can be counted in 64 bits.
+    /// Does nothing at run time. Its contract is a lemma: no more nodes are in all lists than a link of 32 bits can name.
     #[inline]
     pub fn lemma_countable(&self)
-        ensures { row_count self.now.lists < 18446744073709551616 }
+        ensures { row_count self.now.lists ≤ INDEXES }
     {
-        let _len = self.len();
+        // Read, so that the prover knows the invariant here.
+        let _nodes = &self.nodes;
     }
 
     /// The node under this key, or None if the key is not in use. Does not allocate.

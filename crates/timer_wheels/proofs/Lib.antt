@@ -28,6 +28,7 @@ pub mod HierLeaps
 pub mod WheelUpdates
 pub mod HierCounts
 pub mod ClockDigits
+pub mod SmallDigits
 pub mod TableLaws
 pub mod ReplaceLemmas
 pub mod WakeUpLemmas

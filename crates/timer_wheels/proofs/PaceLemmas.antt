@@ -8,16 +8,18 @@ use Rattle.timer_wheels.specs.Bank.{next_len, potential_of, IsEarly, OthersShrin
 use Rattle.timer_wheels.specs.Digits.{IsTable, weight}
 use Rattle.timer_wheels.specs.Paces.{pace_at, sum_below, pace_sum, ArePaces, pace_for, most_pace, FitPaces, AreInTime, HasMoved}
 use Rattle.timer_wheels.specs.Smooth.{slot_in, next_list, ticks_left}
-use Rattle.timer_wheels.specs.Tables.{radices, wide, clock}
+use Rattle.timer_wheels.specs.Tables.{radices, wide, clock, small}
 use Rattle.timer_wheels.specs.declared.buckets.Buckets.{Buckets}
+use Rattle.timer_links.specs.declared.ring.TheConstants.{INDEXES}
 use Rattle.timer_wheels.specs.declared.smooth.paces.TheConstants.{MOST_PACE}
 use Rattle.timer_wheels.specs.declared.smooth.turns.TheConstants.{MOST_WHEELS}
 use Rattle.timer_wheels.specs.declared.table.Table.{Table}
-use Rattle.timer_wheels.specs.declared.table.Table.TheVariants.{Wide, Clock}
+use Rattle.timer_wheels.specs.declared.table.Table.TheVariants.{Wide, Clock, Small}
 use Rattle.timer_wheels.proofs.DigitLaws.{quotient_mono}
 use Rattle.timer_wheels.proofs.SmoothPace.{pace_begun}
 use Rattle.timer_wheels.proofs.SmoothTurns.{wide_length, clock_length}
 use Rattle.timer_wheels.proofs.SmoothWeights.{weight_some, halves}
+use Rattle.timer_wheels.proofs.SmallDigits.{small_length}
 use Rattle.timer_wheels.proofs.TableLaws.{of_table}
 
 -- Sums.
@@ -78,33 +80,40 @@ set_paces paces sum wheel pace a w p = record {
 pub few_wheels : (t : Table) (k : ℕ) → k < length (radices t) → k < MOST_WHEELS
 few_wheels Wide k h = omega (arith, wide_length)
 few_wheels Clock k h = omega (arith, clock_length)
+few_wheels Small k h = omega (arith, small_length)
 
--- a slot above the lowest wheel is at least 60 ticks
-sixty : (r : ℕ) (rs : List ℕ) (k : ℕ) → IsTable rs → 60 ≤ r → 60 ≤ r * weight k rs
-sixty r rs k i h = omega (arith, mul-le-mul_left r (weight_some rs k i))
+-- a slot above the lowest wheel is at least 16 ticks
+sixteen : (r : ℕ) (rs : List ℕ) (k : ℕ) → IsTable rs → 16 ≤ r → 16 ≤ r * weight k rs
+sixteen r rs k i h = omega (arith, mul-le-mul_left r (weight_some rs k i))
 
-sixty_of_wide : (k : ℕ) → IsTable wide → 0 < k → 60 ≤ weight k wide
+sixteen_of_wide : (k : ℕ) → IsTable wide → 0 < k → 16 ≤ weight k wide
 unfolding wide
-sixty_of_wide zero i z = absurd (omega arith)
-sixty_of_wide (suc k) i z = sixty 64 (64 ∷ 64 ∷ 64 ∷ 64 ∷ 64 ∷ 64 ∷ 64 ∷ 64 ∷ 64 ∷ []) k i.1 (omega arith)
+sixteen_of_wide zero i z = absurd (omega arith)
+sixteen_of_wide (suc k) i z = sixteen 64 (64 ∷ 64 ∷ 64 ∷ 64 ∷ 64 ∷ 64 ∷ 64 ∷ 64 ∷ 64 ∷ []) k i.1 (omega arith)
 
-sixty_of_clock : (k : ℕ) → IsTable clock → 0 < k → 60 ≤ weight k clock
+sixteen_of_clock : (k : ℕ) → IsTable clock → 0 < k → 16 ≤ weight k clock
 unfolding clock
-sixty_of_clock zero i z = absurd (omega arith)
-sixty_of_clock (suc k) i z = sixty 60 (60 ∷ 24 ∷ 100 ∷ []) k i.1 (omega arith)
+sixteen_of_clock zero i z = absurd (omega arith)
+sixteen_of_clock (suc k) i z = sixteen 60 (60 ∷ 24 ∷ 100 ∷ []) k i.1 (omega arith)
 
-pub sixty_ticks : (t : Table) (k : ℕ) → IsTable (radices t) → 0 < k → 60 ≤ weight k (radices t)
-sixty_ticks Wide = sixty_of_wide
-sixty_ticks Clock = sixty_of_clock
+sixteen_of_small : (k : ℕ) → IsTable small → 0 < k → 16 ≤ weight k small
+unfolding small
+sixteen_of_small zero i z = absurd (omega arith)
+sixteen_of_small (suc k) i z = sixteen 16 (16 ∷ 16 ∷ 16 ∷ 16 ∷ 16 ∷ []) k i.1 (omega arith)
 
-quotient_few : (n w : ℕ) → 60 ≤ w → n < 18446744073709551616 → n / w ≤ 307445734561825860
+pub sixteen_ticks : (t : Table) (k : ℕ) → IsTable (radices t) → 0 < k → 16 ≤ weight k (radices t)
+sixteen_ticks Wide = sixteen_of_wide
+sixteen_ticks Clock = sixteen_of_clock
+sixteen_ticks Small = sixteen_of_small
+
+quotient_few : (n w : ℕ) → 16 ≤ w → n ≤ INDEXES → n / w ≤ 268435456
 quotient_few n w h l =
     let a : n / w * w ≤ n = div-mul-le_self n w in
-    let b : n / w * 60 ≤ n / w * w = mul-le-mul_left (n / w) h in
+    let b : n / w * 16 ≤ n / w * w = mul-le-mul_left (n / w) h in
     omega arith
 
-pub held_quotient : (t : Table) (k n : ℕ) → 0 < k → n < 18446744073709551616 → n / weight k (radices t) ≤ 307445734561825860
-held_quotient t k n z l = quotient_few n (weight k (radices t)) (sixty_ticks t k (of_table t).is_table z) l
+pub held_quotient : (t : Table) (k n : ℕ) → 0 < k → n ≤ INDEXES → n / weight k (radices t) ≤ 268435456
+held_quotient t k n z l = quotient_few n (weight k (radices t)) (sixteen_ticks t k (of_table t).is_table z) l
 
 -- more timers, no lower pace
 pub pace_mono : (t : Table) (k n m : ℕ) → n ≤ m → pace_for (radices t) n k ≤ pace_for (radices t) m k

@@ -3,9 +3,10 @@ use Rattle.std.proofs.Common.{◌≡◌, ◌<◌, ◌≤◌, ◌*◌, ℕ, zero,
 use Rattle.std.proofs.Math.Nat.{mul-le-mul_right, mul-le-mul_left}
 use Rattle.std.proofs.lemmas.Bool.{cases_eq}
 use Rattle.timer_wheels.specs.Digits.{IsTable, weight, radix}
-use Rattle.timer_wheels.specs.Tables.{wide, clock, radices}
+use Rattle.timer_wheels.specs.Tables.{wide, clock, small, radices}
 use Rattle.timer_wheels.specs.declared.table.Table.{Table}
-use Rattle.timer_wheels.specs.declared.table.Table.TheVariants.{Wide, Clock}
+use Rattle.timer_wheels.specs.declared.table.Table.TheVariants.{Wide, Clock, Small}
+use Rattle.timer_wheels.proofs.SmallDigits.{small_length, small_radix}
 use Rattle.timer_wheels.proofs.SmoothTurns.{wide_length, wide_radix}
 
 pub weight_up : (table : List ℕ) (k : ℕ) → k < length table → weight (suc k) table ≡ radix k table * weight k table
@@ -33,6 +34,7 @@ two_on_clock (suc (suc (suc (suc k)))) h = absurd (omega arith)
 radix_two : (t : Table) (k : ℕ) → k < length (radices t) → 2 ≤ radix k (radices t)
 radix_two Wide k h = omega (arith, wide_length, wide_radix k (omega (arith, wide_length)))
 radix_two Clock k h = two_on_clock k h
+radix_two Small k h = omega (arith, small_length, small_radix k (omega (arith, small_length)))
 
 -- a slot of a wheel is at least two of a lower one
 pub record IsMultiple (more less : ℕ) : Type 0 where
@@ -84,6 +86,12 @@ unfolding clock
 halves_of_clock zero i z = absurd (omega arith)
 halves_of_clock (suc k) i z = half_of 60 30 (60 ∷ 24 ∷ 100 ∷ []) k i.1 (omega arith) (omega arith)
 
+halves_of_small : (k : ℕ) → IsTable small → 0 < k → HasHalf (weight k small)
+unfolding small
+halves_of_small zero i z = absurd (omega arith)
+halves_of_small (suc k) i z = half_of 16 8 (16 ∷ 16 ∷ 16 ∷ 16 ∷ 16 ∷ []) k i.1 (omega arith) (omega arith)
+
 pub halves : (t : Table) (k : ℕ) → IsTable (radices t) → 0 < k → HasHalf (weight k (radices t))
 halves Wide = halves_of_wide
 halves Clock = halves_of_clock
+halves Small = halves_of_small

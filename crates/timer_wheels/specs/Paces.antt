@@ -9,7 +9,7 @@ use Rattle.timer_wheels.specs.declared.buckets.Buckets.{Buckets}
 use Rattle.timer_wheels.specs.declared.smooth.paces.TheConstants.{MOST_PACE}
 use Rattle.timer_wheels.specs.declared.smooth.turns.TheConstants.{MOST_WHEELS}
 use Rattle.timer_wheels.specs.declared.table.Table.{Table}
-use Rattle.timer_wheels.specs.declared.table.Table.TheVariants.{Wide, Clock}
+use Rattle.timer_wheels.specs.declared.table.Table.TheVariants.{Wide, Clock, Small}
 
 -- the pace of wheel k
 abbrev pub pace_at : List ℕ → ℕ → ℕ
@@ -53,6 +53,7 @@ AreInTime-prop table b paces = Π_prop (λ k. Π_prop (λ z. Π_prop (λ l. le_p
 abbrev pub tick_bound : Table → ℕ → ℕ
 tick_bound Wide n = 2 * n / 63 + 18
 tick_bound Clock n = n / 29 + 6
+tick_bound Small n = 2 * n / 15 + 10
 
 -- as many timers of a wheel's next bucket as its pace went, or all; and the pace is the same, or 0 if all are gone
 pub record HasMoved (table : Table) (old new : Buckets) (paces paces2 : List ℕ) (k : ℕ) : Type 0 where

@@ -10,10 +10,10 @@ use Rattle.timer_wheels.specs.Paces.{pace_sum, FitPaces}
 use Rattle.timer_wheels.specs.Placement.{no_rounds}
 use Rattle.timer_wheels.specs.Shown.{ShowsBuckets}
 use Rattle.timer_wheels.specs.Smooth.{smooth_slots, smooth_bucket, mark}
-use Rattle.timer_wheels.specs.Tables.{radices, wide, clock}
+use Rattle.timer_wheels.specs.Tables.{radices, wide, clock, small}
 use Rattle.timer_wheels.specs.declared.smooth.SmoothWheel.{SmoothWheel}
 use Rattle.timer_wheels.specs.declared.table.Table.{Table}
-use Rattle.timer_wheels.specs.declared.table.Table.TheVariants.{Wide, Clock}
+use Rattle.timer_wheels.specs.declared.table.Table.TheVariants.{Wide, Clock, Small}
 
 -- the state of the wheel
 abbrev pub smooth_state : SmoothWheel → WheelState
@@ -25,12 +25,13 @@ smooth_table wheel = wheel.bank.table
 
 -- the table whose wheels have this many slots in two revolutions
 abbrev pub table_by_turns : ℕ → Table
-table_by_turns n = if n == smooth_slots (radices Wide) then Wide else Clock
+table_by_turns n = if n == smooth_slots (radices Wide) then Wide else if n == smooth_slots (radices Clock) then Clock else Small
 
 pub by_its_turns : (table : Table) → table_by_turns (smooth_slots (radices table)) ≡ table
-unfolding wide clock
+unfolding wide clock small
 by_its_turns Wide = refl
 by_its_turns Clock = refl
+by_its_turns Small = refl
 
 -- its radices
 abbrev pub radices_by_turns : ℕ → List ℕ

@@ -6,9 +6,10 @@
 //!
 //!     Wide    4161 = 1 * 64^2 + 1 * 64 + 1                     digits  0 0 0 0 0 0 0 1 1 1
 //!     Clock   990915 = 11 days 11:15:15                        digits  11 11 15 15
+//!     Small   4161 = 1 * 16^3 + 4 * 16 + 1                     digits  0 0 1 0 4 1
 //!
-//! How a digit is found is each table's own matter. All that depends on it is in the table's file (`wide`, `clock`),
-//! whose public functions are called by those here, and in its row of the two macros.
+//! How a digit is found is each table's own matter. All that depends on it is in the table's file (`wide`, `clock`,
+//! `small`), whose public functions are called by those here, and in its row of the two macros.
 ghost use Rattle.std.specs.Prelude.{◌≡◌, ◌==◌, ◌<◌, ◌≤◌, ◌/◌, ◌%◌};
 ghost use Rattle.timer_base.specs.declared.limits.TheConstants.{LAST};
 ghost use Rattle.timer_wheels.specs.declared.table.TheConstants.{MOST_BUCKETS};
@@ -18,6 +19,7 @@ ghost use Rattle.timer_wheels.specs.Digits.{bucket, emptied, slots, last_of, low
 
 mod clock;
 mod number;
+mod small;
 mod wide;
 
 /// How many slots each wheel has.
@@ -27,10 +29,15 @@ pub enum Table {
     Wide,
     /// Wheels of 60 seconds, 60 minutes, 24 hours and 100 days: a clock of 8,640,000 ticks.
     Clock,
+    /// Six wheels of 16 slots, for machines with little memory: a clock of 2^24 ticks.
+    Small,
 }
 
 /// The last tick of the clock of `Table::Clock`: day 99, 23:59:59.
 pub const LAST_OF_CLOCK: u64 = 8639999;
+
+/// The last tick of the clock of `Table::Small`: 2^24 - 1.
+pub const LAST_OF_SMALL: u64 = 16777215;
 
 /// The most buckets that a table has.
 pub const MOST_BUCKETS: usize = 640;
@@ -41,6 +48,7 @@ macro_rules! of_table {
         match $table {
             Table::Wide => wide::$function($($argument),*),
             Table::Clock => clock::$function($($argument),*),
+            Table::Small => small::$function($($argument),*),
         }
     };
 }
@@ -51,6 +59,7 @@ macro_rules! with_constant_table {
         match $table {
             Table::Wide => $function(Table::Wide, $($argument),*),
             Table::Clock => $function(Table::Clock, $($argument),*),
+            Table::Small => $function(Table::Small, $($argument),*),
         }
     };
 }

@@ -268,7 +268,7 @@ fn play_over_each(rt: &impl Abort, alloc: Global, row: Row) -> Result<(), Fail> 
     for slots in [1, 8, 256, 65536] {
         play(rt, alloc, HashedWheel::new(alloc, slots, 0)?, row)?;
     }
-    for table in [Table::Wide, Table::Clock] {
+    for table in [Table::Wide, Table::Clock, Table::Small] {
         play(rt, alloc, HierWheel::with_table(alloc, table, 0)?, row)?;
     }
     Ok(())

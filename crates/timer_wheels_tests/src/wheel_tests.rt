@@ -125,7 +125,7 @@ fn each_wheel_starts_restarts_stops_and_expires(rt: HostRuntime) -> Result<(), F
     for slots in [1, 8, 256, 65536] {
         use_wheel(&rt, alloc, &mut HashedWheel::new(alloc, slots, 0)?)?;
     }
-    for table in [Table::Wide, Table::Clock] {
+    for table in [Table::Wide, Table::Clock, Table::Small] {
         use_wheel(&rt, alloc, &mut HierWheel::with_table(alloc, table, 0)?)?;
         use_wheel(&rt, alloc, &mut SmoothWheel::with_table(alloc, table, 0)?)?;
     }

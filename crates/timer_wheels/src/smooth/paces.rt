@@ -10,8 +10,8 @@ ghost use Rattle.timer_wheels.specs.declared.smooth.turns.TheConstants.{MOST_WHE
 use crate::smooth::turns::MOST_WHEELS;
 use std::marker::Model;
 
-/// No pace is above it, for as many timers as 64 bits count.
-pub const MOST_PACE: u64 = 1 << 60;
+/// No pace is above it, for as many timers as links can name.
+pub const MOST_PACE: u64 = 1 << 30;
 
 /// A pace for each wheel.
 #[derive(Drop)]

@@ -9,7 +9,7 @@ ghost use Rattle.timer_wheels.specs.Smooth.{slot_in, smooth_list, smooth_slots, 
 ghost use Rattle.timer_wheels.specs.Tables.{radices};
 ghost use Rattle.timer_wheels.specs.declared.smooth.turns.TheConstants.{MOST_WHEELS, MOST_LISTS};
 
-use crate::table::Table;
+use crate::table::{Table, bucket_of};
 
 /// The most wheels that a table has.
 pub const MOST_WHEELS: usize = 10;
@@ -22,7 +22,7 @@ const STRIDE: usize = 128;
 
 /// How many wheels there are.
 #[inline]
-#[tactic(auto, unfolding(crate::specs::Tables::wide, crate::specs::Tables::clock))]
+#[tactic(auto, unfolding(crate::specs::Tables::wide, crate::specs::Tables::clock, crate::specs::Tables::small))]
 pub fn wheels_of(table: Table) -> usize
     ensures value { result ≡ length (radices table) }
     ensures few { result ≤ MOST_WHEELS }
@@ -31,12 +31,13 @@ pub fn wheels_of(table: Table) -> usize
     match table {
         Table::Wide => 10,
         Table::Clock => 4,
+        Table::Small => 6,
     }
 }
 
 /// How many lists the buckets are.
 #[inline]
-#[tactic(auto, using(crate::proofs::SmoothTurns::wide_slots, crate::proofs::SmoothTurns::clock_slots))]
+#[tactic(auto, using(crate::proofs::SmoothTurns::wide_slots, crate::proofs::SmoothTurns::clock_slots, crate::proofs::SmallDigits::small_slots))]
 pub fn lists_of(table: Table) -> usize
     ensures value { result ≡ smooth_slots (radices table) }
     ensures in_range { result ≤ MOST_LISTS }
@@ -44,12 +45,13 @@ pub fn lists_of(table: Table) -> usize
     match table {
         Table::Wide => 1280,
         Table::Clock => 584,
+        Table::Small => 672,
     }
 }
 
 /// How many ticks a slot of a wheel is.
 #[inline]
-#[tactic(auto, using(crate::proofs::SmoothTurns::wide_shift, crate::proofs::SmoothTurns::wide_length), unfolding(crate::specs::Tables::clock))]
+#[tactic(auto, using(crate::proofs::SmoothTurns::wide_shift, crate::proofs::SmoothTurns::wide_length, crate::proofs::SmallDigits::small_shift, crate::proofs::SmallDigits::small_length), unfolding(crate::specs::Tables::clock))]
 pub fn weight_of(table: Table, wheel: usize) -> u64
     requires { wheel < length (radices table) }
     ensures { result ≡ weight wheel (radices table) }
@@ -62,12 +64,13 @@ pub fn weight_of(table: Table, wheel: usize) -> u64
             2 => 3600,
             _ => 86400,
         },
+        Table::Small => 1 << (4 * wheel),
     }
 }
 
 /// How many slots a wheel has: two revolutions.
 #[inline]
-#[tactic(auto, using(crate::proofs::SmoothTurns::wide_turns, crate::proofs::SmoothTurns::wide_length), unfolding(crate::specs::Tables::clock))]
+#[tactic(auto, using(crate::proofs::SmoothTurns::wide_turns, crate::proofs::SmoothTurns::wide_length, crate::proofs::SmallDigits::small_turns, crate::proofs::SmallDigits::small_length), unfolding(crate::specs::Tables::clock))]
 pub fn turns_of(table: Table, wheel: usize) -> u64
     requires { wheel < length (radices table) }
     ensures value { result ≡ 2 * radix wheel (radices table) }
@@ -81,12 +84,13 @@ pub fn turns_of(table: Table, wheel: usize) -> u64
             2 => 48,
             _ => 200,
         },
+        Table::Small => 32,
     }
 }
 
 /// The slot of a tick on a wheel.
 #[inline]
-#[tactic(auto, using(crate::proofs::SmoothTurns::wide_slot, crate::proofs::SmoothTurns::wide_length), unfolding(crate::specs::Tables::clock))]
+#[tactic(auto, using(crate::proofs::SmoothTurns::wide_slot, crate::proofs::SmoothTurns::wide_length, crate::proofs::SmallDigits::small_slot, crate::proofs::SmallDigits::small_length), unfolding(crate::specs::Tables::clock))]
 pub fn slot_of(table: Table, wheel: usize, tick: u64) -> u64
     requires { wheel < length (radices table) }
     ensures { result ≡ slot_in (radices table) wheel tick }
@@ -99,12 +103,13 @@ pub fn slot_of(table: Table, wheel: usize, tick: u64) -> u64
             2 => tick / 3600,
             _ => tick / 86400,
         },
+        Table::Small => tick >> (4 * wheel),
     }
 }
 
 /// The list of a slot.
 #[inline]
-#[tactic(auto, using(crate::proofs::SmoothTurns::wide_list, crate::proofs::SmoothTurns::wide_list_in_range, crate::proofs::SmoothTurns::wide_length), unfolding(crate::specs::Tables::clock))]
+#[tactic(auto, using(crate::proofs::SmoothTurns::wide_list, crate::proofs::SmoothTurns::wide_list_in_range, crate::proofs::SmoothTurns::wide_length, crate::proofs::SmallDigits::small_list, crate::proofs::SmallDigits::small_list_in_range, crate::proofs::SmallDigits::small_length), unfolding(crate::specs::Tables::clock))]
 pub fn list_of_slot(table: Table, wheel: usize, slot: u64) -> usize
     requires { wheel < length (radices table) }
     ensures value { result ≡ smooth_list (radices table) wheel slot }
@@ -118,12 +123,13 @@ pub fn list_of_slot(table: Table, wheel: usize, slot: u64) -> usize
             2 => 2 * STRIDE + (slot % 48) as usize,
             _ => 3 * STRIDE + (slot % 200) as usize,
         },
+        Table::Small => STRIDE * wheel + (slot % 32) as usize,
     }
 }
 
 /// The highest wheel on which a deadline has another digit than now.
 #[inline]
-#[tactic(auto, using(crate::proofs::WideDigits::wide_levels, crate::proofs::SmoothTurns::wide_length, crate::proofs::SmoothTurns::clock_levels, crate::proofs::SmoothTurns::clock_length, crate::proofs::TableLaws::last_named))]
+#[tactic(auto, using(crate::proofs::WideDigits::wide_levels, crate::proofs::SmoothTurns::wide_length, crate::proofs::SmoothTurns::clock_levels, crate::proofs::SmoothTurns::clock_length, crate::proofs::SmallDigits::small_level, crate::proofs::SmallDigits::small_level_in_range, crate::proofs::TableLaws::last_named))]
 pub fn level_of(table: Table, now: u64, deadline: u64) -> usize
     requires later { now < deadline }
     requires deadline { deadline ≤ last_of (radices table) }
@@ -144,6 +150,7 @@ pub fn level_of(table: Table, now: u64, deadline: u64) -> usize
                 3
             }
         }
+        Table::Small => bucket_of(table, now, deadline) / 16,
     }
 }
 

@@ -11,6 +11,9 @@ pub const WIDE: u32 = 0;
 /// The number of `Table::Clock`.
 pub const CLOCK: u32 = 1;
 
+/// The number of `Table::Small`.
+pub const SMALL: u32 = 3;
+
 impl Table {
     /// The table with this number, if there is one.
     pub fn with_number(number: u32) -> Option<Table>
@@ -19,6 +22,7 @@ impl Table {
         match number {
             WIDE => Some(Table::Wide),
             CLOCK => Some(Table::Clock),
+            SMALL => Some(Table::Small),
             _ => None,
         }
     }

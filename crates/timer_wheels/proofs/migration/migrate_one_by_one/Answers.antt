@@ -72,7 +72,7 @@ pub overflow_add-moves : goal.overflow_add-moves
 overflow_add-moves c =
     let i = c.loop-ahead.invariant in
     let h : c.loop-ahead.moves + 1 < 18446744073709551616 = moves_fit c.loop-ahead.links.lists i.emptying (first_row i.emptying (sym c.in-Some.is
-    ∙ i.ahead)) c.lemma_countable.ensures in
+    ∙ i.ahead)) (omega (arith, c.lemma_countable.ensures)) in
     search rules
 
 pub enter-requires : goal.enter-requires
@@ -89,7 +89,7 @@ enter-requires c =
       positive = omega (arith, f.first.not_past, f.deadline, c.if-deadline-tick.false);
       few = but_fits i.foretold to.result c.in-Some.deadline f.row f.rest m.new.self.lists to.ensures.in_range inside
           (goes_elsewhere m.new.self.lists i.emptying f to.result is) f.at m.ensures.moved
-          c.lemma_countable-else-deadline-tick.ensures;
+          (omega (arith, c.lemma_countable-else-deadline-tick.ensures));
     }
 
 pub returns-clause-marked : goal.returns-clause-marked

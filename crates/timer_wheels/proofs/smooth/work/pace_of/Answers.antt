@@ -1,5 +1,5 @@
 use Rattle.std.proofs.Common.{◌<◌, ◌≤◌, ◌+◌, ◌*◌, ◌/◌, arith, rules}
-use Rattle.timer_wheels.proofs.PaceLemmas.{held_quotient, enough, sixty_ticks}
+use Rattle.timer_wheels.proofs.PaceLemmas.{held_quotient, enough, sixteen_ticks}
 use Rattle.timer_wheels.proofs.TableLaws.{of_table}
 use Rattle.timer_wheels.proofs.SmoothDescent.{few_lists}
 use Rattle.timer_wheels.proofs.smooth.work.pace_of.Goals as goal
@@ -10,11 +10,11 @@ has-requires c = omega (arith, c.next_list.ensures.in_range, few_lists c.args.ba
 pub nonzero_div-result : goal.nonzero_div-result
 nonzero_div-result c =
     let t = c.args.bank.now.table in
-    omega (arith, c.weight_of.ensures, sixty_ticks t c.args.wheel (of_table t).is_table c.requires.above)
+    omega (arith, c.weight_of.ensures, sixteen_ticks t c.args.wheel (of_table t).is_table c.requires.above)
 
 pub overflow_add-result : goal.overflow_add-result
 overflow_add-result c =
-    let q : c.len-held.result / c.weight_of.result ≤ 307445734561825860 =
+    let q : c.len-held.result / c.weight_of.result ≤ 268435456 =
     rw c.weight_of.ensures (held_quotient c.args.bank.now.table c.args.wheel c.len-held.result c.requires.above
     (omega (arith, c.len-held.ensures, c.lemma_countable.ensures))) in
     let h : c.len-held.result / c.weight_of.result + 1 < 18446744073709551616 = omega arith in
@@ -22,7 +22,7 @@ overflow_add-result c =
 
 pub overflow_mul-result : goal.overflow_mul-result
 overflow_mul-result c =
-    let q : c.len-held.result / c.weight_of.result ≤ 307445734561825860 =
+    let q : c.len-held.result / c.weight_of.result ≤ 268435456 =
     rw c.weight_of.ensures (held_quotient c.args.bank.now.table c.args.wheel c.len-held.result c.requires.above
     (omega (arith, c.len-held.ensures, c.lemma_countable.ensures))) in
     let h : 2 * (c.len-held.result / c.weight_of.result + 1) < 18446744073709551616 = omega arith in
@@ -30,7 +30,7 @@ overflow_mul-result c =
 
 pub returns-clause-most : goal.returns-clause-most
 returns-clause-most c =
-    let q : c.len-held.result / c.weight_of.result ≤ 307445734561825860 =
+    let q : c.len-held.result / c.weight_of.result ≤ 268435456 =
     rw c.weight_of.ensures (held_quotient c.args.bank.now.table c.args.wheel c.len-held.result c.requires.above
     (omega (arith, c.len-held.ensures, c.lemma_countable.ensures))) in
     omega arith

@@ -1,7 +1,7 @@
 use Rattle.std.proofs.Common.{◌≡◌, ◌≤◌, ◌+◌, ◌/◌, ◌%◌, ℕ, subst, sym}
 use Rattle.timer_wheels.specs.declared.table.Table.{Table}
 use Rattle.timer_wheels.specs.Digits.{lowest_radix}
-use Rattle.timer_wheels.specs.declared.table.Table.TheVariants.{Wide, Clock}
+use Rattle.timer_wheels.specs.declared.table.Table.TheVariants.{Wide, Clock, Small}
 use Rattle.timer_wheels.specs.declared.wheels.Wheels.{Wheels}
 use Rattle.timer_wheels.specs.Leap.{AreNotVisitedBefore}
 use Rattle.timer_wheels.specs.Occupied.{bit_of}
@@ -26,3 +26,7 @@ returns-in-Wide-clause-not_before c = λ yes. quiet_by c.args.self.now c.args.en
 pub returns-in-Clock-clause-not_before : goal.returns-in-Clock-clause-not_before
 returns-in-Clock-clause-not_before c = λ yes. quiet_by c.args.self.now c.args.end Clock c.in-Clock.is
     (c.is_clear_to-in-Clock.ensures.within yes) (c.is_clear_to-in-Clock.ensures.clear yes)
+
+pub returns-in-Small-clause-not_before : goal.returns-in-Small-clause-not_before
+returns-in-Small-clause-not_before c = λ yes. quiet_by c.args.self.now c.args.end Small c.in-Small.is
+    (c.is_clear_to-in-Small.ensures.within yes) (c.is_clear_to-in-Small.ensures.clear yes)

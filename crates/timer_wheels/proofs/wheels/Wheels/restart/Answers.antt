@@ -1,4 +1,4 @@
-use Rattle.std.proofs.Common.{◌≡◌, ◌<◌, refl, subst, sym, ap, ◌∙◌, Some, map}
+use Rattle.std.proofs.Common.{arith, ◌≡◌, ◌<◌, refl, subst, sym, ap, ◌∙◌, Some, map}
 use Rattle.timer_base.specs.WheelState.{held_at, old_timer}
 use Rattle.timer_links.specs.Lists.{with_row, without_key, row_count, KeyedLists}
 use Rattle.timer_wheels.specs.Buckets.{state_of, row_at, replaced}
@@ -39,7 +39,7 @@ enter_list-requires c =
       list = in_slots_of w.hier to.result w.buckets.tick c.args.timer.deadline to.ensures.list;
       size = left.foretold.size ∙ w.hier.has_slots;
       few = come_fits left to.result (row_at key c.args.timer 0) (removed w.buckets.sound key).has_lists refl
-          c.leave_list.new.occupied c.leave_list.new.firsts to.ensures.list (subst P r.ensures.lists c.lemma_countable.ensures);
+          c.leave_list.new.occupied c.leave_list.new.firsts to.ensures.list (subst P r.ensures.lists (omega (arith, c.lemma_countable.ensures)));
     }
 
 pub invariant_of-self-2 : goal.invariant_of-self-2

@@ -1,4 +1,4 @@
-use Rattle.std.proofs.Common.{◌<◌, ◌∙◌, refl, subst}
+use Rattle.std.proofs.Common.{arith, ◌<◌, ◌∙◌, refl, subst}
 use Rattle.timer_links.specs.Lists.{with_row, row_count, KeyedLists}
 use Rattle.timer_wheels.specs.Buckets.{row_at}
 use Rattle.timer_wheels.proofs.WheelUpdates.{wheels_of, come_wheels, come_fits, in_slots_of, framed}
@@ -14,7 +14,7 @@ enter_list-requires c =
       list = in_slots_of w.hier to.result w.buckets.tick c.args.timer.deadline to.ensures.list;
       size = w.foretold.size ∙ w.hier.has_slots;
       few = come_fits (wheels_of w.hier w.foretold) to.result row w.buckets.sound.has_lists refl
-          w.occupied w.firsts to.ensures.list (subst P c.in_ok-handle.ensures.lists c.lemma_countable.ensures);
+          w.occupied w.firsts to.ensures.list (subst P c.in_ok-handle.ensures.lists (omega (arith, c.lemma_countable.ensures)));
     }
 
 pub invariant_of-self-2 : goal.invariant_of-self-2
