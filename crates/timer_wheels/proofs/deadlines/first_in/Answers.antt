@@ -1,4 +1,4 @@
-use Rattle.std.proofs.Common.{◌≤◌, refl, arith}
+use Rattle.std.proofs.Common.{◌≤◌, arith}
 use Rattle.timer_wheels.proofs.WalkLemmas.{gathered_none, gathered_one, gathered_all, here_is_some}
 use Rattle.timer_wheels.proofs.FirstLemmas.{sought_one}
 use Rattle.timer_wheels.proofs.deadlines.first_in.Goals as goal

@@ -1,4 +1,4 @@
-use Rattle.std.proofs.Common.{◌≡◌, true, length}
+use Rattle.std.proofs.Common.{length}
 use Rattle.timer_wheels.proofs.FirstsLemmas.{AreBegun}
 use Rattle.timer_wheels.proofs.firsts.Firsts.begin.Given as goal
 

@@ -1,4 +1,4 @@
-use Rattle.std.proofs.Common.{◌≡◌, ◌<◌, ◌≤◌, ◌+◌, ◌-◌, ℕ, length, ◌∙◌, ap, arith, rules, subst, sym}
+use Rattle.std.proofs.Common.{◌<◌, ◌+◌, ◌-◌, length, ◌∙◌, ap, arith, rules, subst, sym}
 use Rattle.timer_wheels.specs.Firsts.{FirstsState}
 use Rattle.timer_wheels.proofs.FirstsLemmas.{counts_less, counts_fit, counts_set}
 use Rattle.timer_wheels.proofs.firsts.Firsts.set.Goals as goal

@@ -1,4 +1,4 @@
-use Rattle.std.proofs.Common.{◌<◌, length, ◌∙◌, refl, subst, sym, rules, arith}
+use Rattle.std.proofs.Common.{◌<◌, ◌∙◌, refl, subst}
 use Rattle.timer_links.specs.Lists.{list_at, with_row, KeyedLists}
 use Rattle.timer_wheels.specs.Buckets.{row_at}
 use Rattle.timer_wheels.specs.Digits.{lowest_radix}
