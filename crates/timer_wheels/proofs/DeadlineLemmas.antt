@@ -2,7 +2,6 @@
 use Rattle.std.proofs.Common.{◌≡◌, ◌<◌, ◌≤◌, ◌+◌, ◌*◌, ◌/◌, ℕ, suc, List, [], ◌∷◌, ◌++◌, length, refl, sym, ◌∙◌, ap, inl, inr, arith, Option, Some, None, min}
 use Rattle.std.specs.List.{AllByRecursion}
 use Rattle.std.proofs.lemmas.Bool.{cases_eq, cases_lt}
-use Rattle.std.proofs.lemmas.List.{length-map}
 use Rattle.timer_base.specs.Basics.{some_same, least_if_before, least_if_after, either}
 use Rattle.timer_base.specs.declared.timer.Timer.{Timer}
 use Rattle.timer_base.specs.Order.{insert_in_order, is_before}
@@ -10,13 +9,10 @@ use Rattle.timer_base.specs.OrderLaws.{All-weaken}
 use Rattle.timer_base.specs.Pending.{Entry, timer_of}
 use Rattle.timer_base.specs.PlainState.{earliest}
 use Rattle.timer_base.specs.WakeUps.{next_deadline}
-use Rattle.timer_links.specs.declared.node.Node.{Node}
 use Rattle.timer_links.specs.Lists.{list_at, KeyedLists, Row, Rows}
 use Rattle.timer_wheels.specs.BucketLists.{timer_in, timers_in, entry_of, pending_in, rows_below, EachRow}
 use Rattle.timer_wheels.specs.Buckets.{state_of}
 use Rattle.timer_wheels.specs.Deadlines.{HasDeadline, IsLeast, IsLeastDeadline}
-use Rattle.timer_wheels.specs.declared.first.First.{First}
-use Rattle.timer_wheels.specs.FirstDeadline.{IsFirstOf, IsKnownOf}
 use Rattle.timer_wheels.specs.declared.buckets.Buckets.{Buckets}
 use Rattle.timer_wheels.specs.declared.table.Table.{Table}
 use Rattle.timer_wheels.specs.Digits.{IsTable, bucket, lowest_radix}
@@ -25,14 +21,13 @@ use Rattle.timer_wheels.specs.Leap.{list_visit, timer_visit}
 use Rattle.timer_wheels.specs.Occupied.{IsFirstSet}
 use Rattle.timer_wheels.specs.Tables.{radices}
 use Rattle.timer_wheels.specs.WakeUps.{next_visit}
-use Rattle.timer_wheels.proofs.FirstLemmas.{count-few, enter_known, known_least, not_before-less}
+use Rattle.timer_wheels.proofs.FirstLemmas.{not_before-less}
 use Rattle.timer_wheels.proofs.AllLemmas.{all-map, all-of_map}
 use Rattle.timer_wheels.proofs.DigitLaws.{bucket_near, bucket_far, lowest_bucket, visit_here, quotient_mono, less_quotient}
 use Rattle.timer_wheels.proofs.HierLeaps.{IsKnown, known, none_where, none_wakes, first_in, first_some}
 use Rattle.timer_wheels.proofs.RowLemmas.{all-append, all-rows_below, append-nil, timers-append, around, rows_below-more}
 use Rattle.timer_wheels.proofs.TableLaws.{of_table}
 use Rattle.timer_wheels.proofs.VisitLaws.{list_is}
-use Rattle.timer_wheels.proofs.WalkLemmas.{IsGathering}
 
 -- The least deadline of two lists together.
 
@@ -62,36 +57,6 @@ least-append (Some a) (Some b) xs ys l m = elim (cases_lt a b) [
 
 least-one : (t : Timer) → IsLeast t.deadline (t ∷ [])
 least-one t = record { has = inl refl; none_earlier = (omega arith, tt) }
-
--- The walk along one list.
-
--- the first deadline of the rows, which is known if there are rows
-pub record IsSought (first : First) (rows : Rows) : Type 0 where
-  pub first_of : IsFirstOf first (timers_in rows)
-  -- the first timer is at most the bound
-  pub begun_at : first.count ≡ 0 → (rows ≡ []) × (first.bound ≡ 18446744073709551615)
-
--- it can count one more
-pub sought_few : {l step : ℕ} {lists : KeyedLists} {at : Option ℕ} {first : First} (most : ℕ) → IsGathering (IsSought first) l step lists at
-    → step < most → most < 18446744073709551616 → first.count < 18446744073709551615
-sought_few {first = first} most s h m =
-    omega (arith, s.holds.first_of.counted, count-few first.bound (timers_in s.past), length-map s.past timer_in, s.walk.count)
-
-pub sought_one : (key : ℕ) (first more : First) (node same : Node) (found : Option Node) (rows : Rows) → Some same ≡ found
-    → ((ts : List Timer) (t : Timer) → t.deadline ≡ same.timer.deadline → IsFirstOf first ts → IsFirstOf more (ts ++ t ∷ []))
-    → more.bound ≡ min first.bound same.timer.deadline → same.timer.deadline < 18446744073709551616 → found ≡ Some node
-    → IsSought first rows → IsSought more (rows ++ (key, node) ∷ [])
-sought_one key first more node same found rows f m k r e s =
-    let some : 0 < more.count = enter_known first more (timers_in rows) same.timer (m (timers_in rows) same.timer refl s.first_of)
-    s.first_of k (λ c. omega (arith, (s.begun_at c).1)) in
-    record {
-      first_of = rw (timers-append rows ((key, node) ∷ []))
-          (m (timers_in rows) node.timer (ap (λ (y : Node). y.timer.deadline) (sym (some_same same node (f ∙ e)))) s.first_of);
-      begun_at = λ c. absurd (omega arith);
-    }
-
-pub known_of : (first : First) (rows : Rows) → IsSought first rows → IsKnownOf first (timers_in rows)
-known_of first rows s = record { first_of = s.first_of; some = λ z. ap (λ (rows : Rows). timers_in rows) (s.begun_at z).0 }
 
 -- Several lists.
 
@@ -238,14 +203,6 @@ module _ {t : Table} {b : Buckets} {words : List ℕ} (h : IsHier t b words) (l 
     none_earlier = all-map timer_in (λ t. first_deadline ≤ t.deadline) (rows_below b.slots b.links.lists)
         (all-rows_below (λ row. first_deadline ≤ (timer_in row).deadline) b.slots b.links.lists not_sooner);
   })
-
-  -- what is known of it has a bound after now
-  pub bound_known : (first : First) → IsKnownOf first (timers_in (list_at l b.links.lists)) → 0 < first.bound
-  bound_known first k =
-      let rows : Rows = list_at l b.links.lists in
-      let m = known_least first (timers_in rows) (λ z. some_rows rows (first_some h l f) (k.some z)) k.first_of in
-      let u = row_with first.bound (IsKnown (radices t) b.tick l) rows (known h l first_below) m.has in
-      omega (arith, u.1.later, u.2)
 
   -- its least deadline is the first one of all
   pub first_is_next : (o : Option ℕ) → IsLeastDeadline o (timers_in (list_at l b.links.lists)) → o ≡ next_deadline (state_of b).pending

@@ -1,6 +1,6 @@
 -- The two changes of a hierarchy of wheels: a row is removed, and a row is pushed to the back of its list. If the last
 -- row leaves a bucket, its bit is cleared; if one comes to a bucket, it is set. What is due has no bit.
-use Rattle.std.proofs.Common.{◌≡◌, ◌≢◌, ◌<◌, ◌≤◌, ◌+◌, ◌⊎◌, ℕ, List, [], ◌∷◌, ◌++◌, length, refl, sym, ◌∙◌, ap, subst, inl, inr, arith, get_or-set_other, Option, Some, IfSome, map, slice_set}
+use Rattle.std.proofs.Common.{◌≡◌, ◌≢◌, ◌<◌, ◌≤◌, ◌+◌, ◌⊎◌, ℕ, List, [], ◌∷◌, ◌++◌, length, refl, sym, ◌∙◌, ap, subst, inl, inr, arith, get_or-set_other, length-set, Option, Some, IfSome, map, slice_set}
 use Rattle.std.specs.List.{AllByRecursion}
 use Rattle.std.proofs.lemmas.Bool.{cases_lt}
 use Rattle.timer_links.proofs.Rows.{StandsIn, stands_in}
@@ -8,21 +8,21 @@ use Rattle.timer_base.specs.declared.timer.Timer.{Timer}
 use Rattle.timer_base.specs.declared.timer.Handle.{Handle}
 use Rattle.timer_base.specs.WheelState.{IsPending, IsDue, held_at}
 use Rattle.timer_links.specs.declared.node.Node.{Node}
-use Rattle.timer_links.specs.Lists.{list_at, with_row, without_key, list_if_alone, row_count, AreApart, IsAloneIn, KeyedLists, Row, Rows}
+use Rattle.timer_links.specs.Lists.{list_at, with_row, without_key, list_if_alone, AreApart, IsAloneIn, KeyedLists, Row, Rows}
 use Rattle.timer_wheels.specs.declared.table.TheConstants.{MOST_BUCKETS}
 use Rattle.timer_wheels.specs.declared.buckets.Buckets.{Buckets}
 use Rattle.timer_wheels.specs.declared.table.Table.{Table}
 use Rattle.timer_wheels.specs.Buckets.{IsSameFrame, IsListOf}
 use Rattle.timer_wheels.specs.BucketLists.{timer_in, wheel_state, AreDue, AreBuckets, EachRow}
-use Rattle.timer_wheels.specs.declared.first.First.{First}
 use Rattle.timer_wheels.specs.Digits.{bucket, slots, last_of, lowest_radix}
-use Rattle.timer_wheels.specs.Firsts.{first_at, AreFirsts}
+use Rattle.timer_wheels.specs.Firsts.{FirstsState, AreFirsts}
 use Rattle.timer_wheels.specs.Hier.{IsHier, HasFirsts, Comes, Goes}
+use Rattle.timer_wheels.specs.Migration.{first_deadline}
 use Rattle.timer_wheels.specs.Occupied.{bit_of, filled, AreMarked, Clears}
 use Rattle.timer_wheels.specs.Placement.{IsPlaced}
 use Rattle.timer_wheels.specs.Tables.{radices}
 use Rattle.timer_wheels.proofs.BucketLemmas.{each-with_row, each-without_key, each-same}
-use Rattle.timer_wheels.proofs.FirstsLemmas.{same_firsts, entered_firsts, entered_fits, left_firsts, left_counted}
+use Rattle.timer_wheels.proofs.FirstsLemmas.{same_firsts, entered_firsts, left_firsts}
 use Rattle.timer_wheels.proofs.Handles.{held_node}
 use Rattle.timer_wheels.proofs.OccupiedLemmas.{marked_same, marked_set, filled_behind}
 use Rattle.timer_wheels.proofs.RowLemmas.{all-rest, all-list_at}
@@ -48,12 +48,12 @@ list_if_alone_in_range n l [] (x ∷ xs) h = tt
 list_if_alone_in_range n l (x ∷ xs) rest h = tt
 
 -- each row is in its timer's bucket, the bits mark which buckets have rows, and each bucket has its first deadline
-pub record AreWheels (table : List ℕ) (now n : ℕ) (words : List ℕ) (firsts : List First) (lists : KeyedLists) : Type 0 where
+pub record AreWheels (table : List ℕ) (now n : ℕ) (words : List ℕ) (firsts : FirstsState) (lists : KeyedLists) : Type 0 where
   pub placed : EachRow (IsPlaced table now) n lists
   pub marked : AreMarked n words lists
   pub foretold : AreFirsts (lowest_radix table) n firsts lists
 
-module _ {table : List ℕ} {now n : ℕ} {words : List ℕ} {firsts : List First} {lists : KeyedLists}
+module _ {table : List ℕ} {now n : ℕ} {words : List ℕ} {firsts : FirstsState} {lists : KeyedLists}
     (w : AreWheels table now n words firsts lists) where
   -- the buckets stay
   same_wheels : (new : KeyedLists) → ((s : ℕ) → s < n → list_at s new ≡ list_at s lists) → AreWheels table now n words firsts new
@@ -63,12 +63,15 @@ module _ {table : List ℕ} {now n : ℕ} {words : List ℕ} {firsts : List Firs
     foretold = same_firsts w.foretold new e;
   }
 
-  module _ (list : ℕ) (row : Row) (len : length lists ≡ n + 1) (z : row.1.rounds ≡ 0) (words2 : List ℕ) (firsts2 : List First) where
+  module _ (list : ℕ) (row : Row) (len : length lists ≡ n + 1) (z : row.1.rounds ≡ 0) (words2 : List ℕ) (firsts2 : FirstsState) where
     abbrev d : ℕ
     d = (timer_in row).deadline
 
+    abbrev front : Option ℕ
+    front = first_deadline (list_at list (with_row list row lists))
+
     -- a row comes to its bucket
-    pushed_wheels : list < n → bucket table now d ≡ list → Comes (lowest_radix table) list d words words2 firsts firsts2
+    pushed_wheels : list < n → bucket table now d ≡ list → Comes (lowest_radix table) list d front words words2 firsts firsts2
         → AreWheels table now n words2 firsts2 (with_row list row lists)
     pushed_wheels h at c = record {
       placed = each-with_row (IsPlaced table now) n list row lists (omega arith) (at, z) w.placed;
@@ -87,16 +90,10 @@ module _ {table : List ℕ} {now n : ℕ} {words : List ℕ} {firsts : List Firs
 
     -- a row comes to its list
     pub come_wheels : IsListOf list n now d → (now < d → list ≡ bucket table now d)
-        → (now < d → Comes (lowest_radix table) list d words words2 firsts firsts2)
+        → (now < d → Comes (lowest_radix table) list d front words words2 firsts firsts2)
         → (d ≤ now → (words2 ≡ words) × (firsts2 ≡ firsts)) → AreWheels table now n words2 firsts2 (with_row list row lists)
     come_wheels (inl h) at pending due = pushed_wheels h.0 (sym (at h.1)) (pending h.1)
     come_wheels (inr h) at pending due = let k : d ≡ now = h.1 in due_wheels h.0 (due (omega arith))
-
-    -- and can be counted there, if that is a bucket
-    pub come_fits : IsListOf list n now d → row_count (with_row list row lists) < 18446744073709551616 → now < d
-        → lowest_radix table ≤ list → (first_at list firsts).count < 18446744073709551615
-    come_fits (inl h) few later = entered_fits w.foretold list row h.0 (let k : list < n = h.0 in omega arith) few
-    come_fits (inr h) few later = absurd (let k : d ≡ now = h.1 in omega arith)
 
   module _ {last_tick last : ℕ} (b : AreBuckets n last_tick now last lists) (apart : AreApart lists) (handle : Handle) (t : Timer)
       (e : held_at handle (wheel_state n last_tick now last lists) ≡ Some t) where
@@ -157,14 +154,6 @@ module _ {table : List ℕ} {now n : ℕ} {words : List ℕ} {firsts : List Firs
     at_bucket : there.l < n → bucket table now t.deadline ≡ there.l
     at_bucket h = ap (bucket table now) (sym node_deadline) ∙ (row_has (IsPlaced table now there.l) (w.placed there.l h)).0
 
-    -- a pending timer was counted, if it has the bound
-    pub was_counted : now < t.deadline → lowest_radix table ≤ bucket table now t.deadline
-        → (first_at (bucket table now t.deadline) firsts).bound ≡ t.deadline
-        → 0 < (first_at (bucket table now t.deadline) firsts).count
-    was_counted later = subst (λ (l : ℕ). lowest_radix table ≤ l → (first_at l firsts).bound ≡ t.deadline → 0 < (first_at l firsts).count)
-        (sym (at_bucket (in_bucket later))) (left_counted w.foretold handle.place there.l node there.front there.rest rest
-        (in_bucket later) there.in_range there.at rest_is t.deadline node_deadline)
-
     module _ (emptied : Option ℕ) (alone : IsAloneIn handle.place lists emptied) where
       emptied_is : emptied ≡ list_if_alone there.l there.front there.rest
       emptied_is = alone there.l there.front node there.rest there.in_range there.at
@@ -173,7 +162,7 @@ module _ {table : List ℕ} {now n : ℕ} {words : List ℕ} {firsts : List Firs
       emptied_in_range later = subst (λ (o : Option ℕ). IfSome o (λ l. l < n)) (sym emptied_is)
           (list_if_alone_in_range n there.l there.front there.rest (in_bucket later))
 
-      module _ (words2 : List ℕ) (firsts2 : List First) where
+      module _ (words2 : List ℕ) (firsts2 : FirstsState) where
         abbrev GoesFrom : ℕ → Option ℕ → Type 0
         GoesFrom l o = Goes (lowest_radix table) l t.deadline o words words2 firsts firsts2
 
@@ -210,16 +199,23 @@ later_list : (list n now d : ℕ) → IsListOf list n now d → now < d → list
 later_list list n now d (inl h) later = h.0
 later_list list n now d (inr h) later = absurd (let k : d ≡ now = h.1 in omega arith)
 
+-- the list that a row came to is one of the lists
+pub came_to : (list n now d : ℕ) (row : Row) (lists new : KeyedLists) → IsListOf list n now d → length lists ≡ n + 1
+    → new ≡ with_row list row lists → list < length new
+came_to list n now d row lists new at len e =
+    let same : length new ≡ length lists = ap (λ (y : KeyedLists). length y) e ∙ length-set lists list (list_at list lists ++ row ∷ []) in
+    elim at [ inl h ↦ (let k : list < n = h.0 in omega arith) | inr h ↦ (let k : list ≡ n = h.0 in omega arith) ]
+
 -- a bucket has a bit
 pub in_word : (t : Table) (l : ℕ) → l < slots (radices t) → l < MOST_BUCKETS
 in_word t l k = let y : slots (radices t) ≤ MOST_BUCKETS = (of_table t).few_slots in omega arith
 
 -- the invariant of `Wheels`
-pub record AreKept (t : Table) (b : Buckets) (words : List ℕ) (firsts : List First) : Type 0 where
+pub record AreKept (t : Table) (b : Buckets) (words : List ℕ) (firsts : FirstsState) : Type 0 where
   pub hier : IsHier t b words
   pub foretold : HasFirsts t b firsts
 
-pub wheels_of : {t : Table} {b : Buckets} {words : List ℕ} {firsts : List First} → IsHier t b words → HasFirsts t b firsts
+pub wheels_of : {t : Table} {b : Buckets} {words : List ℕ} {firsts : FirstsState} → IsHier t b words → HasFirsts t b firsts
     → AreWheels (radices t) b.tick b.slots words firsts b.links.lists
 wheels_of h f = record { placed = h.placed; marked = h.marked; foretold = f }
 
@@ -235,7 +231,7 @@ module _ {t : Table} {b : Buckets} {words : List ℕ} (h : IsHier t b words) whe
   in_slots_of l now d i later =
       let k : l < b.slots = later_list l b.slots now d i later in let x : b.slots ≡ slots (radices t) = h.has_slots in omega arith
 
-  pub framed : (new : Buckets) (words2 : List ℕ) (firsts2 : List First) (lists : KeyedLists) → IsSameFrame b new
+  pub framed : (new : Buckets) (words2 : List ℕ) (firsts2 : FirstsState) (lists : KeyedLists) → IsSameFrame b new
       → new.links.lists ≡ lists → AreWheels (radices t) b.tick b.slots words2 firsts2 lists → AreKept t new words2 firsts2
   framed new words2 firsts2 lists f e w = record {
     hier = record {

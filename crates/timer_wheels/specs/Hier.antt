@@ -4,9 +4,8 @@ use Rattle.std.proofs.Props.{props}
 use Rattle.timer_wheels.specs.Buckets.{state_of}
 use Rattle.timer_wheels.specs.declared.buckets.Buckets.{Buckets}
 use Rattle.timer_wheels.specs.declared.table.Table.{Table}
-use Rattle.timer_wheels.specs.declared.first.First.{First}
 use Rattle.timer_wheels.specs.Digits.{slots, last_of, lowest_radix}
-use Rattle.timer_wheels.specs.Firsts.{Enters, Leaves, Empties, AreFirsts, AreFirsts-prop}
+use Rattle.timer_wheels.specs.Firsts.{FirstsState, Enters, Leaves, Empties, AreFirsts, AreFirsts-prop}
 use Rattle.timer_wheels.specs.Occupied.{bit_of, Clears, AreMarked, AreMarked-prop}
 use Rattle.timer_wheels.specs.Placement.{IsPlaced, IsPlaced-prop, levels_of}
 use Rattle.timer_wheels.specs.Tables.{radices}
@@ -37,21 +36,22 @@ pub IsHier-prop : (table : Table) (b : Buckets) (words : List ℕ) → IsProp (I
 IsHier-prop table b words = hlevel (props, ArePlaced-prop table b, AreMarked-prop b.slots words b.links.lists)
 
 -- the first deadline of each bucket above the lowest wheel
-abbrev pub HasFirsts : Table → Buckets → List First → Type 0
+abbrev pub HasFirsts : Table → Buckets → FirstsState → Type 0
 HasFirsts table b firsts = AreFirsts (lowest_radix (radices table)) b.slots firsts b.links.lists
 
-pub HasFirsts-prop : (table : Table) (b : Buckets) (firsts : List First) → IsProp (HasFirsts table b firsts)
+pub HasFirsts-prop : (table : Table) (b : Buckets) (firsts : FirstsState) → IsProp (HasFirsts table b firsts)
 HasFirsts-prop table b firsts = AreFirsts-prop (lowest_radix (radices table)) b.slots firsts b.links.lists
 
--- a timer with this deadline came to the back of bucket l: the bucket's bit is set, and it is counted there
-pub record Comes (lowest l deadline : ℕ) (words words2 : List ℕ) (firsts firsts2 : List First) : Type 0 where
+-- a timer with this deadline came to the back of bucket l, whose front has now the other deadline: the bucket's bit is set,
+-- and its first deadline is kept
+pub record Comes (lowest l deadline : ℕ) (front : Option ℕ) (words words2 : List ℕ) (firsts firsts2 : FirstsState) : Type 0 where
   pub here : bit_of words2 l ≡ 1
   pub others : (s : ℕ) → s ≢ l → bit_of words2 s ≡ bit_of words s
-  pub counted : Enters lowest l deadline firsts firsts2
+  pub counted : Enters lowest l deadline front firsts firsts2
 
 -- a timer with this deadline left bucket l: it is no longer counted there, and if it left the bucket empty, the
 -- bucket's bit is cleared
 pub record Goes (lowest l deadline : ℕ) (emptied : Option ℕ) (words words2 : List ℕ)
-    (firsts firsts2 : List First) : Type 0 where
+    (firsts firsts2 : FirstsState) : Type 0 where
   pub bits : Clears emptied words words2
   pub counted : MatchOption emptied (Leaves lowest l deadline firsts firsts2) (λ list. Empties list firsts firsts2)

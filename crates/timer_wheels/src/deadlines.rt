@@ -2,7 +2,7 @@
 //!
 //! A bucket is in order of starting and not of deadlines, so that its first deadline takes a walk along it.
 //! In a hierarchy every deadline of a bucket comes before those of the buckets after it: the first one with a
-//! timer is enough.
+//! timer is enough. `find_next` keeps what it found there (`firsts`), and so walks seldom.
 ghost use Rattle.std.specs.Prelude.{◌≡◌, ◌<◌, length};
 ghost use Rattle.timer_base.specs.WakeUps.{next_deadline};
 ghost use Rattle.timer_links.specs.Lists.{list_at};
@@ -31,12 +31,21 @@ fn least_below(links: &Links, count: usize) -> Option<u64>
 {
     let mut least = None;
     for list in 0..count {
-        least = earlier(least, first_in(links, list).known());
+        least = earlier(least, least_in(links, list));
     }
     least
 }
 
-/// The first deadline of the timers in one list, and how many have it. It walks the whole list.
+/// The least deadline of the timers in one list. It walks the whole list.
+pub fn least_in(links: &Links, list: usize) -> Option<u64>
+    requires { list < length links.now.lists }
+    ensures { IsLeastDeadline result (timers_in (list_at list links.now.lists)) }
+{
+    first_in(links, list).known(links, list)
+}
+
+/// What is kept of the first deadline in one list: whether its timers are in order, or else how many have it. It walks
+/// the whole list.
 pub fn first_in(links: &Links, list: usize) -> First
     requires { list < length links.now.lists }
     ensures { IsKnownOf result (timers_in (list_at list links.now.lists)) }
@@ -51,7 +60,7 @@ pub fn first_in(links: &Links, list: usize) -> First
         let Some(node) = links.get(key) else {
             break;
         };
-        first.enter(node.timer.deadline);
+        first.enter(links, list, node.timer.deadline);
         at = links.next(key);
     }
     first

@@ -1,42 +1,47 @@
-//! The first deadline of the timers in one bucket, kept while they come and go.
+//! The first deadline of the timers in one bucket, known without a walk while they come and go.
 //!
-//! No timer is earlier than `bound`, and `count` of them have just that deadline. So the first deadline is known
-//! if `count` is not 0. Otherwise `bound` is no more than a lower bound, and a walk finds the first deadline.
+//! As long as no timer comes that is earlier than one before it, they stand in the order of their deadlines. Then the
+//! first deadline is that of the front, whatever leaves: so it is in a bucket whose timers all have one time-out.
+//! `latest` is no earlier than any of them.
 //!
-//!     timers     bound, count           first deadline
-//!                2^64 - 1, 0            none
-//!     9          9, 1                   9
-//!     9 5 5      5, 2                   5
-//!     9 5        5, 1                   5, after a stop
-//!     9          5, 0                   not known, after another
-//!     9 7        5, 0                   not known, after a start: 7 is above the bound
-//!     9 7        7, 1                   7, after a walk
-ghost use Rattle.std.specs.Prelude.{◌≡◌, ◌<◌, ◌∷◌, ◌++◌, [], List, min};
-ghost use Rattle.timer_base.specs.declared.timer.Timer.{Timer};
-ghost use Rattle.timer_wheels.specs.Deadlines.{IsLeastDeadline};
-ghost use Rattle.timer_wheels.specs.FirstDeadline.{unknown_first, no_first, IsFirstOf, IsKnownOf};
+//! Once an earlier one comes, the timers with the first deadline are counted. None is before `bound`, and at least
+//! `count` have just that deadline: it is known unless the count is 0. Then a walk finds it, or that all are in order.
+//!
+//!     timers     kept of them           first deadline
+//!                in order up to 0       none
+//!     5 9        in order up to 9       5, that of the front
+//!     9          in order up to 9       9, after a stop
+//!     9 7        1 timer of 7           7, after a start: 7 is before 9
+//!     9 7 7      2 timers of 7          7, after another
+//!     9          0 timers of 7          not known, after two stops
+//!     9          in order up to 9       9, after a walk
+ghost use Rattle.std.specs.Prelude.{◌≡◌, ◌<◌, length, true, false, IfSome};
+ghost use Rattle.timer_links.specs.Lists.{list_at};
+ghost use Rattle.timer_wheels.specs.BucketLists.{timers_in};
+ghost use Rattle.timer_wheels.specs.Deadlines.{IsLeast, IsLeastDeadline};
+ghost use Rattle.timer_wheels.specs.FirstDeadline.{unknown_first, no_first, counts_of, entered_first, left_first, least_with, IsFirstOf, IsKnownOf};
+ghost use Rattle.timer_wheels.specs.Migration.{first_deadline};
 
-/// A lower bound of the deadlines in a bucket, and how many timers have it.
+use crate::walks::front_deadline;
+use timer_links::Links;
+
+/// What is kept of the deadlines in a bucket.
+// The count stands first: so it fits beside the variant's number, and all is 16 bytes.
 #[derive(Clone, Copy, Drop)]
-pub struct First {
-    /// No timer of the bucket has an earlier deadline.
-    pub bound: u64,
-    /// How many have this one.
-    pub count: u64,
+pub enum First {
+    /// The timers stand in the order of their deadlines, and none is after `latest`.
+    InOrder { latest: u64 },
+    /// At least `count` timers have the deadline `bound`, and none has an earlier one.
+    Counted { count: u32, bound: u64 },
 }
 
 impl First {
-    /// That of an empty bucket: any deadline is at most its bound.
+    /// That of an empty bucket.
     #[inline]
     pub fn none() -> First
-        ensures none { IsFirstOf result [] }
-        ensures bound { result.bound ≡ 18446744073709551615 }
-        ensures exact { result ≡ no_first }
+        ensures { result ≡ no_first }
     {
-        First {
-            bound: u64::MAX,
-            count: 0,
-        }
+        First::InOrder { latest: 0 }
     }
 
     /// Of a bucket nothing is known: 0 is a lower bound, and no timer's deadline.
@@ -44,47 +49,105 @@ impl First {
     pub fn unknown() -> First
         ensures { result ≡ unknown_first }
     {
-        First { bound: 0, count: 0 }
+        First::Counted { count: 0, bound: 0 }
     }
 
-    /// A timer with this deadline comes to the back of the bucket.
+    /// 1 if it is counted, and 0 if the bucket is in order.
     #[inline]
-    pub fn enter(&mut self, deadline: u64)
-        requires few { self.old.count < 18446744073709551615 }
-        ensures bound { self.new.bound ≡ min self.old.bound deadline }
-        ensures first { (ts : List Timer) (t : Timer) → t.deadline ≡ deadline → IsFirstOf self.old ts
-            → IsFirstOf self.new (ts ++ t ∷ []) }
+    pub fn counts(&self) -> usize
+        ensures { result ≡ counts_of self.now }
     {
-        if deadline < self.bound {
-            self.bound = deadline;
-            self.count = 1;
-        } else if deadline == self.bound {
-            self.count += 1;
+        match self {
+            First::InOrder { .. } => 0,
+            First::Counted { .. } => 1,
+        }
+    }
+
+    /// A timer with this deadline has come to the back of a list. Returns whether it was in order only until then.
+    #[inline(always)]
+    pub fn enter(&mut self, links: &Links, list: usize, deadline: u64) -> bool
+        requires { list < length links.now.lists }
+        ensures entered { self.new ≡ entered_first deadline (first_deadline (list_at list links.now.lists)) self.old }
+        ensures breaks { result ≡ true → (counts_of self.old ≡ 0) × (counts_of self.new ≡ 1) }
+        ensures stays { result ≡ false → counts_of self.new ≡ counts_of self.old }
+    {
+        match *self {
+            First::InOrder { latest } => {
+                let breaks = deadline < latest;
+                *self = if breaks {
+                    First::Counted {
+                        count: 1,
+                        bound: least_of_front(links, list, deadline),
+                    }
+                } else {
+                    First::InOrder { latest: deadline }
+                };
+                breaks
+            }
+            First::Counted { count, bound } => {
+                if deadline < bound {
+                    *self = First::Counted {
+                        count: 1,
+                        bound: deadline,
+                    };
+                } else if deadline == bound {
+                    *self = First::Counted {
+                        count: count.saturating_add(1),
+                        bound,
+                    };
+                }
+                false
+            }
         }
     }
 
     /// A timer with this deadline leaves the bucket, wherever it stands.
     #[inline]
     pub fn leave(&mut self, deadline: u64)
-        requires counted { self.old.bound ≡ deadline → 0 < self.old.count }
-        ensures bound { self.new.bound ≡ self.old.bound }
-        ensures first { (front rest : List Timer) (t : Timer) → t.deadline ≡ deadline
-            → IsFirstOf self.old (front ++ t ∷ rest) → IsFirstOf self.new (front ++ rest) }
+        ensures left { self.new ≡ left_first deadline self.old }
+        ensures counts { counts_of self.new ≡ counts_of self.old }
     {
-        if deadline == self.bound {
-            self.count -= 1;
+        if let First::Counted { count, bound } = *self {
+            if deadline == bound {
+                *self = First::Counted {
+                    count: count.saturating_sub(1),
+                    bound,
+                };
+            }
         }
     }
 
-    /// The first deadline, if it is known.
+    /// The first deadline of a list, if it is known without a walk. An empty list has none.
     #[inline]
-    pub fn known(&self) -> Option<u64>
-        ensures { (ts : List Timer) → IsKnownOf self.now ts → IsLeastDeadline result ts }
+    pub fn known(&self, links: &Links, list: usize) -> Option<u64>
+        requires { list < length links.now.lists }
+        ensures found { IsFirstOf self.now (timers_in (list_at list links.now.lists))
+            → IfSome result (λ d. IsLeast d (timers_in (list_at list links.now.lists))) }
+        ensures all { IsKnownOf self.now (timers_in (list_at list links.now.lists))
+            → IsLeastDeadline result (timers_in (list_at list links.now.lists)) }
     {
-        if self.count == 0 {
-            None
-        } else {
-            Some(self.bound)
+        match *self {
+            First::InOrder { .. } => front_deadline(links, list),
+            First::Counted { count, bound } => {
+                if count == 0 {
+                    None
+                } else {
+                    Some(bound)
+                }
+            }
         }
+    }
+}
+
+/// The deadline of the front of a list, or this one if it is earlier.
+// Kept out of line: where all timers have one time-out, it is never asked for.
+#[inline(never)]
+fn least_of_front(links: &Links, list: usize, deadline: u64) -> u64
+    requires { list < length links.now.lists }
+    ensures { result ≡ least_with (first_deadline (list_at list links.now.lists)) deadline }
+{
+    match front_deadline(links, list) {
+        Some(front) => front.min(deadline),
+        None => deadline,
     }
 }

@@ -12,6 +12,7 @@ ghost use Rattle.timer_wheels.specs.Tables.{radices};
 use crate::firsts::Firsts;
 use crate::occupied::Occupied;
 use crate::table::{Table, bucket_of, buckets_of, lowest_slots, with_constant_table};
+use crate::walks::front_deadline;
 use timer_links::Links;
 
 /// Empties a bucket: a timer whose deadline is this tick goes to the back of the list of due timers, and
@@ -122,24 +123,12 @@ fn migrate_one_by_one(
         } else {
             let to = bucket_of(table, tick, deadline);
             links.move_front(list, to);
-            links.lemma_countable();
             occupied.insert(to);
-            firsts.enter(&table, to, deadline);
+            firsts.enter(&table, links, to, deadline);
             moves += 1;
         }
     }
     moves
-}
-
-/// The deadline of the first timer of a list.
-fn front_deadline(links: &Links, list: usize) -> Option<u64>
-    requires { list < length links.now.lists }
-    ensures { result ≡ first_deadline (list_at list links.now.lists) }
-{
-    links.lemma_keys_unique();
-    let key = links.front(list)?;
-    let node = links.get(key)?;
-    Some(node.timer.deadline)
 }
 
 /// The deadline of the second timer of a list.

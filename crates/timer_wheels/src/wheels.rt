@@ -11,14 +11,14 @@ ghost use Rattle.timer_base.specs.declared.limits.TheConstants.{LAST};
 ghost use Rattle.timer_base.specs.WakeUps.{next_deadline};
 ghost use Rattle.timer_base.specs.WheelState.{empty_wheel, held_at, held_count, old_timer, after_held_start, after_removal, after_replacement, after_tick, after_clear};
 ghost use Rattle.timer_wheels.specs.Buckets.{state_of, IsListOf};
+ghost use Rattle.timer_links.specs.Lists.{list_at};
+ghost use Rattle.timer_wheels.specs.Migration.{first_deadline};
 ghost use Rattle.timer_wheels.specs.Digits.{bucket, emptied, slots, last_of, lowest_radix};
-ghost use Rattle.timer_wheels.specs.Firsts.{first_at};
 ghost use Rattle.timer_wheels.specs.Tables.{radices};
 ghost use Rattle.timer_wheels.specs.Hier.{IsHier, IsHier-prop, HasFirsts, HasFirsts-prop, Comes, Goes, potential};
 
 use crate::buckets::Buckets;
-use crate::deadlines::first_in;
-use crate::first::First;
+use crate::deadlines::{first_in, least_in};
 use crate::firsts::Firsts;
 use crate::migration::empty_bucket;
 use crate::occupied::Occupied;
@@ -27,6 +27,7 @@ use crate::table::{
 };
 use std::alloc::Global;
 use timer_base::{Handle, OutOfMemory, Timer};
+use timer_links::Links;
 
 /// The buckets of a table, which of them have a timer, and their first deadlines.
 #[derive(Drop)]
@@ -44,9 +45,8 @@ pub struct Wheels {
 }
 
 impl Wheels {
-    ghost use Rattle.timer_links.specs.Lists.{list_at};
     ghost use Rattle.timer_wheels.specs.BucketLists.{timers_in};
-    ghost use Rattle.timer_wheels.specs.FirstDeadline.{IsKnownOf};
+    ghost use Rattle.timer_wheels.specs.Deadlines.{IsLeast};
     ghost use Rattle.timer_wheels.specs.Placement.{hops_of};
     ghost use Rattle.timer_wheels.specs.Tables.{last_of_table, slots_of_table};
 
@@ -103,9 +103,9 @@ impl Wheels {
         let tick = self.buckets.tick;
         let list = self.list_of(timer.deadline);
         let handle = self.buckets.start(list, timer, 0)?;
-        self.buckets.lemma_countable();
         enter_list(
             &self.table,
+            &self.buckets.links,
             &mut self.occupied,
             &mut self.firsts,
             tick,
@@ -162,9 +162,9 @@ impl Wheels {
             old.deadline,
             emptied,
         );
-        self.buckets.lemma_countable();
         enter_list(
             &self.table,
+            &self.buckets.links,
             &mut self.occupied,
             &mut self.firsts,
             tick,
@@ -236,7 +236,10 @@ impl Wheels {
         if list < lowest_slots(self.table) {
             return Some(visit_of(self.table, list, self.buckets.tick));
         }
-        self.first_of(list).known()
+        match self.known_first(list) {
+            Some(first) => Some(first),
+            None => least_in(&self.buckets.links, list),
+        }
     }
 
     /// The first pending deadline, which is known from then on. Does not allocate.
@@ -251,23 +254,22 @@ impl Wheels {
         if list < lowest_slots(self.table) {
             return Some(visit_of(self.table, list, self.buckets.tick));
         }
-        let first = self.first_of(list);
+        if let Some(first) = self.known_first(list) {
+            return Some(first);
+        }
+        let first = first_in(&self.buckets.links, list);
         self.firsts.keep(&self.occupied, list, first);
-        first.known()
+        first.known(&self.buckets.links, list)
     }
 
-    /// The first deadline of a bucket above the lowest wheel. It walks the bucket if it is not known.
-    fn first_of(&self, list: usize) -> First
+    /// The first deadline of a bucket above the lowest wheel, if it is known without a walk.
+    #[inline]
+    fn known_first(&self, list: usize) -> Option<u64>
         requires list { list < self.now.buckets.slots }
         requires above { lowest_radix (radices self.now.table) ≤ list }
-        ensures { IsKnownOf result (timers_in (list_at list self.now.buckets.links.lists)) }
+        ensures { IfSome result (λ d. IsLeast d (timers_in (list_at list self.now.buckets.links.lists))) }
     {
-        let first = self.firsts.at(list);
-        if first.count == 0 {
-            first_in(&self.buckets.links, list)
-        } else {
-            first
-        }
+        self.firsts.at(list).known(&self.buckets.links, list)
     }
 
     /// Drops the pending timers. Does not allocate.
@@ -281,11 +283,12 @@ impl Wheels {
     }
 }
 
-/// A timer with this deadline came to the back of a list. If that is a bucket, its bit is set, and the timer is
-/// counted there. What is due has no bit.
+/// A timer with this deadline came to the back of a list. If that is a bucket, its bit is set, and its first deadline
+/// is kept. What is due has no bit.
 #[inline(always)]
 fn enter_list(
     table: &Table,
+    links: &Links,
     occupied: &mut Occupied,
     firsts: &mut Firsts,
     tick: u64,
@@ -293,18 +296,17 @@ fn enter_list(
     list: usize,
 )
     requires list { tick < deadline → list < slots (radices table.now) }
-    requires size { length firsts.old ≡ slots (radices table.now) }
-    requires few { tick < deadline → lowest_radix (radices table.now) ≤ list
-        → (first_at list firsts.old).count < 18446744073709551615 }
-    ensures pending { tick < deadline → Comes (lowest_radix (radices table.now)) list deadline occupied.old
-        occupied.new firsts.old firsts.new }
+    requires size { length firsts.old.items ≡ slots (radices table.now) }
+    requires lists { list < length links.now.lists }
+    ensures pending { tick < deadline → Comes (lowest_radix (radices table.now)) list deadline
+        (first_deadline (list_at list links.now.lists)) occupied.old occupied.new firsts.old firsts.new }
     ensures due { deadline ≤ tick → (occupied.new ≡ occupied.old) × (firsts.new ≡ firsts.old) }
 {
     if deadline <= tick {
         return;
     }
     occupied.insert(list);
-    firsts.enter(table, list, deadline);
+    firsts.enter(table, links, list, deadline);
 }
 
 /// A timer with this deadline left its list. If that was a bucket, the timer is no longer counted there. If it left
@@ -320,11 +322,8 @@ fn leave_list(
     emptied: Option<usize>,
 )
     requires deadline { deadline ≤ last_of (radices table.now) }
-    requires size { length firsts.old ≡ slots (radices table.now) }
+    requires size { length firsts.old.items ≡ slots (radices table.now) }
     requires emptied { tick.now < deadline → IfSome emptied (λ list. list < slots (radices table.now)) }
-    requires counted { tick.now < deadline → lowest_radix (radices table.now) ≤ bucket (radices table.now) tick.now deadline
-        → (first_at (bucket (radices table.now) tick.now deadline) firsts.old).bound ≡ deadline
-        → 0 < (first_at (bucket (radices table.now) tick.now deadline) firsts.old).count }
     ensures pending { tick.now < deadline → Goes (lowest_radix (radices table.now)) (bucket (radices table.now) tick.now deadline)
         deadline emptied occupied.old occupied.new firsts.old firsts.new }
     ensures due { deadline ≤ tick.now → (occupied.new ≡ occupied.old) × (firsts.new ≡ firsts.old) }

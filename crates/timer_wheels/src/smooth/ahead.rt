@@ -10,7 +10,7 @@ ghost use Rattle.timer_wheels.specs.SmoothAhead.{IsFirstSlot, IsEventFrom, event
 ghost use Rattle.timer_wheels.specs.WakeUps.{next_visit};
 ghost use Rattle.timer_wheels.specs.Tables.{radices};
 
-use crate::deadlines::first_in;
+use crate::deadlines::least_in;
 use crate::smooth::bank::Bank;
 use crate::smooth::turns::{level_of, list_of_slot, slot_of, turns_of, weight_of, wheels_of};
 use crate::table::Table;
@@ -110,7 +110,7 @@ impl Bank {
         if is_after(first, slot * weight_of(self.table, wheel)) {
             earlier(
                 first,
-                first_in(&self.buckets.links, list_of_slot(self.table, wheel, slot)).known(),
+                least_in(&self.buckets.links, list_of_slot(self.table, wheel, slot)),
             )
         } else {
             first

@@ -1,4 +1,4 @@
-use Rattle.timer_wheels.proofs.DeadlineLemmas.{IsSought}
+use Rattle.timer_wheels.proofs.FirstLemmas.{IsSought}
 use Rattle.timer_wheels.proofs.WalkLemmas.{IsGathering}
 use Rattle.timer_wheels.proofs.deadlines.first_in.Given as goal
 

@@ -1,8 +1,38 @@
-use Rattle.timer_wheels.proofs.FirstLemmas.{known_least}
+use Rattle.std.proofs.Common.{◌≡◌, ◌<◌, List, subst, arith}
+use Rattle.timer_base.specs.declared.timer.Timer.{Timer}
+use Rattle.timer_links.specs.Lists.{list_at}
+use Rattle.timer_wheels.specs.BucketLists.{timers_in}
+use Rattle.timer_wheels.specs.declared.first.First.{First}
+use Rattle.timer_wheels.specs.FirstDeadline.{IsFirstOf, IsKnown}
+use Rattle.timer_wheels.proofs.FirstLemmas.{front_least, counted_least, least_if_some}
 use Rattle.timer_wheels.proofs.first.First.known.Goals as goal
 
-pub returns-then-self-eq0 : goal.returns-then-self-eq0
-returns-then-self-eq0 c = λ ts h. h.some c.if-self-eq0.true
+abbrev first_of_as : (first same : First) (ts : List Timer) → first ≡ same → IsFirstOf first ts → IsFirstOf same ts
+first_of_as first same ts e h = subst (λ (f : First). IsFirstOf f ts) e h
 
-pub returns-else-self-eq0 : goal.returns-else-self-eq0
-returns-else-self-eq0 c = λ ts h. known_least c.args.self.now ts c.if-self-eq0.false h.first_of
+pub returns-in-InOrder-clause-found : goal.returns-in-InOrder-clause-found
+returns-in-InOrder-clause-found c h =
+    let rows = list_at c.args.list c.args.links.now.lists in
+    rw c.front_deadline.ensures (least_if_some _ (timers_in rows)
+    (front_least c.in-InOrder.latest rows (first_of_as _ _ (timers_in rows) c.in-InOrder.is h)))
+
+pub returns-in-InOrder-clause-all : goal.returns-in-InOrder-clause-all
+returns-in-InOrder-clause-all c h =
+    let rows = list_at c.args.list c.args.links.now.lists in
+    rw c.front_deadline.ensures (front_least c.in-InOrder.latest rows (first_of_as _ _ (timers_in rows) c.in-InOrder.is h.first_of))
+
+pub returns-then-count-eq0-clause-all : goal.returns-then-count-eq0-clause-all
+returns-then-count-eq0-clause-all c h =
+    let some : 0 < c.in-Counted.count = subst IsKnown c.in-Counted.is h.is_known in
+    let none : c.in-Counted.count ≡ 0 = c.if-count-eq0.true in
+    absurd (omega arith)
+
+pub returns-else-count-eq0-clause-found : goal.returns-else-count-eq0-clause-found
+returns-else-count-eq0-clause-found c h =
+    let ts = timers_in (list_at c.args.list c.args.links.now.lists) in
+    counted_least c.in-Counted.count c.in-Counted.bound ts c.if-count-eq0.false (first_of_as _ _ ts c.in-Counted.is h)
+
+pub returns-else-count-eq0-clause-all : goal.returns-else-count-eq0-clause-all
+returns-else-count-eq0-clause-all c h =
+    let ts = timers_in (list_at c.args.list c.args.links.now.lists) in
+    counted_least c.in-Counted.count c.in-Counted.bound ts c.if-count-eq0.false (first_of_as _ _ ts c.in-Counted.is h.first_of)

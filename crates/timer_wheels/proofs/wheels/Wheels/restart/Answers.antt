@@ -1,9 +1,13 @@
-use Rattle.std.proofs.Common.{arith, ◌≡◌, ◌<◌, refl, subst, sym, ap, ◌∙◌, Some, map}
+use Rattle.std.proofs.Common.{◌≡◌, ◌<◌, refl, subst, sym, ap, ◌∙◌, Some, map}
 use Rattle.timer_base.specs.WheelState.{held_at, old_timer}
-use Rattle.timer_links.specs.Lists.{with_row, without_key, row_count, KeyedLists}
+use Rattle.timer_links.specs.Lists.{list_at, with_row, without_key, KeyedLists}
 use Rattle.timer_wheels.specs.Buckets.{state_of, row_at, replaced}
+use Rattle.timer_wheels.specs.Digits.{lowest_radix}
+use Rattle.timer_wheels.specs.Hier.{Comes}
+use Rattle.timer_wheels.specs.Migration.{first_deadline}
+use Rattle.timer_wheels.specs.Tables.{radices}
 use Rattle.timer_wheels.proofs.Updates.{removed}
-use Rattle.timer_wheels.proofs.WheelUpdates.{wheels_of, gone_wheels, was_counted, emptied_in_range, up_to_last, up_to_last_of, in_table, come_wheels, come_fits, in_slots_of, framed}
+use Rattle.timer_wheels.proofs.WheelUpdates.{wheels_of, gone_wheels, emptied_in_range, up_to_last, up_to_last_of, in_table, come_wheels, in_slots_of, came_to, framed}
 use Rattle.timer_wheels.proofs.wheels.Wheels.restart.Goals as goal
 
 pub leave_list-requires : goal.leave_list-requires
@@ -20,7 +24,6 @@ leave_list-requires c =
       size = w.foretold.size ∙ w.hier.has_slots;
       emptied = λ later. in_table w.hier r.emptied (emptied_in_range wheels w.buckets.sound apart c.args.handle t found
           r.emptied r.ensures.emptied later);
-      counted = was_counted wheels w.buckets.sound apart c.args.handle t found;
     }
 
 pub enter_list-requires : goal.enter_list-requires
@@ -34,16 +37,16 @@ enter_list-requires c =
     let left = gone_wheels (wheels_of w.hier w.foretold) w.buckets.sound c.lemma_keys_unique.ensures c.args.handle r.restarted.1
     found r.emptied r.ensures.emptied c.leave_list.new.occupied c.leave_list.new.firsts c.leave_list.ensures.pending
     c.leave_list.ensures.due in
-    let P : KeyedLists → Type 0 = λ lists. row_count lists < 18446744073709551616 in
     record {
       list = in_slots_of w.hier to.result w.buckets.tick c.args.timer.deadline to.ensures.list;
       size = left.foretold.size ∙ w.hier.has_slots;
-      few = come_fits left to.result (row_at key c.args.timer 0) (removed w.buckets.sound key).has_lists refl
-          c.leave_list.new.occupied c.leave_list.new.firsts to.ensures.list (subst P r.ensures.lists (omega (arith, c.lemma_countable.ensures)));
+      lists = came_to to.result w.buckets.slots w.buckets.tick c.args.timer.deadline (row_at key c.args.timer 0)
+          (map (without_key key) w.buckets.links.lists) c.replace.new.self.links.lists to.ensures.list
+          (removed w.buckets.sound key).has_lists r.ensures.lists;
     }
 
-pub invariant_of-self-2 : goal.invariant_of-self-2
-invariant_of-self-2 c =
+pub invariant_of-self-3 : goal.invariant_of-self-3
+invariant_of-self-3 c =
     let w = c.args.self.now in
     let r = c.in_ok-restarted in
     let found : held_at c.args.handle (state_of w.buckets) ≡ Some r.restarted.1 =
@@ -55,8 +58,15 @@ invariant_of-self-2 c =
     found r.emptied r.ensures.emptied c.leave_list.new.occupied c.leave_list.new.firsts c.leave_list.ensures.pending
     c.leave_list.ensures.due in
     let new = c.enter_list.new in
+    let P : KeyedLists → Type 0 = λ lists. w.buckets.tick < c.args.timer.deadline → Comes (lowest_radix (radices w.table)) to.result
+    c.args.timer.deadline (first_deadline (list_at to.result lists)) c.leave_list.new.occupied new.occupied c.leave_list.new.firsts
+    new.firsts in
     let kept = framed w.hier c.replace.new.self new.occupied new.firsts
     (with_row to.result row (map (without_key key) w.buckets.links.lists)) c.replace.ensures.frame r.ensures.lists
     (come_wheels left to.result row (removed w.buckets.sound key).has_lists refl new.occupied new.firsts to.ensures.list
-    to.ensures.bucket c.enter_list.ensures.pending c.enter_list.ensures.due) in
-    record { hier = kept.hier; foretold = kept.foretold }
+    to.ensures.bucket (subst P r.ensures.lists c.enter_list.ensures.pending) c.enter_list.ensures.due) in
+    let h = kept.hier in
+    record {
+      hier = record { has_slots = h.has_slots; clock = h.clock; placed = h.placed; marked = h.marked };
+      foretold = kept.foretold;
+    }

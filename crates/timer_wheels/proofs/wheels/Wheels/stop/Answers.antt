@@ -2,7 +2,7 @@ use Rattle.std.proofs.Common.{◌≡◌, sym, ap, ◌∙◌, Some, map}
 use Rattle.timer_base.specs.WheelState.{held_at}
 use Rattle.timer_links.specs.Lists.{without_key}
 use Rattle.timer_wheels.specs.Buckets.{state_of, taken_timer}
-use Rattle.timer_wheels.proofs.WheelUpdates.{wheels_of, gone_wheels, was_counted, emptied_in_range, up_to_last, up_to_last_of, in_table, framed}
+use Rattle.timer_wheels.proofs.WheelUpdates.{wheels_of, gone_wheels, emptied_in_range, up_to_last, up_to_last_of, in_table, framed}
 use Rattle.timer_wheels.proofs.wheels.Wheels.stop.Goals as goal
 
 pub leave_list-requires : goal.leave_list-requires
@@ -17,7 +17,6 @@ leave_list-requires c =
       size = w.foretold.size ∙ w.hier.has_slots;
       emptied = rw c.take.ensures.frame.tick (λ later. in_table w.hier c.in_ok-timer.emptied (emptied_in_range wheels w.buckets.sound apart
           c.args.handle t found c.in_ok-timer.emptied c.in_ok-timer.ensures.emptied later));
-      counted = rw c.take.ensures.frame.tick (was_counted wheels w.buckets.sound apart c.args.handle t found);
     }
 
 pub invariant_of-self-3 : goal.invariant_of-self-3

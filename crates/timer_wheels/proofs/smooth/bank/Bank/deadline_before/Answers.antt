@@ -30,11 +30,11 @@ returns-then-wheel-eq0 c =
 pub returns-then-is_after : goal.returns-then-is_after
 returns-then-is_after c =
     let w = c.args.self.now in
-    let least : IsLeastDeadline c.known.result (timers_in (list_at (smooth_list (radices w.table) c.args.wheel c.in-Some.slot) w.buckets.links.lists)) =
-    subst (λ (x : ℕ). IsLeastDeadline c.known.result (timers_in (list_at x w.buckets.links.lists))) c.list_of_slot.ensures.value
-    (c.known.ensures (timers_in (list_at c.list_of_slot.result w.buckets.links.lists)) c.first_in.ensures) in
+    let least : IsLeastDeadline c.least_in.result (timers_in (list_at (smooth_list (radices w.table) c.args.wheel c.in-Some.slot) w.buckets.links.lists)) =
+    subst (λ (x : ℕ). IsLeastDeadline c.least_in.result (timers_in (list_at x w.buckets.links.lists))) c.list_of_slot.ensures.value
+    c.least_in.ensures in
     subst (λ (o : Option ℕ). IsFoundBelow (IsPendingDeadline w.buckets) w.table w.buckets (c.args.wheel + 1) o) (sym c.earlier-then-is_after.ensures)
-    (found_high w.table w.buckets w.filled w.bank c.args.wheel c.in-Some.slot c.args.first c.known.result c.requires.wheel c.requires.below
+    (found_high w.table w.buckets w.filled w.bank c.args.wheel c.in-Some.slot c.args.first c.least_in.result c.requires.wheel c.requires.below
     c.in-Some.ensures.first least)
 
 pub returns-else-is_after : goal.returns-else-is_after

@@ -1,6 +1,6 @@
 use Rattle.std.proofs.Common.{sym, ◌∙◌}
 use Rattle.timer_wheels.proofs.MigrationLoop.{front_of, never_none, deadline_is}
-use Rattle.timer_wheels.proofs.migration.front_deadline.Goals as goal
+use Rattle.timer_wheels.proofs.walks.front_deadline.Goals as goal
 
 pub returns-in_err-node : goal.returns-in_err-node
 returns-in_err-node c = absurd (never_none (front_of c.args.list c.in_ok-key.key c.args.links.now.lists c.requires
