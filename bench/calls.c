@@ -12,6 +12,10 @@
 #include <stdio.h>
 #include <valgrind/callgrind.h>
 
+#ifndef TABLE
+#define TABLE TIMERS_WIDE
+#endif
+
 enum { TIMERS = 10000 };
 
 static struct timers t = TIMERS_INIT;
@@ -99,7 +103,7 @@ static void count_kept(void)
 
 int main(void)
 {
-	if (timers_new(&t, TIMERS_WIDE, 0) != TIMERS_OK || timers_reserve(&t, TIMERS) != TIMERS_OK)
+	if (timers_new(&t, TABLE, 0) != TIMERS_OK || timers_reserve(&t, TIMERS) != TIMERS_OK)
 		return 1;
 #ifdef KEPT
 	count_kept();

@@ -88,7 +88,8 @@
  *         reserve                 the most timers that were held at once
  *         new, free               constant: the buckets, at most four blocks of memory
  *
- *     A move takes a timer to a lower wheel. A tick moves the timers of its bucket, unless they expire.
+ *     A move takes a timer to a lower wheel. A tick moves the timers of its bucket, unless they expire. The costs of
+ *     TIMERS_SMOOTH are below, under WHICH TABLE.
  *
  *     From the first timers_find_next that walks a bucket on, the first deadline of each bucket above the lowest
  *     wheel is kept, and how many timers have it. A start, a restart, a stop and a move update that in constant
@@ -99,6 +100,31 @@
  *     timers_find_next keeps what it found, timers_next does not. So a loop that asks in each turn calls
  *     timers_find_next.
  *
+ * WHICH TABLE
+ *     TIMERS_WIDE is for all but two cases. TIMERS_CLOCK takes less memory and has a shorter clock. TIMERS_SMOOTH is for a
+ *     loop that holds some 100,000 timers or more, passes a tick or a few at a time, and must not pause.
+ *
+ *     With TIMERS_WIDE a tick at a multiple of 64 moves all timers of its bucket: of a million timers as many as all of
+ *     them, which takes 10 ms, and up to 200 ms where they lie in memory in random order. With TIMERS_SMOOTH they move
+ *     earlier, a few at each tick. Let n be the most timers that were held at one time since timers_new or
+ *     timers_clear. Then
+ *
+ *         a tick moves            at most 2n/63 + 18 timers: about one of 32
+ *         advance, take           at most that for each tick that they pass, and no more than 9 for each timer
+ *         start, restart, set     at most two timers
+ *
+ *     In all there are at most 9 moves for each start and restart, as before, and the order of expiry is the same.
+ *     What is proved of this is proved of the wheel (crates/timer_wheels/src/smooth.rt) and tested of this library, but
+ *     for the 9 moves: these are in the contract of timers_counts.
+ *
+ *     A loop that sleeps until timers_wakeup and then passes thousands of ticks at once makes the moves of all these ticks in
+ *     one call. It gains nothing. One that wakes at each tick, or at each 16th, does.
+ *
+ *     Each call takes more time: timers_counts and docs/wheels.md say how much. timers_next and timers_find_next look at
+ *     each wheel and walk at most one bucket in each, and keep nothing. timers_wakeup looks at each wheel, and walks
+ *     none. The buckets take some 11 KB.
+ *
+ * PROOFS
  *     Two facts are proved. No start returns TIMERS_NO_MEMORY while fewer timers are held than
  *     timers_reserve made room for. And there are at most 9 moves for each start and restart. (With
  *     TIMERS_CLOCK there are at most 3, which is proved of the wheel and not of timers_counts.) The other
@@ -270,10 +296,11 @@ enum timers_status {
 	TIMERS_CLOCK_END = 10      /* the clock is at its last tick */
 };
 
-/* The slots of the wheels. */
+/* The slots of the wheels, and when their timers move: see WHICH TABLE. */
 enum timers_table {
 	TIMERS_WIDE = 0,           /* ten wheels of 64 slots: the last tick is TIMERS_LAST */
-	TIMERS_CLOCK = 1           /* 60 seconds, 60 minutes, 24 hours, 100 days: the last is TIMERS_CLOCK_LAST */
+	TIMERS_CLOCK = 1,          /* 60 seconds, 60 minutes, 24 hours, 100 days: the last is TIMERS_CLOCK_LAST */
+	TIMERS_SMOOTH = 2          /* as TIMERS_WIDE, with twice the slots, and a few moves at a tick */
 };
 
 #define TIMERS_LAST UINT64_C(1152921504606846975)   /* 2^60 - 1 */

@@ -271,7 +271,7 @@ struct timers_desk_config {
 	uint64_t capacity;     /* the most timers that may be pending at a time: 1 to 1,048,576 */
 	uint64_t room;         /* how many words each client's outbox has room for: 2 to 65,536 */
 	uint64_t line;         /* how many requests, and how many words, a line has room for: 1 to 65,536 */
-	uint32_t table;        /* the slots of the wheels: TIMERS_WIDE, which is 0, or TIMERS_CLOCK */
+	uint32_t table;        /* TIMERS_WIDE, which is 0, TIMERS_CLOCK or TIMERS_SMOOTH: see timers.h */
 	unsigned int : 32;     /* so that the size is the same on each platform */
 };
 

@@ -42,14 +42,14 @@ enumerators() { sed -nE 's/^\tTIMERS_((DESK|WORD)_)?([A-Z_]+) = ([0-9]+).*/\3 \4
 @test "the layouts of timers.h are the crates', and so are the numbers that are by hand" {
     {
         sed '1,/by hand/d' crates/timer_c/src/status.rt | constants TIMERS_
-        constants TIMERS_ < crates/timer_wheels/src/table/number.rt
+        constants TIMERS_ < crates/timer_wheels/src/tiers.rt
         fields timer_c/owned_cell.rt OwnedCell timers 0
         fields timer_c/c_timers.rt CTimers timers 16
         fields timer_c/layout.rt CHandle timers_handle 0
         fields timer_c/layout.rt Expired timers_expired 0
         fields timer_c/layout.rt Counts timers_counters 0
-    } | hold $((4 + 11))
-    [ "$(enumerators timers | wc -l)" -eq 13 ]
+    } | hold $((5 + 11))
+    [ "$(enumerators timers | wc -l)" -eq 14 ]
 }
 
 @test "the layouts of timers_desk.h are the crate's, and so are the numbers that are by hand" {

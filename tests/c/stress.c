@@ -66,6 +66,14 @@ static size_t room_for(void) { return reserved > held_most ? reserved : held_mos
 static struct timers_counters counted;
 static uint64_t units[10], wheels;
 
+/* Smooth wheels visit no bucket, and their moves have a bound: what they counted at the last look, and when it was. */
+static bool smooth;
+static struct timers_counters looked_at;
+static uint64_t looked_when;
+
+/* The most moves of one tick of them. */
+static uint64_t most_of_tick(void) { return 2 * held_most / 63 + 18; }
+
 static void set_units(bool wide)
 {
 	static const uint64_t clock_units[] = { 86400, 3600, 60, 1 };
@@ -405,7 +413,7 @@ static void do_tick(struct timers *t)
 	if (status == TIMERS_OK) {
 		now++;
 		ticks++;
-		counted.visits++;
+		counted.visits += !smooth;
 		count_due();
 	}
 }
@@ -426,7 +434,8 @@ static void pass_to(uint64_t tick)
 	if (now == first)
 		return;
 	count_due();
-	counted.visits += now / slots - first / slots + (due > 0 && now % slots > 0);
+	if (!smooth)
+		counted.visits += now / slots - first / slots + (due > 0 && now % slots > 0);
 }
 
 /* The status of passing ticks. For none there is no reason to refuse it. */
@@ -571,7 +580,18 @@ static void look_at_counts(struct timers *t)
 		moves += moves_of(&list[i]);
 	WANT("counts", timers_counts(t, &counts), TIMERS_OK);
 	WANT("starts counted", counts.starts, counted.starts);
-	WANT("moves counted", counts.moves, moves);
+	if (smooth) {
+		/* Of one tick so many, of a start or restart two, and of a timer no more than nine. */
+		uint64_t passed = now - looked_when, more = counts.moves - looked_at.moves;
+		WANT("no move is taken back", counts.moves >= looked_at.moves, true);
+		if (passed < UINT64_MAX / most_of_tick() - 1)
+			WANT("moves within the bound", more <= passed * most_of_tick() + 2 * (counts.starts - looked_at.starts), true);
+		WANT("moves of all timers", counts.moves <= 9 * counts.starts, true);
+		looked_at = counts;
+		looked_when = now;
+	} else {
+		WANT("moves counted", counts.moves, moves);
+	}
 	WANT("visits counted", counts.visits, counted.visits);
 	most_moves = counts.moves > most_moves ? counts.moves : most_moves;
 	occurs(MOVES, counts.moves > 0);
@@ -669,15 +689,18 @@ static void want_closed(struct timers *t)
 
 static void open_anew(struct timers *t)
 {
-	uint32_t table = below(2) ? TIMERS_WIDE : TIMERS_CLOCK;
+	static const uint32_t tables[] = { TIMERS_WIDE, TIMERS_CLOCK, TIMERS_SMOOTH };
+	uint32_t table = tables[below(3)];
 	want_closed(t);
-	last_tick = table == TIMERS_WIDE ? TIMERS_LAST : TIMERS_CLOCK_LAST;
-	WANT("no table", timers_new(t, 2 + (uint32_t)below(1000), 0), TIMERS_NO_TABLE);
+	smooth = table == TIMERS_SMOOTH;
+	last_tick = table == TIMERS_CLOCK ? TIMERS_CLOCK_LAST : TIMERS_LAST;
+	WANT("no table", timers_new(t, 3 + (uint32_t)below(1000), 0), TIMERS_NO_TABLE);
 	WANT("too late", timers_new(t, table, last_tick + 1), TIMERS_TOO_LATE);
 	now = below(4) ? below(100000) : last_tick - below(100000);
 	count = due = reserved = held_most = 0;
-	counted = (struct timers_counters){ 0, 0, 0 };
-	set_units(table == TIMERS_WIDE);
+	counted = looked_at = (struct timers_counters){ 0, 0, 0 };
+	looked_when = now;
+	set_units(table != TIMERS_CLOCK);
 	while (WITH_REFUSALS(timers_new(t, table, now)) == TIMERS_NO_MEMORY)
 		want_closed(t);
 	WANT("new", result, TIMERS_OK);

@@ -54,7 +54,7 @@ static void choose_config(void)
 {
 	memset(&config, 0, sizeof config);
 	config.size = sizeof config;
-	config.table = below(3) == 0 ? TIMERS_CLOCK : TIMERS_WIDE;
+	config.table = (uint32_t)below(3);
 	config.first_tick = below(4) == 0 ? below_power(23) : below(6) == 0 ? TIMERS_LAST - below(60) : 0;
 	config.capacity = 1 + below_power(12);
 	config.room = 2 + below_power(10);
@@ -69,7 +69,7 @@ static void make_new(void)
 
 	switch (below(48)) {
 	case 0: asked.size += below(3) - 1; break;
-	case 1: asked.table = (uint32_t)below(4); break;
+	case 1: asked.table = (uint32_t)below(5); break;
 	case 2: asked.first_tick = next_random(); break;
 	case 3: asked.capacity = below_power(25); break;
 	case 4: asked.room = below_power(18); break;

@@ -101,7 +101,7 @@ static const struct timers_expired OLD_TIMER = { 71, 72, 73 };
 
 static void make_new(void)
 {
-	const uint32_t asked = below(16) == 0 ? (uint32_t)below(4) : table;
+	const uint32_t asked = below(16) == 0 ? (uint32_t)below(5) : table;
 	const uint64_t edge = random_edge(below_power(spread)) - below(4);
 	const uint64_t tick = below(8) == 0 ? last + 2 - below(40) : edge > last || below(3) == 0 ? 0 : edge;
 	const uint64_t status = status_seen(timers_new(t, asked, tick));
@@ -340,7 +340,7 @@ void call_timers(uint64_t length)
 	memset(names, 0, sizeof names);
 	cursor = 0;
 	latest = 0;
-	table = below(3) == 0 ? TIMERS_CLOCK : TIMERS_WIDE;
+	table = (uint32_t)below(3);
 	last = table == TIMERS_CLOCK ? TIMERS_CLOCK_LAST : TIMERS_LAST;
 	spread = 2 + below(table == TIMERS_CLOCK ? 22 : 58);
 	t = both;

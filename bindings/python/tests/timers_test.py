@@ -10,8 +10,8 @@ import tracemalloc
 import weakref
 
 import timers as module
-from timers import (CLOCK, CLOCK_END, CLOCK_LAST, DUE, LAST, NO_MEMORY, NO_TABLE, NOT_OPEN, NOT_PENDING, OK, TOO_LATE, WIDE,
-                    ZERO_INTERVAL, Handle, Timers, TimersError)
+from timers import (CLOCK, CLOCK_END, CLOCK_LAST, DUE, LAST, NO_MEMORY, NO_TABLE, NOT_OPEN, NOT_PENDING, OK, SMOOTH, TOO_LATE,
+                    WIDE, ZERO_INTERVAL, Handle, Timers, TimersError)
 
 try:
     import _testcapi
@@ -358,7 +358,7 @@ def take_whole_numbers():
     timers.advance_to(Number(8639993))
     timers.catch_up(Number(8639994), print)
     assert refused(timers.catch_up, Number(last + 1), print) == TOO_LATE and timers.now() == 8639994
-    for wrong in ((2, 0), (CLOCK, last + 1)):
+    for wrong in ((3, 0), (CLOCK, last + 1)):
         assert refused(timers.__init__, *wrong) != OK and len(timers) == 1  # and it keeps what it has
     place, serial = handle.place, handle.serial
     same, others = Handle(place, serial), (Handle(place, 9), Handle(9, serial), (place, serial))
@@ -515,9 +515,10 @@ def name_what_is_refused():
     for status in (99, 2**40):
         assert str(TimersError(status)) == "no status"
     assert raises(TypeError, str, TimersError("x")) and raises(IndexError, str, TimersError())
-    for wrong, status in ((2, NO_TABLE), (2**32 - 1, NO_TABLE)):
+    for wrong, status in ((3, NO_TABLE), (2**32 - 1, NO_TABLE)):
         assert refused(Timers, wrong) == status
-    assert refused(Timers, WIDE, LAST + 1) == refused(Timers, CLOCK, CLOCK_LAST + 1) == TOO_LATE
+    for table, last in ((WIDE, LAST), (CLOCK, CLOCK_LAST), (SMOOTH, LAST)):
+        assert refused(Timers, table, last + 1) == TOO_LATE
     assert set(module.__all__) | {"asyncio", "desk"} >= {name for name in vars(module) if not name.startswith("_")}
 
 

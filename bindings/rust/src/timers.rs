@@ -13,12 +13,12 @@ use core::time::Duration;
 
 const NEVER: u64 = u64::MAX;
 
-/// The last tick of [`Table::Wide`], 2^60 - 1: 36 million years of milliseconds.
+/// The last tick of [`Table::Wide`] and [`Table::Smooth`], 2^60 - 1: 36 million years of milliseconds.
 pub const LAST: u64 = (1 << 60) - 1;
 /// The last tick of [`Table::Clock`]: day 99, 23:59:59 in seconds, and 2.4 hours in milliseconds.
 pub const LAST_OF_CLOCK: u64 = 8_639_999;
 
-/// The slots of the wheels.
+/// The slots of the wheels, and when their timers move.
 #[derive(Clone, Copy, Debug, Default, Eq, Hash, PartialEq)]
 pub enum Table {
     /// Ten wheels of 64 slots, which take some 15 KB. The last tick is [`LAST`].
@@ -26,6 +26,9 @@ pub enum Table {
     Wide = 0,
     /// 60 seconds, 60 minutes, 24 hours, 100 days, which take some 6 KB. The last tick is [`LAST_OF_CLOCK`].
     Clock = 1,
+    /// As `Wide`, but no tick moves all timers of a bucket: at most 2n/63 + 18 of the n that are held. They take some 11 KB, and
+    /// a start, stop or restart takes longer. The last tick is [`LAST`].
+    Smooth = 2,
 }
 
 /// The name of a timer of one [`Timers`].

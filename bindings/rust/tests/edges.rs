@@ -8,7 +8,7 @@ use timers::{at_least, Counts, Error, Handle, Refused, Table, Timers, LAST, LAST
 
 #[test]
 fn a_clock_begins_no_later_than_its_last_tick() {
-    for (table, last) in [(Table::Wide, LAST), (Table::Clock, LAST_OF_CLOCK)] {
+    for (table, last) in [(Table::Wide, LAST), (Table::Clock, LAST_OF_CLOCK), (Table::Smooth, LAST)] {
         assert_eq!(Timers::<u8>::with_table(table, last).unwrap().now(), last);
         assert_eq!(Timers::<u8>::with_table(table, last + 1).err(), Some(Error::TooLate));
     }

@@ -161,7 +161,7 @@ fn visited(timers: &Timers<u64>) -> BTreeMap<(u64, u64), u64> {
 
 #[test]
 fn random_calls_agree_with_a_sorted_map() {
-    for table in [Table::Wide, Table::Clock] {
+    for table in [Table::Wide, Table::Clock, Table::Smooth] {
         let (mut random, mut model) = (Random(11), Model::default());
         let mut timers = Timers::with_table(table, 1000).unwrap();
         for _ in 0..20_000 {

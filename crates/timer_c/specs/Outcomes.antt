@@ -1,17 +1,16 @@
 -- What each call returns, and the state of the wheel after it. A status is that of the first reason that
 -- holds.
-use Rattle.std.specs.Prelude.{ℕ, ◌≡◌, ◌+◌, ◌<◌, ◌≤◌, ◌⊎◌, [], length, drop, Option, Some, None}
+use Rattle.std.specs.Prelude.{ℕ, ◌≡◌, ◌+◌, ◌<◌, ◌≤◌, ◌⊎◌, [], length, drop, Option, Some, None, false}
 use Rattle.timer_base.specs.Counts.{WheelCounts, no_counts}
 use Rattle.timer_base.specs.declared.limits.TheConstants.{LAST}
 use Rattle.timer_base.specs.declared.timer.Timer.{Timer}
 use Rattle.timer_base.specs.declared.timer.Handle as base
 use Rattle.timer_base.specs.WakeUps.{IsWakeUp, next_deadline}
 use Rattle.timer_base.specs.WheelState.{WheelState, empty_wheel, held_at, after_start, after_removal, after_tick}
-use Rattle.timer_wheels.specs.declared.table.Table.{Table}
-use Rattle.timer_wheels.specs.Tables.{last_of_table, slots_of_table, radices_by_slots}
-use Rattle.timer_wheels.specs.TableNumbers.{table_with_number, IsTableFor}
+use Rattle.timer_wheels.specs.declared.tiers.Tiers.{Tiers}
+use Rattle.timer_wheels.specs.Tiers.{tiers_with_number, last_of_tiers, slots_of_tiers, AreTiersFor}
 use Rattle.timer_wheels.specs.HeldPlaces.{AreBefore, AreElsewhere}
-use Rattle.timer_wheels.specs.HierWheel.{counts_of_tick, counts_of_advance}
+use Rattle.timer_wheels.specs.TieredWheel.{radices_of_slots, is_smooth, counts_at_tick, counts_at_advance}
 use Rattle.timer_wheels.specs.HierWheel as hier
 use Rattle.timer_wheels.specs.WakeUps.{next_visit}
 use Rattle.timer_total.specs.Deadlines.{interval_until, after_start_at}
@@ -28,11 +27,11 @@ use Rattle.timer_c.specs.declared.layout.CHandle.{CHandle}
 use Rattle.timer_c.specs.declared.layout.Expired.{Expired}
 use Rattle.timer_c.specs.declared.status.TheConstants.{NO_TABLE, NO_MEMORY, DUE, NOT_PENDING, ZERO_INTERVAL, TOO_LATE, SERIALS_SPENT, CLOCK_END, NEVER}
 
--- an empty wheel with the table of this number, at its first tick
+-- an empty hierarchy with the table of this number, at its first tick
 pub record IsEmptyWheel (number first_tick : ℕ) (wheel : WheelState) : Type 0 where
-  pub table : Table
-  pub is_table : IsTableFor number first_tick table
-  pub empty : wheel ≡ empty_wheel (slots_of_table table) (last_of_table table) first_tick
+  pub tiers : Tiers
+  pub are_tiers : AreTiersFor number first_tick tiers
+  pub empty : wheel ≡ empty_wheel (slots_of_tiers tiers) (last_of_tiers tiers) first_tick
 
 -- timers over such a wheel, with this last serial, and nothing was counted
 abbrev pub IsEmptyAt : ℕ → ℕ → ℕ → TimersState → Type 0
@@ -41,14 +40,14 @@ IsEmptyAt table first_tick serial new =
 
 -- there is such a table, and it has the first tick
 abbrev pub IsOpenable : ℕ → ℕ → Type 0
-IsOpenable number first_tick = (table : Table) × IsTableFor number first_tick table
+IsOpenable number first_tick = (tiers : Tiers) × AreTiersFor number first_tick tiers
 
 -- why no wheel is made
 abbrev pub WhyNoWheel : ℕ → ℕ → ℕ → Type 0
 WhyNoWheel number first_tick status =
-    ((status ≡ NO_TABLE) × (table_with_number number ≡ None))
-    ⊎ ((status ≡ TOO_LATE) × ((table : Table) × (table_with_number number ≡ Some table)
-    × (last_of_table table < first_tick)))
+    ((status ≡ NO_TABLE) × (tiers_with_number number ≡ None))
+    ⊎ ((status ≡ TOO_LATE) × ((tiers : Tiers) × (tiers_with_number number ≡ Some tiers)
+    × (last_of_tiers tiers < first_tick)))
     ⊎ ((status ≡ NO_MEMORY) × IsOpenable number first_tick)
 
 -- a start was done: the state is that after the start, at a place that is a free choice
@@ -157,13 +156,13 @@ WhyNotStopped handle old status =
 abbrev pub IsTicked : TimersState → TimersState → Type 0
 IsTicked old new = (old.wheel.due ≡ []) × (new ≡ record {
   wheel = after_tick old.wheel;
-  counts = counts_of_tick old.wheel old.counts;
+  counts = counts_at_tick old.wheel old.counts;
   last_serial = old.last_serial;
 })
 
 -- ticks were passed up to this one, or up to the first at which a timer expires
 abbrev pub IsAdvancedTo : ℕ → TimersState → TimersState → Type 0
-IsAdvancedTo tick old new = (passed : ℕ) × IsAdvanced counts_of_advance (left_until tick old) passed old new
+IsAdvancedTo tick old new = (passed : ℕ) × IsAdvanced counts_at_advance (left_until tick old) passed old new
 
 -- why the clock does not advance; at its end nothing is left, neither due nor pending
 abbrev pub WhyNotTicked : TimersState → ℕ → Type 0
@@ -186,7 +185,7 @@ told (Some t) = Some (tell t)
 -- the next timer that is due by this tick was taken
 abbrev pub IsTaken : ℕ → TimersState → TimersState → Expired → Type 0
 IsTaken tick old new out = (timer : Timer) × (out ≡ tell timer)
-    × IsTakenBy counts_of_advance tick (Some timer) old new
+    × IsTakenBy counts_at_advance tick (Some timer) old new
 
 -- the timer with this handle, pending or expired and not yet taken
 abbrev pub IsSeen : CHandle → WheelState → Expired → Type 0
@@ -203,7 +202,7 @@ IsNextCall tick w =
     ((tick ≡ w.now) × (0 < length w.due))
     ⊎ ((tick ≡ NEVER) × (w.due ≡ []) × (w.pending ≡ []))
     ⊎ ((w.due ≡ []) × IsWakeUp tick w.now w.pending
-    × (next_visit (radices_by_slots w.slots) w.now w.pending ≡ Some tick))
+    × (next_visit (radices_of_slots w.slots) w.now w.pending ≡ Some tick))
 
 -- the deadline of the timer that is taken next: now if an expired one waits, else the first pending one
 abbrev pub IsNextDeadline : ℕ → WheelState → Type 0
@@ -222,6 +221,9 @@ IsVisited from w next handle out =
 abbrev pub IsAllVisited : ℕ → WheelState → Type 0
 IsAllVisited from w = AreBefore from w.pending × AreBefore from w.due
 
--- the counts of a wheel as C's struct
-abbrev pub tell_counts : WheelCounts → Counts
-tell_counts counts = record { starts = counts.starts; moves = counts.moves; visits = counts.visits }
+-- What a wheel with this many slots counted, as C's struct. The moves of a smooth wheel depend on its paces, and are left
+-- open here; all else follows from the calls.
+abbrev pub IsCounted : ℕ → WheelCounts → Counts → Type 0
+IsCounted slots counts told =
+    (told ≡ record { starts = counts.starts; moves = told.moves; visits = counts.visits })
+    × (is_smooth slots ≡ false → told.moves ≡ counts.moves)

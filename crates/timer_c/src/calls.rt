@@ -1,19 +1,19 @@
 //! The calls on timers that are held, with C's statuses and structs.
 ghost use Rattle.std.specs.Prelude.{◌≡◌, ◌*◌, ◌<◌, ◌≤◌, ◌++◌, ◌↔◌, true, false, Some, None, [], map, take, drop, length, min};
 ghost use Rattle.timer_base.specs.Pending.{timers_of};
-ghost use Rattle.timer_c.specs.Outcomes.{IsStarted, IsStartedAt, IsStartRefusal, IsStartAtRefusal, IsRestarted, IsRestartedAt, IsRestartRefusal, IsRestartAtRefusal, IsSet, IsSetRefusal, start_status, restart_status, IsStopped, WhyNotStopped, IsNextCall, tell, tell_counts, after_expiries};
+ghost use Rattle.timer_c.specs.Outcomes.{IsStarted, IsStartedAt, IsStartRefusal, IsStartAtRefusal, IsRestarted, IsRestartedAt, IsRestartRefusal, IsRestartAtRefusal, IsSet, IsSetRefusal, start_status, restart_status, IsStopped, WhyNotStopped, IsNextCall, IsCounted, tell, after_expiries};
 ghost use Rattle.timer_total.specs.TimersState.{with_wheel};
-ghost use Rattle.timer_wheels.specs.HierWheel.{counts_of};
+ghost use Rattle.timer_wheels.specs.TieredWheel.{tiered_state, counts_in};
 ghost use Rattle.timer_c.specs.declared.status.TheConstants.{OK};
 
 use crate::layout::{CHandle, Counts, Expired};
 use crate::status::{NEVER, NO_MEMORY, NOT_PENDING, OK, SERIALS_SPENT, TOO_LATE, ZERO_INTERVAL};
 use timer_base::Timer;
 use timer_total::{RestartFault, StartFault, Timers};
-use timer_wheels::HierWheel;
+use timer_wheels::TieredWheel;
 
 pub(crate) fn start(
-    timers: &mut Timers<HierWheel>,
+    timers: &mut Timers<TieredWheel>,
     interval: u64,
     action: u64,
     handle: &mut CHandle,
@@ -32,7 +32,7 @@ pub(crate) fn start(
 }
 
 pub(crate) fn start_at(
-    timers: &mut Timers<HierWheel>,
+    timers: &mut Timers<TieredWheel>,
     deadline: u64,
     action: u64,
     handle: &mut CHandle,
@@ -64,7 +64,7 @@ fn start_status(fault: StartFault) -> u32
 }
 
 pub(crate) fn restart(
-    timers: &mut Timers<HierWheel>,
+    timers: &mut Timers<TieredWheel>,
     handle: CHandle,
     interval: u64,
     action: u64,
@@ -84,7 +84,7 @@ pub(crate) fn restart(
 }
 
 pub(crate) fn restart_at(
-    timers: &mut Timers<HierWheel>,
+    timers: &mut Timers<TieredWheel>,
     handle: CHandle,
     deadline: u64,
     action: u64,
@@ -106,7 +106,7 @@ pub(crate) fn restart_at(
 
 /// Starts a timer for the tick `deadline`, in place of the one with this handle, if there is one.
 pub(crate) fn set_at(
-    timers: &mut Timers<HierWheel>,
+    timers: &mut Timers<TieredWheel>,
     handle: &mut CHandle,
     deadline: u64,
     action: u64,
@@ -137,7 +137,7 @@ fn restart_status(fault: RestartFault) -> u32
     }
 }
 
-pub(crate) fn stop(timers: &mut Timers<HierWheel>, handle: CHandle, action: &mut u64) -> u32
+pub(crate) fn stop(timers: &mut Timers<TieredWheel>, handle: CHandle, action: &mut u64) -> u32
     ensures stopped { result ≡ OK → IsStopped handle timers.old timers.new action.new }
     ensures refused { 0 < result → WhyNotStopped handle timers.old result }
     ensures kept { 0 < result → (timers.new ≡ timers.old) × (action.new ≡ action.old) }
@@ -152,7 +152,7 @@ pub(crate) fn stop(timers: &mut Timers<HierWheel>, handle: CHandle, action: &mut
 }
 
 /// Takes as many expired timers as there are, or as fit into `out`.
-pub(crate) fn expire_batch(timers: &mut Timers<HierWheel>, out: &mut [Expired]) -> usize
+pub(crate) fn expire_batch(timers: &mut Timers<TieredWheel>, out: &mut [Expired]) -> usize
     ensures count { result ≡ min (length out.old) (length timers.old.wheel.due) }
     ensures told { out.new ≡ map tell (take result (timers_of timers.old.wheel.due)) ++ drop result out.old }
     ensures rest { timers.new ≡ with_wheel (after_expiries result timers.old.wheel) timers.old }
@@ -168,7 +168,7 @@ pub(crate) fn expire_batch(timers: &mut Timers<HierWheel>, out: &mut [Expired]) 
 }
 
 /// The tick until which its owner may sleep.
-pub(crate) fn wakeup(timers: &Timers<HierWheel>) -> u64
+pub(crate) fn wakeup(timers: &Timers<TieredWheel>) -> u64
     ensures { IsNextCall result timers.now.wheel }
 {
     if timers.has_due() {
@@ -181,8 +181,8 @@ pub(crate) fn wakeup(timers: &Timers<HierWheel>) -> u64
 }
 
 /// What a wheel counted, as C's struct.
-pub(crate) fn to_c_counts(wheel: &HierWheel) -> Counts
-    ensures value { result ≡ tell_counts (counts_of wheel.now) }
+pub(crate) fn to_c_counts(wheel: &TieredWheel) -> Counts
+    ensures counted { IsCounted (tiered_state wheel.now).slots (counts_in wheel.now) result }
     ensures few_moves { result.moves ≤ 9 * result.starts }
 {
     Counts {

@@ -7,14 +7,14 @@ ghost use Rattle.std.specs.Prelude.{◌≡◌, ◌*◌, ◌<◌, ◌≤◌, ◌�
 ghost use Rattle.timer_base.specs.Pending.{timers_of};
 ghost use Rattle.timer_base.specs.WheelState.{first_due, after_reserve, after_expiry};
 ghost use Rattle.timer_c.specs.Frames.{IsOpen, IsShut, with_timers};
-ghost use Rattle.timer_c.specs.Outcomes.{IsEmptyAt, IsOpenable, WhyNoWheel, IsStarted, IsStartedAt, IsStartRefusal, IsStartAtRefusal, IsRestarted, IsRestartedAt, IsRestartRefusal, IsRestartAtRefusal, IsSet, IsSetRefusal, IsSeen, IsStopped, WhyNotStopped, IsTicked, IsAdvancedTo, WhyNotTicked, WhyNotAdvanced, IsTaken, IsNextCall, IsNextDeadline, IsVisited, IsAllVisited, told, tell, tell_counts, after_expiries};
+ghost use Rattle.timer_c.specs.Outcomes.{IsEmptyAt, IsOpenable, WhyNoWheel, IsStarted, IsStartedAt, IsStartRefusal, IsStartAtRefusal, IsRestarted, IsRestartedAt, IsRestartRefusal, IsRestartAtRefusal, IsSet, IsSetRefusal, IsSeen, IsStopped, WhyNotStopped, IsTicked, IsAdvancedTo, WhyNotTicked, WhyNotAdvanced, IsTaken, IsNextCall, IsNextDeadline, IsVisited, IsAllVisited, IsCounted, told, tell, after_expiries};
 ghost use Rattle.timer_c.specs.declared.status.TheConstants.{OK, NOT_OPEN, OPEN, NO_MEMORY, NEVER, VERSION_NUMBER};
 ghost use Rattle.timer_total.specs.Drops.{after_drop};
 ghost use Rattle.timer_total.specs.Refusals.{left_until};
 ghost use Rattle.timer_total.specs.Taken.{IsTakenBy};
 ghost use Rattle.timer_total.specs.Ticks.{IsAdvanced};
 ghost use Rattle.timer_total.specs.TimersState.{with_wheel};
-ghost use Rattle.timer_wheels.specs.HierWheel.{counts_of_advance};
+ghost use Rattle.timer_wheels.specs.TieredWheel.{counts_at_advance};
 
 use crate::c_timers::CTimers;
 use crate::calls::{self, from_c_handle, to_c_counts, to_c_expired, to_c_handle};
@@ -279,7 +279,7 @@ pub extern "C" fn timers_tick(t: &mut CTimers) -> u32
 /// were passed: 0 only if `most` is 0. Then nothing changes, and no reason is looked for.
 #[unsafe(no_mangle)]
 pub extern "C" fn timers_advance(t: &mut CTimers, most: u64, passed: &mut u64) -> u32
-    ensures advanced { result ≡ OK → IsOpen t.old × IsAdvanced counts_of_advance most passed.new
+    ensures advanced { result ≡ OK → IsOpen t.old × IsAdvanced counts_at_advance most passed.new
         t.old.slot.state t.new.slot.state }
     ensures refused { 0 < result → ((result ≡ NOT_OPEN) × IsShut t.old)
         ⊎ (IsOpen t.old × WhyNotAdvanced most t.old.slot.state result) }
@@ -326,7 +326,7 @@ pub extern "C" fn timers_advance_to(t: &mut CTimers, tick: u64) -> u32
 pub extern "C" fn timers_take(t: &mut CTimers, tick: u64, out: &mut Expired) -> bool
     ensures taken { result ≡ true
         → IsOpen t.old × IsTaken tick t.old.slot.state t.new.slot.state out.new }
-    ensures none { result ≡ false → IsOpen t.old → IsTakenBy counts_of_advance tick None
+    ensures none { result ≡ false → IsOpen t.old → IsTakenBy counts_at_advance tick None
         t.old.slot.state t.new.slot.state }
     ensures not_open { IsShut t.old → (result ≡ false) × (t.new ≡ t.old) }
     ensures kept { result ≡ false → out.new ≡ out.old }
@@ -509,7 +509,7 @@ pub extern "C" fn timers_each(
 #[unsafe(no_mangle)]
 pub extern "C" fn timers_counts(t: &mut ConstTimers, counts: &mut Counts) -> u32
     ensures counted { result ≡ OK → IsOpen t.old.held
-        × (counts.new ≡ tell_counts t.old.held.slot.state.counts) }
+        × IsCounted t.old.held.slot.state.wheel.slots t.old.held.slot.state.counts counts.new }
     ensures few_moves { result ≡ OK → counts.new.moves ≤ 9 * counts.new.starts }
     ensures refused { 0 < result → (result ≡ NOT_OPEN) × IsShut t.old.held }
     ensures kept { 0 < result → counts.new ≡ counts.old }

@@ -2,9 +2,9 @@
 use Rattle.std.specs.Prelude.{ℕ, ◌≡◌, ◌≢◌, ◌<◌, ◌≤◌, ◌⊎◌, Bool, true, false, List, [], length, get_or, Ok, Err, Some, None, Result, IfOk}
 use Rattle.std.specs.List.{AllZip}
 use Rattle.timer_base.specs.WakeUps.{IsWakeUp, next_deadline}
-use Rattle.timer_wheels.specs.Tables.{slots_of_table, last_of_table, radices_by_slots}
-use Rattle.timer_wheels.specs.declared.table.Table.{Table}
-use Rattle.timer_wheels.specs.TableNumbers.{IsTableFor}
+use Rattle.timer_wheels.specs.TieredWheel.{radices_of_slots}
+use Rattle.timer_wheels.specs.Tiers.{slots_of_tiers, last_of_tiers, AreTiersFor}
+use Rattle.timer_wheels.specs.declared.tiers.Tiers.{Tiers}
 use Rattle.timer_wheels.specs.WakeUps.{next_visit}
 use Rattle.timer_facility.specs.declared.config.Config as facility
 use Rattle.timer_facility.specs.declared.request.TickFault.{TickFault}
@@ -48,7 +48,7 @@ config_of clients c = record {
 abbrev pub IsFit : ℕ → DeskConfig → Type 0
 IsFit clients c =
     (c.size ≡ CONFIG_SIZE) × (config_fault (config_of clients c) ≡ None)
-    × ((table : Table) × IsTableFor c.table c.first_tick table) × (MIN_ROOM ≤ c.room) × (c.room ≤ MAX_ROOM)
+    × ((tiers : Tiers) × AreTiersFor c.table c.first_tick tiers) × (MIN_ROOM ≤ c.room) × (c.room ≤ MAX_ROOM)
     × (MIN_LINE ≤ c.line) × (c.line ≤ MAX_LINE)
 
 -- the two ends of a new line: nothing was sent or received, got or given, and neither end has seen the other to be
@@ -96,9 +96,9 @@ pub record IsOneHeld (lines : List CLine) : Type 0 where
 
 -- a new desk of this configuration over these lines
 pub record IsNewDesk (clients : ℕ) (c : DeskConfig) (d : DeskState) : Type 0 where
-  pub table : Table
-  pub is_table : IsTableFor c.table c.first_tick table
-  pub is : d ≡ opened_desk (opened (config_of clients c) (last_of_table table) (slots_of_table table)) d.inlets c.room
+  pub tiers : Tiers
+  pub are_tiers : AreTiersFor c.table c.first_tick tiers
+  pub is : d ≡ opened_desk (opened (config_of clients c) (last_of_tiers tiers) (slots_of_tiers tiers)) d.inlets c.room
   pub as_many : clients_of d ≡ clients
 
 -- a new desk, and its lines at C, in this life of its struct
@@ -164,7 +164,7 @@ with_reserve d = record d { facility = with_room d.facility }
 -- the first tick at which a timer expires or moves to a lower wheel, and before which nothing expires
 abbrev pub IsNextTick : ℕ → FacilityState → Type 0
 IsNextTick tick s = ((tick ≡ NEVER) × (s.pending ≡ []))
-    ⊎ (IsWakeUp tick s.now s.pending × (next_visit (radices_by_slots s.slots) s.now s.pending ≡ Some tick))
+    ⊎ (IsWakeUp tick s.now s.pending × (next_visit (radices_of_slots s.slots) s.now s.pending ≡ Some tick))
 
 -- the first pending deadline
 abbrev pub IsFirstDeadline : ℕ → FacilityState → Type 0

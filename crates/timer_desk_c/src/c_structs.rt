@@ -7,7 +7,7 @@ use crate::desk_cell::DeskCell;
 use crate::line::Line;
 use crate::line_cell::LineCell;
 use timer_desk::{Desk, RingInlet};
-use timer_wheels::HierWheel;
+use timer_wheels::TieredWheel;
 
 /// The owner's: a slot for the desk.
 #[repr(C)]
@@ -22,7 +22,7 @@ impl CDesk {
     ghost use Rattle.timer_desk_c.specs.DeskLent.{c_desk, the_desk};
 
     /// Lends the desk, if there is one.
-    pub(crate) fn desk(&mut self) -> Option<&mut Desk<HierWheel, RingInlet>>
+    pub(crate) fn desk(&mut self) -> Option<&mut Desk<TieredWheel, RingInlet>>
         ensures* writes_back { sem 𝓛 (LendsIf c_desk the_desk self.entry result
             (with_desk self.entry.now) self.entry.now) }
         ensures held { IfSome result (λ desk. IsOpen self.old × (desk.now ≡ self.old.slot.state)) }

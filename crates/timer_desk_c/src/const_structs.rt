@@ -9,7 +9,7 @@ ghost use Rattle.std.specs.Borrow.{sem};
 use crate::c_structs::{CDesk, CLine};
 use crate::line::Line;
 use timer_desk::{Desk, RingInlet};
-use timer_wheels::HierWheel;
+use timer_wheels::TieredWheel;
 
 /// `struct timers_desk` as such a call sees it. Only this file reaches what it holds.
 #[repr(C)]
@@ -23,7 +23,7 @@ impl ConstDesk {
     ghost use Rattle.timer_desk_c.specs.DeskLent.{const_desk};
 
     /// Lends the desk to be read, if there is one.
-    pub(crate) fn desk(&mut self) -> Option<&Desk<HierWheel, RingInlet>>
+    pub(crate) fn desk(&mut self) -> Option<&Desk<TieredWheel, RingInlet>>
         ensures* unchanged { sem 𝓛 (EndsUnchanged const_desk self.entry) }
         ensures held { IfSome result (λ desk. IsOpen self.old.held × (desk.now ≡ self.old.held.slot.state)) }
         ensures none { result ≡ None → IsShut self.old.held }

@@ -9,7 +9,7 @@ ghost use Rattle.timer_desk_c.specs.DeskSlots.{DeskState};
 use std::marker::Model;
 use timer_desk::{Desk, RingInlet};
 use timer_ffi_base::HeapCell;
-use timer_wheels::HierWheel;
+use timer_wheels::TieredWheel;
 
 /// A desk on the heap, if it holds any.
 #[repr(C)]
@@ -31,12 +31,12 @@ impl DeskCell {
     ghost use Rattle.timer_ffi_base.specs.Lent.{cell_of};
 
     /// The same two words, as the cell whose methods are proved for any content.
-    pub(crate) fn cell(&mut self) -> &mut HeapCell<Desk<HierWheel, RingInlet>>
+    pub(crate) fn cell(&mut self) -> &mut HeapCell<Desk<TieredWheel, RingInlet>>
         ensures* writes_back { sem 𝓛 (Lends the_desk_slot (cell_of the_desk) self.entry result as_slot) }
         ensures value { result.now ≡ as_cell self.old }
     {
         // Both structs have the same words, and own the same.
-        unsafe { &mut *(self as *mut DeskCell as *mut HeapCell<Desk<HierWheel, RingInlet>>) }
+        unsafe { &mut *(self as *mut DeskCell as *mut HeapCell<Desk<TieredWheel, RingInlet>>) }
     }
 }
 

@@ -1,6 +1,6 @@
 //! A desk and the lines of its clients.
 ghost use Rattle.std.specs.Prelude.{◌≡◌, ◌<◌, ◌≤◌, map, vec_len, IfOk, IfErr, IfSome};
-ghost use Rattle.timer_wheels.specs.TableNumbers.{IsTableFor};
+ghost use Rattle.timer_wheels.specs.Tiers.{AreTiersFor};
 ghost use Rattle.timer_base.specs.declared.limits.TheConstants.{LAST};
 ghost use Rattle.timer_desk_c.specs.Desks.{config_of, IsFit, IsNewLine, AreNewLines, IsNewDesk, WhyNotMade};
 ghost use Rattle.timer_desk_c.specs.Opening.{IsRoom};
@@ -12,7 +12,7 @@ use std::alloc::Global;
 use timer_base::OutOfMemory;
 use timer_desk::{Desk, MAX_ROOM, MIN_ROOM, RingInlet, ring_line};
 use timer_facility::{Checked, Config, Facility};
-use timer_wheels::{HierWheel, Table};
+use timer_wheels::{TieredWheel, Tiers};
 
 /// The least room of a line, each way.
 pub const MIN_LINE: usize = 1;
@@ -34,7 +34,7 @@ struct NewLines {
 
 /// A desk, and the clients' ends of its lines.
 pub(crate) struct Made {
-    pub(crate) desk: Box<Desk<HierWheel, RingInlet>>,
+    pub(crate) desk: Box<Desk<TieredWheel, RingInlet>>,
     pub(crate) ends: Vec<Box<Line>>,
 }
 
@@ -47,10 +47,10 @@ pub(crate) fn make(alloc: Global, clients: usize, config: DeskConfig) -> Result<
     ensures as_many { IfOk result (λ m. vec_len m.ends ≡ clients) }
     ensures err { IfErr result (WhyNotMade clients config) }
 {
-    let Some((checked, table)) = checked(clients, config) else {
+    let Some((checked, tiers)) = checked(clients, config) else {
         return Err(OUT_OF_RANGE);
     };
-    let Ok(wheel) = HierWheel::with_table(alloc, table, config.first_tick) else {
+    let Ok(wheel) = TieredWheel::with_tiers(alloc, tiers, config.first_tick) else {
         return Err(NO_MEMORY);
     };
     let facility = Facility::open(alloc, checked, wheel);
@@ -66,10 +66,10 @@ pub(crate) fn make(alloc: Global, clients: usize, config: DeskConfig) -> Result<
     }
 }
 
-/// The configuration of the facility and the wheels' table, if each number is in its range.
-fn checked(clients: usize, config: DeskConfig) -> Option<(Checked, Table)>
+/// The configuration of the facility and the wheels, if each number is in its range.
+fn checked(clients: usize, config: DeskConfig) -> Option<(Checked, Tiers)>
     ensures some { IfSome result (λ made. (made.0 ≡ config_of clients config)
-        × IsTableFor config.table config.first_tick made.1 × IsFit clients config) }
+        × AreTiersFor config.table config.first_tick made.1 × IsFit clients config) }
     ensures none { result ≡ None → IsFit clients config → ⊥ }
 {
     if config.size != CONFIG_SIZE {
@@ -81,8 +81,8 @@ fn checked(clients: usize, config: DeskConfig) -> Option<(Checked, Table)>
     if config.line < MIN_LINE || config.line > MAX_LINE {
         return None;
     }
-    let table = Table::with_number(config.table)?;
-    if config.first_tick > table.last_tick() {
+    let tiers = Tiers::with_number(config.table)?;
+    if config.first_tick > tiers.last_tick() {
         return None;
     }
     let numbers = Config {
@@ -93,7 +93,7 @@ fn checked(clients: usize, config: DeskConfig) -> Option<(Checked, Table)>
         first_number: 1,
     };
     let checked = numbers.check().ok()?;
-    Some((checked, table))
+    Some((checked, tiers))
 }
 
 /// Makes a line for each of `clients` clients, each with this room each way.

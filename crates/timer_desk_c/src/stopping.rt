@@ -24,11 +24,11 @@ use crate::opening::next_number;
 use crate::status::{CLOSED, NO_CLIENT, NOT_FREED, NUMBERS_SPENT, OK};
 use timer_base::{Handle, LAST, Wheel};
 use timer_desk::{Desk, RingInlet};
-use timer_wheels::HierWheel;
+use timer_wheels::TieredWheel;
 
 /// Stops the pending timers of a client whose line was freed, and writes how many they were.
 pub(crate) fn stop_pending(
-    desk: &mut Desk<HierWheel, RingInlet>,
+    desk: &mut Desk<TieredWheel, RingInlet>,
     client: usize,
     stopped: &mut usize,
 ) -> u32
@@ -56,7 +56,7 @@ pub(crate) fn stop_pending(
 }
 
 /// Stops each pending timer of a client that is gone.
-fn stop_each(desk: &mut Desk<HierWheel, RingInlet>, client: usize)
+fn stop_each(desk: &mut Desk<TieredWheel, RingInlet>, client: usize)
     requires client { client < clients_of desk.old }
     requires gone { (i : RingInlet) → found_by_inlet (get_or desk.old.inlets client i) ≢ Found.Nothing }
     requires open { desk.old.facility.is_closed ≡ false }
@@ -74,17 +74,16 @@ fn stop_each(desk: &mut Desk<HierWheel, RingInlet>, client: usize)
 }
 
 /// The handle of the pending timer at this place or the first later one that has a timer.
-fn first_from(desk: &Desk<HierWheel, RingInlet>, place: usize) -> Option<Handle>
+fn first_from(desk: &Desk<TieredWheel, RingInlet>, place: usize) -> Option<Handle>
     ensures first { IsFirstPending place desk.now.facility.pending result }
     ensures in_range { IfSome result (λ handle. handle.place < 4294967296) }
 {
     let wheel = desk.facility().wheel();
-    wheel.links().lemma_keys_unique();
     wheel.held_from(place)
 }
 
 /// Stops the timer with this handle if it is the client's.
-fn stop_own(desk: &mut Desk<HierWheel, RingInlet>, client: usize, handle: Handle)
+fn stop_own(desk: &mut Desk<TieredWheel, RingInlet>, client: usize, handle: Handle)
     requires client { client < clients_of desk.old }
     requires gone { (i : RingInlet) → found_by_inlet (get_or desk.old.inlets client i) ≢ Found.Nothing }
     ensures own { timer_named desk.old.facility client (ByHandle handle) ≢ None

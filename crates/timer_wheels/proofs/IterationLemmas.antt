@@ -1,8 +1,8 @@
 -- Lemmas for `iteration`: the places of the timers are the keys in use.
-use Rattle.std.proofs.Common.{◌≡◌, ◌<◌, ◌≤◌, ◌+◌, ◌⊎◌, ℕ, refl, sym, ◌∙◌, subst, inl, inr, arith, Option, Some, None, IsSome}
+use Rattle.std.proofs.Common.{◌≡◌, ◌<◌, ◌≤◌, ◌+◌, ◌⊎◌, ℕ, refl, sym, ◌∙◌, ap, subst, inl, inr, arith, Option, Some, None, IsSome}
 use Rattle.std.specs.List.{AllByRecursion}
 use Rattle.std.proofs.lemmas.Bool.{cases_lt, eq-eqb}
-use Rattle.timer_base.specs.Basics.{none_some}
+use Rattle.timer_base.specs.Basics.{none_some, some_same}
 use Rattle.timer_base.specs.declared.timer.Timer.{Timer}
 use Rattle.timer_base.specs.declared.timer.Handle.{Handle}
 use Rattle.timer_base.specs.OrderLaws.{All-in_order, All-weaken}
@@ -13,7 +13,7 @@ use Rattle.timer_links.specs.Keys.{AreUnused, IsFirstUsed}
 use Rattle.timer_links.specs.Lists.{list_at, node_at, AreApart, KeyedLists, Row}
 use Rattle.timer_wheels.specs.BucketLists.{entry_of, entries_of, rows_below}
 use Rattle.timer_wheels.specs.Buckets.{state_of}
-use Rattle.timer_wheels.specs.HeldPlaces.{IsHeld, IsFirstHeld}
+use Rattle.timer_wheels.specs.HeldPlaces.{IsHeld, IsFirstHeld, IsAlone}
 use Rattle.timer_wheels.specs.declared.buckets.Buckets.{Buckets}
 use Rattle.timer_wheels.proofs.Handles.{timer_named, held_is}
 use Rattle.timer_wheels.proofs.AllLemmas.{all-map}
@@ -81,3 +81,11 @@ module _ (b : Buckets) (apart : AreApart b.links.lists) where
         k),
     of_due (λ entry. (entry.place < from) ⊎ (handle.place ≤ entry.place)) (λ row k. elsewhere from handle.place b.links.lists u.2 row k),
   )
+
+  pub alone : (handle : Handle) (node : Node) → Some node ≡ node_at handle.place b.links.lists → node.timer.serial ≡ handle.serial
+      → IsAlone handle (state_of b)
+  alone handle node e s t held =
+      let named : timer_named handle (Some node) ≡ held_at handle (state_of b) = held_is b.sound apart handle (Some node) e in
+      let same : node.timer ≡ t = some_same node.timer t ((rw (eq-eqb node.timer.serial handle.serial s) at named) ∙ held) in
+      of_pending (λ entry. entry.place ≡ handle.place → entry.timer ≡ t) (λ row k p. ap (λ (n : Node). n.timer)
+      (some_same row.1 node (sym k ∙ (ap (λ (place : ℕ). node_at place b.links.lists) p ∙ sym e))) ∙ same)

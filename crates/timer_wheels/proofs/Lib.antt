@@ -62,3 +62,4 @@ pub mod SmoothVisits
 pub mod SmoothFirsts
 pub mod SmoothLeaps
 pub mod BankRestarts
+pub mod TieredLemmas

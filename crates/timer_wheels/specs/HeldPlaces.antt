@@ -1,7 +1,8 @@
 -- The places at which timers are held, in the order of their numbers.
-use Rattle.std.specs.Prelude.{◌<◌, ◌≤◌, ◌⊎◌, ℕ, List, Option, Some, None, IsSome}
+use Rattle.std.specs.Prelude.{◌≡◌, ◌<◌, ◌≤◌, ◌⊎◌, ℕ, List, Option, Some, None, IsSome}
 use Rattle.std.specs.List.{AllByRecursion}
 use Rattle.timer_base.specs.declared.timer.Handle.{Handle}
+use Rattle.timer_base.specs.declared.timer.Timer.{Timer}
 use Rattle.timer_base.specs.Pending.{Entry}
 use Rattle.timer_base.specs.WheelState.{WheelState, held_at}
 
@@ -24,3 +25,8 @@ IsFirstHeld from w None = AreBefore from w.pending × AreBefore from w.due
 IsFirstHeld from w (Some handle) =
     (from ≤ handle.place) × IsHeld handle w × AreElsewhere from handle.place w.pending
     × AreElsewhere from handle.place w.due
+
+-- a pending timer at the place of this handle is the one that is held under the handle
+abbrev pub IsAlone : Handle → WheelState → Type 0
+IsAlone handle w = (t : Timer) → held_at handle w ≡ Some t
+    → AllByRecursion (λ entry. entry.place ≡ handle.place → entry.timer ≡ t) w.pending

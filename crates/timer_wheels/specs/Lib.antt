@@ -14,7 +14,6 @@ pub mod Occupied
 pub mod Leap
 pub mod Hier
 pub mod Tables
-pub mod TableNumbers
 pub mod HierWheel
 pub mod Deadlines
 pub mod FirstDeadline
@@ -25,4 +24,6 @@ pub mod Smooth
 pub mod Bank
 pub mod Paces
 pub mod SmoothWheel
+pub mod Tiers
+pub mod TieredWheel
 pub mod SmoothAhead

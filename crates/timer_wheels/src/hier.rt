@@ -60,6 +60,7 @@ ghost use Rattle.timer_wheels.specs.HeldPlaces.{IsFirstHeld};
 ghost use Rattle.timer_wheels.specs.Placement.{ShowsWheels, IsPaid, most_moves};
 ghost use Rattle.timer_wheels.specs.WakeUps.{next_visit};
 
+use crate::buckets::Buckets;
 use crate::iteration::held_from;
 use crate::leap::visits_between;
 use crate::table::{Table, last_tick_of};
@@ -180,6 +181,14 @@ impl HierWheel {
         ensures slots { slots_of_table result ≡ (hier_state self.now).slots }
     {
         self.wheels.table
+    }
+
+    /// The clock and the buckets.
+    #[inline]
+    pub(crate) fn buckets(&self) -> &Buckets
+        ensures { result.now ≡ self.now.wheels.buckets }
+    {
+        &self.wheels.buckets
     }
 
     /// How many timers were started or restarted since the wheel was made. Does not allocate.

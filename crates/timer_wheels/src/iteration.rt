@@ -6,7 +6,7 @@
 ghost use Rattle.std.specs.Prelude.{◌<◌};
 ghost use Rattle.std.specs.Option.{IfSome};
 ghost use Rattle.timer_wheels.specs.Buckets.{state_of};
-ghost use Rattle.timer_wheels.specs.HeldPlaces.{IsFirstHeld};
+ghost use Rattle.timer_wheels.specs.HeldPlaces.{IsFirstHeld, IsAlone};
 
 use crate::buckets::Buckets;
 use timer_base::Handle;
@@ -14,6 +14,7 @@ use timer_base::Handle;
 /// The handle of the timer at this place or the first later one that has a timer. Does not allocate.
 pub fn held_from(buckets: &Buckets, place: usize) -> Option<Handle>
     ensures first { IsFirstHeld place (state_of buckets.now) result }
+    ensures alone { IfSome result (λ handle. IsAlone handle (state_of buckets.now)) }
     ensures in_range { IfSome result (λ handle. handle.place < 4294967296) }
 {
     let links = &buckets.links;

@@ -40,6 +40,7 @@ ghost use Rattle.timer_wheels.specs.Smooth.{smooth_slots};
 ghost use Rattle.timer_wheels.specs.Tables.{radices, last_of_table};
 ghost use Rattle.timer_wheels.specs.WakeUps.{next_visit};
 
+use crate::buckets::Buckets;
 use crate::iteration::held_from;
 use crate::smooth::bank::Bank;
 use crate::smooth::paces::Paces;
@@ -133,6 +134,14 @@ impl SmoothWheel {
         ensures slots { smooth_slots (radices result) ≡ (smooth_state self.now).slots }
     {
         self.bank.table
+    }
+
+    /// The clock and the buckets.
+    #[inline]
+    pub(crate) fn buckets(&self) -> &Buckets
+        ensures { result.now ≡ self.now.bank.buckets }
+    {
+        &self.bank.buckets
     }
 
     /// How many timers were started or restarted since the wheel was made. Does not allocate.
@@ -377,6 +386,14 @@ impl Wheel for SmoothWheel {
     /// by a walk along that bucket, unless it begins after a deadline that was found already.
     fn next_deadline(&self) -> Option<u64> {
         self.bank.next_deadline()
+    }
+
+    /// As `next_deadline`: nothing is kept.
+    fn find_next(&mut self) -> Option<u64>
+        ensures first { result ≡ next_deadline (smooth_state self.old).pending }
+        ensures same { self.new ≡ self.old }
+    {
+        self.next_deadline()
     }
 
     fn expire(&mut self) -> Option<Timer>

@@ -18,7 +18,6 @@ ghost use Rattle.timer_wheels.specs.Tables.{radices, last_of_table};
 ghost use Rattle.timer_wheels.specs.Digits.{bucket, emptied, slots, last_of, lowest_radix};
 
 mod clock;
-mod number;
 mod small;
 mod wide;
 

@@ -21,6 +21,7 @@ SERIALS_SPENT: Final[int]
 CLOCK_END: Final[int]
 WIDE: Final[int]
 CLOCK: Final[int]
+SMOOTH: Final[int]
 LAST: Final[int]
 CLOCK_LAST: Final[int]
 

@@ -1,6 +1,7 @@
 use Rattle.std.proofs.Common.{◌∙◌, ap, subst}
 use Rattle.timer_facility.specs.Facility.{FacilityView}
 use Rattle.timer_desk_c.specs.Stopping.{IsFirstPending}
+use Rattle.timer_wheels.specs.TieredWheel.{tiered_state}
 use Rattle.timer_desk_c.proofs.PlaceLemmas.{first_pending}
 use Rattle.timer_desk_c.proofs.stopping.first_from.Goals as goal
 
@@ -11,5 +12,5 @@ returns-clause-first c =
     let found = c.held_from.result in
     subst (λ es. IsFirstPending c.args.place es found)
     (wheel.pending ∙ ap (λ (v : FacilityView). v.state.pending) view)
-    (first_pending c.wheel-wheel.result.now c.links.result.now.lists c.args.place found c.links.ensures c.lemma_keys_unique.ensures
-    (wheel.due (ap (λ (v : FacilityView). v.waiting) view)) c.held_from.ensures.first)
+    (first_pending (tiered_state c.wheel-wheel.result.now) c.args.place found
+    (wheel.due (ap (λ (v : FacilityView). v.waiting) view)) c.held_from.ensures.first c.held_from.ensures.alone)

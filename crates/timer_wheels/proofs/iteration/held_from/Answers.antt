@@ -1,5 +1,5 @@
 use Rattle.std.proofs.Common.{refl}
-use Rattle.timer_wheels.proofs.IterationLemmas.{none_held, first_held}
+use Rattle.timer_wheels.proofs.IterationLemmas.{none_held, first_held, alone}
 use Rattle.timer_wheels.proofs.iteration.held_from.Goals as goal
 
 pub returns-in_default-clause-first : goal.returns-in_default-clause-first
@@ -10,3 +10,9 @@ returns-clause-first c = first_held c.args.buckets.now c.lemma_keys_unique.ensur
   place = c.in-Some.key;
   serial = c.in-Some-get.node.timer.serial;
 }) c.in-Some-get.node c.in-Some.ensures.found c.in-Some-get.ensures refl
+
+pub returns-clause-alone : goal.returns-clause-alone
+returns-clause-alone c = alone c.args.buckets.now c.lemma_keys_unique.ensures (record {
+  place = c.in-Some.key;
+  serial = c.in-Some-get.node.timer.serial;
+}) c.in-Some-get.node c.in-Some-get.ensures refl

@@ -3,9 +3,9 @@ use denote.Struct.Struct.{exits_of}
 use denote.Struct.Owning.{shape, fields, to}
 use denote.Param.Send.{IsSend, AllSend, owning_send, struct_send, sendable}
 use Rattle.std_alloc.proofs.SendSync.{quiet}
-use Rattle.timer_wheels.specs.contracts.hier.HierWheel as hier
-use Rattle.timer_wheels.specs.contracts.hier.HierWheelWheel.TheImpl as wheel
-use Rattle.timer_wheels.proofs.hier.HierWheel.TheSendSync as hier'
+use Rattle.timer_wheels.specs.contracts.tiered.TieredWheel as tiered
+use Rattle.timer_wheels.specs.contracts.tiered.TieredWheelWheel.TheImpl as wheel
+use Rattle.timer_wheels.proofs.tiered.TieredWheel.TheSendSync as tiered'
 use Rattle.timer_desk.specs.contracts.ring.RingInlet as ring
 use Rattle.timer_desk.specs.contracts.ring.RingInletInlet.TheImpl as inlet
 use Rattle.timer_desk.proofs.ring.RingInlet.TheSendSync as ring'
@@ -16,7 +16,7 @@ use Rattle.timer_desk_c.specs.DeskSlots.{the_desk}
 use Rattle.timer_desk_c.specs.contracts.desk_cell.DeskCell.{the_row, the_type}
 
 desk_send : IsSend the_desk
-desk_send = desk'.the_send hier.the_row ring.the_row wheel.ghosts inlet.ghosts hier'.the_send ring'.the_send
+desk_send = desk'.the_send tiered.the_row ring.the_row wheel.ghosts inlet.ghosts tiered'.the_send ring'.the_send
 
 pub send : IsSend the_row
 send =

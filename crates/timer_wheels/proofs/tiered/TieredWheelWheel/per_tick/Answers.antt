@@ -1,0 +1,9 @@
+use Rattle.std.proofs.Common.{◌∙◌}
+use Rattle.timer_wheels.specs.HierWheel.{hier_state, counts_of, counts_of_tick}
+use Rattle.timer_wheels.proofs.TieredLemmas.{hier_chosen}
+use Rattle.timer_wheels.proofs.tiered.TieredWheelWheel.per_tick.Goals as goal
+
+pub returns-in-Hier-clause-counts : goal.returns-in-Hier-clause-counts
+returns-in-Hier-clause-counts c =
+    let wheel = c.in-Hier.wheel in
+    rw c.in-Hier.is (c.per_tick.ensures.counts ∙ hier_chosen (counts_of wheel) (counts_of_tick (hier_state wheel) (counts_of wheel)) wheel)

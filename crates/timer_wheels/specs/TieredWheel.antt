@@ -1,0 +1,66 @@
+-- The names in the public clauses of `TieredWheel`.
+use Rattle.std.proofs.Common.{refl, sym, ap, ◌∙◌, ◌≡◌, ◌==◌, ℕ, Bool, true, false, if◌then◌else◌, List}
+use Rattle.timer_base.specs.Counts.{WheelCounts}
+use Rattle.timer_base.specs.WheelState.{WheelState, IsWellFormed}
+use Rattle.timer_wheels.specs.Buckets.{state_of, state_of-well_formed}
+use Rattle.timer_wheels.specs.HierWheel.{hier_state, counts_of, counts_of_tick, counts_of_advance}
+use Rattle.timer_wheels.specs.Smooth.{smooth_slots}
+use Rattle.timer_wheels.specs.SmoothWheel.{smooth_state, starts_of, moves_of, radices_by_turns}
+use Rattle.timer_wheels.specs.Tables.{radices, radices_by_slots, slots_of_table, wide, clock, small}
+use Rattle.timer_wheels.specs.declared.buckets.Buckets.{Buckets}
+use Rattle.timer_wheels.specs.declared.table.Table.{Table}
+use Rattle.timer_wheels.specs.declared.table.Table.TheVariants as tables
+use Rattle.timer_wheels.specs.declared.tiered.TieredWheel.{TieredWheel}
+use Rattle.timer_wheels.specs.declared.tiered.TieredWheel.TheVariants.{Hier, Smooth}
+
+-- the buckets of either wheel
+abbrev pub buckets_in : TieredWheel → Buckets
+buckets_in (Hier wheel) = wheel.wheels.buckets
+buckets_in (Smooth wheel) = wheel.bank.buckets
+
+-- the state of the wheel
+abbrev pub tiered_state : TieredWheel → WheelState
+tiered_state wheel = state_of (buckets_in wheel)
+
+-- whether wheels with this many slots are smooth: they have those of two revolutions
+abbrev pub is_smooth : ℕ → Bool
+is_smooth n = if n == smooth_slots (radices tables.Wide) then true
+    else if n == smooth_slots (radices tables.Clock) then true else n == smooth_slots (radices tables.Small)
+
+pub turns_are_smooth : (table : Table) → is_smooth (smooth_slots (radices table)) ≡ true
+unfolding wide clock small
+turns_are_smooth tables.Wide = refl
+turns_are_smooth tables.Clock = refl
+turns_are_smooth tables.Small = refl
+
+pub slots_are_not : (table : Table) → is_smooth (slots_of_table table) ≡ false
+unfolding wide clock small
+slots_are_not tables.Wide = refl
+slots_are_not tables.Clock = refl
+slots_are_not tables.Small = refl
+
+-- the radices of the wheels with this many slots
+abbrev pub radices_of_slots : ℕ → List ℕ
+radices_of_slots n = if is_smooth n then radices_by_turns n else radices_by_slots n
+
+-- How many times a timer went to a lower wheel.
+abbrev pub moves_in : TieredWheel → ℕ
+moves_in (Hier wheel) = (counts_of wheel).moves
+moves_in (Smooth wheel) = moves_of wheel
+
+-- What follows from the calls and the states alone: all counts of a hierarchy, and the starts of a smooth wheel, whose
+-- moves depend on its paces. It has no visits.
+abbrev pub counts_in : TieredWheel → WheelCounts
+counts_in (Hier wheel) = counts_of wheel
+counts_in (Smooth wheel) = record { starts = starts_of wheel; moves = 0; visits = 0 }
+
+-- the counts after a tick from this state
+abbrev pub counts_at_tick : WheelState → WheelCounts → WheelCounts
+counts_at_tick old counts = if is_smooth old.slots then counts else counts_of_tick old counts
+
+-- the counts after an advance from the first state to the second
+abbrev pub counts_at_advance : WheelState → WheelState → WheelCounts → WheelCounts
+counts_at_advance old new counts = if is_smooth old.slots then counts else counts_of_advance old new counts
+
+pub tiered-well_formed : (wheel : TieredWheel) → IsWellFormed (tiered_state wheel)
+tiered-well_formed wheel = state_of-well_formed (buckets_in wheel)

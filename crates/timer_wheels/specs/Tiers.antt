@@ -1,0 +1,37 @@
+-- The wheels that a hierarchy can have, and the numbers by which C names them.
+use Rattle.std.specs.Prelude.{ℕ, ◌≡◌, ◌≤◌, ◌==◌, if◌then◌else◌, Option, Some, None}
+use Rattle.timer_wheels.specs.declared.table.Table.{Table}
+use Rattle.timer_wheels.specs.declared.table.Table.TheVariants as tables
+use Rattle.timer_wheels.specs.declared.tiers.Tiers.{Tiers}
+use Rattle.timer_wheels.specs.declared.tiers.Tiers.TheVariants.{Wide, Clock, Smooth, Small}
+use Rattle.timer_wheels.specs.declared.tiers.TheConstants.{WIDE, CLOCK, SMOOTH, SMALL}
+use Rattle.timer_wheels.specs.Smooth.{smooth_slots}
+use Rattle.timer_wheels.specs.Tables.{radices, last_of_table, slots_of_table}
+
+-- the wheels with this number, if there are any
+abbrev pub tiers_with_number : ℕ → Option Tiers
+tiers_with_number number = if number == WIDE then Some Wide else if number == CLOCK then Some Clock
+    else if number == SMOOTH then Some Smooth else if number == SMALL then Some Small else None
+
+-- the table of their radices
+abbrev pub table_of_tiers : Tiers → Table
+table_of_tiers Wide = tables.Wide
+table_of_tiers Clock = tables.Clock
+table_of_tiers Smooth = tables.Wide
+table_of_tiers Small = tables.Small
+
+-- how many slots they have in all: each smooth wheel has those of two revolutions
+abbrev pub slots_of_tiers : Tiers → ℕ
+slots_of_tiers Wide = slots_of_table tables.Wide
+slots_of_tiers Clock = slots_of_table tables.Clock
+slots_of_tiers Smooth = smooth_slots (radices tables.Wide)
+slots_of_tiers Small = slots_of_table tables.Small
+
+-- the last tick of their clock
+abbrev pub last_of_tiers : Tiers → ℕ
+last_of_tiers tiers = last_of_table (table_of_tiers tiers)
+
+-- the wheels with this number, whose clock has this tick
+pub record AreTiersFor (number tick : ℕ) (tiers : Tiers) : Type 0 where
+  pub numbered : tiers_with_number number ≡ Some tiers
+  pub in_range : tick ≤ last_of_tiers tiers

@@ -1,0 +1,259 @@
+//! A hierarchy that is chosen as the program runs, as C chooses one: `HierWheel` or `SmoothWheel`.
+//!
+//! Each call is that of the wheel. What both have, the buckets, is read without a look at which of them it is.
+ghost use Rattle.std.specs.Prelude.{◌≡◌, ◌*◌, ◌<◌, ◌≤◌, true, false, IfOk, IfErr, IfSome};
+ghost use Rattle.timer_base.specs.Counts.{no_counts};
+ghost use Rattle.timer_base.specs.WheelState.{empty_wheel};
+ghost use Rattle.timer_wheels.specs.HeldPlaces.{IsFirstHeld, IsAlone};
+ghost use Rattle.timer_wheels.specs.HierWheel.{IsHierFault};
+ghost use Rattle.timer_wheels.specs.Tables.{slots_of_table, last_of_table};
+ghost use Rattle.timer_wheels.specs.Tiers.{slots_of_tiers, last_of_tiers};
+ghost use Rattle.timer_wheels.specs.WakeUps.{next_visit};
+
+use crate::buckets::Buckets;
+use crate::hier::HierWheel;
+use crate::iteration::held_from;
+use crate::smooth::SmoothWheel;
+use crate::table::Table;
+use crate::tiers::Tiers;
+use std::alloc::Global;
+use timer_base::{Handle, MakeFault, OutOfMemory, Timer, Wheel};
+
+/// One of the two hierarchies.
+#[derive(Drop)]
+pub enum TieredWheel {
+    /// Scheme 7, which empties a bucket as its time comes.
+    Hier(HierWheel),
+    /// The smooth wheel, whose timers move early.
+    Smooth(SmoothWheel),
+}
+
+impl TieredWheel {
+    ghost use Rattle.timer_wheels.specs.TieredWheel.{tiered_state, buckets_in, is_smooth, counts_in, moves_in};
+
+    /// An empty hierarchy at its first tick.
+    ///
+    /// Errors, in this order: `FirstTick` above the last tick of the wheels' clock; `OutOfMemory`.
+    pub fn with_tiers(
+        alloc: Global,
+        tiers: Tiers,
+        first_tick: u64,
+    ) -> Result<TieredWheel, MakeFault>
+        ensures state { IfOk result (λ wheel. tiered_state wheel
+            ≡ empty_wheel (slots_of_tiers tiers) (last_of_tiers tiers) first_tick) }
+        ensures counts { IfOk result (λ wheel. counts_in wheel ≡ no_counts) }
+        ensures moves { IfOk result (λ wheel. moves_in wheel ≡ 0) }
+        ensures in_range { IfOk result (λ wheel. first_tick ≤ last_of_tiers tiers) }
+        ensures fault { IfErr result (λ fault. IsHierFault (last_of_tiers tiers) first_tick fault) }
+    {
+        match tiers {
+            Tiers::Wide => TieredWheel::hier(alloc, Table::Wide, first_tick),
+            Tiers::Clock => TieredWheel::hier(alloc, Table::Clock, first_tick),
+            Tiers::Small => TieredWheel::hier(alloc, Table::Small, first_tick),
+            Tiers::Smooth => {
+                let wheel = SmoothWheel::with_table(alloc, Table::Wide, first_tick)?;
+                Ok(TieredWheel::Smooth(wheel))
+            }
+        }
+    }
+
+    /// An empty `HierWheel` of this table.
+    fn hier(alloc: Global, table: Table, first_tick: u64) -> Result<TieredWheel, MakeFault>
+        ensures state { IfOk result (λ wheel. tiered_state wheel
+            ≡ empty_wheel (slots_of_table table) (last_of_table table) first_tick) }
+        ensures counts { IfOk result (λ wheel. counts_in wheel ≡ no_counts) }
+        ensures moves { IfOk result (λ wheel. moves_in wheel ≡ 0) }
+        ensures in_range { IfOk result (λ wheel. first_tick ≤ last_of_table table) }
+        ensures fault { IfErr result (λ fault. IsHierFault (last_of_table table) first_tick fault) }
+    {
+        let wheel = HierWheel::with_table(alloc, table, first_tick)?;
+        Ok(TieredWheel::Hier(wheel))
+    }
+
+    /// The buckets of the wheel.
+    // Both wheels have them at the same place, so no branch is left of this.
+    #[inline(always)]
+    fn buckets(&self) -> &Buckets
+        ensures { result.now ≡ buckets_in self.now }
+    {
+        match self {
+            TieredWheel::Hier(wheel) => wheel.buckets(),
+            TieredWheel::Smooth(wheel) => wheel.buckets(),
+        }
+    }
+
+    /// How many timers were started or restarted since the wheel was made. Does not allocate.
+    pub fn starts(&self) -> u64
+        ensures { result ≡ (counts_in self.now).starts }
+    {
+        match self {
+            TieredWheel::Hier(wheel) => wheel.starts(),
+            TieredWheel::Smooth(wheel) => wheel.starts(),
+        }
+    }
+
+    /// How many times a timer was put into a lower wheel since the wheel was made. Does not allocate.
+    pub fn moves(&self) -> u64
+        ensures value { result ≡ moves_in self.now }
+        ensures counted { is_smooth (tiered_state self.now).slots ≡ false → result ≡ (counts_in self.now).moves }
+        ensures at_most { result ≤ 9 * (counts_in self.now).starts }
+    {
+        match self {
+            TieredWheel::Hier(wheel) => wheel.moves(),
+            TieredWheel::Smooth(wheel) => wheel.moves(),
+        }
+    }
+
+    /// How many buckets were emptied since the wheel was made: none of a smooth wheel, which empties none as its time comes.
+    /// Does not allocate.
+    pub fn visits(&self) -> u64
+        ensures { result ≡ (counts_in self.now).visits }
+    {
+        match self {
+            TieredWheel::Hier(wheel) => wheel.visits(),
+            TieredWheel::Smooth(_) => 0,
+        }
+    }
+
+    /// The handle of the timer, pending or due, at this place or the first later one that has a timer, or
+    /// None when there is none. Does not allocate.
+    ///
+    /// It looks at each place on the way: in practice at most 63 more than there ever were timers at one time.
+    pub fn held_from(&self, place: usize) -> Option<Handle>
+        ensures first { IsFirstHeld place (tiered_state self.now) result }
+        ensures alone { IfSome result (λ handle. IsAlone handle (tiered_state self.now)) }
+        ensures in_range { IfSome result (λ handle. handle.place < 4294967296) }
+    {
+        held_from(self.buckets(), place)
+    }
+}
+
+impl Wheel for TieredWheel {
+    ghost use Rattle.timer_wheels.specs.HierWheel.{with_start};
+    ghost use Rattle.timer_wheels.specs.TieredWheel.{tiered_state, tiered-well_formed, radices_of_slots, counts_in, counts_at_tick, counts_at_advance};
+
+    ghost state = { λ wheel. tiered_state wheel };
+
+    ghost wake_up = { λ slots now pending. next_visit (radices_of_slots slots) now pending };
+
+    ghost counts = { λ wheel. counts_in wheel };
+
+    ghost count_start = { with_start };
+
+    ghost count_tick = { counts_at_tick };
+
+    ghost count_advance = { counts_at_advance };
+
+    fn last_tick(&self) -> u64 {
+        self.buckets().last_tick
+    }
+
+    fn now(&self) -> u64 {
+        self.buckets().tick
+    }
+
+    fn len(&self) -> usize {
+        self.buckets().len()
+    }
+
+    fn has_due(&self) -> bool {
+        self.buckets().has_due()
+    }
+
+    fn last_serial(&self) -> u64 {
+        self.buckets().last_serial
+    }
+
+    #[inline(always)]
+    fn start(&mut self, timer: Timer) -> Result<Handle, OutOfMemory> {
+        match self {
+            TieredWheel::Hier(wheel) => wheel.start(timer),
+            TieredWheel::Smooth(wheel) => wheel.start(timer),
+        }
+    }
+
+    fn reserve(&mut self, most: usize) -> Result<(), OutOfMemory> {
+        match self {
+            TieredWheel::Hier(wheel) => wheel.reserve(most),
+            TieredWheel::Smooth(wheel) => wheel.reserve(most),
+        }
+    }
+
+    fn look(&self, handle: Handle) -> Option<Timer> {
+        self.buckets().look(handle)
+    }
+
+    fn stop(&mut self, handle: Handle) -> Option<Timer> {
+        match self {
+            TieredWheel::Hier(wheel) => wheel.stop(handle),
+            TieredWheel::Smooth(wheel) => wheel.stop(handle),
+        }
+    }
+
+    #[inline(always)]
+    fn restart(&mut self, handle: Handle, timer: Timer) -> Option<(Handle, Timer)> {
+        match self {
+            TieredWheel::Hier(wheel) => wheel.restart(handle, timer),
+            TieredWheel::Smooth(wheel) => wheel.restart(handle, timer),
+        }
+    }
+
+    fn per_tick(&mut self) {
+        match self {
+            TieredWheel::Hier(wheel) => wheel.per_tick(),
+            TieredWheel::Smooth(wheel) => wheel.per_tick(),
+        }
+    }
+
+    fn advance(&mut self, most: u64) -> u64 {
+        match self {
+            TieredWheel::Hier(wheel) => wheel.advance(most),
+            TieredWheel::Smooth(wheel) => wheel.advance(most),
+        }
+    }
+
+    fn quiet_until(&self) -> Option<u64> {
+        match self {
+            TieredWheel::Hier(wheel) => wheel.quiet_until(),
+            TieredWheel::Smooth(wheel) => wheel.quiet_until(),
+        }
+    }
+
+    fn next_deadline(&self) -> Option<u64> {
+        match self {
+            TieredWheel::Hier(wheel) => wheel.next_deadline(),
+            TieredWheel::Smooth(wheel) => wheel.next_deadline(),
+        }
+    }
+
+    fn find_next(&mut self) -> Option<u64> {
+        match self {
+            TieredWheel::Hier(wheel) => wheel.find_next(),
+            TieredWheel::Smooth(wheel) => wheel.find_next(),
+        }
+    }
+
+    fn expire(&mut self) -> Option<Timer> {
+        match self {
+            TieredWheel::Hier(wheel) => wheel.expire(),
+            TieredWheel::Smooth(wheel) => wheel.expire(),
+        }
+    }
+
+    fn list(&self) -> Result<Vec<Timer>, OutOfMemory> {
+        self.buckets().list()
+    }
+
+    fn list_into(&self, timers: &mut Vec<Timer>) -> Result<(), OutOfMemory> {
+        self.buckets().list_into(timers)
+    }
+
+    fn clear(&mut self) {
+        match self {
+            TieredWheel::Hier(wheel) => wheel.clear(),
+            TieredWheel::Smooth(wheel) => wheel.clear(),
+        }
+    }
+
+    ghost well_formed = { λ wheel. tiered-well_formed wheel };
+}

@@ -1,0 +1,64 @@
+//! The wheels that a hierarchy can have, the numbers by which C names them, and the ends of their clocks.
+ghost use Rattle.std.specs.Prelude.{◌≡◌};
+ghost use Rattle.timer_wheels.specs.Tiers.{tiers_with_number, table_of_tiers, last_of_tiers};
+
+use crate::table::{Table, last_tick_of};
+
+/// The number of `Tiers::Wide`.
+pub const WIDE: u32 = 0;
+
+/// The number of `Tiers::Clock`.
+pub const CLOCK: u32 = 1;
+
+/// The number of `Tiers::Smooth`.
+pub const SMOOTH: u32 = 2;
+
+/// The number of `Tiers::Small`.
+pub const SMALL: u32 = 3;
+
+/// Which wheels a hierarchy has, and when its timers move down.
+#[derive(Clone, Copy, Debug, PartialEq, Eq)]
+pub enum Tiers {
+    /// A `HierWheel` of `Table::Wide`: ten wheels, a clock of 2^60 ticks.
+    Wide,
+    /// A `HierWheel` of `Table::Clock`: seconds, minutes, hours and days.
+    Clock,
+    /// A `SmoothWheel` of `Table::Wide`: ten wheels whose timers move early, a few at a tick.
+    Smooth,
+    /// A `HierWheel` of `Table::Small`: six wheels of 16 slots, in little memory.
+    Small,
+}
+
+impl Tiers {
+    /// The wheels with this number, if there are any.
+    pub fn with_number(number: u32) -> Option<Tiers>
+        ensures { result ≡ tiers_with_number number }
+    {
+        match number {
+            WIDE => Some(Tiers::Wide),
+            CLOCK => Some(Tiers::Clock),
+            SMOOTH => Some(Tiers::Smooth),
+            SMALL => Some(Tiers::Small),
+            _ => None,
+        }
+    }
+
+    /// The radices of the wheels.
+    pub fn table(self) -> Table
+        ensures { result ≡ table_of_tiers self }
+    {
+        match self {
+            Tiers::Wide => Table::Wide,
+            Tiers::Clock => Table::Clock,
+            Tiers::Smooth => Table::Wide,
+            Tiers::Small => Table::Small,
+        }
+    }
+
+    /// The last tick of their clock.
+    pub fn last_tick(self) -> u64
+        ensures { result ≡ last_of_tiers self }
+    {
+        last_tick_of(self.table())
+    }
+}
