@@ -23,7 +23,8 @@ use Rattle.timer_wheels.proofs.RowLemmas.{all-list_at}
 use Rattle.timer_wheels.proofs.SmoothLists.{one_wheel, same_rest_of, radix_above, ahead_within}
 use Rattle.timer_wheels.proofs.SmoothPlaces.{weaker}
 use Rattle.timer_wheels.proofs.SmoothSkips.{slots_later}
-use Rattle.timer_wheels.proofs.SmoothSlots.{slot_low}
+use Rattle.timer_wheels.proofs.SmoothSlots.{slot_low, slots_mono}
+use Rattle.timer_wheels.proofs.SmoothVisits.{slot_begins_later}
 use Rattle.timer_wheels.proofs.SmoothWeights.{weight_some}
 use Rattle.timer_wheels.proofs.TableLaws.{of_table}
 
@@ -233,6 +234,42 @@ module _ (t : Table) (b : Buckets) (words : List ℕ) (h : IsBank t b words) whe
         ≡ weight (suc k) (radices t) * slot_in (radices t) (suc k) b.tick + weight (suc k) (radices t) = omega arith in
         omega arith
   ]
+
+  -- the events of a wheel and of those above are not before the end of that wheel's present slot, if no next bucket has timers
+  after_present : (tick k : ℕ) (row : Row) (s : ℕ) → 0 < k → k < length (radices t) → next_len t b k ≡ 0 → b.tick < tick
+      → slot_in (radices t) k (tick - 1) ≤ slot_in (radices t) k b.tick
+      → s ≡ smooth_list (radices t) k (slot_in (radices t) k (timer_in row).deadline) → 0 < length (list_at s b.links.lists)
+      → slot_in (radices t) k b.tick < slot_in (radices t) k (timer_in row).deadline
+      → tick ≤ event_tick (radices t) k (slot_in (radices t) k (timer_in row).deadline)
+  after_present tick zero row s z l none later c e some ahead = absurd (omega arith)
+  after_present tick (suc k) row s z l none later c e some ahead =
+      elim (cases_eq (slot_in (radices t) (suc k) (timer_in row).deadline) (slot_in (radices t) (suc k) b.tick + 1)) [
+        | inl q ↦
+            let n : length (list_at s b.links.lists) ≡ next_len t b (suc k) =
+            ap (λ (x : ℕ). length (list_at x b.links.lists)) (e ∙ ap (smooth_list (radices t) (suc k)) q) in
+            absurd (omega (arith, none))
+        | inr q ↦
+            let m : (slot_in (radices t) (suc k) b.tick + 1) * weight (suc k) (radices t)
+            ≤ (slot_in (radices t) (suc k) (timer_in row).deadline - 1) * weight (suc k) (radices t) =
+            mul-le-mul_right (weight (suc k) (radices t))
+            (let r : slot_in (radices t) (suc k) b.tick + 1 ≤ slot_in (radices t) (suc k) (timer_in row).deadline - 1 = omega arith in r) in
+            let end : tick - 1 < (slot_in (radices t) (suc k) b.tick + 1) * weight (suc k) (radices t) =
+            slot_begins_later (radices t) (suc k) (tick - 1) (slot_in (radices t) (suc k) b.tick + 1) table (omega arith) in
+            omega arith
+      ]
+
+  pub events_rest : (tick w : ℕ) → ((k : ℕ) → 0 < k → k < length (radices t) → next_len t b k ≡ 0) → 0 < w → b.tick < tick
+      → slot_in (radices t) w (tick - 1) ≤ slot_in (radices t) w b.tick
+      → EachRow (IsEventFrom (radices t) tick w) b.slots b.links.lists
+      → EachRow (IsEventFrom (radices t) tick (length (radices t))) b.slots b.links.lists
+  events_rest tick w none z later c g s m = each_with_rows (Seen tick w s) (IsEventFrom (radices t) tick (length (radices t)) s)
+      (list_at s b.links.lists) (λ some row p k d n e. elim (cases_lt k w) [
+        | inl q ↦ p.before k q n e
+        | inr q ↦
+            let o = on_wheel s k (slot_in (radices t) k (timer_in row).deadline) row n e p.smooth in
+            after_present tick k row s (omega arith) n (none k (omega arith) n) later (slots_mono (radices t) w k b.tick (tick - 1) table q c) e some
+            o.ahead
+      ]) (seen tick w g s m)
 
   -- Before an event.
 

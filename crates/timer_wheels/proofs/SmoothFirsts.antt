@@ -17,7 +17,7 @@ use Rattle.timer_wheels.specs.Deadlines.{HasDeadline, IsLeast, IsLeastDeadline}
 use Rattle.timer_wheels.specs.Digits.{IsTable, HasDigits, weight, radix, level}
 use Rattle.timer_wheels.specs.Leap.{timer_visit}
 use Rattle.timer_wheels.specs.Smooth.{slot_in, smooth_list, mark, IsSmooth}
-use Rattle.timer_wheels.specs.SmoothAhead.{IsFirst, IsNotBefore, IsFoundBelow, IsPendingDeadline, IsBegin}
+use Rattle.timer_wheels.specs.SmoothAhead.{IsFirst, IsNotBefore, IsInPresent, IsFoundBelow, IsPendingDeadline, IsBegin}
 use Rattle.timer_wheels.specs.Tables.{radices}
 use Rattle.timer_wheels.specs.WakeUps.{next_visit}
 use Rattle.timer_wheels.specs.declared.buckets.Buckets.{Buckets}
@@ -29,8 +29,8 @@ use Rattle.timer_wheels.proofs.DigitLaws.{digits_down}
 use Rattle.timer_wheels.proofs.RowLemmas.{around, all-rows_below, rows_below-none, timers-append}
 use Rattle.timer_wheels.proofs.SmoothAhead.{placed, on_wheel, in_slot, not_before, each_with_rows, none_in}
 use Rattle.timer_wheels.proofs.SmoothPlaces.{weaker}
-use Rattle.timer_wheels.proofs.SmoothSkips.{tick_ahead}
-use Rattle.timer_wheels.proofs.SmoothSlots.{slot_low}
+use Rattle.timer_wheels.proofs.SmoothSkips.{tick_ahead, slots_later}
+use Rattle.timer_wheels.proofs.SmoothSlots.{slot_low, slots_mono}
 use Rattle.timer_wheels.proofs.SmoothVisits.{visit_by_slot, visit_mono, slot_begins_later, visit_of_begin}
 use Rattle.timer_wheels.proofs.TableLaws.{of_table}
 use Rattle.timer_wheels.proofs.VisitLaws.{visit_later, visit_in_time}
@@ -110,6 +110,16 @@ module _ (t : Table) (b : Buckets) (words : List ℕ) (h : IsBank t b words) whe
       mul-le-mul_right (weight w (radices t)) le in
       omega arith)
 
+  -- a tick in the present slot is before a deadline in a later one
+  in_slots_before : (k first d : ℕ) → slot_in (radices t) k first ≤ slot_in (radices t) k b.tick → slot_in (radices t) k b.tick < slot_in (radices t) k d
+      → first ≤ d
+  in_slots_before k first d l a = elim (cases_lt d first) [
+    | inl e ↦
+        let m : slot_in (radices t) k d ≤ slot_in (radices t) k first = slots_later (radices t) k d first table (omega arith) in
+        absurd (omega arith)
+    | inr e ↦ e
+  ]
+
   module _ (fact : ℕ → Type 0) where
     pub found_none : IsFoundBelow fact t b 0 None
     found_none = record {
@@ -156,6 +166,29 @@ module _ (t : Table) (b : Buckets) (words : List ℕ) (h : IsBank t b words) whe
         → IsFirst (radices t) b.tick w b.links.lists slot → IsNotBefore first (slot * weight w (radices t)) → IsFoundBelow fact t b (w + 1) first
     found_skip w slot first l f g n = more w first first f f.has (λ d k. k) (weaker_on w (λ d. slot * weight w (radices t) ≤ d) (IsNotBefore first)
         (λ d k. not_before_up first (slot * weight w (radices t)) d n k) (slot_bound w slot l g))
+
+    -- a first tick in a wheel's present slot is before all timers of that wheel and of those above
+    found_before : (w first : ℕ) → IsFoundBelow fact t b w (Some first) → slot_in (radices t) w first ≤ slot_in (radices t) w b.tick
+        → IsFoundBelow fact t b (length (radices t)) (Some first)
+    found_before w first f c = record {
+      has = f.has;
+      least = λ s m. all-both
+          (λ row. (k : ℕ) → k < w → k < length (radices t)
+          → s ≡ smooth_list (radices t) k (slot_in (radices t) k (timer_in row).deadline) → IsNotBefore (Some first) (timer_in row).deadline)
+          (IsSmooth (radices t) b.tick (mark (radices t) b.tick b.links.lists) s)
+          (λ row. (k : ℕ) → k < length (radices t) → k < length (radices t)
+          → s ≡ smooth_list (radices t) k (slot_in (radices t) k (timer_in row).deadline) → IsNotBefore (Some first) (timer_in row).deadline)
+          (list_at s b.links.lists) (λ row p q k a n e. elim (cases_lt k w) [
+            | inl y ↦ p k y n e
+            | inr y ↦ in_slots_before k first (timer_in row).deadline (slots_mono (radices t) w k b.tick first table y c)
+                (on_wheel t b words h s k (slot_in (radices t) k (timer_in row).deadline) row n e q).ahead
+          ]) (f.least s m) (placed t b words h s m);
+    }
+
+    pub found_rest : (w : ℕ) (first : Option ℕ) → IsFoundBelow fact t b w first → IsInPresent (radices t) w b.tick first
+        → IsFoundBelow fact t b (length (radices t)) first
+    found_rest w None f c = absurd c
+    found_rest w (Some first) f c = found_before w first f c
 
   -- the timers of the first slot's list are in that slot
   in_first : (w slot : ℕ) → w < length (radices t) → IsFirst (radices t) b.tick w b.links.lists slot

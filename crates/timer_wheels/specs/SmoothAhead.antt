@@ -33,6 +33,11 @@ abbrev pub IsEventFrom : List ℕ → ℕ → ℕ → ℕ → Row → Type 0
 IsEventFrom table tick w s row = (k : ℕ) → k < w → k < length table → s ≡ smooth_list table k (slot_in table k (timer_in row).deadline)
     → tick ≤ event_tick table k (slot_in table k (timer_in row).deadline)
 
+-- there is a first tick, and it is in wheel k's present slot
+abbrev pub IsInPresent : List ℕ → ℕ → ℕ → Option ℕ → Type 0
+IsInPresent table k now None = ⊥
+IsInPresent table k now (Some first) = slot_in table k first ≤ slot_in table k now
+
 -- the tick is not before the first one, and there is a first one
 abbrev pub IsNotBefore : Option ℕ → ℕ → Type 0
 IsNotBefore None tick = ⊥

@@ -279,6 +279,7 @@ impl Wheel for SmoothWheel {
         Ok(handle)
     }
 
+    #[inline(never)]
     fn reserve(&mut self, most: usize) -> Result<(), OutOfMemory>
         ensures ok { OnOk result (smooth_state self.new ≡ after_reserve most (smooth_state self.old)) }
         ensures err { OnErr result (smooth_state self.new ≡ smooth_state self.old) }
@@ -332,7 +333,7 @@ impl Wheel for SmoothWheel {
 
     /// Each timer that moves goes just one wheel down, and is counted. At most as many move as the paces are in sum: in `Table::Wide` at most 2n/63 + 18, if never more than n were
     /// held since the wheel was made.
-    #[inline(always)]
+    #[inline(never)]
     fn per_tick(&mut self)
         requires nothing_due { (smooth_state self.old).due ≡ [] }
         requires before_last { (smooth_state self.old).now < (smooth_state self.old).last_tick }
@@ -353,6 +354,7 @@ impl Wheel for SmoothWheel {
 
     /// It makes the moves of all ticks that it passes. While none is to be made, it leaps to the next event, and else it goes
     /// tick by tick: no more of those than timers move, and one for each bucket with timers that begins to be a next one.
+    #[inline(never)]
     fn advance(&mut self, most: u64) -> u64
         requires nothing_due { (smooth_state self.old).due ≡ [] }
         requires some { 0 < most }
@@ -378,17 +380,20 @@ impl Wheel for SmoothWheel {
 
     /// The next tick at which Scheme 7 would empty a bucket with a timer. It follows from the first slot with a timer of each
     /// wheel, without a walk.
+    #[inline(never)]
     fn quiet_until(&self) -> Option<u64> {
         self.bank.next_visit()
     }
 
     /// Found in the first bucket with a timer of each wheel: on wheel 0 without a look at its timers, and on a higher wheel
     /// by a walk along that bucket, unless it begins after a deadline that was found already.
+    #[inline(never)]
     fn next_deadline(&self) -> Option<u64> {
         self.bank.next_deadline()
     }
 
     /// As `next_deadline`: nothing is kept.
+    #[inline(never)]
     fn find_next(&mut self) -> Option<u64>
         ensures first { result ≡ next_deadline (smooth_state self.old).pending }
         ensures same { self.new ≡ self.old }
@@ -415,6 +420,7 @@ impl Wheel for SmoothWheel {
         self.bank.buckets.list_into(timers)
     }
 
+    #[inline(never)]
     fn clear(&mut self)
         ensures cleared { smooth_state self.new ≡ after_clear (smooth_state self.old) }
         ensures moves { moves_of self.new ≡ moves_of self.old }

@@ -1,9 +1,11 @@
 //! A hierarchy that is chosen as the program runs, as C chooses one: `HierWheel` or `SmoothWheel`.
 //!
 //! Each call is that of the wheel. What both have, the buckets, is read without a look at which of them it is.
-ghost use Rattle.std.specs.Prelude.{◌≡◌, ◌*◌, ◌<◌, ◌≤◌, true, false, IfOk, IfErr, IfSome};
+ghost use Rattle.std.specs.Prelude.{◌≡◌, ◌+◌, ◌*◌, ◌<◌, ◌≤◌, true, false, None, IfOk, IfErr, IfSome, IfNone, MatchOption};
 ghost use Rattle.timer_base.specs.Counts.{no_counts};
-ghost use Rattle.timer_base.specs.WheelState.{empty_wheel};
+ghost use Rattle.timer_base.specs.WheelState.{empty_wheel, held_at, held_count, after_held_start, after_removal};
+ghost use Rattle.timer_base.specs.declared.limits.TheConstants.{LAST};
+ghost use Rattle.timer_wheels.specs.SmoothWheel.{smooth_state, starts_of};
 ghost use Rattle.timer_wheels.specs.HeldPlaces.{IsFirstHeld, IsAlone};
 ghost use Rattle.timer_wheels.specs.HierWheel.{IsHierFault};
 ghost use Rattle.timer_wheels.specs.Tables.{slots_of_table, last_of_table};
@@ -168,7 +170,13 @@ impl Wheel for TieredWheel {
     fn start(&mut self, timer: Timer) -> Result<Handle, OutOfMemory> {
         match self {
             TieredWheel::Hier(wheel) => wheel.start(timer),
-            TieredWheel::Smooth(wheel) => wheel.start(timer),
+            TieredWheel::Smooth(wheel) => match start_smooth(wheel, timer) {
+                Some(place) => Ok(Handle {
+                    place,
+                    serial: timer.serial,
+                }),
+                None => Err(OutOfMemory),
+            },
         }
     }
 
@@ -184,17 +192,29 @@ impl Wheel for TieredWheel {
     }
 
     fn stop(&mut self, handle: Handle) -> Option<Timer> {
+        let timer = self.buckets().look(handle)?;
         match self {
-            TieredWheel::Hier(wheel) => wheel.stop(handle),
-            TieredWheel::Smooth(wheel) => wheel.stop(handle),
+            TieredWheel::Hier(wheel) => {
+                let _removed = wheel.stop(handle);
+            }
+            TieredWheel::Smooth(wheel) => stop_smooth(wheel, handle),
         }
+        Some(timer)
     }
 
     #[inline(always)]
     fn restart(&mut self, handle: Handle, timer: Timer) -> Option<(Handle, Timer)> {
         match self {
             TieredWheel::Hier(wheel) => wheel.restart(handle, timer),
-            TieredWheel::Smooth(wheel) => wheel.restart(handle, timer),
+            TieredWheel::Smooth(wheel) => {
+                let old = wheel.look(handle)?;
+                let place = restart_smooth(wheel, handle, timer)?;
+                let made = Handle {
+                    place,
+                    serial: timer.serial,
+                };
+                Some((made, old))
+            }
         }
     }
 
@@ -215,21 +235,30 @@ impl Wheel for TieredWheel {
     fn quiet_until(&self) -> Option<u64> {
         match self {
             TieredWheel::Hier(wheel) => wheel.quiet_until(),
-            TieredWheel::Smooth(wheel) => wheel.quiet_until(),
+            TieredWheel::Smooth(wheel) => match wheel.quiet_until() {
+                Some(tick) => Some(tick),
+                None => None,
+            },
         }
     }
 
     fn next_deadline(&self) -> Option<u64> {
         match self {
             TieredWheel::Hier(wheel) => wheel.next_deadline(),
-            TieredWheel::Smooth(wheel) => wheel.next_deadline(),
+            TieredWheel::Smooth(wheel) => match wheel.next_deadline() {
+                Some(tick) => Some(tick),
+                None => None,
+            },
         }
     }
 
     fn find_next(&mut self) -> Option<u64> {
         match self {
             TieredWheel::Hier(wheel) => wheel.find_next(),
-            TieredWheel::Smooth(wheel) => wheel.find_next(),
+            TieredWheel::Smooth(wheel) => match wheel.find_next() {
+                Some(tick) => Some(tick),
+                None => None,
+            },
         }
     }
 
@@ -256,4 +285,56 @@ impl Wheel for TieredWheel {
     }
 
     ghost well_formed = { λ wheel. tiered-well_formed wheel };
+}
+
+// The calls of a smooth wheel that are out of line. What they return fits into registers: else those of a hierarchy would
+// have their results in memory, too.
+
+/// Starts a timer, and returns its place.
+#[inline(never)]
+fn start_smooth(wheel: &mut SmoothWheel, timer: Timer) -> Option<usize>
+    requires not_past { (smooth_state wheel.old).now ≤ timer.deadline }
+    requires deadline { timer.deadline ≤ (smooth_state wheel.old).last_tick }
+    requires fresh { (smooth_state wheel.old).last_serial < timer.serial }
+    requires serial { timer.serial ≤ LAST }
+    ensures started { IfSome result (λ place. smooth_state wheel.new
+        ≡ after_held_start place timer (smooth_state wheel.old)) }
+    ensures full { IfNone result ((smooth_state wheel.old).room ≤ held_count (smooth_state wheel.old)) }
+    ensures err { IfNone result (smooth_state wheel.new ≡ smooth_state wheel.old) }
+    ensures starts { MatchOption result (starts_of wheel.new ≡ starts_of wheel.old)
+        (λ _. starts_of wheel.new ≡ starts_of wheel.old + 1) }
+{
+    match wheel.start(timer) {
+        Ok(handle) => Some(handle.place),
+        Err(_) => None,
+    }
+}
+
+/// Removes the timer with this handle, if there is one.
+#[inline(never)]
+fn stop_smooth(wheel: &mut SmoothWheel, handle: Handle)
+    ensures stopped { smooth_state wheel.new ≡ after_removal handle (smooth_state wheel.old) }
+    ensures starts { starts_of wheel.new ≡ starts_of wheel.old }
+{
+    let _removed = wheel.stop(handle);
+}
+
+/// Removes the timer with this handle, starts another, and returns its place.
+#[inline(never)]
+fn restart_smooth(wheel: &mut SmoothWheel, handle: Handle, timer: Timer) -> Option<usize>
+    requires not_past { (smooth_state wheel.old).now ≤ timer.deadline }
+    requires deadline { timer.deadline ≤ (smooth_state wheel.old).last_tick }
+    requires fresh { (smooth_state wheel.old).last_serial < timer.serial }
+    requires serial { timer.serial ≤ LAST }
+    ensures none { IfNone result (held_at handle (smooth_state wheel.old) ≡ None) }
+    ensures same { IfNone result (smooth_state wheel.new ≡ smooth_state wheel.old) }
+    ensures restarted { IfSome result (λ place. smooth_state wheel.new
+        ≡ after_held_start place timer (after_removal handle (smooth_state wheel.old))) }
+    ensures starts { MatchOption result (starts_of wheel.new ≡ starts_of wheel.old)
+        (λ _. starts_of wheel.new ≡ starts_of wheel.old + 1) }
+{
+    match wheel.restart(handle, timer) {
+        Some((made, _old)) => Some(made.place),
+        None => None,
+    }
 }

@@ -1,13 +1,14 @@
 //! What is ahead of a smooth wheel: the first bucket with a timer of each wheel, and the next tick that needs a look.
-ghost use Rattle.std.specs.Prelude.{◌≡◌, ◌<◌, ◌≤◌, ◌+◌, ◌*◌, ℕ, IfSome, length, false};
+ghost use Rattle.std.specs.Prelude.{◌≡◌, ◌<◌, ◌≤◌, ◌+◌, ◌*◌, ℕ, IfSome, length, true, false};
 ghost use Rattle.timer_base.specs.declared.limits.TheConstants.{LAST};
 ghost use Rattle.timer_wheels.specs.Bank.{next_len};
 ghost use Rattle.timer_wheels.specs.BucketLists.{EachRow};
 ghost use Rattle.timer_wheels.specs.Digits.{weight};
 ghost use Rattle.timer_base.specs.WakeUps.{IsQuietUntil, next_deadline};
 ghost use Rattle.timer_wheels.specs.Buckets.{state_of};
-ghost use Rattle.timer_wheels.specs.SmoothAhead.{IsFirstSlot, IsEventFrom, event_tick, IsNotBefore, IsFoundBelow, IsPendingDeadline, IsBegin};
+ghost use Rattle.timer_wheels.specs.SmoothAhead.{IsFirstSlot, IsEventFrom, event_tick, IsNotBefore, IsInPresent, IsFoundBelow, IsPendingDeadline, IsBegin};
 ghost use Rattle.timer_wheels.specs.WakeUps.{next_visit};
+ghost use Rattle.timer_wheels.specs.Smooth.{slot_in};
 ghost use Rattle.timer_wheels.specs.Tables.{radices};
 
 use crate::deadlines::least_in;
@@ -51,9 +52,13 @@ impl Bank {
             self.now.buckets.slots self.now.buckets.links.lists }
     {
         let wheels = wheels_of(self.table);
-        let mut event = end;
-        let mut wheel = 0;
+        let mut event = self.event_before(0, end);
+        let mut wheel = 1;
         while wheel < wheels {
+            // This wheel and those above have none before the end of its present slot.
+            if is_in_present(self.table, self.buckets.tick, wheel, event - 1) {
+                return event;
+            }
             event = self.event_before(wheel, event);
             wheel += 1;
         }
@@ -89,6 +94,9 @@ impl Bank {
         let mut first = None;
         let mut wheel = 0;
         while wheel < wheels {
+            if is_settled(self.table, self.buckets.tick, wheel, first) {
+                return first;
+            }
             first = self.deadline_before(wheel, first);
             wheel += 1;
         }
@@ -144,6 +152,9 @@ impl Bank {
         let mut first = None;
         let mut wheel = 0;
         while wheel < wheels {
+            if is_settled(self.table, self.buckets.tick, wheel, first) {
+                return first;
+            }
             first = self.begin_before(wheel, first);
             wheel += 1;
         }
@@ -174,6 +185,25 @@ fn event_of(table: Table, wheel: usize, slot: u64) -> u64
         return slot;
     }
     (slot - 1) * weight_of(table, wheel)
+}
+
+/// Whether a tick ahead is in the present slot of a wheel. No timer of that wheel, or of one above, is in that slot.
+fn is_in_present(table: Table, now: u64, wheel: usize, tick: u64) -> bool
+    requires { wheel < length (radices table) }
+    ensures { result ≡ true → slot_in (radices table) wheel tick ≤ slot_in (radices table) wheel now }
+{
+    slot_of(table, wheel, tick) <= slot_of(table, wheel, now)
+}
+
+/// Whether what was found on the wheels below is before all timers of this wheel and of those above.
+fn is_settled(table: Table, now: u64, wheel: usize, first: Option<u64>) -> bool
+    requires { wheel < length (radices table) }
+    ensures { result ≡ true → IsInPresent (radices table) wheel now first }
+{
+    match first {
+        Some(tick) => is_in_present(table, now, wheel, tick),
+        None => false,
+    }
 }
 
 /// Whether a first deadline is after a tick, or there is none yet.

@@ -18,7 +18,7 @@ use crate::smooth::filled::Filled;
 use crate::smooth::turns::{
     MOST_LISTS, is_in_next, level_of, list_of_slot, lists_of, next_list, slot_of,
 };
-use crate::table::{Table, last_tick_of};
+use crate::table::{Table, last_tick_of, with_constant_table};
 use std::alloc::Global;
 use timer_base::{Handle, OutOfMemory, Timer};
 use timer_links::Links;
@@ -81,24 +81,10 @@ impl Bank {
             (level (radices self.now.table) self.now.buckets.tick deadline)) deadline) }
         ensures next { IsNextOf (radices self.now.table) self.now.buckets.tick self.now.filled result.0 result.1 }
     {
-        let table = self.table;
-        let tick = self.buckets.tick;
-        if deadline <= tick {
+        if deadline <= self.buckets.tick {
             return (self.buckets.slots, 0);
         }
-        let wheel = descend(
-            table,
-            tick,
-            &self.filled,
-            level_of(table, tick, deadline),
-            deadline,
-        );
-        let list = list_of_slot(table, wheel, slot_of(table, wheel, deadline));
-        if is_in_next(table, tick, wheel, deadline) {
-            (list, wheel)
-        } else {
-            (list, 0)
-        }
+        with_constant_table!(place_in(self.table, self, deadline))
     }
 
     /// Starts a timer, in its bucket or as the last of the due ones.
@@ -305,6 +291,37 @@ impl Bank {
     {
         self.buckets.clear();
         self.filled = Filled::new();
+    }
+}
+
+/// The list of a timer that is pending now, and the wheel whose next bucket that list is, or 0 if it is none's.
+#[inline(always)]
+fn place_in(table: Table, bank: &Bank, deadline: u64) -> (usize, usize)
+    requires table { table ≡ bank.now.table }
+    requires later { bank.now.buckets.tick < deadline }
+    requires deadline { deadline ≤ bank.now.buckets.last_tick }
+    ensures in_range { result.0 < bank.now.buckets.slots }
+    ensures bucket { result.0 ≡ smooth_list (radices table)
+        (descend_by (radices table) bank.now.buckets.tick bank.now.filled deadline
+        (level (radices table) bank.now.buckets.tick deadline))
+        (slot_in (radices table)
+        (descend_by (radices table) bank.now.buckets.tick bank.now.filled deadline
+        (level (radices table) bank.now.buckets.tick deadline)) deadline) }
+    ensures next { IsNextOf (radices table) bank.now.buckets.tick bank.now.filled result.0 result.1 }
+{
+    let tick = bank.buckets.tick;
+    let wheel = descend(
+        table,
+        tick,
+        &bank.filled,
+        level_of(table, tick, deadline),
+        deadline,
+    );
+    let list = list_of_slot(table, wheel, slot_of(table, wheel, deadline));
+    if is_in_next(table, tick, wheel, deadline) {
+        (list, wheel)
+    } else {
+        (list, 0)
     }
 }
 

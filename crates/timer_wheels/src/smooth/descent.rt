@@ -12,6 +12,7 @@ use crate::table::Table;
 use timer_links::Links;
 
 /// From a wheel downwards, the first at which a deadline is not in the next bucket, or that bucket is not empty.
+#[inline(always)]
 pub fn descend(table: Table, now: u64, filled: &Filled, from: usize, deadline: u64) -> usize
     requires from { from < length (radices table) }
     requires now { now ≤ LAST }

@@ -1,13 +1,19 @@
 use Rattle.std.proofs.Common.{◌≡◌, length, arith, subst, ℕ}
 use Rattle.timer_wheels.specs.SmoothAhead.{IsFoundBelow, IsBegin}
 use Rattle.timer_wheels.specs.Tables.{radices}
-use Rattle.timer_wheels.proofs.SmoothFirsts.{found_none}
+use Rattle.timer_wheels.proofs.SmoothFirsts.{found_none, found_rest}
 use Rattle.timer_wheels.proofs.smooth.bank.Bank.first_begin.Goals as goal
 
 pub loop-wheel-init : goal.loop-wheel-init
 loop-wheel-init c =
     let w = c.args.self.now in
     record { most = omega arith; found = found_none w.table w.buckets w.filled w.bank (IsBegin w.table w.buckets) }
+
+pub returns-then-is_settled : goal.returns-then-is_settled
+returns-then-is_settled c =
+    let w = c.args.self.now in
+    found_rest w.table w.buckets w.filled w.bank (IsBegin w.table w.buckets) c.loop-wheel.wheel c.loop-wheel.first c.loop-wheel.invariant.found
+    (c.is_settled.ensures c.if-is_settled.true)
 
 pub returns : goal.returns
 returns c =

@@ -1,13 +1,20 @@
 use Rattle.std.proofs.Common.{◌≡◌, length, arith, subst, ℕ}
 use Rattle.timer_wheels.specs.SmoothAhead.{IsFoundBelow, IsPendingDeadline}
 use Rattle.timer_wheels.specs.Tables.{radices}
-use Rattle.timer_wheels.proofs.SmoothFirsts.{found_none, first_found}
+use Rattle.timer_wheels.proofs.SmoothFirsts.{found_none, found_rest, first_found}
 use Rattle.timer_wheels.proofs.smooth.bank.Bank.next_deadline.Goals as goal
 
 pub loop-wheel-init : goal.loop-wheel-init
 loop-wheel-init c =
     let w = c.args.self.now in
     record { most = omega arith; found = found_none w.table w.buckets w.filled w.bank (IsPendingDeadline w.buckets) }
+
+pub returns-then-is_settled : goal.returns-then-is_settled
+returns-then-is_settled c =
+    let w = c.args.self.now in
+    first_found w.table w.buckets w.filled w.bank c.loop-wheel.first
+    (found_rest w.table w.buckets w.filled w.bank (IsPendingDeadline w.buckets) c.loop-wheel.wheel c.loop-wheel.first
+    c.loop-wheel.invariant.found (c.is_settled.ensures c.if-is_settled.true))
 
 pub returns : goal.returns
 returns c =

@@ -6,6 +6,7 @@ use Rattle.timer_wheels.proofs.smooth.bank.Bank.next_event.Given as goal
 
 abbrev pub invariant-loop-wheel : goal.invariant-loop-wheel
 invariant-loop-wheel l = record {
+  above : 0 < l.wheel;
   most : l.wheel ≤ l.wheels;
   later : l.self.buckets.tick < l.event;
   at_most : l.event ≤ l.end;
