@@ -21,9 +21,9 @@ enum { TIMERS = 10000 };
 static struct timers t = TIMERS_INIT;
 static struct timers_handle handles[TIMERS];
 static uint64_t ticks[TIMERS];
-static uint64_t failed, sum;
+static uint64_t failed, sum, one_length;
 
-/* Numbers of ticks with as many of one length as of another, up to two to the power of 20. */
+/* Numbers of ticks with as many of one length as of another, up to two to the power of 20, or all of one length. */
 static void choose_ticks(void)
 {
 	static uint64_t state = 1;
@@ -31,7 +31,7 @@ static void choose_ticks(void)
 
 	for (i = 0; i < TIMERS; i++) {
 		state = state * UINT64_C(6364136223846793005) + UINT64_C(1442695040888963407);
-		ticks[i] = 1 + (state >> 33) % (UINT64_C(2) << (state >> 20) % 20);
+		ticks[i] = one_length ? one_length : 1 + (state >> 33) % (UINT64_C(2) << (state >> 20) % 20);
 	}
 }
 
@@ -80,7 +80,7 @@ static void count_ticks(void)
 
 #ifdef KEPT
 /* Ticks at which nothing expires, one a call, and the same calls once first deadlines are kept: of each bucket, after a walk
- * and a clear. */
+ * and a clear. With timers of one length each bucket stays in order. */
 static void count_kept(void)
 {
 	const uint64_t now = 2 * TIMERS + 1;
@@ -94,6 +94,13 @@ static void count_kept(void)
 	COUNT("take_none", failed += timers_take(&t, 1 + TIMERS + (uint64_t)i, &out));
 	sum += timers_find_next(&t);
 	timers_clear(&t);
+	one_length = 60000;
+	COUNT("order_start", failed += timers_start(&t, ticks[i], 7, &handles[i]) != TIMERS_OK);
+	COUNT("order_restart", failed += timers_restart(&t, handles[i], ticks[i], 8, &handles[i]) != TIMERS_OK);
+	COUNT("order_set_at", failed += timers_set_at(&t, &handles[i], now + ticks[i], 9) != TIMERS_OK);
+	COUNT("order_find_next", sum += timers_find_next(&t));
+	COUNT("order_stop", failed += timers_stop(&t, handles[i], &action) != TIMERS_OK);
+	one_length = 0;
 	COUNT("kept_start", failed += timers_start(&t, ticks[i], 7, &handles[i]) != TIMERS_OK);
 	COUNT("kept_restart", failed += timers_restart(&t, handles[i], ticks[i], 8, &handles[i]) != TIMERS_OK);
 	COUNT("kept_set_at", failed += timers_set_at(&t, &handles[i], now + ticks[i], 9) != TIMERS_OK);

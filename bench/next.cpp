@@ -7,6 +7,7 @@
 //   minutes   a random one of timers 10 to 20 minutes away is pushed back to 20 minutes
 //   kept      a tick passes, 10 random ones are pushed back to 60 s, and what has expired starts again
 //   first     the first one of timers 10 to 20 minutes away is pushed back by ten minutes
+//   oldest    the same, of timers that were started in the order of their deadlines, as with one time-out
 //   expiry    time passes until a timer of those over ten minutes expires, and it is taken
 //   short     a timer of 100 ms is started and expires, before timers 60 to 61 s away
 // Prints the nanoseconds of a turn. The status is 1 if a timer expires, or an answer is, other than an ordered set says. Of
@@ -106,6 +107,14 @@ template <class F> struct Loop {
     }
     std::stable_sort(order.begin(), order.end(), [&](uint32_t a, uint32_t b) { return deadlines[a] < deadlines[b]; });
   }
+  // As fill, but in the order of deadlines.
+  void fill_in_order(uint64_t from, uint64_t span) {
+    for (size_t i = 0; i < pending; ++i) {
+      deadlines.push_back(from + i * span / pending);
+      facility.set(i, deadlines.back());
+      order.push_back((uint32_t)i);
+    }
+  }
   void ask() { sum += facility.ask(); }
   void pass_to(uint64_t tick) {
     expired.clear();
@@ -160,6 +169,10 @@ template <class F> struct Loop {
     if (turn == "same") return pushes_any(MINUTE, 1);
     if (turn == "minute") return pushes_any(MINUTE, 1000);
     if (turn == "minutes") return pushes_any(10 * MINUTE, 10 * MINUTE);
+    if (turn == "oldest") {
+      fill_in_order(10 * MINUTE, 10 * MINUTE);
+      return timed([&](size_t count) { return pushes_first(count), true; });
+    }
     fill(turn == "short" ? MINUTE : turn == "first" ? 10 * MINUTE : 1,
          turn == "short" ? 1000 : turn == "kept" ? MINUTE : 10 * MINUTE);
     if (turn == "kept") return timed([&](size_t) { return keeps(), true; });

@@ -1,14 +1,15 @@
 -- Lemmas for `first`: a first deadline follows the timers that come and go, and a known one is the least.
-use Rattle.std.proofs.Common.{◌≡◌, ◌≢◌, ◌<◌, ◌≤◌, ◌+◌, ℕ, true, false, List, [], ◌∷◌, ◌++◌, refl, sym, ◌∙◌, ap, inl, inr, arith, ◌==◌, nat_lt, length, Option, Some, None, IfSome}
+use Rattle.std.proofs.Common.{eqb, ◌≡◌, ◌≢◌, ◌<◌, ◌≤◌, ◌+◌, ℕ, true, false, List, [], ◌∷◌, ◌++◌, refl, sym, ◌∙◌, ap, inl, inr, arith, ◌==◌, nat_lt, length, Option, Some, None, IfSome}
 use Rattle.std.specs.List.{AllByRecursion}
-use Rattle.std.proofs.lemmas.Bool.{cases_eq, cases_lt}
+use Rattle.std.specs.Option.{option_eq}
+use Rattle.std.proofs.lemmas.Bool.{cases_eq, cases_lt, eqb-true}
 use Rattle.std.proofs.lemmas.Bool.Decides.{nat_tests}
 use Rattle.timer_base.specs.OrderLaws.{All-weaken}
 use Rattle.timer_base.specs.declared.timer.Timer.{Timer}
 use Rattle.timer_base.specs.Basics.{some_same}
 use Rattle.timer_links.specs.declared.node.Node.{Node}
 use Rattle.timer_links.specs.Lists.{list_at, node_at, AreApart, KeyedLists, Rows}
-use Rattle.timer_wheels.specs.BucketLists.{timers_in}
+use Rattle.timer_wheels.specs.BucketLists.{timer_in, timers_in}
 use Rattle.timer_wheels.specs.declared.first.First.{First}
 use Rattle.timer_wheels.specs.declared.first.First.TheVariants.{InOrder, Counted}
 use Rattle.timer_wheels.specs.Deadlines.{HasDeadline, IsLeast, IsLeastDeadline}
@@ -168,11 +169,17 @@ front_least latest [] h = refl
 front_least latest (row ∷ rows) h = record { has = inl refl; none_earlier = (omega arith, h.0.0) }
 
 -- or one that is counted
-pub counted_least : (count bound : ℕ) (ts : List Timer) → count ≢ 0 → IsFirstOf (Counted count bound) ts → IsLeast bound ts
+pub counted_least : (count bound : ℕ) (ts : List Timer) → 0 < count → IsFirstOf (Counted count bound) ts → IsLeast bound ts
 counted_least count bound ts k h = record {
   has = counted_has bound ts (omega (arith, h.1));
   none_earlier = h.0;
 }
+
+-- or one that the front has
+pub at_front_least : (count bound : ℕ) (rows : Rows) → option_eq eqb (first_deadline rows) (Some bound) ≡ true
+    → IsFirstOf (Counted count bound) (timers_in rows) → IsLeast bound (timers_in rows)
+at_front_least count bound [] e h = absurd (cc)
+at_front_least count bound (row ∷ rows) e h = record { has = inl (eqb-true (timer_in row).deadline bound e); none_earlier = h.0 }
 
 -- a least deadline, if it is one
 pub least_if_some : (o : Option ℕ) (ts : List Timer) → IsLeastDeadline o ts → IfSome o (λ d. IsLeast d ts)

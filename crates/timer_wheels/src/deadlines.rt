@@ -1,6 +1,6 @@
 //! The first deadline of a wheel, exactly.
 //!
-//! A bucket is in order of starting and not of deadlines, so that its first deadline takes a walk along it.
+//! A bucket is in order of starting and maybe not of deadlines, so that its first deadline takes a walk along it.
 //! In a hierarchy every deadline of a bucket comes before those of the buckets after it: the first one with a
 //! timer is enough. `find_next` keeps what it found there (`firsts`), and so walks seldom.
 ghost use Rattle.std.specs.Prelude.{◌≡◌, ◌<◌, length};

@@ -5,16 +5,19 @@
 //! `latest` is no earlier than any of them.
 //!
 //! Once an earlier one comes, the timers with the first deadline are counted. None is before `bound`, and at least
-//! `count` have just that deadline: it is known unless the count is 0. Then a walk finds it, or that all are in order.
+//! `count` have just that deadline. So it is the first one if the count is not 0, or if the front has it. Otherwise
+//! it is not known, and a walk finds it, or that all are in order again.
 //!
-//!     timers     kept of them           first deadline
-//!                in order up to 0       none
-//!     5 9        in order up to 9       5, that of the front
-//!     9          in order up to 9       9, after a stop
-//!     9 7        1 timer of 7           7, after a start: 7 is before 9
-//!     9 7 7      2 timers of 7          7, after another
-//!     9          0 timers of 7          not known, after two stops
-//!     9          in order up to 9       9, after a walk
+//!     timers       kept of them          first deadline
+//!                  in order, up to 0     none
+//!     5 5 9        in order, up to 9     5, that of the front
+//!     5 5 9 7      1 timer of 5          5, after a start: 7 is before 9
+//!     5 9 7        0 timers of 5         5, after a stop: the front has it
+//!     9 7          0 timers of 5         not known, after another
+//!     9 7          1 timer of 7          7, after a walk
+//!     9 7 7        2 timers of 7         7, after a start
+//!     9            0 timers of 7         not known, after two stops
+//!     9            in order, up to 9     9, after a walk
 ghost use Rattle.std.specs.Prelude.{◌≡◌, ◌<◌, length, true, false, IfSome};
 ghost use Rattle.timer_links.specs.Lists.{list_at};
 ghost use Rattle.timer_wheels.specs.BucketLists.{timers_in};
@@ -44,7 +47,7 @@ impl First {
         First::InOrder { latest: 0 }
     }
 
-    /// Of a bucket nothing is known: 0 is a lower bound, and no timer's deadline.
+    /// Of a bucket nothing is known: 0 is a lower bound.
     #[inline]
     pub fn unknown() -> First
         ensures { result ≡ unknown_first }
@@ -129,10 +132,12 @@ impl First {
         match *self {
             First::InOrder { .. } => front_deadline(links, list),
             First::Counted { count, bound } => {
-                if count == 0 {
-                    None
-                } else {
+                if count > 0 {
                     Some(bound)
+                } else if front_deadline(links, list) == Some(bound) {
+                    Some(bound)
+                } else {
+                    None
                 }
             }
         }

@@ -357,7 +357,9 @@ impl Wheel for HierWheel {
     }
 
     /// From the first call that walks a bucket on, first deadlines are kept, so that most calls need no walk. That of a
-    /// bucket is lost if the last timer that has it is stopped, or restarted for later, and others are left there.
+    /// bucket whose timers came in the order of their deadlines is always known, whichever of them is stopped. That of
+    /// another one is lost if the last timer that is known to have it is stopped, or restarted for later, and others
+    /// are left there.
     fn find_next(&mut self) -> Option<u64> {
         self.wheels.find_next()
     }

@@ -4,8 +4,8 @@
 //! A call that puts a timer into a bucket sets the bucket's bit, and one that takes the last timer out of it clears it.
 //! The list of due timers is no bucket, and has no bit.
 //! So the clock finds the next bucket with a timer among the bits, and looks at no other (`leap`). One tick is in
-//! `migration`. The first deadline of that bucket is the first of all: once `find_next` asked for it, it is known until
-//! the last timer that has it leaves its bucket (`firsts`).
+//! `migration`. The first deadline of that bucket is the first of all: once `find_next` asked for it, it is known as
+//! long as the bucket's timers are in order, and else until the last one that is known to have it leaves (`firsts`).
 ghost use Rattle.std.specs.Prelude.{◌≡◌, ◌<◌, ◌≤◌, ◌+◌, [], IfOk, OnErr, IfSome, length};
 ghost use Rattle.timer_base.specs.declared.limits.TheConstants.{LAST};
 ghost use Rattle.timer_base.specs.WakeUps.{next_deadline};

@@ -13,6 +13,8 @@ mod facility_tests;
 #[cfg(test)]
 mod fault_tests;
 #[cfg(test)]
+mod first_rows;
+#[cfg(test)]
 mod hier_rows;
 #[cfg(test)]
 mod links_tests;

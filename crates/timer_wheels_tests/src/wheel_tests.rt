@@ -40,7 +40,7 @@ pub fn start<W: Wheel>(
 }
 
 /// Replaces a timer by the next one, and returns its handle and the old serial.
-fn restart<W: Wheel>(
+pub fn restart<W: Wheel>(
     rt: &impl Abort,
     wheel: &mut W,
     handle: Handle,

@@ -1,10 +1,11 @@
-use Rattle.std.proofs.Common.{◌≡◌, ◌<◌, List, subst, arith}
+use Rattle.std.proofs.Common.{◌≡◌, ◌∙◌, List, subst, sym, ap, eqb, Some}
+use Rattle.std.specs.Option.{option_eq}
 use Rattle.timer_base.specs.declared.timer.Timer.{Timer}
 use Rattle.timer_links.specs.Lists.{list_at}
 use Rattle.timer_wheels.specs.BucketLists.{timers_in}
 use Rattle.timer_wheels.specs.declared.first.First.{First}
-use Rattle.timer_wheels.specs.FirstDeadline.{IsFirstOf, IsKnown}
-use Rattle.timer_wheels.proofs.FirstLemmas.{front_least, counted_least, least_if_some}
+use Rattle.timer_wheels.specs.FirstDeadline.{IsFirstOf}
+use Rattle.timer_wheels.proofs.FirstLemmas.{front_least, counted_least, at_front_least, least_if_some}
 use Rattle.timer_wheels.proofs.first.First.known.Goals as goal
 
 abbrev first_of_as : (first same : First) (ts : List Timer) → first ≡ same → IsFirstOf first ts → IsFirstOf same ts
@@ -21,18 +22,20 @@ returns-in-InOrder-clause-all c h =
     let rows = list_at c.args.list c.args.links.now.lists in
     rw c.front_deadline.ensures (front_least c.in-InOrder.latest rows (first_of_as _ _ (timers_in rows) c.in-InOrder.is h.first_of))
 
-pub returns-then-count-eq0-clause-all : goal.returns-then-count-eq0-clause-all
-returns-then-count-eq0-clause-all c h =
-    let some : 0 < c.in-Counted.count = subst IsKnown c.in-Counted.is h.is_known in
-    let none : c.in-Counted.count ≡ 0 = c.if-count-eq0.true in
-    absurd (omega arith)
-
-pub returns-else-count-eq0-clause-found : goal.returns-else-count-eq0-clause-found
-returns-else-count-eq0-clause-found c h =
+pub returns-then-count-gt0-clause-found : goal.returns-then-count-gt0-clause-found
+returns-then-count-gt0-clause-found c h =
     let ts = timers_in (list_at c.args.list c.args.links.now.lists) in
-    counted_least c.in-Counted.count c.in-Counted.bound ts c.if-count-eq0.false (first_of_as _ _ ts c.in-Counted.is h)
+    counted_least c.in-Counted.count c.in-Counted.bound ts c.if-count-gt0.true (first_of_as _ _ ts c.in-Counted.is h)
 
-pub returns-else-count-eq0-clause-all : goal.returns-else-count-eq0-clause-all
-returns-else-count-eq0-clause-all c h =
-    let ts = timers_in (list_at c.args.list c.args.links.now.lists) in
-    counted_least c.in-Counted.count c.in-Counted.bound ts c.if-count-eq0.false (first_of_as _ _ ts c.in-Counted.is h.first_of)
+pub returns-then-count-gt0-clause-all : goal.returns-then-count-gt0-clause-all
+returns-then-count-gt0-clause-all c h = returns-then-count-gt0-clause-found c h.first_of
+
+pub returns-then-eq-clause-found : goal.returns-then-eq-clause-found
+returns-then-eq-clause-found c h =
+    let rows = list_at c.args.list c.args.links.now.lists in
+    let same = ap (λ o. option_eq eqb o (Some c.in-Counted.bound)) (sym c.front_deadline-else-count-gt0.ensures) ∙ sym c.eq.ensures
+    ∙ c.if-eq.true in
+    at_front_least c.in-Counted.count c.in-Counted.bound rows same (first_of_as _ _ (timers_in rows) c.in-Counted.is h)
+
+pub returns-then-eq-clause-all : goal.returns-then-eq-clause-all
+returns-then-eq-clause-all c h = returns-then-eq-clause-found c h.first_of
