@@ -57,8 +57,9 @@
  *     The clock never goes back. A real time that does, and so is before timers_now, is no error for
  *     timers_advance_to and timers_take: they pass no tick then.
  *
- *     The clock of TIMERS_CLOCK ends after 8,640,000 ticks: 100 days of seconds, 2.4 hours of milliseconds. Before
- *     that, free the timers, make them again at tick 0 and start what is left. That of TIMERS_WIDE has ticks for 36 million years of milliseconds.
+ *     The clock of TIMERS_WIDE has ticks for 36 million years of milliseconds. That of TIMERS_CLOCK ends after 8,640,000
+ *     ticks: 100 days of seconds, 2.4 hours of milliseconds. That of TIMERS_SMALL ends after 16,777,216: 4.6 hours of
+ *     milliseconds. Before that, free the timers, make them again at tick 0 and start what is left.
  *
  *     The functions were proved, and then translated into C. Each meets the contract that the sources state for it
  *     (crates/timer_c/src/exports.rt), for every call that keeps the rules below. Nothing checks that a caller keeps
@@ -67,7 +68,7 @@
  *
  * COSTS
  *     The timers are in arrays, and each is in the bucket of a wheel. A bucket of the lowest wheel has one
- *     tick, one of the next wheel 64 ticks (of TIMERS_CLOCK, 60), and so on. What each call takes time for,
+ *     tick, one of the next wheel 64 ticks (of TIMERS_CLOCK 60, of TIMERS_SMALL 16), and so on. What each call takes time for,
  *     without the prefix timers_:
  *
  *         start, start_at         constant; if the arrays are full, moves them
@@ -75,7 +76,7 @@
  *         set_at                  as restart_at if the handle names a timer, else as start_at
  *         stop, look, expire      constant
  *         expire_batch            each timer that it takes
- *         tick                    constant; at a multiple of 64 (60), each timer of one bucket
+ *         tick                    constant; at a multiple of 64 (60, 16), each timer of one bucket
  *         advance, advance_to     each bucket with timers on the way; above the lowest wheel each timer in it
  *         take                    as advance_to
  *         clear                   each timer that is held, and the buckets
@@ -101,7 +102,9 @@
  *     timers_find_next.
  *
  * WHICH TABLE
- *     TIMERS_WIDE is for all but two cases. TIMERS_CLOCK takes less memory and has a shorter clock. TIMERS_SMOOTH is for a
+ *     TIMERS_WIDE is for all but these cases. TIMERS_CLOCK shows hands of a clock. TIMERS_SMALL is for machines with little
+ *     memory: its buckets take 2.6 KB in place of 15, its clock is short, and a timer moves five times at most. Above the
+ *     lowest wheel its calls look at one digit after another, so some take a little longer. TIMERS_SMOOTH is for a
  *     loop that holds some 100,000 timers or more, passes a tick or a few at a time, and must not pause.
  *
  *     With TIMERS_WIDE a tick at a multiple of 64 moves all timers of its bucket: of a million timers as many as all of
@@ -300,11 +303,13 @@ enum timers_status {
 enum timers_table {
 	TIMERS_WIDE = 0,           /* ten wheels of 64 slots: the last tick is TIMERS_LAST */
 	TIMERS_CLOCK = 1,          /* 60 seconds, 60 minutes, 24 hours, 100 days: the last is TIMERS_CLOCK_LAST */
-	TIMERS_SMOOTH = 2          /* as TIMERS_WIDE, with twice the slots, and a few moves at a tick */
+	TIMERS_SMOOTH = 2,         /* as TIMERS_WIDE, with twice the slots, and a few moves at a tick */
+	TIMERS_SMALL = 3           /* six wheels of 16 slots: the last tick is TIMERS_SMALL_LAST */
 };
 
 #define TIMERS_LAST UINT64_C(1152921504606846975)   /* 2^60 - 1 */
 #define TIMERS_CLOCK_LAST UINT64_C(8639999)         /* day 99, 23:59:59 */
+#define TIMERS_SMALL_LAST UINT64_C(16777215)        /* 2^24 - 1 */
 #define TIMERS_NEVER UINT64_MAX                     /* of timers_wakeup, timers_next and timers_find_next */
 
 /* Private: see rule 1. */

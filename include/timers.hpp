@@ -139,7 +139,7 @@ public:
 	explicit timers(enum timers_table table = TIMERS_WIDE) : timers(table, time_point()) {}
 	template <class Duration>
 	timers(enum timers_table table, std::chrono::time_point<Clock, Duration> present)
-		: last_tick_(table == TIMERS_CLOCK ? TIMERS_CLOCK_LAST : TIMERS_LAST)
+		: last_tick_(table == TIMERS_CLOCK ? TIMERS_CLOCK_LAST : table == TIMERS_SMALL ? TIMERS_SMALL_LAST : TIMERS_LAST)
 	{
 		check(timers_new(&raw_, table, tick_by(present)));
 	}

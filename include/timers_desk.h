@@ -267,11 +267,11 @@ struct timers_line {
  * client keeps at most room - 1 timers. timers_desk_new allocates the outbox: 64 bytes for each word of room. */
 struct timers_desk_config {
 	uint64_t size;         /* sizeof(struct timers_desk_config) */
-	uint64_t first_tick;   /* the clock begins at it: up to TIMERS_LAST, of TIMERS_CLOCK TIMERS_CLOCK_LAST */
+	uint64_t first_tick;   /* the clock begins at it: at most the last tick of the table */
 	uint64_t capacity;     /* the most timers that may be pending at a time: 1 to 1,048,576 */
 	uint64_t room;         /* how many words each client's outbox has room for: 2 to 65,536 */
 	uint64_t line;         /* how many requests, and how many words, a line has room for: 1 to 65,536 */
-	uint32_t table;        /* TIMERS_WIDE, which is 0, TIMERS_CLOCK or TIMERS_SMOOTH: see timers.h */
+	uint32_t table;        /* one of enum timers_table: TIMERS_WIDE is 0 */
 	unsigned int : 32;     /* so that the size is the same on each platform */
 };
 

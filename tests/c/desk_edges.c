@@ -112,7 +112,12 @@ static void tables(void)
 	c.first_tick = TIMERS_LAST, c.table = TIMERS_SMOOTH;
 	CHECK(timers_desk_new(&d, &l, 1, &c) == TIMERS_DESK_OK && timers_desk_now(&d) == TIMERS_LAST);
 	timers_desk_free(&d), timers_line_free(&l);
-	c.first_tick = TIMERS_LAST + 1;
+	c.first_tick = TIMERS_SMALL_LAST, c.table = TIMERS_SMALL;
+	CHECK(timers_desk_new(&d, &l, 1, &c) == TIMERS_DESK_OK && timers_desk_now(&d) == TIMERS_SMALL_LAST);
+	timers_desk_free(&d), timers_line_free(&l);
+	c.first_tick = TIMERS_SMALL_LAST + 1;
+	CHECK(timers_desk_new(&d, &l, 1, &c) == TIMERS_DESK_OUT_OF_RANGE && d.mark == 0 && l.mark == 0);
+	c.first_tick = TIMERS_LAST + 1, c.table = TIMERS_WIDE;
 	CHECK(timers_desk_new(&d, &l, 1, &c) == TIMERS_DESK_OUT_OF_RANGE && d.mark == 0 && l.mark == 0);
 	/* a wake-up may come before the first deadline, at which the timer moves to a lower wheel */
 	c.first_tick = 0, c.table = TIMERS_WIDE;

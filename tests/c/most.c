@@ -54,6 +54,6 @@ int main(void)
 {
 	int done = is(TIMERS_OK, timers_set_allocator(map, NULL, unmap));
 	done = done && reaches(TIMERS_WIDE, 10 * 64) && reaches(TIMERS_CLOCK, 60 + 60 + 24 + 100)
-	       && reaches(TIMERS_SMOOTH, 10 * 128);
+	       && reaches(TIMERS_SMOOTH, 10 * 128) && reaches(TIMERS_SMALL, 6 * 16);
 	return done ? 0 : refused ? NO_ADDRESSES : 1;
 }

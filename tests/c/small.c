@@ -93,8 +93,9 @@ static int memory_rows(void)
 	int k;
 
 	for (k = 0; k < 3; k++)
-		printf("%zu %zu %zu %zu %zu\n", numbers[k], bytes_of(TIMERS_WIDE, numbers[k], false), bytes_of(TIMERS_WIDE, numbers[k], true),
-		       bytes_of(TIMERS_CLOCK, numbers[k], false), bytes_of(TIMERS_CLOCK, numbers[k], true));
+		printf("%zu %zu %zu %zu %zu %zu %zu\n", numbers[k], bytes_of(TIMERS_WIDE, numbers[k], false), bytes_of(TIMERS_WIDE, numbers[k], true),
+		       bytes_of(TIMERS_CLOCK, numbers[k], false), bytes_of(TIMERS_CLOCK, numbers[k], true),
+		       bytes_of(TIMERS_SMALL, numbers[k], false), bytes_of(TIMERS_SMALL, numbers[k], true));
 	return 0;
 }
 

@@ -74,12 +74,13 @@ static uint64_t looked_when;
 /* The most moves of one tick of them. */
 static uint64_t most_of_tick(void) { return 2 * held_most / 63 + 18; }
 
-static void set_units(bool wide)
+static void set_units(uint32_t table)
 {
 	static const uint64_t clock_units[] = { 86400, 3600, 60, 1 };
-	wheels = wide ? 10 : 4;
+	const uint64_t bits = table == TIMERS_SMALL ? 4 : 6;
+	wheels = table == TIMERS_CLOCK ? 4 : table == TIMERS_SMALL ? 6 : 10;
 	for (uint64_t i = 0; i < wheels; i++)
-		units[i] = wide ? UINT64_C(1) << (6 * (9 - i)) : clock_units[i];
+		units[i] = table == TIMERS_CLOCK ? clock_units[i] : UINT64_C(1) << (bits * (wheels - 1 - i));
 }
 
 /* How often a timer has moved by now. Its bucket in a wheel is emptied at its deadline, rounded down to the unit of that
@@ -689,18 +690,18 @@ static void want_closed(struct timers *t)
 
 static void open_anew(struct timers *t)
 {
-	static const uint32_t tables[] = { TIMERS_WIDE, TIMERS_CLOCK, TIMERS_SMOOTH };
-	uint32_t table = tables[below(3)];
+	static const uint32_t tables[] = { TIMERS_WIDE, TIMERS_CLOCK, TIMERS_SMOOTH, TIMERS_SMALL };
+	uint32_t table = tables[below(4)];
 	want_closed(t);
 	smooth = table == TIMERS_SMOOTH;
-	last_tick = table == TIMERS_CLOCK ? TIMERS_CLOCK_LAST : TIMERS_LAST;
-	WANT("no table", timers_new(t, 3 + (uint32_t)below(1000), 0), TIMERS_NO_TABLE);
+	last_tick = table == TIMERS_CLOCK ? TIMERS_CLOCK_LAST : table == TIMERS_SMALL ? TIMERS_SMALL_LAST : TIMERS_LAST;
+	WANT("no table", timers_new(t, 4 + (uint32_t)below(1000), 0), TIMERS_NO_TABLE);
 	WANT("too late", timers_new(t, table, last_tick + 1), TIMERS_TOO_LATE);
 	now = below(4) ? below(100000) : last_tick - below(100000);
 	count = due = reserved = held_most = 0;
 	counted = looked_at = (struct timers_counters){ 0, 0, 0 };
 	looked_when = now;
-	set_units(table != TIMERS_CLOCK);
+	set_units(table);
 	while (WITH_REFUSALS(timers_new(t, table, now)) == TIMERS_NO_MEMORY)
 		want_closed(t);
 	WANT("new", result, TIMERS_OK);

@@ -102,7 +102,7 @@ static int timers_object_init(PyObject *self, PyObject *arguments, PyObject *nam
 	}
 	earlier = *held_by(self);
 	*held_by(self) = made;
-	timers_in(self)->last_tick = table == TIMERS_CLOCK ? TIMERS_CLOCK_LAST : TIMERS_LAST;
+	timers_in(self)->last_tick = table == TIMERS_CLOCK ? TIMERS_CLOCK_LAST : table == TIMERS_SMALL ? TIMERS_SMALL_LAST : TIMERS_LAST;
 	drop_held(&earlier);
 	return 0;
 }

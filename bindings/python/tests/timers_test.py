@@ -10,7 +10,7 @@ import tracemalloc
 import weakref
 
 import timers as module
-from timers import (CLOCK, CLOCK_END, CLOCK_LAST, DUE, LAST, NO_MEMORY, NO_TABLE, NOT_OPEN, NOT_PENDING, OK, SMOOTH, TOO_LATE,
+from timers import (CLOCK, CLOCK_END, CLOCK_LAST, DUE, LAST, NO_MEMORY, NO_TABLE, NOT_OPEN, NOT_PENDING, OK, SMALL, SMALL_LAST, SMOOTH, TOO_LATE,
                     WIDE, ZERO_INTERVAL, Handle, Timers, TimersError)
 
 try:
@@ -515,9 +515,9 @@ def name_what_is_refused():
     for status in (99, 2**40):
         assert str(TimersError(status)) == "no status"
     assert raises(TypeError, str, TimersError("x")) and raises(IndexError, str, TimersError())
-    for wrong, status in ((3, NO_TABLE), (2**32 - 1, NO_TABLE)):
+    for wrong, status in ((4, NO_TABLE), (2**32 - 1, NO_TABLE)):
         assert refused(Timers, wrong) == status
-    for table, last in ((WIDE, LAST), (CLOCK, CLOCK_LAST), (SMOOTH, LAST)):
+    for table, last in ((WIDE, LAST), (CLOCK, CLOCK_LAST), (SMOOTH, LAST), (SMALL, SMALL_LAST)):
         assert refused(Timers, table, last + 1) == TOO_LATE
     assert set(module.__all__) | {"asyncio", "desk"} >= {name for name in vars(module) if not name.startswith("_")}
 

@@ -21,5 +21,5 @@ mod values;
 #[cfg(feature = "std")]
 pub use clock::Clock;
 pub use error::{Error, Refused};
-pub use timers::{at_least, Counts, Expired, Handle, Iter, Table, Timer, Timers, LAST, LAST_OF_CLOCK};
+pub use timers::{at_least, Counts, Expired, Handle, Iter, Table, Timer, Timers, LAST, LAST_OF_CLOCK, LAST_OF_SMALL};
 pub use values::Drain;

@@ -17,6 +17,8 @@ const NEVER: u64 = u64::MAX;
 pub const LAST: u64 = (1 << 60) - 1;
 /// The last tick of [`Table::Clock`]: day 99, 23:59:59 in seconds, and 2.4 hours in milliseconds.
 pub const LAST_OF_CLOCK: u64 = 8_639_999;
+/// The last tick of [`Table::Small`], 2^24 - 1: 4.6 hours of milliseconds.
+pub const LAST_OF_SMALL: u64 = 16_777_215;
 
 /// The slots of the wheels, and when their timers move.
 #[derive(Clone, Copy, Debug, Default, Eq, Hash, PartialEq)]
@@ -29,6 +31,8 @@ pub enum Table {
     /// As `Wide`, but no tick moves all timers of a bucket: at most 2n/63 + 18 of the n that are held. They take some 11 KB, and
     /// a start, stop or restart takes longer. The last tick is [`LAST`].
     Smooth = 2,
+    /// Six wheels of 16 slots, for machines with little memory: they take some 2.6 KB. The last tick is [`LAST_OF_SMALL`].
+    Small = 3,
 }
 
 /// The name of a timer of one [`Timers`].

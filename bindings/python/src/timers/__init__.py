@@ -18,11 +18,11 @@ and timers.asyncio an event loop over these timers.
 """
 # SPDX-License-Identifier: MIT OR Apache-2.0
 from timers._timers import (
-    CLOCK, CLOCK_END, CLOCK_LAST, DUE, LAST, NO_MEMORY, NO_TABLE, NOT_OPEN, NOT_PENDING, OK, OPEN, SERIALS_SPENT, SMOOTH, TOO_LATE,
+    CLOCK, CLOCK_END, CLOCK_LAST, DUE, LAST, NO_MEMORY, NO_TABLE, NOT_OPEN, NOT_PENDING, OK, OPEN, SERIALS_SPENT, SMALL, SMALL_LAST, SMOOTH, TOO_LATE,
     WIDE, ZERO_INTERVAL, Handle, Timers, TimersError, __version__,
 )
 
 __all__ = [
-    "Timers", "Handle", "TimersError", "WIDE", "CLOCK", "SMOOTH", "LAST", "CLOCK_LAST", "OK", "NOT_OPEN", "OPEN", "NO_TABLE",
+    "Timers", "Handle", "TimersError", "WIDE", "CLOCK", "SMOOTH", "SMALL", "LAST", "CLOCK_LAST", "SMALL_LAST", "OK", "NOT_OPEN", "OPEN", "NO_TABLE",
     "NO_MEMORY", "DUE", "NOT_PENDING", "ZERO_INTERVAL", "TOO_LATE", "SERIALS_SPENT", "CLOCK_END",
 ]

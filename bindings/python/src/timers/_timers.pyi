@@ -22,8 +22,10 @@ CLOCK_END: Final[int]
 WIDE: Final[int]
 CLOCK: Final[int]
 SMOOTH: Final[int]
+SMALL: Final[int]
 LAST: Final[int]
 CLOCK_LAST: Final[int]
+SMALL_LAST: Final[int]
 
 # of desks
 CLOSED: Final[int]

@@ -18,12 +18,12 @@ which return their status. No call waits, and each holds Python's lock.
 from timers._timers import (
     AHEAD, CAPACITY, CLIENTS, CLOCK, CLOCK_END, CLOSED, EXPIRED, FINISHED, IDLE, LEFT, LINE_FULL, NO_CLIENT, NO_MEMORY, NO_ROOM,
     NOT_FINISHED, NOT_FREED, NOT_OPEN, NOT_PENDING, NOT_TAKEN, NUMBERS_SPENT, OK, OPEN, OTHER_LINE, OUT_OF_RANGE, REFUSED, REPEATED,
-    RESTARTED, RETURNED, SERIALS_SPENT, SMOOTH, STARTED, STOPPED, TOO_LATE, WIDE, ZERO_INTERVAL, Desk, DeskError, Handle, Line, Word,
+    RESTARTED, RETURNED, SERIALS_SPENT, SMALL, SMOOTH, STARTED, STOPPED, TOO_LATE, WIDE, ZERO_INTERVAL, Desk, DeskError, Handle, Line, Word,
     room_for,
 )
 
 __all__ = [
-    "Desk", "Line", "Word", "Handle", "DeskError", "room_for", "WIDE", "CLOCK", "SMOOTH", "CLIENTS",
+    "Desk", "Line", "Word", "Handle", "DeskError", "room_for", "WIDE", "CLOCK", "SMOOTH", "SMALL", "CLIENTS",
     "STARTED", "RESTARTED", "STOPPED", "REFUSED", "NOT_TAKEN", "EXPIRED", "RETURNED",
     "OK", "NOT_OPEN", "OPEN", "NO_MEMORY", "NOT_PENDING", "ZERO_INTERVAL", "TOO_LATE", "SERIALS_SPENT", "CLOCK_END", "CLOSED",
     "CAPACITY", "NO_CLIENT", "NUMBERS_SPENT", "REPEATED", "AHEAD", "LINE_FULL", "FINISHED", "OUT_OF_RANGE", "IDLE", "NO_ROOM",
