@@ -9,7 +9,7 @@
  *
  *     struct timers_bell owners, bells[8];               // timers_bell_new makes each, before the threads begin
  *
- *     for (;;) {                                         // a client
+ *     for (;;) {                                         // a client; if it begins with requests, it rings once before
  *         for (busy = false; timers_line_receive(&line, &word); busy = true)
  *             handle(&word);                             // which may send requests
  *         if (busy)
@@ -36,6 +36,10 @@
  *     looks again. Only if there is still none, the next call sleeps. The announcement and a ring exchange one flag, so
  *     one of them comes first. If the ring does, the look after the announcement sees what was done before the ring. If
  *     the announcement does, the ring finds it and wakes the thread.
+ *
+ *     After timers_desk_close the owner takes one more turn before it rests: it flushes the last words. A timer of at least
+ *     n ticks by the real clock is one of timers_line_start_at(&line, milliseconds() + n + 1, ..). An interval counts from
+ *     the owner's turn, and the present tick has begun already.
  *
  *     A thread that sleeps in a poll of its own calls timers_bell_listen, and looks once more for words. If there are
  *     none, it polls the descriptor `bell.wakes` beside others. In either case it then calls timers_bell_hush.

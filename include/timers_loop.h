@@ -63,7 +63,8 @@
  *     time-outs. So a dispatch runs what was due when the loop began to poll, and nothing more if the poll filled its
  *     array, since more input may wait then. What a callback or input arms for a tick that has passed runs all the same.
  *     When an event runs, all input that had come by its tick was handed out. For that read a datagram socket until it
- *     is empty, or call timers_loop_polled(loop, 1, 1) if you stop before.
+ *     is empty, and send to it only afterwards. If you stop after n messages, call timers_loop_polled(loop, n, n), with
+ *     `loop.watched` the most messages that its buffer holds.
  *     So where input pushes a time-out back, no connection is closed while its input waits, however long the stall.
  *     Answer first and push back then: a client that waits for an answer can't be silent before it is sent.
  *
