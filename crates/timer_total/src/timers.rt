@@ -464,6 +464,7 @@ impl<W: Wheel + Drop> Timers<W> {
 
     /// Passes ticks up to this one, as `advance`, and stops at the first at which a timer expires. A tick that
     /// is not after the present one is none to pass: then nothing changes, and there is no error.
+    #[inline(always)]
     pub fn advance_to(&mut self, tick: u64) -> Result<u64, AdvanceFault>
         ensures passed { IfOk result (λ passed. IsAdvanced W.count_advance (left_until tick self.old) passed
             self.old self.new) }

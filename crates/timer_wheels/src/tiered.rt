@@ -170,7 +170,7 @@ impl Wheel for TieredWheel {
     fn start(&mut self, timer: Timer) -> Result<Handle, OutOfMemory> {
         match self {
             TieredWheel::Hier(wheel) => wheel.start(timer),
-            TieredWheel::Smooth(wheel) => match start_smooth(wheel, timer) {
+            TieredWheel::Smooth(wheel) => match start_smooth(wheel, copy_of(timer)) {
                 Some(place) => Ok(Handle {
                     place,
                     serial: timer.serial,
@@ -208,7 +208,7 @@ impl Wheel for TieredWheel {
             TieredWheel::Hier(wheel) => wheel.restart(handle, timer),
             TieredWheel::Smooth(wheel) => {
                 let old = wheel.look(handle)?;
-                let place = restart_smooth(wheel, handle, timer)?;
+                let place = restart_smooth(wheel, handle, copy_of(timer))?;
                 let made = Handle {
                     place,
                     serial: timer.serial,
@@ -225,6 +225,7 @@ impl Wheel for TieredWheel {
         }
     }
 
+    #[inline(always)]
     fn advance(&mut self, most: u64) -> u64 {
         match self {
             TieredWheel::Hier(wheel) => wheel.advance(most),
@@ -262,6 +263,7 @@ impl Wheel for TieredWheel {
         }
     }
 
+    #[inline(always)]
     fn expire(&mut self) -> Option<Timer> {
         match self {
             TieredWheel::Hier(wheel) => wheel.expire(),
@@ -285,6 +287,20 @@ impl Wheel for TieredWheel {
     }
 
     ghost well_formed = { λ wheel. tiered-well_formed wheel };
+}
+
+/// The same timer. A call that has it in memory takes this copy, so that the timer itself needs no memory.
+#[inline(always)]
+fn copy_of(timer: Timer) -> Timer
+    ensures { result ≡ timer }
+{
+    Timer {
+        serial: timer.serial,
+        client: timer.client,
+        number: timer.number,
+        deadline: timer.deadline,
+        action: timer.action,
+    }
 }
 
 // The calls of a smooth wheel that are out of line. What they return fits into registers: else those of a hierarchy would
