@@ -20,7 +20,7 @@ WHEELS = "timers-c,ref-hier,ref-apart,ref-hash-64k,libuv"
 FACILITIES = {"scale": WHEELS, "tail": WHEELS, "next": "timers_find_next,timers_next,timers_wakeup,libuv"}
 SIZES = {"scale": "1000,10000,100000,1000000,10000000", "tail": "1000000", "next": "10000,100000,1000000"}
 OPERATIONS = ["stop", "start", "restart", "tick", "expiry", "start_at", "look", "next", "wakeup", "each"]
-TURNS = ["same", "minute", "minutes", "kept", "expiry", "short", "first"]
+TURNS = ["same", "minute", "minutes", "kept", "expiry", "short", "first", "oldest"]
 RANKS = ["p50", "p99", "p99.9", "p99.99", "longest"]
 TAILS = {"ticks": "a tick", "growth": "a start, the table grows", "room": "a start, with room", "moves": "the tick that moves all"}
 

@@ -93,9 +93,10 @@
  *     TIMERS_SMOOTH are below, under WHICH TABLE.
  *
  *     From the first timers_find_next that walks a bucket on, the first deadline of each bucket above the lowest
- *     wheel is kept, and how many timers have it. A start, a restart, a stop and a move update that in constant
- *     time. A bucket that has timers by then is walked once before its first deadline is known, unless it becomes
- *     empty before. The deadline is forgotten once the last timer that has it is stopped, or restarted for a later
+ *     wheel is kept. A start, a restart, a stop and a move update it in constant time. A bucket that has timers by
+ *     then is walked once before its first deadline is known, unless it becomes empty before. From then on it is
+ *     known of a bucket whose timers were started in the order of their deadlines, as those of one length are. Of
+ *     any other it is forgotten once the last timer that is known to have it is stopped, or restarted for a later
  *     tick, and others are left in the bucket. If the bucket of the next deadline has none that is known, both calls
  *     look at each of its timers.
  *     timers_find_next keeps what it found, timers_next does not. So a loop that asks in each turn calls
@@ -518,8 +519,9 @@ uint64_t timers_next(const struct timers *t);
 /* Returns what timers_next returns, and keeps it so that later calls are faster. No result of a call changes. It
  * walks the timers of one bucket if timers_next would. Then both take constant time until the last timer with that
  * deadline is stopped, or restarted for a later tick, and others are left in its bucket, or until the next deadline
- * is in a bucket whose first deadline is not known (COSTS). A loop that pushes back the first timer in each turn may
- * walk in each turn. It can sleep until timers_wakeup, which never walks. Does not allocate. */
+ * is in a bucket whose first deadline is not known (COSTS). With timers of one length it stays known. With timers of
+ * several, a loop that pushes back the first one in each turn may walk in each turn. It can sleep until
+ * timers_wakeup, which never walks. Does not allocate. */
 TIMERS_CALL
 uint64_t timers_find_next(struct timers *t);
 
