@@ -124,9 +124,10 @@
  *     A loop that sleeps until timers_wakeup and then passes thousands of ticks at once makes the moves of all these ticks in
  *     one call. It gains nothing. One that wakes at each tick, or at each 16th, does.
  *
- *     Each call takes more time: timers_counts and docs/wheels.md say how much. timers_next and timers_find_next look at
- *     each wheel and walk at most one bucket in each, and keep nothing. timers_wakeup looks at each wheel, and walks
- *     none. The buckets take some 11 KB.
+ *     Its calls take more time: @FIGURES@
+ *     timers_wakeup, timers_next and timers_find_next look at one wheel after another, until none above can have an
+ *     earlier deadline. timers_wakeup walks no bucket, the others at most one in each wheel, and none of them keeps
+ *     what it found.
  *
  * PROOFS
  *     Two facts are proved. No start returns TIMERS_NO_MEMORY while fewer timers are held than
@@ -141,7 +142,7 @@
  *     timers_reserve made room for. One that re-arms a timer which was just taken does not.
  *
  *     timers_new allocates some 15 KB for the buckets, and the first start some 5 KB more, unless timers_reserve
- *     made room (with TIMERS_CLOCK 6 KB and 2 KB). A timer takes 64 bytes, in two arrays. An array that is full
+ *     made room (with TIMERS_CLOCK 6 KB and 2 KB, with TIMERS_SMOOTH 11 KB and 10 KB). A timer takes 64 bytes, in two arrays. An array that is full
  *     grows, the larger one to twice its length. So above some 1,000 timers they have 64 to 132 bytes for each, of
  *     the most that were ever held. With a timers_reserve before the first start they have 64 for each, up to its room.
  *
@@ -511,8 +512,8 @@ uint64_t timers_wakeup(const struct timers *t);
 /* The deadline of the timer that is taken next, exactly. It is the present tick if an expired timer waits to
  * be taken, and TIMERS_NEVER if nothing is pending or `t` is not open. Otherwise it is the first pending
  * deadline. Takes constant time if that comes before the next multiple of 64 ticks (of TIMERS_CLOCK, 60), or
- * if the first deadline of its bucket is kept. Otherwise it walks the timers of that bucket. Does not allocate.
- * A loop that asks in each turn calls timers_find_next. */
+ * if the first deadline of its bucket is kept. Otherwise it walks the timers of that bucket, and with TIMERS_SMOOTH
+ * of at most one in each wheel. Does not allocate. A loop that asks in each turn calls timers_find_next. */
 TIMERS_CALL
 uint64_t timers_next(const struct timers *t);
 
@@ -526,7 +527,8 @@ TIMERS_CALL
 uint64_t timers_find_next(struct timers *t);
 
 /* Writes `*counts`, what the wheels have done since timers_new, at TIMERS_OK. `starts` counts each start and
- * restart that returned TIMERS_OK. `moves` is at most 9 times `starts` (of TIMERS_CLOCK, 3 times). `visits`
+ * restart that returned TIMERS_OK. `moves` is at most 9 times `starts` (of TIMERS_CLOCK, 3 times). How many one call
+ * makes with TIMERS_SMOOTH is above, under WHICH TABLE, and there `visits` is always 0. With the others `visits`
  * counts one for each tick of timers_tick. Of timers_advance, timers_advance_to and timers_take it counts one
  * for each multiple of 64 ticks that is passed (of TIMERS_CLOCK, 60). It also counts their last tick if that is
  * no such multiple and a timer expires there. A stop and taking expired timers count nothing, and timers_clear

@@ -144,6 +144,7 @@ lives() {
 }
 @test "valgrind finds no error and no leak in them" { build stress.c && by_valgrind $((calls / 10)) 4; }
 @test "nor if allocations are refused" { build stress.c -DREFUSE $wraps && by_valgrind $((calls / 10)) 5; }
+@test "no call of smooth wheels moves more timers than the header says" { build smooth.c && runs; }
 @test "random calls in C++ agree with a sorted map" { build agree.cpp $wrap && runs; }
 @test "so they do in C++20, by g++ and by clang++" {
     needs g++ clang++
