@@ -110,8 +110,8 @@ fn serve_command<'a>(alloc: Global) -> Result<Command<'a>, AllocError> {
 
 /// The subcommand `show` with the options of `play` and its own.
 fn show_command<'a>(alloc: Global) -> Result<Command<'a>, AllocError> {
-    let counts = "Show what `hier`, `clock` and `smooth` count: starts, moves, and visits but for `smooth`";
-    let moves = "Show each move of a timer to a lower wheel while ticks pass, with `hier` and `clock`";
+    let counts = "Show what hierarchies count: starts, moves and, but for `smooth`, visits";
+    let moves = "Show each move to a lower wheel while ticks pass, with `hier` and `clock`";
     playing_command(alloc, "show", SHOW_USAGE, SHOW_ABOUT, PLACEMENTS)?
         .arg(flag(alloc, "counts", counts))?
         .arg(flag(alloc, "moves", moves))
