@@ -168,6 +168,7 @@ clock_row() {
     refused play --clients 0
     refused play --capacity 0
     refused play --first-tick -1
+    refused play --scheme smooth --first-tick $((2 ** 60))
     refused play --scheme wheel
     refused play --scheme
     refused play x
@@ -251,6 +252,8 @@ clock_row() {
     shows "" '  wheel 0 slot 11: 1'
     shows "--scheme=plain" '  pending: 1:11'
     shows "--scheme=clock" '  second 11: 1'
+    shows "--scheme=smooth" '  wheel 0 slot 11: 1'
+    shows "--scheme=smooth --counts" '  starts 1 moves 0\n  wheel 0 slot 11: 1'
     shows "--scheme=hashed" '  slot 11: 1:0'
     shows "--scheme=hashed --slots=8" '  slot 3: 1:1'
     shows "--slots=8" '  wheel 0 slot 11: 1'
@@ -361,6 +364,8 @@ shown() { gives 0 "show $1" "$2" "$(printf '%s\\n' "${@:3}")"; }
         'started 0 1 1 17' '  now 0' '  slot 1: 1:2' 'expired 17 0 1 0' '  now 17' 'end 17 0'
     shown "--moves --scheme plain" 'start 0 1 1 0\ntick 1\n' \
         'started 0 1 1 1' '  now 0' '  pending: 1:1' 'expired 1 0 1 0' '  now 1' 'end 1 0'
+    shown "--moves --scheme smooth" 'start 0 1 130 0\ntick 65\ntick 65\n' 'started 0 1 1 130' '  now 0' '  wheel 1 slot 2: 1' \
+        '  now 65' '  wheel 0 slot 2: 1' 'expired 130 0 1 0' '  now 130' 'end 130 0'
     shown "--moves" '' 'end 0 0'
 }
 

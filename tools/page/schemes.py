@@ -2,7 +2,7 @@
 import re
 from dataclasses import dataclass
 
-from formats import DEFAULTS, HANDS
+from formats import DEFAULTS, HANDS, SCHEMES
 
 
 @dataclass
@@ -26,6 +26,9 @@ class Scheme:
 
     def is_hierarchy(self):
         return self.name in ("hier", "clock")
+
+    def is_drawn(self):
+        return SCHEMES[self.name].get("drawn", True)
 
     def digit(self, wheel, tick):
         return tick // self.wheels[wheel].ticks % self.wheels[wheel].slots

@@ -39,7 +39,7 @@ pub enum Subcommand {
 }
 
 /// The names of the schemes.
-static SCHEME_NAMES: [&str; 4] = ["plain", "hashed", "hier", "clock"];
+static SCHEME_NAMES: [&str; 5] = ["plain", "hashed", "hier", "clock", "smooth"];
 
 /// The subcommand if there are no arguments.
 static PLAY: [&str; 1] = ["play"];
@@ -110,8 +110,8 @@ fn serve_command<'a>(alloc: Global) -> Result<Command<'a>, AllocError> {
 
 /// The subcommand `show` with the options of `play` and its own.
 fn show_command<'a>(alloc: Global) -> Result<Command<'a>, AllocError> {
-    let counts = "Show the starts, moves and visits that `hier` and `clock` count";
-    let moves = "Show each move of a timer to a lower wheel while ticks pass";
+    let counts = "Show what hierarchies count: starts, moves and, but for `smooth`, visits";
+    let moves = "Show each move to a lower wheel while ticks pass, with `hier` and `clock`";
     playing_command(alloc, "show", SHOW_USAGE, SHOW_ABOUT, PLACEMENTS)?
         .arg(flag(alloc, "counts", counts))?
         .arg(flag(alloc, "moves", moves))
@@ -174,6 +174,7 @@ fn scheme_of(name: &str) -> Option<Scheme>
         "hashed" => Some(Scheme::Hashed),
         "hier" => Some(Scheme::Hier),
         "clock" => Some(Scheme::Clock),
+        "smooth" => Some(Scheme::Smooth),
         _ => None,
     }
 }
