@@ -150,9 +150,9 @@ pub fn play_row<W: Wheel + Drop>(alloc: Global, wheel: W, row: Row) -> Result<()
     };
     let mut player = Player::open(alloc, Facility::open(alloc, checked, wheel));
     match row {
-        Row::Migration => play(&mut player, &migration(), &MIGRATION)?,
-        Row::StopMiddle => play(&mut player, &stop_middle(), &STOP_MIDDLE)?,
-        Row::Close => play(&mut player, &close(), &CLOSE)?,
-    }
+        Row::Migration => play(&mut player, &migration(), &MIGRATION),
+        Row::StopMiddle => play(&mut player, &stop_middle(), &STOP_MIDDLE),
+        Row::Close => play(&mut player, &close(), &CLOSE),
+    }?;
     same(player.facility().pending(), 0, "the end of a row")
 }

@@ -15,7 +15,7 @@ ghost use Rattle.timer_threads.specs.Work.{follows, AreTurns, AreLetGo, turns_of
 use crate::gate::Gate;
 use crate::log::Log;
 use crate::outcome::Worked;
-use crate::turn::Turn;
+use crate::client_turn::Turn;
 use timer_base::Timer;
 use timer_desk::{ClientEnd, Numbered, Word};
 use timer_facility::{Answer, Notice, Request};

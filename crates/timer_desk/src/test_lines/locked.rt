@@ -1,7 +1,7 @@
 //! A line over two queues under one lock, whose ends may wait.
 
 use crate::inlet::{Inlet, Put, Taken};
-use crate::queues::Queues;
+use crate::test_lines::queues::Queues;
 use crate::ring::Unsent;
 use crate::word::{Numbered, Word};
 use std::alloc::Global;

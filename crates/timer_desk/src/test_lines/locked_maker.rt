@@ -2,8 +2,8 @@
 ghost use Rattle.std.specs.Prelude.{◌≡◌, ◌≤◌, [], IfOk};
 ghost use Rattle.timer_desk.specs.Locked.{next_of_locked, got_by_locked, given_by_locked};
 
-use crate::locked::{LockedEnd, LockedInlet};
-use crate::queues::Queues;
+use crate::test_lines::locked::{LockedEnd, LockedInlet};
+use crate::test_lines::queues::Queues;
 use std::alloc::Global;
 use std::sync::{Arc, Mutex, Wait};
 use timer_base::{LAST, OutOfMemory};

@@ -4,7 +4,7 @@ use Rattle.std.proofs.lemmas.Option.{IfSome_then}
 use Rattle.timer_threads.specs.Results.{AreUnzipped}
 use Rattle.timer_threads.specs.Threads.{NoneUnread, AreSettled, IsFirstWithWords, IsWoundUp}
 use Rattle.timer_threads.proofs.EndedLines.{are_settled, held_waiting, held_reading, wound_up}
-use Rattle.timer_threads.proofs.shutdown.first_unfinished.Goals as goal
+use Rattle.timer_threads.proofs.run_end.first_unfinished.Goals as goal
 
 pub first_unread-requires : goal.first_unread-requires
 first_unread-requires c =

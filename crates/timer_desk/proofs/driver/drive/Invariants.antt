@@ -2,12 +2,12 @@ use Rattle.std.proofs.Common.{◌≡◌, ◌≤◌, ◌+◌, ◌-◌, ◌*◌, v
 use Rattle.timer_desk.specs.Desk.{clients_of}
 use Rattle.timer_desk.specs.Driver.{all_left}
 use Rattle.timer_desk.proofs.DriverLemmas.{IsDriving}
-use Rattle.timer_desk.proofs.driver.run_turns.Given as goal
+use Rattle.timer_desk.proofs.driver.drive.Given as goal
 
 -- the turns so far are those of a drive, and just the last `idle` made no progress
 abbrev pub invariant-loop-idle : goal.invariant-loop-idle
 invariant-loop-idle g l = record {
-  driving : IsDriving g.I.Inlet.kind l.last l.goal l.limit l.fn.desk l.desk l.progress.items l.idle;
+  driving : IsDriving g.I.Inlet.kind l.goal l.limit l.fn.desk l.desk l.progress.items l.idle;
   clients : vec_len l.progress ≡ clients_of l.desk;
   within : l.idle ≤ l.limit;
 }

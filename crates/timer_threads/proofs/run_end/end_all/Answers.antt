@@ -5,7 +5,7 @@ use Rattle.timer_threads.specs.Results.{NoneFailed, IsFirstFailed}
 use Rattle.timer_threads.specs.Threads.{clients_text, whole_lines}
 use Rattle.timer_threads.proofs.ThreadLemmas.{clients_text-whole}
 use Rattle.timer_threads.proofs.EndedLines.{ends_of, readers_of, first_client, none_blamed, wound_by}
-use Rattle.timer_threads.proofs.shutdown.end_all.Goals as goal
+use Rattle.timer_threads.proofs.run_end.end_all.Goals as goal
 
 pub same-desk : goal.same-desk
 same-desk c = refl

@@ -3,7 +3,7 @@ use Rattle.std.proofs.lemmas.Result.{on_ok_weaker}
 use Rattle.timer_facility.specs.Played.{AddsRun}
 use Rattle.timer_facility.proofs.PlayedLemmas.{IsRun-none, IsRun-more}
 use Rattle.timer_script.specs.Text.{lines_of}
-use Rattle.timer_script.proofs.script_run.play_outs.Goals as goal
+use Rattle.timer_script.proofs.script_run.answer_outs.Goals as goal
 
 pub returns : goal.returns
 returns g c =
