@@ -29,7 +29,8 @@
  *     it was taken expires in the script. Of an action the script has the lowest 60 bits.
  *
  *     Give timers show the program's first tick (--first-tick), the most timers that are pending (--capacity), and
- *     --scheme clock for TIMERS_CLOCK. It plays scripts of any length; tools/wheels_page makes a page of a shorter one.
+ *     --scheme clock for TIMERS_CLOCK. It plays scripts of any length. tools/wheels_page, in the repository, makes a page
+ *     of a shorter one.
  */
 /* SPDX-License-Identifier: MIT OR Apache-2.0 */
 #ifndef TIMERS_RECORD_H
