@@ -13,18 +13,11 @@ setup_file() {
     export LAST TICKS PATH=$BATS_FILE_TMPDIR/bin:$PATH
 }
 
-# Prints 'OPTION LEAST MOST DEFAULT' for each option of a text whose lines are 'OPTION: what is said of it'. The
-# last tick of the scheme stands for the greatest one.
-numbers_of() {
-    sed -nE -e "s/the last tick of the scheme/$LAST/" \
-        -e 's/^--([a-z-]+): .*[^0-9]([0-9]+) to ([0-9]+).*\[default: ([0-9]+)\].*/\1 \2 \3 \4/p' \
-        -e 's/^--scheme: .*\[default: ([a-z]+)\].*/scheme \1/p' | sort
-}
-help_numbers() { timers "$1" -h | sed -nE 's/^ +(--[a-z-]+) <[A-Z]+> +/\1: /p' | numbers_of; }
-# The rows of the tables of options below the heading of a subcommand.
-formats_numbers() {
-    awk -v heading="### \`timers $1\`" 'index($0, "##") == 1 { here = index($0, heading) == 1 } here' docs/formats.md |
-        sed -nE 's/^\| `(--[a-z-]+)` \|(.*)\|([^|]*)\| *`?([a-z0-9]+)`? *\|$/\1:\2 \3 [default: \4]/p' | numbers_of
+# Prints 'OPTION LEAST MOST DEFAULT' for each option of a help. The last tick of the scheme stands for the greatest one.
+help_numbers() {
+    timers "$1" -h | sed -nE -e "s/the last tick of the scheme/$LAST/" \
+        -e 's/^ +--([a-z-]+) <[A-Z]+> .*[^0-9]([0-9]+) to ([0-9]+).*\[default: ([0-9]+)\].*/\1 \2 \3 \4/p' \
+        -e 's/^ +--scheme <SCHEME> .*\[default: ([a-z]+)\].*/scheme \1/p'
 }
 
 # has_status STATUS COMMAND..: on the empty script
@@ -39,17 +32,11 @@ other_option() {
     esac
 }
 
-@test "each option has one range and one default in the help and in docs/formats.md" {
+@test "each option has the range and the default of facts/, takes both ends and the default, and refuses the numbers beside them" {
     for command in play serve show threads; do
         section=play
         [ $command != threads ] || section=threads
-        diff <(help_numbers $command) <(formats_numbers $section)
-        [ "$(help_numbers $command | wc -l)" -eq "$(timers $command -h | grep -cE '^ +--[a-z-]+ <')" ]
-    done
-}
-
-@test "each option takes both ends of its range and its default, and refuses the numbers beside them" {
-    for command in play serve show threads; do
+        diff <(help_numbers $command) <(tools/facts --options $section)
         while read -r option least most default; do
             [ -n "$default" ] || continue
             other=$(other_option $command "$option")

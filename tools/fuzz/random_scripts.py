@@ -14,12 +14,12 @@ import time
 
 sys.path.insert(0, os.path.join(os.path.dirname(os.path.abspath(__file__)), ".."))
 sys.dont_write_bytecode = True
-from formats import NUMBERS  # noqa: E402
+from formats import LIMITS  # noqa: E402
 
-LAST, TICKS = NUMBERS["LAST"], NUMBERS["MAX_TICKS"]
+LAST, TICKS = LIMITS["LAST"], LIMITS["MAX_TICKS"]
 # Numbers at which something changes.
 EDGES = [0, 1, 2, 59, 60, 63, 64, 65, 3599, 3600, 4095, 4096, 4097, 86400, 262144, TICKS, TICKS + 1]
-EDGES += [NUMBERS["LAST_OF_CLOCK"], LAST - 1, LAST]
+EDGES += [LIMITS["LAST_OF_CLOCK"], LAST - 1, LAST]
 
 
 class Client:
