@@ -29,7 +29,7 @@
 # make prove       proves program and libraries, writes what they compile to into generated/, and builds from that
 # make try         plays a script with an unproved build that has checks at run time (SCRIPT=, ARGUMENTS=)
 # make generate    as make prove, and builds nothing
-# make soak        64 clients of 10,000 timers each in threads, 100 times; prints progress
+# make soak        all clients, of 10,000 timers each, in threads, 100 times; prints progress
 # make bench       measures the wheels against others (bench/README.md)
 # make bench-lines measures the owner's desk, its flushes and clients in threads against others
 

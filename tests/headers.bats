@@ -286,7 +286,7 @@ int main(int count, char **)
         return 1;
     if (count > 1) {
         std::vector<timing::line> lines;
-        timing::desk desk(lines, 65, timing::desk::config(1, 1, 1));
+        timing::desk desk(lines, TIMERS_DESK_CLIENTS + 1, timing::desk::config(1, 1, 1));
     }
     timers.start(0ms, 1);
 }

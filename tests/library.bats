@@ -104,7 +104,7 @@ threads() {
     build desk_threads.c $sanitize
     runs 1 10000 mixed
     runs 8 10000 mixed
-    runs 64 10000 mixed
+    runs "$(most_clients)" 10000 mixed
     build desk_threads.c -DREFUSE $wraps $sanitize
     runs 8 "$1" mixed
     build desk_end.c $sanitize
@@ -121,7 +121,7 @@ lives() {
     build desk_lives.c "$@"
     runs 1 30
     runs 8 30
-    runs 64 10
+    runs "$(most_clients)" 10
 }
 
 @test "the examples in C print what they should" { prints_its_text; }
@@ -229,7 +229,7 @@ serves() {
     runs 8 10000
     runs 8 2000 deaf
     build desk_end.c
-    runs 64 1000
+    runs "$(most_clients)" 1000
 }
 @test "an end is gone once it is freed, and after its last item, over lines of 1 to 60,000" { build desk_gone.c && runs; }
 @test "desks and lines may be freed while the other side calls" { build desk_frees.c && runs 200 8; }

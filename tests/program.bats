@@ -6,7 +6,8 @@ bats_require_minimum_version 1.5.0
 setup_file() {
     "$BATS_TEST_DIRNAME/../tools/facts" --names > "$BATS_FILE_TMPDIR/names"
     schemes=$("$BATS_TEST_DIRNAME/../tools/facts" SCHEMES)
-    export schemes
+    clients=$("$BATS_TEST_DIRNAME/../tools/facts" MAX_CLIENTS)
+    export schemes clients
 }
 setup() {
     TIMERS=$(realpath "${TIMERS:-timers}")
@@ -147,9 +148,12 @@ clock_row() {
 
 @test "threads: 4 clients of 1000 timers if nothing else is asked for" {
     local text
+    # shellcheck disable=SC2046  # words
     text="$(printf 'client %s sent 1000 started 1000 expired 1000\\n' 0 1 2 3)end\n"
     gives 0 "threads" "" "$text"
     gives 0 "threads --clients 4 --timers 1000" "" "$text"
+    gives 0 "threads --clients {MAX_CLIENTS} --timers 1" "" \
+        "$(printf 'client %s sent 1 started 1 expired 1\\n' $(seq 0 $((clients - 1))))end\n"
     gives 0 "threads --clients 1" "" 'client 0 sent 1000 started 1000 expired 1000\nend\n'
     echo "not read" > input
     [ "$("$TIMERS" threads < input > output; cat < input)" = "not read" ]

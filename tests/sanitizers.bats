@@ -68,7 +68,7 @@ threads() {
     with "$@"
     build desk_threads.c $sanitize
     runs 8 2000 mixed
-    runs 64 200 mixed
+    runs "$(most_clients)" 200 mixed
     runs 8 500 deaf
     build desk_threads.c -DREFUSE $wraps $sanitize
     runs 8 1000 mixed

@@ -240,7 +240,7 @@ int main()
 	most.room++;
 	THROWS(TIMERS_DESK_OUT_OF_RANGE, timing::desk(lines, 1, most));
 	const timing::desk kept(lines, 2, timing::desk::config(1, 1, 1));
-	THROWS(TIMERS_DESK_OUT_OF_RANGE, timing::desk(lines, 65, timing::desk::config(1, 1, 1)));
+	THROWS(TIMERS_DESK_OUT_OF_RANGE, timing::desk(lines, TIMERS_DESK_CLIENTS + 1, timing::desk::config(1, 1, 1)));
 	CHECK(lines.size() == 2 && lines[0].start(1, 1) && lines[1].client() == 1);
 	std::puts("ok");
 }

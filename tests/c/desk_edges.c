@@ -55,9 +55,9 @@ static void empty_structs(void)
 static void configurations(void)
 {
 	struct timers_desk d = TIMERS_DESK_INIT;
-	struct timers_line l[65] = { TIMERS_LINE_INIT };
+	struct timers_line l[TIMERS_DESK_CLIENTS + 1] = { TIMERS_LINE_INIT };
 	struct timers_desk_config good = { sizeof(struct timers_desk_config), 5, 100, 8, 4, TIMERS_WIDE }, c;
-	CHECK(timers_desk_new(&d, l, 0, &good) == TIMERS_DESK_OUT_OF_RANGE && timers_desk_new(&d, l, 65, &good) == TIMERS_DESK_OUT_OF_RANGE);
+	CHECK(timers_desk_new(&d, l, 0, &good) == TIMERS_DESK_OUT_OF_RANGE && timers_desk_new(&d, l, TIMERS_DESK_CLIENTS + 1, &good) == TIMERS_DESK_OUT_OF_RANGE);
 	c = good, c.size--; CHECK(timers_desk_new(&d, l, 1, &c) == TIMERS_DESK_OUT_OF_RANGE);
 	c = good, c.size = 0; CHECK(timers_desk_new(&d, l, 1, &c) == TIMERS_DESK_OUT_OF_RANGE && d.mark == 0 && l[0].mark == 0);
 	c = good, c.capacity = 0; CHECK(timers_desk_new(&d, l, 1, &c) == TIMERS_DESK_OUT_OF_RANGE);
@@ -66,11 +66,11 @@ static void configurations(void)
 	c = good, c.room = 1; CHECK(timers_desk_new(&d, l, 1, &c) == TIMERS_DESK_OUT_OF_RANGE);
 	c = good, c.line = 0; CHECK(timers_desk_new(&d, l, 1, &c) == TIMERS_DESK_OUT_OF_RANGE);
 	c = good, c.line = 65537; CHECK(timers_desk_new(&d, l, 1, &c) == TIMERS_DESK_OUT_OF_RANGE);
-	CHECK(timers_desk_new(&d, l, 64, &good) == TIMERS_DESK_OK && timers_desk_now(&d) == 5);
-	CHECK(timers_desk_new(&d, l, 64, &good) == TIMERS_DESK_OPEN);
+	CHECK(timers_desk_new(&d, l, TIMERS_DESK_CLIENTS, &good) == TIMERS_DESK_OK && timers_desk_now(&d) == 5);
+	CHECK(timers_desk_new(&d, l, TIMERS_DESK_CLIENTS, &good) == TIMERS_DESK_OPEN);
 	timers_desk_free(&d);
-	CHECK(timers_desk_new(&d, l, 64, &good) == TIMERS_DESK_OPEN);       /* the lines still hold their ends */
-	for (int i = 0; i < 64; i++)
+	CHECK(timers_desk_new(&d, l, TIMERS_DESK_CLIENTS, &good) == TIMERS_DESK_OPEN);       /* the lines still hold their ends */
+	for (int i = 0; i < TIMERS_DESK_CLIENTS; i++)
 		timers_line_free(&l[i]);
 	CHECK(timers_desk_new(&d, l, 2, &good) == TIMERS_DESK_OK);
 	timers_line_free(&l[1]);

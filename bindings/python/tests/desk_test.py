@@ -212,7 +212,7 @@ def numbers_out_of_range():
     assert td.room_for(2**64 - 2, 0) == 2**64 - 1
     for table in (2, 2**32 - 1):
         refused(td.OUT_OF_RANGE, lambda table=table: Desk(1, 1, 1, 1, table=table))
-    for clients in (0, 65, 10**11, 2**64 - 1):
+    for clients in (0, td.CLIENTS + 1, 10**11, 2**64 - 1):
         refused(td.OUT_OF_RANGE, lambda clients=clients: Desk(clients, 1, 1, 1))
     for wrong in (-1, 2**64):
         out_of_range(wrong, 64, Handle, wrong, 1)

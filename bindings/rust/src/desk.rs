@@ -1,4 +1,4 @@
-//! A desk: one thread keeps the timers of up to 64 others, which send it requests and receive words, without a lock.
+//! A desk: one thread keeps the timers of up to [`CLIENTS`] others, which send it requests and receive words, without a lock.
 //!
 //! It is for threads that block, in a database or in code of others. One that runs a loop is better served by
 //! [`Timers`](crate::Timers) of its own.
@@ -56,7 +56,8 @@ use core::sync::atomic::{AtomicU64, Ordering};
 const OK: c_uint = 0;
 const IDLE: c_uint = 20;
 const NEVER: u64 = u64::MAX;
-const CLIENTS: usize = 64;
+/// The most clients of a desk.
+pub const CLIENTS: usize = 64;
 
 /// Why a call was refused, or a request.
 #[derive(Clone, Copy, Debug, Eq, PartialEq)]
@@ -427,7 +428,7 @@ impl Line {
 }
 
 impl Desk {
-    /// A desk with `clients` clients, 1 to 64, and the end of each.
+    /// A desk with `clients` clients, 1 to [`CLIENTS`], and the end of each.
     ///
     /// # Errors
     /// `OutOfRange` if a number of the configuration, or of clients, is out of its range; `NoMemory`.

@@ -268,7 +268,7 @@ fn clients_in_threads_get_all_their_words() {
 
 #[test]
 fn numbers_out_of_range_are_refused() {
-    for clients in [0, 65, 100_000_000_000, usize::MAX] {
+    for clients in [0, timers::desk::CLIENTS + 1, 100_000_000_000, usize::MAX] {
         assert_eq!(Desk::new(clients, Config::new(1, 1, 1)).unwrap_err(), Error::OutOfRange);
     }
     for (timers, requests) in [(u64::MAX, 1), (1, u64::MAX), (u64::MAX, u64::MAX)] {
