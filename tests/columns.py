@@ -10,16 +10,10 @@ import sys
 
 TOP = os.path.dirname(os.path.dirname(os.path.abspath(__file__)))
 sys.path.insert(0, os.path.join(TOP, "tools"))
-from formats import LIMITS, WORDS, named  # noqa: E402
+from formats import FIELDS, LIMITS, WORDS, named  # noqa: E402
 
 LAST, TICKS = LIMITS["LAST"], LIMITS["MAX_TICKS"]
-FORMS = {
-    "start": ["client", "number", "interval", "action"],
-    "stop": ["client", "number", "serial"],
-    "restart": ["client", "number", "serial", "interval", "action"],
-    "tick": ["count"],
-    "close": [],
-}
+FORMS = {word: FIELDS[word] for word in WORDS["script"]}
 # What stands in place of a field and of the rest of the line, at which of its bytes it goes wrong, and why.
 OF_A_FIELD = [(b"\n", 0, "MissingField"), (b"x\n", 0, "NotANumber"), (b"-1\n", 0, "NotANumber")]
 OF_A_FIELD += [(b"+1\n", 0, "NotANumber"), (b"1x\n", 1, "NotANumber"), (b"1.5\n", 1, "NotANumber")]

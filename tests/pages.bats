@@ -10,7 +10,8 @@ setup_file() {
     mkdir "$BATS_FILE_TMPDIR/bin"
     ln -s "$(realpath "${TIMERS:-timers}")" "$BATS_FILE_TMPDIR/bin/timers"
     read -r LAST TICKS < <(tools/facts LAST MAX_TICKS)
-    export LAST TICKS PATH=$BATS_FILE_TMPDIR/bin:$PATH
+    EVENTS=$(tools/facts SCRIPT | tr ' ' '|')
+    export LAST TICKS EVENTS PATH=$BATS_FILE_TMPDIR/bin:$PATH
 }
 
 # Prints 'OPTION LEAST MOST DEFAULT' for each option of a help. The last tick of the scheme stands for the greatest one.
@@ -82,7 +83,7 @@ run_examples() {
             : > "$wanted"
         elif [ -n "$command" ] && [ -n "$line" ] && [[ $line == "$indent"* ]]; then
             line=$(sed -E 's/([^ ]) {3,}.*/\1/' <<< "${line#"$indent"}")
-            if [[ $line =~ ^(start|stop|restart|tick|close)(\ [0-9]+)*$ ]]; then
+            if [[ $line =~ ^($EVENTS)(\ [0-9]+)*$ ]]; then
                 echo "$line" >> "$input"
             else
                 echo "$line" >> "$wanted"
@@ -122,7 +123,7 @@ run_examples() {
         pattern=$(sed -E -e "s/REASON/($reasons)/" -e 's/[A-Z]+/[0-9]+/g' <<< "$row")
         echo "$row: $example"
         [[ $example =~ ^$pattern$ ]]
-        if [[ $row =~ ^(start|stop|restart|tick|close)(\ [A-Z]+)*$ ]]; then
+        if [[ $row =~ ^($EVENTS)(\ [A-Z]+)*$ ]]; then
             script_status 0 "$example"
             timers --help | grep -qE "^  $row( |\$)"
         fi

@@ -72,6 +72,8 @@ if __name__ == "__main__":
         print(f"#define {name} UINT64_C({value})")
     for name, words in {"REASONS_OF_A_LINE": said("check", "word"), "CLOCK_HANDS": SCHEMES["clock"]["hands"]}.items():
         print(f"#define {name}", ", ".join(f'"{word}"' for word in words))
+    forms = (f'{{"{word}", {{{", ".join([*(chr(34) + name + chr(34) for name in FIELDS[word]), "0"])}}}}}' for word in WORDS["script"])
+    print("#define FORMS_OF_A_LINE", ", ".join(forms))
     for scheme, place in PLACES.items():
         print(f'#define {scheme.upper()}_PLACE "{re.sub("[KS]", "%d", place)}"')
     for name, text in {**REFUSALS, **OF_ANY}.items():
