@@ -56,6 +56,14 @@ use core::sync::atomic::{AtomicU64, Ordering};
 const OK: c_uint = 0;
 const IDLE: c_uint = 20;
 const NEVER: u64 = u64::MAX;
+// made by tools/facts: kinds in Rust
+const STARTED: c_uint = 1;
+const RESTARTED: c_uint = 2;
+const STOPPED: c_uint = 3;
+const REFUSED: c_uint = 4;
+const EXPIRED: c_uint = 6;
+const RETURNED: c_uint = 7;
+// by hand
 /// The most clients of a desk.
 pub const CLIENTS: usize = 64;
 
@@ -317,12 +325,12 @@ impl RawWord {
         let RawWord { number, handle, deadline, action, .. } = *self;
         let timer = Timer { number, serial: handle.serial, deadline, action };
         match self.kind {
-            1 => Word::Started { number, handle, deadline, action },
-            2 => Word::Restarted { number, handle, deadline, action, old: self.other },
-            3 => Word::Stopped { number, serial: handle.serial },
-            4 => Word::Refused { number, action, reason: Error::of(self.reason) },
-            6 => Word::Expired(timer),
-            7 => Word::Returned(timer),
+            STARTED => Word::Started { number, handle, deadline, action },
+            RESTARTED => Word::Restarted { number, handle, deadline, action, old: self.other },
+            STOPPED => Word::Stopped { number, serial: handle.serial },
+            REFUSED => Word::Refused { number, action, reason: Error::of(self.reason) },
+            EXPIRED => Word::Expired(timer),
+            RETURNED => Word::Returned(timer),
             _ => Word::NotTaken { number, action, reason: Error::of(self.reason) },
         }
     }
