@@ -9,9 +9,9 @@ setup_file() {
     cd "$BATS_TEST_DIRNAME/.." || return
     mkdir "$BATS_FILE_TMPDIR/bin"
     ln -s "$(realpath "${TIMERS:-timers}")" "$BATS_FILE_TMPDIR/bin/timers"
-    read -r LAST TICKS < <(tools/facts LAST MAX_TICKS)
+    LAST=$(tools/facts LAST)
     EVENTS=$(tools/facts SCRIPT | tr ' ' '|')
-    export LAST TICKS EVENTS PATH=$BATS_FILE_TMPDIR/bin:$PATH
+    export LAST EVENTS PATH=$BATS_FILE_TMPDIR/bin:$PATH
 }
 
 # Prints 'OPTION LEAST MOST DEFAULT' for each option of a help. The last tick of the scheme stands for the greatest one.
@@ -60,15 +60,6 @@ other_option() {
 
 # script_status STATUS LINE: of a script of one line
 script_status() { run -"$1" timers <<< "$2"; }
-
-@test "numbers of a script end where the pages say" {
-    script_status 0 "tick 1"
-    script_status 0 "tick $TICKS"
-    script_status 1 "tick 0"
-    script_status 1 "tick $((TICKS + 1))"
-    script_status 0 "start 0 1 5 $LAST"
-    script_status 1 "start 0 1 5 $((LAST + 1))"
-}
 
 # Runs the examples of a text: a line '$ COMMAND' after spaces, and the lines below it up to an empty one or one that is
 # indented less. What follows three spaces in a line is a remark. If the command has no input of its own, the lines that
