@@ -4,9 +4,10 @@
 bats_require_minimum_version 1.5.0
 
 setup_file() {
-    "$BATS_TEST_DIRNAME/../crates/timer_program/cases/names" > "$BATS_FILE_TMPDIR/names"
+    "$BATS_TEST_DIRNAME/../tools/facts" --names > "$BATS_FILE_TMPDIR/names"
     schemes=$("$BATS_TEST_DIRNAME/../tools/facts" SCHEMES)
-    export schemes
+    clients=$("$BATS_TEST_DIRNAME/../tools/facts" MAX_CLIENTS)
+    export schemes clients
 }
 setup() {
     TIMERS=$(realpath "${TIMERS:-timers}")
@@ -23,7 +24,7 @@ leaves() {
     local status=0
     # shellcheck disable=SC2046,SC2086  # words
     "$TIMERS" $(put_names <<< "$2") < input > output 2> errors || status=$?
-    [ "$status" -eq "$1" ] && named output <(printf '%b' "$3") && named errors <(printf '%b' "$4") && return
+    [ "$status" -eq "$(put_names <<< "$1")" ] && named output <(printf '%b' "$3") && named errors <(printf '%b' "$4") && return
     echo "timers $2: status $status"
     return 1
 }
@@ -147,9 +148,12 @@ clock_row() {
 
 @test "threads: 4 clients of 1000 timers if nothing else is asked for" {
     local text
+    # shellcheck disable=SC2046  # words
     text="$(printf 'client %s sent 1000 started 1000 expired 1000\\n' 0 1 2 3)end\n"
     gives 0 "threads" "" "$text"
     gives 0 "threads --clients 4 --timers 1000" "" "$text"
+    gives 0 "threads --clients {MAX_CLIENTS} --timers 1" "" \
+        "$(printf 'client %s sent 1 started 1 expired 1\\n' $(seq 0 $((clients - 1))))end\n"
     gives 0 "threads --clients 1" "" 'client 0 sent 1000 started 1000 expired 1000\nend\n'
     echo "not read" > input
     [ "$("$TIMERS" threads < input > output; cat < input)" = "not read" ]
@@ -218,7 +222,7 @@ clock_row() {
 
 @test "each option is used beside all others of its subcommand" {
     local script='start 2 1 9 4\nbad\nstart 3 1 9 4\nstart 0 1 2 5\nstart 1 1 3 6\ntick 9\n'
-    gives 1 "serve --keep-going --wakeups --scheme hashed --slots 8 --clients 3 --capacity 2 --first-tick 7" "$script" \
+    gives {SKIPPED} "serve --keep-going --wakeups --scheme hashed --slots 8 --clients 3 --capacity 2 --first-tick 7" "$script" \
         "$(printf %s 'started 2 1 1 16\nwakeup 8\nrefused 3 1 {NoClient}\nwakeup 8\nstarted 0 1 2 9\nwakeup 8\n' \
         'refused 1 1 {Full}\nwakeup 8\nexpired 9 0 2 5\nexpired 16 2 1 4\nwakeup never\nend 16 0\n')" \
         "bad line 2, column 1: {UnknownWord}\n"
@@ -372,9 +376,9 @@ shown() { gives 0 "show $1" "$2" "$(printf '%s\\n' "${@:3}")"; }
 @test "each subcommand reports a bad line in its way" {
     local reason='count: {OutOfTicks}'
     gives 1 "serve" 'close\ntick 0\nclose\n' 'closed 0\n' 'bad line 2\n'
-    gives 1 "serve --keep-going" 'close\ntick 0\nclose\n' \
+    gives {SKIPPED} "serve --keep-going" 'close\ntick 0\nclose\n' \
         'closed 0\nclose refused {Closed}\nend 0 0\n' "bad line 2, column 6: $reason\n"
-    gives 1 "serve --wakeups --keep-going" 'close\ntick 0\nclose\n' \
+    gives {SKIPPED} "serve --wakeups --keep-going" 'close\ntick 0\nclose\n' \
         'closed 0\nwakeup never\nclose refused {Closed}\nwakeup never\nend 0 0\n' "bad line 2, column 6: $reason\n"
     gives 1 "check" 'close\ntick 0\nclose\n' "line 2, column 6: $reason\n"
 }

@@ -288,7 +288,7 @@ static void one(struct facility *f, const struct event *e, struct text *out)
 
 static struct answer fault(struct answer answer, const char *what, uint64_t line)
 {
-	answer.status = 1;
+	answer.status = EXIT_FAILED;
 	if (line)
 		add(&answer.faults, "%s %" PRIu64 "\n", what, line);
 	else
@@ -340,7 +340,8 @@ static bool lines(struct facility *f, const char *script, size_t len, enum form 
 			*answer = fault(*answer, "bad line", n);
 			return false;
 		}
-		answer->status |= !good;
+		if (!good)
+			answer->status = form == CHECK ? EXIT_BAD : EXIT_SKIPPED;
 		at = next;
 	}
 	return true;
@@ -357,7 +358,7 @@ struct answer play(const char *script, size_t len, struct options options, enum 
 		exit(3);
 	if ((form == PLAY || form == CHECK) && len > MAX_SCRIPT) {
 		answer = fault(answer, TOO_LONG, 0);
-		answer.status = form == CHECK ? CHECK_FAILED : 1;
+		answer.status = form == CHECK ? EXIT_CHECK_FAILED : EXIT_FAILED;
 	} else if (lines(&f, script, len, form, &answer) && form != CHECK)
 		add(&answer.output, "end %" PRIu64 " %zu\n", f.now, f.len);
 	if (form == PLAY && answer.status != 0)

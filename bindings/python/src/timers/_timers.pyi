@@ -7,7 +7,15 @@ _T = TypeVar("_T")
 
 __version__: Final[str]
 
-# of timers
+WIDE: Final[int]
+CLOCK: Final[int]
+SMOOTH: Final[int]
+SMALL: Final[int]
+LAST: Final[int]
+CLOCK_LAST: Final[int]
+SMALL_LAST: Final[int]
+CLIENTS: Final[int]
+# made by tools/facts: hints of timers
 OK: Final[int]
 NOT_OPEN: Final[int]
 OPEN: Final[int]
@@ -19,15 +27,8 @@ ZERO_INTERVAL: Final[int]
 TOO_LATE: Final[int]
 SERIALS_SPENT: Final[int]
 CLOCK_END: Final[int]
-WIDE: Final[int]
-CLOCK: Final[int]
-SMOOTH: Final[int]
-SMALL: Final[int]
-LAST: Final[int]
-CLOCK_LAST: Final[int]
-SMALL_LAST: Final[int]
-
-# of desks
+# by hand
+# made by tools/facts: hints of desks
 CLOSED: Final[int]
 CAPACITY: Final[int]
 NO_CLIENT: Final[int]
@@ -43,7 +44,6 @@ OTHER_LINE: Final[int]
 NOT_FINISHED: Final[int]
 LEFT: Final[int]
 NOT_FREED: Final[int]
-CLIENTS: Final[int]
 STARTED: Final[int]
 RESTARTED: Final[int]
 STOPPED: Final[int]
@@ -51,6 +51,7 @@ REFUSED: Final[int]
 NOT_TAKEN: Final[int]
 EXPIRED: Final[int]
 RETURNED: Final[int]
+# by hand
 
 class TimersError(Exception):
     def __init__(self, status: int, /) -> None: ...
