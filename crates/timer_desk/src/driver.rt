@@ -123,11 +123,7 @@ fn one_turn<W: Wheel + Drop, I: Inlet + Drop>(
 }
 
 /// Writes the steps of one turn.
-fn write_steps(
-    steps: &mut Vec<Step>,
-    progress: &[Progress],
-    goal: u64,
-) -> Result<(), AllocError>
+fn write_steps(steps: &mut Vec<Step>, progress: &[Progress], goal: u64) -> Result<(), AllocError>
     ensures { OnOk result (steps.new.items
         ≡ steps_with (is_served goal progress.now) (length progress.now)) }
 {

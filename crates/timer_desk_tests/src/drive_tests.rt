@@ -11,7 +11,12 @@ fn a_drive_hands_out_the_words_of_each_client(rt: HostRuntime) -> Result<(), Fai
     let (mut one, second) = ring_line(alloc, 4, 1)?;
     submits(&rt, &mut zero, &[700]);
     submits(&rt, &mut one, &[1000]);
-    let driven = drive(alloc, desk(&rt, alloc, vec![in alloc; first, second]?), 1, 1000);
+    let driven = drive(
+        alloc,
+        desk(&rt, alloc, vec![in alloc; first, second]?),
+        1,
+        1000,
+    );
     same(&rt, driven.outcome, DriveEnd::Done);
     receives(&rt, &mut zero, &[('A', 1, 700), ('E', 1, 700)]);
     receives(&rt, &mut one, &[('A', 2, 1000), ('E', 2, 1000)]);

@@ -66,7 +66,11 @@ impl Both {
     fn stop(&mut self, rt: &impl Abort, index: usize) {
         if let Some((hier, plain)) = self.handles.get(index) {
             let stopped = self.hier.stop(*hier).map(|timer| timer.serial);
-            same(rt, stopped, self.plain.stop(*plain).map(|timer| timer.serial));
+            same(
+                rt,
+                stopped,
+                self.plain.stop(*plain).map(|timer| timer.serial),
+            );
         }
     }
 

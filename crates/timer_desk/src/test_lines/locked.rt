@@ -1,8 +1,8 @@
 //! A line over two queues under one lock, whose ends may wait.
 
 use crate::inlet::{Inlet, Put, Taken};
-use crate::test_lines::queues::Queues;
 use crate::ring::Unsent;
+use crate::test_lines::queues::Queues;
 use crate::word::{Numbered, Word};
 use std::alloc::Global;
 use std::sync::{Arc, Mutex, Wait};

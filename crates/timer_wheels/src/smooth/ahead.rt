@@ -173,9 +173,7 @@ fn first_slot_by(table: Table, bank: &Bank, wheel: usize) -> Option<u64>
     let end = now + turns;
     let mut slot = now + 1;
     while slot < end {
-        let clear = bank
-            .filled
-            .clear_from(list_of_slot(table, wheel, slot)) as u64;
+        let clear = bank.filled.clear_from(list_of_slot(table, wheel, slot)) as u64;
         if clear == 0 {
             return Some(slot);
         }
