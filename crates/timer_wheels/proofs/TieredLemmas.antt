@@ -1,5 +1,5 @@
 -- Lemmas for `tiered`: a hierarchy that is not smooth is known by its slots.
-use Rattle.std.proofs.Common.{◌≡◌, ◌≢◌, ◌<◌, ◌≤◌, ℕ, true, false, List, [], ◌∷◌, length, ap, sym, ◌∙◌, refl, arith, if◌then◌else◌, Some}
+use Rattle.std.proofs.Common.{◌≡◌, ◌≢◌, ◌<◌, ◌≤◌, ℕ, true, false, List, [], ◌∷◌, length, ap, ◌∙◌, refl, arith, if◌then◌else◌, Option, None, Some, IfSome}
 use Rattle.std.specs.List.{AllByRecursion}
 use Rattle.std.proofs.lemmas.Bool.{ne_eqb}
 use Rattle.timer_base.specs.Basics.{some_same}
@@ -7,8 +7,10 @@ use Rattle.timer_base.specs.Pending.{Entry, timers_of}
 use Rattle.timer_base.specs.WakeUps.{IsWakeUp, next_deadline}
 use Rattle.timer_base.specs.WheelState.{WheelState, IsPending, IsWellFormed}
 use Rattle.timer_base.specs.declared.limits.TheConstants.{LAST}
+use Rattle.timer_wheels.specs.Buckets.{state_of, state_of-well_formed}
 use Rattle.timer_wheels.specs.HierWheel.{table_of}
 use Rattle.timer_wheels.specs.TieredWheel.{is_smooth, slots_are_not, turns_are_smooth, option_of}
+use Rattle.timer_wheels.specs.declared.buckets.Buckets.{Buckets}
 use Rattle.timer_wheels.specs.declared.hier.HierWheel.{HierWheel}
 use Rattle.timer_wheels.specs.declared.smooth.SmoothWheel.{SmoothWheel}
 use Rattle.timer_wheels.specs.declared.tiered.TheConstants.{NEVER}
@@ -43,6 +45,10 @@ next_in_clock w tick f e = of_first w.pending f.each e where
       let q : tick ≡ x.timer.deadline = some_same tick x.timer.deadline e in
       let r : x.timer.deadline ≤ w.last_tick = a.0.in_range in
       omega (arith, f.last_in_range)
+
+pub first_in_clock : (b : Buckets) (o : Option ℕ) → o ≡ next_deadline (state_of b).pending → IfSome o (λ tick. tick ≤ LAST)
+first_in_clock b None e = tt
+first_in_clock b (Some tick) e = next_in_clock (state_of b) tick (state_of-well_formed b) e
 
 pub wake_in_clock : (w : WheelState) (tick : ℕ) → IsWellFormed w → IsWakeUp tick w.now w.pending → tick ≤ LAST
 wake_in_clock w tick f u = of_first w.pending f.each u.some u.in_time where

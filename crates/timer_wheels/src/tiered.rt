@@ -246,17 +246,19 @@ impl Wheel for TieredWheel {
     }
 
     fn next_deadline(&self) -> Option<u64> {
-        match self {
-            TieredWheel::Hier(wheel) => wheel.next_deadline(),
-            TieredWheel::Smooth(wheel) => tick_of(next_smooth(wheel)),
-        }
+        let tick = match self {
+            TieredWheel::Hier(wheel) => or_never(wheel.next_deadline()),
+            TieredWheel::Smooth(wheel) => next_smooth(wheel),
+        };
+        tick_of(tick)
     }
 
     fn find_next(&mut self) -> Option<u64> {
-        match self {
-            TieredWheel::Hier(wheel) => wheel.find_next(),
-            TieredWheel::Smooth(wheel) => tick_of(next_smooth(wheel)),
-        }
+        let tick = match self {
+            TieredWheel::Hier(wheel) => or_never(wheel.find_next()),
+            TieredWheel::Smooth(wheel) => next_smooth(wheel),
+        };
+        tick_of(tick)
     }
 
     #[inline(always)]
@@ -356,10 +358,7 @@ fn restart_smooth(wheel: &mut SmoothWheel, handle: Handle, timer: Timer) -> Opti
 fn next_smooth(wheel: &SmoothWheel) -> u64
     ensures { option_of result ≡ next_deadline (smooth_state wheel.now).pending }
 {
-    match wheel.next_deadline() {
-        Some(tick) => tick,
-        None => NEVER,
-    }
+    or_never(wheel.next_deadline())
 }
 
 /// The next tick to wake up at, or `NEVER`.
@@ -370,6 +369,18 @@ fn quiet_smooth(wheel: &SmoothWheel) -> u64
         (smooth_state wheel.now).now (smooth_state wheel.now).pending }
 {
     match wheel.quiet_until() {
+        Some(tick) => tick,
+        None => NEVER,
+    }
+}
+
+/// The tick, or `NEVER` if there is none.
+#[inline(always)]
+fn or_never(tick: Option<u64>) -> u64
+    requires { IfSome tick (λ some. some ≤ LAST) }
+    ensures { option_of result ≡ tick }
+{
+    match tick {
         Some(tick) => tick,
         None => NEVER,
     }
