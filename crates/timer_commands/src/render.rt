@@ -17,7 +17,8 @@
 //!     hier      moved at 128 from wheel 1 slot 2 to wheel 0 slot 2: 1
 //!     clock     moved at 900 from minute 15 to second 30: 1
 //!
-//! In a smooth wheel timers leave several buckets at one tick, few of each, and at starts too. So it shows none of its moves.
+//! In a smooth wheel timers may leave several buckets at one tick, a few of each, and one at a start. So it shows no
+//! such line.
 ghost use Rattle.std.specs.Prelude.{◌≡◌, ◌<◌, ◌++◌, length, decimal, OnOk};
 ghost use Rattle.timer_script.specs.Decorator.{HasGrown};
 ghost use Rattle.timer_commands.specs.Indented.{HasGrownByIndented, HasGrownByPicture, HasGrownByBare, HasGrownByEnd};
@@ -34,7 +35,7 @@ const WHEEL_SLOTS: u64 = 64;
 /// The slots of each wheel of the table for small machines.
 const SMALL_SLOTS: u64 = 16;
 
-/// The slots of two revolutions of it, which each smooth wheel has.
+/// The slots of two revolutions of a hierarchy's wheel, which the smooth wheel has for each.
 const TURN_SLOTS: u64 = 128;
 
 /// The lists of the clock's slots come second by second, then minute by minute, and so on.
