@@ -178,9 +178,6 @@ serves() {
     runs 8 2000 deaf
     build desk_threads.c -DREFUSE $wraps
     runs 8 10000 mixed
-    build desk_end.c
-    runs 8 10000
-    runs "$(most_clients)" 1000
 }
 @test "an end is gone once it is freed, and after its last item, over lines of 1 to 60,000" { build desk_gone.c && runs; }
 @test "desks and lines may be freed while the other side calls" { build desk_frees.c && runs 200 8; }

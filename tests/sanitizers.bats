@@ -70,8 +70,6 @@ threads() {
     runs 8 500 deaf
     build desk_threads.c -DREFUSE $wraps $sanitize
     runs 8 1000 mixed
-    build desk_end.c $sanitize
-    runs 8 1000
     build desk_frees.c $sanitize
     runs 30 8
     build desk_lives.c $sanitize
