@@ -134,8 +134,6 @@ serves() {
 }
 
 # A test and, built with a mistake, that it notices it.
-@test "timers_free frees every block" { build leaks.c $wrap && runs; }
-@test "a free that forgets is noticed" { build leaks.c -DFORGETS $wrap && notices; }
 @test "starts allocate nothing if room was made" { build reserve.c $wraps && runs; }
 @test "that no room was made is noticed" { build reserve.c -DFORGETS $wraps && notices; }
 @test "there is room for as many timers as links can name, and for no more" {

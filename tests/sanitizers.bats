@@ -40,8 +40,6 @@ timers() {
     runs 30000 3
     build stress.c -DREFUSE $wraps $sanitize
     runs 30000 4
-    build leaks.c $wrap $sanitize
-    runs
     build allocator.c $wrap $sanitize
     runs resizes
     runs copies
