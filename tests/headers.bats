@@ -1,6 +1,6 @@
 #!/usr/bin/env bats
-# What the headers, the libraries in LIB (by default build/lib), the wrappers and the crates say of each other: numbers,
-# layouts, names, the version. And what compilers say of the headers and of misuses.
+# What the headers and the libraries in LIB (by default build/lib) say of each other: names and the version. And what compilers
+# say of the headers and of misuses. Headers assert their layouts; the programs of tests/c fail over a library with other ones.
 # shellcheck disable=SC2030,SC2031,SC2086,SC2154
 load helpers
 
@@ -11,56 +11,6 @@ setup_file() {
 setup() {
     set -o pipefail
     needs "$CC"
-}
-
-# hold COUNT: the assertions on standard input, of which there are so many, hold
-hold() {
-    { echo '#include <timers_desk.h>'; cat; } > "$work/asserts.c"
-    [ "$(grep -c '_Static_assert' "$work/asserts.c")" -eq "$1" ]
-    "$CC" $of_c -fsyntax-only "$work/asserts.c"
-}
-# constants PREFIX: each constant of the Rattle code on standard input is the header's, whose name has the prefix
-constants() {
-    sed -nE -e 's/u64::MAX;$/18446744073709551615;/' \
-        -e "s/^pub const ([A-Z_]+): u(32|64) = ([0-9]+);\$/_Static_assert($1\1 == \3u, \"\1\");/p"
-}
-# fields CRATE/FILE STRUCT C-STRUCT FIRST: the struct's fields of eight bytes follow each other in the header's, from FIRST on
-fields() {
-    awk -v struct="$2" -v c="$3" -v at="$4" '
-        $0 == "pub struct " struct " {" { inside = 1; next }
-        /^}/ { inside = 0 }
-        inside && /^    (pub )?[a-z_]+: (\*mut u8|u64|usize),$/ {
-            name = $0; sub(/:.*/, "", name); sub(/^ *(pub )?/, "", name)
-            printf "_Static_assert(offsetof(struct %s, %s) == %d && sizeof((struct %s *)0)->%s == 8, \"%s\");\n", c, name, at, c, name, name
-            at += 8
-        }' "crates/${1%/*}/src/${1#*/}"
-}
-
-# Limits and statuses are made of facts/ in both, and compared by tools/facts.
-@test "the layouts of timers.h are the crates', and so are the numbers that are by hand" {
-    {
-        sed '1,/by hand/d' crates/timer_c/src/status.rt | constants TIMERS_
-        constants TIMERS_ < crates/timer_wheels/src/tiers.rt
-        fields timer_c/owned_cell.rt OwnedCell timers 0
-        fields timer_c/c_timers.rt CTimers timers 16
-        fields timer_c/layout.rt CHandle timers_handle 0
-        fields timer_c/layout.rt Expired timers_expired 0
-        fields timer_c/layout.rt Counts timers_counters 0
-    } | hold $((6 + 11))
-}
-
-@test "the layouts of timers_desk.h are the crate's, and so are the numbers that are by hand" {
-    {
-        grep ' NEVER:' crates/timer_desk_c/src/status.rt | constants TIMERS_
-        fields timer_desk_c/desk_cell.rt DeskCell timers_desk 0
-        fields timer_desk_c/line_cell.rt LineCell timers_line 0
-        fields timer_desk_c/c_structs.rt CDesk timers_desk 16
-        fields timer_desk_c/c_structs.rt CLine timers_line 16
-        fields timer_desk_c/layout.rt Message timers_word 8 | sed -e '/"deadline"/,$s/== \([0-9]*\) /== \1 + 16 /'
-        fields timer_desk_c/layout.rt DeskConfig timers_desk_config 0
-        sed -nE 's/^pub const CONFIG_SIZE: usize = ([0-9]+);$/_Static_assert(sizeof(struct timers_desk_config) == \1, "CONFIG_SIZE");/p' \
-            crates/timer_desk_c/src/layout.rt
-    } | hold $((1 + 17))
 }
 
 # The headers compare their structs with what the library was built for. No system has to be there.

@@ -14,11 +14,6 @@ setup() {
     needs "$CC"
 }
 
-by_valgrind() {
-    needs valgrind
-    emulator="valgrind -q --leak-check=full --show-leak-kinds=all --error-exitcode=9" runs "$@"
-}
-
 # What examples/c/reliable_udp.c prints, from its rule for losses alone: a packet arrives at the first attempt that is
 # not lost on its way there, and is acknowledged at the first that is lost neither there nor back.
 udp_model() {
@@ -99,8 +94,6 @@ jobs_model() {
 
 @test "random calls agree with a sorted list" { build stress.c && runs $calls 1; }
 @test "they agree when allocations are refused, and no other calls allocate" { build stress.c -DREFUSE $wraps && runs $calls 2; }
-@test "valgrind finds no error and no leak in them" { build stress.c && by_valgrind $((calls / 10)) 4; }
-@test "nor if allocations are refused" { build stress.c -DREFUSE $wraps && by_valgrind $((calls / 10)) 5; }
 @test "no call of smooth wheels moves more timers than the header says" { build smooth.c && runs; }
 @test "random calls in C++ agree with a sorted map" { build agree.cpp $wrap && runs; }
 @test "so they do in C++20, by g++ and by clang++" {
@@ -113,7 +106,6 @@ jobs_model() {
 
 @test "events of a loop run as a sorted list says" { build loop_model.c && runs $((10 * calls)) 1; }
 @test "so they do in C++" { build loop_model.cpp && runs $calls 2; }
-@test "valgrind finds no error and no leak in a loop" { build loop_model.c && by_valgrind $((calls / 10)) 5; }
 @test "a server that stalls anywhere hangs up on no client that talks, and on each that is silent" {
     build loop_stalls.c
     for seed in 0 1 2 3 4 5; do runs $calls $seed; done
@@ -158,8 +150,6 @@ serves() {
 }
 
 # A test and, built with a mistake, that it notices it.
-@test "timers_free frees every block" { build leaks.c $wrap && runs; }
-@test "a free that forgets is noticed" { build leaks.c -DFORGETS $wrap && notices; }
 @test "starts allocate nothing if room was made" { build reserve.c $wraps && runs; }
 @test "that no room was made is noticed" { build reserve.c -DFORGETS $wraps && notices; }
 @test "there is room for as many timers as links can name, and for no more" {
@@ -194,9 +184,6 @@ serves() {
     runs 8 2000 deaf
     build desk_threads.c -DREFUSE $wraps
     runs 8 10000 mixed
-    build desk_end.c
-    runs 8 10000
-    runs "$(most_clients)" 1000
 }
 @test "an end is gone once it is freed, and after its last item, over lines of 1 to 60,000" { build desk_gone.c && runs; }
 @test "desks and lines may be freed while the other side calls" { build desk_frees.c && runs 200 8; }
@@ -206,7 +193,17 @@ serves() {
     runs 8 30
     runs "$(most_clients)" 10
 }
-@test "valgrind finds no error and no leak in them, either" { build desk_frees.c && by_valgrind 20 4; }
+
+@test "valgrind finds no error and no leak where allocations are refused, in a loop, and where both sides free" {
+    needs valgrind
+    emulator="valgrind -q --leak-check=full --show-leak-kinds=all --error-exitcode=9"
+    build stress.c -DREFUSE $wraps
+    runs $((calls / 10)) 5
+    build loop_model.c
+    runs $((calls / 10)) 5
+    build desk_frees.c
+    runs 20 4
+}
 
 @test "threads wake each other by bells, and a ring that is needed is a system call" {
     for pipe in "" -DTIMERS_BELL_PIPE; do

@@ -40,8 +40,6 @@ timers() {
     runs 30000 3
     build stress.c -DREFUSE $wraps $sanitize
     runs 30000 4
-    build leaks.c $wrap $sanitize
-    runs
     build allocator.c $wrap $sanitize
     runs resizes
     runs copies
@@ -70,8 +68,6 @@ threads() {
     runs 8 500 deaf
     build desk_threads.c -DREFUSE $wraps $sanitize
     runs 8 1000 mixed
-    build desk_end.c $sanitize
-    runs 8 1000
     build desk_frees.c $sanitize
     runs 30 8
     build desk_lives.c $sanitize

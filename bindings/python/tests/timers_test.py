@@ -609,16 +609,6 @@ def stop_what_expired():
         assert ran == [(5, 0), (5, 2)] and timers.now() == 9 and timers.expire() is None
 
 
-def start_what_is_due_at_once():
-    """A tick that is not after now is due at once, behind what has expired already."""
-    with Timers(first_tick=7) as timers:
-        first, second = timers.start_at(7, 1), timers.start_at(0, 2)
-        assert timers.look(second) == (7, 2, 2) and timers.has_due() and len(timers) == 0
-        last = timers.restart_at(first, 3, 3)
-        assert timers.expire() == (7, 2, 2) and timers.expire() == (7, last.serial, 3)
-        assert timers.expire() is None and not timers.has_due() and timers.now() == 7
-
-
 def come_to_the_last_tick():
     """Nothing that expired is lost at the end of the clock, and what is refused there has taken nothing."""
     last = 8639999
@@ -656,8 +646,8 @@ def count_the_moves():
 
 
 if __name__ == "__main__":
-    for test in (compare, meet_the_edges, close_if_the_block_raises, stop_what_expired, start_what_is_due_at_once,
-                 come_to_the_last_tick, count_the_moves, take_nothing_if_refused, catch_up_with_other_times, take_many,
+    for test in (compare, meet_the_edges, close_if_the_block_raises, stop_what_expired, come_to_the_last_tick,
+                 count_the_moves, take_nothing_if_refused, catch_up_with_other_times, take_many,
                  keep_what_an_iteration_gave, raise_from_a_run, make_room, free_what_is_closed, take_whole_numbers, hold_the_lock,
                  keep_what_is_refused, release_what_calls_back, refer_in_circles, derive, call_the_actions, name_what_is_refused,
                  keep_handles, refuse_memory):

@@ -48,19 +48,6 @@ fn a_refusal_changes_nothing_and_gives_the_value_back() {
 }
 
 #[test]
-fn what_is_due_at_once_goes_to_the_back() {
-    let mut timers = Timers::with_table(Table::Wide, 7).unwrap();
-    let (first, second) = (timers.start_at(7, 1).unwrap(), timers.start_at(0, 2).unwrap());
-    let first = timers.restart_at(first, 3).unwrap();
-    assert_eq!((timers.len(), timers.has_due(), timers.next_deadline()), (2, true, Some(7)));
-    for (handle, value) in [(second, 2), (first, 1)] {
-        let timer = timers.expire().unwrap();
-        assert_eq!((timer.deadline, timer.serial, timer.value), (7, handle.serial(), value));
-    }
-    assert!(!timers.has_due());
-}
-
-#[test]
 fn no_tick_passes_while_an_expired_timer_waits() {
     let mut timers = Timers::new().unwrap();
     let handles: Vec<Handle> = (0..4).map(|value| timers.start(3, value).unwrap()).collect();
