@@ -137,8 +137,8 @@ impl First {
 }
 
 /// The deadline of the front of a list, or this one if it is earlier.
-// Inlined: for a call a compiler saves registers at the start of each restart, also if it is not made.
-#[inline(always)]
+// Cold, or a compiler saves registers for this call at the start of each restart, also if it is not made.
+#[cold]
 fn least_of_front(links: &Links, list: usize, deadline: u64) -> u64
     requires { list < length links.now.lists }
     ensures { result ≡ least_with (first_deadline (list_at list links.now.lists)) deadline }
