@@ -3,6 +3,8 @@
 //!
 //! Each step is taken by a call of its own, or by a turn of one step, and a step that is refused is taken
 //! again.
+ghost use Rattle.std.specs.Prelude.{◌≡◌, []};
+
 use crate::facilities::numbers;
 use crate::fault::{Fault, same, see};
 use crate::lines::{in_memory, locked, request};
@@ -52,11 +54,19 @@ const OF_ZERO: [Said; 3] = [('A', 1, 5), ('R', 1, 5), ('N', 0, 0)];
 const OF_ONE: [Said; 2] = [('A', 2, 3), ('R', 2, 3)];
 
 /// A desk with a client for each of these lines, at the second try if the first is refused.
-fn open<I: Inlet + Drop>(alloc: Global, inlets: Vec<I>) -> Result<Desk<HierWheel, I>, Fault> {
+fn open<W: Wheel + Drop, I: Inlet + Drop>(
+    alloc: Global,
+    wheel: W,
+    inlets: Vec<I>,
+) -> Result<Desk<W, I>, Fault>
+    requires pending { (W.state wheel).pending ≡ [] }
+    requires due { (W.state wheel).due ≡ [] }
+    requires now { (W.state wheel).now ≡ 0 }
+    requires serial { (W.state wheel).last_serial ≡ 0 }
+{
     let Ok(checked) = numbers(inlets.len() as u64, 1024).check() else {
         return Err(Fault::Wrong("the number of lines"));
     };
-    let wheel = hier(alloc, Table::Wide)?;
     let facility = Facility::open(alloc, checked, wheel);
     match Desk::open(alloc, facility, inlets, ROOM) {
         Ok(desk) => Ok(desk),
@@ -79,7 +89,7 @@ pub fn open_in_memory(
     let mut inlets = Vec::new(alloc);
     inlets.push(in_memory(alloc, zero)?)?;
     inlets.push(in_memory(alloc, one)?)?;
-    open(alloc, inlets)
+    open(alloc, hier(alloc, Table::Wide)?, inlets)
 }
 
 /// Serves the client once. False if that is refused for memory.
@@ -241,10 +251,23 @@ fn are_said(words: &[Word], wanted: &[Said]) -> Result<(), Fault> {
 pub fn close_over_locks<R: Wait>(rt: &R, alloc: Global) -> Result<(), Fault> {
     let (mut zero, inlet) = locked_with(rt, alloc, &[5, 1])?;
     let (mut one, other) = locked_with(rt, alloc, &[3])?;
-    let mut desk = open(alloc, vec![in alloc; inlet, other]?)?;
-    close_at_desk(&mut desk, By::Call)?;
+    let _desk = close_of_two(alloc, inlet, other)?;
     receive(rt, &mut zero, &OF_ZERO)?;
     receive(rt, &mut one, &OF_ONE)
+}
+
+/// A desk over these two lines, after its close.
+fn close_of_two<I: Inlet + Drop>(
+    alloc: Global,
+    first: I,
+    second: I,
+) -> Result<Desk<HierWheel, I>, Fault> {
+    let mut inlets = Vec::new(alloc);
+    inlets.push(first)?;
+    inlets.push(second)?;
+    let mut desk = open(alloc, hier(alloc, Table::Wide)?, inlets)?;
+    close_at_desk(&mut desk, By::Call)?;
+    Ok(desk)
 }
 
 /// A locked line in which starts with these intervals stand.
