@@ -1,7 +1,7 @@
 #!/usr/bin/env bats
 # The programs of examples/c and tests/c, and the wrappers, over the libraries in LIB, by default build/lib. CALLS is how
 # many random calls a run makes. tests/headers.bats has what needs no run, tests/platforms other processors and systems.
-# shellcheck disable=SC2030,SC2031,SC2086,SC2154
+# shellcheck disable=SC2030,SC2031,SC2034,SC2086,SC2154
 load helpers
 
 setup_file() {
