@@ -389,22 +389,6 @@ help_of() {
     [ "$({ "$TIMERS" "$@" > output 2> errors; echo "$?"; cat; } < input)" = $'0\nx' ] && [ ! -s errors ]
 }
 
-@test "the short help has the options in few lines" {
-    short() {
-        # shellcheck disable=SC2086  # words
-        help_of $2 -h
-        [ "$(wc -l < output)" -le "$1" ] && grep -q -e '-h, --help' output
-        for part in "${@:3}"; do grep -qF -e "$part" output || { echo "timers $2 -h: no $part"; return 1; }; done
-    }
-    short 16 "" "Usage: timers < FILE" "       timers COMMAND [OPTIONS] < FILE" "  play     Plays the script" \
-        "  serve    Answers each line" "  show     Answers lines" "  threads  Runs clients" "  check    Reports every bad line"
-    short 11 play "--scheme <SCHEME> " "--slots <SLOTS> " "--clients <CLIENTS> " "--capacity <TIMERS> " "--first-tick <TICK> "
-    short 13 serve "--keep-going " "--wakeups "
-    short 13 show "--counts " "--moves "
-    short 8 threads "--timers <TIMERS> "
-    short 6 check
-}
-
 @test "letters after -h change nothing" {
     local verb
     for verb in "" play serve show threads check; do
