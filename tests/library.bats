@@ -1,7 +1,7 @@
 #!/usr/bin/env bats
 # The programs of examples/c and tests/c, and the wrappers, over the libraries in LIB, by default build/lib. CALLS is how
 # many random calls a run makes. tests/headers.bats has what needs no run, tests/platforms other processors and systems.
-# shellcheck disable=SC2030,SC2031,SC2086,SC2154
+# shellcheck disable=SC2030,SC2031,SC2034,SC2086,SC2154
 load helpers
 
 setup_file() {
@@ -185,7 +185,6 @@ serves() {
     build desk_threads.c -DREFUSE $wraps
     runs 8 10000 mixed
 }
-@test "an end is gone once it is freed, and after its last item, over lines of 1 to 60,000" { build desk_gone.c && runs; }
 @test "desks and lines may be freed while the other side calls" { build desk_frees.c && runs 200 8; }
 @test "clients come and go in threads, and lines are opened again" {
     build desk_lives.c

@@ -222,7 +222,7 @@ clock_row() {
 
 @test "each option is used beside all others of its subcommand" {
     local script='start 2 1 9 4\nbad\nstart 3 1 9 4\nstart 0 1 2 5\nstart 1 1 3 6\ntick 9\n'
-    gives {SKIPPED} "serve --keep-going --wakeups --scheme hashed --slots 8 --clients 3 --capacity 2 --first-tick 7" "$script" \
+    gives "{SKIPPED}" "serve --keep-going --wakeups --scheme hashed --slots 8 --clients 3 --capacity 2 --first-tick 7" "$script" \
         "$(printf %s 'started 2 1 1 16\nwakeup 8\nrefused 3 1 {NoClient}\nwakeup 8\nstarted 0 1 2 9\nwakeup 8\n' \
         'refused 1 1 {Full}\nwakeup 8\nexpired 9 0 2 5\nexpired 16 2 1 4\nwakeup never\nend 16 0\n')" \
         "bad line 2, column 1: {UnknownWord}\n"
@@ -376,14 +376,14 @@ shown() { gives 0 "show $1" "$2" "$(printf '%s\\n' "${@:3}")"; }
 @test "each subcommand reports a bad line in its way" {
     local reason='count: {OutOfTicks}'
     gives 1 "serve" 'close\ntick 0\nclose\n' 'closed 0\n' 'bad line 2\n'
-    gives {SKIPPED} "serve --keep-going" 'close\ntick 0\nclose\n' \
+    gives "{SKIPPED}" "serve --keep-going" 'close\ntick 0\nclose\n' \
         'closed 0\nclose refused {Closed}\nend 0 0\n' "bad line 2, column 6: $reason\n"
-    gives {SKIPPED} "serve --wakeups --keep-going" 'close\ntick 0\nclose\n' \
+    gives "{SKIPPED}" "serve --wakeups --keep-going" 'close\ntick 0\nclose\n' \
         'closed 0\nwakeup never\nclose refused {Closed}\nwakeup never\nend 0 0\n' "bad line 2, column 6: $reason\n"
     gives 1 "check" 'close\ntick 0\nclose\n' "line 2, column 6: $reason\n"
 }
 
-@test "check names the first byte with which no line begins, and each field of each form" {
+@test "check names the first byte with which no line begins" {
     command -v python3 > /dev/null || skip "no python3"
     python3 -B "$BATS_TEST_DIRNAME/columns.py" "$TIMERS"
 }
@@ -392,22 +392,6 @@ shown() { gives 0 "show $1" "$2" "$(printf '%s\\n' "${@:3}")"; }
 help_of() {
     echo x > input
     [ "$({ "$TIMERS" "$@" > output 2> errors; echo "$?"; cat; } < input)" = $'0\nx' ] && [ ! -s errors ]
-}
-
-@test "the short help has the options in few lines" {
-    short() {
-        # shellcheck disable=SC2086  # words
-        help_of $2 -h
-        [ "$(wc -l < output)" -le "$1" ] && grep -q -e '-h, --help' output
-        for part in "${@:3}"; do grep -qF -e "$part" output || { echo "timers $2 -h: no $part"; return 1; }; done
-    }
-    short 16 "" "Usage: timers < FILE" "       timers COMMAND [OPTIONS] < FILE" "  play     Plays the script" \
-        "  serve    Answers each line" "  show     Answers lines" "  threads  Runs clients" "  check    Reports every bad line"
-    short 11 play "--scheme <SCHEME> " "--slots <SLOTS> " "--clients <CLIENTS> " "--capacity <TIMERS> " "--first-tick <TICK> "
-    short 13 serve "--keep-going " "--wakeups "
-    short 13 show "--counts " "--moves "
-    short 8 threads "--timers <TIMERS> "
-    short 6 check
 }
 
 @test "letters after -h change nothing" {
