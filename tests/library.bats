@@ -185,6 +185,7 @@ serves() {
     build desk_threads.c -DREFUSE $wraps
     runs 8 10000 mixed
 }
+@test "an end is gone once it is freed, and after its last item, over lines of 1 to 60,000" { build desk_gone.c && runs; }
 @test "desks and lines may be freed while the other side calls" { build desk_frees.c && runs 200 8; }
 @test "clients come and go in threads, and lines are opened again" {
     build desk_lives.c
