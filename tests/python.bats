@@ -107,7 +107,7 @@ for name in $1.__all__:
     if name.isupper():
         print(name, getattr($1, name))" | sort; }
     { enumerators timers; printf 'LAST %s\nCLOCK_LAST 8639999\n' $(((1 << 60) - 1)); } | sort | diff - <(constants timers)
-    { enumerators timers_desk; grep -E '^(WIDE|CLOCK) ' <(enumerators timers); echo CLIENTS 64; } | sort | diff - <(constants timers.desk)
+    { enumerators timers_desk; grep -E '^(WIDE|CLOCK|SMOOTH) ' <(enumerators timers); echo CLIENTS 64; } | sort | diff - <(constants timers.desk)
     [ "$(in_package "$python" -c 'import timers; print(timers.__version__)')" = "$(cat tools/install/version)" ]
 }
 

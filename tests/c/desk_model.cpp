@@ -331,6 +331,7 @@ struct model {
 	{
 		config.size = sizeof config, config.capacity = 1 + below(30), config.room = 2 + below(12), config.line = 1 + below(6);
 		config.first_tick = now = below(5000);
+		config.table = below(2) ? TIMERS_WIDE : TIMERS_SMOOTH;
 		clients.resize(1 + below(5));
 		std::vector<timers_line> lines(clients.size(), timers_line TIMERS_LINE_INIT);
 		live_before();
