@@ -101,8 +101,8 @@
  *     timers_find_next.
  *
  * WHICH TABLE
- *     TIMERS_WIDE is for all but two cases. TIMERS_CLOCK takes less memory and has a shorter clock. TIMERS_SMOOTH is for a
- *     loop that holds some 100,000 timers or more, passes a tick or a few at a time, and must not pause.
+ *     TIMERS_WIDE is for all but two cases. TIMERS_CLOCK takes less memory and has a shorter clock. TIMERS_SMOOTH
+ *     is for a loop that holds some 100,000 timers or more, passes a tick or a few at a time, and must not pause.
  *
  *     With TIMERS_WIDE a tick at a multiple of 64 moves all timers of its bucket: of a million timers as many as all of
  *     them, which takes 10 ms, and up to 200 ms where they lie in memory in random order. With TIMERS_SMOOTH they move
@@ -117,11 +117,11 @@
  *     What is proved of this is proved of the wheel (crates/timer_wheels/src/smooth.rt) and tested of this library, but
  *     for the 9 moves: these are in the contract of timers_counts.
  *
- *     A loop that sleeps until timers_wakeup and then passes thousands of ticks at once makes the moves of all these ticks in
- *     one call. It gains nothing. One that wakes at each tick, or at each 16th, does.
+ *     A loop that sleeps until timers_wakeup and then passes thousands of ticks at once makes the moves of all these
+ *     ticks in one call. It gains nothing. One that wakes at each tick, or at each 16th, does.
  *
- *     Its calls take more instructions than those of TIMERS_WIDE: with 10,000 timers a start 1.4 times as many, a restart
- *     1.5, a stop 1.2, a take 2.4, and a tick at which nothing expires or moves 2 times (bench/README.md).
+ *     Its calls take more instructions than those of TIMERS_WIDE: with 10,000 timers a start 1.4 times as many, a
+ *     restart 1.5, a stop 1.2, a take 2.4, and a tick at which nothing expires or moves 2 times (bench/README.md).
  *     timers_wakeup, timers_next and timers_find_next look at one wheel after another, until none above can have an
  *     earlier deadline. timers_wakeup walks no bucket, the others at most one in each wheel, and none of them keeps
  *     what it found.
