@@ -139,9 +139,10 @@
  *     timers_reserve made room for. One that re-arms a timer which was just taken does not.
  *
  *     timers_new allocates some 15 KB for the buckets, and the first start some 5 KB more, unless timers_reserve
- *     made room (with TIMERS_CLOCK 6 KB and 2 KB, with TIMERS_SMOOTH 11 KB and 10 KB). A timer takes 64 bytes, in two arrays. An array that is full
- *     grows, the larger one to twice its length. So above some 1,000 timers they have 64 to 132 bytes for each, of
- *     the most that were ever held. With a timers_reserve before the first start they have 64 for each, up to its room.
+ *     made room (with TIMERS_CLOCK 6 KB and 2 KB, with TIMERS_SMOOTH 11 KB and 10 KB). A timer takes 64 bytes, in two
+ *     arrays. An array that is full grows, the larger one to twice its length. So above some 1,000 timers they have 64
+ *     to 132 bytes for each, of the most that were ever held. With a timers_reserve before the first start they have 64
+ *     for each, up to its room.
  *
  *     No block has more than SIZE_MAX / 2 bytes. A call that needed one returns TIMERS_NO_MEMORY.
  *
