@@ -121,11 +121,11 @@
  *     What is proved of this is proved of the wheel (crates/timer_wheels/src/smooth.rt) and tested of this library, but
  *     for the 9 moves: these are in the contract of timers_counts.
  *
- *     A loop that sleeps until timers_wakeup and then passes thousands of ticks at once makes the moves of all these ticks in
- *     one call. It gains nothing. One that wakes at each tick, or at each 16th, does.
+ *     A loop that sleeps until timers_wakeup and then passes thousands of ticks at once makes the moves of all these
+ *     ticks in one call. It gains nothing. One that wakes at each tick, or at each 16th, does.
  *
- *     Its calls take more instructions than those of TIMERS_WIDE: with 10,000 timers a start 1.4 times as many, a restart
- *     1.5, a stop 1.2, a take 2.4, and a tick at which nothing expires or moves 2 times (bench/README.md).
+ *     Its calls take more instructions than those of TIMERS_WIDE: with 10,000 timers a start 1.4 times as many, a
+ *     restart 1.5, a stop 1.2, a take 2.4, and a tick at which nothing expires or moves 2 times (bench/README.md).
  *     timers_wakeup, timers_next and timers_find_next look at one wheel after another, until none above can have an
  *     earlier deadline. timers_wakeup walks no bucket, the others at most one in each wheel, and none of them keeps
  *     what it found.
@@ -143,9 +143,10 @@
  *     timers_reserve made room for. One that re-arms a timer which was just taken does not.
  *
  *     timers_new allocates some 15 KB for the buckets, and the first start some 5 KB more, unless timers_reserve
- *     made room (with TIMERS_CLOCK 6 KB and 2 KB, with TIMERS_SMOOTH 11 KB and 10 KB). A timer takes 64 bytes, in two arrays. An array that is full
- *     grows, the larger one to twice its length. So above some 1,000 timers they have 64 to 132 bytes for each, of
- *     the most that were ever held. With a timers_reserve before the first start they have 64 for each, up to its room.
+ *     made room (with TIMERS_CLOCK 6 KB and 2 KB, with TIMERS_SMOOTH 11 KB and 10 KB). A timer takes 64 bytes, in two
+ *     arrays. An array that is full grows, the larger one to twice its length. So above some 1,000 timers they have 64
+ *     to 132 bytes for each, of the most that were ever held. With a timers_reserve before the first start they have 64
+ *     for each, up to its room.
  *
  *     No block has more than SIZE_MAX / 2 bytes. A call that needed one returns TIMERS_NO_MEMORY.
  *

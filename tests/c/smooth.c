@@ -1,5 +1,5 @@
-/* How many timers one call moves with TIMERS_SMOOTH: what timers.h says of it. Each load is run with TIMERS_WIDE too, of which
- * a tick moves more than that. */
+/* How many timers one call moves with TIMERS_SMOOTH: what timers.h says of it. Each load is run with TIMERS_WIDE too, of
+ * which a tick moves more than that. */
 #include <stdbool.h>
 #include <stdio.h>
 #include <stdlib.h>

@@ -28,8 +28,8 @@ pub enum Table {
     Wide = 0,
     /// 60 seconds, 60 minutes, 24 hours, 100 days, which take some 6 KB. The last tick is [`LAST_OF_CLOCK`].
     Clock = 1,
-    /// As `Wide`, but no tick moves all timers of a bucket: at most 2n/63 + 18 of the n that are held. They take some 11 KB, and
-    /// a start, stop or restart takes longer. The last tick is [`LAST`].
+    /// As `Wide`, but no tick moves all timers of a bucket: at most 2n/63 + 18 of the n that are held. They take some
+    /// 11 KB, and a start, stop or restart takes longer. The last tick is [`LAST`].
     Smooth = 2,
     /// Six wheels of 16 slots, for machines with little memory: they take some 2.6 KB. The last tick is [`LAST_OF_SMALL`].
     Small = 3,
