@@ -104,7 +104,7 @@
  *
  * WHICH TABLE
  *     TIMERS_WIDE is for all but these cases. TIMERS_CLOCK shows hands of a clock. TIMERS_SMALL is for machines with little
- *     memory: its buckets take 2.6 KB in place of 15, its clock is short, and a timer moves five times at most. Above the
+ *     memory: its buckets take 2.7 KB in place of 16, its clock is short, and a timer moves five times at most. Above the
  *     lowest wheel its calls look at one digit after another, so some take a little longer. TIMERS_SMOOTH is for a
  *     loop that holds some 100,000 timers or more, passes a tick or a few at a time, and must not pause.
  *

@@ -31,7 +31,7 @@ pub enum Table {
     /// As `Wide`, but no tick moves all timers of a bucket: at most 2n/63 + 18 of the n that are held. They take some
     /// 11 KB, and a start, stop or restart takes longer. The last tick is [`LAST`].
     Smooth = 2,
-    /// Six wheels of 16 slots, for machines with little memory: they take some 2.6 KB. The last tick is [`LAST_OF_SMALL`].
+    /// Six wheels of 16 slots, for machines with little memory: they take some 2.7 KB. The last tick is [`LAST_OF_SMALL`].
     Small = 3,
 }
 
