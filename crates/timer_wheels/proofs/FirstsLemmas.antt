@@ -222,11 +222,11 @@ left_if : (is_kept : Bool) (xs : List First) (l d : ℕ) → counted_if is_kept 
 left_if true xs l d z = left_in_order xs l d z
 left_if false xs l d z = left_unknown d
 
-pub left_uncounted : (is_kept : Bool) (xs : List First) (lowest l d : ℕ) (now : FirstsState) → counted_if is_kept xs ≡ 0
+pub left_uncounted : (is_kept : Bool) (xs : List First) (n lowest l d : ℕ) (now : FirstsState) → n ≡ counted_if is_kept xs → n ≤ 0
     → record { is_kept = is_kept; items = xs } ≡ now → Leaves lowest l d now now
-left_uncounted is_kept xs lowest l d now z e = record {
+left_uncounted is_kept xs n lowest l d now all z e = record {
   one = record { size = refl; others = λ s m. refl };
-  here = λ k. subst (λ (f : FirstsState). first_at l f ≡ left_first d (first_at l f)) e (left_if is_kept xs l d z);
+  here = λ k. subst (λ (f : FirstsState). first_at l f ≡ left_first d (first_at l f)) e (left_if is_kept xs l d (omega arith));
 }
 
 -- one is replaced while they are kept

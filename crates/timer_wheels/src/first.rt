@@ -74,25 +74,30 @@ impl First {
         ensures breaks { result ≡ true → (counts_of self.old ≡ 0) × (counts_of self.new ≡ 1) }
         ensures stays { result ≡ false → counts_of self.new ≡ counts_of self.old }
     {
-        match self {
+        match *self {
             First::InOrder { latest } => {
-                let breaks = deadline < *latest;
-                if breaks {
-                    *self = First::Counted {
+                let breaks = deadline < latest;
+                *self = if breaks {
+                    First::Counted {
                         count: 1,
                         bound: least_of_front(links, list, deadline),
-                    };
+                    }
                 } else {
-                    *latest = deadline;
-                }
+                    First::InOrder { latest: deadline }
+                };
                 breaks
             }
             First::Counted { count, bound } => {
-                if deadline < *bound {
-                    *bound = deadline;
-                    *count = 1;
-                } else if deadline == *bound {
-                    *count = count.saturating_add(1);
+                if deadline < bound {
+                    *self = First::Counted {
+                        count: 1,
+                        bound: deadline,
+                    };
+                } else if deadline == bound {
+                    *self = First::Counted {
+                        count: count.saturating_add(1),
+                        bound,
+                    };
                 }
                 false
             }
@@ -105,9 +110,12 @@ impl First {
         ensures left { self.new ≡ left_first deadline self.old }
         ensures counts { counts_of self.new ≡ counts_of self.old }
     {
-        if let First::Counted { count, bound } = self {
-            if deadline == *bound {
-                *count = count.saturating_sub(1);
+        if let First::Counted { count, bound } = *self {
+            if deadline == bound {
+                *self = First::Counted {
+                    count: count.saturating_sub(1),
+                    bound,
+                };
             }
         }
     }
@@ -137,8 +145,8 @@ impl First {
 }
 
 /// The deadline of the front of a list, or this one if it is earlier.
-// Cold, or a compiler saves registers for this call at the start of each restart, also if it is not made.
-#[cold]
+// Kept out of line: where all timers have one time-out, it is never asked for.
+#[inline(never)]
 fn least_of_front(links: &Links, list: usize, deadline: u64) -> u64
     requires { list < length links.now.lists }
     ensures { result ≡ least_with (first_deadline (list_at list links.now.lists)) deadline }

@@ -154,10 +154,6 @@ impl Firsts {
             deadline self.old self.new }
         ensures due { deadline ≤ tick.now → self.new ≡ self.old }
     {
-        // Asked first, so that a restart asks but once whether they are kept.
-        if !self.is_kept {
-            return;
-        }
         if self.counted > 0 {
             leave_bucket(self.firsts.as_mut_slice(), *table, *tick, deadline);
         }
