@@ -174,7 +174,10 @@ fn errors_and_handles_are_as_std_expects() {
     let refused = boxed().unwrap_err();
     assert_eq!((refused.to_string(), plain()), ("the timer was not started".to_string(), Err(Error::ZeroInterval)));
     let reason = refused.source().unwrap();
-    assert_eq!((reason.to_string(), reason.downcast_ref()), ("the interval is 0".to_string(), Some(&Error::ZeroInterval)));
+    assert_eq!(
+        (reason.to_string(), reason.downcast_ref()),
+        ("the interval is 0".to_string(), Some(&Error::ZeroInterval))
+    );
     assert_eq!(format!("{:?}, {}", Error::Due, Error::Other(99)), "Due, status 99");
     let mut timers = Timers::new().unwrap();
     let refused = timers.start(0, thread::current()).unwrap_err();
