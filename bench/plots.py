@@ -3,12 +3,14 @@
 
     plots.py [FOLDER]      by default docs/. It needs Debian's python3-matplotlib
 
-Each picture has the colours of light and dark pages, and a marker shape for each series. It is as narrow as a phone, so
-that its words can be read there.
+Each picture has one message, which is its title, and the numbers in it are taken from the tables. It has the colours of light
+and dark pages, and a marker shape for each series, which is named where it stands. It is as narrow as a phone, so that its
+words can be read there.
 """
 import os
 import re
 import sys
+import textwrap
 
 try:
     import matplotlib
@@ -26,8 +28,10 @@ THEMES = {"#1a222d": "#e7ebf0", "#56616f": "#9ba7b5", "#d9dee5": "#2c3541", "#fe
           "#0b5cad": "#6cb0f5", "#b24a00": "#ffa463", "#5b6675": "#b8c2cf"}
 INK, SOFT, GRID, PAPER, PRODUCT, FIRST_PEER, SECOND_PEER = THEMES
 WIDTH = 5.6  # inches
+FONTS = "system-ui, -apple-system, 'Segoe UI', Roboto, 'Noto Sans', 'DejaVu Sans', sans-serif"
 MARKS = "mark: median; bar: least to greatest of the runs"
 STYLES = {"product": (PRODUCT, "o"), "first": (FIRST_PEER, "s"), "second": (SECOND_PEER, "^")}
+GLYPHS = {"product": "●", "first": "■", "second": "▲"}
 plt.rcParams.update({
     "svg.fonttype": "none", "svg.hashsalt": "timers", "font.family": "sans-serif", "font.size": 12, "figure.facecolor": PAPER,
     "axes.facecolor": PAPER, "axes.edgecolor": SOFT, "axes.labelcolor": INK, "axes.titlesize": 12, "axes.labelsize": 11, "text.color": INK, "grid.color": GRID,
@@ -47,21 +51,23 @@ def machine(part):
     return f"{row['machine'].replace('(R)', '').replace(' Processor', '')}, {row['date']}"
 
 
-def draw(axes, at, cells, style, label=None, is_across=False):
+def draw(axes, at, cells, style, is_across=False):
     """The medians of cells with their spreads, at these places; a series is joined if it goes upwards."""
     colour, marker = STYLES[style]
     points = [(place, median(cell), *ends(cell)) for place, cell in zip(at, cells) if cell]
     places, medians, lows, highs = zip(*points)
     if is_across:
         axes.hlines(places, lows, highs, colour, linewidth=1.6)
-        axes.plot(medians, places, marker, color=colour, label=label)
+        axes.plot(medians, places, marker, color=colour)
     else:
         axes.vlines(places, lows, highs, colour, linewidth=1.6)
-        axes.plot(places, medians, marker + "-", color=colour, label=label, linewidth=1.4)
+        axes.plot(places, medians, marker + "-", color=colour, linewidth=1.4)
 
 
 def save(figure, folder, name, title, description):
     """Writes the picture with its title, its description and the colours of both themes. It has few lines."""
+    figure.suptitle(textwrap.fill(title, 50), x=0.02, ha="left", fontsize=13, fontweight="bold")
+    figure.get_layout_engine().set(h_pad=0.1)
     path = os.path.join(folder, f"{name}.svg")
     figure.savefig(path, metadata={"Date": None, "Creator": None, "Format": None, "Type": None})
     plt.close(figure)
@@ -69,6 +75,7 @@ def save(figure, folder, name, title, description):
         text = file.read()
     text = text[text.index("<svg"):]
     text = re.sub(r" <metadata>.*?</metadata>\n", "", text, flags=re.DOTALL)
+    text = re.sub(r"'DejaVu Sans'[^;\"]*sans-serif", FONTS, text)
     for at, light in enumerate(THEMES):
         text = re.sub(rf"(fill|stroke): {light}", rf"\1: {light}; \1: var(--c{at})", text)
     light, dark = (" ".join(f"--c{at}: {colour};" for at, colour in enumerate(of)) for of in (THEMES, THEMES.values()))
@@ -91,12 +98,10 @@ def ratio_axis(axes, low, high, ticks):
     axes.tick_params(axis="y", length=0)
 
 
-def legend(figure, axes, columns=3):
-    """One legend above all axes."""
-    handles, labels = axes.get_legend_handles_labels()
-    rows = -(-len(labels) // columns)
-    figure.get_layout_engine().set(rect=(0, 0, 1, 1 - (0.1 + 0.24 * rows) / figure.get_figheight()))
-    figure.legend(handles, labels, loc="upper center", ncols=columns, columnspacing=1.2, handletextpad=0.3)
+def name(axes, style, text, at, value, across="left", up="center", glyph=False):
+    """Names a series beside one of its marks."""
+    words = text if not glyph else f"{text} {GLYPHS[style]}" if across == "right" else f"{GLYPHS[style]} {text}"
+    axes.text(at, value, words, color=STYLES[style][0], ha=across, va=up, fontsize=11, fontweight="bold")
 
 
 def under(figure, text):
@@ -122,13 +127,15 @@ def reach(rows, column):
 
 
 def bench(folder):
-    rows = figures.read("wheels")
+    rows = sorted(figures.read("wheels"), key=lambda row: list(WORKLOADS).index(row["workload"].rsplit("-", 1)[0]))
     quiet = [row for row in rows if row["workload"].startswith("quiet")]
     others = [row for row in rows if row not in quiet]
     figure, axes = plt.subplots(figsize=(WIDTH, 8.4), layout="constrained")
-    for shift, style, column, label in ((-0.24, "product", "timers-c", "timers (C library)"),
-                                        (0, "first", "tokio-wheel", "tokio-util"), (0.24, "second", "libuv", "libuv")):
-        draw(axes, [at + shift for at in range(len(rows))], [row[column] for row in rows], style, label, is_across=True)
+    for shift, style, column, label in ((-0.24, "product", "timers-c", "timers"), (0, "first", "tokio-wheel", "tokio-util"),
+                                        (0.24, "second", "libuv", "libuv")):
+        draw(axes, [at + shift for at in range(len(rows))], [row[column] for row in rows], style, is_across=True)
+        at = median(rows[0][column]) * (1.4 if style == "second" else 1)
+        name(axes, style, label, at, -0.75, "right" if style == "product" else "left", "bottom", glyph=True)
     axes.set_yticks(range(len(rows)), [in_words(row["workload"]) for row in rows])
     axes.set_ylim(len(rows) - 0.4, -0.6)
     ratio_axis(axes, 0.4, 25, [0.5, 1, 2, 5, 10, 20])
@@ -136,9 +143,9 @@ def bench(folder):
         axes.axhline(at + 0.5, color=GRID, linewidth=0.6)
     under(figure, f"ratio to a hand-tuned C++ wheel (1); less is better\n{MARKS}\n"
           f"no mark: it can't do that load, or was not measured\n{machine('wheels')}")
-    legend(figure, axes)
-    save(figure, folder, "bench", "timers, tokio-util and libuv beside a hand-tuned C++ wheel",
-         "Ratios of processor time by workload: medians of the repeats with the least and the greatest. Less is better. With the "
+    save(figure, folder, "bench",
+         f"The C library takes {reach(others, 'timers-c')} times as long as a hand-tuned C++ wheel, {reach(quiet, 'timers-c')} at quiet ticks",
+         "timers, tokio-util and libuv: ratios of processor time by workload: medians of the repeats with the least and the greatest. Less is better. With the "
          f"C library of timers they are {reach(others, 'timers-c')}, and {reach(quiet, 'timers-c')} for quiet ticks; with tokio-util "
          f"{reach(rows, 'tokio-wheel')}; with libuv {reach(rows, 'libuv')}. bench/results/wheels.csv has the numbers.")
 
@@ -154,7 +161,7 @@ def panels(rows, columns):
     return figure, all_axes
 
 
-FACILITIES = {"timers-c": ("product", "timers (C library)"), "ref-hier": ("first", "hand-tuned C++ wheel"), "libuv": ("second", "libuv")}
+FACILITIES = {"timers-c": ("product", "timers"), "ref-hier": ("first", "C++ wheel"), "libuv": ("second", "libuv")}
 
 
 def scale(folder):
@@ -163,15 +170,21 @@ def scale(folder):
     figure, all_axes = panels(2, 2)
     for axes, operation in zip(all_axes, ("start", "stop", "restart", "tick")):
         for facility, (style, label) in FACILITIES.items():
-            draw(axes, [float(size) for size in sizes], [rows[operation, facility][size] for size in sizes], style, label)
+            cells = [rows[operation, facility][size] for size in sizes]
+            draw(axes, [float(size) for size in sizes], cells, style)
+            if operation == "start":
+                is_below = style == "first"
+                name(axes, style, label, float(sizes[-1]), (0.55 if is_below else 1.35) * max(map(median, cells[-2:])), "right",
+                     "top" if is_below else "bottom")
         axes.set_title(operation, fontweight="bold")
         axes.set_xscale("log")
         axes.set_xticks([float(size) for size in sizes], ["10³", "10⁴", "10⁵", "10⁶", "10⁷"])
         axes.xaxis.set_minor_locator(NullLocator())
     under(figure, f"pending timers; processor time of one operation; less is better\n{machine('scale')}")
-    legend(figure, all_axes[0], 2)
-    save(figure, folder, "scale", "What an operation costs, by the number of pending timers",
-         "A panel each for start, stop, restart and a tick with nothing due, 1,000 to 10,000,000 timers. bench/results/scale.csv has the numbers.")
+    starts = [median(rows["start", "timers-c"][size]) for size in sizes]
+    save(figure, folder, "scale", f"A start takes {min(starts):.0f} to {max(starts):.0f} ns, however many timers are pending. "
+         "Stops and restarts pay for cache misses",
+         "timers, a hand-tuned C++ wheel and libuv. A panel each for start, stop, restart and a tick with nothing due, 1,000 to 10,000,000 timers. bench/results/scale.csv has the numbers.")
 
 
 def tail(folder):
@@ -179,15 +192,22 @@ def tail(folder):
     ranks = ["p50", "p99", "p99.9", "p99.99", "longest"]
     figure, all_axes = panels(3, 1)
     for axes, what in zip(all_axes, ("a tick", "a start, the table grows", "a start, with room")):
-        for facility, (style, label) in FACILITIES.items():
-            draw(axes, range(len(ranks)), [rows[what, facility][rank] for rank in ranks], style, label)
+        longest = {facility: median(rows[what, facility]["longest"]) for facility in FACILITIES}
+        beside = 0
+        for facility in sorted(FACILITIES, key=longest.get):
+            style, label = FACILITIES[facility]
+            draw(axes, range(len(ranks)), [rows[what, facility][rank] for rank in ranks], style)
+            beside = max(longest[facility], 4 * beside)
+            name(axes, style, label, len(ranks) - 0.85, beside)
+        axes.set_xlim(-0.2, len(ranks) + 0.15)
         axes.set_title(what, fontweight="bold")
         axes.set_xticks(range(len(ranks)), ["50", "99", "99.9", "99.99", "all"])
     under(figure, "the share of them, in per cent, that takes at most so long\n"
           f"a million timers; less is better\n{machine('tail')}")
-    legend(figure, all_axes[0], 2)
-    save(figure, folder, "tail", "How long single ticks and starts take, with a million timers",
-         "Elapsed time by rank, from the median to the longest. bench/results/tail.csv has the numbers.")
+    tick, start = (rows[what, "timers-c"]["longest"] for what in ("a tick", "a start, with room"))
+    tick, most = median(tick), -(-ends(start)[1] // 1e6)
+    save(figure, folder, "tail", f"With a million timers one tick takes {tick / 1e6:.0f} ms. With room made, no start takes {most:g} ms",
+         "How long single ticks and starts take, with timers, a hand-tuned C++ wheel and libuv. Elapsed time by rank, from the median to the longest. bench/results/tail.csv has the numbers.")
 
 
 def lines(folder):
@@ -201,8 +221,10 @@ def lines(folder):
     axes.set_ylim(len(rows) - 0.4, -0.6)
     ratio_axis(axes, 0.15, 10, [0.2, 0.5, 1, 2, 5, 10])
     under(figure, f"ratio to the row's peer (1): the facility alone, or C++; less is better\n{MARKS}\n{machine('lines')}")
-    save(figure, folder, "lines", "The desk, its flushes and client threads beside their peers",
-         "Ratios of time; of the desk and its flushes with the least and the greatest of five runs. bench/results/lines.csv and "
+    desk, threads = ([median(cell) for name, cell in rows if name.startswith(of)] for of in ("desk", "threads"))
+    save(figure, folder, "lines", f"A desk takes {min(desk):.1f} to {max(desk):.1f} times its facility, and client threads "
+         f"{min(threads):.1f} to {max(threads):.1f} times as long as in C++",
+         "The desk, its flushes and client threads beside their peers. Ratios of time; of the desk and its flushes with the least and the greatest of five runs. bench/results/lines.csv and "
          "threads.csv have the numbers.")
 
 

@@ -29,7 +29,7 @@
  *     action. Only timers_tick, timers_advance, timers_advance_to and timers_take advance the clock. A timer
  *     whose deadline is the present tick has expired: it is no longer pending, and waits to be taken by
  *     timers_expire, timers_expire_batch or timers_take. Timers expire in the order of their deadlines, and
- *     those of one deadline in the order of their starts.
+ *     with one deadline in the order of their starts.
  *
  *     While expired timers wait, others may be started, restarted and stopped, for instance by the work that
  *     the first of them triggers. Only the clock can't advance until all of them are taken (TIMERS_DUE). An
@@ -57,14 +57,14 @@
  *     The clock never goes back. A real time that does, and so is before timers_now, is no error for
  *     timers_advance_to and timers_take: they pass no tick then.
  *
- *     The clock of TIMERS_WIDE has ticks for 36 million years of milliseconds. That of TIMERS_CLOCK ends after 8,640,000
- *     ticks: 100 days of seconds, 2.4 hours of milliseconds. That of TIMERS_SMALL ends after 16,777,216: 4.6 hours of
- *     milliseconds. Before that, free the timers, make them again at tick 0 and start what is left.
+ *     The clock of TIMERS_CLOCK ends after 8,640,000 ticks: 100 days of seconds, 2.4 hours of milliseconds. That of
+ *     TIMERS_SMALL ends after 16,777,216: 4.6 hours of milliseconds. Before that, free the timers, make them again at
+ *     tick 0 and start what is left. TIMERS_WIDE has ticks for 36 million years of milliseconds.
  *
  *     The functions were proved, and then translated into C. Each meets the contract that the sources state for it
  *     (crates/timer_c/src/exports.rt), for every call that keeps the rules below. Nothing checks that a caller keeps
- *     them. Not proved, but tested, are the translation and the C around it: it allocates, takes NULL where nobody
- *     wants an answer, and has timers_set_allocator and timers_message.
+ *     them. Tests alone cover the translation and the C around it: it allocates, takes NULL where nobody wants an
+ *     answer, and has timers_set_allocator and timers_message.
  *
  * COSTS
  *     The timers are in arrays, and each is in the bucket of a wheel. A bucket of the lowest wheel has one
@@ -180,7 +180,7 @@
  *        uninitialised. It has only integers, so any bits are a value, and no function reads it. It is
  *        written exactly if the function's description says so, and otherwise unchanged. The handle of
  *        timers_set_at and the cursor of timers_each are read too.
- *     4. Calls on one `struct timers` come one at a time, but for those that THREADS names.
+ *     4. Calls on one `struct timers` come one at a time. THREADS names the exceptions.
  *     5. malloc, realloc and free, or what timers_set_allocator was given in their place, are one allocator,
  *        and align as C requires. The timers are freed in a process that has the allocator which they came from.
  *     6. No call comes from a signal handler. THREADS says which calls a forked child may make.
@@ -208,7 +208,7 @@
  *     A forked child has a copy of the timers, with the same handles. If the process had a single thread, the
  *     child may make all calls. If it had more, the child may make those that neither allocate nor free, on
  *     timers that no other thread was changing during the fork. It may make the other calls as well if the
- *     allocator works in such a child, as that of glibc does.
+ *     allocator works in such a child, as glibc's does.
  *
  * HANDLES
  *     A handle is for the `struct timers` that returned it. It is dead once its timer was stopped,
@@ -328,7 +328,7 @@ struct timers_handle {
 
 struct timers_expired {
 	uint64_t deadline;   /* the tick at which it expired; of timers_look, at which it expires */
-	uint64_t serial;     /* that of its handle */
+	uint64_t serial;     /* of its handle */
 	uint64_t action;     /* the action that its start or restart was given */
 };
 
@@ -368,8 +368,8 @@ void timers_free(struct timers *t);
 TIMERS_CALL
 void timers_clear(struct timers *t);
 
-/* Makes room for `most` timers held at once, pending or expired and not yet taken, those that are held
- * already among them. While fewer are held, a start then allocates nothing and does not return
+/* Makes room for `most` timers held at once, pending or expired and not yet taken, with the ones that are held
+ * already. While fewer are held, a start then allocates nothing and does not return
  * TIMERS_NO_MEMORY, whatever was started, stopped and taken before. The timers and the clock don't change.
  * Takes 64 bytes for each timer, of four at least; if it has to grow, of up to twice the most that were ever held.
  * Takes time for these, which it may move. The rest is allocated and not written. The memory is kept until
@@ -389,7 +389,7 @@ enum timers_status timers_start(struct timers *t, uint64_t interval, uint64_t ac
                                 struct timers_handle *handle);
 
 /* Starts a timer that expires at the tick `deadline`, as timers_start. If that is not after the present tick,
- * the timer has expired, with the present tick as its deadline. It is the last of those that wait to be
+ * the timer has expired, with the present tick as its deadline. It is the last one that waits to be
  * taken. While the clock is at its last tick, TIMERS_TOO_LATE is returned for each deadline, also for a
  * passed one.
  * TIMERS_NOT_OPEN, TIMERS_TOO_LATE, TIMERS_SERIALS_SPENT, TIMERS_NO_MEMORY. */
@@ -541,7 +541,7 @@ uint32_t timers_version(void);
 /* The text of a status, for messages. */
 static TIMERS_INLINE const char *timers_message(enum timers_status status)
 {
-	const uint32_t number = status;   /* that of no status has a text too */
+	const uint32_t number = status;   /* a number that is no status has a text too */
 
 	switch (number) {
 	/* made by tools/facts: texts of timers */

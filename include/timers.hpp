@@ -131,7 +131,7 @@ public:
 
 	struct expired {
 		time_point deadline;
-		std::uint64_t serial;     /* that of its handle */
+		std::uint64_t serial;     /* of its handle */
 		Action action;
 	};
 

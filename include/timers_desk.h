@@ -27,11 +27,12 @@
  *
  * DESCRIPTION
  *     A `struct timers_desk` owns the timers of up to 64 clients, numbered from 0, and a clock of ticks.
- *     One thread, the owner, calls the timers_desk functions on it. Each client has a `struct timers_line`,
- *     its end of a line to the owner, and calls the timers_line functions on it from its own thread. A line
- *     carries requests to the owner and words back, each first in, first out.
+ *     One thread, the owner, calls the timers_desk functions on it. Each client has a `struct timers_line`, and
+ *     calls the timers_line functions on it from its own thread. It is the client's end of a line: a pair of
+ *     wait-free rings between its thread and the owner. One carries requests to the owner, the other words back,
+ *     each first in, first out. A word is the answer to a request, or the notice of a timer that came out.
  *
- *     No call waits for another thread. There is no lock: the two ends of a line share nothing but two
+ *     No call waits for another thread. There is no lock: the two ends of a line share nothing but the
  *     rings. A client's calls do not allocate. They take constant time, but after the desk was freed
  *     timers_line_finish and timers_line_free take time for each request or word that stands in the line. If
  *     its line is full, a request is refused with TIMERS_DESK_LINE_FULL. Nothing has changed then, and it may
@@ -79,7 +80,7 @@
  *             clear the signal by which clients wake the owner
  *             pass the ticks up to the real time, by timers_desk_advance
  *             enum timers_desk_status s = timers_desk_serve_all(&desk, 64);
- *             flush each client, and wake those that got words
+ *             flush each client, and wake each that got words
  *             if (s != TIMERS_DESK_OK and no word was moved)
  *                 sleep until the signal or tick timers_desk_wakeup(&desk),
  *                     and only briefly after TIMERS_DESK_NO_MEMORY
@@ -101,13 +102,13 @@
  *
  *     The functions were proved, and then translated into C. Each meets the contract stated in
  *     crates/timer_desk_c/src/desk_exports.rt or line_exports.rt, for every call that keeps the rules below. Nothing
- *     checks them, but the settling and ending calls check the client and the life of a line (rule 5). Not proved, but
- *     tested, are the translation, the C around it, which allocates, and timers_desk_message. Nothing is proved about
- *     time: when a thread runs, and when a word arrives. Nor is it proved that timers_desk_line_freed and
- *     timers_line_abandoned return true exactly if the other end was freed. It is proved that they change nothing, and
- *     record their tests in the right order: first whether the desk is gone, and then whether a word is left in the
- *     line. That each test reads the ring, so that no word that was put before is missed, is tested. The same holds
- *     for a client's requests before its line is opened again.
+ *     checks the rules, but the settling and ending calls check the client and the life of a line (rule 5). Tests
+ *     alone cover the translation, the C around it, which allocates, and timers_desk_message. Nothing is proved about
+ *     time: when a thread runs, and when a word arrives. Of timers_desk_line_freed and timers_line_abandoned it is
+ *     proved that they change nothing, and record their tests in the right order: first whether the desk is gone, and
+ *     then whether a word is left in the line. Tests show that they return true exactly if the other end was freed,
+ *     and that each test reads the ring, so that no word that was put before is missed. The same holds for a client's
+ *     requests before its line is opened again.
  *
  * RULES
  *     1. A `struct timers_desk` begins as TIMERS_DESK_INIT and a `struct timers_line` as TIMERS_LINE_INIT,
@@ -120,7 +121,7 @@
  *        timers_desk_end_all only if a client is to blame.
  *     4. Calls on one struct come one at a time, but for those that THREADS names. A struct may be handed from
  *        thread to thread: by a lock, by a thread's start or join, by an atomic with release and acquire order.
- *        Calls on two structs are independent: those of the owner and of its clients may overlap in every way.
+ *        Calls on two structs are independent: the owner's and its clients' may overlap in every way.
  *     5. timers_desk_settle, timers_desk_end and timers_desk_end_all are given lines of the same desk. A line of
  *        another client is refused with TIMERS_DESK_OTHER_LINE. So is a line of an earlier desk of the same struct:
  *        the struct counts the desks that were made in it, timers_desk_free keeps the count, and each line has the
@@ -149,10 +150,10 @@
  *     asynchronous cancellation, may leave its struct half changed: then it must not be used again, not even
  *     freed. The other end of the line may go on.
  *
- *     A forked child has copies of the structs, which share nothing with those of the parent, and one thread,
- *     that which forked. It may use what no other thread was changing during the fork, by the calls that neither
- *     allocate nor free. If the process had a single thread, it may make the other calls as well. It also may if the
- *     allocator works in such a child, as that of glibc does.
+ *     A forked child has copies of the structs, which share nothing with the parent's, and one thread, the one that
+ *     forked. It may use what no other thread was changing during the fork, by the calls that neither allocate nor
+ *     free. It may make the other calls as well if the process had a single thread, or if the allocator works in such
+ *     a child, as glibc's does.
  */
 /* SPDX-License-Identifier: MIT OR Apache-2.0 */
 #ifndef TIMERS_DESK_H
@@ -194,7 +195,7 @@
 extern "C" {
 #endif
 
-/* The numbers up to TIMERS_CLOCK_END are those of enum timers_status. */
+/* The numbers up to TIMERS_CLOCK_END are the same as in enum timers_status. */
 enum timers_desk_status {
 	/* made by tools/facts: statuses of desks */
 	TIMERS_DESK_OK = 0,              /* the call was done */
@@ -229,7 +230,7 @@ enum timers_desk_status {
  * REPEATED, NUMBERS_SPENT and AHEAD are tested first, in this order: the request is not taken. Then a start is tested
  * for ZERO_INTERVAL, TOO_LATE, SERIALS_SPENT and CAPACITY; a restart for NOT_PENDING, ZERO_INTERVAL, TOO_LATE and
  * SERIALS_SPENT; and a stop for NOT_PENDING. A start or restart that was sent with a deadline is never refused for
- * ZERO_INTERVAL. `action` of an answer is that of the start or restart which it answers, also if that was refused. */
+ * ZERO_INTERVAL. `action` of an answer is the action of the start or restart, also of a refused one. */
 enum timers_word_kind {
 	/* made by tools/facts: kinds of words */
 	TIMERS_WORD_STARTED = 1,    /* number, handle, deadline, action */
@@ -367,7 +368,7 @@ enum timers_desk_status timers_desk_settle(struct timers_desk *d, size_t client,
                                            struct timers_line *line, uint64_t *standing);
 
 /* Ends the words of a client that has finished, once its thread has handed the line over (rule 4). At
- * TIMERS_DESK_OK it writes to `*unread` how many words are in the line. With those that were received
+ * TIMERS_DESK_OK it writes to `*unread` how many words are in the line. With the received ones
  * they are all that the client was given. The line may then be handed back and read to its end. Does not
  * allocate.
  * TIMERS_DESK_NOT_OPEN (either struct), TIMERS_DESK_NO_CLIENT, TIMERS_DESK_OTHER_LINE (as above),
@@ -478,7 +479,7 @@ TIMERS_CHECKED
 enum timers_desk_status timers_line_start_at(struct timers_line *line, uint64_t deadline, uint64_t action,
                                              uint64_t *number);
 
-/* Sends the request to stop the timer with this handle, that of the word that answered its start. The same
+/* Sends the request to stop the timer with this handle, from the word that answered its start. The same
  * statuses. */
 TIMERS_CHECKED
 enum timers_desk_status timers_line_stop(struct timers_line *line, struct timers_handle handle,
@@ -525,7 +526,7 @@ void timers_line_free(struct timers_line *line);
 /* The text of a status, for messages. */
 static TIMERS_INLINE const char *timers_desk_message(enum timers_desk_status status)
 {
-	const uint32_t number = status;   /* that of no status has a text too */
+	const uint32_t number = status;   /* a number that is no status has a text too */
 
 	switch (number) {
 	/* made by tools/facts: texts of desks */

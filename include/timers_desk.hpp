@@ -196,23 +196,23 @@ public:
 		check(timers_desk_close(&raw_, &returned));
 		return returned;
 	}
-	/* Throws desk_error: that of timers_desk_end. A line of another desk is TIMERS_DESK_OTHER_LINE. */
+	/* Throws desk_error, as timers_desk_end returns it. A line of another desk is TIMERS_DESK_OTHER_LINE. */
 	std::uint64_t end(std::size_t client, line &of)
 	{
 		std::uint64_t unread;
 		check(timers_desk_end(&raw_, client, &of.raw_, &unread));
 		return unread;
 	}
-	/* Stops all pending timers of a client whose line was freed, and returns how many. Throws desk_error: that of
-	 * timers_desk_stop_pending. */
+	/* Stops all pending timers of a client whose line was freed, and returns how many. Throws desk_error, as
+	 * timers_desk_stop_pending returns it. */
 	std::uint64_t stop_pending(std::size_t client)
 	{
 		std::uint64_t stopped;
 		check(timers_desk_stop_pending(&raw_, client, &stopped));
 		return stopped;
 	}
-	/* Opens a line for another client under the number of one that is gone. Throws desk_error: that of
-	 * timers_desk_open, but TIMERS_DESK_OPEN. */
+	/* Opens a line for another client under the number of one that is gone. Throws desk_error, as
+	 * timers_desk_open returns it, but never TIMERS_DESK_OPEN. */
 	[[nodiscard]] line open(std::size_t client, std::size_t room)
 	{
 		line opened;

@@ -53,7 +53,7 @@
  *     the highest power of two within that. So with a slack of 63 or more all run at multiples of 64.
  *
  * ORDER
- *     Events run in the order of their ticks, in a late loop too, and those of one tick in the order in which they
+ *     Events run in the order of their ticks, in a late loop too, and events of one tick in the order in which they
  *     were armed. An event for a tick that has passed comes after those that are due already. One that is armed for a
  *     later tick while it is armed or paused keeps its timer: when the old tick comes it is armed anew, and has its
  *     place in the order by that. Cancel it first if it has to have a place by the call.
@@ -79,9 +79,9 @@
  *     between that look and the call they are too few.
  *
  *     Only arming allocates, and only of an event that is neither armed nor paused, unless timers_reserve(&loop.timers,
- *     most) made room. An event has 56 bytes where pointers have 64 bits, beside those of its timer.
+ *     most) made room. An event has 56 bytes where pointers have 64 bits, beside its timer's.
  *
- *     A dispatch takes at most as many timers as it is told, but has no bound on those that move to a lower wheel: see
+ *     A dispatch takes at most as many timers as it is told, but has no bound on timers that move to a lower wheel: see
  *     COSTS in timers.h.
  */
 /* SPDX-License-Identifier: MIT OR Apache-2.0 */
@@ -119,9 +119,9 @@ struct timers_loop {
 	uint64_t now, later;   /* the last look at the clock, in ticks: rounded down, and up */
 	size_t watched;        /* the most descriptors that are watched: see timers_loop_polled */
 	uint64_t due;          /* a dispatch runs what is due by this tick */
-	uint64_t seen;         /* that of the look before the last poll */
+	uint64_t seen;         /* the look before the last poll */
 	bool full;             /* the last poll filled its array */
-	uint64_t since;        /* that of the look before the first in a row of such polls */
+	uint64_t since;        /* the look before the first in a row of such polls */
 	size_t handed;         /* how many descriptors they handed out */
 	uint64_t time, begun;  /* the last look, and when its tick began, in nanoseconds */
 	uint64_t length;       /* of a tick */
@@ -297,7 +297,7 @@ static inline enum timers_status timers_loop_new(struct timers_loop *loop, uint6
 	return status;
 }
 
-/* Frees the loop. Its events are not written: cancel those that were armed before they are used again. Does nothing if
+/* Frees the loop. Its events are not written: cancel the armed ones before they are used again. Does nothing if
  * the loop is not open. */
 static inline void timers_loop_free(struct timers_loop *loop)
 {
@@ -400,7 +400,7 @@ static inline void timers_loop_polled(struct timers_loop *loop, int ready, int r
 }
 
 /* Takes the next event that is due, and writes `*tick`, the tick for which it was armed. Does not call its `run`. Takes no
- * more than `*most` timers, those of events that were pushed back or paused among them, and counts them down. Returns
+ * more than `*most` timers, also of events that were pushed back or paused, and counts them down. Returns
  * NULL if none is left. */
 static inline struct timers_event *timers_loop_take(struct timers_loop *loop, size_t *most, uint64_t *tick)
 {

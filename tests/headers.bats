@@ -177,7 +177,7 @@ int main(void)
 }
 EOT
 )
-# Those of the loop and of bells, which need C of 1999.
+# Those of the loop, of bells and of a record, which need C of 1999.
 used_in_loop=$(cat << 'EOT'
 #ifndef TIMERS_LOOP_OWN_CLOCK
 #include <timers_desk_bell.h>
@@ -191,6 +191,8 @@ static bool rings(struct timers_desk *desk, uint64_t now)
     return true;
 }
 #endif
+#include <timers_record.h>
+struct timers_record timers_record;
 #include <timers_loop.h>
 struct connection {
     int socket;
@@ -208,8 +210,10 @@ int main(void)
     c.idle.run = hang_up;
     if (timers_loop_new(&loop, nanoseconds, NULL, 1000) != TIMERS_OK || timers_event_after(&loop, &c.idle, 9) != TIMERS_OK)
         return 1;
+    timers_record_begin(&loop.timers, stdout);
     timers_loop_polled(&loop, timers_loop_timeout(&loop), 8);
     timers_loop_dispatch(&loop, 9);
+    timers_record_end();
     timers_event_pause(&loop, &c.idle);
     timers_event_cancel(&loop, &c.idle);
     timers_loop_free(&loop);

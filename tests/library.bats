@@ -170,6 +170,21 @@ lives() {
     for seed in 0 1 2 3 4 5; do runs $calls $seed; done
 }
 
+@test "a recorded script expires the timers that the program saw, at the same ticks in the same order" {
+    build record.c
+    for seed in 1 2 3; do
+        "$work/program" "$work/script" $((calls / 5)) "$seed" > "$work/saw"
+        [ "$(cut -d ' ' -f 1 "$work/script" | sort | uniq -c | awk '$1 > 100' | wc -l)" -eq 4 ]
+        "${TIMERS:-./timers}" serve --capacity 1000000 < "$work/script" > "$work/played"
+        run grep -c refused "$work/played"
+        [ "$output" = 0 ]
+        sed -n -e '/^expired/p' -e 's/^\(end [0-9]*\) .*/\1/p' "$work/played" | diff "$work/saw" -
+    done
+    "$work/program" "$work/script" loop > "$work/saw"
+    "${TIMERS:-./timers}" serve < "$work/script" | sed -n 's/^\(expired [0-9]*\) .*/\1/p' | diff "$work/saw" -
+    [ "$(wc -l < "$work/saw")" -gt 200 ]
+}
+
 # serves CLIENTS FILE FLAGS..: stopped for longer than its time-out, the server hangs up on each silent client and on no
 # other. If the clients themselves were late, or the port is another's, it is tried again.
 serves() {

@@ -57,7 +57,7 @@ command_line() {
     for page in tools/install/*.[13]; do
         header=include/$(basename "$page" .3).h
         if [ -e "$header" ]; then comments "$header"; else command_line; fi > "$BATS_TEST_TMPDIR/said"
-        [ "$(wc -w < "$BATS_TEST_TMPDIR/said")" -gt 400 ]
+        [ "$(wc -w < "$BATS_TEST_TMPDIR/said")" -gt 300 ]
         lost=$(lost_words "$BATS_TEST_TMPDIR/said" "$page")
         echo "$page: $lost"
         [ -z "$lost" ]
