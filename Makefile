@@ -113,6 +113,9 @@ bench-lines: timers
 bench-scale bench-tail bench-next bench-desk: bench-%: lib
 	$(MAKE) -C bench $* TIMERS_C=$(CURDIR)/build/lib/libtimers.a RUN_OPTIONS="$(RUN_OPTIONS)"
 
+measure-scale measure-tail measure-next: lib
+	$(MAKE) -C bench $@ TIMERS_C=$(CURDIR)/build/lib/libtimers.a
+
 hostile: all
 	tools/hostile ./timers
 
