@@ -9,6 +9,7 @@
 #include "wheels.hpp"
 #include <cstdio>
 #include <cstdlib>
+#include <cstring>
 #include <string>
 #ifdef WITH_TIMERS_C
 #include <timers.h>
