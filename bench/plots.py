@@ -192,7 +192,7 @@ def scale(folder):
          "timers, a hand-tuned C++ wheel and libuv. A panel each for start, stop, restart and a tick with nothing due, 1,000 to 10,000,000 timers. bench/results/scale.csv has the numbers.")
 
 
-TAIL = {"timers-c-smooth": "smooth", "timers-c": "wide", "tokio-wheel": "tokio-util", "ref-hash-64k": "hashed wheel",
+TAIL = {"timers-c-smooth": "timers, smooth", "timers-c": "timers, wide", "tokio-wheel": "tokio-util", "ref-hash-64k": "hashed wheel",
         "array-heap": "array heap", "libuv": "libuv"}
 TAIL_LOADS = {"shuffled": "spread over 2^20 ticks, in random order", "keep-alive": "kept alive, time-outs of 60,000 ticks",
               "moves-shuffled": "all in one bucket, in random order"}
@@ -225,8 +225,9 @@ def tail(folder):
         axes.tick_params(axis="y", length=0)
     under(figure, "a tick by the clock on the wall; less is better\nstrokes: 50, 99.9 and 99.99 per cent take at most so long\n"
           f"mark and words: the longest\n{machine('tail')}")
-    smooth, wide = (median(rows["shuffled", facility]["longest"]) for facility in ("timers-c-smooth", "timers-c"))
-    save(figure, folder, "tail", f"With a million timers the longest tick takes {in_digits(smooth)} with TIMERS_SMOOTH, {in_digits(wide)} with TIMERS_WIDE",
+    smooth, wide = (" to ".join(in_digits(end([median(rows[load, facility]["longest"]) for load in TAIL_LOADS])) for end in (min, max))
+                    for facility in ("timers-c-smooth", "timers-c"))
+    save(figure, folder, "tail", f"With a million timers the longest tick takes {smooth} with TIMERS_SMOOTH, {wide} with TIMERS_WIDE",
          "How long single ticks take with a million timers: the two tables of the C library, tokio-util's wheel, a hashed wheel, an array heap and libuv's heap, under three loads. "
          "bench/results/tail.csv has the numbers.")
 
