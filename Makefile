@@ -12,7 +12,8 @@
 # make fuzz        an hour of scripts, against a model of docs/formats.md (MINUTES=N)
 # make fuzz-loop   ten million random operations of timers_loop.h, against a model, under the sanitizers
 # make bench-scale measures an operation with 1,000 to 10,000,000 timers pending (bench/build/results)
-# make bench-tail  measures how long single ticks and starts take (bench/build/results)
+# make bench-tail  measures how long single ticks and starts take (bench/build/results); make measure-tail is for the
+#                  repository: it writes bench/results/tail.csv and docs/tail.svg (measure-scale and measure-next as well)
 # make bench-next  measures turns of an event loop that asks for its next deadline (bench/build/results)
 # make bench-desk  measures client threads over a desk, over C++ rings and around a mutex (bench/build/results)
 # make ports       libuv, nginx and lwIP on these timers: their tests, traces, memory, instructions (ports/README.md)
@@ -112,6 +113,9 @@ bench-lines: timers
 bench-scale bench-tail bench-next bench-desk: bench-%: lib
 	$(MAKE) -C bench $* TIMERS_C=$(CURDIR)/build/lib/libtimers.a RUN_OPTIONS="$(RUN_OPTIONS)"
 
+measure-scale measure-tail measure-next: lib
+	$(MAKE) -C bench $@ TIMERS_C=$(CURDIR)/build/lib/libtimers.a
+
 fuzz: all
 	tools/fuzz/run ./timers $(MINUTES)
 
@@ -134,4 +138,4 @@ clean:
 	rm -rf crates/*/out build timers tools/install/*.[13]
 	$(MAKE) -C bench clean
 
-.PHONY: FORCE all lib pages run test prove try generate install uninstall dist deb rpm bench bench-lines bench-scale bench-tail bench-next bench-desk fuzz fuzz-loop soak docs ports clean
+.PHONY: FORCE all lib pages run test prove try generate install uninstall dist deb rpm bench bench-lines bench-scale bench-tail bench-next bench-desk measure-scale measure-tail measure-next fuzz fuzz-loop soak docs ports clean

@@ -9,6 +9,7 @@
 #include "wheels.hpp"
 #include <cstdio>
 #include <cstdlib>
+#include <cstring>
 #include <string>
 #ifdef WITH_TIMERS_C
 #include <timers.h>
@@ -16,6 +17,14 @@
 #ifdef WITH_LIBUV
 #include <uv.h>
 #endif
+
+// The array heap of peers.h: those of one tick come in the order of starting. There is one a process.
+namespace array_heap {
+#define HEAP_ORDERED
+#include "peers.h"
+#undef HEAP_ORDERED
+#undef HAS_NEXT
+}  // namespace array_heap
 
 namespace {
 [[noreturn]] inline void give_up(const char *what) {
@@ -29,11 +38,14 @@ struct LibTimers {
   static constexpr bool HAS_NEXT = true, HAS_ALL = true;
   struct timers held = TIMERS_INIT;
   std::vector<timers_handle> handles;
-  explicit LibTimers(size_t owners) : handles(owners) {
-    if (timers_new(&held, TIMERS_WIDE, 0)) give_up("timers_new");
+  explicit LibTimers(size_t owners, uint32_t table = TIMERS_WIDE) : handles(owners) {
+    if (timers_new(&held, table, 0)) give_up("timers_new");
   }
   ~LibTimers() { timers_free(&held); }
   LibTimers(const LibTimers &) = delete;
+  void reserve(size_t most) {
+    if (timers_reserve(&held, most)) give_up("timers_reserve");
+  }
   void start(size_t i, uint64_t interval) {
     if (timers_start(&held, interval, i, &handles[i])) give_up("timers_start");
   }
@@ -79,9 +91,13 @@ struct LibTimers {
     return sum;
   }
 };
+
+struct SmoothTimers : LibTimers {
+  explicit SmoothTimers(size_t owners) : LibTimers(owners, TIMERS_SMOOTH) {}
+};
 #endif
 
-// A wheel of this folder.
+// A wheel of this folder, or of its part in Rust.
 template <class W> struct Reference {
   static constexpr bool HAS_NEXT = false, HAS_ALL = false;
   W wheel;
@@ -120,6 +136,59 @@ template <class W> struct Reference {
       count += drain();
     }
     return count;
+  }
+};
+
+#ifdef WITH_RUST
+struct TokioWheel;
+extern "C" {
+TokioWheel *tokio_new();
+void tokio_free(TokioWheel *wheel);
+uint64_t tokio_now(const TokioWheel *wheel);
+Handle tokio_start(TokioWheel *wheel, const Timer *timer);
+bool tokio_stop(TokioWheel *wheel, const Handle *handle, Timer *out);
+bool tokio_restart(TokioWheel *wheel, Handle *handle, const Timer *timer, Timer *out);
+void tokio_tick(TokioWheel *wheel);
+uint64_t tokio_advance(TokioWheel *wheel, uint64_t k);
+bool tokio_expire(TokioWheel *wheel, Timer *out);
+}
+
+// tokio-util's wheel: rust/calls.rs.
+struct Tokio {
+  TokioWheel *wheel = tokio_new();
+  explicit Tokio(size_t) {}
+  ~Tokio() { tokio_free(wheel); }
+  Tokio(const Tokio &) = delete;
+  uint64_t now() const { return tokio_now(wheel); }
+  Handle start(const Timer &timer) { return tokio_start(wheel, &timer); }
+  bool stop(Handle h, Timer &out) { return tokio_stop(wheel, &h, &out); }
+  bool restart(Handle &h, const Timer &timer, Timer &out) { return tokio_restart(wheel, &h, &timer, &out); }
+  void tick() { tokio_tick(wheel); }
+  uint64_t advance(uint64_t k) { return tokio_advance(wheel, k); }
+  bool expire(Timer &out) { return tokio_expire(wheel, &out); }
+};
+#endif
+
+// An object has its index in the heap and a cache line, as it would with what else it holds. The array has its room from
+// the beginning.
+struct ArrayHeap {
+  static constexpr bool HAS_NEXT = false, HAS_ALL = false;
+  struct alignas(64) Object { array_heap::node node; };
+  std::vector<Object> objects;
+  uint64_t now = 0;
+  explicit ArrayHeap(size_t owners) : objects(owners) { array_heap::init(owners); }
+  void start(size_t i, uint64_t interval) { array_heap::set(&objects[i].node, now + interval); }
+  void stop(size_t i) { array_heap::stop(&objects[i].node); }
+  void restart(size_t i, uint64_t interval) { start(i, interval); }
+  void tick() { ++now; }
+  size_t drain() {
+    size_t count = 0;
+    while (array_heap::take(now)) ++count;
+    return count;
+  }
+  size_t pass(uint64_t k) {
+    now += k;
+    return drain();
   }
 };
 
@@ -173,9 +242,17 @@ template <class Run> bool with_facility(const std::string &name, Run run) {
     run.template of<Reference<HierApart>>();
   else if (name == "ref-hash-64k")
     run.template of<Reference<Hash<65536>>>();
+  else if (name == "array-heap")
+    run.template of<ArrayHeap>();
 #ifdef WITH_TIMERS_C
   else if (name == "timers-c")
     run.template of<LibTimers>();
+  else if (name == "timers-c-smooth")
+    run.template of<SmoothTimers>();
+#endif
+#ifdef WITH_RUST
+  else if (name == "tokio-wheel")
+    run.template of<Reference<Tokio>>();
 #endif
 #ifdef WITH_LIBUV
   else if (name == "libuv")

@@ -30,7 +30,7 @@ SCRIPTS = {
     "instructions": ["instructions.py"],
     "programs": ["programs.py", TIMERS, "--runs", "60"],
     "lines": ["lines.py", WORK],
-    "tail": ["runs.py", "tail"],
+    "tail": ["runs.py", "tail", "--repeats", "3"],
     "scale": ["runs.py", "scale", "--repeats", "3", "--count", "500000"],
     "next": ["runs.py", "next", "--repeats", "3"],
     "desk": ["desk.py", "--repeats", "7"],
@@ -81,12 +81,13 @@ def times():
 def main():
     if set(sys.argv[1:]) - {"wheels", *SCRIPTS}:
         figures.fail(__doc__, 2)
-    if not os.path.exists(os.path.join(figures.HERE, "build", "bench")):
+    parts = sys.argv[1:] or ["wheels", *SCRIPTS]
+    if "wheels" in parts and not os.path.exists(os.path.join(figures.HERE, "build", "bench")):
         figures.fail("measure.py: no build/bench: run bench/build_all", 2)
     os.environ["RESULTS"] = figures.FOLDER = figures.KEPT
     settings = {row["part"]: row for row in figures.read("settings")}
     is_well = True
-    for part in sys.argv[1:] or ["wheels", *SCRIPTS]:
+    for part in parts:
         before = times()
         is_well = run(part) and is_well
         seconds, busy, own, steal = (after - first for after, first in zip(times(), before))

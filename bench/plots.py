@@ -46,6 +46,11 @@ def of_ns(value, _=None):
     return f"{value / size:g} {unit}"
 
 
+def in_digits(ns):
+    """A time in two digits, with its unit."""
+    return of_ns(float(f"{ns:.2g}"))
+
+
 def machine(part):
     row = next(row for row in figures.read("settings") if row["part"] == part)
     return f"{row['machine'].replace('(R)', '').replace(' Processor', '')}, {row['date']}"
@@ -187,27 +192,44 @@ def scale(folder):
          "timers, a hand-tuned C++ wheel and libuv. A panel each for start, stop, restart and a tick with nothing due, 1,000 to 10,000,000 timers. bench/results/scale.csv has the numbers.")
 
 
+TAIL = {"timers-c-smooth": "timers, smooth", "timers-c": "timers, wide", "tokio-wheel": "tokio-util", "ref-hash-64k": "hashed wheel",
+        "array-heap": "array heap", "libuv": "libuv"}
+TAIL_LOADS = {"shuffled": "spread over 2^20 ticks, in random order", "keep-alive": "kept alive, time-outs of 60,000 ticks",
+              "moves-shuffled": "all in one bucket, in random order"}
+
+
 def tail(folder):
-    rows = {(row["what"], row["facility"]): row for row in figures.read("tail")}
-    ranks = ["p50", "p99", "p99.9", "p99.99", "longest"]
-    figure, all_axes = panels(3, 1)
-    for axes, what in zip(all_axes, ("a tick", "a start, the table grows", "a start, with room")):
-        longest = {facility: median(rows[what, facility]["longest"]) for facility in FACILITIES}
-        beside = 0
-        for facility in sorted(FACILITIES, key=longest.get):
-            style, label = FACILITIES[facility]
-            draw(axes, range(len(ranks)), [rows[what, facility][rank] for rank in ranks], style)
-            beside = max(longest[facility], 4 * beside)
-            name(axes, style, label, len(ranks) - 0.85, beside)
-        axes.set_xlim(-0.2, len(ranks) + 0.15)
-        axes.set_title(what, fontweight="bold")
-        axes.set_xticks(range(len(ranks)), ["50", "99", "99.9", "99.99", "all"])
-    under(figure, "the share of them, in per cent, that takes at most so long\n"
-          f"a million timers; less is better\n{machine('tail')}")
-    tick, start = (rows[what, "timers-c"]["longest"] for what in ("a tick", "a start, with room"))
-    tick, most = median(tick), -(-ends(start)[1] // 1e6)
-    save(figure, folder, "tail", f"With a million timers one tick takes {tick / 1e6:.0f} ms. With room made, no start takes {most:g} ms",
-         "How long single ticks and starts take, with timers, a hand-tuned C++ wheel and libuv. Elapsed time by rank, from the median to the longest. bench/results/tail.csv has the numbers.")
+    rows = {(row["load"], row["facility"]): row for row in figures.read("tail") if row["timers"] == "1000000"}
+    if not all((load, facility) in rows for load in TAIL_LOADS for facility in list(TAIL)[:2]):
+        figures.fail("plots.py: results/tail.csv lacks a load of the library: run make measure-tail")
+    figure, all_axes = plt.subplots(len(TAIL_LOADS), 1, figsize=(WIDTH, 9), layout="constrained", sharex=True)
+    for axes, (load, title) in zip(all_axes, TAIL_LOADS.items()):
+        shown = [facility for facility in TAIL if (load, facility) in rows]
+        for at, facility in enumerate(shown):
+            row, style = rows[load, facility], "product" if facility.startswith("timers") else "first"
+            colour = STYLES[style][0]
+            ranks = [median(row[rank]) for rank in ("p50", "p99.9", "p99.99")]
+            axes.hlines(at, ranks[0], median(row["longest"]), colour, linewidth=0.8)
+            axes.plot(ranks, [at] * len(ranks), "|", color=colour, markersize=9)
+            draw(axes, [at], [row["longest"]], style, is_across=True)
+            axes.text(1.5 * ends(row["longest"])[1], at, in_digits(median(row["longest"])), color=colour, va="center", fontsize=11, fontweight="bold")
+        axes.set_yticks(range(len(shown)), [TAIL[facility] for facility in shown])
+        axes.set_ylim(len(shown) - 0.4, -0.6)
+        axes.set_title(title, fontweight="bold")
+        axes.set_xscale("log")
+        axes.set_xlim(10, 2e10)
+        axes.xaxis.set_major_locator(FixedLocator([10 ** power for power in range(1, 10, 2)]))
+        axes.xaxis.set_major_formatter(FuncFormatter(of_ns))
+        axes.xaxis.set_minor_locator(NullLocator())
+        axes.grid(axis="x")
+        axes.tick_params(axis="y", length=0)
+    under(figure, "a tick by the clock on the wall; less is better\nstrokes: 50, 99.9 and 99.99 per cent take at most so long\n"
+          f"mark and words: the longest\n{machine('tail')}")
+    smooth, wide = (" to ".join(in_digits(end([median(rows[load, facility]["longest"]) for load in TAIL_LOADS])) for end in (min, max))
+                    for facility in ("timers-c-smooth", "timers-c"))
+    save(figure, folder, "tail", f"With a million timers the longest tick takes {smooth} with TIMERS_SMOOTH, {wide} with TIMERS_WIDE",
+         "How long single ticks take with a million timers: the two tables of the C library, tokio-util's wheel, a hashed wheel, an array heap and libuv's heap, under three loads. "
+         "bench/results/tail.csv has the numbers.")
 
 
 def lines(folder):

@@ -3,11 +3,11 @@
 the greatest.
 
     runs.py scale [--repeats N] [--facilities A,B] [--sizes 1000,10000] [--count N]
-    runs.py tail [--repeats N] [--facilities A,B] [--sizes 1000000] [--count N]
+    runs.py tail [--repeats N] [--facilities A,B] [--sizes 100000,1000000] [--count N]
     runs.py next [--repeats N] [--facilities A,B] [--sizes 10000,100000]
 
---sizes are numbers of pending timers, --count is how many operations or ticks are timed. Facilities that the program
-doesn't have are left out. Status 1: a run failed, or there is nothing to run. Status 2: wrong arguments, or no program.
+--sizes are numbers of pending timers. --count is how many operations are timed, or at most how many ticks of each load
+of tail. Facilities that the program doesn't have are left out, and so are loads that a facility can't do. Status 1: a run failed, or there is nothing to run. Status 2: wrong arguments, or no program.
 """
 import argparse
 import os
@@ -17,17 +17,19 @@ import figures
 from figures import fail, spread
 
 WHEELS = "timers-c,ref-hier,ref-apart,ref-hash-64k,libuv"
-FACILITIES = {"scale": WHEELS, "tail": WHEELS, "next": "timers_find_next,timers_next,timers_wakeup,libuv"}
-SIZES = {"scale": "1000,10000,100000,1000000,10000000", "tail": "1000000", "next": "10000,100000,1000000"}
+TAIL = "timers-c,timers-c-smooth,array-heap,ref-hash-64k,ref-hier,libuv,tokio-wheel"
+FACILITIES = {"scale": WHEELS, "tail": TAIL, "next": "timers_find_next,timers_next,timers_wakeup,libuv"}
+SIZES = {"scale": "1000,10000,100000,1000000,10000000", "tail": "100000,1000000", "next": "10000,100000,1000000"}
 OPERATIONS = ["stop", "start", "restart", "tick", "expiry", "start_at", "look", "next", "wakeup", "each"]
 TURNS = ["same", "minute", "minutes", "kept", "expiry", "short", "first", "oldest"]
-RANKS = ["p50", "p99", "p99.9", "p99.99", "longest"]
-TAILS = {"ticks": "a tick", "growth": "a start, the table grows", "room": "a start, with room", "moves": "the tick that moves all"}
+RANKS = ["p50", "p99.9", "p99.99", "longest"]
+# The loads of tail. Of some a number of ticks is timed, of `moves` all ticks, and of the others starts.
+LOADS = {"spread": 400_000, "shuffled": 400_000, "keep-alive": 70_000, "moves": 0, "moves-shuffled": 0, "growth": 0, "reserved": 0, "room": 0}
 
 
 def measures(program, facility, size, what):
     """The figures of one run by name; none where the program lacks the facility."""
-    command = [os.path.join(figures.HERE, "build", program), facility, str(size), str(what)]
+    command = [os.path.join(figures.HERE, "build", program), facility, str(size), *str(what).split()]
     run = subprocess.run(command, capture_output=True, text=True, check=False)
     if run.returncode not in (0, 2):
         fail(f"{' '.join(command)}: status {run.returncode} {run.stderr.strip()}")
@@ -48,9 +50,10 @@ def turns(options, whats):
 
 
 def scale(options, facilities):
-    found = turns(options, [options.count])
+    count = options.count or 1_000_000
+    found = turns(options, [count])
     rows = [
-        [operation, facility, *(found.get((facility, size, options.count, operation), "") for size in options.sizes)]
+        [operation, facility, *(found.get((facility, size, count, operation), "") for size in options.sizes)]
         for operation in OPERATIONS
         for facility in facilities
     ]
@@ -58,14 +61,15 @@ def scale(options, facilities):
 
 
 def tail(options, facilities):
-    size = options.sizes[0]
-    found = turns(options, [options.count, *list(TAILS)[1:]])
+    whats = {load: f"{load} {min(ticks, options.count or ticks)}" if ticks else load for load, ticks in LOADS.items()}
+    found = turns(options, list(whats.values()))
     rows = [
-        [title, facility, *(found.get((facility, size, options.count if what == "ticks" else what, rank), "") for rank in RANKS)]
-        for what, title in TAILS.items()
+        [load, size, facility, *(found.get((facility, size, what, rank), "") for rank in RANKS)]
+        for load, what in whats.items()
+        for size in options.sizes
         for facility in facilities
     ]
-    figures.write("tail", ["what", "facility", *RANKS], [row for row in rows if any(row[2:])])
+    figures.write("tail", ["load", "timers", "facility", *RANKS], [row for row in rows if any(row[3:])])
 
 
 def next_deadlines(options, facilities):
@@ -84,7 +88,7 @@ def main():
     parser.add_argument("--repeats", type=int, default=5)
     parser.add_argument("--facilities")
     parser.add_argument("--sizes")
-    parser.add_argument("--count", type=int, default=1_000_000)
+    parser.add_argument("--count", type=int)
     options = parser.parse_args()
     if not os.path.exists(os.path.join(figures.HERE, "build", options.program)):
         fail(f"runs.py: no build/{options.program}: run bench/build_all", 2)
