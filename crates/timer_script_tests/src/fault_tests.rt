@@ -3,8 +3,7 @@ use crate::support::same_in;
 use std::fmt::Display;
 use std::process::Abort;
 use timer_script::{
-    CheckFault, Field, LineFault, LineReason, RunFault, ScriptFault, ServeFault,
-    WriteFault,
+    CheckFault, Field, LineFault, LineReason, RunFault, ScriptFault, ServeFault, WriteFault,
 };
 
 /// Compares the text of an error.
