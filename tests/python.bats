@@ -88,7 +88,7 @@ wheels_of() { "$python" -c "import sys; sys.path[:0] = ['$1']; import backend; p
     printf 'from timers import Timers\ntimers: Timers[str] = Timers()\ntimers.stop(timers.start(1, "a") and 7)\ntimers.start(1, 2)\n' > "$work/wrong.py"
     run env MYPYPATH="$work/python" mypy --cache-dir "$work/mypy" "$work/wrong.py"
     [ "$status" -eq 1 ]
-    [[ "$output" == *'expected "Handle"'*'expected "str"'* ]]
+    [[ "$output" =~ expected.*Handle.*'expected "str"' ]]
 }
 @test "help shows the classes with their calls" {
     needs_python_package
