@@ -131,17 +131,19 @@ template <class F> struct Load {
     starts();
   }
 
+  // False if there is no such load, or it lacks its number of ticks.
   bool run(const std::string &load, size_t count) {
-    const bool is_shuffled = load == "shuffled" || load == "moves-shuffled";
-    const bool has_count = is_shuffled ? load == "shuffled" : load == "spread" || load == "keep-alive";
-    if (has_count != (count > 0)) return false;
-    if (has_count && load != "keep-alive") {
-      start_all([&] { return anywhere(); }, is_shuffled);
+    if (load == "spread" || load == "shuffled") {
+      start_all([&] { return anywhere(); }, load == "shuffled");
       ticks(count);
-    } else if (load == "keep-alive") {
+      return count > 0;
+    }
+    if (load == "keep-alive") {
       keep_alive(count);
-    } else if (load == "moves" || load == "moves-shuffled") {
-      start_all([&] { return in_one_bucket(); }, is_shuffled);
+      return count > 0;
+    }
+    if (load == "moves" || load == "moves-shuffled") {
+      start_all([&] { return in_one_bucket(); }, load == "moves-shuffled");
       ticks(4 * SLOT - 1);
     } else if (load == "growth") {
       if (!std::is_same_v<F, ArrayHeap>) starts();
