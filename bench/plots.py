@@ -47,8 +47,8 @@ def of_ns(value, _=None):
 
 
 def in_digits(ns):
-    """A time in two digits, with its unit."""
-    return of_ns(float(f"{ns:.2g}"))
+    """A time in two digits, with its unit on the same line."""
+    return of_ns(float(f"{ns:.2g}")).replace(" ", "\N{NO-BREAK SPACE}")
 
 
 def machine(part):
