@@ -9,7 +9,6 @@
 #                  processor give it CC, too)
 # make deb         Debian packages, binary and source: build/deb
 # make rpm         RPM packages: build/rpm
-# make hostile     the program under memory limits and input and output errors
 # make fuzz        an hour of scripts, against a model of docs/formats.md (MINUTES=N)
 # make fuzz-loop   ten million random operations of timers_loop.h, against a model, under the sanitizers
 # make bench-scale measures an operation with 1,000 to 10,000,000 timers pending (bench/build/results)
@@ -30,7 +29,7 @@
 # make prove       proves program and libraries, writes what they compile to into generated/, and builds from that
 # make try         plays a script with an unproved build that has checks at run time (SCRIPT=, ARGUMENTS=)
 # make generate    as make prove, and builds nothing
-# make soak        64 clients of 10,000 timers each in threads, 100 times; prints progress
+# make soak        all clients, of 10,000 timers each, in threads, 100 times; prints progress
 # make bench       measures the wheels against others (bench/README.md)
 # make bench-lines measures the owner's desk, its flushes and clients in threads against others
 
@@ -117,9 +116,6 @@ bench-scale bench-tail bench-next bench-desk: bench-%: lib
 measure-scale measure-tail measure-next: lib
 	$(MAKE) -C bench $@ TIMERS_C=$(CURDIR)/build/lib/libtimers.a
 
-hostile: all
-	tools/hostile ./timers
-
 fuzz: all
 	tools/fuzz/run ./timers $(MINUTES)
 
@@ -142,4 +138,4 @@ clean:
 	rm -rf crates/*/out build timers tools/install/*.[13]
 	$(MAKE) -C bench clean
 
-.PHONY: FORCE all lib pages run test prove try generate install uninstall dist deb rpm bench bench-lines bench-scale bench-tail bench-next bench-desk measure-scale measure-tail measure-next hostile fuzz fuzz-loop soak docs ports clean
+.PHONY: FORCE all lib pages run test prove try generate install uninstall dist deb rpm bench bench-lines bench-scale bench-tail bench-next bench-desk measure-scale measure-tail measure-next fuzz fuzz-loop soak docs ports clean

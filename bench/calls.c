@@ -1,7 +1,7 @@
 /* The calls of timers.h in loops, whose instructions callgrind counts: bench/calls builds and runs it.
  *
  * With -DINCLUDED the library is a part of this file, so that the compiler sees both. With -DKEPT it has other calls: each
- * stands but once in a program, or a compiler would not inline it. */
+ * stands but once in a program, or a compiler would not inline it. TABLE is one of enum timers_table. */
 /* SPDX-License-Identifier: MIT OR Apache-2.0 */
 #ifdef INCLUDED
 #include "timers.c"

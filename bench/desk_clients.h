@@ -10,9 +10,11 @@
 #include <string.h>
 #include <time.h>
 
+#include "../include/timers_desk.h"
+
 #define CHECK(fact) do { if (!(fact)) { fprintf(stderr, "line %d: %s\n", __LINE__, #fact); exit(1); } } while (0)
 
-enum { MAX_CLIENTS = 64, AT_MOST = 960, IDLE_PASSES = 64 };
+enum { MAX_CLIENTS = TIMERS_DESK_CLIENTS, AT_MOST = 960, IDLE_PASSES = 64 };
 
 /* The times of a client, so that no two threads write to one place. */
 struct times {

@@ -267,7 +267,7 @@ static int play_stream(char *text, Facility &facility) {
 }
 
 int main(int argc, char **argv) {
-  uint64_t clients = MAX_CLIENTS, capacity = CAPACITY, first = 0;
+  uint64_t clients = MAX_CLIENTS, capacity = DEFAULT_CAPACITY, first = 0;
   bool is_stream = false;
   for (int i = 1; i < argc; ++i) {
     const char *value = i + 1 < argc ? argv[i + 1] : "0";

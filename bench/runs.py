@@ -22,7 +22,7 @@ TAIL = "timers-c,timers-c-smooth,array-heap,ref-hash-64k,ref-hier,libuv,tokio-wh
 FACILITIES = {"scale": WHEELS, "tail": TAIL, "next": "timers_find_next,timers_next,timers_wakeup,libuv"}
 SIZES = {"scale": "1000,10000,100000,1000000,10000000", "tail": "100000,1000000", "next": "10000,100000,1000000"}
 OPERATIONS = ["stop", "start", "restart", "tick", "expiry", "start_at", "look", "next", "wakeup", "each"]
-TURNS = ["same", "minute", "minutes", "kept", "expiry", "short", "first"]
+TURNS = ["same", "minute", "minutes", "kept", "expiry", "short", "first", "oldest"]
 RANKS = ["p50", "p99.9", "p99.99", "longest"]
 # The loads of tail. Of some a number of ticks is timed, of `moves` all ticks, and of the others starts.
 LOADS = {"spread": 400_000, "shuffled": 400_000, "keep-alive": 70_000, "moves": 0, "moves-shuffled": 0,

@@ -57,9 +57,9 @@
  *     The clock never goes back. A real time that does, and so is before timers_now, is no error for
  *     timers_advance_to and timers_take: they pass no tick then.
  *
- *     The clock of TIMERS_CLOCK ends after 8,640,000 ticks: 100 days of seconds, 2.4 hours of milliseconds. That of
- *     TIMERS_SMALL ends after 16,777,216: 4.6 hours of milliseconds. Before that, free the timers, make them again at
- *     tick 0 and start what is left. TIMERS_WIDE has ticks for 36 million years of milliseconds.
+ *     The clock of TIMERS_WIDE has ticks for 36 million years of milliseconds. That of TIMERS_CLOCK ends after 8,640,000
+ *     ticks: 100 days of seconds, 2.4 hours of milliseconds. That of TIMERS_SMALL ends after 16,777,216: 4.6 hours of
+ *     milliseconds. Before that, free the timers, make them again at tick 0 and start what is left.
  *
  *     The functions were proved, and then translated into C. Each meets the contract that the sources state for it
  *     (crates/timer_c/src/exports.rt), for every call that keeps the rules below. Nothing checks that a caller keeps
@@ -93,9 +93,10 @@
  *     TIMERS_SMOOTH are below, under WHICH TABLE.
  *
  *     From the first timers_find_next that walks a bucket on, the first deadline of each bucket above the lowest
- *     wheel is kept, and how many timers have it. A start, a restart, a stop and a move update that in constant
- *     time. A bucket that has timers by then is walked once before its first deadline is known, unless it becomes
- *     empty before. The deadline is forgotten once the last timer that has it is stopped, or restarted for a later
+ *     wheel is kept. A start, a restart, a stop and a move update it in constant time. A bucket that has timers by
+ *     then is walked once before its first deadline is known, unless it becomes empty before. From then on it is
+ *     known of a bucket whose timers were started in the order of their deadlines, as those of one length are. Of
+ *     any other it is forgotten once the last timer that is known to have it is stopped, or restarted for a later
  *     tick, and others are left in the bucket. If the bucket of the next deadline has none that is known, both calls
  *     look at each of its timers.
  *     timers_find_next keeps what it found, timers_next does not. So a loop that asks in each turn calls
@@ -103,7 +104,7 @@
  *
  * WHICH TABLE
  *     TIMERS_WIDE is for all but these cases. TIMERS_CLOCK shows hands of a clock. TIMERS_SMALL is for machines with little
- *     memory: its buckets take 2.6 KB in place of 15, its clock is short, and a timer moves five times at most. Above the
+ *     memory: its buckets take 2.7 KB in place of 16, its clock is short, and a timer moves five times at most. Above the
  *     lowest wheel its calls look at one digit after another, so some take a little longer. TIMERS_SMOOTH is for a
  *     loop that holds some 100,000 timers or more, passes a tick or a few at a time, and must not pause.
  *
@@ -120,12 +121,14 @@
  *     What is proved of this is proved of the wheel (crates/timer_wheels/src/smooth.rt) and tested of this library, but
  *     for the 9 moves: these are in the contract of timers_counts.
  *
- *     A loop that sleeps until timers_wakeup and then passes thousands of ticks at once makes the moves of all these ticks in
- *     one call. It gains nothing. One that wakes at each tick, or at each 16th, does.
+ *     A loop that sleeps until timers_wakeup and then passes thousands of ticks at once makes the moves of all these
+ *     ticks in one call. It gains nothing. One that wakes at each tick, or at each 16th, does.
  *
- *     Each call takes more time: timers_counts and docs/wheels.md say how much. timers_next and timers_find_next look at
- *     each wheel and walk at most one bucket in each, and keep nothing. timers_wakeup looks at each wheel, and walks
- *     none. The buckets take some 11 KB.
+ *     Its calls take more instructions than those of TIMERS_WIDE: with 10,000 timers a start 1.4 times as many, a
+ *     restart 1.5, a stop 1.2, a take 2.4, and a tick at which nothing expires or moves 2 times (bench/README.md).
+ *     timers_wakeup, timers_next and timers_find_next look at one wheel after another, until none above can have an
+ *     earlier deadline. timers_wakeup walks no bucket, the others at most one in each wheel, and none of them keeps
+ *     what it found.
  *
  * PROOFS
  *     Two facts are proved. No start returns TIMERS_NO_MEMORY while fewer timers are held than
@@ -140,9 +143,10 @@
  *     timers_reserve made room for. One that re-arms a timer which was just taken does not.
  *
  *     timers_new allocates some 15 KB for the buckets, and the first start some 5 KB more, unless timers_reserve
- *     made room (with TIMERS_CLOCK 6 KB and 2 KB). A timer takes 64 bytes, in two arrays. An array that is full
- *     grows, the larger one to twice its length. So above some 1,000 timers they have 64 to 132 bytes for each, of
- *     the most that were ever held. With a timers_reserve before the first start they have 64 for each, up to its room.
+ *     made room (with TIMERS_CLOCK 6 KB and 2 KB, with TIMERS_SMOOTH 11 KB and 10 KB). A timer takes 64 bytes, in two
+ *     arrays. An array that is full grows, the larger one to twice its length. So above some 1,000 timers they have 64
+ *     to 132 bytes for each, of the most that were ever held. With a timers_reserve before the first start they have 64
+ *     for each, up to its room.
  *
  *     No block has more than SIZE_MAX / 2 bytes. A call that needed one returns TIMERS_NO_MEMORY.
  *
@@ -510,21 +514,23 @@ uint64_t timers_wakeup(const struct timers *t);
 /* The deadline of the timer that is taken next, exactly. It is the present tick if an expired timer waits to
  * be taken, and TIMERS_NEVER if nothing is pending or `t` is not open. Otherwise it is the first pending
  * deadline. Takes constant time if that comes before the next multiple of 64 ticks (of TIMERS_CLOCK, 60), or
- * if the first deadline of its bucket is kept. Otherwise it walks the timers of that bucket. Does not allocate.
- * A loop that asks in each turn calls timers_find_next. */
+ * if the first deadline of its bucket is kept. Otherwise it walks the timers of that bucket, and with TIMERS_SMOOTH
+ * of at most one in each wheel. Does not allocate. A loop that asks in each turn calls timers_find_next. */
 TIMERS_CALL
 uint64_t timers_next(const struct timers *t);
 
 /* Returns what timers_next returns, and keeps it so that later calls are faster. No result of a call changes. It
  * walks the timers of one bucket if timers_next would. Then both take constant time until the last timer with that
  * deadline is stopped, or restarted for a later tick, and others are left in its bucket, or until the next deadline
- * is in a bucket whose first deadline is not known (COSTS). A loop that pushes back the first timer in each turn may
- * walk in each turn. It can sleep until timers_wakeup, which never walks. Does not allocate. */
+ * is in a bucket whose first deadline is not known (COSTS). With timers of one length it stays known. With timers of
+ * several, a loop that pushes back the first one in each turn may walk in each turn. It can sleep until
+ * timers_wakeup, which never walks. Does not allocate. */
 TIMERS_CALL
 uint64_t timers_find_next(struct timers *t);
 
 /* Writes `*counts`, what the wheels have done since timers_new, at TIMERS_OK. `starts` counts each start and
- * restart that returned TIMERS_OK. `moves` is at most 9 times `starts` (of TIMERS_CLOCK, 3 times). `visits`
+ * restart that returned TIMERS_OK. `moves` is at most 9 times `starts` (of TIMERS_CLOCK, 3 times). How many one call
+ * makes with TIMERS_SMOOTH is above, under WHICH TABLE, and there `visits` is always 0. With the others `visits`
  * counts one for each tick of timers_tick. Of timers_advance, timers_advance_to and timers_take it counts one
  * for each multiple of 64 ticks that is passed (of TIMERS_CLOCK, 60). It also counts their last tick if that is
  * no such multiple and a timer expires there. A stop and taking expired timers count nothing, and timers_clear

@@ -444,8 +444,8 @@ uint64_t timers_desk_wakeup(const struct timers_desk *d);
 
 /* The first deadline of all pending timers, exactly. TIMERS_NEVER if nothing is pending, or it holds no
  * desk. Takes constant time if that deadline comes before the next multiple of 64 ticks (of TIMERS_CLOCK,
- * 60), and otherwise walks the timers of one bucket. A loop that only sleeps can use timers_desk_wakeup.
- * Does not allocate. */
+ * 60), and otherwise walks the timers of one bucket, or with TIMERS_SMOOTH of one in each wheel. A loop that only
+ * sleeps can use timers_desk_wakeup. Does not allocate. */
 TIMERS_CALL
 uint64_t timers_desk_next(const struct timers_desk *d);
 

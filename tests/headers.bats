@@ -1,6 +1,6 @@
 #!/usr/bin/env bats
-# What the headers, the libraries in LIB (by default build/lib), the wrappers and the crates say of each other: numbers,
-# layouts, names, the version. And what compilers say of the headers and of misuses.
+# What the headers and the libraries in LIB (by default build/lib) say of each other: names and the version. And what compilers
+# say of the headers and of misuses. Headers assert their layouts; the programs of tests/c fail over a library with other ones.
 # shellcheck disable=SC2030,SC2031,SC2086,SC2154
 load helpers
 
@@ -13,60 +13,6 @@ setup() {
     needs "$CC"
 }
 
-# hold COUNT: the assertions on standard input, of which there are so many, hold
-hold() {
-    { echo '#include <timers_desk.h>'; cat; } > "$work/asserts.c"
-    [ "$(grep -c '_Static_assert' "$work/asserts.c")" -eq "$1" ]
-    "$CC" $of_c -fsyntax-only "$work/asserts.c"
-}
-# constants PREFIX: each constant of the Rattle code on standard input is the header's, whose name has the prefix
-constants() {
-    sed -nE -e 's/u64::MAX;$/18446744073709551615;/' \
-        -e "s/^pub const ([A-Z_]+): u(32|64) = ([0-9]+);\$/_Static_assert($1\1 == \3u, \"\1\");/p"
-}
-# fields CRATE/FILE STRUCT C-STRUCT FIRST: the struct's fields of eight bytes follow each other in the header's, from FIRST on
-fields() {
-    awk -v struct="$2" -v c="$3" -v at="$4" '
-        $0 == "pub struct " struct " {" { inside = 1; next }
-        /^}/ { inside = 0 }
-        inside && /^    (pub )?[a-z_]+: (\*mut u8|u64|usize),$/ {
-            name = $0; sub(/:.*/, "", name); sub(/^ *(pub )?/, "", name)
-            printf "_Static_assert(offsetof(struct %s, %s) == %d && sizeof((struct %s *)0)->%s == 8, \"%s\");\n", c, name, at, c, name, name
-            at += 8
-        }' "crates/${1%/*}/src/${1#*/}"
-}
-# The enumerators of a header, as NAME NUMBER without a prefix.
-enumerators() { sed -nE 's/^\tTIMERS_((DESK|WORD)_)?([A-Z_]+) = ([0-9]+).*/\3 \4/p' include/$1.h | sort; }
-
-# Limits and statuses are made of facts/ in both, and compared by tools/facts.
-@test "the layouts of timers.h are the crates', and so are the numbers that are by hand" {
-    {
-        sed '1,/by hand/d' crates/timer_c/src/status.rt | constants TIMERS_
-        constants TIMERS_ < crates/timer_wheels/src/tiers.rt
-        fields timer_c/owned_cell.rt OwnedCell timers 0
-        fields timer_c/c_timers.rt CTimers timers 16
-        fields timer_c/layout.rt CHandle timers_handle 0
-        fields timer_c/layout.rt Expired timers_expired 0
-        fields timer_c/layout.rt Counts timers_counters 0
-    } | hold $((5 + 11))
-    [ "$(enumerators timers | wc -l)" -eq 14 ]
-}
-
-@test "the layouts of timers_desk.h are the crate's, and so are the numbers that are by hand" {
-    {
-        grep ' NEVER:' crates/timer_desk_c/src/status.rt | constants TIMERS_
-        fields timer_desk_c/desk_cell.rt DeskCell timers_desk 0
-        fields timer_desk_c/line_cell.rt LineCell timers_line 0
-        fields timer_desk_c/c_structs.rt CDesk timers_desk 16
-        fields timer_desk_c/c_structs.rt CLine timers_line 16
-        fields timer_desk_c/layout.rt Message timers_word 8 | sed -e '/"deadline"/,$s/== \([0-9]*\) /== \1 + 16 /'
-        fields timer_desk_c/layout.rt DeskConfig timers_desk_config 0
-        sed -nE 's/^pub const CONFIG_SIZE: usize = ([0-9]+);$/_Static_assert(sizeof(struct timers_desk_config) == \1, "CONFIG_SIZE");/p' \
-            crates/timer_desk_c/src/layout.rt
-    } | hold $((1 + 17))
-    [ "$(enumerators timers_desk | wc -l)" -eq 31 ]
-}
-
 # The headers compare their structs with what the library was built for. No system has to be there.
 @test "numbers in memory have one width on processors of 32 and 64 bits" {
     run grep -nE '^[[:space:]]+size_t|size_t \*' include/timers.h include/timers_desk.h
@@ -77,19 +23,6 @@ enumerators() { sed -nE 's/^\tTIMERS_((DESK|WORD)_)?([A-Z_]+) = ([0-9]+).*/\3 \4
         echo "$target"
         clang --target=$target -ffreestanding -std=c11 -Wall -Wextra -pedantic -Werror -Iinclude -fsyntax-only "$work/layout.c"
     done
-}
-
-# in_rust FILE HEADER COUNT: the numbers that it maps to names, and those of constants, are the header's, of which it has so many
-in_rust() {
-    sed -nE -e 's/^ *([0-9]+) => (Err\(Error|Error|Word)::([A-Za-z]+).*/\1 \3/p' -e 's/^const ([A-Z]+): c_uint = ([0-9]+);/\2 \1/p' \
-        bindings/rust/src/$1.rs |
-        sed -E -e 's/([a-z])([A-Z])/\1_\2/g' -e 's/^([0-9]+) (.*)/\U\2 \1/' | sort > "$work/numbers"
-    [ "$(wc -l < "$work/numbers")" -eq "$3" ]
-    [ -z "$(comm -13 <(enumerators $2) "$work/numbers")" ]
-}
-@test "the names and numbers in Rust are the headers'" {
-    in_rust error timers 8
-    in_rust desk timers_desk 28
 }
 
 @test "the version of the header, as a text and as a number, is that of the library" {
@@ -112,8 +45,7 @@ EOT
 declared() {
     sed -n 's/^[a-z].*[ *]\(timers_[a-z_]*\)(\(\(const \)*struct timers.*\|void \*(\*.*\|void);\)$/\1/p' include/timers.h include/timers_desk.h | sort
 }
-@test "the shared object exports the headers' 59 functions and no more" {
-    [ "$(declared | wc -l)" -eq 59 ]
+@test "the shared object exports the headers' functions and no more" {
     diff <(declared) <(nm -D --defined-only "$lib/libtimers.so" | sed -n 's/.* T \([^@]*\).*/\1/p' | sort)
 }
 @test "only they can be linked with in the archive, and a shared object that embeds it exports none of them" {
@@ -290,7 +222,7 @@ int main(int count, char **)
         return 1;
     if (count > 1) {
         std::vector<timing::line> lines;
-        timing::desk desk(lines, 65, timing::desk::config(1, 1, 1));
+        timing::desk desk(lines, TIMERS_DESK_CLIENTS + 1, timing::desk::config(1, 1, 1));
     }
     timers.start(0ms, 1);
 }

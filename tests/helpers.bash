@@ -71,6 +71,12 @@ notices() {
     [ "$status" -gt 0 ]
 }
 
+# Programs of examples/c that print what stands in their files.
+printing="first messages expired counts porting desk_server desk_sockets"
+
+# The most clients of a desk.
+most_clients() { sed -nE 's/^#define TIMERS_DESK_CLIENTS ([0-9]+).*/\1/p' include/timers_desk.h; }
+
 # is_hardened FILE: relocations are read only before it runs, and no stack is executable
 is_hardened() {
     readelf -d "$1" | grep -wE 'NOW|BIND_NOW'

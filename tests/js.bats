@@ -44,22 +44,6 @@ needs_package() {
     for number in 1 2; do node "$app/readme$number.mjs" | diff "$app/readme$number.txt" -; done
     [ ! -e "$app/readme3.mjs" ]
 }
-@test "the statuses and their texts are the header's" {
-    needs_package
-    constants=$(sed -nE 's/^\tTIMERS_([A-Z_]+) = ([0-9]+), .*\/\*.*/\1 \2/p; s/^\tTIMERS_(CLOCK_END) = ([0-9]+) .*/\1 \2/p' include/timers.h |
-        sed '/^CLOCK_END/q')
-    texts=$(sed -nE 's/^\tcase TIMERS_([A-Z_]+): return "(.*)";$/\1 \2/p' include/timers.h)
-    [ "$(wc -l <<< "$texts")" -eq 11 ]
-    cat > "$app/statuses.mjs" << 'END'
-import { Status, TimersError } from "libtimers";
-for (const [name, status] of Object.entries(Status)) {
-  console.log(name, process.argv[2] === "texts" ? new TimersError(status).message : status);
-}
-END
-    diff <(echo "$constants") <(node "$app/statuses.mjs")
-    diff <(echo "$texts") <(node "$app/statuses.mjs" texts)
-}
-
 @test "random calls agree with a sorted list" {
     needs_package
     node "$app/random.mjs"

@@ -1,7 +1,7 @@
 #!/usr/bin/env bats
 # The programs of examples/c and tests/c, and the wrappers, over the libraries in LIB, by default build/lib. CALLS is how
 # many random calls a run makes. tests/headers.bats has what needs no run, tests/platforms other processors and systems.
-# shellcheck disable=SC2030,SC2031,SC2086,SC2154
+# shellcheck disable=SC2030,SC2031,SC2034,SC2086,SC2154
 load helpers
 
 setup_file() {
@@ -12,19 +12,6 @@ setup_file() {
 setup() {
     set -o pipefail
     needs "$CC"
-}
-
-# sanitizers NAMES: the flags, and the library compiled with them; or a skipped test if the compiler has none
-sanitizers() {
-    sanitize="-fsanitize=$1 -fno-sanitize-recover=all"
-    echo 'int main(void) { return 0; }' > "$work/empty.c"
-    "$CC" $sanitize -o "$work/empty" "$work/empty.c" && "$work/empty" || skip "no -fsanitize=$1"
-    library=$work/$1.o
-    [ -e "$library" ] || "$CC" -std=c11 -g -Iinclude $sanitize -c -o "$library" generated/timers.c
-}
-by_valgrind() {
-    needs valgrind
-    emulator="valgrind -q --leak-check=full --show-leak-kinds=all --error-exitcode=9" runs "$@"
 }
 
 # What examples/c/reliable_udp.c prints, from its rule for losses alone: a packet arrives at the first attempt that is
@@ -82,52 +69,22 @@ jobs_model() {
         }'
     echo "5 jobs wait"
 }
-# Each prints what stands in its file.
-prints_its_text() {
-    for program in first messages expired counts porting desk_server desk_sockets; do
+
+@test "the examples in C print what they should" {
+    for program in $printing; do
         echo "$program"
-        build $program.c "$@"
+        build $program.c
         prints examples/c/$program.stdout
     done
-    build event_loop.c "$@"
+    build event_loop.c
     runs | grep -v 'bytes of input' | diff examples/c/event_loop.stdout -
 }
-# Each prints what its model, above, prints.
-agrees_with_its_model() {
-    build reliable_udp.c "$@"
+@test "the protocol and the scheduler agree with models" {
+    build reliable_udp.c
     for seed in 1 2718; do prints <(udp_model $seed) $seed; done
-    build job_scheduler.c "$@"
+    build job_scheduler.c
     prints <(jobs_model)
 }
-# threads COUNT: clients in threads beside a desk. With refused allocations each starts so many timers.
-threads() {
-    build desk_threads.c $sanitize
-    runs 1 10000 mixed
-    runs 8 10000 mixed
-    runs 64 10000 mixed
-    build desk_threads.c -DREFUSE $wraps $sanitize
-    runs 8 "$1" mixed
-    build desk_end.c $sanitize
-    runs 8 "$1"
-    build desk_frees.c $sanitize
-    runs 30 8
-    lives $sanitize
-    build desk_bell.c -Wl,--wrap=write $sanitize
-    runs pass 5000
-    runs load 5000
-}
-# clients that come and go in threads
-lives() {
-    build desk_lives.c "$@"
-    runs 1 30
-    runs 8 30
-    runs 64 10
-}
-
-@test "the examples in C print what they should" { prints_its_text; }
-@test "so they do under the sanitizers" { sanitizers address,undefined && prints_its_text $sanitize; }
-@test "the protocol and the scheduler agree with models" { agrees_with_its_model; }
-@test "so they do under the sanitizers, too" { sanitizers address,undefined && agrees_with_its_model $sanitize; }
 @test "the first program in C++ prints the actions' names" {
     build first.cpp
     prints <(printf '2400: egg\n3000: tea\n')
@@ -137,13 +94,7 @@ lives() {
 
 @test "random calls agree with a sorted list" { build stress.c && runs $calls 1; }
 @test "they agree when allocations are refused, and no other calls allocate" { build stress.c -DREFUSE $wraps && runs $calls 2; }
-@test "they agree under the sanitizers" {
-    sanitizers address,undefined
-    build stress.c $sanitize
-    runs $calls 3
-}
-@test "valgrind finds no error and no leak in them" { build stress.c && by_valgrind $((calls / 10)) 4; }
-@test "nor if allocations are refused" { build stress.c -DREFUSE $wraps && by_valgrind $((calls / 10)) 5; }
+@test "no call of smooth wheels moves more timers than the header says" { build smooth.c && runs; }
 @test "random calls in C++ agree with a sorted map" { build agree.cpp $wrap && runs; }
 @test "so they do in C++20, by g++ and by clang++" {
     needs g++ clang++
@@ -152,19 +103,9 @@ lives() {
         runs
     done
 }
-@test "they agree under the sanitizers, too" {
-    sanitizers address,undefined
-    build agree.cpp -O0 $wrap $sanitize
-    runs
-}
 
 @test "events of a loop run as a sorted list says" { build loop_model.c && runs $((10 * calls)) 1; }
-@test "so they do in C++, under the sanitizers" {
-    sanitizers address,undefined
-    build loop_model.cpp $sanitize
-    for seed in 2 3 4; do runs $calls $seed; done
-}
-@test "valgrind finds no error and no leak in a loop" { build loop_model.c && by_valgrind $((calls / 10)) 5; }
+@test "so they do in C++" { build loop_model.cpp && runs $calls 2; }
 @test "a server that stalls anywhere hangs up on no client that talks, and on each that is silent" {
     build loop_stalls.c
     for seed in 0 1 2 3 4 5; do runs $calls $seed; done
@@ -209,8 +150,6 @@ serves() {
 }
 
 # A test and, built with a mistake, that it notices it.
-@test "timers_free frees every block" { build leaks.c $wrap && runs; }
-@test "a free that forgets is noticed" { build leaks.c -DFORGETS $wrap && notices; }
 @test "starts allocate nothing if room was made" { build reserve.c $wraps && runs; }
 @test "that no room was made is noticed" { build reserve.c -DFORGETS $wraps && notices; }
 @test "there is room for as many timers as links can name, and for no more" {
@@ -239,17 +178,32 @@ serves() {
 }
 @test "a desk in C++ agrees with a sorted map, and threads get all their words" { build desk_agree.cpp && runs; }
 @test "threads beside a desk get all their words, and the end of them" {
-    threads 10000
     build desk_threads.c
+    for clients in 1 8 $(most_clients); do runs $clients 10000 mixed; done
     runs 8 10000
     runs 8 2000 deaf
-    build desk_end.c
-    runs 64 1000
+    build desk_threads.c -DREFUSE $wraps
+    runs 8 10000 mixed
 }
 @test "an end is gone once it is freed, and after its last item, over lines of 1 to 60,000" { build desk_gone.c && runs; }
 @test "desks and lines may be freed while the other side calls" { build desk_frees.c && runs 200 8; }
-@test "clients come and go in threads, and lines are opened again" { lives; }
-@test "valgrind finds no error and no leak in them, either" { build desk_frees.c && by_valgrind 20 4; }
+@test "clients come and go in threads, and lines are opened again" {
+    build desk_lives.c
+    runs 1 30
+    runs 8 30
+    runs "$(most_clients)" 10
+}
+
+@test "valgrind finds no error and no leak where allocations are refused, in a loop, and where both sides free" {
+    needs valgrind
+    emulator="valgrind -q --leak-check=full --show-leak-kinds=all --error-exitcode=9"
+    build stress.c -DREFUSE $wraps
+    runs $((calls / 10)) 5
+    build loop_model.c
+    runs $((calls / 10)) 5
+    build desk_frees.c
+    runs 20 4
+}
 
 @test "threads wake each other by bells, and a ring that is needed is a system call" {
     for pipe in "" -DTIMERS_BELL_PIPE; do
@@ -258,22 +212,6 @@ serves() {
         runs load 20000
     done
 }
-
-of_desks() {
-    sanitizers $1
-    build desk_edges.c $sanitize
-    runs
-    build desk_model.cpp $sanitize
-    runs 50
-    build desk_agree.cpp $sanitize
-    runs
-    build desk_sockets.c $sanitize
-    prints examples/c/desk_sockets.stdout
-}
-@test "desks do the same under the sanitizers of addresses and of undefined behaviour" { of_desks address,undefined; }
-@test "desks do the same under the sanitizer of threads" { of_desks thread; }
-@test "threads do the same under the sanitizers of addresses and of undefined behaviour" { sanitizers address,undefined && threads 2000; }
-@test "threads do the same under the sanitizer of threads" { sanitizers thread && threads 2000; }
 
 # over_lib WORD..: a command of cargo for the crate, over the archive in $lib in place of what its build script compiles
 over_lib() {

@@ -50,7 +50,7 @@ comments() {
 }
 # The command line in docs/formats.md, without headings, comments and the heads of tables.
 command_line() {
-    sed -n '/^## The command line/,$p' docs/formats.md | sed -e '/^#/d' -e '/^<!--/d' -e 's/plain|hashed|hier|clock//' |
+    sed -n '/^## The command line/,$p' docs/formats.md | sed -e '/^#/d' -e '/^<!--/d' |
         awk '/^\|---/ { held = ""; next } { if (NR > 1) print held; held = $0 } END { print held }'
 }
 @test "no word of a header's comments is lost in its man page, nor one of docs/formats.md in timers(1)" {

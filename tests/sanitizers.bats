@@ -24,87 +24,73 @@ with() {
 compile_library() { "$CC" -std=c99 -g -Wall -Wextra -Werror -pedantic -Iinclude $sanitize "$@" -c -o "$library" generated/timers.c; }
 
 examples() {
-    with "$@"
-    for program in first messages expired counts porting desk_server desk_sockets; do
+    for program in $printing; do
         echo "$program"
         build $program.c $sanitize
         prints examples/c/$program.stdout
     done
-    build unwanted.c $sanitize
-    runs
+    for program in unwanted event_loop reliable_udp job_scheduler; do
+        echo "$program"
+        build $program.c $sanitize
+        runs > "$work/out"
+    done
 }
-of_timers() {
-    with "$@"
+timers() {
     build stress.c $sanitize
     runs 30000 3
     build stress.c -DREFUSE $wraps $sanitize
     runs 30000 4
-    build leaks.c $wrap $sanitize
-    runs
     build allocator.c $wrap $sanitize
     runs resizes
     runs copies
+    build loop_model.c $sanitize
+    runs 30000 2
 }
-of_desks() {
-    with "$@"
+desks() {
     build desk_edges.c $sanitize
     runs
     build desk_edges.c -DREFUSE $wrap $sanitize
     runs
 }
-model_of_timers() {
-    with "$@"
+# In C++. For the sanitizer of memory it would need a C++ library that is compiled for it.
+models() {
     build agree.cpp $wrap $sanitize
     runs
-}
-models_of_desks() {
-    with "$@"
     build desk_model.cpp $sanitize
     runs 50
     build desk_agree.cpp $sanitize
     runs
 }
 threads() {
-    with "$@"
     build desk_threads.c $sanitize
     runs 8 2000 mixed
-    runs 64 200 mixed
+    runs "$(most_clients)" 200 mixed
     runs 8 500 deaf
     build desk_threads.c -DREFUSE $wraps $sanitize
     runs 8 1000 mixed
-    build desk_end.c $sanitize
-    runs 8 1000
     build desk_frees.c $sanitize
     runs 30 8
     build desk_lives.c $sanitize
     runs 8 20
+    build desk_bell.c -Wl,--wrap=write $sanitize
+    runs pass 5000
+    runs load 5000
     build reads_only.c $wrap $sanitize
     runs
 }
+# each COMPILER SANITIZERS PART..: the parts, in which nothing is found
+each() {
+    with "$1" "$2"
+    for part in "${@:3}"; do $part; done
+}
 
-@test "gcc, addresses and undefined behaviour: the examples print what they should" { examples gcc address,undefined; }
-@test "gcc, addresses and undefined behaviour: the tests of timers" { of_timers gcc address,undefined; }
-@test "gcc, addresses and undefined behaviour: the tests of desks" { of_desks gcc address,undefined; }
-@test "gcc, addresses and undefined behaviour: the model of timers" { model_of_timers gcc address,undefined; }
-@test "gcc, addresses and undefined behaviour: the models of desks" { models_of_desks gcc address,undefined; }
-@test "gcc, addresses and undefined behaviour: threads beside a desk" { threads gcc address,undefined; }
-@test "clang, addresses and undefined behaviour: the examples print what they should" { examples clang address,undefined; }
-@test "clang, addresses and undefined behaviour: the tests of timers" { of_timers clang address,undefined; }
-@test "clang, addresses and undefined behaviour: the tests of desks" { of_desks clang address,undefined; }
-@test "clang, addresses and undefined behaviour: the model of timers" { model_of_timers clang address,undefined; }
-@test "clang, addresses and undefined behaviour: the models of desks" { models_of_desks clang address,undefined; }
-@test "clang, addresses and undefined behaviour: threads beside a desk" { threads clang address,undefined; }
-@test "clang, threads: the examples print what they should" { examples clang thread; }
-@test "clang, threads: the tests of timers" { of_timers clang thread; }
-@test "clang, threads: the tests of desks" { of_desks clang thread; }
-@test "clang, threads: the model of timers" { model_of_timers clang thread; }
-@test "clang, threads: the models of desks" { models_of_desks clang thread; }
-@test "clang, threads: threads beside a desk" { threads clang thread; }
-# It would need a C++ library that is compiled for it, so the models are left out.
-@test "clang, memory: the examples print what they should" { examples clang memory; }
-@test "clang, memory: the tests of timers" { of_timers clang memory; }
-@test "clang, memory: the tests of desks" { of_desks clang memory; }
-@test "clang, memory: threads beside a desk" { threads clang memory; }
+@test "gcc, addresses and undefined behaviour: examples, timers and desks" { each gcc address,undefined examples timers desks; }
+@test "gcc, addresses and undefined behaviour: models and threads" { each gcc address,undefined models threads; }
+@test "clang, addresses and undefined behaviour: examples, timers and desks" { each clang address,undefined examples timers desks; }
+@test "clang, addresses and undefined behaviour: models and threads" { each clang address,undefined models threads; }
+@test "clang, threads: examples, timers and desks" { each clang thread examples timers desks; }
+@test "clang, threads: models and threads" { each clang thread models threads; }
+@test "clang, memory: examples, timers, desks and threads" { each clang memory examples timers desks threads; }
 
 # finds COMPILER SANITIZER MISTAKE TEXT: of tests/c/misuse.c, and reports it so
 finds() {

@@ -98,8 +98,8 @@ unpacks_crate() {
     needs rustdoc
     unpacks_crate
     cargo test --quiet --offline --manifest-path "$crate/Cargo.toml"
-    [ "$(grep -c '^```' "$crate/README.md")" -eq 10 ] # three programs, and two texts for cargo
-    [ "$(grep -cx '```rust' "$crate/README.md")" -eq 3 ]
+    [ "$(grep -c '^```' "$crate/README.md")" -eq 12 ] # four programs, and two texts for cargo
+    [ "$(grep -cx '```rust' "$crate/README.md")" -eq 4 ]
 }
 @test "a program that depends on a packed crate builds and runs" {
     needs_cargo
@@ -193,6 +193,14 @@ EOT
     [ "$status" -ne 0 ]
     [[ $output == *"timers.c is not there: tools/crate makes the folder to pack"* ]]
     [ -z "$(git ls-files --stage | grep '^120000')" ]
+}
+
+@test "without a C compiler the build ends with one line, and no panic" {
+    needs_cargo
+    run env CC=no-such-compiler cargo build --quiet --offline --manifest-path bindings/rust/Cargo.toml --target-dir "$work/no_compiler"
+    [ "$status" -ne 0 ]
+    [[ $output == "error: timers@$(cat tools/install/version): needs a C compiler; set CC (no-such-compiler: "* && $output != *panicked* ]]
+    CC='' of_crate build # as if it were not set
 }
 
 # The build script by itself, as cargo runs it for another processor: the compiler that it takes, and that of a variable.

@@ -1,4 +1,4 @@
-"""What facts/ and docs/formats.md say, for the tools that need it. Run, it prints a header for tools/fuzz."""
+"""What facts/ says, for the tools that need it. Run, it prints a header for tools/fuzz."""
 import os
 import re
 import tomllib
@@ -7,25 +7,24 @@ TOP = os.path.dirname(os.path.dirname(os.path.abspath(__file__)))
 
 
 def facts(name):
-    with open(os.path.join(TOP, "facts", name), "rb") as file:
+    with open(os.path.join(TOP, "facts", f"{name}.toml"), "rb") as file:
         return tomllib.load(file)
 
 
-LIMITS, WORDS, SCHEMES = facts("limits.toml")["limits"], facts("words.toml"), facts("schemes.toml")
-with open(os.path.join(TOP, "docs/formats.md"), encoding="utf-8") as page:
-    TEXT = page.read()
+LIMITS, WORDS, SCHEMES, OPTIONS = facts("limits")["limits"], facts("words"), facts("schemes"), facts("options")
+# A limit in a text: {NAME}, {NAME+1}, and {NAME,} or {NAME_} with that mark between thousands.
+NAMED = re.compile(r"\{(\w+?)([+-]\d+)?([,_]?)\}")
 
 
-def find(pattern):
-    found = re.search(pattern, TEXT, flags=re.MULTILINE | re.DOTALL)
-    if not found:
-        raise ValueError(f"docs/formats.md has no {pattern}")
-    return found[1]
+def number(found):
+    """A limit as it is written."""
+    value = LIMITS[found[1]] + int(found[2] or 0)
+    return f"{value:{found[3]}}" if found[3] else str(value)
 
 
 def named(text):
-    """A text in which limits stand for their names in braces, as in the cases of the command line."""
-    return re.sub(r"\{(\w+)([+-]1)?\}", lambda found: str(LIMITS[found[1]] + int(found[2] or 0)) if found[1] in LIMITS else found[0], text)
+    """A text in which limits stand for their names in braces. Cases of the command line have other names, too."""
+    return NAMED.sub(lambda found: number(found) if found[1] in LIMITS else found[0], text)
 
 
 def said(section, what):
@@ -56,19 +55,12 @@ def parts(line):
     return word, dict(zip(FIELDS[word], values))
 
 
-NUMBERS = {name: LIMITS[name] for name in "LAST LAST_OF_CLOCK MAX_TICKS MAX_SCRIPT MAX_LINE MAX_CLIENTS MAX_PENDING".split()}
-NUMBERS |= {"CAPACITY": LIMITS["DEFAULT_CAPACITY"], "CHECK_FAILED": int(find(r"or with (\d) if `check` read its input"))}
-# Of the options of `timers play`.
-OPTIONS = find(r"^### `timers play`(.*?)^###")
-DEFAULTS = dict(re.findall(r"^\| `(--[a-z-]+)` \|.*\| `?(\w+)`? \|$", OPTIONS, flags=re.MULTILINE))
-REASONS_OF_A_LINE = said("check", "word")
 # The words of refusals, by names of C.
 REFUSALS = {
     re.sub(r"(?<!^)(?=[A-Z])", "_", name).upper(): fact["word"]
     for section in ("not_taken", "refused", "tick_refused") for name, fact in WORDS[section].items()
 }
 PLACES = {name: scheme["place"] for name, scheme in SCHEMES.items() if "place" in scheme}
-HANDS = SCHEMES["clock"]["hands"]
 
 # The lines on standard error, in the order of the table.
 ERRORS = said("errors", "line")
@@ -76,10 +68,12 @@ OF_ANY = dict(zip(["TOO_LONG", "READ_FAILED", "WRITE_FAILED", "OUT_OF_MEMORY"], 
 TOO_LONG, READ_FAILED, WRITE_FAILED, OUT_OF_MEMORY = (f"{line}\n".encode() for line in OF_ANY.values())
 
 if __name__ == "__main__":
-    for name, value in NUMBERS.items():
+    for name, value in {**LIMITS, **{f"EXIT_{name}": end["status"] for name, end in OPTIONS["exit"].items()}}.items():
         print(f"#define {name} UINT64_C({value})")
-    for name, words in {"REASONS_OF_A_LINE": REASONS_OF_A_LINE, "CLOCK_HANDS": HANDS}.items():
+    for name, words in {"REASONS_OF_A_LINE": said("check", "word"), "CLOCK_HANDS": SCHEMES["clock"]["hands"]}.items():
         print(f"#define {name}", ", ".join(f'"{word}"' for word in words))
+    forms = (f'{{"{word}", {{{", ".join([*(chr(34) + name + chr(34) for name in FIELDS[word]), "0"])}}}}}' for word in WORDS["script"])
+    print("#define FORMS_OF_A_LINE", ", ".join(forms))
     for scheme, place in PLACES.items():
         print(f'#define {scheme.upper()}_PLACE "{re.sub("[KS]", "%d", place)}"')
     for name, text in {**REFUSALS, **OF_ANY}.items():

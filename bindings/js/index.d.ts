@@ -11,19 +11,28 @@ export const LAST: number;
 
 /** The statuses of the C library. */
 export const Status: {
+  // made by tools/facts: types of statuses
+  /** done */
   readonly OK: 0;
-  /** after `free` */
+  /** not open */
   readonly NOT_OPEN: 1;
+  /** already open */
   readonly OPEN: 2;
+  /** no such table */
   readonly NO_TABLE: 3;
+  /** out of memory */
   readonly NO_MEMORY: 4;
   /** an expired timer was not yet taken */
   readonly DUE: 5;
-  /** no timer has this handle: it was stopped, restarted, taken or dropped */
+  /** no timer has this handle */
   readonly NOT_PENDING: 6;
+  /** the interval is 0 */
   readonly ZERO_INTERVAL: 7;
+  /** after the last tick */
   readonly TOO_LATE: 8;
+  /** every serial was used */
   readonly SERIALS_SPENT: 9;
+  /** the clock is at its last tick */
   readonly CLOCK_END: 10;
 };
 

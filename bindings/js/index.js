@@ -16,10 +16,12 @@ c._initialize();
 
 export const LAST = Number.MAX_SAFE_INTEGER;
 export const Status = Object.freeze({
+  // made by tools/facts: statuses in JavaScript
   OK: 0, NOT_OPEN: 1, OPEN: 2, NO_TABLE: 3, NO_MEMORY: 4, DUE: 5, NOT_PENDING: 6, ZERO_INTERVAL: 7, TOO_LATE: 8,
   SERIALS_SPENT: 9, CLOCK_END: 10,
 });
 const TEXTS = [
+  // made by tools/facts: texts in JavaScript
   "done", "not open", "already open", "no such table", "out of memory", "an expired timer was not yet taken",
   "no timer has this handle", "the interval is 0", "after the last tick", "every serial was used",
   "the clock is at its last tick",

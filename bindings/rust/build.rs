@@ -3,7 +3,7 @@
 // SPDX-License-Identifier: MIT OR Apache-2.0
 use std::env;
 use std::path::PathBuf;
-use std::process::Command;
+use std::process::{exit, Command};
 
 /// A variable for the target, in the order in which `cc` looks for it.
 fn of_target(name: &str) -> Option<String> {
@@ -36,9 +36,20 @@ fn default_compiler() -> String {
     }
 }
 
-fn run(command: &mut Command) {
-    let status = command.status().unwrap_or_else(|error| panic!("{command:?}: {error}"));
-    assert!(status.success(), "{command:?}: {status}");
+/// Ends the build with one line, as an error of cargo.
+fn fail(message: &str) -> ! {
+    println!("cargo::error={message}");
+    exit(1)
+}
+
+/// Runs a program, which the variable names.
+fn run(command: &mut Command, what: &str, variable: &str) {
+    let program = command.get_program().to_string_lossy().into_owned();
+    match command.status() {
+        Err(error) => fail(&format!("needs {what}; set {variable} ({program}: {error})")),
+        Ok(status) if !status.success() => fail(&format!("{program} has failed ({status})")),
+        Ok(_) => {}
+    }
 }
 
 /// The archiver that belongs to the compiler.
@@ -54,7 +65,9 @@ fn source(name: &str, in_repository: &str) -> PathBuf {
     let folder = PathBuf::from(env::var("CARGO_MANIFEST_DIR").unwrap());
     let packed = folder.join("c").join(name);
     let path = if packed.exists() { packed } else { folder.join("../..").join(in_repository).join(name) };
-    assert!(path.exists(), "{} is not there: tools/crate makes the folder to pack", path.display());
+    if !path.exists() {
+        fail(&format!("{} is not there: tools/crate makes the folder to pack", path.display()));
+    }
     println!("cargo::rerun-if-changed={}", path.display());
     path
 }
@@ -65,7 +78,8 @@ fn main() {
     let code = source("timers.c", "generated");
     let (header, _) = (source("timers.h", "include"), source("timers_desk.h", "include"));
     let include = header.parent().unwrap();
-    let (compiler, flags) = (of_target("CC").unwrap_or_else(default_compiler), of_target("CFLAGS").unwrap_or_default());
+    let given = of_target("CC").filter(|compiler| !compiler.trim().is_empty());
+    let (compiler, flags) = (given.unwrap_or_else(default_compiler), of_target("CFLAGS").unwrap_or_default());
     let compiler: Vec<&str> = compiler.split_whitespace().collect();
     let mut compile = Command::new(compiler[0]);
     compile.args(&compiler[1..]).args(["-O2", "-g", "-fPIC", "-ffunction-sections"]).args(flags.split_whitespace());
@@ -73,9 +87,9 @@ fn main() {
         compile.args(["-DTIMERS_NO_DESK", "-Dmalloc=timers_rust_allocate"]); // src/memory.rs
         compile.args(["-Drealloc=timers_rust_resize", "-Dfree=timers_rust_release"]);
     }
-    run(compile.arg("-I").arg(include).args(["-c", "-o", &object]).arg(code));
+    run(compile.arg("-I").arg(include).args(["-c", "-o", &object]).arg(code), "a C compiler", "CC");
     let archiver = of_target("AR").unwrap_or_else(|| archiver_of(&compiler));
-    run(Command::new(archiver).args(["crs", &archive, &object]));
+    run(Command::new(archiver).args(["crs", &archive, &object]), "an archiver", "AR");
     println!("cargo::rustc-link-search=native={folder}");
     println!("cargo::rustc-link-lib=static=timers");
     // Build scripts of crates that depend on this one get it as DEP_TIMERS_INCLUDE.

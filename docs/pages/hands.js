@@ -126,6 +126,7 @@ function setDeadline(tick) {
 
 // Where the timer would go: the program is asked.
 function renderAim() {
+  $("deadline").style.width = `${Math.max(7.5, 0.64 * $("deadline").value.length + 1.5)}em`;
   const now = play.now(shown.step);
   const deadline = deadlineTyped();
   for (const card of cards.values()) card.aim(null);

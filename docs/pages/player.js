@@ -113,8 +113,8 @@ function showEvent() {
   const event = isColumn() && document.querySelector(".history .is-now");
   if (!event) return;
   const [outer, inner] = [box.getBoundingClientRect(), event.getBoundingClientRect()];
-  if (inner.bottom > outer.bottom) box.scrollTop += inner.bottom - outer.bottom + GAP;
-  else if (inner.top < outer.top) box.scrollTop += inner.top - outer.top - GAP;
+  const below = inner.bottom > outer.bottom ? inner.bottom - outer.bottom + GAP : 0;
+  box.scrollTop += Math.min(below, inner.top - $("choose").getBoundingClientRect().bottom);   // the form stays above it
 }
 
 // The events of timers that left a slot at a step: they moved, or came out, or were stopped or restarted.

@@ -1,12 +1,10 @@
-/* Runs of timers_desk.hpp: random calls in one thread against a sorted map, clients that come and go, moves, and clients
- * in threads. */
+/* Runs of timers_desk.hpp: random calls against a sorted map, clients that come and go, and moves. */
 #include <cstdio>
 #include <cstdlib>
 #include <cstring>
 #include <iterator>
 #include <map>
 #include <random>
-#include <thread>
 #include <tuple>
 #include <type_traits>
 #include <utility>
@@ -116,32 +114,6 @@ static void agrees(unsigned seed)
 	THROWS(TIMERS_DESK_FINISHED, line.start(1, 1));
 }
 
-/* Each client's timers and words are counted for it alone. */
-static void counts_by_client()
-{
-	std::vector<timing::line> lines;
-	timing::desk made(lines, 2, timing::desk::config(9, 4, 4)), desk = std::move(made);
-	CHECK(lines[0].start(5, 1) && lines[1].start(3, 2) && lines[1].start(9, 3));
-	turn(desk);
-	CHECK(desk.pending(0) == 1 && desk.pending(1) == 2 && desk.size() == 3);
-	CHECK(desk.advance(20) == 3 && desk.now() == 3);
-	CHECK(desk.pending(1) == 1 && desk.outbox(0) == 0 && desk.outbox(1) == 1 && desk.size() == 2);
-	CHECK(desk.flush(0) == 0 && desk.flush(1) == 1);
-	THROWS(TIMERS_DESK_NOT_OPEN, made.reserve());
-}
-
-/* A line of another desk ends nothing, even if its client has the same number. */
-static void refuses_a_line_of_another_desk()
-{
-	std::vector<timing::line> lines, strangers;
-	timing::desk desk(lines, 1, timing::desk::config(9, 4, 4)), other(strangers, 1, timing::desk::config(9, 4, 4));
-	lines[0].finish(), strangers[0].finish();
-	THROWS(TIMERS_DESK_OTHER_LINE, desk.end(0, strangers[0]));
-	THROWS(TIMERS_DESK_OTHER_LINE, other.end(0, lines[0]));
-	CHECK(!lines[0].ended() && !strangers[0].ended());
-	CHECK(desk.end(0, lines[0]) == 0 && other.end(0, strangers[0]) == 0 && lines[0].ended() && strangers[0].ended());
-}
-
 static void come_and_go()
 {
 	std::vector<timing::line> lines;
@@ -162,13 +134,14 @@ static void come_and_go()
 		if (life % 4) {
 			THROWS(TIMERS_DESK_LEFT, desk.open(0, 4));
 			turn(desk);
+			CHECK(desk.pending(0) == life % 4 && desk.pending(1) == 0);
 			if (life % 8 > 4) {
 				CHECK(desk.stop_pending(0) == life % 4 && desk.pending(0) == 0 && desk.stop_pending(0) == 0);
 				sent += life % 4;               /* the stops have their numbers */
 			} else {
 				while (desk.pending(0))
 					desk.advance(5);
-				CHECK(desk.outbox(0) > 0 && desk.flush(0) > 0 && desk.outbox(0) == 0);
+				CHECK(desk.outbox(0) > 0 && desk.outbox(1) == 0 && desk.flush(1) == 0 && desk.flush(0) > 0 && desk.outbox(0) == 0);
 			}
 		}
 		line = desk.open(0, 4);
@@ -176,52 +149,11 @@ static void come_and_go()
 	}
 	desk.reserve();
 	THROWS(TIMERS_DESK_NO_CLIENT, desk.stop_pending(2));
+	timing::desk stranger(lines, 2, timing::desk::config(1, 1, 1));
+	THROWS(TIMERS_DESK_OTHER_LINE, (lines[1].finish(), desk.end(1, lines[1])));
 	CHECK(desk.serve(0) == TIMERS_DESK_IDLE && desk.serve(2) == TIMERS_DESK_NO_CLIENT);
 	desk = timing::desk(lines, 1, timing::desk::config(1, 1, 1));
 	CHECK(line.abandoned() && other.abandoned() && !lines[0].abandoned());
-}
-
-static void work(timing::line line, std::uint64_t *count)
-{
-	std::uint64_t sent = 0, answered = 0, expired = 0;
-	while (expired < 2000) {
-		if (sent < 2000 && sent - answered < 8 && sent - expired < 50)
-			if (const auto number = line.start(1 + sent % 97, sent))
-				CHECK(*number == ++sent);
-		const auto word = line.receive();
-		if (!word)
-			std::this_thread::yield();
-		else if (word->kind == TIMERS_WORD_STARTED)
-			CHECK(word->number == ++answered);
-		else
-			CHECK(word->kind == TIMERS_WORD_EXPIRED && word->number == word->action + 1 && ++expired);
-	}
-	*count = expired;
-}
-
-static void threads(std::size_t clients)
-{
-	std::vector<timing::line> lines;
-	std::vector<std::uint64_t> counts(clients);
-	std::vector<std::thread> workers;
-	timing::desk desk(lines, clients, timing::desk::config(100000, 50, 8));
-	for (std::size_t c = 0; c < clients; c++)
-		workers.emplace_back(work, std::move(lines[c]), &counts[c]);
-	std::uint64_t freed = 0;
-	while (freed < clients) {
-		const bool nothing_served = desk.serve_all(64) != TIMERS_DESK_OK, nothing_flushed = !desk.flush_all();
-		if (nothing_served && nothing_flushed)
-			std::this_thread::yield();
-		desk.advance(1);
-		freed = 0;
-		for (std::size_t c = 0; c < clients; c++)
-			freed += desk.line_freed(c);
-	}
-	for (auto &worker : workers)
-		worker.join();
-	for (std::uint64_t count : counts)
-		CHECK(count == 2000);
-	CHECK(desk.size() == 0);
 }
 
 int main()
@@ -229,10 +161,6 @@ int main()
 	for (unsigned seed = 1; seed < 5; seed++)
 		agrees(seed);
 	come_and_go();
-	counts_by_client();
-	refuses_a_line_of_another_desk();
-	threads(1);
-	threads(8);
 	std::vector<timing::line> lines;
 	timers_desk_config most = timing::desk::config(1048576, 0, 65536);
 	most.room = 65536;
@@ -240,7 +168,7 @@ int main()
 	most.room++;
 	THROWS(TIMERS_DESK_OUT_OF_RANGE, timing::desk(lines, 1, most));
 	const timing::desk kept(lines, 2, timing::desk::config(1, 1, 1));
-	THROWS(TIMERS_DESK_OUT_OF_RANGE, timing::desk(lines, 65, timing::desk::config(1, 1, 1)));
+	THROWS(TIMERS_DESK_OUT_OF_RANGE, timing::desk(lines, TIMERS_DESK_CLIENTS + 1, timing::desk::config(1, 1, 1)));
 	CHECK(lines.size() == 2 && lines[0].start(1, 1) && lines[1].client() == 1);
 	std::puts("ok");
 }

@@ -60,17 +60,17 @@ int main(int argc, char **argv)
 	CHECK(argc >= 3);
 	unsigned long rounds = strtoul(argv[1], NULL, 10), clients = strtoul(argv[2], NULL, 10), words = 0;
 	uint64_t seed = argc > 3 ? strtoul(argv[3], NULL, 10) : 1;
-	CHECK(clients <= 64);
+	CHECK(clients <= TIMERS_DESK_CLIENTS);
 	for (unsigned long r = 0; r < rounds; r++) {
 		struct timers_desk d = TIMERS_DESK_INIT;
-		struct timers_line lines[64] = { TIMERS_LINE_INIT };
+		struct timers_line lines[TIMERS_DESK_CLIENTS] = { TIMERS_LINE_INIT };
 		struct timers_desk_config config = { sizeof(struct timers_desk_config), draw(&seed) % 3, 1 + draw(&seed) % 200, 2 + draw(&seed) % 40, 1 + draw(&seed) % 16,
 			draw(&seed) % 2 };
-		struct client all[64] = { { NULL, 0, 0, false } };
-		pthread_t threads[64];
+		struct client all[TIMERS_DESK_CLIENTS] = { { NULL, 0, 0, false } };
+		pthread_t threads[TIMERS_DESK_CLIENTS];
 		struct timers_word w;
 		uint64_t passed, returned;
-		bool freed[64] = { false };
+		bool freed[TIMERS_DESK_CLIENTS] = { false };
 		CHECK(timers_desk_new(&d, lines, clients, &config) == TIMERS_DESK_OK);
 		for (unsigned long c = 0; c < clients; c++) {
 			all[c].line = &lines[c];

@@ -37,7 +37,7 @@ struct model {
 	std::vector<client> clients;
 	std::vector<timers_line> old;           /* of an earlier life of the desk's struct, finished or not */
 	std::map<std::pair<std::uint64_t, std::uint64_t>, timer> pending;
-	std::uint64_t now = 0, serial = 1;
+	std::uint64_t now = 0, last = TIMERS_LAST, serial = 1;
 	bool closed = false;
 
 	std::uint64_t below(std::uint64_t n) { return random() % n; }
@@ -58,7 +58,7 @@ struct model {
 	}
 	unsigned interval_refusal(std::uint64_t interval) const
 	{
-		return interval == 0 ? TIMERS_DESK_ZERO_INTERVAL : interval > TIMERS_LAST - now ? TIMERS_DESK_TOO_LATE : TIMERS_DESK_OK;
+		return interval == 0 ? TIMERS_DESK_ZERO_INTERVAL : interval > last - now ? TIMERS_DESK_TOO_LATE : TIMERS_DESK_OK;
 	}
 	std::uint64_t interval_of(const request &r) const { return !r.at ? r.interval : r.interval > now ? r.interval - now : 0; }
 	/* a deadline that has passed is refused as one at the next tick */
@@ -170,6 +170,8 @@ struct model {
 			request r = { (int)below(3), it.sent, below(20) ? below(60) : random(), random(), { below(4), below(2) ? 0 : TIMERS_LAST }, below(3) == 0 };     /* of no timer */
 			if (r.at && r.interval < 60)
 				r.interval += now > 5 ? now - 5 : 0;
+			if (below(30) == 0)
+				r.interval = (r.at ? last : last - now) + below(2);
 			const auto &from = below(8) ? it : clients[below(clients.size())];     /* at times another client's */
 			if (!from.handles.empty())
 				r.handle = from.handles[from.handles.size() - 1 - below(from.handles.size() > 6 ? 6 : from.handles.size())];
@@ -230,17 +232,17 @@ struct model {
 				moved = flush(k) > 0 || moved;
 			CHECK(timers_desk_flush_all(&desk) == moved);
 		} else if (what < 10) {
-			const std::uint64_t most = below(30), first = pending.empty() ? TIMERS_NEVER : pending.begin()->first.first;
+			const std::uint64_t most = below(30), first = pending.empty() ? last : pending.begin()->first.first;
 			const auto status = timers_desk_advance(&desk, most, &count);
-			CHECK(status == (closed && most ? TIMERS_DESK_CLOSED : TIMERS_DESK_OK));
+			CHECK(status == (most == 0 ? TIMERS_DESK_OK : tick_status()));
 			if (status == TIMERS_DESK_OK) {
 				CHECK(count == (first - now < most ? first - now : most));
 				now += count;
 				hand_out(TIMERS_WORD_EXPIRED, closed ? 0 : now);
 			}
 		} else if (what == 10) {
-			CHECK(timers_desk_tick(&desk) == (closed ? TIMERS_DESK_CLOSED : TIMERS_DESK_OK));
-			now += !closed;
+			CHECK(timers_desk_tick(&desk) == tick_status());
+			now += tick_status() == TIMERS_DESK_OK;
 			hand_out(TIMERS_WORD_EXPIRED, now);
 		} else if (what == 11 && below(4) == 0) {
 			CHECK(timers_desk_settle(&desk, c, &old[c], &size) == TIMERS_DESK_OTHER_LINE);
@@ -259,9 +261,9 @@ struct model {
 			CHECK(size == (status == TIMERS_DESK_OK ? stop_pending(c) : 78));
 		} else {
 			timers_line none TIMERS_LINE_INIT;
-			const std::size_t room = below(7);
+			const std::size_t room = below(9) ? below(7) : 65537;
 			const auto status = timers_desk_open(&desk, c, &none, room);
-			CHECK(status == (room == 0 ? TIMERS_DESK_OUT_OF_RANGE : !it.freed ? TIMERS_DESK_NOT_FREED : is_left(c) ? TIMERS_DESK_LEFT : TIMERS_DESK_OK));
+			CHECK(status == (room == 0 || room > 65536 ? TIMERS_DESK_OUT_OF_RANGE : !it.freed ? TIMERS_DESK_NOT_FREED : is_left(c) ? TIMERS_DESK_LEFT : TIMERS_DESK_OK));
 			if (status == TIMERS_DESK_OK) {
 				const std::uint64_t next = it.taken;
 				it = client();
@@ -269,6 +271,19 @@ struct model {
 			}
 			CHECK(it.freed || timers_desk_open(&desk, c, &it.line, 1) == TIMERS_DESK_OPEN);
 		}
+	}
+	timers_desk_status tick_status() const { return closed ? TIMERS_DESK_CLOSED : now == last ? TIMERS_DESK_CLOCK_END : TIMERS_DESK_OK; }
+	/* the number of no client, and lines that are too few */
+	void no_client()
+	{
+		const std::size_t c = clients.size() + (below(2) ? 0 : random() % SIZE_MAX / 2);
+		timers_line none TIMERS_LINE_INIT;
+		std::uint64_t count = 78;
+		CHECK(timers_desk_serve(&desk, c) == TIMERS_DESK_NO_CLIENT && timers_desk_flush(&desk, c) == 0);
+		CHECK(timers_desk_settle(&desk, c, &old[0], &count) == TIMERS_DESK_NO_CLIENT && timers_desk_end(&desk, c, &old[0], &count) == TIMERS_DESK_NO_CLIENT);
+		CHECK(timers_desk_stop_pending(&desk, c, &count) == TIMERS_DESK_NO_CLIENT && timers_desk_open(&desk, c, &none, 1) == TIMERS_DESK_NO_CLIENT);
+		CHECK(timers_desk_pending(&desk, c) == 0 && timers_desk_outbox(&desk, c) == 0 && !timers_desk_line_freed(&desk, c) && none.mark == 0);
+		CHECK(timers_desk_end_all(&desk, old.data(), old.size() - 1, &count) == TIMERS_DESK_OUT_OF_RANGE && count == 78);
 	}
 	/* all lines at once, one of which may be elsewhere, or another one in its place */
 	void end_all()
@@ -330,7 +345,9 @@ struct model {
 	void play(unsigned calls)
 	{
 		config.size = sizeof config, config.capacity = 1 + below(30), config.room = 2 + below(12), config.line = 1 + below(6);
-		config.first_tick = now = below(5000);
+		config.table = (std::uint32_t)below(4);
+		last = config.table == TIMERS_CLOCK ? TIMERS_CLOCK_LAST : config.table == TIMERS_SMALL ? TIMERS_SMALL_LAST : TIMERS_LAST;
+		config.first_tick = now = below(3) ? below(5000) : last - below(5000);
 		clients.resize(1 + below(5));
 		std::vector<timers_line> lines(clients.size(), timers_line TIMERS_LINE_INIT);
 		live_before();
@@ -344,7 +361,7 @@ struct model {
 			else
 				an_owner();
 			if (below(50) == 0)
-				end_all();
+				end_all(), no_client();
 			if (!closed && call > calls / 10 * 9) {
 				std::uint64_t returned;
 				CHECK(timers_desk_close(&desk, &returned) == TIMERS_DESK_OK && returned == pending.size());

@@ -217,9 +217,9 @@ int main(int argc, char **argv)
 	timers = strtoull(argv[2], NULL, 10);
 	mixed = argc > 3 && strcmp(argv[3], "mixed") == 0;
 	deaf = argc > 3 && strcmp(argv[3], "deaf") == 0;
-	CHECK(clients >= 1 && clients <= 64);
+	CHECK(clients >= 1 && clients <= TIMERS_DESK_CLIENTS);
 	struct client *all = calloc(clients, sizeof *all);
-	pthread_t threads[64];
+	pthread_t threads[TIMERS_DESK_CLIENTS];
 	for (size_t c = 0; c < clients; c++) {
 		all[c].c = c;
 		all[c].deadline = calloc(2 * timers + 2, sizeof(uint64_t));

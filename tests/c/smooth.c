@@ -1,5 +1,5 @@
-/* How many timers one call moves with TIMERS_SMOOTH: what timers.h says of it. Each load is run with TIMERS_WIDE too, of which
- * a tick moves more than that. */
+/* How many timers one call moves with TIMERS_SMOOTH: what timers.h says of it. Each load is run with TIMERS_WIDE too, of
+ * which a tick moves more than that. */
 #include <stdbool.h>
 #include <stdio.h>
 #include <stdlib.h>
@@ -64,7 +64,7 @@ static void pass(uint64_t ticks)
 }
 
 /* Deadlines, in the order of starting. */
-static uint64_t spread(size_t i) { (void)i; return 1 + below(UINT64_C(1) << 18); }
+static uint64_t spread(size_t i) { (void)i; return 1 + below(UINT64_C(1) << 16); }
 static uint64_t one_bucket(size_t i) { (void)i; return (UINT64_C(3) << 12) + below(1 << 12); }
 static uint64_t one_tick(size_t i) { (void)i; return 100000; }
 static uint64_t few_ticks(size_t i) { return 70000 + i % 64; }

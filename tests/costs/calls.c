@@ -1,7 +1,8 @@
 /* calls SHAPE TIMERS   prints for each function of timers.h how many blocks of code its longest of some calls ran
  *
  * So many timers are pending meanwhile. The library is compiled so that each block of its code (each turn of a loop is
- * one) calls __sanitizer_cov_trace_pc. Shapes: their deadlines are `spread` over all wheels, in one `bucket`, or one tick. */
+ * one) calls __sanitizer_cov_trace_pc. Shapes: their deadlines are `spread` over all wheels, in one `bucket`, or one tick.
+ * Or they are in one bucket in the `order` of starting, and in each round the first ones are pushed back behind all. */
 /* SPDX-License-Identifier: MIT OR Apache-2.0 */
 #include <inttypes.h>
 #include <stdio.h>
@@ -18,7 +19,7 @@ enum { ROUNDS = 300, NAMES_MOST = 64 };
 
 static struct timers t = TIMERS_INIT;
 static struct timers_handle *handles;
-static uint64_t pending, failed;
+static uint64_t pending, failed, later;
 static char shape;
 
 static struct longest {
@@ -60,6 +61,7 @@ static uint64_t far_deadline(void)
 	switch (shape) {
 	case 's': return timers_now(&t) + (UINT64_C(1) << 36) + below(UINT64_C(1) << (20 + below(30)));
 	case 'b': return (UINT64_C(1) << 48) + below(UINT64_C(1) << 30);
+	case 'o': return (UINT64_C(1) << 48) + later++;
 	default: return UINT64_C(1) << 48;
 	}
 }
@@ -106,7 +108,7 @@ static void cost_next(struct timers_handle *handle)
 {
 	const uint64_t first = timers_find_next(&t);
 
-	OK(timers_restart_at(&t, *handle, far_deadline() + (UINT64_C(1) << 31), 6, handle));
+	OK(timers_restart_at(&t, *handle, far_deadline() + (shape == 'o' ? 0 : UINT64_C(1) << 31), 6, handle));
 	if (timers_find_next(&t) != first)
 		return;
 	COST(next, failed += timers_next(&t) != first);
@@ -142,16 +144,37 @@ static void cost_ticks(void)
 	COST(advance_to, OK(timers_advance_to(&t, timers_now(&t) + below(UINT64_C(1) << 27))));
 }
 
+/* Some timer, and in order the first one. */
+static uint64_t chosen(int round)
+{
+	if (shape == 'o')
+		return 2 * (uint64_t)round;
+	return round < 4 ? (pending - 1) * (round % 2) : below(pending);
+}
+
+/* The first timer is pushed back, so that the first deadline is that of the next one, and no walk finds it. */
+static void cost_order(int round)
+{
+	const uint64_t next = (UINT64_C(1) << 48) + 2 * (uint64_t)round + 2;
+
+	if (shape != 'o')
+		return;
+	OK(timers_restart_at(&t, handles[2 * round + 1], far_deadline(), 8, &handles[2 * round + 1]));
+	COST(next, failed += timers_next(&t) != next);
+	COST(find_next, failed += timers_find_next(&t) != next);
+}
+
 static void cost_rounds(void)
 {
 	int round;
 
 	for (round = 0; round < ROUNDS; round++) {
-		struct timers_handle *const handle = &handles[round < 4 ? (pending - 1) * (round % 2) : below(pending)];
+		struct timers_handle *const handle = &handles[chosen(round)];
 
 		cost_starts(handle);
 		cost_reads(*handle);
 		cost_next(handle);
+		cost_order(round);
 		cost_expiry();
 		cost_ticks();
 	}

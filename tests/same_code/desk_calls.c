@@ -64,7 +64,7 @@ static void choose_config(void)
 static void make_new(void)
 {
 	struct timers_desk_config asked = config;
-	const size_t count = (size_t)(below(24) == 0 ? below(70) : most_clients);
+	const size_t count = (size_t)(below(24) == 0 ? below(TIMERS_DESK_CLIENTS + 6) : most_clients);
 	uint64_t status;
 
 	switch (below(48)) {
@@ -315,7 +315,7 @@ static void choose(void)
 	lines = all_lines[which];
 	if (below(64) == 0)
 		renew();
-	client = (size_t)(below(24) == 0 ? below(70) : below(most_clients));
+	client = (size_t)(below(24) == 0 ? below(TIMERS_DESK_CLIENTS + 6) : below(most_clients));
 	line = below(24) == 0 ? &all_lines[below(2)][below(TIMERS_DESK_CLIENTS)] : &lines[client % TIMERS_DESK_CLIENTS];
 	name = &names[client % TIMERS_DESK_CLIENTS][below(NAMES)];
 	if (*made == 0 && below(2) == 0)

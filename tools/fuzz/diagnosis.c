@@ -10,13 +10,7 @@ struct layout {
 	const char *word, *fields[FIELDS + 1];
 };
 
-static const struct layout FORMS[] = {
-	{"start", {"client", "number", "interval", "action"}},
-	{"stop", {"client", "number", "serial"}},
-	{"restart", {"client", "number", "serial", "interval", "action"}},
-	{"tick", {"count"}},
-	{"close", {0}},
-};
+static const struct layout FORMS[] = {FORMS_OF_A_LINE};
 
 /* In the order of the page's table. */
 enum reason {

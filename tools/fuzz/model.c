@@ -20,6 +20,7 @@ struct facility {
 	uint64_t now, next_serial, numbers[MAX_CLIENTS];
 	bool closed;
 	struct counts counts;
+	uint64_t paces[WHEELS]; /* of a smooth wheel */
 	struct timer *pending; /* by deadline, then serial */
 	size_t len;
 };
@@ -166,15 +167,18 @@ static void request(struct facility *f, const struct event *e, struct text *out)
 		add(out, "refused %" PRIu64 " %" PRIu64 " %s\n", e->client, e->number, why);
 		return;
 	}
+	bool is_smooth = f->is.scheme == SMOOTH && e->kind != STOP;
+	int wheel = is_smooth ? smooth_wheel(f->now, f->now + e->interval, f->pending, f->len) : 0;
 	if (e->kind != START)
 		cut(f, named(f, e->client, e->serial), 1);
 	if (e->kind == STOP) {
 		add(out, "stopped %" PRIu64 " %" PRIu64 " %" PRIu64 "\n", e->client, e->number, e->serial);
 		return;
 	}
-	struct timer timer = {f->next_serial++, e->client, f->now + e->interval, e->action};
+	struct timer timer = {f->next_serial++, e->client, f->now + e->interval, e->action, wheel};
 	insert(f, timer);
 	f->counts.starts++;
+	f->counts.moves += is_smooth ? smooth_make_way(f->now, &timer, f->pending, f->len) : 0;
 	add(out, "%s %" PRIu64 " %" PRIu64 " ", e->kind == START ? "started" : "restarted", e->client, e->number);
 	if (e->kind == RESTART)
 		add(out, "%" PRIu64 " ", e->serial);
@@ -225,6 +229,16 @@ static void expire(struct facility *f, uint64_t tick, struct text *out)
 	cut(f, 0, due);
 }
 
+/* Passes the ticks of a smooth wheel up to this one. */
+static void pass_smooth(struct facility *f, uint64_t tick, struct text *out)
+{
+	while (f->now < tick) {
+		f->now = smooth_event(f->paces, f->now, tick, f->pending, f->len);
+		f->counts.moves += smooth_tick(f->paces, f->now - 1, f->pending, f->len);
+		expire(f, f->now, out);
+	}
+}
+
 static void ticks(struct facility *f, uint64_t count, struct text *out)
 {
 	if (f->closed) {
@@ -233,7 +247,10 @@ static void ticks(struct facility *f, uint64_t count, struct text *out)
 	}
 	uint64_t left = f->is.last_tick - f->now;
 	uint64_t tick = f->now + (count < left ? count : left);
-	count_ticks(f, tick);
+	if (f->is.scheme == SMOOTH)
+		pass_smooth(f, tick, out);
+	else
+		count_ticks(f, tick);
 	for (uint64_t stop; f->is.moves && (stop = next_stop(f, tick)) <= tick; f->now = stop) {
 		expire(f, stop, out);
 		show_moves(out, &f->is, f->now, stop, f->pending, f->len);
@@ -271,7 +288,7 @@ static void one(struct facility *f, const struct event *e, struct text *out)
 
 static struct answer fault(struct answer answer, const char *what, uint64_t line)
 {
-	answer.status = 1;
+	answer.status = EXIT_FAILED;
 	if (line)
 		add(&answer.faults, "%s %" PRIu64 "\n", what, line);
 	else
@@ -323,7 +340,8 @@ static bool lines(struct facility *f, const char *script, size_t len, enum form 
 			*answer = fault(*answer, "bad line", n);
 			return false;
 		}
-		answer->status |= !good;
+		if (!good)
+			answer->status = form == CHECK ? EXIT_BAD : EXIT_SKIPPED;
 		at = next;
 	}
 	return true;
@@ -340,7 +358,7 @@ struct answer play(const char *script, size_t len, struct options options, enum 
 		exit(3);
 	if ((form == PLAY || form == CHECK) && len > MAX_SCRIPT) {
 		answer = fault(answer, TOO_LONG, 0);
-		answer.status = form == CHECK ? CHECK_FAILED : 1;
+		answer.status = form == CHECK ? EXIT_CHECK_FAILED : EXIT_FAILED;
 	} else if (lines(&f, script, len, form, &answer) && form != CHECK)
 		add(&answer.output, "end %" PRIu64 " %zu\n", f.now, f.len);
 	if (form == PLAY && answer.status != 0)

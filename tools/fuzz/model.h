@@ -7,7 +7,10 @@
 /* The page's numbers and words, some as lists in the order of their table, made by tools/formats.py. */
 #include "formats.h"
 
-enum scheme { HIER, PLAIN, HASHED, CLOCK };
+enum scheme { HIER, PLAIN, HASHED, CLOCK, SMOOTH };
+
+/* Of a smooth wheel. */
+enum { WHEELS = 10 };
 
 struct options {
 	uint64_t clients, capacity, first_tick, last_tick;
@@ -19,6 +22,8 @@ struct options {
 
 struct timer {
 	uint64_t serial, client, deadline, action;
+	/* In which it is, of a smooth wheel. */
+	int wheel;
 };
 
 /* What a hierarchy counts. */
@@ -49,6 +54,18 @@ int wheel_of(enum scheme scheme, uint64_t now, uint64_t deadline);
 
 /* The tick at which a pending timer next moves to a lower wheel, or its deadline if it expires first. */
 uint64_t next_move(enum scheme scheme, uint64_t now, uint64_t deadline);
+
+/* The wheel of a smooth wheel to which a timer with this deadline comes, before it is one of these. */
+int smooth_wheel(uint64_t now, uint64_t deadline, struct timer *pending, size_t len);
+
+/* A timer has come to its wheel: others may move for it. Returns how many. */
+uint64_t smooth_make_way(uint64_t now, const struct timer *timer, struct timer *pending, size_t len);
+
+/* Moves timers as the tick after now comes, at a pace for each wheel. Returns how many. */
+uint64_t smooth_tick(uint64_t *paces, uint64_t now, struct timer *pending, size_t len);
+
+/* The next tick that changes a pace, moves a timer or has one due, or the end if that comes first. */
+uint64_t smooth_event(const uint64_t *paces, uint64_t now, uint64_t end, const struct timer *pending, size_t len);
 
 /* Adds the moves at a tick, of timers that were where they are now until then. */
 void show_moves(struct text *text, const struct options *is, uint64_t now, uint64_t tick, const struct timer *pending,

@@ -14,12 +14,12 @@ import time
 
 sys.path.insert(0, os.path.join(os.path.dirname(os.path.abspath(__file__)), ".."))
 sys.dont_write_bytecode = True
-from formats import NUMBERS  # noqa: E402
+from formats import LIMITS  # noqa: E402
 
-LAST, TICKS = NUMBERS["LAST"], NUMBERS["MAX_TICKS"]
+LAST, TICKS, MOST = (LIMITS[name] for name in ("LAST", "MAX_TICKS", "MAX_CLIENTS"))
 # Numbers at which something changes.
 EDGES = [0, 1, 2, 59, 60, 63, 64, 65, 3599, 3600, 4095, 4096, 4097, 86400, 262144, TICKS, TICKS + 1]
-EDGES += [NUMBERS["LAST_OF_CLOCK"], LAST - 1, LAST]
+EDGES += [LIMITS["LAST_OF_CLOCK"], LAST - 1, LAST]
 
 
 class Client:
@@ -34,7 +34,7 @@ class Client:
 class Script:
     def __init__(self, seed):
         self.chance = random.Random(seed)
-        self.clients = [Client(self.chance) for _ in range(self.chance.choice([1, 2, 2, 5, 64]))]
+        self.clients = [Client(self.chance) for _ in range(self.chance.choice([1, 2, 2, 5, MOST]))]
         self.serial = 1
         self.scale = self.chance.choice([4, 64, 300, 5000, 300000])
         self.lines = []
@@ -59,7 +59,7 @@ class Script:
         c = self.chance.randrange(len(self.clients))
         client = self.clients[c]
         if self.chance.random() < 0.02:
-            c = self.chance.choice([2, 63, 64, LAST])
+            c = self.chance.choice([2, MOST - 1, MOST, LAST])
         number, kind = self.number(client), self.chance.random()
         if kind < 0.55:
             self.lines.append(f"start {c} {number} {self.interval()} {self.chance.randint(0, 9)}")

@@ -1,4 +1,4 @@
-/* Where the pending timers are: what `timers show` adds, from the deadlines and the present tick alone. */
+/* Where the pending timers are: what `timers show` adds. But for smooth wheels it follows from deadlines and the present tick. */
 #include "model.h"
 
 #include <inttypes.h>
@@ -55,6 +55,8 @@ static struct place place_of(const struct options *is, uint64_t now, const struc
 	if (is->scheme == HASHED) {
 		place.bucket = timer->deadline % is->slots;
 		place.rounds = (timer->deadline - now - 1) / is->slots;
+	} else if (is->scheme == SMOOTH) {
+		place.bucket = (uint64_t)timer->wheel << 8 | timer->deadline / unit_of(SMOOTH, timer->wheel) % 128;
 	} else {
 		int wheel = wheel_of(is->scheme, now, timer->deadline);
 		place.bucket = (uint64_t)wheel << 8 | slot_of(is->scheme, wheel, timer->deadline);
@@ -136,6 +138,8 @@ void show(struct text *text, const struct options *is, const struct counts *coun
 	add(text, "  now %" PRIu64 "\n", now);
 	if (is->counts && (is->scheme == HIER || is->scheme == CLOCK))
 		add(text, "  starts %" PRIu64 " moves %" PRIu64 " visits %" PRIu64 "\n", counts->starts, counts->moves, counts->visits);
+	if (is->counts && is->scheme == SMOOTH)
+		add(text, "  starts %" PRIu64 " moves %" PRIu64 "\n", counts->starts, counts->moves);
 	if (is->scheme == PLAIN)
 		show_plain(text, pending, len);
 	else

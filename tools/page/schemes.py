@@ -2,7 +2,9 @@
 import re
 from dataclasses import dataclass
 
-from formats import DEFAULTS, HANDS
+from formats import OPTIONS, SCHEMES
+
+HANDS = SCHEMES["clock"]["hands"]
 
 
 @dataclass
@@ -27,6 +29,9 @@ class Scheme:
     def is_hierarchy(self):
         return self.name in ("hier", "clock")
 
+    def is_drawn(self):
+        return SCHEMES[self.name].get("drawn", True)
+
     def digit(self, wheel, tick):
         return tick // self.wheels[wheel].ticks % self.wheels[wheel].slots
 
@@ -42,7 +47,7 @@ def hierarchy(slots, names):
 def scheme_of(options):
     """The scheme that these options of show name."""
     given = dict(zip(options, options[1:])) | dict(word.split("=", 1) for word in options if "=" in word)
-    name = given.get("--scheme", DEFAULTS["--scheme"])
+    name = given.get("--scheme", OPTIONS["play"]["scheme"]["default"])
     if name == "clock":
-        return Scheme(name, hierarchy([60, 60, 24, 100], HANDS))
-    return Scheme(name, hierarchy([64] * 10, [f"wheel {k}" for k in range(10)]))
+        return Scheme(name, hierarchy(SCHEMES["clock"]["radices"], HANDS))
+    return Scheme(name, hierarchy(SCHEMES["hier"]["radices"], [f"wheel {k}" for k in range(10)]))

@@ -17,36 +17,34 @@
 #include "wheel.h"
 #include "desk.h"
 
-/* What the headers name, under the names of Python. Those of both enumerations of statuses have the same numbers. */
-#define OF_TIMERS(name) { #name, TIMERS_##name }
-#define OF_DESK(name) { #name, TIMERS_DESK_##name }
-#define OF_WORD(name) { #name, TIMERS_WORD_##name }
-static const struct { const char *name; uint64_t value; } constants[] = {
-	OF_TIMERS(OK), OF_TIMERS(NOT_OPEN), OF_TIMERS(OPEN), OF_TIMERS(NO_TABLE), OF_TIMERS(NO_MEMORY), OF_TIMERS(DUE),
-	OF_TIMERS(NOT_PENDING), OF_TIMERS(ZERO_INTERVAL), OF_TIMERS(TOO_LATE), OF_TIMERS(SERIALS_SPENT), OF_TIMERS(CLOCK_END),
+static const struct constant others[] = {
 	OF_TIMERS(WIDE), OF_TIMERS(CLOCK), OF_TIMERS(SMOOTH), OF_TIMERS(SMALL), OF_TIMERS(LAST), OF_TIMERS(CLOCK_LAST),
-	OF_TIMERS(SMALL_LAST),
-	OF_DESK(CLOSED), OF_DESK(CAPACITY), OF_DESK(NO_CLIENT), OF_DESK(NUMBERS_SPENT), OF_DESK(REPEATED), OF_DESK(AHEAD),
-	OF_DESK(LINE_FULL), OF_DESK(FINISHED), OF_DESK(OUT_OF_RANGE), OF_DESK(IDLE), OF_DESK(NO_ROOM), OF_DESK(OTHER_LINE),
-	OF_DESK(NOT_FINISHED), OF_DESK(LEFT), OF_DESK(NOT_FREED), OF_DESK(CLIENTS),
+	OF_TIMERS(SMALL_LAST), OF_DESK(CLIENTS),
+	/* made by tools/facts: kinds of words in Python */
 	OF_WORD(STARTED), OF_WORD(RESTARTED), OF_WORD(STOPPED), OF_WORD(REFUSED), OF_WORD(NOT_TAKEN), OF_WORD(EXPIRED),
 	OF_WORD(RETURNED),
 };
 
-static bool add_constants(PyObject *module)
+static bool add_table(PyObject *module, const struct constant *table, size_t count)
 {
 	PyObject *value;
 	size_t i;
 
-	for (i = 0; i < sizeof constants / sizeof constants[0]; i++) {
-		value = PyLong_FromUnsignedLongLong(constants[i].value);
-		if (value == NULL || PyModule_AddObjectRef(module, constants[i].name, value) < 0) {
+	for (i = 0; i < count; i++) {
+		value = PyLong_FromUnsignedLongLong(table[i].value);
+		if (value == NULL || PyModule_AddObjectRef(module, table[i].name, value) < 0) {
 			Py_XDECREF(value);
 			return false;
 		}
 		Py_DECREF(value);
 	}
-	return PyModule_AddStringConstant(module, "__version__", TIMERS_VERSION) == 0;
+	return true;
+}
+
+static bool add_constants(PyObject *module)
+{
+	return add_table(module, timers_statuses, COUNT(timers_statuses)) && add_table(module, desk_statuses, COUNT(desk_statuses))
+	       && add_table(module, others, COUNT(others)) && PyModule_AddStringConstant(module, "__version__", TIMERS_VERSION) == 0;
 }
 
 static bool add_type(PyObject *module, PyTypeObject **type, PyType_Spec *spec, PyObject *base)

@@ -84,6 +84,36 @@ static PyObject *tick_or_none(uint64_t tick)
 
 /* Refusals */
 
+/* What the headers name, under the names of Python. Statuses of both enumerations have the same numbers. */
+struct constant { const char *name; uint64_t value; };
+#define OF_TIMERS(name) { #name, TIMERS_##name }
+#define OF_DESK(name) { #name, TIMERS_DESK_##name }
+#define OF_WORD(name) { #name, TIMERS_WORD_##name }
+#define COUNT(table) (sizeof(table) / sizeof(table)[0])
+
+static const struct constant timers_statuses[] = {
+	/* made by tools/facts: statuses of timers in Python */
+	OF_TIMERS(OK), OF_TIMERS(NOT_OPEN), OF_TIMERS(OPEN), OF_TIMERS(NO_TABLE), OF_TIMERS(NO_MEMORY), OF_TIMERS(DUE),
+	OF_TIMERS(NOT_PENDING), OF_TIMERS(ZERO_INTERVAL), OF_TIMERS(TOO_LATE), OF_TIMERS(SERIALS_SPENT), OF_TIMERS(CLOCK_END),
+};
+static const struct constant desk_statuses[] = {
+	/* made by tools/facts: statuses of desks in Python */
+	OF_DESK(CLOSED), OF_DESK(CAPACITY), OF_DESK(NO_CLIENT), OF_DESK(NUMBERS_SPENT), OF_DESK(REPEATED), OF_DESK(AHEAD),
+	OF_DESK(LINE_FULL), OF_DESK(FINISHED), OF_DESK(OUT_OF_RANGE), OF_DESK(IDLE), OF_DESK(NO_ROOM), OF_DESK(OTHER_LINE),
+	OF_DESK(NOT_FINISHED), OF_DESK(LEFT), OF_DESK(NOT_FREED),
+};
+
+/* The name of a number of the table, or `otherwise`. */
+static const char *name_of(uint64_t number, const struct constant *table, size_t count, const char *otherwise)
+{
+	size_t i;
+
+	for (i = 0; i < count; i++)
+		if (table[i].value == number)
+			return table[i].name;
+	return otherwise;
+}
+
 /* Raises TimersError or DeskError. Its only argument is the status, of which it makes its text. */
 static PyObject *refuse(PyObject *kind, uint32_t status)
 {
@@ -108,6 +138,42 @@ static PyObject *status_of(PyObject *error, void *unused)
 	Py_DECREF(arguments);
 	return status;
 }
+
+static int error_init(PyObject *self, PyObject *arguments, PyObject *named)
+{
+	uint64_t status;
+
+	if (PyTuple_Size(arguments) != 1 || (named != NULL && PyDict_Size(named) > 0)) {
+		PyErr_SetString(PyExc_TypeError, "a status is the only argument");
+		return -1;
+	}
+	if (!read_number(PyTuple_GetItem(arguments, 0), &status))
+		return -1;
+	return ((initproc)PyType_GetSlot((PyTypeObject *)PyExc_Exception, Py_tp_init))(self, arguments, named);
+}
+
+/* As a call that makes the error anew, with the status by its name. */
+static PyObject *repr_of(PyObject *error, const char *(*name)(uint64_t status))
+{
+	PyObject *status = status_of(error, NULL), *type = NULL, *text = NULL;
+	uint64_t number;
+
+	if (status != NULL && read_number(status, &number))
+		type = PyType_GetName(Py_TYPE(error));
+	if (type != NULL)
+		text = name(number) == NULL ? PyUnicode_FromFormat("%U(%S)", type, status) : PyUnicode_FromFormat("%U(%s)", type, name(number));
+	Py_XDECREF(type);
+	Py_XDECREF(status);
+	return text;
+}
+
+static const char *timers_name(uint64_t status) { return name_of(status, timers_statuses, COUNT(timers_statuses), NULL); }
+static PyObject *timers_error_repr(PyObject *error) { return repr_of(error, timers_name); }
+static const char *desk_name(uint64_t status)
+{
+	return name_of(status, desk_statuses, COUNT(desk_statuses), timers_name(status));
+}
+static PyObject *desk_error_repr(PyObject *error) { return repr_of(error, desk_name); }
 
 static PyObject *text_of(PyObject *error, const char *(*message)(uint32_t status))
 {
@@ -134,7 +200,9 @@ static PyGetSetDef error_attributes[] = {
 
 static PyType_Slot timers_error_slots[] = {
 	{ Py_tp_doc, "A call that was refused. `status` says why, and nothing has changed." },
+	{ Py_tp_init, error_init },
 	{ Py_tp_str, timers_error_text },
+	{ Py_tp_repr, timers_error_repr },
 	{ Py_tp_getset, error_attributes },
 	{ 0, NULL },
 };
@@ -144,7 +212,9 @@ static PyType_Spec timers_error_spec = {
 
 static PyType_Slot desk_error_slots[] = {
 	{ Py_tp_doc, "A call that was refused. `status` says why, and nothing has changed." },
+	{ Py_tp_init, error_init },
 	{ Py_tp_str, desk_error_text },
+	{ Py_tp_repr, desk_error_repr },
 	{ Py_tp_getset, error_attributes },
 	{ 0, NULL },
 };
@@ -205,6 +275,13 @@ static bool read_handle(const struct module_state *state, PyObject *value, struc
 	}
 	*handle = ((struct handle_object *)value)->handle;
 	return true;
+}
+
+/* The same for a call on timers, to which None names no timer. */
+static bool read_handle_or_none(const struct module_state *state, PyObject *value, struct timers_handle *handle)
+{
+	*handle = (struct timers_handle){ 0, 0 };
+	return value == Py_None || read_handle(state, value, handle);
 }
 
 static PyObject *handle_new(PyTypeObject *type, PyObject *arguments, PyObject *named)

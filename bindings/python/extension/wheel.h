@@ -4,6 +4,7 @@
 struct timers_object {
 	PyObject_HEAD
 	struct timers held;
+	size_t count;    /* of the timers that are held, pending and expired */
 	uint64_t last_tick;
 	struct module_state *state;
 	PyObject *weak_references;
@@ -71,6 +72,15 @@ static void drop_held(struct timers *held)
 	timers_free(&dropped);
 }
 
+static void drop_all(PyObject *self)
+{
+	timers_in(self)->count = 0;
+	drop_held(held_by(self));
+}
+
+/* A call that only then does something refuses closed timers by this. It passes no tick. */
+static enum timers_status status_if_open(PyObject *self) { return timers_advance_to(held_by(self), 0); }
+
 static PyObject *timers_object_new(PyTypeObject *type, PyObject *arguments, PyObject *named)
 {
 	PyObject *self = ((allocfunc)PyType_GetSlot(type, Py_tp_alloc))(type, 0);
@@ -102,6 +112,7 @@ static int timers_object_init(PyObject *self, PyObject *arguments, PyObject *nam
 	}
 	earlier = *held_by(self);
 	*held_by(self) = made;
+	timers_in(self)->count = 0;
 	timers_in(self)->last_tick = table == TIMERS_CLOCK ? TIMERS_CLOCK_LAST : table == TIMERS_SMALL ? TIMERS_SMALL_LAST : TIMERS_LAST;
 	drop_held(&earlier);
 	return 0;
@@ -121,7 +132,7 @@ static int timers_object_traverse(PyObject *self, visitproc visit, void *arg)
 
 static int timers_object_clear(PyObject *self)
 {
-	drop_held(held_by(self));
+	drop_all(self);
 	return 0;
 }
 
@@ -130,15 +141,22 @@ static void timers_object_dealloc(PyObject *self)
 	PyObject_GC_UnTrack(self);
 	if (timers_in(self)->weak_references != NULL)
 		PyObject_ClearWeakRefs(self);
-	drop_held(held_by(self));
+	drop_all(self);
 	free_object(self);
 }
 
 static PyObject *timers_object_close(PyObject *self, PyObject *unused)
 {
 	(void)unused;
-	drop_held(held_by(self));
+	drop_all(self);
 	Py_RETURN_NONE;
+}
+
+static PyObject *timers_object_enter(PyObject *self, PyObject *unused)
+{
+	const enum timers_status status = status_if_open(self);
+
+	return status == TIMERS_OK ? enter(self, unused) : refused(self, status);
 }
 
 static PyObject *timers_object_exit(PyObject *self, PyObject *const *arguments, Py_ssize_t given)
@@ -177,6 +195,7 @@ static inline PyObject *start_by(start_call *start, const char *name, PyObject *
                                  Py_ssize_t given)
 {
 	struct handle_object *made;
+	enum timers_status status;
 	uint64_t tick;
 
 	if (!has_arguments(name, given, 2, 2) || !read_number(arguments[0], &tick))
@@ -184,7 +203,9 @@ static inline PyObject *start_by(start_call *start, const char *name, PyObject *
 	made = new_handle(timers_in(self)->state);
 	if (made == NULL)
 		return NULL;
-	return started(self, start(held_by(self), tick, action_of(arguments[1]), &made->handle), made, arguments[1]);
+	status = start(held_by(self), tick, action_of(arguments[1]), &made->handle);
+	timers_in(self)->count += status == TIMERS_OK;
+	return started(self, status, made, arguments[1]);
 }
 
 static PyObject *timers_object_start(PyObject *self, PyObject *const *arguments, Py_ssize_t given)
@@ -209,7 +230,7 @@ static inline PyObject *restart_by(restart_call *restart, const char *name, PyOb
 	PyObject *action, *result;
 	uint64_t tick;
 
-	if (!has_arguments(name, given, 2, 3) || !read_handle(state, arguments[0], &handle) || !read_number(arguments[1], &tick))
+	if (!has_arguments(name, given, 2, 3) || !read_handle_or_none(state, arguments[0], &handle) || !read_number(arguments[1], &tick))
 		return NULL;
 	status = timers_look(held_by(self), handle, &old);
 	if (status != TIMERS_OK)
@@ -238,23 +259,24 @@ static PyObject *timers_object_restart_at(PyObject *self, PyObject *const *argum
 static PyObject *timers_object_set_at(PyObject *self, PyObject *const *arguments, Py_ssize_t given)
 {
 	const struct module_state *state = timers_in(self)->state;
-	struct timers_handle handle = { 0, 0 };
+	struct timers_handle handle;
 	struct timers_expired old;
 	struct handle_object *made;
+	enum timers_status status;
 	uint64_t deadline;
 	PyObject *result;
 	bool held;
 
-	if (!has_arguments("set_at", given, 3, 3) || (arguments[0] != Py_None && !read_handle(state, arguments[0], &handle)))
-		return NULL;
-	if (!read_number(arguments[1], &deadline))
+	if (!has_arguments("set_at", given, 3, 3) || !read_handle_or_none(state, arguments[0], &handle) || !read_number(arguments[1], &deadline))
 		return NULL;
 	made = new_handle(state);
 	if (made == NULL)
 		return NULL;
 	made->handle = handle;
 	held = timers_look(held_by(self), handle, &old) == TIMERS_OK;
-	result = started(self, timers_set_at(held_by(self), &made->handle, deadline, action_of(arguments[2])), made, arguments[2]);
+	status = timers_set_at(held_by(self), &made->handle, deadline, action_of(arguments[2]));
+	timers_in(self)->count += status == TIMERS_OK && !held;
+	result = started(self, status, made, arguments[2]);
 	if (result != NULL && held)
 		Py_DECREF(object_of(old.action));
 	return result;
@@ -266,9 +288,10 @@ static PyObject *timers_object_stop(PyObject *self, PyObject *given)
 	enum timers_status status;
 	uint64_t action;
 
-	if (!read_handle(timers_in(self)->state, given, &handle))
+	if (!read_handle_or_none(timers_in(self)->state, given, &handle))
 		return NULL;
 	status = timers_stop(held_by(self), handle, &action);
+	timers_in(self)->count -= status == TIMERS_OK;
 	return status == TIMERS_OK ? object_of(action) : refused(self, status);
 }
 
@@ -278,7 +301,7 @@ static PyObject *timers_object_look(PyObject *self, PyObject *given)
 	struct timers_expired timer;
 	enum timers_status status;
 
-	if (!read_handle(timers_in(self)->state, given, &handle))
+	if (!read_handle_or_none(timers_in(self)->state, given, &handle))
 		return NULL;
 	status = timers_look(held_by(self), handle, &timer);
 	return status == TIMERS_OK ? copied_tuple(&timer) : refused(self, status);
@@ -289,7 +312,7 @@ static int timers_object_contains(PyObject *self, PyObject *given)
 	struct timers_handle handle;
 	struct timers_expired timer;
 
-	if (!read_handle(timers_in(self)->state, given, &handle))
+	if (!read_handle_or_none(timers_in(self)->state, given, &handle))
 		return -1;
 	return timers_look(held_by(self), handle, &timer) == TIMERS_OK;
 }
@@ -303,8 +326,10 @@ static PyObject *timers_object_clear_all(PyObject *self, PyObject *unused)
 
 	(void)unused;
 	while (timers_each(held_by(self), &cursor, &handle, &timer))
-		if (timers_stop(held_by(self), handle, NULL) == TIMERS_OK)
+		if (timers_stop(held_by(self), handle, NULL) == TIMERS_OK) {
+			timers_in(self)->count--;
 			Py_DECREF(object_of(timer.action));
+		}
 	Py_RETURN_NONE;
 }
 
@@ -331,7 +356,8 @@ static PyObject *timers_object_expire(PyObject *self, PyObject *unused)
 
 	(void)unused;
 	if (!timers_expire(held_by(self), &timer))
-		Py_RETURN_NONE;
+		return none_or_refused(self, status_if_open(self));
+	timers_in(self)->count--;
 	return timer_tuple(&timer);
 }
 
@@ -343,7 +369,8 @@ static PyObject *timers_object_take(PyObject *self, PyObject *given)
 	if (!read_number(given, &tick))
 		return NULL;
 	if (!timers_take(held_by(self), tick, &timer))
-		Py_RETURN_NONE;
+		return none_or_refused(self, status_if_open(self));
+	timers_in(self)->count--;
 	return timer_tuple(&timer);
 }
 
@@ -374,7 +401,7 @@ static PyObject *timers_object_catch_up(PyObject *self, PyObject *const *argumen
 
 	if (!has_arguments("catch_up", given, 1, 2) || !read_number(arguments[0], &now))
 		return NULL;
-	status = timers_advance_to(held_by(self), 0);    /* refused if they are closed */
+	status = status_if_open(self);
 	if (status != TIMERS_OK)
 		return refused(self, status);
 	if (now > timers_in(self)->last_tick)
@@ -382,6 +409,7 @@ static PyObject *timers_object_catch_up(PyObject *self, PyObject *const *argumen
 	if (now < timers_now(held_by(self)))
 		Py_RETURN_NONE;
 	while (timers_take(held_by(self), now, &timer)) {
+		timers_in(self)->count--;
 		result = run_timer(given == 2 ? arguments[1] : Py_None, &timer);
 		if (result == NULL)
 			return NULL;
@@ -400,7 +428,8 @@ static bool take_expired(PyObject *self, PyObject *list)
 	size_t taken, i;
 	bool fails = false;
 
-	while (!fails && (taken = timers_expire_batch(held_by(self), batch, BATCH)) > 0)
+	while (!fails && (taken = timers_expire_batch(held_by(self), batch, BATCH)) > 0) {
+		timers_in(self)->count -= taken;
 		for (i = 0; i < taken; i++) {
 			if (fails) {
 				Py_DECREF(object_of(batch[i].action));
@@ -410,14 +439,19 @@ static bool take_expired(PyObject *self, PyObject *list)
 			fails = timer == NULL || PyList_Append(list, timer) < 0;
 			Py_XDECREF(timer);
 		}
+	}
 	return !fails;
 }
 
 static PyObject *timers_object_expired(PyObject *self, PyObject *unused)
 {
-	PyObject *list = PyList_New(0);
+	const enum timers_status status = status_if_open(self);
+	PyObject *list;
 
 	(void)unused;
+	if (status != TIMERS_OK)
+		return refused(self, status);
+	list = PyList_New(0);
 	if (list != NULL && !take_expired(self, list))
 		Py_CLEAR(list);
 	return list;
@@ -449,7 +483,7 @@ static PyObject *timers_object_advance(PyObject *self, PyObject *given)
 
 	if (!read_number(given, &most))
 		return NULL;
-	status = timers_advance_to(held_by(self), 0);    /* refused if they are closed */
+	status = status_if_open(self);
 	if (status != TIMERS_OK)
 		return refused(self, status);
 	now = timers_now(held_by(self));
@@ -505,9 +539,15 @@ static PyObject *timers_object_counts(PyObject *self, PyObject *unused)
 	                     (unsigned long long)counts.visits);
 }
 
-static Py_ssize_t timers_object_length(PyObject *self) { return (Py_ssize_t)timers_len(held_by(self)); }
+static PyObject *timers_object_pending(PyObject *self, PyObject *unused)
+{
+	(void)unused;
+	return PyLong_FromSize_t(timers_len(held_by(self)));
+}
 
-/* Also if none is pending: the length would say no. */
+static Py_ssize_t timers_object_length(PyObject *self) { return (Py_ssize_t)timers_in(self)->count; }
+
+/* Also if none is held: the length would say no. */
 static int timers_object_is_true(PyObject *self) { (void)self; return 1; }
 
 static PyObject *timers_object_repr(PyObject *self)
@@ -516,7 +556,7 @@ static PyObject *timers_object_repr(PyObject *self)
 
 	if (timers_counts(held_by(self), &counts) != TIMERS_OK)
 		return PyUnicode_FromString("<timers, closed>");
-	return PyUnicode_FromFormat("<timers, %zu pending, tick %llu>", timers_len(held_by(self)),
+	return PyUnicode_FromFormat("<timers, %zu held, tick %llu>", timers_in(self)->count,
 	                            (unsigned long long)timers_now(held_by(self)));
 }
 
@@ -614,10 +654,11 @@ static PyMethodDef timers_methods[] = {
 	{ "set_at", FAST(timers_object_set_at),
 	  "set_at($self, handle, deadline, action, /)\n--\n\n"
 	  "Restarts the timer with this handle for this tick, or starts one if there is none. Returns its handle.\n\n"
-	  "Before the first start the handle is None. The old handle names no timer any more." },
+	  "Before the first start the handle is None, which names no timer. The old handle names none any more." },
 	{ "stop", timers_object_stop, METH_O,
 	  "stop($self, handle, /)\n--\n\n"
-	  "Stops the timer with this handle, pending or expired, and returns its action." },
+	  "Stops the timer with this handle, pending or expired, and returns its action.\n\n"
+	  "Refused (NOT_PENDING) if the handle is dead or None: also restart, restart_at and look are." },
 	{ "look", timers_object_look, METH_O,
 	  "look($self, handle, /)\n--\n\n"
 	  "The timer with this handle, pending or expired, as (deadline, serial, action)." },
@@ -625,7 +666,10 @@ static PyMethodDef timers_methods[] = {
 	  "take($self, tick, /)\n--\n\n"
 	  "Takes the next timer that is due by this tick, and passes the ticks up to its deadline.\n\n"
 	  "Returns it as (deadline, serial, action), or None. After None the ticks up to `tick` have passed, as far\n"
-	  "as the clock has them. A tick before now() is none to pass." },
+	  "as the clock has them: one after the last tick counts as the last, while catch_up refuses it. A tick\n"
+	  "before now() is none to pass.\n\n"
+	  "Don't take by LAST to get what is left. The clock is at its end then, and each later start is refused\n"
+	  "(TOO_LATE), also after clear. An iteration has all timers, and passes no tick." },
 	{ "catch_up", FAST(timers_object_catch_up),
 	  "catch_up($self, now, run=None, /)\n--\n\n"
 	  "Passes the ticks up to `now`, and calls run(deadline, serial, action) for each timer on the way.\n\n"
@@ -653,10 +697,13 @@ static PyMethodDef timers_methods[] = {
 	  "Passes one tick. What expires then waits to be taken." },
 	{ "clear", timers_object_clear_all, METH_NOARGS,
 	  "clear($self, /)\n--\n\n"
-	  "Drops all timers, pending and expired. Their actions are released." },
+	  "Drops all timers, pending and expired. Their actions are released. The clock stays as it is." },
 	{ "reserve", timers_object_reserve, METH_O,
 	  "reserve($self, most, /)\n--\n\n"
 	  "Makes room for this many timers at once: the wheels allocate nothing while fewer are held." },
+	{ "pending", timers_object_pending, METH_NOARGS,
+	  "pending($self, /)\n--\n\n"
+	  "How many timers are pending: those that are held, but for the expired ones that wait to be taken." },
 	{ "has_due", timers_object_has_due, METH_NOARGS,
 	  "has_due($self, /)\n--\n\n"
 	  "Whether an expired timer was not yet taken." },
@@ -666,10 +713,11 @@ static PyMethodDef timers_methods[] = {
 	{ "wakeup", timers_object_wakeup, METH_NOARGS,
 	  "wakeup($self, /)\n--\n\n"
 	  "A tick until which nothing expires, at most the next deadline, or None if no timer is held.\n\n"
-	  "Constant time. At that tick maybe nothing has expired: then ask again." },
+	  "For a loop that sleeps. Constant time. At that tick maybe nothing has expired: then ask again." },
 	{ "next", timers_object_next, METH_NOARGS,
 	  "next($self, /)\n--\n\n"
-	  "The deadline of the timer that is taken next, exactly, or None if no timer is held." },
+	  "The deadline of the timer that is taken next, exactly, or None if no timer is held.\n\n"
+	  "For a single look: it may walk the timers of a bucket, each time." },
 	{ "find_next", timers_object_find_next, METH_NOARGS,
 	  "find_next($self, /)\n--\n\n"
 	  "The same as next. What it found is kept for later calls, for a loop that asks in each turn." },
@@ -679,8 +727,9 @@ static PyMethodDef timers_methods[] = {
 	{ "close", timers_object_close, METH_NOARGS,
 	  "close($self, /)\n--\n\n"
 	  "Frees all timers, and releases their actions.\n\n"
-	  "From then on each call that can be refused is (NOT_OPEN). The others find no timer." },
-	{ "__enter__", enter, METH_NOARGS, "The timers themselves." },
+	  "From then on each call that starts, stops, looks up or takes timers or passes ticks is refused (NOT_OPEN),\n"
+	  "and so is `with timers`. The others find no timer." },
+	{ "__enter__", timers_object_enter, METH_NOARGS, "The timers themselves. Refused (NOT_OPEN) if they are closed." },
 	{ "__exit__", FAST(timers_object_exit), "Frees all timers, as close." },
 	{ "__reduce__", refuse_copy, METH_NOARGS, "Refused: timers own memory." },
 	{ "__class_getitem__", Py_GenericAlias, METH_O | METH_CLASS, "For annotations: Timers[T] has actions of type T." },
@@ -698,9 +747,9 @@ static PyType_Slot timers_slots[] = {
 		"Only tick, advance, advance_to, take and catch_up pass ticks. A timer whose deadline is now() has expired,\n"
 		"and waits to be taken by expire, expired, take or catch_up. Timers are taken in the order of their\n"
 		"deadlines, and those of one deadline in the order of their starts.\n\n"
-		"len(timers) is how many are pending. `handle in timers` is whether a timer has this handle. An iteration\n"
-		"has all timers, pending and expired, in no order: pairs of a handle and what look returns. Meanwhile\n"
-		"timers may be started, stopped and taken. The object is true also if no timer is pending." },
+		"len(timers) is how many are held, pending and expired. `handle in timers` is whether a timer has this\n"
+		"handle; None is none's. An iteration has all of them in no order: pairs of a handle and what look\n"
+		"returns. Meanwhile timers may be started, stopped and taken. The object is true also if no timer is held." },
 	{ Py_tp_new, timers_object_new },
 	{ Py_tp_init, timers_object_init },
 	{ Py_tp_dealloc, timers_object_dealloc },

@@ -118,13 +118,14 @@ def come_and_go():
             if life % 4:
                 refused(td.LEFT, desk.open, 0, 4)
                 turn(desk)
+                assert (desk.pending(0), desk.pending(1)) == (life % 4, 0)
                 if life % 8 > 4:
                     assert desk.stop_pending(0) == life % 4 and desk.pending(0) == desk.stop_pending(0) == 0
                     sent += life % 4            # the stops have their numbers
                 else:
                     while desk.pending(0):
                         desk.advance(5)
-                    assert desk.outbox(0) > 0 and desk.flush(0) > 0 and desk.outbox(0) == 0
+                    assert desk.outbox(0) > 0 and desk.outbox(1) == desk.flush(1) == 0 and desk.flush(0) > 0 and desk.outbox(0) == 0
             line = desk.open(0, 4)
             assert not desk.line_freed(0) and line.receive() is None
         refused(td.OUT_OF_RANGE, desk.open, 0, 0)
@@ -132,29 +133,11 @@ def come_and_go():
         refused(td.NO_CLIENT, desk.stop_pending, 2)
         assert (desk.serve(0), desk.serve(2)) == (td.IDLE, td.NO_CLIENT)
         desk.reserve()
-    assert line.abandoned and other.abandoned
-
-
-def counts_by_client():
-    with Desk(2, 9, 4, 4) as desk:
-        first, second = desk.lines
-        first.start(5, 1), second.start(3, 2), second.start(9, 3)
-        turn(desk)
-        assert (desk.pending(0), desk.pending(1), len(desk)) == (1, 2, 3)
-        assert (desk.advance(20), desk.now) == (3, 3)
-        assert (desk.pending(1), desk.outbox(0), desk.outbox(1), len(desk)) == (1, 0, 1, 2)
-        assert desk.flush(0) == 0 and desk.flush(1) == 1
+        with Desk(2, 1, 1, 1) as stranger:
+            stranger.lines[1].finish()
+            refused(td.OTHER_LINE, desk.end, 1, stranger.lines[1])
     refused(td.NOT_OPEN, desk.reserve)
-
-
-def refuses_a_line_of_another_desk():
-    with Desk(1, 9, 4, 4) as desk, Desk(1, 9, 4, 4) as other:
-        line, stranger = desk.lines[0], other.lines[0]
-        line.finish(), stranger.finish()
-        refused(td.OTHER_LINE, desk.end, 0, stranger)
-        refused(td.OTHER_LINE, other.end, 0, line)
-        assert not line.ended and not stranger.ended
-        assert desk.end(0, line) == other.end(0, stranger) == 0 and line.ended and stranger.ended
+    assert line.abandoned and other.abandoned
 
 
 def work(line, counts):
@@ -212,7 +195,7 @@ def numbers_out_of_range():
     assert td.room_for(2**64 - 2, 0) == 2**64 - 1
     for table in (2, 2**32 - 1):
         refused(td.OUT_OF_RANGE, lambda table=table: Desk(1, 1, 1, 1, table=table))
-    for clients in (0, 65, 10**11, 2**64 - 1):
+    for clients in (0, td.CLIENTS + 1, 10**11, 2**64 - 1):
         refused(td.OUT_OF_RANGE, lambda clients=clients: Desk(clients, 1, 1, 1))
     for wrong in (-1, 2**64):
         out_of_range(wrong, 64, Handle, wrong, 1)
@@ -343,8 +326,6 @@ assert (str(DeskError(td.NO_ROOM)), str(DeskError(99))) == ("the outbox has no r
 for seed in range(3):
     agrees(seed)
 come_and_go()
-counts_by_client()
-refuses_a_line_of_another_desk()
 threads(4)
 numbers_out_of_range()
 owns_what_it_holds()

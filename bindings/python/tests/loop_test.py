@@ -2,6 +2,7 @@
 import asyncio
 import contextlib
 import sys
+import time
 import weakref
 
 from timers.asyncio import EventLoop, WheelMixin
@@ -86,6 +87,56 @@ def put_input_first():
         assert ran == [b"a", "late"], ran
 
 
+class Shifted(EventLoop):
+    """A loop whose clock begins elsewhere, which it knows only once it was made."""
+
+    def __init__(self, begin):
+        super().__init__()
+        self.shift = begin - super().time()
+
+    def time(self):
+        return super().time() + self.shift
+
+
+def begin_anywhere():
+    """A clock below 0 comes to its timers as any other does, and so does one that counts from 1970."""
+    for begin in (-1e6, -5, -.01, 0, 1.8e9):
+        loop = Shifted(begin)
+        ran = []
+        loop.call_later(3600, ran.append, "too early")
+        for delay, name in (.02, "b"), (.01, "a"), (-60, "0"), (-90, "-"):
+            loop.call_later(delay, ran.append, name)
+        loop.call_later(.03, loop.stop)
+        started = time.monotonic()
+        loop.run_forever()
+        assert ran == ["-", "0", "a", "b"] and .029 < time.monotonic() - started < 9, (begin, ran)
+        assert len(loop._wheel) == 1
+        loop.close()
+
+
+def call_what_is_no_time():
+    """What is scheduled for nan is called at once, as asyncio does. What is for infinity never is, and for minus infinity at once."""
+    with new_loop() as loop:
+        ran = []
+        for delay in (float("nan"), float("inf"), float("-inf")):
+            loop.call_later(delay, ran.append, str(delay))
+        loop.call_later(.01, loop.stop)
+        loop.run_forever()
+        assert sorted(ran) == ["-inf", "nan"] and len(loop._wheel) == 1
+
+
+def stand_first():
+    """Behind the loop among the bases the mixin would override nothing: such a class is refused."""
+    for bases in ((asyncio.SelectorEventLoop, WheelMixin), (asyncio.BaseEventLoop, WheelMixin)):
+        try:
+            type("Late", bases, {})
+        except TypeError as error:
+            assert str(error) == "WheelMixin must stand before the loop among the bases of Late"
+        else:
+            raise AssertionError("a class was made whose timers are in the heap")
+    type("Alone", (WheelMixin,), {})
+
+
 def use_another_loop():
     """The mixin works with each loop of asyncio, and a runner closes it."""
     class Loop(WheelMixin, asyncio.SelectorEventLoop):
@@ -104,5 +155,5 @@ def use_another_loop():
 
 
 if __name__ == "__main__":
-    for test in drop_what_is_cancelled, run_in_order, release_what_is_left, put_input_first, use_another_loop:
+    for test in drop_what_is_cancelled, run_in_order, release_what_is_left, put_input_first, begin_anywhere, call_what_is_no_time, stand_first, use_another_loop:
         test()

@@ -10,8 +10,8 @@ import tracemalloc
 import weakref
 
 import timers as module
-from timers import (CLOCK, CLOCK_END, CLOCK_LAST, DUE, LAST, NO_MEMORY, NO_TABLE, NOT_OPEN, NOT_PENDING, OK, SMALL, SMALL_LAST, SMOOTH, TOO_LATE,
-                    WIDE, ZERO_INTERVAL, Handle, Timers, TimersError)
+from timers import (CLOCK, CLOCK_END, CLOCK_LAST, DUE, LAST, NO_MEMORY, NO_TABLE, NOT_OPEN, NOT_PENDING, OK, SMALL, SMALL_LAST, SMOOTH,
+                    TOO_LATE, WIDE, ZERO_INTERVAL, Handle, Timers, TimersError, desk)
 
 try:
     import _testcapi
@@ -133,7 +133,7 @@ def compare(calls=20000):
                 assert wakeup is None if first is None else now < wakeup <= first
             assert timers.next() == timers.find_next() == timers.next() == first
             assert timers.has_due() == (due > 0) and timers
-            assert timers.now() == now and len(timers) == len(held) - due
+            assert timers.now() == now and len(timers) == len(held) and timers.pending() == len(held) - due
             assert Action.live == {number for _, number, _ in held.values()}
             assert all(handle in timers for _, _, handle in list(held.values())[:3])
         visited = {handle.serial: numbered(timer) for handle, timer in timers}
@@ -186,10 +186,11 @@ def meet_the_edges():
         assert text_of(OverflowError, lambda: Timers(table=-1)) == "-1 is not from 0 to 2^32 - 1"
         for owned in (copy.copy, copy.deepcopy, pickle.dumps):
             assert text_of(TypeError, owned, timers).endswith(" owns memory: it can't be copied or pickled")
-        for wrong in (None, 7, (handle.place, handle.serial)):
-            assert text_of(TypeError, timers.stop, wrong) == f"not a Handle: {wrong}"
-            for call in (timers.look, timers.__contains__, lambda h: timers.restart(h, 1), lambda h: timers.restart_at(h, 1)):
-                assert raises(TypeError, call, wrong)
+        named = (timers.stop, timers.look, lambda h: timers.restart(h, 1), lambda h: timers.restart_at(h, 1))
+        for wrong in (7, (handle.place, handle.serial)):
+            assert all(text_of(TypeError, call, wrong) == f"not a Handle: {wrong}" for call in (*named, timers.__contains__))
+        for none in (None, Handle()):
+            assert none not in timers and all(refused(call, none) == NOT_PENDING for call in named)
         for call, *wrong in ((timers.start, 1), (timers.start_at, 1, 2, 3), (timers.restart, handle), (timers.set_at, handle, 1),
                              (timers.catch_up,), (timers.take,), (timers.now, 1), (Handle, 1, 2, 3), (Timers, 0, 1, 2)):
             assert raises(TypeError, call, *wrong)
@@ -199,9 +200,14 @@ def meet_the_edges():
     assert timers and refused(timers.start, 1, 1) == refused(timers.set_at, handle, 1, 1) == NOT_OPEN
     assert refused(timers.advance, 0) == refused(timers.advance, 1) == refused(timers.advance_to, 1) == NOT_OPEN
     assert refused(timers.catch_up, 0, print) == refused(timers.tick) == NOT_OPEN
-    assert timers.take(9) is None and timers.expired() == [] and list(timers) == []
-    timers.clear()
-    timers.close()
+    for closed in (timers, Timers.__new__(Timers)):
+        for call in (lambda: closed.take(9), closed.expire, closed.expired, closed.__enter__, lambda: closed.stop(handle),
+                     lambda: closed.look(handle), lambda: closed.restart(handle, 1), lambda: closed.reserve(1), closed.counts):
+            assert refused(call) == NOT_OPEN
+        assert list(closed) == [] and len(closed) == closed.pending() == closed.now() == 0 and handle not in closed
+        assert closed.next() is closed.find_next() is closed.wakeup() is None and not closed.has_due()
+        closed.clear()
+        closed.close()
 
 
 def close_if_the_block_raises():
@@ -222,7 +228,7 @@ def take_nothing_if_refused():
             for value, kind in ((-1, OverflowError), (2**64, OverflowError), (1.5, TypeError), (None, TypeError)):
                 assert raises(kind, call, value)
         assert refused(timers.catch_up, 2**60, print) == refused(timers.catch_up, 2**64 - 1, print) == TOO_LATE
-        assert timers.now() == 0 and timers.has_due() and len(timers) == 1
+        assert timers.now() == 0 and timers.has_due() and len(timers) == 2
         assert timers.advance(3) == [(0, first.serial, 7), (3, second.serial, 8)]
 
 
@@ -237,7 +243,7 @@ def catch_up_with_other_times():
             timers.advance_to(now)
         for now in (8640000, 2**64 - 1):
             assert refused(timers.catch_up, now, lambda *timer: ran.append(timer)) == TOO_LATE
-        assert ran == [] and timers.now() == 1000 and timers.has_due() and len(timers) == 1
+        assert ran == [] and timers.now() == 1000 and timers.has_due() and len(timers) == 2
         timers.catch_up(1000, lambda *timer: ran.append(timer[2]))
         timers.catch_up(8639999, lambda *timer: ran.append(timer[2]))
         assert ran == [2, 1] and timers.now() == 8639999
@@ -443,9 +449,10 @@ def release_what_calls_back():
             timers.start_at(0, Calls(run))
             with contextlib.suppress(TimersError):
                 way(timers)
-            list(timers), timers.wakeup()
+            assert len(timers) == len(list(timers))
+            timers.wakeup()
             timers.close()
-            assert len(ran) == 7
+            assert len(ran) == 7 and len(timers) == 0
 
 
 def refer_in_circles():
@@ -492,7 +499,7 @@ def derive():
     named = Named("a")
     handle = named.start(3, "b")
     assert named.look(handle) == (10, handle.serial, "ab") and named.name == "a" and refused(named.start, 8639999, "") == TOO_LATE
-    assert repr(named) == "<timers, 1 pending, tick 7>"
+    assert repr(named) == "<timers, 1 held, tick 7>"
     empty = Timers.__new__(Timers)
     assert refused(empty.start, 1, 1) == NOT_OPEN and repr(empty) == "<timers, closed>" and len(empty) == 0 and list(empty) == []
 
@@ -511,10 +518,15 @@ def call_the_actions():
 def name_what_is_refused():
     """An error has the number and the text of its reason, also once it was pickled."""
     error = pickle.loads(pickle.dumps(TimersError(NOT_PENDING)))
-    assert (error.status, str(error), repr(error)) == (NOT_PENDING, "no timer has this handle", f"TimersError({NOT_PENDING})")
-    for status in (99, 2**40):
-        assert str(TimersError(status)) == "no status"
-    assert raises(TypeError, str, TimersError("x")) and raises(IndexError, str, TimersError())
+    assert (error.status, str(error), repr(error)) == (NOT_PENDING, "no timer has this handle", "TimersError(NOT_PENDING)")
+    for name in ("OK", "NOT_OPEN", "OPEN", "NO_TABLE", "NO_MEMORY", "DUE", "ZERO_INTERVAL", "TOO_LATE", "SERIALS_SPENT", "CLOCK_END"):
+        assert repr(TimersError(getattr(module, name))) == f"TimersError({name})"
+    for status in (desk.CLOSED, 99, 2**40):
+        assert (str(TimersError(status)), repr(TimersError(status))) == ("no status", f"TimersError({status})")
+    assert repr(desk.DeskError(desk.CLOSED)) == "DeskError(CLOSED)" and repr(desk.DeskError(desk.TOO_LATE)) == "DeskError(TOO_LATE)"
+    for kind in (TimersError, desk.DeskError):
+        assert raises(TypeError, kind) and raises(TypeError, kind, 1, 2) and raises(TypeError, kind, "x")
+        assert raises(OverflowError, kind, -1) and raises(TypeError, lambda kind=kind: kind(status=1))
     for wrong, status in ((4, NO_TABLE), (2**32 - 1, NO_TABLE)):
         assert refused(Timers, wrong) == status
     for table, last in ((WIDE, LAST), (CLOCK, CLOCK_LAST), (SMOOTH, LAST), (SMALL, SMALL_LAST)):
@@ -580,6 +592,7 @@ def refuse_memory():
             finally:
                 _testcapi.remove_mem_hooks()
             assert sum(isinstance(timer[2], Action) for _, timer in timers) == len(Action.live), more
+            assert len(timers) == sum(1 for _ in timers), more
             refusals += failed
             more += 1
             assert more < 999
@@ -609,14 +622,17 @@ def stop_what_expired():
         assert ran == [(5, 0), (5, 2)] and timers.now() == 9 and timers.expire() is None
 
 
-def start_what_is_due_at_once():
-    """A tick that is not after now is due at once, behind what has expired already."""
-    with Timers(first_tick=7) as timers:
-        first, second = timers.start_at(7, 1), timers.start_at(0, 2)
-        assert timers.look(second) == (7, 2, 2) and timers.has_due() and len(timers) == 0
-        last = timers.restart_at(first, 3, 3)
-        assert timers.expire() == (7, 2, 2) and timers.expire() == (7, last.serial, 3)
-        assert timers.expire() is None and not timers.has_due() and timers.now() == 7
+def count_what_waits():
+    """While some are held, the length says so: none is lost if all expired at one tick."""
+    with Timers() as timers:
+        for action in range(5):
+            timers.start(3, action)
+        taken = []
+        while len(timers):
+            taken.append(timers.take(9)[2])
+            assert len(timers) == len(list(timers)) == 4 - taken[-1] and timers.pending() == 0
+            assert repr(timers) == f"<timers, {len(timers)} held, tick 3>"
+        assert taken == [0, 1, 2, 3, 4]
 
 
 def come_to_the_last_tick():
@@ -628,6 +644,8 @@ def come_to_the_last_tick():
         assert timers.advance(100) == [(last - 4, first.serial, 7), (last, second.serial, 8)]
         assert timers.now() == last and refused(timers.advance, 1) == CLOCK_END
         assert timers.advance(0) == [] and timers.now() == last
+        assert timers.take(LAST) is None and timers.now() == last
+        timers.clear()
         assert refused(timers.start_at, last, 1) == refused(timers.start_at, 0, 1) == TOO_LATE
     with Timers(CLOCK, last - 9) as timers:
         assert timers.advance(100) == [] and timers.now() == last
@@ -656,8 +674,8 @@ def count_the_moves():
 
 
 if __name__ == "__main__":
-    for test in (compare, meet_the_edges, close_if_the_block_raises, stop_what_expired, start_what_is_due_at_once,
-                 come_to_the_last_tick, count_the_moves, take_nothing_if_refused, catch_up_with_other_times, take_many,
+    for test in (compare, meet_the_edges, close_if_the_block_raises, stop_what_expired,
+                 count_what_waits, come_to_the_last_tick, count_the_moves, take_nothing_if_refused, catch_up_with_other_times, take_many,
                  keep_what_an_iteration_gave, raise_from_a_run, make_room, free_what_is_closed, take_whole_numbers, hold_the_lock,
                  keep_what_is_refused, release_what_calls_back, refer_in_circles, derive, call_the_actions, name_what_is_refused,
                  keep_handles, refuse_memory):

@@ -1,4 +1,4 @@
-//! A desk: one thread keeps the timers of up to 64 others, which send it requests and receive words, without a lock.
+//! A desk: one thread keeps the timers of up to [`CLIENTS`] others, which send it requests and receive words, without a lock.
 //!
 //! It is for threads that block, in a database or in code of others. One that runs a loop is better served by
 //! [`Timers`](crate::Timers) of its own.
@@ -56,7 +56,16 @@ use core::sync::atomic::{AtomicU64, Ordering};
 const OK: c_uint = 0;
 const IDLE: c_uint = 20;
 const NEVER: u64 = u64::MAX;
-const CLIENTS: usize = 64;
+// made by tools/facts: kinds in Rust
+const STARTED: c_uint = 1;
+const RESTARTED: c_uint = 2;
+const STOPPED: c_uint = 3;
+const REFUSED: c_uint = 4;
+const EXPIRED: c_uint = 6;
+const RETURNED: c_uint = 7;
+// by hand
+/// The most clients of a desk.
+pub const CLIENTS: usize = 64;
 
 /// Why a call was refused, or a request.
 #[derive(Clone, Copy, Debug, Eq, PartialEq)]
@@ -316,12 +325,12 @@ impl RawWord {
         let RawWord { number, handle, deadline, action, .. } = *self;
         let timer = Timer { number, serial: handle.serial, deadline, action };
         match self.kind {
-            1 => Word::Started { number, handle, deadline, action },
-            2 => Word::Restarted { number, handle, deadline, action, old: self.other },
-            3 => Word::Stopped { number, serial: handle.serial },
-            4 => Word::Refused { number, action, reason: Error::of(self.reason) },
-            6 => Word::Expired(timer),
-            7 => Word::Returned(timer),
+            STARTED => Word::Started { number, handle, deadline, action },
+            RESTARTED => Word::Restarted { number, handle, deadline, action, old: self.other },
+            STOPPED => Word::Stopped { number, serial: handle.serial },
+            REFUSED => Word::Refused { number, action, reason: Error::of(self.reason) },
+            EXPIRED => Word::Expired(timer),
+            RETURNED => Word::Returned(timer),
             _ => Word::NotTaken { number, action, reason: Error::of(self.reason) },
         }
     }
@@ -427,7 +436,7 @@ impl Line {
 }
 
 impl Desk {
-    /// A desk with `clients` clients, 1 to 64, and the end of each.
+    /// A desk with `clients` clients, 1 to [`CLIENTS`], and the end of each.
     ///
     /// # Errors
     /// `OutOfRange` if a number of the configuration, or of clients, is out of its range; `NoMemory`.

@@ -75,7 +75,25 @@ impl fmt::Display for Error {
 
 impl error::Error for Error {}
 
-/// A start that was refused: why, and the value that it was given. `?` turns it into an [`Error`], and drops the value.
+/// A start that was refused: why, and the value that it was given.
+///
+/// In a function that returns an [`Error`], `?` turns it into that and drops the value. Where errors are boxed, `?` boxes the
+/// `Refused<T>` with its value: then `T` must own what it has, and be `Send` and `Sync` if the box is. Give the box the
+/// [`Error`] alone by `.map_err(Error::from)?`:
+///
+/// ```
+/// use std::rc::Rc;
+/// use timers::{Error, Timers};
+///
+/// fn run(name: &str) -> Result<(), Box<dyn std::error::Error + Send + Sync>> {
+///     let mut timers = Timers::new()?;
+///     timers.start(0, (Rc::new(1), name)).map_err(Error::from)?;
+///     Ok(())
+/// }
+/// assert_eq!(run("tea").unwrap_err().downcast_ref(), Some(&Error::ZeroInterval));
+/// ```
+///
+/// Its text has no reason, since its [`source`](error::Error::source) is the [`Error`].
 #[derive(Clone, Copy, Eq, PartialEq)]
 pub struct Refused<T> {
     /// Why it was refused.
@@ -92,11 +110,15 @@ impl<T> fmt::Debug for Refused<T> {
 
 impl<T> fmt::Display for Refused<T> {
     fn fmt(&self, f: &mut fmt::Formatter<'_>) -> fmt::Result {
-        write!(f, "the timer was not started: {}", self.error)
+        f.write_str("the timer was not started")
     }
 }
 
-impl<T> error::Error for Refused<T> {}
+impl<T> error::Error for Refused<T> {
+    fn source(&self) -> Option<&(dyn error::Error + 'static)> {
+        Some(&self.error)
+    }
+}
 
 impl<T> From<Refused<T>> for Error {
     fn from(refused: Refused<T>) -> Error {

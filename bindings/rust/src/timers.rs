@@ -28,10 +28,10 @@ pub enum Table {
     Wide = 0,
     /// 60 seconds, 60 minutes, 24 hours, 100 days, which take some 6 KB. The last tick is [`LAST_OF_CLOCK`].
     Clock = 1,
-    /// As `Wide`, but no tick moves all timers of a bucket: at most 2n/63 + 18 of the n that are held. They take some 11 KB, and
-    /// a start, stop or restart takes longer. The last tick is [`LAST`].
+    /// As `Wide`, but no tick moves all timers of a bucket: at most 2n/63 + 18 of the n that are held. They take some
+    /// 11 KB, and a start, stop or restart takes longer. The last tick is [`LAST`].
     Smooth = 2,
-    /// Six wheels of 16 slots, for machines with little memory: they take some 2.6 KB. The last tick is [`LAST_OF_SMALL`].
+    /// Six wheels of 16 slots, for machines with little memory: they take some 2.7 KB. The last tick is [`LAST_OF_SMALL`].
     Small = 3,
 }
 
@@ -98,8 +98,8 @@ pub struct Counts {
 /// # Costs
 ///
 /// Starts, restarts, stops and looks take constant time, but for a start that makes the arrays grow. A timer takes 64
-/// bytes and its value, of the most that were ever held at once, and after growing up to twice as much. A million timers
-/// that move to a lower wheel at one tick take 10 ms or more.
+/// bytes, and its value with a tag, of the most that were ever held at once, and after growing up to twice as much. A
+/// million timers that move to a lower wheel at one tick take 10 ms or more.
 ///
 /// # Threads
 ///
@@ -167,6 +167,31 @@ pub fn at_least(time: Duration, tick: Duration) -> u64 {
 
 impl<T> Timers<T> {
     /// No timers, on a clock at tick 0 that has ticks for all practical purposes ([`Table::Wide`]).
+    ///
+    /// It allocates the wheels, and so `Timers` have no `Default`. A struct that has one keeps an `Option`, and makes them at
+    /// the first use:
+    ///
+    /// ```
+    /// use timers::{Error, Timers};
+    ///
+    /// #[derive(Default)]
+    /// struct Connections {
+    ///     timers: Option<Timers<u32>>,
+    /// }
+    ///
+    /// impl Connections {
+    ///     fn timers(&mut self) -> Result<&mut Timers<u32>, Error> {
+    ///         match &mut self.timers {
+    ///             Some(timers) => Ok(timers),
+    ///             none => Ok(none.insert(Timers::new()?)),
+    ///         }
+    ///     }
+    /// }
+    /// # let mut connections = Connections::default();
+    /// # connections.timers()?.start(1, 7)?;
+    /// # assert_eq!(connections.timers()?.len(), 1);
+    /// # Ok::<(), Error>(())
+    /// ```
     ///
     /// # Errors
     ///
@@ -331,6 +356,21 @@ impl<T> Timers<T> {
     /// With `None` nothing that is due is left, and the ticks up to `tick` have passed, or those up to the last tick of the
     /// clock. A tick before the present one passes none.
     ///
+    /// Don't take by `u64::MAX` or [`LAST`] to get the rest: the clock is at its end then, for good. Each later start is
+    /// refused ([`TooLate`](Error::TooLate)), also after [`clear`](Timers::clear). [`drain`](Timers::drain) has the rest, and
+    /// leaves the clock where it is:
+    ///
+    /// ```
+    /// # use timers::{Error, Timers};
+    /// # let mut timers = Timers::new()?;
+    /// timers.start(5, "tea")?;
+    /// assert!(timers.drain().eq(["tea"]));
+    /// assert!(timers.start(5, "egg").is_ok());
+    /// assert!(timers.take(u64::MAX).is_some() && timers.take(u64::MAX).is_none());
+    /// assert_eq!(timers.start(5, "call").map_err(Error::from), Err(Error::TooLate)); // and no later one
+    /// # Ok::<(), Error>(())
+    /// ```
+    ///
     /// A loop may start, restart and stop timers between two calls. One that always starts a timer which is due at once
     /// never ends.
     #[must_use = "the timer is taken, and its value dropped"]
@@ -347,7 +387,8 @@ impl<T> Timers<T> {
     }
 
     /// An iterator that takes each timer that is due by `tick`, by [`take`](Timers::take). Those that it has not come to are
-    /// not taken. A loop that starts or stops timers calls [`take`](Timers::take) instead.
+    /// not taken. A loop that starts or stops timers calls [`take`](Timers::take) instead. For all that is left call
+    /// [`drain`](Timers::drain): a `tick` of `u64::MAX` ends the clock for good.
     pub fn expired(&mut self, tick: u64) -> Expired<'_, T> {
         Expired { timers: self, tick }
     }

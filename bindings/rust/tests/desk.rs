@@ -128,34 +128,6 @@ fn agrees_with_a_map(seed: u64) {
     assert_eq!(line.start(1, 1), Err(Error::Finished));
 }
 
-/// Each client's timers and words are counted for it alone.
-#[test]
-fn counts_by_client() {
-    let (mut desk, mut lines) = Desk::new(2, Config::new(9, 4, 4)).unwrap();
-    lines[0].start(5, 1).unwrap();
-    lines[1].start(3, 2).unwrap();
-    lines[1].start(9, 3).unwrap();
-    turn(&mut desk);
-    assert_eq!((desk.pending_of(0), desk.pending_of(1), desk.pending()), (1, 2, 3));
-    assert_eq!((desk.advance(20), desk.now()), (Ok(3), 3));
-    assert_eq!((desk.pending_of(1), desk.outbox(0), desk.outbox(1), desk.pending()), (1, 0, 1, 2));
-    assert_eq!((desk.flush(0), desk.flush(1)), (0, 1));
-}
-
-/// A line of another desk ends nothing, even if its client has the same number.
-#[test]
-fn refuses_a_line_of_another_desk() {
-    let (mut desk, mut lines) = Desk::new(1, Config::new(9, 4, 4)).unwrap();
-    let (mut other, mut strangers) = Desk::new(1, Config::new(9, 4, 4)).unwrap();
-    let (line, stranger) = (&mut lines[0], &mut strangers[0]);
-    line.finish().unwrap();
-    stranger.finish().unwrap();
-    assert_eq!((desk.end(0, stranger), other.end(0, line)), (Err(Error::OtherLine), Err(Error::OtherLine)));
-    assert!(!line.ended() && !stranger.ended());
-    assert_eq!((desk.end(0, line), other.end(0, stranger)), (Ok(0), Ok(0)));
-    assert!(line.ended() && stranger.ended());
-}
-
 /// A client that is dropped makes room for another, whose numbers go on.
 #[test]
 fn clients_come_and_go() {
@@ -175,6 +147,10 @@ fn clients_come_and_go() {
         if life % 4 > 0 {
             assert_eq!(desk.open(0, 4).err(), Some(Error::Left));
             turn(&mut desk);
+            assert_eq!(
+                (desk.pending_of(0), desk.pending_of(1), desk.pending()),
+                (life as usize % 4, 0, life as usize % 4)
+            );
             if life % 8 > 4 {
                 let pending = desk.pending_of(0) as u64;
                 assert_eq!((desk.stop_pending(0), desk.stop_pending(0)), (Ok(pending), Ok(0)));
@@ -183,13 +159,17 @@ fn clients_come_and_go() {
             } else {
                 desk.advance_to(desk.now() + 5).unwrap();
                 assert_eq!(desk.open(0, 4).err(), Some(Error::Left));
-                assert!(desk.outbox(0) > 0 && desk.flush(0) > 0 && desk.outbox(0) == 0);
+                assert!(desk.outbox(0) > 0 && desk.outbox(1) == 0 && desk.flush(1) == 0);
+                assert!(desk.flush(0) > 0 && desk.outbox(0) == 0);
             }
         }
         line = desk.open(0, 4).unwrap();
         assert!(!desk.line_freed(0) && line.receive().is_none());
     }
     assert_eq!((desk.stop_pending(0), desk.stop_pending(2)), (Err(Error::NotFreed), Err(Error::NoClient)));
+    let (_stranger, mut strangers) = Desk::new(2, Config::new(1, 1, 1)).unwrap();
+    strangers[1].finish().unwrap();
+    assert_eq!(desk.end(1, &mut strangers[1]), Err(Error::OtherLine));
     assert_eq!(other.start(1, 1), Ok(1));
     assert_eq!((desk.serve(1), desk.serve(1), desk.serve(2)), (Ok(true), Ok(false), Err(Error::NoClient)));
     drop(desk);
@@ -268,7 +248,7 @@ fn clients_in_threads_get_all_their_words() {
 
 #[test]
 fn numbers_out_of_range_are_refused() {
-    for clients in [0, 65, 100_000_000_000, usize::MAX] {
+    for clients in [0, timers::desk::CLIENTS + 1, 100_000_000_000, usize::MAX] {
         assert_eq!(Desk::new(clients, Config::new(1, 1, 1)).unwrap_err(), Error::OutOfRange);
     }
     for (timers, requests) in [(u64::MAX, 1), (1, u64::MAX), (u64::MAX, u64::MAX)] {

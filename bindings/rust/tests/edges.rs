@@ -2,6 +2,7 @@
 // SPDX-License-Identifier: MIT OR Apache-2.0
 use std::collections::HashSet;
 use std::error;
+use std::rc::Rc;
 use std::thread;
 use std::time::Duration;
 use timers::{at_least, Counts, Error, Handle, Refused, Table, Timers, LAST, LAST_OF_CLOCK};
@@ -45,19 +46,6 @@ fn a_refusal_changes_nothing_and_gives_the_value_back() {
     }
     assert_eq!((timers.wakeup(), timers.next_deadline(), timers.expire()), (None, None, None));
     assert!(timers.is_empty());
-}
-
-#[test]
-fn what_is_due_at_once_goes_to_the_back() {
-    let mut timers = Timers::with_table(Table::Wide, 7).unwrap();
-    let (first, second) = (timers.start_at(7, 1).unwrap(), timers.start_at(0, 2).unwrap());
-    let first = timers.restart_at(first, 3).unwrap();
-    assert_eq!((timers.len(), timers.has_due(), timers.next_deadline()), (2, true, Some(7)));
-    for (handle, value) in [(second, 2), (first, 1)] {
-        let timer = timers.expire().unwrap();
-        assert_eq!((timer.deadline, timer.serial, timer.value), (7, handle.serial(), value));
-    }
-    assert!(!timers.has_due());
 }
 
 #[test]
@@ -131,6 +119,35 @@ fn intervals_are_rounded_up() {
     assert_eq!(Timers::new().unwrap().start(u64::MAX, 1).map_err(Error::from), Err(Error::TooLate));
 }
 
+/// A value that is borrowed or stays in its thread is no obstacle to a box of the error alone.
+#[test]
+fn an_error_is_boxed_without_the_value() {
+    fn start(name: &str) -> Result<Handle, Box<dyn error::Error + Send + Sync>> {
+        Ok(Timers::new()?.start(0, (Rc::new(1), name)).map_err(Error::from)?)
+    }
+    assert_eq!(start(&String::from("tea")).unwrap_err().downcast_ref(), Some(&Error::ZeroInterval));
+}
+
+/// As the README has it: a late loop runs each tick of the grid, or only the last of those that have passed.
+#[test]
+fn a_period_keeps_its_grid_after_a_stall() {
+    let mut timers = Timers::new().unwrap();
+    timers.start_at(10, "all").unwrap();
+    timers.start_at(10, "last").unwrap();
+    let mut came = Vec::new();
+    for due in [9, 10, 45, 50] {
+        while let Some(timer) = timers.take(due) {
+            came.push((due, timer.deadline, timer.value));
+            let periods = if timer.value == "all" { 1 } else { (due - timer.deadline) / 10 + 1 };
+            timers.start_at(timer.deadline + periods * 10, timer.value).unwrap();
+        }
+    }
+    let late = [(45, 20, "all"), (45, 20, "last"), (45, 30, "all"), (45, 40, "all")];
+    assert_eq!(came[..2], [(10, 10, "all"), (10, 10, "last")]);
+    assert_eq!(came[2..6], late);
+    assert_eq!(came[6..], [(50, 50, "last"), (50, 50, "all")]);
+}
+
 /// At tick 0 a timer for tick 65 is in wheel 1. It moves to wheel 0 at tick 64, and expires at 65. One for
 /// tick 64 expires as its bucket of wheel 1 is visited.
 #[test]
@@ -154,8 +171,13 @@ fn errors_and_handles_are_as_std_expects() {
     fn plain() -> Result<Handle, Error> {
         Ok(Timers::new()?.start(0, "tea")?)
     }
-    assert_eq!(boxed().unwrap_err().to_string(), "the timer was not started: the interval is 0");
-    assert_eq!(plain().unwrap_err().to_string(), "the interval is 0");
+    let refused = boxed().unwrap_err();
+    assert_eq!((refused.to_string(), plain()), ("the timer was not started".to_string(), Err(Error::ZeroInterval)));
+    let reason = refused.source().unwrap();
+    assert_eq!(
+        (reason.to_string(), reason.downcast_ref()),
+        ("the interval is 0".to_string(), Some(&Error::ZeroInterval))
+    );
     assert_eq!(format!("{:?}, {}", Error::Due, Error::Other(99)), "Due, status 99");
     let mut timers = Timers::new().unwrap();
     let refused = timers.start(0, thread::current()).unwrap_err();

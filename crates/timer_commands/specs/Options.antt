@@ -5,9 +5,10 @@ use Rattle.timer_facility.specs.declared.config.Config.{Config}
 use Rattle.timer_facility.specs.Config.{config_fault}
 use Rattle.timer_wheels.specs.declared.table.TheConstants.{LAST_OF_CLOCK}
 use Rattle.timer_wheels.specs.declared.table.Table.TheVariants as table
-use Rattle.timer_wheels.specs.Tables.{slots_of_table}
+use Rattle.timer_wheels.specs.Smooth.{smooth_slots}
+use Rattle.timer_wheels.specs.Tables.{radices, slots_of_table}
 use Rattle.timer_commands.specs.declared.options.Scheme.{Scheme}
-use Rattle.timer_commands.specs.declared.options.Scheme.TheVariants.{Plain, Hashed, Hier, Clock}
+use Rattle.timer_commands.specs.declared.options.Scheme.TheVariants.{Plain, Hashed, Hier, Clock, Smooth}
 use Rattle.timer_commands.specs.declared.options.RunOptions.{RunOptions}
 use Rattle.timer_commands.specs.declared.options.OptionsFault.{OptionsFault}
 use Rattle.timer_commands.specs.declared.options.OptionsFault.TheVariants as faults
@@ -18,6 +19,7 @@ name_of Plain = codes "plain"
 name_of Hashed = codes "hashed"
 name_of Hier = codes "hier"
 name_of Clock = codes "clock"
+name_of Smooth = codes "smooth"
 
 -- how many slots the wheel of a scheme has, where the options give this number for the hashed one
 abbrev pub scheme_slots : Scheme → ℕ → ℕ
@@ -25,6 +27,7 @@ scheme_slots Plain slots = 0
 scheme_slots Hashed slots = slots
 scheme_slots Hier slots = slots_of_table table.Wide
 scheme_slots Clock slots = slots_of_table table.Clock
+scheme_slots Smooth slots = smooth_slots (radices table.Wide)
 
 -- the last tick of a scheme's clock
 abbrev pub scheme_last : Scheme → ℕ
@@ -32,6 +35,7 @@ scheme_last Plain = LAST
 scheme_last Hashed = LAST
 scheme_last Hier = LAST
 scheme_last Clock = LAST_OF_CLOCK
+scheme_last Smooth = LAST
 
 -- the configuration of the facility: serials and request numbers begin at 1
 abbrev pub config_of : RunOptions → Config

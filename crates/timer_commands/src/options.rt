@@ -18,6 +18,8 @@ pub enum Scheme {
     Hier,
     /// Wheels of 60 seconds, 60 minutes, 24 hours and 100 days.
     Clock,
+    /// The wheels of `Hier`, whose timers move to lower wheels early, and a few at each tick.
+    Smooth,
 }
 
 /// The options of `play`, `serve` and `show`.
@@ -50,7 +52,7 @@ impl Scheme {
         ensures { result ≡ scheme_last self.now }
     {
         match self {
-            Scheme::Plain | Scheme::Hashed | Scheme::Hier => LAST,
+            Scheme::Plain | Scheme::Hashed | Scheme::Hier | Scheme::Smooth => LAST,
             Scheme::Clock => LAST_OF_CLOCK,
         }
     }

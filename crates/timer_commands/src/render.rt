@@ -4,16 +4,21 @@
 //!     hashed    slot 2: 1:16 3:0         serial:rounds, from the front of the bucket
 //!     hier      wheel 1 slot 2: 1 3      serials, from the front
 //!     clock     minute 15: 1
+//!     smooth    wheel 1 slot 66: 1 3     the same, in two revolutions of each wheel: slots 0 to 127
 //!
 //! Each line begins with two spaces. A bucket without a timer has none. What is due is not shown: between
 //! two lines of a script nothing is. A wheel that counts its work may show what it counted:
 //!
 //!     hier      starts 3 moves 1 visits 128     starts and restarts, moves to a lower wheel, slots visited
+//!     smooth    starts 3 moves 1
 //!
 //! A hierarchy may show which timers moved while ticks passed:
 //!
 //!     hier      moved at 128 from wheel 1 slot 2 to wheel 0 slot 2: 1
 //!     clock     moved at 900 from minute 15 to second 30: 1
+//!
+//! In a smooth wheel timers may leave several buckets at one tick, a few of each, and one at a start. So it shows no
+//! such line.
 ghost use Rattle.std.specs.Prelude.{◌≡◌, ◌<◌, ◌++◌, length, decimal, OnOk};
 ghost use Rattle.timer_script.specs.Decorator.{HasGrown};
 ghost use Rattle.timer_commands.specs.Indented.{HasGrownByIndented, HasGrownByPicture, HasGrownByBare, HasGrownByEnd};
@@ -22,10 +27,16 @@ ghost use Rattle.timer_commands.specs.Wakeups.{wakeup_line};
 use itoa::Buffer;
 use timer_base::{OutOfMemory, PlainWheel, Wheel};
 use timer_links::Links;
-use timer_wheels::{HashedWheel, HierWheel, Table};
+use timer_wheels::{HashedWheel, HierWheel, SmoothWheel, Table};
 
 /// The slots of each wheel of the hierarchy.
 const WHEEL_SLOTS: u64 = 64;
+
+/// The slots of each wheel of the table for small machines.
+const SMALL_SLOTS: u64 = 16;
+
+/// The slots of two revolutions of a hierarchy's wheel, which the smooth wheel has for each.
+const TURN_SLOTS: u64 = 128;
 
 /// The lists of the clock's slots come second by second, then minute by minute, and so on.
 const FIRST_MINUTE: u64 = 60;
@@ -94,11 +105,7 @@ impl Placement for HierWheel {
     }
 
     fn push_counts(&self, text: &mut Vec<u8>) -> Result<(), OutOfMemory> {
-        push_number(text, b"  starts ", self.starts())?;
-        push_number(text, b" moves ", self.moves())?;
-        push_number(text, b" visits ", self.visits())?;
-        text.push(b'\n')?;
-        Ok(())
+        push_work(text, self.starts(), self.moves(), Some(self.visits()))
     }
 
     fn first_bucket(&self) -> usize {
@@ -117,6 +124,16 @@ impl Placement for HierWheel {
     }
 }
 
+impl Placement for SmoothWheel {
+    fn push_placement(&self, text: &mut Vec<u8>) -> Result<(), OutOfMemory> {
+        push_lists(text, self.links(), Naming::Turns)
+    }
+
+    fn push_counts(&self, text: &mut Vec<u8>) -> Result<(), OutOfMemory> {
+        push_work(text, self.starts(), self.moves(), None)
+    }
+}
+
 /// How the buckets of a wheel are named.
 #[derive(Clone, Copy)]
 enum Naming {
@@ -124,6 +141,10 @@ enum Naming {
     Slots,
     /// By wheel and slot.
     Wheels,
+    /// By wheel and slot of wheels for small machines.
+    SmallWheels,
+    /// By wheel and slot of its two revolutions.
+    Turns,
     /// By the hands of the clock.
     Clock,
 }
@@ -133,6 +154,7 @@ fn naming_of(table: Table) -> Naming {
     match table {
         Table::Wide => Naming::Wheels,
         Table::Clock => Naming::Clock,
+        Table::Small => Naming::SmallWheels,
     }
 }
 
@@ -209,6 +231,25 @@ fn push_list(
     Ok(())
 }
 
+/// Appends the line of what a wheel counted. A smooth wheel counts no visits.
+fn push_work(
+    text: &mut Vec<u8>,
+    starts: u64,
+    moves: u64,
+    visits: Option<u64>,
+) -> Result<(), OutOfMemory>
+    ensures indented { OnOk result (HasGrownByIndented text.old.items text.new.items) }
+    ensures kept { HasGrown text.old.items text.new.items }
+{
+    push_number(text, b"  starts ", starts)?;
+    push_number(text, b" moves ", moves)?;
+    if let Some(visits) = visits {
+        push_number(text, b" visits ", visits)?;
+    }
+    text.push(b'\n')?;
+    Ok(())
+}
+
 /// Appends a space, and the name of the bucket that is this list.
 #[tactic(auto, using(crate::proofs::IndentedLemmas::bare_numbers))]
 fn push_name(text: &mut Vec<u8>, list: u64, naming: Naming) -> Result<(), OutOfMemory>
@@ -217,12 +258,22 @@ fn push_name(text: &mut Vec<u8>, list: u64, naming: Naming) -> Result<(), OutOfM
 {
     match naming {
         Naming::Slots => push_number(text, b" slot ", list),
-        Naming::Wheels => {
-            push_number(text, b" wheel ", list / WHEEL_SLOTS)?;
-            push_number(text, b" slot ", list % WHEEL_SLOTS)
-        }
+        Naming::Wheels => push_slot(text, list, WHEEL_SLOTS),
+        Naming::SmallWheels => push_slot(text, list, SMALL_SLOTS),
+        Naming::Turns => push_slot(text, list, TURN_SLOTS),
         Naming::Clock => push_hand(text, list),
     }
+}
+
+/// Appends a space, and the wheel and slot of the bucket that is this list, where each wheel has so many slots.
+#[tactic(auto, using(crate::proofs::IndentedLemmas::bare_numbers))]
+fn push_slot(text: &mut Vec<u8>, list: u64, slots: u64) -> Result<(), OutOfMemory>
+    requires { 0 < slots }
+    ensures bare { OnOk result (HasGrownByBare text.old.items text.new.items) }
+    ensures kept { HasGrown text.old.items text.new.items }
+{
+    push_number(text, b" wheel ", list / slots)?;
+    push_number(text, b" slot ", list % slots)
 }
 
 /// Appends a space, and the hand of the clock and its slot, whose bucket is this list.

@@ -3,6 +3,7 @@ ghost use Rattle.std.specs.Prelude.{◌≡◌, ◌⊎◌, false, IfErr, IfOk};
 ghost use Rattle.timer_base.specs.WheelState.{empty_wheel};
 ghost use Rattle.timer_wheels.specs.HashedWheel.{slots_of};
 ghost use Rattle.timer_wheels.specs.HierWheel.{table_of};
+ghost use Rattle.timer_wheels.specs.SmoothWheel.{smooth_table};
 ghost use Rattle.timer_wheels.specs.declared.table.Table.TheVariants as tables;
 ghost use Rattle.timer_commands.specs.declared.options.Scheme.TheVariants as schemes;
 ghost use Rattle.timer_commands.specs.Options.{scheme_last, scheme_slots, config_of, IsPlayable};
@@ -18,7 +19,7 @@ use std::io::{Read, Write};
 use timer_base::{MakeFault, PlainWheel, Wheel};
 use timer_facility::{Checked, Facility};
 use timer_script::{Streams, Watched};
-use timer_wheels::{HashedWheel, HierWheel, Table};
+use timer_wheels::{HashedWheel, HierWheel, SmoothWheel, Table};
 
 /// A wheel that the options can name.
 trait OfScheme {
@@ -39,6 +40,10 @@ impl OfScheme for HashedWheel {
 impl OfScheme for HierWheel {
     ghost is_wheel_of = { λ options wheel. ((options.scheme ≡ schemes.Hier) × (table_of wheel ≡ tables.Wide))
         ⊎ ((options.scheme ≡ schemes.Clock) × (table_of wheel ≡ tables.Clock)) };
+}
+
+impl OfScheme for SmoothWheel {
+    ghost is_wheel_of = { λ options wheel. (options.scheme ≡ schemes.Smooth) × (smooth_table wheel ≡ tables.Wide) };
 }
 
 /// Does what the verb says over a new wheel of the scheme that the options name, and returns the exit status.
@@ -101,6 +106,10 @@ fn over_scheme<R: Read, S: Write, F: Write>(
         }
         Scheme::Clock => {
             let made = HierWheel::with_table(alloc, Table::Clock, first_tick);
+            over_wheel(alloc, verb, options, checked, made, streams, faults)
+        }
+        Scheme::Smooth => {
+            let made = SmoothWheel::with_table(alloc, Table::Wide, first_tick);
             over_wheel(alloc, verb, options, checked, made, streams, faults)
         }
     }

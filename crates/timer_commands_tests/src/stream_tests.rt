@@ -241,7 +241,13 @@ fn a_fault_behind_the_last_byte_is_never_met(rt: HostRuntime) {
     }
 }
 
-static SCHEMES: [Scheme; 4] = [Scheme::Plain, Scheme::Hashed, Scheme::Hier, Scheme::Clock];
+static SCHEMES: [Scheme; 5] = [
+    Scheme::Plain,
+    Scheme::Hashed,
+    Scheme::Hier,
+    Scheme::Clock,
+    Scheme::Smooth,
+];
 
 /// The script of the row `one_timer`, whose text has 40 bytes.
 const ONE_TIMER: &str = "start 0 1 1 7\ntick 1\n";

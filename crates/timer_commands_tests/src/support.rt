@@ -5,6 +5,7 @@ use std::io;
 use std::io::{ErrorKind, Read, Write};
 use std::process::Abort;
 use timer_commands::{RunOptions, Scheme, Verb, check_script, run_verb};
+use timer_facility::MAX_CLIENTS;
 use timer_script::{LineReason, OnBadLine, Streams, Watched};
 
 /// Compares in a function of its own, so that a test is a list of calls without branches.
@@ -50,7 +51,7 @@ pub static SIZES: [usize; 12] = [1, 2, 3, 5, 7, 8, 13, 21, 34, 55, 82, 100];
 const USUAL: RunOptions = RunOptions {
     scheme: Scheme::Hier,
     slots: 25,
-    clients: 64,
+    clients: MAX_CLIENTS,
     capacity: 1024,
     first_tick: 0,
 };

@@ -4,6 +4,7 @@ use std::io::ErrorKind;
 use std::process::Abort;
 use std::thread::Threads;
 use timer_commands::{ThreadsOptions, end_clients, run_clients};
+use timer_facility::MAX_CLIENTS;
 use timer_script::Watched;
 use timer_threads::ThreadsFault;
 
@@ -35,7 +36,7 @@ fn a_run_of_clients_ends_with_its_status_and_text(rt: HostRuntime) {
         (2, 3, usize::MAX, 0, two, ""),
         (1, 2, 10, 1, "client 0 s", "write failed\n"),
         (0, 1, usize::MAX, 2, "", range),
-        (65, 1, usize::MAX, 2, "", range),
+        (MAX_CLIENTS + 1, 1, usize::MAX, 2, "", range),
         (1, 0, usize::MAX, 2, "", range),
         (1, 10001, usize::MAX, 2, "", range),
     ] {
@@ -49,7 +50,7 @@ fn a_run_of_clients_ends_with_its_status_and_text(rt: HostRuntime) {
 fn each_error_of_a_run_of_clients_has_its_line_and_writes_nothing_else(rt: HostRuntime) {
     for (fault, line) in [
         (ThreadsFault::Client(0), "client 0 failed\n"),
-        (ThreadsFault::Client(63), "client 63 failed\n"),
+        (ThreadsFault::Client(12), "client 12 failed\n"),
         (ThreadsFault::Desk, "desk failed\n"),
         (ThreadsFault::OutOfMemory, "out of memory\n"),
     ] {

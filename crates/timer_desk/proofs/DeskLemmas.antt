@@ -4,15 +4,12 @@ use Rattle.std.specs.Prelude.{take, drop, slice_set, if◌then◌else◌}
 use Rattle.std.proofs.lemmas.Bool.{cases_eq}
 use Rattle.std.proofs.lemmas.Bool.Decides.{nat_tests}
 use Rattle.std.proofs.lemmas.List.{get_or-set_same, get_or-set_other, get_or_default, length-set, take-append-drop, length-take-le}
-use Rattle.timer_facility.specs.declared.request.Notice.{Notice}
+use Rattle.timer_desk.specs.Types.{Notice, Word, Served, Done, Step}
 use Rattle.timer_facility.specs.declared.event.Out.TheVariants as Outs
 use Rattle.timer_facility.specs.State.{FacilityState, pending_of}
 use Rattle.timer_facility.specs.Run.{run}
 use Rattle.timer_facility.specs.Facility.{FacilityView, with_nothing_waiting}
-use Rattle.timer_desk.specs.declared.word.Word.{Word}
 use Rattle.timer_desk.specs.declared.word.Word.TheVariants as Words
-use Rattle.timer_desk.specs.declared.report.Served.{Served}
-use Rattle.timer_desk.specs.declared.report.Done.{Done}
 use Rattle.timer_desk.specs.declared.report.Done.TheVariants as Dones
 use Rattle.timer_desk.specs.Inlet.{LineKind}
 use Rattle.timer_desk.specs.Flush.{IsGiven, without_words, Flushes}
@@ -21,7 +18,6 @@ use Rattle.timer_desk.specs.Backlog.{BacklogState, empty_backlog, with_word, wit
 use Rattle.timer_desk.specs.Report.{Account, account_of, got_but_held, held_list, HeldIsLast, IsAccount, request_in, word_in, asked_in, words_in, events_in, outs_in, step_in, steps_of}
 use Rattle.timer_desk.specs.Member.{Moment, IsServe, ClientMember, FacilityMember, IsRight, IsKept, Member, Members, waiting_outs, is_notice, hands_out, is_any}
 use Rattle.timer_desk.specs.Event.{IsSilent, IsEvent}
-use Rattle.timer_desk.specs.declared.report.Step.{Step}
 use Rattle.timer_desk.specs.Desk.{DeskState, notices_of, event_report, IsDesk, ReportHolds, AddsStep}
 use Rattle.timer_desk.proofs.Members.{held_last, kept_at_end, members_clients, members_lines, IsAccount-nothing}
 

@@ -1,5 +1,5 @@
 -- What the steps of its turns mean for a drive: how many requests of a client it serves, and how often it flushes.
-use Rattle.std.proofs.Common.{◌≡◌, ◌<◌, ◌≤◌, ◌+◌, ◌-◌, ◌*◌, ◌++◌, ◌==◌, nat_lt, ℕ, zero, suc, Bool, true, false, cond, if◌then◌else◌, List, map, [], ◌∷◌, length, get_or, take, refl, sym, subst, ◌∙◌, ap, add-one, arith, ◌⊎◌, inl, inr, ⊎_elim, length-append}
+use Rattle.std.proofs.Common.{◌≡◌, ◌<◌, ◌≤◌, ◌+◌, ◌-◌, ◌*◌, ◌++◌, ◌==◌, nat_lt, ℕ, zero, suc, Bool, true, false, cond, List, map, [], ◌∷◌, length, get_or, take, refl, sym, subst, ◌∙◌, ap, add-one, arith, ◌⊎◌, inl, inr, ⊎_elim, length-append}
 use Rattle.std.specs.Prelude.{min, count_by}
 use Rattle.std.specs.List.{filter, range_with_len}
 use Rattle.std.proofs.lemmas.Bool.{cases_eq, cases_lt}
@@ -10,15 +10,11 @@ use Rattle.std.proofs.lemmas.List.Sums.{sum_by-append, sum_by-cons}
 use Rattle.std.proofs.lemmas.List.FromFn.{sum_by-map-range_with_len_more}
 use Rattle.std.proofs.Math.Seq.{take-length}
 use Rattle.timer_base.specs.OrderLaws.{either}
-use Rattle.timer_desk.specs.declared.progress.Progress.{Progress}
-use Rattle.timer_desk.specs.declared.report.Done.{Done}
-use Rattle.timer_desk.specs.declared.report.Done.TheVariants as Dones
-use Rattle.timer_desk.specs.declared.report.Step.{Step}
+use Rattle.timer_desk.specs.Types.{Progress, Done, Step}
 use Rattle.timer_desk.specs.declared.report.Step.TheVariants as Steps
 use Rattle.timer_desk.specs.Report.{asked, asked_in, flushed, steps_of, step_in}
-use Rattle.timer_desk.specs.Desk.{InRange}
 use Rattle.timer_desk.specs.Driver.{HasUnfinishedClient, steps_with, is_flush_of, joined, EndsIdle, AreTurns}
-use Rattle.timer_desk.proofs.EventLemmas.{is_serve_of, is_last, one_if, few_in}
+use Rattle.timer_desk.proofs.EventLemmas.{is_serve_of, one_if, few_in}
 use Rattle.timer_desk.proofs.DriverLemmas.{serves_next, joined-more, asked_sum, same_at}
 use Rattle.timer_desk.proofs.DeskLemmas.{same_is, not_same}
 
@@ -77,15 +73,15 @@ one_serve p c n =
     one true = sum_by-cons (λ x. cond (is_serve_of c x) 1 0) (Steps.Serve n) [] ∙ (omega arith)
     one false = refl
 
-serves_in_turn : (p : ℕ → Bool) (c n : ℕ) (last : Step) → InRange 0 last → count_by (is_serve_of c) (steps_with p n last) ≤ one_if (p c)
-serves_in_turn p c n last h =
+serves_in_turn : (p : ℕ → Bool) (c n : ℕ) → count_by (is_serve_of c) (steps_with p n) ≤ one_if (p c)
+serves_in_turn p c n =
     let serves : List Step = map Steps.Serve (filter p (range_with_len 0 n)) in
     let flushes : List Step = map Steps.Flush (range_with_len 0 n) in
-    let a = count_sum (is_serve_of c) (serves ++ flushes) (last ∷ []) in
+    let a = count_sum (is_serve_of c) (serves ++ flushes) (Steps.Tick ∷ []) in
     let b = count_sum (is_serve_of c) serves flushes in
     let once = at_once (λ m. count_by (is_serve_of c) (map Steps.Serve (filter p (range_with_len 0 m)))) p c refl (one_serve p c) n in
     let none = none_of (is_serve_of c) Steps.Flush (λ k. refl) (range_with_len 0 n) in
-    let end = (is_last last h).no_serve c in
+    let end : count_by (is_serve_of c) (Steps.Tick ∷ []) ≡ 0 = refl in
     ⊎_elim (λ l. let few = once.1 l in omega arith) (λ l. let few = once.0 l in omega arith) (cases_lt c n)
 
 -- a serve does one request at most
@@ -104,54 +100,54 @@ below_goal n goal = elim (either (nat_lt n goal)) [
   | inr e ↦ inr (grind (arith, nat_tests), ap one_if e)
 ]
 
-asked_at_most : (goal limit clients : ℕ) (last : Step) → InRange 0 last → (turns : List (List Done)) → AreTurns goal limit clients last turns
+asked_at_most : (goal limit clients : ℕ) (turns : List (List Done)) → AreTurns goal limit clients turns
     → (c k : ℕ) → k ≤ length turns → length (asked c (joined (take k turns))) ≤ goal
-asked_at_most goal limit clients last h turns each c zero l = omega arith
-asked_at_most goal limit clients last h turns each c (suc k) l =
+asked_at_most goal limit clients turns each c zero l = omega arith
+asked_at_most goal limit clients turns each c (suc k) l =
     let before = joined (take k turns) in
     let turn = get_or turns k [] in
-    let was = asked_at_most goal limit clients last h turns each c k (omega arith) in
+    let was = asked_at_most goal limit clients turns each c k (omega arith) in
     let split : joined (take (suc k) turns) ≡ before ++ turn = ap (λ n. joined (take n turns)) (sym (add-one k))
     ∙ joined-more turns k (omega arith) in
     let sum = ap (λ r. length (asked c r)) split ∙ asked_sum c before turn in
     let few = few_asked c turn in
     let steps = ap (λ xs. count_by (is_serve_of c) xs) (each k (omega arith)).steps in
-    let most = serves_in_turn (λ i. nat_lt (length (asked i before)) goal) c clients last h in
+    let most = serves_in_turn (λ i. nat_lt (length (asked i before)) goal) c clients in
     ⊎_elim (λ a. let a0 = a.0 in let a1 = a.1 in omega arith) (λ a. let a0 = a.0 in let a1 = a.1 in omega arith)
     (below_goal (length (asked c before)) goal)
 
 -- of each client at most `goal` requests are done
-pub asked_most : (goal limit clients : ℕ) (last : Step) → InRange 0 last → (turns : List (List Done)) → AreTurns goal limit clients last turns
+pub asked_most : (goal limit clients : ℕ) (turns : List (List Done)) → AreTurns goal limit clients turns
     → (c : ℕ) → length (asked c (joined turns)) ≤ goal
-asked_most goal limit clients last h turns each c =
-    let most = asked_at_most goal limit clients last h turns each c (length turns) (omega arith) in
+asked_most goal limit clients turns each c =
+    let most = asked_at_most goal limit clients turns each c (length turns) (omega arith) in
     let whole = ap (λ us. length (asked c (joined us))) (take-length turns) in
     omega arith
 
 -- Flushes.
 
 -- each client is flushed once a turn
-pub flushed_once : (goal limit clients : ℕ) (last : Step) → InRange 0 last → (turns : List (List Done)) → AreTurns goal limit clients last turns
+pub flushed_once : (goal limit clients : ℕ) (turns : List (List Done)) → AreTurns goal limit clients turns
     → (k c : ℕ) → k < length turns → c < clients → count_by (is_flush_of c) (steps_of (get_or turns k [])) ≡ 1
-flushed_once goal limit clients last h turns each k c l low =
+flushed_once goal limit clients turns each k c l low =
     let served : ℕ → Bool = λ i. nat_lt (length (asked i (joined (take k turns)))) goal in
     let serves : List Step = map Steps.Serve (filter served (range_with_len 0 clients)) in
     let flushes : List Step = map Steps.Flush (range_with_len 0 clients) in
     let steps = ap (λ xs. count_by (is_flush_of c) xs) (each k l).steps in
-    let a = count_sum (is_flush_of c) (serves ++ flushes) (last ∷ []) in
+    let a = count_sum (is_flush_of c) (serves ++ flushes) (Steps.Tick ∷ []) in
     let b = count_sum (is_flush_of c) serves flushes in
     let none = none_of (is_flush_of c) Steps.Serve (λ i. refl) (filter served (range_with_len 0 clients)) in
     let one = (at_once (λ n. count_by (is_flush_of c) (map Steps.Flush (range_with_len 0 n))) (λ _. true) c refl
     (λ n. sum_by-map-range_with_len_more (λ x. cond (is_flush_of c x) 1 0) Steps.Flush 0 n n (omega arith)) clients).1 low in
-    let end = (is_last last h).no_flush c in
+    let end : count_by (is_flush_of c) (Steps.Tick ∷ []) ≡ 0 = refl in
     omega arith
 
 -- The limit.
 
 -- after `limit` turns without progress a client is short of the goal
-pub short_at_limit : (goal limit clients : ℕ) (last : Step) (turns : List (List Done)) → AreTurns goal limit clients last turns
+pub short_at_limit : (goal limit clients : ℕ) (turns : List (List Done)) → AreTurns goal limit clients turns
     → EndsIdle goal clients limit turns → 0 < limit → HasUnfinishedClient goal clients (joined turns)
-short_at_limit goal limit clients last turns each idle some =
+short_at_limit goal limit clients turns each idle some =
     let many = idle.0 in
     let k : ℕ = length turns - 1 in
     let before : List Done = joined (take k turns) in

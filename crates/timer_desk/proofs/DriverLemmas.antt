@@ -1,6 +1,6 @@
 -- The turns of a drive, one more turn, and what was counted.
-use Rattle.std.proofs.Common.{◌≡◌, ◌≢◌, ◌<◌, ◌≤◌, ◌+◌, ◌-◌, ◌*◌, ◌++◌, nat_lt, ℕ, zero, suc, ◌⊎◌, Bool, true, false, cond, List, map, [], ◌∷◌, length, get_or, take, refl, sym, subst, ◌∙◌, ap, arith, inl, inr, ⊎_elim, append-nil, append_assoc, length-append}
-use Rattle.std.specs.Prelude.{◌==◌, min, All, IsTrue, replicate, count_by}
+use Rattle.std.proofs.Common.{◌≡◌, ◌≢◌, ◌<◌, ◌≤◌, ◌+◌, ◌*◌, ◌++◌, nat_lt, ℕ, zero, suc, ◌⊎◌, Bool, true, false, cond, List, map, [], ◌∷◌, length, get_or, take, refl, sym, subst, ◌∙◌, ap, arith, inl, inr, ⊎_elim, append-nil, append_assoc, length-append}
+use Rattle.std.specs.Prelude.{min, All, IsTrue, replicate}
 use Rattle.std.specs.List.{filter, range_with_len}
 use Rattle.std.proofs.lemmas.Bool.{cases_lt}
 use Rattle.std.proofs.lemmas.Bool.Decides.{nat_tests}
@@ -9,21 +9,17 @@ use Rattle.std.proofs.lemmas.List.{get_or-replicate, length-replicate, get_or_ap
 use Rattle.std.proofs.lemmas.List.Elements.{All-append, All-filter, All-map, All-cons, All-nil}
 use Rattle.std.proofs.lemmas.List.FromFn.{fill_by_all, get_or-map-range_with_len, length-map-range_with_len, map-range_with_len_more, filter_of_map_range_with_len_more, length-range_with_len, get_or-range_with_len}
 use Rattle.std.proofs.Math.Seq.{take-append_seam}
-use Rattle.timer_desk.specs.declared.progress.Progress.{Progress}
+use Rattle.timer_desk.specs.Types.{Progress, Done, Step, DriveEnd}
 use Rattle.timer_desk.specs.declared.report.Served.TheVariants.{NoMemory}
-use Rattle.timer_desk.specs.declared.report.Done.{Done}
 use Rattle.timer_desk.specs.declared.report.Done.TheVariants as Dones
-use Rattle.timer_desk.specs.declared.report.Step.{Step}
 use Rattle.timer_desk.specs.declared.report.Step.TheVariants as Steps
-use Rattle.timer_desk.specs.declared.driver.DriveEnd.{DriveEnd}
 use Rattle.timer_desk.specs.declared.driver.DriveEnd.TheVariants as DriveEnds
 use Rattle.timer_desk.specs.Inlet.{LineKind}
 use Rattle.timer_desk.specs.Report.{asked, asked_in, flushed}
 use Rattle.timer_desk.specs.Desk.{DeskState, at_rest, clients_of, InRange, ReportHolds}
-use Rattle.timer_desk.specs.Driver.{no_progress, is_flush_of, progress_in, progress_of, left_for, all_left, AllDone, HasUnfinishedClient, AllCounted, NoneRanOut, is_served, steps_with, turn_steps, joined, IsIdleTurn, EndsIdle, IsTurn, AreTurns, TakesTurn, Drives}
+use Rattle.timer_desk.specs.Driver.{no_progress, progress_in, progress_of, left_for, all_left, AllDone, HasUnfinishedClient, AllCounted, NoneRanOut, is_served, steps_with, turn_steps, joined, IsIdleTurn, EndsIdle, IsTurn, AreTurns, TakesTurn, Drives}
 use Rattle.timer_desk.specs.Member.{IsKept}
 use Rattle.timer_desk.proofs.Members.{ReportHolds-joined, ReportHolds-nothing, follow, are_owed, IsLaw}
-use Rattle.timer_desk.proofs.EventLemmas.{is_last}
 
 -- Reports, joined.
 
@@ -54,21 +50,21 @@ filter_same p q a (suc n) h =
     ap (λ b. cond b (a ∷ filter p (range_with_len (a + 1) n)) (filter p (range_with_len (a + 1) n))) (h a (omega arith))
     ∙ ap (λ xs. cond (q a) (a ∷ xs) xs) (filter_same p q (a + 1) n (λ c l. h c (omega arith)))
 
-steps_same : (p q : ℕ → Bool) (n : ℕ) (last : Step) → ((c : ℕ) → c < n → p c ≡ q c) → steps_with p n last ≡ steps_with q n last
-steps_same p q n last h = ap (λ cs. map Steps.Serve cs ++ map Steps.Flush (range_with_len 0 n) ++ last ∷ [])
+steps_same : (p q : ℕ → Bool) (n : ℕ) → ((c : ℕ) → c < n → p c ≡ q c) → steps_with p n ≡ steps_with q n
+steps_same p q n h = ap (λ cs. map Steps.Serve cs ++ map Steps.Flush (range_with_len 0 n) ++ Steps.Tick ∷ [])
     (filter_same p q 0 n (λ c l. h c (omega arith)))
 
 range_below : (n : ℕ) → All (λ c. c < n) (range_with_len 0 n)
 range_below n k d l = omega (arith, length-range_with_len 0 n, get_or-range_with_len 0 n k d (omega (arith, length-range_with_len 0 n)))
 
 -- each step of a turn is of one of the clients, or the last
-pub steps_in_range : (p : ℕ → Bool) (n : ℕ) (last : Step) → InRange 0 last → All (InRange n) (steps_with p n last)
-steps_in_range p n last h =
-    All-append (InRange n) (map Steps.Serve (filter p (range_with_len 0 n)) ++ map Steps.Flush (range_with_len 0 n)) (last ∷ [])
+pub steps_in_range : (p : ℕ → Bool) (n : ℕ) → All (InRange n) (steps_with p n)
+steps_in_range p n =
+    All-append (InRange n) (map Steps.Serve (filter p (range_with_len 0 n)) ++ map Steps.Flush (range_with_len 0 n)) (Steps.Tick ∷ [])
     (All-append (InRange n) (map Steps.Serve (filter p (range_with_len 0 n))) (map Steps.Flush (range_with_len 0 n))
     (All-map (InRange n) Steps.Serve (filter p (range_with_len 0 n)) (All-filter p (λ c. c < n) (range_with_len 0 n) (range_below n)))
     (All-map (InRange n) Steps.Flush (range_with_len 0 n) (range_below n)))
-    (All-cons (InRange n) last [] ((is_last last h).in_range n) (All-nil (InRange n)))
+    (All-cons (InRange n) Steps.Tick [] tt (All-nil (InRange n)))
 
 -- one more client to serve, or to flush
 pub serves_next : (p : ℕ → Bool) (n : ℕ) → map Steps.Serve (filter p (range_with_len 0 (n + 1)))
@@ -136,9 +132,9 @@ push_each P xs x d each one k l = ⊎_elim
     rw (at, take-append_seam xs (x ∷ []), get_or_push xs x d (length xs) refl) one)
     (cases_lt k (length xs))
 
-AreTurns-push : (goal limit n : ℕ) (last : Step) (turns : List (List Done)) (turn : List Done) → AreTurns goal limit n last turns
-    → IsTurn goal limit n last turns turn → AreTurns goal limit n last (turns ++ turn ∷ [])
-AreTurns-push goal limit n last turns turn = push_each (λ k. IsTurn goal limit n last) turns turn []
+AreTurns-push : (goal limit n : ℕ) (turns : List (List Done)) (turn : List Done) → AreTurns goal limit n turns
+    → IsTurn goal limit n turns turn → AreTurns goal limit n (turns ++ turn ∷ [])
+AreTurns-push goal limit n turns turn = push_each (λ k. IsTurn goal limit n) turns turn []
 
 ends_idle-none : (goal n : ℕ) (turns : List (List Done)) → EndsIdle goal n 0 turns
 ends_idle-none goal n turns = (omega arith, λ k a l. absurd (omega arith))
@@ -214,12 +210,12 @@ below_min : (n goal : ℕ) → nat_lt (min n goal) goal ≡ nat_lt n goal
 below_min n goal = grind (arith, nat_tests)
 
 -- the steps by the counts are those by the report
-steps_counted : (goal n : ℕ) (last : Step) (report : List Done) (ps : List Progress) → ps ≡ progress_of goal n report
-    → steps_with (is_served goal ps) (length ps) last ≡ turn_steps goal n last report
-steps_counted goal n last report ps is =
+steps_counted : (goal n : ℕ) (report : List Done) (ps : List Progress) → ps ≡ progress_of goal n report
+    → steps_with (is_served goal ps) (length ps) ≡ turn_steps goal n report
+steps_counted goal n report ps is =
     let long : length ps ≡ n = ap (λ xs. length xs) is ∙ length-map-range_with_len (progress_in goal report) 0 n in
-    ap (λ k. steps_with (is_served goal ps) k last) long
-    ∙ steps_same (is_served goal ps) (λ c. nat_lt (length (asked c report)) goal) n last
+    ap (λ k. steps_with (is_served goal ps) k) long
+    ∙ steps_same (is_served goal ps) (λ c. nat_lt (length (asked c report)) goal) n
     (λ c l. ap (λ (p : Progress). nat_lt p.served goal) (ap (λ xs. get_or xs c no_progress) is ∙ progress_at goal n report c no_progress l)
     ∙ below_min (length (asked c report)) goal)
 
@@ -227,14 +223,14 @@ ran_out_joined : (turns : List (List Done)) (turn : List Done) → NoneRanOut (j
 ran_out_joined turns turn h k = subst NoneRanOut (sym (joined-push turns turn))
     (All-append (λ done. (c : ℕ) → done ≢ Dones.Served c NoMemory) (joined turns) turn h k)
 
-module _ {I : Type 0} (kind : LineKind I) (last : Step) (goal limit : ℕ) where
+module _ {I : Type 0} (kind : LineKind I) (goal limit : ℕ) where
   -- a drive so far: its turns lead from the one desk to the other and were counted, and just the last `idle` made no
   -- progress
   pub record IsDriving (old new : DeskState I) (progress : List Progress) (idle : ℕ) : Type 0 where
     pub turns : List (List Done)
     pub holds : ReportHolds kind (joined turns) old new
     pub law : IsLaw old.facility
-    pub each : AreTurns goal limit (clients_of old) last turns
+    pub each : AreTurns goal limit (clients_of old) turns
     pub memory : NoneRanOut (joined turns)
     pub is_counted : progress ≡ progress_of goal (clients_of old) (joined turns)
     pub ends_idle : EndsIdle goal (clients_of old) idle turns
@@ -257,7 +253,7 @@ module _ {I : Type 0} (kind : LineKind I) (last : Step) (goal limit : ℕ) where
   -- a turn that may follow, since some client is not done and the limit is not reached
   module _ (x y z : DeskState I) (ps qs : List Progress) (idle : ℕ) (d : IsDriving x y ps idle) (near : idle < limit)
       (not_done : ¬ AllDone goal ps) (out_of_memory : Bool)
-      (t : TakesTurn kind last goal out_of_memory y z ps qs) where
+      (t : TakesTurn kind goal out_of_memory y z ps qs) where
     abbrev turns_then : List (List Done)
     turns_then = d.turns ++ t.turn ∷ []
 
@@ -265,9 +261,9 @@ module _ {I : Type 0} (kind : LineKind I) (last : Step) (goal limit : ℕ) where
     holds_then = subst (λ r. ReportHolds kind r x z) (sym (joined-push d.turns t.turn))
         (ReportHolds-joined kind (joined d.turns) t.turn x y z d.holds t.holds)
 
-    each_then : AreTurns goal limit (clients_of x) last turns_then
-    each_then = AreTurns-push goal limit (clients_of x) last d.turns t.turn d.each (record {
-      steps = t.steps ∙ steps_counted goal (clients_of x) last (joined d.turns) ps d.is_counted;
+    each_then : AreTurns goal limit (clients_of x) turns_then
+    each_then = AreTurns-push goal limit (clients_of x) d.turns t.turn d.each (record {
+      steps = t.steps ∙ steps_counted goal (clients_of x) (joined d.turns) ps d.is_counted;
       behind = follow kind t.turn y z t.holds;
       short = is_short goal (clients_of x) (joined d.turns) ps d.is_counted not_done;
       memory = d.memory;
@@ -309,7 +305,7 @@ module _ {I : Type 0} (kind : LineKind I) (last : Step) (goal limit : ℕ) where
             ]
 
     -- a turn that ran out of memory is the last
-    pub Drives-ran_out : Drives kind last goal limit x z DriveEnds.OutOfMemory
+    pub Drives-ran_out : Drives kind goal limit x z DriveEnds.OutOfMemory
     Drives-ran_out = record {
       turns = turns_then;
       holds = holds_then;
@@ -323,7 +319,7 @@ module _ {I : Type 0} (kind : LineKind I) (last : Step) (goal limit : ℕ) where
   -- a drive that ended between two turns
   pub Drives-ended : (x y : DeskState I) (ps : List Progress) (idle : ℕ) (outcome : DriveEnd) → IsDriving x y ps idle
       → (outcome ≡ DriveEnds.Done → AllDone goal ps) → (outcome ≡ DriveEnds.Limit → idle ≡ limit)
-      → Drives kind last goal limit x y outcome
+      → Drives kind goal limit x y outcome
   Drives-ended x y ps idle outcome d done at_limit = record {
     turns = d.turns;
     holds = d.holds;

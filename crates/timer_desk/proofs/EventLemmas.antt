@@ -2,12 +2,9 @@
 use Rattle.std.proofs.Common.{◌≡◌, ℕ, zero, suc, ◌+◌, Bool, true, false, List, [], ◌∷◌, ◌++◌, length, map, refl, sym, ◌∙◌, ap, subst, arith, append-nil}
 use Rattle.std.specs.Prelude.{◌==◌, ◌≤◌, cond, if◌then◌else◌, count_by, Option, Some, None, Ok, Err, Result, MatchResult, IfOk, OnOk, IfErr, OnErr, IsTrue, ◌↔◌}
 use Rattle.std.proofs.lemmas.List.{length-map}
-use Rattle.timer_base.specs.declared.timer.Timer.{Timer}
+use Rattle.timer_desk.specs.Types.{Timer, Notice, TickFault, CloseFault, Served, Step, Done}
 use Rattle.timer_base.specs.Pending.{timers_of}
-use Rattle.timer_facility.specs.declared.request.Notice.{Notice}
 use Rattle.timer_facility.specs.declared.request.Notice.TheVariants.{Expired, Returned}
-use Rattle.timer_facility.specs.declared.request.TickFault.{TickFault}
-use Rattle.timer_facility.specs.declared.request.CloseFault.{CloseFault}
 use Rattle.timer_facility.specs.declared.request.CloseFault.TheVariants as CloseFaults
 use Rattle.timer_facility.specs.declared.event.Out.TheVariants as Outs
 use Rattle.timer_facility.specs.State.{FacilityState, SingleEvent, Tick, Close, pending_of}
@@ -21,18 +18,14 @@ use Rattle.timer_facility.specs.Owed.{timer_handed}
 use Rattle.timer_facility.proofs.NoticeLists.{notices_in-append}
 use Rattle.timer_facility.proofs.PlayedTicks.{are_accepted, length-many}
 use Rattle.timer_facility.proofs.HandedOverLemmas.{hands_over_tick, hands_over_close}
-use Rattle.timer_desk.specs.declared.report.Served.{Served}
 use Rattle.timer_desk.specs.declared.report.Served.TheVariants.{Idle, NoRoom, NoMemory, Did}
-use Rattle.timer_desk.specs.declared.report.Step.{Step}
 use Rattle.timer_desk.specs.declared.report.Step.TheVariants as Steps
-use Rattle.timer_desk.specs.declared.report.Done.{Done}
 use Rattle.timer_desk.specs.declared.report.Done.TheVariants as Dones
 use Rattle.timer_desk.specs.Backlog.{notices_for}
 use Rattle.timer_desk.specs.Report.{placed, events_in, outs_in, tick_outs, request_in, asked_in, step_in}
 use Rattle.timer_desk.specs.Member.{IsRight, waiting_outs, is_notice, hands_out}
 use Rattle.timer_desk.specs.Event.{IsSilent, IsEvent}
-use Rattle.timer_desk.specs.Desk.{notices_of, InRange}
-use Rattle.timer_desk.specs.Driver.{is_flush_of}
+use Rattle.timer_desk.specs.Desk.{notices_of}
 use Rattle.timer_desk.proofs.DeskLemmas.{still, none_for, quiet_member}
 
 -- A single event of the model.
@@ -202,19 +195,6 @@ one_if b = cond b 1 0
 abbrev pub is_serve_of : ℕ → Step → Bool
 is_serve_of c (Steps.Serve client) = client == c
 is_serve_of c step = false
-
--- the last step of a turn serves and flushes nobody, and is in range however many clients there are
-pub record IsLast (last : Step) : Type 0 where
-  pub no_serve : (c : ℕ) → count_by (is_serve_of c) (last ∷ []) ≡ 0
-  pub no_flush : (c : ℕ) → count_by (is_flush_of c) (last ∷ []) ≡ 0
-  pub in_range : (n : ℕ) → InRange n last
-
-pub is_last : (last : Step) → InRange 0 last → IsLast last
-is_last (Steps.Serve c) h = absurd (omega arith)
-is_last Steps.Tick h = record { no_serve = λ c. refl; no_flush = λ c. refl; in_range = λ n. tt }
-is_last (Steps.Ticks limit) h = record { no_serve = λ c. refl; no_flush = λ c. refl; in_range = λ n. h }
-is_last Steps.Close h = record { no_serve = λ c. refl; no_flush = λ c. refl; in_range = λ n. tt }
-is_last (Steps.Flush c) h = absurd (omega arith)
 
 few_requests : (b : Bool) (served : Served) → length (if b then request_in served else []) ≤ one_if b
 few_requests true Idle = omega arith

@@ -3,18 +3,13 @@ use Rattle.std.proofs.Common.{◌≡◌, ℕ, ◌+◌, ◌-◌, ◌<◌, ◌≤�
 use Rattle.std.specs.Prelude.{take, drop, if◌then◌else◌, Option, Some, None}
 use Rattle.std.proofs.Math.Seq.{take-length, take-append_seam}
 use Rattle.timer_base.specs.OrderLaws.{either}
-use Rattle.timer_facility.specs.declared.request.Notice.{Notice}
-use Rattle.timer_facility.specs.declared.event.Out.{Out}
+use Rattle.timer_desk.specs.Types.{Notice, Out, Numbered, Word, Served, Done}
 use Rattle.timer_facility.specs.State.{FacilityState, pending_of}
 use Rattle.timer_facility.specs.Step.{StepResult, step}
 use Rattle.timer_facility.specs.Run.{PlacedEvent, HistoryEntry, run, history, state_after, outs_of, notices, notices_in}
 use Rattle.timer_facility.specs.Owed.{owed}
 use Rattle.timer_facility.specs.Facility.{FacilityView, with_nothing_waiting}
-use Rattle.timer_desk.specs.declared.word.Numbered.{Numbered}
-use Rattle.timer_desk.specs.declared.word.Word.{Word}
-use Rattle.timer_desk.specs.declared.report.Served.{Served}
 use Rattle.timer_desk.specs.declared.report.Served.TheVariants.{Idle, NoRoom, NoMemory, Did}
-use Rattle.timer_desk.specs.declared.report.Done.{Done}
 use Rattle.timer_desk.specs.Inlet.{LineKind}
 use Rattle.timer_desk.specs.Backlog.{BacklogState, notices_for}
 use Rattle.timer_desk.specs.Extends.{Extends, Extends-refl, Extends-front, Extends-is, Extends-trans}

@@ -3,8 +3,7 @@ use Rattle.std.proofs.Common.{◌≡◌, ◌<◌, ◌+◌, ◌∙◌, ℕ, Bool,
 use Rattle.std.specs.Prelude.{slice_set}
 use Rattle.std.proofs.lemmas.List.{take_more, set-get_or}
 use Rattle.std.proofs.lemmas.List.Sums.{sum_by-set}
-use Rattle.timer_desk.specs.declared.progress.Progress.{Progress}
-use Rattle.timer_desk.specs.declared.report.Done.{Done}
+use Rattle.timer_desk.specs.Types.{Progress, Done}
 use Rattle.timer_desk.specs.Driver.{left_for, all_left, HasCounted}
 use Rattle.timer_desk.specs.Report.{asked, asked_in, flushed, flushed_in}
 use Rattle.timer_desk.proofs.DriverLemmas.{asked_sum, flushed_sum}

@@ -1,11 +1,9 @@
 -- The backlog of one client at the desk, and the backlogs after notices.
 use Rattle.std.specs.Prelude.{ℕ, ◌==◌, if◌then◌else◌, ◌+◌, ◌<◌, ◌≤◌, List, [], ◌∷◌, ◌++◌, length, get_or, slice_set, Option, None, map}
-use Rattle.timer_facility.specs.declared.request.Notice.{Notice}
+use Rattle.timer_desk.specs.Types.{Notice, Numbered, Word}
 use Rattle.timer_facility.specs.State.{count_of, pending_of}
 use Rattle.timer_facility.specs.Facility.{FacilityView}
 use Rattle.timer_facility.specs.Owed.{timer_handed}
-use Rattle.timer_desk.specs.declared.word.Numbered.{Numbered}
-use Rattle.timer_desk.specs.declared.word.Word.{Word}
 use Rattle.timer_desk.specs.declared.word.Word.TheVariants as Words
 
 pub record BacklogState : Type 0 where

@@ -1,17 +1,14 @@
 -- The abstract state of a desk, and the desk before and after a report.
 use Rattle.std.specs.Prelude.{◌≡◌, if◌then◌else◌, ℕ, ◌++◌, ◌<◌, Bool, true, false, List, [], ◌∷◌, length, map, get_or, replicate, None, Ok}
-use Rattle.timer_facility.specs.declared.request.Notice.{Notice}
+use Rattle.timer_desk.specs.Types.{Notice, Served, Done, Step}
 use Rattle.timer_facility.specs.State.{FacilityState, Tick, Close}
 use Rattle.timer_facility.specs.Facility.{FacilityView, with_nothing_waiting}
 use Rattle.timer_facility.specs.Step.{step}
 use Rattle.timer_facility.specs.Run.{run, notices_in, notices, history}
 use Rattle.timer_facility.specs.Ticked.{ticks}
 use Rattle.timer_facility.specs.Owed.{owed}
-use Rattle.timer_desk.specs.declared.report.Served.{Served}
 use Rattle.timer_desk.specs.declared.report.Served.TheVariants.{Idle, NoRoom}
-use Rattle.timer_desk.specs.declared.report.Done.{Done}
 use Rattle.timer_desk.specs.declared.report.Done.TheVariants as Dones
-use Rattle.timer_desk.specs.declared.report.Step.{Step}
 use Rattle.timer_desk.specs.declared.report.Step.TheVariants as Steps
 use Rattle.timer_desk.specs.Inlet.{LineKind}
 use Rattle.timer_desk.specs.Backlog.{BacklogState, empty_backlog}

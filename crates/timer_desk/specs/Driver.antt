@@ -1,15 +1,12 @@
 -- Turns of a desk, until each client has reached a goal.
 use Rattle.std.specs.Prelude.{◌≡◌, ◌≢◌, ◌<◌, ◌≤◌, ◌+◌, ◌-◌, ◌*◌, ◌⊎◌, ◌==◌, nat_lt, ℕ, min, Bool, true, false, List, [], ◌∷◌, ◌++◌, length, map, take, get_or, All}
 use Rattle.std.specs.List.{filter, flat_map, range_with_len, sum_by}
-use Rattle.timer_desk.specs.declared.progress.Progress.{Progress}
+use Rattle.timer_desk.specs.Types.{Progress, Done, Step, DriveEnd}
 use Rattle.timer_desk.specs.declared.report.Served.TheVariants.{NoMemory}
-use Rattle.timer_desk.specs.declared.report.Done.{Done}
 use Rattle.timer_desk.specs.declared.report.Done.TheVariants as Dones
-use Rattle.timer_desk.specs.declared.report.Step.{Step}
 use Rattle.timer_desk.specs.declared.report.Step.TheVariants as Steps
 use Rattle.timer_desk.specs.declared.driver.Turned.{Turned}
 use Rattle.timer_desk.specs.declared.driver.Turned.TheVariants.{Passed, Idle, OutOfMemory}
-use Rattle.timer_desk.specs.declared.driver.DriveEnd.{DriveEnd}
 use Rattle.timer_desk.specs.declared.driver.DriveEnd.TheVariants as DriveEnds
 use Rattle.timer_desk.specs.Inlet.{LineKind}
 use Rattle.timer_desk.specs.Report.{asked, flushed, steps_of}
@@ -67,19 +64,18 @@ abbrev pub is_flush_of : ℕ → Step → Bool
 is_flush_of c (Steps.Flush client) = client == c
 is_flush_of c step = false
 
--- a serve of each client that is to be served, a flush of each client, both in the order of the clients, and the
--- last step
-abbrev pub steps_with : (ℕ → Bool) → ℕ → Step → List Step
-steps_with is_served clients last = map Steps.Serve (filter is_served (range_with_len 0 clients))
-    ++ map Steps.Flush (range_with_len 0 clients) ++ last ∷ []
+-- a serve of each client that is to be served, a flush of each client, both in the order of the clients, and a tick
+abbrev pub steps_with : (ℕ → Bool) → ℕ → List Step
+steps_with is_served clients = map Steps.Serve (filter is_served (range_with_len 0 clients))
+    ++ map Steps.Flush (range_with_len 0 clients) ++ Steps.Tick ∷ []
 
 -- whether a client with this progress had fewer than `goal` requests served
 abbrev pub is_served : ℕ → List Progress → ℕ → Bool
 is_served goal all c = nat_lt (get_or all c no_progress).served goal
 
 -- the steps of the turn after this report: each client is served that has had fewer than `goal` requests served
-abbrev pub turn_steps : ℕ → ℕ → Step → List Done → List Step
-turn_steps goal clients last report = steps_with (λ c. nat_lt (length (asked c report)) goal) clients last
+abbrev pub turn_steps : ℕ → ℕ → List Done → List Step
+turn_steps goal clients report = steps_with (λ c. nat_lt (length (asked c report)) goal) clients
 
 -- the report of these turns
 abbrev pub joined : List (List Done) → List Done
@@ -108,25 +104,25 @@ EndsIdle goal clients idle turns = (idle ≤ length turns)
 
 -- A turn of a drive, and those before it. A drive takes it only if some client is short of the goal, no serve has
 -- run out of memory, and not each of the last `limit` turns was without progress.
-pub record IsTurn (goal limit clients : ℕ) (last : Step) (past : List (List Done)) (turn : List Done) : Type 0 where
-  pub steps : steps_of turn ≡ turn_steps goal clients last (joined past)
+pub record IsTurn (goal limit clients : ℕ) (past : List (List Done)) (turn : List Done) : Type 0 where
+  pub steps : steps_of turn ≡ turn_steps goal clients (joined past)
   pub behind : NoticesFollow false turn
   pub short : HasUnfinishedClient goal clients (joined past)
   pub memory : NoneRanOut (joined past)
   pub goes_on : ¬ (EndsIdle goal clients limit past)
 
 -- these are the turns of a drive, in order
-abbrev pub AreTurns : ℕ → ℕ → ℕ → Step → List (List Done) → Type 0
-AreTurns goal limit clients last turns = (k : ℕ) → k < length turns
-    → IsTurn goal limit clients last (take k turns) (get_or turns k [])
+abbrev pub AreTurns : ℕ → ℕ → ℕ → List (List Done) → Type 0
+AreTurns goal limit clients turns = (k : ℕ) → k < length turns
+    → IsTurn goal limit clients (take k turns) (get_or turns k [])
 
-module _ {I : Type 0} (kind : LineKind I) (last : Step) where
+module _ {I : Type 0} (kind : LineKind I) where
   -- a turn leads from the one desk to the other, and was counted; unless it ran out of memory, no serve did
   pub record TakesTurn (goal : ℕ) (out_of_memory : Bool) (old new : DeskState I)
       (before after : List Progress) : Type 0 where
     pub turn : List Done
     pub holds : ReportHolds kind turn old new
-    pub steps : steps_of turn ≡ steps_with (is_served goal before) (length before) last
+    pub steps : steps_of turn ≡ steps_with (is_served goal before) (length before)
     pub memory : out_of_memory ≡ false → NoneRanOut turn
     pub counted : AllCounted goal turn before after
 
@@ -145,7 +141,7 @@ module _ {I : Type 0} (kind : LineKind I) (last : Step) where
     pub turns : List (List Done)
     pub holds : ReportHolds kind (joined turns) old new
     pub owed : AreOwed old.facility (joined turns)
-    pub each : AreTurns goal limit (clients_of old) last turns
+    pub each : AreTurns goal limit (clients_of old) turns
     pub done : outcome ≡ DriveEnds.Done → (c : ℕ) → c < clients_of old
         → (goal ≤ length (asked c (joined turns))) × (2 * goal ≤ flushed c (joined turns))
     pub idle : outcome ≡ DriveEnds.Limit → EndsIdle goal (clients_of old) limit turns

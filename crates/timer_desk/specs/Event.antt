@@ -2,10 +2,8 @@
 use Rattle.std.specs.Prelude.{◌≡◌, ◌≢◌, ℕ, ◌+◌, Bool, true, false, [], length}
 use Rattle.timer_facility.specs.State.{pending_of}
 use Rattle.timer_facility.specs.Facility.{FacilityView}
-use Rattle.timer_desk.specs.declared.report.Served.{Served}
-use Rattle.timer_desk.specs.declared.report.Done.{Done}
+use Rattle.timer_desk.specs.Types.{Served, Done, Step}
 use Rattle.timer_desk.specs.declared.report.Done.TheVariants as Dones
-use Rattle.timer_desk.specs.declared.report.Step.{Step}
 use Rattle.timer_desk.specs.declared.report.Step.TheVariants as Steps
 use Rattle.timer_desk.specs.Backlog.{notices_for}
 use Rattle.timer_desk.specs.Report.{asked_in, words_in, flushed_in}

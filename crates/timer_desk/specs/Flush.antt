@@ -1,6 +1,6 @@
 -- The desk before and after a flush of one client.
 use Rattle.std.specs.Prelude.{◌≡◌, ℕ, ◌≤◌, ◌++◌, List, length, take, drop, get_or, slice_set}
-use Rattle.timer_desk.specs.declared.word.Word.{Word}
+use Rattle.timer_desk.specs.Types.{Word}
 use Rattle.timer_desk.specs.Inlet.{LineState, LineKind}
 use Rattle.timer_desk.specs.Backlog.{BacklogState}
 use Rattle.timer_desk.specs.Desk.{DeskState, backlog_at}

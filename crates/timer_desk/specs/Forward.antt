@@ -1,12 +1,10 @@
 -- The result of a client's request at the desk.
 use Rattle.std.specs.Prelude.{◌≡◌, ℕ, Bool, true, false, [], ◌∷◌, Option, Some, None}
 use Rattle.timer_facility.specs.declared.request.NotTaken.TheVariants as NotTakens
-use Rattle.timer_facility.specs.declared.request.Request.{Request}
+use Rattle.timer_desk.specs.Types.{Request, Numbered, Word}
 use Rattle.timer_facility.specs.State.{FacilityState, action_of}
 use Rattle.timer_facility.specs.Step.{StepResult, step}
 use Rattle.timer_facility.specs.Facility.{FacilityView, view_after, notice_outs, model_of, is_for_a_tick, event_of_request, NeedsMemory}
-use Rattle.timer_desk.specs.declared.word.Numbered.{Numbered}
-use Rattle.timer_desk.specs.declared.word.Word.{Word}
 use Rattle.timer_desk.specs.declared.word.Word.TheVariants as Words
 use Rattle.timer_desk.specs.Report.{out_of, place_in_word}
 

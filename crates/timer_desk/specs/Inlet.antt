@@ -1,8 +1,7 @@
 -- What the owner knows of a line, and what each result of an `Inlet`'s calls appends to it.
 use Rattle.std.specs.Prelude.{◌≡◌, List, [], ◌∷◌, Bool, true}
 use Rattle.std.proofs.Common.{◌∙◌, refl}
-use Rattle.timer_desk.specs.declared.word.Numbered.{Numbered}
-use Rattle.timer_desk.specs.declared.word.Word.{Word}
+use Rattle.timer_desk.specs.Types.{Numbered, Word}
 use Rattle.timer_desk.specs.declared.inlet.Taken.{Taken}
 use Rattle.timer_desk.specs.declared.inlet.Taken.TheVariants.{Got}
 use Rattle.timer_desk.specs.declared.inlet.Put.{Put}

@@ -3,10 +3,8 @@ use Rattle.std.specs.Prelude.{◌≡◌, ℕ, ◌+◌, ◌-◌, ◌≤◌, ◌�
 use Rattle.timer_facility.specs.State.{FacilityState, pending_of}
 use Rattle.timer_facility.specs.Run.{run}
 use Rattle.timer_facility.specs.Facility.{NeedsMemory}
-use Rattle.timer_desk.specs.declared.word.Numbered.{Numbered}
-use Rattle.timer_desk.specs.declared.report.Served.{Served}
+use Rattle.timer_desk.specs.Types.{Numbered, Served, Done}
 use Rattle.timer_desk.specs.declared.report.Served.TheVariants.{NoMemory}
-use Rattle.timer_desk.specs.declared.report.Done.{Done}
 use Rattle.timer_desk.specs.declared.report.Done.TheVariants as Dones
 use Rattle.timer_desk.specs.Report.{Account, left_of, held_list, asked, words, flushed, events, outs}
 use Rattle.timer_desk.specs.Member.{ServeRespectsRoom, IsRight, is_notice}

@@ -1,3 +1,4 @@
+pub mod Types
 pub mod Forward
 pub mod Backlog
 pub mod Desk

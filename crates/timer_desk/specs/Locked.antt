@@ -1,9 +1,8 @@
 -- What clauses see of the ends of a locked line.
 use Rattle.std.specs.Prelude.{ℕ, true, List, []}
-use Rattle.timer_desk.specs.declared.word.Numbered.{Numbered}
-use Rattle.timer_desk.specs.declared.word.Word.{Word}
-use Rattle.timer_desk.specs.declared.locked.LockedEnd.{LockedEnd}
-use Rattle.timer_desk.specs.declared.locked.LockedInlet.{LockedInlet}
+use Rattle.timer_desk.specs.Types.{Numbered, Word}
+use Rattle.timer_desk.specs.declared.test_lines.locked.LockedEnd.{LockedEnd}
+use Rattle.timer_desk.specs.declared.test_lines.locked.LockedInlet.{LockedInlet}
 use Rattle.timer_desk.specs.Inlet.{LineState, LineKind, SameLine, SameLine-refl, SameLine-trans}
 
 abbrev pub next_of_locked : LockedEnd → ℕ

@@ -1,7 +1,7 @@
 -- What looks at a ring have found.
 use Rattle.std.specs.Prelude.{◌≡◌, ◌≢◌, Bool, if◌then◌else◌}
 use Rattle.timer_desk.specs.declared.looks.Looks.{Looks}
-use Rattle.timer_desk.specs.declared.looks.Found.{Found}
+use Rattle.timer_desk.specs.Types.{Found}
 use Rattle.timer_desk.specs.declared.looks.Found.TheVariants.{Nothing, Gone, GoneThenEmpty}
 
 -- what they have found

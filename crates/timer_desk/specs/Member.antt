@@ -1,16 +1,12 @@
 -- One member of a report, and the desk before and after it. A report is a chain of them.
 use Rattle.std.specs.Prelude.{◌≡◌, ◌≢◌, ℕ, ◌+◌, ◌<◌, ◌≤◌, ◌++◌, Bool, true, false, List, [], ◌∷◌, length, get_or, Option, None, Ok, Err}
 use Rattle.timer_facility.specs.declared.request.CloseFault.TheVariants.{OutOfMemory}
-use Rattle.timer_facility.specs.declared.request.Notice.{Notice}
-use Rattle.timer_facility.specs.declared.event.Out.{Out}
+use Rattle.timer_desk.specs.Types.{Notice, Out, Numbered, Served, Done}
 use Rattle.timer_facility.specs.State.{FacilityState, pending_of}
 use Rattle.timer_facility.specs.Run.{run}
 use Rattle.timer_facility.specs.Facility.{FacilityView, view_after, notice_outs, is_for_a_tick}
 use Rattle.timer_facility.specs.Ticked.{ticks, AreTicked}
-use Rattle.timer_desk.specs.declared.word.Numbered.{Numbered}
-use Rattle.timer_desk.specs.declared.report.Served.{Served}
 use Rattle.timer_desk.specs.declared.report.Served.TheVariants.{Idle, NoRoom, NoMemory, Did}
-use Rattle.timer_desk.specs.declared.report.Done.{Done}
 use Rattle.timer_desk.specs.declared.report.Done.TheVariants as Dones
 use Rattle.timer_desk.specs.Inlet.{LineKind}
 use Rattle.timer_desk.specs.Extends.{Extends}

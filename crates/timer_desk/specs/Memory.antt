@@ -1,8 +1,7 @@
 -- The lists of a `MemoryInlet`.
 use Rattle.std.specs.Prelude.{◌<◌, ◌≤◌, ◌+◌, ◌-◌, ℕ, min, true, false, List, length, take, drop, vec_len, vec_capacity}
-use Rattle.timer_desk.specs.declared.word.Numbered.{Numbered}
-use Rattle.timer_desk.specs.declared.word.Word.{Word}
-use Rattle.timer_desk.specs.declared.memory.MemoryInlet.{MemoryInlet}
+use Rattle.timer_desk.specs.Types.{Numbered, Word}
+use Rattle.timer_desk.specs.declared.test_lines.memory.MemoryInlet.{MemoryInlet}
 use Rattle.timer_desk.specs.Inlet.{LineState, LineKind, SameLine, SameLine-refl, SameLine-trans}
 
 abbrev pub got_of : MemoryInlet → List Numbered

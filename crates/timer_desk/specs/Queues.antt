@@ -1,8 +1,7 @@
 -- The abstract state of the two queues, as clauses name it.
 use Rattle.std.specs.Prelude.{ℕ, List}
-use Rattle.timer_desk.specs.declared.word.Numbered.{Numbered}
-use Rattle.timer_desk.specs.declared.word.Word.{Word}
-use Rattle.timer_desk.specs.declared.queues.Queues.{Queues}
+use Rattle.timer_desk.specs.Types.{Numbered, Word}
+use Rattle.timer_desk.specs.declared.test_lines.queues.Queues.{Queues}
 
 abbrev pub requests_in : Queues → List Numbered
 requests_in q = q.requests.items

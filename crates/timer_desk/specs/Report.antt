@@ -1,23 +1,16 @@
 -- The readings of a report of `turn`, and what they say of each client and of the facility.
 use Rattle.std.specs.Prelude.{◌≡◌, ℕ, ◌+◌, ◌-◌, ◌≤◌, ◌==◌, List, [], ◌∷◌, ◌++◌, length, take, Option, Some, None, Ok, Err, Result, if◌then◌else◌}
 use Rattle.std.specs.List.{flat_map}
-use Rattle.timer_facility.specs.declared.request.CloseFault.{CloseFault}
+use Rattle.timer_desk.specs.Types.{CloseFault, TickFault, Out, Numbered, Word, Served, Step, Done}
 use Rattle.timer_facility.specs.declared.request.CloseFault.TheVariants as CloseFaults
-use Rattle.timer_facility.specs.declared.request.TickFault.{TickFault}
-use Rattle.timer_facility.specs.declared.event.Out.{Out}
 use Rattle.timer_facility.specs.declared.event.Out.TheVariants as Outs
 use Rattle.timer_facility.specs.State.{FacilityState, SingleEvent, Tick, Close}
 use Rattle.timer_facility.specs.Facility.{event_of_request, place_in}
 use Rattle.timer_facility.specs.Run.{PlacedEvent, run}
 use Rattle.timer_facility.specs.Ticked.{ticks}
-use Rattle.timer_desk.specs.declared.word.Numbered.{Numbered}
-use Rattle.timer_desk.specs.declared.word.Word.{Word}
 use Rattle.timer_desk.specs.declared.word.Word.TheVariants as Words
-use Rattle.timer_desk.specs.declared.report.Served.{Served}
 use Rattle.timer_desk.specs.declared.report.Served.TheVariants.{Did}
-use Rattle.timer_desk.specs.declared.report.Step.{Step}
 use Rattle.timer_desk.specs.declared.report.Step.TheVariants as Steps
-use Rattle.timer_desk.specs.declared.report.Done.{Done}
 use Rattle.timer_desk.specs.declared.report.Done.TheVariants as Dones
 use Rattle.timer_desk.specs.Backlog.{BacklogState, client_of}
 use Rattle.timer_desk.specs.Inlet.{LineKind}

@@ -6,10 +6,7 @@ use Rattle.rtrb.specs.Shared.{Names}
 use Rattle.rtrb.specs.declared.end.End.{End}
 use Rattle.rtrb.specs.Ring.{sent, received, known_free, known_items, all_sent}
 use Rattle.std.specs.declared.alloc.Global.{Global}
-use Rattle.timer_desk.specs.declared.word.Numbered.{Numbered}
-use Rattle.timer_facility.specs.declared.request.Request.{Request}
-use Rattle.timer_desk.specs.declared.word.Word.{Word}
-use Rattle.timer_base.specs.declared.limits.TheConstants.{LAST}
+use Rattle.timer_desk.specs.Types.{Numbered, Request, Word, LAST, Found}
 use Rattle.timer_desk.specs.declared.ring.ClientEnd.{ClientEnd}
 use Rattle.timer_desk.specs.declared.ring.RingInlet.{RingInlet}
 use Rattle.timer_desk.specs.declared.ring.RequestsEnded.{RequestsEnded}
@@ -17,7 +14,6 @@ use Rattle.timer_desk.specs.declared.ring.WordsEnded.{WordsEnded}
 use Rattle.timer_desk.specs.declared.ring.ClientReader.{ClientReader}
 use Rattle.timer_desk.specs.declared.ring.Unsent.{Unsent}
 use Rattle.timer_desk.specs.declared.ring.Unsent.TheVariants.{Spent, Full}
-use Rattle.timer_desk.specs.declared.looks.Found.{Found}
 use Rattle.timer_desk.specs.declared.looks.Found.TheVariants.{Nothing, GoneThenEmpty}
 use Rattle.timer_desk.specs.Looks.{found_in}
 use Rattle.timer_desk.specs.Inlet.{LineState, LineKind, SameLine, SameLine-refl, SameLine-trans}

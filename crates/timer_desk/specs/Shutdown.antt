@@ -3,7 +3,7 @@ use Rattle.std.specs.Prelude.{◌≡◌, ◌<◌, ◌++◌, ◌⊎◌, ℕ, true
 use Rattle.timer_desk.specs.declared.ring.RingInlet.{RingInlet}
 use Rattle.timer_desk.specs.declared.ring.RequestsEnded.{RequestsEnded}
 use Rattle.timer_desk.specs.declared.ring.ClientReader.{ClientReader}
-use Rattle.timer_desk.specs.declared.word.Numbered.{Numbered}
+use Rattle.timer_desk.specs.Types.{Numbered}
 use Rattle.timer_desk.specs.Backlog.{BacklogState}
 use Rattle.timer_desk.specs.Desk.{DeskState, clients_of, backlog_at, IsIdle}
 use Rattle.timer_desk.specs.Ring.{line_of_inlet, got_of, given_of, requests_ring_of, words_ring_of_reader, all_submitted, read_by, unread_by, is_settled_reader, found_by_reader}

@@ -1,9 +1,6 @@
 -- A timer that the owner stops in the name of a client that is gone.
 use Rattle.std.specs.Prelude.{ℕ, List, [], ◌∷◌, Ok, Err, Result}
-use Rattle.timer_base.specs.declared.timer.Handle.{Handle}
-use Rattle.timer_facility.specs.declared.request.Answer.{Answer}
-use Rattle.timer_facility.specs.declared.request.NotTaken.{NotTaken}
-use Rattle.timer_facility.specs.declared.event.Out.{Out}
+use Rattle.timer_desk.specs.Types.{Handle, Answer, NotTaken, Out}
 use Rattle.timer_facility.specs.declared.event.Out.TheVariants as Outs
 use Rattle.timer_facility.specs.State.{FacilityState, number_of, ByHandle, Stop, SingleEvent, Asked}
 use Rattle.timer_facility.specs.Step.{StepResult, step}

@@ -1,7 +1,7 @@
 //! Drives a desk turn by turn until each client has reached a goal.
-ghost use Rattle.std.specs.Prelude.{◌≡◌, ◌≤◌, ◌<◌, ◌↔◌, false, OnOk, length, vec_len};
+ghost use Rattle.std.specs.Prelude.{◌≡◌, ◌≤◌, ◌↔◌, false, OnOk, length, vec_len};
 ghost use Rattle.timer_base.specs.declared.limits.TheConstants.{LAST};
-ghost use Rattle.timer_desk.specs.Desk.{clients_of, InRange};
+ghost use Rattle.timer_desk.specs.Desk.{clients_of};
 ghost use Rattle.timer_desk.specs.Driver.{NoneRanOut, is_served, steps_with, Drives, IsTurned};
 
 use crate::desk::Desk;
@@ -55,42 +55,7 @@ pub fn drive<W: Wheel + Drop, I: Inlet + Drop>(
 ) -> Driven<W, I>
     requires goal { goal ≤ LAST }
     requires limit { limit ≤ LAST }
-    ensures { Drives I.kind Step.Tick goal limit desk result.desk result.outcome }
-{
-    run_turns(alloc, desk, goal, limit, Step::Tick)
-}
-
-/// Runs turns of the desk as `drive` does, but each ends with up to `ticks` ticks at once, in place of one.
-///
-/// These ticks end at the first that hands out something, and the next turn flushes it. So a desk that has
-/// slept passes the ticks that it missed in a few turns.
-pub fn drive_by<W: Wheel + Drop, I: Inlet + Drop>(
-    alloc: Global,
-    desk: Desk<W, I>,
-    goal: u64,
-    limit: u64,
-    ticks: u64,
-) -> Driven<W, I>
-    requires goal { goal ≤ LAST }
-    requires limit { limit ≤ LAST }
-    requires ticks { 0 < ticks }
-    ensures { Drives I.kind (Step.Ticks ticks) goal limit desk result.desk result.outcome }
-{
-    run_turns(alloc, desk, goal, limit, Step::Ticks(ticks))
-}
-
-/// Runs turns of the desk that end in the step `last`.
-fn run_turns<W: Wheel + Drop, I: Inlet + Drop>(
-    alloc: Global,
-    desk: Desk<W, I>,
-    goal: u64,
-    limit: u64,
-    last: Step,
-) -> Driven<W, I>
-    requires goal { goal ≤ LAST }
-    requires limit { limit ≤ LAST }
-    requires last { InRange 0 last }
-    ensures { Drives I.kind last goal limit desk result.desk result.outcome }
+    ensures { Drives I.kind goal limit desk result.desk result.outcome }
 {
     let mut desk = desk;
     notices_are_owed();
@@ -110,7 +75,7 @@ fn run_turns<W: Wheel + Drop, I: Inlet + Drop>(
                 outcome: DriveEnd::Done,
             };
         }
-        match one_turn(&mut desk, &mut progress, &mut steps, goal, last) {
+        match one_turn(&mut desk, &mut progress, &mut steps, goal) {
             Turned::Passed => idle = 0,
             Turned::Idle => {
                 idle += 1;
@@ -130,23 +95,20 @@ fn run_turns<W: Wheel + Drop, I: Inlet + Drop>(
     }
 }
 
-/// Runs one turn that ends in the step `last`, and counts its progress. Its steps are written over those of the turn
-/// before it.
+/// Runs one turn, and counts its progress. Its steps are written over those of the turn before it.
 fn one_turn<W: Wheel + Drop, I: Inlet + Drop>(
     desk: &mut Desk<W, I>,
     progress: &mut Vec<Progress>,
     steps: &mut Vec<Step>,
     goal: u64,
-    last: Step,
 ) -> Turned
     requires goal { goal ≤ LAST }
     requires clients { vec_len progress.old ≡ clients_of desk.old }
-    requires last { InRange 0 last }
-    ensures turned { IsTurned I.kind last goal desk.old desk.new progress.old.items progress.new.items result }
+    ensures turned { IsTurned I.kind goal desk.old desk.new progress.old.items progress.new.items result }
     ensures clients { vec_len progress.new ≡ clients_of desk.new }
 {
     desk.lemma_invariant();
-    let Ok(()) = write_steps(steps, progress, goal, last) else {
+    let Ok(()) = write_steps(steps, progress, goal) else {
         return Turned::OutOfMemory;
     };
     let Ok(report) = desk.turn(steps) else {
@@ -160,15 +122,10 @@ fn one_turn<W: Wheel + Drop, I: Inlet + Drop>(
     if passed { Turned::Passed } else { Turned::Idle }
 }
 
-/// Writes the steps of one turn, the last of which is `last`.
-fn write_steps(
-    steps: &mut Vec<Step>,
-    progress: &[Progress],
-    goal: u64,
-    last: Step,
-) -> Result<(), AllocError>
+/// Writes the steps of one turn.
+fn write_steps(steps: &mut Vec<Step>, progress: &[Progress], goal: u64) -> Result<(), AllocError>
     ensures { OnOk result (steps.new.items
-        ≡ steps_with (is_served goal progress.now) (length progress.now) last) }
+        ≡ steps_with (is_served goal progress.now) (length progress.now)) }
 {
     steps.clear();
     steps.reserve(2 * progress.len() + 1)?;
@@ -180,7 +137,7 @@ fn write_steps(
     for client in 0..progress.len() {
         steps.push_reserved(Step::Flush(client));
     }
-    steps.push_reserved(last);
+    steps.push_reserved(Step::Tick);
     Ok(())
 }
 

@@ -3,10 +3,9 @@ ghost use Rattle.std.specs.Prelude.{◌≡◌, ◌<◌, ◌≤◌, ℕ, false, L
 ghost use Rattle.timer_desk.specs.declared.driver.DriveEnd.{DriveEnd};
 ghost use Rattle.timer_desk.specs.declared.driver.DriveEnd.TheVariants as DriveEnds;
 ghost use Rattle.timer_desk.specs.declared.report.Done.{Done};
-ghost use Rattle.timer_desk.specs.declared.report.Step.{Step};
 ghost use Rattle.timer_facility.specs.State.{IsSound};
 ghost use Rattle.timer_desk.specs.Backlog.{BacklogState};
-ghost use Rattle.timer_desk.specs.Desk.{DeskState, clients_of, account_at, InRange, ReportHolds, NoticesFollow, AreOwed};
+ghost use Rattle.timer_desk.specs.Desk.{DeskState, clients_of, account_at, ReportHolds, NoticesFollow, AreOwed};
 ghost use Rattle.timer_desk.specs.Laws.{IsInTime, RespectsRoom};
 ghost use Rattle.timer_desk.specs.Driver.{Drives, HasUnfinishedClient, is_flush_of, joined};
 ghost use Rattle.timer_desk.specs.Report.{asked, ClientAccount, Runs, steps_of};
@@ -50,17 +49,17 @@ pub fn each_member_accords_with_those_before<I: Inlet>()
         (account_at I.kind second c i b) past done later }
 {}
 
-/// A drive whose turns end in a tick, or in ticks, does at most `goal` requests of each client, and flushes each
+/// A drive does at most `goal` requests of each client, and flushes each
 /// client once a turn. If its limit, above 0, ended it, some client has not reached the goal.
 pub fn a_drive_keeps_to_its_goal<I: Inlet>()
-    ensures most { (last : Step) (goal limit : ℕ) (first second : DeskState I) (outcome : DriveEnd) → InRange 0 last
-        → (d : Drives I.kind last goal limit first second outcome)
+    ensures most { (goal limit : ℕ) (first second : DeskState I) (outcome : DriveEnd)
+        → (d : Drives I.kind goal limit first second outcome)
         → (c : ℕ) → length (asked c (joined d.turns)) ≤ goal }
-    ensures once { (last : Step) (goal limit : ℕ) (first second : DeskState I) (outcome : DriveEnd) → InRange 0 last
-        → (d : Drives I.kind last goal limit first second outcome)
+    ensures once { (goal limit : ℕ) (first second : DeskState I) (outcome : DriveEnd)
+        → (d : Drives I.kind goal limit first second outcome)
         → (k c : ℕ) → k < length d.turns → c < clients_of first
         → count_by (is_flush_of c) (steps_of (get_or d.turns k [])) ≡ 1 }
-    ensures short { (last : Step) (goal limit : ℕ) (first second : DeskState I)
-        → (d : Drives I.kind last goal limit first second DriveEnds.Limit) → 0 < limit
+    ensures short { (goal limit : ℕ) (first second : DeskState I)
+        → (d : Drives I.kind goal limit first second DriveEnds.Limit) → 0 < limit
         → HasUnfinishedClient goal (clients_of first) (joined d.turns) }
 {}

@@ -6,8 +6,8 @@
 //! and which words each client gets. The layer above knows a desk by `specs/Desk.antt`. A report is a chain
 //! of members, each of which leads from one moment of the desk to the next (`specs/Member.antt`). What a
 //! whole report says (`specs/Report.antt`) follows by the lemmas of `laws`. Read `inlet` first, which is
-//! what every line does, then `desk` and `turn`. `ring` and `locked` are the lines between threads, `memory`
-//! is a line within one thread.
+//! what every line does, then `desk` and `turn`. `ring` is the line between threads;
+//! `test_lines` has those that tests alone use.
 #![tactic(auto)]
 
 mod backlog;
@@ -18,30 +18,27 @@ mod driver;
 mod forward;
 mod inlet;
 pub mod laws;
-mod locked;
-mod locked_maker;
 mod looks;
-mod memory;
 mod progress;
-mod queues;
 mod report;
 mod ring;
 mod ring_maker;
 mod settlement;
 mod shutdown;
+mod test_lines;
 mod turn;
 mod word;
 
 pub use constructor::{MAX_ROOM, MIN_ROOM, OpenFault};
 pub use desk::Desk;
-pub use driver::{DriveEnd, Driven, drive, drive_by};
+pub use driver::{DriveEnd, Driven, drive};
 pub use inlet::{Inlet, Put, Taken};
-pub use locked::{LockedEnd, LockedInlet};
-pub use locked_maker::locked_line;
 pub use looks::{Found, Looks};
-pub use memory::MemoryInlet;
 pub use report::{Done, Served, Step};
 pub use ring::{ClientEnd, ClientReader, RequestsEnded, RingInlet, Unsent, WordsEnded};
 pub use ring_maker::ring_line;
 pub use shutdown::wind_up;
+pub use test_lines::locked::{LockedEnd, LockedInlet};
+pub use test_lines::locked_maker::locked_line;
+pub use test_lines::memory::MemoryInlet;
 pub use word::{Numbered, Word};

@@ -3,9 +3,8 @@ use Rattle.std.proofs.Common.{◌≡◌, ◌≤◌, ◌+◌, ℕ, Bool, true, fa
 use Rattle.std.specs.Prelude.{if◌then◌else◌, Option, Some, None}
 use Rattle.std.proofs.lemmas.Bool.Decides.{nat_tests}
 use Rattle.std.proofs.lemmas.List.{length-set}
-use Rattle.timer_base.specs.declared.timer.Timer.{Timer}
+use Rattle.timer_facility.specs.Types.{Timer, TickFault}
 use Rattle.timer_facility.specs.declared.request.NotTaken.TheVariants as NotTakens
-use Rattle.timer_facility.specs.declared.request.TickFault.{TickFault}
 use Rattle.timer_facility.specs.declared.request.Notice.TheVariants.{Expired}
 use Rattle.timer_facility.specs.State.{FacilityState, count_of, pending_of, ModelRequest, SingleEvent, Asked, Tick, Close}
 use Rattle.timer_facility.specs.Verdict.{tick_refusal}
@@ -58,10 +57,10 @@ now_step s Tick place = now_ticked s (tick_refusal s)
 now_step s Close place = omega (arith, (clock_closed s s.is_closed).now_is)
 
 -- each accepted tick, and nothing else, brings the clock one tick on
-pub now-run : (s : FacilityState) (ps : List PlacedEvent) → (state_after s ps).now ≡ s.now + accepted_ticks (history s ps)
-now-run s [] = omega arith
-now-run s (p ∷ ps) =
-    omega (arith, now_step s p.event p.place, now-run (step s p.event p.place).state ps)
+pub now_run : (s : FacilityState) (ps : List PlacedEvent) → (state_after s ps).now ≡ s.now + accepted_ticks (history s ps)
+now_run s [] = omega arith
+now_run s (p ∷ ps) =
+    omega (arith, now_step s p.event p.place, now_run (step s p.event p.place).state ps)
 
 -- The clients that there are not.
 
@@ -115,6 +114,6 @@ none_run s c [] h = h
 none_run s c (p ∷ ps) h = none_run (step s p.event p.place).state c ps (none_step s c p.event p.place h)
 
 -- if no timer of a client that does not exist is pending, none ever will be
-pub pending-no_client : (s : FacilityState) (ps : List PlacedEvent) (client : ℕ) → length s.numbers ≤ client → pending_of s client ≡ 0
+pub pending_no_client : (s : FacilityState) (ps : List PlacedEvent) (client : ℕ) → length s.numbers ≤ client → pending_of s client ≡ 0
     → pending_of (state_after s ps) client ≡ 0
-pending-no_client s ps client l h = (none_run s client ps (record { no_client = l; none = h })).none
+pending_no_client s ps client l h = (none_run s client ps (record { no_client = l; none = h })).none

@@ -6,7 +6,7 @@ use Rattle.std.proofs.lemmas.List.{get_or-set_same, get_or-set_other, get_or_pas
 use Rattle.timer_base.specs.Basics.{either, none_some, some_same}
 use Rattle.timer_base.specs.HeldLaws.{no_serial}
 use Rattle.timer_base.specs.OneOrder.{IsMember}
-use Rattle.timer_base.specs.declared.timer.Timer.{Timer}
+use Rattle.timer_facility.specs.Types.{Timer}
 use Rattle.timer_base.specs.Order.{AreDistinct}
 use Rattle.timer_base.specs.Pending.{Entry, timers_of, put, is_due_at, without_serial, entries_due, entries_left}
 use Rattle.timer_base.specs.WheelState.{WheelState}

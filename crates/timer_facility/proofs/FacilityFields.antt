@@ -8,18 +8,11 @@ use Rattle.std.proofs.lemmas.List.{drop_more, length-take-le, length-set, length
 use Rattle.std.proofs.lemmas.List.Elements.{All-from_recursion, recursion_from_All, All-set, All-replicate}
 use Rattle.timer_base.specs.Basics.{either, some_same}
 use Rattle.timer_base.specs.OneOrder.{IsMember}
-use Rattle.timer_base.specs.declared.limits.TheConstants.{LAST}
-use Rattle.timer_base.specs.declared.timer.Timer.{Timer}
-use Rattle.timer_base.specs.declared.timer.Handle.{Handle}
+use Rattle.timer_facility.specs.Types.{LAST, Timer, Handle, MAX_PENDING, Config, Answer, Reason, Notice}
 use Rattle.timer_base.specs.Pending.{Entry, timer_of, timers_of, is_due_at, has_handle, first_timer, without_found, has_serial}
 use Rattle.timer_base.specs.HeldLaws.{held_when_none_due, held_start-last_serial, removal_when_none_due}
 use Rattle.timer_base.specs.WheelState as Wheels
-use Rattle.timer_facility.specs.declared.limits.TheConstants.{MAX_PENDING}
-use Rattle.timer_facility.specs.declared.config.Config.{Config}
-use Rattle.timer_facility.specs.declared.request.Answer.{Answer}
 use Rattle.timer_facility.specs.declared.request.Answer.TheVariants.{Started, Stopped, Restarted}
-use Rattle.timer_facility.specs.declared.request.Reason.{Reason}
-use Rattle.timer_facility.specs.declared.request.Notice.{Notice}
 use Rattle.timer_facility.specs.declared.request.Notice.TheVariants.{Expired, Returned}
 use Rattle.timer_facility.specs.State.{FacilityState, ByHandle, Tick, Close, one_of, count_of, pending_of}
 use Rattle.timer_facility.specs.Verdict.{interval_refusal, first_refusal, name_refusal, timer_named, tick_refusal}

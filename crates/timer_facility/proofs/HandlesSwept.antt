@@ -8,7 +8,7 @@ use Rattle.std.proofs.lemmas.Bool.{eqb-true, ne_eqb}
 use Rattle.std.proofs.lemmas.List.{length-map}
 use Rattle.std.proofs.lemmas.Map.Steps.{length-le_from_keys}
 use Rattle.std.proofs.lemmas.Bool.Decides.{nat_tests}
-use Rattle.timer_base.specs.declared.timer.Handle.{Handle}
+use Rattle.timer_facility.specs.Types.{Handle}
 use Rattle.timer_base.specs.OrderLaws.{either, All-filter, All-weaken}
 use Rattle.timer_base.specs.Pending.{Entry, has_handle, first_timer}
 use Rattle.timer_facility.specs.State.{FacilityState}

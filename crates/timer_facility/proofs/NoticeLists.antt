@@ -3,9 +3,7 @@ use Rattle.std.proofs.Common.{◌≡◌, ℕ, false, List, [], ◌∷◌, ◌++�
 use Rattle.std.specs.Prelude.{map}
 use Rattle.std.proofs.lemmas.List.{length-map}
 use Rattle.std.proofs.lemmas.Simd.{map-map}
-use Rattle.timer_base.specs.declared.timer.Timer.{Timer}
-use Rattle.timer_facility.specs.declared.request.Notice.{Notice}
-use Rattle.timer_facility.specs.declared.event.Out.{Out}
+use Rattle.timer_facility.specs.Types.{Timer, Notice, Out}
 use Rattle.timer_facility.specs.declared.event.Out.TheVariants as Outs
 use Rattle.timer_facility.specs.Refused.{refusals_in}
 use Rattle.timer_facility.specs.Run.{notice_in, notices_in}

@@ -4,11 +4,10 @@ use Rattle.std.specs.Prelude.{map, filter, nat_lt}
 use Rattle.std.proofs.lemmas.Bool.{and_from, cases_eq, eq-eqb, lt-ltb, not_from_false}
 use Rattle.std.proofs.lemmas.Bool.Decides.{nat_tests}
 use Rattle.timer_base.specs.OrderLaws.{either, All-weaken}
-use Rattle.timer_base.specs.declared.timer.Timer.{Timer}
+use Rattle.timer_facility.specs.Types.{Timer, Notice}
 use Rattle.timer_base.specs.Order.{itself}
 use Rattle.timer_base.specs.OneOrder.{IsMember, IsMember-in_order}
 use Rattle.timer_base.specs.Pending.{is_due_at}
-use Rattle.timer_facility.specs.declared.request.Notice.{Notice}
 use Rattle.timer_facility.specs.declared.request.Notice.TheVariants.{Expired, Returned}
 use Rattle.timer_facility.specs.State.{FacilityState, IsSound}
 use Rattle.timer_facility.specs.Run.{PlacedEvent, HistoryEntry, history}
@@ -71,8 +70,8 @@ owed_at_the_close s hs t true a u l h =
 owed_at_the_close s hs t false a u l h = absurd (cc)
 
 -- no timer of a run that was started and not stopped is forgotten
-pub handed-all : (s : FacilityState) (ps : List PlacedEvent) → IsSound s → AreAllHandedOut s (history s ps)
-handed-all s ps i =
+pub handed_all : (s : FacilityState) (ps : List PlacedEvent) → IsSound s → AreAllHandedOut s (history s ps)
+handed_all s ps i =
     let hs : List HistoryEntry = history s ps in
     let ticks : List Notice = owed_by_ticks s hs (accepted_ticks hs) in
     let close : List Notice = owed_by_close s hs (has_closed hs) in
@@ -97,9 +96,9 @@ not_within now (suc n) t h =
     ≡ nat_lt m t.deadline) (sym one) (not_within_step (is_due_within now n t) (now + n) t.deadline (not_within now n t h))
 
 -- a close returns those of the started timers that no tick handed out
-pub left-others : (s : FacilityState) (ps : List PlacedEvent) → IsSound s
+pub left_others : (s : FacilityState) (ps : List PlacedEvent) → IsSound s
     → left_after s (history s ps) (s.now + accepted_ticks (history s ps)) ≡ others s (history s ps)
-left-others s ps i =
+left_others s ps i =
     let hs : List HistoryEntry = history s ps in
     let later : Timer → Bool = λ t. nat_lt (s.now + accepted_ticks hs) t.deadline && not (is_among t.serial (stopped hs)) in
     let other : Timer → Bool = λ t. not (is_due_within s.now (accepted_ticks hs) t) && not (is_among t.serial (stopped hs)) in

@@ -9,10 +9,9 @@ use Rattle.std.proofs.lemmas.List.Elements.{filter-append, filter_agree}
 use Rattle.timer_base.specs.Basics.{either, not_due_before}
 use Rattle.timer_base.specs.OneOrder.{IsMember}
 use Rattle.timer_base.specs.OrderLaws.{All-filter, All-weaken, All-in_order}
-use Rattle.timer_base.specs.declared.timer.Timer.{Timer}
+use Rattle.timer_facility.specs.Types.{Timer, Notice}
 use Rattle.timer_base.specs.Order.{itself, IsNotAmong, AreDistinct, AreBelow}
 use Rattle.timer_base.specs.Pending.{timers_of, is_due_at, has_serial}
-use Rattle.timer_facility.specs.declared.request.Notice.{Notice}
 use Rattle.timer_facility.specs.declared.request.Notice.TheVariants.{Expired, Returned}
 use Rattle.timer_facility.specs.State.{FacilityState, Tick, Close}
 use Rattle.timer_facility.specs.Step.{with_number, without_timer, with_timer, expired_next, accepted}

@@ -6,12 +6,10 @@ use Rattle.std.proofs.lemmas.Bool.{cases_lt, or_right}
 use Rattle.std.proofs.lemmas.Bool.Decides.{nat_tests}
 use Rattle.timer_base.specs.OneOrder.{IsMember}
 use Rattle.timer_base.specs.OrderLaws.{All-weaken}
-use Rattle.timer_base.specs.declared.timer.Timer.{Timer}
+use Rattle.timer_facility.specs.Types.{Timer, Notice, TickFault}
 use Rattle.timer_base.specs.Order.{AreDistinct}
 use Rattle.timer_base.specs.Pending.{timers_of}
-use Rattle.timer_facility.specs.declared.request.Notice.{Notice}
 use Rattle.timer_facility.specs.declared.request.Notice.TheVariants.{Expired, Returned}
-use Rattle.timer_facility.specs.declared.request.TickFault.{TickFault}
 use Rattle.timer_facility.specs.State.{FacilityState, IsSound, ModelRequest, action_of, SingleEvent, Asked, Tick, Close}
 use Rattle.timer_facility.specs.Verdict.{tick_refusal}
 use Rattle.timer_facility.specs.Step.{StepResult, timer_stopped, expiries, timer_started, handle_of, answer_to, answered, due_at_start, with_timer, after_request, expired_next, step, step_of_tick, step_of_close}
@@ -188,6 +186,6 @@ take-history (suc k) s (p ∷ ps) = ap (λ hs. record {
   outs = (step s p.event p.place).outs;
 } ∷ hs) (take-history k (step s p.event p.place).state ps)
 
-pub notices-take : (s : FacilityState) (ps : List PlacedEvent) (k : ℕ) → IsSound s
+pub notices_take : (s : FacilityState) (ps : List PlacedEvent) (k : ℕ) → IsSound s
     → notices (take k (history s ps)) ≡ owed s (take k (history s ps))
-notices-take s ps k i = rw (take-history k s ps) (notices-history s (take k ps) i)
+notices_take s ps k i = rw (take-history k s ps) (notices-history s (take k ps) i)

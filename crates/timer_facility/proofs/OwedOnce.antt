@@ -5,7 +5,7 @@ use Rattle.std.specs.List.{AllByRecursion}
 use Rattle.std.proofs.lemmas.Bool.{and_parts, eqb-true, ltb-true, not-true}
 use Rattle.std.proofs.lemmas.List.{map-append}
 use Rattle.timer_base.specs.OneOrder.{IsMember, each_is_member, map-itself}
-use Rattle.timer_base.specs.declared.timer.Timer.{Timer}
+use Rattle.timer_facility.specs.Types.{Timer}
 use Rattle.timer_base.specs.Order.{itself, AreDistinct}
 use Rattle.timer_base.specs.OrderLaws.{either, All-filter, All-weaken, All-in_order, AreDistinct-in_order}
 use Rattle.timer_base.specs.Pending.{is_due_at}
@@ -102,8 +102,8 @@ by_close s hs true d =
     (owed_when (started s hs) (stopped hs) (λ d. tick < d) (λ t. nat_lt tick t.deadline) d (λ t h. ltb-true tick t.deadline h))
 
 -- no timer of a run is handed out twice, and none that was stopped
-pub handed-once : (s : FacilityState) (ps : List PlacedEvent) → IsSound s → AreHandedOutOnce (history s ps)
-handed-once s ps i =
+pub handed_once : (s : FacilityState) (ps : List PlacedEvent) → IsSound s → AreHandedOutOnce (history s ps)
+handed_once s ps i =
     let hs : List HistoryEntry = history s ps in
     let d : AreDistinct (started s hs) = started-distinct s ps i in
     let n : ℕ = accepted_ticks hs in

@@ -1,20 +1,15 @@
 -- Runs that go on.
 use Rattle.std.proofs.Common.{◌≡◌, ℕ, List, [], ◌∷◌, ◌++◌, refl, sym, ◌∙◌, ap, subst, append-nil, append_assoc, inl, inr}
 use Rattle.std.specs.Prelude.{Some, None, Result, Ok, Err, OnErr}
-use Rattle.timer_base.specs.declared.timer.Handle.{Handle}
-use Rattle.timer_facility.specs.declared.request.Request.{Request}
-use Rattle.timer_facility.specs.declared.request.NotTaken.{NotTaken}
+use Rattle.timer_facility.specs.Types.{Handle, Request, NotTaken, Event, Out, Answer}
 use Rattle.timer_facility.specs.declared.request.NotTaken.TheVariants as NotTakens
-use Rattle.timer_facility.specs.declared.event.Event.{Event}
 use Rattle.timer_facility.specs.declared.event.Event.TheVariants as Events
 use Rattle.timer_facility.specs.declared.request.Request.TheVariants as Requests
 use Rattle.timer_facility.specs.Handles.{HandleList, AreRecorded}
 use Rattle.timer_facility.proofs.HandlesLemmas.{IsHandleOf, named-recorded}
 use Rattle.timer_facility.proofs.StepLemmas.{step-not_taken, step-stop, step-restart}
-use Rattle.timer_facility.proofs.OwedLemmas.{notices-take}
-use Rattle.timer_facility.specs.declared.event.Out.{Out}
+use Rattle.timer_facility.proofs.OwedLemmas.{notices_take}
 use Rattle.timer_facility.specs.declared.event.Out.TheVariants as Outs
-use Rattle.timer_facility.specs.declared.request.Answer.{Answer}
 use Rattle.timer_facility.specs.State.{FacilityState, IsSound, After, ByHandle, BySerial, Start, Stop, Restart, SingleEvent, Asked}
 use Rattle.timer_facility.specs.Verdict.{not_taken, first_refusal, name_refusal, interval_refusal}
 use Rattle.timer_facility.specs.Step.{StepResult, step}
@@ -167,4 +162,4 @@ MakesStep-not_taken {old} {new} {t} {client} {number} {request} {reason} same h 
 -- the notices of every run are what is owed
 pub IsPlayed-run : (s : FacilityState) (es : List Event) (outs : List Out) (c : FacilityState) → IsSound s → IsRun s es outs c
     → IsPlayed s es outs c
-IsPlayed-run s es outs c i a = record { runs = a; notices_owed = λ k. notices-take s a.placed k i }
+IsPlayed-run s es outs c i a = record { runs = a; notices_owed = λ k. notices_take s a.placed k i }

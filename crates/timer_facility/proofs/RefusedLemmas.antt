@@ -1,12 +1,9 @@
 -- The verdict on an event, read from its outs.
 use Rattle.std.proofs.Common.{◌≡◌, ℕ, Bool, true, false, List, [], ◌∷◌, refl, ap}
 use Rattle.std.specs.Prelude.{if◌then◌else◌, Option, Some, None}
-use Rattle.timer_base.specs.declared.timer.Timer.{Timer}
+use Rattle.timer_facility.specs.Types.{Timer, NotTaken, Reason, TickFault}
 use Rattle.timer_base.specs.Pending.{timers_of}
-use Rattle.timer_facility.specs.declared.request.NotTaken.{NotTaken}
 use Rattle.timer_facility.specs.declared.request.Notice.TheVariants.{Expired, Returned}
-use Rattle.timer_facility.specs.declared.request.Reason.{Reason}
-use Rattle.timer_facility.specs.declared.request.TickFault.{TickFault}
 use Rattle.timer_facility.specs.declared.event.Out.TheVariants as Outs
 use Rattle.timer_facility.specs.State.{FacilityState, ModelRequest, SingleEvent, Asked, Tick, Close}
 use Rattle.timer_facility.specs.Verdict.{not_taken, refusal, tick_refusal, CloseRefused, verdict_on_request, verdict_on_tick, verdict, closed_refusal}
@@ -17,11 +14,11 @@ use Rattle.timer_facility.proofs.VerdictLemmas.{not_taken-closed, tick_refusal-c
 use Rattle.timer_facility.proofs.StepLemmas.{accepted-some}
 
 -- a closed facility refuses each event as such
-pub verdict-closed : (s : FacilityState) (event : SingleEvent) → s.is_closed ≡ true → verdict s event ≡ Some (closed_refusal event)
-verdict-closed s (Asked client number request) h = ap (λ v. verdict_on_request v (refusal s client request))
+pub verdict_closed : (s : FacilityState) (event : SingleEvent) → s.is_closed ≡ true → verdict s event ≡ Some (closed_refusal event)
+verdict_closed s (Asked client number request) h = ap (λ v. verdict_on_request v (refusal s client request))
     (not_taken-closed s client number h)
-verdict-closed s Tick h = ap verdict_on_tick (tick_refusal-closed s h)
-verdict-closed s Close h = ap (λ b. if b then Some CloseRefused else None) h
+verdict_closed s Tick h = ap verdict_on_tick (tick_refusal-closed s h)
+verdict_closed s Close h = ap (λ b. if b then Some CloseRefused else None) h
 
 -- From the outs.
 
@@ -51,10 +48,10 @@ told_close s true = refl
 told_close s false = refusals_in-map (λ t. Returned t) (timers_of s.pending)
 
 -- the refusals among the outs of an event are those of the verdict on it
-pub outs-verdict : (s : FacilityState) (event : SingleEvent) (place : ℕ)
+pub outs_verdict : (s : FacilityState) (event : SingleEvent) (place : ℕ)
     → refusals_in (step s event place).outs ≡ refusals_of (verdict s event)
-outs-verdict s (Asked client number request) place =
+outs_verdict s (Asked client number request) place =
     told_request s client number request place (not_taken s client number) (refusal s client request)
     (accepted-some s client number request)
-outs-verdict s Tick place = told_tick s (tick_refusal s)
-outs-verdict s Close place = told_close s s.is_closed
+outs_verdict s Tick place = told_tick s (tick_refusal s)
+outs_verdict s Close place = told_close s s.is_closed

@@ -6,16 +6,10 @@ use Rattle.std.proofs.lemmas.List.{length-map, map-append}
 use Rattle.std.proofs.lemmas.List.Elements.{All-replicate, recursion_from_All}
 use Rattle.std.proofs.lemmas.Simd.{map-map}
 use Rattle.timer_base.specs.OrderLaws.{either}
-use Rattle.timer_base.specs.declared.timer.Timer.{Timer}
+use Rattle.timer_facility.specs.Types.{Timer, NotTaken, Reason, TickFault, Notice, Event, Out}
 use Rattle.timer_base.specs.Pending.{Entry, timer_of, timers_of, put, is_due_at, has_serial, first_timer, without_found}
-use Rattle.timer_facility.specs.declared.request.NotTaken.{NotTaken}
-use Rattle.timer_facility.specs.declared.request.Reason.{Reason}
-use Rattle.timer_facility.specs.declared.request.TickFault.{TickFault}
-use Rattle.timer_facility.specs.declared.request.Notice.{Notice}
 use Rattle.timer_facility.specs.declared.request.Notice.TheVariants.{Expired, Returned}
-use Rattle.timer_facility.specs.declared.event.Event.{Event}
 use Rattle.timer_facility.specs.declared.event.Event.TheVariants as Events
-use Rattle.timer_facility.specs.declared.event.Out.{Out}
 use Rattle.timer_facility.specs.declared.event.Out.TheVariants as Outs
 use Rattle.timer_facility.specs.State.{FacilityState, Deadline, After, At, interval_until, ByHandle, BySerial, ModelRequest, Start, Stop, Restart, SingleEvent, Asked, Tick, Close}
 use Rattle.timer_facility.specs.Verdict.{not_taken, of_client, timer_named, interval_refusal, room_refusal, refusal, tick_refusal, verdict_on_request}

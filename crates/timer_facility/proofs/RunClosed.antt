@@ -5,15 +5,15 @@ use Rattle.timer_facility.specs.Verdict.{closed_refusal}
 use Rattle.timer_facility.specs.Step.{StepResult, refused, step}
 use Rattle.timer_facility.specs.Run.{PlacedEvent, run, notices_in}
 use Rattle.timer_facility.proofs.NoticeLists.{notices_in-append}
-use Rattle.timer_facility.proofs.StepLemmas.{step-refused}
-use Rattle.timer_facility.proofs.RefusedLemmas.{verdict-closed}
+use Rattle.timer_facility.proofs.StepLemmas.{step_refused}
+use Rattle.timer_facility.proofs.RefusedLemmas.{verdict_closed}
 
 -- a step that hands nothing out and changes nothing
 abbrev IsIdle : FacilityState → StepResult → Type 0
 IsIdle s st = (notices_in st.outs ≡ []) × (st.state ≡ s)
 
 step-closed : (s : FacilityState) (event : SingleEvent) (place : ℕ) → s.is_closed ≡ true → IsIdle s (step s event place)
-step-closed s event place h = subst (IsIdle s) (sym (step-refused s event place (closed_refusal event) (verdict-closed s event h)))
+step-closed s event place h = subst (IsIdle s) (sym (step_refused s event place (closed_refusal event) (verdict_closed s event h)))
     (idle event)
   where
     idle : (event : SingleEvent) → IsIdle s (refused s event (closed_refusal event))

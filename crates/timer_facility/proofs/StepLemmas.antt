@@ -4,14 +4,10 @@ use Rattle.std.specs.Prelude.{map, Option, Some, None}
 use Rattle.std.proofs.lemmas.Bool.{le-ltb, lt-ltb}
 use Rattle.std.proofs.lemmas.Simd.{map-map}
 use Rattle.timer_base.specs.OneOrder.{IsMember}
-use Rattle.timer_base.specs.declared.timer.Timer.{Timer}
+use Rattle.timer_facility.specs.Types.{Timer, Answer, NotTaken, Reason, Request}
 use Rattle.timer_base.specs.Pending.{Entry, timers_of, put, first_timer}
-use Rattle.timer_facility.specs.declared.request.Answer.{Answer}
 use Rattle.timer_facility.specs.declared.request.Answer.TheVariants.{Refused}
 use Rattle.timer_facility.specs.declared.request.Notice.TheVariants.{Expired}
-use Rattle.timer_facility.specs.declared.request.NotTaken.{NotTaken}
-use Rattle.timer_facility.specs.declared.request.Reason.{Reason}
-use Rattle.timer_facility.specs.declared.request.Request.{Request}
 use Rattle.timer_facility.specs.declared.request.Request.TheVariants as Requests
 use Rattle.timer_facility.specs.declared.event.Out.TheVariants as Outs
 use Rattle.timer_facility.specs.State.{FacilityState, Deadline, ticks_until, interval_until, Name, ByHandle, ModelRequest, Start, Stop, Restart, action_of, SingleEvent, Asked}
@@ -25,9 +21,9 @@ use Rattle.timer_facility.proofs.TimerLists.{first_timer-among, of_client_some}
 -- By the verdict.
 
 -- a refused event
-pub step-refused : (s : FacilityState) (event : SingleEvent) (place : ℕ) (r : Refusal) → verdict s event ≡ Some r
+pub step_refused : (s : FacilityState) (event : SingleEvent) (place : ℕ) (r : Refusal) → verdict s event ≡ Some r
     → step s event place ≡ refused s event r
-step-refused s event place r h = ap (step_by s event (accepted s event place)) h
+step_refused s event place r h = ap (step_by s event (accepted s event place)) h
 
 -- an accepted one
 pub step-accepted : (s : FacilityState) (event : SingleEvent) (place : ℕ) → verdict s event ≡ None
@@ -39,7 +35,7 @@ pub step-not_taken : (s : FacilityState) (client number : ℕ) (request : ModelR
     → not_taken s client number ≡ Some reason
     → step s (Asked client number request) place ≡ refused s (Asked client number request) (RequestNotTaken reason)
 step-not_taken s client number request place reason h =
-    step-refused s (Asked client number request) place (RequestNotTaken reason)
+    step_refused s (Asked client number request) place (RequestNotTaken reason)
     (ap (λ v. verdict_on_request v (refusal s client request)) h)
 
 -- what holds of a request's step, from what holds when it is not taken, refused or accepted

@@ -1,8 +1,6 @@
 -- The ranges of a facility's configuration.
 use Rattle.std.specs.Prelude.{◌≤◌, ℕ, Bool, ◌||◌, nat_lt, if◌then◌else◌, Option, Some, None}
-use Rattle.timer_base.specs.declared.limits.TheConstants.{LAST}
-use Rattle.timer_facility.specs.declared.limits.TheConstants.{MAX_CLIENTS, MAX_PENDING}
-use Rattle.timer_facility.specs.declared.config.Config.{Config}
+use Rattle.timer_facility.specs.Types.{LAST, MAX_CLIENTS, MAX_PENDING, Config}
 use Rattle.timer_facility.specs.declared.config.ConfigFault.{ConfigFault}
 use Rattle.timer_facility.specs.declared.config.ConfigFault.TheVariants.{Clients, Capacity, FirstTick, FirstSerial, FirstNumber}
 

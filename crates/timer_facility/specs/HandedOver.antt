@@ -1,6 +1,6 @@
 -- What an event adds to the pending timers, and what it hands out of them.
 use Rattle.std.specs.Prelude.{◌≡◌, ◌≤◌, ◌==◌, ℕ, ◌+◌, if◌then◌else◌, List, length, map}
-use Rattle.timer_base.specs.declared.timer.Timer.{Timer}
+use Rattle.timer_facility.specs.Types.{Timer}
 use Rattle.timer_facility.specs.State.{FacilityState, count_of, pending_of}
 use Rattle.timer_facility.specs.Step.{StepResult}
 use Rattle.timer_facility.specs.Run.{notices_in}

@@ -1,3 +1,4 @@
+pub mod Types
 pub mod Config
 pub mod State
 pub mod Verdict

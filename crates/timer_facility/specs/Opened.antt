@@ -1,6 +1,6 @@
 -- A newly opened facility.
 use Rattle.std.specs.Prelude.{ℕ, false, [], replicate}
-use Rattle.timer_facility.specs.declared.config.Config.{Config}
+use Rattle.timer_facility.specs.Types.{Config}
 use Rattle.timer_facility.specs.State.{FacilityState}
 
 -- the state of a configuration over a clock with this last tick, and a wheel with so many slots

@@ -1,8 +1,7 @@
 -- The contract of a player about the events that it plays.
 use Rattle.std.specs.Prelude.{◌≡◌, ℕ, ◌+◌, ◌-◌, min, if◌then◌else◌, false, List, [], ◌∷◌, ◌++◌, length, map, take, replicate}
-use Rattle.timer_facility.specs.declared.event.Event.{Event}
+use Rattle.timer_facility.specs.Types.{Event, Out}
 use Rattle.timer_facility.specs.declared.event.Event.TheVariants as Events
-use Rattle.timer_facility.specs.declared.event.Out.{Out}
 use Rattle.timer_facility.specs.State.{FacilityState, After, BySerial, Start, Stop, Restart, SingleEvent, Asked, Tick, Close}
 use Rattle.timer_facility.specs.Step.{step}
 use Rattle.timer_facility.specs.Run.{PlacedEvent, history, state_after, run, notices}

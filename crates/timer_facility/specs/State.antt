@@ -1,12 +1,9 @@
 -- The abstract state of a facility, and single events.
 use Rattle.std.specs.Prelude.{◌<◌, ◌≤◌, ◌==◌, ℕ, ◌+◌, ◌-◌, max, Bool, true, if◌then◌else◌, List, [], ◌∷◌, length, slice_index}
 use Rattle.std.specs.List.{AllByRecursion}
-use Rattle.timer_base.specs.declared.limits.TheConstants.{LAST}
-use Rattle.timer_base.specs.declared.timer.Timer.{Timer}
-use Rattle.timer_base.specs.declared.timer.Handle.{Handle}
+use Rattle.timer_facility.specs.Types.{LAST, Timer, Handle, MAX_CLIENTS, MAX_PENDING}
 use Rattle.timer_base.specs.Order.{IsOrdered, AreDistinct, AreBelow}
 use Rattle.timer_base.specs.Pending.{Entry, timers_of}
-use Rattle.timer_facility.specs.declared.limits.TheConstants.{MAX_CLIENTS, MAX_PENDING}
 
 pub record FacilityState : Type 0 where
   -- the most timers that may be pending; constant

@@ -1,13 +1,9 @@
 -- The verdict on an event: accepted, or the first rule that refuses it.
 use Rattle.std.specs.Prelude.{ℕ, Bool, ◌-◌, ◌==◌, not, nat_lt, if◌then◌else◌, Option, Some, None, length}
-use Rattle.timer_base.specs.declared.limits.TheConstants.{LAST}
-use Rattle.timer_base.specs.declared.timer.Timer.{Timer}
+use Rattle.timer_facility.specs.Types.{LAST, Timer, NotTaken, Reason, TickFault}
 use Rattle.timer_base.specs.Pending.{Entry, has_handle, has_serial, first_timer}
-use Rattle.timer_facility.specs.declared.request.NotTaken.{NotTaken}
 use Rattle.timer_facility.specs.declared.request.NotTaken.TheVariants.{Closed, NoClient, Repeated, NumbersSpent, Ahead}
-use Rattle.timer_facility.specs.declared.request.Reason.{Reason}
 use Rattle.timer_facility.specs.declared.request.Reason.TheVariants.{ZeroInterval, TooLate, SerialsSpent, Full, NoSuch}
-use Rattle.timer_facility.specs.declared.request.TickFault.{TickFault}
 use Rattle.timer_facility.specs.declared.request.TickFault.TheVariants as TickFaults
 use Rattle.timer_facility.specs.State.{FacilityState, number_of, interval_until, Name, ByHandle, BySerial, ModelRequest, Start, Stop, Restart, SingleEvent, Asked, Tick, Close}
 

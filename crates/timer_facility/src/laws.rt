@@ -18,12 +18,14 @@ ghost use Rattle.timer_facility.specs.declared.event.Event.{Event};
 ghost use Rattle.timer_facility.specs.declared.event.Out.{Out};
 
 /// Whatever the events are, after each of them the notices so far are what is owed.
+#[tactic(auto, using(crate::proofs::OwedLemmas::notices_take))]
 pub fn notices_are_owed()
     ensures { (s : FacilityState) (placed : List PlacedEvent) (k : ℕ) → IsSound s
         → notices (take k (history s placed)) ≡ owed s (take k (history s placed)) }
 {}
 
 /// No timer is handed out twice, and a stopped one never is.
+#[tactic(auto, using(crate::proofs::OwedOnce::handed_once))]
 pub fn each_timer_is_handed_out_once()
     ensures { (s : FacilityState) (placed : List PlacedEvent) → IsSound s
         → AreHandedOutOnce (history s placed) }
@@ -31,6 +33,7 @@ pub fn each_timer_is_handed_out_once()
 
 /// Each timer that was started and not stopped is handed out: it expires if its deadline is reached, and
 /// is returned if the facility was closed before that.
+#[tactic(auto, using(crate::proofs::OwedAtLeastOnce::handed_all))]
 pub fn each_timer_is_handed_out()
     ensures { (s : FacilityState) (placed : List PlacedEvent) → IsSound s
         → AreAllHandedOut s (history s placed) }
@@ -38,6 +41,7 @@ pub fn each_timer_is_handed_out()
 
 /// A close returns the others: of all timers that were started, those that no tick handed out and that
 /// were not stopped.
+#[tactic(auto, using(crate::proofs::OwedAtLeastOnce::left_others))]
 pub fn a_close_returns_the_others()
     ensures { (s : FacilityState) (placed : List PlacedEvent) → IsSound s
         → left_after s (history s placed) (s.now + accepted_ticks (history s placed))
@@ -62,6 +66,7 @@ pub fn players_give_the_same()
 {}
 
 /// A refused event changes nothing, except that a request which is taken uses up its number.
+#[tactic(auto, using(crate::proofs::StepLemmas::step_refused))]
 pub fn a_refusal_changes_at_most_the_number()
     ensures { (s : FacilityState) (event : SingleEvent) (place : ℕ) (refusal : Refusal)
         → verdict s event ≡ Some refusal
@@ -70,12 +75,14 @@ pub fn a_refusal_changes_at_most_the_number()
 
 /// The outs of an event determine the verdict on it: those of an accepted event have no refusal, and the
 /// only refusal among those of a refused one is that of the verdict.
+#[tactic(auto, using(crate::proofs::RefusedLemmas::outs_verdict))]
 pub fn the_outs_tell_the_verdict()
     ensures { (s : FacilityState) (event : SingleEvent) (place : ℕ)
         → refusals_in (step s event place).outs ≡ refusals_of (verdict s event) }
 {}
 
 /// A closed facility refuses each event as closed.
+#[tactic(auto, using(crate::proofs::RefusedLemmas::verdict_closed))]
 pub fn a_closed_facility_refuses_each_event()
     ensures { (s : FacilityState) (event : SingleEvent) → s.is_closed ≡ true
         → verdict s event ≡ Some (closed_refusal event) }
@@ -100,6 +107,7 @@ pub fn what_is_handed_out_was_pending()
 {}
 
 /// After a run, now is the start's now and one more for each accepted tick.
+#[tactic(auto, using(crate::proofs::ClockLemmas::now_run))]
 pub fn now_counts_the_accepted_ticks()
     ensures { (s : FacilityState) (placed : List PlacedEvent)
         → (state_after s placed).now ≡ s.now + accepted_ticks (history s placed) }
@@ -112,6 +120,7 @@ pub fn nothing_is_handed_out_before_the_wake_up()
 {}
 
 /// A client that does not exist has no pending timer after a run, if it had none before.
+#[tactic(auto, using(crate::proofs::ClockLemmas::pending_no_client))]
 pub fn no_timer_is_of_no_client()
     ensures { (s : FacilityState) (placed : List PlacedEvent) (client : ℕ) → length s.numbers ≤ client
         → pending_of s client ≡ 0 → pending_of (state_after s placed) client ≡ 0 }

@@ -3,13 +3,18 @@
 //!
 //! Each step is taken by a call of its own, or by a turn of one step, and a step that is refused is taken
 //! again.
+ghost use Rattle.std.specs.Prelude.{◌≡◌, []};
+
 use crate::facilities::numbers;
 use crate::fault::{Fault, same, see};
 use crate::lines::{in_memory, locked, request};
 use crate::wheels::hier;
 use std::alloc::Global;
 use std::sync::Wait;
-use timer_desk::{Desk, Done, Inlet, LockedEnd, MemoryInlet, OpenFault, Served, Step, Word};
+use timer_base::Wheel;
+use timer_desk::{
+    Desk, Done, Inlet, LockedEnd, LockedInlet, MemoryInlet, OpenFault, Served, Step, Word,
+};
 use timer_facility::{Answer, CloseFault, Facility, Notice};
 use timer_wheels::{HierWheel, Table};
 
@@ -49,8 +54,16 @@ const OF_ZERO: [Said; 3] = [('A', 1, 5), ('R', 1, 5), ('N', 0, 0)];
 const OF_ONE: [Said; 2] = [('A', 2, 3), ('R', 2, 3)];
 
 /// A desk with a client for each of these lines, at the second try if the first is refused.
-fn open<I: Inlet + Drop>(alloc: Global, inlets: Vec<I>) -> Result<Desk<HierWheel, I>, Fault> {
-    let wheel = hier(alloc, Table::Wide)?;
+fn open<W: Wheel + Drop, I: Inlet + Drop>(
+    alloc: Global,
+    wheel: W,
+    inlets: Vec<I>,
+) -> Result<Desk<W, I>, Fault>
+    requires pending { (W.state wheel).pending ≡ [] }
+    requires due { (W.state wheel).due ≡ [] }
+    requires now { (W.state wheel).now ≡ 0 }
+    requires serial { (W.state wheel).last_serial ≡ 0 }
+{
     let Ok(checked) = numbers(inlets.len() as u64, 1024).check() else {
         return Err(Fault::Wrong("the number of lines"));
     };
@@ -76,12 +89,12 @@ pub fn open_in_memory(
     let mut inlets = Vec::new(alloc);
     inlets.push(in_memory(alloc, zero)?)?;
     inlets.push(in_memory(alloc, one)?)?;
-    open(alloc, inlets)
+    open(alloc, hier(alloc, Table::Wide)?, inlets)
 }
 
 /// Serves the client once. False if that is refused for memory.
-fn try_serve<I: Inlet + Drop>(
-    desk: &mut Desk<HierWheel, I>,
+fn try_serve<W: Wheel + Drop, I: Inlet + Drop>(
+    desk: &mut Desk<W, I>,
     c: usize,
     by: By,
 ) -> Result<bool, Fault> {
@@ -111,7 +124,11 @@ fn served_in(report: &[Done], c: usize) -> Result<Served, Fault> {
 }
 
 /// Serves the client, at the second try if the first is refused for memory.
-fn serve<I: Inlet + Drop>(desk: &mut Desk<HierWheel, I>, c: usize, by: By) -> Result<(), Fault> {
+fn serve<W: Wheel + Drop, I: Inlet + Drop>(
+    desk: &mut Desk<W, I>,
+    c: usize,
+    by: By,
+) -> Result<(), Fault> {
     for _ in 0..2 {
         if try_serve(desk, c, by)? {
             return Ok(());
@@ -121,7 +138,10 @@ fn serve<I: Inlet + Drop>(desk: &mut Desk<HierWheel, I>, c: usize, by: By) -> Re
 }
 
 /// Closes once. None if that is refused for memory.
-fn try_close<I: Inlet + Drop>(desk: &mut Desk<HierWheel, I>, by: By) -> Result<Option<u64>, Fault> {
+fn try_close<W: Wheel + Drop, I: Inlet + Drop>(
+    desk: &mut Desk<W, I>,
+    by: By,
+) -> Result<Option<u64>, Fault> {
     let closed = match by {
         By::Call => desk.close(),
         By::Turn => match desk.turn(&[Step::Close]) {
@@ -147,7 +167,7 @@ fn closed_in(report: &[Done]) -> Result<Result<u64, CloseFault>, Fault> {
 }
 
 /// Closes, at the second try if the first is refused for memory.
-fn close<I: Inlet + Drop>(desk: &mut Desk<HierWheel, I>, by: By) -> Result<u64, Fault> {
+fn close<W: Wheel + Drop, I: Inlet + Drop>(desk: &mut Desk<W, I>, by: By) -> Result<u64, Fault> {
     for _ in 0..2 {
         if let Some(count) = try_close(desk, by)? {
             return Ok(count);
@@ -157,7 +177,7 @@ fn close<I: Inlet + Drop>(desk: &mut Desk<HierWheel, I>, by: By) -> Result<u64, 
 }
 
 /// Puts all words of the client into its line, at the second try if a put is refused for memory.
-fn flush<I: Inlet + Drop>(desk: &mut Desk<HierWheel, I>, c: usize) -> Result<(), Fault> {
+fn flush<W: Wheel + Drop, I: Inlet + Drop>(desk: &mut Desk<W, I>, c: usize) -> Result<(), Fault> {
     for _ in 0..2 {
         if c >= desk.clients() {
             return Err(Fault::Wrong("a client"));
@@ -168,7 +188,10 @@ fn flush<I: Inlet + Drop>(desk: &mut Desk<HierWheel, I>, c: usize) -> Result<(),
 }
 
 /// Starts a timer of each of two clients, closes, and takes a request after the close.
-fn close_at_desk<I: Inlet + Drop>(desk: &mut Desk<HierWheel, I>, by: By) -> Result<(), Fault> {
+fn close_at_desk<W: Wheel + Drop, I: Inlet + Drop>(
+    desk: &mut Desk<W, I>,
+    by: By,
+) -> Result<(), Fault> {
     serve(desk, 0, by)?;
     serve(desk, 1, by)?;
     same(close(desk, by)?, 2, "a close")?;
@@ -185,8 +208,8 @@ pub fn close_in_memory(alloc: Global, by: By) -> Result<(), Fault> {
 }
 
 /// Goes on only if nothing is left at the desk, and each of its two lines was given these words.
-pub fn see_given(
-    desk: Desk<HierWheel, MemoryInlet>,
+pub fn see_given<W: Wheel + Drop>(
+    desk: Desk<W, MemoryInlet>,
     zero: &[Said],
     one: &[Said],
 ) -> Result<(), Fault> {
@@ -202,14 +225,15 @@ pub fn see_given(
 }
 
 /// Ends a desk of two clients of whom nothing is left, and returns their lines.
-fn end_desk(desk: Desk<HierWheel, MemoryInlet>) -> Result<Vec<MemoryInlet>, Fault> {
-    if desk.clients() != 2 {
-        return Err(Fault::Wrong("the number of lines"));
+fn end_desk<W: Wheel + Drop, I: Inlet + Drop>(desk: Desk<W, I>) -> Result<Vec<I>, Fault> {
+    if desk.clients() != 2
+        || desk.held(0).is_some()
+        || desk.held(1).is_some()
+        || desk.outbox_len(0) != 0
+        || desk.outbox_len(1) != 0
+    {
+        return Err(Fault::Wrong("a desk at which something is left"));
     }
-    see(desk.held(0).is_none(), "a request that is held")?;
-    see(desk.held(1).is_none(), "the other client's held request")?;
-    see(desk.outbox_len(0) == 0, "a word that is left")?;
-    see(desk.outbox_len(1) == 0, "the other client's word")?;
     let (_, inlets) = desk.end();
     Ok(inlets)
 }
@@ -225,22 +249,45 @@ fn are_said(words: &[Word], wanted: &[Said]) -> Result<(), Fault> {
 
 /// A close over locked lines.
 pub fn close_over_locks<R: Wait>(rt: &R, alloc: Global) -> Result<(), Fault> {
-    let (mut zero, inlet) = locked(rt, alloc)?;
-    let (mut one, other) = locked(rt, alloc)?;
-    for interval in [5, 1] {
-        submit(rt, &mut zero, interval)?;
-    }
-    submit(rt, &mut one, 3)?;
-    let mut desk = open(alloc, vec![in alloc; inlet, other]?)?;
-    close_at_desk(&mut desk, By::Call)?;
+    let (mut zero, inlet) = locked_with(rt, alloc, &[5, 1])?;
+    let (mut one, other) = locked_with(rt, alloc, &[3])?;
+    let _desk = close_of_two(alloc, inlet, other)?;
     receive(rt, &mut zero, &OF_ZERO)?;
     receive(rt, &mut one, &OF_ONE)
 }
 
-/// Sends a start.
-fn submit(rt: &impl Wait, end: &mut LockedEnd, interval: u64) -> Result<(), Fault> {
-    let sent = end.submit(rt, request(interval));
-    see(sent.is_ok(), "a request that is sent")
+/// A desk over these two lines, after its close.
+fn close_of_two<I: Inlet + Drop>(
+    alloc: Global,
+    first: I,
+    second: I,
+) -> Result<Desk<HierWheel, I>, Fault> {
+    let mut inlets = Vec::new(alloc);
+    inlets.push(first)?;
+    inlets.push(second)?;
+    let mut desk = open(alloc, hier(alloc, Table::Wide)?, inlets)?;
+    close_at_desk(&mut desk, By::Call)?;
+    Ok(desk)
+}
+
+/// A locked line in which starts with these intervals stand.
+fn locked_with<'a, R: Wait>(
+    rt: &'a R,
+    alloc: Global,
+    intervals: &[u64],
+) -> Result<(LockedEnd, LockedInlet<&'a R>), Fault> {
+    let (mut end, inlet) = locked(rt, alloc)?;
+    submit(rt, &mut end, intervals)?;
+    Ok((end, inlet))
+}
+
+/// Sends starts with these intervals.
+fn submit(rt: &impl Wait, end: &mut LockedEnd, intervals: &[u64]) -> Result<(), Fault> {
+    for interval in intervals {
+        let sent = end.submit(rt, request(*interval));
+        see(sent.is_ok(), "a request that is sent")?;
+    }
+    Ok(())
 }
 
 /// Goes on only if the client receives words that say just this.
@@ -261,25 +308,35 @@ const LATE: [Said; 2] = [('A', 1, 2), ('E', 1, 2)];
 /// it is accepted. Returns whether it was held.
 pub fn hold(alloc: Global, ticks: u64) -> Result<bool, Fault> {
     let mut desk = open_in_memory(alloc, &[1], &[])?;
-    let is_done = try_serve(&mut desk, 0, By::Call)?;
-    same(is_held(&desk), !is_done, "what is held")?;
-    if !is_done {
-        pass(&mut desk, ticks)?;
-        serve(&mut desk, 0, By::Call)?;
-    }
-    pass(&mut desk, 1)?;
-    flush(&mut desk, 0)?;
+    let is_done = serve_after(&mut desk, ticks)?;
     let is_late = !is_done && ticks > 0;
     see_given(desk, if is_late { &LATE } else { &ON_TIME }, &[])?;
     Ok(!is_done)
 }
 
+/// Serves a start, once more after so many ticks if it was held, and lets its timer expire. Returns whether it was
+/// not held.
+fn serve_after<W: Wheel + Drop, I: Inlet + Drop>(
+    desk: &mut Desk<W, I>,
+    ticks: u64,
+) -> Result<bool, Fault> {
+    let is_done = try_serve(desk, 0, By::Call)?;
+    same(is_held(desk), !is_done, "what is held")?;
+    if !is_done {
+        pass(desk, ticks)?;
+        serve(desk, 0, By::Call)?;
+    }
+    pass(desk, 1)?;
+    flush(desk, 0)?;
+    Ok(is_done)
+}
+
 /// Whether a request of client 0 is held.
-pub fn is_held(desk: &Desk<HierWheel, MemoryInlet>) -> bool {
+pub fn is_held<W: Wheel + Drop, I: Inlet + Drop>(desk: &Desk<W, I>) -> bool {
     desk.clients() > 0 && desk.held(0).is_some()
 }
 
-fn pass(desk: &mut Desk<HierWheel, MemoryInlet>, ticks: u64) -> Result<(), Fault> {
+fn pass<W: Wheel + Drop, I: Inlet + Drop>(desk: &mut Desk<W, I>, ticks: u64) -> Result<(), Fault> {
     for _ in 0..ticks {
         see(desk.tick().is_ok(), "a tick")?;
     }

@@ -11,8 +11,8 @@
 use crate::desks::{Said, is_held, open_in_memory, see_given};
 use crate::fault::{Fault, same};
 use std::alloc::Global;
-use timer_desk::{Desk, DriveEnd, Driven, MemoryInlet, drive};
-use timer_wheels::HierWheel;
+use timer_base::Wheel;
+use timer_desk::{Desk, DriveEnd, Driven, Inlet, drive};
 
 /// How many requests of each client are served.
 const GOAL: u64 = 2;
@@ -52,11 +52,11 @@ pub fn drive_two(alloc: Global) -> Result<bool, Fault> {
 }
 
 /// The desk after a drive, which has ended in this way at this tick.
-fn has_ended(
-    desk: Desk<HierWheel, MemoryInlet>,
+fn has_ended<W: Wheel + Drop, I: Inlet + Drop>(
+    desk: Desk<W, I>,
     outcome: DriveEnd,
     wanted: (DriveEnd, u64),
-) -> Result<Desk<HierWheel, MemoryInlet>, Fault> {
+) -> Result<Desk<W, I>, Fault> {
     same((outcome, desk.facility().now()), wanted, "how a drive ends")?;
     Ok(desk)
 }
@@ -65,10 +65,10 @@ fn has_ended(
 ///
 /// A drive counts from its own beginning. So one that finds fewer requests than its goal comes to its limit
 /// once it has served them, and one that finds all of them ends as an undisturbed one does.
-fn drive_on(
+fn drive_on<W: Wheel + Drop, I: Inlet + Drop>(
     alloc: Global,
-    desk: Desk<HierWheel, MemoryInlet>,
-) -> Result<Desk<HierWheel, MemoryInlet>, Fault> {
+    desk: Desk<W, I>,
+) -> Result<Desk<W, I>, Fault> {
     let is_whole = desk.facility().next_serial() == 1;
     let Driven { desk, outcome } = drive(alloc, desk, GOAL, LIMIT);
     let wanted = match (outcome, is_whole) {

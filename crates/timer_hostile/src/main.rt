@@ -45,9 +45,9 @@ fn play_named(
     rt: &(impl AllocGlobal + Wait + Print + Eprint),
     wanted: Option<&str>,
 ) -> Result<(), Fault> {
-    for (name, scenario) in SCENARIOS {
-        if wanted.is_none() || wanted == Some(name) {
-            play_one(rt, name, scenario)?;
+    for (name, scenario) in SCENARIOS.iter() {
+        if wanted.is_none() || wanted == Some(*name) {
+            play_one(rt, name, *scenario)?;
         }
     }
     Ok(())

@@ -6,7 +6,9 @@ use crate::facilities::numbers;
 use crate::fault::{Fault, same};
 use std::alloc::Global;
 use timer_base::Wheel;
-use timer_facility::{Answer, Event, Facility, NotTaken, Notice, Out, Player, TickFault};
+use timer_facility::{
+    Answer, Event, Facility, MAX_CLIENTS, NotTaken, Notice, Out, Player, TickFault,
+};
 
 /// A list of events that is played.
 #[derive(Clone, Copy)]
@@ -145,14 +147,14 @@ pub fn play_row<W: Wheel + Drop>(alloc: Global, wheel: W, row: Row) -> Result<()
     requires now { (W.state wheel).now ≡ 0 }
     requires serial { (W.state wheel).last_serial ≡ 0 }
 {
-    let Ok(checked) = numbers(64, 1024).check() else {
+    let Ok(checked) = numbers(MAX_CLIENTS, 1024).check() else {
         return Err(Fault::Wrong("the numbers of a facility"));
     };
     let mut player = Player::open(alloc, Facility::open(alloc, checked, wheel));
     match row {
-        Row::Migration => play(&mut player, &migration(), &MIGRATION)?,
-        Row::StopMiddle => play(&mut player, &stop_middle(), &STOP_MIDDLE)?,
-        Row::Close => play(&mut player, &close(), &CLOSE)?,
-    }
+        Row::Migration => play(&mut player, &migration(), &MIGRATION),
+        Row::StopMiddle => play(&mut player, &stop_middle(), &STOP_MIDDLE),
+        Row::Close => play(&mut player, &close(), &CLOSE),
+    }?;
     same(player.facility().pending(), 0, "the end of a row")
 }

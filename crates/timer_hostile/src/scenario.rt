@@ -8,7 +8,7 @@ use crate::fault::Fault;
 use crate::lines::{use_locked_line, use_memory_line, use_ring_line};
 use crate::links::{push_a_hundred, push_to_vec};
 use crate::plays::{Row, play_row};
-use crate::wheels::{hashed, hier, plain, start_a_hundred};
+use crate::wheels::{hashed, hier, plain, smooth, start_a_hundred};
 use std::alloc::Global;
 use std::sync::Wait;
 use timer_base::Wheel;
@@ -20,6 +20,7 @@ pub enum Kind {
     Plain,
     Hashed(usize),
     Hier(Table),
+    Smooth,
 }
 
 /// What is played over a wheel.
@@ -57,12 +58,13 @@ const WIDE: Kind = Kind::Hier(Table::Wide);
 const CLOCK: Kind = Kind::Hier(Table::Clock);
 
 /// Each scenario with its name.
-pub static SCENARIOS: [(&str, Scenario); 34] = [
+pub static SCENARIOS: [(&str, Scenario); 39] = [
     ("pushes-vec", Scenario::VecPushes),
     ("pushes-9", Scenario::Pushes(9)),
     ("pushes-257", Scenario::Pushes(257)),
     ("pushes-641", Scenario::Pushes(641)),
     ("pushes-245", Scenario::Pushes(245)),
+    ("pushes-1281", Scenario::Pushes(1281)),
     (
         "starts-plain",
         Scenario::Over(Kind::Plain, OverWheel::Starts),
@@ -75,6 +77,10 @@ pub static SCENARIOS: [(&str, Scenario); 34] = [
     ("starts-hier", Scenario::Over(WIDE, OverWheel::Starts)),
     ("starts-clock", Scenario::Over(CLOCK, OverWheel::Starts)),
     (
+        "starts-smooth",
+        Scenario::Over(Kind::Smooth, OverWheel::Starts),
+    ),
+    (
         "facility-plain",
         Scenario::Over(Kind::Plain, OverWheel::Facility),
     ),
@@ -84,6 +90,10 @@ pub static SCENARIOS: [(&str, Scenario); 34] = [
     ),
     ("facility-hier", Scenario::Over(WIDE, OverWheel::Facility)),
     ("facility-clock", Scenario::Over(CLOCK, OverWheel::Facility)),
+    (
+        "facility-smooth",
+        Scenario::Over(Kind::Smooth, OverWheel::Facility),
+    ),
     (
         "room-plain-1",
         Scenario::Over(Kind::Plain, OverWheel::Room(1)),
@@ -106,6 +116,14 @@ pub static SCENARIOS: [(&str, Scenario); 34] = [
     (
         "room-clock-1000",
         Scenario::Over(CLOCK, OverWheel::Room(1000)),
+    ),
+    (
+        "room-smooth-1",
+        Scenario::Over(Kind::Smooth, OverWheel::Room(1)),
+    ),
+    (
+        "room-smooth-1000",
+        Scenario::Over(Kind::Smooth, OverWheel::Room(1000)),
     ),
     (
         "migration",
@@ -150,6 +168,7 @@ fn play_of_kind(alloc: Global, kind: Kind, what: OverWheel) -> Result<(), Fault>
         Kind::Plain => play_over(alloc, plain(alloc)?, what),
         Kind::Hashed(slots) => play_over(alloc, hashed(alloc, slots)?, what),
         Kind::Hier(table) => play_over(alloc, hier(alloc, table)?, what),
+        Kind::Smooth => play_over(alloc, smooth(alloc)?, what),
     }
 }
 

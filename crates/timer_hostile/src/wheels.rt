@@ -5,14 +5,17 @@ ghost use Rattle.timer_base.specs.declared.plain.PlainWheel.{PlainWheel};
 ghost use Rattle.timer_base.specs.WheelState.{empty_wheel};
 ghost use Rattle.timer_wheels.specs.declared.hashed.HashedWheel.{HashedWheel};
 ghost use Rattle.timer_wheels.specs.declared.hier.HierWheel.{HierWheel};
-ghost use Rattle.timer_wheels.specs.Tables.{last_of_table, slots_of_table};
+ghost use Rattle.timer_wheels.specs.declared.smooth.SmoothWheel.{SmoothWheel};
+ghost use Rattle.timer_wheels.specs.declared.table.Table.TheVariants as tables;
+ghost use Rattle.timer_wheels.specs.Smooth.{smooth_slots};
+ghost use Rattle.timer_wheels.specs.Tables.{last_of_table, radices, slots_of_table};
 
 use crate::fault::{Fault, same, see};
 use crate::room::call_in_room;
 use std::alloc::Global;
 use timer_base::{PlainWheel, Timer, Wheel};
 use timer_total::{StartFault, Timers};
-use timer_wheels::{HashedWheel, HierWheel, Table};
+use timer_wheels::{HashedWheel, HierWheel, SmoothWheel, Table};
 
 /// How many timers a scenario starts: one less than a prime number.
 const STARTS: u64 = 100;
@@ -46,6 +49,19 @@ pub fn hier(alloc: Global, table: Table) -> Result<HierWheel, Fault>
 {
     for _ in 0..2 {
         if let Ok(wheel) = HierWheel::with_table(alloc, table, 0) {
+            return Ok(wheel);
+        }
+    }
+    Err(Fault::RefusedTwice)
+}
+
+/// A smooth wheel of the wide table, at the second try if the first is refused.
+pub fn smooth(alloc: Global) -> Result<SmoothWheel, Fault>
+    ensures { IfOk result (λ wheel. ⟦<SmoothWheel as Wheel>⟧.state wheel
+        ≡ empty_wheel (smooth_slots (radices tables.Wide)) LAST 0) }
+{
+    for _ in 0..2 {
+        if let Ok(wheel) = SmoothWheel::with_table(alloc, Table::Wide, 0) {
             return Ok(wheel);
         }
     }

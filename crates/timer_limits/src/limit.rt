@@ -6,7 +6,7 @@ use crate::fault::Fault;
 use crate::links::push_beyond;
 use crate::players::{close_all, expire_all, pass_ticks};
 use crate::totals::fill_total;
-use crate::wheels::{FEW, MOST, fill, hashed, hier, plain};
+use crate::wheels::{FEW, MOST, fill, hashed, hier, plain, smooth};
 use std::alloc::Global;
 use timer_base::Wheel;
 use timer_wheels::Table;
@@ -17,6 +17,7 @@ pub enum Kind {
     Plain,
     Hashed,
     Hier(Table),
+    Smooth,
 }
 
 /// What is taken to its limit over a wheel.
@@ -50,15 +51,17 @@ const WIDE: Kind = Kind::Hier(Table::Wide);
 const CLOCK: Kind = Kind::Hier(Table::Clock);
 
 /// Each limit with its name.
-pub static LIMITS: [(&str, Limit); 21] = [
+pub static LIMITS: [(&str, Limit); 26] = [
     ("wheel-plain", Limit::Over(Kind::Plain, Structure::Wheel)),
     ("wheel-hashed", Limit::Over(Kind::Hashed, Structure::Wheel)),
     ("wheel-hier", Limit::Over(WIDE, Structure::Wheel)),
     ("wheel-clock", Limit::Over(CLOCK, Structure::Wheel)),
+    ("wheel-smooth", Limit::Over(Kind::Smooth, Structure::Wheel)),
     ("total-plain", Limit::Over(Kind::Plain, Structure::Total)),
     ("total-hashed", Limit::Over(Kind::Hashed, Structure::Total)),
     ("total-hier", Limit::Over(WIDE, Structure::Total)),
     ("total-clock", Limit::Over(CLOCK, Structure::Total)),
+    ("total-smooth", Limit::Over(Kind::Smooth, Structure::Total)),
     (
         "facility-plain",
         Limit::Over(Kind::Plain, Structure::Facility),
@@ -69,13 +72,19 @@ pub static LIMITS: [(&str, Limit); 21] = [
     ),
     ("facility-hier", Limit::Over(WIDE, Structure::Facility)),
     ("facility-clock", Limit::Over(CLOCK, Structure::Facility)),
+    (
+        "facility-smooth",
+        Limit::Over(Kind::Smooth, Structure::Facility),
+    ),
     ("tick-hashed", Limit::Over(Kind::Hashed, Structure::Tick)),
     ("tick-hier", Limit::Over(WIDE, Structure::Tick)),
     ("tick-clock", Limit::Over(CLOCK, Structure::Tick)),
+    ("tick-smooth", Limit::Over(Kind::Smooth, Structure::Tick)),
     ("close-plain", Limit::Over(Kind::Plain, Structure::Close)),
     ("close-hashed", Limit::Over(Kind::Hashed, Structure::Close)),
     ("close-hier", Limit::Over(WIDE, Structure::Close)),
     ("close-clock", Limit::Over(CLOCK, Structure::Close)),
+    ("close-smooth", Limit::Over(Kind::Smooth, Structure::Close)),
     ("ticks-hier", Limit::Over(WIDE, Structure::Ticks)),
     ("links", Limit::Links),
 ];
@@ -86,6 +95,7 @@ pub fn reach(alloc: Global, limit: Limit) -> Result<(), Fault> {
         Limit::Over(Kind::Plain, what) => reach_over(alloc, plain(alloc)?, FEW, what),
         Limit::Over(Kind::Hashed, what) => reach_over(alloc, hashed(alloc)?, MOST, what),
         Limit::Over(Kind::Hier(table), what) => reach_over(alloc, hier(alloc, table)?, MOST, what),
+        Limit::Over(Kind::Smooth, what) => reach_over(alloc, smooth(alloc)?, MOST, what),
         Limit::Links => push_beyond(alloc),
     }
 }

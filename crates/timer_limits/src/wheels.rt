@@ -5,12 +5,15 @@ ghost use Rattle.timer_base.specs.declared.plain.PlainWheel.{PlainWheel};
 ghost use Rattle.timer_base.specs.WheelState.{empty_wheel};
 ghost use Rattle.timer_wheels.specs.declared.hashed.HashedWheel.{HashedWheel};
 ghost use Rattle.timer_wheels.specs.declared.hier.HierWheel.{HierWheel};
-ghost use Rattle.timer_wheels.specs.Tables.{last_of_table, slots_of_table};
+ghost use Rattle.timer_wheels.specs.declared.smooth.SmoothWheel.{SmoothWheel};
+ghost use Rattle.timer_wheels.specs.declared.table.Table.TheVariants as tables;
+ghost use Rattle.timer_wheels.specs.Smooth.{smooth_slots};
+ghost use Rattle.timer_wheels.specs.Tables.{last_of_table, radices, slots_of_table};
 
 use crate::fault::{Fault, see};
 use std::alloc::Global;
 use timer_base::{LAST, PlainWheel, Timer, Wheel};
-use timer_wheels::{HashedWheel, HierWheel, Table};
+use timer_wheels::{HashedWheel, HierWheel, SmoothWheel, Table};
 
 /// The most timers of a facility, and of each wheel here.
 pub const MOST: usize = 1048576;
@@ -43,6 +46,17 @@ pub fn hier(alloc: Global, table: Table) -> Result<HierWheel, Fault>
     match HierWheel::with_table(alloc, table, 0) {
         Ok(wheel) => Ok(wheel),
         Err(_) => Err(Fault("the hierarchy of wheels")),
+    }
+}
+
+/// A smooth wheel of the wide table.
+pub fn smooth(alloc: Global) -> Result<SmoothWheel, Fault>
+    ensures { IfOk result (λ wheel. ⟦<SmoothWheel as Wheel>⟧.state wheel
+        ≡ empty_wheel (smooth_slots (radices tables.Wide)) LAST 0) }
+{
+    match SmoothWheel::with_table(alloc, Table::Wide, 0) {
+        Ok(wheel) => Ok(wheel),
+        Err(_) => Err(Fault("the smooth wheel")),
     }
 }
 

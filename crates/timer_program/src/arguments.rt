@@ -39,8 +39,10 @@ pub enum Subcommand {
 }
 
 /// The names of the schemes.
-static SCHEME_NAMES: [&str; 4] = ["plain", "hashed", "hier", "clock"];
+// made by tools/facts: names of schemes
+static SCHEME_NAMES: [&str; 5] = ["plain", "hashed", "hier", "clock", "smooth"];
 
+// by hand
 /// The subcommand if there are no arguments.
 static PLAY: [&str; 1] = ["play"];
 
@@ -61,6 +63,22 @@ fn number<'a>(
         .help(help)
 }
 
+/// An option that takes the name of a scheme.
+fn choice<'a>(
+    alloc: Global,
+    name: &'a str,
+    value_name: &'a str,
+    default: &'a str,
+    help: &'a str,
+) -> Arg<'a> {
+    Arg::new(alloc, name)
+        .long(name)
+        .value_name(value_name)
+        .value_parser(SCHEME_NAMES.as_slice())
+        .default_value(default)
+        .help(help)
+}
+
 /// A subcommand with the options of `play`.
 fn playing_command<'a>(
     alloc: Global,
@@ -69,26 +87,30 @@ fn playing_command<'a>(
     about: &'a str,
     after_help: &'a str,
 ) -> Result<Command<'a>, AllocError> {
-    let scheme = Arg::new(alloc, "scheme")
-        .long("scheme")
-        .value_name("SCHEME")
-        .value_parser(SCHEME_NAMES.as_slice())
-        .default_value("hier")
-        .help("How timers are kept");
+    // made by tools/facts: texts of options of play
+    let scheme = "How timers are kept";
     let slots = "The buckets of `hashed`, 1 to 65536; the other schemes do not use it";
     let clients = "The number of clients, 1 to 64; they are numbered from 0";
     let capacity = "The most timers that may be pending at a time, 1 to 1048576";
     let first_tick = "The tick at which the clock begins, 0 to the last tick of the scheme";
-    let ticks = (0, 1152921504606846975);
+    // by hand
     Command::new(alloc, name)
         .override_usage(usage)
         .about(about)
         .after_long_help(after_help)
-        .arg(scheme)?
+        // made by tools/facts: arguments of play
+        .arg(choice(alloc, "scheme", "SCHEME", "hier", scheme))?
         .arg(number(alloc, "slots", "SLOTS", (1, 65536), "256", slots))?
         .arg(number(alloc, "clients", "CLIENTS", (1, 64), "64", clients))?
         .arg(number(alloc, "capacity", "TIMERS", (1, 1048576), "1024", capacity))?
-        .arg(number(alloc, "first-tick", "TICK", ticks, "0", first_tick))
+        .arg(number(
+            alloc,
+            "first-tick",
+            "TICK",
+            (0, 1152921504606846975),
+            "0",
+            first_tick,
+        ))
 }
 
 /// An option without a value.
@@ -101,30 +123,39 @@ fn flag<'a>(alloc: Global, name: &'a str, help: &'a str) -> Arg<'a> {
 
 /// The subcommand `serve` with the options of `play` and its own.
 fn serve_command<'a>(alloc: Global) -> Result<Command<'a>, AllocError> {
+    // made by tools/facts: texts of options of serve
     let keep_going = "Report each bad line on standard error, as `check` does, and go on";
     let wakeups = "After the answers to each line, print when to wake up next";
+    // by hand
     playing_command(alloc, "serve", SERVE_USAGE, SERVE_ABOUT, STREAMS)?
+        // made by tools/facts: arguments of serve
         .arg(flag(alloc, "keep-going", keep_going))?
         .arg(flag(alloc, "wakeups", wakeups))
 }
 
 /// The subcommand `show` with the options of `play` and its own.
 fn show_command<'a>(alloc: Global) -> Result<Command<'a>, AllocError> {
-    let counts = "Show the starts, moves and visits that `hier` and `clock` count";
-    let moves = "Show each move of a timer to a lower wheel while ticks pass";
+    // made by tools/facts: texts of options of show
+    let counts = "Show what hierarchies count: starts, moves and, but for `smooth`, visits";
+    let moves = "Show each move to a lower wheel while ticks pass, with `hier` and `clock`";
+    // by hand
     playing_command(alloc, "show", SHOW_USAGE, SHOW_ABOUT, PLACEMENTS)?
+        // made by tools/facts: arguments of show
         .arg(flag(alloc, "counts", counts))?
         .arg(flag(alloc, "moves", moves))
 }
 
 /// The subcommand `threads` with its options.
 fn threads_command<'a>(alloc: Global) -> Result<Command<'a>, AllocError> {
-    let threads = "The number of clients, 1 to 64, each in a thread of its own";
+    // made by tools/facts: texts of options of threads
+    let clients = "The number of clients, 1 to 64, each in a thread of its own";
     let timers = "The number of timers that each client starts, 1 to 10000";
+    // by hand
     Command::new(alloc, "threads")
         .about(THREADS_ABOUT)
         .after_long_help(THREADS)
-        .arg(number(alloc, "clients", "CLIENTS", (1, 64), "4", threads))?
+        // made by tools/facts: arguments of threads
+        .arg(number(alloc, "clients", "CLIENTS", (1, 64), "4", clients))?
         .arg(number(alloc, "timers", "TIMERS", (1, 10000), "1000", timers))
 }
 
@@ -170,10 +201,12 @@ fn scheme_of(name: &str) -> Option<Scheme>
     ensures { IfSome result (λ scheme. name.now ≡ name_of scheme) }
 {
     match name {
+        // made by tools/facts: schemes
         "plain" => Some(Scheme::Plain),
         "hashed" => Some(Scheme::Hashed),
         "hier" => Some(Scheme::Hier),
         "clock" => Some(Scheme::Clock),
+        "smooth" => Some(Scheme::Smooth),
         _ => None,
     }
 }

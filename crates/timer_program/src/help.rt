@@ -63,6 +63,7 @@ Schemes:
   hier    ten wheels of 64 slots: a timer moves down as its deadline comes near
   clock   the same with wheels of 60 seconds, 60 minutes, 24 hours and 100 days; its
           last tick is 8639999, that of the others is 1152921504606846975
+  smooth  the wheels of `hier`; timers move down early, and a few at each tick
 
 For example, with two clients, a stop and a close:
   $ printf 'start 0 1 9 5\\nstart 1 1 9 6\\nstop 0 2 1\\nclose\\n' | timers play
@@ -133,9 +134,11 @@ A bucket is shown as
   hashed  slot 2: 1:16 3:0             serial:rounds
   hier    wheel 1 slot 2: 1 3
   clock   minute 15: 1                 or second, hour, day
-With `--counts` the schemes `hier` and `clock` show after the tick what they counted:
+  smooth  wheel 0 slot 72: 1 3         slots 0 to 127, of two revolutions
+With `--counts` the last three show after the tick what they counted, `smooth` no visits:
   starts 1 moves 1 visits 3            starts and restarts, moves, visits of buckets
-With `--moves` they show each move while ticks pass, between what expires before and after:
+With `--moves` the schemes `hier` and `clock` show each move while ticks pass, between what
+expires before and after:
   moved at 128 from wheel 1 slot 2 to wheel 0 slot 2: 1
 Without the lines that begin with a space the output is that of `timers serve`:
   timers show < script | grep -v '^ '

@@ -87,18 +87,6 @@ pub record HasReported (script rest : List ℕ) (lines bad : ℕ) (text : List �
   pub short : lines + length rest ≤ length script
   pub few : bad ≤ lines
 
-pub reported_none : (script text : List ℕ) → text ≡ [] → HasReported script script 0 0 text
-reported_none script text empty = record {
-  leads = λ others right. record {
-    all = others;
-    right = right;
-    text_is = ap (λ t. t ++ report_from 1 others) empty;
-    counted = omega arith;
-  };
-  short = omega arith;
-  few = omega arith;
-}
-
 pub reported_all : (script rest : List ℕ) (lines bad : ℕ) (text : List ℕ) → HasReported script rest lines bad text → rest ≡ []
     → IsReport script text bad
 reported_all script rest lines bad text h none =

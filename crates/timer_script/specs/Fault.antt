@@ -1,10 +1,9 @@
 -- The errors of one step as those of the whole.
-use Rattle.timer_script.specs.Types.{ScriptFault, ReadFault, RunFault, CheckFault, AnswerFault, TurnFault, ServeFault}
+use Rattle.timer_script.specs.Types.{ScriptFault, ReadFault, RunFault, CheckFault, TurnFault, ServeFault}
 use Rattle.timer_script.specs.declared.fault.ScriptFault.TheVariants as scripts
 use Rattle.timer_script.specs.declared.fault.ReadFault.TheVariants as reads
 use Rattle.timer_script.specs.declared.fault.RunFault.TheVariants as runs
 use Rattle.timer_script.specs.declared.fault.CheckFault.TheVariants as checks
-use Rattle.timer_script.specs.declared.fault.AnswerFault.TheVariants as answers
 use Rattle.timer_script.specs.declared.fault.TurnFault.TheVariants as turns
 use Rattle.timer_script.specs.declared.fault.ServeFault.TheVariants as serves
 
@@ -21,10 +20,6 @@ abbrev pub check_read_fault : ReadFault → CheckFault
 check_read_fault reads.Read = checks.Read
 check_read_fault reads.TooLong = checks.TooLong
 check_read_fault reads.OutOfMemory = checks.OutOfMemory
-
-abbrev pub answer_script_fault : ScriptFault → AnswerFault
-answer_script_fault (scripts.Bad line) = answers.Bad line
-answer_script_fault scripts.OutOfMemory = answers.OutOfMemory
 
 abbrev pub serve_fault : TurnFault → ServeFault
 serve_fault turns.OutOfMemory = serves.OutOfMemory

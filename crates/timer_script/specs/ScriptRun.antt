@@ -1,10 +1,9 @@
 -- What a run reads and writes: from the bytes of a script to those of the text that answers it.
 use Rattle.std.specs.Prelude.{◌≡◌, ℕ, ◌+◌, ◌<◌, ◌≤◌, true, false, List, ◌++◌, length, take, Option, Result, Ok, Err}
 use Rattle.std.specs.Io.KnownBytes.{Appends}
-use Rattle.timer_script.specs.Types.{Event, Out, FacilityState, MAX_BYTES, RunFault, AnswerFault, Streams}
+use Rattle.timer_script.specs.Types.{Event, Out, FacilityState, MAX_BYTES, RunFault, Streams}
 use Rattle.timer_facility.specs.Played.{IsRun, IsPlayed}
 use Rattle.timer_script.specs.declared.fault.RunFault.TheVariants as faults
-use Rattle.timer_script.specs.declared.fault.AnswerFault.TheVariants as answers
 use Rattle.timer_script.specs.Watched.{has_failed}
 use Rattle.timer_script.specs.Streams.{Known, left_of, taken_by}
 use Rattle.timer_script.specs.Script.{IsScript, IsBadLine}
@@ -42,12 +41,6 @@ pub record ReadsAs (Holds : List ℕ → Type 0) (old new : Option (List ℕ)) :
   pub whole : ReadsWhole old new bytes
   pub short : length bytes ≤ MAX_BYTES
   pub holds : Holds bytes
-
--- why bytes in memory have no answer
-abbrev pub HasNoAnswer : AnswerFault → List ℕ → Type 0
-HasNoAnswer answers.TooLong bytes = MAX_BYTES < length bytes
-HasNoAnswer (answers.Bad line) bytes = IsBadLine bytes line × (length bytes ≤ MAX_BYTES)
-HasNoAnswer answers.OutOfMemory bytes = length bytes ≤ MAX_BYTES
 
 -- what a run did to its reader and its writer, by how it ended
 abbrev pub HasRun : {R S : Type 0} → FacilityState → Known R S → (old new : Streams R S) → Result Unit RunFault

@@ -9,7 +9,6 @@ pub use Rattle.timer_facility.specs.declared.request.Reason.{Reason}
 pub use Rattle.timer_facility.specs.declared.request.TickFault.{TickFault}
 pub use Rattle.timer_script.specs.declared.cutter.Cutter.{Cutter}
 pub use Rattle.timer_script.specs.declared.cutter.OnBadLine.{OnBadLine}
-pub use Rattle.timer_script.specs.declared.fault.AnswerFault.{AnswerFault}
 pub use Rattle.timer_script.specs.declared.fault.CheckFault.{CheckFault}
 pub use Rattle.timer_script.specs.declared.fault.ReadFault.{ReadFault}
 pub use Rattle.timer_script.specs.declared.fault.RunFault.{RunFault}

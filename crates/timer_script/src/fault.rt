@@ -5,7 +5,7 @@ ghost use Rattle.timer_script.specs.declared.fault.ReadFault.TheVariants as read
 ghost use Rattle.timer_script.specs.declared.fault.RunFault.TheVariants as runs;
 ghost use Rattle.timer_script.specs.declared.fault.CheckFault.TheVariants as checks;
 ghost use Rattle.timer_script.specs.declared.fault.TurnFault.TheVariants as turns;
-ghost use Rattle.timer_script.specs.Fault.{run_read_fault, run_script_fault, check_read_fault, answer_script_fault, serve_fault};
+ghost use Rattle.timer_script.specs.Fault.{run_read_fault, run_script_fault, check_read_fault, serve_fault};
 
 use std::alloc::{AllocError, AllocFailed};
 use thiserror::Error;
@@ -215,31 +215,6 @@ impl From<WriteFault> for CheckFault {
     fn from(fault: WriteFault) -> CheckFault {
         CheckFault::Write {
             written: fault.written,
-        }
-    }
-}
-
-/// Why bytes in memory have no answer.
-#[derive(Clone, Copy, Debug, PartialEq, Eq, Error)]
-pub enum AnswerFault {
-    /// They are more than a script may have.
-    #[error("too long")]
-    TooLong,
-    /// The first bad line, counted from 1.
-    #[error("bad line {line}")]
-    Bad { line: u64 },
-    /// An allocation failed.
-    #[error("out of memory")]
-    OutOfMemory,
-}
-
-impl From<ScriptFault> for AnswerFault {
-    ghost from_gives = { λ fault e. e ≡ answer_script_fault fault };
-
-    fn from(fault: ScriptFault) -> AnswerFault {
-        match fault {
-            ScriptFault::Bad { line } => AnswerFault::Bad { line },
-            ScriptFault::OutOfMemory => AnswerFault::OutOfMemory,
         }
     }
 }

@@ -9,13 +9,12 @@
 //! Most modules have their definitions in the file of that name in `specs/`, and lemmas in `proofs/`:
 //!
 //!     bytes       digits and lines (`lines`, `splitter`), scripts (`script`)
-//!     runs        `input`, `output`, `script_run`, `answer` (the same in memory), `text`
+//!     runs        `input`, `output`, `script_run`, `text`
 //!     streams     a stream cut into lines (`cutter`), `session`, `steps`, `peer`, `streams`,
 //!                 `service`, `decorator`
 //!     bad lines   `line_fault` and `diagnosis` (one line), `script_report` (those of a script)
 #![tactic(auto)]
 
-mod answer;
 mod cutter;
 mod decorator;
 mod diagnosis;
@@ -37,11 +36,10 @@ mod streams;
 mod text;
 mod watched;
 
-pub use answer::answer_of;
 pub use cutter::OnBadLine;
 pub use decorator::{Decorator, Undecorated};
 pub use diagnosis::fault_in_line;
-pub use fault::{AnswerFault, CheckFault, RunFault, ScriptFault, ServeFault, WriteFault};
+pub use fault::{CheckFault, RunFault, ScriptFault, ServeFault, WriteFault};
 pub use input::MAX_BYTES;
 pub use line_fault::{Field, LineFault, LineReason};
 pub use lines::MAX_TICKS;

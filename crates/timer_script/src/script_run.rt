@@ -44,27 +44,27 @@ pub fn play_event<W: Wheel + Drop>(
             number,
             interval,
             action,
-        } => play_start(player, client, number, interval, action, text),
+        } => answer_start(player, client, number, interval, action, text),
         Event::Stop {
             client,
             number,
             serial,
-        } => play_stop(player, client, number, serial, text),
+        } => answer_stop(player, client, number, serial, text),
         Event::Restart {
             client,
             number,
             serial,
             interval,
             action,
-        } => play_restart(player, client, number, serial, interval, action, text),
-        Event::Ticks { count } => play_ticks(player, count, outs, text),
-        Event::Close => play_close(player, outs, text),
+        } => answer_restart(player, client, number, serial, interval, action, text),
+        Event::Ticks { count } => answer_ticks(player, count, outs, text),
+        Event::Close => answer_close(player, outs, text),
     }
 }
 
 /// Plays a start, and adds its line.
 #[inline(never)]
-fn play_start<W: Wheel + Drop>(
+fn answer_start<W: Wheel + Drop>(
     player: &mut Player<W>,
     client: u64,
     number: u64,
@@ -81,7 +81,7 @@ fn play_start<W: Wheel + Drop>(
 
 /// Plays a stop, and adds its line.
 #[inline(never)]
-fn play_stop<W: Wheel + Drop>(
+fn answer_stop<W: Wheel + Drop>(
     player: &mut Player<W>,
     client: u64,
     number: u64,
@@ -97,7 +97,7 @@ fn play_stop<W: Wheel + Drop>(
 
 /// Plays a restart, and adds its line.
 #[inline(never)]
-fn play_restart<W: Wheel + Drop>(
+fn answer_restart<W: Wheel + Drop>(
     player: &mut Player<W>,
     client: u64,
     number: u64,
@@ -115,7 +115,7 @@ fn play_restart<W: Wheel + Drop>(
 
 /// Plays ticks, and adds the line of each out. Takes their number: an event would be in memory.
 #[inline(never)]
-fn play_ticks<W: Wheel + Drop>(
+fn answer_ticks<W: Wheel + Drop>(
     player: &mut Player<W>,
     count: u64,
     outs: &mut Vec<Out>,
@@ -123,12 +123,12 @@ fn play_ticks<W: Wheel + Drop>(
 ) -> Result<(), OutOfMemory>
     ensures { OnOk result (AddsLines player.old (Event.Ticks count ∷ []) text.old.items text.new.items player.new) }
 {
-    play_outs(player, Event::Ticks { count }, outs, text)
+    answer_outs(player, Event::Ticks { count }, outs, text)
 }
 
 /// Plays a close, and adds its lines. A refused one has no event in memory.
 #[inline(never)]
-fn play_close<W: Wheel + Drop>(
+fn answer_close<W: Wheel + Drop>(
     player: &mut Player<W>,
     outs: &mut Vec<Out>,
     text: &mut Vec<u8>,
@@ -138,23 +138,23 @@ fn play_close<W: Wheel + Drop>(
     if let Some(out) = player.refused_close() {
         return push_out(text, &out);
     }
-    play_first_close(player, outs, text)
+    answer_first_close(player, outs, text)
 }
 
 /// Plays the first close, and adds its lines.
 #[inline(never)]
-fn play_first_close<W: Wheel + Drop>(
+fn answer_first_close<W: Wheel + Drop>(
     player: &mut Player<W>,
     outs: &mut Vec<Out>,
     text: &mut Vec<u8>,
 ) -> Result<(), OutOfMemory>
     ensures { OnOk result (AddsLines player.old (Event.Close ∷ []) text.old.items text.new.items player.new) }
 {
-    play_outs(player, Event::Close, outs, text)
+    answer_outs(player, Event::Close, outs, text)
 }
 
 /// Plays an event that may have many outs, and adds the line of each.
-fn play_outs<W: Wheel + Drop>(
+fn answer_outs<W: Wheel + Drop>(
     player: &mut Player<W>,
     event: Event,
     outs: &mut Vec<Out>,

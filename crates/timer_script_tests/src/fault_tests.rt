@@ -3,8 +3,7 @@ use crate::support::same_in;
 use std::fmt::Display;
 use std::process::Abort;
 use timer_script::{
-    AnswerFault, CheckFault, Field, LineFault, LineReason, RunFault, ScriptFault, ServeFault,
-    WriteFault,
+    CheckFault, Field, LineFault, LineReason, RunFault, ScriptFault, ServeFault, WriteFault,
 };
 
 /// Compares the text of an error.
@@ -38,9 +37,6 @@ fn each_error_has_its_text(rt: HostRuntime) {
     shows(&rt, CheckFault::TooLong, "too long");
     shows(&rt, CheckFault::OutOfMemory, "out of memory");
     shows(&rt, CheckFault::Write { written: 3 }, "write failed");
-    shows(&rt, AnswerFault::TooLong, "too long");
-    shows(&rt, AnswerFault::Bad { line: 12 }, "bad line 12");
-    shows(&rt, AnswerFault::OutOfMemory, "out of memory");
     shows(&rt, WriteFault { written: 3 }, "write failed");
     let fault = LineFault {
         column: 12,

@@ -7,11 +7,10 @@ use Rattle.std.proofs.lemmas.List.{get_or_push, append_cancel_left, map-id}
 use Rattle.std.proofs.lemmas.Option.{IfSome_then}
 use Rattle.std.proofs.lemmas.List.FromFn.{map-range_with_len_more, get_or-range_with_len, length-map-range_with_len}
 use Rattle.std.proofs.lemmas.Bool.Decides.{nat_tests}
-use Rattle.timer_base.specs.declared.timer.Timer.{Timer}
+use Rattle.timer_threads.specs.Types.{Timer, Word, Worked, Turn}
 use Rattle.timer_base.specs.OrderLaws.{either}
 use Rattle.timer_facility.specs.declared.request.Answer.TheVariants as Answers
 use Rattle.timer_facility.specs.declared.request.Notice.TheVariants as Notices
-use Rattle.timer_desk.specs.declared.word.Word.{Word}
 use Rattle.timer_desk.specs.declared.word.Word.TheVariants as Words
 use Rattle.timer_desk.specs.declared.ring.ClientEnd.{ClientEnd}
 use Rattle.timer_desk.specs.declared.ring.RequestsEnded.{RequestsEnded}
@@ -21,8 +20,6 @@ use Rattle.timer_desk.specs.Ring.{line_of_end, next_of, submitted, received_by_e
 use Rattle.timer_facility.specs.declared.request.Request.TheVariants.{Start}
 use Rattle.timer_threads.specs.declared.client.Client.{Client}
 use Rattle.timer_threads.proofs.ResultsLemmas.{or_false}
-use Rattle.timer_threads.specs.declared.outcome.Worked.{Worked}
-use Rattle.timer_threads.specs.declared.turn.Turn.{Turn}
 use Rattle.timer_threads.specs.Turns.{requests_of, words_of, idle_at_end}
 use Rattle.timer_threads.specs.Work.{HasWorked, request_of, requests_from, started_in, expired_in, started_by, expired_by, follows, AreAscending, ArePassed, IsStopped, GoesOn, AreTurns, IsLetGo}
 use Rattle.timer_threads.specs.Client.{passes, counted, AreChecked, IsAtWork, IsRecorded, turns_by, IsSound, is_complete}

@@ -10,7 +10,7 @@ use Rattle.timer_desk.specs.declared.ring.ClientReader.{ClientReader}
 use Rattle.timer_desk.specs.Ring.{got_of, given_of, all_submitted, read_by, unread_by, words_ring_of_reader}
 use Rattle.timer_desk.specs.Desk.{DeskState, AllIdle, backlog_at}
 use Rattle.timer_desk.specs.Shutdown.{AreEndsOf, AreReadersOf, IsReadOut, AllGot, AllReadOut, IsWaiting, IsFirstUnfinished}
-use Rattle.timer_threads.specs.declared.outcome.Worked.{Worked}
+use Rattle.timer_threads.specs.Types.{Worked}
 use Rattle.timer_threads.specs.Results.{has_failed, NoneFailed, AllEnded, IsFirstFailed, AreUnzipped, lower_of}
 use Rattle.timer_threads.specs.Threads.{NoneUnread, AreSettled, IsFirstWithWords, AllServed, IsWoundUp, IsUnfinished, IsFirstHeld, AreOfLines, IsFirstClient}
 use Rattle.timer_threads.proofs.ResultsLemmas.{ends_many, readers_many, ended_is, ended_at, reader_at, all_ended}

@@ -5,7 +5,7 @@ use Rattle.std.proofs.lemmas.List.{map_push, get_or-map, length-map}
 use Rattle.timer_base.specs.Basics.{some_same}
 use Rattle.timer_desk.specs.declared.ring.RequestsEnded.{RequestsEnded}
 use Rattle.timer_desk.specs.declared.ring.ClientReader.{ClientReader}
-use Rattle.timer_threads.specs.declared.outcome.Worked.{Worked}
+use Rattle.timer_threads.specs.Types.{Worked}
 use Rattle.timer_threads.specs.Results.{NoneFailed, AllEnded, AreUnzipped}
 
 pub AreUnzipped-more : (ws : List Worked) (es : List RequestsEnded) (rs : List ClientReader) (w : Worked) (e : RequestsEnded)

@@ -9,14 +9,11 @@ use Rattle.std.proofs.lemmas.List.FromFn.{length-enumerate_from, get_or-enumerat
 use Rattle.timer_desk.specs.declared.ring.RingInlet.{RingInlet}
 use Rattle.timer_desk.specs.Driver.{Drives}
 use Rattle.timer_desk.specs.Ring.{line_of_inlet, ring_lines}
-use Rattle.timer_desk.specs.declared.report.Step.TheVariants.{Tick}
-use Rattle.timer_desk.specs.declared.driver.DriveEnd.{DriveEnd}
+use Rattle.timer_threads.specs.Types.{DriveEnd, ThreadsFault, Worked}
 use Rattle.timer_facility.specs.Facility.{FacilityView, with_nothing_waiting}
 use Rattle.timer_desk.specs.Desk.{DeskState, opened_desk}
 use Rattle.timer_threads.specs.declared.child.Child.{Child}
-use Rattle.timer_threads.specs.declared.fault.ThreadsFault.{ThreadsFault}
 use Rattle.timer_threads.specs.declared.fault.ThreadsFault.TheVariants as Faults
-use Rattle.timer_threads.specs.declared.outcome.Worked.{Worked}
 use Rattle.timer_threads.specs.Children.{promise_of, HasLeft, HaveLeft}
 use Rattle.timer_threads.specs.Work.{IsOfLine, IsWork}
 use Rattle.timer_threads.specs.Results.{NoneFailed}
@@ -99,7 +96,7 @@ opened_new clients inlets f desk is new = is ∙ ap (λ (v : FacilityView). open
 module _ (clients timers limit : ℕ) (inlets : List RingInlet) (opened desk : DeskState RingInlet) (outcome : DriveEnd)
     (children : List Child) (all : List Worked) (is : opened ≡ opened_desk (new_facility clients) inlets 1024)
     (many : clients ≡ length inlets) (tied : AreTied timers limit inlets children)
-    (driven : Drives ring_lines Tick timers limit opened desk outcome) (left : HaveLeft children all) where
+    (driven : Drives ring_lines timers limit opened desk outcome) (left : HaveLeft children all) where
   pub driven_lines : AreOfLines desk.inlets all
   driven_lines =
       let same : opened.inlets ≡ inlets = ap (λ (d : DeskState RingInlet). d.inlets) is in

@@ -3,7 +3,7 @@ use Rattle.std.proofs.Common.{◌≡◌, ◌+◌, not, cond, ℕ, Bool, true, fa
 use Rattle.std.specs.List.{prefix_len}
 use Rattle.std.proofs.lemmas.List.{reverse-append}
 use Rattle.timer_desk.proofs.DriverLemmas.{push_each}
-use Rattle.timer_threads.specs.declared.turn.Turn.{Turn}
+use Rattle.timer_threads.specs.Types.{Turn}
 use Rattle.timer_threads.specs.Turns.{is_idle, idle_at_end}
 use Rattle.timer_threads.specs.Work.{GoesOn, AreTurns, IsLetGo, AreLetGo}
 

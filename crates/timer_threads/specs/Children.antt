@@ -5,7 +5,7 @@ use Rattle.timer_desk.specs.Ring.{line_of_end}
 use Rattle.timer_threads.specs.declared.child.Child.{Child}
 use Rattle.timer_threads.specs.declared.children.Children.{Children}
 use Rattle.timer_threads.specs.declared.promise.Finishes.{Finishes}
-use Rattle.timer_threads.specs.declared.outcome.Worked.{Worked}
+use Rattle.timer_threads.specs.Types.{Worked}
 use Rattle.timer_threads.specs.Work.{IsOfLine, HasWorked}
 
 -- what a thread promises of what it gives back

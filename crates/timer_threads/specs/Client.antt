@@ -1,15 +1,13 @@
 -- A client at work. No public clause cites this file.
 use Rattle.std.specs.Prelude.{◌≡◌, ◌+◌, ◌-◌, ◌<◌, ◌≤◌, ◌==◌, ◌&&◌, not, nat_lt, ℕ, Bool, true, false, if◌then◌else◌, List, [], ◌∷◌, ◌++◌, length, None}
 use Rattle.std.specs.List.{last_or}
-use Rattle.timer_base.specs.declared.limits.TheConstants.{LAST}
+use Rattle.timer_threads.specs.Types.{LAST, Word, Turn}
 use Rattle.timer_facility.specs.declared.request.Answer.TheVariants as Answers
 use Rattle.timer_facility.specs.declared.request.Notice.TheVariants as Notices
-use Rattle.timer_desk.specs.declared.word.Word.{Word}
 use Rattle.timer_desk.specs.declared.word.Word.TheVariants as Words
 use Rattle.timer_desk.specs.declared.ring.ClientEnd.{ClientEnd}
 use Rattle.timer_desk.specs.Ring.{line_of_end, next_of, submitted, received_by_end, found_by_end}
 use Rattle.timer_threads.specs.declared.client.Client.{Client}
-use Rattle.timer_threads.specs.declared.turn.Turn.{Turn}
 use Rattle.timer_threads.specs.Turns.{requests_of, words_of, is_idle}
 use Rattle.timer_threads.specs.Work.{requests_from, started_in, expired_in, started_by, expired_by, follows, ArePassed, IsStopped}
 

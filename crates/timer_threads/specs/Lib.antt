@@ -1,3 +1,4 @@
+pub mod Types
 pub mod Turns
 pub mod Work
 pub mod Children

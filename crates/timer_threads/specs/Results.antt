@@ -2,7 +2,7 @@
 use Rattle.std.specs.Prelude.{◌≡◌, ◌<◌, ◌||◌, ℕ, Bool, true, false, List, length, get_or, map, min, Option, Some, None, is_none}
 use Rattle.timer_desk.specs.declared.ring.RequestsEnded.{RequestsEnded}
 use Rattle.timer_desk.specs.declared.ring.ClientReader.{ClientReader}
-use Rattle.timer_threads.specs.declared.outcome.Worked.{Worked}
+use Rattle.timer_threads.specs.Types.{Worked}
 
 -- a check failed, the client reached its limit, or its requests could not be ended
 abbrev pub has_failed : Worked → Bool

@@ -1,15 +1,13 @@
 -- Clients in threads of their own, and the text of their counts.
-use Rattle.std.specs.Prelude.{◌≡◌, ◌<◌, ◌+◌, ◌++◌, ◌⊎◌, ℕ, zero, suc, true, false, List, [], length, get_or, replicate, Some, codes, decimal}
+use Rattle.std.specs.Prelude.{◌≡◌, ◌<◌, ◌+◌, ◌++◌, ◌⊎◌, ℕ, zero, suc, true, false, List, [], length, get_or, Some, codes, decimal}
 use Rattle.std.specs.List.{flat_map, enumerate_from}
-use Rattle.timer_base.specs.declared.limits.TheConstants.{LAST}
+use Rattle.timer_threads.specs.Types.{LAST, DriveEnd, ThreadsFault, Worked}
 use Rattle.timer_wheels.specs.Tables.{slots_of_table}
 use Rattle.timer_wheels.specs.declared.table.Table.TheVariants.{Wide}
 use Rattle.timer_desk.specs.declared.ring.RingInlet.{RingInlet}
 use Rattle.timer_desk.specs.declared.looks.Found.TheVariants.{Nothing}
 use Rattle.timer_desk.specs.declared.ring.RequestsEnded.{RequestsEnded}
 use Rattle.timer_desk.specs.declared.ring.ClientReader.{ClientReader}
-use Rattle.timer_desk.specs.declared.report.Step.TheVariants.{Tick}
-use Rattle.timer_desk.specs.declared.driver.DriveEnd.{DriveEnd}
 use Rattle.timer_desk.specs.declared.driver.DriveEnd.TheVariants as DriveEnds
 use Rattle.timer_facility.specs.State.{FacilityState}
 use Rattle.timer_facility.specs.Opened.{opened}
@@ -18,9 +16,7 @@ use Rattle.timer_desk.specs.Driver.{Drives}
 use Rattle.timer_desk.specs.Shutdown.{IsWaiting}
 use Rattle.timer_desk.specs.Ring.{line_of_end, line_of_inlet, got_of, given_of, is_settled, free_of_inlet, found_by_inlet, all_submitted, read_by, unread_by, is_settled_reader, ring_lines}
 use Rattle.timer_threads.specs.declared.child.Child.{Child}
-use Rattle.timer_threads.specs.declared.fault.ThreadsFault.{ThreadsFault}
 use Rattle.timer_threads.specs.declared.fault.ThreadsFault.TheVariants as Faults
-use Rattle.timer_threads.specs.declared.outcome.Worked.{Worked}
 use Rattle.timer_threads.specs.Children.{promise_of}
 use Rattle.timer_threads.specs.Work.{IsOfLine, IsNewEnd, IsWork, IsWhole}
 use Rattle.timer_threads.specs.Results.{has_failed, NoneFailed, AllEnded}
@@ -173,7 +169,7 @@ pub record IsRun (clients timers limit : ℕ)
   pub all : List Worked
   pub as_many : length all ≡ clients
   pub lines : AreOfLines desk.inlets all
-  pub driven : Drives ring_lines Tick timers limit opened desk outcome
+  pub driven : Drives ring_lines timers limit opened desk outcome
   pub worked : (k : ℕ) (w : Worked) → k < length all → IsWork timers limit (get_or all k w)
   pub ends : Ends desk outcome all
 

@@ -1,9 +1,7 @@
 -- The turns of a client, one after the other.
 use Rattle.std.specs.Prelude.{ℕ, ◌&&◌, Bool, List, is_none, option_to_list}
 use Rattle.std.specs.List.{flat_map, suffix_len}
-use Rattle.timer_desk.specs.declared.word.Numbered.{Numbered}
-use Rattle.timer_desk.specs.declared.word.Word.{Word}
-use Rattle.timer_threads.specs.declared.turn.Turn.{Turn}
+use Rattle.timer_threads.specs.Types.{Numbered, Word, Turn}
 
 -- the request that was sent in a turn, if there is one
 abbrev pub sent_in : Turn → List Numbered

@@ -12,10 +12,10 @@ ghost use Rattle.timer_desk.specs.declared.ring.ClientEnd.{ClientEnd};
 ghost use Rattle.timer_threads.specs.Turns.{idle_at_end};
 ghost use Rattle.timer_threads.specs.Work.{follows, AreTurns, AreLetGo, turns_of, IsOfLine, HasWorked};
 
+use crate::client_turn::Turn;
 use crate::gate::Gate;
 use crate::log::Log;
 use crate::outcome::Worked;
-use crate::turn::Turn;
 use timer_base::Timer;
 use timer_desk::{ClientEnd, Numbered, Word};
 use timer_facility::{Answer, Notice, Request};

@@ -15,7 +15,7 @@ use crate::child::Child;
 use crate::children::Children;
 use crate::fault::ThreadsFault;
 use crate::gate::Gate;
-use crate::shutdown::end_all;
+use crate::run_end::end_all;
 use std::alloc::Global;
 use std::thread::Threads;
 use timer_base::OutOfMemory;

@@ -487,6 +487,7 @@ impl<W: Wheel + Drop> Timers<W> {
     }
 
     /// Removes the first of the expired timers, in order of starting, and returns it.
+    #[inline(always)]
     pub fn expire(&mut self) -> Option<Timer>
         ensures first { result ≡ first_due self.old.wheel }
         ensures rest { self.new ≡ with_wheel (after_expiry self.old.wheel) self.old }

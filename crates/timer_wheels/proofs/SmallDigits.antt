@@ -208,8 +208,12 @@ level_step : (n a d : ℕ) → HasDigits (sixteens n) d → a < d → bucket (si
 level_step zero a d h l = absurd (let z : d ≡ 0 = h in omega arith)
 level_step (suc n) a d h l = elim (cases_eq (a / 16) (d / 16)) [
   | inl e ↦ omega (arith, bucket_near 16 (sixteens n) a d e, level_near 16 (sixteens n) a d e)
-  | inr e ↦ omega (arith, bucket_far 16 (sixteens n) a d e, level_far 16 (sixteens n) a d e,
-      level_step n (a / 16) (d / 16) h (less_quotient 16 a d l (omega arith) e))
+  | inr e ↦ omega (
+    arith,
+    bucket_far 16 (sixteens n) a d e,
+    level_far 16 (sixteens n) a d e,
+    level_step n (a / 16) (d / 16) h (less_quotient 16 a d l (omega arith) e),
+  )
 ]
 
 pub small_level : (a d : ℕ) → a < d → d ≤ 16777215 → bucket small a d / 16 ≡ level small a d

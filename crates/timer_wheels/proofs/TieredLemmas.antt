@@ -1,10 +1,19 @@
--- A hierarchy that is not smooth is known by its slots.
-use Rattle.std.proofs.Common.{◌≡◌, ℕ, true, false, List, ap, sym, ◌∙◌, refl, if◌then◌else◌}
+-- Lemmas for `tiered`: a hierarchy that is not smooth is known by its slots.
+use Rattle.std.proofs.Common.{◌≡◌, ◌≢◌, ◌<◌, ◌≤◌, ℕ, true, false, List, [], ◌∷◌, length, ap, ◌∙◌, refl, arith, if◌then◌else◌, Option, None, Some, IfSome}
+use Rattle.std.specs.List.{AllByRecursion}
+use Rattle.std.proofs.lemmas.Bool.{ne_eqb}
+use Rattle.timer_base.specs.Basics.{some_same}
+use Rattle.timer_base.specs.Pending.{Entry, timers_of}
+use Rattle.timer_base.specs.WakeUps.{IsWakeUp, next_deadline}
+use Rattle.timer_base.specs.WheelState.{WheelState, IsPending, IsWellFormed}
+use Rattle.timer_base.specs.declared.limits.TheConstants.{LAST}
+use Rattle.timer_wheels.specs.Buckets.{state_of, state_of-well_formed}
 use Rattle.timer_wheels.specs.HierWheel.{table_of}
-use Rattle.timer_wheels.specs.Tables.{radices_by_slots}
-use Rattle.timer_wheels.specs.TieredWheel.{is_smooth, slots_are_not, turns_are_smooth, radices_of_slots}
+use Rattle.timer_wheels.specs.TieredWheel.{is_smooth, slots_are_not, turns_are_smooth, option_of}
+use Rattle.timer_wheels.specs.declared.buckets.Buckets.{Buckets}
 use Rattle.timer_wheels.specs.declared.hier.HierWheel.{HierWheel}
 use Rattle.timer_wheels.specs.declared.smooth.SmoothWheel.{SmoothWheel}
+use Rattle.timer_wheels.specs.declared.tiered.TheConstants.{NEVER}
 
 pub is_not_smooth : (wheel : HierWheel) → is_smooth wheel.wheels.buckets.slots ≡ false
 is_not_smooth wheel = ap is_smooth wheel.wheels.hier.has_slots ∙ slots_are_not (table_of wheel)
@@ -21,3 +30,32 @@ is_turned wheel = ap is_smooth wheel.bank.bank.has_slots ∙ turns_are_smooth wh
 pub smooth_chosen : {X : Type 0} (smooth hier : X) (wheel : SmoothWheel)
     → smooth ≡ (if is_smooth wheel.bank.buckets.slots then smooth else hier)
 smooth_chosen smooth hier wheel = rw (is_turned wheel) refl
+
+-- Ticks within the clock are not NEVER.
+
+pub some_tick : (tick : ℕ) → tick ≤ LAST → option_of tick ≡ Some tick
+some_tick tick h = rw (ne_eqb tick NEVER (let n : tick ≢ NEVER = omega arith in n)) refl
+
+pub next_in_clock : (w : WheelState) (tick : ℕ) → IsWellFormed w → Some tick ≡ next_deadline w.pending → tick ≤ LAST
+next_in_clock w tick f e = of_first w.pending f.each e where
+  of_first : (es : List Entry) → AllByRecursion (IsPending w.last_tick w.now w.last_serial) (timers_of es)
+      → Some tick ≡ next_deadline es → tick ≤ LAST
+  of_first [] a e = absurd (cc)
+  of_first (x ∷ xs) a e =
+      let q : tick ≡ x.timer.deadline = some_same tick x.timer.deadline e in
+      let r : x.timer.deadline ≤ w.last_tick = a.0.in_range in
+      omega (arith, f.last_in_range)
+
+pub first_in_clock : (b : Buckets) (o : Option ℕ) → o ≡ next_deadline (state_of b).pending → IfSome o (λ tick. tick ≤ LAST)
+first_in_clock b None e = tt
+first_in_clock b (Some tick) e = next_in_clock (state_of b) tick (state_of-well_formed b) e
+
+pub wake_in_clock : (w : WheelState) (tick : ℕ) → IsWellFormed w → IsWakeUp tick w.now w.pending → tick ≤ LAST
+wake_in_clock w tick f u = of_first w.pending f.each u.some u.in_time where
+  of_first : (es : List Entry) → AllByRecursion (IsPending w.last_tick w.now w.last_serial) (timers_of es) → 0 < length es
+      → AllByRecursion (λ entry. tick ≤ entry.timer.deadline) es → tick ≤ LAST
+  of_first [] a z t = absurd (omega arith)
+  of_first (x ∷ xs) a z t =
+      let l : tick ≤ x.timer.deadline = t.0 in
+      let r : x.timer.deadline ≤ w.last_tick = a.0.in_range in
+      omega (arith, f.last_in_range)

@@ -1,15 +1,17 @@
 -- The names in the public clauses of `TieredWheel`.
-use Rattle.std.proofs.Common.{refl, sym, ap, ◌∙◌, ◌≡◌, ◌==◌, ℕ, Bool, true, false, if◌then◌else◌, List}
+use Rattle.std.proofs.Common.{refl, ◌≡◌, ◌==◌, ℕ, Bool, true, false, if◌then◌else◌, List}
+use Rattle.std.specs.Prelude.{Option, Some, None}
 use Rattle.timer_base.specs.Counts.{WheelCounts}
 use Rattle.timer_base.specs.WheelState.{WheelState, IsWellFormed}
 use Rattle.timer_wheels.specs.Buckets.{state_of, state_of-well_formed}
-use Rattle.timer_wheels.specs.HierWheel.{hier_state, counts_of, counts_of_tick, counts_of_advance}
+use Rattle.timer_wheels.specs.HierWheel.{counts_of, counts_of_tick, counts_of_advance}
 use Rattle.timer_wheels.specs.Smooth.{smooth_slots}
-use Rattle.timer_wheels.specs.SmoothWheel.{smooth_state, starts_of, moves_of, radices_by_turns}
+use Rattle.timer_wheels.specs.SmoothWheel.{starts_of, moves_of, radices_by_turns}
 use Rattle.timer_wheels.specs.Tables.{radices, radices_by_slots, slots_of_table, wide, clock, small}
 use Rattle.timer_wheels.specs.declared.buckets.Buckets.{Buckets}
 use Rattle.timer_wheels.specs.declared.table.Table.{Table}
 use Rattle.timer_wheels.specs.declared.table.Table.TheVariants as tables
+use Rattle.timer_wheels.specs.declared.tiered.TheConstants.{NEVER}
 use Rattle.timer_wheels.specs.declared.tiered.TieredWheel.{TieredWheel}
 use Rattle.timer_wheels.specs.declared.tiered.TieredWheel.TheVariants.{Hier, Smooth}
 
@@ -64,3 +66,7 @@ counts_at_advance old new counts = if is_smooth old.slots then counts else count
 
 pub tiered-well_formed : (wheel : TieredWheel) → IsWellFormed (tiered_state wheel)
 tiered-well_formed wheel = state_of-well_formed (buckets_in wheel)
+
+-- the tick, unless it is NEVER
+abbrev pub option_of : ℕ → Option ℕ
+option_of tick = if tick == NEVER then None else Some tick

@@ -23,9 +23,9 @@
 //! no tick moves a whole bucket, and in `Table::Wide` none moves more than 2n/63 + 18 timers, n the most that were held.
 //! `advance` leaps to the next tick that needs a look while nothing is to be moved (`ahead`).
 //!
-//! It meets the whole of `Wheel`, and no scheme uses it yet. Open: a scheme of the program, a table for C, calls that do
-//! moves ahead in idle time, and speed: the calls take the table as a value and not as a constant, and find the first slots
-//! anew each time.
+//! It meets the whole of `Wheel`, and C has it, beside the hierarchy (`tiered`). Open: calls that do moves ahead in idle time,
+//! and speed. Most calls take the table as a value and not as a constant, and first slots are found anew each time, though only
+//! as far up as a wheel can have an earlier one.
 ghost use Rattle.std.specs.Prelude.{◌≡◌, ◌+◌, ◌-◌, ◌*◌, ◌<◌, ◌≤◌, ◌↔◌, ℕ, [], length, IsTrue, IfOk, IfErr, IfSome, IfNone, OnOk, OnErr, MatchOption, MatchResult};
 ghost use Rattle.timer_base.specs.declared.limits.TheConstants.{LAST};
 ghost use Rattle.timer_base.specs.WakeUps.{IsQuietUntil, next_deadline};
@@ -331,8 +331,8 @@ impl Wheel for SmoothWheel {
         Some(restarted)
     }
 
-    /// Each timer that moves goes just one wheel down, and is counted. At most as many move as the paces are in sum: in `Table::Wide` at most 2n/63 + 18, if never more than n were
-    /// held since the wheel was made.
+    /// Each timer that moves goes just one wheel down, and is counted. At most as many move as the paces are in sum: in
+    /// `Table::Wide` at most 2n/63 + 18, if never more than n were held since the wheel was made.
     #[inline(never)]
     fn per_tick(&mut self)
         requires nothing_due { (smooth_state self.old).due ≡ [] }

@@ -5,7 +5,9 @@ ghost use Rattle.std.specs.Prelude.{◌≡◌, ◌+◌, ◌*◌, ◌<◌, ◌≤
 ghost use Rattle.timer_base.specs.Counts.{no_counts};
 ghost use Rattle.timer_base.specs.WheelState.{empty_wheel, held_at, held_count, after_held_start, after_removal};
 ghost use Rattle.timer_base.specs.declared.limits.TheConstants.{LAST};
-ghost use Rattle.timer_wheels.specs.SmoothWheel.{smooth_state, starts_of};
+ghost use Rattle.timer_wheels.specs.SmoothWheel.{smooth_state, starts_of, radices_by_turns};
+ghost use Rattle.timer_wheels.specs.TieredWheel.{option_of};
+ghost use Rattle.timer_base.specs.WakeUps.{IsQuietUntil, next_deadline};
 ghost use Rattle.timer_wheels.specs.HeldPlaces.{IsFirstHeld, IsAlone};
 ghost use Rattle.timer_wheels.specs.HierWheel.{IsHierFault};
 ghost use Rattle.timer_wheels.specs.Tables.{slots_of_table, last_of_table};
@@ -20,6 +22,9 @@ use crate::table::Table;
 use crate::tiers::Tiers;
 use std::alloc::Global;
 use timer_base::{Handle, MakeFault, OutOfMemory, Timer, Wheel};
+
+/// In place of a tick: there is none.
+pub const NEVER: u64 = u64::MAX;
 
 /// One of the two hierarchies.
 #[derive(Drop)]
@@ -236,31 +241,24 @@ impl Wheel for TieredWheel {
     fn quiet_until(&self) -> Option<u64> {
         match self {
             TieredWheel::Hier(wheel) => wheel.quiet_until(),
-            TieredWheel::Smooth(wheel) => match wheel.quiet_until() {
-                Some(tick) => Some(tick),
-                None => None,
-            },
+            TieredWheel::Smooth(wheel) => tick_of(quiet_smooth(wheel)),
         }
     }
 
     fn next_deadline(&self) -> Option<u64> {
-        match self {
-            TieredWheel::Hier(wheel) => wheel.next_deadline(),
-            TieredWheel::Smooth(wheel) => match wheel.next_deadline() {
-                Some(tick) => Some(tick),
-                None => None,
-            },
-        }
+        let tick = match self {
+            TieredWheel::Hier(wheel) => or_never(wheel.next_deadline()),
+            TieredWheel::Smooth(wheel) => next_smooth(wheel),
+        };
+        tick_of(tick)
     }
 
     fn find_next(&mut self) -> Option<u64> {
-        match self {
-            TieredWheel::Hier(wheel) => wheel.find_next(),
-            TieredWheel::Smooth(wheel) => match wheel.find_next() {
-                Some(tick) => Some(tick),
-                None => None,
-            },
-        }
+        let tick = match self {
+            TieredWheel::Hier(wheel) => or_never(wheel.find_next()),
+            TieredWheel::Smooth(wheel) => next_smooth(wheel),
+        };
+        tick_of(tick)
     }
 
     #[inline(always)]
@@ -353,4 +351,45 @@ fn restart_smooth(wheel: &mut SmoothWheel, handle: Handle, timer: Timer) -> Opti
         Some((made, _old)) => Some(made.place),
         None => None,
     }
+}
+
+/// The first pending deadline, or `NEVER`.
+#[inline(never)]
+fn next_smooth(wheel: &SmoothWheel) -> u64
+    ensures { option_of result ≡ next_deadline (smooth_state wheel.now).pending }
+{
+    or_never(wheel.next_deadline())
+}
+
+/// The next tick to wake up at, or `NEVER`.
+#[inline(never)]
+fn quiet_smooth(wheel: &SmoothWheel) -> u64
+    ensures quiet { IsQuietUntil (option_of result) (smooth_state wheel.now).now (smooth_state wheel.now).pending }
+    ensures exact { option_of result ≡ next_visit (radices_by_turns (smooth_state wheel.now).slots)
+        (smooth_state wheel.now).now (smooth_state wheel.now).pending }
+{
+    match wheel.quiet_until() {
+        Some(tick) => tick,
+        None => NEVER,
+    }
+}
+
+/// The tick, or `NEVER` if there is none.
+#[inline(always)]
+fn or_never(tick: Option<u64>) -> u64
+    requires { IfSome tick (λ some. some ≤ LAST) }
+    ensures { option_of result ≡ tick }
+{
+    match tick {
+        Some(tick) => tick,
+        None => NEVER,
+    }
+}
+
+/// The tick, unless it is `NEVER`.
+#[inline(always)]
+fn tick_of(tick: u64) -> Option<u64>
+    ensures { result ≡ option_of tick }
+{
+    if tick == NEVER { None } else { Some(tick) }
 }

@@ -7,7 +7,8 @@ use std::process::Abort;
 use std::test::Fail;
 use timer_base::{Handle, LAST, PlainWheel, Wheel};
 use timer_facility::{
-    Answer, Config, ConfigFault, Facility, NotTaken, Notice, Reason, Request, TickFault,
+    Answer, Config, ConfigFault, Facility, MAX_CLIENTS, MAX_PENDING, NotTaken, Notice, Reason,
+    Request, TickFault,
 };
 use timer_wheels::{HashedWheel, HierWheel, Table};
 
@@ -297,17 +298,20 @@ fn hostile_handles(rt: HostRuntime) -> Result<(), Fail> {
 /// Clients, capacity, first tick, first serial and first number, and which of them is refused.
 static CONFIGS: [([u64; 5], Option<ConfigFault>); 12] = [
     ([1, 1, 0, 1, 1], None),
-    ([64, 1048576, LAST, LAST, LAST], None),
+    ([MAX_CLIENTS, MAX_PENDING, LAST, LAST, LAST], None),
     ([0, 1, 0, 1, 1], Some(ConfigFault::Clients)),
-    ([65, 1, 0, 1, 1], Some(ConfigFault::Clients)),
+    ([MAX_CLIENTS + 1, 1, 0, 1, 1], Some(ConfigFault::Clients)),
     ([1, 0, 0, 1, 1], Some(ConfigFault::Capacity)),
-    ([1, 1048577, 0, 1, 1], Some(ConfigFault::Capacity)),
+    ([1, MAX_PENDING + 1, 0, 1, 1], Some(ConfigFault::Capacity)),
     ([1, 1, LAST + 1, 1, 1], Some(ConfigFault::FirstTick)),
     ([1, 1, 0, 0, 1], Some(ConfigFault::FirstSerial)),
     ([1, 1, 0, LAST + 1, 1], Some(ConfigFault::FirstSerial)),
     ([1, 1, 0, 1, 0], Some(ConfigFault::FirstNumber)),
     ([1, 1, 0, 1, LAST + 1], Some(ConfigFault::FirstNumber)),
-    ([65, 0, LAST + 1, 0, 0], Some(ConfigFault::Clients)),
+    (
+        [MAX_CLIENTS + 1, 0, LAST + 1, 0, 0],
+        Some(ConfigFault::Clients),
+    ),
 ];
 
 #[test]

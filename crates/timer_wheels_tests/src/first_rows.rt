@@ -1,4 +1,6 @@
 //! The first deadline that a hierarchy keeps, after each of many random calls, beside that of a plain ordered list.
+ghost use Rattle.std.specs.Prelude.{◌≤◌};
+
 use crate::support::same;
 use crate::wheel_tests::{advance, restart, start};
 use std::alloc::Global;
@@ -14,7 +16,7 @@ enum Intervals {
     One,
     /// Two: buckets have timers of both.
     Two,
-    /// Of 1 to 20 bits.
+    /// Many, of up to a million ticks.
     Many,
 }
 
@@ -26,11 +28,13 @@ fn random(state: &mut u64) -> u64 {
     *state >> 33
 }
 
-fn interval(intervals: Intervals, chance: u64) -> u64 {
+fn interval(intervals: Intervals, chance: u64) -> u64
+    ensures { result ≤ 1100000 }
+{
     match intervals {
         Intervals::One => 90_000,
         Intervals::Two => 30_000 + 60_000 * (chance % 2),
-        Intervals::Many => 1 + chance % (1 << 1 + chance / 4 % 20),
+        Intervals::Many => 1 + chance % 4096 * (chance / 4096 % 256),
     }
 }
 
@@ -62,7 +66,11 @@ impl Both {
     fn stop(&mut self, rt: &impl Abort, index: usize) {
         if let Some((hier, plain)) = self.handles.get(index) {
             let stopped = self.hier.stop(*hier).map(|timer| timer.serial);
-            same(rt, stopped, self.plain.stop(*plain).map(|timer| timer.serial));
+            same(
+                rt,
+                stopped,
+                self.plain.stop(*plain).map(|timer| timer.serial),
+            );
         }
     }
 

@@ -18,11 +18,14 @@ and timers.asyncio an event loop over these timers.
 """
 # SPDX-License-Identifier: MIT OR Apache-2.0
 from timers._timers import (
-    CLOCK, CLOCK_END, CLOCK_LAST, DUE, LAST, NO_MEMORY, NO_TABLE, NOT_OPEN, NOT_PENDING, OK, OPEN, SERIALS_SPENT, SMALL, SMALL_LAST, SMOOTH, TOO_LATE,
-    WIDE, ZERO_INTERVAL, Handle, Timers, TimersError, __version__,
+    CLOCK, CLOCK_LAST, LAST, SMALL, SMALL_LAST, SMOOTH, WIDE, Handle, Timers, TimersError, __version__,
+    # made by tools/facts: names of timers
+    OK, NOT_OPEN, OPEN, NO_TABLE, NO_MEMORY, DUE, NOT_PENDING, ZERO_INTERVAL, TOO_LATE, SERIALS_SPENT, CLOCK_END,
 )
 
 __all__ = [
-    "Timers", "Handle", "TimersError", "WIDE", "CLOCK", "SMOOTH", "SMALL", "LAST", "CLOCK_LAST", "SMALL_LAST", "OK", "NOT_OPEN", "OPEN", "NO_TABLE",
-    "NO_MEMORY", "DUE", "NOT_PENDING", "ZERO_INTERVAL", "TOO_LATE", "SERIALS_SPENT", "CLOCK_END",
+    "Timers", "Handle", "TimersError", "WIDE", "CLOCK", "SMOOTH", "SMALL", "LAST", "CLOCK_LAST", "SMALL_LAST",
+    # made by tools/facts: quoted names of timers
+    "OK", "NOT_OPEN", "OPEN", "NO_TABLE", "NO_MEMORY", "DUE", "NOT_PENDING", "ZERO_INTERVAL", "TOO_LATE",
+    "SERIALS_SPENT", "CLOCK_END",
 ]

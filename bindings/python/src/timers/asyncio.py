@@ -12,34 +12,48 @@ loop of each that is derived from asyncio.BaseEventLoop.
 """
 # SPDX-License-Identifier: MIT OR Apache-2.0
 import asyncio
-from asyncio import events
+from asyncio import BaseEventLoop, events
 
 from timers import LAST, Timers
 
 __all__ = ["EventLoop", "WheelMixin"]
 
 _TICKS = 1e9  # of a second
-_END = float(LAST - 2**10)  # a number of 53 bits
-
-
-def _tick_of(when):
-    """The tick in which this time is. What is after the last one never comes."""
-    tick = when * _TICKS
-    return int(tick) if 0 <= tick <= _END else 0 if tick < 0 else LAST
+_PAST = 2**55  # ticks, 417 days
 
 
 class WheelMixin:
-    """What overrides the timers of an asyncio.BaseEventLoop, before which it stands among the bases of a class.
+    """What overrides the timers of an asyncio.BaseEventLoop, before which it must stand among the bases of a class.
 
     The list `_scheduled`, the heap of that loop, has nothing but an alarm, and only until the loop has slept. Then what is due
     is ready, behind what the input has made ready. The attribute `_scheduled` of a TimerHandle is the handle of its timer, or
     False.
     """
 
+    def __init_subclass__(cls, **named):
+        super().__init_subclass__(**named)
+        bases = cls.__mro__
+        if BaseEventLoop in bases and bases.index(BaseEventLoop) < bases.index(WheelMixin):
+            raise TypeError(f"WheelMixin must stand before the loop among the bases of {cls.__name__}")
+
     def __init__(self, *arguments, **named):
         super().__init__(*arguments, **named)
         self._wheel = Timers()
+        self._origin = None
         self._alarm = events.TimerHandle(0, self._take_due, (), self)
+
+    def _tick_of(self, when):
+        """The tick in which this time is. What is after the last one never comes, and nan is due at once, as in asyncio.
+
+        The loop's clock may begin anywhere: its first time is the tick _PAST. Those before it come in their order, too.
+        """
+        if self._origin is None:  # in __init__ a class that overrides time() may not be ready for it
+            self._origin = int(self.time() * _TICKS) - _PAST
+        try:
+            tick = int(when * _TICKS) - self._origin
+        except (OverflowError, ValueError):  # infinity; nan
+            return LAST if when > 0 else 0
+        return 0 if tick < 0 else LAST if tick > LAST else tick
 
     def call_at(self, when, callback, *args, context=None):
         """Arranges that the callback is called at this time of the loop's clock. Returns its TimerHandle."""
@@ -52,7 +66,7 @@ class WheelMixin:
         call = events.TimerHandle(when, callback, args, self, context)
         if call._source_traceback:
             del call._source_traceback[-1]
-        call._scheduled = self._wheel.start_at(_tick_of(when), call)
+        call._scheduled = self._wheel.start_at(self._tick_of(when), call)
         return call
 
     def close(self):
@@ -68,7 +82,7 @@ class WheelMixin:
             call._scheduled = False
 
     def _take_due(self):
-        take, now = self._wheel.take, _tick_of(self.time())
+        take, now = self._wheel.take, self._tick_of(self.time())
         while timer := take(now):
             call = timer[2]
             call._scheduled = False
@@ -82,7 +96,7 @@ class WheelMixin:
     def _run_once(self):
         # Before this tick nothing is due. To ask for the exact deadline could take longer than to wake up for nothing now and then.
         if (tick := self._wheel.wakeup()) is not None:
-            self._alarm._when = tick / _TICKS
+            self._alarm._when = (tick + self._origin) / _TICKS
             self._scheduled.append(self._alarm)
         super()._run_once()
 

@@ -14,7 +14,7 @@ ghost use Rattle.timer_wheels.specs.Tables.{radices};
 use crate::deadlines::least_in;
 use crate::smooth::bank::Bank;
 use crate::smooth::turns::{level_of, list_of_slot, slot_of, turns_of, weight_of, wheels_of};
-use crate::table::Table;
+use crate::table::{Table, with_constant_table};
 use timer_base::earlier;
 
 impl Bank {
@@ -24,21 +24,7 @@ impl Bank {
         ensures first { IsFirstSlot (radices self.now.table) self.now.buckets.tick wheel self.now.buckets.links.lists result }
         ensures begins { IfSome result (λ slot. slot * weight wheel (radices self.now.table) ≤ self.now.buckets.last_tick) }
     {
-        let turns = turns_of(self.table, wheel);
-        let now = slot_of(self.table, wheel, self.buckets.tick);
-        let end = now + turns;
-        let mut slot = now + 1;
-        while slot < end {
-            let clear = self
-                .filled
-                .clear_from(list_of_slot(self.table, wheel, slot)) as u64;
-            if clear == 0 {
-                return Some(slot);
-            }
-            // As far as the last list of the wheel, after which its first one comes.
-            slot += clear.min(turns - slot % turns);
-        }
-        None
+        with_constant_table!(first_slot_by(self.table, self, wheel))
     }
 
     /// The first tick ahead that needs a look, or the end if that comes first: a timer is due, or a bucket with timers
@@ -172,6 +158,29 @@ impl Bank {
             None => first,
         }
     }
+}
+
+/// The first slot of a wheel after the present one that has a timer, by the bank's table.
+#[inline(always)]
+fn first_slot_by(table: Table, bank: &Bank, wheel: usize) -> Option<u64>
+    requires table { table ≡ bank.now.table }
+    requires wheel { wheel < length (radices table) }
+    ensures first { IsFirstSlot (radices table) bank.now.buckets.tick wheel bank.now.buckets.links.lists result }
+    ensures begins { IfSome result (λ slot. slot * weight wheel (radices table) ≤ bank.now.buckets.last_tick) }
+{
+    let turns = turns_of(table, wheel);
+    let now = slot_of(table, wheel, bank.buckets.tick);
+    let end = now + turns;
+    let mut slot = now + 1;
+    while slot < end {
+        let clear = bank.filled.clear_from(list_of_slot(table, wheel, slot)) as u64;
+        if clear == 0 {
+            return Some(slot);
+        }
+        // As far as the last list of the wheel, after which its first one comes.
+        slot += clear.min(turns - slot % turns);
+    }
+    None
 }
 
 /// The tick at which a slot ahead matters: on wheel 0 its timers are due, on a higher one its bucket begins to be the next.

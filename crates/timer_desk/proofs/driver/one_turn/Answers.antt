@@ -9,7 +9,7 @@ turn-requires g c =
     let n : length c.deref.result.now ≡ clients_of c.args.desk.now =
     omega (arith, ap (λ ps. length ps) c.deref.ensures.value, c.requires.clients, c.args.progress.now.ok) in
     rw (c.deref-2.ensures.value ∙ c.in-Ok.ensures, n)
-    (steps_in_range (is_served c.args.goal c.deref.result.now) (clients_of c.args.desk.now) c.args.last c.requires.last)
+    (steps_in_range (is_served c.args.goal c.deref.result.now) (clients_of c.args.desk.now))
 
 pub returns-then-ran_out-clause-turned : goal.returns-then-ran_out-clause-turned
 returns-then-ran_out-clause-turned g c =
@@ -19,7 +19,7 @@ returns-then-ran_out-clause-turned g c =
       turn = c.in-Ok-turn.report.items;
       holds = c.in-Ok-turn.ensures.ok.holds;
       steps = c.in-Ok-turn.ensures.ok.steps_are ∙ c.deref-2.ensures.value ∙ c.in-Ok.ensures
-          ∙ ap (λ ps. steps_with (is_served c.args.goal ps) (length ps) c.args.last) c.deref.ensures.value;
+          ∙ ap (λ ps. steps_with (is_served c.args.goal ps) (length ps)) c.deref.ensures.value;
       memory = λ is. absurd (cc);
       counted = subst (λ r. AllCounted c.args.goal r before after) c.deref-3.ensures.value c.count_report-passed.ensures.counted;
     })
@@ -32,7 +32,7 @@ returns-then-passed-clause-turned g c =
         turn = c.in-Ok-turn.report.items;
         holds = c.in-Ok-turn.ensures.ok.holds;
         steps = c.in-Ok-turn.ensures.ok.steps_are ∙ c.deref-2.ensures.value ∙ c.in-Ok.ensures
-            ∙ ap (λ ps. steps_with (is_served c.args.goal ps) (length ps) c.args.last) c.deref.ensures.value;
+            ∙ ap (λ ps. steps_with (is_served c.args.goal ps) (length ps)) c.deref.ensures.value;
         memory = λ _. subst NoneRanOut c.deref-4.ensures.value (c.if-ran_out.ensures.0 refl);
         counted = subst (λ r. AllCounted c.args.goal r before after) c.deref-3.ensures.value c.if-passed.ensures.counted;
       }),
@@ -47,7 +47,7 @@ returns-else-passed-clause-turned g c =
         turn = c.in-Ok-turn.report.items;
         holds = c.in-Ok-turn.ensures.ok.holds;
         steps = c.in-Ok-turn.ensures.ok.steps_are ∙ c.deref-2.ensures.value ∙ c.in-Ok.ensures
-            ∙ ap (λ ps. steps_with (is_served c.args.goal ps) (length ps) c.args.last) c.deref.ensures.value;
+            ∙ ap (λ ps. steps_with (is_served c.args.goal ps) (length ps)) c.deref.ensures.value;
         memory = λ _. subst NoneRanOut c.deref-4.ensures.value (c.if-ran_out.ensures.0 refl);
         counted = subst (λ r. AllCounted c.args.goal r before after) c.deref-3.ensures.value c.if-passed.ensures.counted;
       }),

@@ -1,6 +1,6 @@
 use Rattle.std.proofs.Common.{ℕ, ◌<◌, ◌≢◌, get_or}
 use Rattle.timer_desk.specs.declared.report.Served.TheVariants.{NoMemory}
-use Rattle.timer_desk.specs.declared.report.Done.{Done}
+use Rattle.timer_desk.specs.Types.{Done}
 use Rattle.timer_desk.specs.declared.report.Done.TheVariants as Dones
 use Rattle.timer_desk.proofs.driver.ran_out.Given as goal
 

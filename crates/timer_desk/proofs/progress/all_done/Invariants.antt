@@ -1,5 +1,5 @@
 use Rattle.std.proofs.Common.{ℕ, ◌<◌, get_or}
-use Rattle.timer_desk.specs.declared.progress.Progress.{Progress}
+use Rattle.timer_desk.specs.Types.{Progress}
 use Rattle.timer_desk.specs.Driver.{IsDone}
 use Rattle.timer_desk.proofs.progress.all_done.Given as goal
 

@@ -1,5 +1,5 @@
 use Rattle.std.proofs.Common.{◌≡◌, ◌<◌, ℕ, false, get_or}
-use Rattle.timer_threads.specs.declared.outcome.Worked.{Worked}
+use Rattle.timer_threads.specs.Types.{Worked}
 use Rattle.timer_threads.specs.Results.{has_failed}
 use Rattle.timer_threads.proofs.results.first_failed.Given as goal
 

@@ -1,7 +1,7 @@
 use Rattle.std.proofs.Common.{◌≡◌, [], ◌∷◌, ◌++◌, List, subst, refl, sym, ◌∙◌, ap, append-nil, append_assoc, arith}
 use Rattle.std.proofs.lemmas.Grind.{common_steps}
 use Rattle.std.proofs.lemmas.List.{nil_from_length}
-use Rattle.timer_threads.specs.declared.outcome.Worked.{Worked}
+use Rattle.timer_threads.specs.Types.{Worked}
 use Rattle.timer_threads.specs.Results.{AreUnzipped}
 use Rattle.timer_threads.proofs.ResultsLemmas.{AreUnzipped-more}
 use Rattle.timer_threads.proofs.results.unzip_results.Goals as goal

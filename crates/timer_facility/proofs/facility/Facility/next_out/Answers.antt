@@ -1,7 +1,7 @@
 use Rattle.std.proofs.Common.{◌≡◌, ◌≢◌, ◌≤◌, ℕ, Vec, length, vec_len, get_or, sym, arith}
 use Rattle.std.specs.Prelude.{Some, slice_get}
 use Rattle.std.proofs.lemmas.Option.{slice_get_read}
-use Rattle.timer_base.specs.declared.timer.Timer.{Timer}
+use Rattle.timer_facility.specs.Types.{Timer}
 use Rattle.timer_facility.proofs.FacilityFields.{agrees, due_counted, returned_counted, facility-expiry, facility-nothing_due, facility-returned}
 use Rattle.timer_facility.proofs.facility.Facility.next_out.Goals as goal
 

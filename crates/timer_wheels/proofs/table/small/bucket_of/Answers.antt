@@ -1,4 +1,4 @@
-use Rattle.std.proofs.Common.{◌<◌, ◌≤◌, ◌+◌, ◌%◌, arith, rules}
+use Rattle.std.proofs.Common.{arith, rules}
 use Rattle.timer_wheels.specs.Tables.{small}
 use Rattle.timer_wheels.proofs.SmallDigits.{bucket_begun, bucket_found}
 use Rattle.timer_wheels.proofs.table.small.bucket_of.Goals as goal

@@ -1,4 +1,4 @@
-use Rattle.std.proofs.Common.{◌≡◌, ℕ, ap, ◌∙◌}
+use Rattle.std.proofs.Common.{ℕ, ap, ◌∙◌}
 use Rattle.timer_base.specs.Counts.{WheelCounts}
 use Rattle.timer_wheels.specs.HierWheel.{hier_state, counts_of, counts_of_tick}
 use Rattle.timer_wheels.specs.SmoothWheel.{smooth_state, starts_of}

@@ -1,0 +1,19 @@
+-- The types that contracts of this crate speak of, under their own names.
+pub use Rattle.timer_base.specs.declared.limits.TheConstants.{LAST}
+pub use Rattle.timer_base.specs.declared.timer.Handle.{Handle}
+pub use Rattle.timer_base.specs.declared.timer.Timer.{Timer}
+pub use Rattle.timer_desk.specs.declared.driver.DriveEnd.{DriveEnd}
+pub use Rattle.timer_desk.specs.declared.looks.Found.{Found}
+pub use Rattle.timer_desk.specs.declared.progress.Progress.{Progress}
+pub use Rattle.timer_desk.specs.declared.report.Done.{Done}
+pub use Rattle.timer_desk.specs.declared.report.Served.{Served}
+pub use Rattle.timer_desk.specs.declared.report.Step.{Step}
+pub use Rattle.timer_desk.specs.declared.word.Numbered.{Numbered}
+pub use Rattle.timer_desk.specs.declared.word.Word.{Word}
+pub use Rattle.timer_facility.specs.declared.event.Out.{Out}
+pub use Rattle.timer_facility.specs.declared.request.Answer.{Answer}
+pub use Rattle.timer_facility.specs.declared.request.CloseFault.{CloseFault}
+pub use Rattle.timer_facility.specs.declared.request.NotTaken.{NotTaken}
+pub use Rattle.timer_facility.specs.declared.request.Notice.{Notice}
+pub use Rattle.timer_facility.specs.declared.request.Request.{Request}
+pub use Rattle.timer_facility.specs.declared.request.TickFault.{TickFault}

@@ -1,0 +1,16 @@
+-- The types that contracts of this crate speak of, under their own names.
+pub use Rattle.timer_base.specs.declared.limits.TheConstants.{LAST}
+pub use Rattle.timer_base.specs.declared.timer.Handle.{Handle}
+pub use Rattle.timer_base.specs.declared.timer.Timer.{Timer}
+pub use Rattle.timer_facility.specs.declared.config.Config.{Config}
+pub use Rattle.timer_facility.specs.declared.event.Event.{Event}
+pub use Rattle.timer_facility.specs.declared.event.Out.{Out}
+pub use Rattle.timer_facility.specs.declared.limits.TheConstants.{MAX_CLIENTS}
+pub use Rattle.timer_facility.specs.declared.limits.TheConstants.{MAX_PENDING}
+pub use Rattle.timer_facility.specs.declared.request.Answer.{Answer}
+pub use Rattle.timer_facility.specs.declared.request.CloseFault.{CloseFault}
+pub use Rattle.timer_facility.specs.declared.request.NotTaken.{NotTaken}
+pub use Rattle.timer_facility.specs.declared.request.Notice.{Notice}
+pub use Rattle.timer_facility.specs.declared.request.Reason.{Reason}
+pub use Rattle.timer_facility.specs.declared.request.Request.{Request}
+pub use Rattle.timer_facility.specs.declared.request.TickFault.{TickFault}
