@@ -3,7 +3,8 @@
 //   start(i, interval); stop(i); restart(i, interval); tick(); drain(): how many have expired; pass(k): k
 //   ticks, with all that expires, and how many these are
 // Those with HAS_NEXT also have look(i): when it expires, and next(): the next deadline. Those with HAS_ALL also have
-// start_at(i, interval), by the tick of its deadline; wakeup(): a tick to sleep until; each(): the sum of all deadlines.
+// start_at(i, interval), by the tick of its deadline; wakeup(): a tick to sleep until; each(): the sum of all
+// deadlines; reserve(most), which makes room.
 #pragma once
 #include "random.hpp"
 #include "wheels.hpp"
@@ -169,8 +170,8 @@ struct Tokio {
 };
 #endif
 
-// An object has its index in the heap and a cache line, as it would with what else it holds. The array has its room from
-// the beginning.
+// An object has its index in the heap and a cache line, as it would with what else it holds. The array has its room
+// from the beginning.
 struct ArrayHeap {
   static constexpr bool HAS_NEXT = false, HAS_ALL = false;
   struct alignas(64) Object { array_heap::node node; };

@@ -47,8 +47,8 @@ def of_ns(value, _=None):
 
 
 def in_digits(ns):
-    """A time in two digits, with its unit."""
-    return of_ns(float(f"{ns:.2g}"))
+    """A time in two digits, with its unit on the same line."""
+    return of_ns(float(f"{ns:.2g}")).replace(" ", "\N{NO-BREAK SPACE}")
 
 
 def machine(part):
@@ -198,21 +198,25 @@ TAIL_LOADS = {"shuffled": "spread over 2^20 ticks, in random order", "keep-alive
               "moves-shuffled": "all in one bucket, in random order"}
 
 
+def tail_row(axes, at, row, style):
+    """A facility's strokes, and its longest with a mark and in words."""
+    colour, longest = STYLES[style][0], median(row["longest"])
+    ranks = [median(row[rank]) for rank in ("p50", "p99.9", "p99.99")]
+    axes.hlines(at, ranks[0], longest, colour, linewidth=0.8)
+    axes.plot(ranks, [at] * len(ranks), "|", color=colour, markersize=9)
+    draw(axes, [at], [row["longest"]], style, is_across=True)
+    axes.text(1.5 * ends(row["longest"])[1], at, in_digits(longest), color=colour, va="center", fontsize=11, fontweight="bold")
+
+
 def tail(folder):
-    rows = {(row["load"], row["facility"]): row for row in figures.read("tail") if row["timers"] == "1000000"}
+    rows = {(row["load"], row["facility"]): row for row in figures.read("tail") if row.get("timers") == "1000000"}
     if not all((load, facility) in rows for load in TAIL_LOADS for facility in list(TAIL)[:2]):
         figures.fail("plots.py: results/tail.csv lacks a load of the library: run make measure-tail")
     figure, all_axes = plt.subplots(len(TAIL_LOADS), 1, figsize=(WIDTH, 9), layout="constrained", sharex=True)
     for axes, (load, title) in zip(all_axes, TAIL_LOADS.items()):
         shown = [facility for facility in TAIL if (load, facility) in rows]
         for at, facility in enumerate(shown):
-            row, style = rows[load, facility], "product" if facility.startswith("timers") else "first"
-            colour = STYLES[style][0]
-            ranks = [median(row[rank]) for rank in ("p50", "p99.9", "p99.99")]
-            axes.hlines(at, ranks[0], median(row["longest"]), colour, linewidth=0.8)
-            axes.plot(ranks, [at] * len(ranks), "|", color=colour, markersize=9)
-            draw(axes, [at], [row["longest"]], style, is_across=True)
-            axes.text(1.5 * ends(row["longest"])[1], at, in_digits(median(row["longest"])), color=colour, va="center", fontsize=11, fontweight="bold")
+            tail_row(axes, at, rows[load, facility], "product" if facility.startswith("timers") else "first")
         axes.set_yticks(range(len(shown)), [TAIL[facility] for facility in shown])
         axes.set_ylim(len(shown) - 0.4, -0.6)
         axes.set_title(title, fontweight="bold")
@@ -254,7 +258,7 @@ def main():
     folder = sys.argv[1] if len(sys.argv) > 1 else os.path.join(figures.HERE, "..", "docs")
     if not os.path.isdir(folder):
         figures.fail(__doc__, 2)
-    for plot in (bench, scale, tail, lines):
+    for plot in (bench, scale, lines, tail):
         plot(folder)
 
 

@@ -7,7 +7,8 @@ the greatest.
     runs.py next [--repeats N] [--facilities A,B] [--sizes 10000,100000]
 
 --sizes are numbers of pending timers. --count is how many operations are timed, or at most how many ticks of each load
-of tail. Facilities that the program doesn't have are left out, and so are loads that a facility can't do. Status 1: a run failed, or there is nothing to run. Status 2: wrong arguments, or no program.
+of tail. Facilities that the program doesn't have are left out, and so are loads that a facility can't do. Status 1: a
+run failed, or there is nothing to run. Status 2: wrong arguments, or no program.
 """
 import argparse
 import os
@@ -24,7 +25,8 @@ OPERATIONS = ["stop", "start", "restart", "tick", "expiry", "start_at", "look", 
 TURNS = ["same", "minute", "minutes", "kept", "expiry", "short", "first", "oldest"]
 RANKS = ["p50", "p99.9", "p99.99", "longest"]
 # The loads of tail. Of some a number of ticks is timed, of `moves` all ticks, and of the others starts.
-LOADS = {"spread": 400_000, "shuffled": 400_000, "keep-alive": 70_000, "moves": 0, "moves-shuffled": 0, "growth": 0, "reserved": 0, "room": 0}
+LOADS = {"spread": 400_000, "shuffled": 400_000, "keep-alive": 70_000, "moves": 0, "moves-shuffled": 0,
+         "growth": 0, "reserved": 0, "room": 0}
 
 
 def measures(program, facility, size, what):

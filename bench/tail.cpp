@@ -1,18 +1,18 @@
 // How long single ticks and starts take, by the clock on the wall. A tick is timed with all that is due handed out.
-//   tail FACILITY PENDING spread TICKS         PENDING timers, evenly over the next 2^20 ticks, in memory in the order of
-//                                              starting; then TICKS single ticks
-//   tail FACILITY PENDING shuffled TICKS       the same, after each was pushed back once, in random order
-//   tail FACILITY PENDING keep-alive TICKS     time-outs of 60,000 ticks. At each tick some owners push theirs back: one
-//                                              of 20,000, at random, so some 5 % of them expire. An owner whose timer has
-//                                              expired starts it again then
-//   tail FACILITY PENDING moves                PENDING timers in one bucket of the third wheel, and each tick until the
-//                                              last has expired
-//   tail FACILITY PENDING moves-shuffled       the same, after each was pushed back once, in random order
-//   tail FACILITY PENDING growth               PENDING starts, one by one: those that make a table grow are the longest
-//   tail FACILITY PENDING reserved             the same, after timers_reserve
-//   tail FACILITY PENDING room                 the same, once all of them were stopped: the memory was used before
-// One line for each figure: its name and its nanoseconds. A facility that can't do a load prints nothing. The status is 1
-// if at a tick another number of timers expires than the deadlines say.
+//   tail FACILITY PENDING spread TICKS      PENDING timers, evenly over the next 2^20 ticks, in memory in the order of
+//                                           starting; then TICKS single ticks
+//   tail FACILITY PENDING shuffled TICKS    the same, after each was pushed back once, in random order
+//   tail FACILITY PENDING keep-alive TICKS  time-outs of 60,000 ticks. At each tick some owners push theirs back: one
+//                                           of 20,000, at random, so some 5 % expire. An owner whose timer has expired
+//                                           starts it again then
+//   tail FACILITY PENDING moves             PENDING timers in one bucket of the third wheel, and each tick until the
+//                                           last has expired
+//   tail FACILITY PENDING moves-shuffled    the same, after each was pushed back once, in random order
+//   tail FACILITY PENDING growth            PENDING starts, one by one: those that make a table grow are the longest
+//   tail FACILITY PENDING reserved          the same, after timers_reserve
+//   tail FACILITY PENDING room              the same, once all of them were stopped: the memory was used before
+// One line for each figure: its name and its nanoseconds. A facility that can't do a load prints nothing. The status is
+// 1 if at a tick another number of timers expires than the deadlines say.
 #include "facilities.hpp"
 #include <algorithm>
 #include <numeric>
@@ -131,17 +131,19 @@ template <class F> struct Load {
     starts();
   }
 
+  // False if there is no such load, or it lacks its number of ticks.
   bool run(const std::string &load, size_t count) {
-    const bool is_shuffled = load == "shuffled" || load == "moves-shuffled";
-    const bool has_count = is_shuffled ? load == "shuffled" : load == "spread" || load == "keep-alive";
-    if (has_count != (count > 0)) return false;
-    if (has_count && load != "keep-alive") {
-      start_all([&] { return anywhere(); }, is_shuffled);
+    if (load == "spread" || load == "shuffled") {
+      start_all([&] { return anywhere(); }, load == "shuffled");
       ticks(count);
-    } else if (load == "keep-alive") {
+      return count > 0;
+    }
+    if (load == "keep-alive") {
       keep_alive(count);
-    } else if (load == "moves" || load == "moves-shuffled") {
-      start_all([&] { return in_one_bucket(); }, is_shuffled);
+      return count > 0;
+    }
+    if (load == "moves" || load == "moves-shuffled") {
+      start_all([&] { return in_one_bucket(); }, load == "moves-shuffled");
       ticks(4 * SLOT - 1);
     } else if (load == "growth") {
       if (!std::is_same_v<F, ArrayHeap>) starts();
@@ -158,7 +160,8 @@ template <class F> struct Load {
   void print() {
     std::sort(took.begin(), took.end());
     auto at = [&](double part) { return took[std::min(took.size() - 1, (size_t)(part * (double)took.size()))]; };
-    if (!took.empty()) printf("p50 %.0f\np99.9 %.0f\np99.99 %.0f\nlongest %.0f\n", at(.5), at(.999), at(.9999), took.back());
+    if (took.empty()) return;
+    printf("p50 %.0f\np99.9 %.0f\np99.99 %.0f\nlongest %.0f\n", at(.5), at(.999), at(.9999), took.back());
   }
 };
 
