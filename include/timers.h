@@ -130,6 +130,8 @@
  *     earlier deadline. timers_wakeup walks no bucket, the others at most one in each wheel, and none of them keeps
  *     what it found.
  *
+ *     If timers.c was compiled with TIMERS_NO_SMOOTH, it has no TIMERS_SMOOTH: timers_new returns TIMERS_NO_TABLE.
+ *
  * PROOFS
  *     Two facts are proved. No start returns TIMERS_NO_MEMORY while fewer timers are held than
  *     timers_reserve made room for. And there are at most 9 moves for each start and restart. (With

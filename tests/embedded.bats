@@ -123,20 +123,58 @@ linked() {
     ${3:-$1 -nostdlib} -Wl,--gc-sections,-e,main,--unresolved-symbols=ignore-all -o "$work/bare" "$work/timers.o" "$work/bare.o" ${4--lgcc}
     size "$work/bare" | awk 'NR == 2 { print $1 }'
 }
-bound_of() { rows Code | sed -n "s/^$1 //p"; }
-@test "no more code is linked than the page says" {
+# bound_of NAME COLUMN
+bound_of() { rows Code | sed -n "s/^$1 //p" | cut -d ' ' -f "$2"; }
+# no_more_code COLUMN: than the page says in this column
+no_more_code() {
     needs size
     checked=0
     if command -v arm-linux-gnueabihf-gcc; then
-        for flag in -Os -O2; do at_most "$(bound_of "ARMv7 Linux gcc 12.2 $flag")" "$(linked "$arm" $flag)" "armhf $flag"; done
+        for flag in -Os -O2; do at_most "$(bound_of "ARMv7 Linux gcc 12.2 $flag" "$1")" "$(linked "$arm" $flag)" "armhf $flag"; done
         checked=1
     fi
     if command -v clang && command -v ld.lld; then
         cortex="clang --target=thumbv7em-none-eabi -mcpu=cortex-m4"
-        at_most "$(bound_of "Cortex-M4 clang 14 -Os")" "$(linked "$cortex -nostdlibinc" -Os "$cortex -fuse-ld=lld -nostdlib" "")" cortex-m4
+        at_most "$(bound_of "Cortex-M4 clang 14 -Os" "$1")" "$(linked "$cortex -nostdlibinc" -Os "$cortex -fuse-ld=lld -nostdlib" "")" cortex-m4
         checked=1
     fi
     [ $checked = 1 ] || skip "no compiler for ARM"
+}
+@test "no more code is linked than the page says" { no_more_code 1; }
+@test "and without the smooth wheel" {
+    small="$small -DTIMERS_NO_SMOOTH"
+    no_more_code 2
+}
+
+@test "without the smooth wheel its table is none, and random calls on the others agree with a sorted list" {
+    needs cc
+    cat > "$work/none.c" << 'EOT'
+#include <timers_desk.h>
+#define IS(wanted, call) if ((call) != TIMERS_##wanted) return __LINE__
+int main(void)
+{
+    struct timers timers = TIMERS_INIT;
+    struct timers_desk desk = TIMERS_DESK_INIT;
+    struct timers_line line = TIMERS_LINE_INIT;
+    struct timers_desk_config config = { sizeof config, 0, 10, 10, 10, TIMERS_SMOOTH };
+    IS(NO_TABLE, timers_new(&timers, TIMERS_SMOOTH, TIMERS_NEVER));
+    IS(OK, timers_new(&timers, TIMERS_WIDE, 0));
+    IS(OPEN, timers_new(&timers, TIMERS_SMOOTH, 0));
+    IS(DESK_OUT_OF_RANGE, timers_desk_new(&desk, &line, 1, &config));
+    config.table = TIMERS_CLOCK;
+    IS(DESK_OK, timers_desk_new(&desk, &line, 1, &config));
+    IS(DESK_OPEN, timers_desk_new(&desk, &line, 1, &config));
+    timers_free(&timers), timers_desk_free(&desk), timers_line_free(&line);
+    return 0;
+}
+EOT
+    for flags in "-O2 -Werror" "-O1 -fsanitize=undefined -fno-sanitize-recover=all"; do
+        flags="-std=c11 -Wall -Wextra -pedantic $flags -DTIMERS_NO_SMOOTH -Iinclude -pthread"
+        cc $flags -o "$work/none" "$work/none.c" generated/timers.c
+        "$work/none"
+        cc $flags -o "$work/stress" tests/c/stress.c generated/timers.c
+        "$work/stress" 200000 3
+    done
 }
 
 # instructions NAME COUNT: those of the program, each a line of qemu's log

@@ -4,7 +4,8 @@
  *     stress [CALLS] [SEED]
  *
  * With -DREFUSE -Wl,--wrap=malloc,--wrap=realloc one in three allocations of the library is refused, at random. Then it
- * is also tested which calls allocate, and that none does while there is room. */
+ * is also tested which calls allocate, and that none does while there is room. With -DTIMERS_NO_SMOOTH that table is
+ * refused. */
 #include <inttypes.h>
 #include <stdio.h>
 #include <stdlib.h>
@@ -693,6 +694,12 @@ static void open_anew(struct timers *t)
 	static const uint32_t tables[] = { TIMERS_WIDE, TIMERS_CLOCK, TIMERS_SMOOTH, TIMERS_SMALL };
 	uint32_t table = tables[below(4)];
 	want_closed(t);
+#ifdef TIMERS_NO_SMOOTH
+	if (table == TIMERS_SMOOTH) {
+		WANT("smooth", timers_new(t, table, 0), TIMERS_NO_TABLE);
+		table = TIMERS_WIDE;
+	}
+#endif
 	smooth = table == TIMERS_SMOOTH;
 	last_tick = table == TIMERS_CLOCK ? TIMERS_CLOCK_LAST : table == TIMERS_SMALL ? TIMERS_SMALL_LAST : TIMERS_LAST;
 	WANT("no table", timers_new(t, 4 + (uint32_t)below(1000), 0), TIMERS_NO_TABLE);

@@ -82,8 +82,8 @@ def compile_module(clang, folder):
                     '--target=x86_64-unknown-linux-gnu', '--no-default-config'], check=True)
 
 
-def translate(tools, module):
-    return subprocess.run([f'{tools}/translate', 'test', module], capture_output=True, text=True)
+def translate(tools, module, kind='test'):
+    return subprocess.run([f'{tools}/translate', kind, module], capture_output=True, text=True)
 
 
 def compare(tools, folder, *compiler):
@@ -101,9 +101,9 @@ def compare(tools, folder, *compiler):
     return done.returncode == 0, done.stdout + done.stderr
 
 
-def translated(tools, folder, text):
+def translated(tools, folder, text, kind='test'):
     write(f'{folder}/text.ll', text)
-    return translate(tools, f'{folder}/text.ll')
+    return translate(tools, f'{folder}/text.ll', kind)
 
 
 def is_refused(tools, folder, text, line):

@@ -27,12 +27,12 @@ enum timers_desk_status timers_desk_new(struct timers_desk *d, struct timers_lin
                                         const struct timers_desk_config *config)
 {
 	uint32_t status;
-#if SWAPS
+#if SWAPS || defined(TIMERS_NO_SMOOTH)
 	struct timers_desk_config turned;
 
 	memcpy(&turned, config, config->size < sizeof turned ? (size_t)config->size : sizeof turned);
 	turn(&turned, 5);
-	turned.table = LITTLE32(turned.table);
+	turned.table = LITTLE32(TABLE(turned.table));
 	config = &turned;
 #endif
 	turn_desk(d, lines, clients);

@@ -16,3 +16,15 @@
 #if defined(__ELF__) && defined(__GNUC__) && !defined(TIMERS_SHARED)
 #pragma GCC visibility pop
 #endif
+
+/* With TIMERS_NO_SMOOTH no table is TIMERS_SMOOTH. The calls of its wheels are never made then, so that compilers leave out
+ * their code, and the branches to them. */
+#ifdef TIMERS_NO_SMOOTH
+#define TABLE(table) ((table) == TIMERS_SMOOTH ? UINT32_MAX : (table))
+#define SMOOTH inline
+#define NO_CALL() UNREACHABLE()
+#else
+#define TABLE(table) (table)
+#define SMOOTH NOINLINE
+#define NO_CALL() (void)0
+#endif

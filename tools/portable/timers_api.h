@@ -49,7 +49,7 @@ enum timers_status timers_set_allocator(void *(*allocate)(size_t), void *(*resiz
 
 enum timers_status timers_new(struct timers *t, uint32_t table, uint64_t first_tick)
 {
-	return (enum timers_status)tm_timers_new(BYTES(t), table, first_tick);
+	return (enum timers_status)tm_timers_new(BYTES(t), TABLE(table), first_tick);
 }
 
 void timers_free(struct timers *t)

@@ -6,24 +6,27 @@ from collections import namedtuple
 from translator.blocks import Writer
 from translator.expressions import WIDTHS, declared, struct_name
 from translator.layout import Layout
-from translator.lines import Array, Bytes, Global, Offset, Parts, Struct, Zero
-from translator.names import TOP, Names, read, source_of
+from translator.lines import Array, Bytes, Global, Offset, Parts, Struct, Unknown, Zero
+from translator.names import TOP, Names, path_of, read, source_of
 
 # What the files are: the prefix of the module's names and of those that it declares, the crates that it is made from, the
-# functions that stand in the second place, whose code is in them, and what stands where.
-Kind = namedtuple('Kind', 'prefix outside crates second title licence parts')
+# functions that stand in the second place, those that a macro leaves out, whose code is in them, and what stands where.
+Kind = namedtuple('Kind', 'prefix outside crates second smooth title licence parts')
 STRUCTS, FUNCTIONS, SECOND = 'structs', 'functions', 'second functions'
 NOWHERE = '$.'
 LICENCE_TAG = 'SPDX-License' + '-Identifier'   # in two parts: what reads licences doesn't take it for this file's
 LICENCE = '(MIT OR Apache-2.0) AND MIT AND BSD-3-Clause AND LicenseRef-Rattle-libraries'
+# The calls of a smooth wheel, out of line. With TIMERS_NO_SMOOTH none is made (tools/portable/headers.h).
+SMOOTH = [f'timer_wheels::tiered::{call}_smooth' for call in ('start', 'stop', 'restart', 'quiet', 'next')] \
+    + [f'timer_wheels::smooth::SmoothWheelWheel::{call}' for call in ('reserve', 'per_tick', 'advance', 'clear')]
 KINDS = {
-    'timers': Kind('tm_', '', ('timer_c', 'timer_desk_c'), 'timers_(desk|line)_',
+    'timers': Kind('tm_', '', ('timer_c', 'timer_desk_c'), 'timers_(desk|line)_', SMOOTH,
                    'The library: the functions of timers.h and timers_desk.h.', LICENCE,
                    ('prelude.h', 'headers.h', STRUCTS, 'operations.h', 'heap.h', FUNCTIONS, 'timers_api.h',
                     '#ifndef TIMERS_NO_DESK', 'atomics.h', SECOND, 'desk_api.h', '#endif')),
-    'program': Kind('tp_', 'os_', ('timer_program',), NOWHERE, 'The program `timers`.', LICENCE + ' AND Unicode-3.0',
+    'program': Kind('tp_', 'os_', ('timer_program',), NOWHERE, [], 'The program `timers`.', LICENCE + ' AND Unicode-3.0',
                     ('prelude.h', STRUCTS, 'operations.h', 'wide.h', 'atomics.h', 'heap.h', 'program_os.h', FUNCTIONS, 'program_main.h')),
-    'test': Kind('c_', '', (), NOWHERE, 'A test.', 'MIT OR Apache-2.0', ('prelude.h', STRUCTS, 'operations.h', 'wide.h', 'atomics.h', FUNCTIONS)),
+    'test': Kind('c_', '', (), NOWHERE, [], 'A test.', 'MIT OR Apache-2.0', ('prelude.h', STRUCTS, 'operations.h', 'wide.h', 'atomics.h', FUNCTIONS)),
 }
 
 
@@ -34,6 +37,14 @@ class File:
         for name in module.declared:
             self.names[name] = name if name.startswith('rattle_') else self.kind.outside + name
         self.order = Order(module)
+        self.smooth = [self.out_of_line(path) for path in self.kind.smooth]
+
+    def out_of_line(self, path):
+        """The function's name in the module, which has it once, and which doesn't copy its code to where it is called."""
+        found = [f for f in self.module.functions if '::'.join(path_of(f.name)) == path]
+        if len(found) != 1 or 'noinline' not in found[0].attributes:
+            raise Unknown(f'{len(found)} functions {path}, and one is wanted that is out of line')
+        return found[0].name
 
     def text(self):
         first, second = self.order.parted(self.kind.second)
@@ -59,6 +70,8 @@ class File:
         except KeyError as error:
             function.line.fail(f'nothing is known of {error}')
         kind = 'COLD ' if 'cold' in function.attributes else 'NOINLINE ' if 'noinline' in function.attributes else ''
+        if function.name in self.smooth:
+            kind, lines = 'SMOOTH ', ['\tNO_CALL();', *lines]
         if not kind:
             kind = 'inline ' if not function.internal else 'ALWAYS_INLINE ' if function.name in self.inlined else ''
         head = f'static {kind}{declared(function.type, self.names[function.name])}({parameters})'
