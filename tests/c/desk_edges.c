@@ -90,7 +90,7 @@ static void tables(void)
 	timers_desk_free(&d), timers_line_free(&l);
 	c.table = TIMERS_CLOCK;
 	CHECK(timers_desk_new(&d, &l, 1, &c) == TIMERS_DESK_OUT_OF_RANGE && d.mark == 0 && l.mark == 0);
-	c.first_tick = TIMERS_CLOCK_LAST - 5, c.table = 3;
+	c.first_tick = TIMERS_CLOCK_LAST - 5, c.table = 4;
 	CHECK(timers_desk_new(&d, &l, 1, &c) == TIMERS_DESK_OUT_OF_RANGE);
 	c.table = UINT32_MAX;
 	CHECK(timers_desk_new(&d, &l, 1, &c) == TIMERS_DESK_OUT_OF_RANGE && d.mark == 0 && l.mark == 0);

@@ -193,7 +193,7 @@ def numbers_out_of_range():
             else:
                 raise AssertionError(f"not refused: {timers} {requests}")
     assert td.room_for(2**64 - 2, 0) == 2**64 - 1
-    for table in (2, 2**32 - 1):
+    for table in (4, 2**32 - 1):
         refused(td.OUT_OF_RANGE, lambda table=table: Desk(1, 1, 1, 1, table=table))
     for clients in (0, td.CLIENTS + 1, 10**11, 2**64 - 1):
         refused(td.OUT_OF_RANGE, lambda clients=clients: Desk(clients, 1, 1, 1))

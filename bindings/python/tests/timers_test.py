@@ -364,7 +364,7 @@ def take_whole_numbers():
     timers.advance_to(Number(8639993))
     timers.catch_up(Number(8639994), print)
     assert refused(timers.catch_up, Number(last + 1), print) == TOO_LATE and timers.now() == 8639994
-    for wrong in ((3, 0), (CLOCK, last + 1)):
+    for wrong in ((4, 0), (CLOCK, last + 1)):
         assert refused(timers.__init__, *wrong) != OK and len(timers) == 1  # and it keeps what it has
     place, serial = handle.place, handle.serial
     same, others = Handle(place, serial), (Handle(place, 9), Handle(9, serial), (place, serial))
