@@ -237,7 +237,7 @@ def owns_what_it_holds():
     desk.lines.clear()
     del first, owner
     assert desk.line_freed(0) and not desk.line_freed(1)
-    refused(td.OUT_OF_RANGE, lambda: desk.__init__(1, 1, 1, 1, table=2))
+    refused(td.OUT_OF_RANGE, lambda: desk.__init__(1, 1, 1, 1, table=4))
     assert not second.abandoned
     desk.__init__(2, 9, 4, 4)
     assert second.abandoned and not desk.line_freed(0)
