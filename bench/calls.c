@@ -1,7 +1,7 @@
 /* The calls of timers.h in loops, whose instructions callgrind counts: bench/calls builds and runs it.
  *
  * With -DINCLUDED the library is a part of this file, so that the compiler sees both. With -DKEPT it has other calls: each
- * stands but once in a program, or a compiler would not inline it. TABLE is one of enum timers_table. */
+ * stands but once in a program, or a compiler would not inline it. WHEELS is one of enum timers_table. */
 /* SPDX-License-Identifier: MIT OR Apache-2.0 */
 #ifdef INCLUDED
 #include "timers.c"
@@ -12,8 +12,8 @@
 #include <stdio.h>
 #include <valgrind/callgrind.h>
 
-#ifndef TABLE
-#define TABLE TIMERS_WIDE
+#ifndef WHEELS
+#define WHEELS TIMERS_WIDE
 #endif
 
 enum { TIMERS = 10000 };
@@ -110,7 +110,7 @@ static void count_kept(void)
 
 int main(void)
 {
-	if (timers_new(&t, TABLE, 0) != TIMERS_OK || timers_reserve(&t, TIMERS) != TIMERS_OK)
+	if (timers_new(&t, WHEELS, 0) != TIMERS_OK || timers_reserve(&t, TIMERS) != TIMERS_OK)
 		return 1;
 #ifdef KEPT
 	count_kept();
