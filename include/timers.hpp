@@ -22,7 +22,7 @@
  *     timers.catch_up(std::chrono::steady_clock::now(), [](const auto &timer) { timer.action(); });
  *
  * An interval counts from `now`, the tick up to which the timers have come. Over a real clock that is late, so start and
- * restart do not compile there.
+ * restart do not compile there. The clock of TIMERS_CLOCK or TIMERS_SMALL is short: a real clock may be past its end.
  *
  * ACTIONS. An `Action` can be copied, trivially, and has at most 8 bytes. It may be a pointer to an object or a
  * function, an index, an enum, or a lambda that captures one pointer. Its bytes are the action of C, so that
@@ -35,7 +35,8 @@
  * expired. After an exception of the library nothing has changed.
  *
  * WITHOUT EXCEPTIONS (-fno-exceptions) a call that would throw runs TIMERS_REFUSED(status) and then std::abort. A
- * program may define that before, to log the status. After `reserve` no start lacks memory; what is refused then is a
+ * program may define that, to log the status: on the command line, for all of its files alike. Nor may some of them be
+ * compiled with exceptions and others without. After `reserve` no start lacks memory; what is refused then is a
  * mistake of the caller. Whoever wants each status calls timers.h. */
 /* SPDX-License-Identifier: MIT OR Apache-2.0 */
 #ifndef TIMERS_HPP
@@ -448,7 +449,7 @@ private:
 
 /* One timer, which is stopped when this object goes: a member of what its action points to, say. It is pending or not,
  * and knows by its handle if it was taken. Its owner outlives it and does not move. It can be moved itself, and not copied.
- * `Timers` is the owner's type. */
+ * Its action stays as it was: what that points to must not move, or starts it again. `Timers` is the owner's type. */
 template <class Timers>
 class timer {
 public:

@@ -47,7 +47,7 @@ int main(void)
 	static struct timers timers;                          /* of 0 bytes, as TIMERS_INIT */
 	struct timers_handle handle;
 	struct timers_expired timer;
-	uint64_t number;
+	uint64_t number, now = 0;
 
 	if (timers_set_allocator(allocate, NULL, release) != TIMERS_OK || timers_new(&timers, TIMERS_WIDE, 0) != TIMERS_OK
 	    || timers_reserve(&timers, MOST) != TIMERS_OK)
@@ -59,7 +59,8 @@ int main(void)
 
 	while (timers_wakeup(&timers) != TIMERS_NEVER) {      /* here a processor waits for the next interrupt */
 		tick_interrupt();
-		while (timers_take(&timers, ticks, &timer))
+		now += ticks - (uint32_t)now;                 /* the count of 32 bits goes round; the clock must not */
+		while (timers_take(&timers, now, &timer))
 			if (timer.action < 10)
 				printf("%" PRIu64 ": timer %" PRIu64 " and others\n", timer.deadline, timer.action);
 	}
