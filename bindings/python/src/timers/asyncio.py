@@ -45,7 +45,8 @@ class WheelMixin:
     def _tick_of(self, when):
         """The tick in which this time is. What is after the last one never comes, and nan is due at once, as in asyncio.
 
-        The loop's clock may begin anywhere: its first time is the tick _PAST. Those before it come in their order, too.
+        The loop's clock may begin anywhere: its first time is the tick _PAST. Calls
+        whose time has passed come in the order in which they were made, and not in that of their times.
         """
         if self._origin is None:  # in __init__ a class that overrides time() may not be ready for it
             self._origin = int(self.time() * _TICKS) - _PAST
