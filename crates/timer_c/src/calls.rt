@@ -3,7 +3,7 @@ ghost use Rattle.std.specs.Prelude.{◌≡◌, ◌*◌, ◌<◌, ◌≤◌, ◌+
 ghost use Rattle.timer_base.specs.Pending.{timers_of};
 ghost use Rattle.timer_c.specs.Outcomes.{IsStarted, IsStartedAt, IsStartRefusal, IsStartAtRefusal, IsRestarted, IsRestartedAt, IsRestartRefusal, IsRestartAtRefusal, IsSet, IsSetRefusal, start_status, restart_status, IsStopped, WhyNotStopped, IsNextCall, IsCounted, tell, after_expiries};
 ghost use Rattle.timer_total.specs.TimersState.{with_wheel};
-ghost use Rattle.timer_wheels.specs.TieredWheel.{tiered_state, counts_in};
+ghost use Rattle.timer_wheels.specs.TieredWheel.{tiered_state, counts_in, moves_in};
 ghost use Rattle.timer_c.specs.declared.status.TheConstants.{OK};
 
 use crate::layout::{CHandle, Counts, Expired};
@@ -183,6 +183,7 @@ pub(crate) fn wakeup(timers: &Timers<TieredWheel>) -> u64
 /// What a wheel counted, as C's struct.
 pub(crate) fn to_c_counts(wheel: &TieredWheel) -> Counts
     ensures counted { IsCounted (tiered_state wheel.now).slots (counts_in wheel.now) result }
+    ensures moves { result.moves ≡ moves_in wheel.now }
     ensures few_moves { result.moves ≤ 9 * result.starts }
 {
     Counts {
