@@ -1,4 +1,9 @@
--- The lemmas that the proofs of this crate share.
+-- The lemmas that the proofs of this crate and of those above share.
+pub mod Basics
+pub mod OrderLaws
+pub mod OneOrder
+pub mod TickLaws
+pub mod HeldLaws
 pub mod PendingLaws
 pub mod PlainExpiries
 pub mod PlainJumps

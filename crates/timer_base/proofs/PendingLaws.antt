@@ -3,13 +3,13 @@ use Rattle.std.proofs.Common.{◌≡◌, ◌≢◌, ◌<◌, ◌≤◌, ◌+◌,
 use Rattle.std.specs.List.{AllByRecursion}
 use Rattle.std.proofs.lemmas.Bool.{eq-eqb, ne_eqb}
 use Rattle.std.proofs.lemmas.Bool.Decides.{nat_tests}
-use Rattle.timer_base.specs.Basics.{some_same, none_some, later_if_not_due, either}
+use Rattle.timer_base.proofs.Basics.{some_same, none_some, later_if_not_due, either}
 use Rattle.timer_base.specs.declared.timer.Timer.{Timer}
 use Rattle.timer_base.specs.declared.timer.Handle.{Handle}
 use Rattle.timer_base.specs.Order.{is_before, in_order, insert_in_order, IsFirst, IsOrdered, AreDistinct, AreBelow}
-use Rattle.timer_base.specs.HeldLaws.{without_handle-found, without_handle-none, no_serial, found_among}
-use Rattle.timer_base.specs.OrderLaws.{All-weaken, insert_newest, AreDistinct-rising}
-use Rattle.timer_base.specs.OneOrder.{in_order-ordered}
+use Rattle.timer_base.proofs.HeldLaws.{without_handle-found, without_handle-none, no_serial, found_among}
+use Rattle.timer_base.proofs.OrderLaws.{All-weaken, insert_newest, AreDistinct-rising}
+use Rattle.timer_base.proofs.OneOrder.{in_order-ordered}
 use Rattle.timer_base.specs.Pending.{Entry, timer_of, timers_of, put, has_handle, is_due_at, first_timer, first_found, entries_due, entries_left, without_serial, without_found, without_handle}
 use Rattle.timer_base.specs.WheelState.{WheelState, IsWellFormed, IsPending, NamesOne, timer_at, due_at, held_at, held_count, after_start, after_stop, after_removal}
 

@@ -2,12 +2,13 @@
 use Rattle.std.proofs.Common.{◌≡◌, ◌≢◌, ◌<◌, ◌≤◌, ◌-◌, ℕ, Bool, true, false, not, List, [], ◌∷◌, length, refl, sym, ◌∙◌, ap, inl, inr, arith, drop, map, filter, find, if◌then◌else◌, Some, None, slice_get}
 use Rattle.std.proofs.lemmas.Bool.{eq-eqb, ne_eqb}
 use Rattle.std.proofs.lemmas.List.{drop-map, length-drop}
-use Rattle.timer_base.specs.Basics.{some_same, either}
+use Rattle.timer_base.proofs.Basics.{some_same, either}
 use Rattle.timer_base.specs.declared.timer.Timer.{Timer}
 use Rattle.timer_base.specs.Order.{in_order, itself, AreRising}
 use Rattle.timer_base.specs.Pending.{is_due_at, has_serial}
 use Rattle.timer_base.specs.WheelState.{first_due, after_expiry, after_clear}
-use Rattle.timer_base.specs.PlainState.{is_after, due_count, at_first_place, plain_state, timers_of-at_first_place}
+use Rattle.timer_base.specs.PlainState.{is_after, due_count, at_first_place, plain_state}
+use Rattle.timer_base.specs.WellFormed.{timers_of-at_first_place}
 use Rattle.timer_base.proofs.PlainSteps.{state_is, due_not_after}
 
 pub find-filter : (p : Timer → Bool) (ts : List Timer) → find p ts ≡ slice_get (filter p ts) 0

@@ -3,11 +3,11 @@ use Rattle.std.proofs.Common.{◌≡◌, ◌≢◌, ◌<◌, ◌≤◌, ℕ, Boo
 use Rattle.std.specs.List.{AllByRecursion}
 use Rattle.std.proofs.lemmas.Bool.{cases_eq, eq-eqb, ne_eqb, eqb-true}
 use Rattle.std.proofs.lemmas.List.Sums.{length-filter, count_by-le-length}
-use Rattle.timer_base.specs.Basics.{some_same, none_some, later_if_not_due, either}
+use Rattle.timer_base.proofs.Basics.{some_same, none_some, later_if_not_due, either}
 use Rattle.timer_base.specs.declared.timer.Timer.{Timer}
 use Rattle.timer_base.specs.declared.timer.Handle.{Handle}
 use Rattle.timer_base.specs.Order.{in_order, itself, AreRising}
-use Rattle.timer_base.specs.OrderLaws.{filter-in_order, AreRising-filter, All-filter}
+use Rattle.timer_base.proofs.OrderLaws.{filter-in_order, AreRising-filter, All-filter}
 use Rattle.timer_base.specs.Pending.{Entry, is_due_at, has_serial, has_handle, first_timer, first_found, without_handle}
 use Rattle.timer_base.specs.WheelState.{WheelState, NamesOne, timer_at, due_at, held_at, after_removal}
 use Rattle.timer_base.specs.PlainState.{IsKept, is_after, at_first_place, plain_state}
@@ -110,9 +110,6 @@ sides now last k low (t ∷ ts) a r = sides_step now last k t ts a.0 r.1 (sides 
 module _ (now last : ℕ) (ts : List Timer) (h : Handle) where
   abbrev w : WheelState
   w = plain_state now last ts
-
-  abbrev others : ℕ → List Timer
-  others serial = filter (λ u. not (has_serial serial u)) ts
 
   pending_nowhere : h.place ≢ 0 → timer_at h w ≡ None
   pending_nowhere n = no_place h (in_order itself (filter (is_after now) ts)) n

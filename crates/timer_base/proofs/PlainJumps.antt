@@ -2,16 +2,16 @@
 use Rattle.std.proofs.Common.{◌≡◌, ◌<◌, ◌≤◌, ◌+◌, ◌-◌, ℕ, suc, false, List, [], ◌∷◌, length, refl, sym, ◌∙◌, ap, subst, inl, inr, arith, filter, map, min, Option, Some, None}
 use Rattle.std.specs.List.{AllByRecursion}
 use Rattle.std.proofs.lemmas.Bool.{cases_lt}
-use Rattle.timer_base.specs.Basics.{some_same, not_due_before, is_due, either}
+use Rattle.timer_base.proofs.Basics.{some_same, not_due_before, is_due, either}
 use Rattle.timer_base.specs.declared.timer.Timer.{Timer}
 use Rattle.std.proofs.lemmas.List.{length-map}
 use Rattle.timer_base.specs.Order.{in_order, itself, AreRising}
-use Rattle.timer_base.specs.OrderLaws.{All-weaken, All-in_order, All-filter}
-use Rattle.timer_base.specs.Pending.{is_due_at}
+use Rattle.timer_base.proofs.OrderLaws.{All-weaken, All-in_order, All-filter}
+use Rattle.timer_base.specs.Pending.{is_due_at, AreAfter}
 use Rattle.timer_base.specs.PlainState.{IsKept, AreDueAfter, IsJump, is_after, earliest, first_after, at_first_place, plain_state}
-use Rattle.timer_base.specs.TickLaws.{AreAfter, IsPassing, passing_quiet}
+use Rattle.timer_base.specs.WheelState.{IsPassing, WheelState, after_tick, after_ticks, Advances}
+use Rattle.timer_base.proofs.TickLaws.{passing_quiet}
 use Rattle.timer_base.proofs.PlainSteps.{after_is, filter_after, kept_later, state_is, plain_state-after_tick}
-use Rattle.timer_base.specs.WheelState.{WheelState, after_tick, after_ticks, Advances}
 
 not_none : (a : ℕ) (r : Option ℕ) → earliest (Some a) r ≡ None → ⊥
 not_none a None e = cc

@@ -5,15 +5,15 @@ use Rattle.std.proofs.lemmas.Bool.{cases_lt, cases_eq}
 use Rattle.std.proofs.lemmas.Bool.Decides.{nat_tests}
 use Rattle.std.proofs.lemmas.List.{length-map, map-append}
 use Rattle.std.proofs.lemmas.List.Elements.{filter-append}
-use Rattle.timer_base.specs.Basics.{not_due_before, is_due, later_if_not_due, is_not_due, either}
+use Rattle.timer_base.proofs.Basics.{not_due_before, is_due, later_if_not_due, is_not_due, either}
 use Rattle.timer_base.specs.declared.timer.Timer.{Timer}
 use Rattle.timer_base.specs.declared.limits.TheConstants.{LAST}
 use Rattle.timer_base.specs.Order.{in_order, itself, insert_by_deadline, AreRising, AreBelow}
-use Rattle.timer_base.specs.OrderLaws.{in_order-newest, filter-in_order, in_order-same, AllAt-filter, AreRising-append, AreRising-filter, length-in_order, All-weaken, All-filter}
-use Rattle.timer_base.specs.OneOrder.{map-itself}
+use Rattle.timer_base.proofs.OrderLaws.{in_order-newest, filter-in_order, in_order-same, AllAt-filter, AreRising-append, AreRising-filter, length-in_order, All-weaken, All-filter}
+use Rattle.timer_base.proofs.OneOrder.{map-itself}
 use Rattle.timer_base.specs.Pending.{Entry, put, is_due_at}
 use Rattle.timer_base.specs.WheelState.{WheelState, after_start, after_due_start, after_held_start, after_tick, with_room, held_count}
-use Rattle.timer_base.specs.HeldLaws.{start_when_later, start_when_now}
+use Rattle.timer_base.proofs.HeldLaws.{start_when_later, start_when_now}
 use Rattle.timer_base.specs.PlainState.{IsKept, AreDueAfter, is_after, due_count, at_first_place, plain_state}
 
 -- with nothing due, each is after the tick

@@ -2,7 +2,7 @@
 use Rattle.std.proofs.Common.{◌≡◌, ◌≤◌, ℕ, false, List, [], ◌∷◌, refl, sym, ◌∙◌, ap, inl, inr, arith, map, filter, Option, Some, None}
 use Rattle.std.specs.List.{AllByRecursion}
 use Rattle.std.proofs.lemmas.Bool.Decides.{nat_tests}
-use Rattle.timer_base.specs.Basics.{least_if_before, least_if_after, either}
+use Rattle.timer_base.proofs.Basics.{least_if_before, least_if_after, either}
 use Rattle.timer_base.specs.declared.timer.Timer.{Timer}
 use Rattle.timer_base.specs.Order.{in_order, insert_in_order, is_before, itself, IsFirst, IsOrdered}
 use Rattle.timer_base.specs.Pending.{Entry, timers_of}

@@ -5,7 +5,7 @@ use Rattle.std.specs.Ordering.{nat_cmp, ordering_then, is_lt}
 use Rattle.std.proofs.lemmas.Bool.Decides.{nat_tests}
 use Rattle.timer_base.specs.declared.timer.Timer.{Timer}
 use Rattle.timer_base.specs.Order.{is_before, in_order, itself, IsFirst, IsOrdered, AreDistinct}
-use Rattle.timer_base.specs.OneOrder.{ordered_is_in_order, map-itself}
+use Rattle.timer_base.proofs.OneOrder.{ordered_is_in_order, map-itself}
 
 -- the sort key
 abbrev pub key_of : Timer → ℕ × ℕ

@@ -1,12 +1,8 @@
--- The definitions of this crate, and the lemmas that clauses or crates above cite.
-pub mod OneOrder
+-- The definitions of this crate, and in WellFormed the lemmas that its ghost items cite.
 pub mod Order
-pub mod Basics
-pub mod OrderLaws
 pub mod Pending
 pub mod PlainState
 pub mod WheelState
-pub mod TickLaws
+pub mod WellFormed
 pub mod WakeUps
-pub mod HeldLaws
 pub mod Counts

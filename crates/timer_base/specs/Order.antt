@@ -1,5 +1,5 @@
 -- The order of timers: by deadline, and then by serial. It orders lists of anything that has a timer.
-use Rattle.std.specs.Prelude.{◌≡◌, ◌≢◌, ◌<◌, ℕ, Bool, false, ◌||◌, ◌&&◌, ◌==◌, nat_lt, if◌then◌else◌, List, [], ◌∷◌}
+use Rattle.std.specs.Prelude.{◌≡◌, ◌≢◌, ◌<◌, ◌⊎◌, ℕ, Bool, false, ◌||◌, ◌&&◌, ◌==◌, nat_lt, if◌then◌else◌, List, [], ◌∷◌}
 use Rattle.std.specs.List.{AllByRecursion}
 use Rattle.timer_base.specs.declared.timer.Timer.{Timer}
 
@@ -51,6 +51,11 @@ AreRising low (t ∷ ts) = (low < t.serial) × AreRising t.serial ts
 -- each serial is below high
 abbrev pub AreBelow : ℕ → List Timer → Type 0
 AreBelow high ts = AllByRecursion (λ t. t.serial < high) ts
+
+-- z is a member of the list
+abbrev pub IsMember : {X : Type 0} → X → List X → Type 0
+IsMember z [] = ⊥
+IsMember z (x ∷ xs) = (x ≡ z) ⊎ IsMember z xs
 
 -- the timer of a timer
 abbrev pub itself : Timer → Timer

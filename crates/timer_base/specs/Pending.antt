@@ -1,5 +1,6 @@
 -- Pending timers, each with its place in the wheel, in one ordered list (Scheme 2 of Varghese and Lauck).
-use Rattle.std.specs.Prelude.{ℕ, Bool, ◌&&◌, ◌==◌, not, if◌then◌else◌, List, [], ◌∷◌, Option, Some, None, map, filter}
+use Rattle.std.specs.Prelude.{ℕ, ◌<◌, Bool, ◌&&◌, ◌==◌, not, if◌then◌else◌, List, [], ◌∷◌, Option, Some, None, map, filter}
+use Rattle.std.specs.List.{AllByRecursion}
 use Rattle.timer_base.specs.declared.timer.Timer.{Timer}
 use Rattle.timer_base.specs.declared.timer.Handle.{Handle}
 use Rattle.timer_base.specs.Order.{insert_by_deadline}
@@ -63,3 +64,7 @@ entries_due tick entries = filter (λ entry. is_due_at tick entry.timer) entries
 -- the entries that are not
 abbrev pub entries_left : ℕ → List Entry → List Entry
 entries_left tick entries = filter (λ entry. not (is_due_at tick entry.timer)) entries
+
+-- no pending timer's deadline is up to this tick
+abbrev pub AreAfter : ℕ → List Entry → Type 0
+AreAfter tick entries = AllByRecursion (λ entry. tick < entry.timer.deadline) entries

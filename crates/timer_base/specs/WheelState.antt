@@ -1,9 +1,9 @@
 -- The abstract state of a wheel, and the state after each call.
 use Rattle.std.specs.Prelude.{◌≡◌, ℕ, ◌+◌, ◌<◌, ◌≤◌, zero, suc, max, nat_lt, if◌then◌else◌, List, [], ◌∷◌, ◌++◌, Option, Some, None, drop, slice_get, length}
 use Rattle.std.specs.List.{AllByRecursion}
-use Rattle.timer_base.specs.declared.timer.Timer.{Timer}
-use Rattle.timer_base.specs.declared.timer.Handle.{Handle}
 use Rattle.timer_base.specs.declared.limits.TheConstants.{LAST}
+use Rattle.timer_base.specs.declared.timer.Handle.{Handle}
+use Rattle.timer_base.specs.declared.timer.Timer.{Timer}
 use Rattle.timer_base.specs.Order.{IsOrdered, AreDistinct, AreRising}
 use Rattle.timer_base.specs.Pending.{Entry, timers_of, put, has_handle, first_timer, first_found, without_found, without_handle, entries_due, entries_left}
 
@@ -130,6 +130,11 @@ pub record Advances (most passed : ℕ) (old new : WheelState) : Type 0 where
   -- it stops early only if something is due
   pub early : passed < most → 0 < length new.due
 
+-- `passed` ticks were passed one by one, and nothing was due
+pub record IsPassing (passed : ℕ) (old now : WheelState) : Type 0 where
+  pub ticked : now ≡ after_ticks passed old
+  pub quiet : (n : ℕ) → n ≤ passed → (after_ticks n old).due ≡ []
+
 abbrev pub first_due : WheelState → Option Timer
 first_due w = slice_get (timers_of w.due) 0
 
@@ -162,16 +167,3 @@ pub record IsWellFormed (w : WheelState) : Type 0 where
   pub each : AllByRecursion (IsPending w.last_tick w.now w.last_serial) (timers_of w.pending)
   pub each_due : AllByRecursion (IsDue w.now w.last_serial) (timers_of w.due)
   pub due_rising : AreRising 0 (timers_of w.due)
-
--- room changes nothing in the invariant
-pub with_room-well_formed : (room : ℕ) (w : WheelState) → IsWellFormed w → IsWellFormed (with_room room w)
-with_room-well_formed room w h = record {
-  last_in_range = h.last_in_range;
-  now_in_range = h.now_in_range;
-  serial_in_range = h.serial_in_range;
-  ordered = h.ordered;
-  distinct = h.distinct;
-  each = h.each;
-  each_due = h.each_due;
-  due_rising = h.due_rising;
-}

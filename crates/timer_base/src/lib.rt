@@ -7,6 +7,7 @@
 //! `laws` has the lemmas that hold for every wheel.
 #![tactic(auto)]
 
+mod ahead;
 mod deadline;
 mod fault;
 pub mod laws;
@@ -16,6 +17,7 @@ mod sort;
 mod timer;
 mod wheel;
 
+pub use ahead::MovesAhead;
 pub use deadline::earlier;
 pub use fault::{MakeFault, OutOfMemory};
 pub use limits::LAST;

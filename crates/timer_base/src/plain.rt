@@ -19,11 +19,11 @@ ghost use Rattle.std.proofs.Math.Nat.{ℕ_set};
 ghost use Rattle.std.specs.List.{AllByRecursion};
 ghost use Rattle.timer_base.specs.declared.limits.TheConstants.{LAST};
 ghost use Rattle.timer_base.specs.Order.{AreRising};
-ghost use Rattle.timer_base.specs.OrderLaws.{AreRising-prop};
+ghost use Rattle.timer_base.specs.WellFormed.{AreRising-prop, IsKept-prop, plain_state-well_formed, with_room-well_formed};
 ghost use Rattle.timer_base.specs.Pending.{has_serial, is_due_at};
-ghost use Rattle.timer_base.specs.PlainState.{IsKept, IsKept-prop, AreDueAfter, IsJump, is_after, due_count, first_after, plain_state, plain_state-well_formed};
+ghost use Rattle.timer_base.specs.PlainState.{IsKept, AreDueAfter, IsJump, is_after, due_count, first_after, plain_state};
 ghost use Rattle.timer_base.specs.WakeUps.{IsQuietUntil, next_deadline};
-ghost use Rattle.timer_base.specs.WheelState.{empty_wheel, with_room, with_room-well_formed};
+ghost use Rattle.timer_base.specs.WheelState.{empty_wheel, with_room};
 
 use crate::deadline::earlier;
 use crate::fault::{MakeFault, OutOfMemory};

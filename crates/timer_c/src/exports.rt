@@ -6,7 +6,7 @@
 ghost use Rattle.std.specs.Prelude.{◌≡◌, ◌*◌, ◌<◌, ◌≤◌, ◌⊎◌, ◌↔◌, ◌++◌, true, false, Some, None, [], map, take, drop, length, min, IsTrue};
 ghost use Rattle.timer_base.specs.Pending.{timers_of};
 ghost use Rattle.timer_base.specs.WheelState.{first_due, after_reserve, after_expiry};
-ghost use Rattle.timer_c.specs.Frames.{IsOpen, IsShut, with_timers};
+ghost use Rattle.timer_c.specs.Frames.{IsOpen, IsShut, IsRefused, with_timers};
 ghost use Rattle.timer_c.specs.Outcomes.{IsEmptyAt, IsOpenable, WhyNoWheel, IsStarted, IsStartedAt, IsStartRefusal, IsStartAtRefusal, IsRestarted, IsRestartedAt, IsRestartRefusal, IsRestartAtRefusal, IsSet, IsSetRefusal, IsSeen, IsStopped, WhyNotStopped, IsTicked, IsAdvancedTo, WhyNotTicked, WhyNotAdvanced, IsTaken, IsNextCall, IsNextDeadline, IsVisited, IsAllVisited, IsCounted, told, tell, after_expiries};
 ghost use Rattle.timer_c.specs.declared.status.TheConstants.{OK, NOT_OPEN, OPEN, NO_MEMORY, NEVER, VERSION_NUMBER};
 ghost use Rattle.timer_total.specs.Drops.{after_drop};
@@ -14,7 +14,7 @@ ghost use Rattle.timer_total.specs.Refusals.{left_until};
 ghost use Rattle.timer_total.specs.Taken.{IsTakenBy};
 ghost use Rattle.timer_total.specs.Ticks.{IsAdvanced};
 ghost use Rattle.timer_total.specs.TimersState.{with_wheel};
-ghost use Rattle.timer_wheels.specs.TieredWheel.{counts_at_advance};
+ghost use Rattle.timer_wheels.specs.TieredWheel.{counts_at_advance, is_smooth};
 
 use crate::c_timers::CTimers;
 use crate::calls::{self, from_c_handle, to_c_counts, to_c_expired, to_c_handle};
@@ -94,8 +94,7 @@ pub extern "C" fn timers_clear(t: &mut CTimers)
 pub extern "C" fn timers_reserve(t: &mut CTimers, most: usize) -> u32
     ensures reserved { result ≡ OK → IsOpen t.old
         × (t.new.slot.state ≡ with_wheel (after_reserve most t.old.slot.state.wheel) t.old.slot.state) }
-    ensures refused { 0 < result → ((result ≡ NOT_OPEN) × IsShut t.old)
-        ⊎ (IsOpen t.old × (result ≡ NO_MEMORY)) }
+    ensures refused { 0 < result → IsRefused t.old result (result ≡ NO_MEMORY) }
     ensures kept { 0 < result → t.new ≡ t.old }
     ensures only { t.new ≡ with_timers t.old t.new.slot.state }
 {
@@ -118,8 +117,7 @@ pub extern "C" fn timers_start(
 ) -> u32
     ensures started { result ≡ OK → IsOpen t.old × IsStarted interval action t.old.slot.state t.new.slot.state
         handle.new }
-    ensures refused { 0 < result → ((result ≡ NOT_OPEN) × IsShut t.old)
-        ⊎ (IsOpen t.old × IsStartRefusal interval t.old.slot.state result) }
+    ensures refused { 0 < result → IsRefused t.old result (IsStartRefusal interval t.old.slot.state result) }
     ensures kept { 0 < result → (t.new ≡ t.old) × (handle.new ≡ handle.old) }
     ensures only { t.new ≡ with_timers t.old t.new.slot.state }
 {
@@ -141,8 +139,7 @@ pub extern "C" fn timers_start_at(
 ) -> u32
     ensures started { result ≡ OK → IsOpen t.old × IsStartedAt deadline action t.old.slot.state
         t.new.slot.state handle.new }
-    ensures refused { 0 < result → ((result ≡ NOT_OPEN) × IsShut t.old)
-        ⊎ (IsOpen t.old × IsStartAtRefusal deadline t.old.slot.state result) }
+    ensures refused { 0 < result → IsRefused t.old result (IsStartAtRefusal deadline t.old.slot.state result) }
     ensures kept { 0 < result → (t.new ≡ t.old) × (handle.new ≡ handle.old) }
     ensures only { t.new ≡ with_timers t.old t.new.slot.state }
 {
@@ -164,8 +161,7 @@ pub extern "C" fn timers_restart(
 ) -> u32
     ensures restarted { result ≡ OK → IsOpen t.old
         × IsRestarted handle interval action t.old.slot.state t.new.slot.state restarted.new }
-    ensures refused { 0 < result → ((result ≡ NOT_OPEN) × IsShut t.old)
-        ⊎ (IsOpen t.old × IsRestartRefusal handle interval t.old.slot.state result) }
+    ensures refused { 0 < result → IsRefused t.old result (IsRestartRefusal handle interval t.old.slot.state result) }
     ensures kept { 0 < result → (t.new ≡ t.old) × (restarted.new ≡ restarted.old) }
     ensures only { t.new ≡ with_timers t.old t.new.slot.state }
 {
@@ -186,8 +182,7 @@ pub extern "C" fn timers_restart_at(
 ) -> u32
     ensures restarted { result ≡ OK → IsOpen t.old
         × IsRestartedAt handle deadline action t.old.slot.state t.new.slot.state restarted.new }
-    ensures refused { 0 < result → ((result ≡ NOT_OPEN) × IsShut t.old)
-        ⊎ (IsOpen t.old × IsRestartAtRefusal handle deadline t.old.slot.state result) }
+    ensures refused { 0 < result → IsRefused t.old result (IsRestartAtRefusal handle deadline t.old.slot.state result) }
     ensures kept { 0 < result → (t.new ≡ t.old) × (restarted.new ≡ restarted.old) }
     ensures only { t.new ≡ with_timers t.old t.new.slot.state }
 {
@@ -208,8 +203,7 @@ pub extern "C" fn timers_set_at(
 ) -> u32
     ensures set { result ≡ OK → IsOpen t.old
         × IsSet handle.old deadline action t.old.slot.state t.new.slot.state handle.new }
-    ensures refused { 0 < result → ((result ≡ NOT_OPEN) × IsShut t.old)
-        ⊎ (IsOpen t.old × IsSetRefusal handle.old deadline t.old.slot.state result) }
+    ensures refused { 0 < result → IsRefused t.old result (IsSetRefusal handle.old deadline t.old.slot.state result) }
     ensures kept { 0 < result → (t.new ≡ t.old) × (handle.new ≡ handle.old) }
     ensures only { t.new ≡ with_timers t.old t.new.slot.state }
 {
@@ -223,8 +217,7 @@ pub extern "C" fn timers_set_at(
 #[unsafe(no_mangle)]
 pub extern "C" fn timers_look(t: &mut ConstTimers, handle: CHandle, out: &mut Expired) -> u32
     ensures seen { result ≡ OK → IsOpen t.old.held × IsSeen handle t.old.held.slot.state.wheel out.new }
-    ensures refused { 0 < result → ((result ≡ NOT_OPEN) × IsShut t.old.held)
-        ⊎ (IsOpen t.old.held × WhyNotStopped handle t.old.held.slot.state result) }
+    ensures refused { 0 < result → IsRefused t.old.held result (WhyNotStopped handle t.old.held.slot.state result) }
     ensures kept { 0 < result → out.new ≡ out.old }
     ensures same { t.new ≡ t.old }
 {
@@ -245,8 +238,7 @@ pub extern "C" fn timers_look(t: &mut ConstTimers, handle: CHandle, out: &mut Ex
 pub extern "C" fn timers_stop(t: &mut CTimers, handle: CHandle, action: &mut u64) -> u32
     ensures stopped { result ≡ OK → IsOpen t.old × IsStopped handle t.old.slot.state t.new.slot.state
         action.new }
-    ensures refused { 0 < result → ((result ≡ NOT_OPEN) × IsShut t.old)
-        ⊎ (IsOpen t.old × WhyNotStopped handle t.old.slot.state result) }
+    ensures refused { 0 < result → IsRefused t.old result (WhyNotStopped handle t.old.slot.state result) }
     ensures kept { 0 < result → (t.new ≡ t.old) × (action.new ≡ action.old) }
     ensures only { t.new ≡ with_timers t.old t.new.slot.state }
 {
@@ -260,8 +252,7 @@ pub extern "C" fn timers_stop(t: &mut CTimers, handle: CHandle, action: &mut u64
 #[unsafe(no_mangle)]
 pub extern "C" fn timers_tick(t: &mut CTimers) -> u32
     ensures ticked { result ≡ OK → IsOpen t.old × IsTicked t.old.slot.state t.new.slot.state }
-    ensures refused { 0 < result → ((result ≡ NOT_OPEN) × IsShut t.old)
-        ⊎ (IsOpen t.old × WhyNotTicked t.old.slot.state result) }
+    ensures refused { 0 < result → IsRefused t.old result (WhyNotTicked t.old.slot.state result) }
     ensures kept { 0 < result → t.new ≡ t.old }
     ensures only { t.new ≡ with_timers t.old t.new.slot.state }
 {
@@ -281,8 +272,7 @@ pub extern "C" fn timers_tick(t: &mut CTimers) -> u32
 pub extern "C" fn timers_advance(t: &mut CTimers, most: u64, passed: &mut u64) -> u32
     ensures advanced { result ≡ OK → IsOpen t.old × IsAdvanced counts_at_advance most passed.new
         t.old.slot.state t.new.slot.state }
-    ensures refused { 0 < result → ((result ≡ NOT_OPEN) × IsShut t.old)
-        ⊎ (IsOpen t.old × WhyNotAdvanced most t.old.slot.state result) }
+    ensures refused { 0 < result → IsRefused t.old result (WhyNotAdvanced most t.old.slot.state result) }
     ensures kept { 0 < result → (t.new ≡ t.old) × (passed.new ≡ passed.old) }
     ensures only { t.new ≡ with_timers t.old t.new.slot.state }
 {
@@ -304,9 +294,8 @@ pub extern "C" fn timers_advance(t: &mut CTimers, most: u64, passed: &mut u64) -
 #[unsafe(no_mangle)]
 pub extern "C" fn timers_advance_to(t: &mut CTimers, tick: u64) -> u32
     ensures advanced { result ≡ OK → IsOpen t.old × IsAdvancedTo tick t.old.slot.state t.new.slot.state }
-    ensures refused { 0 < result → ((result ≡ NOT_OPEN) × IsShut t.old)
-        ⊎ (IsOpen t.old
-        × WhyNotAdvanced (left_until tick t.old.slot.state) t.old.slot.state result) }
+    ensures refused { 0 < result → IsRefused t.old result
+        (WhyNotAdvanced (left_until tick t.old.slot.state) t.old.slot.state result) }
     ensures kept { 0 < result → t.new ≡ t.old }
     ensures only { t.new ≡ with_timers t.old t.new.slot.state }
 {
@@ -470,6 +459,21 @@ pub extern "C" fn timers_find_next(t: &mut CTimers) -> u64
         return timers.now();
     }
     timers.find_next().unwrap_or(NEVER)
+}
+
+/// Makes at most so many of the moves of later ticks now, and returns how many it made: 0 if none is left for now, if the
+/// wheels are not smooth, or if `t` is not open. C sees no other change than in `timers_counts`.
+#[unsafe(no_mangle)]
+pub extern "C" fn timers_move_ahead(t: &mut CTimers, most: u64) -> u64
+    ensures at_most { result ≤ most }
+    ensures none { IsOpen t.old → is_smooth t.old.slot.state.wheel.slots ≡ false → result ≡ 0 }
+    ensures not_open { IsShut t.old → result ≡ 0 }
+    ensures same { t.new ≡ t.old }
+{
+    match t.timers() {
+        Some(timers) => timers.move_ahead(most),
+        None => 0,
+    }
 }
 
 /// Writes the first timer from the cursor's place on, pending or expired and not yet taken, with its handle,

@@ -9,7 +9,7 @@ use Rattle.std.proofs.lemmas.List.Concat.{flat_map-cons}
 use Rattle.std.proofs.lemmas.List.Sums.{sum_by-append, sum_by-cons}
 use Rattle.std.proofs.lemmas.List.FromFn.{sum_by-map-range_with_len_more}
 use Rattle.std.proofs.Math.Seq.{take-length}
-use Rattle.timer_base.specs.OrderLaws.{either}
+use Rattle.timer_base.proofs.Basics.{either}
 use Rattle.timer_desk.specs.Types.{Progress, Done, Step}
 use Rattle.timer_desk.specs.declared.report.Step.TheVariants as Steps
 use Rattle.timer_desk.specs.Report.{asked, asked_in, flushed, steps_of, step_in}

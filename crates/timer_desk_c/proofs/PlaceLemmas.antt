@@ -3,7 +3,7 @@ use Rattle.std.proofs.Common.{◌≡◌, ℕ, refl, sym, ◌∙◌}
 use Rattle.std.specs.Prelude.{Option, Some, None, IsSome, [], IfSome}
 use Rattle.timer_base.specs.declared.timer.Timer.{Timer}
 use Rattle.timer_base.specs.declared.timer.Handle.{Handle}
-use Rattle.timer_base.specs.HeldLaws.{held_when_none_due}
+use Rattle.timer_base.proofs.HeldLaws.{held_when_none_due}
 use Rattle.timer_base.specs.WheelState.{WheelState, held_at}
 use Rattle.timer_wheels.specs.HeldPlaces.{IsFirstHeld, IsAlone}
 use Rattle.timer_desk_c.specs.Stopping.{IsFirstPending}

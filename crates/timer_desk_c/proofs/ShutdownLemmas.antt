@@ -4,7 +4,7 @@ use borrow.Author.Count.{below_more}
 use Rattle.std.specs.Prelude.{Option, None, slice_set}
 use Rattle.std.proofs.lemmas.Bool.{cases_eq}
 use Rattle.std.proofs.lemmas.List.{get_or-set_same, get_or-set_other, get_or_push, get_or_append_left, length_push, length-set}
-use Rattle.timer_base.specs.Basics.{either}
+use Rattle.timer_base.proofs.Basics.{either}
 use Rattle.timer_facility.specs.State.{FacilityState, pending_of}
 use Rattle.timer_desk.specs.declared.ring.RingInlet.{RingInlet}
 use Rattle.timer_desk.specs.Backlog.{BacklogState, empty_backlog}

@@ -9,7 +9,7 @@ use Rattle.std.proofs.lemmas.List.Elements.{All-from_recursion, All-filter, All-
 use Rattle.timer_base.specs.declared.limits.TheConstants.{LAST}
 use Rattle.timer_base.specs.declared.timer.Timer.{Timer}
 use Rattle.timer_base.specs.declared.timer.Handle.{Handle}
-use Rattle.timer_base.specs.Basics.{either, some_same}
+use Rattle.timer_base.proofs.Basics.{either, some_same}
 use Rattle.timer_base.specs.Order.{AreDistinct}
 use Rattle.timer_base.specs.Pending.{Entry, timers_of, has_handle, has_serial, first_timer, without_serial}
 use Rattle.timer_wheels.specs.HeldPlaces.{AreBefore}

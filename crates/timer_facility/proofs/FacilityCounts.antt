@@ -3,11 +3,10 @@ use Rattle.std.proofs.Common.{◌≡◌, ◌≢◌, ◌<◌, ◌≤◌, ◌+◌,
 use Rattle.std.specs.Prelude.{nat_lt, drop, Some, slice_get, slice_index, slice_set, replicate}
 use Rattle.std.proofs.lemmas.Bool.{cases_eq, cases_lt, eq-eqb, ne_eqb}
 use Rattle.std.proofs.lemmas.List.{get_or-set_same, get_or-set_other, get_or_past, get_or-replicate, length-set}
-use Rattle.timer_base.specs.Basics.{either, none_some, some_same}
-use Rattle.timer_base.specs.HeldLaws.{no_serial}
-use Rattle.timer_base.specs.OneOrder.{IsMember}
+use Rattle.timer_base.proofs.Basics.{either, none_some, some_same}
+use Rattle.timer_base.proofs.HeldLaws.{no_serial}
+use Rattle.timer_base.specs.Order.{IsMember, AreDistinct}
 use Rattle.timer_facility.specs.Types.{Timer}
-use Rattle.timer_base.specs.Order.{AreDistinct}
 use Rattle.timer_base.specs.Pending.{Entry, timers_of, put, is_due_at, without_serial, entries_due, entries_left}
 use Rattle.timer_base.specs.WheelState.{WheelState}
 use Rattle.timer_facility.specs.State.{one_of, count_of}

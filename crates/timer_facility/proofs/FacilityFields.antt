@@ -6,11 +6,11 @@ use Rattle.std.proofs.Math.Seq.{take-set-lt}
 use Rattle.std.proofs.lemmas.Option.{slice_get_within, get_or_from_slice_get}
 use Rattle.std.proofs.lemmas.List.{drop_more, length-take-le, length-set, length-map, nil_from_length, map-append, take-replicate}
 use Rattle.std.proofs.lemmas.List.Elements.{All-from_recursion, recursion_from_All, All-set, All-replicate}
-use Rattle.timer_base.specs.Basics.{either, some_same}
-use Rattle.timer_base.specs.OneOrder.{IsMember}
+use Rattle.timer_base.proofs.Basics.{either, some_same}
+use Rattle.timer_base.specs.Order.{IsMember}
 use Rattle.timer_facility.specs.Types.{LAST, Timer, Handle, MAX_PENDING, Config, Answer, Reason, Notice}
 use Rattle.timer_base.specs.Pending.{Entry, timer_of, timers_of, is_due_at, has_handle, first_timer, without_found, has_serial}
-use Rattle.timer_base.specs.HeldLaws.{held_when_none_due, held_start-last_serial, removal_when_none_due}
+use Rattle.timer_base.proofs.HeldLaws.{held_when_none_due, held_start-last_serial, removal_when_none_due}
 use Rattle.timer_base.specs.WheelState as Wheels
 use Rattle.timer_facility.specs.declared.request.Answer.TheVariants.{Started, Stopped, Restarted}
 use Rattle.timer_facility.specs.declared.request.Notice.TheVariants.{Expired, Returned}

@@ -5,7 +5,8 @@ use Rattle.std.specs.List.{AllByRecursion}
 use Rattle.std.proofs.lemmas.Bool.{and_right, eq-eqb, eqb-true}
 use Rattle.std.proofs.lemmas.Bool.Decides.{nat_tests}
 use Rattle.timer_facility.specs.Types.{Timer, Handle, TickFault, Request, Answer, Out}
-use Rattle.timer_base.specs.OrderLaws.{either, All-filter, All-weaken}
+use Rattle.timer_base.proofs.Basics.{either}
+use Rattle.timer_base.proofs.OrderLaws.{All-filter, All-weaken}
 use Rattle.timer_base.specs.Pending.{Entry, put, has_handle, has_serial, first_timer}
 use Rattle.timer_facility.specs.declared.request.NotTaken.TheVariants as NotTakens
 use Rattle.timer_facility.specs.declared.request.Request.TheVariants as Requests

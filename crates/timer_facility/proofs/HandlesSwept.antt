@@ -9,7 +9,8 @@ use Rattle.std.proofs.lemmas.List.{length-map}
 use Rattle.std.proofs.lemmas.Map.Steps.{length-le_from_keys}
 use Rattle.std.proofs.lemmas.Bool.Decides.{nat_tests}
 use Rattle.timer_facility.specs.Types.{Handle}
-use Rattle.timer_base.specs.OrderLaws.{either, All-filter, All-weaken}
+use Rattle.timer_base.proofs.Basics.{either}
+use Rattle.timer_base.proofs.OrderLaws.{All-filter, All-weaken}
 use Rattle.timer_base.specs.Pending.{Entry, has_handle, first_timer}
 use Rattle.timer_facility.specs.State.{FacilityState}
 use Rattle.timer_facility.specs.Handles.{HandleList, place_at, AreSorted, is_pending, IsRecorded, AreRecorded, AreFew}

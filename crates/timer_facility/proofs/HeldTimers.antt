@@ -2,7 +2,7 @@
 use Rattle.std.proofs.Common.{◌≡◌, ◌<◌, ℕ, refl, sym, subst, arith}
 use Rattle.std.specs.Prelude.{nat_lt, Option, Some, None, is_some}
 use Rattle.std.proofs.lemmas.Bool.Decides.{nat_tests}
-use Rattle.timer_base.specs.Basics.{some_same}
+use Rattle.timer_base.proofs.Basics.{some_same}
 use Rattle.timer_facility.specs.Types.{Timer, Handle}
 use Rattle.timer_base.specs.Pending.{timers_of, has_handle, first_found}
 use Rattle.timer_facility.proofs.TimerLists.{at_member, first_timer-among}

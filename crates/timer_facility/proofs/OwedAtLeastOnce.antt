@@ -3,10 +3,11 @@ use Rattle.std.proofs.Common.{◌≡◌, ◌<◌, ◌≤◌, ◌+◌, ℕ, zero,
 use Rattle.std.specs.Prelude.{map, filter, nat_lt}
 use Rattle.std.proofs.lemmas.Bool.{and_from, cases_eq, eq-eqb, lt-ltb, not_from_false}
 use Rattle.std.proofs.lemmas.Bool.Decides.{nat_tests}
-use Rattle.timer_base.specs.OrderLaws.{either, All-weaken}
+use Rattle.timer_base.proofs.Basics.{either}
+use Rattle.timer_base.proofs.OrderLaws.{All-weaken}
 use Rattle.timer_facility.specs.Types.{Timer, Notice}
-use Rattle.timer_base.specs.Order.{itself}
-use Rattle.timer_base.specs.OneOrder.{IsMember, IsMember-in_order}
+use Rattle.timer_base.specs.Order.{itself, IsMember}
+use Rattle.timer_base.proofs.OneOrder.{IsMember-in_order}
 use Rattle.timer_base.specs.Pending.{is_due_at}
 use Rattle.timer_facility.specs.declared.request.Notice.TheVariants.{Expired, Returned}
 use Rattle.timer_facility.specs.State.{FacilityState, IsSound}

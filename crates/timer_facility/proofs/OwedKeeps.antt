@@ -6,11 +6,10 @@ use Rattle.std.proofs.lemmas.Bool.{and_from, and_parts, both_ways, eq-eqb, eqb-t
 use Rattle.std.proofs.lemmas.Bool.Decides.{nat_tests}
 use Rattle.std.proofs.lemmas.List.{map-append}
 use Rattle.std.proofs.lemmas.List.Elements.{filter-append, filter_agree}
-use Rattle.timer_base.specs.Basics.{either, not_due_before}
-use Rattle.timer_base.specs.OneOrder.{IsMember}
-use Rattle.timer_base.specs.OrderLaws.{All-filter, All-weaken, All-in_order}
+use Rattle.timer_base.proofs.Basics.{either, not_due_before}
+use Rattle.timer_base.specs.Order.{IsMember, itself, IsNotAmong, AreDistinct, AreBelow}
+use Rattle.timer_base.proofs.OrderLaws.{All-filter, All-weaken, All-in_order}
 use Rattle.timer_facility.specs.Types.{Timer, Notice}
-use Rattle.timer_base.specs.Order.{itself, IsNotAmong, AreDistinct, AreBelow}
 use Rattle.timer_base.specs.Pending.{timers_of, is_due_at, has_serial}
 use Rattle.timer_facility.specs.declared.request.Notice.TheVariants.{Expired, Returned}
 use Rattle.timer_facility.specs.State.{FacilityState, Tick, Close}

@@ -4,10 +4,9 @@ use Rattle.std.specs.Prelude.{take, map, filter, Option, Some, None}
 use Rattle.std.specs.List.{AllByRecursion}
 use Rattle.std.proofs.lemmas.Bool.{cases_lt, or_right}
 use Rattle.std.proofs.lemmas.Bool.Decides.{nat_tests}
-use Rattle.timer_base.specs.OneOrder.{IsMember}
-use Rattle.timer_base.specs.OrderLaws.{All-weaken}
+use Rattle.timer_base.specs.Order.{IsMember, AreDistinct}
+use Rattle.timer_base.proofs.OrderLaws.{All-weaken}
 use Rattle.timer_facility.specs.Types.{Timer, Notice, TickFault}
-use Rattle.timer_base.specs.Order.{AreDistinct}
 use Rattle.timer_base.specs.Pending.{timers_of}
 use Rattle.timer_facility.specs.declared.request.Notice.TheVariants.{Expired, Returned}
 use Rattle.timer_facility.specs.State.{FacilityState, IsSound, ModelRequest, action_of, SingleEvent, Asked, Tick, Close}

@@ -4,10 +4,11 @@ use Rattle.std.specs.Prelude.{map, filter, nat_lt}
 use Rattle.std.specs.List.{AllByRecursion}
 use Rattle.std.proofs.lemmas.Bool.{and_parts, eqb-true, ltb-true, not-true}
 use Rattle.std.proofs.lemmas.List.{map-append}
-use Rattle.timer_base.specs.OneOrder.{IsMember, each_is_member, map-itself}
+use Rattle.timer_base.specs.Order.{IsMember, itself, AreDistinct}
+use Rattle.timer_base.proofs.OneOrder.{each_is_member, map-itself}
 use Rattle.timer_facility.specs.Types.{Timer}
-use Rattle.timer_base.specs.Order.{itself, AreDistinct}
-use Rattle.timer_base.specs.OrderLaws.{either, All-filter, All-weaken, All-in_order, AreDistinct-in_order}
+use Rattle.timer_base.proofs.Basics.{either}
+use Rattle.timer_base.proofs.OrderLaws.{All-filter, All-weaken, All-in_order, AreDistinct-in_order}
 use Rattle.timer_base.specs.Pending.{is_due_at}
 use Rattle.timer_facility.specs.declared.request.Notice.TheVariants.{Expired, Returned}
 use Rattle.timer_facility.specs.State.{FacilityState, IsSound}

@@ -3,7 +3,7 @@ use Rattle.std.proofs.Common.{zero, suc, ◌≡◌, ◌<◌, ◌≤◌, ◌+◌,
 use Rattle.std.specs.Prelude.{replicate, map, min, Some, None}
 use Rattle.std.proofs.lemmas.Bool.{cases_eq}
 use Rattle.std.proofs.lemmas.List.{map-append, replicate-append-replicate}
-use Rattle.timer_base.specs.OrderLaws.{either}
+use Rattle.timer_base.proofs.Basics.{either}
 use Rattle.timer_base.specs.Pending.{is_due_at}
 use Rattle.timer_facility.specs.declared.request.Notice.TheVariants.{Expired}
 use Rattle.timer_facility.specs.Types.{TickFault, Out}

@@ -3,7 +3,7 @@ use Rattle.std.proofs.Common.{◌≡◌, false, ◌<◌, ◌≤◌, ℕ, List, [
 use Rattle.std.specs.Prelude.{map, Option, Some, None}
 use Rattle.std.proofs.lemmas.Bool.{le-ltb, lt-ltb}
 use Rattle.std.proofs.lemmas.Simd.{map-map}
-use Rattle.timer_base.specs.OneOrder.{IsMember}
+use Rattle.timer_base.specs.Order.{IsMember}
 use Rattle.timer_facility.specs.Types.{Timer, Answer, NotTaken, Reason, Request}
 use Rattle.timer_base.specs.Pending.{Entry, timers_of, put, first_timer}
 use Rattle.timer_facility.specs.declared.request.Answer.TheVariants.{Refused}

@@ -2,7 +2,7 @@
 use Rattle.std.proofs.Common.{◌≡◌, ◌<◌, ◌≤◌, ◌+◌, ◌-◌, ℕ, zero, suc, false, List, [], ◌∷◌, ◌++◌, length, refl, sym, ◌∙◌, ap, subst, arith}
 use Rattle.std.specs.Prelude.{map, drop, min, None}
 use Rattle.timer_base.specs.Pending.{Entry, timers_of}
-use Rattle.timer_base.specs.TickLaws.{after_ticks-now, after_ticks-last}
+use Rattle.timer_base.proofs.TickLaws.{after_ticks-now, after_ticks-last}
 use Rattle.timer_base.specs.WheelState as Wheels
 use Rattle.timer_facility.specs.Types.{Notice}
 use Rattle.timer_facility.specs.declared.request.Notice.TheVariants.{Expired, Returned}

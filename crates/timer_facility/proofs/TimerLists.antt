@@ -7,11 +7,11 @@ use Rattle.std.proofs.lemmas.Bool.Decides.{nat_tests}
 use Rattle.std.proofs.lemmas.List.{length-map, map-id}
 use Rattle.std.proofs.lemmas.List.Filters.{length-filter_both}
 use Rattle.std.proofs.lemmas.Option.{cond_some}
-use Rattle.timer_base.specs.Basics.{either, none_some, some_same}
+use Rattle.timer_base.proofs.Basics.{either, none_some, some_same}
 use Rattle.timer_facility.specs.Types.{Timer}
-use Rattle.timer_base.specs.Order.{is_before, itself, insert_in_order, insert_by_deadline, IsOrdered, IsNotAmong, AreDistinct, AreBelow}
-use Rattle.timer_base.specs.OneOrder.{IsMember, each_is_member}
-use Rattle.timer_base.specs.OrderLaws.{All-filter, All-weaken, All-in_order, in_order-newest, filter-in_order}
+use Rattle.timer_base.specs.Order.{is_before, itself, insert_in_order, insert_by_deadline, IsOrdered, IsNotAmong, AreDistinct, AreBelow, IsMember}
+use Rattle.timer_base.proofs.OneOrder.{each_is_member}
+use Rattle.timer_base.proofs.OrderLaws.{All-filter, All-weaken, All-in_order, in_order-newest, filter-in_order}
 use Rattle.timer_base.specs.Pending.{Entry, timer_of, timers_of, put, first_timer}
 use Rattle.timer_facility.specs.Verdict.{of_client}
 use Rattle.timer_facility.specs.Owed.{timers_in_order, is_among}

@@ -2,9 +2,9 @@
 use Rattle.std.proofs.Common.{◌≡◌, ◌<◌, ◌≤◌, ◌+◌, ℕ, zero, suc, not, List, [], refl, sym, ◌∙◌, ap, arith}
 use Rattle.std.specs.Prelude.{map, filter, Option, Some, None}
 use Rattle.std.specs.List.{AllByRecursion}
-use Rattle.timer_base.specs.OrderLaws.{All-filter, All-weaken}
+use Rattle.timer_base.proofs.OrderLaws.{All-filter, All-weaken}
 use Rattle.timer_base.specs.Pending.{Entry, timers_of, is_due_at}
-use Rattle.timer_base.specs.TickLaws.{due_none}
+use Rattle.timer_base.proofs.TickLaws.{due_none}
 use Rattle.timer_facility.specs.declared.request.Notice.TheVariants.{Expired}
 use Rattle.timer_facility.specs.Types.{TickFault}
 use Rattle.timer_facility.specs.declared.event.Out.TheVariants as Outs

@@ -9,8 +9,7 @@
 use Rattle.std.specs.Prelude.{◌≡◌, ◌<◌, ◌≤◌, ℕ, zero, suc, ◌+◌, Bool, true, false, ◌&&◌, ◌||◌, ◌==◌, not, nat_lt, if◌then◌else◌, List, [], ◌∷◌, ◌++◌, map, filter}
 use Rattle.std.specs.List.{AllByRecursion}
 use Rattle.timer_facility.specs.Types.{Timer, Handle, Notice, Out}
-use Rattle.timer_base.specs.Order.{in_order, AreDistinct}
-use Rattle.timer_base.specs.OneOrder.{IsMember}
+use Rattle.timer_base.specs.Order.{in_order, AreDistinct, IsMember}
 use Rattle.timer_base.specs.Pending.{timers_of}
 use Rattle.timer_facility.specs.declared.request.Answer.TheVariants.{Started, Stopped, Restarted}
 use Rattle.timer_facility.specs.declared.request.Notice.TheVariants.{Expired, Returned}

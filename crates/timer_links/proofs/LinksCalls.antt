@@ -5,8 +5,8 @@ use Rattle.std.proofs.lemmas.Bool.{cases_eq}
 use Rattle.std.proofs.lemmas.List.{get_or_read, append_assoc}
 use Rattle.std.proofs.lemmas.List.Sums.{sum_by-set}
 use Rattle.slab.specs.Slab.{Slab, get, slab_len, with_value, ContainsKey, Updates}
-use Rattle.timer_base.specs.Basics.{some_same, some_none}
-use Rattle.timer_base.specs.OrderLaws.{All-weaken}
+use Rattle.timer_base.proofs.Basics.{some_same, some_none}
+use Rattle.timer_base.proofs.OrderLaws.{All-weaken}
 use Rattle.timer_links.specs.declared.node.Node.{Node}
 use Rattle.timer_links.specs.declared.ring.Neighbours.{Neighbours}
 use Rattle.timer_links.specs.declared.ring.TheConstants.{INDEXES}

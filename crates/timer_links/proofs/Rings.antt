@@ -3,8 +3,8 @@
 use Rattle.std.proofs.Common.{◌≡◌, ◌≢◌, ◌<◌, ◌+◌, ℕ, suc, List, [], ◌∷◌, ◌++◌, length, refl, sym, ◌∙◌, ap, subst, inl, inr, arith, get_or-set_same, get_or-set_other, length-set, append-nil, map, Some, None, slice_set}
 use Rattle.std.specs.List.{AllByRecursion}
 use Rattle.std.proofs.lemmas.Bool.{cases_eq, eq-eqb, ne_eqb}
-use Rattle.timer_base.specs.Basics.{some_none}
-use Rattle.timer_base.specs.OrderLaws.{All-weaken}
+use Rattle.timer_base.proofs.Basics.{some_none}
+use Rattle.timer_base.proofs.OrderLaws.{All-weaken}
 use Rattle.timer_links.specs.declared.node.Node.{Node}
 use Rattle.timer_links.specs.declared.ring.Neighbours.{Neighbours}
 use Rattle.timer_links.specs.Lists.{node_at, list_at, list_if_alone, without_key, with_row, appended, AreApart, KeyedLists, Row, Rows}

@@ -194,6 +194,13 @@ impl Links {
         self.lists
     }
 
+    /// Whether a key and what goes with it are ready for the next node. Nothing depends on it but how a call is compiled:
+    /// a node is added either way.
+    #[inline]
+    pub fn is_ready(&self) -> bool {
+        self.nodes.vacant_key() < self.ready
+    }
+
     /// How many nodes are in all lists together. Does not allocate.
     #[inline]
     pub fn len(&self) -> usize

@@ -1,8 +1,8 @@
 -- Lemmas for `Bank`: its invariant, by the laws of the smooth wheel.
-use Rattle.std.proofs.Common.{◌≡◌, ◌≢◌, ◌<◌, ◌≤◌, ◌⊎◌, ◌+◌, ◌-◌, ◌*◌, ◌%◌, ℕ, zero, suc, List, [], ◌∷◌, ◌++◌, length, refl, sym, ◌∙◌, ap, inl, inr, subst, arith, slice_set, get_or-set_other, ◌==◌, Some, None}
+use Rattle.std.proofs.Common.{◌≡◌, ◌≢◌, ◌<◌, ◌≤◌, ◌⊎◌, ◌+◌, ◌-◌, ◌*◌, ◌%◌, ℕ, zero, suc, List, [], ◌∷◌, ◌++◌, length, refl, sym, ◌∙◌, ap, inl, inr, subst, arith, slice_set, get_or-set_other, ◌==◌, Some}
 use Rattle.std.specs.List.{AllByRecursion}
 use Rattle.std.proofs.lemmas.Bool.{cases_eq, cases_lt}
-use Rattle.timer_base.specs.Basics.{some_same, some_none}
+use Rattle.timer_base.proofs.Basics.{some_same, some_none}
 use Rattle.timer_base.specs.declared.limits.TheConstants.{LAST}
 use Rattle.timer_base.specs.declared.timer.Timer.{Timer}
 use Rattle.timer_wheels.specs.Buckets.{row_at}
@@ -122,10 +122,6 @@ pub record HasFirst (d : ℕ) (rows : Rows) : Type 0 where
 pub first_row : (d : ℕ) (rows : Rows) → Some d ≡ first_deadline rows → HasFirst d rows
 first_row d [] e = absurd (some_none d e)
 first_row d (x ∷ xs) e = record { row = x; rest = xs; at = refl; deadline = some_same (timer_in x).deadline d (sym e) }
-
-pub no_first : (rows : Rows) → None ≡ first_deadline rows → rows ≡ []
-no_first [] e = refl
-no_first (x ∷ xs) e = absurd (some_none (timer_in x).deadline (sym e))
 
 -- what one move leaves
 pub record IsMoved (t : Table) (b : Buckets) (wheel from to : ℕ) (new : KeyedLists) : Type 0 where

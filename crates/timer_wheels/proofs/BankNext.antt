@@ -1,8 +1,7 @@
 -- Lemmas for `Bank`: how its calls change the next buckets, and the potential of its timers.
 use Rattle.std.proofs.Common.{◌≡◌, ◌<◌, ◌≤◌, ◌+◌, ◌-◌, ◌*◌, ◌%◌, ℕ, List, [], ◌∷◌, ◌++◌, length, refl, sym, ◌∙◌, ap, inl, inr, subst, arith, get_or-set_same, get_or-set_other, map, filter, not, ◌==◌, Bool, true, false}
 use Rattle.std.proofs.lemmas.Bool.{eqb-true, eq-eqb}
-use Rattle.timer_base.specs.Basics.{either}
-use Rattle.timer_base.specs.declared.limits.TheConstants.{LAST}
+use Rattle.timer_base.proofs.Basics.{either}
 use Rattle.timer_base.specs.declared.timer.Timer.{Timer}
 use Rattle.timer_links.specs.Lists.{list_at, with_row, without_key, KeyedLists, Row, Rows}
 use Rattle.timer_wheels.specs.Bank.{IsBank, next_len, potential_of, AllShrink, IsNextOf, ComesTo}
@@ -48,24 +47,28 @@ module _ (t : Table) (b : Buckets) (words : List ℕ) (h : IsBank t b words) whe
         omega arith;
   }
 
-  module _ (timer : Timer) (later : b.tick < timer.deadline) (in_range : timer.deadline ≤ b.last_tick) (some : 0 < timer.serial)
-      (few : timer.serial ≤ LAST) (wheel list : ℕ)
-      (w : wheel ≡ descend_by (radices t) b.tick words timer.deadline (level (radices t) b.tick timer.deadline))
-      (at : list ≡ smooth_list (radices t) wheel (slot_in (radices t) wheel timer.deadline)) where
+  module _ (deadline : ℕ) (later : b.tick < deadline) (in_range : deadline ≤ b.last_tick) (wheel list : ℕ)
+      (w : wheel ≡ descend_by (radices t) b.tick words deadline (level (radices t) b.tick deadline))
+      (at : list ≡ smooth_list (radices t) wheel (slot_in (radices t) wheel deadline)) where
+    -- a timer for it: the wheel depends on the deadline alone
+    abbrev timer : Timer
+    timer = record { serial = 1; client = 0; number = 0; deadline = deadline; action = 0 }
+
     goes : GoesByBits (radices t) b.tick words wheel timer
     goes =
         let digits : HasDigits (radices t) b.last_tick = rw h.clock (of_table t).digits in
         subst (λ (x : ℕ). GoesByBits (radices t) b.tick words x timer) (sym w)
-        (goes_by_bits (radices t) b.tick words timer table (digits_down (radices t) timer.deadline b.last_tick table in_range digits) later some few)
+        (goes_by_bits (radices t) b.tick words timer table (digits_down (radices t) deadline b.last_tick table in_range digits) later
+        (omega arith) (omega arith))
 
     one : (j : ℕ) → j < length (radices t) → list ≡ next_list (radices t) b.tick j → j ≡ wheel
-    one j l e = one_wheel (radices t) j wheel (slot_in (radices t) j b.tick + 1) (slot_in (radices t) wheel timer.deadline) table
+    one j l e = one_wheel (radices t) j wheel (slot_in (radices t) j b.tick + 1) (slot_in (radices t) wheel deadline) table
         (turns_of_table t) l goes.wheel (sym e ∙ at)
 
-    pub next_in : is_in_next (radices t) b.tick wheel timer.deadline ≡ true → IsNextOf (radices t) b.tick words list wheel
+    pub next_in : is_in_next (radices t) b.tick wheel deadline ≡ true → IsNextOf (radices t) b.tick words list wheel
     next_in e =
-        let slot : slot_in (radices t) wheel timer.deadline ≡ slot_in (radices t) wheel b.tick + 1 =
-        eqb-true (slot_in (radices t) wheel timer.deadline) (slot_in (radices t) wheel b.tick + 1) e in
+        let slot : slot_in (radices t) wheel deadline ≡ slot_in (radices t) wheel b.tick + 1 =
+        eqb-true (slot_in (radices t) wheel deadline) (slot_in (radices t) wheel b.tick + 1) e in
         let there : list ≡ next_list (radices t) b.tick wheel = at ∙ ap (smooth_list (radices t) wheel) slot in
         record {
           in_table = goes.wheel;
@@ -75,16 +78,16 @@ module _ (t : Table) (b : Buckets) (words : List ℕ) (h : IsBank t b words) whe
       where
         bit : 0 < wheel → list ≡ next_list (radices t) b.tick wheel → bit_of words list ≡ 1
         bit z there =
-            let s = stops_at_timers (radices t) b.tick words timer.deadline (level (radices t) b.tick timer.deadline) (omega arith)
-            (subst (λ (x : ℕ). is_in_next (radices t) b.tick x timer.deadline ≡ true) w e) in
+            let s = stops_at_timers (radices t) b.tick words deadline (level (radices t) b.tick deadline) (omega arith)
+            (subst (λ (x : ℕ). is_in_next (radices t) b.tick x deadline ≡ true) w e) in
             let s2 : (bit_of words (next_list (radices t) b.tick wheel) == 0) ≡ false =
             subst (λ (x : ℕ). (bit_of words (next_list (radices t) b.tick x) == 0) ≡ false) (sym w) s in
             let s3 : (bit_of words list == 0) ≡ false = subst (λ (x : ℕ). (bit_of words x == 0) ≡ false) (sym there) s2 in
-            let r : list < b.slots = rw at (ranges wheel (slot_in (radices t) wheel timer.deadline) goes.wheel) in
+            let r : list < b.slots = rw at (ranges wheel (slot_in (radices t) wheel deadline) goes.wheel) in
             let m : bit_of words list ≡ filled (list_at list b.links.lists) = h.marked.0 list r in
             m ∙ filled_one (list_at list b.links.lists) (subst (λ (x : ℕ). (x == 0) ≡ false) m s3)
 
-    pub next_out : is_in_next (radices t) b.tick wheel timer.deadline ≡ false → IsNextOf (radices t) b.tick words list 0
+    pub next_out : is_in_next (radices t) b.tick wheel deadline ≡ false → IsNextOf (radices t) b.tick words list 0
     next_out e = record {
       in_table = (of_table t).more_wheels;
       here = λ z. absurd (omega arith);
@@ -96,16 +99,16 @@ module _ (t : Table) (b : Buckets) (words : List ℕ) (h : IsBank t b words) whe
 
       not_there : (j : ℕ) → j < length (radices t) → list ≡ next_list (radices t) b.tick j → j ≡ wheel → ⊥
       not_there j l q o =
-          let slot : slot_in (radices t) wheel timer.deadline ≡ slot_in (radices t) wheel b.tick + 1 =
-          same_rest_of (2 * radix wheel (radices t)) (slot_in (radices t) wheel b.tick) (slot_in (radices t) wheel timer.deadline)
+          let slot : slot_in (radices t) wheel deadline ≡ slot_in (radices t) wheel b.tick + 1 =
+          same_rest_of (2 * radix wheel (radices t)) (slot_in (radices t) wheel b.tick) (slot_in (radices t) wheel deadline)
           (slot_in (radices t) wheel b.tick + 1) (omega (arith, radix_above (radices t) wheel table)) goes.ahead (omega arith)
-          (ahead_within (radices t) b.tick wheel timer.deadline table
+          (ahead_within (radices t) b.tick wheel deadline table
           (record { wheel = goes.wheel; ahead = goes.ahead; near = goes.near }))
           (omega (arith, radix_above (radices t) wheel table))
-          (same_rests wheel (slot_in (radices t) wheel timer.deadline) (slot_in (radices t) wheel b.tick + 1)
+          (same_rests wheel (slot_in (radices t) wheel deadline) (slot_in (radices t) wheel b.tick + 1)
           (sym at ∙ (q ∙ ap (λ (x : ℕ). smooth_list (radices t) x (slot_in (radices t) x b.tick + 1)) o))) in
-          let y : is_in_next (radices t) b.tick wheel timer.deadline ≡ true =
-          eq-eqb (slot_in (radices t) wheel timer.deadline) (slot_in (radices t) wheel b.tick + 1) slot in
+          let y : is_in_next (radices t) b.tick wheel deadline ≡ true =
+          eq-eqb (slot_in (radices t) wheel deadline) (slot_in (radices t) wheel b.tick + 1) slot in
           absurd (let c : true ≡ false = sym y ∙ e in cc)
 
   -- Lists that get shorter.

@@ -8,7 +8,7 @@ use Rattle.timer_base.specs.declared.limits.TheConstants.{LAST}
 use Rattle.timer_base.specs.declared.timer.Timer.{Timer}
 use Rattle.timer_base.specs.declared.timer.Handle.{Handle}
 use Rattle.timer_base.specs.WheelState.{IsPending}
-use Rattle.timer_links.specs.Lists.{list_at, with_row, without_key, KeyedLists}
+use Rattle.timer_links.specs.Lists.{list_at, with_row, without_key}
 use Rattle.timer_wheels.specs.Bank.{IsBank}
 use Rattle.timer_wheels.specs.BucketLists.{timer_in, AreBuckets, EachRow}
 use Rattle.timer_wheels.specs.Buckets.{row_at}
@@ -32,12 +32,6 @@ module _ (t : Table) (b : Buckets) (words : List ℕ) (h : IsBank t b words) (ha
     (in_range : timer.deadline ≤ b.last_tick) (fresh : b.last_serial < timer.serial) (serial : timer.serial ≤ LAST)
     (sound : AreBuckets b.slots b.last_tick b.tick last2
     (with_row list (row_at handle.place timer 0) (map (without_key handle.place) b.links.lists))) where
-  abbrev mid : KeyedLists
-  mid = map (without_key handle.place) b.links.lists
-
-  abbrev new : KeyedLists
-  new = with_row list (row_at handle.place timer 0) (map (without_key handle.place) b.links.lists)
-
   table : IsTable (radices t)
   table = (of_table t).is_table
 

@@ -2,12 +2,12 @@
 use Rattle.std.proofs.Common.{◌≡◌, ◌<◌, ◌≤◌, ◌+◌, ℕ, List, [], ◌∷◌, ◌++◌, sym, ◌∙◌, ap, inl, inr, subst, arith, slice_set, get_or-set_other, Bool, map, filter, not, ◌==◌, Option, Some}
 use Rattle.std.specs.List.{AllByRecursion}
 use Rattle.std.proofs.lemmas.Bool.{cases_lt}
-use Rattle.timer_base.specs.Basics.{either}
+use Rattle.timer_base.proofs.Basics.{either}
 use Rattle.timer_base.specs.declared.limits.TheConstants.{LAST}
 use Rattle.timer_base.specs.declared.timer.Timer.{Timer}
 use Rattle.timer_base.specs.declared.timer.Handle.{Handle}
 use Rattle.timer_base.specs.Order.{AreRising}
-use Rattle.timer_base.specs.OrderLaws.{All-filter, AreRising-weaken}
+use Rattle.timer_base.proofs.OrderLaws.{All-filter, AreRising-weaken}
 use Rattle.timer_base.specs.WheelState.{IsPending, held_at}
 use Rattle.timer_links.specs.Lists.{list_at, without_key, list_if_alone, AreApart, IsAloneIn, Row, Rows}
 use Rattle.timer_wheels.specs.Bank.{IsBank, LeavesBits}

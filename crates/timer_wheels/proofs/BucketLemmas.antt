@@ -3,10 +3,10 @@ use Rattle.std.proofs.Common.{◌≡◌, ◌≢◌, ◌<◌, ◌≤◌, ◌+◌,
 use Rattle.std.specs.List.{AllByRecursion}
 use Rattle.std.proofs.lemmas.Bool.{cases_eq, eqb-true}
 use Rattle.std.proofs.lemmas.List.{length-map}
-use Rattle.timer_base.specs.Basics.{either}
+use Rattle.timer_base.proofs.Basics.{either}
 use Rattle.timer_base.specs.declared.timer.Timer.{Timer}
 use Rattle.timer_base.specs.Order.{in_order, AreBelow, AreDistinct, AreRising, IsNotAmong}
-use Rattle.timer_base.specs.OrderLaws.{in_order-newest, filter-in_order, length-in_order, All-filter, All-weaken, AreRising-append, AreRising-weaken}
+use Rattle.timer_base.proofs.OrderLaws.{in_order-newest, filter-in_order, length-in_order, All-filter, All-weaken, AreRising-append, AreRising-weaken}
 use Rattle.timer_base.specs.Pending.{Entry, timer_of, timers_of, is_due_at, entries_due, put}
 use Rattle.timer_base.specs.WheelState.{IsPending, IsDue}
 use Rattle.timer_links.specs.declared.node.Node.{Node}

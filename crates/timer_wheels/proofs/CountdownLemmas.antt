@@ -3,7 +3,7 @@ use Rattle.std.proofs.Common.{◌≡◌, ◌<◌, ◌≤◌, ◌+◌, ◌-◌, �
 use Rattle.std.specs.List.{AllByRecursion}
 use Rattle.std.proofs.lemmas.Bool.{cases_eq}
 use Rattle.std.proofs.lemmas.List.{map-append, set-get_or}
-use Rattle.timer_base.specs.OrderLaws.{All-weaken}
+use Rattle.timer_base.proofs.OrderLaws.{All-weaken}
 use Rattle.timer_links.specs.declared.node.Node.{Node}
 use Rattle.timer_links.specs.Lists.{node_at, first_key, list_at, row_count, AreApart, IsNext, HasRounds, SetsRounds, KeyedLists, Row, Rows}
 use Rattle.timer_wheels.specs.Revolutions.{HasRoundsLeft, with_fewer_rounds}

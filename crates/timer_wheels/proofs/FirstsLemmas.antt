@@ -1,8 +1,8 @@
 -- The first deadlines of the buckets after each change of the lists: a row comes to a bucket, leaves one, or moves.
-use Rattle.std.proofs.Common.{◌≡◌, ◌≢◌, ◌<◌, ◌≤◌, ◌+◌, ◌-◌, ◌==◌, nat_lt, get_or, subst, ℕ, zero, suc, List, [], ◌∷◌, ◌++◌, length, refl, sym, ◌∙◌, ap, inl, inr, arith, length-set, get_or-set_same, get_or-set_other, Bool, true, false, MatchOption, Option, slice_set, replicate}
+use Rattle.std.proofs.Common.{◌≡◌, ◌≢◌, ◌<◌, ◌≤◌, ◌+◌, ◌-◌, ◌==◌, get_or, subst, ℕ, zero, suc, List, [], ◌∷◌, ◌++◌, length, refl, sym, ◌∙◌, ap, inl, inr, arith, length-set, get_or-set_same, get_or-set_other, Bool, true, false, MatchOption, Option, slice_set, replicate}
 use Rattle.std.proofs.lemmas.Bool.{cases_eq}
 use Rattle.std.proofs.lemmas.Bool.Decides.{nat_tests}
-use Rattle.timer_base.specs.Basics.{either}
+use Rattle.timer_base.proofs.Basics.{either}
 use Rattle.timer_base.specs.declared.timer.Timer.{Timer}
 use Rattle.timer_links.specs.declared.node.Node.{Node}
 use Rattle.timer_links.specs.Lists.{list_at, with_row, front_moved, list_if_alone, KeyedLists, Row, Rows}
@@ -166,13 +166,6 @@ module _ {lowest n l : ℕ} {firsts : FirstsState} {lists : KeyedLists} (f : Are
     }
 
 -- Until they are kept.
-
--- to count one timer, or none, is nothing if nothing is known
-pub entered_unknown : (d : ℕ) (front : Option ℕ) → 0 < d → unknown_first ≡ entered_first d front unknown_first
-entered_unknown d front positive =
-    let k : nat_lt d 0 ≡ false = grind (arith, nat_tests) in
-    let m : (d == 0) ≡ false = grind (arith, nat_tests) in
-    rw (k, m) refl
 
 left_unknown : (d : ℕ) → unknown_first ≡ left_first d unknown_first
 left_unknown d = elim (cases_eq d 0) [

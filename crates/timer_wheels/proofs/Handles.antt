@@ -2,12 +2,12 @@
 use Rattle.std.proofs.Common.{◌≡◌, ◌≢◌, ◌<◌, ℕ, ◌==◌, Bool, false, List, [], ◌∷◌, refl, sym, ◌∙◌, ap, subst, inl, inr, arith, map, filter, not, if◌then◌else◌, Option, Some, None, IsSome}
 use Rattle.std.specs.List.{AllByRecursion}
 use Rattle.std.proofs.lemmas.Bool.{cases_eq, eq-eqb, eqb-true, ne_eqb}
-use Rattle.timer_base.specs.HeldLaws.{found_or_none, other_serial}
-use Rattle.timer_base.specs.Basics.{some_same, none_some, some_none, either}
+use Rattle.timer_base.proofs.HeldLaws.{found_or_none, other_serial}
+use Rattle.timer_base.proofs.Basics.{some_same, none_some, some_none, either}
 use Rattle.timer_base.specs.declared.timer.Timer.{Timer}
 use Rattle.timer_base.specs.declared.timer.Handle.{Handle}
 use Rattle.timer_base.specs.Order.{in_order, AreDistinct, IsNotAmong}
-use Rattle.timer_base.specs.OrderLaws.{filter-in_order, AreDistinct-rising}
+use Rattle.timer_base.proofs.OrderLaws.{filter-in_order, AreDistinct-rising}
 use Rattle.timer_base.specs.Pending.{Entry, timer_of, has_handle, first_timer, first_found, without_handle}
 use Rattle.timer_base.specs.WheelState.{WheelState, IsPending, IsDue, NamesOne, timer_at, due_at, held_at, after_removal}
 use Rattle.timer_links.specs.declared.node.Node.{Node}

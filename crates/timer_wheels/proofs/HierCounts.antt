@@ -1,7 +1,7 @@
 -- The counts of a hierarchy of wheels after `advance`.
 use Rattle.std.proofs.Common.{◌≡◌, ◌<◌, ◌+◌, ◌-◌, ◌/◌, ℕ, List, [], ◌∷◌, length, refl, ◌∙◌, ap, arith, Bool, true, false}
 use Rattle.timer_base.specs.Pending.{Entry}
-use Rattle.timer_base.specs.TickLaws.{after_ticks-serial}
+use Rattle.timer_base.proofs.TickLaws.{after_ticks-serial}
 use Rattle.timer_base.specs.WheelState.{WheelState, Advances}
 use Rattle.timer_wheels.specs.Leap.{Leaps}
 use Rattle.timer_wheels.specs.Placement.{IsPaid, hops_of, has_any, visited_between}

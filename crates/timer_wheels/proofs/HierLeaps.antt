@@ -5,7 +5,7 @@ use Rattle.std.proofs.Common.{◌≡◌, ◌<◌, ◌≤◌, ◌+◌, ◌-◌, �
 use Rattle.std.specs.List.{AllByRecursion}
 use Rattle.std.proofs.lemmas.Bool.{cases_lt}
 use Rattle.timer_base.specs.declared.limits.TheConstants.{LAST}
-use Rattle.timer_base.specs.OrderLaws.{All-weaken}
+use Rattle.timer_base.proofs.OrderLaws.{All-weaken}
 use Rattle.timer_base.specs.WakeUps.{IsWakeUp}
 use Rattle.timer_base.specs.WheelState.{with_room, WheelState, IsPending, after_tick, after_ticks, Advances}
 use Rattle.timer_links.specs.Lists.{list_at, Row, Rows}
@@ -88,21 +88,21 @@ module _ {t : Table} {b : Buckets} {words : List ℕ} (h : IsHier t b words) whe
     | inr c ↦ absurd (omega (arith, h.marked.1 l c f))
   ]
 
-  pub first_in_range : (l : ℕ) → IsFirstSet words (Some l) → l < slots (radices t)
+  pub first_in_range : (l : ℕ) → IsFirstSet MOST_BUCKETS words (Some l) → l < slots (radices t)
   first_in_range l f = omega (arith, first_in l f.0 f.1, h.has_slots)
 
   -- and the bucket has a timer
-  filled_there : (l : ℕ) → IsFirstSet words (Some l) → filled (list_at l b.links.lists) ≡ 1
+  filled_there : (l : ℕ) → IsFirstSet MOST_BUCKETS words (Some l) → filled (list_at l b.links.lists) ≡ 1
   filled_there l f = sym (h.marked.0 l (first_in l f.0 f.1)) ∙ f.1
 
   some_if_filled : (rows : Rows) → filled rows ≡ 1 → 0 < length rows
   some_if_filled [] e = absurd (omega arith)
   some_if_filled (r ∷ rs) e = omega arith
 
-  pub first_some : (l : ℕ) → IsFirstSet words (Some l) → 0 < length (list_at l b.links.lists)
+  pub first_some : (l : ℕ) → IsFirstSet MOST_BUCKETS words (Some l) → 0 < length (list_at l b.links.lists)
   first_some l f = some_if_filled (list_at l b.links.lists) (filled_there l f)
 
-  pub first_ahead : (l visit : ℕ) → visit ≡ list_visit (radices t) l b.tick → IsFirstSet words (Some l)
+  pub first_ahead : (l visit : ℕ) → visit ≡ list_visit (radices t) l b.tick → IsFirstSet MOST_BUCKETS words (Some l)
       → AreNotVisitedBefore (radices t) b.slots b.tick visit b.links.lists
   first_ahead l visit e f s k = elim (cases_lt s l) [
     | inl c ↦ rw (none_where s k (f.2 s c)) tt
@@ -134,12 +134,12 @@ module _ {t : Table} {b : Buckets} {words : List ℕ} (h : IsHier t b words) whe
       ∙ list_is (radices t) b.tick (timer_in r).deadline (of_table t).is_table a.0.digits a.0.later in
       omega (arith, visit_later (radices t) b.tick (timer_in r).deadline (of_table t).is_table a.0.later)
 
-  pub first_later : (l visit : ℕ) → visit ≡ list_visit (radices t) l b.tick → IsFirstSet words (Some l) → b.tick < visit
+  pub first_later : (l visit : ℕ) → visit ≡ list_visit (radices t) l b.tick → IsFirstSet MOST_BUCKETS words (Some l) → b.tick < visit
   first_later l visit e f =
       omega (arith, later_by l (list_at l b.links.lists) (filled_there l f) (known l (first_in l f.0 f.1)))
 
   -- the next tick that empties a bucket with a timer is one to wake up at
-  pub first_wakes : (l visit : ℕ) → visit ≡ list_visit (radices t) l b.tick → IsFirstSet words (Some l) → IsWakeUp visit b.tick (state_of b).pending
+  pub first_wakes : (l visit : ℕ) → visit ≡ list_visit (radices t) l b.tick → IsFirstSet MOST_BUCKETS words (Some l) → IsWakeUp visit b.tick (state_of b).pending
   first_wakes l visit e f =
       wakes b.slots b.last_tick b.tick b.last_serial b.links.lists visit l (first_in l f.0 f.1)
       (first_some l f) (first_later l visit e f)

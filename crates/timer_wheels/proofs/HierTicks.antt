@@ -3,9 +3,9 @@ use Rattle.std.proofs.Common.{◌≡◌, ◌≢◌, ◌<◌, ◌≤◌, ◌+◌,
 use Rattle.std.specs.List.{AllByRecursion}
 use Rattle.std.proofs.lemmas.Bool.{cases_eq, cases_lt, eq-eqb, ne_eqb, eqb-true}
 use Rattle.std.proofs.lemmas.Bool.Decides.{nat_tests}
-use Rattle.timer_base.specs.Basics.{is_not_due, is_due, not_due_before, either}
+use Rattle.timer_base.proofs.Basics.{is_not_due, is_due, not_due_before, either}
 use Rattle.timer_base.specs.Order.{AreRising, in_order, insert_in_order, is_before}
-use Rattle.timer_base.specs.OrderLaws.{map-in_order, in_order-same, AllAt, All-filter, All-weaken, All-in_order}
+use Rattle.timer_base.proofs.OrderLaws.{map-in_order, in_order-same, AllAt, All-filter, All-weaken, All-in_order}
 use Rattle.timer_base.specs.Pending.{Entry, timer_of, is_due_at, entries_due, entries_left}
 use Rattle.timer_base.specs.WheelState.{IsPending, after_tick}
 use Rattle.timer_links.specs.Lists.{list_at, KeyedLists, Row, Rows}

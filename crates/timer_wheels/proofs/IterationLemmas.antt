@@ -2,10 +2,10 @@
 use Rattle.std.proofs.Common.{◌≡◌, ◌<◌, ◌≤◌, ◌+◌, ◌⊎◌, ℕ, refl, sym, ◌∙◌, ap, subst, inl, inr, arith, Option, Some, None, IsSome}
 use Rattle.std.specs.List.{AllByRecursion}
 use Rattle.std.proofs.lemmas.Bool.{cases_lt, eq-eqb}
-use Rattle.timer_base.specs.Basics.{none_some, some_same}
+use Rattle.timer_base.proofs.Basics.{none_some, some_same}
 use Rattle.timer_base.specs.declared.timer.Timer.{Timer}
 use Rattle.timer_base.specs.declared.timer.Handle.{Handle}
-use Rattle.timer_base.specs.OrderLaws.{All-in_order, All-weaken}
+use Rattle.timer_base.proofs.OrderLaws.{All-in_order, All-weaken}
 use Rattle.timer_base.specs.Pending.{Entry, timer_of}
 use Rattle.timer_base.specs.WheelState.{held_at}
 use Rattle.timer_links.specs.declared.node.Node.{Node}

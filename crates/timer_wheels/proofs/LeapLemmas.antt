@@ -3,9 +3,9 @@ use Rattle.std.proofs.Common.{◌≡◌, ℕ, ◌+◌, ◌-◌, ◌<◌, ◌≤�
 use Rattle.std.specs.List.{AllByRecursion}
 use Rattle.std.proofs.lemmas.Bool.{cases_lt}
 use Rattle.std.proofs.lemmas.Bool.Decides.{nat_tests}
-use Rattle.timer_base.specs.OrderLaws.{All-in_order, All-weaken}
+use Rattle.timer_base.proofs.OrderLaws.{All-in_order, All-weaken}
 use Rattle.timer_base.specs.Pending.{Entry, timer_of}
-use Rattle.timer_base.specs.TickLaws.{passing_quiet, after_ticks-add, none_left_out}
+use Rattle.timer_base.proofs.TickLaws.{passing_quiet, after_ticks-add, none_left_out}
 use Rattle.timer_base.specs.WheelState.{WheelState, IsPending, after_tick, after_ticks}
 use Rattle.timer_links.specs.Lists.{list_at, KeyedLists, Row}
 use Rattle.timer_wheels.specs.Digits.{IsTable, HasDigits, level, hops}

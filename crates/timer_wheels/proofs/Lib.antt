@@ -45,7 +45,6 @@ pub mod SmoothMoves
 pub mod SmoothPlaces
 pub mod SmoothSteps
 pub mod SmoothTicks
-pub mod FilledLemmas
 pub mod SmoothDescent
 pub mod BankLemmas
 pub mod SmoothSkips
@@ -63,3 +62,4 @@ pub mod SmoothFirsts
 pub mod SmoothLeaps
 pub mod BankRestarts
 pub mod TieredLemmas
+pub mod IdleLemmas

@@ -2,9 +2,9 @@
 use Rattle.std.proofs.Common.{◌≡◌, ◌<◌, ◌+◌, ℕ, ◌==◌, List, [], ◌∷◌, ◌++◌, length, refl, sym, ◌∙◌, ap, subst, inl, inr, arith, append_assoc, length-set, get_or-set_same, get_or-set_other, true, false, filter, not}
 use Rattle.std.specs.List.{AllByRecursion}
 use Rattle.std.proofs.lemmas.Bool.{cases_eq, eq-eqb, ne_eqb}
-use Rattle.timer_base.specs.Basics.{either}
+use Rattle.timer_base.proofs.Basics.{either}
 use Rattle.timer_base.specs.Order.{AreDistinct, IsNotAmong, in_order, insert_in_order}
-use Rattle.timer_base.specs.OrderLaws.{in_order-anywhere}
+use Rattle.timer_base.proofs.OrderLaws.{in_order-anywhere}
 use Rattle.timer_base.specs.Pending.{is_due_at}
 use Rattle.timer_links.specs.Lists.{list_at, with_row, KeyedLists, Row, Rows}
 use Rattle.timer_wheels.specs.Digits.{slots, bucket}

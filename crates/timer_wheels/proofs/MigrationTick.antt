@@ -6,6 +6,7 @@ use Rattle.std.proofs.lemmas.Nat.{div-mul-add, mod-mul-add}
 use Rattle.timer_base.specs.WheelState.{IsPending}
 use Rattle.timer_links.specs.Lists.{list_at, KeyedLists, Rows}
 use Rattle.timer_wheels.specs.BucketLists.{timer_in}
+use Rattle.timer_wheels.specs.declared.table.TheConstants.{MOST_BUCKETS}
 use Rattle.timer_wheels.specs.declared.buckets.Buckets.{Buckets}
 use Rattle.timer_wheels.specs.declared.table.Table.{Table}
 use Rattle.timer_wheels.specs.Buckets.{state_of}
@@ -60,7 +61,7 @@ module _ {t : Table} {b : Buckets} {words : List ℕ} (h : IsHier t b words) whe
       sym (ap (emptied (radices t)) v ∙ (visit_empties (radices t) b.tick d (of_table t).is_table i p.0.later ∙ q.0.0))
 
   -- the first bucket with a timer is emptied at its visit
-  pub first_empties : (l visit : ℕ) → visit ≡ list_visit (radices t) l b.tick → IsFirstSet words (Some l)
+  pub first_empties : (l visit : ℕ) → visit ≡ list_visit (radices t) l b.tick → IsFirstSet MOST_BUCKETS words (Some l)
       → l ≡ emptied (radices t) visit
   first_empties l visit e f =
       let c = first_in h l f.0 f.1 in

@@ -4,10 +4,11 @@ use Rattle.std.specs.List.{AllByRecursion}
 use Rattle.std.proofs.lemmas.Bool.{cases_eq, eq-eqb, ne_eqb}
 use Rattle.std.proofs.lemmas.Bool.Decides.{nat_tests}
 use Rattle.std.proofs.Math.Nat.{mul-div_right}
-use Rattle.timer_base.specs.OrderLaws.{All-weaken}
-use Rattle.timer_base.specs.Pending.{Entry, timer_of, timers_of, entries_due}
-use Rattle.timer_base.specs.TickLaws.{AreAfter, left_all, after_ticks-now}
+use Rattle.timer_base.proofs.OrderLaws.{All-weaken}
+use Rattle.timer_base.specs.Pending.{Entry, timer_of, timers_of, entries_due, AreAfter}
+use Rattle.timer_base.proofs.TickLaws.{left_all, after_ticks-now}
 use Rattle.timer_base.specs.WheelState.{WheelState, IsPending, after_ticks}
+use Rattle.timer_wheels.specs.declared.table.TheConstants.{MOST_BUCKETS}
 use Rattle.timer_wheels.specs.declared.buckets.Buckets.{Buckets}
 use Rattle.timer_wheels.specs.declared.table.Table.{Table}
 use Rattle.timer_wheels.specs.Buckets.{state_of, state_of-well_formed}
@@ -127,7 +128,7 @@ may_move table last now last_serial entries i h a =
     (all-of_map timer_of (IsPending last now last_serial) entries a)
 
 module _ {t : Table} {b : Buckets} {words : List ℕ} (h : IsHier t b words) (l visit : ℕ) (e : visit
-    ≡ list_visit (radices t) l b.tick) (f : IsFirstSet words (Some l)) where
+    ≡ list_visit (radices t) l b.tick) (f : IsFirstSet MOST_BUCKETS words (Some l)) where
   shown_some : 0 < length (entries_at (bucket_at (radices t) b.tick) l (state_of b).pending)
   shown_some = some_at (slots (radices t)) (bucket_at (radices t) b.tick) no_rounds (state_of b) b.links.lists
       (shown (radices t) b h.has_slots h.placed) l (first_in_range h l f) (first_some h l f)

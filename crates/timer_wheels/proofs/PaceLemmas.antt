@@ -1,21 +1,18 @@
 -- Lemmas for `Paces` and `work`: sums of paces, and next buckets that stay in time.
-use Rattle.std.proofs.Common.{◌≡◌, ◌≢◌, ◌<◌, ◌≤◌, ◌+◌, ◌-◌, ◌*◌, ◌/◌, ℕ, zero, suc, List, [], ◌∷◌, length, refl, sym, ◌∙◌, ap, inl, inr, subst, arith, slice_set, length-set, get_or-set_same, get_or-set_other, true, nat_lt}
+use Rattle.std.proofs.Common.{◌≡◌, ◌≢◌, ◌<◌, ◌≤◌, ◌+◌, ◌*◌, ◌/◌, ℕ, zero, suc, List, [], ◌∷◌, length, refl, sym, ◌∙◌, ap, inl, inr, subst, arith}
 use Rattle.std.proofs.Math.Nat.{div-mul-le_self, mul-le-mul_left}
 use Rattle.std.proofs.lemmas.Bool.{cases_eq}
-use Rattle.std.proofs.lemmas.Bool.Decides.{nat_tests}
 use Rattle.timer_links.specs.Lists.{list_at, row_count, KeyedLists}
-use Rattle.timer_wheels.specs.Bank.{next_len, potential_of, IsEarly, OthersShrink}
+use Rattle.timer_wheels.specs.Bank.{next_len, potential_of, OthersShrink}
 use Rattle.timer_wheels.specs.Digits.{IsTable, weight}
-use Rattle.timer_wheels.specs.Paces.{pace_at, sum_below, pace_sum, ArePaces, pace_for, most_pace, FitPaces, AreInTime, HasMoved}
+use Rattle.timer_wheels.specs.Paces.{pace_at, sum_below, pace_sum, pace_for, FitPaces, HasMoved}
 use Rattle.timer_wheels.specs.Smooth.{slot_in, next_list, ticks_left}
 use Rattle.timer_wheels.specs.Tables.{radices, wide, clock, small}
 use Rattle.timer_wheels.specs.declared.buckets.Buckets.{Buckets}
 use Rattle.timer_links.specs.declared.ring.TheConstants.{INDEXES}
-use Rattle.timer_wheels.specs.declared.smooth.paces.TheConstants.{MOST_PACE}
 use Rattle.timer_wheels.specs.declared.smooth.turns.TheConstants.{MOST_WHEELS}
 use Rattle.timer_wheels.specs.declared.table.Table.{Table}
 use Rattle.timer_wheels.specs.declared.table.Table.TheVariants.{Wide, Clock, Small}
-use Rattle.timer_wheels.proofs.DigitLaws.{quotient_mono}
 use Rattle.timer_wheels.proofs.SmoothPace.{pace_begun}
 use Rattle.timer_wheels.proofs.SmoothTurns.{wide_length, clock_length}
 use Rattle.timer_wheels.proofs.SmoothWeights.{weight_some, halves}
@@ -24,23 +21,11 @@ use Rattle.timer_wheels.proofs.TableLaws.{of_table}
 
 -- Sums.
 
-sums_above : (paces : List ℕ) (n i v : ℕ) → n ≤ i → sum_below (slice_set paces i v) n ≡ sum_below paces n
-sums_above paces zero i v h = refl
-sums_above paces (suc n) i v h =
-    let e : pace_at (slice_set paces i v) n ≡ pace_at paces n = get_or-set_other paces i n v 0 (λ (q : n ≡ i). omega arith) in
-    omega (arith, sums_above paces n i v (omega arith))
-
-pub sums_set : (paces : List ℕ) (n i v : ℕ) → i < n → i < length paces → sum_below (slice_set paces i v) n + pace_at paces i ≡ sum_below paces n + v
-sums_set paces zero i v h b = absurd (omega arith)
-sums_set paces (suc n) i v h b = elim (cases_eq i n) [
-  | inl e ↦
-      let here : pace_at (slice_set paces i v) n ≡ v = ap (λ (x : ℕ). pace_at (slice_set paces i v) x) (sym e) ∙ get_or-set_same paces i v 0 b in
-      let was : pace_at paces n ≡ pace_at paces i = ap (pace_at paces) (sym e) in
-      omega (arith, sums_above paces n i v (omega arith))
-  | inr x ↦
-      let same : pace_at (slice_set paces i v) n ≡ pace_at paces n = get_or-set_other paces i n v 0 (λ (q : n ≡ i). x (sym q)) in
-      omega (arith, sums_set paces n i v (omega arith) b)
-]
+pub most_of_sum : (paces : List ℕ) (n most : ℕ) → ((k : ℕ) → pace_at paces k ≤ most) → sum_below paces n ≤ n * most
+most_of_sum paces zero most f = omega arith
+most_of_sum paces (suc n) most f =
+    let e : suc n * most ≡ n * most + most = omega arith in
+    omega (arith, most_of_sum paces n most f, f n)
 
 pub one_of_sum : (paces : List ℕ) (n i : ℕ) → i < n → pace_at paces i ≤ sum_below paces n
 one_of_sum paces zero i h = absurd (omega arith)
@@ -49,31 +34,12 @@ one_of_sum paces (suc n) i h = elim (cases_eq i n) [
   | inr x ↦ omega (arith, one_of_sum paces n i (omega arith))
 ]
 
-pub most_of_sum : (paces : List ℕ) (n most : ℕ) → ((k : ℕ) → pace_at paces k ≤ most) → sum_below paces n ≤ n * most
-most_of_sum paces zero most f = omega arith
-most_of_sum paces (suc n) most f =
-    let e : suc n * most ≡ n * most + most = omega arith in
-    omega (arith, most_of_sum paces n most f, f n)
-
 pub sums_mono : (paces : List ℕ) (n m : ℕ) → n ≤ m → sum_below paces n ≤ sum_below paces m
 sums_mono paces n zero h = let e : n ≡ 0 = omega arith in omega (arith, ap (sum_below paces) e)
 sums_mono paces n (suc m) h = elim (cases_eq n (suc m)) [
   | inl e ↦ omega (arith, ap (sum_below paces) e)
   | inr x ↦ omega (arith, sums_mono paces n m (omega arith))
 ]
-
--- another pace of one wheel
-pub set_paces : (paces : List ℕ) (sum wheel pace : ℕ) → ArePaces paces sum → wheel < MOST_WHEELS → pace ≤ MOST_PACE
-    → ArePaces (slice_set paces wheel pace) (sum - pace_at paces wheel + pace)
-set_paces paces sum wheel pace a w p = record {
-  size = length-set paces wheel pace ∙ a.size;
-  sum_is = omega (arith, a.sum_is, sums_set paces MOST_WHEELS wheel pace w (omega (arith, a.size)), one_of_sum paces MOST_WHEELS wheel w);
-  each = λ k. elim (cases_eq k wheel) [
-    | inl e ↦ let h : pace_at (slice_set paces wheel pace) k ≡ pace =
-        ap (λ (x : ℕ). pace_at (slice_set paces wheel pace) x) e ∙ get_or-set_same paces wheel pace 0 (omega (arith, a.size)) in omega arith
-    | inr x ↦ let h : pace_at (slice_set paces wheel pace) k ≡ pace_at paces k = get_or-set_other paces wheel k pace 0 x in omega (arith, a.each k)
-  ];
-}
 
 -- The pace that is fixed.
 
@@ -115,13 +81,6 @@ quotient_few n w h l =
 pub held_quotient : (t : Table) (k n : ℕ) → 0 < k → n ≤ INDEXES → n / weight k (radices t) ≤ 268435456
 held_quotient t k n z l = quotient_few n (weight k (radices t)) (sixteen_ticks t k (of_table t).is_table z) l
 
--- more timers, no lower pace
-pub pace_mono : (t : Table) (k n m : ℕ) → n ≤ m → pace_for (radices t) n k ≤ pace_for (radices t) m k
-pace_mono t k n m h =
-    let q : n / weight k (radices t) ≤ m / weight k (radices t) =
-    quotient_mono (weight k (radices t)) n m (weight_some (radices t) k (of_table t).is_table) h in
-    omega arith
-
 -- a list is no longer than all together
 pub one_of_rows : (l : ℕ) (lists : KeyedLists) → length (list_at l lists) ≤ row_count lists
 one_of_rows l [] = omega arith
@@ -149,16 +108,6 @@ pub record AreMoving (t : Table) (old new : Buckets) (paces paces2 : List ℕ) (
   pub rest : (k : ℕ) → 0 < k → w ≤ k → k < length (radices t) → next_len t new k ≤ next_len t old k
   pub kept : (k : ℕ) → w ≤ k → pace_at paces2 k ≡ pace_at paces k
   pub lower : (k : ℕ) → pace_at paces2 k ≤ pace_at paces k
-
-pub moving_none : (t : Table) (b : Buckets) (paces : List ℕ) → AreMoving t b b paces paces 0 1
-moving_none t b paces = record {
-  at_most = omega arith;
-  falls = omega arith;
-  done = λ k z l. absurd (omega arith);
-  rest = λ k z l n. omega arith;
-  kept = λ k l. refl;
-  lower = λ k. omega arith;
-}
 
 pub moving_more : (t : Table) (old mid new : Buckets) (paces paces2 paces3 : List ℕ) (moves w more : ℕ) → AreMoving t old mid paces paces2 moves w
     → 0 < w → w < length (radices t) → HasMoved t mid new paces2 paces3 w → OthersShrink t w mid new
@@ -205,14 +154,6 @@ moving_more t old mid new paces paces2 paces3 moves w more m z l moved others pa
     | inr e ↦ (let f = e.0 in omega arith)
   ]
 
--- a next bucket in time has timers only in the first half of its time
-pub early_of : (t : Table) (old mid : Buckets) (paces : List ℕ) (k : ℕ) → AreInTime t old paces → mid.tick ≡ old.tick → 0 < k
-    → k < length (radices t) → next_len t mid k ≤ next_len t old k → IsEarly t mid k
-early_of t old mid paces k h e z l less = λ (q : ticks_left (radices t) mid.tick k ≡ 0).
-    let q2 : ticks_left (radices t) old.tick k ≡ 0 = ap (λ (x : ℕ). ticks_left (radices t) x k) (sym e) ∙ q in
-    let none : pace_at paces k * ticks_left (radices t) old.tick k ≡ pace_at paces k * 0 = ap (λ (x : ℕ). pace_at paces k * x) q2 in
-    omega (arith, h k z l)
-
 -- with no pace nothing is left to move
 pub none_to_move : (t : Table) (b : Buckets) (paces : List ℕ) → 0 ≡ pace_sum paces → (k : ℕ) → k < length (radices t)
     → HasMoved t b b paces paces k
@@ -226,42 +167,3 @@ pub record AreFixed (t : Table) (b : Buckets) (paces paces2 : List ℕ) (w : ℕ
       → next_len t b k ≤ pace_at paces2 k * ticks_left (radices t) b.tick k
   pub others : (k : ℕ) → slot_in (radices t) k b.tick * weight k (radices t) ≢ b.tick → pace_at paces2 k ≡ pace_at paces k
   pub fit : (n : ℕ) → row_count b.links.lists ≤ n → FitPaces (radices t) n paces → FitPaces (radices t) n paces2
-
-pub fixed_none : (t : Table) (b : Buckets) (paces : List ℕ) → AreFixed t b paces paces 1
-fixed_none t b paces = record {
-  begun = λ k z l. absurd (omega arith);
-  others = λ k n. refl;
-  fit = λ n h f. f;
-}
-
-most_is : (t : Table) (n k : ℕ) → 0 < k → k < length (radices t) → most_pace (radices t) n k ≡ pace_for (radices t) n k
-most_is t n k z l =
-    let a : nat_lt 0 k ≡ true = grind (arith, nat_tests) in
-    let b : nat_lt k (length (radices t)) ≡ true = grind (arith, nat_tests) in
-    rw (a, b) refl
-
-pub fixed_more : (t : Table) (b : Buckets) (paces paces2 paces3 : List ℕ) (w : ℕ) → AreFixed t b paces paces2 w → 0 < w → w < length (radices t)
-    → (slot_in (radices t) w b.tick * weight w (radices t) ≡ b.tick
-    → next_len t b w ≤ pace_at paces3 w * ticks_left (radices t) b.tick w)
-    → (slot_in (radices t) w b.tick * weight w (radices t) ≢ b.tick → pace_at paces3 w ≡ pace_at paces2 w)
-    → ((k : ℕ) → k ≢ w → pace_at paces3 k ≡ pace_at paces2 k)
-    → ((n : ℕ) → row_count b.links.lists ≤ n → pace_at paces2 w ≤ pace_for (radices t) n w → pace_at paces3 w ≤ pace_for (radices t) n w)
-    → AreFixed t b paces paces3 (w + 1)
-fixed_more t b paces paces2 paces3 w m z l begun same others fit = record {
-  begun = λ k a c d h. elim (cases_eq k w) [
-    | inl e ↦ subst (λ (x : ℕ). next_len t b x ≤ pace_at paces3 x * ticks_left (radices t) b.tick x) (sym e)
-        (begun (subst (λ (x : ℕ). slot_in (radices t) x b.tick * weight x (radices t) ≡ b.tick) e h))
-    | inr n ↦ subst (λ (x : ℕ). next_len t b k ≤ x * ticks_left (radices t) b.tick k) (sym (others k n)) (m.begun k a (omega arith) d h)
-  ];
-  others = λ k h. elim (cases_eq k w) [
-    | inl e ↦ subst (λ (x : ℕ). slot_in (radices t) x b.tick * weight x (radices t) ≢ b.tick → pace_at paces3 x ≡ pace_at paces x) (sym e)
-        (λ h2. same h2 ∙ m.others w h2) h
-    | inr n ↦ others k n ∙ m.others k h
-  ];
-  fit = λ n h f k. elim (cases_eq k w) [
-    | inl e ↦ subst (λ (x : ℕ). pace_at paces3 x ≤ most_pace (radices t) n x) (sym e)
-        (let q = m.fit n h f w in let i = most_is t n w z l in
-        let g = fit n h (omega arith) in omega arith)
-    | inr x ↦ omega (arith, others k x, m.fit n h f k)
-  ];
-}

@@ -5,10 +5,10 @@ use Rattle.std.specs.List.{AllByRecursion}
 use Rattle.std.proofs.lemmas.Bool.{cases_eq, cases_lt}
 use Rattle.std.proofs.Math.Nat.{mul-add, add-mul-mod_self_right}
 use Rattle.timer_base.specs.Order.{in_order}
-use Rattle.timer_base.specs.OrderLaws.{All-in_order, All-weaken}
-use Rattle.timer_base.specs.Pending.{Entry, timer_of}
-use Rattle.timer_base.specs.TickLaws.{AreAfter, IsPassing, after_ticks-now, after_ticks-last, after_ticks-add, passing_quiet}
-use Rattle.timer_base.specs.WheelState.{WheelState, IsPending, Advances, after_ticks}
+use Rattle.timer_base.proofs.OrderLaws.{All-in_order, All-weaken}
+use Rattle.timer_base.specs.Pending.{Entry, timer_of, AreAfter}
+use Rattle.timer_base.specs.WheelState.{IsPassing, WheelState, IsPending, Advances, after_ticks}
+use Rattle.timer_base.proofs.TickLaws.{after_ticks-now, after_ticks-last, after_ticks-add, passing_quiet}
 use Rattle.timer_links.specs.Lists.{list_at, KeyedLists, Row, Rows}
 use Rattle.timer_wheels.specs.BucketLaws.{timers_of-entries}
 use Rattle.timer_wheels.specs.BucketLists.{timer_in, timers_in, entry_of, entries_of, rows_below, pending_in, wheel_state, ArePending, AreInOrder, AreBuckets, EachRow}

@@ -1,6 +1,6 @@
 -- Room changes nothing of what a wheel says of its timers.
 use Rattle.std.proofs.Common.{ℕ, List, sym, ◌∙◌, ap}
-use Rattle.timer_base.specs.TickLaws.{after_ticks-with_room}
+use Rattle.timer_base.proofs.TickLaws.{after_ticks-with_room}
 use Rattle.timer_base.specs.declared.timer.Timer.{Timer}
 use Rattle.timer_base.specs.WheelState.{WheelState, with_room}
 use Rattle.timer_links.specs.Lists.{KeyedLists}

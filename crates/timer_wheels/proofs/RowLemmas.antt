@@ -4,10 +4,10 @@ use Rattle.std.specs.List.{AllByRecursion}
 use Rattle.std.proofs.lemmas.List.{map-append}
 pub use Rattle.std.proofs.lemmas.List.{append-nil, set-set as set_twice, set_comm as set_swapped}
 pub use Rattle.std.proofs.lemmas.List.Elements.{filter-append}
-use Rattle.timer_base.specs.Basics.{either}
+use Rattle.timer_base.proofs.Basics.{either}
 use Rattle.timer_base.specs.declared.timer.Timer.{Timer}
 use Rattle.timer_base.specs.Order.{AreBelow, AreDistinct, IsNotAmong}
-use Rattle.timer_base.specs.OrderLaws.{All-weaken}
+use Rattle.timer_base.proofs.OrderLaws.{All-weaken}
 use Rattle.timer_base.specs.Pending.{Entry}
 use Rattle.timer_links.specs.Lists.{list_at, with_row, without_key, KeyedLists, Row, Rows}
 use Rattle.timer_wheels.specs.BucketLists.{timer_in, timers_in, entry_of, entries_of, rows_below}

@@ -3,10 +3,10 @@ use Rattle.std.proofs.Common.{◌≡◌, ◌≢◌, ◌<◌, ◌+◌, ℕ, zero,
 use Rattle.std.specs.List.{AllByRecursion}
 use Rattle.std.proofs.lemmas.Bool.{eq-eqb, ne_eqb}
 use Rattle.std.proofs.lemmas.List.{length-map}
-use Rattle.timer_base.specs.Basics.{either}
+use Rattle.timer_base.proofs.Basics.{either}
 use Rattle.timer_base.specs.declared.timer.Timer.{Timer}
 use Rattle.timer_base.specs.Order.{is_before, insert_in_order, in_order, AreDistinct, AreRising, IsNotAmong}
-use Rattle.timer_base.specs.OrderLaws.{insert_in_order-commutes, in_order-same, AllAt, All-weaken, length-in_order, AreDistinct-rising, IsNotAmong-in_order}
+use Rattle.timer_base.proofs.OrderLaws.{insert_in_order-commutes, in_order-same, AllAt, All-weaken, length-in_order, AreDistinct-rising, IsNotAmong-in_order}
 use Rattle.timer_base.specs.Pending.{Entry, timer_of}
 use Rattle.timer_base.specs.WheelState.{WheelState}
 use Rattle.timer_links.specs.Lists.{list_at, KeyedLists, Row, Rows}

@@ -9,7 +9,7 @@ use Rattle.timer_wheels.specs.Digits.{IsTable, HasDigits, radix, weight, level, 
 use Rattle.timer_wheels.specs.Leap.{list_visit}
 use Rattle.timer_wheels.specs.Smooth.{slot_in, smooth_list, smooth_slots}
 use Rattle.timer_wheels.specs.Tables.{small}
-use Rattle.timer_wheels.proofs.DigitLaws.{bucket_near, bucket_far, emptied_here, emptied_above, visit_here, visit_above, less_quotient, level_near, level_far, level_in_table, IsHierTable}
+use Rattle.timer_wheels.proofs.DigitLaws.{bucket_near, bucket_far, emptied_here, visit_here, visit_above, less_quotient, level_near, level_far, level_in_table, IsHierTable}
 
 -- a table of n digits in base 16
 abbrev pub sixteens : ℕ → List ℕ
@@ -81,18 +81,6 @@ bucket_begun now deadline l h = record {
   is = let e : bucket small now deadline ≡ bucket (sixteens 6) now deadline = ap (λ (table : List ℕ). bucket table now deadline) small_is in omega arith;
 }
 
-pub bucket_up : (now deadline below a d rest : ℕ) → below + 16 * rest ≡ 96 → a < d → HasDigits (sixteens rest) d
-    → bucket small now deadline ≡ below + bucket (sixteens rest) a d → a / 16 ≢ d / 16
-    → IsBucketAbove now deadline (below + 16) (a / 16) (d / 16)
-bucket_up now deadline below a d zero p l h e n = absurd (let z : d ≡ 0 = h in omega arith)
-bucket_up now deadline below a d (suc rest) p l h e n = record {
-  rest = rest;
-  passed = omega arith;
-  later = less_quotient 16 a d l (omega arith) n;
-  digits = h;
-  is = omega (arith, e, bucket_far 16 (sixteens rest) a d n);
-}
-
 pub bucket_found : (now deadline below a d rest : ℕ) → below + 16 * rest ≡ 96 → a < d → HasDigits (sixteens rest) d
     → bucket small now deadline ≡ below + bucket (sixteens rest) a d → a / 16 ≡ d / 16
     → (bucket small now deadline ≡ below + d % 16) × (below + 16 ≤ 96)
@@ -115,17 +103,6 @@ emptied_begun tick l h = record {
   later = l;
   digits = has_digits 6 tick (omega arith);
   is = let e : emptied small tick ≡ emptied (sixteens 6) tick = ap (λ (table : List ℕ). emptied table tick) small_is in omega arith;
-}
-
-pub emptied_up : (tick below t rest : ℕ) → below + 16 * rest ≡ 96 → 0 < t → HasDigits (sixteens rest) t
-    → emptied small tick ≡ below + emptied (sixteens rest) t → t % 16 ≡ 0 → IsEmptiedAbove tick (below + 16) (t / 16)
-emptied_up tick below t zero p l h e n = absurd (let z : t ≡ 0 = h in omega arith)
-emptied_up tick below t (suc rest) p l h e n = record {
-  rest = rest;
-  passed = omega arith;
-  later = omega arith;
-  digits = h;
-  is = omega (arith, e, emptied_above 16 (sixteens rest) t n);
 }
 
 pub emptied_found : (tick below t rest : ℕ) → below + 16 * rest ≡ 96 → 0 < t → HasDigits (sixteens rest) t

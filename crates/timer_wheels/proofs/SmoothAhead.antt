@@ -125,11 +125,6 @@ module _ (t : Table) (b : Buckets) (words : List ℕ) (h : IsBank t b words) whe
       rest_is (2 * radix k (radices t)) (slot / (2 * radix k (radices t))) (slot % (2 * radix k (radices t)) + (i - slot)) i (omega arith) (omega arith) in
       empty_by_bit k i l (f (smooth_list (radices t) k i) (omega arith) (omega arith))
 
-  -- a slot with timers begins within the clock
-  record Known (s : ℕ) (row : Row) : Type 0 where
-    smooth : IsSmooth (radices t) b.tick (mark (radices t) b.tick b.links.lists) s row
-    pending : IsPending b.last_tick b.tick b.last_serial (timer_in row)
-
   begun_by : (k i : ℕ) (rows : Rows) → k < length (radices t) → slot_in (radices t) k b.tick < i
       → i < slot_in (radices t) k b.tick + 2 * radix k (radices t) → 0 < length rows
       → AllByRecursion (IsSmooth (radices t) b.tick (mark (radices t) b.tick b.links.lists) (smooth_list (radices t) k i)) rows
@@ -166,10 +161,6 @@ module _ (t : Table) (b : Buckets) (words : List ℕ) (h : IsBank t b words) whe
       ]
 
   -- Events.
-
-  pub events_none : (tick : ℕ) → EachRow (IsEventFrom (radices t) tick 0) b.slots b.links.lists
-  events_none tick s l = weaker (IsSmooth (radices t) b.tick (mark (radices t) b.tick b.links.lists) s) (IsEventFrom (radices t) tick 0 s)
-      (list_at s b.links.lists) (λ row p k a. absurd (omega arith)) (placed s l)
 
   record Seen (tick w s : ℕ) (row : Row) : Type 0 where
     smooth : IsSmooth (radices t) b.tick (mark (radices t) b.tick b.links.lists) s row

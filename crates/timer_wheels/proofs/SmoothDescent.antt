@@ -1,7 +1,7 @@
 -- Lemmas for `descend`: where it stops, and that for a timer that is started now it is the placement law.
 use Rattle.std.proofs.Common.{◌≡◌, ◌<◌, ◌≤◌, ◌-◌, ℕ, zero, suc, List, refl, sym, ap, inl, inr, arith, true, false, ◌==◌, not, nat_lt}
 use Rattle.std.proofs.lemmas.Bool.{eq-eqb, ne_eqb}
-use Rattle.timer_base.specs.Basics.{either}
+use Rattle.timer_base.proofs.Basics.{either}
 use Rattle.timer_wheels.specs.declared.smooth.turns.TheConstants.{MOST_LISTS}
 use Rattle.timer_wheels.specs.declared.table.Table.{Table}
 use Rattle.timer_wheels.specs.declared.table.Table.TheVariants.{Wide, Clock, Small}

@@ -2,11 +2,11 @@
 use Rattle.std.proofs.Common.{◌≡◌, ◌<◌, ◌≤◌, ◌⊎◌, ◌+◌, ◌-◌, ◌*◌, ℕ, suc, List, [], ◌∷◌, length, refl, sym, ◌∙◌, ap, inl, inr, subst, arith, filter, not, Bool}
 use Rattle.std.proofs.Math.Nat.{mul-le-mul_right}
 use Rattle.std.proofs.lemmas.Bool.{cases_eq, cases_lt}
-use Rattle.timer_base.specs.Basics.{either}
-use Rattle.timer_base.specs.OrderLaws.{All-in_order}
-use Rattle.timer_base.specs.Pending.{Entry, timer_of, is_due_at, entries_due, entries_left}
-use Rattle.timer_base.specs.TickLaws.{AreAfter, IsPassing, passing_quiet, after_ticks-add}
-use Rattle.timer_base.specs.WheelState.{WheelState, held_count, after_tick, after_ticks, Advances}
+use Rattle.timer_base.proofs.Basics.{either}
+use Rattle.timer_base.proofs.OrderLaws.{All-in_order}
+use Rattle.timer_base.specs.Pending.{Entry, timer_of, is_due_at, entries_due, entries_left, AreAfter}
+use Rattle.timer_base.specs.WheelState.{IsPassing, WheelState, held_count, after_tick, after_ticks, Advances}
+use Rattle.timer_base.proofs.TickLaws.{passing_quiet, after_ticks-add}
 use Rattle.timer_links.specs.Lists.{list_at}
 use Rattle.timer_wheels.specs.Bank.{IsBank, next_len}
 use Rattle.timer_wheels.specs.BucketLists.{timer_in, entry_of, entries_of, rows_below, EachRow}
@@ -122,18 +122,6 @@ advance_stops most old mid new l p q b d =
         | inr c ↦ p.quiet k c
       ];
       early = λ h. d;
-    }
-
-pub advance_ends : (most : ℕ) (old now : WheelState) → 0 < most → now.now ≡ old.now + most → IsPassing (now.now - old.now) old now
-    → Advances most most old now
-advance_ends most old now z e p =
-    let n : now.now - old.now ≡ most = omega arith in
-    record {
-      some = z;
-      at_most = omega arith;
-      ticked = p.ticked ∙ ap (λ (x : ℕ). after_ticks x old) n;
-      quiet = λ k h. p.quiet k (omega arith);
-      early = λ h. absurd (omega arith);
     }
 
 -- one more tick's moves

@@ -6,7 +6,7 @@ use Rattle.std.proofs.lemmas.List.{set-get_or}
 use Rattle.std.proofs.lemmas.Bool.{cases_eq}
 use Rattle.timer_base.specs.declared.timer.Timer.{Timer}
 use Rattle.timer_base.specs.Order.{in_order, insert_in_order, AreDistinct, AreRising, IsNotAmong}
-use Rattle.timer_base.specs.OrderLaws.{map-in_order, in_order-anywhere, AreRising-weaken}
+use Rattle.timer_base.proofs.OrderLaws.{map-in_order, in_order-anywhere, AreRising-weaken}
 use Rattle.timer_base.specs.Pending.{timer_of}
 use Rattle.timer_base.specs.WheelState.{IsPending}
 use Rattle.timer_links.specs.Lists.{list_at, with_row, KeyedLists, Row, Rows}
@@ -67,12 +67,6 @@ pending_by_rows rows = sym (map-in_order timer_in timer_of entry_of (λ x. refl)
 
 module _ {n last_tick now last : ℕ} {lists : KeyedLists} {from to : ℕ} {row : Row} {rest : Rows}
     (b : AreBuckets n last_tick now last lists) (m : IsMove n lists from to row rest) where
-  abbrev pub mid : KeyedLists
-  mid = slice_set lists from rest
-
-  abbrev pub after : KeyedLists
-  after = with_row to row (slice_set lists from rest)
-
   from_exists : from < length lists
   from_exists = omega (arith, m.from_in, b.has_lists)
 

@@ -1,10 +1,10 @@
 -- The places of all rows of a smooth wheel: after rows left their lists, and after a row came to the back of one.
-use Rattle.std.proofs.Common.{◌≡◌, ◌≢◌, ◌<◌, ◌≤◌, ◌⊎◌, ◌+◌, ◌-◌, ◌*◌, ℕ, suc, List, [], ◌∷◌, ◌++◌, length, refl, sym, ◌∙◌, ap, inl, inr, subst, arith, get_or-set_same, get_or-set_other}
+use Rattle.std.proofs.Common.{◌≡◌, ◌≢◌, ◌<◌, ◌≤◌, ◌+◌, ◌-◌, ◌*◌, ℕ, List, [], ◌∷◌, ◌++◌, length, refl, sym, ◌∙◌, ap, inl, inr, subst, arith, get_or-set_same, get_or-set_other}
 use Rattle.std.specs.List.{AllByRecursion}
 use Rattle.std.proofs.lemmas.Bool.{cases_eq}
 use Rattle.timer_base.specs.declared.limits.TheConstants.{LAST}
 use Rattle.timer_base.specs.Order.{AreRising}
-use Rattle.timer_base.specs.OrderLaws.{AreRising-weaken}
+use Rattle.timer_base.proofs.OrderLaws.{AreRising-weaken}
 use Rattle.timer_links.specs.Lists.{list_at, with_row, KeyedLists, Row, Rows}
 use Rattle.timer_wheels.specs.BucketLists.{timer_in, timers_in, AreInOrder, EachRow}
 use Rattle.timer_wheels.specs.Digits.{IsTable, radix}
@@ -82,12 +82,6 @@ moved_to-behind (x ∷ xs) row n = refl
 
 none_moved : (rows : Rows) → rows ≡ [] → moved_to rows ≡ LAST
 none_moved rows e = ap moved_to e
-
-is_none : (rows : Rows) → (rows ≡ []) ⊎ (rows ≢ [])
-is_none [] = inl refl
-is_none (x ∷ xs) = inr (λ (e : x ∷ xs ≡ []). nothing x xs e) where
-  nothing : (x : Row) (xs : Rows) → x ∷ xs ≡ [] → ⊥
-  nothing x xs e = let q : suc (length xs) ≡ 0 = ap (λ (r : Rows). length r) e in omega arith
 
 module _ (table : List ℕ) (now n to on : ℕ) (mid : KeyedLists) (row : Row) (i : IsTable table) (turns : HasTurns table)
     (exists : to < length mid) (serial : (timer_in row).serial ≤ LAST)

@@ -1,14 +1,10 @@
 -- Slots of a tick on each wheel: how those of two ticks compare from wheel to wheel, for every table of radices.
-use Rattle.std.proofs.Common.{◌≡◌, ◌<◌, ◌≤◌, ◌⊎◌, ◌+◌, ◌/◌, ◌%◌, ℕ, zero, suc, List, [], ◌∷◌, refl, sym, ◌∙◌, ap, inl, inr, arith}
+use Rattle.std.proofs.Common.{◌≡◌, ◌<◌, ◌≤◌, ◌⊎◌, ◌+◌, ◌/◌, ◌%◌, ℕ, zero, suc, List, [], ◌∷◌, sym, ◌∙◌, ap, inl, inr, arith}
 use Rattle.std.proofs.Math.Nat.{div-div-eq-div-mul}
 use Rattle.std.proofs.lemmas.Bool.{cases_eq}
 use Rattle.timer_wheels.specs.Digits.{IsTable, HasDigits, weight, level}
 use Rattle.timer_wheels.specs.Smooth.{slot_in}
 use Rattle.timer_wheels.proofs.DigitLaws.{quotient_mono, quotient_is, level_near, level_far, less_quotient}
-
-weight_zero : (table : List ℕ) → weight zero table ≡ 1
-weight_zero [] = refl
-weight_zero (r ∷ rs) = refl
 
 -- on the lowest wheel the slot is the tick
 pub slot_low : (table : List ℕ) (t : ℕ) → slot_in table zero t ≡ t

@@ -37,12 +37,6 @@ module _ (table : List ℕ) (n last_tick now last k : ℕ) (lists : KeyedLists) 
     (placed : EachRow (IsSmooth table now (mark table now lists)) n lists) (wheel : suc k < length table)
     (in_range : (j s : ℕ) → j < length table → smooth_list table j s < n)
     (at : list_at (next_list table now (suc k)) lists ≡ row ∷ rest) where
-  abbrev from : ℕ
-  from = next_list table now (suc k)
-
-  abbrev mid : KeyedLists
-  mid = slice_set lists (next_list table now (suc k)) rest
-
   -- the new wheel and list
   abbrev on : ℕ
   on = descend table now (mark table now (slice_set lists (next_list table now (suc k)) rest)) (timer_in row).deadline (timer_in row).serial k

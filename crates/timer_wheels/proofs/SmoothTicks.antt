@@ -4,7 +4,7 @@ use Rattle.std.specs.List.{AllByRecursion}
 use Rattle.std.proofs.lemmas.Bool.{cases_eq, eq-eqb, ne_eqb}
 use Rattle.std.proofs.lemmas.List.Elements.{filter-append}
 use Rattle.timer_base.specs.Order.{AreDistinct, AreRising}
-use Rattle.timer_base.specs.OrderLaws.{map-in_order, in_order-same}
+use Rattle.timer_base.proofs.OrderLaws.{map-in_order, in_order-same}
 use Rattle.timer_base.specs.Pending.{Entry, timer_of, is_due_at, entries_due, entries_left}
 use Rattle.timer_base.specs.WheelState.{IsPending, IsDue, after_tick}
 use Rattle.timer_links.specs.Lists.{list_at, appended, KeyedLists, Row, Rows}
@@ -25,12 +25,6 @@ module _ (table : List ℕ) (n last_tick a last : ℕ) (lists : KeyedLists) (i :
     (in_range : (j s : ℕ) → j < length table → smooth_list table j s < n)
     (empty : (k : ℕ) → 0 < k → k < length table → slot_in table k (a + 1) ≡ slot_in table k a + 1
     → list_at (next_list table a k) lists ≡ []) where
-  abbrev l : ℕ
-  l = smooth_list table zero (a + 1)
-
-  abbrev new : KeyedLists
-  new = appended (smooth_list table zero (a + 1)) n lists
-
   l_in : smooth_list table zero (a + 1) < n
   l_in = in_range zero (a + 1) some
 
@@ -59,10 +53,6 @@ module _ (table : List ℕ) (n last_tick a last : ℕ) (lists : KeyedLists) (i :
   new_others s x y = get_or-set_other (slice_set lists (smooth_list table zero (a + 1)) []) n s
       (list_at n lists ++ list_at (smooth_list table zero (a + 1)) lists) [] y
       ∙ get_or-set_other lists (smooth_list table zero (a + 1)) s [] [] x
-
-  -- what is known of each row
-  abbrev Pending : Row → Type 0
-  Pending row = IsPending last_tick a last (timer_in row)
 
   pending_rows : (s : ℕ) → s < n → AllByRecursion (λ row. IsPending last_tick a last (timer_in row)) (list_at s lists)
   pending_rows = all-list_at (λ row. IsPending last_tick a last (timer_in row)) n lists b.pending
@@ -174,9 +164,6 @@ module _ (table : List ℕ) (n last_tick a last : ℕ) (lists : KeyedLists) (i :
   not_false : (row : Row) → is_due_at (a + 1) (timer_in row) ≡ true → not (is_due_at (a + 1) (timer_in row)) ≡ false
   not_false row e = rw e refl
 
-  abbrev Stays : Row → Type 0
-  Stays row = is_due_at (a + 1) (timer_in row) ≡ false
-
   left_is : filter (λ row. not (is_due_at (a + 1) (timer_in row))) (rows_below n lists)
       ≡ rows_below n (appended (smooth_list table zero (a + 1)) n lists)
   left_is =
@@ -252,9 +239,6 @@ module _ (table : List ℕ) (n last_tick a last : ℕ) (lists : KeyedLists) (i :
   }
 
   -- The places.
-
-  abbrev marks2 : ℕ → ℕ
-  marks2 = mark table (a + 1) (appended (smooth_list table zero (a + 1)) n lists)
 
   -- a next bucket that stays the next one keeps its rows
   pub next_same : (j : ℕ) → 0 < j → j < length table → slot_in table j (a + 1) ≡ slot_in table j a

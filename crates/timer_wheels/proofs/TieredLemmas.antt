@@ -2,18 +2,27 @@
 use Rattle.std.proofs.Common.{◌≡◌, ◌≢◌, ◌<◌, ◌≤◌, ℕ, true, false, List, [], ◌∷◌, length, ap, ◌∙◌, refl, arith, if◌then◌else◌, Option, None, Some, IfSome}
 use Rattle.std.specs.List.{AllByRecursion}
 use Rattle.std.proofs.lemmas.Bool.{ne_eqb}
-use Rattle.timer_base.specs.Basics.{some_same}
+use Rattle.timer_base.proofs.Basics.{some_same}
 use Rattle.timer_base.specs.Pending.{Entry, timers_of}
 use Rattle.timer_base.specs.WakeUps.{IsWakeUp, next_deadline}
 use Rattle.timer_base.specs.WheelState.{WheelState, IsPending, IsWellFormed}
 use Rattle.timer_base.specs.declared.limits.TheConstants.{LAST}
 use Rattle.timer_wheels.specs.Buckets.{state_of, state_of-well_formed}
 use Rattle.timer_wheels.specs.HierWheel.{table_of}
-use Rattle.timer_wheels.specs.TieredWheel.{is_smooth, slots_are_not, turns_are_smooth, option_of}
+use Rattle.timer_wheels.specs.Tables.{slots_of_table, wide, clock, small}
+use Rattle.timer_wheels.specs.TieredWheel.{is_smooth, turns_are_smooth, option_of}
 use Rattle.timer_wheels.specs.declared.buckets.Buckets.{Buckets}
 use Rattle.timer_wheels.specs.declared.hier.HierWheel.{HierWheel}
 use Rattle.timer_wheels.specs.declared.smooth.SmoothWheel.{SmoothWheel}
+use Rattle.timer_wheels.specs.declared.table.Table.{Table}
+use Rattle.timer_wheels.specs.declared.table.Table.TheVariants.{Wide, Clock, Small}
 use Rattle.timer_wheels.specs.declared.tiered.TheConstants.{NEVER}
+
+slots_are_not : (table : Table) → is_smooth (slots_of_table table) ≡ false
+unfolding wide clock small
+slots_are_not Wide = refl
+slots_are_not Clock = refl
+slots_are_not Small = refl
 
 pub is_not_smooth : (wheel : HierWheel) → is_smooth wheel.wheels.buckets.slots ≡ false
 is_not_smooth wheel = ap is_smooth wheel.wheels.hier.has_slots ∙ slots_are_not (table_of wheel)

@@ -3,8 +3,8 @@ use Rattle.std.proofs.Common.{◌≡◌, ◌⊎◌, ◌<◌, ◌≤◌, ◌+◌,
 use Rattle.std.proofs.lemmas.List.{get_or_past}
 use Rattle.std.proofs.lemmas.Bool.{cases_lt}
 use Rattle.std.proofs.Math.Nat.{mod-add-mod}
-use Rattle.timer_base.specs.Basics.{empty_when}
-use Rattle.timer_base.specs.OrderLaws.{All-in_order}
+use Rattle.timer_base.proofs.Basics.{empty_when}
+use Rattle.timer_base.proofs.OrderLaws.{All-in_order}
 use Rattle.timer_base.specs.Pending.{timer_of}
 use Rattle.timer_base.specs.WakeUps.{IsWakeUp}
 use Rattle.timer_base.specs.WheelState.{IsPending}

@@ -2,7 +2,7 @@
 use Rattle.std.proofs.Common.{◌≡◌, ◌<◌, ◌≤◌, ◌+◌, ℕ, List, [], ◌∷◌, ◌++◌, length, refl, sym, ◌∙◌, ap, arith, append_assoc, length-append, get_or-set_same, true, IsSome, Option, Some, None, slice_set, is_some}
 use Rattle.std.proofs.lemmas.List.{set-get_or, length-map}
 use Rattle.timer_links.proofs.Rows.{length_list_at}
-use Rattle.timer_base.specs.Basics.{some_same, some_none, none_some, empty_when}
+use Rattle.timer_base.proofs.Basics.{some_same, some_none, none_some, empty_when}
 use Rattle.timer_base.specs.declared.timer.Timer.{Timer}
 use Rattle.timer_links.specs.declared.node.Node.{Node}
 use Rattle.timer_links.specs.Lists.{node_at, first_key, list_at, row_count, AreApart, IsNext, PopsFront, KeyedLists, Row, Rows}
@@ -54,9 +54,6 @@ module _ (l step : ℕ) (lists : KeyedLists) (b : l < length lists) (a : AreApar
     (w : IsNextRow l step lists key past left) where
   pub found : node_at key lists ≡ Some w.node
   found = (a l past (key, w.node) w.rest b w.rows).0
-
-  pub in_use : IsSome (node_at key lists)
-  in_use = rw found refl
 
 abbrev pub walked : (l step : ℕ) (lists : KeyedLists) (key : ℕ) (past : Rows) {left : Rows} (w : IsNextRow l step lists key past left)
     → (at : Option ℕ) → at ≡ first_key w.rest → IsWalking l (step + 1) lists at (past ++ (key, w.node) ∷ [])

@@ -5,10 +5,11 @@ use Rattle.std.proofs.Props.{props}
 use Rattle.timer_base.specs.declared.timer.Handle.{Handle}
 use Rattle.timer_base.specs.declared.timer.Timer.{Timer}
 use Rattle.timer_links.specs.Lists.{Row}
-use Rattle.timer_wheels.specs.BucketLists.{EachRow, EachRow-prop}
+use Rattle.timer_wheels.specs.BucketLaws.{EachRow-prop}
+use Rattle.timer_wheels.specs.BucketLists.{EachRow}
 use Rattle.timer_wheels.specs.Digits.{last_of}
 use Rattle.timer_wheels.specs.Occupied.{bit_of, AreMarked, AreMarked-prop}
-use Rattle.timer_wheels.specs.Smooth.{smooth_slots, smooth_level, mark, next_list, next_length, heights, ticks_left, IsByLaw}
+use Rattle.timer_wheels.specs.Smooth.{smooth_slots, smooth_level, mark, next_list, next_length, next_lengths, heights, ticks_left, IsByLaw}
 use Rattle.timer_wheels.specs.Tables.{radices}
 use Rattle.timer_wheels.specs.declared.buckets.Buckets.{Buckets}
 use Rattle.timer_wheels.specs.declared.table.Table.{Table}
@@ -44,6 +45,10 @@ LeavesBits n (Some l) old new = (l < n → (bit_of new l ≡ 0) × ((s : ℕ) �
 abbrev pub next_len : Table → Buckets → ℕ → ℕ
 next_len table b k = next_length (radices table) b.tick b.links.lists k
 
+-- how many timers all next buckets have: those that may go to a lower wheel now
+abbrev pub movable : Table → Buckets → ℕ
+movable table b = next_lengths (radices table) b.tick b.links.lists (length (radices table) - 1)
+
 -- the potential of the timers: the wheels of all of them, added up
 abbrev pub potential_of : Table → Buckets → ℕ
 potential_of table b = heights (radices table) b.slots b.links.lists
@@ -56,6 +61,10 @@ wheel_of table b timer = if nat_lt b.tick timer.deadline
 -- the next bucket of wheel k has timers only in the first half of its time
 abbrev pub IsEarly : Table → Buckets → ℕ → Type 0
 IsEarly table b k = ticks_left (radices table) b.tick k ≡ 0 → next_len table b k ≡ 0
+
+-- each other next bucket has as many timers as before
+abbrev pub OthersStay : Table → ℕ → Buckets → Buckets → Type 0
+OthersStay table k old new = (j : ℕ) → 0 < j → j < length (radices table) → j ≢ k → next_len table new j ≡ next_len table old j
 
 -- no other next bucket has more timers than before
 abbrev pub OthersShrink : Table → ℕ → Buckets → Buckets → Type 0

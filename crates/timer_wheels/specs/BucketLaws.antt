@@ -1,14 +1,16 @@
--- Lemmas about the state that lists represent. They are in specs/ since `Buckets.state_of-well_formed` cites
--- them.
-use Rattle.std.proofs.Common.{◌∙◌, ap, arith, ◌≡◌, ℕ, [], ◌∷◌, map, refl}
-use Rattle.std.specs.List.{AllByRecursion}
+-- Lemmas about the state that lists represent: it is well formed, and what says so is a proposition. They are in
+-- specs/ since ghost items and definitions of this crate cite them.
+use Rattle.std.proofs.Common.{◌∙◌, ap, arith, ◌≡◌, ◌+◌, ℕ, List, [], ◌∷◌, map, refl}
+use Rattle.std.proofs.Props.{props}
+use Rattle.std.specs.Coded.{Π_prop}
+use Rattle.std.specs.List.{AllByRecursion, AllByRecursion-prop}
+use Rattle.timer_base.proofs.OrderLaws.{map-in_order, All-in_order, IsOrdered-in_order, AreDistinct-in_order, AreRising-prop}
 use Rattle.timer_base.specs.declared.timer.Timer.{Timer}
-use Rattle.timer_base.specs.Order.{in_order, itself}
-use Rattle.timer_base.specs.OrderLaws.{map-in_order, All-in_order, IsOrdered-in_order, AreDistinct-in_order}
+use Rattle.timer_base.specs.Order.{in_order, itself, AreDistinct, IsNotAmong}
 use Rattle.timer_base.specs.Pending.{timer_of, timers_of}
 use Rattle.timer_base.specs.WheelState.{IsPending, IsDue, IsWellFormed}
-use Rattle.timer_links.specs.Lists.{list_at, KeyedLists, Rows}
-use Rattle.timer_wheels.specs.BucketLists.{timer_in, timers_in, entries_of, rows_below, pending_in, wheel_state, AreBuckets}
+use Rattle.timer_links.specs.Lists.{list_at, KeyedLists, Row, Rows}
+use Rattle.timer_wheels.specs.BucketLists.{timer_in, timers_in, entries_of, rows_below, pending_in, wheel_state, ArePendingBelow, AreInOrder, AreDue, AreBuckets, EachRow}
 
 pub timers_of-entries : (rows : Rows) → map timer_of (entries_of rows) ≡ timers_in rows
 timers_of-entries [] = refl
@@ -43,3 +45,47 @@ wheel_state-well_formed n last_tick now last lists b =
           (all-timers (IsDue now last) (list_at n lists) b.due);
       due_rising = rw (timers_of-entries (list_at n lists)) (b.in_order n (omega arith));
     }
+
+-- What is kept of the lists is a proposition.
+
+IsPending-prop : (last_tick now last_serial : ℕ) (t : Timer) → IsProp (IsPending last_tick now last_serial t)
+IsPending-prop last_tick now last_serial t = hlevel props
+
+pub ArePendingBelow-prop : (n last_tick now last_serial : ℕ) (lists : KeyedLists)
+    → IsProp (ArePendingBelow n last_tick now last_serial lists)
+ArePendingBelow-prop n last_tick now last_serial lists =
+    AllByRecursion-prop (λ row. IsPending last_tick now last_serial (timer_in row))
+    (λ row. IsPending-prop last_tick now last_serial (timer_in row)) (rows_below n lists)
+
+IsDue-prop : (now last_serial : ℕ) (t : Timer) → IsProp (IsDue now last_serial t)
+IsDue-prop now last_serial t = hlevel props
+
+pub AreDue-prop : (now last_serial : ℕ) (rows : Rows) → IsProp (AreDue now last_serial rows)
+AreDue-prop now last_serial rows = AllByRecursion-prop (λ row. IsDue now last_serial (timer_in row))
+    (λ row. IsDue-prop now last_serial (timer_in row)) rows
+
+pub AreInOrder-prop : (n : ℕ) (lists : KeyedLists) → IsProp (AreInOrder n lists)
+AreInOrder-prop n lists = Π_prop (λ s. Π_prop (λ b. AreRising-prop 0 (timers_in (list_at s lists))))
+
+pub EachRow-prop : (fact : ℕ → Row → Type 0) → ((s : ℕ) (row : Row) → IsProp (fact s row))
+    → (n : ℕ) (lists : KeyedLists) → IsProp (EachRow fact n lists)
+EachRow-prop fact prop n lists = Π_prop (λ s. Π_prop
+    (λ b. AllByRecursion-prop (fact s) (prop s) (list_at s lists)))
+
+IsNotAmong-prop : (serial : ℕ) (ts : List Timer) → IsProp (IsNotAmong serial ts)
+IsNotAmong-prop serial [] = hlevel props
+IsNotAmong-prop serial (t ∷ ts) = hlevel (props, IsNotAmong-prop serial ts)
+
+pub AreDistinct-prop : (ts : List Timer) → IsProp (AreDistinct ts)
+AreDistinct-prop [] = hlevel props
+AreDistinct-prop (t ∷ ts) = hlevel (props, IsNotAmong-prop t.serial ts, AreDistinct-prop ts)
+
+pub AreBuckets-prop : (n last_tick now last_serial : ℕ) (lists : KeyedLists)
+    → IsProp (AreBuckets n last_tick now last_serial lists)
+AreBuckets-prop n last_tick now last_serial lists = hlevel (
+  props,
+  ArePendingBelow-prop n last_tick now last_serial lists,
+  AreDistinct-prop (timers_in (rows_below n lists)),
+  AreDue-prop now last_serial (list_at n lists),
+  AreInOrder-prop (n + 1) lists,
+)

@@ -1,13 +1,10 @@
 -- The state that the lists of a wheel represent: the first n are its buckets, and the next one has what is
 -- due.
 use Rattle.std.specs.Prelude.{◌≡◌, ℕ, ◌+◌, ◌<◌, ◌≤◌, zero, suc, List, [], ◌∷◌, ◌++◌, length, map}
-use Rattle.std.specs.List.{AllByRecursion, AllByRecursion-prop}
-use Rattle.std.specs.Coded.{Π_prop}
-use Rattle.std.proofs.Props.{props}
+use Rattle.std.specs.List.{AllByRecursion}
 use Rattle.timer_base.specs.declared.limits.TheConstants.{LAST}
 use Rattle.timer_base.specs.declared.timer.Timer.{Timer}
-use Rattle.timer_base.specs.Order.{in_order, AreDistinct, AreRising, IsNotAmong}
-use Rattle.timer_base.specs.OrderLaws.{AreRising-prop}
+use Rattle.timer_base.specs.Order.{in_order, AreDistinct, AreRising}
 use Rattle.timer_base.specs.Pending.{Entry, timer_of}
 use Rattle.timer_base.specs.WheelState.{WheelState, IsPending, IsDue}
 use Rattle.timer_links.specs.Lists.{list_at, KeyedLists, Row, Rows}
@@ -80,45 +77,3 @@ pub record AreBuckets (n last_tick now last_serial : ℕ) (lists : KeyedLists) :
 -- each row of the first n lists is as the fact says of its list
 abbrev pub EachRow : (ℕ → Row → Type 0) → ℕ → KeyedLists → Type 0
 EachRow fact n lists = (s : ℕ) → s < n → AllByRecursion (fact s) (list_at s lists)
-
-IsPending-prop : (last_tick now last_serial : ℕ) (t : Timer) → IsProp (IsPending last_tick now last_serial t)
-IsPending-prop last_tick now last_serial t = hlevel props
-
-pub ArePendingBelow-prop : (n last_tick now last_serial : ℕ) (lists : KeyedLists)
-    → IsProp (ArePendingBelow n last_tick now last_serial lists)
-ArePendingBelow-prop n last_tick now last_serial lists =
-    AllByRecursion-prop (λ row. IsPending last_tick now last_serial (timer_in row))
-    (λ row. IsPending-prop last_tick now last_serial (timer_in row)) (rows_below n lists)
-
-IsDue-prop : (now last_serial : ℕ) (t : Timer) → IsProp (IsDue now last_serial t)
-IsDue-prop now last_serial t = hlevel props
-
-pub AreDue-prop : (now last_serial : ℕ) (rows : Rows) → IsProp (AreDue now last_serial rows)
-AreDue-prop now last_serial rows = AllByRecursion-prop (λ row. IsDue now last_serial (timer_in row))
-    (λ row. IsDue-prop now last_serial (timer_in row)) rows
-
-pub AreInOrder-prop : (n : ℕ) (lists : KeyedLists) → IsProp (AreInOrder n lists)
-AreInOrder-prop n lists = Π_prop (λ s. Π_prop (λ b. AreRising-prop 0 (timers_in (list_at s lists))))
-
-pub EachRow-prop : (fact : ℕ → Row → Type 0) → ((s : ℕ) (row : Row) → IsProp (fact s row))
-    → (n : ℕ) (lists : KeyedLists) → IsProp (EachRow fact n lists)
-EachRow-prop fact prop n lists = Π_prop (λ s. Π_prop
-    (λ b. AllByRecursion-prop (fact s) (prop s) (list_at s lists)))
-
-IsNotAmong-prop : (serial : ℕ) (ts : List Timer) → IsProp (IsNotAmong serial ts)
-IsNotAmong-prop serial [] = hlevel props
-IsNotAmong-prop serial (t ∷ ts) = hlevel (props, IsNotAmong-prop serial ts)
-
-pub AreDistinct-prop : (ts : List Timer) → IsProp (AreDistinct ts)
-AreDistinct-prop [] = hlevel props
-AreDistinct-prop (t ∷ ts) = hlevel (props, IsNotAmong-prop t.serial ts, AreDistinct-prop ts)
-
-pub AreBuckets-prop : (n last_tick now last_serial : ℕ) (lists : KeyedLists)
-    → IsProp (AreBuckets n last_tick now last_serial lists)
-AreBuckets-prop n last_tick now last_serial lists = hlevel (
-  props,
-  ArePendingBelow-prop n last_tick now last_serial lists,
-  AreDistinct-prop (timers_in (rows_below n lists)),
-  AreDue-prop now last_serial (list_at n lists),
-  AreInOrder-prop (n + 1) lists,
-)

@@ -2,7 +2,7 @@
 use Rattle.std.specs.Prelude.{◌≡◌, ◌≤◌, ℕ, List, [], map, Option, Some, None}
 use Rattle.std.specs.List.{AllByRecursion}
 use Rattle.timer_base.specs.declared.timer.Timer.{Timer}
-use Rattle.timer_base.specs.OneOrder.{IsMember}
+use Rattle.timer_base.specs.Order.{IsMember}
 
 -- one of the timers has this deadline
 abbrev pub HasDeadline : ℕ → List Timer → Type 0

@@ -6,7 +6,8 @@ use Rattle.std.proofs.Props.{props}
 use Rattle.timer_base.specs.declared.timer.Timer.{Timer}
 use Rattle.timer_base.specs.WheelState.{WheelState}
 use Rattle.timer_links.specs.Lists.{KeyedLists, Row}
-use Rattle.timer_wheels.specs.BucketLists.{timer_in, EachRow, EachRow-prop}
+use Rattle.timer_wheels.specs.BucketLaws.{EachRow-prop}
+use Rattle.timer_wheels.specs.BucketLists.{timer_in, EachRow}
 use Rattle.timer_wheels.specs.Shown.{entries_at, ShowsBuckets}
 
 -- the slot of a timer

@@ -9,7 +9,8 @@ use Rattle.timer_wheels.specs.Firsts.{FirstsState, Enters, Leaves, Empties, AreF
 use Rattle.timer_wheels.specs.Occupied.{bit_of, Clears, AreMarked, AreMarked-prop}
 use Rattle.timer_wheels.specs.Placement.{IsPlaced, IsPlaced-prop, levels_of}
 use Rattle.timer_wheels.specs.Tables.{radices}
-use Rattle.timer_wheels.specs.BucketLists.{EachRow, EachRow-prop}
+use Rattle.timer_wheels.specs.BucketLaws.{EachRow-prop}
+use Rattle.timer_wheels.specs.BucketLists.{EachRow}
 
 -- each row of the buckets is in its timer's bucket
 abbrev pub ArePlaced : Table → Buckets → Type 0

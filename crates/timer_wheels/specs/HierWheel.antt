@@ -1,5 +1,5 @@
 -- The names in the public clauses of `HierWheel`.
-use Rattle.std.proofs.Common.{sym, ◌∙◌, ◌≡◌, ◌⊎◌, ℕ, ◌+◌, ◌-◌, ◌<◌, ◌≤◌}
+use Rattle.std.specs.Prelude.{◌≡◌, ◌⊎◌, ℕ, ◌+◌, ◌-◌, ◌<◌, ◌≤◌}
 use Rattle.timer_base.specs.declared.fault.MakeFault.{MakeFault}
 use Rattle.timer_base.specs.declared.fault.MakeFault.TheVariants.{FirstTick, OutOfMemory}
 use Rattle.timer_base.specs.Counts.{WheelCounts}
@@ -9,7 +9,7 @@ use Rattle.timer_wheels.specs.declared.hier.HierWheel.{HierWheel}
 use Rattle.timer_wheels.specs.declared.table.Table.{Table}
 use Rattle.timer_wheels.specs.Digits.{lowest_radix}
 use Rattle.timer_wheels.specs.Placement.{hops_of, visited_between, has_any}
-use Rattle.timer_wheels.specs.Tables.{radices_by_slots, same_by_slots}
+use Rattle.timer_wheels.specs.Tables.{radices_by_slots}
 
 -- the state of the wheel
 abbrev pub hier_state : HierWheel → WheelState
@@ -18,12 +18,6 @@ hier_state wheel = state_of wheel.wheels.buckets
 -- the table by which it reads its digits
 abbrev pub table_of : HierWheel → Table
 table_of wheel = wheel.wheels.table
-
--- no call changes the number of slots, and so none changes the table
-pub same_table : (old new : HierWheel) → (hier_state new).slots ≡ (hier_state old).slots
-    → table_of new ≡ table_of old
-same_table old new e = same_by_slots new.wheels.table old.wheels.table
-    (sym new.wheels.hier.has_slots ∙ (e ∙ old.wheels.hier.has_slots))
 
 -- the error of `new` and `with_table`: the first tick is after the last one, or out of memory
 abbrev pub IsHierFault : ℕ → ℕ → MakeFault → Type 0

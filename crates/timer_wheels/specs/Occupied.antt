@@ -10,10 +10,10 @@ use Rattle.timer_wheels.specs.declared.table.TheConstants.{MOST_BUCKETS}
 abbrev pub bit_of : List ℕ → ℕ → ℕ
 bit_of words s = bit_at (slice_index_or words (s / 64) 0) (s % 64)
 
--- the first list whose bit is set, if one is
-abbrev pub IsFirstSet : List ℕ → Option ℕ → Type 0
-IsFirstSet words None = (s : ℕ) → s < MOST_BUCKETS → bit_of words s ≡ 0
-IsFirstSet words (Some l) = (l < MOST_BUCKETS) × (bit_of words l ≡ 1) × ((s : ℕ) → s < l → bit_of words s ≡ 0)
+-- the first of the first n lists whose bit is set, if one is
+abbrev pub IsFirstSet : ℕ → List ℕ → Option ℕ → Type 0
+IsFirstSet n words None = (s : ℕ) → s < n → bit_of words s ≡ 0
+IsFirstSet n words (Some l) = (l < n) × (bit_of words l ≡ 1) × ((s : ℕ) → s < l → bit_of words s ≡ 0)
 
 -- the lowest bit of a word that is set
 pub record IsLowestSet (word bit : ℕ) : Type 0 where

@@ -39,6 +39,11 @@ HasTurns table = (k : ℕ) → k + 1 < length table → radix k table ≤ 64
 abbrev pub next_length : List ℕ → ℕ → KeyedLists → ℕ → ℕ
 next_length table now lists k = length (list_at (next_list table now k) lists)
 
+-- how many timers the next buckets of wheels 1 to n have, added up
+abbrev pub next_lengths : List ℕ → ℕ → KeyedLists → ℕ → ℕ
+next_lengths table now lists zero = 0
+next_lengths table now lists (suc n) = next_lengths table now lists n + next_length table now lists (suc n)
+
 -- the wheel of a list
 abbrev pub height : List ℕ → ℕ → ℕ
 height table s = if nat_lt (s / 128) (length table) then s / 128 else length table - 1

@@ -1,16 +1,15 @@
 -- The names in the public clauses of `SmoothWheel`.
-use Rattle.std.proofs.Common.{refl}
 use Rattle.std.specs.Prelude.{◌≡◌, ◌<◌, ◌-◌, ◌==◌, if◌then◌else◌, ℕ, List, []}
 use Rattle.timer_base.specs.declared.timer.Timer.{Timer}
 use Rattle.timer_base.specs.WheelState.{WheelState, after_ticks}
 use Rattle.timer_links.specs.Lists.{KeyedLists}
-use Rattle.timer_wheels.specs.Bank.{potential_of, wheel_of}
+use Rattle.timer_wheels.specs.Bank.{movable, potential_of, wheel_of}
 use Rattle.timer_wheels.specs.Buckets.{state_of}
 use Rattle.timer_wheels.specs.Paces.{pace_sum, FitPaces}
 use Rattle.timer_wheels.specs.Placement.{no_rounds}
 use Rattle.timer_wheels.specs.Shown.{ShowsBuckets}
 use Rattle.timer_wheels.specs.Smooth.{smooth_slots, smooth_bucket, mark}
-use Rattle.timer_wheels.specs.Tables.{radices, wide, clock, small}
+use Rattle.timer_wheels.specs.Tables.{radices}
 use Rattle.timer_wheels.specs.declared.smooth.SmoothWheel.{SmoothWheel}
 use Rattle.timer_wheels.specs.declared.table.Table.{Table}
 use Rattle.timer_wheels.specs.declared.table.Table.TheVariants.{Wide, Clock, Small}
@@ -27,12 +26,6 @@ smooth_table wheel = wheel.bank.table
 abbrev pub table_by_turns : ℕ → Table
 table_by_turns n = if n == smooth_slots (radices Wide) then Wide else if n == smooth_slots (radices Clock) then Clock else Small
 
-pub by_its_turns : (table : Table) → table_by_turns (smooth_slots (radices table)) ≡ table
-unfolding wide clock small
-by_its_turns Wide = refl
-by_its_turns Clock = refl
-by_its_turns Small = refl
-
 -- its radices
 abbrev pub radices_by_turns : ℕ → List ℕ
 radices_by_turns n = radices (table_by_turns n)
@@ -47,6 +40,10 @@ moves_of wheel = wheel.moves
 -- the most moves of the next tick: the sum of the paces
 abbrev pub next_moves : SmoothWheel → ℕ
 next_moves wheel = pace_sum wheel.paces
+
+-- how many timers stand in next buckets: the moves that can be made ahead of their ticks
+abbrev pub moves_ahead : SmoothWheel → ℕ
+moves_ahead wheel = movable wheel.bank.table wheel.bank.buckets
 
 -- the wheels in which its pending timers stand, added up: how many moves are left, if none is stopped and each goes one
 -- wheel down at a time

@@ -1,5 +1,5 @@
 -- The tables that a hierarchy of wheels may have: a row of each definition for each of them.
-use Rattle.std.proofs.Common.{sym, ap, ◌∙◌, ◌≡◌, ℕ, ◌==◌, if◌then◌else◌, List, [], ◌∷◌, refl}
+use Rattle.std.specs.Prelude.{ℕ, ◌==◌, if◌then◌else◌, List, [], ◌∷◌}
 use Rattle.timer_base.specs.declared.limits.TheConstants.{LAST}
 use Rattle.timer_wheels.specs.declared.table.TheConstants.{LAST_OF_CLOCK, LAST_OF_SMALL}
 use Rattle.timer_wheels.specs.declared.table.Table.{Table}
@@ -37,16 +37,6 @@ slots_of_table table = slots (radices table)
 abbrev pub table_by_slots : ℕ → Table
 table_by_slots n = if n == slots_of_table Wide then Wide else if n == slots_of_table Clock then Clock else Small
 
-pub by_its_slots : (table : Table) → table_by_slots (slots_of_table table) ≡ table
-unfolding wide clock small
-by_its_slots Wide = refl
-by_its_slots Clock = refl
-by_its_slots Small = refl
-
 -- the radices of the table with this many slots
 abbrev pub radices_by_slots : ℕ → List ℕ
 radices_by_slots n = radices (table_by_slots n)
-
--- tables with the same number of slots are the same
-pub same_by_slots : (t u : Table) → slots_of_table t ≡ slots_of_table u → t ≡ u
-same_by_slots t u e = sym (by_its_slots t) ∙ (ap table_by_slots e ∙ by_its_slots u)

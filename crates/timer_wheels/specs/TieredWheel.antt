@@ -1,13 +1,12 @@
 -- The names in the public clauses of `TieredWheel`.
-use Rattle.std.proofs.Common.{refl, ◌≡◌, ◌==◌, ℕ, Bool, true, false, if◌then◌else◌, List}
-use Rattle.std.specs.Prelude.{Option, Some, None}
+use Rattle.std.proofs.Common.{◌≡◌, ◌==◌, ◌∙◌, ap, ℕ, Bool, true, false, if◌then◌else◌, List, Option, Some, None, refl}
 use Rattle.timer_base.specs.Counts.{WheelCounts}
 use Rattle.timer_base.specs.WheelState.{WheelState, IsWellFormed}
 use Rattle.timer_wheels.specs.Buckets.{state_of, state_of-well_formed}
 use Rattle.timer_wheels.specs.HierWheel.{counts_of, counts_of_tick, counts_of_advance}
 use Rattle.timer_wheels.specs.Smooth.{smooth_slots}
-use Rattle.timer_wheels.specs.SmoothWheel.{starts_of, moves_of, radices_by_turns}
-use Rattle.timer_wheels.specs.Tables.{radices, radices_by_slots, slots_of_table, wide, clock, small}
+use Rattle.timer_wheels.specs.SmoothWheel.{starts_of, moves_of, moves_ahead, radices_by_turns}
+use Rattle.timer_wheels.specs.Tables.{radices, radices_by_slots, wide, clock, small}
 use Rattle.timer_wheels.specs.declared.buckets.Buckets.{Buckets}
 use Rattle.timer_wheels.specs.declared.table.Table.{Table}
 use Rattle.timer_wheels.specs.declared.table.Table.TheVariants as tables
@@ -29,18 +28,6 @@ abbrev pub is_smooth : ℕ → Bool
 is_smooth n = if n == smooth_slots (radices tables.Wide) then true
     else if n == smooth_slots (radices tables.Clock) then true else n == smooth_slots (radices tables.Small)
 
-pub turns_are_smooth : (table : Table) → is_smooth (smooth_slots (radices table)) ≡ true
-unfolding wide clock small
-turns_are_smooth tables.Wide = refl
-turns_are_smooth tables.Clock = refl
-turns_are_smooth tables.Small = refl
-
-pub slots_are_not : (table : Table) → is_smooth (slots_of_table table) ≡ false
-unfolding wide clock small
-slots_are_not tables.Wide = refl
-slots_are_not tables.Clock = refl
-slots_are_not tables.Small = refl
-
 -- the radices of the wheels with this many slots
 abbrev pub radices_of_slots : ℕ → List ℕ
 radices_of_slots n = if is_smooth n then radices_by_turns n else radices_by_slots n
@@ -49,6 +36,11 @@ radices_of_slots n = if is_smooth n then radices_by_turns n else radices_by_slot
 abbrev pub moves_in : TieredWheel → ℕ
 moves_in (Hier wheel) = (counts_of wheel).moves
 moves_in (Smooth wheel) = moves_of wheel
+
+-- How many moves of later ticks can be made now: a hierarchy has none.
+abbrev pub moves_ahead_in : TieredWheel → ℕ
+moves_ahead_in (Hier wheel) = 0
+moves_ahead_in (Smooth wheel) = moves_ahead wheel
 
 -- What follows from the calls and the states alone: all counts of a hierarchy, and the starts of a smooth wheel, whose
 -- moves depend on its paces. It has no visits.
@@ -66,6 +58,18 @@ counts_at_advance old new counts = if is_smooth old.slots then counts else count
 
 pub tiered-well_formed : (wheel : TieredWheel) → IsWellFormed (tiered_state wheel)
 tiered-well_formed wheel = state_of-well_formed (buckets_in wheel)
+
+pub turns_are_smooth : (table : Table) → is_smooth (smooth_slots (radices table)) ≡ true
+unfolding wide clock small
+turns_are_smooth tables.Wide = refl
+turns_are_smooth tables.Clock = refl
+turns_are_smooth tables.Small = refl
+
+-- a hierarchy has no moves to make ahead, and its slots tell it from a smooth wheel
+pub tiered-none_ahead : (wheel : TieredWheel) → is_smooth (tiered_state wheel).slots ≡ false → moves_ahead_in wheel ≡ 0
+tiered-none_ahead (Hier wheel) h = refl
+tiered-none_ahead (Smooth wheel) h =
+    absurd (let s = ap is_smooth wheel.bank.bank.has_slots ∙ turns_are_smooth wheel.bank.table in cc)
 
 -- the tick, unless it is NEVER
 abbrev pub option_of : ℕ → Option ℕ

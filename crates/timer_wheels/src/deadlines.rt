@@ -46,6 +46,8 @@ pub fn least_in(links: &Links, list: usize) -> Option<u64>
 
 /// What is kept of the first deadline in one list: whether its timers are in order, or else how many have it. It walks
 /// the whole list.
+// Inlined: its result would go through memory.
+#[inline(always)]
 pub fn first_in(links: &Links, list: usize) -> First
     requires { list < length links.now.lists }
     ensures { IsKnownOf result (timers_in (list_at list links.now.lists)) }

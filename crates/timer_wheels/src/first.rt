@@ -145,8 +145,8 @@ impl First {
 }
 
 /// The deadline of the front of a list, or this one if it is earlier.
-// Kept out of line: where all timers have one time-out, it is never asked for.
-#[inline(never)]
+// Inlined: for a call a compiler saves registers at the start of each caller, also where it is never asked for.
+#[inline(always)]
 fn least_of_front(links: &Links, list: usize, deadline: u64) -> u64
     requires { list < length links.now.lists }
     ensures { result ≡ least_with (first_deadline (list_at list links.now.lists)) deadline }

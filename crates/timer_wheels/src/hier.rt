@@ -183,6 +183,16 @@ impl HierWheel {
         self.wheels.table
     }
 
+    /// Whether the table is `Table::Wide`, and a node is ready for the next timer. Nothing depends on it but how a start is
+    /// compiled.
+    #[inline]
+    pub(crate) fn is_wide_and_ready(&self) -> bool {
+        match self.wheels.table {
+            Table::Wide => self.wheels.buckets.links.is_ready(),
+            _ => false,
+        }
+    }
+
     /// The clock and the buckets.
     #[inline]
     pub(crate) fn buckets(&self) -> &Buckets

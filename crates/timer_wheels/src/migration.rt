@@ -11,7 +11,7 @@ ghost use Rattle.timer_wheels.specs.Tables.{radices};
 
 use crate::firsts::Firsts;
 use crate::occupied::Occupied;
-use crate::table::{Table, bucket_of, buckets_of, lowest_slots, with_constant_table};
+use crate::table::{Table, bucket_of, buckets_of, lowest_slots, with_wide_table};
 use crate::walks::front_deadline;
 use timer_links::Links;
 
@@ -58,7 +58,7 @@ pub fn empty_bucket(
 
 /// Empties a bucket of a higher wheel.
 ///
-/// There is one loop for each table, and in it all that depends on the table is constant.
+/// There is one loop for the wide table, in which all that depends on the table is constant, and one for the others.
 // Kept out of line, since a tick seldom needs it.
 #[inline(never)]
 fn migrate(
@@ -83,7 +83,7 @@ fn migrate(
     ensures marked { AreMarked (slots (radices table)) occupied.new links.new.lists }
     ensures foretold { AreFirsts (lowest_radix (radices table)) (slots (radices table)) firsts.new links.new.lists }
 {
-    with_constant_table!(migrate_one_by_one(table, links, occupied, firsts, list, tick))
+    with_wide_table!(migrate_one_by_one(table, links, occupied, firsts, list, tick))
 }
 
 /// Empties a bucket from its front, timer by timer, and returns how many went to a lower wheel.

@@ -14,7 +14,7 @@
 //! nothing was due: by then each list was walked at least once.
 ghost use Rattle.std.specs.Prelude.{◌≡◌, ◌-◌, ◌+◌, ◌%◌, ◌<◌, ◌≤◌, ℕ, [], length, map, slice_set};
 ghost use Rattle.std.specs.List.{AllByRecursion};
-ghost use Rattle.timer_base.specs.TickLaws.{AreAfter};
+ghost use Rattle.timer_base.specs.Pending.{AreAfter};
 ghost use Rattle.timer_links.specs.Lists.{list_at};
 ghost use Rattle.timer_wheels.specs.Buckets.{state_of};
 ghost use Rattle.timer_wheels.specs.Hashed.{AreInBuckets};

@@ -23,20 +23,21 @@
 //! no tick moves a whole bucket, and in `Table::Wide` none moves more than 2n/63 + 18 timers, n the most that were held.
 //! `advance` leaps to the next tick that needs a look while nothing is to be moved (`ahead`).
 //!
-//! It meets the whole of `Wheel`, and C has it, beside the hierarchy (`tiered`). Open: calls that do moves ahead in idle time,
-//! and speed. Most calls take the table as a value and not as a constant, and first slots are found anew each time, though only
-//! as far up as a wheel can have an earlier one.
+//! A loop with time to spare may make moves ahead of their ticks (`idle`).
+//!
+//! It meets the whole of `Wheel`, and C has it, beside the hierarchy (`tiered`, `tiered_ahead`). Open: speed. Most calls take
+//! the table as a value and not as a constant, and first slots are found anew each time, though only as far up as a wheel can
+//! have an earlier one.
 ghost use Rattle.std.specs.Prelude.{◌≡◌, ◌+◌, ◌-◌, ◌*◌, ◌<◌, ◌≤◌, ◌↔◌, ℕ, [], length, IsTrue, IfOk, IfErr, IfSome, IfNone, OnOk, OnErr, MatchOption, MatchResult};
 ghost use Rattle.timer_base.specs.declared.limits.TheConstants.{LAST};
 ghost use Rattle.timer_base.specs.WakeUps.{IsQuietUntil, next_deadline};
-ghost use Rattle.timer_base.specs.TickLaws.{IsPassing};
-ghost use Rattle.timer_base.specs.WheelState.{empty_wheel, NamesOne, held_at, held_count, old_timer, first_due, after_reserve, after_held_start, after_removal, after_replacement, after_tick, after_expiry, after_clear, Advances};
+ghost use Rattle.timer_base.specs.WheelState.{IsPassing, empty_wheel, NamesOne, held_at, held_count, old_timer, first_due, after_reserve, after_held_start, after_removal, after_replacement, after_tick, after_expiry, after_clear, Advances};
 ghost use Rattle.timer_wheels.specs.Bank.{potential_of};
 ghost use Rattle.timer_wheels.specs.Buckets.{state_of-well_formed};
 ghost use Rattle.timer_wheels.specs.HeldPlaces.{IsFirstHeld};
 ghost use Rattle.timer_wheels.specs.Paces.{AreInTime, AreInTime-prop, tick_bound};
 ghost use Rattle.timer_wheels.specs.Placement.{most_moves};
-ghost use Rattle.timer_wheels.specs.Smooth.{smooth_slots};
+ghost use Rattle.timer_wheels.specs.Smooth.{smooth_slots, next_lengths};
 ghost use Rattle.timer_wheels.specs.Tables.{radices, last_of_table};
 ghost use Rattle.timer_wheels.specs.WakeUps.{next_visit};
 
@@ -53,7 +54,7 @@ use timer_links::Links;
 mod ahead;
 mod bank;
 mod descent;
-mod filled;
+mod idle;
 pub mod laws;
 mod paces;
 mod turns;
@@ -82,7 +83,7 @@ pub struct SmoothWheel {
 }
 
 impl SmoothWheel {
-    ghost use Rattle.timer_wheels.specs.SmoothWheel.{smooth_state, smooth_table, starts_of, moves_of, next_moves, IsPacedFor, ShowsSmooth};
+    ghost use Rattle.timer_wheels.specs.SmoothWheel.{smooth_state, smooth_table, starts_of, moves_of, next_moves, moves_ahead, IsPacedFor, ShowsSmooth};
     ghost use Rattle.timer_wheels.specs.HierWheel.{IsHierFault};
 
     /// An empty wheel at its first tick.
@@ -123,7 +124,9 @@ impl SmoothWheel {
     /// Slot i of wheel k, of the slots counted from tick 0 on, is list `128 * k + i % (2 * r)`, r the wheel's radix. The
     /// timers of a bucket stand by serial, each under its handle's place, with rounds 0. Does not allocate.
     pub fn links(&self) -> &Links
-        ensures { ShowsSmooth (smooth_table self.now) (smooth_state self.now) result.now.lists }
+        ensures shows { ShowsSmooth (smooth_table self.now) (smooth_state self.now) result.now.lists }
+        ensures ahead { moves_ahead self.now ≡ next_lengths (radices (smooth_table self.now)) (smooth_state self.now).now
+            result.now.lists (length (radices (smooth_table self.now)) - 1) }
     {
         &self.bank.buckets.links
     }
@@ -226,7 +229,7 @@ impl SmoothWheel {
 }
 
 impl Wheel for SmoothWheel {
-    ghost use Rattle.timer_wheels.specs.SmoothWheel.{smooth_state, smooth_table, starts_of, moves_of, next_moves, wheels_left, wheel_in, radices_by_turns, Passes, IsPacedFor};
+    ghost use Rattle.timer_wheels.specs.SmoothWheel.{smooth_state, smooth_table, starts_of, moves_of, next_moves, moves_ahead, wheels_left, wheel_in, radices_by_turns, Passes, IsPacedFor};
 
     ghost state = { λ wheel. smooth_state wheel };
 
@@ -339,6 +342,7 @@ impl Wheel for SmoothWheel {
         requires before_last { (smooth_state self.old).now < (smooth_state self.old).last_tick }
         ensures ticked { smooth_state self.new ≡ after_tick (smooth_state self.old) }
         ensures at_most { moves_of self.new ≤ moves_of self.old + next_moves self.old }
+        ensures ahead { moves_of self.new ≤ moves_of self.old + moves_ahead self.old }
         ensures bound { (n : ℕ) → IsPacedFor n self.old → moves_of self.new ≤ moves_of self.old
             + tick_bound (smooth_table self.old) n }
         ensures counted { moves_of self.new + wheels_left self.new ≡ moves_of self.old + wheels_left self.old }

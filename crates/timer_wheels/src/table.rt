@@ -63,7 +63,18 @@ macro_rules! with_constant_table {
     };
 }
 
+/// A call with the table as a constant if it is the wide one: an inlined function is made once for that, and once for others.
+macro_rules! with_wide_table {
+    ($function:ident($table:expr, $($argument:expr),*)) => {
+        match $table {
+            Table::Wide => $function(Table::Wide, $($argument),*),
+            table => $function(table, $($argument),*),
+        }
+    };
+}
+
 pub(crate) use with_constant_table;
+pub(crate) use with_wide_table;
 
 /// How many buckets all wheels have.
 #[inline]

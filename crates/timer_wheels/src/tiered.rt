@@ -1,7 +1,7 @@
 //! A hierarchy that is chosen as the program runs, as C chooses one: `HierWheel` or `SmoothWheel`.
 //!
 //! Each call is that of the wheel. What both have, the buckets, is read without a look at which of them it is.
-ghost use Rattle.std.specs.Prelude.{◌≡◌, ◌+◌, ◌*◌, ◌<◌, ◌≤◌, true, false, None, IfOk, IfErr, IfSome, IfNone, MatchOption};
+ghost use Rattle.std.specs.Prelude.{◌≡◌, ◌+◌, ◌*◌, ◌<◌, ◌≤◌, true, false, None, Some, IfOk, IfErr, IfSome, IfNone, MatchOption, MatchResult};
 ghost use Rattle.timer_base.specs.Counts.{no_counts};
 ghost use Rattle.timer_base.specs.WheelState.{empty_wheel, held_at, held_count, after_held_start, after_removal};
 ghost use Rattle.timer_base.specs.declared.limits.TheConstants.{LAST};
@@ -9,7 +9,7 @@ ghost use Rattle.timer_wheels.specs.SmoothWheel.{smooth_state, starts_of, radice
 ghost use Rattle.timer_wheels.specs.TieredWheel.{option_of};
 ghost use Rattle.timer_base.specs.WakeUps.{IsQuietUntil, next_deadline};
 ghost use Rattle.timer_wheels.specs.HeldPlaces.{IsFirstHeld, IsAlone};
-ghost use Rattle.timer_wheels.specs.HierWheel.{IsHierFault};
+ghost use Rattle.timer_wheels.specs.HierWheel.{IsHierFault, hier_state, counts_of, with_start};
 ghost use Rattle.timer_wheels.specs.Tables.{slots_of_table, last_of_table};
 ghost use Rattle.timer_wheels.specs.Tiers.{slots_of_tiers, last_of_tiers};
 ghost use Rattle.timer_wheels.specs.WakeUps.{next_visit};
@@ -53,15 +53,16 @@ impl TieredWheel {
         ensures in_range { IfOk result (λ wheel. first_tick ≤ last_of_tiers tiers) }
         ensures fault { IfErr result (λ fault. IsHierFault (last_of_tiers tiers) first_tick fault) }
     {
-        match tiers {
-            Tiers::Wide => TieredWheel::hier(alloc, Table::Wide, first_tick),
-            Tiers::Clock => TieredWheel::hier(alloc, Table::Clock, first_tick),
-            Tiers::Small => TieredWheel::hier(alloc, Table::Small, first_tick),
+        let table = match tiers {
             Tiers::Smooth => {
                 let wheel = SmoothWheel::with_table(alloc, Table::Wide, first_tick)?;
-                Ok(TieredWheel::Smooth(wheel))
+                return Ok(TieredWheel::Smooth(wheel));
             }
-        }
+            Tiers::Wide => Table::Wide,
+            Tiers::Clock => Table::Clock,
+            Tiers::Small => Table::Small,
+        };
+        TieredWheel::hier(alloc, table, first_tick)
     }
 
     /// An empty `HierWheel` of this table.
@@ -136,7 +137,6 @@ impl TieredWheel {
 }
 
 impl Wheel for TieredWheel {
-    ghost use Rattle.timer_wheels.specs.HierWheel.{with_start};
     ghost use Rattle.timer_wheels.specs.TieredWheel.{tiered_state, tiered-well_formed, radices_of_slots, counts_in, counts_at_tick, counts_at_advance};
 
     ghost state = { λ wheel. tiered_state wheel };
@@ -174,14 +174,16 @@ impl Wheel for TieredWheel {
     #[inline(always)]
     fn start(&mut self, timer: Timer) -> Result<Handle, OutOfMemory> {
         match self {
-            TieredWheel::Hier(wheel) => wheel.start(timer),
-            TieredWheel::Smooth(wheel) => match start_smooth(wheel, copy_of(timer)) {
-                Some(place) => Ok(Handle {
-                    place,
-                    serial: timer.serial,
-                }),
-                None => Err(OutOfMemory),
-            },
+            TieredWheel::Hier(wheel) => {
+                if wheel.is_wide_and_ready() {
+                    wheel.start(timer)
+                } else {
+                    handle_at(start_hier(wheel, copy_of(timer)), timer.serial)
+                }
+            }
+            TieredWheel::Smooth(wheel) => {
+                handle_at(start_smooth(wheel, copy_of(timer)), timer.serial)
+            }
         }
     }
 
@@ -301,8 +303,40 @@ fn copy_of(timer: Timer) -> Timer
     }
 }
 
-// The calls of a smooth wheel that are out of line. What they return fits into registers: else those of a hierarchy would
-// have their results in memory, too.
+/// The handle of a timer that was started at this place, if it was.
+#[inline(always)]
+fn handle_at(place: Option<usize>, serial: u64) -> Result<Handle, OutOfMemory>
+    ensures named { IfOk result (λ handle. handle.serial ≡ serial) }
+    ensures placed { MatchResult result (λ handle. place ≡ Some handle.place) (λ _. place ≡ None) }
+{
+    match place {
+        Some(place) => Ok(Handle { place, serial }),
+        None => Err(OutOfMemory),
+    }
+}
+
+// The calls that are out of line: those of a smooth wheel, and a start of a hierarchy that makes room, or whose table is
+// another one than `Table::Wide`. What they return fits into registers: else the others would have their results in memory, too.
+
+/// Starts a timer, and returns its place.
+#[inline(never)]
+fn start_hier(wheel: &mut HierWheel, timer: Timer) -> Option<usize>
+    requires not_past { (hier_state wheel.old).now ≤ timer.deadline }
+    requires deadline { timer.deadline ≤ (hier_state wheel.old).last_tick }
+    requires fresh { (hier_state wheel.old).last_serial < timer.serial }
+    requires serial { timer.serial ≤ LAST }
+    ensures started { IfSome result (λ place. hier_state wheel.new
+        ≡ after_held_start place timer (hier_state wheel.old)) }
+    ensures full { IfNone result ((hier_state wheel.old).room ≤ held_count (hier_state wheel.old)) }
+    ensures err { IfNone result (hier_state wheel.new ≡ hier_state wheel.old) }
+    ensures counts { MatchOption result (counts_of wheel.new ≡ counts_of wheel.old)
+        (λ _. counts_of wheel.new ≡ with_start (counts_of wheel.old)) }
+{
+    match wheel.start(timer) {
+        Ok(handle) => Some(handle.place),
+        Err(_) => None,
+    }
+}
 
 /// Starts a timer, and returns its place.
 #[inline(never)]

@@ -100,11 +100,13 @@ impl Wheels {
         ensures err { OnErr result (state_of self.new.buckets ≡ state_of self.old.buckets) }
         ensures table { self.new.table ≡ self.old.table }
     {
+        // Read before anything is written: so a caller that has asked for the table has no branch on it here.
+        let table = self.table;
         let tick = self.buckets.tick;
         let list = self.list_of(timer.deadline);
         let handle = self.buckets.start(list, timer, 0)?;
         enter_list(
-            &self.table,
+            &table,
             &self.buckets.links,
             &mut self.occupied,
             &mut self.firsts,

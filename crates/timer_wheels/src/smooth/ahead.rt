@@ -14,7 +14,7 @@ ghost use Rattle.timer_wheels.specs.Tables.{radices};
 use crate::deadlines::least_in;
 use crate::smooth::bank::Bank;
 use crate::smooth::turns::{level_of, list_of_slot, slot_of, turns_of, weight_of, wheels_of};
-use crate::table::{Table, with_constant_table};
+use crate::table::{Table, with_wide_table};
 use timer_base::earlier;
 
 impl Bank {
@@ -24,7 +24,7 @@ impl Bank {
         ensures first { IsFirstSlot (radices self.now.table) self.now.buckets.tick wheel self.now.buckets.links.lists result }
         ensures begins { IfSome result (λ slot. slot * weight wheel (radices self.now.table) ≤ self.now.buckets.last_tick) }
     {
-        with_constant_table!(first_slot_by(self.table, self, wheel))
+        with_wide_table!(first_slot_by(self.table, self, wheel))
     }
 
     /// The first tick ahead that needs a look, or the end if that comes first: a timer is due, or a bucket with timers

@@ -5,7 +5,7 @@ ghost use Rattle.timer_base.specs.declared.limits.TheConstants.{LAST};
 ghost use Rattle.timer_wheels.specs.Digits.{level};
 ghost use Rattle.timer_links.specs.Lists.{list_at};
 ghost use Rattle.timer_wheels.specs.Buckets.{state_of, IsListOf};
-ghost use Rattle.timer_wheels.specs.Bank.{IsBank, IsBank-prop, LeavesBits, next_len, potential_of, wheel_of, IsEarly, OthersShrink, AllShrink, IsNextOf, ComesTo, restarted_of};
+ghost use Rattle.timer_wheels.specs.Bank.{IsBank, IsBank-prop, LeavesBits, next_len, potential_of, wheel_of, IsEarly, OthersStay, AllShrink, IsNextOf, ComesTo, restarted_of};
 ghost use Rattle.timer_wheels.specs.BucketLists.{EachRow};
 ghost use Rattle.timer_wheels.specs.Occupied.{bit_of};
 ghost use Rattle.timer_wheels.specs.Smooth.{IsAheadOf, slot_in, smooth_list, smooth_slots, next_list, descend_by};
@@ -13,12 +13,12 @@ ghost use Rattle.timer_wheels.specs.declared.smooth.turns.TheConstants.{MOST_LIS
 ghost use Rattle.timer_wheels.specs.Tables.{radices, last_of_table};
 
 use crate::buckets::Buckets;
-use crate::smooth::descent::{descend, front_deadline};
-use crate::smooth::filled::Filled;
+use crate::smooth::descent::descend;
 use crate::smooth::turns::{
-    MOST_LISTS, is_in_next, level_of, list_of_slot, lists_of, next_list, slot_of,
+    Filled, MOST_LISTS, is_in_next, level_of, list_of_slot, lists_of, next_list, slot_of,
 };
-use crate::table::{Table, last_tick_of, with_constant_table};
+use crate::table::{Table, last_tick_of, with_wide_table};
+use crate::walks::front_deadline;
 use std::alloc::Global;
 use timer_base::{Handle, OutOfMemory, Timer};
 use timer_links::Links;
@@ -84,7 +84,7 @@ impl Bank {
         if deadline <= self.buckets.tick {
             return (self.buckets.slots, 0);
         }
-        with_constant_table!(place_in(self.table, self, deadline))
+        with_wide_table!(place_in(self.table, self, deadline))
     }
 
     /// Starts a timer, in its bucket or as the last of the due ones.
@@ -134,7 +134,7 @@ impl Bank {
         ensures exact { IsEarly self.old.table self.old.buckets wheel → result ≡ true
             → potential_of self.old.table self.new.buckets + 1 ≡ potential_of self.old.table self.old.buckets }
         ensures others { IsEarly self.old.table self.old.buckets wheel
-            → OthersShrink self.old.table wheel self.old.buckets self.new.buckets }
+            → OthersStay self.old.table wheel self.old.buckets self.new.buckets }
     {
         let tick = self.buckets.tick;
         let from = next_list(self.table, tick, wheel);
@@ -145,7 +145,7 @@ impl Bank {
         let to = list_of_slot(self.table, below, slot_of(self.table, below, deadline));
         let buckets = &mut self.buckets;
         buckets.links.move_front(from, to);
-        self.filled.insert(to);
+        self.filled.insert_once(to);
         settle(&buckets.links, &mut self.filled, from);
         true
     }
@@ -163,13 +163,15 @@ impl Bank {
         ensures at_most { result ≤ most }
         ensures left { next_len self.old.table self.new.buckets wheel
             ≡ next_len self.old.table self.old.buckets wheel - most }
+        ensures counted { result + next_len self.old.table self.new.buckets wheel
+            ≡ next_len self.old.table self.old.buckets wheel }
         ensures all { result < most → next_len self.old.table self.new.buckets wheel ≡ 0 }
         ensures falls { potential_of self.old.table self.new.buckets + result
             ≤ potential_of self.old.table self.old.buckets }
         ensures exact { IsEarly self.old.table self.old.buckets wheel
             → potential_of self.old.table self.new.buckets + result ≡ potential_of self.old.table self.old.buckets }
         ensures others { IsEarly self.old.table self.old.buckets wheel
-            → OthersShrink self.old.table wheel self.old.buckets self.new.buckets }
+            → OthersStay self.old.table wheel self.old.buckets self.new.buckets }
     {
         let mut moved = 0;
         while moved < most {
@@ -346,7 +348,7 @@ fn enter(filled: &mut Filled, tick: u64, deadline: u64, list: usize)
     ensures due { deadline ≤ tick → filled.new ≡ filled.old }
 {
     if deadline > tick {
-        filled.insert(list);
+        filled.insert_once(list);
     }
 }
 

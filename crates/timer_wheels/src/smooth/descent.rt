@@ -1,15 +1,11 @@
 //! How deep a timer goes: through next buckets that are empty.
 ghost use Rattle.std.specs.Prelude.{◌≡◌, ◌<◌, ◌≤◌, length};
 ghost use Rattle.timer_base.specs.declared.limits.TheConstants.{LAST};
-ghost use Rattle.timer_links.specs.Lists.{list_at};
-ghost use Rattle.timer_wheels.specs.Migration.{first_deadline};
 ghost use Rattle.timer_wheels.specs.Smooth.{descend_by, smooth_slots};
 ghost use Rattle.timer_wheels.specs.Tables.{radices};
 
-use crate::smooth::filled::Filled;
-use crate::smooth::turns::{is_in_next, next_list};
+use crate::smooth::turns::{Filled, is_in_next, next_list};
 use crate::table::Table;
-use timer_links::Links;
 
 /// From a wheel downwards, the first at which a deadline is not in the next bucket, or that bucket is not empty.
 #[inline(always)]
@@ -30,15 +26,4 @@ pub fn descend(table: Table, now: u64, filled: &Filled, from: usize, deadline: u
         wheel -= 1;
     }
     wheel
-}
-
-/// The deadline of the first timer of a list.
-pub fn front_deadline(links: &Links, list: usize) -> Option<u64>
-    requires { list < length links.now.lists }
-    ensures { result ≡ first_deadline (list_at list links.now.lists) }
-{
-    links.lemma_keys_unique();
-    let key = links.front(list)?;
-    let node = links.get(key)?;
-    Some(node.timer.deadline)
 }

@@ -9,6 +9,7 @@ ghost use Rattle.timer_wheels.specs.Smooth.{slot_in, smooth_list, smooth_slots, 
 ghost use Rattle.timer_wheels.specs.Tables.{radices};
 ghost use Rattle.timer_wheels.specs.declared.smooth.turns.TheConstants.{MOST_WHEELS, MOST_LISTS};
 
+use crate::occupied::{Bits, WORD_BITS};
 use crate::table::{Table, bucket_of};
 
 /// The most wheels that a table has.
@@ -16,6 +17,15 @@ pub const MOST_WHEELS: usize = 10;
 
 /// The most lists of buckets.
 pub const MOST_LISTS: usize = 1280;
+
+/// How many words hold a bit for each list.
+const WORDS: usize = MOST_LISTS / WORD_BITS;
+
+// The words are whole: with a rest, the last lists would have no bit.
+const _: () = prove!(MOST_LISTS % WORD_BITS == 0);
+
+/// A bit for each list of a smooth wheel.
+pub type Filled = Bits<WORDS>;
 
 /// The lists of each wheel but the highest.
 const STRIDE: usize = 128;

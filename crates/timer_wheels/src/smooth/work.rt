@@ -5,7 +5,7 @@
 //! however many of the n it has. What comes to it meanwhile moves two timers for each.
 ghost use Rattle.std.specs.Prelude.{◌≡◌, ◌≢◌, ◌<◌, ◌≤◌, ◌⊎◌, ◌+◌, ◌-◌, ◌*◌, ℕ, length};
 ghost use Rattle.timer_links.specs.Lists.{row_count};
-ghost use Rattle.timer_wheels.specs.Bank.{next_len, potential_of, IsEarly, OthersShrink};
+ghost use Rattle.timer_wheels.specs.Bank.{next_len, movable, potential_of, IsEarly, OthersShrink};
 ghost use Rattle.timer_wheels.specs.Buckets.{state_of};
 ghost use Rattle.timer_wheels.specs.Digits.{weight};
 ghost use Rattle.timer_wheels.specs.Paces.{pace_at, pace_sum, pace_for, FitPaces, AreInTime, HasMoved};
@@ -28,6 +28,7 @@ pub fn move_all(bank: &mut Bank, paces: &mut Paces) -> u64
     ensures table { bank.new.table ≡ bank.old.table }
     ensures tick { bank.new.buckets.tick ≡ bank.old.buckets.tick }
     ensures at_most { result ≤ pace_sum paces.old }
+    ensures ahead { result ≤ movable bank.old.table bank.old.buckets }
     ensures falls { potential_of bank.old.table bank.new.buckets + result ≡ potential_of bank.old.table bank.old.buckets }
     ensures moved { (k : ℕ) → 0 < k → k < length (radices bank.old.table)
         → HasMoved bank.old.table bank.old.buckets bank.new.buckets paces.old paces.new k }
@@ -40,6 +41,8 @@ pub fn move_all(bank: &mut Bank, paces: &mut Paces) -> u64
 }
 
 /// The same, wheel by wheel.
+// Out of line, as `fix_each` is: a tick that needs neither saves no registers.
+#[inline(never)]
 fn move_each(bank: &mut Bank, paces: &mut Paces) -> u64
     requires in_time { AreInTime bank.old.table bank.old.buckets paces.old }
     requires few { pace_sum paces.old < 18446744073709551616 }
@@ -47,6 +50,7 @@ fn move_each(bank: &mut Bank, paces: &mut Paces) -> u64
     ensures table { bank.new.table ≡ bank.old.table }
     ensures tick { bank.new.buckets.tick ≡ bank.old.buckets.tick }
     ensures at_most { result ≤ pace_sum paces.old }
+    ensures ahead { result ≤ movable bank.old.table bank.old.buckets }
     ensures falls { potential_of bank.old.table bank.new.buckets + result ≡ potential_of bank.old.table bank.old.buckets }
     ensures moved { (k : ℕ) → 0 < k → k < length (radices bank.old.table)
         → HasMoved bank.old.table bank.old.buckets bank.new.buckets paces.old paces.new k }
@@ -71,6 +75,7 @@ fn move_next(bank: &mut Bank, paces: &mut Paces, wheel: usize) -> u64
     ensures table { bank.new.table ≡ bank.old.table }
     ensures tick { bank.new.buckets.tick ≡ bank.old.buckets.tick }
     ensures at_most { result ≤ pace_at paces.old wheel }
+    ensures counted { result + next_len bank.old.table bank.new.buckets wheel ≡ next_len bank.old.table bank.old.buckets wheel }
     ensures falls { potential_of bank.old.table bank.new.buckets + result ≡ potential_of bank.old.table bank.old.buckets }
     ensures moved { HasMoved bank.old.table bank.old.buckets bank.new.buckets paces.old paces.new wheel }
     ensures others { OthersShrink bank.old.table wheel bank.old.buckets bank.new.buckets }
@@ -125,6 +130,7 @@ pub fn fix_paces(bank: &Bank, paces: &mut Paces)
 }
 
 /// The same, wheel by wheel.
+#[inline(never)]
 fn fix_each(bank: &Bank, paces: &mut Paces)
     ensures begun { (k : ℕ) → 0 < k → k < length (radices bank.now.table)
         → slot_in (radices bank.now.table) k bank.now.buckets.tick * weight k (radices bank.now.table) ≡ bank.now.buckets.tick

@@ -112,7 +112,12 @@ pub fn bucket_of(now: u64, deadline: u64) -> usize
     ensures in_range { result < slots wide }
 {
     let level = level_of(now, deadline);
-    RADIX * level as usize + digit_of(level, deadline)
+    // Two numbers by two ways: or else a compiler keeps level and digit of the list apart, and runs out of registers.
+    if level == 0 {
+        digit_of(0, deadline)
+    } else {
+        RADIX * level as usize + digit_of(level, deadline)
+    }
 }
 
 /// The list that a tick empties.

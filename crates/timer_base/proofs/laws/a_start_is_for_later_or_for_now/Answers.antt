@@ -1,4 +1,4 @@
-use Rattle.timer_base.specs.HeldLaws.{start_when_later, start_when_now}
+use Rattle.timer_base.proofs.HeldLaws.{start_when_later, start_when_now}
 use Rattle.timer_base.proofs.laws.a_start_is_for_later_or_for_now.Goals as goal
 
 pub returns-clause-later : goal.returns-clause-later

@@ -1,4 +1,4 @@
-use Rattle.timer_base.specs.HeldLaws.{held_at-removed}
+use Rattle.timer_base.proofs.HeldLaws.{held_at-removed}
 use Rattle.timer_base.proofs.laws.a_stopped_timer_is_gone.Goals as goal
 
 pub returns : goal.returns

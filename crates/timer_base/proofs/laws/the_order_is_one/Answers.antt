@@ -1,5 +1,5 @@
 use Rattle.timer_base.specs.Order.{itself}
-use Rattle.timer_base.specs.OneOrder.{the_order_is_one, map-itself}
+use Rattle.timer_base.proofs.OneOrder.{the_order_is_one, map-itself}
 use Rattle.timer_base.proofs.laws.the_order_is_one.Goals as goal
 
 pub returns : goal.returns

@@ -1,4 +1,4 @@
-use Rattle.timer_base.specs.HeldLaws.{held_when_none_due, removal_when_none_due, replacement_when_none_due}
+use Rattle.timer_base.proofs.HeldLaws.{held_when_none_due, removal_when_none_due, replacement_when_none_due}
 use Rattle.timer_base.proofs.laws.with_nothing_due_calls_are_of_pending_timers.Goals as goal
 
 pub returns-clause-look : goal.returns-clause-look

@@ -1,5 +1,5 @@
 use Rattle.std.proofs.Common.{refl, sym, ◌∙◌, ap}
-use Rattle.timer_base.specs.HeldLaws.{none_removed}
+use Rattle.timer_base.proofs.HeldLaws.{none_removed}
 use Rattle.timer_base.specs.WheelState.{WheelState}
 use Rattle.timer_total.specs.TimersState.{with_wheel}
 use Rattle.timer_c.proofs.calls.stop.Goals as goal

@@ -1,5 +1,5 @@
 use Rattle.std.proofs.Common.{inr, sym}
-use Rattle.timer_base.specs.TickLaws.{not_due}
+use Rattle.timer_base.proofs.TickLaws.{not_due}
 use Rattle.timer_c.proofs.calls.wakeup.Goals as goal
 
 pub returns-in-Some : goal.returns-in-Some

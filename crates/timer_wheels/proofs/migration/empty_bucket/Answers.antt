@@ -9,7 +9,7 @@ pub is_empty-requires : goal.is_empty-requires
 is_empty-requires c = omega (arith, c.requires.list, c.requires.lists)
 
 pub remove-requires : goal.remove-requires
-remove-requires c = in_word c.args.table c.args.list c.requires.list
+remove-requires c = (omega arith, in_word c.args.table c.args.list c.requires.list)
 
 pub returns-then-list-lowest_slots-clause-migrated : goal.returns-then-list-lowest_slots-clause-migrated
 returns-then-list-lowest_slots-clause-migrated c =

@@ -1,7 +1,7 @@
 use Rattle.std.proofs.Common.{◌≡◌, ◌+◌, ◌-◌, ℕ, ◌∙◌, ap, refl, subst, sym}
 use Rattle.timer_base.specs.WheelState.{WheelState, Advances, after_tick, with_room}
 use Rattle.timer_base.specs.PlainState.{plain_state}
-use Rattle.timer_base.specs.TickLaws.{advances-with_room}
+use Rattle.timer_base.proofs.TickLaws.{advances-with_room}
 use Rattle.timer_base.proofs.PlainJumps.{jumped, due_skipped, state_skipped}
 use Rattle.timer_base.proofs.PlainSteps.{none_of_them}
 use Rattle.timer_base.proofs.plain.PlainWheelWheel.advance.Goals as goal

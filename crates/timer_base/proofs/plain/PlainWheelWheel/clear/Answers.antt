@@ -1,6 +1,6 @@
 use Rattle.timer_base.specs.WheelState.{with_room}
 use Rattle.std.proofs.Common.{ap, sym, ◌∙◌}
-use Rattle.timer_base.specs.OrderLaws.{AreRising-filter, All-filter}
+use Rattle.timer_base.proofs.OrderLaws.{AreRising-filter, All-filter}
 use Rattle.timer_base.specs.PlainState.{IsKept}
 use Rattle.timer_base.proofs.PlainExpiries.{plain_state-after_clear, due_count-after_clear}
 use Rattle.timer_base.proofs.plain.PlainWheelWheel.clear.Goals as goal

@@ -1,6 +1,6 @@
 use Rattle.timer_base.specs.WheelState.{with_room}
 use Rattle.std.proofs.Common.{◌≡◌, ◌<◌, sym, ◌∙◌, ap, arith}
-use Rattle.timer_base.specs.OrderLaws.{AreRising-filter}
+use Rattle.timer_base.proofs.OrderLaws.{AreRising-filter}
 use Rattle.timer_base.specs.PlainState.{due_count}
 use Rattle.timer_base.proofs.PlainExpiries.{first_is_due, plain_state-after_expiry, plain_state-none_due, some_due, due_count-after_expiry}
 use Rattle.timer_base.proofs.PlainHeld.{kept-without}

@@ -1,8 +1,9 @@
 use Rattle.std.proofs.Common.{◌≡◌, length, sym, ◌∙◌, ap, arith, ◌++◌}
 use Rattle.std.specs.Prelude.{filter}
 use Rattle.timer_base.specs.Order.{in_order, itself}
-use Rattle.timer_base.specs.OrderLaws.{AreDistinct-rising, AreRising-filter}
-use Rattle.timer_base.specs.PlainState.{is_after, plain_state, timers_of-at_first_place}
+use Rattle.timer_base.proofs.OrderLaws.{AreDistinct-rising, AreRising-filter}
+use Rattle.timer_base.specs.PlainState.{is_after, plain_state}
+use Rattle.timer_base.specs.WellFormed.{timers_of-at_first_place}
 use Rattle.timer_base.proofs.PlainSteps.{length-pending}
 use Rattle.timer_base.proofs.plain.PlainWheelWheel.list_into.Goals as goal
 

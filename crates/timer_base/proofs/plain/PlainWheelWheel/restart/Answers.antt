@@ -1,7 +1,7 @@
 use Rattle.std.proofs.Common.{◌<◌, List, length, sym, ◌∙◌, ap, subst}
 use Rattle.timer_base.specs.declared.timer.Timer.{Timer}
-use Rattle.timer_base.specs.HeldLaws.{with_room-held_start}
-use Rattle.timer_base.specs.OrderLaws.{AreRising-filter}
+use Rattle.timer_base.proofs.HeldLaws.{with_room-held_start}
+use Rattle.timer_base.proofs.OrderLaws.{AreRising-filter}
 use Rattle.timer_base.specs.PlainState.{due_count, plain_state}
 use Rattle.timer_base.specs.WheelState.{after_held_start, after_removal, with_room}
 use Rattle.timer_base.proofs.PlainHeld.{kept-without, one_less, plain_state-after_removal}

@@ -1,6 +1,6 @@
 use Rattle.std.proofs.Common.{◌≡◌, ◌≢◌, ◌+◌, arith, ap, ◌∙◌}
 use Rattle.std.proofs.lemmas.Bool.{eq-eqb, ne_eqb}
-use Rattle.timer_base.specs.HeldLaws.{with_room-held_start}
+use Rattle.timer_base.proofs.HeldLaws.{with_room-held_start}
 use Rattle.timer_base.specs.PlainState.{due_count, plain_state}
 use Rattle.timer_base.specs.WheelState.{with_room}
 use Rattle.timer_base.proofs.PlainSteps.{held_count-all, plain_state-after_held_start, kept-after_start, rising-after_start, due_count-after_start, due_count-le}

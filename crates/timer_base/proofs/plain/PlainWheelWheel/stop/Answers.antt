@@ -1,6 +1,6 @@
 use Rattle.std.proofs.Common.{sym, ◌∙◌, ap}
-use Rattle.timer_base.specs.HeldLaws.{none_removed}
-use Rattle.timer_base.specs.OrderLaws.{AreRising-filter}
+use Rattle.timer_base.proofs.HeldLaws.{none_removed}
+use Rattle.timer_base.proofs.OrderLaws.{AreRising-filter}
 use Rattle.timer_base.specs.PlainState.{due_count, plain_state}
 use Rattle.timer_base.specs.WheelState.{with_room}
 use Rattle.timer_base.proofs.PlainHeld.{kept-without, plain_state-after_removal}

@@ -1,6 +1,6 @@
 use Rattle.std.proofs.Common.{◌≡◌, ◌∷◌, ◌∙◌, sym, ap, map}
 use Rattle.std.specs.Vec.{with_items}
-use Rattle.timer_base.specs.Basics.{some_same}
+use Rattle.timer_base.proofs.Basics.{some_same}
 use Rattle.timer_links.specs.declared.node.Node.{Node}
 use Rattle.timer_links.specs.declared.ring.Neighbours.{Neighbours}
 use Rattle.timer_links.specs.Lists.{without_key}

@@ -1,6 +1,6 @@
 use Rattle.std.proofs.Common.{◌≡◌, ℕ, inl, inr, subst, IfOk, None}
 use Rattle.timer_base.specs.declared.timer.Handle.{Handle}
-use Rattle.timer_base.specs.HeldLaws.{none_removed}
+use Rattle.timer_base.proofs.HeldLaws.{none_removed}
 use Rattle.timer_base.specs.WheelState.{WheelState, held_at}
 use Rattle.timer_total.specs.declared.fault.RestartFault.{RestartFault}
 use Rattle.timer_total.specs.declared.fault.RestartFault.TheVariants.{NotPending, ZeroInterval, TooLate, SerialsSpent}

@@ -1,5 +1,5 @@
 use Rattle.std.proofs.Common.{subst, sym, ◌≡◌, None}
-use Rattle.timer_base.specs.HeldLaws.{held_at-removed}
+use Rattle.timer_base.proofs.HeldLaws.{held_at-removed}
 use Rattle.timer_base.specs.WheelState.{WheelState, held_at}
 use Rattle.timer_total.proofs.timers.Timers.stop.Goals as goal
 

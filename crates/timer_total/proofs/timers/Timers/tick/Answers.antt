@@ -1,5 +1,5 @@
 use Rattle.std.proofs.Common.{◌≡◌, sym, ◌∙◌, ap}
-use Rattle.timer_base.specs.TickLaws.{not_due}
+use Rattle.timer_base.proofs.TickLaws.{not_due}
 use Rattle.timer_total.specs.TimersState.{TimersState}
 use Rattle.timer_total.proofs.ClockEnds.{at_end}
 use Rattle.timer_total.proofs.timers.Timers.tick.Goals as goal

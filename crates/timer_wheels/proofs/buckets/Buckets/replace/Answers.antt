@@ -1,5 +1,5 @@
 use Rattle.std.proofs.Common.{sym, ◌∙◌, ap}
-use Rattle.timer_base.specs.HeldLaws.{with_room-held_start}
+use Rattle.timer_base.proofs.HeldLaws.{with_room-held_start}
 use Rattle.timer_base.specs.WheelState.{with_room, after_held_start, after_removal}
 use Rattle.timer_wheels.specs.Buckets.{roomless_state, row_at}
 use Rattle.timer_wheels.proofs.Handles.{held_used, removed_state}

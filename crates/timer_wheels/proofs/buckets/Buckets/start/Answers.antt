@@ -1,6 +1,6 @@
 use Rattle.std.proofs.Common.{◌∙◌, ap, arith}
 use Rattle.std.proofs.lemmas.List.{length-map}
-use Rattle.timer_base.specs.HeldLaws.{with_room-held_start}
+use Rattle.timer_base.proofs.HeldLaws.{with_room-held_start}
 use Rattle.timer_base.specs.WheelState.{with_room}
 use Rattle.timer_links.specs.Lists.{list_at}
 use Rattle.timer_wheels.specs.Buckets.{roomless_state, row_at}

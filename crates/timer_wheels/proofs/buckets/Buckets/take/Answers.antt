@@ -1,5 +1,5 @@
 use Rattle.std.proofs.Common.{sym, ◌∙◌, ap}
-use Rattle.timer_base.specs.HeldLaws.{none_removed}
+use Rattle.timer_base.proofs.HeldLaws.{none_removed}
 use Rattle.timer_base.specs.WheelState.{with_room}
 use Rattle.timer_wheels.specs.Buckets.{state_of}
 use Rattle.timer_wheels.proofs.Handles.{held_used, removed_state}

@@ -1,5 +1,5 @@
 use Rattle.std.proofs.Common.{◌≤◌, arith}
-use Rattle.timer_base.specs.TickLaws.{passing_none, nothing_due, before_last, passing_more, not_due, stops_early, passes_all}
+use Rattle.timer_base.proofs.TickLaws.{passing_none, nothing_due, before_last, passing_more, not_due, stops_early, passes_all}
 use Rattle.timer_wheels.specs.Buckets.{state_of}
 use Rattle.timer_wheels.proofs.hashed.HashedWheel.tick_until_due.Goals as goal
 

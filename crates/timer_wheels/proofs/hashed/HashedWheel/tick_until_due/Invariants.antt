@@ -1,4 +1,4 @@
-use Rattle.timer_base.specs.TickLaws.{IsPassing}
+use Rattle.timer_base.specs.WheelState.{IsPassing}
 use Rattle.timer_wheels.specs.Buckets.{state_of}
 use Rattle.timer_wheels.proofs.hashed.HashedWheel.tick_until_due.Given as goal
 

@@ -1,5 +1,6 @@
 use Rattle.std.proofs.Common.{◌≡◌, ◌≤◌, ◌+◌, ◌-◌, arith, [], min}
-use Rattle.timer_base.specs.TickLaws.{IsPassing, not_due}
+use Rattle.timer_base.specs.WheelState.{IsPassing}
+use Rattle.timer_base.proofs.TickLaws.{not_due}
 use Rattle.timer_wheels.specs.Buckets.{state_of}
 use Rattle.timer_wheels.proofs.RevolutionLemmas.{passing_on, passing_from, passing_skip, advances_on, room_left, turn_fits}
 use Rattle.timer_wheels.proofs.hashed.HashedWheelWheel.advance.Goals as goal

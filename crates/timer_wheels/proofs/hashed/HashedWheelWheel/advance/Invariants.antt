@@ -1,5 +1,5 @@
 use Rattle.std.proofs.Common.{◌-◌, ◌≤◌}
-use Rattle.timer_base.specs.TickLaws.{IsPassing}
+use Rattle.timer_base.specs.WheelState.{IsPassing}
 use Rattle.timer_wheels.specs.Buckets.{state_of}
 use Rattle.timer_wheels.proofs.hashed.HashedWheelWheel.advance.Given as goal
 

@@ -1,6 +1,5 @@
 use Rattle.std.proofs.Common.{◌≡◌, ◌-◌, ℕ, length, sym, ◌∙◌, ap, subst, arith}
-use Rattle.timer_base.specs.TickLaws.{IsPassing}
-use Rattle.timer_base.specs.WheelState.{WheelState}
+use Rattle.timer_base.specs.WheelState.{IsPassing, WheelState}
 use Rattle.timer_links.specs.Lists.{list_at, KeyedLists}
 use Rattle.timer_wheels.specs.Buckets.{state_of}
 use Rattle.timer_wheels.specs.Paces.{pace_sum}

@@ -1,5 +1,5 @@
 use Rattle.std.proofs.Common.{◌≡◌, ◌-◌, ◌∙◌, ap, arith}
-use Rattle.timer_base.specs.TickLaws.{nothing_due}
+use Rattle.timer_base.proofs.TickLaws.{nothing_due}
 use Rattle.timer_base.specs.WheelState.{held_count}
 use Rattle.timer_wheels.specs.Paces.{tick_bound}
 use Rattle.timer_wheels.specs.SmoothWheel.{smooth_state}

@@ -1,5 +1,5 @@
 use Rattle.std.proofs.Common.{◌-◌, ◌∙◌, ap, arith}
-use Rattle.timer_base.specs.TickLaws.{after_ticks-last, not_due}
+use Rattle.timer_base.proofs.TickLaws.{after_ticks-last, not_due}
 use Rattle.timer_base.specs.WheelState.{WheelState}
 use Rattle.timer_wheels.specs.Paces.{tick_bound}
 use Rattle.timer_wheels.specs.SmoothWheel.{smooth_state, smooth_table, moves_of}

@@ -1,6 +1,5 @@
 use Rattle.std.proofs.Common.{◌≡◌, ◌≤◌, ◌+◌, ◌-◌, ◌*◌, ℕ}
-use Rattle.timer_base.specs.TickLaws.{IsPassing}
-use Rattle.timer_base.specs.WheelState.{held_count}
+use Rattle.timer_base.specs.WheelState.{IsPassing, held_count}
 use Rattle.timer_wheels.specs.Paces.{tick_bound}
 use Rattle.timer_wheels.specs.SmoothWheel.{smooth_state, smooth_table, starts_of, moves_of, wheels_left, IsPacedFor}
 use Rattle.timer_wheels.proofs.smooth.SmoothWheelWheel.advance.Given as goal

@@ -1,5 +1,4 @@
-use Rattle.std.proofs.Common.{sym, ◌∙◌, ap, subst, arith}
-use Rattle.timer_base.specs.declared.timer.Timer.{Timer}
+use Rattle.std.proofs.Common.{sym, ◌∙◌, ap, subst}
 use Rattle.timer_wheels.specs.Bank.{IsBank}
 use Rattle.timer_wheels.specs.Smooth.{smooth_list, descend_by}
 use Rattle.timer_wheels.specs.Tables.{radices}
@@ -11,15 +10,8 @@ pub returns-then-is_in_next-clause-next : goal.returns-then-is_in_next-clause-ne
 returns-then-is_in_next-clause-next c =
     let w = c.args.bank.now in
     let t = c.args.table in
-    let timer : Timer = record {
-      serial = 1;
-      client = 0;
-      number = 0;
-      deadline = c.args.deadline;
-      action = 0;
-    } in
     let bank : IsBank t w.buckets w.filled = subst (λ (x : Table). IsBank x w.buckets w.filled) (sym c.requires.table) w.bank in
-    next_in t w.buckets w.filled bank timer c.requires.later c.requires.deadline (omega arith) (omega arith)
+    next_in t w.buckets w.filled bank c.args.deadline c.requires.later c.requires.deadline
     c.descend-wheel.result c.list_of_slot-list.result
     (c.descend-wheel.ensures.value ∙ ap (λ x. descend_by (radices t) w.buckets.tick w.filled c.args.deadline x) c.level_of.ensures.value)
     (c.list_of_slot-list.ensures.value ∙ ap (smooth_list (radices t) c.descend-wheel.result) c.slot_of.ensures)
@@ -29,15 +21,8 @@ pub returns-else-is_in_next-clause-next : goal.returns-else-is_in_next-clause-ne
 returns-else-is_in_next-clause-next c =
     let w = c.args.bank.now in
     let t = c.args.table in
-    let timer : Timer = record {
-      serial = 1;
-      client = 0;
-      number = 0;
-      deadline = c.args.deadline;
-      action = 0;
-    } in
     let bank : IsBank t w.buckets w.filled = subst (λ (x : Table). IsBank x w.buckets w.filled) (sym c.requires.table) w.bank in
-    next_out t w.buckets w.filled bank timer c.requires.later c.requires.deadline (omega arith) (omega arith)
+    next_out t w.buckets w.filled bank c.args.deadline c.requires.later c.requires.deadline
     c.descend-wheel.result c.list_of_slot-list.result
     (c.descend-wheel.ensures.value ∙ ap (λ x. descend_by (radices t) w.buckets.tick w.filled c.args.deadline x) c.level_of.ensures.value)
     (c.list_of_slot-list.ensures.value ∙ ap (smooth_list (radices t) c.descend-wheel.result) c.slot_of.ensures)

@@ -1,6 +1,7 @@
 use Rattle.std.proofs.Common.{◌<◌, ◌≤◌, ◌+◌, ◌∙◌, arith, rules}
 use Rattle.timer_wheels.specs.Paces.{pace_sum}
 use Rattle.timer_wheels.specs.declared.smooth.turns.TheConstants.{MOST_WHEELS}
+use Rattle.timer_wheels.proofs.IdleLemmas.{counted_more}
 use Rattle.timer_wheels.proofs.PaceLemmas.{moving_more, sums_mono}
 use Rattle.timer_wheels.proofs.smooth.work.move_each.Goals as goal
 
@@ -32,6 +33,10 @@ loop-wheel-preserved c =
       tick = m.ensures.tick ∙ w.tick;
       some = omega arith;
       most = omega (arith, c.loop-wheel-test.true);
+      counted = counted_more c.args.bank.now.table c.args.bank.now.buckets c.loop-wheel.bank.buckets m.new.bank.buckets c.loop-wheel.moves
+          c.loop-wheel.wheel m.result w.some (omega (arith, c.wheels_of-wheels.ensures.value, c.loop-wheel-test.true)) w.counted
+          (w.moving.rest c.loop-wheel.wheel w.some (omega arith) (omega (arith, c.wheels_of-wheels.ensures.value, c.loop-wheel-test.true)))
+          (rw (← w.table) m.ensures.counted) (rw (← w.table) m.ensures.others);
       moving = moving_more c.args.bank.now.table c.args.bank.now.buckets c.loop-wheel.bank.buckets m.new.bank.buckets c.args.paces.now
           c.loop-wheel.paces m.new.paces c.loop-wheel.moves c.loop-wheel.wheel m.result w.moving w.some
           (omega (arith, c.wheels_of-wheels.ensures.value, c.loop-wheel-test.true)) (rw (← w.table) m.ensures.moved)

@@ -1,5 +1,6 @@
-use Rattle.std.proofs.Common.{◌≡◌, ◌<◌, ◌≤◌, ◌-◌}
+use Rattle.std.proofs.Common.{◌≡◌, ◌<◌, ◌≤◌, ◌+◌, ◌-◌}
 use Rattle.timer_wheels.specs.Buckets.{state_of}
+use Rattle.timer_wheels.proofs.IdleLemmas.{next_lens}
 use Rattle.timer_wheels.proofs.PaceLemmas.{AreMoving}
 use Rattle.timer_wheels.proofs.smooth.work.move_each.Given as goal
 
@@ -10,6 +11,8 @@ invariant-loop-wheel l = record {
   tick : l.bank.buckets.tick ≡ l.initial.bank.buckets.tick;
   some : 0 < l.wheel;
   most : l.wheel ≤ l.wheels;
+  counted : l.moves + next_lens l.initial.bank.table l.bank.buckets (l.wheel - 1)
+      ≤ next_lens l.initial.bank.table l.initial.bank.buckets (l.wheel - 1);
   moving : AreMoving l.initial.bank.table l.initial.bank.buckets l.bank.buckets l.initial.paces l.paces l.moves l.wheel;
 }
 

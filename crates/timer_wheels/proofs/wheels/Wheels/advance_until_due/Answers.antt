@@ -1,5 +1,5 @@
 use Rattle.std.proofs.Common.{◌≡◌, ◌+◌, ◌<◌, ◌≤◌, ℕ, arith, rules}
-use Rattle.timer_base.specs.TickLaws.{not_due}
+use Rattle.timer_base.proofs.TickLaws.{not_due}
 use Rattle.timer_wheels.specs.Buckets.{state_of}
 use Rattle.timer_wheels.specs.Tables.{radices}
 use Rattle.timer_wheels.proofs.HierLeaps.{advancing_none, advancing_leap, leap_from, leaps_all, advancing_ends, moves_fit}

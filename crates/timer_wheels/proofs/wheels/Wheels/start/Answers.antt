@@ -24,8 +24,8 @@ enter_list-requires-clause-lists c =
     came_to to.result b.slots b.tick c.args.timer.deadline (row_at c.in_ok-handle.handle.place c.args.timer 0) b.links.lists
     c.start.new.self.links.lists to.ensures.list b.sound.has_lists c.in_ok-handle.ensures.lists
 
-pub invariant_of-self-3 : goal.invariant_of-self-3
-invariant_of-self-3 c =
+pub invariant_of-self-2 : goal.invariant_of-self-2
+invariant_of-self-2 c =
     let w = c.args.self.now in
     let to = c.list_of-list in
     let row = row_at c.in_ok-handle.handle.place c.args.timer 0 in
@@ -36,8 +36,7 @@ invariant_of-self-3 c =
     c.start.ensures.frame c.in_ok-handle.ensures.lists (come_wheels (wheels_of w.hier w.foretold) to.result row
     w.buckets.sound.has_lists refl new.occupied new.firsts to.ensures.list to.ensures.bucket
     (subst P c.in_ok-handle.ensures.lists c.enter_list.ensures.pending) c.enter_list.ensures.due) in
-    let h = kept.hier in
-    record {
-      hier = record { has_slots = h.has_slots; clock = h.clock; placed = h.placed; marked = h.marked };
-      foretold = kept.foretold;
-    }
+    let h = kept.hier in (
+      (c.start.new.self.sound, tt),
+      (record { has_slots = h.has_slots; clock = h.clock; placed = h.placed; marked = h.marked }, (kept.foretold, tt)),
+    )

@@ -3,21 +3,28 @@ use Rattle.timer_base.specs.WheelState.{with_room}
 use Rattle.timer_links.specs.Lists.{list_at, Rows}
 use Rattle.timer_wheels.specs.Smooth.{ticks_left}
 use Rattle.timer_wheels.specs.Tables.{radices}
-use Rattle.timer_wheels.proofs.BankLemmas.{moved_by, marked_moved}
+use Rattle.timer_wheels.proofs.BankLemmas.{IsMoved, moved_by, marked_moved}
 use Rattle.timer_wheels.proofs.SmoothDescent.{few_lists}
 use Rattle.timer_wheels.proofs.smooth.bank.Bank.move_one.Goals as goal
 
-pub invariant_of-buckets : goal.invariant_of-buckets
-invariant_of-buckets c =
+-- the move of the front
+moved : (c : goal.After-move_front) → IsMoved c.args.self.now.table c.args.self.now.buckets c.args.wheel c.next_list-from.result
+    c.list_of_slot-to.result c.move_front.new.self.lists
+moved c =
     let w = c.args.self.now in
-    let m = moved_by w.table w.buckets w.filled w.bank c.args.wheel c.next_list-from.result c.in-Some.deadline
+    moved_by w.table w.buckets w.filled w.bank c.args.wheel c.next_list-from.result c.in-Some.deadline
     c.descend-below.result c.slot_of.result c.list_of_slot-to.result c.requires.above c.requires.wheel c.next_list-from.ensures.value
     (sym c.in-Some.is ∙ c.front_deadline.ensures) c.descend-below.ensures.value c.slot_of.ensures c.list_of_slot-to.ensures.value
-    c.move_front.new.self.lists c.move_front.ensures.moved in
-    record { sound = m.sound }
+    c.move_front.new.self.lists c.move_front.ensures.moved
 
-pub insert-requires : goal.insert-requires
-insert-requires c = omega (arith, c.list_of_slot-to.ensures.in_range, few_lists c.args.self.now.table)
+abbrev moved_then : (c : goal.After-settle) → goal.After-move_front
+moved_then c = c.before.before.before.before.before
+
+pub invariant_of-buckets : goal.invariant_of-buckets
+invariant_of-buckets c = record { sound = (moved c).sound }
+
+pub insert_once-requires : goal.insert_once-requires
+insert_once-requires c = (omega arith, omega (arith, c.list_of_slot-to.ensures.in_range, few_lists c.args.self.now.table))
 
 pub settle-requires-clause-few : goal.settle-requires-clause-few
 settle-requires-clause-few c = omega (arith, c.next_list-from.ensures.in_range, few_lists c.args.self.now.table)
@@ -25,16 +32,13 @@ settle-requires-clause-few c = omega (arith, c.next_list-from.ensures.in_range, 
 pub invariant_of-self : goal.invariant_of-self
 invariant_of-self c =
     let w = c.args.self.now in
-    let m = moved_by w.table w.buckets w.filled w.bank c.args.wheel c.next_list-from.result c.in-Some.deadline
-    c.descend-below.result c.slot_of.result c.list_of_slot-to.result c.requires.above c.requires.wheel c.next_list-from.ensures.value
-    (sym c.in-Some.is ∙ c.front_deadline.ensures) c.descend-below.ensures.value c.slot_of.ensures c.list_of_slot-to.ensures.value
-    c.move_front.new.self.lists c.move_front.ensures.moved in
+    let m = moved (moved_then c) in
     record {
       bank = record {
         has_slots = w.bank.has_slots;
         clock = w.bank.clock;
         placed = m.placed;
-        marked = marked_moved w.filled c.insert.new.self c.settle.new.filled m w.bank.marked c.insert.ensures.here c.insert.ensures.others
+        marked = marked_moved w.filled c.insert_once.new.self c.settle.new.filled m w.bank.marked c.insert_once.ensures.here c.insert_once.ensures.others
             c.settle.ensures.empty c.settle.ensures.kept c.settle.ensures.others;
       };
     }
@@ -42,51 +46,30 @@ invariant_of-self c =
 pub returns-clause-state : goal.returns-clause-state
 returns-clause-state c =
     let w = c.args.self.now in
-    let m = moved_by w.table w.buckets w.filled w.bank c.args.wheel c.next_list-from.result c.in-Some.deadline
-    c.descend-below.result c.slot_of.result c.list_of_slot-to.result c.requires.above c.requires.wheel c.next_list-from.ensures.value
-    (sym c.in-Some.is ∙ c.front_deadline.ensures) c.descend-below.ensures.value c.slot_of.ensures c.list_of_slot-to.ensures.value
-    c.move_front.new.self.lists c.move_front.ensures.moved in
+    let m = moved (moved_then c.before) in
     rw c.move_front.ensures.room (ap (with_room w.buckets.links.room) m.state)
 
 pub returns-clause-moved : goal.returns-clause-moved
 returns-clause-moved c =
     let w = c.args.self.now in
-    let m = moved_by w.table w.buckets w.filled w.bank c.args.wheel c.next_list-from.result c.in-Some.deadline
-    c.descend-below.result c.slot_of.result c.list_of_slot-to.result c.requires.above c.requires.wheel c.next_list-from.ensures.value
-    (sym c.in-Some.is ∙ c.front_deadline.ensures) c.descend-below.ensures.value c.slot_of.ensures c.list_of_slot-to.ensures.value
-    c.move_front.new.self.lists c.move_front.ensures.moved in
+    let m = moved (moved_then c.before) in
     λ e. subst (λ (x : ℕ). length (list_at x c.move_front.new.self.lists) + 1 ≡ length (list_at x w.buckets.links.lists))
     c.next_list-from.ensures.value m.fewer
 
 pub returns-clause-falls : goal.returns-clause-falls
-returns-clause-falls c =
-    let w = c.args.self.now in
-    let m = moved_by w.table w.buckets w.filled w.bank c.args.wheel c.next_list-from.result c.in-Some.deadline
-    c.descend-below.result c.slot_of.result c.list_of_slot-to.result c.requires.above c.requires.wheel c.next_list-from.ensures.value
-    (sym c.in-Some.is ∙ c.front_deadline.ensures) c.descend-below.ensures.value c.slot_of.ensures c.list_of_slot-to.ensures.value
-    c.move_front.new.self.lists c.move_front.ensures.moved in
-    λ e. m.falls
+returns-clause-falls c = λ e. (moved (moved_then c.before)).falls
 
 pub returns-clause-others : goal.returns-clause-others
 returns-clause-others c =
     let w = c.args.self.now in
-    let m = moved_by w.table w.buckets w.filled w.bank c.args.wheel c.next_list-from.result c.in-Some.deadline
-    c.descend-below.result c.slot_of.result c.list_of_slot-to.result c.requires.above c.requires.wheel c.next_list-from.ensures.value
-    (sym c.in-Some.is ∙ c.front_deadline.ensures) c.descend-below.ensures.value c.slot_of.ensures c.list_of_slot-to.ensures.value
-    c.move_front.new.self.lists c.move_front.ensures.moved in
-    λ early j z l n. omega (
-      arith,
-      ap (λ (r : Rows). length r)
-          (m.next_same (subst (λ (x : ℕ). ticks_left (radices w.table) w.buckets.tick c.args.wheel ≡ 0 → length (list_at x w.buckets.links.lists) ≡ 0)
-          (sym c.next_list-from.ensures.value) early) j z l n),
-    )
+    let m = moved (moved_then c.before) in
+    λ early j z l n. ap (λ (r : Rows). length r)
+    (m.next_same (subst (λ (x : ℕ). ticks_left (radices w.table) w.buckets.tick c.args.wheel ≡ 0 → length (list_at x w.buckets.links.lists) ≡ 0)
+    (sym c.next_list-from.ensures.value) early) j z l n)
 
 pub returns-clause-exact : goal.returns-clause-exact
 returns-clause-exact c =
     let w = c.args.self.now in
-    let m = moved_by w.table w.buckets w.filled w.bank c.args.wheel c.next_list-from.result c.in-Some.deadline
-    c.descend-below.result c.slot_of.result c.list_of_slot-to.result c.requires.above c.requires.wheel c.next_list-from.ensures.value
-    (sym c.in-Some.is ∙ c.front_deadline.ensures) c.descend-below.ensures.value c.slot_of.ensures c.list_of_slot-to.ensures.value
-    c.move_front.new.self.lists c.move_front.ensures.moved in
+    let m = moved (moved_then c.before) in
     λ early e. m.one_down (subst (λ (x : ℕ). ticks_left (radices w.table) w.buckets.tick c.args.wheel ≡ 0
     → length (list_at x w.buckets.links.lists) ≡ 0) (sym c.next_list-from.ensures.value) early)

@@ -1,5 +1,5 @@
 use Rattle.std.proofs.Common.{◌≡◌, ◌≤◌, ◌+◌, ◌-◌}
-use Rattle.timer_wheels.specs.Bank.{next_len, potential_of, IsEarly, OthersShrink}
+use Rattle.timer_wheels.specs.Bank.{next_len, potential_of, IsEarly, OthersStay}
 use Rattle.timer_wheels.specs.Buckets.{state_of}
 use Rattle.timer_wheels.proofs.smooth.bank.Bank.move_some.Given as goal
 
@@ -14,7 +14,7 @@ invariant-loop-moved l = record {
   exact : IsEarly l.initial.self.table l.initial.self.buckets l.wheel
       → potential_of l.initial.self.table l.self.buckets + l.moved ≡ potential_of l.initial.self.table l.initial.self.buckets;
   others : IsEarly l.initial.self.table l.initial.self.buckets l.wheel
-      → OthersShrink l.initial.self.table l.wheel l.initial.self.buckets l.self.buckets;
+      → OthersStay l.initial.self.table l.wheel l.initial.self.buckets l.self.buckets;
 }
 
 abbrev pub decreases-loop-moved : goal.decreases-loop-moved

@@ -1,12 +1,10 @@
 -- Small facts that lemmas of several crates use: of Booleans, options, lists, and of one timer and a tick.
-use Rattle.std.proofs.Common.{inl, inr, arith, ◌≡◌, ◌≢◌, ◌<◌, ◌≤◌, ◌⊎◌, ℕ, min, Bool, true, false, List, [], ◌∷◌, length, Some, None, refl}
+use Rattle.std.proofs.Common.{arith, ◌≡◌, ◌≢◌, ◌<◌, ◌≤◌, ℕ, min, true, false, List, [], ◌∷◌, length, Some, None, refl}
 use Rattle.std.proofs.lemmas.Bool.Decides.{nat_tests}
 use Rattle.timer_base.specs.declared.timer.Timer.{Timer}
 use Rattle.timer_base.specs.Order.{is_before}
 use Rattle.timer_base.specs.Pending.{is_due_at}
-
-pub either : (b : Bool) → (b ≡ true) ⊎ (b ≡ false)
-either b = elim b as (λ v. (v ≡ true) ⊎ (v ≡ false)) [ true ↦ inl refl | false ↦ inr refl ]
+pub use Rattle.timer_base.specs.WellFormed.{either}
 
 pub some_same : {X : Type 0} (x y : X) → Some x ≡ Some y → x ≡ y
 some_same x y e = cc

@@ -1,22 +1,15 @@
--- Lemmas about the order of anything that has a timer. They are in specs/ since clauses and crates above cite
--- them.
-use Rattle.std.proofs.Common.{sym, ◌∙◌, ap, inl, inr, arith, ◌≡◌, ◌≢◌, ◌<◌, ◌≤◌, ℕ, suc, Bool, true, false, ◌==◌, nat_lt, if◌then◌else◌, List, [], ◌∷◌, ◌++◌, length, filter, map, refl}
-use Rattle.std.specs.Coded.{×_prop, Unit-prop, le_prop}
+-- Lemmas about the order of anything that has a timer.
+use Rattle.std.proofs.Common.{sym, ◌∙◌, ap, inl, inr, arith, ◌≡◌, ◌≢◌, ◌<◌, ℕ, suc, Bool, true, false, ◌==◌, nat_lt, if◌then◌else◌, List, [], ◌∷◌, ◌++◌, length, filter, map, refl}
 use Rattle.std.specs.List.{AllByRecursion}
 use Rattle.std.proofs.lemmas.Bool.{eqb-true}
 use Rattle.std.proofs.lemmas.Bool.Decides.{nat_tests}
-pub use Rattle.timer_base.specs.Basics.{either}
+use Rattle.timer_base.proofs.Basics.{either}
 use Rattle.timer_base.specs.declared.timer.Timer.{Timer}
-use Rattle.timer_base.specs.Order.{is_before, insert_in_order, in_order, insert_by_deadline, IsFirst, IsOrdered, IsNotAmong, AreDistinct, AreRising, AreBelow}
+use Rattle.timer_base.specs.Order.{is_before, insert_in_order, in_order, insert_by_deadline, IsFirst, IsOrdered, IsNotAmong, AreRising, AreBelow}
+pub use Rattle.timer_base.specs.WellFormed.{All-in_order, All-filter, IsOrdered-in_order, AreRising-prop, AreRising-weaken, AreRising-filter, IsNotAmong-in_order, AreDistinct-in_order, AreDistinct-rising}
+use Rattle.timer_base.specs.WellFormed.{all_timers}
 
 -- Of two timers at most one comes first.
-
-not_both : (a b : Timer) → is_before a b ≡ true → is_before b a ≡ false
-not_both a b h = grind (arith, nat_tests)
-
--- what is not handed out before c is not handed out before what comes before c
-first_through : (a b c : Timer) → is_before a b ≡ true → is_before c b ≡ false → is_before c a ≡ false
-first_through a b c h k = grind (arith, nat_tests)
 
 strictly_through : (a b c : Timer) → is_before a b ≡ true → is_before c b ≡ false → is_before a c ≡ true
 strictly_through a b c h k = grind (arith, nat_tests)
@@ -51,20 +44,6 @@ pub insert_newest : {X : Type 0} (timer : X → Timer) (e : X) (l : List X)
     → insert_in_order timer e l ≡ insert_by_deadline timer e l
 insert_newest timer e [] b = refl
 insert_newest timer e (y ∷ ys) b = rw (newest_test (timer e) (timer y) b.0, insert_newest timer e ys b.1) refl
-
--- what holds of each timer holds of each in order
-all_inserted : {X : Type 0} (timer : X → Timer) (P : Timer → Type 0) (x : X) (l : List X) → P (timer x)
-    → AllByRecursion P (map timer l) → AllByRecursion P (map timer (insert_in_order timer x l))
-all_inserted timer P x [] h a = (h, tt)
-all_inserted timer P x (y ∷ ys) h a = elim (either (is_before (timer x) (timer y))) [
-  | inl k ↦ rw k (h, a)
-  | inr k ↦ rw k (a.0, all_inserted timer P x ys h a.1)
-]
-
-all_timers : {X : Type 0} (timer : X → Timer) (P : Timer → Type 0) (xs : List X) → AllByRecursion P (map timer xs)
-    → AllByRecursion P (map timer (in_order timer xs))
-all_timers timer P [] a = tt
-all_timers timer P (x ∷ xs) a = all_inserted timer P x (in_order timer xs) a.0 (all_timers timer P xs a.1)
 
 pub AreBelow-in_order : {X : Type 0} (timer : X → Timer) (high : ℕ) (xs : List X)
     → AreBelow high (map timer xs)
@@ -123,69 +102,12 @@ length-in_order timer [] = refl
 length-in_order timer (x ∷ xs) = length-insert_in_order timer x (in_order timer xs)
     ∙ ap suc (length-in_order timer xs)
 
-All-insert_in_order : {X : Type 0} (timer : X → Timer) (P : X → Type 0) (x : X) (ys : List X) → P x
-    → AllByRecursion P ys
-    → AllByRecursion P (insert_in_order timer x ys)
-All-insert_in_order timer P x [] p a = (p, tt)
-All-insert_in_order timer P x (y ∷ ys) p a = elim (either (is_before (timer x) (timer y))) [
-  | inl k ↦ rw k (p, a)
-  | inr k ↦ rw k (a.0, All-insert_in_order timer P x ys p a.1)
-]
-
-pub All-in_order : {X : Type 0} (timer : X → Timer) (P : X → Type 0) (xs : List X) → AllByRecursion P xs
-    → AllByRecursion P (in_order timer xs)
-All-in_order timer P [] a = tt
-All-in_order timer P (x ∷ xs) a = All-insert_in_order timer P x (in_order timer xs) a.0
-    (All-in_order timer P xs a.1)
-
-pub All-filter : {X : Type 0} (P Q : X → Type 0) (p : X → Bool) (xs : List X)
-    → ((x : X) → p x ≡ true → P x → Q x) → AllByRecursion P xs
-    → AllByRecursion Q (filter p xs)
-All-filter P Q p [] f a = tt
-All-filter P Q p (x ∷ xs) f a = elim (either (p x)) [
-  | inl k ↦ rw k (f x k a.0, All-filter P Q p xs f a.1)
-  | inr k ↦ rw k (All-filter P Q p xs f a.1)
-]
-
 pub All-weaken : {X : Type 0} (P Q : X → Type 0) (xs : List X) → ((x : X) → P x → Q x) → AllByRecursion P xs
     → AllByRecursion Q xs
 All-weaken P Q [] f a = tt
 All-weaken P Q (x ∷ xs) f a = (f x a.0, All-weaken P Q xs f a.1)
 
 -- A list that is put in order is ordered.
-
-IsFirst-weaken : (a b : Timer) (ts : List Timer) → is_before a b ≡ true → IsFirst b ts → IsFirst a ts
-IsFirst-weaken a b [] h f = tt
-IsFirst-weaken a b (t ∷ ts) h f = (first_through a b t h f.0, IsFirst-weaken a b ts h f.1)
-
-IsFirst-insert_in_order : {X : Type 0} (timer : X → Timer) (t : Timer) (x : X) (ys : List X)
-    → is_before (timer x) t ≡ false
-    → IsFirst t (map timer ys) → IsFirst t (map timer (insert_in_order timer x ys))
-IsFirst-insert_in_order timer t x [] h f = (h, tt)
-IsFirst-insert_in_order timer t x (y ∷ ys) h f = elim (either (is_before (timer x) (timer y))) [
-  | inl k ↦ rw k (h, (f.0, f.1))
-  | inr k ↦ rw k (f.0, IsFirst-insert_in_order timer t x ys h f.1)
-]
-
-IsOrdered-insert_in_order : {X : Type 0} (timer : X → Timer) (x : X) (ys : List X) → IsOrdered (map timer ys)
-    → IsOrdered (map timer (insert_in_order timer x ys))
-IsOrdered-insert_in_order timer x [] o = (tt, tt)
-IsOrdered-insert_in_order timer x (y ∷ ys) o = elim (either (is_before (timer x) (timer y))) [
-  | inl k ↦ rw k (
-    (not_both (timer x) (timer y) k, IsFirst-weaken (timer x) (timer y) (map timer ys) k o.0),
-    o,
-  )
-  | inr k ↦ rw k (
-    IsFirst-insert_in_order timer (timer y) x ys k o.0,
-    IsOrdered-insert_in_order timer x ys o.1,
-  )
-]
-
-pub IsOrdered-in_order : {X : Type 0} (timer : X → Timer) (xs : List X)
-    → IsOrdered (map timer (in_order timer xs))
-IsOrdered-in_order timer [] = tt
-IsOrdered-in_order timer (x ∷ xs) = IsOrdered-insert_in_order timer x (in_order timer xs)
-    (IsOrdered-in_order timer xs)
 
 -- Filtering commutes with ordering.
 
@@ -258,23 +180,6 @@ map-in_order f g h same (x ∷ xs) = map-insert_in_order f g h same x (in_order 
 
 -- Rising serials.
 
-pub AreRising-prop : (low : ℕ) (ts : List Timer) → IsProp (AreRising low ts)
-AreRising-prop low [] = Unit-prop
-AreRising-prop low (t ∷ ts) = ×_prop le_prop (AreRising-prop t.serial ts)
-
-pub AreRising-weaken : (a b : ℕ) (ts : List Timer) → b ≤ a → AreRising a ts → AreRising b ts
-AreRising-weaken a b [] h r = tt
-AreRising-weaken a b (t ∷ ts) h r = (let r0 : a < t.serial = r.0 in omega arith, r.1)
-
-pub AreRising-filter : (p : Timer → Bool) (low : ℕ) (ts : List Timer) → AreRising low ts
-    → AreRising low (filter p ts)
-AreRising-filter p low [] r = tt
-AreRising-filter p low (t ∷ ts) r = elim (either (p t)) [
-  | inl k ↦ rw k (r.0, AreRising-filter p t.serial ts r.1)
-  | inr k ↦ rw k (AreRising-filter p low ts (AreRising-weaken t.serial low ts (let r0 : low < t.serial = r.0
-      in omega arith) r.1))
-]
-
 pub AreRising-append : (low : ℕ) (e : Timer) (ts : List Timer) → AreRising low ts → AreBelow e.serial ts
     → low < e.serial
     → AreRising low (ts ++ e ∷ [])
@@ -305,39 +210,3 @@ AllAt-filter tick (t ∷ ts) = elim (either (t.deadline == tick)) [
 ]
 
 -- Distinct serials.
-
-AreDistinct-insert_in_order : {X : Type 0} (timer : X → Timer) (x : X) (ys : List X)
-    → IsNotAmong (timer x).serial (map timer ys)
-    → AreDistinct (map timer ys) → AreDistinct (map timer (insert_in_order timer x ys))
-AreDistinct-insert_in_order timer x [] n d = (tt, tt)
-AreDistinct-insert_in_order timer x (y ∷ ys) n d = elim (either (is_before (timer x) (timer y))) [
-  | inl k ↦ rw k (n, d)
-  | inr k ↦ rw k (
-    all_inserted timer (λ t. t.serial ≢ (timer y).serial) x ys (λ e. n.0 (sym e)) d.0,
-    AreDistinct-insert_in_order timer x ys n.1 d.1,
-  )
-]
-
-pub IsNotAmong-in_order : {X : Type 0} (timer : X → Timer) (s : ℕ) (xs : List X) → IsNotAmong s (map timer xs)
-    → IsNotAmong s (map timer (in_order timer xs))
-IsNotAmong-in_order timer s xs n = all_timers timer (λ t. t.serial ≢ s) xs n
-
-pub AreDistinct-in_order : {X : Type 0} (timer : X → Timer) (xs : List X) → AreDistinct (map timer xs)
-    → AreDistinct (map timer (in_order timer xs))
-AreDistinct-in_order timer [] d = tt
-AreDistinct-in_order timer (x ∷ xs) d =
-    AreDistinct-insert_in_order timer x (in_order timer xs)
-    (IsNotAmong-in_order timer (timer x).serial xs d.0) (AreDistinct-in_order timer xs d.1)
-
-IsNotAmong-rising : (s low : ℕ) (ts : List Timer) → s ≤ low → AreRising low ts → IsNotAmong s ts
-IsNotAmong-rising s low [] h r = tt
-IsNotAmong-rising s low (t ∷ ts) h r =
-    let r0 : low < t.serial = r.0 in
-    ((λ e. let e0 : t.serial ≡ s = e in omega arith), IsNotAmong-rising s t.serial ts (omega arith) r.1)
-
-pub AreDistinct-rising : (low : ℕ) (ts : List Timer) → AreRising low ts → AreDistinct ts
-AreDistinct-rising low [] r = tt
-AreDistinct-rising low (t ∷ ts) r = (
-  IsNotAmong-rising t.serial t.serial ts (omega arith) r.1,
-  AreDistinct-rising t.serial ts r.1,
-)

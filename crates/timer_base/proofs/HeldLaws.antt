@@ -1,10 +1,9 @@
--- Held timers: what a call on pending and due timers says when nothing is due, and of a deadline after now. They are
--- in specs/ since crates above cite them.
+-- Held timers: what a call on pending and due timers says when nothing is due, and of a deadline after now.
 use Rattle.std.proofs.Common.{◌∙◌, ap, sym, subst, inl, inr, arith, ◌==◌, ◌≡◌, ◌≢◌, ℕ, ◌<◌, Bool, true, false, nat_lt, List, [], ◌∷◌, Option, Some, None, refl}
 use Rattle.std.proofs.lemmas.Bool.{ne_eqb, eq-eqb, eqb-true, lt-ltb, le-ltb, and_parts}
-use Rattle.timer_base.specs.Basics.{some_same, none_some, either}
-use Rattle.timer_base.specs.declared.timer.Timer.{Timer}
+use Rattle.timer_base.proofs.Basics.{some_same, none_some, either}
 use Rattle.timer_base.specs.declared.timer.Handle.{Handle}
+use Rattle.timer_base.specs.declared.timer.Timer.{Timer}
 use Rattle.timer_base.specs.Order.{AreDistinct, IsNotAmong}
 use Rattle.timer_base.specs.Pending.{Entry, timers_of, has_handle, first_timer, first_found, without_serial, without_found, without_handle}
 use Rattle.timer_base.specs.WheelState.{WheelState, timer_at, due_at, held_at, after_start, after_due_start, after_held_start, after_stop, after_removal, after_restart, after_replacement, with_room}

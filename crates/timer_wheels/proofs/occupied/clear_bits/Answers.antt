@@ -1,7 +1,7 @@
 use Rattle.std.proofs.Common.{◌/◌, ◌^◌, ℕ, arith, subst}
 use Rattle.timer_wheels.specs.Occupied.{IsLowestSet}
-use Rattle.timer_wheels.proofs.FilledLemmas.{clear_rest, clear_below, set_below, set_first}
-use Rattle.timer_wheels.proofs.smooth.filled.clear_bits.Goals as goal
+use Rattle.timer_wheels.proofs.OccupiedLemmas.{clear_rest, clear_below, set_below, set_first}
+use Rattle.timer_wheels.proofs.occupied.clear_bits.Goals as goal
 
 pub returns-then-rest-eq0-clause-clear : goal.returns-then-rest-eq0-clause-clear
 returns-then-rest-eq0-clause-clear c = λ i h l. clear_rest c.args.word c.args.bit (omega (arith, c.if-rest-eq0.true)) i h

@@ -1,5 +1,5 @@
--- Lemmas: the order of distinct timers is unique. They are in specs/ since crates above cite them.
-use Rattle.std.proofs.Common.{sym, ◌∙◌, ap, subst, inl, inr, arith, ◌≡◌, ◌≢◌, ◌≤◌, ◌+◌, ℕ, false, ◌==◌, ◌⊎◌, if◌then◌else◌, List, [], ◌∷◌, map, refl}
+-- Lemmas: the order of distinct timers is unique.
+use Rattle.std.proofs.Common.{sym, ◌∙◌, ap, subst, inl, inr, arith, ◌≡◌, ◌≢◌, ◌≤◌, ◌+◌, ℕ, false, ◌==◌, if◌then◌else◌, List, [], ◌∷◌, map, refl}
 use Rattle.std.specs.List.{AllByRecursion, sum_by}
 use Rattle.std.specs.List.Sorted.{IsPermutation}
 use Rattle.std.proofs.lemmas.Bool.{eqb-true, eqb-false}
@@ -7,15 +7,11 @@ use Rattle.std.proofs.lemmas.Bool.Decides.{nat_tests}
 use Rattle.std.proofs.lemmas.List.Elements.{All-from_recursion, recursion_from_All}
 use Rattle.std.proofs.lemmas.List.Sorted.{IsPermutation-refl, IsPermutation-sym, All-permutation, sum_by-IsPermutation}
 use Rattle.std.proofs.lemmas.List.Sums.{sum_by-cons}
-use Rattle.timer_base.specs.Basics.{either}
+use Rattle.timer_base.proofs.Basics.{either}
+use Rattle.timer_base.proofs.OrderLaws.{All-weaken, All-in_order, IsOrdered-in_order, AreDistinct-in_order}
 use Rattle.timer_base.specs.declared.timer.Timer.{Timer}
-use Rattle.timer_base.specs.Order.{is_before, insert_in_order, in_order, itself, IsFirst, IsOrdered, IsNotAmong, AreDistinct}
-use Rattle.timer_base.specs.OrderLaws.{All-weaken, All-in_order, IsOrdered-in_order, AreDistinct-in_order}
-
--- z is a member of the list
-abbrev pub IsMember : {X : Type 0} → X → List X → Type 0
-IsMember z [] = ⊥
-IsMember z (x ∷ xs) = (x ≡ z) ⊎ IsMember z xs
+use Rattle.timer_base.specs.Order.{is_before, insert_in_order, in_order, IsFirst, IsOrdered, IsNotAmong, AreDistinct, IsMember}
+pub use Rattle.timer_base.specs.WellFormed.{map-itself}
 
 -- each member of xs is one of ys, and each of ys is one of xs
 pub record HaveSameMembers {X : Type 0} (xs ys : List X) : Type 0 where
@@ -235,7 +231,3 @@ ordered_is_in_order timer xs ys p d o =
 pub in_order-ordered : {X : Type 0} (timer : X → Timer) (xs : List X) → AreDistinct (map timer xs)
     → IsOrdered (map timer xs) → in_order timer xs ≡ xs
 in_order-ordered timer xs d o = sym (ordered_is_in_order timer xs xs (IsPermutation-refl xs) d o)
-
-pub map-itself : (ts : List Timer) → map itself ts ≡ ts
-map-itself [] = refl
-map-itself (t ∷ ts) = ap (λ r. t ∷ r) (map-itself ts)

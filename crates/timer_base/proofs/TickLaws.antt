@@ -1,12 +1,11 @@
--- Lemmas about ticks one after another. They are in specs/ since crates above cite them.
+-- Lemmas about ticks one after another.
 use Rattle.std.proofs.Common.{◌≡◌, ◌<◌, ◌≤◌, ◌+◌, ◌-◌, ℕ, zero, suc, ◌⊎◌, List, [], ◌∷◌, length, refl, sym, ◌∙◌, ap, subst, inl, inr, arith, Bool, true, false}
-use Rattle.std.specs.List.{AllByRecursion}
 use Rattle.std.proofs.lemmas.Bool.{cases_lt}
-use Rattle.timer_base.specs.Basics.{not_due_before, either}
-use Rattle.timer_base.specs.OrderLaws.{All-weaken}
-use Rattle.timer_base.specs.Pending.{Entry, is_due_at, entries_due, entries_left}
+use Rattle.timer_base.proofs.Basics.{not_due_before, either}
+use Rattle.timer_base.proofs.OrderLaws.{All-weaken}
+use Rattle.timer_base.specs.Pending.{Entry, is_due_at, entries_due, entries_left, AreAfter}
 use Rattle.timer_base.specs.WakeUps.{IsWakeUp}
-use Rattle.timer_base.specs.WheelState.{WheelState, after_tick, after_ticks, with_room, Advances}
+use Rattle.timer_base.specs.WheelState.{WheelState, after_tick, after_ticks, with_room, Advances, IsPassing}
 
 pub after_ticks-now : (n : ℕ) (w : WheelState) → (after_ticks n w).now ≡ w.now + n
 after_ticks-now zero w = omega arith
@@ -15,11 +14,6 @@ after_ticks-now (suc n) w = let h : (after_ticks n w).now ≡ w.now + n = after_
 pub after_ticks-last : (n : ℕ) (w : WheelState) → (after_ticks n w).last_tick ≡ w.last_tick
 after_ticks-last zero w = refl
 after_ticks-last (suc n) w = after_ticks-last n w
-
--- `passed` ticks were passed one by one, and nothing was due
-pub record IsPassing (passed : ℕ) (old now : WheelState) : Type 0 where
-  pub ticked : now ≡ after_ticks passed old
-  pub quiet : (n : ℕ) → n ≤ passed → (after_ticks n old).due ≡ []
 
 none_yet : (old : WheelState) → old.due ≡ [] → (n : ℕ) → n ≤ 0 → (after_ticks n old).due ≡ []
 none_yet old h zero b = h
@@ -99,10 +93,6 @@ passes_all passed most old now p z e = record {
 }
 
 -- Ticks at which nothing is due.
-
--- no pending timer's deadline is up to this tick
-abbrev pub AreAfter : ℕ → List Entry → Type 0
-AreAfter tick entries = AllByRecursion (λ entry. tick < entry.timer.deadline) entries
 
 sooner_too : (a b : ℕ) (entries : List Entry) → a ≤ b → AreAfter b entries → AreAfter a entries
 sooner_too a b es h f = All-weaken (λ e. b < e.timer.deadline) (λ e. a < e.timer.deadline) es (λ e g. omega arith) f

@@ -1,5 +1,5 @@
 use Rattle.timer_wheels.proofs.OccupiedLemmas.{AreClear}
-use Rattle.timer_wheels.proofs.occupied.Occupied.first.Given as goal
+use Rattle.timer_wheels.proofs.occupied.Bits.first.Given as goal
 
 abbrev pub invariant-loop-k : goal.invariant-loop-k
-invariant-loop-k l = AreClear l.k l.self
+invariant-loop-k g l = AreClear l.k l.self

@@ -1,0 +1,17 @@
+use Rattle.std.proofs.Common.{◌≡◌, ◌<◌, ◌≤◌, ◌-◌}
+use Rattle.timer_wheels.specs.Buckets.{state_of}
+use Rattle.timer_wheels.proofs.IdleLemmas.{AreAhead}
+use Rattle.timer_wheels.proofs.smooth.idle.move_early.Given as goal
+
+abbrev pub invariant-loop-wheel : goal.invariant-loop-wheel
+invariant-loop-wheel l = record {
+  state : state_of l.bank.buckets ≡ state_of l.initial.bank.buckets;
+  table : l.bank.table ≡ l.initial.bank.table;
+  tick : l.bank.buckets.tick ≡ l.initial.bank.buckets.tick;
+  some : 0 < l.wheel;
+  last : l.wheel ≤ l.wheels;
+  ahead : AreAhead l.initial.bank.table l.initial.bank.buckets l.bank.buckets l.initial.paces l.paces l.most l.moved l.wheel;
+}
+
+abbrev pub decreases-loop-wheel : goal.decreases-loop-wheel
+decreases-loop-wheel l = l.wheels - l.wheel
