@@ -1,3 +1,4 @@
 pub mod IndentedLemmas
+pub mod PictureLemmas
 mod MarkedLemmas
 mod VerbLemmas

@@ -1,18 +1,20 @@
 -- The lines that a decorator adds are those with a mark.
-use Rattle.std.proofs.Common.{ℕ, List, [], ◌∷◌, ◌++◌, decimal, codes, refl, sym, subst, ◌∙◌, append-nil, Option, None, Some}
+use Rattle.std.proofs.Common.{ℕ, Bool, true, false, List, [], ◌∷◌, ◌++◌, decimal, codes, refl, sym, subst, ◌∙◌, append-nil, Option, None, Some}
 use Rattle.timer_script.specs.Types.{Event, Out, FacilityState}
 use Rattle.timer_script.specs.Text.{lines_of}
 use Rattle.timer_script.specs.Service.{last_line}
 use Rattle.timer_script.specs.Decorator.{Decoration, AreDecorated}
 use Rattle.timer_script.proofs.SplitterLemmas.{no_feed-append, bare, decimal_bare}
-use Rattle.timer_commands.specs.Indented.{AddsMarked, AddsIndented}
+use Rattle.timer_commands.specs.declared.shows.Shows.{Shows}
+use Rattle.timer_commands.specs.Shows.{is_covered}
+use Rattle.timer_commands.specs.Indented.{AddsMarked, IsPictureIf, AddsPictures}
 use Rattle.timer_commands.specs.IndentedLaws.{IsUnused, adds_nothing, adds_join, adds_line, adds_outs, adds_end}
 use Rattle.timer_commands.specs.Wakeups.{wakeup_line, AddsWakeups}
 
 -- what is added to a line is marked
 record AreMarked (mark : ℕ) (A : Decoration) : Type 0 where
   pub within : (outs : List Out) (text : List ℕ) → A.Within (lines_of outs) text → AddsMarked mark (lines_of outs) text
-  pub after : (s : FacilityState) (added : List ℕ) → A.After s added → AddsMarked mark [] added
+  pub after : (serial : ℕ) (s : FacilityState) (added : List ℕ) → A.After serial s added → AddsMarked mark [] added
 
 marked_lines : (mark : ℕ) (A : Decoration) → AreMarked mark A → (s t : FacilityState) (events : List Event) (answer text : List ℕ)
     → AreDecorated A s events t answer text → AddsMarked mark answer text
@@ -21,7 +23,7 @@ marked_lines mark A m s t [] answer text h =
 marked_lines mark A m s t (event ∷ events) answer text h =
     let line = h.5 in
     let own = m.within line.answered.outs line.line line.answered.within in
-    let one = adds_join mark (lines_of line.answered.outs) [] line.line line.added own (m.after h.0 line.added line.comes_after) in
+    let one = adds_join mark (lines_of line.answered.outs) [] line.line line.added own (m.after s.next_serial h.0 line.added line.comes_after) in
     let here : AddsMarked mark h.1 h.2 = subst (λ z. AddsMarked mark z h.2) (append-nil _ ∙ sym line.answer_is)
     (subst (AddsMarked mark (lines_of line.answered.outs ++ [])) (sym line.text_is) one) in
     subst (λ z. AddsMarked mark z text) (sym h.7) (subst (AddsMarked mark (h.1 ++ h.3)) (sym h.8)
@@ -47,9 +49,16 @@ pub wakeups_marked : (s t : FacilityState) (events : List Event) (answer text : 
     → AddsMarked 119 (answer ++ last_line t) (text ++ last_line t)
 wakeups_marked = whole_text 119 AddsWakeups unused_w (record {
   within = λ outs text is. subst (AddsMarked 119 (lines_of outs)) (sym is) (adds_outs 119 unused_w outs);
-  after = λ s added h. subst (AddsMarked 119 []) (sym h.2) (wakeup_is_marked h.0);
+  after = λ serial s added h. subst (AddsMarked 119 []) (sym h.2) (wakeup_is_marked h.0);
 })
 
-pub pictures_marked : (s t : FacilityState) (events : List Event) (answer text : List ℕ) → AreDecorated AddsIndented s events t answer text
-    → AddsMarked 32 (answer ++ last_line t) (text ++ last_line t)
-pictures_marked = whole_text 32 AddsIndented (record { s = refl; r = refl; e = refl; c = refl; t = refl }) (record { within = λ outs text h. h; after = λ s added h. h.2 })
+picture_is_marked : (covered : Bool) (now : ℕ) (added : List ℕ) → IsPictureIf covered now added → AddsMarked 32 [] added
+picture_is_marked true now added h = h.2
+picture_is_marked false now added h = subst (AddsMarked 32 []) (sym h) (adds_nothing 32)
+
+pub pictures_marked : (shows : Shows) (s t : FacilityState) (events : List Event) (answer text : List ℕ)
+    → AreDecorated (AddsPictures shows) s events t answer text → AddsMarked 32 (answer ++ last_line t) (text ++ last_line t)
+pictures_marked shows = whole_text 32 (AddsPictures shows) (record { s = refl; r = refl; e = refl; c = refl; t = refl }) (record {
+  within = λ outs text h. h;
+  after = λ serial s added h. picture_is_marked (is_covered shows s.now) s.now added h;
+})

@@ -15,7 +15,7 @@ use Rattle.timer_script.specs.Service.{server_with}
 use Rattle.timer_script.proofs.ServiceLemmas.{served_nothing}
 use Rattle.timer_commands.specs.declared.verbs.Verb.{Verb}
 use Rattle.timer_commands.specs.declared.verbs.Verb.TheVariants as verbs
-use Rattle.timer_commands.specs.Indented.{AddsIndented}
+use Rattle.timer_commands.specs.Indented.{AddsPictures}
 use Rattle.timer_commands.specs.Wakeups.{AddsWakeups}
 use Rattle.timer_commands.specs.Subcommands.{Bytes, HasAnswered, HasDone}
 
@@ -46,5 +46,5 @@ undone bytes streams faults faults' reading writing (verbs.Serve on_bad true) be
     unserved on_bad AddsWakeups before bytes streams faults faults' reading writing
 undone bytes streams faults faults' reading writing (verbs.Serve on_bad false) before =
     unserved on_bad AddsNothing before bytes streams faults faults' reading writing
-undone bytes streams faults faults' reading writing (verbs.Show counts moves) before =
-    unserved Stop AddsIndented before bytes streams faults faults' reading writing
+undone bytes streams faults faults' reading writing (verbs.Show shows) before =
+    unserved Stop (AddsPictures shows) before bytes streams faults faults' reading writing

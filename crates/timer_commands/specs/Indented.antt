@@ -1,8 +1,10 @@
 -- Text with lines added between its own: lines that begin with a byte with which none of its own does.
-use Rattle.std.specs.Prelude.{◌≡◌, ℕ, ◌==◌, Bool, true, not, List, [], ◌∷◌, ◌++◌, codes, decimal}
+use Rattle.std.specs.Prelude.{◌≡◌, ℕ, ◌==◌, Bool, true, false, not, List, [], ◌∷◌, ◌++◌, codes, decimal}
 use Rattle.std.specs.List.{filter, concat, AllByRecursion}
 use Rattle.timer_script.specs.Splitter.{HasNoFeed}
 use Rattle.timer_script.specs.Decorator.{Decoration}
+use Rattle.timer_commands.specs.declared.shows.Shows.{Shows}
+use Rattle.timer_commands.specs.Shows.{is_covered}
 
 -- some bytes without a line feed, and then one
 pub record EndsWithFeed (bytes : List ℕ) : Type 0 where
@@ -30,9 +32,14 @@ clock_line now = codes "  now " ++ decimal now ++ codes "\n"
 abbrev pub IsPicture : ℕ → List ℕ → Type 0
 IsPicture now text = (more : List ℕ) × (text ≡ clock_line now ++ more) × AddsMarked 32 [] text
 
--- after the answer to each line comes a picture; and there may be indented lines within it
-abbrev pub AddsIndented : Decoration
-AddsIndented = record { Within = AddsMarked 32; After = λ s added. IsPicture s.now added }
+-- a picture at a tick that is covered, and else nothing
+abbrev pub IsPictureIf : Bool → ℕ → List ℕ → Type 0
+IsPictureIf true now text = IsPicture now text
+IsPictureIf false now text = text ≡ []
+
+-- after the answer to each line comes a picture, if the tick is covered; and there may be indented lines within it
+abbrev pub AddsPictures : Shows → Decoration
+AddsPictures shows = record { Within = AddsMarked 32; After = λ serial s added. IsPictureIf (is_covered shows s.now) s.now added }
 
 -- the text grew by a picture
 abbrev pub HasGrownByPicture : ℕ → List ℕ → List ℕ → Type 0

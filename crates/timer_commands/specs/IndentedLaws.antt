@@ -15,7 +15,8 @@ use Rattle.timer_script.specs.Decorator.{IsLawful}
 use Rattle.timer_script.specs.Text.{numbers, reason_word, refusal_word, out_line, lines_of, end_line}
 use Rattle.timer_script.proofs.Results.{all_append}
 use Rattle.timer_script.proofs.SplitterLemmas.{no_feed-append, is_bare, bare, numbers_bare}
-use Rattle.timer_commands.specs.Indented.{EndsWithFeed, is_unmarked, AddsMarked, AddsIndented}
+use Rattle.timer_commands.specs.declared.shows.Shows.{Shows}
+use Rattle.timer_commands.specs.Indented.{EndsWithFeed, is_unmarked, AddsMarked, AddsPictures}
 
 -- ---- lines that are added
 
@@ -132,6 +133,6 @@ adds_outs mark u [] = adds_nothing mark
 adds_outs mark u (o ∷ outs) = adds_join mark (out_line o) (lines_of outs) (out_line o) (lines_of outs) (adds_out mark u o)
     (adds_outs mark u outs)
 
-pub indented_is_lawful : IsLawful AddsIndented
-indented_is_lawful =
+pub pictures_are_lawful : (shows : Shows) → IsLawful (AddsPictures shows)
+pictures_are_lawful shows =
     record { kept = adds_outs 32 (record { s = refl; r = refl; e = refl; c = refl; t = refl }); joined = adds_join 32 }

@@ -1,5 +1,7 @@
 pub mod Options
 pub mod Clients
+pub mod Shows
+pub mod Pictures
 pub mod Indented
 pub mod IndentedLaws
 pub mod Wakeups

@@ -19,7 +19,7 @@ use Rattle.timer_commands.specs.declared.options.OptionsFault.{OptionsFault}
 use Rattle.timer_commands.specs.declared.verbs.Verb.{Verb}
 use Rattle.timer_commands.specs.declared.verbs.Verb.TheVariants as verbs
 use Rattle.timer_commands.specs.Options.{config_of, scheme_last, scheme_slots, IsPlayable, IsRefused}
-use Rattle.timer_commands.specs.Indented.{AddsIndented}
+use Rattle.timer_commands.specs.Indented.{AddsPictures}
 use Rattle.timer_commands.specs.Wakeups.{AddsWakeups}
 
 -- how the bytes of a reader, of a writer and of a writer of reports are known
@@ -86,7 +86,7 @@ HasDone (verbs.Serve on_bad false) before bytes old new status =
     HasAnswered on_bad AddsNothing before bytes old new status
 HasDone (verbs.Serve on_bad true) before bytes old new status =
     HasAnswered on_bad AddsWakeups before bytes old new status
-HasDone (verbs.Show counts moves) before bytes old new status = HasAnswered Stop AddsIndented before bytes old new status
+HasDone (verbs.Show shows) before bytes old new status = HasAnswered Stop (AddsPictures shows) before bytes old new status
 
 -- that was done over the facility of the options, or the options are refused and the streams are untouched
 pub record HasEnded {R S F : Type 0} (verb : Verb) (options : RunOptions) (bytes : Bytes R S F)

@@ -3,12 +3,13 @@
 //!
 //! `options` and `threads_options` have the options and their ranges. `schemes` makes the wheel that they
 //! name, and `verbs` has what is done over it: `play`, `serve` and `show`. The other subcommands are in
-//! `cmd_check` and `cmd_threads`; `error_report` reports an error, and `render` draws where the timers are.
+//! `cmd_check` and `cmd_threads`; `error_report` reports an error. `render` draws where the timers are that `shows`
+//! keeps.
 //! `laws` has what is known of the lines that `serve` and `show` add.
 //!
 //! The definitions of `options` are in `specs/Options.antt`, those of the subcommands in `Subcommands.antt`,
-//! of clients in threads in `Clients.antt`, and of the lines that `serve` and `show` add in `Wakeups.antt`
-//! and `Indented.antt`.
+//! of clients in threads in `Clients.antt`, and of the lines that `serve` and `show` add in `Wakeups.antt`,
+//! `Indented.antt` and `Shows.antt`.
 #![tactic(auto)]
 
 mod cmd_check;
@@ -18,6 +19,7 @@ pub mod laws;
 mod options;
 mod render;
 mod schemes;
+mod shows;
 mod threads_options;
 mod verbs;
 
@@ -26,5 +28,6 @@ pub use cmd_threads::{end_clients, run_clients};
 pub use error_report::report;
 pub use options::{OptionsFault, RunOptions, Scheme};
 pub use schemes::run_verb;
+pub use shows::Shows;
 pub use threads_options::ThreadsOptions;
 pub use verbs::Verb;

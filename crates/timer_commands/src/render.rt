@@ -19,14 +19,21 @@
 //!
 //! In a smooth wheel timers may leave several buckets at one tick, a few of each, and one at a start. So it shows no
 //! such line.
+//!
+//! A filter says which timers are kept of each list. One without a timer that is kept has no line.
 ghost use Rattle.std.specs.Prelude.{◌≡◌, ◌<◌, ◌++◌, length, decimal, OnOk};
 ghost use Rattle.timer_script.specs.Decorator.{HasGrown};
 ghost use Rattle.timer_commands.specs.Indented.{HasGrownByIndented, HasGrownByPicture, HasGrownByBare, HasGrownByEnd};
+ghost use Rattle.std.specs.List.{filter};
+ghost use Rattle.timer_commands.specs.Shows.{is_kept};
+ghost use Rattle.timer_commands.specs.Pictures.{kept_rows, has_row, shows_rounds, node_text, rows_text, slot_name, hand_name, bucket_name, list_end, lines_below};
 ghost use Rattle.timer_commands.specs.Wakeups.{wakeup_line};
+ghost use Rattle.timer_links.specs.Lists.{list_at};
 
+use crate::shows::Filter;
 use itoa::Buffer;
-use timer_base::{OutOfMemory, PlainWheel, Wheel};
-use timer_links::Links;
+use timer_base::{OutOfMemory, PlainWheel, Timer, Wheel};
+use timer_links::{Links, Node};
 use timer_wheels::{HashedWheel, HierWheel, SmoothWheel, Table};
 
 /// The slots of each wheel of the hierarchy.
@@ -47,9 +54,9 @@ const FIRST_DAY: u64 = 144;
 
 /// A wheel that shows where its timers are.
 pub trait Placement {
-    /// Appends a line for each bucket that has a timer, in the order of the buckets. The only error is out
+    /// Appends a line for each bucket with a timer that is kept, in the order of the buckets. The only error is out
     /// of memory.
-    fn push_placement(&self, text: &mut Vec<u8>) -> Result<(), OutOfMemory>
+    fn push_placement(&self, text: &mut Vec<u8>, filter: Filter) -> Result<(), OutOfMemory>
         ensures indented { OnOk result (HasGrownByIndented text.old.items text.new.items) }
         ensures kept { HasGrown text.old.items text.new.items };
 
@@ -66,10 +73,15 @@ pub trait Placement {
         0
     }
 
-    /// Appends a line for each bucket below this one that has a timer. None had one before some ticks, at the
-    /// last of which at most the bucket was emptied, so these timers moved from there. The only error is out of
+    /// Appends a line for each bucket below this one with a timer that is kept. None had a timer before some ticks, at
+    /// the last of which at most the bucket was emptied, so these timers moved from there. The only error is out of
     /// memory.
-    fn push_moves(&self, _text: &mut Vec<u8>, _bucket: usize) -> Result<(), OutOfMemory>
+    fn push_moves(
+        &self,
+        _text: &mut Vec<u8>,
+        _bucket: usize,
+        _filter: Filter,
+    ) -> Result<(), OutOfMemory>
         ensures indented { OnOk result (HasGrownByIndented _text.old.items _text.new.items) }
         ensures kept { HasGrown _text.old.items _text.new.items }
     {
@@ -78,8 +90,9 @@ pub trait Placement {
 }
 
 impl Placement for PlainWheel {
-    fn push_placement(&self, text: &mut Vec<u8>) -> Result<(), OutOfMemory> {
-        let timers = self.list()?;
+    fn push_placement(&self, text: &mut Vec<u8>, filter: Filter) -> Result<(), OutOfMemory> {
+        let mut timers = self.list()?;
+        keep(&mut timers, filter);
         if timers.is_empty() {
             return Ok(());
         }
@@ -94,14 +107,14 @@ impl Placement for PlainWheel {
 }
 
 impl Placement for HashedWheel {
-    fn push_placement(&self, text: &mut Vec<u8>) -> Result<(), OutOfMemory> {
-        push_lists(text, self.links(), Naming::Slots)
+    fn push_placement(&self, text: &mut Vec<u8>, filter: Filter) -> Result<(), OutOfMemory> {
+        push_lists(text, self.links(), Naming::Slots, filter)
     }
 }
 
 impl Placement for HierWheel {
-    fn push_placement(&self, text: &mut Vec<u8>) -> Result<(), OutOfMemory> {
-        push_lists(text, self.links(), naming_of(self.table()))
+    fn push_placement(&self, text: &mut Vec<u8>, filter: Filter) -> Result<(), OutOfMemory> {
+        push_lists(text, self.links(), naming_of(self.table()), filter)
     }
 
     fn push_counts(&self, text: &mut Vec<u8>) -> Result<(), OutOfMemory> {
@@ -112,12 +125,17 @@ impl Placement for HierWheel {
         first_list(self.links())
     }
 
-    fn push_moves(&self, text: &mut Vec<u8>, bucket: usize) -> Result<(), OutOfMemory> {
+    fn push_moves(
+        &self,
+        text: &mut Vec<u8>,
+        bucket: usize,
+        filter: Filter,
+    ) -> Result<(), OutOfMemory> {
         let naming = naming_of(self.table());
         for list in 0..bucket.min(self.links().lists()) {
-            if !self.links().is_empty(list) {
+            if has_kept(self.links(), list, filter) {
                 push_number(text, b"  moved at ", self.now())?;
-                push_move(text, self.links(), bucket, list, naming)?;
+                push_move(text, self.links(), bucket, list, naming, filter)?;
             }
         }
         Ok(())
@@ -125,8 +143,8 @@ impl Placement for HierWheel {
 }
 
 impl Placement for SmoothWheel {
-    fn push_placement(&self, text: &mut Vec<u8>) -> Result<(), OutOfMemory> {
-        push_lists(text, self.links(), Naming::Turns)
+    fn push_placement(&self, text: &mut Vec<u8>, filter: Filter) -> Result<(), OutOfMemory> {
+        push_lists(text, self.links(), Naming::Turns, filter)
     }
 
     fn push_counts(&self, text: &mut Vec<u8>) -> Result<(), OutOfMemory> {
@@ -136,7 +154,7 @@ impl Placement for SmoothWheel {
 
 /// How the buckets of a wheel are named.
 #[derive(Clone, Copy)]
-enum Naming {
+pub enum Naming {
     /// By their slots alone. Each timer is shown with its rounds.
     Slots,
     /// By wheel and slot.
@@ -158,6 +176,13 @@ fn naming_of(table: Table) -> Naming {
     }
 }
 
+/// Drops the timers that aren't kept.
+fn keep(timers: &mut Vec<Timer>, kept: Filter)
+    ensures { timers.new.items ≡ filter (is_kept kept) timers.old.items }
+{
+    timers.retain(|timer| kept.keeps(*timer));
+}
+
 /// The first list that has a timer, or their number.
 fn first_list(links: &Links) -> usize {
     for list in 0..links.lists() {
@@ -175,6 +200,7 @@ fn push_move(
     from: usize,
     to: usize,
     naming: Naming,
+    filter: Filter,
 ) -> Result<(), OutOfMemory>
     requires { to < length links.now.lists }
     ensures ended { OnOk result (HasGrownByEnd text.old.items text.new.items) }
@@ -183,52 +209,127 @@ fn push_move(
     text.extend_from_slice(b" from")?;
     push_name(text, from as u64, naming)?;
     text.extend_from_slice(b" to")?;
-    push_list(text, links, to, naming)
+    push_list(text, links, to, naming, filter)
 }
 
-/// Appends a line for each list that has a timer.
-fn push_lists(text: &mut Vec<u8>, links: &Links, naming: Naming) -> Result<(), OutOfMemory>
+/// Appends a line for each list with a timer that is kept.
+fn push_lists(
+    text: &mut Vec<u8>,
+    links: &Links,
+    naming: Naming,
+    filter: Filter,
+) -> Result<(), OutOfMemory>
+    ensures lines { OnOk result (text.new.items
+        ≡ text.old.items ++ lines_below naming filter links.now.lists (length links.now.lists)) }
     ensures indented { OnOk result (HasGrownByIndented text.old.items text.new.items) }
     ensures kept { HasGrown text.old.items text.new.items }
 {
     for list in 0..links.lists() {
-        if !links.is_empty(list) {
+        if has_kept(links, list, filter) {
             text.push(b' ')?;
-            push_list(text, links, list, naming)?;
+            push_list(text, links, list, naming, filter)?;
         }
     }
     Ok(())
 }
 
-/// Appends a list's name and its timers, up to the end of the line.
-fn push_list(
+/// Whether a list has a timer that is kept.
+fn has_kept(links: &Links, list: usize, filter: Filter) -> bool
+    requires { list < length links.now.lists }
+    ensures { result ≡ has_row (kept_rows filter (list_at list links.now.lists)) }
+{
+    links.lemma_keys_unique();
+    let mut at = links.front(list);
+    for step in 0..links.len() {
+        let Some(key) = at else {
+            return false;
+        };
+        let Some(node) = links.get(key) else {
+            return false;
+        };
+        if filter.keeps(node.timer) {
+            return true;
+        }
+        at = links.next(key);
+    }
+    false
+}
+
+/// Appends the timers of a list that are kept.
+fn push_rows(
     text: &mut Vec<u8>,
     links: &Links,
     list: usize,
     naming: Naming,
+    filter: Filter,
 ) -> Result<(), OutOfMemory>
     requires { list < length links.now.lists }
-    ensures ended { OnOk result (HasGrownByEnd text.old.items text.new.items) }
+    ensures rows { OnOk result (text.new.items
+        ≡ text.old.items ++ rows_text naming (kept_rows filter (list_at list links.now.lists))) }
+    ensures bare { OnOk result (HasGrownByBare text.old.items text.new.items) }
     ensures kept { HasGrown text.old.items text.new.items }
 {
-    push_name(text, list as u64, naming)?;
-    text.push(b':')?;
+    links.lemma_keys_unique();
     let mut at = links.front(list);
-    for _ in 0..links.len() {
+    for step in 0..links.len() {
         let Some(key) = at else {
             break;
         };
         let Some(node) = links.get(key) else {
             break;
         };
-        push_number(text, b" ", node.timer.serial)?;
-        if let Naming::Slots = naming {
-            push_number(text, b":", node.rounds)?;
+        if filter.keeps(node.timer) {
+            push_node(text, node, naming)?;
         }
         at = links.next(key);
     }
+    Ok(())
+}
+
+/// Appends a list's name and its timers that are kept, up to the end of the line.
+fn push_list(
+    text: &mut Vec<u8>,
+    links: &Links,
+    list: usize,
+    naming: Naming,
+    filter: Filter,
+) -> Result<(), OutOfMemory>
+    requires { list < length links.now.lists }
+    ensures line { OnOk result (text.new.items
+        ≡ text.old.items ++ list_end naming list (kept_rows filter (list_at list links.now.lists))) }
+    ensures ended { OnOk result (HasGrownByEnd text.old.items text.new.items) }
+    ensures kept { HasGrown text.old.items text.new.items }
+{
+    push_name(text, list as u64, naming)?;
+    text.push(b':')?;
+    push_rows(text, links, list, naming, filter)?;
     text.push(b'\n')?;
     Ok(())
+}
+
+/// Appends a timer's serial, and its rounds where they are shown.
+#[tactic(auto, using(crate::proofs::IndentedLemmas::bare_numbers))]
+fn push_node(text: &mut Vec<u8>, node: Node, naming: Naming) -> Result<(), OutOfMemory>
+    ensures node { OnOk result (text.new.items ≡ text.old.items ++ node_text naming node) }
+    ensures bare { OnOk result (HasGrownByBare text.old.items text.new.items) }
+    ensures kept { HasGrown text.old.items text.new.items }
+{
+    push_number(text, b" ", node.timer.serial)?;
+    if has_rounds(naming) {
+        push_number(text, b":", node.rounds)
+    } else {
+        Ok(())
+    }
+}
+
+/// Whether timers are shown with their rounds.
+fn has_rounds(naming: Naming) -> bool
+    ensures { result ≡ shows_rounds naming }
+{
+    match naming {
+        Naming::Slots => true,
+        Naming::Wheels | Naming::SmallWheels | Naming::Turns | Naming::Clock => false,
+    }
 }
 
 /// Appends the line of what a wheel counted. A smooth wheel counts no visits.
@@ -253,6 +354,7 @@ fn push_work(
 /// Appends a space, and the name of the bucket that is this list.
 #[tactic(auto, using(crate::proofs::IndentedLemmas::bare_numbers))]
 fn push_name(text: &mut Vec<u8>, list: u64, naming: Naming) -> Result<(), OutOfMemory>
+    ensures name { OnOk result (text.new.items ≡ text.old.items ++ bucket_name naming list) }
     ensures bare { OnOk result (HasGrownByBare text.old.items text.new.items) }
     ensures kept { HasGrown text.old.items text.new.items }
 {
@@ -269,6 +371,7 @@ fn push_name(text: &mut Vec<u8>, list: u64, naming: Naming) -> Result<(), OutOfM
 #[tactic(auto, using(crate::proofs::IndentedLemmas::bare_numbers))]
 fn push_slot(text: &mut Vec<u8>, list: u64, slots: u64) -> Result<(), OutOfMemory>
     requires { 0 < slots }
+    ensures name { OnOk result (text.new.items ≡ text.old.items ++ slot_name slots list) }
     ensures bare { OnOk result (HasGrownByBare text.old.items text.new.items) }
     ensures kept { HasGrown text.old.items text.new.items }
 {
@@ -279,6 +382,7 @@ fn push_slot(text: &mut Vec<u8>, list: u64, slots: u64) -> Result<(), OutOfMemor
 /// Appends a space, and the hand of the clock and its slot, whose bucket is this list.
 #[tactic(auto, using(crate::proofs::IndentedLemmas::numbered_ok))]
 fn push_hand(text: &mut Vec<u8>, list: u64) -> Result<(), OutOfMemory>
+    ensures name { OnOk result (text.new.items ≡ text.old.items ++ hand_name list) }
     ensures bare { OnOk result (HasGrownByBare text.old.items text.new.items) }
     ensures kept { HasGrown text.old.items text.new.items }
 {
@@ -304,12 +408,13 @@ fn push_number(text: &mut Vec<u8>, word: &[u8], n: u64) -> Result<(), OutOfMemor
     Ok(())
 }
 
-/// Appends the line of the clock, that of the counts if they are wanted, and a line for each bucket that has a
-/// timer.
+/// Appends the line of the clock, that of the counts if they are wanted, and a line for each bucket with a timer that
+/// is kept.
 pub fn push_shown<W: Wheel + Placement>(
     text: &mut Vec<u8>,
     wheel: &W,
     counts: bool,
+    filter: Filter,
 ) -> Result<(), OutOfMemory>
     ensures picture { OnOk result (HasGrownByPicture (W.state wheel.now).now text.old.items text.new.items) }
     ensures kept { HasGrown text.old.items text.new.items }
@@ -319,7 +424,7 @@ pub fn push_shown<W: Wheel + Placement>(
     if counts {
         wheel.push_counts(text)?;
     }
-    wheel.push_placement(text)
+    wheel.push_placement(text, filter)
 }
 
 /// Appends the line of a wake-up.

@@ -7,6 +7,7 @@ ghost use Rattle.timer_commands.specs.Subcommands.{HasAnswered, HasDone};
 
 use crate::error_report::report;
 use crate::render::{Placement, push_shown, push_wakeup};
+use crate::shows::Shows;
 use std::alloc::Global;
 use std::io::{Read, Write};
 use timer_base::{OutOfMemory, Wheel};
@@ -20,36 +21,49 @@ pub enum Verb {
     Play,
     /// Answers lines as they come, and with `wakeups` reports after each when to wake up next.
     Serve { on_bad: OnBadLine, wakeups: bool },
-    /// Answers lines as they come, and shows after each where the timers are. With `counts` it shows what the
-    /// wheel counted, and with `moves` which timers moved while ticks passed.
-    Show { counts: bool, moves: bool },
+    /// Answers lines as they come, and shows after each where the timers are.
+    Show(Shows),
 }
 
-/// Shows where the timers are. An answer is followed by the clock, the counts if they are wanted, and the
-/// placement, which `render` draws. If moves are wanted, ticks are played in steps, and those of each follow it.
+/// Shows where the timers are. At a tick that it covers, an answer is followed by the clock, the counts if they are
+/// wanted, and the placement, which `render` draws. If moves are wanted, ticks are played in steps, and those of each
+/// follow it.
 #[derive(Drop)]
 struct Placements {
-    counts: bool,
-    moves: bool,
+    shows: Shows,
 }
 
 impl<W: Wheel + Placement + Drop> Decorator<W> for Placements {
-    ghost use Rattle.timer_commands.specs.Indented.{AddsIndented};
-    ghost use Rattle.timer_commands.specs.IndentedLaws.{indented_is_lawful};
+    ghost use Rattle.timer_commands.specs.Indented.{AddsPictures};
+    ghost use Rattle.timer_commands.specs.IndentedLaws.{pictures_are_lawful};
 
-    ghost adds = { AddsIndented };
+    ghost adds = { λ placements. AddsPictures placements.shows };
 
     // The pictures for the lines of one read might not fit into memory.
     fn sends_each_line(&self) -> bool {
         true
     }
 
-    fn decorate(&self, text: &mut Vec<u8>, facility: &Facility<W>) -> Result<(), OutOfMemory> {
-        push_shown(text, facility.wheel(), self.counts)
+    fn decorate(
+        &self,
+        serial: u64,
+        text: &mut Vec<u8>,
+        facility: &Facility<W>,
+    ) -> Result<(), OutOfMemory> {
+        if self.shows.covers(facility.now()) {
+            push_shown(
+                text,
+                facility.wheel(),
+                self.shows.counts,
+                self.shows.after(serial),
+            )
+        } else {
+            Ok(())
+        }
     }
 
     fn shows_steps(&self) -> bool {
-        self.moves
+        self.shows.moves
     }
 
     // Of the buckets below this one, none has a timer. So those that have one after the step got it from there.
@@ -63,10 +77,16 @@ impl<W: Wheel + Placement + Drop> Decorator<W> for Placements {
         text: &mut Vec<u8>,
         facility: &Facility<W>,
     ) -> Result<(), OutOfMemory> {
-        facility.wheel().push_moves(text, before)
+        if self.shows.covers(facility.now()) {
+            facility
+                .wheel()
+                .push_moves(text, before, self.shows.of_moves())
+        } else {
+            Ok(())
+        }
     }
 
-    ghost is_lawful = { indented_is_lawful };
+    ghost is_lawful = { λ placements. pictures_are_lawful placements.shows };
 }
 
 /// Reports when to wake up: a tick until which nothing expires, if something is pending. Then the line is
@@ -78,15 +98,20 @@ impl<W: Wheel + Drop> Decorator<W> for Wakeups {
     ghost use Rattle.timer_script.specs.Decorator.{HasGrown, HasGrownAfter, after_is_lawful};
     ghost use Rattle.timer_commands.specs.Wakeups.{AddsWakeups, IsWakeup, wakeup_line};
 
-    ghost adds = { AddsWakeups };
+    ghost adds = { λ wakeups. AddsWakeups };
 
     // The line is also the acknowledgement of a line with no answer.
     fn sends_each_line(&self) -> bool {
         true
     }
 
-    fn decorate(&self, text: &mut Vec<u8>, facility: &Facility<W>) -> Result<(), OutOfMemory>
-        ensures added { OnOk result (HasGrownAfter AddsWakeups facility.now.state text.old.items text.new.items) }
+    fn decorate(
+        &self,
+        _serial: u64,
+        text: &mut Vec<u8>,
+        facility: &Facility<W>,
+    ) -> Result<(), OutOfMemory>
+        ensures added { OnOk result (HasGrownAfter AddsWakeups _serial facility.now.state text.old.items text.new.items) }
         ensures kept { HasGrown text.old.items text.new.items }
         // The tick is after the present one, and at most the first pending deadline.
         ensures wakeup { OnOk result (text.new.items ≡ text.old.items
@@ -95,7 +120,7 @@ impl<W: Wheel + Drop> Decorator<W> for Wakeups {
         push_wakeup(text, facility.quiet_until())
     }
 
-    ghost is_lawful = { after_is_lawful IsWakeup };
+    ghost is_lawful = { λ wakeups. after_is_lawful IsWakeup };
 }
 
 /// Does it, and returns the exit status.
@@ -130,8 +155,8 @@ pub fn do_verb<R: Read, S: Write, F: Write, W: Wheel + Placement + Drop>(
                 serve_with(alloc, facility, &Undecorated, on_bad, streams, faults)
             }
         }
-        Verb::Show { counts, moves } => {
-            let placements = Placements { counts, moves };
+        Verb::Show(shows) => {
+            let placements = Placements { shows };
             serve_with(
                 alloc,
                 facility,
@@ -157,7 +182,7 @@ fn serve_with<R: Read, S: Write, F: Write, W: Wheel + Drop, D: Decorator<W>>(
     requires writer_good { has_failed streams.old.writer ≡ false }
     requires pending { facility.state.pending ≡ [] }
     requires waiting { facility.waiting ≡ [] }
-    ensures { HasAnswered on_bad D.adds facility.state
+    ensures { HasAnswered on_bad (D.adds decorator.now) facility.state
         (record { remaining = R.remaining; contents = S.contents; reports = F.contents })
         (record { streams = streams.old; faults = faults.old })
         (record { streams = streams.new; faults = faults.new }) result }

@@ -4,7 +4,7 @@ use std::fmt::Debug;
 use std::io;
 use std::io::{ErrorKind, Read, Write};
 use std::process::Abort;
-use timer_commands::{RunOptions, Scheme, Verb, check_script, run_verb};
+use timer_commands::{RunOptions, Scheme, Shows, Verb, check_script, run_verb};
 use timer_facility::MAX_CLIENTS;
 use timer_script::{LineReason, OnBadLine, Streams, Watched};
 
@@ -46,6 +46,17 @@ pub const MIGRATION_TEXT: &str =
 
 /// Sizes of pieces, from a byte at a time to more than the whole text.
 pub static SIZES: [usize; 12] = [1, 2, 3, 5, 7, 8, 13, 21, 34, 55, 82, 100];
+
+/// `show` without an option.
+const ALL_TIMERS: Shows = Shows {
+    counts: false,
+    moves: false,
+    new: false,
+    client: None,
+    timer: None,
+    from: None,
+    to: None,
+};
 
 /// The options of each call, with the tenth part of the usual slots.
 const USUAL: RunOptions = RunOptions {
@@ -227,10 +238,7 @@ pub fn call(alloc: Global, subcommand: Reading, source: Source, sink: Sink) -> E
             on_bad: OnBadLine::Stop,
             wakeups: true,
         }),
-        Reading::Show => Some(Verb::Show {
-            counts: false,
-            moves: false,
-        }),
+        Reading::Show => Some(Verb::Show(ALL_TIMERS)),
         Reading::Check => None,
     };
     let options = match subcommand {

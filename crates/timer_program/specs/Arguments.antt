@@ -1,5 +1,5 @@
 -- Which subcommand the arguments name, with which options, and whether they ask for help or the version.
-use Rattle.std.specs.Prelude.{◌≡◌, ◌⊎◌, ℕ, Bool, true, false, nat_eq, List, [], ◌∷◌, None, Some, codes}
+use Rattle.std.specs.Prelude.{◌≡◌, ◌⊎◌, ℕ, Bool, true, false, nat_eq, List, [], ◌∷◌, Option, None, Some, IfSome, codes}
 use Rattle.std.specs.List.{starts_with}
 use Rattle.std.specs.Str.Parse.{digits_value, without_leading_plus}
 use Rattle.clap.specs.Words.{first_value, one_text}
@@ -11,6 +11,7 @@ use Rattle.timer_program.specs.declared.arguments.Subcommand.TheVariants.{Run, T
 use Rattle.timer_script.specs.declared.cutter.OnBadLine.{OnBadLine}
 use Rattle.timer_script.specs.declared.cutter.OnBadLine.TheVariants.{Stop, Report}
 use Rattle.timer_commands.specs.declared.options.RunOptions.{RunOptions}
+use Rattle.timer_commands.specs.declared.shows.Shows.{Shows}
 use Rattle.timer_commands.specs.declared.verbs.Verb.TheVariants.{Play, Serve, Show}
 use Rattle.timer_commands.specs.Options.{name_of}
 
@@ -18,7 +19,7 @@ use Rattle.timer_commands.specs.Options.{name_of}
 abbrev pub subcommand_name : Subcommand → List ℕ
 subcommand_name (Run Play options) = codes "play"
 subcommand_name (Run (Serve on_bad wakeups) options) = codes "serve"
-subcommand_name (Run (Show counts moves) options) = codes "show"
+subcommand_name (Run (Show shows) options) = codes "show"
 subcommand_name (Threads options) = codes "threads"
 subcommand_name Check = codes "check"
 
@@ -56,6 +57,11 @@ IsGiven found option given = (one_text found option ≡ None → given ≡ false
     × (one_text found option ≡ Some (codes "true") → given ≡ true)
     × (one_text found option ≡ Some (codes "false") → given ≡ false)
 
+-- the number of an option that may be left out
+abbrev pub IsNumberIfGiven : Found → List ℕ → Option ℕ → Type 0
+IsNumberIfGiven found option number = (one_text found option ≡ None → number ≡ None)
+    × IfSome number (λ n. IsNumberOf found option n)
+
 -- bad lines are reported
 abbrev pub reports : OnBadLine → Bool
 reports Stop = false
@@ -69,13 +75,22 @@ pub record AreRunOptions (found : Found) (options : RunOptions) : Type 0 where
   pub capacity : IsNumberOf found (codes "capacity") options.capacity
   pub first_tick : IsNumberOf found (codes "first-tick") options.first_tick
 
+-- those of `show` alone
+pub record AreShowsOptions (found : Found) (shows : Shows) : Type 0 where
+  pub counts : IsGiven found (codes "counts") shows.counts
+  pub moves : IsGiven found (codes "moves") shows.moves
+  pub new : IsGiven found (codes "new") shows.new
+  pub client : IsNumberIfGiven found (codes "client") shows.client
+  pub timer : IsNumberIfGiven found (codes "timer") shows.timer
+  pub from : IsNumberIfGiven found (codes "from") shows.from
+  pub to : IsNumberIfGiven found (codes "to") shows.to
+
 -- each option of the subcommand is the one that was found under its name
 abbrev pub HasOptions : Found → Subcommand → Type 0
 HasOptions found (Run Play options) = AreRunOptions found options
 HasOptions found (Run (Serve on_bad wakeups) options) = AreRunOptions found options
     × IsGiven found (codes "keep-going") (reports on_bad) × IsGiven found (codes "wakeups") wakeups
-HasOptions found (Run (Show counts moves) options) = AreRunOptions found options
-    × IsGiven found (codes "counts") counts × IsGiven found (codes "moves") moves
+HasOptions found (Run (Show shows) options) = AreRunOptions found options × AreShowsOptions found shows
 HasOptions found (Threads options) = IsNumberOf found (codes "clients") options.clients
     × IsNumberOf found (codes "timers") options.timers
 HasOptions found Check = Unit {0}

@@ -10,10 +10,10 @@
 //!     timers --version              its name and version
 //!
 //! `clap` reads the arguments, writes the help, and says why arguments are refused.
-ghost use Rattle.std.specs.Prelude.{◌≡◌, IfSome, IfOk, IfErr, IsTrue, Any, codes};
-ghost use Rattle.clap.specs.Words.{kind_of, found_of};
+ghost use Rattle.std.specs.Prelude.{◌≡◌, None, IfSome, IfOk, IfErr, IsTrue, Any, codes};
+ghost use Rattle.clap.specs.Words.{kind_of, found_of, one_text};
 ghost use Rattle.timer_commands.specs.Options.{name_of};
-ghost use Rattle.timer_program.specs.Arguments.{first_or_play, subcommand_name, IsShown, AsksForText, IsNumberOf, IsGiven, reports, AreRunOptions, HasOptions};
+ghost use Rattle.timer_program.specs.Arguments.{first_or_play, subcommand_name, IsShown, AsksForText, IsNumberOf, IsGiven, reports, AreRunOptions, AreShowsOptions, HasOptions};
 
 use crate::help::{
     ABOUT, CHECK_ABOUT, CHECK_USAGE, CHECKS, NAME, PLACEMENTS, PLAY_ABOUT, PLAY_USAGE, SCHEMES,
@@ -24,7 +24,7 @@ use clap::error::ErrorKind;
 use clap::{Arg, ArgAction, ArgMatches, Command, Error, value_parser};
 use std::alloc::{AllocError, Global};
 use std::convert::AsStr;
-use timer_commands::{RunOptions, Scheme, ThreadsOptions, Verb};
+use timer_commands::{RunOptions, Scheme, Shows, ThreadsOptions, Verb};
 use timer_script::OnBadLine;
 
 /// A subcommand with its options.
@@ -60,6 +60,21 @@ fn number<'a>(
         .value_name(value_name)
         .value_parser(value_parser!(u64).range(range.0..=range.1))
         .default_value(default)
+        .help(help)
+}
+
+/// An option that takes a number in a range, and may be left out.
+fn optional<'a>(
+    alloc: Global,
+    name: &'a str,
+    value_name: &'a str,
+    range: (i64, i64),
+    help: &'a str,
+) -> Arg<'a> {
+    Arg::new(alloc, name)
+        .long(name)
+        .value_name(value_name)
+        .value_parser(value_parser!(u64).range(range.0..=range.1))
         .help(help)
 }
 
@@ -138,11 +153,21 @@ fn show_command<'a>(alloc: Global) -> Result<Command<'a>, AllocError> {
     // made by tools/facts: texts of options of show
     let counts = "Show what hierarchies count: starts, moves and, but for `smooth`, visits";
     let moves = "Show each move to a lower wheel while ticks pass, with `hier` and `clock`";
+    let new = "Show only timers that the line started or restarted; it does not concern moves";
+    let client = "Show only timers of this client";
+    let timer = "Show only the timer with this serial";
+    let from = "Show nothing before this tick";
+    let to = "Show nothing after this tick";
     // by hand
     playing_command(alloc, "show", SHOW_USAGE, SHOW_ABOUT, PLACEMENTS)?
         // made by tools/facts: arguments of show
         .arg(flag(alloc, "counts", counts))?
-        .arg(flag(alloc, "moves", moves))
+        .arg(flag(alloc, "moves", moves))?
+        .arg(flag(alloc, "new", new))?
+        .arg(optional(alloc, "client", "CLIENT", (0, 1152921504606846975), client))?
+        .arg(optional(alloc, "timer", "SERIAL", (0, 1152921504606846975), timer))?
+        .arg(optional(alloc, "from", "TICK", (0, 1152921504606846975), from))?
+        .arg(optional(alloc, "to", "TICK", (0, 1152921504606846975), to))
 }
 
 /// The subcommand `threads` with its options.
@@ -214,7 +239,8 @@ fn scheme_of(name: &str) -> Option<Scheme>
 /// The number of an option, if it has one.
 #[tactic(auto, using(crate::proofs::OptionLemmas::number_read))]
 fn number_of(options: &ArgMatches, name: &str) -> Option<u64>
-    ensures { IfSome result (λ n. IsNumberOf (found_of options.now) name.now n) }
+    ensures number { IfSome result (λ n. IsNumberOf (found_of options.now) name.now n) }
+    ensures none { one_text (found_of options.now) name.now ≡ None → result ≡ None }
 {
     options.get_one::<u64>(name)
 }
@@ -244,6 +270,21 @@ fn on_bad_of(options: &ArgMatches) -> OnBadLine
     }
 }
 
+/// What `show` shows.
+fn shows_of(options: &ArgMatches) -> Shows
+    ensures { AreShowsOptions (found_of options.now) result }
+{
+    Shows {
+        counts: options.get_flag("counts"),
+        moves: options.get_flag("moves"),
+        new: options.get_flag("new"),
+        client: number_of(options, "client"),
+        timer: number_of(options, "timer"),
+        from: number_of(options, "from"),
+        to: number_of(options, "to"),
+    }
+}
+
 /// The options of `threads`, if each has a value.
 fn threads_options(options: &ArgMatches) -> Option<ThreadsOptions>
     ensures { IfSome result (λ threads. HasOptions (found_of options.now) (Subcommand.Threads threads)) }
@@ -267,9 +308,8 @@ fn subcommand_of(name: &str, options: &ArgMatches) -> Option<Subcommand>
             Some(Subcommand::Run(Verb::Serve { on_bad, wakeups }, run_options(options)?))
         }
         "show" => {
-            let counts = options.get_flag("counts");
-            let moves = options.get_flag("moves");
-            Some(Subcommand::Run(Verb::Show { counts, moves }, run_options(options)?))
+            let shows = shows_of(options);
+            Some(Subcommand::Run(Verb::Show(shows), run_options(options)?))
         }
         "threads" => Some(Subcommand::Threads(threads_options(options)?)),
         "check" => Some(Subcommand::Check),

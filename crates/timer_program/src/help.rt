@@ -140,6 +140,13 @@ With `--counts` the last three show after the tick what they counted, `smooth` n
 With `--moves` the schemes `hier` and `clock` show each move while ticks pass, between what
 expires before and after:
   moved at 128 from wheel 1 slot 2 to wheel 0 slot 2: 1
+Less is shown, never fewer answers, with
+  --client 1                           only timers of client 1
+  --timer 7                            only timer 7
+  --new                                only timers that the line started or restarted
+  --from 64 --to 128                   nothing at ticks before 64 and after 128
+Each of them drops some of what is shown. With `--new --moves` each change is shown once.
+Why a stop was `no-such` is in the answers: some line ended the timer, or none began it.
 Without the lines that begin with a space the output is that of `timers serve`:
   timers show < script | grep -v '^ '
 

@@ -5,7 +5,7 @@ use Rattle.std.proofs.lemmas.List.{take-append-le, nil_from_length, length-take}
 use Rattle.std.proofs.Math.Seq.{take-append_seam, take-append-add, take-length}
 use Rattle.std.proofs.lemmas.Grind.{flat_map-append}
 use Rattle.std.proofs.KnownBytes.{Appends-nil, Appends-trans}
-use Rattle.timer_base.specs.OrderLaws.{either}
+use Rattle.timer_base.proofs.Basics.{either}
 use Rattle.timer_script.specs.Types.{Event, OnBadLine, Cutter, Watched, LineFault, MAX_LINE}
 use Rattle.timer_script.specs.declared.cutter.OnBadLine.TheVariants.{Stop, Report}
 use Rattle.timer_script.specs.declared.line_fault.LineReason.TheVariants.{NoLineEnd}

@@ -5,7 +5,7 @@ use Rattle.std.specs.List.{flat_map, enumerate_from, count_by, AllByRecursion, c
 use Rattle.std.proofs.lemmas.List.Sums.{sum_by-cons}
 use Rattle.std.proofs.lemmas.Bool.{both_ways, cases_lt}
 use Rattle.std.proofs.lemmas.List.{nil_from_length, length-drop, take_rest}
-use Rattle.timer_base.specs.OrderLaws.{either}
+use Rattle.timer_base.proofs.Basics.{either}
 use Rattle.timer_script.specs.Splitter.{HasNoFeed}
 use Rattle.timer_script.specs.Diagnosis.{IsVerdict}
 use Rattle.timer_script.specs.ScriptReport.{push_front, cut_lines, AreVerdicts, verdict_line, is_bad, IsReport}

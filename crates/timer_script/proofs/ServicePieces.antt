@@ -75,7 +75,7 @@ part_join A a b x y t u f g = record {
 
 -- an event was played, and decorated
 pub answered_one : (A : Decoration) (s t : FacilityState) (event : Event) (a b text : List ℕ) → HasGrownByAnswer A s (event ∷ []) t a b
-    → HasGrownAfter A t b text → GrowsBy (HasAnswered A s (event ∷ []) t) a text
+    → HasGrownAfter A s.next_serial t b text → GrowsBy (HasAnswered A s (event ∷ []) t) a text
 answered_one A s t event a b text grown after =
     let (line, line_is, h) = grown in
     let (added, added_is, comes_after) = after in (

@@ -9,8 +9,8 @@ use Rattle.timer_script.specs.Text.{lines_of}
 pub record Decoration : Type 1 where
   -- the answer to one line, and its text with what may stand after the steps of its ticks
   pub Within : (answer text : List ℕ) → Type 0
-  -- what comes after it, by the state of the facility then
-  pub After : FacilityState → List ℕ → Type 0
+  -- what comes after it, by the next serial before the line, and the state of the facility then
+  pub After : ℕ → FacilityState → List ℕ → Type 0
 
 -- an answer may stay as it is, and the text for two parts of an answer is that for both
 pub record IsLawful (Adds : Decoration) : Type 0 where
@@ -21,9 +21,9 @@ pub record IsLawful (Adds : Decoration) : Type 0 where
 abbrev pub HasGrown : List ℕ → List ℕ → Type 0
 HasGrown old new = (added : List ℕ) × (new ≡ old ++ added)
 
--- by what comes after an answer, in this state of the facility
-abbrev pub HasGrownAfter : Decoration → FacilityState → List ℕ → List ℕ → Type 0
-HasGrownAfter Adds state old new = (added : List ℕ) × (new ≡ old ++ added) × Adds.After state added
+-- by what comes after an answer, in this state of the facility, if the next serial was this one before the line
+abbrev pub HasGrownAfter : Decoration → ℕ → FacilityState → List ℕ → List ℕ → Type 0
+HasGrownAfter Adds serial state old new = (added : List ℕ) × (new ≡ old ++ added) × Adds.After serial state added
 
 -- by what may stand after a step
 abbrev pub HasGrownWithin : Decoration → List ℕ → List ℕ → Type 0
@@ -48,7 +48,7 @@ pub record IsDecorated (Adds : Decoration) (before : FacilityState) (event : Eve
   pub answered : HasAnsweredWithin Adds before (event ∷ []) after line
   pub answer_is : answer ≡ lines_of answered.outs
   pub added : List ℕ
-  pub comes_after : Adds.After after added
+  pub comes_after : Adds.After before.next_serial after added
   pub text_is : text ≡ line ++ added
 
 -- so it is for one line after another
@@ -60,7 +60,7 @@ AreDecorated Adds before (event ∷ events) after answer text =
 
 -- nothing stands within an answer
 abbrev pub AddsAfter : (FacilityState → List ℕ → Type 0) → Decoration
-AddsAfter After = record { Within = λ answer text. text ≡ answer; After = After }
+AddsAfter After = record { Within = λ answer text. text ≡ answer; After = λ serial s added. After s added }
 
 pub after_is_lawful : (After : FacilityState → List ℕ → Type 0) → IsLawful (AddsAfter After)
 after_is_lawful After = record {

@@ -12,17 +12,23 @@ use timer_facility::Facility;
 
 /// Adds text to answers.
 pub trait Decorator<W: Wheel + Drop> {
-    /// What comes after the answer to a line, by the facility's state at that place, and what may stand after the
-    /// steps of its ticks.
-    ghost adds: { Decoration };
+    /// What comes after the answer to a line, by the serial of the first timer that the line could start and the
+    /// facility's state at that place, and what may stand after the steps of its ticks.
+    ghost adds: { Self → Decoration };
 
     /// Whether the text for each line is written before the next line is played. If not, that for all lines
     /// of one read is written at once.
     fn sends_each_line(&self) -> bool;
 
-    /// Appends what comes after the answer to a line. The only error is out of memory.
-    fn decorate(&self, text: &mut Vec<u8>, facility: &Facility<W>) -> Result<(), OutOfMemory>
-        ensures added { OnOk result (HasGrownAfter adds facility.now.state text.old.items text.new.items) }
+    /// Appends what comes after the answer to a line. Before the line the next serial was this one: a timer that the
+    /// line started has it. The only error is out of memory.
+    fn decorate(
+        &self,
+        serial: u64,
+        text: &mut Vec<u8>,
+        facility: &Facility<W>,
+    ) -> Result<(), OutOfMemory>
+        ensures added { OnOk result (HasGrownAfter (adds self.now) serial facility.now.state text.old.items text.new.items) }
         ensures kept { HasGrown text.old.items text.new.items };
 
     /// Whether the ticks of a line are played in steps, and what comes after each of them is added. A step ends at
@@ -43,14 +49,14 @@ pub trait Decorator<W: Wheel + Drop> {
         _text: &mut Vec<u8>,
         _facility: &Facility<W>,
     ) -> Result<(), OutOfMemory>
-        ensures added { OnOk result (HasGrownWithin adds _text.old.items _text.new.items) }
+        ensures added { OnOk result (HasGrownWithin (adds self.now) _text.old.items _text.new.items) }
         ensures kept { HasGrown _text.old.items _text.new.items }
     {
         Ok(())
     }
 
     /// Within a line, texts may be joined, and an answer may be left as it is.
-    ghost is_lawful: { IsLawful adds };
+    ghost is_lawful: { (decorator : Self) → IsLawful (adds decorator) };
 }
 
 /// Adds nothing.
@@ -60,15 +66,20 @@ pub struct Undecorated;
 impl<W: Wheel + Drop> Decorator<W> for Undecorated {
     ghost use Rattle.timer_script.specs.Decorator.{AddsNothing, IsNothing, after_is_lawful};
 
-    ghost adds = { AddsNothing };
+    ghost adds = { λ decorator. AddsNothing };
 
     fn sends_each_line(&self) -> bool {
         false
     }
 
-    fn decorate(&self, _text: &mut Vec<u8>, _facility: &Facility<W>) -> Result<(), OutOfMemory> {
+    fn decorate(
+        &self,
+        _serial: u64,
+        _text: &mut Vec<u8>,
+        _facility: &Facility<W>,
+    ) -> Result<(), OutOfMemory> {
         Ok(())
     }
 
-    ghost is_lawful = { after_is_lawful IsNothing };
+    ghost is_lawful = { λ decorator. after_is_lawful IsNothing };
 }

@@ -59,7 +59,7 @@ fn play<W: Wheel + Drop, D: Decorator<W>>(
     event: Event,
     text: &mut Vec<u8>,
 ) -> Result<(), OutOfMemory>
-    ensures whole { OnOk result (HasGrownByAnswer D.adds session.old.player (event ∷ []) session.new.player
+    ensures whole { OnOk result (HasGrownByAnswer (D.adds decorator.now) session.old.player (event ∷ []) session.new.player
         text.old.items text.new.items) }
     ensures nothing { OnErr result (text.new.items ≡ text.old.items) }
 {
@@ -78,14 +78,15 @@ fn answer_one<W: Wheel + Drop, D: Decorator<W>>(
     event: Event,
     text: &mut Vec<u8>,
 ) -> Result<(), OutOfMemory>
-    ensures whole { OnOk result (GrowsBy (HasAnswered D.adds session.old.player (event ∷ []) session.new.player)
+    ensures whole { OnOk result (GrowsBy (HasAnswered (D.adds decorator.now) session.old.player (event ∷ []) session.new.player)
         text.old.items text.new.items) }
-    ensures part { OnErr result ((later : List Event) → GrowsBy (HasAnsweredPart D.adds session.old.player
+    ensures part { OnErr result ((later : List Event) → GrowsBy (HasAnsweredPart (D.adds decorator.now) session.old.player
         (event ∷ later)) text.old.items text.new.items) }
 {
+    let serial = session.player.facility().next_serial();
     play(session, decorator, event, text)?;
     let answered = text.len();
-    match decorator.decorate(text, session.player.facility()) {
+    match decorator.decorate(serial, text, session.player.facility()) {
         Ok(()) => Ok(()),
         Err(_) => {
             // Out of memory: the answer is written all the same.
@@ -105,10 +106,10 @@ fn serve_events<P: Peer, W: Wheel + Drop, D: Decorator<W>>(
     text: &mut Vec<u8>,
 ) -> Result<(), TurnFault>
     requires { AreGood (P.state peer.old) }
-    ensures served { OnOk result (HasSentBut (HasAnswered D.adds session.old.player events.now session.new.player) []
+    ensures served { OnOk result (HasSentBut (HasAnswered (D.adds decorator.now) session.old.player events.now session.new.player) []
         true (P.state peer.old) (P.state peer.new)) }
     ensures good { OnOk result (AreGood (P.state peer.new)) }
-    ensures fault { IfErr result (λ fault. StopsTurn D.adds fault events.now session.old.player
+    ensures fault { IfErr result (λ fault. StopsTurn (D.adds decorator.now) fault events.now session.old.player
         (P.state peer.old) (P.state peer.new)) }
 {
     let each_line = decorator.sends_each_line();
@@ -134,6 +135,7 @@ fn serve_events<P: Peer, W: Wheel + Drop, D: Decorator<W>>(
 fn end_stream<P: Peer, W: Wheel + Drop, D: Decorator<W>, F: Write>(
     session: &Session<W>,
     peer: &mut P,
+    _decorator: &D,
     cutter: &mut Cutter,
     faults: &mut Watched<F>,
     text: &mut Vec<u8>,
@@ -141,9 +143,9 @@ fn end_stream<P: Peer, W: Wheel + Drop, D: Decorator<W>, F: Write>(
     requires good { AreGood (P.state peer.old) }
     requires ended { IsAtEnd (P.state peer.old).remaining }
     ensures { (on_bad : OnBadLine) (before : FacilityState) (start : Sides F) → IsSound before
-        → HasServedSoFar (server_with on_bad D.adds before F.contents) cutter.old start
+        → HasServedSoFar (server_with on_bad (D.adds _decorator.now) before F.contents) cutter.old start
         (record { peer = P.state peer.old; faults = faults.old }) session.now.player
-        → HasServed (server_with on_bad D.adds before F.contents) start
+        → HasServed (server_with on_bad (D.adds _decorator.now) before F.contents) start
         (record { peer = P.state peer.new; faults = faults.new }) result }
 {
     let Ok(bad) = cutter.end(faults) else {
@@ -187,7 +189,7 @@ pub fn serve<P: Peer, W: Wheel + Drop, D: Decorator<W>, F: Write>(
     requires good { AreGood (P.state peer.old) }
     requires pending { facility.state.pending ≡ [] }
     requires waiting { facility.waiting ≡ [] }
-    ensures { HasServed (server_with on_bad D.adds facility.state F.contents)
+    ensures { HasServed (server_with on_bad (D.adds decorator.now) facility.state F.contents)
         (record { peer = P.state peer.old; faults = faults.old })
         (record { peer = P.state peer.new; faults = faults.new }) result }
 {
@@ -211,7 +213,7 @@ pub fn serve<P: Peer, W: Wheel + Drop, D: Decorator<W>, F: Write>(
             return Err(ServeFault::Bad { line });
         }
         if n == 0 {
-            return end_stream::<P, W, D, F>(&session, peer, &mut cutter, faults, &mut text);
+            return end_stream(&session, peer, decorator, &mut cutter, faults, &mut text);
         }
     }
     Err(ServeFault::TooLong)

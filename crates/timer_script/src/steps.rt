@@ -21,7 +21,7 @@ pub fn play_steps<W: Wheel + Drop, D: Decorator<W>>(
     count: u64,
     text: &mut Vec<u8>,
 ) -> Result<(), OutOfMemory>
-    ensures whole { OnOk result (HasGrownByAnswer D.adds session.old.player (Event.Ticks count ∷ [])
+    ensures whole { OnOk result (HasGrownByAnswer (D.adds decorator.now) session.old.player (Event.Ticks count ∷ [])
         session.new.player text.old.items text.new.items) }
     ensures nothing { OnErr result (text.new.items ≡ text.old.items) }
 {
@@ -62,7 +62,7 @@ fn play_step<W: Wheel + Drop, D: Decorator<W>>(
     count: u64,
     text: &mut Vec<u8>,
 ) -> Result<(), OutOfMemory>
-    ensures answer { OnOk result (HasGrownByAnswer D.adds session.old.player (Event.Ticks count ∷ [])
+    ensures answer { OnOk result (HasGrownByAnswer (D.adds decorator.now) session.old.player (Event.Ticks count ∷ [])
         session.new.player text.old.items text.new.items) }
     ensures kept { HasGrown text.old.items text.new.items }
 {

@@ -8,7 +8,7 @@ use Rattle.std.proofs.lemmas.Option.{IfSome_then}
 use Rattle.std.proofs.lemmas.List.FromFn.{map-range_with_len_more, get_or-range_with_len, length-map-range_with_len}
 use Rattle.std.proofs.lemmas.Bool.Decides.{nat_tests}
 use Rattle.timer_threads.specs.Types.{Timer, Word, Worked, Turn}
-use Rattle.timer_base.specs.OrderLaws.{either}
+use Rattle.timer_base.proofs.Basics.{either}
 use Rattle.timer_facility.specs.declared.request.Answer.TheVariants as Answers
 use Rattle.timer_facility.specs.declared.request.Notice.TheVariants as Notices
 use Rattle.timer_desk.specs.declared.word.Word.TheVariants as Words

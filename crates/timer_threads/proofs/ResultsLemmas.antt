@@ -2,7 +2,7 @@
 use Rattle.std.proofs.Common.{◌≡◌, ◌<◌, ◌++◌, ◌||◌, ℕ, Bool, true, false, List, [], ◌∷◌, length, get_or, map, refl, sym, ◌∙◌, ap, arith}
 use Rattle.std.specs.Prelude.{Some, is_none}
 use Rattle.std.proofs.lemmas.List.{map_push, get_or-map, length-map}
-use Rattle.timer_base.specs.Basics.{some_same}
+use Rattle.timer_base.proofs.Basics.{some_same}
 use Rattle.timer_desk.specs.declared.ring.RequestsEnded.{RequestsEnded}
 use Rattle.timer_desk.specs.declared.ring.ClientReader.{ClientReader}
 use Rattle.timer_threads.specs.Types.{Worked}

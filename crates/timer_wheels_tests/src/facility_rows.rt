@@ -6,10 +6,7 @@ use std::alloc::Global;
 use std::process::Abort;
 use std::test::Fail;
 use timer_base::{Handle, LAST, PlainWheel, Wheel};
-use timer_facility::{
-    Answer, Config, ConfigFault, Facility, MAX_CLIENTS, MAX_PENDING, NotTaken, Notice, Reason,
-    Request, TickFault,
-};
+use timer_facility::{Answer, Config, Facility, NotTaken, Notice, Reason, Request, TickFault};
 use timer_wheels::{HashedWheel, HierWheel, Table};
 
 /// One call. A handle is named by its number among those that were given, from 0.
@@ -269,7 +266,7 @@ fn play_over_each(rt: &impl Abort, alloc: Global, row: Row) -> Result<(), Fail> 
     for slots in [1, 8, 256, 65536] {
         play(rt, alloc, HashedWheel::new(alloc, slots, 0)?, row)?;
     }
-    for table in [Table::Wide, Table::Clock, Table::Small] {
+    for table in [Table::Wide, Table::Clock] {
         play(rt, alloc, HierWheel::with_table(alloc, table, 0)?, row)?;
     }
     Ok(())
@@ -293,38 +290,4 @@ fn numbers_spent(rt: HostRuntime) -> Result<(), Fail> {
 #[test]
 fn hostile_handles(rt: HostRuntime) -> Result<(), Fail> {
     play_over_each(&rt, rt.alloc(), HOSTILE_HANDLES)
-}
-
-/// Clients, capacity, first tick, first serial and first number, and which of them is refused.
-static CONFIGS: [([u64; 5], Option<ConfigFault>); 12] = [
-    ([1, 1, 0, 1, 1], None),
-    ([MAX_CLIENTS, MAX_PENDING, LAST, LAST, LAST], None),
-    ([0, 1, 0, 1, 1], Some(ConfigFault::Clients)),
-    ([MAX_CLIENTS + 1, 1, 0, 1, 1], Some(ConfigFault::Clients)),
-    ([1, 0, 0, 1, 1], Some(ConfigFault::Capacity)),
-    ([1, MAX_PENDING + 1, 0, 1, 1], Some(ConfigFault::Capacity)),
-    ([1, 1, LAST + 1, 1, 1], Some(ConfigFault::FirstTick)),
-    ([1, 1, 0, 0, 1], Some(ConfigFault::FirstSerial)),
-    ([1, 1, 0, LAST + 1, 1], Some(ConfigFault::FirstSerial)),
-    ([1, 1, 0, 1, 0], Some(ConfigFault::FirstNumber)),
-    ([1, 1, 0, 1, LAST + 1], Some(ConfigFault::FirstNumber)),
-    (
-        [MAX_CLIENTS + 1, 0, LAST + 1, 0, 0],
-        Some(ConfigFault::Clients),
-    ),
-];
-
-#[test]
-fn each_number_of_a_configuration_has_its_range(rt: HostRuntime) {
-    for (numbers, fault) in CONFIGS {
-        let [clients, capacity, first_tick, first_serial, first_number] = numbers;
-        let config = Config {
-            clients,
-            capacity,
-            first_tick,
-            first_serial,
-            first_number,
-        };
-        same(&rt, config.check().err(), fault);
-    }
 }

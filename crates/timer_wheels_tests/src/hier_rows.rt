@@ -99,35 +99,6 @@ static CLOCK_FACE_OF_DAYS: Row = (
     (1, 2, 3045),
 );
 
-/// The lists of wheel 1 begin at 16, those of wheel 3 at 48.
-static TWO_MOVES_IN_LITTLE_MEMORY: Row = (
-    Table::Small,
-    0,
-    &[
-        Step::Start(4161),
-        Step::In(49, &[1]),
-        Step::Until(4096),
-        Step::In(20, &[1]),
-        Step::Until(4160),
-        Step::In(1, &[1]),
-        Step::Until(4161),
-        Step::Due(&[1]),
-    ],
-    (1, 2, 4161),
-);
-
-static SMALL_END: Row = (
-    Table::Small,
-    16777214,
-    &[
-        Step::Start(16777215),
-        Step::In(15, &[1]),
-        Step::Until(16777215),
-        Step::Due(&[1]),
-    ],
-    (1, 0, 1),
-);
-
 static CLOCK_END: Row = (
     Table::Wide,
     LAST - 1,
@@ -279,8 +250,7 @@ fn clock_face(rt: HostRuntime) -> Result<(), Fail> {
 
 #[test]
 fn clock_end(rt: HostRuntime) -> Result<(), Fail> {
-    play(&rt, rt.alloc(), CLOCK_END)?;
-    play(&rt, rt.alloc(), SMALL_END)
+    play(&rt, rt.alloc(), CLOCK_END)
 }
 
 #[test]
@@ -291,7 +261,6 @@ fn clock_day(rt: HostRuntime) -> Result<(), Fail> {
 #[test]
 fn two_moves(rt: HostRuntime) -> Result<(), Fail> {
     play(&rt, rt.alloc(), TWO_MOVES)?;
-    play(&rt, rt.alloc(), TWO_MOVES_IN_LITTLE_MEMORY)?;
     play(&rt, rt.alloc(), ONE_MOVE)
 }
 

@@ -10,14 +10,14 @@ use Rattle.timer_script.proofs.service.serve.Goals as goal
 
 -- nothing was read or written
 pub returns-in_default : goal.returns-in_default
-returns-in_default g c = served_nothing (server_with c.args.on_bad g.D.Decorator.adds c.args.facility.state g.F.Write.contents)
+returns-in_default g c = served_nothing (server_with c.args.on_bad (g.D.Decorator.adds c.args.decorator.now) c.args.facility.state g.F.Write.contents)
     (g.P.Peer.state c.args.peer.now) c.args.faults.now c.requires.good
 
 pub loop-turned-init : goal.loop-turned-init
 loop-turned-init g c =
     let e = c.new-cutter.ensures in
     let o = c.args.on_bad in
-    let A = g.D.Decorator.adds in
+    let A = g.D.Decorator.adds c.args.decorator.now in
     let before = c.args.facility.state in
     let p = g.P.Peer.state c.args.peer.now in
     record {

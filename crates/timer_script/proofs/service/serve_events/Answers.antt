@@ -9,7 +9,7 @@ use Rattle.timer_script.proofs.service.serve_events.Goals as goal
 pub loop-event-init : goal.loop-event-init
 loop-event-init g c =
     let s = c.args.session.now.player in
-    let A = g.D.Decorator.adds in
+    let A = g.D.Decorator.adds c.args.decorator.now in
     record {
       sent = but_none (HasAnswered A s [] s) (g.P.Peer.state c.args.peer.now) c.clear.new.self.items
           (subst (HasAnswered A s [] s) (sym c.clear.ensures.items) (answered_none A s));
@@ -97,7 +97,7 @@ returns-in_ok-send-3-clause-served g c =
     let p = g.P.Peer.state c.args.peer.now in
     let q = g.P.Peer.state c.loop-event.peer in
     let r = g.P.Peer.state c.send-then-not-each_line-2.new.peer in
-    let A = g.D.Decorator.adds in
+    let A = g.D.Decorator.adds c.args.decorator.now in
     let s = c.args.session.now.player in
     let sent = subst (λ t. HasSent q t r) c.deref-then-not-each_line-2.ensures.value c.in_ok-send-3.ensures.ok in
     subst (λ es. HasSentBut (HasAnswered A s es c.loop-event.session.player) [] true p r)

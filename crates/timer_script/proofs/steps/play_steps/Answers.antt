@@ -5,7 +5,7 @@ use Rattle.timer_script.proofs.StepLemmas.{steps_none, steps_more, grown_join, c
 use Rattle.timer_script.proofs.steps.play_steps.Goals as goal
 
 pub loop-left-init : goal.loop-left-init
-loop-left-init g c = steps_none _ g.met.D.Decorator.is_lawful _ c.args.count _
+loop-left-init g c = steps_none _ (g.met.D.Decorator.is_lawful c.args.decorator.now) _ c.args.count _
 
 pub loop-left-preserved : goal.loop-left-preserved
 loop-left-preserved g c =
@@ -16,7 +16,7 @@ loop-left-preserved g c =
     subst (λ (f : FacilityState). f.now ≤ f.last) here c.step_of-step.ensures.sound.now_in_range in
     let accepted : (n ≡ c.loop-left.left) ⊎ (n ≤ ticks_left m) =
     subst (λ f. (n ≡ c.loop-left.left) ⊎ (n ≤ ticks_left f)) here c.step_of-step.ensures.accepted in
-    steps_more g.met.D.Decorator.is_lawful _ n _ now (search rules) c.step_of-step.ensures.within accepted c.loop-left.invariant
+    steps_more (g.met.D.Decorator.is_lawful c.args.decorator.now) _ n _ now (search rules) c.step_of-step.ensures.within accepted c.loop-left.invariant
     c.in-Ok.ensures.answer
 
 pub returns-in_default-clause-nothing : goal.returns-in_default-clause-nothing
