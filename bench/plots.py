@@ -248,7 +248,7 @@ def lines(folder):
     ratio_axis(axes, 0.15, 10, [0.2, 0.5, 1, 2, 5, 10])
     under(figure, f"ratio to the row's peer (1): the facility alone, or C++; less is better\n{MARKS}\n{machine('lines')}")
     desk, threads = ([median(cell) for name, cell in rows if name.startswith(of)] for of in ("desk", "threads"))
-    save(figure, folder, "lines", f"A desk takes {min(desk):.1f} to {max(desk):.1f} times its facility, and client threads "
+    save(figure, folder, "lines", f"A desk takes {min(desk):.1f} to {max(desk):.1f} times as long as the same requests without one, and client threads "
          f"{min(threads):.1f} to {max(threads):.1f} times as long as in C++",
          "The desk, its flushes and client threads beside their peers. Ratios of time; of the desk and its flushes with the least and the greatest of five runs. bench/results/lines.csv and "
          "threads.csv have the numbers.")

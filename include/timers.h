@@ -14,6 +14,7 @@
  *     timers_look, timers_each - read one timer, iterate over all of them
  *     timers_now, timers_len, timers_has_due, timers_wakeup, timers_next - read the state
  *     timers_find_next - read the next deadline, and keep it for later calls
+ *     timers_move_ahead - make moves of later ticks while there is time (TIMERS_SMOOTH)
  *     timers_counts - read what the wheels have done so far
  *     timers_message, timers_version - return the text of a status, and the version of the library
  *     timers_set_allocator - take memory from functions other than malloc, realloc and free
@@ -25,31 +26,31 @@
  * DESCRIPTION
  *     A `struct timers` owns timers and a clock of ticks. It is open from a timers_new that returned
  *     TIMERS_OK to timers_free. The length of a tick is the caller's choice: a millisecond, a frame, a
- *     retransmission unit. A timer is started for an interval in ticks, or for a tick, with a value, its
- *     action. Only timers_tick, timers_advance, timers_advance_to and timers_take advance the clock. A timer
- *     whose deadline is the present tick has expired: it is no longer pending, and waits to be taken by
- *     timers_expire, timers_expire_batch or timers_take. Timers expire in the order of their deadlines, and
- *     with one deadline in the order of their starts.
+ *     retransmission unit. A timer is started for an interval in ticks, or for a tick, with a value: its action.
+ *     Only timers_tick, timers_advance, timers_advance_to and timers_take advance the clock. A timer whose deadline
+ *     is the present tick has expired: it is no longer pending, and waits to be taken by timers_expire,
+ *     timers_expire_batch or timers_take. Timers expire in the order of their deadlines, and with one deadline in
+ *     the order of their starts.
  *
- *     While expired timers wait, others may be started, restarted and stopped, for instance by the work that
- *     the first of them triggers. Only the clock can't advance until all of them are taken (TIMERS_DUE). An
- *     expired timer that was not yet taken can be stopped and restarted too. After a timers_stop that
- *     returned TIMERS_OK, no call hands the timer out. So if the work of one timer frees what the action of
- *     another points to, it stops the other, whether that has expired or not. A timer that
- *     timers_expire_batch has written to an array is taken, and can't be stopped any more. If the work of one
- *     can free what another of the array points to, take them one at a time.
+ *     While expired timers wait, others may be started, restarted and stopped, for instance by the handler of the
+ *     first. Only the clock can't advance until all of them are taken (TIMERS_DUE). An expired timer that was not
+ *     yet taken can be stopped and restarted too. After a timers_stop that returned TIMERS_OK, no call hands the
+ *     timer out. So if the handler of one timer frees what the action of another points to, it stops the other,
+ *     whether that has expired or not. A timer that timers_expire_batch has written to an array is taken, and can't
+ *     be stopped any more. If the handler of one can free what another of the array points to, take them one at a
+ *     time.
  *
  *     An interval counts from the present tick, the one up to which the clock was advanced last. While the
  *     clock is behind the real time, as it is while input is handled, a timer expires that much too early.
- *     So advance the clock first, or give timers_start_at the tick that is meant. A caller that rounds the
- *     real time down to a tick starts a timer somewhere within that tick. So an interval of n ticks lasts
- *     more than n - 1 and at most n: add 1 if it must last no less than n.
+ *     So advance the clock first, or give timers_start_at a tick. A caller that rounds the real time down to a tick
+ *     starts a timer somewhere within that tick. So an interval of n ticks lasts more than n - 1 and at most n: add
+ *     1 if it must last no less than n.
  *
  *     The tick of timers_start_at, timers_restart_at or timers_set_at may have passed. Then the timer is due
  *     at once: it has expired, with the present tick as its deadline. The same holds for the present tick.
- *     The timer is taken after those that expired before it. So a caller that is late can add its period to
- *     the tick that was meant until it has caught up. If the work of each timer starts one that is due at
- *     once, a loop that takes what expires until nothing is left never ends.
+ *     The timer is taken after those that expired before it. So a late caller can add its period to the old
+ *     deadline until it has caught up. If each handler starts a timer that is due at once, a loop that takes what
+ *     expires until nothing is left never ends.
  *
  *     An interval of 0 is refused (TIMERS_ZERO_INTERVAL). An interval ends at a later tick, and 0 is usually
  *     a calculation error. For work that is due at once give timers_start_at the present tick.
@@ -63,8 +64,8 @@
  *
  *     The functions were proved, and then translated into C. Each meets the contract that the sources state for it
  *     (crates/timer_c/src/exports.rt), for every call that keeps the rules below. Nothing checks that a caller keeps
- *     them. Tests alone cover the translation and the C around it: it allocates, takes NULL where nobody wants an
- *     answer, and has timers_set_allocator and timers_message.
+ *     them. Tests alone cover the translation and the C around it, which allocates, accepts NULL for results that
+ *     nobody wants, and has timers_set_allocator and timers_message.
  *
  * COSTS
  *     The timers are in arrays, and each is in the bucket of a wheel. A bucket of the lowest wheel has one
@@ -84,6 +85,7 @@
  *         counts, message         constant
  *         version, set_allocator  constant
  *         next, find_next         constant, or each timer of one bucket
+ *         move_ahead              each move that it makes
  *         len                     each expired timer that waits
  *         each                    each place up to the next timer
  *         reserve                 the most timers that were held at once
@@ -94,46 +96,49 @@
  *
  *     From the first timers_find_next that walks a bucket on, the first deadline of each bucket above the lowest
  *     wheel is kept. A start, a restart, a stop and a move update it in constant time. A bucket that has timers by
- *     then is walked once before its first deadline is known, unless it becomes empty before. From then on it is
- *     known of a bucket whose timers were started in the order of their deadlines, as those of one length are. Of
- *     any other it is forgotten once the last timer that is known to have it is stopped, or restarted for a later
- *     tick, and others are left in the bucket. If the bucket of the next deadline has none that is known, both calls
- *     look at each of its timers.
+ *     then is walked once before its first deadline is known, unless it becomes empty before. It stays known while
+ *     the timers of the bucket were started in the order of their deadlines, as those of one length are. In any
+ *     other bucket it is forgotten when the last timer that is known to have it is stopped, or restarted for a later
+ *     tick, and others are left in the bucket. Then the next call walks the bucket again: both calls look at each
+ *     timer of the next deadline's bucket if its first deadline is not known.
  *     timers_find_next keeps what it found, timers_next does not. So a loop that asks in each turn calls
  *     timers_find_next.
  *
  * WHICH TABLE
  *     TIMERS_WIDE is for all but these cases. TIMERS_CLOCK shows hands of a clock. TIMERS_SMALL is for machines with little
- *     memory: its buckets take 2.7 KB in place of 16, its clock is short, and a timer moves five times at most. Above the
+ *     memory: its buckets take 2.7 KB in place of 15, its clock is short, and a timer moves five times at most. Above the
  *     lowest wheel its calls look at one digit after another, so some take a little longer. TIMERS_SMOOTH is for a
  *     loop that holds some 100,000 timers or more, passes a tick or a few at a time, and must not pause.
  *
- *     With TIMERS_WIDE a tick at a multiple of 64 moves all timers of its bucket: of a million timers as many as all of
- *     them, which takes 10 ms, and up to 200 ms where they lie in memory in random order. With TIMERS_SMOOTH they move
+ *     With TIMERS_WIDE a tick at a multiple of 64 moves all timers of its bucket. That may be all of a million timers.
+ *     It then takes 10 ms, and up to 140 ms if they lie in random order in memory. With TIMERS_SMOOTH they move
  *     earlier, a few at each tick. Let n be the most timers that were held at one time since timers_new or
  *     timers_clear. Then
  *
- *         a tick moves            at most 2n/63 + 18 timers: about one of 32
+ *         a tick moves            at most 2n/63 + 18 timers: about one in 32
  *         advance, take           at most that for each tick that they pass, and no more than 9 for each timer
- *         start, restart, set     at most two timers
+ *         start, restart, set_at  at most two timers
  *
  *     In all there are at most 9 moves for each start and restart, as before, and the order of expiry is the same.
- *     What is proved of this is proved of the wheel (crates/timer_wheels/src/smooth.rt) and tested of this library, but
- *     for the 9 moves: these are in the contract of timers_counts.
+ *     This is proved of the wheel (crates/timer_wheels/src/smooth.rt), and tested of this library. Only the 9 moves
+ *     are in a contract here, of timers_counts.
  *
  *     A loop that sleeps until timers_wakeup and then passes thousands of ticks at once makes the moves of all these
  *     ticks in one call. It gains nothing. One that wakes at each tick, or at each 16th, does.
  *
- *     Its calls take more instructions than those of TIMERS_WIDE: with 10,000 timers a start 1.4 times as many, a
- *     restart 1.5, a stop 1.2, a take 2.4, and a tick at which nothing expires or moves 2 times (bench/README.md).
- *     timers_wakeup, timers_next and timers_find_next look at one wheel after another, until none above can have an
- *     earlier deadline. timers_wakeup walks no bucket, the others at most one in each wheel, and none of them keeps
- *     what it found.
+ *     A loop with time to spare calls timers_move_ahead before it sleeps. Moves that are made then are not made by
+ *     later ticks. While none is left, no tick moves a timer.
+ *
+ *     The calls of TIMERS_SMOOTH take more instructions than those of TIMERS_WIDE: with 10,000 timers a start 1.4 times
+ *     as many, a restart 1.5, a stop 1.2, a take 2.4, and a tick at which nothing expires or moves 2 times
+ *     (bench/README.md). timers_wakeup, timers_next and timers_find_next look at one wheel after another, until none
+ *     above can have an earlier deadline. timers_wakeup walks no bucket, the others at most one in each wheel, and none
+ *     of them keeps what it found.
  *
  *     If timers.c was compiled with TIMERS_NO_SMOOTH, it has no TIMERS_SMOOTH: timers_new returns TIMERS_NO_TABLE.
  *
  * PROOFS
- *     Two facts are proved. No start returns TIMERS_NO_MEMORY while fewer timers are held than
+ *     Of these costs two are proved. No start returns TIMERS_NO_MEMORY while fewer timers are held than
  *     timers_reserve made room for. And there are at most 9 moves for each start and restart. (With
  *     TIMERS_CLOCK there are at most 3, which is proved of the wheel and not of timers_counts.) The other
  *     costs are in no contract: they follow from the code. Tests count the allocations of each call, and what it
@@ -145,10 +150,11 @@
  *     timers_reserve made room for. One that re-arms a timer which was just taken does not.
  *
  *     timers_new allocates some 15 KB for the buckets, and the first start some 5 KB more, unless timers_reserve
- *     made room (with TIMERS_CLOCK 6 KB and 2 KB, with TIMERS_SMOOTH 11 KB and 10 KB). A timer takes 64 bytes, in two
- *     arrays. An array that is full grows, the larger one to twice its length. So above some 1,000 timers they have 64
- *     to 132 bytes for each, of the most that were ever held. With a timers_reserve before the first start they have 64
- *     for each, up to its room.
+ *     made room (with TIMERS_CLOCK 6 KB and 2 KB, with TIMERS_SMOOTH 11 KB and 10 KB). Of the 15 KB some 10 are for
+ *     first deadlines; TIMERS_SMOOTH keeps none, and has twice the buckets. A timer takes 64 bytes, in two arrays. An
+ *     array that is full grows, the larger one to twice its length. So above some 1,000 timers they have 64 to 132
+ *     bytes for each, of the most that were ever held. With a timers_reserve before the first start they have 64 for
+ *     each, up to its room.
  *
  *     No block has more than SIZE_MAX / 2 bytes. A call that needed one returns TIMERS_NO_MEMORY.
  *
@@ -180,8 +186,8 @@
  *        be moved by a memcpy after which the old one is not used. No function, timers_new included, may be
  *        given uninitialised memory: it could not tell whether that owns timers.
  *     2. A pointer argument points to an object of its type that this call alone uses. No two arguments of
- *        one call overlap. It is NULL only where nobody wants the answer: an argument that is only written
- *        (rule 3), but not `out` of timers_expire_batch. And timers_free(NULL) does nothing.
+ *        one call overlap. NULL is allowed for a result that nobody wants: an argument that is only written (rule
+ *        3), except for `out` of timers_expire_batch. And timers_free(NULL) does nothing.
  *     3. If an argument is only written (handle, restarted, action, passed, out, counts), the object may be
  *        uninitialised. It has only integers, so any bits are a value, and no function reads it. It is
  *        written exactly if the function's description says so, and otherwise unchanged. The handle of
@@ -200,7 +206,8 @@
  *     independent.
  *
  *     A `struct timers` may be handed from thread to thread by anything that synchronizes the two. A lock does,
- *     a thread's start or join, or an atomic stored with release order and loaded with acquire order.
+ *     and so does a thread's start or join, or an atomic that is stored with release order and loaded with
+ *     acquire order.
  *
  *     No call waits for another thread, unless the allocator does. malloc, realloc and free are called only by
  *     the calls that MEMORY names, and by timers_free. No call is a cancellation point. timers_set_allocator
@@ -208,8 +215,8 @@
  *
  *     A call has to run to its end. One that is left by a longjmp out of a signal handler, or by an
  *     asynchronous cancellation, may leave the timers half changed: then no call may use them any more,
- *     timers_free included. So does one that an allocator's function (timers_set_allocator) leaves by a longjmp
- *     or an exception: they must return. No call calls back otherwise.
+ *     timers_free included. The same holds if an allocator's function (timers_set_allocator) leaves a call by a
+ *     longjmp or an exception: such functions must return. No call calls back otherwise.
  *
  *     A forked child has a copy of the timers, with the same handles. If the process had a single thread, the
  *     child may make all calls. If it had more, the child may make those that neither allocate nor free, on
@@ -252,13 +259,13 @@
 #include <stddef.h>
 #include <stdint.h>
 
-/* The version of this header, as text, and as a number: 10,000 times the major number, 100 times the minor one,
- * and the patch. timers_version returns the number of the library. */
+/* The version of this header, as text and as a number: 10,000 major + 100 minor + patch. The library's number is
+ * from timers_version. */
 #define TIMERS_VERSION "1.0.0"
 #define TIMERS_VERSION_NUMBER 10000
 
-/* A program that includes timers.c in a file of its own may define TIMERS_STATIC before: then the functions are that file's
- * alone, so that the compiler inlines their calls. */
+/* A file that includes timers.c may define TIMERS_STATIC before. Then the functions are static, so that the
+ * compiler inlines their calls. */
 #ifndef TIMERS_STATIC
 #define TIMERS_CALL
 #elif defined(__GNUC__) || defined(__clang__)
@@ -267,8 +274,8 @@
 #define TIMERS_CALL static
 #endif
 
-/* Marks calls whose status has to be read, and the compiler warns if it is not. Without TIMERS_OK nothing was
- * made or started, or there is no answer. The status of a stop, a tick or an advance may be ignored. */
+/* Marks calls whose result must not be ignored: the compiler warns. Unless the status is TIMERS_OK, nothing was made,
+ * started or written. The status of a stop, a tick or an advance may be ignored. */
 #if defined(__GNUC__) || defined(__clang__)
 #define TIMERS_CHECKED TIMERS_CALL __attribute__((warn_unused_result))
 #else
@@ -307,15 +314,21 @@ enum timers_status {
 
 /* The slots of the wheels, and when their timers move: see WHICH TABLE. */
 enum timers_table {
-	TIMERS_WIDE = 0,           /* ten wheels of 64 slots: the last tick is TIMERS_LAST */
-	TIMERS_CLOCK = 1,          /* 60 seconds, 60 minutes, 24 hours, 100 days: the last is TIMERS_CLOCK_LAST */
-	TIMERS_SMOOTH = 2,         /* as TIMERS_WIDE, with twice the slots, and a few moves at a tick */
-	TIMERS_SMALL = 3           /* six wheels of 16 slots: the last tick is TIMERS_SMALL_LAST */
+	/* made by tools/facts: tables */
+	TIMERS_WIDE = 0,    /* ten wheels of 64 slots: the last tick is TIMERS_LAST */
+	TIMERS_CLOCK = 1,   /* 60 seconds, 60 minutes, 24 hours, 100 days: the last tick is TIMERS_CLOCK_LAST */
+	TIMERS_SMOOTH = 2,  /* as TIMERS_WIDE, with twice the slots, and a few moves at a tick */
+	TIMERS_SMALL = 3    /* six wheels of 16 slots: the last tick is TIMERS_SMALL_LAST */
 };
 
+/* made by tools/facts: last ticks */
 #define TIMERS_LAST UINT64_C(1152921504606846975)   /* 2^60 - 1 */
 #define TIMERS_CLOCK_LAST UINT64_C(8639999)         /* day 99, 23:59:59 */
 #define TIMERS_SMALL_LAST UINT64_C(16777215)        /* 2^24 - 1 */
+#define TIMERS_LAST_OF(table) \
+	((table) == TIMERS_CLOCK ? TIMERS_CLOCK_LAST : (table) == TIMERS_SMALL ? TIMERS_SMALL_LAST : TIMERS_LAST)
+#define TIMERS_TABLES 4                             /* how many tables there are: their numbers are less than this */
+/* by hand */
 #define TIMERS_NEVER UINT64_MAX                     /* of timers_wakeup, timers_next and timers_find_next */
 
 /* Private: see rule 1. */
@@ -345,13 +358,13 @@ struct timers_counters {
 	uint64_t visits;     /* buckets that ticks came to, empty ones too: see timers_counts */
 };
 
-/* From now on the library calls these functions instead of malloc, realloc and free, and they must behave alike, and
- * return: no exception and no longjmp may leave one. Each returns a block that is aligned for every type, or NULL if
- * there is no memory, and then leaves the one that it was given as it was. `resize` may be NULL: a block that grows is
- * then a new one, into which the bytes are copied. No function is given NULL, a size of 0, or a block that another
- * made. None may call the library. `allocate` and `release` must not be NULL.
- * Comes before the library first asks for memory in this process, and may be called again until then. Afterwards it
- * returns TIMERS_OPEN and changes nothing, also if no memory was given. Does not allocate. */
+/* Sets the allocator: from now on the library calls these functions instead of malloc, realloc and free. They must
+ * behave like those, and return: no exception and no longjmp may leave one. An allocation returns a block that is
+ * aligned for every type, or NULL if out of memory. A failed resize leaves its block as it was. `resize` may be
+ * NULL: to grow a block, the library then allocates a new one and copies. It never passes NULL, a size of 0, or a
+ * block of another allocator. None may call the library. `allocate` and `release` must not be NULL. Call it before
+ * the library first allocates in this process; it may be called again until then. Afterwards it returns TIMERS_OPEN
+ * and changes nothing, also if that allocation failed. Does not allocate. */
 TIMERS_CHECKED
 enum timers_status timers_set_allocator(void *(*allocate)(size_t size),
                                         void *(*resize)(void *block, size_t size),
@@ -379,10 +392,9 @@ void timers_clear(struct timers *t);
  * TIMERS_NO_MEMORY, whatever was started, stopped and taken before. The timers and the clock don't change.
  * Takes 64 bytes for each timer, of four at least; if it has to grow, of up to twice the most that were ever held.
  * Takes time for these, which it may move. The rest is allocated and not written. The memory is kept until
- * timers_free. After TIMERS_NO_MEMORY it is as much as before.
- * If an earlier timers_reserve made as much room, it allocates nothing and returns TIMERS_OK.
- * TIMERS_NO_MEMORY is also returned if `most` is above some 4.29 billion; after an earlier timers_reserve maybe above
- * half as many.
+ * timers_free. TIMERS_NO_MEMORY leaves it as it was. If an earlier timers_reserve made as much room, it allocates
+ * nothing and returns TIMERS_OK. TIMERS_NO_MEMORY is also returned if `most` is above some 4.29 billion; after an
+ * earlier timers_reserve maybe above half as many.
  * TIMERS_NOT_OPEN, TIMERS_NO_MEMORY. */
 TIMERS_CHECKED
 enum timers_status timers_reserve(struct timers *t, size_t most);
@@ -445,10 +457,9 @@ enum timers_status timers_look(const struct timers *t, struct timers_handle hand
  * the first call. Each call that finds a timer writes it to `*out` and its handle to `*handle`, moves
  * `*cursor` past it and returns true. At the end, or if `t` is not open, it returns false and writes nothing.
  * Between two calls timers may be started, stopped, restarted and taken, and ticks may pass. One that is
- * held all the time, under one handle, is found exactly once. One that is restarted is found once as well: it
- * keeps its place, so after it was found it is not met again under its new handle. One that is started may be
- * found or not. A whole iteration takes time for the most timers that were ever held at once, whatever
- * timers_reserve made room for. */
+ * held all the time, under one handle, is found exactly once. One that is restarted is found once as well. It keeps
+ * its place, so it is not found again under its new handle. One that is started may be found or not. A whole
+ * iteration takes time for the most timers that were ever held at once, whatever timers_reserve made room for. */
 TIMERS_CALL
 bool timers_each(const struct timers *t, uint64_t *cursor, struct timers_handle *handle,
                  struct timers_expired *out);
@@ -458,17 +469,16 @@ bool timers_each(const struct timers *t, uint64_t *cursor, struct timers_handle 
 TIMERS_CALL
 enum timers_status timers_tick(struct timers *t);
 
-/* Passes at most `most` ticks, and stops at the first at which a timer expires. Writes `*passed`, how many
- * were passed, at TIMERS_OK. It is 0 only if `most` is 0: that is no tick, and is not refused while an expired
- * timer waits or at the last tick. It is less than `most` only if a timer has expired or the clock has come to
- * its last tick.
+/* Passes at most `most` ticks, and stops at the first at which a timer expires. Writes `*passed`, how many were
+ * passed, at TIMERS_OK. It is 0 only if `most` is 0. It is less than `most` only if a timer has expired or the
+ * clock has come to its last tick. A `most` of 0 succeeds also while an expired timer waits and at the last tick.
  * TIMERS_NOT_OPEN, TIMERS_DUE, TIMERS_CLOCK_END. */
 TIMERS_CALL
 enum timers_status timers_advance(struct timers *t, uint64_t most, uint64_t *passed);
 
 /* Passes the ticks up to `tick`, and stops at the first at which a timer expires, or at the last tick of the
- * clock. A tick that is not after the present one is none to pass. Then nothing changes and the status is
- * TIMERS_OK. This also holds while an expired timer waits, and at the last tick.
+ * clock. If `tick` is not after the present one, nothing changes and the status is TIMERS_OK. This also holds while
+ * an expired timer waits, and at the last tick.
  * TIMERS_NOT_OPEN, TIMERS_DUE, TIMERS_CLOCK_END. */
 TIMERS_CALL
 enum timers_status timers_advance_to(struct timers *t, uint64_t tick);
@@ -515,34 +525,43 @@ uint64_t timers_wakeup(const struct timers *t);
 
 /* The deadline of the timer that is taken next, exactly. It is the present tick if an expired timer waits to
  * be taken, and TIMERS_NEVER if nothing is pending or `t` is not open. Otherwise it is the first pending
- * deadline. Takes constant time if that comes before the next multiple of 64 ticks (of TIMERS_CLOCK, 60), or
- * if the first deadline of its bucket is kept. Otherwise it walks the timers of that bucket, and with TIMERS_SMOOTH
- * of at most one in each wheel. Does not allocate. A loop that asks in each turn calls timers_find_next. */
+ * deadline. Takes constant time if that comes before the next multiple of 64 ticks (of TIMERS_CLOCK 60, of
+ * TIMERS_SMALL 16). So it does if the first deadline of its bucket is kept. Otherwise it walks the timers of that
+ * bucket, and with TIMERS_SMOOTH of at most one in each wheel. Does not allocate. A loop that asks in each turn
+ * calls timers_find_next. */
 TIMERS_CALL
 uint64_t timers_next(const struct timers *t);
 
 /* Returns what timers_next returns, and keeps it so that later calls are faster. No result of a call changes. It
- * walks the timers of one bucket if timers_next would. Then both take constant time until the last timer with that
- * deadline is stopped, or restarted for a later tick, and others are left in its bucket, or until the next deadline
- * is in a bucket whose first deadline is not known (COSTS). With timers of one length it stays known. With timers of
- * several, a loop that pushes back the first one in each turn may walk in each turn. It can sleep until
- * timers_wakeup, which never walks. Does not allocate. */
+ * walks the timers of one bucket if timers_next would. Then both take constant time, until one of two things
+ * happens. The last timer with that deadline is stopped, or restarted for a later tick, and others are left in its
+ * bucket. Or the next deadline is in a bucket whose first deadline is not known (COSTS). With timers of one length
+ * it stays known. With several lengths, a loop that pushes back the first timer in each turn may walk in each turn.
+ * It can sleep until timers_wakeup, which never walks. Does not allocate. */
 TIMERS_CALL
 uint64_t timers_find_next(struct timers *t);
 
+/* Makes at most `most` of the moves of later ticks now, and returns how many it made. Of other calls only
+ * timers_counts returns anything else for it. A timer still moves at most 9 times. Call it before the loop sleeps,
+ * if there is time, with as many moves as there is time for: each takes constant time. If it returns less than
+ * `most`, none is left for now, and later ticks bring new ones. With a table other than TIMERS_SMOOTH there are
+ * none, and it returns 0. It also returns 0 if `t` is not open. Never waits. Does not allocate. */
+TIMERS_CALL
+uint64_t timers_move_ahead(struct timers *t, uint64_t most);
+
 /* Writes `*counts`, what the wheels have done since timers_new, at TIMERS_OK. `starts` counts each start and
- * restart that returned TIMERS_OK. `moves` is at most 9 times `starts` (of TIMERS_CLOCK, 3 times). How many one call
- * makes with TIMERS_SMOOTH is above, under WHICH TABLE, and there `visits` is always 0. With the others `visits`
- * counts one for each tick of timers_tick. Of timers_advance, timers_advance_to and timers_take it counts one
- * for each multiple of 64 ticks that is passed (of TIMERS_CLOCK, 60). It also counts their last tick if that is
- * no such multiple and a timer expires there. A stop and taking expired timers count nothing, and timers_clear
- * changes no count. Constant time. Does not allocate.
+ * restart that returned TIMERS_OK. `moves` is at most 9 times `starts` (of TIMERS_CLOCK 3, of TIMERS_SMALL 5
+ * times). How many one call makes with TIMERS_SMOOTH is above, under WHICH TABLE, and there `visits` is always 0.
+ * With the others `visits` counts one for each tick of timers_tick. Of timers_advance, timers_advance_to and
+ * timers_take it counts one for each multiple of 64 ticks that is passed (of TIMERS_CLOCK 60, of TIMERS_SMALL 16).
+ * It also counts their last tick if that is no such multiple and a timer expires there. A stop and taking expired
+ * timers count nothing, and timers_clear changes no count. Constant time. Does not allocate.
  * TIMERS_NOT_OPEN. */
 TIMERS_CHECKED
 enum timers_status timers_counts(const struct timers *t, struct timers_counters *counts);
 
-/* The version of the library, as the number TIMERS_VERSION_NUMBER of its header. It is above that of this
- * header if the library is newer than what the program was built with. */
+/* The version of the library, as the number TIMERS_VERSION_NUMBER of its header. If the library is newer than the
+ * header that the program was built with, it is above this header's. */
 TIMERS_CALL
 uint32_t timers_version(void);
 

@@ -4,18 +4,18 @@
  *     c++ -std=c++17 prog.cpp $(pkg-config --cflags --libs timers)
  *
  * A `timing::timers<Tick, Action>` owns timers and frees them. It can be moved and not copied. timers.h
- * says what each call does; this header says what differs. It takes no lock, and allocates nothing but what it
- * throws: the owner is a `struct timers` and the last tick of its clock, 32 bytes. Each call is one of C, but for
- * catch_up and each, which make several, and in_ticks, at_least, at and raw, which make none.
+ * says what each call does; this header says what differs. It takes no lock, and allocates only what it throws. The
+ * owner is a `struct timers` and the last tick of its clock, 32 bytes. Each call is one of C. Exceptions: catch_up
+ * and each make several, and in_ticks, at_least, at and raw none.
  *
  * TICKS. `Tick` is the length of a tick, a std::chrono::duration. A deadline is a std::chrono::time_point of `Clock`,
- * and so are `now` and the deadlines that come back: an interval given in place of one does not compile. An interval is
+ * and so are `now` and the deadlines that come back. An interval given in place of one does not compile. An interval is
  * a duration. Both are whole numbers, and are rounded up to ticks. An interval of n ticks lasts more than n - 1 and at
  * most n, since the present tick has begun. `at_least` adds the tick that a time-out needs if it must not come early.
  *
- * CLOCKS. By default the time is one of ticks alone, which goes on as the caller says: `timers.at(5s)` is a time
- * point 5 seconds after tick 0. With a real clock as the third parameter its time points are taken as they are. Tick 0
- * is the clock's epoch, a deadline is rounded up to a tick, and a present time down, so that no timer comes early:
+ * CLOCKS. By default the clock has ticks alone, and the caller advances it: `timers.at(5s)` is a time point 5 seconds
+ * after tick 0. With a real clock as the third parameter its time points are taken as they are. Tick 0 is the clock's
+ * epoch, a deadline is rounded up to a tick, and a present time down, so that no timer comes early:
  *
  *     timing::timers<std::chrono::milliseconds, void (*)(), std::chrono::steady_clock> timers;
  *     timers.start_at(std::chrono::steady_clock::now() + 500ms, run);
@@ -29,15 +29,15 @@
  * it costs nothing. A std::function does not fit: keep it in an object of yours, and give the pointer to that.
  * What owns something does not fit either, as it can't be copied, or not trivially.
  *
- * ERRORS. As in the standard library's containers, what a caller can't expect is an exception. It is
- * std::bad_alloc if a call runs out of memory, and otherwise `timing::error` with the status of C. What may
- * well happen is a result: no timer has the handle (it was stopped, restarted or taken), or nothing has
- * expired. After an exception of the library nothing has changed.
+ * ERRORS. As in the standard library's containers, an unexpected failure is an exception. It is std::bad_alloc if a
+ * call runs out of memory, and otherwise `timing::error` with the status of C. Expected outcomes are results: no
+ * timer has the handle (it was stopped, restarted or taken), or nothing has expired. After an exception of the
+ * library nothing has changed.
  *
  * WITHOUT EXCEPTIONS (-fno-exceptions) a call that would throw runs TIMERS_REFUSED(status) and then std::abort. A
- * program may define that, to log the status: on the command line, for all of its files alike. Nor may some of them be
- * compiled with exceptions and others without. After `reserve` no start lacks memory; what is refused then is a
- * mistake of the caller. Whoever wants each status calls timers.h. */
+ * program may define that, to log the status: on the command line, for all of its files alike. Nor may some of them
+ * be compiled with exceptions and others without. After `reserve` no start runs out of memory; any other refusal is a
+ * bug of the caller. To get each status, call timers.h. */
 /* SPDX-License-Identifier: MIT OR Apache-2.0 */
 #ifndef TIMERS_HPP
 #define TIMERS_HPP
@@ -140,7 +140,7 @@ public:
 	explicit timers(enum timers_table table = TIMERS_WIDE) : timers(table, time_point()) {}
 	template <class Duration>
 	timers(enum timers_table table, std::chrono::time_point<Clock, Duration> present)
-		: last_tick_(table == TIMERS_CLOCK ? TIMERS_CLOCK_LAST : table == TIMERS_SMALL ? TIMERS_SMALL_LAST : TIMERS_LAST)
+		: last_tick_(TIMERS_LAST_OF(table))
 	{
 		check(timers_new(&raw_, table, tick_by(present)));
 	}
@@ -339,11 +339,15 @@ public:
 	/* How many timers are pending. */
 	std::size_t size() const noexcept { return timers_len(&raw_); }
 
-	/* A time until which the caller may sleep, and the exact first deadline; nothing if no timer is held.
-	 * find_next keeps what it found: it is for a loop that asks in each turn. */
+	/* A time until which the caller may sleep; the exact first deadline; the same, kept for a loop that asks in each turn.
+	 * Nothing if no timer is held. */
 	std::optional<time_point> wakeup() const noexcept { return unless_never(timers_wakeup(&raw_)); }
 	std::optional<time_point> next() const noexcept { return unless_never(timers_next(&raw_)); }
 	std::optional<time_point> find_next() noexcept { return unless_never(timers_find_next(&raw_)); }
+
+	/* timers_move_ahead: makes at most `most` moves of later ticks now, and returns how many. With TIMERS_SMOOTH, for a
+	 * loop with time to spare. */
+	std::uint64_t move_ahead(std::uint64_t most) noexcept { return timers_move_ahead(&raw_, most); }
 
 	/* timers_counts: the starts, moves and visits since the timers were made. Throws error: TIMERS_NOT_OPEN. */
 	timers_counters counts() const

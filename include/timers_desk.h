@@ -32,30 +32,28 @@
  *     wait-free rings between its thread and the owner. One carries requests to the owner, the other words back,
  *     each first in, first out. A word is the answer to a request, or the notice of a timer that came out.
  *
- *     No call waits for another thread. There is no lock: the two ends of a line share nothing but the
- *     rings. A client's calls do not allocate. They take constant time, but after the desk was freed
- *     timers_line_finish and timers_line_free take time for each request or word that stands in the line. If
- *     its line is full, a request is refused with TIMERS_DESK_LINE_FULL. Nothing has changed then, and it may
- *     be sent again.
+ *     No call blocks on another thread, and there is no lock: the two ends of a line share only the rings. A
+ *     client's calls do not allocate, and take constant time. Exception: once the desk was freed,
+ *     timers_line_finish and timers_line_free take time for each request or word in the line. If its line is full,
+ *     a request is refused with TIMERS_DESK_LINE_FULL. Nothing has changed then, and it may be sent again.
  *
- *     Each request has a number, one above that of the client's request before it, from 1 on. The owner
- *     takes requests by timers_desk_serve or timers_desk_serve_all, and each gets one word as its answer,
- *     in the order in which they were sent. Each timer that was started and neither stopped nor restarted
- *     gets one more word, at the tick of its deadline or at the close. So a client knows by counting that
- *     it has all its words: one for each request, and one for each such timer.
+ *     A client's requests are numbered from 1 on. The owner takes requests by timers_desk_serve or
+ *     timers_desk_serve_all, and each gets one word as its answer, in the order in which they were sent. Each timer
+ *     that was started and neither stopped nor restarted gets one more word, at the tick of its deadline or at the
+ *     close. So a client knows by counting that it has all its words: one for each request, and one for each such
+ *     timer.
  *
- *     A client that does not count can ask the owner instead. The client finishes and hands its line over;
- *     the owner calls timers_desk_end and hands the line back. The call is refused while something of the
- *     client is left at the desk. Afterwards only the words in the line are still to be received:
- *     timers_line_receive returns false only if there is nothing more, and timers_line_ended returns
- *     true. timers_desk_end_all does the same for all clients at once.
+ *     A client that does not count can ask the owner instead. The client finishes and hands its line over; the
+ *     owner calls timers_desk_end and hands the line back. The call fails while something of the client is left at
+ *     the desk. Afterwards only the words in the line are left. When the client has received them,
+ *     timers_line_receive returns false for good, and timers_line_ended returns true. timers_desk_end_all does the
+ *     same for all clients at once.
  *
- *     Either end may be freed while the other one is used. timers_desk_line_freed tells the owner that a
- *     client's line was freed. Requests that were sent before are still taken; words to the client are dropped
- *     by the flushes. timers_line_abandoned tells a client that the desk was freed, once the client has received
- *     all words that a flush had moved into its line: whatever the owner flushed before the free is received.
- *     Words that waited in the outbox are lost. So a client's loop ends if timers_line_ended or
- *     timers_line_abandoned returns true.
+ *     Either end may be freed while the other one is in use. timers_desk_line_freed tells the owner that a client
+ *     has freed its line. The owner still takes the requests that were sent before, and the flushes drop words to
+ *     the client. timers_line_abandoned tells a client that the desk was freed, once the client has received all
+ *     words in its line. So it receives whatever was flushed before the free. Words in the outbox are lost. So a
+ *     client's loop ends if timers_line_ended or timers_line_abandoned returns true.
  *
  *     Clients come and go. If a client's line was freed, timers_desk_open opens one for another client under the
  *     same number. It requires that every request was taken, no word waits, and no timer is pending. The owner need
@@ -64,15 +62,14 @@
  *     nothing with the old one, which was freed together with the words in it. So no word to the old client reaches
  *     the new one, and each word that the new one receives is about its own requests.
  *
- *     Words wait in the client's outbox at the owner until a flush moves them into the line. A request is
- *     taken only if the outbox has room for its answer, a word of each of the client's pending timers, and
- *     one more. So no word is lost unless an end is freed. A client that does not read blocks only its own
- *     requests. A stop needs that room too: while the outbox lacks room (TIMERS_DESK_NO_ROOM), the client cannot stop a
- *     timer. Words leave the outbox by a flush, if the line has room for them, so the client has to read. If its
- *     pending timers alone take the room, one of them has to expire first.
- *     A `room` of k + q + 1 is enough for a client that keeps at most k timers, and has at most q requests without an
- *     answer. A request that failed with out of memory is held, and retried first when its client is served the next
- *     time.
+ *     Words are queued in the client's outbox at the owner until a flush moves them into the line. A request is
+ *     taken only if the outbox has room for its answer, a word of each of the client's pending timers, and one
+ *     more. So no word is lost unless an end is freed. A client that does not read blocks only its own requests. A
+ *     stop needs that room too: while the outbox lacks room (TIMERS_DESK_NO_ROOM), the client cannot stop a timer.
+ *     Words leave the outbox by a flush, if the line has room for them, so the client has to read. If its pending
+ *     timers alone take the room, one of them has to expire first. A `room` of k + q + 1 is enough for a client
+ *     that keeps at most k timers, and has at most q requests without an answer. A request that failed with out of
+ *     memory is held, and retried first when its client is served the next time.
  *
  *     The owner's loop:
  *
@@ -86,40 +83,39 @@
  *                     and only briefly after TIMERS_DESK_NO_MEMORY
  *         }
  *
- *     Ticks come first, since an interval counts from the tick at which its request is taken. If requests
- *     were taken before the clock has caught up, their timers would expire too early, by the time that the
- *     owner slept. A client that knows the owner's clock can send a deadline instead (timers_line_start_at):
- *     then it does not matter when the request is taken. If the deadline has passed by then, the timer is due at
- *     once: its word comes right after the answer.
+ *     Ticks come first, since an interval counts from the tick at which its request is taken. If the owner took
+ *     requests before the clock has caught up, their timers would expire too early, by the time that it slept. A
+ *     client that knows the owner's clock can send a deadline instead (timers_line_start_at): then it does not
+ *     matter when the request is taken. If the deadline has passed by then, the timer is due at once: its word
+ *     comes right after the answer.
  *
- *     How threads wake each other is left to the program: an eventfd, a pipe, a condition variable with a
- *     flag. The order matters. The owner clears the signal before it looks at the lines, never between
- *     looking and sleeping. A client first sends its requests and then signals. So a request that the owner
- *     did not see is followed by a signal that ends its sleep, and no request waits forever. A client also
- *     signals after it has received words, since its line has room again. In the other direction the same
- *     holds: the client clears its signal, receives until there is no word, and then sleeps.
- *     timers_desk_bell.h does this; examples/c/desk_server.c uses it.
+ *     The program chooses how threads wake each other: an eventfd, a pipe, a condition variable with a flag. The
+ *     order matters. The owner clears the signal before it looks at the lines, never between looking and sleeping.
+ *     A client first sends its requests and then signals. So a request that the owner did not see is followed by a
+ *     signal that ends its sleep, and no request waits forever. A client also signals after it has received words,
+ *     since its line has room again. In the other direction the same holds: the client clears its signal, receives
+ *     until there is no word, and then sleeps. timers_desk_bell.h does this; examples/c/desk_server.c uses it.
  *
  *     The functions were proved, and then translated into C. Each meets the contract stated in
- *     crates/timer_desk_c/src/desk_exports.rt or line_exports.rt, for every call that keeps the rules below. Nothing
- *     checks the rules, but the settling and ending calls check the client and the life of a line (rule 5). Tests
- *     alone cover the translation, the C around it, which allocates, and timers_desk_message. Nothing is proved about
- *     time: when a thread runs, and when a word arrives. Of timers_desk_line_freed and timers_line_abandoned it is
- *     proved that they change nothing, and record their tests in the right order: first whether the desk is gone, and
- *     then whether a word is left in the line. Tests show that they return true exactly if the other end was freed,
- *     and that each test reads the ring, so that no word that was put before is missed. The same holds for a client's
- *     requests before its line is opened again.
+ *     crates/timer_desk_c/src/desk_exports.rt or line_exports.rt, for every call that keeps the rules below. The
+ *     library does not check the rules, except that the settling and ending calls check the client and the life of
+ *     a line (rule 5). Tests alone cover the translation, the C around it, which allocates, and
+ *     timers_desk_message. Nothing is proved about time: when a thread runs, and when a word arrives.
+ *     timers_desk_line_freed and timers_line_abandoned are proved to change nothing, and to record their checks in
+ *     the right order: first whether the desk is gone, then whether a word is left in the line. Tests show that
+ *     they return true exactly if the other end was freed, and that each check reads the ring, so that it misses no
+ *     word that was put before. The same holds for a client's requests before its line is opened again.
  *
  * RULES
  *     1. A `struct timers_desk` begins as TIMERS_DESK_INIT and a `struct timers_line` as TIMERS_LINE_INIT,
- *        or with all bytes 0. Only these functions write them, but for `lives` (rule 5). They must not be copied,
- *        since they own memory; they may be moved by a memcpy after which the old one is not used.
+ *        or with all bytes 0. Only these functions write them, except for `lives` (rule 5). They must not be
+ *        copied, since they own memory; they may be moved by a memcpy after which the old one is not used.
  *     2. A pointer argument is not NULL. It points to an object of its type that this call alone uses;
  *        `lines` points to as many as are passed. No two arguments of one call overlap.
  *     3. An object that a call only writes (number, word, passed, returned, standing, unread, stopped, client) may
- *        be uninitialised. It is written only if the call returns TIMERS_DESK_OK or true; `client` of
- *        timers_desk_end_all only if a client is to blame.
- *     4. Calls on one struct come one at a time, but for those that THREADS names. A struct may be handed from
+ *        be uninitialised. It is written only if the call returns TIMERS_DESK_OK or true. Exception:
+ *        timers_desk_end_all writes `client` exactly if the error is a client's.
+ *     4. Calls on one struct come one at a time, except for those that THREADS names. A struct may be handed from
  *        thread to thread: by a lock, by a thread's start or join, by an atomic with release and acquire order.
  *        Calls on two structs are independent: the owner's and its clients' may overlap in every way.
  *     5. timers_desk_settle, timers_desk_end and timers_desk_end_all are given lines of the same desk. A line of
@@ -140,15 +136,14 @@
  *     Calls whose only struct is const only read it, so that they may run beside each other while no other call
  *     uses the struct.
  *
- *     No call waits for another thread, unless the allocator does, or atomics of 64 bits on a processor that has none:
- *     libatomic gives it these by locks. malloc, realloc and free are called only by
- *     timers_desk_new, timers_desk_open, timers_desk_reserve, timers_desk_close, the serves, timers_line_finish
- *     and the frees. No call is a cancellation point, and none calls back but for the functions of
- *     timers_set_allocator, which must return.
+ *     No call blocks on another thread, unless the allocator does. On a processor without atomics of 64 bits
+ *     libatomic takes locks. malloc, realloc and free are called only by timers_desk_new, timers_desk_open,
+ *     timers_desk_reserve, timers_desk_close, the serves, timers_line_finish and the frees. No call is a
+ *     cancellation point. The only callbacks are the functions of timers_set_allocator, which must return.
  *
- *     A call has to run to its end. One that is left by a longjmp out of a signal handler, or by an
- *     asynchronous cancellation, may leave its struct half changed: then it must not be used again, not even
- *     freed. The other end of the line may go on.
+ *     A call must return. If a longjmp out of a signal handler or an asynchronous cancellation leaves it, its
+ *     struct may be inconsistent: then it must not be used again, not even freed. The other end of the line may go
+ *     on.
  *
  *     A forked child has copies of the structs, which share nothing with the parent's, and one thread, the one that
  *     forked. It may use what no other thread was changing during the fork, by the calls that neither allocate nor
@@ -164,8 +159,8 @@
 #include <stdint.h>
 #include "timers.h"
 
-/* A program that includes timers.c in a file of its own may define TIMERS_STATIC before: then the functions are that file's
- * alone, so that the compiler inlines their calls. */
+/* A file that includes timers.c may define TIMERS_STATIC before. Then the functions are static, so that the
+ * compiler inlines their calls. */
 #ifndef TIMERS_STATIC
 #define TIMERS_CALL
 #elif defined(__GNUC__) || defined(__clang__)
@@ -174,7 +169,7 @@
 #define TIMERS_CALL static
 #endif
 
-/* Marks calls whose status or result matters: the compiler warns if it is not read. */
+/* Marks calls whose result must not be ignored: the compiler warns. */
 #if defined(__GNUC__) || defined(__clang__)
 #define TIMERS_CHECKED TIMERS_CALL __attribute__((warn_unused_result))
 #else
@@ -258,14 +253,15 @@ struct timers_line {
 #define TIMERS_DESK_INIT { 0, 0, 0 }
 #define TIMERS_LINE_INIT { 0, 0, 0, 0 }
 
-/* What a desk is made with. `size` is sizeof(struct timers_desk_config), by which a library tells the struct from one
- * of a later header that has more members: { .size = sizeof config, .capacity = 1000, .. }.
+/* The configuration of a desk: { .size = sizeof config, .capacity = 1000, .. }. `size` is sizeof(struct
+ * timers_desk_config). It tells the library which header the program was built with: a later one may have more
+ * members.
  *
- * `room`: a serve takes no request of a client, not even a stop, while its pending timers and the words in its outbox
- * are more than room - 2. No request is held back so of a client that keeps at most k timers, and has at most q
- * requests without an answer, if room is k + q + 1 or more. There a timer counts from the request that starts it until
- * its last word is received, and a request until its answer is. With room 2 no request can stop or restart a timer. A
- * client keeps at most room - 1 timers. timers_desk_new allocates the outbox: 64 bytes for each word of room. */
+ * `room`: a serve takes no request of a client while its pending timers and the words in its outbox are more than
+ * room - 2. That includes stops. A room of k + q + 1 holds back no request of a client with at most k timers and q
+ * requests without an answer. Here a timer counts from the request that starts it until its last word is received,
+ * and a request until its answer is. With room 2 no request can stop or restart a timer. A client keeps at most
+ * room - 1 timers. timers_desk_new allocates the outbox: 64 bytes for each word of room. */
 struct timers_desk_config {
 	uint64_t size;         /* sizeof(struct timers_desk_config) */
 	uint64_t first_tick;   /* the clock begins at it: at most the last tick of the table */
@@ -289,9 +285,9 @@ struct timers_word {
 
 /* The owner's calls. */
 
-/* Makes a desk with `clients` clients, 1 to 64, over wheels with the slots of a table. Its memory for timers grows with
- * them, unless timers_desk_reserve makes all of it. From then on
- * lines[0] to lines[clients - 1] hold the clients' ends. `lines` must not be NULL, even if `clients` is 0.
+/* Makes a desk with `clients` clients, 1 to 64, over the wheels of the table. Starts allocate memory for timers,
+ * unless timers_desk_reserve has allocated all of it. From then on lines[0] to lines[clients - 1] hold the clients'
+ * ends. `lines` must not be NULL, even if `clients` is 0.
  * TIMERS_DESK_OPEN, TIMERS_DESK_OUT_OF_RANGE (also: another size, no such table, or the first tick is after the
  * table's last tick), TIMERS_DESK_NO_MEMORY: nothing has changed then. */
 TIMERS_CHECKED
@@ -299,17 +295,17 @@ enum timers_desk_status timers_desk_new(struct timers_desk *d, struct timers_lin
                                         const struct timers_desk_config *config);
 
 /* Frees the desk, if it holds one: pending timers, and words that no client's line has yet, are dropped.
- * Clients may continue to call: their requests are never taken, and what is in the line is still
- * received. Once it is, timers_line_abandoned returns true. The struct may be made anew by timers_desk_new: then
- * earlier lines are refused by the calls that settle or end one (rule 5). Serials begin at 1 again, so a handle of
- * the earlier desk may name a timer of the new one. */
+ * Clients may continue to call: their requests are never taken, and they still receive what is in the line.
+ * Afterwards timers_line_abandoned returns true. timers_desk_new may make a new desk in the struct: then the calls
+ * that settle or end a line refuse earlier ones (rule 5). Serials begin at 1 again, so a handle of the earlier desk
+ * may name a timer of the new one. */
 TIMERS_CALL
 void timers_desk_free(struct timers_desk *d);
 
 /* Serves a client once: takes its held request, or else the next one of its line. At TIMERS_DESK_OK the
  * answer is in the outbox, and after it the word of a timer that is due at once. Allocates only for a start.
- * TIMERS_DESK_NOT_OPEN, TIMERS_DESK_NO_CLIENT, TIMERS_DESK_NO_ROOM, TIMERS_DESK_IDLE: nothing was taken. NO_ROOM is
- * tested first, also if no request is in the line.
+ * TIMERS_DESK_NOT_OPEN, TIMERS_DESK_NO_CLIENT, TIMERS_DESK_NO_ROOM, TIMERS_DESK_IDLE: nothing was taken. NO_ROOM
+ * comes before IDLE, also if no request is in the line.
  * TIMERS_DESK_NO_MEMORY: the request is held, and is retried first. */
 TIMERS_CALL
 enum timers_desk_status timers_desk_serve(struct timers_desk *d, size_t client);
@@ -324,8 +320,8 @@ TIMERS_CALL
 enum timers_desk_status timers_desk_serve_all(struct timers_desk *d, uint64_t most);
 
 /* Moves words from each client's outbox into its line, in order, until the outbox is empty or the line
- * full. Words that are left for a client whose line was freed are dropped. Returns whether a word has left its
- * outbox. Nothing else changes. Does not allocate. */
+ * full. Drops what is left for a client whose line was freed. Returns whether a word has left its outbox. Nothing
+ * else changes. Does not allocate. */
 TIMERS_CALL
 bool timers_desk_flush_all(struct timers_desk *d);
 
@@ -333,16 +329,16 @@ bool timers_desk_flush_all(struct timers_desk *d);
 TIMERS_CALL
 size_t timers_desk_flush(struct timers_desk *d, size_t client);
 
-/* Advances the clock by one tick. A word for each timer with that deadline goes to the outbox of its
- * client. Does not allocate.
+/* Advances the clock by one tick. Queues a word for each timer with that deadline in its client's outbox. Does not
+ * allocate.
  * TIMERS_DESK_NOT_OPEN, TIMERS_DESK_CLOSED, TIMERS_DESK_CLOCK_END: nothing has changed. */
 TIMERS_CALL
 enum timers_desk_status timers_desk_tick(struct timers_desk *d);
 
-/* Passes at most `most` ticks, up to the first at which a timer expires. At TIMERS_DESK_OK it writes to
- * `*passed` how many: 0 only if `most` is 0, which is no tick, and is not refused at a closed desk or at the
- * last tick; and fewer than `most` only if a timer has expired or the clock is at its last tick.
- * Jumps over stretches in which nothing happens. Does not allocate.
+/* Passes at most `most` ticks, up to the first at which a timer expires. At TIMERS_DESK_OK it writes to `*passed`
+ * how many. They are 0 only if `most` is 0. They are fewer than `most` only if a timer has expired or the clock is
+ * at its last tick. A `most` of 0 succeeds also at a closed desk and at the last tick. Jumps over stretches in
+ * which nothing happens. Does not allocate.
  * TIMERS_DESK_NOT_OPEN, TIMERS_DESK_CLOSED, TIMERS_DESK_CLOCK_END. */
 TIMERS_CALL
 enum timers_desk_status timers_desk_advance(struct timers_desk *d, uint64_t most, uint64_t *passed);
@@ -358,11 +354,10 @@ enum timers_desk_status timers_desk_close(struct timers_desk *d, uint64_t *retur
 
 /* Settles the line of a client that has finished, once its thread has handed the line over (rule 4). At
  * TIMERS_DESK_OK it writes to `*standing` how many of the client's requests still are in the line.
- * Suppose it is 0, the client's last serve did not return TIMERS_DESK_NO_MEMORY, and its outbox is empty. Then
- * only pending timers of this client are left at the desk. Does not allocate.
- * TIMERS_DESK_NOT_OPEN (either struct), TIMERS_DESK_NO_CLIENT, TIMERS_DESK_OTHER_LINE (it is another client's or of an
- * earlier life of the struct `d`, or its desk was freed before it finished), TIMERS_DESK_NOT_FINISHED: nothing has
- * changed. */
+ * At 0, with an empty outbox and no held request, only pending timers of this client are left at the desk. (After
+ * TIMERS_DESK_NO_MEMORY a request is held.) Does not allocate.
+ * TIMERS_DESK_NOT_OPEN (either struct), TIMERS_DESK_NO_CLIENT, TIMERS_DESK_OTHER_LINE (another client's, of an
+ * earlier life of `d`, or its desk was freed before it finished), TIMERS_DESK_NOT_FINISHED: nothing has changed. */
 TIMERS_CHECKED
 enum timers_desk_status timers_desk_settle(struct timers_desk *d, size_t client,
                                            struct timers_line *line, uint64_t *standing);
@@ -379,10 +374,10 @@ TIMERS_CHECKED
 enum timers_desk_status timers_desk_end(struct timers_desk *d, size_t client, struct timers_line *line,
                                         uint64_t *unread);
 
-/* Ends the words of every client, each as timers_desk_end does: lines[0] to lines[clients - 1] are the
- * clients' lines, all of them handed over until it returns TIMERS_DESK_OK. Those that can be ended are ended, whatever
- * is left of the others, and the call may be repeated. A line that was freed is skipped, since no one reads its words.
- * Does not allocate.
+/* Ends the words of every client, each as timers_desk_end does. lines[0] to lines[clients - 1] are the clients'
+ * lines, all of them handed over until it returns TIMERS_DESK_OK. It ends those that it can, whatever is left of
+ * the others, and the call may be repeated. It skips a line that was freed, since no one reads its words. Does not
+ * allocate.
  * TIMERS_DESK_OK: each line was freed, or its words have ended.
  * TIMERS_DESK_NOT_OPEN (the desk), TIMERS_DESK_OUT_OF_RANGE (`clients` is not the number of clients):
  * nothing has changed.
@@ -408,10 +403,10 @@ enum timers_desk_status timers_desk_end_all(struct timers_desk *d, struct timers
 TIMERS_CHECKED
 enum timers_desk_status timers_desk_stop_pending(struct timers_desk *d, size_t client, uint64_t *stopped);
 
-/* Opens a line for another client under the number of one whose line was freed. Every request of that one was taken, no
- * word waits for it (a flush drops them), and no timer of it is pending. `line` holds the new client's end from then
- * on, and has room for `room` requests and as many words, as `line` in struct timers_desk_config. The request numbers
- * continue: the first is one above the last that was taken. Waits for no thread.
+/* Opens a line for another client under the number of one whose line was freed. Every request of the old client
+ * must have been taken, and none of its timers may be pending. No word may wait for it: a flush drops them. From
+ * then on `line` holds the new client's end. It has room for `room` requests and as many words, as `line` in struct
+ * timers_desk_config. The request numbers continue: the first is one above the last that was taken. Does not block.
  * TIMERS_DESK_NOT_OPEN (the desk), TIMERS_DESK_OPEN (`line` holds one), TIMERS_DESK_NO_CLIENT, TIMERS_DESK_OUT_OF_RANGE
  * (the room), TIMERS_DESK_NOT_FREED, TIMERS_DESK_LEFT (something of the client that is gone: serve and flush it, and
  * stop its timers), TIMERS_DESK_NUMBERS_SPENT, TIMERS_DESK_NO_MEMORY: nothing has changed. */
@@ -419,8 +414,8 @@ TIMERS_CHECKED
 enum timers_desk_status timers_desk_open(struct timers_desk *d, size_t client, struct timers_line *line, size_t room);
 
 /* Makes room for as many timers as may be pending, and for the list of them that a close makes. From then on no serve
- * and no timers_desk_close allocates or runs out of memory. Before the first start it takes 104 bytes for each
- * of `capacity`, or a little more if that is below 4, and afterwards up to 168. A second call allocates nothing.
+ * and no timers_desk_close allocates or runs out of memory. Before the first start it takes 104 bytes for each of
+ * `capacity` timers, afterwards up to 168. Below 4 timers it takes a little more. A second call allocates nothing.
  * TIMERS_DESK_NOT_OPEN, TIMERS_DESK_NO_MEMORY: no timer and no word has changed, and part of the memory may be kept. */
 TIMERS_CHECKED
 enum timers_desk_status timers_desk_reserve(struct timers_desk *d);
@@ -443,9 +438,9 @@ TIMERS_CALL
 uint64_t timers_desk_wakeup(const struct timers_desk *d);
 
 /* The first deadline of all pending timers, exactly. TIMERS_NEVER if nothing is pending, or it holds no
- * desk. Takes constant time if that deadline comes before the next multiple of 64 ticks (of TIMERS_CLOCK,
- * 60), and otherwise walks the timers of one bucket, or with TIMERS_SMOOTH of one in each wheel. A loop that only
- * sleeps can use timers_desk_wakeup. Does not allocate. */
+ * desk. Takes constant time if that deadline comes before the next multiple of 64 ticks (of TIMERS_CLOCK 60, of
+ * TIMERS_SMALL 16). Otherwise it walks the timers of one bucket, or with TIMERS_SMOOTH of one in each wheel. A loop
+ * that only sleeps can use timers_desk_wakeup. Does not allocate. */
 TIMERS_CALL
 uint64_t timers_desk_next(const struct timers_desk *d);
 
@@ -460,7 +455,7 @@ bool timers_desk_line_freed(struct timers_desk *d, size_t client);
 TIMERS_CALL
 size_t timers_desk_outbox(const struct timers_desk *d, size_t client);
 
-/* A client's calls. None of them allocates or waits. */
+/* A client's calls. None of them allocates or blocks. */
 
 /* Sends the request to start a timer that expires `interval` ticks after it is taken, and hands `action`
  * back then. Writes `*number`, the request's number, at TIMERS_DESK_OK.
@@ -470,17 +465,16 @@ enum timers_desk_status timers_line_start(struct timers_line *line, uint64_t int
                                           uint64_t *number);
 
 /* Sends the request to start a timer that expires at the tick `deadline`, and hands `action` back then. It is as
- * timers_line_start with the ticks that are left until then when the request is taken. If `deadline` is not after the
- * tick at which the request is taken, the timer expires at that tick, as by timers_start_at (timers.h): the answer has
- * that tick as deadline, and TIMERS_WORD_EXPIRED follows it in the same serve, after all words that were due before. It
- * is refused exactly if a deadline at the next tick would be; so at the last tick with TIMERS_DESK_TOO_LATE, as a
- * deadline after the last tick always is. The same statuses. */
+ * timers_line_start with the ticks that are left until then at the tick at which the request is taken. If
+ * `deadline` is not after that tick, the timer expires at it, as with timers_start_at (timers.h). The answer has
+ * that tick as deadline. TIMERS_WORD_EXPIRED follows it in the same serve, after all words that were due before.
+ * Such a request is refused exactly if a deadline at the next tick would be. So the last tick refuses it
+ * with TIMERS_DESK_TOO_LATE, as any deadline after the last tick is refused. The same statuses. */
 TIMERS_CHECKED
 enum timers_desk_status timers_line_start_at(struct timers_line *line, uint64_t deadline, uint64_t action,
                                              uint64_t *number);
 
-/* Sends the request to stop the timer with this handle, from the word that answered its start. The same
- * statuses. */
+/* Sends the request to stop the timer with this handle, from the word that answered its start. The same statuses. */
 TIMERS_CHECKED
 enum timers_desk_status timers_line_stop(struct timers_line *line, struct timers_handle handle,
                                          uint64_t *number);
@@ -490,8 +484,8 @@ TIMERS_CHECKED
 enum timers_desk_status timers_line_restart(struct timers_line *line, struct timers_handle handle,
                                             uint64_t interval, uint64_t action, uint64_t *number);
 
-/* Does the same with a deadline for the new timer, which may have passed, as timers_line_start_at. If that is refused,
- * the old timer stays. */
+/* Does the same with a deadline for the new timer, which may have passed, as timers_line_start_at. If it is
+ * refused, the old timer stays. */
 TIMERS_CHECKED
 enum timers_desk_status timers_line_restart_at(struct timers_line *line, struct timers_handle handle,
                                                uint64_t deadline, uint64_t action, uint64_t *number);
@@ -511,15 +505,15 @@ enum timers_desk_status timers_line_finish(struct timers_line *line);
 TIMERS_CALL
 bool timers_line_ended(const struct timers_line *line);
 
-/* Whether the desk was freed, and all words that it had put into the line were received: then no further word
- * arrives. Words that waited at the desk were dropped with it. Once true it stays true. False if it holds
- * no line, or if its words were ended by timers_desk_end: then timers_line_ended returns true once all were
- * received. Nothing changes. Constant time. */
+/* Whether the desk was freed, and all words in the line were received: then no further word arrives. Words that
+ * waited at the desk were dropped with it. Once true it stays true. False if it holds no line, or if
+ * timers_desk_end has ended its words: then timers_line_ended returns true once all were received. Nothing changes.
+ * Constant time. */
 TIMERS_CALL
 bool timers_line_abandoned(struct timers_line *line);
 
-/* Frees the client's end, if it holds one. What it sent is still taken. Words to it are lost, and dropped by the
- * flushes, so that they keep no room. */
+/* Frees the client's end, if it holds one. The owner still takes what it sent. Words to it are lost: the flushes
+ * drop them, so that they take no room. */
 TIMERS_CALL
 void timers_line_free(struct timers_line *line);
 

@@ -4,11 +4,11 @@
  *     c++ -std=c++17 -pthread prog.cpp $(pkg-config --cflags --libs timers)
  *
  * A `timing::desk` is the owner's, and a `timing::line` a client's end, for the client's thread. Both can be moved and
- * not copied, and free what they hold, in any order. timers_desk.h says what each call does; this header says what
- * differs. A call that is refused throws `timing::desk_error` with the status of C, and nothing has changed; but `serve`
- * and `serve_all` return it. What may well happen is a result: a line is full, no word has come, nothing was done. Without
- * exceptions (-fno-exceptions) a call that would throw runs TIMERS_DESK_REFUSED(status), which a program may define before,
- * and then std::abort. */
+ * not copied, and free what they hold, in any order. This header says what differs from the calls of timers_desk.h. A
+ * call that fails throws `timing::desk_error` with the status of C, and nothing has changed. `serve` and `serve_all`
+ * return the status instead. Expected outcomes are results: a line is full, no word has come, nothing was done. Without
+ * exceptions (-fno-exceptions) a call that would throw runs TIMERS_DESK_REFUSED(status), which a program may define
+ * before, and then std::abort. */
 /* SPDX-License-Identifier: MIT OR Apache-2.0 */
 #ifndef TIMERS_DESK_HPP
 #define TIMERS_DESK_HPP
@@ -135,8 +135,8 @@ private:
 
 class desk {
 public:
-	/* For clients that keep at most `timers` timers each and have at most `requests` requests without an answer: none of
-	 * these is held back for want of room. */
+	/* The configuration for clients that keep at most `timers` timers each and have at most `requests` requests without an
+	 * answer. No request is held back for lack of room. */
 	static timers_desk_config config(std::uint64_t capacity, std::uint64_t timers, std::uint64_t requests) noexcept
 	{
 		timers_desk_config made = {};

@@ -44,32 +44,31 @@
  *     still. One that goes back counts as one that stands still, until it has passed its old time.
  *
  *     The next tick of a periodic event is a period after the one at which it was due, so it has no drift. Of the ticks
- *     that a late loop has missed the first runs late, and the others are left out. If `catches_up` is set, the event runs
- *     once for each, in the order of
- *     all ticks. It is armed anew before it runs, so that it may cancel itself. One whose callback takes longer than
- *     its period runs once in each turn of the loop, and input is polled in between.
+ *     that a late loop has missed the first runs late, and the others are left out. If `catches_up` is set, the event
+ *     runs once for each, in the order of all ticks. It is armed anew before it runs, so that it may cancel itself. One
+ *     whose callback takes longer than its period runs once in each turn of the loop, and input is polled in between.
  *
  *     An event with slack runs at a tick up to `slack` later than was asked for. It joins others at the multiple of
- *     the highest power of two within that. So with a slack of 63 or more all run at multiples of 64.
+ *     the highest power of two within its slack. So with a slack of 63 or more all run at multiples of 64.
  *
  * ORDER
  *     Events run in the order of their ticks, in a late loop too, and events of one tick in the order in which they
  *     were armed. An event for a tick that has passed comes after those that are due already. One that is armed for a
- *     later tick while it is armed or paused keeps its timer: when the old tick comes it is armed anew, and has its
- *     place in the order by that. Cancel it first if it has to have a place by the call.
+ *     later tick while it is armed or paused keeps its timer. When the old tick comes, it is armed anew, which sets its
+ *     place in the order. If the call has to set the place, cancel the event first.
  *
  * STALLS
- *     A loop that was late, since the program was stopped or had much to do, has to handle input before it acts on
- *     time-outs. So a dispatch runs what was due when the loop began to poll, and nothing more if the poll filled its
- *     array, since more input may wait then. What a callback or input arms for a tick that has passed runs all the same.
- *     When an event runs, all input that had come by its tick was handed out. For that read a datagram socket until it
- *     is empty, and send to it only afterwards. If you stop after n messages, call timers_loop_polled(loop, n, n), with
- *     `loop.watched` the most messages that its buffer holds.
- *     So where input pushes a time-out back, no connection is closed while its input waits, however long the stall.
- *     Answer first and push back then: a client that waits for an answer can't be silent before it is sent.
+ *     A loop that was late, since the program was stopped or busy, has to handle input before it acts on time-outs. So
+ *     a dispatch runs what was due when the loop began to poll. If the poll filled its array, it runs nothing more,
+ *     since more input may wait. What a callback or input arms for a tick that has passed runs all the same. When an
+ *     event runs, all input that had come by its tick was handed out. For that read a datagram socket until it is
+ *     empty, and send to it only afterwards. If you stop after n messages, call timers_loop_polled(loop, n, n), with
+ *     `loop.watched` the most messages that its buffer holds. So where input pushes a time-out back, no connection is
+ *     closed while its input waits, however long the stall. Answer first and push back then: a client that waits for an
+ *     answer can't be silent before it is sent.
  *
- *     This costs one more poll when a timer wakes the loop. A second look at the clock in its place would pass over what
- *     comes in a stall between the two.
+ *     This costs one more poll when a timer wakes the loop. A second look at the clock would spare it, but miss input
+ *     that comes in a stall between the two.
  *
  * COSTS
  *     Arming is timers_start_at, and cancelling timers_stop. Arming an event for a later tick while it is armed or paused
@@ -143,8 +142,8 @@ struct timers_event {
 	struct timers_handle handle;  /* of its timer; the serial is 0 if there is none */
 };
 
-/* The struct in which the event is a field. g++ and clang++ warn of a class that is not of standard layout: put the event
- * and a pointer to the object in a struct of their own there. */
+/* The struct in which the event is a field. g++ and clang++ warn if a class has no standard layout. Then put the event
+ * and a pointer to the object in a struct of their own. */
 #ifdef __cplusplus
 #define timers_event_owner(event, type, field) \
 	reinterpret_cast<type *>(reinterpret_cast<char *>(event) - offsetof(type, field))
@@ -154,7 +153,7 @@ struct timers_event {
 
 /* What follows with its name at the beginning of a line is private. */
 
-/* Looks at the clock. Most looks are in the tick of the one before, and divide nothing. */
+/* Reads the clock. Most reads are in the same tick as the one before, and need no division. */
 static inline void
 timers_loop_look(struct timers_loop *loop)
 {
@@ -202,7 +201,7 @@ static inline bool timers_event_armed(const struct timers_event *event)
 	return event->handle.serial != 0 && event->want != TIMERS_NEVER;
 }
 
-/* What is left of timers_event_at if a store isn't enough. It is no part of its callers, so that these stay short. */
+/* The slow path of timers_event_at, if a store isn't enough. It is not inlined, so that callers stay short. */
 TIMERS_CHECKED TIMERS_APART
 static enum timers_status
 timers_event_arm(struct timers_loop *loop, struct timers_event *event, uint64_t tick)
@@ -222,7 +221,7 @@ timers_event_arm(struct timers_loop *loop, struct timers_event *event, uint64_t 
 	return TIMERS_OK;
 }
 
-/* Files an event anew, whose timer was taken. That allocates nothing, and fails only after 2^60 starts, or at the last
+/* Files anew an event whose timer was taken. That allocates nothing, and fails only after 2^60 starts, or at the last
  * tick of the clock. */
 static inline void
 timers_event_again(struct timers_loop *loop, struct timers_event *event, uint64_t tick)
@@ -267,9 +266,9 @@ static inline uint64_t timers_loop_monotonic(void *unused)
 }
 #endif
 
-/* Makes a loop with ticks of `length` nanoseconds, 1 or more. `clock` returns nanoseconds from some start, and is given
- * `data`. NULL stands for CLOCK_MONOTONIC, where there is one. `loop` begins as TIMERS_LOOP_INIT or as 0 bytes. Before this
- * has returned TIMERS_OK only timers_loop_free may be called.
+/* Makes a loop with ticks of `length` nanoseconds, 1 or more. `clock(data)` returns nanoseconds from some start. NULL
+ * stands for CLOCK_MONOTONIC, where there is one. `loop` begins as TIMERS_LOOP_INIT or as 0 bytes. Before this has
+ * returned TIMERS_OK only timers_loop_free may be called.
  * TIMERS_ZERO_INTERVAL (the length is 0), TIMERS_OPEN, TIMERS_TOO_LATE, TIMERS_NO_MEMORY. */
 TIMERS_CHECKED
 static inline enum timers_status timers_loop_new(struct timers_loop *loop, uint64_t (*clock)(void *data), void *data,
@@ -378,13 +377,13 @@ static inline int timers_loop_timeout(struct timers_loop *loop)
 	return deadline == TIMERS_NEVER ? -1 : left < INT_MAX ? (int)left : INT_MAX;
 }
 
-/* Tells the loop what epoll_wait or kevent returned, and how many events its array has room for: between the poll and the
- * dispatch. If the array is full, or the poll failed (EINTR), more input may wait: then the next dispatch runs only what
- * an earlier one had to leave, and what was armed for a tick that has passed. Polls that fill their arrays again and
- * again don't hold events up for ever. What was due before the first of them runs once they have handed out
- * `loop.watched` descriptors, since ready ones take turns. That is 65,536, unless the caller sets it to the most that are
- * watched, a listener among them. A poll that fails each time hands out none: end the loop then. poll hands out all that
- * is ready: with that, this call is left out, and a failed poll is repeated before the dispatch. */
+/* Call it between the poll and the dispatch, with what epoll_wait or kevent returned and the size of the array. If the
+ * array is full, or the poll failed (EINTR), more input may wait. Then the next dispatch runs only what an earlier one
+ * had to leave, and what was armed for a tick that has passed. Polls that fill their arrays again and again don't hold
+ * events up for ever. What was due before the first of them runs once they have handed out `loop.watched` descriptors,
+ * since ready ones take turns. That is 65,536, unless the caller sets it to the most that are watched, a listener among
+ * them. If each poll fails, none is handed out: end the loop then. With poll leave this call out, since poll hands out
+ * all that is ready, and repeat a failed poll before the dispatch. */
 static inline void timers_loop_polled(struct timers_loop *loop, int ready, int room)
 {
 	loop->full = ready < 0 || ready >= room;
@@ -426,9 +425,9 @@ static inline struct timers_event *timers_loop_take(struct timers_loop *loop, si
 	return NULL;
 }
 
-/* Takes events as timers_loop_take, and calls their `run`. What `most` leaves comes first in the next call, and until then
- * timers_loop_timeout returns 0. Returns how many events it took. An event that arms itself for a tick that has passed
- * is taken again. */
+/* Takes events as timers_loop_take, and calls their `run`. Events that `most` leaves come first in the next call, and
+ * until then timers_loop_timeout returns 0. Returns how many events it took. An event that arms itself for a tick that
+ * has passed is taken again. */
 static inline size_t timers_loop_dispatch(struct timers_loop *loop, size_t most)
 {
 	struct timers_event *event;

@@ -14,15 +14,15 @@
  *     timers show --capacity 1000000 < trace
  *
  * DESCRIPTION
- *     Inline functions in C99 and C++11, tested and not proved. In a file that includes this header, macros put them in
- *     the place of the calls of timers.h that start, restart, stop and clear timers. They return what the calls return.
- *     While a record is taken they also write what was done to the struct of the record, as lines of a script (timers(1)).
- *     What other files do, and what a call refused, is not recorded. cc -include timers_record.h records a program
- *     whose files do not name this header.
+ *     Inline functions in C99 and C++11, tested and not proved. In a file that includes this header, macros replace the
+ *     calls of timers.h that start, restart, stop and clear timers by them. They return what the calls return. While a
+ *     record is taken they also write what was done to the struct of the record, as lines of a script (timers(1)). What
+ *     other files do, and what a call refused, is not recorded. cc -include timers_record.h records a program whose
+ *     files do not name this header.
  *
- *     A record is taken of one struct, by the threads that may call on it. Its timers are those of client 0. A timer
- *     that was started before is left out, and serials count from the beginning of the record. The clock's ticks are
- *     written before the next line, so it doesn't matter by which calls they pass.
+ *     A record is taken of one struct, by the threads that may call on it. Its timers belong to client 0. It leaves out
+ *     a timer that was started before, and serials count from its beginning. The clock's ticks are written before the
+ *     next line, so it doesn't matter by which calls they pass.
  *
  *     The script expires the same timers at the same ticks in the same order, with exceptions. A timer for a tick that
  *     has passed is due at once in a program, and one tick later in the script. One that expired and was stopped before

@@ -20,26 +20,27 @@
 extern char **environ;
 
 struct run {
-	const char *arguments[12];
+	const char *arguments[16];
 	struct options options;
 	enum form form;
 };
 
-#define DEFAULTS {MAX_CLIENTS, DEFAULT_CAPACITY, 0, LAST, HIER, 0, 0, 0}
-#define NEAR_THE_END {MAX_CLIENTS, DEFAULT_CAPACITY, 8639000, LAST_OF_CLOCK, CLOCK, 0, 0, 0}
+#define ALL {0, 0, 0, 0, 0, 0, 0, 0}
+#define DEFAULTS {MAX_CLIENTS, DEFAULT_CAPACITY, 0, LAST, HIER, 0, 0, 0, ALL}
+#define NEAR_THE_END {MAX_CLIENTS, DEFAULT_CAPACITY, 8639000, LAST_OF_CLOCK, CLOCK, 0, 0, 0, ALL}
 
 /* Small limits, both ends of the clock, one bucket and many. */
 static const struct run RUNS[] = {
 	{{"play", "--scheme", "plain"}, DEFAULTS, PLAY},
 	{{"play", "--scheme", "hier"}, DEFAULTS, PLAY},
 	{{"play", "--scheme", "hashed", "--slots", "1", "--capacity", "3", "--clients", "2"},
-	 {2, 3, 0, LAST, HASHED, 1, 0, 0}, PLAY},
+	 {2, 3, 0, LAST, HASHED, 1, 0, 0, ALL}, PLAY},
 	{{"play", "--scheme", "hier", "--first-tick", "1152921504606846900"},
-	 {MAX_CLIENTS, DEFAULT_CAPACITY, LAST - 75, LAST, HIER, 0, 0, 0}, PLAY},
+	 {MAX_CLIENTS, DEFAULT_CAPACITY, LAST - 75, LAST, HIER, 0, 0, 0, ALL}, PLAY},
 	{{"play", "--scheme", "hashed", "--slots", "8", "--first-tick", "4090"},
-	 {MAX_CLIENTS, DEFAULT_CAPACITY, 4090, LAST, HASHED, 8, 0, 0}, PLAY},
+	 {MAX_CLIENTS, DEFAULT_CAPACITY, 4090, LAST, HASHED, 8, 0, 0, ALL}, PLAY},
 	{{"play", "--scheme", "clock", "--first-tick", "8639000", "--capacity", "5"},
-	 {MAX_CLIENTS, 5, 8639000, LAST_OF_CLOCK, CLOCK, 0, 0, 0}, PLAY},
+	 {MAX_CLIENTS, 5, 8639000, LAST_OF_CLOCK, CLOCK, 0, 0, 0, ALL}, PLAY},
 	{{"play", "--scheme", "smooth"}, DEFAULTS, PLAY},
 	{{"serve"}, DEFAULTS, SERVE},
 	{{"serve", "--keep-going", "--scheme", "plain"}, DEFAULTS, KEEP_GOING},
@@ -47,22 +48,33 @@ static const struct run RUNS[] = {
 	{{"serve", "--wakeups", "--scheme", "clock", "--first-tick", "8639000"}, NEAR_THE_END, WAKEUPS},
 	{{"serve", "--wakeups", "--scheme", "hashed", "--slots", "8"}, DEFAULTS, WAKEUPS},
 	{{"serve", "--wakeups", "--scheme", "smooth", "--first-tick", "4090"},
-	 {MAX_CLIENTS, DEFAULT_CAPACITY, 4090, LAST, SMOOTH, 0, 0, 0}, WAKEUPS},
+	 {MAX_CLIENTS, DEFAULT_CAPACITY, 4090, LAST, SMOOTH, 0, 0, 0, ALL}, WAKEUPS},
 	{{"serve", "--wakeups", "--keep-going"}, DEFAULTS, KEEP_GOING_WAKEUPS},
 	{{"show"}, DEFAULTS, SHOW},
-	{{"show", "--counts", "--first-tick", "4000"}, {MAX_CLIENTS, DEFAULT_CAPACITY, 4000, LAST, HIER, 0, 1, 0}, SHOW},
-	{{"show", "--counts", "--scheme", "clock"}, {MAX_CLIENTS, DEFAULT_CAPACITY, 0, LAST_OF_CLOCK, CLOCK, 0, 1, 0}, SHOW},
+	{{"show", "--counts", "--first-tick", "4000"}, {MAX_CLIENTS, DEFAULT_CAPACITY, 4000, LAST, HIER, 0, 1, 0, ALL}, SHOW},
+	{{"show", "--counts", "--scheme", "clock"}, {MAX_CLIENTS, DEFAULT_CAPACITY, 0, LAST_OF_CLOCK, CLOCK, 0, 1, 0, ALL}, SHOW},
 	{{"show", "--counts", "--scheme", "hashed", "--slots", "5"},
-	 {MAX_CLIENTS, DEFAULT_CAPACITY, 0, LAST, HASHED, 5, 1, 0}, SHOW},
-	{{"show", "--scheme", "plain"}, {MAX_CLIENTS, DEFAULT_CAPACITY, 0, LAST, PLAIN, 0, 0, 0}, SHOW},
-	{{"show", "--moves"}, {MAX_CLIENTS, DEFAULT_CAPACITY, 0, LAST, HIER, 0, 0, 1}, SHOW},
+	 {MAX_CLIENTS, DEFAULT_CAPACITY, 0, LAST, HASHED, 5, 1, 0, ALL}, SHOW},
+	{{"show", "--scheme", "plain"}, {MAX_CLIENTS, DEFAULT_CAPACITY, 0, LAST, PLAIN, 0, 0, 0, ALL}, SHOW},
+	{{"show", "--moves"}, {MAX_CLIENTS, DEFAULT_CAPACITY, 0, LAST, HIER, 0, 0, 1, ALL}, SHOW},
 	{{"show", "--moves", "--counts", "--scheme", "clock", "--first-tick", "8600000"},
-	 {MAX_CLIENTS, DEFAULT_CAPACITY, 8600000, LAST_OF_CLOCK, CLOCK, 0, 1, 1}, SHOW},
-	{{"show", "--moves", "--scheme", "hashed", "--slots", "8"}, {MAX_CLIENTS, DEFAULT_CAPACITY, 0, LAST, HASHED, 8, 0, 1}, SHOW},
+	 {MAX_CLIENTS, DEFAULT_CAPACITY, 8600000, LAST_OF_CLOCK, CLOCK, 0, 1, 1, ALL}, SHOW},
+	{{"show", "--moves", "--scheme", "hashed", "--slots", "8"},
+	 {MAX_CLIENTS, DEFAULT_CAPACITY, 0, LAST, HASHED, 8, 0, 1, ALL}, SHOW},
 	{{"show", "--counts", "--scheme", "smooth", "--first-tick", "10"},
-	 {MAX_CLIENTS, DEFAULT_CAPACITY, 10, LAST, SMOOTH, 0, 1, 0}, SHOW},
+	 {MAX_CLIENTS, DEFAULT_CAPACITY, 10, LAST, SMOOTH, 0, 1, 0, ALL}, SHOW},
 	{{"show", "--moves", "--counts", "--scheme", "smooth", "--first-tick", "4010"},
-	 {MAX_CLIENTS, DEFAULT_CAPACITY, 4010, LAST, SMOOTH, 0, 1, 1}, SHOW},
+	 {MAX_CLIENTS, DEFAULT_CAPACITY, 4010, LAST, SMOOTH, 0, 1, 1, ALL}, SHOW},
+	{{"show", "--client", "1", "--moves"},
+	 {MAX_CLIENTS, DEFAULT_CAPACITY, 0, LAST, HIER, 0, 0, 1, {0, 1, 0, 0, 1, 0, 0, 0}}, SHOW},
+	{{"show", "--timer", "2", "--scheme", "hashed", "--slots", "8"},
+	 {MAX_CLIENTS, DEFAULT_CAPACITY, 0, LAST, HASHED, 8, 0, 0, {0, 0, 1, 0, 0, 2, 0, 0}}, SHOW},
+	{{"show", "--new", "--moves", "--scheme", "clock"},
+	 {MAX_CLIENTS, DEFAULT_CAPACITY, 0, LAST_OF_CLOCK, CLOCK, 0, 0, 1, {1, 0, 0, 0, 0, 0, 0, 0}}, SHOW},
+	{{"show", "--new", "--client", "0", "--from", "1", "--to", "100", "--moves"},
+	 {MAX_CLIENTS, DEFAULT_CAPACITY, 0, LAST, HIER, 0, 0, 1, {1, 1, 0, 1, 0, 0, 1, 100}}, SHOW},
+	{{"show", "--client", "0", "--timer", "1", "--scheme", "plain"},
+	 {MAX_CLIENTS, DEFAULT_CAPACITY, 0, LAST, PLAIN, 0, 0, 0, {0, 1, 1, 0, 0, 1, 0, 0}}, SHOW},
 	{{"check"}, DEFAULTS, CHECK},
 };
 

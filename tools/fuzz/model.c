@@ -325,13 +325,14 @@ static bool lines(struct facility *f, const char *script, size_t len, enum form 
 		size_t all = (size_t)(next - at);
 		struct event e = {0};
 		bool good = feed && line(at, feed, &e);
+		uint64_t serial = f->next_serial;
 		n++;
 		if (good && form != CHECK)
 			one(f, &e, &answer->output);
 		if (good && (form == WAKEUPS || form == KEEP_GOING_WAKEUPS))
 			wakeup(f, &answer->output);
 		if (good && form == SHOW)
-			show(&answer->output, &f->is, &f->counts, f->now, f->pending, f->len);
+			show(&answer->output, &f->is, &f->counts, serial, f->now, f->pending, f->len);
 		if (!good && form == CHECK)
 			report(&answer->output, "", n, at, all);
 		if (!good && goes_on)

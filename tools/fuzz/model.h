@@ -12,12 +12,19 @@ enum scheme { HIER, PLAIN, HASHED, CLOCK, SMOOTH };
 /* Of a smooth wheel. */
 enum { WHEELS = 10 };
 
+/* Which timers `show` shows, and at which ticks. */
+struct filter {
+	int is_new, of_client, of_timer, at_ticks;
+	uint64_t client, timer, from, to;
+};
+
 struct options {
 	uint64_t clients, capacity, first_tick, last_tick;
 	/* What only `show` needs. */
 	enum scheme scheme;
 	uint64_t slots;
 	int counts, moves;
+	struct filter filter;
 };
 
 struct timer {
@@ -71,9 +78,9 @@ uint64_t smooth_event(const uint64_t *paces, uint64_t now, uint64_t end, const s
 void show_moves(struct text *text, const struct options *is, uint64_t now, uint64_t tick, const struct timer *pending,
                 size_t len);
 
-/* Adds what `show` does after a line: the pending timers are by deadline, then serial. */
-void show(struct text *text, const struct options *is, const struct counts *counts, uint64_t now, const struct timer *pending,
-          size_t len);
+/* Adds what `show` does after a line, before which the next serial was this one: the pending timers are by deadline, then serial. */
+void show(struct text *text, const struct options *is, const struct counts *counts, uint64_t serial, uint64_t now,
+          const struct timer *pending, size_t len);
 
 /* What is wrong with a line: the column, the field, if it is in one, and the reason; none if it is good. */
 struct wrong {

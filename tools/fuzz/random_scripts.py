@@ -14,7 +14,7 @@ import time
 
 sys.path.insert(0, os.path.join(os.path.dirname(os.path.abspath(__file__)), ".."))
 sys.dont_write_bytecode = True
-from formats import LIMITS  # noqa: E402
+from formats import FIELDS, LIMITS, WORDS, said  # noqa: E402
 
 LAST, TICKS, MOST = (LIMITS[name] for name in ("LAST", "MAX_TICKS", "MAX_CLIENTS"))
 # Numbers at which something changes.
@@ -95,8 +95,9 @@ class Script:
 
 def dictionary():
     """What afl-fuzz puts into scripts: parts of lines, and numbers."""
-    words = ["start ", "stop ", "restart ", "tick ", "close\\x0a", "\\x0a", " ", "00"]
-    for token in [*words, "start 0 1 5 1\\x0a", "restart 0 2 1 5 2\\x0a", *EDGES, LAST + 1, 2**64 - 1, 2**64]:
+    lines = [f"{line}\\x0a" for line in said("script", "example")]
+    words = [f"{word} " for word in WORDS["script"] if FIELDS[word]]
+    for token in [*words, *lines, "\\x0a", " ", "00", *EDGES, LAST + 1, 2**64 - 1, 2**64]:
         print(f'"{token}"')
 
 

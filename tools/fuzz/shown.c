@@ -64,6 +64,17 @@ static struct place place_of(const struct options *is, uint64_t now, const struc
 	return place;
 }
 
+static int covers(const struct filter *filter, uint64_t tick)
+{
+	return !filter->at_ticks || (filter->from <= tick && tick <= filter->to);
+}
+
+static int keeps(const struct filter *filter, uint64_t least, const struct timer *timer)
+{
+	return (!filter->of_client || timer->client == filter->client) && (!filter->of_timer || timer->serial == filter->timer)
+	       && timer->serial >= least;
+}
+
 static void show_plain(struct text *text, const struct timer *pending, size_t len)
 {
 	if (len == 0)
@@ -111,8 +122,9 @@ void show_moves(struct text *text, const struct options *is, uint64_t now, uint6
 	size_t moved = 0;
 	if (!places)
 		exit(3);
-	for (size_t i = 0; i < len; i++)
-		if (pending[i].deadline > tick && next_move(is->scheme, now, pending[i].deadline) == tick) {
+	for (size_t i = 0; i < len && covers(&is->filter, tick); i++)
+		if (pending[i].deadline > tick && next_move(is->scheme, now, pending[i].deadline) == tick
+		    && keeps(&is->filter, 0, &pending[i])) {
 			places[moved] = place_of(is, tick, &pending[i]);
 			places[moved++].from = place_of(is, now, &pending[i]).bucket;
 		}
@@ -132,8 +144,8 @@ void show_moves(struct text *text, const struct options *is, uint64_t now, uint6
 	free(places);
 }
 
-void show(struct text *text, const struct options *is, const struct counts *counts, uint64_t now, const struct timer *pending,
-          size_t len)
+static void show_all(struct text *text, const struct options *is, const struct counts *counts, uint64_t now,
+                     const struct timer *pending, size_t len)
 {
 	add(text, "  now %" PRIu64 "\n", now);
 	if (is->counts && (is->scheme == HIER || is->scheme == CLOCK))
@@ -144,4 +156,19 @@ void show(struct text *text, const struct options *is, const struct counts *coun
 		show_plain(text, pending, len);
 	else
 		show_buckets(text, is, now, pending, len);
+}
+
+void show(struct text *text, const struct options *is, const struct counts *counts, uint64_t serial, uint64_t now,
+          const struct timer *pending, size_t len)
+{
+	struct timer *kept = malloc((len + 1) * sizeof *kept);
+	size_t some = 0;
+	if (!kept)
+		exit(3);
+	for (size_t i = 0; i < len; i++)
+		if (keeps(&is->filter, is->filter.is_new ? serial : 0, &pending[i]))
+			kept[some++] = pending[i];
+	if (covers(&is->filter, now))
+		show_all(text, is, counts, now, kept, some);
+	free(kept);
 }

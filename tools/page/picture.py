@@ -8,14 +8,14 @@ MAX_SERIALS = 6  # written at one slot
 
 STYLE = """
 text { font: 18px system-ui, -apple-system, "Segoe UI", Roboto, "DejaVu Sans", sans-serif; fill: #1a222d; }
-.paper { fill: #ffffff; } .track { fill: none; stroke: #e3e8ee; stroke-width: 20; } .held { fill: #0b5cad; }
+.paper { fill: #ffffff; } .track { fill: none; stroke: #7f8b99; stroke-width: 6; } .held { fill: #0b5cad; }
 .serial { fill: #0b5cad; font-size: 21px; font-weight: 700; }
 .soft { fill: #56616f; } .slot { fill: #56616f; }
 .name { font-size: 21px; font-weight: 600; } .digit { font-size: 30px; font-weight: 600; }
 .hand { stroke: #1a222d; stroke-width: 2.5; stroke-linecap: round; } .tip { fill: #1a222d; }
 .arrow { fill: none; stroke: #b94a00; stroke-width: 2.5; stroke-linejoin: round; } .head { fill: #b94a00; }
 @media (prefers-color-scheme: dark) {
-text { fill: #e7ebf0; } .paper { fill: #0d1117; } .track { stroke: #27303b; }
+text { fill: #e7ebf0; } .paper { fill: #0d1117; } .track { stroke: #6b7888; }
 .held, .serial { fill: #6cb0f5; }
 .soft, .slot { fill: #9ba7b5; } .hand { stroke: #e7ebf0; } .tip { fill: #e7ebf0; }
 .arrow { stroke: #ffa463; } .head { fill: #ffa463; }

@@ -26,6 +26,7 @@ typedef unsigned char byte;
 #define COLD __attribute__((noinline, cold))
 #define ALIGN(n) __attribute__((aligned(n)))
 #define RARE(condition) __builtin_expect(condition, 0)
+#define MOSTLY_0(number) __builtin_expect(number, 0)
 #define TRAP() __builtin_trap()
 #define UNREACHABLE() __builtin_unreachable()
 #elif defined(_MSC_VER)
@@ -35,6 +36,7 @@ typedef unsigned char byte;
 #define COLD __declspec(noinline)
 #define ALIGN(n) __declspec(align(n))
 #define RARE(condition) (condition)
+#define MOSTLY_0(number) (number)
 #define TRAP() __fastfail(7)
 #define UNREACHABLE() __assume(0)
 #else
@@ -44,6 +46,7 @@ typedef unsigned char byte;
 #define COLD
 #define ALIGN(n)
 #define RARE(condition) (condition)
+#define MOSTLY_0(number) (number)
 #define TRAP() abort()
 #define UNREACHABLE() abort()
 #endif

@@ -54,6 +54,8 @@ INLINE u128 load128u(const byte *p) { return u128_of(load64u(p + 8), load64u(p))
 INLINE u128 load128(const byte *p) { return u128_of(load64(p + 8), load64(p)); }
 INLINE void store128u(byte *p, u128 v) { store64u(p, u128_low(v)); store64u(p + 8, u128_high(v)); }
 INLINE void store128(byte *p, u128 v) { store64(p, u128_low(v)); store64(p + 8, u128_high(v)); }
+INLINE uint64_t load40u(const byte *p) { return (uint64_t)load32u(p) | (uint64_t)p[4] << 32; }
+INLINE void store40u(byte *p, uint64_t v) { store32u(p, (uint32_t)v); p[4] = (byte)(v >> 32); }
 INLINE uint64_t load48u(const byte *p) { return (uint64_t)load32u(p) | (uint64_t)load16u(p + 4) << 32; }
 INLINE void store48u(byte *p, uint64_t v) { store32u(p, (uint32_t)v); store16u(p + 4, (uint16_t)(v >> 32)); }
 INLINE uint64_t load56u(const byte *p) { return load48u(p) | (uint64_t)p[6] << 48; }

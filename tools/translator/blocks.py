@@ -339,6 +339,9 @@ class Writer:
             condition = Expression(f'{e} == {cases[first][0]}', expressions.BINARY, [e], opposite=f'{e} != {cases[first][0]}')
             return branch(condition, self.jump(label, first, context), self.jump(label, second, context))
         cases[last.default] = []
+        if last.operands[0][0] == 8 and '0' in next(iter(cases.values())):
+            # An enum, whose first variant is the usual one: compilers are told, so that they ask for it first.
+            e = e.call('MOSTLY_0')
         inner = context._replace(leave=None)
         return [Statement('switch', e, bodies=[self.jump(label, target, inner) for target in cases], cases=list(cases.values()))]
 

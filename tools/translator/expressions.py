@@ -6,10 +6,12 @@ inside its object. Comparisons of order are those of integers."""
 # SPDX-License-Identifier: MIT OR Apache-2.0
 from translator.lines import Number, Struct, Vector, Zero
 
-TYPES = {1: 'bool', 8: 'uint8_t', 16: 'uint16_t', 32: 'uint32_t', 48: 'uint64_t', 56: 'uint64_t', 64: 'uint64_t', 128: 'u128',
+TYPES = {1: 'bool', 8: 'uint8_t', 16: 'uint16_t', 32: 'uint32_t', 40: 'uint64_t', 48: 'uint64_t', 56: 'uint64_t', 64: 'uint64_t', 128: 'u128',
          'ptr': 'byte *', 'double': 'double', 'void': 'void', Vector(16, 8): 'bytes16', Vector(64, 8): 'bytes64',
          Vector(16, 1): 'uint16_t', Vector(64, 1): 'uint64_t'}
 WIDTHS = (8, 16, 32, 64)
+# Widths that C has no type for. Each is kept in a number of 64 bits, whose other bits are 0.
+ODD_WIDTHS = (40, 48, 56)
 
 # How tightly an operator binds. Two that bind alike are put in parentheses.
 ATOM, UNARY, BINARY, CHOICE = range(4)
@@ -224,7 +226,7 @@ def compare_doubles(i, left, right):
 def zext(to, of, e):
     if to == 128:
         return call('u128_of', Expression('0'), e)
-    return e if of in (48, 56) else cast(TYPES[to], e)
+    return e if of in ODD_WIDTHS else cast(TYPES[to], e)
 
 
 def sext(to, of, e):
@@ -238,7 +240,7 @@ def trunc(to, of, e):
         e = e.call('u128_low')
     if to == 1:
         return Expression(f'({e} & 1) != 0', BINARY, [e], opposite=f'({e} & 1) == 0')
-    if to in (48, 56):
+    if to in ODD_WIDTHS:
         return Expression(f'{e} & {number(-1, to)}', BINARY, [e])
     return e if of == 128 and to == 64 else cast(TYPES[to], e)
 
@@ -248,9 +250,9 @@ def bitcast(to, of, e):
 
 
 CONVERSIONS = {
-    'zext': (zext, lambda to, of: of in (1, *WIDTHS) and to in (*WIDTHS, 128) or of in (48, 56) and to == 64),
+    'zext': (zext, lambda to, of: of in (1, *WIDTHS) and to in (*WIDTHS, 128) or of in ODD_WIDTHS and to == 64),
     'sext': (sext, lambda to, of: of == 1 and to in WIDTHS or (to, of) == (Vector(64, 8), Vector(64, 1))),
-    'trunc': (trunc, lambda to, of: of in (*WIDTHS, 128) and to in (1, *WIDTHS) or of == 64 and to in (48, 56)),
+    'trunc': (trunc, lambda to, of: of in (*WIDTHS, 128) and to in (1, *WIDTHS) or of == 64 and to in ODD_WIDTHS),
     'bitcast': (bitcast, lambda to, of: (to, of) in ((16, Vector(16, 1)), (64, 'double'), ('double', 64))),
     'uitofp': (lambda to, of, e: cast('double', e), lambda to, of: to == 'double' and of in WIDTHS),
     'ptrtoint': (lambda to, of, e: cast('uint64_t', cast('uintptr_t', e)), lambda to, of: to == 64),
@@ -287,7 +289,7 @@ def address(i, base, index=None):
 
 def access(i, of, alignment):
     """The end of the name of a function that reads or writes this type."""
-    names = {48: ('48u', 1), 56: ('56u', 1), 'ptr': ('ptr', 8), 'double': ('double', 8), 128: ('128', 8),
+    names = {40: ('40u', 1), 48: ('48u', 1), 56: ('56u', 1), 'ptr': ('ptr', 8), 'double': ('double', 8), 128: ('128', 8),
              Vector(16, 8): ('bytes16', 1), Vector(64, 8): ('bytes64', 1)}
     if of not in names and of not in WIDTHS:
         i.line.fail(f'an access to memory of type {of}')

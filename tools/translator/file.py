@@ -18,6 +18,7 @@ LICENCE_TAG = 'SPDX-License' + '-Identifier'   # in two parts: what reads licenc
 LICENCE = '(MIT OR Apache-2.0) AND MIT AND BSD-3-Clause AND LicenseRef-Rattle-libraries'
 # The calls of a smooth wheel, out of line. With TIMERS_NO_SMOOTH none is made (tools/portable/headers.h).
 SMOOTH = [f'timer_wheels::tiered::{call}_smooth' for call in ('start', 'stop', 'restart', 'quiet', 'next')] \
+    + ['timer_wheels::tiered_ahead::move_smooth'] \
     + [f'timer_wheels::smooth::SmoothWheelWheel::{call}' for call in ('reserve', 'per_tick', 'advance', 'clear')]
 KINDS = {
     'timers': Kind('tm_', '', ('timer_c', 'timer_desk_c'), 'timers_(desk|line)_', SMOOTH,

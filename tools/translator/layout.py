@@ -4,7 +4,7 @@ that hold all its uses. No goto jumps over a declaration that sets something, so
 import re
 
 from translator.expressions import declared, opposite
-from translator.statements import ends, labels_wanted, splice
+from translator.statements import Likeness, ends, labels_wanted, splice
 
 
 class Layout:
@@ -13,17 +13,34 @@ class Layout:
         self.of = writer.function.type
         self.labels = {label: None for label in labels_wanted(body)}
         splice(body, self.labels)
-        self.scopes = {}                                # of each variable: the bodies that hold all of it, outermost first
-        self.firsts = {}                                # what names it first
-        self.note_scopes(body, (body,))
-        fixed = {*writer.parameters, *[name for name, _, _ in writer.memory]}
-        self.scopes = {name: path for name, path in self.scopes.items() if name not in fixed}
+        self.fixed = {*writer.parameters, *[name for name, _, _ in writer.memory]}
+        self.note_all(body)
+        while self.join(body):
+            self.note_all(body)
         for name, size, alignment in writer.memory:
             self.lines.append(f'\tALIGN({alignment}) byte {name}[{size}];')
         self.here = {}
         for name in sorted(self.scopes, key=lambda name: int(name[1:])):
             self.here.setdefault(id(self.scopes[name][-1]), []).append(name)
         self.body(body, '\t')
+
+    def join(self, body):
+        """Puts one arm of an `if` in its place, where both do the same. Whether there was one."""
+        for place, s in enumerate(body):
+            if s.kind == 'if' and all(s.bodies):
+                own = [{name for name, path in self.scopes.items() if any(arm is one for one in path)} for arm in s.bodies]
+                if Likeness(s.bodies, own).found:
+                    body[place:place + 1] = s.bodies[0]
+                    return True
+            if any(map(self.join, s.bodies)):
+                return True
+        return False
+
+    def note_all(self, body):
+        self.scopes = {}                                # of each variable: the bodies that hold all of it, outermost first
+        self.firsts = {}                                # what names it first
+        self.note_scopes(body, (body,))
+        self.scopes = {name: path for name, path in self.scopes.items() if name not in self.fixed}
 
     def note_scopes(self, body, path):
         for s in body:

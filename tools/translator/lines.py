@@ -43,7 +43,7 @@ TOKEN = re.compile(r'''\s*(?:
 DROPPED = set('''noundef nonnull readonly writeonly readnone zeroext signext immarg returned unnamed_addr local_unnamed_addr
     dso_local fastcc nofree dead_on_unwind writable noalias noreturn nounwind hidden'''.split())
 DROPPED_WITH_MORE = {'align', 'captures', 'range', 'dereferenceable', 'dereferenceable_or_null', 'initializes'}
-INTEGERS = {'i1', 'i8', 'i16', 'i32', 'i48', 'i56', 'i64', 'i128'}
+INTEGERS = {'i1', 'i8', 'i16', 'i32', 'i40', 'i48', 'i56', 'i64', 'i128'}
 FLAGS = {'nuw', 'nsw', 'exact', 'disjoint', 'nneg', 'samesign', 'inbounds', 'nusw'}
 
 

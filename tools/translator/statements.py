@@ -1,5 +1,7 @@
 """Statements of C, as lists of these. Where control leaves a list at its end, what comes next is known to who wrote it."""
 # SPDX-License-Identifier: MIT OR Apache-2.0
+import re
+
 from translator.expressions import opposite
 
 
@@ -51,3 +53,35 @@ def splice(body, wanted):
             for inner in s.bodies:
                 splice(inner, wanted)
             place += 1
+
+
+def within(body):
+    """All statements of a list, and those that are in them."""
+    for s in body:
+        yield s
+        for inner in s.bodies:
+            yield from within(inner)
+
+
+class Likeness:
+    """Whether two lists of statements are the same but for the names of what is in each alone: `own` has the variables."""
+
+    def __init__(self, lists, own):
+        self.own = [names | {s.name for s in within(body) if s.kind in ('block', 'loop')} for names, body in zip(own, lists)]
+        self.pairs = [{}, {}]
+        self.found = self.lists(*lists)
+
+    def names(self, one, other):
+        own = [name in names for name, names in zip((one, other), self.own)]
+        if not any(own):
+            return one == other
+        return all(own) and self.pairs[0].setdefault(one, other) == other and self.pairs[1].setdefault(other, one) == one
+
+    def texts(self, one, other):
+        words = [re.split(r'\b([a-z]\d+)\b', e.text if e else '') for e in (one, other)]
+        return len(words[0]) == len(words[1]) and all(self.names(*pair) for pair in zip(*words))
+
+    def lists(self, one, other):
+        return len(one) == len(other) and all(
+            a.kind == b.kind and a.cases == b.cases and len(a.bodies) == len(b.bodies) and self.names(a.name, b.name)
+            and self.texts(a.e, b.e) and all(map(self.lists, a.bodies, b.bodies)) for a, b in zip(one, other))

@@ -18,9 +18,10 @@
 #include "desk.h"
 
 static const struct constant others[] = {
+	OF_DESK(CLIENTS),
+	/* made by tools/facts: tables and kinds of words in Python */
 	OF_TIMERS(WIDE), OF_TIMERS(CLOCK), OF_TIMERS(SMOOTH), OF_TIMERS(SMALL), OF_TIMERS(LAST), OF_TIMERS(CLOCK_LAST),
-	OF_TIMERS(SMALL_LAST), OF_DESK(CLIENTS),
-	/* made by tools/facts: kinds of words in Python */
+	OF_TIMERS(SMALL_LAST),
 	OF_WORD(STARTED), OF_WORD(RESTARTED), OF_WORD(STOPPED), OF_WORD(REFUSED), OF_WORD(NOT_TAKEN), OF_WORD(EXPIRED),
 	OF_WORD(RETURNED),
 };

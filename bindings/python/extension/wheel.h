@@ -113,7 +113,7 @@ static int timers_object_init(PyObject *self, PyObject *arguments, PyObject *nam
 	earlier = *held_by(self);
 	*held_by(self) = made;
 	timers_in(self)->count = 0;
-	timers_in(self)->last_tick = table == TIMERS_CLOCK ? TIMERS_CLOCK_LAST : table == TIMERS_SMALL ? TIMERS_SMALL_LAST : TIMERS_LAST;
+	timers_in(self)->last_tick = TIMERS_LAST_OF(table);
 	drop_held(&earlier);
 	return 0;
 }
@@ -527,6 +527,15 @@ static PyObject *timers_object_find_next(PyObject *self, PyObject *unused)
 	return tick_or_none(timers_find_next(held_by(self)));
 }
 
+static PyObject *timers_object_move_ahead(PyObject *self, PyObject *given)
+{
+	uint64_t most;
+
+	if (!read_number(given, &most))
+		return NULL;
+	return PyLong_FromUnsignedLongLong(timers_move_ahead(held_by(self), most));
+}
+
 static PyObject *timers_object_counts(PyObject *self, PyObject *unused)
 {
 	struct timers_counters counts;
@@ -721,6 +730,10 @@ static PyMethodDef timers_methods[] = {
 	{ "find_next", timers_object_find_next, METH_NOARGS,
 	  "find_next($self, /)\n--\n\n"
 	  "The same as next. What it found is kept for later calls, for a loop that asks in each turn." },
+	{ "move_ahead", timers_object_move_ahead, METH_O,
+	  "move_ahead($self, most, /)\n--\n\n"
+	  "Makes at most so many moves of later ticks now, and returns how many: with the table SMOOTH, for a loop with\n"
+	  "time to spare. If it returns fewer, none is left for now. With another table there are none." },
 	{ "counts", timers_object_counts, METH_NOARGS,
 	  "counts($self, /)\n--\n\n"
 	  "What the wheels did since they were made, as (starts, moves, visits)." },

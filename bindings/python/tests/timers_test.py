@@ -673,10 +673,28 @@ def count_the_moves():
     assert refused(timers.counts) == NOT_OPEN
 
 
+def move_ahead():
+    """At tick 64 the slot of tick 130 is the next one of wheel 1: a hundred timers in it move before their ticks."""
+    with Timers(SMOOTH) as timers:
+        handles = [timers.start(130, i) for i in range(100)]
+        assert timers.move_ahead(9) == 0
+        timers.advance_to(64)
+        assert [timers.move_ahead(most) for most in (0, 60, 2**64 - 1, 1)] == [0, 60, 40, 0]
+        assert timers.counts() == (100, 100, 0) and timers.next() == 130
+        assert timers.advance(66) == [(130, handle.serial, i) for i, handle in enumerate(handles)]
+        assert timers.counts() == (100, 100, 0)
+        assert raises(OverflowError, timers.move_ahead, -1) and raises(TypeError, timers.move_ahead, None)
+    assert timers.move_ahead(9) == 0
+    with Timers(WIDE) as timers:
+        timers.start(130, 1)
+        timers.advance_to(64)
+        assert timers.move_ahead(9) == 0
+
+
 if __name__ == "__main__":
     for test in (compare, meet_the_edges, close_if_the_block_raises, stop_what_expired,
-                 count_what_waits, come_to_the_last_tick, count_the_moves, take_nothing_if_refused, catch_up_with_other_times, take_many,
-                 keep_what_an_iteration_gave, raise_from_a_run, make_room, free_what_is_closed, take_whole_numbers, hold_the_lock,
+                 count_what_waits, come_to_the_last_tick, count_the_moves, move_ahead, take_nothing_if_refused,
+                 catch_up_with_other_times, take_many, keep_what_an_iteration_gave, raise_from_a_run, make_room, free_what_is_closed, take_whole_numbers, hold_the_lock,
                  keep_what_is_refused, release_what_calls_back, refer_in_circles, derive, call_the_actions, name_what_is_refused,
                  keep_handles, refuse_memory):
         test()

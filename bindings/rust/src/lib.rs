@@ -15,11 +15,13 @@ mod error;
 mod ffi;
 #[cfg(not(feature = "std"))]
 mod memory;
+mod table;
 mod timers;
 mod values;
 
 #[cfg(feature = "std")]
 pub use clock::Clock;
 pub use error::{Error, Refused};
-pub use timers::{at_least, Counts, Expired, Handle, Iter, Table, Timer, Timers, LAST, LAST_OF_CLOCK, LAST_OF_SMALL};
+pub use table::*;
+pub use timers::{at_least, Counts, Expired, Handle, Iter, Timer, Timers};
 pub use values::Drain;

@@ -2,7 +2,7 @@
 // SPDX-License-Identifier: MIT OR Apache-2.0
 use crate::ffi::{self, Expired as Raw, Held};
 use crate::values::{Drain, Values};
-use crate::{Error, Refused};
+use crate::{Error, Refused, Table};
 use core::cell::Cell;
 use core::ffi::c_uint;
 use core::fmt;
@@ -12,28 +12,6 @@ use core::mem::{self, MaybeUninit};
 use core::time::Duration;
 
 const NEVER: u64 = u64::MAX;
-
-/// The last tick of [`Table::Wide`] and [`Table::Smooth`], 2^60 - 1: 36 million years of milliseconds.
-pub const LAST: u64 = (1 << 60) - 1;
-/// The last tick of [`Table::Clock`]: day 99, 23:59:59 in seconds, and 2.4 hours in milliseconds.
-pub const LAST_OF_CLOCK: u64 = 8_639_999;
-/// The last tick of [`Table::Small`], 2^24 - 1: 4.6 hours of milliseconds.
-pub const LAST_OF_SMALL: u64 = 16_777_215;
-
-/// The slots of the wheels, and when their timers move.
-#[derive(Clone, Copy, Debug, Default, Eq, Hash, PartialEq)]
-pub enum Table {
-    /// Ten wheels of 64 slots, which take some 15 KB. The last tick is [`LAST`].
-    #[default]
-    Wide = 0,
-    /// 60 seconds, 60 minutes, 24 hours, 100 days, which take some 6 KB. The last tick is [`LAST_OF_CLOCK`].
-    Clock = 1,
-    /// As `Wide`, but no tick moves all timers of a bucket: at most 2n/63 + 18 of the n that are held. They take some
-    /// 11 KB, and a start, stop or restart takes longer. The last tick is [`LAST`].
-    Smooth = 2,
-    /// Six wheels of 16 slots, for machines with little memory: they take some 2.7 KB. The last tick is [`LAST_OF_SMALL`].
-    Small = 3,
-}
 
 /// The name of a timer of one [`Timers`].
 ///
@@ -353,10 +331,10 @@ impl<T> Timers<T> {
     /// Takes the next timer that is due by `tick`, and passes the ticks up to its deadline. If an expired one waits, it is
     /// the first of these, and no tick passes.
     ///
-    /// With `None` nothing that is due is left, and the ticks up to `tick` have passed, or those up to the last tick of the
-    /// clock. A tick before the present one passes none.
+    /// `None` means that nothing is due by `tick`. The clock then stands at `tick`, or at its last tick if `tick` is after
+    /// that. A `tick` before the present one leaves it where it is.
     ///
-    /// Don't take by `u64::MAX` or [`LAST`] to get the rest: the clock is at its end then, for good. Each later start is
+    /// Don't take by `u64::MAX` or [`LAST`](crate::LAST) to get the rest: the clock is at its end then, for good. Each later start is
     /// refused ([`TooLate`](Error::TooLate)), also after [`clear`](Timers::clear). [`drain`](Timers::drain) has the rest, and
     /// leaves the clock where it is:
     ///
@@ -464,6 +442,29 @@ impl<T> Timers<T> {
     /// time from the first call on. [`wakeup`](Timers::wakeup) does neither.
     pub fn next_deadline(&mut self) -> Option<u64> {
         Some(unsafe { ffi::timers_find_next(&mut self.held) }).filter(|&tick| tick != NEVER)
+    }
+
+    /// Makes at most `most` of the moves of later ticks now, and returns how many it made: with [`Table::Smooth`], for a
+    /// loop with time to spare before it sleeps.
+    ///
+    /// Each takes constant time, and none is made that a later tick would not make. If it returns less than `most`, none is
+    /// left for now. With another table there are none.
+    ///
+    /// ```
+    /// use timers::{Table, Timers};
+    ///
+    /// let mut timers = Timers::with_table(Table::Smooth, 0)?;
+    /// for i in 0..100 {
+    ///     timers.start(130, i).map_err(|refused| refused.error)?;
+    /// }
+    /// timers.advance_to(64)?;
+    /// assert_eq!((timers.move_ahead(60), timers.move_ahead(60)), (60, 40));
+    /// assert_eq!(timers.take(130).map(|timer| timer.value), Some(0));
+    /// assert_eq!(timers.counts().moves, 100);
+    /// # Ok::<(), timers::Error>(())
+    /// ```
+    pub fn move_ahead(&mut self, most: u64) -> u64 {
+        unsafe { ffi::timers_move_ahead(&mut self.held, most) }
     }
 
     /// The starts, the moves to a lower wheel and the visits of buckets since the timers were made.

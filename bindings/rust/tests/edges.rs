@@ -163,6 +163,22 @@ fn moves_are_counted() {
     assert_eq!((timers.advance(9), timers.counts()), (Ok(1), counts(2, 1, 2)));
 }
 
+/// At tick 64 the slot of tick 130 is the next one of wheel 1: what was started before moves when it is asked to.
+#[test]
+fn moves_are_made_ahead_of_their_ticks_with_a_smooth_table_alone() {
+    for (table, all) in [(Table::Smooth, 3), (Table::Wide, 0), (Table::Clock, 0), (Table::Small, 0)] {
+        let mut timers = Timers::with_table(table, 0).unwrap();
+        for i in 0..3 {
+            timers.start(130, i).unwrap();
+        }
+        timers.advance_to(64).unwrap();
+        let before = timers.counts().moves;
+        assert_eq!((timers.move_ahead(2), timers.move_ahead(u64::MAX), timers.move_ahead(1)), (all.min(2), all / 3, 0));
+        assert_eq!(timers.counts().moves, before + all);
+        assert!((0..3).all(|i| timers.take(130).map(|timer| timer.value) == Some(i)));
+    }
+}
+
 #[test]
 fn errors_and_handles_are_as_std_expects() {
     fn boxed() -> Result<Handle, Box<dyn error::Error + Send + Sync>> {

@@ -18,14 +18,15 @@ and timers.asyncio an event loop over these timers.
 """
 # SPDX-License-Identifier: MIT OR Apache-2.0
 from timers._timers import (
-    CLOCK, CLOCK_LAST, LAST, SMALL, SMALL_LAST, SMOOTH, WIDE, Handle, Timers, TimersError, __version__,
+    Handle, Timers, TimersError, __version__,
     # made by tools/facts: names of timers
-    OK, NOT_OPEN, OPEN, NO_TABLE, NO_MEMORY, DUE, NOT_PENDING, ZERO_INTERVAL, TOO_LATE, SERIALS_SPENT, CLOCK_END,
+    WIDE, CLOCK, SMOOTH, SMALL, LAST, CLOCK_LAST, SMALL_LAST, OK, NOT_OPEN, OPEN, NO_TABLE, NO_MEMORY, DUE, NOT_PENDING,
+    ZERO_INTERVAL, TOO_LATE, SERIALS_SPENT, CLOCK_END,
 )
 
 __all__ = [
-    "Timers", "Handle", "TimersError", "WIDE", "CLOCK", "SMOOTH", "SMALL", "LAST", "CLOCK_LAST", "SMALL_LAST",
+    "Timers", "Handle", "TimersError",
     # made by tools/facts: quoted names of timers
-    "OK", "NOT_OPEN", "OPEN", "NO_TABLE", "NO_MEMORY", "DUE", "NOT_PENDING", "ZERO_INTERVAL", "TOO_LATE",
-    "SERIALS_SPENT", "CLOCK_END",
+    "WIDE", "CLOCK", "SMOOTH", "SMALL", "LAST", "CLOCK_LAST", "SMALL_LAST", "OK", "NOT_OPEN", "OPEN", "NO_TABLE",
+    "NO_MEMORY", "DUE", "NOT_PENDING", "ZERO_INTERVAL", "TOO_LATE", "SERIALS_SPENT", "CLOCK_END",
 ]

@@ -7,6 +7,8 @@ _T = TypeVar("_T")
 
 __version__: Final[str]
 
+CLIENTS: Final[int]
+# made by tools/facts: hints of timers
 WIDE: Final[int]
 CLOCK: Final[int]
 SMOOTH: Final[int]
@@ -14,8 +16,6 @@ SMALL: Final[int]
 LAST: Final[int]
 CLOCK_LAST: Final[int]
 SMALL_LAST: Final[int]
-CLIENTS: Final[int]
-# made by tools/facts: hints of timers
 OK: Final[int]
 NOT_OPEN: Final[int]
 OPEN: Final[int]
@@ -99,6 +99,7 @@ class Timers(Generic[_T]):
     def wakeup(self) -> int | None: ...
     def next(self) -> int | None: ...
     def find_next(self) -> int | None: ...
+    def move_ahead(self, most: SupportsIndex, /) -> int: ...
     def counts(self) -> tuple[int, int, int]: ...
     def close(self) -> None: ...
     def __enter__(self) -> Self: ...
