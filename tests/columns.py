@@ -11,13 +11,13 @@ import sys
 
 TOP = os.path.dirname(os.path.dirname(os.path.abspath(__file__)))
 sys.path.insert(0, os.path.join(TOP, "tools"))
-from formats import FIELDS, LIMITS, WORDS  # noqa: E402
+from formats import FIELDS, LIMITS, WORDS, said  # noqa: E402
 
 LAST, TICKS = LIMITS["LAST"], LIMITS["MAX_TICKS"]
 FORMS = {word: FIELDS[word] for word in WORDS["script"]}
-LONGEST = b"restart" + b" %d" % LAST * 5
-CHANGED = [b"start 0 1 5 7\n", b"start 10 1 %d 7\n" % LAST, b"stop 0 12 1\n", b"restart 0 1 10 5 9\n", b"tick 1\n"]
-CHANGED += [b"tick %d\n" % TICKS, b"tick %d\n" % (TICKS - 1), b"close\n", LONGEST + b"\n", b"\xef\xbb\xbfclose\n", b"start 0 1 5 %d\n" % (LAST + 1)]
+LONGEST = max((word + f" {LAST}" * len(fields) for word, fields in FORMS.items()), key=len).encode()
+CHANGED = [f"{line}\n".encode() for line in said("script", "example")] + [b"start 10 1 %d 7\n" % LAST, b"tick %d\n" % TICKS]
+CHANGED += [b"tick %d\n" % (TICKS - 1), LONGEST + b"\n", b"\xef\xbb\xbfclose\n", b"start 0 1 5 %d\n" % (LAST + 1)]
 BYTES = b"\x00\t\r 0159:/-+aeorstSz\x7f\xef\xff"
 
 

@@ -160,6 +160,8 @@ int main(void)
     IS(NO_TABLE, timers_new(&timers, TIMERS_SMOOTH, TIMERS_NEVER));
     IS(OK, timers_new(&timers, TIMERS_WIDE, 0));
     IS(OPEN, timers_new(&timers, TIMERS_SMOOTH, 0));
+    if (timers_move_ahead(&timers, 9) != 0)
+        return __LINE__;
     IS(DESK_OUT_OF_RANGE, timers_desk_new(&desk, &line, 1, &config));
     config.table = TIMERS_CLOCK;
     IS(DESK_OK, timers_desk_new(&desk, &line, 1, &config));

@@ -186,7 +186,7 @@ def compared(reader):
     numbers = "[...document.querySelectorAll('.column strong')].map((node) => parseInt(node.textContent, 10))"
     wanted = looked(reader, reader.script()[0], 8)
     reader.expect("timers looked at", reader.tab.value(numbers), wanted)
-    reader.expect("of the scheme alone", reader.tab.value("parseInt(document.querySelector('#looks').textContent.split(' ')[2], 10)"), wanted[2])
+    reader.expect("of the scheme alone", reader.tab.value("parseInt(document.querySelector('#looks').textContent, 10)"), wanted[2])
     reader.tab.run("go(play.steps.findIndex(({line}) => line === 6) + 1)")
     read = ("[...document.querySelectorAll('.column')].map((node) => [...node.querySelectorAll('.bucket')].map((row) =>"
             " [row.closest('article').querySelector('h3').textContent, row.querySelector('.name').textContent,"

@@ -186,6 +186,15 @@ clock_row() {
     refused show --wakeups
     refused show --counts=1
     refused show --moves=1
+    refused show --new=1
+    refused show --client
+    refused show --client -1
+    refused show --timer x
+    refused show --from $((2 ** 60))
+    refused show --to $((2 ** 60))
+    refused serve --new
+    refused serve --client 0
+    refused play --timer 1
     refused serve --counts
     refused serve --moves
     refused serve --wakeups=1
@@ -231,6 +240,10 @@ clock_row() {
         gives 0 "serve --wakeups --slots $slots --scheme hashed" 'start 0 1 9 7\n' \
             "started 0 1 1 9\nwakeup $((slots == 8 ? 1 : 9))\nend 0 1\n"
     done
+    gives 0 "show --new --client 0 --timer 1 --from 64 --to 65 --counts --moves --scheme hier --slots 8 --clients 1 --capacity 1 --first-tick 63" \
+        'start 0 1 2 7\nstart 1 1 2 7\nstart 0 2 2 7\ntick 2\nstart 0 3 1 7\ntick 1\n' "$(printf %s 'started 0 1 1 65\n' \
+        'refused 1 1 {NoClient}\nrefused 0 2 {Full}\n  moved at 64 from wheel 1 slot 1 to wheel 0 slot 1: 1\nexpired 65 0 1 7\n' \
+        '  now 65\n  starts 1 moves 1 visits 2\nstarted 0 3 2 66\n  now 65\n  starts 2 moves 1 visits 2\nexpired 66 0 2 7\nend 66 0\n')"
     gives 0 "show --counts --moves --scheme hier --slots 8 --clients 1 --capacity 1 --first-tick 63" \
         'start 0 1 2 7\nstart 1 1 2 7\nstart 0 2 2 7\ntick 2\n' "$(printf %s 'started 0 1 1 65\n  now 63\n' \
         '  starts 1 moves 0 visits 0\n  wheel 1 slot 1: 1\nrefused 1 1 {NoClient}\n  now 63\n  starts 1 moves 0 visits 0\n' \
@@ -263,6 +276,16 @@ clock_row() {
     shows "--slots=8" '  wheel 0 slot 11: 1'
     shows "--counts" '  starts 1 moves 0 visits 0\n  wheel 0 slot 11: 1'
     shows "--counts --moves" '  starts 1 moves 0 visits 0\n  wheel 0 slot 11: 1'
+    shows "--new" '  wheel 0 slot 11: 1'
+    shows "--client=0" '  wheel 0 slot 11: 1'
+    shows "--timer=1" '  wheel 0 slot 11: 1'
+    shows "--from=0" '  wheel 0 slot 11: 1'
+    shows "--to=0" '  wheel 0 slot 11: 1'
+    gives 0 "show --client=1" 'start 0 1 11 7\n' 'started 0 1 1 11\n  now 0\nend 0 1\n'
+    gives 0 "show --timer=2" 'start 0 1 11 7\n' 'started 0 1 1 11\n  now 0\nend 0 1\n'
+    gives 0 "show --from=1" 'start 0 1 11 7\n' 'started 0 1 1 11\nend 0 1\n'
+    gives 0 "show --to=9" 'start 0 1 11 7\ntick 9\ntick 1\n' \
+        'started 0 1 1 11\n  now 0\n  wheel 0 slot 11: 1\n  now 9\n  wheel 0 slot 11: 1\nend 10 1\n'
 }
 
 # shown OPTIONS SCRIPT LINE..: show writes these lines
@@ -371,6 +394,40 @@ shown() { gives 0 "show $1" "$2" "$(printf '%s\\n' "${@:3}")"; }
     shown "--moves --scheme smooth" 'start 0 1 130 0\ntick 65\ntick 65\n' 'started 0 1 1 130' '  now 0' '  wheel 1 slot 2: 1' \
         '  now 65' '  wheel 0 slot 2: 1' 'expired 130 0 1 0' '  now 130' 'end 130 0'
     shown "--moves" '' 'end 0 0'
+}
+
+@test "show --client, --timer and --new drop the other timers of each bucket, with each scheme, and of each move" {
+    local script='start 0 1 130 1\nstart 1 1 130 2\nstart 1 2 131 3\nrestart 0 2 1 131 4\ntick 128\nstop 1 3 3\n'
+    of_client() {
+        shown "--client 1 $1" "$script" 'started 0 1 1 130' '  now 0' 'started 1 1 2 130' '  now 0' "$2" \
+            'started 1 2 3 131' '  now 0' "${@:3:$#-5}" 'restarted 0 2 1 4 131' '  now 0' "${@:3:$#-5}" \
+            '  now 128' "${@:$#-2:2}" 'stopped 1 3 3' '  now 128' "${@:$#}" 'end 128 2'
+    }
+    of_client "" '  wheel 1 slot 2: 2' '  wheel 1 slot 2: 2 3' '  wheel 0 slot 2: 2' '  wheel 0 slot 3: 3' '  wheel 0 slot 2: 2'
+    of_client "--scheme clock" '  minute 2: 2' '  minute 2: 2 3' '  second 10: 2' '  second 11: 3' '  second 10: 2'
+    of_client "--scheme hashed --slots 8" '  slot 2: 2:16' '  slot 2: 2:16' '  slot 3: 3:16' '  slot 2: 2:0' '  slot 3: 3:0' '  slot 2: 2:0'
+    shown "--client 1 --scheme plain" "$script" 'started 0 1 1 130' '  now 0' 'started 1 1 2 130' '  now 0' '  pending: 2:130' \
+        'started 1 2 3 131' '  now 0' '  pending: 2:130 3:131' 'restarted 0 2 1 4 131' '  now 0' '  pending: 2:130 3:131' \
+        '  now 128' '  pending: 2:130 3:131' 'stopped 1 3 3' '  now 128' '  pending: 2:130' 'end 128 2'
+    shown "--new --moves" "$script" 'started 0 1 1 130' '  now 0' '  wheel 1 slot 2: 1' 'started 1 1 2 130' '  now 0' \
+        '  wheel 1 slot 2: 2' 'started 1 2 3 131' '  now 0' '  wheel 1 slot 2: 3' 'restarted 0 2 1 4 131' '  now 0' \
+        '  wheel 1 slot 2: 4' '  moved at 128 from wheel 1 slot 2 to wheel 0 slot 2: 2' \
+        '  moved at 128 from wheel 1 slot 2 to wheel 0 slot 3: 3 4' '  now 128' 'stopped 1 3 3' '  now 128' 'end 128 2'
+    shown "--timer 3 --client 1 --moves --from 1" "$script" 'started 0 1 1 130' 'started 1 1 2 130' 'started 1 2 3 131' \
+        'restarted 0 2 1 4 131' '  moved at 128 from wheel 1 slot 2 to wheel 0 slot 3: 3' '  now 128' \
+        '  wheel 0 slot 3: 3' 'stopped 1 3 3' '  now 128' 'end 128 2'
+    shown "--timer 3 --client 0" 'start 0 1 130 1\nstart 1 1 130 2\nstart 1 2 131 3\n' \
+        'started 0 1 1 130' '  now 0' 'started 1 1 2 130' '  now 0' 'started 1 2 3 131' '  now 0' 'end 0 3'
+    shown "--new --scheme smooth" 'start 0 1 130 1\ntick 65\nstart 0 2 130 2\n' 'started 0 1 1 130' '  now 0' \
+        '  wheel 1 slot 2: 1' '  now 65' 'started 0 2 2 195' '  now 65' '  wheel 1 slot 3: 2' 'end 65 2'
+}
+
+@test "show --from and --to show nothing at other ticks, also of moves" {
+    shown "--moves --from 4096 --to 4100" 'start 0 1 4161 1\ntick 4096\ntick 4\ntick 61\n' 'started 0 1 1 4161' \
+        '  moved at 4096 from wheel 2 slot 1 to wheel 1 slot 1: 1' '  now 4096' '  wheel 1 slot 1: 1' \
+        '  now 4100' '  wheel 1 slot 1: 1' 'expired 4161 0 1 1' 'end 4161 0'
+    shown "--from 5 --to 4" 'start 0 1 1 1\ntick 4\ntick 1\n' 'started 0 1 1 1' 'expired 1 0 1 1' 'end 5 0'
+    shown "--counts --from {LAST} --to {LAST} --first-tick {LAST-1}" 'close\ntick 1\n' 'closed 0' 'tick refused {Closed}' 'end {LAST-1} 0'
 }
 
 @test "each subcommand reports a bad line in its way" {

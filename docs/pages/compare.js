@@ -20,7 +20,7 @@ class Column {
     this.cards = cardsOf(this.play, this.words, acts(() => this.play), []);
     this.looks = make("strong", {});
     this.element = make("section", {class: "column", "aria-label": title},
-        make("h3", {}, title), make("p", {class: "looked"}, "looked at ", this.looks, " so far"), make("p", {class: "does"}, does),
+        make("h3", {}, title), make("p", {class: "looked"}, this.looks, " looked at so far"), make("p", {class: "does"}, does),
         make("div", {class: "wheels"}, ...[...this.cards.values()].map((card) => card.element)));
   }
 

@@ -9,6 +9,7 @@ const MOST_THROUGH = 40;   // pieces that are shown one after the other
 const FIRST_INTERVAL = 130n;
 const REACH = 18;          // the slider's largest interval is 2 to this power
 const ACTION = "1";
+const MOST_LABEL = 18;     // letters of a button
 
 const PROVED = [
   "Proved: this page runs the program timers itself, compiled to WebAssembly. Its answers, its refusals and the slots in" +
@@ -145,9 +146,10 @@ function renderAim() {
   cards.get(wheel)?.aim(words.scheme === "plain" ? null : slot);
 }
 
-// A button has room for a word or two and for what it is about. The whole of what it does is its name.
+// A button has room for a word or two and, if that is short, for what it is about. The whole of what it does is its name.
 function name(id, said, whole, about = shown.followed) {
-  $(id).textContent = whole ? `${said} ${about}` : said;
+  const label = `${said} ${about}`;
+  $(id).textContent = whole && label.length <= MOST_LABEL ? label : said;
   $(id).title = whole || said;
   $(id).setAttribute("aria-label", whole || said);
 }

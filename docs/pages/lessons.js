@@ -1,5 +1,5 @@
 const LESSONS = [
-{"name":"shown_migration","title":"One migration","path":"examples/shown_migration","options":[],"isWhole":false,"script":"start 0 1 130 1\ntick 64\ntick 64\nstart 0 2 2 2\ntick 2\n"},
+{"name":"shown_migration","title":"One move","path":"examples/shown_migration","options":[],"isWhole":false,"script":"start 0 1 130 1\ntick 64\ntick 64\nstart 0 2 2 2\ntick 2\n"},
 {"name":"shown_carry","title":"The carry","path":"examples/shown_carry","options":["--first-tick","18014398509481983"],"isWhole":false,"script":"start 0 1 2 7\ntick 1\ntick 1\n"},
 {"name":"shown_rounds","title":"Rounds","path":"examples/shown_rounds","options":["--scheme","hashed","--slots","8"],"isWhole":false,"script":"start 0 1 1 11\nstart 0 2 8 12\nstart 0 3 9 13\nstart 0 4 16 14\nstart 0 5 8 15\ntick 1\ntick 7\ntick 1\ntick 7\n"},
 {"name":"shown_clock","title":"Hours, minutes, seconds","path":"examples/shown_clock","options":["--scheme","clock","--first-tick","987870"],"isWhole":false,"script":"start 0 1 3045 5\ntick 2130\ntick 900\ntick 15\n"}

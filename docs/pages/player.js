@@ -107,14 +107,23 @@ function renderFollowed(step) {
   $("followed").replaceChildren(...parts);
 }
 
-// The present event of the followed timer is brought into sight where its history scrolls by itself.
+// The present event of the followed timer is brought into sight where its history scrolls by itself. The form stays above
+// it. Below the form begins a row or a paragraph, so that none is cut: there is room at the end for that.
 function showEvent() {
-  const box = $("followed").closest(".follow");
+  const [box, followed] = [$("followed").closest(".follow"), $("followed")];
+  followed.style.paddingBottom = "";
   const event = isColumn() && document.querySelector(".history .is-now");
   if (!event) return;
-  const [outer, inner] = [box.getBoundingClientRect(), event.getBoundingClientRect()];
-  const below = inner.bottom > outer.bottom ? inner.bottom - outer.bottom + GAP : 0;
-  box.scrollTop += Math.min(below, inner.top - $("choose").getBoundingClientRect().bottom);   // the form stays above it
+  box.scrollTop = 0;
+  const below = event.getBoundingClientRect().bottom - box.getBoundingClientRect().bottom;
+  if (below <= 0) return;
+  followed.style.paddingBottom = `${box.clientHeight}px`;
+  box.scrollTop = below + GAP;
+  const form = $("choose").getBoundingClientRect().bottom;
+  const tops = [...followed.querySelectorAll("p, .scroll, li")].map((row) => row.getBoundingClientRect().top - form);
+  const more = Math.min(event.getBoundingClientRect().top - form, ...tops.filter((top) => top >= 0));
+  box.scrollTop += more;
+  followed.style.paddingBottom = `${Math.max(0, more) + GAP}px`;
 }
 
 // The events of timers that left a slot at a step: they moved, or came out, or were stopped or restarted.
@@ -177,7 +186,7 @@ function renderStep(step) {
   $("face").textContent = words.face(play.now(step));
   $("news").replaceChildren(...newsOf(step));
   $("count").textContent = `${renderCards(play, cards, step, shown.followed)} pending`;
-  $("looks").textContent = play.timers.size > MAX_COUNTED ? "" : `looked at ${timersCounted(play.looks(step))} so far`;
+  $("looks").textContent = play.timers.size > MAX_COUNTED ? "" : `${timersCounted(play.looks(step))} looked at so far`;
   if (shown.isCompared) comparison.render(play, step, shown.followed, actsOf);
   lines.render(step);
   if (step !== from) closeHelp();
@@ -307,7 +316,7 @@ function key(event) {
 
 function setTheme(theme) {
   document.documentElement.dataset.theme = theme;
-  $("theme").setAttribute("aria-pressed", String(theme === "dark"));
+  $("theme").textContent = theme === "dark" ? "Light theme" : "Dark theme";
 }
 
 // The theme that was chosen here before, or else the system's.
@@ -466,9 +475,12 @@ async function begin() {
   try {
     await ENGINE.load();
   } catch (error) {
+    $("news").replaceChildren();
     trouble(`This browser can't run the program: ${error.message}. The page needs WebAssembly and DecompressionStream.`);
     return;
   }
+  $("main").inert = false;
+  $("controls").inert = false;
   listen();
   loadLink();
   shown.openedAt = performance.now();

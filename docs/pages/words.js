@@ -4,7 +4,7 @@
 // What the page is about, in two sentences above the clock.
 const OPENING = {
   plain: "All pending timers wait in one list, as they were started. It is shown by deadline.",
-  hashed: "A timer waits in slot (deadline mod slots). The hand passes it once for each of its rounds, and then takes it out.",
+  hashed: "A timer waits in slot (deadline mod slots). The hand passes it once for each of its rounds. The next time it is due.",
   hier: "Write now and the deadline in base 64. A timer waits in the wheel of the highest digit in which they differ, and moves" +
       " down when the clock reaches that digit.",
   clock: "A timer waits at the day, hour, minute or second that is the first to differ from now. It moves down when the clock" +
@@ -14,7 +14,7 @@ const OPENING = {
 // How to read the wheels.
 const GUIDE = {
   plain: [
-    "A tick goes through all timers of the list, so it takes the longer the more of them there are.",
+    "A tick looks at all timers of the list, so with more timers it takes longer.",
     "Timers are written serial:deadline.",
   ],
   hashed: [
@@ -27,7 +27,7 @@ const GUIDE = {
     "So the hands show the digits of the present tick in base 64. At tick 128 wheel 1 is at 2, and wheel 0 at 0.",
     "A timer is in the highest wheel in which the digits of now and of its deadline differ, in the slot of its digit. So one" +
         " for tick 65 is in wheel 1 while now is 63, two ticks before: the carry changes digit 1.",
-    "A tick empties one slot: that of its lowest digit that isn't 0. Each timer there moves to a lower wheel, or is due.",
+    "A tick empties one slot, in the wheel of its lowest digit that isn't 0. Its timers move to lower wheels, or are due.",
     "So slot 0 of a wheel is never used. At tick 128, slot 2 of wheel 1 is emptied, and no slot of wheel 0.",
   ],
   clock: [
@@ -139,7 +139,7 @@ class Words {
       const slots = BigInt(wheels[0].slots);
       const rounds = (timer.deadline - now - 1n) / slots;
       return `${timer.deadline} mod ${slots} is ${timer.deadline % slots}, so it is in that slot. ${
-          rounds ? `The hand passes it ${times(rounds)} before it is due.` : "It is due when the hand comes there."}`;
+          rounds ? `The hand passes it ${times(rounds)} before it is due.` : "It is due when the hand comes to it next."}`;
     }
     const level = levelOf(wheels, now, timer.deadline);
     if (level < 0) return "";

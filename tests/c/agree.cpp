@@ -199,7 +199,7 @@ static void compare_state(Timers &timers, const model &m)
 	HOLDS(timers.has_due() == (later != m.held.begin()));
 	HOLDS(next.has_value() == !m.held.empty() && wakeup.has_value() == !m.held.empty());
 	HOLDS(!next || *next == m.held.begin()->first.first);
-	HOLDS(timers.find_next() == next && timers.next() == next);
+	HOLDS(timers.find_next() == next && timers.next() == next && timers.move_ahead(5) == 0);
 	HOLDS(!next || (timers.has_due() ? *wakeup == timers.now() : timers.now() < *wakeup && *wakeup <= *next));
 }
 

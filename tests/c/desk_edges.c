@@ -90,7 +90,7 @@ static void tables(void)
 	timers_desk_free(&d), timers_line_free(&l);
 	c.table = TIMERS_CLOCK;
 	CHECK(timers_desk_new(&d, &l, 1, &c) == TIMERS_DESK_OUT_OF_RANGE && d.mark == 0 && l.mark == 0);
-	c.first_tick = TIMERS_CLOCK_LAST - 5, c.table = 4;
+	c.first_tick = TIMERS_CLOCK_LAST - 5, c.table = TIMERS_TABLES;
 	CHECK(timers_desk_new(&d, &l, 1, &c) == TIMERS_DESK_OUT_OF_RANGE);
 	c.table = UINT32_MAX;
 	CHECK(timers_desk_new(&d, &l, 1, &c) == TIMERS_DESK_OUT_OF_RANGE && d.mark == 0 && l.mark == 0);
@@ -108,17 +108,13 @@ static void tables(void)
 	timers_desk_flush_all(&d);
 	CHECK(timers_line_receive(&l, &w) && w.kind == TIMERS_WORD_EXPIRED && w.action == 2);
 	timers_desk_free(&d), timers_line_free(&l);
-	/* smooth wheels have the clock of the wide ones */
-	c.first_tick = TIMERS_LAST, c.table = TIMERS_SMOOTH;
-	CHECK(timers_desk_new(&d, &l, 1, &c) == TIMERS_DESK_OK && timers_desk_now(&d) == TIMERS_LAST);
-	timers_desk_free(&d), timers_line_free(&l);
-	c.first_tick = TIMERS_SMALL_LAST, c.table = TIMERS_SMALL;
-	CHECK(timers_desk_new(&d, &l, 1, &c) == TIMERS_DESK_OK && timers_desk_now(&d) == TIMERS_SMALL_LAST);
-	timers_desk_free(&d), timers_line_free(&l);
-	c.first_tick = TIMERS_SMALL_LAST + 1;
-	CHECK(timers_desk_new(&d, &l, 1, &c) == TIMERS_DESK_OUT_OF_RANGE && d.mark == 0 && l.mark == 0);
-	c.first_tick = TIMERS_LAST + 1, c.table = TIMERS_WIDE;
-	CHECK(timers_desk_new(&d, &l, 1, &c) == TIMERS_DESK_OUT_OF_RANGE && d.mark == 0 && l.mark == 0);
+	for (c.table = 0; c.table < TIMERS_TABLES; c.table++) {
+		c.first_tick = TIMERS_LAST_OF(c.table);
+		CHECK(timers_desk_new(&d, &l, 1, &c) == TIMERS_DESK_OK && timers_desk_now(&d) == c.first_tick);
+		timers_desk_free(&d), timers_line_free(&l);
+		c.first_tick++;
+		CHECK(timers_desk_new(&d, &l, 1, &c) == TIMERS_DESK_OUT_OF_RANGE && d.mark == 0 && l.mark == 0);
+	}
 	/* a wake-up may come before the first deadline, at which the timer moves to a lower wheel */
 	c.first_tick = 0, c.table = TIMERS_WIDE;
 	CHECK(timers_desk_new(&d, &l, 1, &c) == TIMERS_DESK_OK && timers_desk_next(&d) == TIMERS_NEVER);

@@ -345,8 +345,8 @@ struct model {
 	void play(unsigned calls)
 	{
 		config.size = sizeof config, config.capacity = 1 + below(30), config.room = 2 + below(12), config.line = 1 + below(6);
-		config.table = (std::uint32_t)below(4);
-		last = config.table == TIMERS_CLOCK ? TIMERS_CLOCK_LAST : config.table == TIMERS_SMALL ? TIMERS_SMALL_LAST : TIMERS_LAST;
+		config.table = (std::uint32_t)below(TIMERS_TABLES);
+		last = TIMERS_LAST_OF(config.table);
 		config.first_tick = now = below(3) ? below(5000) : last - below(5000);
 		clients.resize(1 + below(5));
 		std::vector<timers_line> lines(clients.size(), timers_line TIMERS_LINE_INIT);

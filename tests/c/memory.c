@@ -95,7 +95,7 @@ static void reserve(uint32_t table, size_t buckets, size_t most)
 int main(void)
 {
 	static const size_t rooms[] = { 1, 10, 100, 1000, 10000, 100000 };
-	grow(TIMERS_WIDE, 15300, 5300, 300000);
+	grow(TIMERS_WIDE, 15300, 5300, ((size_t)1 << 21) + 1);
 	grow(TIMERS_CLOCK, 6100, 2200, 300000);
 	grow(TIMERS_SMOOTH, 10700, 10500, 300000);
 	grow(TIMERS_SMALL, 2700, 1000, 300000);

@@ -123,7 +123,7 @@ int main(void)
 {
 	static const size_t sizes[] = { 0, 1, 2, 5, 63, 64, 65, 640, 641, 1000, MOST };
 	int failed = 0;
-	for (uint32_t table = TIMERS_WIDE; table <= TIMERS_SMALL; table++) {
+	for (uint32_t table = 0; table < TIMERS_TABLES; table++) {
 		for (size_t i = 0; i < sizeof sizes / sizeof *sizes; i++) {
 			failed |= !keeps_room(table, 0, sizes[i]);
 			failed |= !keeps_room(table, sizes[i] / 3, sizes[i]);

@@ -467,6 +467,15 @@ static void do_advance(struct timers *t)
 	advance_by(t, below(8) ? below(200) : next_random() >> below(64));
 }
 
+/* Moves of later ticks, which nothing but the counts shows. */
+static void do_move_ahead(struct timers *t)
+{
+	uint64_t most = below(8) ? below(100) : UINT64_MAX, made = timers_move_ahead(t, most);
+	WANT("moves ahead", made <= (smooth ? most : 0), true);
+	WANT("moves that are left", made < most && timers_move_ahead(t, most) > 0, false);
+	looked_at.moves += made;
+}
+
 /* A tick to advance to: one in four is not after now, and few are after the last one. */
 static uint64_t random_tick(void)
 {
@@ -682,6 +691,7 @@ static void want_closed(struct timers *t)
 	WANT("wake-up, not open", timers_wakeup(t), TIMERS_NEVER);
 	WANT("next, not open", timers_next(t), TIMERS_NEVER);
 	WANT("find next, not open", timers_find_next(t), TIMERS_NEVER);
+	WANT("move ahead, not open", timers_move_ahead(t, 5), 0);
 	WANT("visit, not open", timers_each(t, &place, &handle, &e), false);
 	WANT("counts, not open", timers_counts(t, &counts), TIMERS_NOT_OPEN);
 	WANT("counts kept, not open", counts.starts == 7 && counts.moves == 7 && counts.visits == 7, 1);
@@ -691,8 +701,7 @@ static void want_closed(struct timers *t)
 
 static void open_anew(struct timers *t)
 {
-	static const uint32_t tables[] = { TIMERS_WIDE, TIMERS_CLOCK, TIMERS_SMOOTH, TIMERS_SMALL };
-	uint32_t table = tables[below(4)];
+	uint32_t table = (uint32_t)below(TIMERS_TABLES);
 	want_closed(t);
 #ifdef TIMERS_NO_SMOOTH
 	if (table == TIMERS_SMOOTH) {
@@ -701,9 +710,14 @@ static void open_anew(struct timers *t)
 	}
 #endif
 	smooth = table == TIMERS_SMOOTH;
-	last_tick = table == TIMERS_CLOCK ? TIMERS_CLOCK_LAST : table == TIMERS_SMALL ? TIMERS_SMALL_LAST : TIMERS_LAST;
-	WANT("no table", timers_new(t, 4 + (uint32_t)below(1000), 0), TIMERS_NO_TABLE);
+	last_tick = TIMERS_LAST_OF(table);
+	WANT("no table", timers_new(t, TIMERS_TABLES + (uint32_t)below(1000), 0), TIMERS_NO_TABLE);
 	WANT("too late", timers_new(t, table, last_tick + 1), TIMERS_TOO_LATE);
+	while (WITH_REFUSALS(timers_new(t, table, last_tick)) == TIMERS_NO_MEMORY)
+		want_closed(t);
+	WANT("new at the last tick", result, TIMERS_OK);
+	WANT("its tick", timers_now(t), last_tick);
+	timers_free(t);
 	now = below(4) ? below(100000) : last_tick - below(100000);
 	count = due = reserved = held_most = 0;
 	counted = looked_at = (struct timers_counters){ 0, 0, 0 };
@@ -769,6 +783,7 @@ static void do_something(struct timers *t)
 	case 15: do_advance_to(t); break;
 	case 16: do_expire_batch(t); break;
 	case 17: do_take(t); break;
+	case 18: below(2) ? do_move_ahead(t) : do_expire(t); break;
 	default: do_expire(t);
 	}
 	/* seldom, so that many timers are held in between */

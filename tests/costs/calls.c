@@ -142,6 +142,7 @@ static void cost_ticks(void)
 	COST(tick, OK(timers_tick(&t)));
 	COST(advance, OK(timers_advance(&t, 1 + below(UINT64_C(1) << 27), &passed)));
 	COST(advance_to, OK(timers_advance_to(&t, timers_now(&t) + below(UINT64_C(1) << 27))));
+	COST(move_ahead, failed += timers_move_ahead(&t, 1) != 0);
 }
 
 /* Some timer, and in order the first one. */

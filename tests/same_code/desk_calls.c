@@ -54,7 +54,7 @@ static void choose_config(void)
 {
 	memset(&config, 0, sizeof config);
 	config.size = sizeof config;
-	config.table = (uint32_t)below(3);
+	config.table = (uint32_t)below(TIMERS_TABLES);
 	config.first_tick = below(4) == 0 ? below_power(23) : below(6) == 0 ? TIMERS_LAST - below(60) : 0;
 	config.capacity = 1 + below_power(12);
 	config.room = 2 + below_power(10);
@@ -417,7 +417,7 @@ void call_desks(uint64_t length)
 	memset(names, 0, sizeof names);
 	memset(clients, 0, sizeof clients);
 	choose_config();
-	spread = 2 + below(config.table == TIMERS_CLOCK ? 22 : 58);
+	spread = 2 + below(TIMERS_LAST_OF(config.table) == TIMERS_LAST ? 58 : 22);
 	most_clients = below(12) == 0 ? TIMERS_DESK_CLIENTS : 1 + below(4);
 	choose();
 	make_steps(STEPS, sizeof STEPS / sizeof *STEPS, length);

@@ -284,6 +284,13 @@ static void make_next(void) { TOLD(timers_next, timers_next(t)); }
 static void make_find_next(void) { TOLD(timers_find_next, timers_find_next(t)); }
 static void make_version(void) { TOLD(timers_version, timers_version()); }
 
+static void make_move_ahead(void)
+{
+	const uint64_t most = below(8) == 0 ? next_random() >> below(64) : below(16);
+
+	TOLD(timers_move_ahead, most, timers_move_ahead(t, most));
+}
+
 static void make_counts(void)
 {
 	struct timers_counters counts = { 1, 2, 3 };
@@ -331,7 +338,7 @@ static const struct step STEPS[] = {
 	{ make_set_at, 20 }, { make_stop, 10 }, { make_look, 5 }, { make_each, 5 }, { make_tick, 20 },
 	{ make_advance, 10 }, { make_advance_to, 5 }, { make_take, 10 }, { make_expire, 5 }, { make_expire_batch, 5 },
 	{ make_has_due, 2 }, { make_now, 2 }, { make_len, 2 }, { make_wakeup, 5 }, { make_next, 5 },
-	{ make_find_next, 5 }, { make_counts, 2 }, { make_version, 1 },
+	{ make_find_next, 5 }, { make_move_ahead, 5 }, { make_counts, 2 }, { make_version, 1 },
 };
 
 void call_timers(uint64_t length)
@@ -340,9 +347,9 @@ void call_timers(uint64_t length)
 	memset(names, 0, sizeof names);
 	cursor = 0;
 	latest = 0;
-	table = (uint32_t)below(3);
-	last = table == TIMERS_CLOCK ? TIMERS_CLOCK_LAST : TIMERS_LAST;
-	spread = 2 + below(table == TIMERS_CLOCK ? 22 : 58);
+	table = (uint32_t)below(TIMERS_TABLES);
+	last = TIMERS_LAST_OF(table);
+	spread = 2 + below(last == TIMERS_LAST ? 58 : 22);
 	t = both;
 	watch(&t->at);
 	name = names;

@@ -172,8 +172,8 @@ case('double_memory', 64, [64], """  %m = alloca [16 x i8], align 8
   %r = load i64, ptr %p, align 8
   ret i64 %r""")
 
-# Numbers of 48 and 56 bits, and bits, in memory.
-for w in (48, 56):
+# Numbers of 40, 48 and 56 bits, and bits, in memory.
+for w in (40, 48, 56):
     case(f'memory{w}', 64, [64], f"""  %m = alloca [16 x i8], align 8
   call void @llvm.memset.p0.i64(ptr %m, i8 -1, i64 16, i1 false)
   %x = trunc i64 %a to i{w}
@@ -576,6 +576,20 @@ EXPECTED = [(f'define i64 @f(ptr %a) {{\n  %r = load atomic i64, ptr %a {order},
      'attributes #0 = { cold noinline }\n', 'static COLD void c_f(void)', 'c_f();'),
     ('define i32 @f(i64 %a) {\n  %c = icmp eq i64 %a, 3\n  br i1 %c, label %x, label %y\nx:\n  ret i32 6\ny:\n'
      '  tail call void @f()\n  ret i32 0\n}\n', '\tif (RARE(n1 == 3))\n\t\treturn 6;'),
+] + [
+    # The first variant of an enum; of no number wider than that, since what compilers are told is a long.
+    (f'define i64 @f(i{bits} %a) {{\n  switch i{bits} %a, label %x [\n    i{bits} {first}, label %y\n    i{bits} 3, label %z\n'
+     '  ]\nx:\n  ret i64 5\ny:\n  ret i64 6\nz:\n  ret i64 7\n}\n', f'\tswitch ({chosen}) {{')
+    for bits, first, chosen in ((8, 0, 'MOSTLY_0(n1)'), (8, 1, 'n1'), (64, 0, 'n1'))
+] + [
+    # Arms that do the same are one. What they set is not the same if another one is set, or from another one.
+    (f'define i64 @f(ptr %a, i64 %n) {{\n  %t = load i8, ptr %a, align 1\n  %c = icmp eq i8 %t, 0\n'
+     f'  br i1 %c, label %x, label %y\nx:\n  %u = load i64, ptr %a, align 8\n  store i64 7, ptr %a, align 8\n'
+     f'  %v = add i64 %u, %n\n  br label %e\ny:\n  %u2 = load i64, ptr %a, align 8\n  store i64 7, ptr %a, align 8\n'
+     f'  %v2 = add i64 {added}\n  br label %e\ne:\n  %r = phi i64 [ %v, %x ], [ {taken}, %y ]\n  ret i64 %r\n}}\n', written)
+    for added, taken, written in (('%u2, %n', '%v2', '\n\tuint64_t n4 = load64(p1);\n\tstore64(p1, 7);\n'),
+                                  ('%u2, %u2', '%v2', '\tif (load8(p1) == 0) {'), ('%u2, %n', '%n', '\tif (load8(p1) != 0) {'),
+                                  ('%n, %u2', '%v2', '\tif (load8(p1) == 0) {'))
 ]
 
 # Text, and the line that has to be named.
