@@ -282,7 +282,7 @@
 #define TIMERS_CHECKED TIMERS_CALL
 #endif
 
-/* C of 1989 has no bool. The compilers have it all the same, and -pedantic would warn about each use. */
+/* C89 has no bool. Its compilers have it all the same, and -pedantic would warn about each use. */
 #if defined(__GNUC__) && !defined(__cplusplus) && (!defined(__STDC_VERSION__) || __STDC_VERSION__ < 199901L)
 #define TIMERS_OLD_C
 #pragma GCC diagnostic push
@@ -371,7 +371,7 @@ enum timers_status timers_set_allocator(void *(*allocate)(size_t size),
                                         void (*release)(void *block));
 
 /* Makes timers with this table (enum timers_table), none of them pending, at the first tick. `t` holds them
- * until timers_free. It must begin as TIMERS_INIT or as 0 bytes (rule 1).
+ * until timers_free. It must begin as TIMERS_INIT or as zeros (rule 1).
  * TIMERS_OPEN, TIMERS_NO_TABLE, TIMERS_TOO_LATE, TIMERS_NO_MEMORY. */
 TIMERS_CHECKED
 enum timers_status timers_new(struct timers *t, uint32_t table, uint64_t first_tick);
@@ -517,9 +517,9 @@ size_t timers_len(const struct timers *t);
 
 /* The tick until which the caller may sleep. It is the present one if an expired timer waits to be taken,
  * and TIMERS_NEVER if nothing is pending or `t` is not open. Otherwise it is the first tick after the present
- * one at which a timer expires or moves to a lower wheel. That is at most the first deadline, and nothing
- * expires before it. Call it again once the clock is there: if it is before the first deadline, nothing has
- * expired. Constant time. */
+ * one at which a timer expires or moves to a lower wheel; with TIMERS_SMOOTH, which also moves timers before, the
+ * tick at which TIMERS_WIDE would. That is at most the first deadline, and nothing expires before it. Call it
+ * again once the clock is there: if it is before the first deadline, nothing has expired. Constant time. */
 TIMERS_CALL
 uint64_t timers_wakeup(const struct timers *t);
 

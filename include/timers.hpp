@@ -3,15 +3,16 @@
  *     #include <timers.hpp>
  *     c++ -std=c++17 prog.cpp $(pkg-config --cflags --libs timers)
  *
- * A `timing::timers<Tick, Action>` owns timers and frees them. It can be moved and not copied. timers.h
- * says what each call does; this header says what differs. It takes no lock, and allocates only what it throws. The
- * owner is a `struct timers` and the last tick of its clock, 32 bytes. Each call is one of C. Exceptions: catch_up
- * and each make several, and in_ticks, at_least, at and raw none.
+ * A `timing::timers<Tick, Action>` owns timers and frees them. It can be moved and not copied. timers.h says what each
+ * call does; this header says what differs. It takes no lock, and allocates only what it throws. The owner has 32
+ * bytes: a `struct timers` and the last tick of its clock. Each call makes one call of C. Exceptions: catch_up and each
+ * make several, and in_ticks, at_least, at and raw none.
  *
  * TICKS. `Tick` is the length of a tick, a std::chrono::duration. A deadline is a std::chrono::time_point of `Clock`,
- * and so are `now` and the deadlines that come back. An interval given in place of one does not compile. An interval is
- * a duration. Both are whole numbers, and are rounded up to ticks. An interval of n ticks lasts more than n - 1 and at
- * most n, since the present tick has begun. `at_least` adds the tick that a time-out needs if it must not come early.
+ * and so are `now` and the deadlines that come back. An interval in place of a time point does not compile. An interval
+ * is a duration. Both are whole numbers, and are rounded up to ticks. An interval of n ticks lasts more than n - 1 and
+ * at most n, since the present tick has begun. `at_least` adds the tick that a time-out needs if it must not come
+ * early.
  *
  * CLOCKS. By default the clock has ticks alone, and the caller advances it: `timers.at(5s)` is a time point 5 seconds
  * after tick 0. With a real clock as the third parameter its time points are taken as they are. Tick 0 is the clock's
@@ -21,13 +22,14 @@
  *     timers.start_at(std::chrono::steady_clock::now() + 500ms, run);
  *     timers.catch_up(std::chrono::steady_clock::now(), [](const auto &timer) { timer.action(); });
  *
- * An interval counts from `now`, the tick up to which the timers have come. Over a real clock that is late, so start and
- * restart do not compile there. The clock of TIMERS_CLOCK or TIMERS_SMALL is short: a real clock may be past its end.
+ * An interval counts from `now`, the tick up to which the timers were advanced. Over a real clock that lags behind, so
+ * start and restart do not compile there. The clock of TIMERS_CLOCK or TIMERS_SMALL is short: a real clock may be past
+ * its end.
  *
- * ACTIONS. An `Action` can be copied, trivially, and has at most 8 bytes. It may be a pointer to an object or a
- * function, an index, an enum, or a lambda that captures one pointer. Its bytes are the action of C, so that
- * it costs nothing. A std::function does not fit: keep it in an object of yours, and give the pointer to that.
- * What owns something does not fit either, as it can't be copied, or not trivially.
+ * ACTIONS. An `Action` can be copied trivially, and has at most 8 bytes. It may be a pointer to an object or a
+ * function, an index, an enum, or a lambda that captures one pointer. Its bytes are the action of C, so that it costs
+ * nothing. A std::function does not fit: keep it in an object of yours, and give the pointer to that. What owns
+ * something does not fit either, as it can't be copied, or not trivially.
  *
  * ERRORS. As in the standard library's containers, an unexpected failure is an exception. It is std::bad_alloc if a
  * call runs out of memory, and otherwise `timing::error` with the status of C. Expected outcomes are results: no
@@ -35,9 +37,9 @@
  * library nothing has changed.
  *
  * WITHOUT EXCEPTIONS (-fno-exceptions) a call that would throw runs TIMERS_REFUSED(status) and then std::abort. A
- * program may define that, to log the status: on the command line, for all of its files alike. Nor may some of them
- * be compiled with exceptions and others without. After `reserve` no start runs out of memory; any other refusal is a
- * bug of the caller. To get each status, call timers.h. */
+ * program may define that, to log the status: on the command line, for all of its files alike. Compile all of them with
+ * exceptions, or all without. After `reserve` no start runs out of memory; any other refusal is a bug of the caller. To
+ * get each status, call timers.h. */
 /* SPDX-License-Identifier: MIT OR Apache-2.0 */
 #ifndef TIMERS_HPP
 #define TIMERS_HPP
@@ -90,7 +92,7 @@ private:
 #endif
 }
 
-/* The clock of timers without a real one. Its time begins at tick 0. What the time is, each `timers` says for itself. */
+/* The clock of timers without a real one. Its time begins at tick 0. Each `timers` has a present time of its own. */
 template <class Tick>
 struct tick_clock {
 	using duration = std::chrono::duration<std::int64_t, typename Tick::period>;
@@ -100,7 +102,7 @@ struct tick_clock {
 	static constexpr bool is_steady = true;
 };
 
-/* The name of a timer. One that was made without a timer names none. */
+/* The name of a timer. `handle()` names none. */
 class handle {
 public:
 	handle() noexcept : raw_{ 0, 0 } {}
@@ -148,9 +150,9 @@ public:
 	timers(const timers &) = delete;
 	timers &operator=(const timers &) = delete;
 
-	/* The other one is left without timers. It may be destroyed and assigned to. Its stop, look and expire
-	 * return nothing, each visits nothing, and now and size return 0. A call that may throw `error` throws
-	 * it with TIMERS_NOT_OPEN. A `timer` below names its owner by its place: so the owner must not move then. */
+	/* The other one is left without timers. It may be destroyed and assigned to. Its stop, look and expire return
+	 * nothing, each visits nothing, and now and size return 0. A call that may throw `error` throws it with
+	 * TIMERS_NOT_OPEN. A `timer` below refers to its owner by address, so then the owner must not move. */
 	timers(timers &&other) noexcept : raw_(std::exchange(other.raw_, none())), last_tick_(other.last_tick_) {}
 	timers &operator=(timers &&other) noexcept
 	{
@@ -162,8 +164,8 @@ public:
 		return *this;
 	}
 
-	/* The ticks of an interval, rounded up. One that they can't hold becomes their greatest number,
-	 * which is after every last tick. One of 0 or less becomes 0. The calls that take it refuse both. */
+	/* The ticks of an interval, rounded up. One that is too long for `ticks` becomes ticks::max(), which is after every
+	 * last tick. One of 0 or less becomes 0. Calls that take an interval refuse both. */
 	template <class Rep, class Period>
 	static constexpr ticks in_ticks(std::chrono::duration<Rep, Period> interval) noexcept
 	{
@@ -223,7 +225,7 @@ public:
 		});
 	}
 
-	/* timers_restart_at, as restart. The deadline is one of start_at. */
+	/* timers_restart_at, as restart. The deadline is as in start_at. */
 	template <class Duration>
 	[[nodiscard]] bool restart_at(handle &of, std::chrono::time_point<Clock, Duration> deadline, Action action)
 	{
@@ -232,8 +234,8 @@ public:
 		});
 	}
 
-	/* timers_set_at: restarts the timer with the handle `of`, and if there is none starts one. Writes the new
-	 * handle to `of`. Throws as start_at; std::bad_alloc only if no timer has the handle. */
+	/* timers_set_at: restarts the timer with the handle `of`, or starts one if there is none. Writes the new handle to
+	 * `of`. Throws as start_at; std::bad_alloc only if no timer has the handle. */
 	template <class Duration>
 	void set_at(handle &of, std::chrono::time_point<Clock, Duration> deadline, Action action)
 	{
@@ -451,9 +453,10 @@ private:
 	std::uint64_t last_tick_;
 };
 
-/* One timer, which is stopped when this object goes: a member of what its action points to, say. It is pending or not,
- * and knows by its handle if it was taken. Its owner outlives it and does not move. It can be moved itself, and not copied.
- * Its action stays as it was: what that points to must not move, or starts it again. `Timers` is the owner's type. */
+/* One timer, which is stopped when this object is destroyed: a member of what its action points to, say. By its handle
+ * it knows whether the timer is still held. Its owner outlives it and does not move. It can be moved itself, and not
+ * copied. A move leaves its action as it was: what that points to must not move, or has to start it again. `Timers` is
+ * the owner's type. */
 template <class Timers>
 class timer {
 public:

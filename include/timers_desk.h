@@ -49,11 +49,11 @@
  *     timers_line_receive returns false for good, and timers_line_ended returns true. timers_desk_end_all does the
  *     same for all clients at once.
  *
- *     Either end may be freed while the other one is in use. timers_desk_line_freed tells the owner that a client
- *     has freed its line. The owner still takes the requests that were sent before, and the flushes drop words to
- *     the client. timers_line_abandoned tells a client that the desk was freed, once the client has received all
- *     words in its line. So it receives whatever was flushed before the free. Words in the outbox are lost. So a
- *     client's loop ends if timers_line_ended or timers_line_abandoned returns true.
+ *     Either end may be freed while the other one is in use. timers_desk_line_freed tells the owner that a client has
+ *     freed its line. The owner still takes the requests that were sent before, and the flushes drop words to the
+ *     client. timers_line_abandoned tells a client that the desk was freed, once the client has received all words in
+ *     its line. So it receives whatever was flushed before the free. Words in the outbox are lost. A client's loop ends
+ *     once timers_line_ended or timers_line_abandoned returns true.
  *
  *     Clients come and go. If a client's line was freed, timers_desk_open opens one for another client under the
  *     same number. It requires that every request was taken, no word waits, and no timer is pending. The owner need
@@ -62,14 +62,14 @@
  *     nothing with the old one, which was freed together with the words in it. So no word to the old client reaches
  *     the new one, and each word that the new one receives is about its own requests.
  *
- *     Words are queued in the client's outbox at the owner until a flush moves them into the line. A request is
- *     taken only if the outbox has room for its answer, a word of each of the client's pending timers, and one
- *     more. So no word is lost unless an end is freed. A client that does not read blocks only its own requests. A
- *     stop needs that room too: while the outbox lacks room (TIMERS_DESK_NO_ROOM), the client cannot stop a timer.
- *     Words leave the outbox by a flush, if the line has room for them, so the client has to read. If its pending
- *     timers alone take the room, one of them has to expire first. A `room` of k + q + 1 is enough for a client
- *     that keeps at most k timers, and has at most q requests without an answer. A request that failed with out of
- *     memory is held, and retried first when its client is served the next time.
+ *     Words are queued in the client's outbox at the owner until a flush moves them into the line. A request is taken
+ *     only if the outbox has room for its answer, a word of each of the client's pending timers, and one more. So no
+ *     word is lost unless an end is freed. A client that does not read blocks only its own requests. A stop needs that
+ *     room too: while the outbox lacks room (TIMERS_DESK_NO_ROOM), the client cannot stop a timer. Words leave the
+ *     outbox by a flush, if the line has room for them, so the client has to read. If its pending timers alone take the
+ *     room, one of them has to expire first. A `room` of k + q + 1 is enough for a client that keeps at most k timers,
+ *     and has at most q requests without an answer. A request that runs out of memory is held, and retried first when
+ *     its client is served the next time.
  *
  *     The owner's loop:
  *
@@ -84,10 +84,10 @@
  *         }
  *
  *     Ticks come first, since an interval counts from the tick at which its request is taken. If the owner took
- *     requests before the clock has caught up, their timers would expire too early, by the time that it slept. A
- *     client that knows the owner's clock can send a deadline instead (timers_line_start_at): then it does not
- *     matter when the request is taken. If the deadline has passed by then, the timer is due at once: its word
- *     comes right after the answer.
+ *     requests before the clock has caught up, their timers would expire too early, by as long as it slept. A client
+ *     that knows the owner's clock can send a deadline instead (timers_line_start_at): then it does not matter when the
+ *     request is taken. If the deadline has passed by then, the timer is due at once: its word comes right after the
+ *     answer.
  *
  *     The program chooses how threads wake each other: an eventfd, a pipe, a condition variable with a flag. The
  *     order matters. The owner clears the signal before it looks at the lines, never between looking and sleeping.
@@ -98,13 +98,13 @@
  *
  *     The functions were proved, and then translated into C. Each meets the contract stated in
  *     crates/timer_desk_c/src/desk_exports.rt or line_exports.rt, for every call that keeps the rules below. The
- *     library does not check the rules, except that the settling and ending calls check the client and the life of
- *     a line (rule 5). Tests alone cover the translation, the C around it, which allocates, and
- *     timers_desk_message. Nothing is proved about time: when a thread runs, and when a word arrives.
- *     timers_desk_line_freed and timers_line_abandoned are proved to change nothing, and to record their checks in
- *     the right order: first whether the desk is gone, then whether a word is left in the line. Tests show that
- *     they return true exactly if the other end was freed, and that each check reads the ring, so that it misses no
- *     word that was put before. The same holds for a client's requests before its line is opened again.
+ *     library does not check the rules, except that the settling and ending calls check the client and the life of a
+ *     line (rule 5). Tests alone cover the translation, the C around it, which allocates, and timers_desk_message.
+ *     Nothing is proved about time: when a thread runs, and when a word arrives. timers_desk_line_freed and
+ *     timers_line_abandoned are proved to change nothing, and to record their checks in the right order: first whether
+ *     the desk is gone, then whether a word is left in the line. Tests show that they return true exactly if the other
+ *     end was freed. They also show that each check reads the ring, so that it misses no word that was put before. The
+ *     same holds for a client's requests before its line is opened again.
  *
  * RULES
  *     1. A `struct timers_desk` begins as TIMERS_DESK_INIT and a `struct timers_line` as TIMERS_LINE_INIT,
@@ -119,12 +119,12 @@
  *        thread to thread: by a lock, by a thread's start or join, by an atomic with release and acquire order.
  *        Calls on two structs are independent: the owner's and its clients' may overlap in every way.
  *     5. timers_desk_settle, timers_desk_end and timers_desk_end_all are given lines of the same desk. A line of
- *        another client is refused with TIMERS_DESK_OTHER_LINE. So is a line of an earlier desk of the same struct:
- *        the struct counts the desks that were made in it, timers_desk_free keeps the count, and each line has the
- *        count at which it was made. So do not set a struct to TIMERS_DESK_INIT again while lines of it are held. A
- *        line of another struct with the same client and count is not detected. A program with several desks may set
- *        `lives` of each struct to another number before its first timers_desk_new, such as 2^32 times the number of
- *        the desk. Then lines of the other desks are refused, too.
+ *        another client is refused with TIMERS_DESK_OTHER_LINE. So is a line of an earlier desk of the same struct: the
+ *        struct counts the desks that were made in it, and each line has the count at which it was made.
+ *        timers_desk_free keeps the count. So do not set a struct to TIMERS_DESK_INIT again while lines of it are held.
+ *        A line of another struct with the same client and count is not detected. A program with several desks may set
+ *        `lives` of each struct to another number before its first timers_desk_new, 2^32 times the desk's number, say.
+ *        Then lines of the other desks are refused, too.
  *     6. malloc, realloc and free, or what timers_set_allocator (timers.h) was given in their place, are one
  *        allocator that threads may share, and align as C requires.
  *     7. No call comes from a signal handler. THREADS says which calls a forked child may make.
@@ -141,9 +141,8 @@
  *     timers_desk_reserve, timers_desk_close, the serves, timers_line_finish and the frees. No call is a
  *     cancellation point. The only callbacks are the functions of timers_set_allocator, which must return.
  *
- *     A call must return. If a longjmp out of a signal handler or an asynchronous cancellation leaves it, its
- *     struct may be inconsistent: then it must not be used again, not even freed. The other end of the line may go
- *     on.
+ *     A call must return. A longjmp out of a signal handler or an asynchronous cancellation may leave its struct
+ *     inconsistent: then it must not be used again, not even freed. The other end of the line may go on.
  *
  *     A forked child has copies of the structs, which share nothing with the parent's, and one thread, the one that
  *     forked. It may use what no other thread was changing during the fork, by the calls that neither allocate nor
@@ -176,7 +175,7 @@
 #define TIMERS_CHECKED TIMERS_CALL
 #endif
 
-/* C of 1989 has no bool: see timers.h. */
+/* C89 has no bool: see timers.h. */
 #if defined(__GNUC__) && !defined(__cplusplus) && (!defined(__STDC_VERSION__) || __STDC_VERSION__ < 199901L)
 #define TIMERS_OLD_C
 #pragma GCC diagnostic push
@@ -313,8 +312,7 @@ enum timers_desk_status timers_desk_serve(struct timers_desk *d, size_t client);
 /* Serves each client in turn, from client 0 on: each until `most` of its requests were done or a serve did none.
  * Allocates only for starts.
  * TIMERS_DESK_NOT_OPEN.
- * TIMERS_DESK_NO_MEMORY: a request of at least one client failed with out of memory and is held; others may have been
- * done.
+ * TIMERS_DESK_NO_MEMORY: a request of at least one client ran out of memory and is held; others may have been done.
  * TIMERS_DESK_OK: at least one request was done. TIMERS_DESK_IDLE: none was. */
 TIMERS_CALL
 enum timers_desk_status timers_desk_serve_all(struct timers_desk *d, uint64_t most);
@@ -343,12 +341,12 @@ enum timers_desk_status timers_desk_tick(struct timers_desk *d);
 TIMERS_CALL
 enum timers_desk_status timers_desk_advance(struct timers_desk *d, uint64_t most, uint64_t *passed);
 
-/* Closes the desk: each pending timer is returned by a word to its client, by deadline, and by serial among
- * equal ones. From then on each request is answered by TIMERS_WORD_NOT_TAKEN. At TIMERS_DESK_OK it writes to
- * `*returned` how many timers were returned.
- * TIMERS_DESK_NOT_OPEN, TIMERS_DESK_CLOSED, TIMERS_DESK_NO_MEMORY: nothing has changed. After
- * TIMERS_DESK_NO_MEMORY it may be repeated. If timers_desk_reserve returned TIMERS_DESK_OK before, this call does not
- * allocate and never returns TIMERS_DESK_NO_MEMORY. */
+/* Closes the desk: each pending timer is returned by a word to its client, in order of deadline, then of serial. From
+ * then on each request is answered by TIMERS_WORD_NOT_TAKEN. At TIMERS_DESK_OK it writes to `*returned` how many timers
+ * were returned.
+ * TIMERS_DESK_NOT_OPEN, TIMERS_DESK_CLOSED, TIMERS_DESK_NO_MEMORY: nothing has changed. After TIMERS_DESK_NO_MEMORY it
+ * may be repeated. If timers_desk_reserve returned TIMERS_DESK_OK before, this call does not allocate and never returns
+ * TIMERS_DESK_NO_MEMORY. */
 TIMERS_CHECKED
 enum timers_desk_status timers_desk_close(struct timers_desk *d, uint64_t *returned);
 
@@ -403,9 +401,9 @@ enum timers_desk_status timers_desk_end_all(struct timers_desk *d, struct timers
 TIMERS_CHECKED
 enum timers_desk_status timers_desk_stop_pending(struct timers_desk *d, size_t client, uint64_t *stopped);
 
-/* Opens a line for another client under the number of one whose line was freed. Every request of the old client
- * must have been taken, and none of its timers may be pending. No word may wait for it: a flush drops them. From
- * then on `line` holds the new client's end. It has room for `room` requests and as many words, as `line` in struct
+/* Opens a line for another client under the number of one whose line was freed. Every request of the old client must
+ * have been taken, and none of its timers may be pending. No word may wait for it: a flush drops them. From then on
+ * `line` holds the new client's end. It has room for `room` requests and as many words, like `line` in struct
  * timers_desk_config. The request numbers continue: the first is one above the last that was taken. Does not block.
  * TIMERS_DESK_NOT_OPEN (the desk), TIMERS_DESK_OPEN (`line` holds one), TIMERS_DESK_NO_CLIENT, TIMERS_DESK_OUT_OF_RANGE
  * (the room), TIMERS_DESK_NOT_FREED, TIMERS_DESK_LEFT (something of the client that is gone: serve and flush it, and
@@ -464,12 +462,12 @@ TIMERS_CHECKED
 enum timers_desk_status timers_line_start(struct timers_line *line, uint64_t interval, uint64_t action,
                                           uint64_t *number);
 
-/* Sends the request to start a timer that expires at the tick `deadline`, and hands `action` back then. It is as
- * timers_line_start with the ticks that are left until then at the tick at which the request is taken. If
- * `deadline` is not after that tick, the timer expires at it, as with timers_start_at (timers.h). The answer has
- * that tick as deadline. TIMERS_WORD_EXPIRED follows it in the same serve, after all words that were due before.
- * Such a request is refused exactly if a deadline at the next tick would be. So the last tick refuses it
- * with TIMERS_DESK_TOO_LATE, as any deadline after the last tick is refused. The same statuses. */
+/* Sends the request to start a timer that expires at the tick `deadline`, and hands `action` back then. At the tick at
+ * which the request is taken it is timers_line_start with the ticks that are left. If `deadline` is not after that
+ * tick, the timer expires at it, as with timers_start_at (timers.h). The answer has that tick as deadline.
+ * TIMERS_WORD_EXPIRED follows it in the same serve, after all words that were due before. Such a request is refused
+ * exactly if a deadline at the next tick would be. So at the last tick it is refused with TIMERS_DESK_TOO_LATE, like
+ * any deadline after the last tick. The same statuses. */
 TIMERS_CHECKED
 enum timers_desk_status timers_line_start_at(struct timers_line *line, uint64_t deadline, uint64_t action,
                                              uint64_t *number);
@@ -484,8 +482,8 @@ TIMERS_CHECKED
 enum timers_desk_status timers_line_restart(struct timers_line *line, struct timers_handle handle,
                                             uint64_t interval, uint64_t action, uint64_t *number);
 
-/* Does the same with a deadline for the new timer, which may have passed, as timers_line_start_at. If it is
- * refused, the old timer stays. */
+/* Does the same with a deadline for the new timer, which may have passed, as in timers_line_start_at. If it is refused,
+ * the old timer stays. */
 TIMERS_CHECKED
 enum timers_desk_status timers_line_restart_at(struct timers_line *line, struct timers_handle handle,
                                                uint64_t deadline, uint64_t action, uint64_t *number);

@@ -6,9 +6,9 @@
  * A `timing::desk` is the owner's, and a `timing::line` a client's end, for the client's thread. Both can be moved and
  * not copied, and free what they hold, in any order. This header says what differs from the calls of timers_desk.h. A
  * call that fails throws `timing::desk_error` with the status of C, and nothing has changed. `serve` and `serve_all`
- * return the status instead. Expected outcomes are results: a line is full, no word has come, nothing was done. Without
- * exceptions (-fno-exceptions) a call that would throw runs TIMERS_DESK_REFUSED(status), which a program may define
- * before, and then std::abort. */
+ * return the status instead. Expected outcomes are return values: a line is full, no word has come, nothing was done.
+ * Without exceptions (-fno-exceptions) a call that would throw runs TIMERS_DESK_REFUSED(status), which a program may
+ * define before the include, and then std::abort. */
 /* SPDX-License-Identifier: MIT OR Apache-2.0 */
 #ifndef TIMERS_DESK_HPP
 #define TIMERS_DESK_HPP
@@ -232,7 +232,7 @@ public:
 	bool line_freed(std::size_t client) noexcept { return timers_desk_line_freed(&raw_, client); }
 
 private:
-	/* Another number for each desk of the program. */
+	/* A different number for each desk of the program. */
 	static std::uint64_t count() noexcept
 	{
 		static std::atomic<std::uint64_t> desks{0};

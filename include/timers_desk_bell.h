@@ -27,19 +27,19 @@
  *     Inline functions in C99 and C++11, for gcc and clang, over eventfd, and where there is none over a pipe. They are
  *     tested and not proved.
  *
- *     A bell belongs to the thread that sleeps on it. Others ring it after they have done what it has to see: sent a
- *     request, received a word (since the line has room again), or freed an end. A ring is a system call only if the
- *     thread sleeps or is about to.
+ *     A bell belongs to the thread that sleeps on it. Others ring it after they have sent a request, received a word
+ *     (since the line has room again), or freed an end. A ring is a system call only if the thread sleeps or is about
+ *     to.
  *
  *     No ring is lost if each thread looks for work and then calls timers_bell_rest. That returns at once if there was
- *     work. If there was none several times, it announces that the thread is about to sleep, and returns: the thread
- *     looks again. Only if there is still none, the next call sleeps. The announcement and a ring exchange one flag, so
- *     one of them comes first. If the ring does, the look after the announcement sees what was done before the ring. If
- *     the announcement does, the ring finds it and wakes the thread.
+ *     work. After several looks without work it announces that the thread is about to sleep, and returns: the thread
+ *     looks again. If there is still none, the next call sleeps. The announcement and a ring exchange one flag, so one
+ *     of them comes first. If the ring does, the look after the announcement sees what was done before the ring. If the
+ *     announcement does, the ring finds it and wakes the thread.
  *
- *     After timers_desk_close the owner takes one more turn before it rests: it flushes the last words. A timer of at least
- *     n ticks by the real clock is one of timers_line_start_at(&line, milliseconds() + n + 1, ..). An interval counts from
- *     the owner's turn, and the present tick has begun already.
+ *     After timers_desk_close the owner takes one more turn before it rests: it flushes the last words. For a timer of
+ *     at least n ticks by the real clock call timers_line_start_at(&line, milliseconds() + n + 1, ..). An interval
+ *     counts from the owner's turn, and the present tick has begun already.
  *
  *     A thread that sleeps in a poll of its own calls timers_bell_listen, and looks once more for words. If there are
  *     none, it polls the descriptor `bell.wakes` beside others. In either case it then calls timers_bell_hush.
@@ -139,9 +139,9 @@ static inline void timers_bell_hush(struct timers_bell *bell)
 		return;
 }
 
-/* Called by the thread of this bell after each look for work. `busy`: there was some. After TIMERS_BELL_LOOKS in a row
- * without any, at which it lets other threads run, it announces a sleep. At the next it sleeps until the bell rings, and at
- * most so many milliseconds; -1 is without end. */
+/* Called by the thread of this bell after each look for work. `busy`: there was some. The first TIMERS_BELL_LOOKS calls
+ * in a row without any let other threads run. The next one announces a sleep. The one after that sleeps until the bell
+ * rings, but at most so many milliseconds; -1 is without end. */
 static inline void timers_bell_rest(struct timers_bell *bell, bool busy, int milliseconds)
 {
 	struct pollfd wait;
@@ -166,9 +166,9 @@ static inline void timers_bell_rest(struct timers_bell *bell, bool busy, int mil
 	bell->looks = 0;
 }
 
-/* A turn of a desk's owner: passes the ticks up to `now`, serves the clients, flushes each, and rings bells[c] of each
- * client c that got a word. `clients` is the number of bells, as of clients. Ticks come first, since an interval counts
- * from the tick at which its request is taken.
+/* A turn of a desk's owner. Passes the ticks up to `now`, serves the clients, flushes each, and rings bells[c] of each
+ * client c that got a word. `clients` is the number of clients, and of bells. Ticks come first, since an interval
+ * counts from the tick at which its request is taken.
  * TIMERS_DESK_OK: a request was taken or a word was moved, so there may be more to do.
  * TIMERS_DESK_IDLE, TIMERS_DESK_NO_MEMORY, TIMERS_DESK_NOT_OPEN: as timers_desk_serve_all. */
 static inline enum timers_desk_status timers_desk_turn(struct timers_desk *d, uint64_t now, struct timers_bell *bells,
@@ -189,8 +189,9 @@ static inline enum timers_desk_status timers_desk_turn(struct timers_desk *d, ui
 	return status;
 }
 
-/* How many ticks the owner may sleep after such a turn: for timers_bell_rest, if a tick is a millisecond. 0 if something
- * is due, -1 if nothing is pending. At most 10 after TIMERS_DESK_NO_MEMORY, for which no bell rings. */
+/* Returns how many ticks the owner may sleep after such a turn. If a tick is a millisecond, this is for
+ * timers_bell_rest. 0 if something is due, -1 if nothing is pending. At most 10 after TIMERS_DESK_NO_MEMORY, for which
+ * no bell rings. */
 static inline int timers_desk_patience(const struct timers_desk *d, uint64_t now, enum timers_desk_status status)
 {
 	const uint64_t wakeup = timers_desk_wakeup(d), longest = status == TIMERS_DESK_NO_MEMORY ? 10 : INT_MAX;

@@ -7,7 +7,7 @@
  *     #define _POSIX_C_SOURCE 200809L                                   // or -std=gnu11
  *     #include <timers_loop.h>
  *
- *     struct connection { int socket; struct timers_event idle; } *c;   // begins as 0 bytes
+ *     struct connection { int socket; struct timers_event idle; } *c;   // begins as zeros
  *     struct timers_loop loop = TIMERS_LOOP_INIT;
  *     if (timers_loop_new(&loop, NULL, NULL, 1000000) != TIMERS_OK)     // CLOCK_MONOTONIC, in milliseconds
  *         return 1;
@@ -23,36 +23,37 @@
  *     }
  *
  * DESCRIPTION
- *     Inline functions in C99 and C++11. They are tested against a model, and not proved. What they call is proved
- *     (timers.h), and its rules hold. So link with -ltimers. One thread uses a loop and its events; several threads have a
+ *     Inline functions in C99 and C++11. They are tested against a model, and not proved. They call timers.h, which is
+ *     proved, and its rules apply. So link with -ltimers. One thread uses a loop and its events; several threads have a
  *     loop each.
  *
  *     An event is part of a struct of the caller: timers_event_owner(event, type, field) is that struct. An event is
  *     armed from a timers_event_at or timers_event_after that returned TIMERS_OK until it runs, is paused or is
- *     cancelled. One that is armed or paused may not be moved, freed or set to 0: cancel it first. That also holds
+ *     cancelled. One that is armed or paused must not be moved, freed or set to 0: cancel it first. That also holds
  *     after timers_loop_free, and before an event goes to another loop. In C++ cancel it in your destructor.
  *
- *     An event that runs once is no longer armed in its callback, which may free it. A periodic one is: cancel it first.
- *     Callbacks may arm, push back and pause any event, their own too, and cancel and then free it. They may free the
- *     loop, but not the memory of its struct. They may poll the same descriptors and dispatch, as a loop within the
- *     loop: an event is taken before it runs, so none runs twice, unless it is armed again. What the inner dispatch
- *     leaves, the outer one runs.
+ *     An event that runs once is no longer armed in its callback, which may free it. A periodic one is: cancel it
+ *     first. Callbacks may arm, push back and pause any event, their own too, and cancel and then free it. They may
+ *     free the loop, but not the memory of its struct. They may poll the same descriptors and dispatch, as a loop
+ *     within the loop. An event is taken before it runs, so none runs twice, unless it is armed again. What the inner
+ *     dispatch leaves, the outer one runs.
  *
  * TIME
  *     No event runs early. One that is armed or pushed back for n ticks from now is due after n ticks or more, and less
- *     than n + 1. A loop that sleeps in poll asks to be woken less than a millisecond later. The clock may jump and stand
+ *     than n + 1. A loop that sleeps in poll rounds its sleep up to a whole millisecond. The clock may jump and stand
  *     still. One that goes back counts as one that stands still, until it has passed its old time.
  *
- *     The next tick of a periodic event is a period after the one at which it was due, so it has no drift. Of the ticks
- *     that a late loop has missed the first runs late, and the others are left out. If `catches_up` is set, the event
- *     runs once for each, in the order of all ticks. It is armed anew before it runs, so that it may cancel itself. One
- *     whose callback takes longer than its period runs once in each turn of the loop, and input is polled in between.
+ *     The next tick of a periodic event is a period after the one at which it was due, so it has no drift. If the loop
+ *     is late, the event runs once, for the first tick missed, and leaves out the others. If `catches_up` is set, it
+ *     runs once for each, in order with other events. It is armed anew before it runs, so that it may cancel itself.
+ *     One whose callback takes longer than its period runs once in each turn of the loop, and input is polled in
+ *     between.
  *
  *     An event with slack runs at a tick up to `slack` later than was asked for. It joins others at the multiple of
  *     the highest power of two within its slack. So with a slack of 63 or more all run at multiples of 64.
  *
  * ORDER
- *     Events run in the order of their ticks, in a late loop too, and events of one tick in the order in which they
+ *     Events run in the order of their ticks, in a late loop too. Events of one tick run in the order in which they
  *     were armed. An event for a tick that has passed comes after those that are due already. One that is armed for a
  *     later tick while it is armed or paused keeps its timer. When the old tick comes, it is armed anew, which sets its
  *     place in the order. If the call has to set the place, cancel the event first.
@@ -64,23 +65,24 @@
  *     event runs, all input that had come by its tick was handed out. For that read a datagram socket until it is
  *     empty, and send to it only afterwards. If you stop after n messages, call timers_loop_polled(loop, n, n), with
  *     `loop.watched` the most messages that its buffer holds. So where input pushes a time-out back, no connection is
- *     closed while its input waits, however long the stall. Answer first and push back then: a client that waits for an
- *     answer can't be silent before it is sent.
+ *     closed while its input waits, however long the stall. Answer first, and push back afterwards: a client's silence
+ *     begins when the answer is sent.
  *
  *     This costs one more poll when a timer wakes the loop. A second look at the clock would spare it, but miss input
  *     that comes in a stall between the two.
  *
  * COSTS
- *     Arming is timers_start_at, and cancelling timers_stop. Arming an event for a later tick while it is armed or paused
- *     is a store: a time-out that is pushed back a thousand times is filed anew once, when its first tick comes. So the
- *     loop may wake up for nothing. timers_event_after and timers_event_push_back look at the clock. A program that can't
- *     pay for that gives timers_event_at `loop.later` plus the ticks, which count from the last look. After a stall
- *     between that look and the call they are too few.
+ *     Arming is timers_start_at, and cancelling timers_stop. Arming an event for a later tick while it is armed or
+ *     paused is a store. A time-out that is pushed back a thousand times is filed anew once, when its first tick comes.
+ *     So the loop may wake up for nothing. timers_event_after and timers_event_push_back look at the clock. A program
+ *     that can't pay for that gives timers_event_at `loop.later` plus the ticks, which count from the last look. Then a
+ *     stall between that look and the call makes the event early by as much.
  *
- *     Only arming allocates, and only of an event that is neither armed nor paused, unless timers_reserve(&loop.timers,
- *     most) made room. An event has 56 bytes where pointers have 64 bits, beside its timer's.
+ *     Of the calls on events only arming allocates, if the event is neither armed nor paused, unless
+ *     timers_reserve(&loop.timers, most) made room. An event has 56 bytes where pointers have 64 bits, besides those of
+ *     its timer.
  *
- *     A dispatch takes at most as many timers as it is told, but has no bound on timers that move to a lower wheel: see
+ *     A dispatch takes at most as many timers as it is told. But nothing limits how many move to a lower wheel: see
  *     COSTS in timers.h.
  */
 /* SPDX-License-Identifier: MIT OR Apache-2.0 */
@@ -129,8 +131,8 @@ struct timers_loop {
 };
 #define TIMERS_LOOP_INIT { TIMERS_INIT, 0, 0, 0, 0, 0, 0, false, 0, 0, 0, 0, 0, NULL, NULL }
 
-/* Begins with all its bytes 0. The caller sets the first five, `background` only while it is not armed: the others
- * count from the next time that it is armed. `want` may be read while it is armed. */
+/* Begins with all its bytes 0. The caller sets the first five, `background` only while it is not armed. `slack` is read
+ * when it is armed, and `run`, `period` and `catches_up` when it runs. `want` may be read while it is armed. */
 struct timers_event {
 	void (*run)(struct timers_loop *loop, struct timers_event *event, uint64_t tick);   /* or NULL */
 	uint64_t period;              /* in ticks; 0 for an event that runs once */
@@ -151,7 +153,7 @@ struct timers_event {
 #define timers_event_owner(event, type, field) ((type *)(void *)((char *)(event) - offsetof(type, field)))
 #endif
 
-/* What follows with its name at the beginning of a line is private. */
+/* A function is private if its name begins a line below. */
 
 /* Reads the clock. Most reads are in the same tick as the one before, and need no division. */
 static inline void
@@ -247,7 +249,7 @@ timers_event_next(struct timers_loop *loop, const struct timers_event *event)
 	return tick;
 }
 
-/* A tick from now. */
+/* The tick that is so many ticks from now, rounded up. */
 static inline uint64_t
 timers_loop_later(const struct timers_loop *loop, uint64_t ticks)
 {
@@ -267,7 +269,7 @@ static inline uint64_t timers_loop_monotonic(void *unused)
 #endif
 
 /* Makes a loop with ticks of `length` nanoseconds, 1 or more. `clock(data)` returns nanoseconds from some start. NULL
- * stands for CLOCK_MONOTONIC, where there is one. `loop` begins as TIMERS_LOOP_INIT or as 0 bytes. Before this has
+ * stands for CLOCK_MONOTONIC, where there is one. `loop` begins as TIMERS_LOOP_INIT or as zeros. Before this has
  * returned TIMERS_OK only timers_loop_free may be called.
  * TIMERS_ZERO_INTERVAL (the length is 0), TIMERS_OPEN, TIMERS_TOO_LATE, TIMERS_NO_MEMORY. */
 TIMERS_CHECKED
@@ -332,7 +334,7 @@ static inline bool timers_event_push_back(struct timers_loop *loop, struct timer
 	return timers_event_armed(event) && timers_event_after(loop, event, ticks) == TIMERS_OK;
 }
 
-/* Disarms the event, and keeps its timer for the next time that it is armed: both are stores. So this is for a time-out
+/* Disarms the event, and keeps its timer for the next time that it is armed: each is a store. So this is for a time-out
  * that stops and starts with each packet. How many ticks were left isn't kept. */
 static inline void timers_event_pause(struct timers_loop *loop, struct timers_event *event)
 {
@@ -359,7 +361,7 @@ static inline uint64_t timers_loop_tick(struct timers_loop *loop)
 }
 
 /* Looks at the clock, and returns the time in nanoseconds until which the loop may sleep: for a timerfd or kqueue.
- * TIMERS_NEVER if nothing is armed or paused, or not before 2^64 nanoseconds. */
+ * Returns TIMERS_NEVER if nothing is armed or paused, or if that is after 2^64 nanoseconds. */
 static inline uint64_t timers_loop_deadline(struct timers_loop *loop)
 {
 	const uint64_t tick = timers_wakeup(&loop->timers);
@@ -398,9 +400,9 @@ static inline void timers_loop_polled(struct timers_loop *loop, int ready, int r
 	}
 }
 
-/* Takes the next event that is due, and writes `*tick`, the tick for which it was armed. Does not call its `run`. Takes no
- * more than `*most` timers, also of events that were pushed back or paused, and counts them down. Returns
- * NULL if none is left. */
+/* Takes the next event that is due, and writes `*tick`, the tick for which it was armed. Does not call its `run`. Takes
+ * at most `*most` timers, and subtracts them from it; those of events that were pushed back or paused count, too.
+ * Returns NULL if none is left, or `*most` is 0. */
 static inline struct timers_event *timers_loop_take(struct timers_loop *loop, size_t *most, uint64_t *tick)
 {
 	struct timers_expired expired;

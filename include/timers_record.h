@@ -20,13 +20,13 @@
  *     other files do, and what a call refused, is not recorded. cc -include timers_record.h records a program whose
  *     files do not name this header.
  *
- *     A record is taken of one struct, by the threads that may call on it. Its timers belong to client 0. It leaves out
- *     a timer that was started before, and serials count from its beginning. The clock's ticks are written before the
- *     next line, so it doesn't matter by which calls they pass.
+ *     One struct is recorded at a time, whichever thread calls on it. In the script its timers belong to client 0, and
+ *     serials count from the beginning of the record. Timers that were started before are left out. The clock's ticks
+ *     are written before the next line, so it doesn't matter by which calls they pass.
  *
- *     The script expires the same timers at the same ticks in the same order, with exceptions. A timer for a tick that
- *     has passed is due at once in a program, and one tick later in the script. One that expired and was stopped before
- *     it was taken expires in the script. Of an action the script has the lowest 60 bits.
+ *     The script expires the same timers at the same ticks in the same order, with two exceptions. A timer for a tick
+ *     that has passed is due at once in a program, and one tick later in the script. One that expired and was stopped
+ *     before it was taken expires in the script. The script has the lowest 60 bits of an action.
  *
  *     Give timers show the program's first tick (--first-tick), the most timers that are pending (--capacity), and
  *     --scheme clock for TIMERS_CLOCK. It plays scripts of any length. tools/wheels_page, in the repository, makes a page

@@ -38,7 +38,7 @@ wheels_of() { "$python" -c "import sys; sys.path[:0] = ['$1']; import backend; p
     done
 }
 
-@test "no call lets go of Python's lock" {
+@test "no call releases the GIL" {
     needs_python_package
     needs nm
     nm -D --undefined-only "$work/python/timers/_timers.abi3.so" > "$work/names"

@@ -3,12 +3,12 @@
 
 // What the page is about, in two sentences above the clock.
 const OPENING = {
-  plain: "All pending timers wait in one list, as they were started. It is shown by deadline.",
-  hashed: "A timer waits in slot (deadline mod slots). The hand passes it once for each of its rounds. The next time it is due.",
-  hier: "Write now and the deadline in base 64. A timer waits in the wheel of the highest digit in which they differ, and moves" +
-      " down when the clock reaches that digit.",
-  clock: "A timer waits at the day, hour, minute or second that is the first to differ from now. It moves down when the clock" +
-      " reaches that.",
+  plain: "All pending timers wait in one list, in order of starting. The page shows it by deadline.",
+  hashed: "A timer waits in slot (deadline mod slots). The hand passes it once for each of its rounds. Next time it is due.",
+  hier: "Write now and the deadline in base 64. A timer waits in the wheel of the highest digit in which they differ, and" +
+      " moves down when the clock reaches that digit.",
+  clock: "A timer waits in the wheel of the largest unit in which its deadline and now differ. Once that is equal, it moves" +
+      " down.",
 };
 
 // How to read the wheels.
@@ -18,29 +18,29 @@ const GUIDE = {
     "Timers are written serial:deadline.",
   ],
   hashed: [
-    "With each tick the hand goes on by one slot, and the clock looks at that slot alone.",
+    "At each tick the hand goes on by one slot, and only the timers of that slot are looked at.",
     "A timer is in slot (deadline mod slots), so the hand is there at its deadline.",
-    "If the deadline is further away than one turn, the timer has rounds. They are written serial:rounds.",
+    "A timer whose deadline is more than one turn away has rounds. Timers are written serial:rounds.",
   ],
   hier: [
-    "Each wheel has a hand: wheel 0's goes on with each tick, wheel 1's with every 64, and so on.",
+    "Each wheel has a hand: wheel 0's goes on at each tick, wheel 1's every 64 ticks, and so on.",
     "So the hands show the digits of the present tick in base 64. At tick 128 wheel 1 is at 2, and wheel 0 at 0.",
-    "A timer is in the highest wheel in which the digits of now and of its deadline differ, in the slot of its digit. So one" +
-        " for tick 65 is in wheel 1 while now is 63, two ticks before: the carry changes digit 1.",
+    "A timer is in the highest wheel in which now and its deadline have different digits, in the slot of the deadline's" +
+        " digit. So at tick 63 one for tick 65 is in wheel 1, though it is two ticks away: the carry changes digit 1.",
     "A tick empties one slot, in the wheel of its lowest digit that isn't 0. Its timers move to lower wheels, or are due.",
     "So slot 0 of a wheel is never used. At tick 128, slot 2 of wheel 1 is emptied, and no slot of wheel 0.",
   ],
   clock: [
     "A tick is a second here. The wheels are those of a clock: 60 seconds, 60 minutes, 24 hours, 100 days.",
-    "A timer is in the highest wheel in which its deadline differs from now: one for the next hour is in its hour.",
+    "A timer is in the highest wheel in which its deadline differs from now: one for the next hour is at that hour.",
     "When the hand reaches that hour, the timer moves to its minute, and then to its second. At that second it is due.",
     "A tick empties one slot. At 11:00:00 that is hour 11, and not minute 0 or second 0, which are never used.",
   ],
 };
 // For a script whose timers are all in wheel 0.
 const GUIDE_OF_ONE = [
-  "The hand goes on by one slot with each tick, and that slot is emptied: its timers are due.",
-  "A timer is in slot (deadline mod 64). Timers with farther deadlines would be in wheels of coarser slots.",
+  "At each tick the hand goes on by one slot, and that slot is emptied: its timers are due.",
+  "A timer is in slot (deadline mod 64). Timers with later deadlines would be in wheels of coarser slots.",
 ];
 
 // The colours and signs of the wheels.
@@ -55,9 +55,9 @@ const LEGEND = [
 // The words of the fields of lines (FIELDS of lessons.js), in half a sentence each.
 const GLOSSARY = [
   ["client", "who asks, numbered from 0"],
-  ["number", "the client's count of requests"],
+  ["number", "the client's number for this request"],
   ["interval", "the ticks from now to the deadline"],
-  ["action", "a number given back at the end"],
+  ["action", "a number handed back with the timer"],
   ["serial", "the number of a timer, from 1 on"],
   ["count", "how many ticks pass, or timers are returned"],
   ["expired", "it came out at its deadline"],
@@ -243,8 +243,8 @@ class Words {
   // How many rounds the timers have left that the clock passed.
   passed(events) {
     const passed = events.filter((event) => event.kind === "round");
-    if (passed.length > 5) return [`The clock passes ${passed.length} timers: each has fewer rounds left.`];
-    return passed.map(({serial, rounds}) => `The clock passes timer ${serial}: it has ${rounds} round${
+    if (passed.length > 5) return [`The hand passes ${passed.length} timers: each has fewer rounds left.`];
+    return passed.map(({serial, rounds}) => `The hand passes timer ${serial}: it has ${rounds} round${
         rounds === "1" ? "" : "s"} left.`);
   }
 
@@ -268,7 +268,7 @@ class Words {
   of(at) {
     if (at === 0) return ["Before the first line. No timer is pending. Press Play, or start a timer."];
     const step = this.play.steps[at - 1];
-    if (step.isBad) return [`Line ${step.line + 1} is bad: ${this.play.reason}. Nothing from it on is played.`];
+    if (step.isBad) return [`Line ${step.line + 1} is bad: ${this.play.reason}. Neither it nor a later line is played.`];
     const said = [];
     if (this.play.lines[step.line].startsWith("tick ")) said.push(...this.ticked(step, at));
     for (const event of this.play.events(at)) {
@@ -298,7 +298,7 @@ class Words {
     if (event.kind === "started")
       return `${timer.old ? `Started in place of timer ${timer.old}` : "Started"}${stands(event.to)}`;
     if (event.kind === "moved") return `Moved from ${this.place(event.from)} to ${this.place(event.to)}`;
-    if (event.kind === "round") return `Passed by the clock, rounds left: ${event.rounds}`;
+    if (event.kind === "round") return `Passed by the hand, rounds left: ${event.rounds}`;
     if (event.kind === "expired") return `Expired, with the action ${timer.action}`;
     if (event.kind === "restarted") return `Restarted: it is timer ${event.by} from here on`;
     return event.kind === "stopped" ? "Stopped" : "Returned by the close";
@@ -314,8 +314,8 @@ class Words {
   }
 
   guide() {
-    const follow = "Choose a timer's serial to follow that timer: it is orange then," +
-        " with a frame, and its history is below 'Follow timer'.";
+    const follow = "Choose a timer's serial to follow that timer: it turns orange and" +
+        " gets a frame, and its history is below 'Follow timer'.";
     const isOne = this.scheme === "hier" && !this.hasDigits;
     return [...(isOne ? GUIDE_OF_ONE : GUIDE[this.scheme]), follow];
   }

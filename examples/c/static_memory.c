@@ -44,7 +44,7 @@ static void tick_interrupt(void)
 
 int main(void)
 {
-	static struct timers timers;                          /* of 0 bytes, as TIMERS_INIT */
+	static struct timers timers;                          /* zeros, as TIMERS_INIT */
 	struct timers_handle handle;
 	struct timers_expired timer;
 	uint64_t number, now = 0;

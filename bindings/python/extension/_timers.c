@@ -1,6 +1,6 @@
 /* The extension module timers._timers, over CPython's stable ABI: the library itself, which is compiled in, and its types.
  *
- * Each call holds Python's lock from its beginning to its end, so that calls come one at a time. None waits. Memory comes
+ * Each call holds the GIL from its beginning to its end, so that calls come one at a time. None waits. Memory comes
  * from Python's allocator.
  */
 /* SPDX-License-Identifier: MIT OR Apache-2.0 */
@@ -9,7 +9,7 @@
 #include <Python.h>
 #include <structmember.h>
 #ifdef Py_GIL_DISABLED
-#error "calls come one at a time by Python's lock, which a free-threaded Python does not have"
+#error "calls come one at a time by the GIL, which a free-threaded Python does not have"
 #endif
 #define TIMERS_STATIC
 #include "timers.c"

@@ -414,7 +414,7 @@ pub extern "C" fn timers_len(t: &mut ConstTimers) -> usize
 
 /// The tick until which C may sleep: the present one if an expired timer waits, `NEVER` if
 /// nothing is pending or `t` is not open, and otherwise the first at which a timer expires or moves to a lower
-/// wheel.
+/// wheel. With `TIMERS_SMOOTH` it is the one at which `TIMERS_WIDE` would move it.
 #[unsafe(no_mangle)]
 pub extern "C" fn timers_wakeup(t: &mut ConstTimers) -> u64
     ensures tick { IsOpen t.old.held → IsNextCall result t.old.held.slot.state.wheel }

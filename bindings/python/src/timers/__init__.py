@@ -13,7 +13,7 @@ A tick is what you choose: a millisecond, a frame. Ticks are whole numbers from 
 to LAST, and one with the table CLOCK those up to CLOCK_LAST. What is no such number is refused by OverflowError or TypeError.
 A call that the wheels refuse raises TimersError, with its reason as `status`. After each of these nothing has changed.
 
-Each call holds Python's lock: threads may share the timers. timers.desk has a desk, an owner's timers for clients in threads,
+Each call holds the GIL: threads may share the timers. timers.desk has a desk, an owner's timers for clients in threads,
 and timers.asyncio an event loop over these timers.
 """
 # SPDX-License-Identifier: MIT OR Apache-2.0

@@ -12,7 +12,7 @@ The owner's thread calls the desk, and each client's thread its line. Both are f
 once nothing refers to them. Numbers, actions among them, are whole and from 0 to 2^64 - 1, that of a table to 2^32 - 1, and on
 a 32-bit system so are a client's and the room of `open`: any other is refused by OverflowError or TypeError. So is a sum of
 `timers` and `requests` above 2^64 - 2. A call that the library refuses raises DeskError, but those of serve and serve_all,
-which return their status. No call waits, and each holds Python's lock.
+which return their status. No call waits, and each holds the GIL.
 """
 # SPDX-License-Identifier: MIT OR Apache-2.0
 from timers._timers import (
