@@ -17,9 +17,9 @@ NOWHERE = '$.'
 LICENCE_TAG = 'SPDX-License' + '-Identifier'   # in two parts: what reads licences doesn't take it for this file's
 LICENCE = '(MIT OR Apache-2.0) AND MIT AND BSD-3-Clause AND LicenseRef-Rattle-libraries'
 # The calls of a smooth wheel, out of line. With TIMERS_NO_SMOOTH none is made (tools/portable/headers.h).
-SMOOTH = [f'timer_wheels::tiered::{call}_smooth' for call in ('start', 'stop', 'restart', 'quiet', 'next')] \
+SMOOTH = [f'timer_wheels::tiered::{call}_smooth' for call in ('start', 'stop', 'restart', 'tick', 'quiet', 'next')] \
     + ['timer_wheels::tiered_ahead::move_smooth'] \
-    + [f'timer_wheels::smooth::SmoothWheelWheel::{call}' for call in ('reserve', 'per_tick', 'advance', 'clear')]
+    + [f'timer_wheels::smooth::SmoothWheelWheel::{call}' for call in ('reserve', 'advance', 'clear')]
 KINDS = {
     'timers': Kind('tm_', '', ('timer_c', 'timer_desk_c'), 'timers_(desk|line)_', SMOOTH,
                    'The library: the functions of timers.h and timers_desk.h.', LICENCE,
@@ -49,7 +49,7 @@ class File:
 
     def text(self):
         first, second = self.order.parted(self.kind.second)
-        self.inlined = self.order.inlined(first) if second else ()
+        self.inlined = self.order.inlined(first) if self.kind.second != NOWHERE else ()
         made = {STRUCTS: self.structs(), FUNCTIONS: self.constants() + '\n' + self.functions(first), SECOND: self.functions(second)}
         parts = [made[part] if part in made else part if part.startswith('#') else by_hand(part) for part in self.kind.parts]
         head = f'/* {self.kind.title} Made by tools/generate: do not edit. NOTICE has whose code is in it.\n * {LICENCE_TAG}: {self.kind.licence} */'

@@ -54,6 +54,7 @@ ghost use Rattle.timer_base.specs.WakeUps.{IsQuietUntil, next_deadline};
 ghost use Rattle.timer_base.specs.WheelState.{empty_wheel, NamesOne, held_at, held_count, old_timer, first_due, after_reserve, after_held_start, after_removal, after_replacement, after_tick, after_expiry, after_clear, Advances};
 ghost use Rattle.timer_wheels.specs.Buckets.{state_of, state_of-well_formed};
 ghost use Rattle.timer_wheels.specs.Leap.{IsNextVisit};
+ghost use Rattle.timer_wheels.specs.Digits.{emptied, slots};
 ghost use Rattle.timer_wheels.specs.Tables.{radices, radices_by_slots, last_of_table, slots_of_table};
 ghost use Rattle.timer_wheels.specs.declared.table.Table.TheVariants.{Wide};
 ghost use Rattle.timer_wheels.specs.HeldPlaces.{IsFirstHeld};
@@ -63,7 +64,7 @@ ghost use Rattle.timer_wheels.specs.WakeUps.{next_visit};
 use crate::buckets::Buckets;
 use crate::iteration::held_from;
 use crate::leap::visits_between;
-use crate::table::{Table, last_tick_of};
+use crate::table::{Table, emptied_at, last_tick_of, lowest_slots};
 use crate::wheels::Wheels;
 use std::alloc::Global;
 use timer_base::{Handle, LAST, MakeFault, OutOfMemory, Timer, Wheel};
@@ -112,7 +113,7 @@ pub struct HierWheel {
 }
 
 impl HierWheel {
-    ghost use Rattle.timer_wheels.specs.HierWheel.{hier_state, table_of, counts_of, IsHierFault};
+    ghost use Rattle.timer_wheels.specs.HierWheel.{hier_state, table_of, counts_of, counts_of_tick, IsHierFault};
 
     /// An empty hierarchy of ten wheels of 64 slots, a clock of 2^60 ticks, at its first tick.
     ///
@@ -183,14 +184,56 @@ impl HierWheel {
         self.wheels.table
     }
 
-    /// Whether the table is `Table::Wide`, and a node is ready for the next timer. Nothing depends on it but how a start is
-    /// compiled.
+    /// Whether a node is ready for the next timer. Nothing depends on it but how a start is compiled.
     #[inline]
-    pub(crate) fn is_wide_and_ready(&self) -> bool {
-        match self.wheels.table {
-            Table::Wide => self.wheels.buckets.links.is_ready(),
-            _ => false,
+    pub(crate) fn is_ready(&self) -> bool {
+        self.wheels.buckets.links.is_ready()
+    }
+
+    /// Advances by one tick, by the wheel's table: once per table where that is a constant. Most ticks empty a bucket of the
+    /// lowest wheel, and are inlined.
+    #[inline(always)]
+    pub(crate) fn tick_by(&mut self, table: Table)
+        requires table { table ≡ table_of self.old }
+        requires nothing_due { (hier_state self.old).due ≡ [] }
+        requires before_last { (hier_state self.old).now < (hier_state self.old).last_tick }
+        ensures ticked { hier_state self.new ≡ after_tick (hier_state self.old) }
+        ensures counts { counts_of self.new ≡ counts_of_tick (hier_state self.old) (counts_of self.old) }
+    {
+        let list = emptied_at(table, self.wheels.buckets.tick + 1);
+        if list < lowest_slots(table) {
+            self.visit(list);
+        } else {
+            self.visit_apart(list);
         }
+    }
+
+    /// Advances by one tick, which empties this bucket.
+    #[inline(always)]
+    fn visit(&mut self, list: usize)
+        requires nothing_due { (hier_state self.old).due ≡ [] }
+        requires before_last { (hier_state self.old).now < (hier_state self.old).last_tick }
+        requires emptied { list ≡ emptied (radices (table_of self.old)) ((hier_state self.old).now + 1) }
+        requires in_range { list < slots (radices (table_of self.old)) }
+        ensures ticked { hier_state self.new ≡ after_tick (hier_state self.old) }
+        ensures counts { counts_of self.new ≡ counts_of_tick (hier_state self.old) (counts_of self.old) }
+    {
+        let moves = self.wheels.visit_next(list);
+        let counts = &mut self.counts;
+        counts.add_moves(moves);
+    }
+
+    /// The same, out of line.
+    #[inline(never)]
+    fn visit_apart(&mut self, list: usize)
+        requires nothing_due { (hier_state self.old).due ≡ [] }
+        requires before_last { (hier_state self.old).now < (hier_state self.old).last_tick }
+        requires emptied { list ≡ emptied (radices (table_of self.old)) ((hier_state self.old).now + 1) }
+        requires in_range { list < slots (radices (table_of self.old)) }
+        ensures ticked { hier_state self.new ≡ after_tick (hier_state self.old) }
+        ensures counts { counts_of self.new ≡ counts_of_tick (hier_state self.old) (counts_of self.old) }
+    {
+        self.visit(list);
     }
 
     /// The clock and the buckets.
@@ -331,9 +374,7 @@ impl Wheel for HierWheel {
     }
 
     fn per_tick(&mut self) {
-        let moves = self.wheels.next_tick();
-        let counts = &mut self.counts;
-        counts.add_moves(moves);
+        self.tick_by(self.wheels.table);
     }
 
     fn advance(&mut self, most: u64) -> u64 {

@@ -19,7 +19,9 @@ ghost use Rattle.timer_wheels.specs.Leap.{AreNotVisitedBefore, IsNextVisit, Leap
 ghost use Rattle.timer_wheels.specs.WakeUps.{next_visit};
 
 use crate::occupied::Occupied;
-use crate::table::{Table, is_rollover, lowest_slots, revolutions, visit_of, with_constant_table};
+use crate::table::{
+    Table, is_rollover, lowest_slots, revolutions, visit_of, with_constant_table, with_wide_table,
+};
 use crate::wheels::Wheels;
 
 impl Wheels {
@@ -82,10 +84,7 @@ impl Wheels {
         ensures exact { result ≡ next_visit (radices self.now.table) self.now.buckets.tick
             (state_of self.now.buckets).pending }
     {
-        match self.occupied.first() {
-            Some(list) => Some(visit_of(self.table, list, self.buckets.tick)),
-            None => None,
-        }
+        with_wide_table!(first_visit_by(self.table, self))
     }
 
     /// Whether no bucket with a timer is visited up to this tick, as far as a look at the lowest wheel shows: the tick is
@@ -119,6 +118,21 @@ impl Wheels {
     {
         let buckets = &mut self.buckets;
         buckets.tick = tick;
+    }
+}
+
+/// `first_visit` by the wheels' table.
+#[inline(always)]
+fn first_visit_by(table: Table, wheels: &Wheels) -> Option<u64>
+    requires { table ≡ wheels.now.table }
+    ensures quiet { IsQuietUntil result wheels.now.buckets.tick (state_of wheels.now.buckets).pending }
+    ensures next { IfSome result (λ tick. IsNextVisit (radices wheels.now.table) tick (state_of wheels.now.buckets)) }
+    ensures exact { result ≡ next_visit (radices wheels.now.table) wheels.now.buckets.tick
+        (state_of wheels.now.buckets).pending }
+{
+    match wheels.occupied.first() {
+        Some(list) => Some(visit_of(table, list, wheels.buckets.tick)),
+        None => None,
     }
 }
 

@@ -336,7 +336,7 @@ impl Wheel for SmoothWheel {
 
     /// Each timer that moves goes just one wheel down, and is counted. At most as many move as the paces are in sum: in
     /// `Table::Wide` at most 2n/63 + 18, if never more than n were held since the wheel was made.
-    #[inline(never)]
+    #[inline(always)]
     fn per_tick(&mut self)
         requires nothing_due { (smooth_state self.old).due ≡ [] }
         requires before_last { (smooth_state self.old).now < (smooth_state self.old).last_tick }

@@ -1,9 +1,9 @@
 //! A hierarchy that is chosen as the program runs, as C chooses one: `HierWheel` or `SmoothWheel`.
 //!
 //! Each call is that of the wheel. What both have, the buckets, is read without a look at which of them it is.
-ghost use Rattle.std.specs.Prelude.{◌≡◌, ◌+◌, ◌*◌, ◌<◌, ◌≤◌, true, false, None, Some, IfOk, IfErr, IfSome, IfNone, MatchOption, MatchResult};
+ghost use Rattle.std.specs.Prelude.{◌≡◌, ◌+◌, ◌*◌, ◌<◌, ◌≤◌, [], true, false, None, Some, IfOk, IfErr, IfSome, IfNone, MatchOption, MatchResult};
 ghost use Rattle.timer_base.specs.Counts.{no_counts};
-ghost use Rattle.timer_base.specs.WheelState.{empty_wheel, held_at, held_count, after_held_start, after_removal};
+ghost use Rattle.timer_base.specs.WheelState.{empty_wheel, held_at, held_count, after_held_start, after_removal, after_tick};
 ghost use Rattle.timer_base.specs.declared.limits.TheConstants.{LAST};
 ghost use Rattle.timer_wheels.specs.SmoothWheel.{smooth_state, starts_of, radices_by_turns};
 ghost use Rattle.timer_wheels.specs.TieredWheel.{option_of};
@@ -173,18 +173,30 @@ impl Wheel for TieredWheel {
 
     #[inline(always)]
     fn start(&mut self, timer: Timer) -> Result<Handle, OutOfMemory> {
-        match self {
+        let place = match self {
             TieredWheel::Hier(wheel) => {
-                if wheel.is_wide_and_ready() {
-                    wheel.start(timer)
-                } else {
-                    handle_at(start_hier(wheel, copy_of(timer)), timer.serial)
+                if wheel.is_ready() {
+                    return wheel.start(timer);
                 }
+                start_hier(
+                    wheel,
+                    timer.serial,
+                    timer.client,
+                    timer.number,
+                    timer.deadline,
+                    timer.action,
+                )
             }
-            TieredWheel::Smooth(wheel) => {
-                handle_at(start_smooth(wheel, copy_of(timer)), timer.serial)
-            }
-        }
+            TieredWheel::Smooth(wheel) => start_smooth(
+                wheel,
+                timer.serial,
+                timer.client,
+                timer.number,
+                timer.deadline,
+                timer.action,
+            ),
+        };
+        handle_at(place, timer.serial)
     }
 
     fn reserve(&mut self, most: usize) -> Result<(), OutOfMemory> {
@@ -225,10 +237,15 @@ impl Wheel for TieredWheel {
         }
     }
 
+    #[inline(always)]
     fn per_tick(&mut self) {
         match self {
-            TieredWheel::Hier(wheel) => wheel.per_tick(),
-            TieredWheel::Smooth(wheel) => wheel.per_tick(),
+            TieredWheel::Hier(wheel) => match wheel.table() {
+                Table::Wide => wheel.tick_by(Table::Wide),
+                Table::Clock => wheel.tick_by(Table::Clock),
+                Table::Small => wheel.tick_by(Table::Small),
+            },
+            TieredWheel::Smooth(wheel) => tick_smooth(wheel),
         }
     }
 
@@ -315,23 +332,37 @@ fn handle_at(place: Option<usize>, serial: u64) -> Result<Handle, OutOfMemory>
     }
 }
 
-// The calls that are out of line: those of a smooth wheel, and a start of a hierarchy that makes room, or whose table is
-// another one than `Table::Wide`. What they return fits into registers: else the others would have their results in memory, too.
+// The calls that are out of line: those of a smooth wheel, and a start that makes room. What they return fits into registers:
+// else the others would have their results in memory, too.
 
 /// Starts a timer, and returns its place.
 #[inline(never)]
-fn start_hier(wheel: &mut HierWheel, timer: Timer) -> Option<usize>
-    requires not_past { (hier_state wheel.old).now ≤ timer.deadline }
-    requires deadline { timer.deadline ≤ (hier_state wheel.old).last_tick }
-    requires fresh { (hier_state wheel.old).last_serial < timer.serial }
-    requires serial { timer.serial ≤ LAST }
+fn start_hier(
+    wheel: &mut HierWheel,
+    serial: u64,
+    client: u64,
+    number: u64,
+    deadline: u64,
+    action: u64,
+) -> Option<usize>
+    requires not_past { (hier_state wheel.old).now ≤ deadline }
+    requires deadline { deadline ≤ (hier_state wheel.old).last_tick }
+    requires fresh { (hier_state wheel.old).last_serial < serial }
+    requires serial { serial ≤ LAST }
     ensures started { IfSome result (λ place. hier_state wheel.new
-        ≡ after_held_start place timer (hier_state wheel.old)) }
+        ≡ after_held_start place (record { serial = serial; client = client; number = number; deadline = deadline; action = action }) (hier_state wheel.old)) }
     ensures full { IfNone result ((hier_state wheel.old).room ≤ held_count (hier_state wheel.old)) }
     ensures err { IfNone result (hier_state wheel.new ≡ hier_state wheel.old) }
     ensures counts { MatchOption result (counts_of wheel.new ≡ counts_of wheel.old)
         (λ _. counts_of wheel.new ≡ with_start (counts_of wheel.old)) }
 {
+    let timer = Timer {
+        serial,
+        client,
+        number,
+        deadline,
+        action,
+    };
     match wheel.start(timer) {
         Ok(handle) => Some(handle.place),
         Err(_) => None,
@@ -340,18 +371,32 @@ fn start_hier(wheel: &mut HierWheel, timer: Timer) -> Option<usize>
 
 /// Starts a timer, and returns its place.
 #[inline(never)]
-fn start_smooth(wheel: &mut SmoothWheel, timer: Timer) -> Option<usize>
-    requires not_past { (smooth_state wheel.old).now ≤ timer.deadline }
-    requires deadline { timer.deadline ≤ (smooth_state wheel.old).last_tick }
-    requires fresh { (smooth_state wheel.old).last_serial < timer.serial }
-    requires serial { timer.serial ≤ LAST }
+fn start_smooth(
+    wheel: &mut SmoothWheel,
+    serial: u64,
+    client: u64,
+    number: u64,
+    deadline: u64,
+    action: u64,
+) -> Option<usize>
+    requires not_past { (smooth_state wheel.old).now ≤ deadline }
+    requires deadline { deadline ≤ (smooth_state wheel.old).last_tick }
+    requires fresh { (smooth_state wheel.old).last_serial < serial }
+    requires serial { serial ≤ LAST }
     ensures started { IfSome result (λ place. smooth_state wheel.new
-        ≡ after_held_start place timer (smooth_state wheel.old)) }
+        ≡ after_held_start place (record { serial = serial; client = client; number = number; deadline = deadline; action = action }) (smooth_state wheel.old)) }
     ensures full { IfNone result ((smooth_state wheel.old).room ≤ held_count (smooth_state wheel.old)) }
     ensures err { IfNone result (smooth_state wheel.new ≡ smooth_state wheel.old) }
     ensures starts { MatchOption result (starts_of wheel.new ≡ starts_of wheel.old)
         (λ _. starts_of wheel.new ≡ starts_of wheel.old + 1) }
 {
+    let timer = Timer {
+        serial,
+        client,
+        number,
+        deadline,
+        action,
+    };
     match wheel.start(timer) {
         Ok(handle) => Some(handle.place),
         Err(_) => None,
@@ -385,6 +430,33 @@ fn restart_smooth(wheel: &mut SmoothWheel, handle: Handle, timer: Timer) -> Opti
         Some((made, _old)) => Some(made.place),
         None => None,
     }
+}
+
+/// Advances by one tick.
+#[inline(never)]
+fn tick_smooth(wheel: &mut SmoothWheel)
+    requires nothing_due { (smooth_state wheel.old).due ≡ [] }
+    requires before_last { (smooth_state wheel.old).now < (smooth_state wheel.old).last_tick }
+    ensures ticked { smooth_state wheel.new ≡ after_tick (smooth_state wheel.old) }
+    ensures starts { starts_of wheel.new ≡ starts_of wheel.old }
+{
+    if wheel.next_moves() == 0 {
+        wheel.per_tick();
+    } else {
+        tick_moving(wheel);
+    }
+}
+
+/// Advances by one tick, at which timers move.
+// Out of line: else a tick at which none moves saves registers for it.
+#[inline(never)]
+fn tick_moving(wheel: &mut SmoothWheel)
+    requires nothing_due { (smooth_state wheel.old).due ≡ [] }
+    requires before_last { (smooth_state wheel.old).now < (smooth_state wheel.old).last_tick }
+    ensures ticked { smooth_state wheel.new ≡ after_tick (smooth_state wheel.old) }
+    ensures starts { starts_of wheel.new ≡ starts_of wheel.old }
+{
+    wheel.per_tick();
 }
 
 /// The first pending deadline, or `NEVER`.

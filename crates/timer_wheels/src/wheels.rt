@@ -6,12 +6,13 @@
 //! So the clock finds the next bucket with a timer among the bits, and looks at no other (`leap`). One tick is in
 //! `migration`. The first deadline of that bucket is the first of all: once `find_next` asked for it, it is known as
 //! long as the bucket's timers are in order, and else until the last one that is known to have it leaves (`firsts`).
-ghost use Rattle.std.specs.Prelude.{◌≡◌, ◌<◌, ◌≤◌, ◌+◌, [], IfOk, OnErr, IfSome, length};
+ghost use Rattle.std.specs.Prelude.{◌≡◌, ◌<◌, ◌≤◌, ◌+◌, [], IfOk, OnErr, IfSome, IfNone, length};
 ghost use Rattle.timer_base.specs.declared.limits.TheConstants.{LAST};
 ghost use Rattle.timer_base.specs.WakeUps.{next_deadline};
 ghost use Rattle.timer_base.specs.WheelState.{empty_wheel, held_at, held_count, old_timer, after_held_start, after_removal, after_replacement, after_tick, after_clear};
 ghost use Rattle.timer_wheels.specs.Buckets.{state_of, IsListOf};
 ghost use Rattle.timer_links.specs.Lists.{list_at};
+ghost use Rattle.timer_wheels.specs.Leap.{list_visit};
 ghost use Rattle.timer_wheels.specs.Migration.{first_deadline};
 ghost use Rattle.timer_wheels.specs.Digits.{bucket, emptied, slots, last_of, lowest_radix};
 ghost use Rattle.timer_wheels.specs.Tables.{radices};
@@ -23,7 +24,7 @@ use crate::firsts::Firsts;
 use crate::migration::empty_bucket;
 use crate::occupied::Occupied;
 use crate::table::{
-    Table, bucket_of, buckets_of, emptied_at, last_tick_of, lowest_slots, visit_of,
+    Table, bucket_of, buckets_of, last_tick_of, lowest_slots, visit_of, with_constant_table,
 };
 use std::alloc::Global;
 use timer_base::{Handle, OutOfMemory, Timer};
@@ -176,26 +177,7 @@ impl Wheels {
         Some(restarted)
     }
 
-    /// Advances to the next tick, and empties the bucket of its lowest digit that isn't zero.
-    ///
-    /// Returns how many timers went to a lower wheel. Does not allocate.
-    // Always inlined: with a call, a tick at which nothing is due takes two to three times as long.
-    #[inline(always)]
-    pub fn next_tick(&mut self) -> u64
-        requires nothing_due { (state_of self.old.buckets).due ≡ [] }
-        requires before_last { self.old.buckets.tick < self.old.buckets.last_tick }
-        ensures ticked { state_of self.new.buckets ≡ after_tick (state_of self.old.buckets) }
-        ensures moves { result ≡ hops_of (radices self.old.table) self.old.buckets.tick 1
-            (state_of self.old.buckets).pending }
-        ensures falls { result + potential self.old.table self.new.buckets
-            ≤ potential self.old.table self.old.buckets }
-        ensures table { self.new.table ≡ self.old.table }
-    {
-        let list = emptied_at(self.table, self.buckets.tick + 1);
-        self.visit_next(list)
-    }
-
-    /// Advances to the next tick, which empties this bucket.
+    /// Advances to the next tick, which empties this bucket: that of its lowest digit that isn't zero.
     ///
     /// Returns how many timers went to a lower wheel. Does not allocate.
     #[inline(always)]
@@ -235,8 +217,8 @@ impl Wheels {
         let Some(list) = self.occupied.first() else {
             return None;
         };
-        if list < lowest_slots(self.table) {
-            return Some(visit_of(self.table, list, self.buckets.tick));
+        if let Some(visit) = self.lowest_visit(list) {
+            return Some(visit);
         }
         match self.known_first(list) {
             Some(first) => Some(first),
@@ -253,8 +235,8 @@ impl Wheels {
         let Some(list) = self.occupied.first() else {
             return None;
         };
-        if list < lowest_slots(self.table) {
-            return Some(visit_of(self.table, list, self.buckets.tick));
+        if let Some(visit) = self.lowest_visit(list) {
+            return Some(visit);
         }
         if let Some(first) = self.known_first(list) {
             return Some(first);
@@ -262,6 +244,19 @@ impl Wheels {
         let first = first_in(&self.buckets.links, list);
         self.firsts.keep(&self.occupied, list, first);
         first.known(&self.buckets.links, list)
+    }
+
+    /// The visit of a bucket of the lowest wheel, which is the deadline of its timers. None if the bucket is one of a higher
+    /// wheel.
+    #[inline(always)]
+    fn lowest_visit(&self, list: usize) -> Option<u64>
+        requires list { list < slots (radices self.now.table) }
+        ensures some { IfSome result (λ visit. (list < lowest_radix (radices self.now.table))
+            × (visit ≡ list_visit (radices self.now.table) list self.now.buckets.tick)) }
+        ensures none { IfNone result (lowest_radix (radices self.now.table) ≤ list) }
+    {
+        let tick = self.buckets.tick;
+        with_constant_table!(lowest_visit_by(self.table, list, tick))
     }
 
     /// The first deadline of a bucket above the lowest wheel, if it is known without a walk.
@@ -282,6 +277,22 @@ impl Wheels {
         self.buckets.clear();
         self.occupied = Occupied::new();
         self.firsts.clear();
+    }
+}
+
+/// `lowest_visit` by the wheels' table.
+#[inline(always)]
+fn lowest_visit_by(table: Table, list: usize, now: u64) -> Option<u64>
+    requires list { list < slots (radices table) }
+    requires now { now ≤ last_of (radices table) }
+    ensures some { IfSome result (λ visit. (list < lowest_radix (radices table))
+        × (visit ≡ list_visit (radices table) list now)) }
+    ensures none { IfNone result (lowest_radix (radices table) ≤ list) }
+{
+    if list < lowest_slots(table) {
+        Some(visit_of(table, list, now))
+    } else {
+        None
     }
 }
 

@@ -5,14 +5,24 @@ use Rattle.timer_wheels.specs.SmoothWheel.{smooth_state, starts_of}
 use Rattle.timer_wheels.proofs.TieredLemmas.{hier_chosen, smooth_chosen}
 use Rattle.timer_wheels.proofs.tiered.TieredWheelWheel.per_tick.Goals as goal
 
-pub returns-in-Hier-clause-counts : goal.returns-in-Hier-clause-counts
-returns-in-Hier-clause-counts c =
+pub returns-in-Wide-clause-counts : goal.returns-in-Wide-clause-counts
+returns-in-Wide-clause-counts c =
     let wheel = c.in-Hier.wheel in
-    rw c.in-Hier.is (c.per_tick.ensures.counts ∙ hier_chosen (counts_of wheel) (counts_of_tick (hier_state wheel) (counts_of wheel)) wheel)
+    rw c.in-Hier.is (c.tick_by.ensures.counts ∙ hier_chosen (counts_of wheel) (counts_of_tick (hier_state wheel) (counts_of wheel)) wheel)
+
+pub returns-in-Clock-clause-counts : goal.returns-in-Clock-clause-counts
+returns-in-Clock-clause-counts c =
+    let wheel = c.in-Hier.wheel in
+    rw c.in-Hier.is (c.tick_by-in-Clock.ensures.counts ∙ hier_chosen (counts_of wheel) (counts_of_tick (hier_state wheel) (counts_of wheel)) wheel)
+
+pub returns-in-Small-clause-counts : goal.returns-in-Small-clause-counts
+returns-in-Small-clause-counts c =
+    let wheel = c.in-Hier.wheel in
+    rw c.in-Hier.is (c.tick_by-in-Small.ensures.counts ∙ hier_chosen (counts_of wheel) (counts_of_tick (hier_state wheel) (counts_of wheel)) wheel)
 
 pub returns-in-Smooth-clause-counts : goal.returns-in-Smooth-clause-counts
 returns-in-Smooth-clause-counts c =
     let wheel = c.in-Smooth.wheel in
     let counts : WheelCounts = record { starts = starts_of wheel; moves = 0; visits = 0 } in
-    rw c.in-Smooth.is (ap (λ (n : ℕ). record { starts = n; moves = 0; visits = 0 }) c.per_tick-in-Smooth.ensures.starts
+    rw c.in-Smooth.is (ap (λ (n : ℕ). record { starts = n; moves = 0; visits = 0 }) c.tick_smooth.ensures.starts
     ∙ smooth_chosen counts (counts_of_tick (smooth_state wheel) counts) wheel)

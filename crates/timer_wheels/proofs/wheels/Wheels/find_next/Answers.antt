@@ -7,15 +7,12 @@ use Rattle.timer_wheels.proofs.wheels.Wheels.find_next.Goals as goal
 pub returns-in_default-clause-first : goal.returns-in_default-clause-first
 returns-in_default-clause-first c = none_is_next c.args.self.now.hier c.in_default.ensures
 
-pub returns-then-list-lowest_slots-clause-first : goal.returns-then-list-lowest_slots-clause-first
-returns-then-list-lowest_slots-clause-first c = visit_is_next c.args.self.now.hier c.in-Some.list c.in-Some.ensures c.visit_of.result
-    c.visit_of.ensures (omega (arith, c.lowest_slots.ensures.value, c.if-list-lowest_slots.true))
+pub returns-in-Some-lowest_visit-clause-first : goal.returns-in-Some-lowest_visit-clause-first
+returns-in-Some-lowest_visit-clause-first c = visit_is_next c.args.self.now.hier c.in-Some.list c.in-Some.ensures c.in-Some-lowest_visit.visit
+    c.in-Some-lowest_visit.ensures.some.1 c.in-Some-lowest_visit.ensures.some.0
 
-pub known_first-requires : goal.known_first-requires
-known_first-requires c = record {
-  list = first_below c.args.self.now.hier c.in-Some.list c.in-Some.ensures;
-  above = omega (arith, c.lowest_slots.ensures.value, c.if-list-lowest_slots.false);
-}
+pub known_first-requires-clause-list : goal.known_first-requires-clause-list
+known_first-requires-clause-list c = first_below c.args.self.now.hier c.in-Some.list c.in-Some.ensures
 
 pub returns-in-Some-known_first-clause-first : goal.returns-in-Some-known_first-clause-first
 returns-in-Some-known_first-clause-first c = first_is_next c.args.self.now.hier c.in-Some.list c.in-Some.ensures

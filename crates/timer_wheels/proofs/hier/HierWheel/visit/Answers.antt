@@ -8,7 +8,7 @@ use Rattle.timer_wheels.proofs.HierLemmas.{paid_bound, moves_fit}
 use Rattle.timer_wheels.proofs.ExactWakeUps.{radices_are}
 use Rattle.timer_wheels.proofs.TableLaws.{of_table}
 use Rattle.timer_wheels.specs.declared.hier.Counts.{Counts}
-use Rattle.timer_wheels.proofs.hier.HierWheelWheel.per_tick.Goals as goal
+use Rattle.timer_wheels.proofs.hier.HierWheel.visit.Goals as goal
 
 pub add_moves-requires : goal.add_moves-requires
 add_moves-requires c =
@@ -16,10 +16,10 @@ add_moves-requires c =
     let t = radices w.wheels.table in
     let p = paid_bound t w.counts.starts w.counts.moves w.wheels.buckets.last_serial w.wheels.buckets.tick (state_of w.wheels.buckets).pending
     (of_table w.wheels.table) w.few_starts w.wheels.buckets.sound.serial_in_range w.paid in
-    let h : c.args.self.now.counts.moves + c.next_tick-moves.result < 18446744073709551616 =
-    moves_fit w.counts.moves c.next_tick-moves.result (levels_of t c.next_tick-moves.new.self.buckets.tick
-    (state_of c.next_tick-moves.new.self.buckets).pending) (levels_of t w.wheels.buckets.tick (state_of w.wheels.buckets).pending) p
-    c.next_tick-moves.ensures.falls in
+    let h : c.args.self.now.counts.moves + c.visit_next-moves.result < 18446744073709551616 =
+    moves_fit w.counts.moves c.visit_next-moves.result (levels_of t c.visit_next-moves.new.self.buckets.tick
+    (state_of c.visit_next-moves.new.self.buckets).pending) (levels_of t w.wheels.buckets.tick (state_of w.wheels.buckets).pending) p
+    c.visit_next-moves.ensures.falls in
     omega arith
 
 abbrev counts : ℕ → ℕ → ℕ → WheelCounts
@@ -29,13 +29,13 @@ pub returns-clause-counts : goal.returns-clause-counts
 returns-clause-counts c =
     let w = c.args.self.now in
     let b = w.wheels.buckets in
-    let n = c.next_tick-moves.new.self.buckets in
+    let n = c.visit_next-moves.new.self.buckets in
     let k = w.counts in
-    let now : n.tick ≡ b.tick + 1 = ap (λ (u : WheelState). u.now) c.next_tick-moves.ensures.ticked in
+    let now : n.tick ≡ b.tick + 1 = ap (λ (u : WheelState). u.now) c.visit_next-moves.ensures.ticked in
     let few = w.few_skipped in
     let visits : n.tick - k.skipped ≡ b.tick - k.skipped + 1 = omega arith in
-    let moves = c.next_tick-moves.ensures.moves ∙ ap (λ (r : List ℕ). hops_of r b.tick 1 (state_of b).pending)
+    let moves = c.visit_next-moves.ensures.moves ∙ ap (λ (r : List ℕ). hops_of r b.tick 1 (state_of b).pending)
     (radices_are w.wheels.table b.slots w.wheels.hier.has_slots) in
     ap (λ (q : Counts). counts q.starts q.moves (n.tick - q.skipped)) c.add_moves.ensures
-    ∙ (ap (counts k.starts (k.moves + c.next_tick-moves.result)) visits
+    ∙ (ap (counts k.starts (k.moves + c.visit_next-moves.result)) visits
     ∙ ap (λ (m : ℕ). counts k.starts (k.moves + m) (b.tick - k.skipped + 1)) moves)
