@@ -438,7 +438,7 @@ impl<T> Timers<T> {
 
     /// The deadline of the timer that is taken next, exactly; `None` if no timer is held.
     ///
-    /// It may walk the timers of a bucket, and keeps what it found for later calls. Starts and restarts take up to half more
+    /// It may walk the timers of a bucket, and keeps what it found for later calls. Stops and restarts take up to half more
     /// time from the first call on. [`wakeup`](Timers::wakeup) does neither.
     pub fn next_deadline(&mut self) -> Option<u64> {
         Some(unsafe { ffi::timers_find_next(&mut self.held) }).filter(|&tick| tick != NEVER)
