@@ -1,4 +1,6 @@
 //! The table of a clock: wheels of 60 seconds, 60 minutes, 24 hours and 100 days, which divide by constants.
+//!
+//! Its ticks fit into 32 bits. Such a number is divided by one product of 64 bits, and takes fewer registers.
 ghost use Rattle.std.specs.Prelude.{◌≡◌, ◌==◌, ◌<◌, ◌≤◌, ◌/◌, ◌%◌};
 ghost use Rattle.timer_wheels.specs.Leap.{list_visit};
 ghost use Rattle.timer_wheels.specs.Digits.{bucket, emptied, slots, last_of, lowest_radix};
@@ -65,9 +67,11 @@ pub fn bucket_of(now: u64, deadline: u64) -> usize
     ensures value { result ≡ bucket clock now deadline }
     ensures in_range { result < slots clock }
 {
-    let minute = deadline / 60;
+    let second = deadline as u32;
+    let now = now as u32;
+    let minute = second / 60;
     if now / 60 == minute {
-        return (deadline % 60) as usize;
+        return (second % 60) as usize;
     }
     let hour = minute / 60;
     if now / 60 / 60 == hour {
@@ -89,6 +93,7 @@ pub fn emptied_at(tick: u64) -> usize
     ensures value { result ≡ emptied clock tick }
     ensures in_range { result < slots clock }
 {
+    let tick = tick as u32;
     if tick % 60 != 0 {
         return (tick % 60) as usize;
     }
@@ -111,17 +116,17 @@ pub fn visit_of(list: usize, now: u64) -> u64
     requires now { now ≤ last_of clock }
     ensures { result ≡ list_visit clock list now }
 {
-    let list = list as u64;
+    let list = list as u32;
+    let minute = now as u32 / 60;
     if list < 60 {
-        return 60 * (now / 60) + list;
-    }
-    let minute = now / 60;
-    if list < 120 {
-        return 60 * (60 * (minute / 60) + (list - 60));
+        return (60 * minute + list) as u64;
     }
     let hour = minute / 60;
-    if list < 144 {
-        return 60 * (60 * (24 * (hour / 24) + (list - 120)));
+    if list < 120 {
+        return (60 * (60 * hour + (list - 60))) as u64;
     }
-    60 * (60 * (24 * (list - 144)))
+    if list < 144 {
+        return (60 * (60 * (24 * (hour / 24) + (list - 120)))) as u64;
+    }
+    (60 * (60 * (24 * (list - 144)))) as u64
 }
