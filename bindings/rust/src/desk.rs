@@ -370,37 +370,38 @@ impl RawLine {
     }
 }
 
+// All of them: not each is called here.
+#[allow(dead_code)]
+#[rustfmt::skip]
 unsafe extern "C" {
+    // made by tools/facts: calls of a desk
     fn timers_desk_new(d: *mut RawDesk, lines: *mut RawLine, clients: usize, config: *const RawConfig) -> c_uint;
     fn timers_desk_free(d: *mut RawDesk);
     fn timers_desk_serve(d: *mut RawDesk, client: usize) -> c_uint;
     fn timers_desk_serve_all(d: *mut RawDesk, most: u64) -> c_uint;
-    fn timers_desk_flush(d: *mut RawDesk, client: usize) -> usize;
     fn timers_desk_flush_all(d: *mut RawDesk) -> bool;
+    fn timers_desk_flush(d: *mut RawDesk, client: usize) -> usize;
+    fn timers_desk_tick(d: *mut RawDesk) -> c_uint;
     fn timers_desk_advance(d: *mut RawDesk, most: u64, passed: *mut u64) -> c_uint;
     fn timers_desk_close(d: *mut RawDesk, returned: *mut u64) -> c_uint;
+    fn timers_desk_settle(d: *mut RawDesk, client: usize, line: *mut RawLine, standing: *mut u64) -> c_uint;
     fn timers_desk_end(d: *mut RawDesk, client: usize, line: *mut RawLine, unread: *mut u64) -> c_uint;
+    fn timers_desk_end_all(d: *mut RawDesk, lines: *mut RawLine, clients: usize, client: *mut u64) -> c_uint;
     fn timers_desk_stop_pending(d: *mut RawDesk, client: usize, stopped: *mut u64) -> c_uint;
     fn timers_desk_open(d: *mut RawDesk, client: usize, line: *mut RawLine, room: usize) -> c_uint;
     fn timers_desk_reserve(d: *mut RawDesk) -> c_uint;
     fn timers_desk_now(d: *const RawDesk) -> u64;
     fn timers_desk_len(d: *const RawDesk) -> usize;
     fn timers_desk_pending(d: *const RawDesk, client: usize) -> usize;
-    fn timers_desk_outbox(d: *const RawDesk, client: usize) -> usize;
     fn timers_desk_wakeup(d: *const RawDesk) -> u64;
     fn timers_desk_next(d: *const RawDesk) -> u64;
     fn timers_desk_line_freed(d: *mut RawDesk, client: usize) -> bool;
+    fn timers_desk_outbox(d: *const RawDesk, client: usize) -> usize;
     fn timers_line_start(line: *mut RawLine, interval: u64, action: u64, number: *mut u64) -> c_uint;
     fn timers_line_start_at(line: *mut RawLine, deadline: u64, action: u64, number: *mut u64) -> c_uint;
     fn timers_line_stop(line: *mut RawLine, handle: Handle, number: *mut u64) -> c_uint;
     fn timers_line_restart(line: *mut RawLine, handle: Handle, interval: u64, action: u64, number: *mut u64) -> c_uint;
-    fn timers_line_restart_at(
-        line: *mut RawLine,
-        handle: Handle,
-        deadline: u64,
-        action: u64,
-        number: *mut u64,
-    ) -> c_uint;
+    fn timers_line_restart_at(line: *mut RawLine, handle: Handle, deadline: u64, action: u64, number: *mut u64) -> c_uint;
     fn timers_line_receive(line: *mut RawLine, word: *mut RawWord) -> bool;
     fn timers_line_finish(line: *mut RawLine) -> c_uint;
     fn timers_line_ended(line: *const RawLine) -> bool;
