@@ -700,10 +700,10 @@ static const ALIGN(1) byte tp_static_48[31] = { 83, 104, 111, 119, 32, 111, 110,
 	32, 99, 108, 105, 101, 110, 116 };
 static const ALIGN(1) byte tp_static_49[36] = { 83, 104, 111, 119, 32, 111, 110, 108, 121, 32, 116, 104, 101, 32, 116, 105, 109, 101, 114, 32, 119, 105, 116, 104,
 	32, 116, 104, 105, 115, 32, 115, 101, 114, 105, 97, 108 };
-static const ALIGN(1) byte tp_static_50[29] = { 83, 104, 111, 119, 32, 110, 111, 116, 104, 105, 110, 103, 32, 98, 101, 102, 111, 114, 101, 32, 116, 104, 105, 115,
-	32, 116, 105, 99, 107 };
-static const ALIGN(1) byte tp_static_51[28] = { 83, 104, 111, 119, 32, 110, 111, 116, 104, 105, 110, 103, 32, 97, 102, 116, 101, 114, 32, 116, 104, 105, 115, 32,
-	116, 105, 99, 107 };
+static const ALIGN(1) byte tp_static_50[31] = { 83, 104, 111, 119, 32, 110, 111, 32, 116, 105, 109, 101, 114, 115, 32, 98, 101, 102, 111, 114, 101, 32, 116, 104,
+	105, 115, 32, 116, 105, 99, 107 };
+static const ALIGN(1) byte tp_static_51[30] = { 83, 104, 111, 119, 32, 110, 111, 32, 116, 105, 109, 101, 114, 115, 32, 97, 102, 116, 101, 114, 32, 116, 104, 105,
+	115, 32, 116, 105, 99, 107 };
 static const ALIGN(1) byte tp_static_52[28] = { 116, 105, 109, 101, 114, 115, 32, 115, 104, 111, 119, 32, 91, 79, 80, 84, 73, 79, 78, 83, 93, 32, 60, 32, 70, 73, 76,
 	69 };
 static const ALIGN(1) byte tp_static_53[80] = { 65, 110, 115, 119, 101, 114, 115, 32, 108, 105, 110, 101, 115, 32, 97, 115, 32, 96, 115, 101, 114, 118, 101, 96, 32,
@@ -3553,7 +3553,7 @@ L1:
 											store64u(p34 + 8, 4);
 											store64u(p34 + 16, 1);
 											storeptru(p34 + 24, (byte *)tp_static_50);
-											store64u(p34 + 32, 29);
+											store64u(p34 + 32, 31);
 											memset(p34 + 40, 0, 32);
 											store64u(p34 + 72, 1);
 											storeptru(p34 + 80, (byte *)tp_static_62);
@@ -3600,7 +3600,7 @@ L1:
 												store64u(p35 + 8, 2);
 												store64u(p35 + 16, 1);
 												storeptru(p35 + 24, (byte *)tp_static_51);
-												store64u(p35 + 32, 28);
+												store64u(p35 + 32, 30);
 												memset(p35 + 40, 0, 32);
 												store64u(p35 + 72, 1);
 												storeptru(p35 + 80, (byte *)tp_static_63);
@@ -60969,7 +60969,7 @@ static bool tp_facility_Facility_makes_timer(byte *p1, uint64_t n2, uint64_t n3,
 /* timer_wheels::table::bucket_of: crates/timer_wheels/src/table.rt */
 static uint64_t tp_table_bucket_of(uint8_t n1, uint64_t n2, uint64_t n3)
 {
-	uint64_t n8, n9, n10;
+	uint64_t n11, n12, n13;
 	switch (MOSTLY_0(n1)) {
 	case 0: {
 		uint32_t n4 = (((uint32_t)ctlz64(n2 ^ n3) ^ 63) * 43) >> 8;
@@ -60978,21 +60978,31 @@ static uint64_t tp_table_bucket_of(uint8_t n1, uint64_t n2, uint64_t n3)
 		return ((n3 >> ((uint64_t)(n4 * 6) & 63)) & 63) | (uint64_t)(n4 << 6);
 	}
 	case 1: {
-		uint64_t n5 = n3 / 60;
-		if ((n2 / 60) == n5)
-			return n3 % 60;
-		uint64_t n6 = n3 / 3600;
-		if ((n2 / 3600) == n6)
-			return (n5 % 60) + 60;
-		uint64_t n7 = n3 / 86400;
-		if ((n2 / 86400) == n7)
-			return (n6 % 24) + 120;
-		return n7 + 144;
+		uint32_t n8;
+		uint32_t n5 = (uint32_t)n3;
+		uint32_t n6 = (uint32_t)n2;
+		uint32_t n7 = n5 / 60;
+		if ((n6 / 60) == n7) {
+			n8 = n5 % 60;
+		} else {
+			uint32_t n9 = n5 / 3600;
+			if ((n6 / 3600) == n9) {
+				n8 = (n7 % 60) + 60;
+			} else {
+				uint32_t n10 = n5 / 86400;
+				if ((n6 / 86400) == n10) {
+					n8 = (n9 % 24) + 120;
+				} else {
+					n8 = n10 + 144;
+				}
+			}
+		}
+		return (uint64_t)n8;
 	}
 	case 2: {
-		n8 = n3;
-		n9 = n2;
-		n10 = 0;
+		n11 = n3;
+		n12 = n2;
+		n13 = 0;
 		break;
 	}
 	default: {
@@ -61000,15 +61010,15 @@ static uint64_t tp_table_bucket_of(uint8_t n1, uint64_t n2, uint64_t n3)
 	}
 	}
 	for (;;) {
-		uint64_t n11 = n9 >> 4;
-		uint64_t n12 = n8 >> 4;
-		if (n11 == n12)
+		uint64_t n14 = n12 >> 4;
+		uint64_t n15 = n11 >> 4;
+		if (n14 == n15)
 			break;
-		n8 = n12;
-		n9 = n11;
-		n10 = n10 + 16;
+		n11 = n15;
+		n12 = n14;
+		n13 = n13 + 16;
 	}
-	return n10 | (n8 & 15);
+	return n13 | (n11 & 15);
 }
 
 /* slab::Slab::insert_reserved */
@@ -61544,7 +61554,7 @@ static void tp_HierWheelWheel_stop(byte *p1, byte *p2, uint64_t n3, uint64_t n4)
 {
 	ALIGN(8) byte p5[16];
 	ALIGN(8) byte p6[16];
-	uint64_t n34, n35, n36, n37;
+	uint64_t n36, n37, n38, n39;
 	byte *p7 = at(loadptr(p2 + 40), n3 * 56);
 	if (n3 < load64(p2 + 48)) {
 		if (load8(p7) == 1) {
@@ -61579,7 +61589,7 @@ static void tp_HierWheelWheel_stop(byte *p1, byte *p2, uint64_t n3, uint64_t n4)
 					byte *p18 = loadptr(p2 + 208);
 					uint64_t n19 = load64(p2 + 16);
 					if (n8 > n19) {
-						uint64_t n21, n22, n25, n27, n28, n29;
+						uint64_t n21, n22, n29, n30, n31;
 						switch (MOSTLY_0(load8(p2))) {
 						case 0: {
 							uint32_t n20 = (((uint32_t)ctlz64(n19 ^ n8) ^ 63) * 43) >> 8;
@@ -61590,26 +61600,33 @@ static void tp_HierWheelWheel_stop(byte *p1, byte *p2, uint64_t n3, uint64_t n4)
 							goto L2;
 						}
 						case 1: {
-							uint64_t n23 = n8 / 60;
-							if ((n19 / 60) == n23)
-								goto L1;
-							uint64_t n24 = n8 / 3600;
-							if ((n19 / 3600) == n24) {
-								n25 = (n23 % 60) + 60;
-								goto L3;
+							uint32_t n26;
+							uint32_t n23 = (uint32_t)n8;
+							uint32_t n24 = (uint32_t)n19;
+							uint32_t n25 = n23 / 60;
+							if ((n24 / 60) == n25) {
+								n26 = n23 % 60;
+							} else {
+								uint32_t n27 = n23 / 3600;
+								if ((n24 / 3600) == n27) {
+									n26 = (n25 % 60) + 60;
+								} else {
+									uint32_t n28 = n23 / 86400;
+									if ((n24 / 86400) == n28) {
+										n26 = (n27 % 24) + 120;
+									} else {
+										n26 = n28 + 144;
+									}
+								}
 							}
-							uint64_t n26 = n8 / 86400;
-							if ((n19 / 86400) == n26) {
-								n25 = (n24 % 24) + 120;
-								goto L3;
-							}
-							n25 = n26 + 144;
-							goto L3;
+							n21 = (uint64_t)n26;
+							n22 = 60;
+							goto L2;
 						}
 						case 2: {
-							n27 = n8;
-							n28 = n19;
-							n29 = 0;
+							n29 = n8;
+							n30 = n19;
+							n31 = 0;
 							break;
 						}
 						default: {
@@ -61617,30 +61634,26 @@ static void tp_HierWheelWheel_stop(byte *p1, byte *p2, uint64_t n3, uint64_t n4)
 						}
 						}
 						for (;;) {
-							uint64_t n30 = n28 >> 4;
-							uint64_t n31 = n27 >> 4;
-							if (n30 == n31)
+							uint64_t n32 = n30 >> 4;
+							uint64_t n33 = n29 >> 4;
+							if (n32 == n33)
 								break;
-							n27 = n31;
-							n28 = n30;
-							n29 = n29 + 16;
+							n29 = n33;
+							n30 = n32;
+							n31 = n31 + 16;
 						}
-						n21 = n29 | (n27 & 15);
+						n21 = n31 | (n29 & 15);
 						n22 = 16;
 L2:
 						{
-							if (n22 > n21)
-								goto L1;
-							n25 = n21;
-						}
-L3:
-						{
-							byte *p32 = at(p18, n25 << 4);
-							if (load8(p32) == 1) {
-								if (n8 == load64(p32 + 8)) {
-									uint32_t n33 = usub_sat32(load32(p32 + 4), 1);
-									store32u(p32, 1);
-									store32u(p32 + 4, n33);
+							if (n22 <= n21) {
+								byte *p34 = at(p18, n21 << 4);
+								if (load8(p34) == 1) {
+									if (n8 == load64(p34 + 8)) {
+										uint32_t n35 = usub_sat32(load32(p34 + 4), 1);
+										store32u(p34, 1);
+										store32u(p34 + 4, n35);
+									}
 								}
 							}
 						}
@@ -61649,27 +61662,27 @@ L3:
 L1:
 				{
 					memcpy(p6, p5, 16);
-					n34 = n4;
-					n35 = n8;
-					n36 = n9;
-					n37 = 1;
-					goto L4;
+					n36 = n4;
+					n37 = n8;
+					n38 = n9;
+					n39 = 1;
+					goto L3;
 				}
 			}
 		}
 	}
 	memset(p6, 0, 16);
-	n34 = 0;
-	n35 = 0;
 	n36 = 0;
 	n37 = 0;
-L4:
+	n38 = 0;
+	n39 = 0;
+L3:
 	{
-		store64u(p1, n37);
-		store64u(p1 + 8, n34);
+		store64u(p1, n39);
+		store64u(p1 + 8, n36);
 		memcpy(p1 + 16, p6, 16);
-		store64u(p1 + 32, n35);
-		store64u(p1 + 40, n36);
+		store64u(p1 + 32, n37);
+		store64u(p1 + 40, n38);
 		return;
 	}
 }
@@ -61998,7 +62011,7 @@ static void tp_Facility_take_restart(byte *p1, byte *p2, uint64_t n3, uint64_t n
 								uint64_t n14 = n12 + n8;
 								bool b15 = n12 < n14;
 								if (b15) {
-									uint64_t n21, n22, n23;
+									uint64_t n24, n25, n26;
 									switch (MOSTLY_0(load8(p2))) {
 									case 0: {
 										uint32_t n16 = (((uint32_t)ctlz64(n12 ^ n14) ^ 63) * 43) >> 8;
@@ -62010,28 +62023,32 @@ static void tp_Facility_take_restart(byte *p1, byte *p2, uint64_t n3, uint64_t n
 										goto L1;
 									}
 									case 1: {
-										uint64_t n18 = n14 / 60;
-										if ((n12 / 60) == n18) {
-											n17 = n14 % 60;
-											goto L1;
+										uint32_t n21;
+										uint32_t n18 = (uint32_t)n14;
+										uint32_t n19 = (uint32_t)n12;
+										uint32_t n20 = n18 / 60;
+										if ((n19 / 60) == n20) {
+											n21 = n18 % 60;
+										} else {
+											uint32_t n22 = n18 / 3600;
+											if ((n19 / 3600) == n22) {
+												n21 = (n20 % 60) + 60;
+											} else {
+												uint32_t n23 = n18 / 86400;
+												if ((n19 / 86400) == n23) {
+													n21 = (n22 % 24) + 120;
+												} else {
+													n21 = n23 + 144;
+												}
+											}
 										}
-										uint64_t n19 = n14 / 3600;
-										if ((n12 / 3600) == n19) {
-											n17 = (n18 % 60) + 60;
-											goto L1;
-										}
-										uint64_t n20 = n14 / 86400;
-										if ((n12 / 86400) == n20) {
-											n17 = (n19 % 24) + 120;
-											goto L1;
-										}
-										n17 = n20 + 144;
+										n17 = (uint64_t)n21;
 										goto L1;
 									}
 									case 2: {
-										n21 = n14;
-										n22 = n12;
-										n23 = 0;
+										n24 = n14;
+										n25 = n12;
+										n26 = 0;
 										break;
 									}
 									default: {
@@ -62039,154 +62056,154 @@ static void tp_Facility_take_restart(byte *p1, byte *p2, uint64_t n3, uint64_t n
 									}
 									}
 									for (;;) {
-										uint64_t n24 = n22 >> 4;
-										uint64_t n25 = n21 >> 4;
-										if (n24 == n25)
+										uint64_t n27 = n25 >> 4;
+										uint64_t n28 = n24 >> 4;
+										if (n27 == n28)
 											break;
-										n21 = n25;
-										n22 = n24;
-										n23 = n23 + 16;
+										n24 = n28;
+										n25 = n27;
+										n26 = n26 + 16;
 									}
-									n17 = n23 | (n21 & 15);
+									n17 = n26 | (n24 & 15);
 								} else {
 									n17 = load64(p2 + 32);
 								}
 L1:
 								{
-									uint64_t n26 = load64u(p10 + 32);
+									uint64_t n29 = load64u(p10 + 32);
 									store64u(p10 + 8, n13);
 									store64u(p10 + 16, n3);
 									store64u(p10 + 24, n4);
 									store64u(p10 + 32, n14);
 									store64u(p10 + 40, n9);
 									store64u(p10 + 48, 0);
-									uint64_t n27 = load64(p2 + 104) + n5;
-									byte *p28 = loadptr(p2 + 80);
-									byte *p29 = at(p28, n27 << 3);
-									uint32_t n30 = load32(p29);
-									uint32_t n31 = load32(p29 + 4);
-									uint64_t n32 = (uint64_t)n30;
-									store32(inside(p28, n32 << 3) + 4, n31);
-									store32(inside(p28, (uint64_t)n31 << 3), n30);
-									uint64_t n33 = n17 << 3;
-									byte *p34 = inside(p28, n33);
-									uint32_t n35 = load32(p34);
-									uint32_t n36 = (uint32_t)n27;
-									store32(inside(p28, (uint64_t)n35 << 3) + 4, n36);
-									store32(p29, n35);
-									store32(p29 + 4, (uint32_t)n17);
-									store32(p34, n36);
-									bool b37 = n30 == n31;
-									uint64_t n38 = b37 ? n32 : 0;
+									uint64_t n30 = load64(p2 + 104) + n5;
+									byte *p31 = loadptr(p2 + 80);
+									byte *p32 = at(p31, n30 << 3);
+									uint32_t n33 = load32(p32);
+									uint32_t n34 = load32(p32 + 4);
+									uint64_t n35 = (uint64_t)n33;
+									store32(inside(p31, n35 << 3) + 4, n34);
+									store32(inside(p31, (uint64_t)n34 << 3), n33);
+									uint64_t n36 = n17 << 3;
+									byte *p37 = inside(p31, n36);
+									uint32_t n38 = load32(p37);
+									uint32_t n39 = (uint32_t)n30;
+									store32(inside(p31, (uint64_t)n38 << 3) + 4, n39);
+									store32(p32, n38);
+									store32(p32 + 4, (uint32_t)n17);
+									store32(p37, n39);
+									bool b40 = n33 == n34;
+									uint64_t n41 = b40 ? n35 : 0;
 									store64(p2 + 24, n13);
-									if (b37) {
-										if (n12 < n26) {
-											byte *p39 = inside(p2 + 128, (n38 >> 3) & 536870904);
-											store64(p39, load64(p39) & (((uint64_t)1 << (n38 & 63)) ^ UINT64_MAX));
+									if (b40) {
+										if (n12 < n29) {
+											byte *p42 = inside(p2 + 128, (n41 >> 3) & 536870904);
+											store64(p42, load64(p42) & (((uint64_t)1 << (n41 & 63)) ^ UINT64_MAX));
 											if ((load8(p2 + 232) & 1) != 0) {
-												byte *p40 = at(loadptr(p2 + 208), n38 << 4);
-												store64(p2 + 240, load64(p2 + 240) + (uint64_t)((load8(p40) != 0) ? UINT64_MAX : 0));
-												memset(p40, 0, 16);
+												byte *p43 = at(loadptr(p2 + 208), n41 << 4);
+												store64(p2 + 240, load64(p2 + 240) + (uint64_t)((load8(p43) != 0) ? UINT64_MAX : 0));
+												memset(p43, 0, 16);
 											}
 										}
 									} else if (load64(p2 + 240) != 0) {
-										byte *p41 = loadptr(p2 + 208);
-										if (n26 > n12) {
-											uint64_t n44;
-											uint8_t n42 = load8(p2);
-											uint64_t n43 = tp_table_bucket_of(n42, n12, n26);
-											switch (MOSTLY_0(n42)) {
+										byte *p44 = loadptr(p2 + 208);
+										if (n29 > n12) {
+											uint64_t n47;
+											uint8_t n45 = load8(p2);
+											uint64_t n46 = tp_table_bucket_of(n45, n12, n29);
+											switch (MOSTLY_0(n45)) {
 											case 0: {
-												n44 = 64;
+												n47 = 64;
 												break;
 											}
 											case 1: {
-												n44 = 60;
+												n47 = 60;
 												break;
 											}
 											case 2: {
-												n44 = 16;
+												n47 = 16;
 												break;
 											}
 											default: {
 												UNREACHABLE();
 											}
 											}
-											if (n44 <= n43) {
-												byte *p45 = at(p41, n43 << 4);
-												if (load8(p45) == 1) {
-													if (n26 == load64(p45 + 8)) {
-														uint32_t n46 = usub_sat32(load32(p45 + 4), 1);
-														store32u(p45, 1);
-														store32u(p45 + 4, n46);
+											if (n47 <= n46) {
+												byte *p48 = at(p44, n46 << 4);
+												if (load8(p48) == 1) {
+													if (n29 == load64(p48 + 8)) {
+														uint32_t n49 = usub_sat32(load32(p48 + 4), 1);
+														store32u(p48, 1);
+														store32u(p48 + 4, n49);
 													}
 												}
 											}
 										}
 									}
 									if (b15) {
-										byte *p47 = inside(p2 + 128, (n17 >> 3) & 536870904);
-										store64(p47, load64(p47) | ((uint64_t)1 << (n17 & 63)));
+										byte *p50 = inside(p2 + 128, (n17 >> 3) & 536870904);
+										store64(p50, load64(p50) | ((uint64_t)1 << (n17 & 63)));
 										if ((load8(p2 + 232) & 1) != 0) {
-											uint64_t n48;
+											uint64_t n51;
 											switch (MOSTLY_0(load8(p2))) {
 											case 0: {
-												n48 = 64;
+												n51 = 64;
 												break;
 											}
 											case 1: {
-												n48 = 60;
+												n51 = 60;
 												break;
 											}
 											case 2: {
-												n48 = 16;
+												n51 = 16;
 												break;
 											}
 											default: {
 												UNREACHABLE();
 											}
 											}
-											if (n17 >= n48) {
-												byte *p49 = at(loadptr(p2 + 208), n17 << 4);
-												if (load8(p49) == 0) {
-													if (n14 < load64(p49 + 8)) {
-														uint64_t n54;
-														uint64_t n50 = load64(p2 + 104);
-														uint64_t n51 = (uint64_t)load32(at(loadptr(p2 + 80), n33) + 4);
-														if (n50 <= n51) {
-															uint64_t n52 = usub_sat64(n51, n50);
-															byte *p53 = at(loadptr(p2 + 40), n52 * 56);
-															if (n52 < load64(p2 + 48)) {
-																if (load8(p53) == 1) {
-																	n54 = umin64(n14, load64u(p53 + 32));
+											if (n17 >= n51) {
+												byte *p52 = at(loadptr(p2 + 208), n17 << 4);
+												if (load8(p52) == 0) {
+													if (n14 < load64(p52 + 8)) {
+														uint64_t n57;
+														uint64_t n53 = load64(p2 + 104);
+														uint64_t n54 = (uint64_t)load32(at(loadptr(p2 + 80), n36) + 4);
+														if (n53 <= n54) {
+															uint64_t n55 = usub_sat64(n54, n53);
+															byte *p56 = at(loadptr(p2 + 40), n55 * 56);
+															if (n55 < load64(p2 + 48)) {
+																if (load8(p56) == 1) {
+																	n57 = umin64(n14, load64u(p56 + 32));
 																} else {
-																	n54 = n14;
+																	n57 = n14;
 																}
 															} else {
-																n54 = n14;
+																n57 = n14;
 															}
 														} else {
-															n54 = n14;
+															n57 = n14;
 														}
-														store32u(p49, 1);
-														store32u(p49 + 4, 1);
-														store64u(p49 + 8, n54);
+														store32u(p52, 1);
+														store32u(p52 + 4, 1);
+														store64u(p52 + 8, n57);
 														store64(p2 + 240, load64(p2 + 240) + 1);
 													} else {
-														store32u(p49, 0);
-														store32u(p49 + 4, 0);
-														store64u(p49 + 8, n14);
+														store32u(p52, 0);
+														store32u(p52 + 4, 0);
+														store64u(p52 + 8, n14);
 													}
 												} else {
-													uint32_t n55 = load32(p49 + 4);
-													uint64_t n56 = load64(p49 + 8);
-													if (n14 < n56) {
-														store32u(p49, 1);
-														store32u(p49 + 4, 1);
-														store64u(p49 + 8, n14);
-													} else if (n14 == n56) {
-														store32u(p49, 1);
-														store32u(p49 + 4, uadd_sat32(n55, 1));
+													uint32_t n58 = load32(p52 + 4);
+													uint64_t n59 = load64(p52 + 8);
+													if (n14 < n59) {
+														store32u(p52, 1);
+														store32u(p52 + 4, 1);
+														store64u(p52 + 8, n14);
+													} else if (n14 == n59) {
+														store32u(p52, 1);
+														store32u(p52 + 4, uadd_sat32(n58, 1));
 													}
 												}
 											}
@@ -63162,7 +63179,7 @@ static NOINLINE uint64_t tp_migration_migrate(uint8_t n1, byte *p2, byte *p3, by
 				n77 = n58;
 			}
 		} else {
-			uint64_t n79, n83, n84, n85;
+			uint64_t n79, n86, n87, n88;
 			switch (MOSTLY_0(n1)) {
 			case 0: {
 				uint32_t n78 = (((uint32_t)ctlz64(n6 ^ n60) ^ 63) * 43) >> 8;
@@ -63174,28 +63191,32 @@ static NOINLINE uint64_t tp_migration_migrate(uint8_t n1, byte *p2, byte *p3, by
 				goto L1;
 			}
 			case 1: {
-				uint64_t n80 = n60 / 60;
-				if ((n6 / 60) == n80) {
-					n79 = n60 % 60;
-					goto L1;
+				uint32_t n83;
+				uint32_t n80 = (uint32_t)n60;
+				uint32_t n81 = (uint32_t)n6;
+				uint32_t n82 = n80 / 60;
+				if ((n81 / 60) == n82) {
+					n83 = n80 % 60;
+				} else {
+					uint32_t n84 = n80 / 3600;
+					if ((n81 / 3600) == n84) {
+						n83 = (n82 % 60) + 60;
+					} else {
+						uint32_t n85 = n80 / 86400;
+						if ((n81 / 86400) == n85) {
+							n83 = (n84 % 24) + 120;
+						} else {
+							n83 = n85 + 144;
+						}
+					}
 				}
-				uint64_t n81 = n60 / 3600;
-				if ((n6 / 3600) == n81) {
-					n79 = (n80 % 60) + 60;
-					goto L1;
-				}
-				uint64_t n82 = n60 / 86400;
-				if ((n6 / 86400) == n82) {
-					n79 = (n81 % 24) + 120;
-					goto L1;
-				}
-				n79 = n82 + 144;
+				n79 = (uint64_t)n83;
 				goto L1;
 			}
 			case 2: {
-				n83 = n60;
-				n84 = n6;
-				n85 = 0;
+				n86 = n60;
+				n87 = n6;
+				n88 = 0;
 				break;
 			}
 			default: {
@@ -63203,93 +63224,93 @@ static NOINLINE uint64_t tp_migration_migrate(uint8_t n1, byte *p2, byte *p3, by
 			}
 			}
 			for (;;) {
-				uint64_t n86 = n84 >> 4;
-				uint64_t n87 = n83 >> 4;
-				if (n86 == n87)
+				uint64_t n89 = n87 >> 4;
+				uint64_t n90 = n86 >> 4;
+				if (n89 == n90)
 					break;
-				n83 = n87;
-				n84 = n86;
-				n85 = n85 + 16;
+				n86 = n90;
+				n87 = n89;
+				n88 = n88 + 16;
 			}
-			n79 = n85 | (n83 & 15);
+			n79 = n88 | (n86 & 15);
 L1:
 			{
 				if (b65) {
-					uint64_t n88 = umax64(n64, n63);
-					byte *p89 = at(p61, n88 << 3);
-					uint32_t n90 = load32(p89 + 4);
-					store32(p62, n90);
-					store32(inside(p61, (uint64_t)n90 << 3), (uint32_t)n5);
-					byte *p91 = inside(p61, n79 << 3);
-					uint32_t n92 = load32(p91);
-					uint32_t n93 = (uint32_t)n88;
-					store32(inside(p61, (uint64_t)n92 << 3) + 4, n93);
-					store32(p89, n92);
-					store32(p89 + 4, (uint32_t)n79);
-					store32(p91, n93);
+					uint64_t n91 = umax64(n64, n63);
+					byte *p92 = at(p61, n91 << 3);
+					uint32_t n93 = load32(p92 + 4);
+					store32(p62, n93);
+					store32(inside(p61, (uint64_t)n93 << 3), (uint32_t)n5);
+					byte *p94 = inside(p61, n79 << 3);
+					uint32_t n95 = load32(p94);
+					uint32_t n96 = (uint32_t)n91;
+					store32(inside(p61, (uint64_t)n95 << 3) + 4, n96);
+					store32(p92, n95);
+					store32(p92 + 4, (uint32_t)n79);
+					store32(p94, n96);
 				}
-				byte *p94 = inside(p3, (n79 >> 3) & 536870904);
-				store64(p94, load64(p94) | ((uint64_t)1 << (n79 & 63)));
+				byte *p97 = inside(p3, (n79 >> 3) & 536870904);
+				store64(p97, load64(p97) | ((uint64_t)1 << (n79 & 63)));
 				if ((load8(p4 + 24) & 1) != 0) {
-					uint64_t n95;
+					uint64_t n98;
 					switch (MOSTLY_0(n1)) {
 					case 0: {
-						n95 = 64;
+						n98 = 64;
 						break;
 					}
 					case 1: {
-						n95 = 60;
+						n98 = 60;
 						break;
 					}
 					case 2: {
-						n95 = 16;
+						n98 = 16;
 						break;
 					}
 					default: {
 						UNREACHABLE();
 					}
 					}
-					if (n79 >= n95) {
-						byte *p96 = at(loadptr(p4), n79 << 4);
-						if (load8(p96) == 0) {
-							if (n60 < load64(p96 + 8)) {
-								uint64_t n101;
-								uint64_t n97 = load64(p2 + 64);
-								uint64_t n98 = (uint64_t)load32(at(loadptr(p2 + 40), n79 << 3) + 4);
-								if (n97 <= n98) {
-									uint64_t n99 = usub_sat64(n98, n97);
-									byte *p100 = at(loadptr(p2), n99 * 56);
-									if (n99 < load64(p2 + 8)) {
-										if (load8(p100) == 1) {
-											n101 = umin64(n60, load64u(p100 + 32));
+					if (n79 >= n98) {
+						byte *p99 = at(loadptr(p4), n79 << 4);
+						if (load8(p99) == 0) {
+							if (n60 < load64(p99 + 8)) {
+								uint64_t n104;
+								uint64_t n100 = load64(p2 + 64);
+								uint64_t n101 = (uint64_t)load32(at(loadptr(p2 + 40), n79 << 3) + 4);
+								if (n100 <= n101) {
+									uint64_t n102 = usub_sat64(n101, n100);
+									byte *p103 = at(loadptr(p2), n102 * 56);
+									if (n102 < load64(p2 + 8)) {
+										if (load8(p103) == 1) {
+											n104 = umin64(n60, load64u(p103 + 32));
 										} else {
-											n101 = n60;
+											n104 = n60;
 										}
 									} else {
-										n101 = n60;
+										n104 = n60;
 									}
 								} else {
-									n101 = n60;
+									n104 = n60;
 								}
-								store32u(p96, 1);
-								store32u(p96 + 4, 1);
-								store64u(p96 + 8, n101);
+								store32u(p99, 1);
+								store32u(p99 + 4, 1);
+								store64u(p99 + 8, n104);
 								store64(p4 + 32, load64(p4 + 32) + 1);
 							} else {
-								store32u(p96, 0);
-								store32u(p96 + 4, 0);
-								store64u(p96 + 8, n60);
+								store32u(p99, 0);
+								store32u(p99 + 4, 0);
+								store64u(p99 + 8, n60);
 							}
 						} else {
-							uint32_t n102 = load32(p96 + 4);
-							uint64_t n103 = load64(p96 + 8);
-							if (n60 < n103) {
-								store32u(p96, 1);
-								store32u(p96 + 4, 1);
-								store64u(p96 + 8, n60);
-							} else if (n60 == n103) {
-								store32u(p96, 1);
-								store32u(p96 + 4, uadd_sat32(n102, 1));
+							uint32_t n105 = load32(p99 + 4);
+							uint64_t n106 = load64(p99 + 8);
+							if (n60 < n106) {
+								store32u(p99, 1);
+								store32u(p99 + 4, 1);
+								store64u(p99 + 8, n60);
+							} else if (n60 == n106) {
+								store32u(p99, 1);
+								store32u(p99 + 4, uadd_sat32(n105, 1));
 							}
 						}
 					}
@@ -63306,17 +63327,17 @@ L1:
 /* timer_wheels::hier::HierWheel::advance_far: crates/timer_wheels/src/hier.rt */
 static NOINLINE uint64_t tp_HierWheel_advance_far(byte *p1, uint64_t n2)
 {
-	uint64_t n37, n39, n40, n41, n42;
-	byte *p38;
+	uint64_t n39, n41, n42, n43, n44;
+	byte *p40;
 	uint8_t n3 = load8(p1);
 	uint64_t n4 = load64(p1 + 16);
 	uint64_t n5 = n4 + n2;
 	uint64_t n6 = n4;
 	uint64_t n7 = 0;
 	while (n6 < n5) {
-		uint64_t n9, n10, n11, n12, n15, n17, n18, n21;
+		uint64_t n9, n10, n11, n12, n15, n19, n20, n23;
 		uint8_t n13;
-		byte *p19, *p20;
+		byte *p21, *p22;
 		uint64_t n8 = 0;
 		for (;;) {
 			if (n8 == 10)
@@ -63337,20 +63358,22 @@ static NOINLINE uint64_t tp_HierWheel_advance_far(byte *p1, uint64_t n2)
 			break;
 		}
 		case 1: {
-			if (n12 < 60) {
-				n15 = (n6 - (n6 % 60)) + n12;
-			} else if (n12 < 120) {
-				n15 = (((n6 / 3600) * 60) + (n12 - 60)) * 60;
-			} else if (n12 < 144) {
-				n15 = (((n6 / 86400) * 24) + (n12 - 120)) * 3600;
+			uint32_t n16 = (uint32_t)n12;
+			uint32_t n17 = (uint32_t)n6;
+			if (n16 < 60) {
+				n15 = (uint64_t)((n17 - (n17 % 60)) + n16);
+			} else if (n16 < 120) {
+				n15 = (uint64_t)((((n17 / 3600) * 60) + (n16 - 60)) * 60);
+			} else if (n16 < 144) {
+				n15 = (uint64_t)((((n17 / 86400) * 24) + (n16 - 120)) * 3600);
 			} else {
-				n15 = (n12 * 86400) - 12441600;
+				n15 = ((n12 * 86400) + UINT64_C(4282525696)) & UINT64_C(4294967168);
 			}
 			break;
 		}
 		case 2: {
-			uint64_t n16 = (n12 >> 2) & UINT64_C(4294967292);
-			n15 = (((n6 >> (n16 & 63)) & UINT64_C(18446744073709551600)) | (n11 & 15)) << (n16 & 63);
+			uint64_t n18 = (n12 >> 2) & UINT64_C(4294967292);
+			n15 = (((n6 >> (n18 & 63)) & UINT64_C(18446744073709551600)) | (n11 & 15)) << (n18 & 63);
 			break;
 		}
 		default: {
@@ -63359,168 +63382,168 @@ static NOINLINE uint64_t tp_HierWheel_advance_far(byte *p1, uint64_t n2)
 		}
 		if (n5 < n15) {
 			store64(p1 + 16, n5);
-			n17 = n5;
-			n18 = 0;
+			n19 = n5;
+			n20 = 0;
 			goto L2;
 		}
 		store64(p1 + 16, n15 - 1);
-		p19 = loadptr(p1 + 80);
-		p20 = at(p19, n12 << 3);
-		if (n12 == (uint64_t)load32(p20 + 4)) {
-			n21 = 0;
+		p21 = loadptr(p1 + 80);
+		p22 = at(p21, n12 << 3);
+		if (n12 == (uint64_t)load32(p22 + 4)) {
+			n23 = 0;
 		} else {
-			uint64_t n23;
-			byte *p22 = inside(p1 + 128, n9 & UINT64_C(2305843009213693944));
-			store64(p22, load64(p22) & (((uint64_t)1 << (n11 & 63)) ^ UINT64_MAX));
+			uint64_t n25;
+			byte *p24 = inside(p1 + 128, n9 & UINT64_C(2305843009213693944));
+			store64(p24, load64(p24) & (((uint64_t)1 << (n11 & 63)) ^ UINT64_MAX));
 			switch (MOSTLY_0(n13)) {
 			case 0: {
-				n23 = 64;
+				n25 = 64;
 				break;
 			}
 			case 1: {
-				n23 = 60;
+				n25 = 60;
 				break;
 			}
 			case 2: {
-				n23 = 16;
+				n25 = 16;
 				break;
 			}
 			default: {
 				UNREACHABLE();
 			}
 			}
-			if (n12 < n23) {
-				uint64_t n24;
+			if (n12 < n25) {
+				uint64_t n26;
 				switch (MOSTLY_0(n13)) {
 				case 0: {
-					n24 = 640;
+					n26 = 640;
 					break;
 				}
 				case 1: {
-					n24 = 244;
+					n26 = 244;
 					break;
 				}
 				case 2: {
-					n24 = 96;
+					n26 = 96;
 					break;
 				}
 				default: {
 					UNREACHABLE();
 				}
 				}
-				uint32_t n25 = load32(p20 + 4);
-				uint64_t n26 = (uint64_t)n25;
-				if (load64(p1 + 104) <= n26) {
-					uint32_t n27 = load32(p20);
-					byte *p28 = at(p19, n24 << 3);
-					uint32_t n29 = load32(p28);
-					store32(inside(p19, (uint64_t)n29 << 3) + 4, n25);
-					store32(inside(p19, n26 << 3), n29);
-					store32(inside(p19, (uint64_t)n27 << 3) + 4, (uint32_t)n24);
-					store32(p28, n27);
-					uint32_t n30 = (uint32_t)n12;
-					store32(p20 + 4, n30);
-					store32(p20, n30);
-					n21 = 0;
+				uint32_t n27 = load32(p22 + 4);
+				uint64_t n28 = (uint64_t)n27;
+				if (load64(p1 + 104) <= n28) {
+					uint32_t n29 = load32(p22);
+					byte *p30 = at(p21, n26 << 3);
+					uint32_t n31 = load32(p30);
+					store32(inside(p21, (uint64_t)n31 << 3) + 4, n27);
+					store32(inside(p21, n28 << 3), n31);
+					store32(inside(p21, (uint64_t)n29 << 3) + 4, (uint32_t)n26);
+					store32(p30, n29);
+					uint32_t n32 = (uint32_t)n12;
+					store32(p22 + 4, n32);
+					store32(p22, n32);
+					n23 = 0;
 				} else {
-					n21 = 0;
+					n23 = 0;
 				}
 			} else {
 				if ((load8(p1 + 232) & 1) != 0) {
-					byte *p31 = at(loadptr(p1 + 208), n12 << 4);
-					store64(p1 + 240, load64(p1 + 240) + (uint64_t)((load8(p31) != 0) ? UINT64_MAX : 0));
-					memset(p31, 0, 16);
+					byte *p33 = at(loadptr(p1 + 208), n12 << 4);
+					store64(p1 + 240, load64(p1 + 240) + (uint64_t)((load8(p33) != 0) ? UINT64_MAX : 0));
+					memset(p33, 0, 16);
 				}
-				uint64_t n32 = tp_migration_migrate(n13, p1 + 40, p1 + 128, p1 + 208, n12, n15);
-				n21 = n32;
+				uint64_t n34 = tp_migration_migrate(n13, p1 + 40, p1 + 128, p1 + 208, n12, n15);
+				n23 = n34;
 			}
 		}
 		store64(p1 + 16, n15);
-		n17 = n15;
-		n18 = n21;
+		n19 = n15;
+		n20 = n23;
 		goto L2;
 L1:
 		{
 			store64(p1 + 16, n5);
-			n17 = n5;
-			n18 = 0;
+			n19 = n5;
+			n20 = 0;
 		}
 L2:
 		{
-			uint64_t n33 = n7 + n18;
-			uint64_t n34 = load64(p1 + 32);
-			byte *p35 = loadptr(p1 + 80);
-			uint64_t n36 = n34 << 3;
-			if (n34 != (uint64_t)load32(at(p35, n36) + 4)) {
-				n37 = n36;
-				p38 = p35;
-				n39 = n34;
-				n40 = n17;
-				n41 = n33;
+			uint64_t n35 = n7 + n20;
+			uint64_t n36 = load64(p1 + 32);
+			byte *p37 = loadptr(p1 + 80);
+			uint64_t n38 = n36 << 3;
+			if (n36 != (uint64_t)load32(at(p37, n38) + 4)) {
+				n39 = n38;
+				p40 = p37;
+				n41 = n36;
+				n42 = n19;
+				n43 = n35;
 				goto L3;
 			}
-			n6 = n17;
-			n7 = n33;
+			n6 = n19;
+			n7 = n35;
 		}
 	}
-	n42 = load64(p1 + 32);
-	n37 = n42 << 3;
-	p38 = loadptr(p1 + 80);
-	n39 = n42;
-	n40 = n6;
-	n41 = n7;
+	n44 = load64(p1 + 32);
+	n39 = n44 << 3;
+	p40 = loadptr(p1 + 80);
+	n41 = n44;
+	n42 = n6;
+	n43 = n7;
 L3:
 	{
-		uint64_t n44, n45, n47;
-		bool b43 = n39 == (uint64_t)load32(at(p38, n37) + 4);
+		uint64_t n46, n47, n49;
+		bool b45 = n41 == (uint64_t)load32(at(p40, n39) + 4);
 		switch (MOSTLY_0(n3)) {
 		case 0: {
-			n44 = n40 >> 6;
-			n45 = n4 >> 6;
+			n46 = n42 >> 6;
+			n47 = n4 >> 6;
 			break;
 		}
 		case 1: {
-			n44 = n40 / 60;
-			n45 = n4 / 60;
+			n46 = n42 / 60;
+			n47 = n4 / 60;
 			break;
 		}
 		case 2: {
-			n44 = n40 >> 4;
-			n45 = n4 >> 4;
+			n46 = n42 >> 4;
+			n47 = n4 >> 4;
 			break;
 		}
 		default: {
 			UNREACHABLE();
 		}
 		}
-		uint64_t n46 = n44 - n45;
-		if (b43) {
-			n47 = n46;
+		uint64_t n48 = n46 - n47;
+		if (b45) {
+			n49 = n48;
 		} else {
-			uint64_t n48;
+			uint64_t n50;
 			switch (MOSTLY_0(n3)) {
 			case 0: {
-				n48 = n40 & 63;
+				n50 = n42 & 63;
 				break;
 			}
 			case 1: {
-				n48 = n40 % 60;
+				n50 = n42 % 60;
 				break;
 			}
 			case 2: {
-				n48 = n40 & 15;
+				n50 = n42 & 15;
 				break;
 			}
 			default: {
 				UNREACHABLE();
 			}
 			}
-			n47 = n46 + (uint64_t)(n48 != 0);
+			n49 = n48 + (uint64_t)(n50 != 0);
 		}
-		uint64_t n49 = n40 - n4;
-		store64(p1 + 256, load64(p1 + 256) + n41);
-		store64(p1 + 264, load64(p1 + 264) + (n49 - n47));
-		return n49;
+		uint64_t n51 = n42 - n4;
+		store64(p1 + 256, load64(p1 + 256) + n43);
+		store64(p1 + 264, load64(p1 + 264) + (n51 - n49));
+		return n51;
 	}
 }
 
@@ -64583,50 +64606,82 @@ L1:
 /* timer_facility::facility::Facility::quiet_until: crates/timer_facility/src/facility.rt */
 static of_i8_i64 tp_Facility_quiet_until(byte *p1)
 {
-	uint8_t n3;
-	uint64_t n4, n5, n6, n7, n8;
-	uint64_t n2 = 0;
-	for (;;) {
-		if (n2 == 10) {
-			n3 = 0;
-			n4 = 0;
-			goto L1;
-		}
-		n5 = load64(inside(p1 + 128, n2 << 3));
-		if (n5 != 0)
-			break;
-		n2 = n2 + 1;
-	}
-	n6 = cttz64(n5);
-	n7 = (n2 << 6) | n6;
-	n8 = load64(p1 + 16);
-	switch (MOSTLY_0(load8(p1))) {
+	uint8_t n4;
+	uint64_t n5;
+	uint8_t n2 = load8(p1);
+	switch (MOSTLY_0(n2)) {
 	case 0: {
-		uint64_t n9 = (n2 * 6) & UINT64_C(4294967294);
-		n3 = 1;
-		n4 = (((n8 >> (n9 & 63)) & UINT64_C(18446744073709551552)) | n6) << (n9 & 63);
-		break;
-	}
-	case 1: {
-		if (n7 < 60) {
-			n3 = 1;
-			n4 = (n8 - (n8 % 60)) + n7;
-		} else if (n7 < 120) {
-			n3 = 1;
-			n4 = (((n8 / 3600) * 60) + (n7 - 60)) * 60;
-		} else if (n7 < 144) {
-			n3 = 1;
-			n4 = (((n8 / 86400) * 24) + (n7 - 120)) * 3600;
-		} else {
-			n3 = 1;
-			n4 = (n7 * 86400) - 12441600;
+		uint64_t n6;
+		uint64_t n3 = 0;
+		for (;;) {
+			if (n3 == 10) {
+				n4 = 0;
+				n5 = 0;
+				goto L1;
+			}
+			n6 = load64(inside(p1 + 128, n3 << 3));
+			if (n6 != 0)
+				break;
+			n3 = n3 + 1;
 		}
+		uint64_t n7 = (n3 * 6) & UINT64_C(4294967294);
+		n4 = 1;
+		n5 = (((load64(p1 + 16) >> (n7 & 63)) & UINT64_C(18446744073709551552)) | cttz64(n6)) << (n7 & 63);
 		break;
 	}
+	case 1:
 	case 2: {
-		uint64_t n10 = (n7 >> 2) & UINT64_C(4294967292);
-		n3 = 1;
-		n4 = (((n8 >> (n10 & 63)) & UINT64_C(18446744073709551600)) | (n6 & 15)) << (n10 & 63);
+		uint64_t n9;
+		uint64_t n8 = 0;
+		for (;;) {
+			if (n8 == 10) {
+				n4 = 0;
+				n5 = 0;
+				goto L1;
+			}
+			n9 = load64(inside(p1 + 128, n8 << 3));
+			if (n9 != 0)
+				break;
+			n8 = n8 + 1;
+		}
+		uint64_t n10 = cttz64(n9);
+		uint64_t n11 = (n8 << 6) | n10;
+		uint64_t n12 = load64(p1 + 16);
+		switch (MOSTLY_0(n2)) {
+		case 0: {
+			uint64_t n13 = (n8 * 6) & UINT64_C(4294967294);
+			n4 = 1;
+			n5 = (((n12 >> (n13 & 63)) & UINT64_C(18446744073709551552)) | n10) << (n13 & 63);
+			break;
+		}
+		case 1: {
+			uint32_t n14 = (uint32_t)n11;
+			uint32_t n15 = (uint32_t)n12;
+			if (n14 < 60) {
+				n4 = 1;
+				n5 = (uint64_t)((n15 - (n15 % 60)) + n14);
+			} else if (n14 < 120) {
+				n4 = 1;
+				n5 = (uint64_t)((((n15 / 3600) * 60) + (n14 - 60)) * 60);
+			} else if (n14 < 144) {
+				n4 = 1;
+				n5 = (uint64_t)((((n15 / 86400) * 24) + (n14 - 120)) * 3600);
+			} else {
+				n4 = 1;
+				n5 = ((n11 * 86400) + UINT64_C(4282525696)) & UINT64_C(4294967168);
+			}
+			break;
+		}
+		case 2: {
+			uint64_t n16 = (n11 >> 2) & UINT64_C(4294967292);
+			n4 = 1;
+			n5 = (((n12 >> (n16 & 63)) & UINT64_C(18446744073709551600)) | (n10 & 15)) << (n16 & 63);
+			break;
+		}
+		default: {
+			UNREACHABLE();
+		}
+		}
 		break;
 	}
 	default: {
@@ -64635,7 +64690,7 @@ static of_i8_i64 tp_Facility_quiet_until(byte *p1)
 	}
 L1:
 	{
-		return of_i8_i64_of(of_i8_i64_of(n3, 0).f0, n4);
+		return of_i8_i64_of(of_i8_i64_of(n4, 0).f0, n5);
 	}
 }
 
@@ -70016,88 +70071,14 @@ static NOINLINE void tp_work_fix_each(byte *p1, byte *p2)
 	}
 }
 
-/* timer_wheels::smooth::SmoothWheelWheel::per_tick: crates/timer_wheels/src/smooth.rt */
-static NOINLINE void tp_SmoothWheelWheel_per_tick(byte *p1)
-{
-	uint64_t n2, n6, n18;
-	uint8_t n16;
-	if (load64(p1 + 368) == 0) {
-		n2 = 0;
-	} else {
-		uint64_t n3 = tp_work_move_each(p1, p1 + 288);
-		n2 = n3;
-	}
-	uint64_t n4 = load64(p1 + 16) + 1;
-	uint8_t n5 = load8(p1);
-	switch (MOSTLY_0(n5)) {
-	case 0: {
-		n6 = n4 & 127;
-		break;
-	}
-	case 1: {
-		n6 = n4 % 120;
-		break;
-	}
-	case 2: {
-		n6 = n4 & 31;
-		break;
-	}
-	default: {
-		UNREACHABLE();
-	}
-	}
-	byte *p7 = loadptr(p1 + 80);
-	byte *p8 = at(p7, n6 << 3);
-	uint32_t n9 = load32(p8 + 4);
-	uint64_t n10 = (uint64_t)n9;
-	if (load64(p1 + 104) <= n10) {
-		uint64_t n11 = load64(p1 + 32);
-		uint32_t n12 = load32(p8);
-		byte *p13 = at(p7, n11 << 3);
-		uint32_t n14 = load32(p13);
-		store32(inside(p7, (uint64_t)n14 << 3) + 4, n9);
-		store32(inside(p7, n10 << 3), n14);
-		store32(inside(p7, (uint64_t)n12 << 3) + 4, (uint32_t)n11);
-		store32(p13, n12);
-		uint32_t n15 = (uint32_t)n6;
-		store32(p8 + 4, n15);
-		store32(p8, n15);
-		n16 = load8(p1);
-	} else {
-		n16 = n5;
-	}
-	store64(p1 + 16, n4);
-	byte *p17 = inside(p1 + 128, (n6 >> 3) & 8);
-	store64(p17, load64(p17) & (((uint64_t)1 << (n6 & 63)) ^ UINT64_MAX));
-	switch (MOSTLY_0(n16)) {
-	case 0: {
-		n18 = n4 & 63;
-		break;
-	}
-	case 1: {
-		n18 = n4 % 60;
-		break;
-	}
-	case 2: {
-		n18 = n4 & 15;
-		break;
-	}
-	default: {
-		UNREACHABLE();
-	}
-	}
-	if (n18 == 0)
-		tp_work_fix_each(p1, p1 + 288);
-	store64(p1 + 384, load64(p1 + 384) + n2);
-	return;
-}
-
 /* timer_wheels::smooth::SmoothWheelWheel::advance: crates/timer_wheels/src/smooth.rt */
 static NOINLINE uint64_t tp_SmoothWheelWheel_advance(byte *p1, uint64_t n2)
 {
 	uint64_t n3 = load64(p1 + 16);
 	uint64_t n4 = n3 + n2;
 	for (;;) {
+		uint64_t n21, n23, n25;
+		byte *p22, *p24;
 		if (load64(p1 + 16) >= n4)
 			return n2;
 		if (load64(p1 + 368) == 0) {
@@ -70204,12 +70185,91 @@ static NOINLINE uint64_t tp_SmoothWheelWheel_advance(byte *p1, uint64_t n2)
 L1:
 			{
 				store64(p1 + 16, n20);
+				if (load64(p1 + 368) == 0) {
+					n21 = n20;
+					p22 = p1 + 288;
+					n23 = 0;
+					goto L2;
+				}
+				p24 = p1 + 288;
 			}
+		} else {
+			p24 = p1 + 288;
 		}
-		tp_SmoothWheelWheel_per_tick(p1);
-		uint64_t n21 = load64(p1 + 32);
-		if (n21 != (uint64_t)load32(at(loadptr(p1 + 80), n21 << 3) + 4))
-			return load64(p1 + 16) - n3;
+		n25 = tp_work_move_each(p1, p24);
+		n21 = load64(p1 + 16);
+		p22 = p24;
+		n23 = n25;
+L2:
+		{
+			uint64_t n28, n40;
+			uint8_t n38;
+			uint64_t n26 = n21 + 1;
+			uint8_t n27 = load8(p1);
+			switch (MOSTLY_0(n27)) {
+			case 0: {
+				n28 = n26 & 127;
+				break;
+			}
+			case 1: {
+				n28 = n26 % 120;
+				break;
+			}
+			case 2: {
+				n28 = n26 & 31;
+				break;
+			}
+			default: {
+				UNREACHABLE();
+			}
+			}
+			byte *p29 = loadptr(p1 + 80);
+			byte *p30 = at(p29, n28 << 3);
+			uint32_t n31 = load32(p30 + 4);
+			uint64_t n32 = (uint64_t)n31;
+			if (load64(p1 + 104) <= n32) {
+				uint64_t n33 = load64(p1 + 32);
+				uint32_t n34 = load32(p30);
+				byte *p35 = at(p29, n33 << 3);
+				uint32_t n36 = load32(p35);
+				store32(inside(p29, (uint64_t)n36 << 3) + 4, n31);
+				store32(inside(p29, n32 << 3), n36);
+				store32(inside(p29, (uint64_t)n34 << 3) + 4, (uint32_t)n33);
+				store32(p35, n34);
+				uint32_t n37 = (uint32_t)n28;
+				store32(p30 + 4, n37);
+				store32(p30, n37);
+				n38 = load8(p1);
+			} else {
+				n38 = n27;
+			}
+			store64(p1 + 16, n26);
+			byte *p39 = inside(p1 + 128, (n28 >> 3) & 8);
+			store64(p39, load64(p39) & (((uint64_t)1 << (n28 & 63)) ^ UINT64_MAX));
+			switch (MOSTLY_0(n38)) {
+			case 0: {
+				n40 = n26 & 63;
+				break;
+			}
+			case 1: {
+				n40 = n26 % 60;
+				break;
+			}
+			case 2: {
+				n40 = n26 & 15;
+				break;
+			}
+			default: {
+				UNREACHABLE();
+			}
+			}
+			if (n40 == 0)
+				tp_work_fix_each(p1, p22);
+			store64(p1 + 384, load64(p1 + 384) + n23);
+			uint64_t n41 = load64(p1 + 32);
+			if (n41 != (uint64_t)load32(at(loadptr(p1 + 80), n41 << 3) + 4))
+				return load64(p1 + 16) - n3;
+		}
 	}
 }
 
@@ -74599,6 +74659,83 @@ static NOINLINE void tp_Backlog_remove(byte *p1, uint64_t n2)
 	return;
 }
 
+/* timer_wheels::hier::HierWheel::visit_apart: crates/timer_wheels/src/hier.rt */
+static NOINLINE void tp_HierWheel_visit_apart(byte *p1, uint64_t n2)
+{
+	uint64_t n3 = load64(p1 + 16) + 1;
+	uint8_t n4 = load8(p1);
+	byte *p5 = loadptr(p1 + 80);
+	byte *p6 = at(p5, n2 << 3);
+	if (n2 != (uint64_t)load32(p6 + 4)) {
+		uint64_t n8, n9;
+		byte *p7 = inside(p1 + 128, (n2 >> 6) << 3);
+		store64(p7, load64(p7) & (((uint64_t)1 << (n2 & 63)) ^ UINT64_MAX));
+		switch (MOSTLY_0(n4)) {
+		case 0: {
+			n8 = 64;
+			break;
+		}
+		case 1: {
+			n8 = 60;
+			break;
+		}
+		case 2: {
+			n8 = 16;
+			break;
+		}
+		default: {
+			UNREACHABLE();
+		}
+		}
+		if (n2 >= n8) {
+			if ((load8(p1 + 232) & 1) != 0) {
+				byte *p16 = at(loadptr(p1 + 208), n2 << 4);
+				store64(p1 + 240, load64(p1 + 240) + (uint64_t)((load8(p16) != 0) ? UINT64_MAX : 0));
+				memset(p16, 0, 16);
+			}
+			uint64_t n17 = tp_migration_migrate(n4, p1 + 40, p1 + 128, p1 + 208, n2, n3);
+			store64(p1 + 16, n3);
+			if (n17 == 0)
+				return;
+			store64(p1 + 256, load64(p1 + 256) + n17);
+			return;
+		}
+		switch (MOSTLY_0(n4)) {
+		case 0: {
+			n9 = 640;
+			break;
+		}
+		case 1: {
+			n9 = 244;
+			break;
+		}
+		case 2: {
+			n9 = 96;
+			break;
+		}
+		default: {
+			UNREACHABLE();
+		}
+		}
+		uint32_t n10 = load32(p6 + 4);
+		uint64_t n11 = (uint64_t)n10;
+		if (load64(p1 + 104) <= n11) {
+			uint32_t n12 = load32(p6);
+			byte *p13 = at(p5, n9 << 3);
+			uint32_t n14 = load32(p13);
+			store32(inside(p5, (uint64_t)n14 << 3) + 4, n10);
+			store32(inside(p5, n11 << 3), n14);
+			store32(inside(p5, (uint64_t)n12 << 3) + 4, (uint32_t)n9);
+			store32(p13, n12);
+			uint32_t n15 = (uint32_t)n2;
+			store32(p6 + 4, n15);
+			store32(p6, n15);
+		}
+	}
+	store64(p1 + 16, n3);
+	return;
+}
+
 /* timer_threads::threads_text::push_count: crates/timer_threads/src/threads_text.rt */
 static uint8_t tp_threads_text_push_count(byte *p1, byte *p2, uint64_t n3, uint64_t n4)
 {
@@ -76245,16 +76382,16 @@ L5:
 		p429 = p6;
 L6:
 		{
-			byte *p763, *p786, *p788, *p790, *p792, *p794, *p796, *p799, *p802;
-			uint64_t n765, n787, n789, n791, n793, n795, n797, n798, n800, n801, n803;
+			byte *p772, *p795, *p797, *p799, *p801, *p803, *p805, *p808, *p811;
+			uint64_t n774, n796, n798, n800, n802, n804, n806, n807, n809, n810, n812;
 			storeptru(p19, p6);
 			memset(p19 + 8, 0, 16);
 			uint64_t n462 = 0;
 			while (n462 < 10000000) {
 				byte *p465, *p482, *p484, *p488;
-				uint64_t n466, n467, n468, n469, n470, n471, n473, n475, n476, n481, n483, n485, n487, n489, n490, n491, n492, n493, n494, n496, n498, n764, n766, n777;
+				uint64_t n466, n467, n468, n469, n470, n471, n473, n475, n476, n481, n483, n485, n487, n489, n490, n491, n492, n493, n494, n496, n498, n773, n775, n786;
 				bool b486;
-				uint8_t n767;
+				uint8_t n776;
 				uint64_t n463 = 0;
 				for (;;) {
 					if (n463 == n201)
@@ -76268,7 +76405,7 @@ L6:
 				}
 				p465 = loadptr(p18 + 80);
 				if (n463 >= n201) {
-					p786 = p465;
+					p795 = p465;
 					goto L9;
 				}
 				n466 = load64(p18 + 64);
@@ -76362,8 +76499,8 @@ L6:
 				memcpy(p16, p17 + 7, 24);
 				n498 = 0;
 				while (n498 != n483) {
-					uint8_t n712, n713;
-					uint64_t n714, n715, n716, n717, n718, n719, n720;
+					uint8_t n718, n719;
+					uint64_t n720, n721, n722, n723, n724, n725, n726;
 					byte *p499 = at(p484, n498 << 4);
 					uint8_t n500 = load8(p499);
 					uint64_t n501 = load64u(p499 + 8);
@@ -76622,7 +76759,7 @@ L6:
 											uint8_t n592 = load8(p18);
 											bool b593 = n579 < n591;
 											if (b593) {
-												uint64_t n599, n600, n601;
+												uint64_t n602, n603, n604;
 												switch (MOSTLY_0(n592)) {
 												case 0: {
 													uint32_t n594 = (((uint32_t)ctlz64(n579 ^ n591) ^ 63) * 43) >> 8;
@@ -76634,28 +76771,32 @@ L6:
 													goto L14;
 												}
 												case 1: {
-													uint64_t n596 = n591 / 60;
-													if ((n579 / 60) == n596) {
-														n595 = n591 % 60;
-														goto L14;
+													uint32_t n599;
+													uint32_t n596 = (uint32_t)n591;
+													uint32_t n597 = (uint32_t)n579;
+													uint32_t n598 = n596 / 60;
+													if ((n597 / 60) == n598) {
+														n599 = n596 % 60;
+													} else {
+														uint32_t n600 = n596 / 3600;
+														if ((n597 / 3600) == n600) {
+															n599 = (n598 % 60) + 60;
+														} else {
+															uint32_t n601 = n596 / 86400;
+															if ((n597 / 86400) == n601) {
+																n599 = (n600 % 24) + 120;
+															} else {
+																n599 = n601 + 144;
+															}
+														}
 													}
-													uint64_t n597 = n591 / 3600;
-													if ((n579 / 3600) == n597) {
-														n595 = (n596 % 60) + 60;
-														goto L14;
-													}
-													uint64_t n598 = n591 / 86400;
-													if ((n579 / 86400) == n598) {
-														n595 = (n597 % 24) + 120;
-														goto L14;
-													}
-													n595 = n598 + 144;
+													n595 = (uint64_t)n599;
 													goto L14;
 												}
 												case 2: {
-													n599 = n591;
-													n600 = n579;
-													n601 = 0;
+													n602 = n591;
+													n603 = n579;
+													n604 = 0;
 													break;
 												}
 												default: {
@@ -76663,50 +76804,36 @@ L6:
 												}
 												}
 												for (;;) {
-													uint64_t n602 = n600 >> 4;
-													uint64_t n603 = n599 >> 4;
-													if (n602 == n603)
+													uint64_t n605 = n603 >> 4;
+													uint64_t n606 = n602 >> 4;
+													if (n605 == n606)
 														break;
-													n599 = n603;
-													n600 = n602;
-													n601 = n601 + 16;
+													n602 = n606;
+													n603 = n605;
+													n604 = n604 + 16;
 												}
-												n595 = n601 | (n599 & 15);
+												n595 = n604 | (n602 & 15);
 											} else {
 												n595 = n582;
 											}
 L14:
 											{
-												uint64_t n605, n606, n610;
-												uint64_t n604 = load64(p18 + 72);
-												if (n604 < load64(p18 + 120)) {
-													n605 = n581;
-													n606 = n604;
+												uint64_t n608, n609, n613;
+												uint64_t n607 = load64(p18 + 72);
+												if (n607 < load64(p18 + 120)) {
+													n608 = n581;
+													n609 = n607;
 												} else {
-													uint8_t n607 = tp_links_make_ready(p18 + 40, p18 + 80, n584, load64(p18 + 112));
-													if ((n607 & 1) != 0)
+													uint8_t n610 = tp_links_make_ready(p18 + 40, p18 + 80, n584, load64(p18 + 112));
+													if ((n610 & 1) != 0)
 														goto L15;
 													store64(p18 + 120, umin64(load64(p18 + 88) - n584, load64(p18 + 56)));
-													n605 = load64(p18 + 64);
-													n606 = load64(p18 + 72);
+													n608 = load64(p18 + 64);
+													n609 = load64(p18 + 72);
 												}
-												store64(p18 + 64, n605 + 1);
-												if (n606 == load64(p18 + 48)) {
-													byte *p608 = inside(loadptr(p18 + 40), n606 * 56);
-													store64u(p608, 1);
-													store64u(p608 + 8, n580);
-													store64u(p608 + 16, n501);
-													store64u(p608 + 24, n524);
-													store64u(p608 + 32, n591);
-													store64u(p608 + 40, n523);
-													store64u(p608 + 48, 0);
-													uint64_t n609 = n606 + 1;
-													store64(p18 + 48, n609);
-													n610 = n609;
-												} else {
-													byte *p611 = at(loadptr(p18 + 40), n606 * 56);
-													uint8_t n612 = load8(p611);
-													uint64_t n613 = load64u(p611 + 8);
+												store64(p18 + 64, n608 + 1);
+												if (n609 == load64(p18 + 48)) {
+													byte *p611 = inside(loadptr(p18 + 40), n609 * 56);
 													store64u(p611, 1);
 													store64u(p611 + 8, n580);
 													store64u(p611 + 16, n501);
@@ -76714,88 +76841,102 @@ L14:
 													store64u(p611 + 32, n591);
 													store64u(p611 + 40, n523);
 													store64u(p611 + 48, 0);
-													if (n612 != 0) {
+													uint64_t n612 = n609 + 1;
+													store64(p18 + 48, n612);
+													n613 = n612;
+												} else {
+													byte *p614 = at(loadptr(p18 + 40), n609 * 56);
+													uint8_t n615 = load8(p614);
+													uint64_t n616 = load64u(p614 + 8);
+													store64u(p614, 1);
+													store64u(p614 + 8, n580);
+													store64u(p614 + 16, n501);
+													store64u(p614 + 24, n524);
+													store64u(p614 + 32, n591);
+													store64u(p614 + 40, n523);
+													store64u(p614 + 48, 0);
+													if (n615 != 0) {
 														TRAP();
 														UNREACHABLE();
 													}
-													n610 = n613;
+													n613 = n616;
 												}
-												store64(p18 + 72, n610);
-												uint64_t n614 = load64(p18 + 104) + n606;
-												byte *p615 = loadptr(p18 + 80);
-												uint64_t n616 = n595 << 3;
-												byte *p617 = inside(p615, n616);
-												uint32_t n618 = load32(p617);
-												uint32_t n619 = (uint32_t)n614;
-												store32(inside(p615, (uint64_t)n618 << 3) + 4, n619);
-												byte *p620 = inside(p615, n614 << 3);
-												store32(p620, n618);
-												store32(p620 + 4, (uint32_t)n595);
-												store32(p617, n619);
+												store64(p18 + 72, n613);
+												uint64_t n617 = load64(p18 + 104) + n609;
+												byte *p618 = loadptr(p18 + 80);
+												uint64_t n619 = n595 << 3;
+												byte *p620 = inside(p618, n619);
+												uint32_t n621 = load32(p620);
+												uint32_t n622 = (uint32_t)n617;
+												store32(inside(p618, (uint64_t)n621 << 3) + 4, n622);
+												byte *p623 = inside(p618, n617 << 3);
+												store32(p623, n621);
+												store32(p623 + 4, (uint32_t)n595);
+												store32(p620, n622);
 												store64(p18 + 24, n580);
 												if (b593) {
-													byte *p621 = inside(p18 + 128, (n595 >> 3) & 536870904);
-													store64(p621, load64(p621) | ((uint64_t)1 << (n595 & 63)));
+													byte *p624 = inside(p18 + 128, (n595 >> 3) & 536870904);
+													store64(p624, load64(p624) | ((uint64_t)1 << (n595 & 63)));
 													if ((load8(p18 + 232) & 1) != 0) {
-														uint64_t n622;
+														uint64_t n625;
 														switch (MOSTLY_0(n592)) {
 														case 0: {
-															n622 = 64;
+															n625 = 64;
 															break;
 														}
 														case 1: {
-															n622 = 60;
+															n625 = 60;
 															break;
 														}
 														case 2: {
-															n622 = 16;
+															n625 = 16;
 															break;
 														}
 														default: {
 															UNREACHABLE();
 														}
 														}
-														if (n595 >= n622) {
-															byte *p623 = at(loadptr(p18 + 208), n595 << 4);
-															if (load8(p623) == 0) {
-																if (n591 < load64(p623 + 8)) {
-																	uint64_t n628;
-																	uint64_t n624 = load64(p18 + 104);
-																	uint64_t n625 = (uint64_t)load32(at(loadptr(p18 + 80), n616) + 4);
-																	if (n624 <= n625) {
-																		uint64_t n626 = usub_sat64(n625, n624);
-																		byte *p627 = at(loadptr(p18 + 40), n626 * 56);
-																		if (n626 < load64(p18 + 48)) {
-																			if (load8(p627) == 1) {
-																				n628 = umin64(n591, load64u(p627 + 32));
+														if (n595 >= n625) {
+															byte *p626 = at(loadptr(p18 + 208), n595 << 4);
+															if (load8(p626) == 0) {
+																if (n591 < load64(p626 + 8)) {
+																	uint64_t n631;
+																	uint64_t n627 = load64(p18 + 104);
+																	uint64_t n628 = (uint64_t)load32(at(loadptr(p18 + 80), n619) + 4);
+																	if (n627 <= n628) {
+																		uint64_t n629 = usub_sat64(n628, n627);
+																		byte *p630 = at(loadptr(p18 + 40), n629 * 56);
+																		if (n629 < load64(p18 + 48)) {
+																			if (load8(p630) == 1) {
+																				n631 = umin64(n591, load64u(p630 + 32));
 																			} else {
-																				n628 = n591;
+																				n631 = n591;
 																			}
 																		} else {
-																			n628 = n591;
+																			n631 = n591;
 																		}
 																	} else {
-																		n628 = n591;
+																		n631 = n591;
 																	}
-																	store32u(p623, 1);
-																	store32u(p623 + 4, 1);
-																	store64u(p623 + 8, n628);
+																	store32u(p626, 1);
+																	store32u(p626 + 4, 1);
+																	store64u(p626 + 8, n631);
 																	store64(p18 + 240, load64(p18 + 240) + 1);
 																} else {
-																	store32u(p623, 0);
-																	store32u(p623 + 4, 0);
-																	store64u(p623 + 8, n591);
+																	store32u(p626, 0);
+																	store32u(p626 + 4, 0);
+																	store64u(p626 + 8, n591);
 																}
 															} else {
-																uint32_t n629 = load32(p623 + 4);
-																uint64_t n630 = load64(p623 + 8);
-																if (n591 < n630) {
-																	store32u(p623, 1);
-																	store32u(p623 + 4, 1);
-																	store64u(p623 + 8, n591);
-																} else if (n591 == n630) {
-																	store32u(p623, 1);
-																	store32u(p623 + 4, uadd_sat32(n629, 1));
+																uint32_t n632 = load32(p626 + 4);
+																uint64_t n633 = load64(p626 + 8);
+																if (n591 < n633) {
+																	store32u(p626, 1);
+																	store32u(p626 + 4, 1);
+																	store64u(p626 + 8, n591);
+																} else if (n591 == n633) {
+																	store32u(p626, 1);
+																	store32u(p626 + 4, uadd_sat32(n632, 1));
 																}
 															}
 														}
@@ -76803,9 +76944,9 @@ L14:
 												}
 												store64(p18 + 248, load64(p18 + 248) + 1);
 												store64(p18 + 288, load64(p18 + 288) + 1);
-												byte *p631 = inside(p18 + 808, n570);
-												store64(p631, load64(p631) + 1);
-												n573 = n606;
+												byte *p634 = inside(p18 + 808, n570);
+												store64(p634, load64(p634) + 1);
+												n573 = n609;
 												n574 = n580;
 												n575 = 0;
 												n576 = 0;
@@ -76823,10 +76964,10 @@ L14:
 										goto L13;
 									}
 									case 1: {
-										uint64_t n643;
-										uint64_t n632 = load64(p18 + 16);
-										uint64_t n633 = usub_sat64(n522, n632);
-										if ((load64(p18 + 8) - n632) < umax64(n633, 1)) {
+										uint64_t n646;
+										uint64_t n635 = load64(p18 + 16);
+										uint64_t n636 = usub_sat64(n522, n635);
+										if ((load64(p18 + 8) - n635) < umax64(n636, 1)) {
 											n573 = 0;
 											n574 = 0;
 											n575 = 3;
@@ -76835,8 +76976,8 @@ L14:
 											n578 = 0;
 											goto L13;
 										}
-										uint64_t n634 = load64(p18 + 288);
-										if (n634 > UINT64_C(1152921504606846975)) {
+										uint64_t n637 = load64(p18 + 288);
+										if (n637 > UINT64_C(1152921504606846975)) {
 											n573 = 0;
 											n574 = 0;
 											n575 = 3;
@@ -76845,68 +76986,72 @@ L14:
 											n578 = 0;
 											goto L13;
 										}
-										uint64_t n635 = load64(p18 + 64);
-										uint64_t n636 = load64(p18 + 32);
-										byte *p637 = loadptr(p18 + 80);
-										uint64_t n638 = load64(p18 + 104);
-										uint64_t n639 = (uint64_t)load32(at(p637, n636 << 3) + 4);
-										uint64_t n640 = usub_sat64(n639, n638);
-										uint64_t n641 = 0;
-										uint64_t n642 = n639;
+										uint64_t n638 = load64(p18 + 64);
+										uint64_t n639 = load64(p18 + 32);
+										byte *p640 = loadptr(p18 + 80);
+										uint64_t n641 = load64(p18 + 104);
+										uint64_t n642 = (uint64_t)load32(at(p640, n639 << 3) + 4);
+										uint64_t n643 = usub_sat64(n642, n641);
+										uint64_t n644 = 0;
+										uint64_t n645 = n642;
 										for (;;) {
-											if (n641 == n635) {
-												n643 = n635;
+											if (n644 == n638) {
+												n646 = n638;
 												break;
 											}
-											if (n638 > n642) {
-												n643 = n641;
+											if (n641 > n645) {
+												n646 = n644;
 												break;
 											}
-											uint64_t n644 = (uint64_t)load32(at(p637, (n638 + n640) << 3) + 4);
-											n640 = usub_sat64(n644, n638);
-											n641 = n641 + 1;
-											n642 = n644;
+											uint64_t n647 = (uint64_t)load32(at(p640, (n641 + n643) << 3) + 4);
+											n643 = usub_sat64(n647, n641);
+											n644 = n644 + 1;
+											n645 = n647;
 										}
-										if ((n635 - n643) != load64(p18 + 280)) {
-											uint64_t n649;
-											uint64_t n645 = n632 + n633;
-											uint8_t n646 = load8(p18);
-											bool b647 = n632 < n645;
-											if (b647) {
-												uint64_t n653, n654, n655;
-												switch (MOSTLY_0(n646)) {
+										if ((n638 - n646) != load64(p18 + 280)) {
+											uint64_t n652;
+											uint64_t n648 = n635 + n636;
+											uint8_t n649 = load8(p18);
+											bool b650 = n635 < n648;
+											if (b650) {
+												uint64_t n659, n660, n661;
+												switch (MOSTLY_0(n649)) {
 												case 0: {
-													uint32_t n648 = (((uint32_t)ctlz64(n632 ^ n645) ^ 63) * 43) >> 8;
-													if (n648 == 0) {
-														n649 = n645 & 63;
+													uint32_t n651 = (((uint32_t)ctlz64(n635 ^ n648) ^ 63) * 43) >> 8;
+													if (n651 == 0) {
+														n652 = n648 & 63;
 														goto L16;
 													}
-													n649 = ((n645 >> ((uint64_t)(n648 * 6) & 63)) & 63) | (uint64_t)(n648 << 6);
+													n652 = ((n648 >> ((uint64_t)(n651 * 6) & 63)) & 63) | (uint64_t)(n651 << 6);
 													goto L16;
 												}
 												case 1: {
-													uint64_t n650 = n645 / 60;
-													if ((n632 / 60) == n650) {
-														n649 = n645 % 60;
-														goto L16;
+													uint32_t n656;
+													uint32_t n653 = (uint32_t)n648;
+													uint32_t n654 = (uint32_t)n635;
+													uint32_t n655 = n653 / 60;
+													if ((n654 / 60) == n655) {
+														n656 = n653 % 60;
+													} else {
+														uint32_t n657 = n653 / 3600;
+														if ((n654 / 3600) == n657) {
+															n656 = (n655 % 60) + 60;
+														} else {
+															uint32_t n658 = n653 / 86400;
+															if ((n654 / 86400) == n658) {
+																n656 = (n657 % 24) + 120;
+															} else {
+																n656 = n658 + 144;
+															}
+														}
 													}
-													uint64_t n651 = n645 / 3600;
-													if ((n632 / 3600) == n651) {
-														n649 = (n650 % 60) + 60;
-														goto L16;
-													}
-													uint64_t n652 = n645 / 86400;
-													if ((n632 / 86400) == n652) {
-														n649 = (n651 % 24) + 120;
-														goto L16;
-													}
-													n649 = n652 + 144;
+													n652 = (uint64_t)n656;
 													goto L16;
 												}
 												case 2: {
-													n653 = n645;
-													n654 = n632;
-													n655 = 0;
+													n659 = n648;
+													n660 = n635;
+													n661 = 0;
 													break;
 												}
 												default: {
@@ -76914,139 +77059,139 @@ L14:
 												}
 												}
 												for (;;) {
-													uint64_t n656 = n654 >> 4;
-													uint64_t n657 = n653 >> 4;
-													if (n656 == n657)
+													uint64_t n662 = n660 >> 4;
+													uint64_t n663 = n659 >> 4;
+													if (n662 == n663)
 														break;
-													n653 = n657;
-													n654 = n656;
-													n655 = n655 + 16;
+													n659 = n663;
+													n660 = n662;
+													n661 = n661 + 16;
 												}
-												n649 = n655 | (n653 & 15);
+												n652 = n661 | (n659 & 15);
 											} else {
-												n649 = n636;
+												n652 = n639;
 											}
 L16:
 											{
-												uint64_t n659, n660, n664;
-												uint64_t n658 = load64(p18 + 72);
-												if (n658 < load64(p18 + 120)) {
-													n659 = n635;
-													n660 = n658;
+												uint64_t n665, n666, n670;
+												uint64_t n664 = load64(p18 + 72);
+												if (n664 < load64(p18 + 120)) {
+													n665 = n638;
+													n666 = n664;
 												} else {
-													uint8_t n661 = tp_links_make_ready(p18 + 40, p18 + 80, n638, load64(p18 + 112));
-													if ((n661 & 1) != 0)
+													uint8_t n667 = tp_links_make_ready(p18 + 40, p18 + 80, n641, load64(p18 + 112));
+													if ((n667 & 1) != 0)
 														goto L15;
-													store64(p18 + 120, umin64(load64(p18 + 88) - n638, load64(p18 + 56)));
-													n659 = load64(p18 + 64);
-													n660 = load64(p18 + 72);
+													store64(p18 + 120, umin64(load64(p18 + 88) - n641, load64(p18 + 56)));
+													n665 = load64(p18 + 64);
+													n666 = load64(p18 + 72);
 												}
-												store64(p18 + 64, n659 + 1);
-												if (n660 == load64(p18 + 48)) {
-													byte *p662 = inside(loadptr(p18 + 40), n660 * 56);
-													store64u(p662, 1);
-													store64u(p662 + 8, n634);
-													store64u(p662 + 16, n501);
-													store64u(p662 + 24, n524);
-													store64u(p662 + 32, n645);
-													store64u(p662 + 40, n523);
-													store64u(p662 + 48, 0);
-													uint64_t n663 = n660 + 1;
-													store64(p18 + 48, n663);
-													n664 = n663;
+												store64(p18 + 64, n665 + 1);
+												if (n666 == load64(p18 + 48)) {
+													byte *p668 = inside(loadptr(p18 + 40), n666 * 56);
+													store64u(p668, 1);
+													store64u(p668 + 8, n637);
+													store64u(p668 + 16, n501);
+													store64u(p668 + 24, n524);
+													store64u(p668 + 32, n648);
+													store64u(p668 + 40, n523);
+													store64u(p668 + 48, 0);
+													uint64_t n669 = n666 + 1;
+													store64(p18 + 48, n669);
+													n670 = n669;
 												} else {
-													byte *p665 = at(loadptr(p18 + 40), n660 * 56);
-													uint8_t n666 = load8(p665);
-													uint64_t n667 = load64u(p665 + 8);
-													store64u(p665, 1);
-													store64u(p665 + 8, n634);
-													store64u(p665 + 16, n501);
-													store64u(p665 + 24, n524);
-													store64u(p665 + 32, n645);
-													store64u(p665 + 40, n523);
-													store64u(p665 + 48, 0);
-													if (n666 != 0) {
+													byte *p671 = at(loadptr(p18 + 40), n666 * 56);
+													uint8_t n672 = load8(p671);
+													uint64_t n673 = load64u(p671 + 8);
+													store64u(p671, 1);
+													store64u(p671 + 8, n637);
+													store64u(p671 + 16, n501);
+													store64u(p671 + 24, n524);
+													store64u(p671 + 32, n648);
+													store64u(p671 + 40, n523);
+													store64u(p671 + 48, 0);
+													if (n672 != 0) {
 														TRAP();
 														UNREACHABLE();
 													}
-													n664 = n667;
+													n670 = n673;
 												}
-												store64(p18 + 72, n664);
-												uint64_t n668 = load64(p18 + 104) + n660;
-												byte *p669 = loadptr(p18 + 80);
-												uint64_t n670 = n649 << 3;
-												byte *p671 = inside(p669, n670);
-												uint32_t n672 = load32(p671);
-												uint32_t n673 = (uint32_t)n668;
-												store32(inside(p669, (uint64_t)n672 << 3) + 4, n673);
-												byte *p674 = inside(p669, n668 << 3);
-												store32(p674, n672);
-												store32(p674 + 4, (uint32_t)n649);
-												store32(p671, n673);
-												store64(p18 + 24, n634);
-												if (b647) {
-													byte *p675 = inside(p18 + 128, (n649 >> 3) & 536870904);
-													store64(p675, load64(p675) | ((uint64_t)1 << (n649 & 63)));
+												store64(p18 + 72, n670);
+												uint64_t n674 = load64(p18 + 104) + n666;
+												byte *p675 = loadptr(p18 + 80);
+												uint64_t n676 = n652 << 3;
+												byte *p677 = inside(p675, n676);
+												uint32_t n678 = load32(p677);
+												uint32_t n679 = (uint32_t)n674;
+												store32(inside(p675, (uint64_t)n678 << 3) + 4, n679);
+												byte *p680 = inside(p675, n674 << 3);
+												store32(p680, n678);
+												store32(p680 + 4, (uint32_t)n652);
+												store32(p677, n679);
+												store64(p18 + 24, n637);
+												if (b650) {
+													byte *p681 = inside(p18 + 128, (n652 >> 3) & 536870904);
+													store64(p681, load64(p681) | ((uint64_t)1 << (n652 & 63)));
 													if ((load8(p18 + 232) & 1) != 0) {
-														uint64_t n676;
-														switch (MOSTLY_0(n646)) {
+														uint64_t n682;
+														switch (MOSTLY_0(n649)) {
 														case 0: {
-															n676 = 64;
+															n682 = 64;
 															break;
 														}
 														case 1: {
-															n676 = 60;
+															n682 = 60;
 															break;
 														}
 														case 2: {
-															n676 = 16;
+															n682 = 16;
 															break;
 														}
 														default: {
 															UNREACHABLE();
 														}
 														}
-														if (n649 >= n676) {
-															byte *p677 = at(loadptr(p18 + 208), n649 << 4);
-															if (load8(p677) == 0) {
-																if (n645 < load64(p677 + 8)) {
-																	uint64_t n682;
-																	uint64_t n678 = load64(p18 + 104);
-																	uint64_t n679 = (uint64_t)load32(at(loadptr(p18 + 80), n670) + 4);
-																	if (n678 <= n679) {
-																		uint64_t n680 = usub_sat64(n679, n678);
-																		byte *p681 = at(loadptr(p18 + 40), n680 * 56);
-																		if (n680 < load64(p18 + 48)) {
-																			if (load8(p681) == 1) {
-																				n682 = umin64(n645, load64u(p681 + 32));
+														if (n652 >= n682) {
+															byte *p683 = at(loadptr(p18 + 208), n652 << 4);
+															if (load8(p683) == 0) {
+																if (n648 < load64(p683 + 8)) {
+																	uint64_t n688;
+																	uint64_t n684 = load64(p18 + 104);
+																	uint64_t n685 = (uint64_t)load32(at(loadptr(p18 + 80), n676) + 4);
+																	if (n684 <= n685) {
+																		uint64_t n686 = usub_sat64(n685, n684);
+																		byte *p687 = at(loadptr(p18 + 40), n686 * 56);
+																		if (n686 < load64(p18 + 48)) {
+																			if (load8(p687) == 1) {
+																				n688 = umin64(n648, load64u(p687 + 32));
 																			} else {
-																				n682 = n645;
+																				n688 = n648;
 																			}
 																		} else {
-																			n682 = n645;
+																			n688 = n648;
 																		}
 																	} else {
-																		n682 = n645;
+																		n688 = n648;
 																	}
-																	store32u(p677, 1);
-																	store32u(p677 + 4, 1);
-																	store64u(p677 + 8, n682);
+																	store32u(p683, 1);
+																	store32u(p683 + 4, 1);
+																	store64u(p683 + 8, n688);
 																	store64(p18 + 240, load64(p18 + 240) + 1);
 																} else {
-																	store32u(p677, 0);
-																	store32u(p677 + 4, 0);
-																	store64u(p677 + 8, n645);
+																	store32u(p683, 0);
+																	store32u(p683 + 4, 0);
+																	store64u(p683 + 8, n648);
 																}
 															} else {
-																uint32_t n683 = load32(p677 + 4);
-																uint64_t n684 = load64(p677 + 8);
-																if (n645 < n684) {
-																	store32u(p677, 1);
-																	store32u(p677 + 4, 1);
-																	store64u(p677 + 8, n645);
-																} else if (n645 == n684) {
-																	store32u(p677, 1);
-																	store32u(p677 + 4, uadd_sat32(n683, 1));
+																uint32_t n689 = load32(p683 + 4);
+																uint64_t n690 = load64(p683 + 8);
+																if (n648 < n690) {
+																	store32u(p683, 1);
+																	store32u(p683 + 4, 1);
+																	store64u(p683 + 8, n648);
+																} else if (n648 == n690) {
+																	store32u(p683, 1);
+																	store32u(p683 + 4, uadd_sat32(n689, 1));
 																}
 															}
 														}
@@ -77054,13 +77199,13 @@ L16:
 												}
 												store64(p18 + 248, load64(p18 + 248) + 1);
 												store64(p18 + 288, load64(p18 + 288) + 1);
-												byte *p685 = inside(p18 + 808, n570);
-												store64(p685, load64(p685) + 1);
-												n573 = n660;
-												n574 = n634;
+												byte *p691 = inside(p18 + 808, n570);
+												store64(p691, load64(p691) + 1);
+												n573 = n666;
+												n574 = n637;
 												n575 = 0;
 												n576 = 0;
-												n577 = n645;
+												n577 = n648;
 												n578 = 0;
 												goto L13;
 											}
@@ -77074,43 +77219,43 @@ L16:
 										goto L13;
 									}
 									case 2: {
-										uint8_t n688, n689;
-										uint64_t n690;
-										byte *p686 = at(loadptr(p18 + 40), n522 * 56);
+										uint8_t n694, n695;
+										uint64_t n696;
+										byte *p692 = at(loadptr(p18 + 40), n522 * 56);
 										if (n522 < load64(p18 + 48)) {
-											if (load8(p686) == 1) {
-												if (load64u(p686 + 8) == n523) {
-													if (load64u(p686 + 16) == n501) {
+											if (load8(p692) == 1) {
+												if (load64u(p692 + 8) == n523) {
+													if (load64u(p692 + 16) == n501) {
 														tp_HierWheelWheel_stop(p13, p18, n522, n523);
-														byte *p687 = inside(p18 + 808, n570);
-														store64(p687, load64(p687) - 1);
-														n688 = 1;
-														n689 = 0;
-														n690 = n523;
+														byte *p693 = inside(p18 + 808, n570);
+														store64(p693, load64(p693) - 1);
+														n694 = 1;
+														n695 = 0;
+														n696 = n523;
 													} else {
-														n688 = 3;
-														n689 = 4;
-														n690 = 0;
+														n694 = 3;
+														n695 = 4;
+														n696 = 0;
 													}
 												} else {
-													n688 = 3;
-													n689 = 4;
-													n690 = 0;
+													n694 = 3;
+													n695 = 4;
+													n696 = 0;
 												}
 											} else {
-												n688 = 3;
-												n689 = 4;
-												n690 = 0;
+												n694 = 3;
+												n695 = 4;
+												n696 = 0;
 											}
 										} else {
-											n688 = 3;
-											n689 = 4;
-											n690 = 0;
+											n694 = 3;
+											n695 = 4;
+											n696 = 0;
 										}
-										n573 = n690;
+										n573 = n696;
 										n574 = 0;
-										n575 = n688;
-										n576 = n689;
+										n575 = n694;
+										n576 = n695;
 										n577 = 0;
 										n578 = 0;
 										goto L13;
@@ -77127,9 +77272,9 @@ L16:
 										goto L13;
 									}
 									case 4: {
-										uint64_t n691 = usub_sat64(n526, load64(p18 + 16));
+										uint64_t n697 = usub_sat64(n526, load64(p18 + 16));
 										memset(p11, 0, 40);
-										tp_Facility_take_restart(p11, p18, n501, n524, n522, n523, umax64(n691, 1), n691, n527);
+										tp_Facility_take_restart(p11, p18, n501, n524, n522, n523, umax64(n697, 1), n697, n527);
 										n573 = load64u(p11 + 8);
 										n574 = load64u(p11 + 16);
 										n575 = load8(p11);
@@ -77188,19 +77333,19 @@ L13:
 							}
 							if (load8(p503 + 32) == 1)
 								memset(p503 + 32, 0, 56);
-							uint64_t n692 = load64(p503 + 16);
-							uint64_t n693 = load64(p503 + 8);
-							if (n693 > n692) {
-								uint64_t n694 = load64(p503 + 24) + n692;
-								byte *p695 = inside(loadptru(p503), (n694 - ((n694 < n693) ? 0 : n693)) << 6);
-								store64u(p695, n565);
-								store64u(p695 + 8, n524);
-								store64u(p695 + 16, n563);
-								store64u(p695 + 24, n566);
-								store64u(p695 + 32, n564);
-								store64u(p695 + 40, n567);
-								store64u(p695 + 48, n568);
-								store64u(p695 + 56, n569);
+							uint64_t n698 = load64(p503 + 16);
+							uint64_t n699 = load64(p503 + 8);
+							if (n699 > n698) {
+								uint64_t n700 = load64(p503 + 24) + n698;
+								byte *p701 = inside(loadptru(p503), (n700 - ((n700 < n699) ? 0 : n699)) << 6);
+								store64u(p701, n565);
+								store64u(p701 + 8, n524);
+								store64u(p701 + 16, n563);
+								store64u(p701 + 24, n566);
+								store64u(p701 + 32, n564);
+								store64u(p701 + 40, n567);
+								store64u(p701 + 48, n568);
+								store64u(p701 + 56, n569);
 								store64(p503 + 16, load64(p503 + 16) + 1);
 								n508 = n563;
 								n509 = n566;
@@ -77235,141 +77380,146 @@ L13:
 						}
 L12:
 						{
-							uint64_t n696 = load64(p16 + 8);
-							byte *p697 = inside(loadptr(p16), n696 * 136);
-							store8(p697, 0);
-							memcpy(p697 + 1, p14, 7);
-							store64u(p697 + 8, n501);
-							store64u(p697 + 16, n519);
-							store64u(p697 + 24, n515);
-							store64u(p697 + 32, n516);
-							store64u(p697 + 40, n513);
-							store64u(p697 + 48, n514);
-							store64u(p697 + 56, n517);
-							store64u(p697 + 64, n518);
-							store64u(p697 + 72, n520);
-							store64u(p697 + 80, n515);
-							store64u(p697 + 88, n508);
-							store64u(p697 + 96, n509);
-							store64u(p697 + 104, n510);
-							store64u(p697 + 112, n511);
-							store64u(p697 + 120, n512);
-							store64u(p697 + 128, n521);
-							store64(p16 + 8, n696 + 1);
+							uint64_t n702 = load64(p16 + 8);
+							byte *p703 = inside(loadptr(p16), n702 * 136);
+							store8(p703, 0);
+							memcpy(p703 + 1, p14, 7);
+							store64u(p703 + 8, n501);
+							store64u(p703 + 16, n519);
+							store64u(p703 + 24, n515);
+							store64u(p703 + 32, n516);
+							store64u(p703 + 40, n513);
+							store64u(p703 + 48, n514);
+							store64u(p703 + 56, n517);
+							store64u(p703 + 64, n518);
+							store64u(p703 + 72, n520);
+							store64u(p703 + 80, n515);
+							store64u(p703 + 88, n508);
+							store64u(p703 + 96, n509);
+							store64u(p703 + 104, n510);
+							store64u(p703 + 112, n511);
+							store64u(p703 + 120, n512);
+							store64u(p703 + 128, n521);
+							store64(p16 + 8, n702 + 1);
 							tp_dispatch_hand_out_and_report(p18, p18 + 1384, p16);
 							goto L17;
 						}
 					}
 					case 4: {
-						uint64_t n702;
-						uint64_t n698 = n501 * 88;
-						byte *p699 = at(loadptr(p18 + 1384), n698);
-						byte *p700 = at(loadptr(p18 + 1360), n698);
-						uint64_t n701 = load64(p699 + 16);
-						if (n701 == 0) {
-							n702 = 0;
+						uint64_t n708;
+						uint64_t n704 = n501 * 88;
+						byte *p705 = at(loadptr(p18 + 1384), n704);
+						byte *p706 = at(loadptr(p18 + 1360), n704);
+						uint64_t n707 = load64(p705 + 16);
+						if (n707 == 0) {
+							n708 = 0;
 						} else {
-							uint64_t n707;
-							uint64_t n703 = load64(p699 + 24);
-							uint64_t n704 = load64(p699 + 8) - n703;
-							if (n701 > n704) {
-								byte *p705 = loadptru(p699);
-								uint64_t n706 = tp_RingInletInlet_put_slice(p700, at(p705, n703 << 6), n704);
-								if (n706 < n704) {
-									n707 = n706;
+							uint64_t n713;
+							uint64_t n709 = load64(p705 + 24);
+							uint64_t n710 = load64(p705 + 8) - n709;
+							if (n707 > n710) {
+								byte *p711 = loadptru(p705);
+								uint64_t n712 = tp_RingInletInlet_put_slice(p706, at(p711, n709 << 6), n710);
+								if (n712 < n710) {
+									n713 = n712;
 								} else {
-									uint64_t n708 = tp_RingInletInlet_put_slice(p700, p705, n701 - n704);
-									n707 = n706 + n708;
+									uint64_t n714 = tp_RingInletInlet_put_slice(p706, p711, n707 - n710);
+									n713 = n712 + n714;
 								}
 							} else {
-								uint64_t n709 = tp_RingInletInlet_put_slice(p700, at(loadptru(p699), n703 << 6), n701);
-								if (n709 >= n701) {
-									if (load64(p699 + 16) == 0) {
-										n702 = n709;
+								uint64_t n715 = tp_RingInletInlet_put_slice(p706, at(loadptru(p705), n709 << 6), n707);
+								if (n715 >= n707) {
+									if (load64(p705 + 16) == 0) {
+										n708 = n715;
 										goto L18;
 									}
-									store64(p699 + 16, 0);
-									n702 = n709;
+									store64(p705 + 16, 0);
+									n708 = n715;
 									goto L18;
 								}
-								n707 = n709;
+								n713 = n715;
 							}
-							tp_Backlog_remove(p699, n707);
-							n702 = n707;
+							tp_Backlog_remove(p705, n713);
+							n708 = n713;
 						}
 L18:
 						{
-							uint64_t n710 = load64(p16 + 8);
-							byte *p711 = inside(loadptr(p16), n710 * 136);
-							store8(p711, 5);
-							memset(p711 + 1, 0, 7);
-							store64u(p711 + 8, n501);
-							store64u(p711 + 16, n702);
-							memset(p711 + 24, 0, 112);
-							store64(p16 + 8, n710 + 1);
+							uint64_t n716 = load64(p16 + 8);
+							byte *p717 = inside(loadptr(p16), n716 * 136);
+							store8(p717, 5);
+							memset(p717 + 1, 0, 7);
+							store64u(p717 + 8, n501);
+							store64u(p717 + 16, n708);
+							memset(p717 + 24, 0, 112);
+							store64(p16 + 8, n716 + 1);
 							goto L17;
 						}
 					}
 					case 1: {
 						if ((load8(p18 + 1320) & 1) != 0) {
-							n712 = 1;
-							n713 = 0;
-							n714 = 0;
-							n715 = 0;
-							n716 = 0;
-							n717 = 0;
-							n718 = 0;
+							n718 = 1;
 							n719 = 0;
 							n720 = 0;
+							n721 = 0;
+							n722 = 0;
+							n723 = 0;
+							n724 = 0;
+							n725 = 0;
+							n726 = 0;
 						} else {
-							uint64_t n721 = load64(p18 + 16);
-							if (n721 == load64(p18 + 8)) {
-								n712 = 1;
-								n713 = 1;
-								n714 = 0;
-								n715 = 0;
-								n716 = 0;
-								n717 = 0;
-								n718 = 0;
-								n719 = 0;
+							uint64_t n727 = load64(p18 + 16);
+							if (n727 == load64(p18 + 8)) {
+								n718 = 1;
+								n719 = 1;
 								n720 = 0;
+								n721 = 0;
+								n722 = 0;
+								n723 = 0;
+								n724 = 0;
+								n725 = 0;
+								n726 = 0;
 							} else {
-								uint64_t n726, n730, n731, n732;
-								uint8_t n722 = load8(p18);
-								uint64_t n723 = n721 + 1;
-								switch (MOSTLY_0(n722)) {
+								uint64_t n732, n733, n734, n740, n741, n742;
+								uint8_t n728 = load8(p18);
+								uint64_t n729 = n727 + 1;
+								switch (MOSTLY_0(n728)) {
 								case 0: {
-									uint64_t n724 = n723 & 63;
-									if (n724 != 0) {
-										n726 = n724;
+									uint64_t n730 = n729 & 63;
+									if (n730 != 0) {
+										n734 = n730;
 										goto L19;
 									}
-									uint8_t n725 = (uint8_t)((uint8_t)cttz64(n723) / 6);
-									n726 = ((uint64_t)n725 << 6) | ((n723 >> ((uint64_t)(uint8_t)(1u * n725 * 6) & 63)) & 63);
-									goto L19;
+									uint8_t n731 = (uint8_t)((uint8_t)cttz64(n729) / 6);
+									n732 = ((uint64_t)n731 << 6) | ((n729 >> ((uint64_t)(uint8_t)(1u * n731 * 6) & 63)) & 63);
+									n733 = 64;
+									goto L20;
 								}
 								case 1: {
-									uint64_t n727 = n723 % 60;
-									if (n727 != 0) {
-										n726 = n727;
-										goto L19;
+									uint32_t n739;
+									uint32_t n735 = (uint32_t)n729;
+									uint32_t n736 = n735 % 60;
+									if (n736 == 0) {
+										uint32_t n737 = (n735 / 60) % 60;
+										if (n737 == 0) {
+											uint32_t n738 = (n735 / 3600) % 24;
+											if (n738 == 0) {
+												n739 = (n735 / 86400) + 144;
+											} else {
+												n739 = n738 + 120;
+											}
+										} else {
+											n739 = n737 + 60;
+										}
+									} else {
+										n739 = n736;
 									}
-									uint64_t n728 = (n723 / 60) % 60;
-									if (n728 != 0) {
-										n726 = n728 + 60;
-										goto L19;
-									}
-									uint64_t n729 = (n723 / 3600) % 24;
-									if (n729 == 0) {
-										n726 = (n723 / 86400) + 144;
-										goto L19;
-									}
-									n726 = n729 + 120;
-									goto L19;
+									n732 = (uint64_t)n739;
+									n733 = 60;
+									goto L20;
 								}
 								case 2: {
-									n730 = n723;
-									n731 = 0;
+									n740 = n729;
+									n741 = 0;
 									break;
 								}
 								default: {
@@ -77377,156 +77527,173 @@ L18:
 								}
 								}
 								for (;;) {
-									n732 = n730 & 15;
-									if (n732 != 0)
+									n742 = n740 & 15;
+									if (n742 != 0)
 										break;
-									n730 = n730 >> 4;
-									n731 = n731 + 16;
+									n740 = n740 >> 4;
+									n741 = n741 + 16;
 								}
-								n726 = n731 | n732;
+								n732 = n741 | n742;
+								n733 = 16;
+L20:
+								{
+									if (n732 >= n733) {
+										tp_HierWheel_visit_apart(p18, n732);
+										n718 = 0;
+										n719 = 0;
+										n720 = 0;
+										n721 = 0;
+										n722 = 0;
+										n723 = 0;
+										n724 = 0;
+										n725 = 0;
+										n726 = 0;
+										goto L21;
+									}
+									n734 = n732;
+								}
 L19:
 								{
-									byte *p733 = loadptr(p18 + 80);
-									byte *p734 = at(p733, n726 << 3);
-									if (n726 != (uint64_t)load32(p734 + 4)) {
-										uint64_t n736, n737;
-										byte *p735 = inside(p18 + 128, (n726 >> 6) << 3);
-										store64(p735, load64(p735) & (((uint64_t)1 << (n726 & 63)) ^ UINT64_MAX));
-										switch (MOSTLY_0(n722)) {
+									byte *p743 = loadptr(p18 + 80);
+									byte *p744 = at(p743, n734 << 3);
+									if (n734 != (uint64_t)load32(p744 + 4)) {
+										uint64_t n745, n746;
+										store64(p18 + 128, load64(p18 + 128) & (((uint64_t)1 << (n734 & 63)) ^ UINT64_MAX));
+										switch (MOSTLY_0(n728)) {
 										case 0: {
-											n736 = 64;
+											n745 = 64;
 											break;
 										}
 										case 1: {
-											n736 = 60;
+											n745 = 60;
 											break;
 										}
 										case 2: {
-											n736 = 16;
+											n745 = 16;
 											break;
 										}
 										default: {
 											UNREACHABLE();
 										}
 										}
-										if (n726 >= n736) {
+										if (n734 >= n745) {
 											if ((load8(p18 + 232) & 1) != 0) {
-												byte *p744 = at(loadptr(p18 + 208), n726 << 4);
-												store64(p18 + 240, load64(p18 + 240) + (uint64_t)((load8(p744) != 0) ? UINT64_MAX : 0));
-												memset(p744, 0, 16);
+												byte *p753 = at(loadptr(p18 + 208), n734 << 4);
+												store64(p18 + 240, load64(p18 + 240) + (uint64_t)((load8(p753) != 0) ? UINT64_MAX : 0));
+												memset(p753, 0, 16);
 											}
-											uint64_t n745 = tp_migration_migrate(n722, p18 + 40, p18 + 128, p18 + 208, n726, n723);
-											store64(p18 + 16, n723);
-											if (n745 == 0) {
-												n712 = 0;
-												n713 = 0;
-												n714 = 0;
-												n715 = 0;
-												n716 = 0;
-												n717 = 0;
+											uint64_t n754 = tp_migration_migrate(n728, p18 + 40, p18 + 128, p18 + 208, n734, n729);
+											store64(p18 + 16, n729);
+											if (n754 == 0) {
 												n718 = 0;
 												n719 = 0;
 												n720 = 0;
-												goto L20;
+												n721 = 0;
+												n722 = 0;
+												n723 = 0;
+												n724 = 0;
+												n725 = 0;
+												n726 = 0;
+												goto L21;
 											}
-											store64(p18 + 256, load64(p18 + 256) + n745);
-											n712 = 0;
-											n713 = 0;
-											n714 = 0;
-											n715 = 0;
-											n716 = 0;
-											n717 = 0;
+											store64(p18 + 256, load64(p18 + 256) + n754);
 											n718 = 0;
 											n719 = 0;
 											n720 = 0;
-											goto L20;
+											n721 = 0;
+											n722 = 0;
+											n723 = 0;
+											n724 = 0;
+											n725 = 0;
+											n726 = 0;
+											goto L21;
 										}
-										switch (MOSTLY_0(n722)) {
+										switch (MOSTLY_0(n728)) {
 										case 0: {
-											n737 = 640;
+											n746 = 640;
 											break;
 										}
 										case 1: {
-											n737 = 244;
+											n746 = 244;
 											break;
 										}
 										case 2: {
-											n737 = 96;
+											n746 = 96;
 											break;
 										}
 										default: {
 											UNREACHABLE();
 										}
 										}
-										uint32_t n738 = load32(p734 + 4);
-										uint64_t n739 = (uint64_t)n738;
-										if (load64(p18 + 104) <= n739) {
-											uint32_t n740 = load32(p734);
-											byte *p741 = at(p733, n737 << 3);
-											uint32_t n742 = load32(p741);
-											store32(inside(p733, (uint64_t)n742 << 3) + 4, n738);
-											store32(inside(p733, n739 << 3), n742);
-											store32(inside(p733, (uint64_t)n740 << 3) + 4, (uint32_t)n737);
-											store32(p741, n740);
-											uint32_t n743 = (uint32_t)n726;
-											store32(p734 + 4, n743);
-											store32(p734, n743);
+										uint32_t n747 = load32(p744 + 4);
+										uint64_t n748 = (uint64_t)n747;
+										if (load64(p18 + 104) <= n748) {
+											uint32_t n749 = load32(p744);
+											byte *p750 = at(p743, n746 << 3);
+											uint32_t n751 = load32(p750);
+											store32(inside(p743, (uint64_t)n751 << 3) + 4, n747);
+											store32(inside(p743, n748 << 3), n751);
+											store32(inside(p743, (uint64_t)n749 << 3) + 4, (uint32_t)n746);
+											store32(p750, n749);
+											uint32_t n752 = (uint32_t)n734;
+											store32(p744 + 4, n752);
+											store32(p744, n752);
 										}
 									}
-									store64(p18 + 16, n723);
-									n712 = 0;
-									n713 = 0;
-									n714 = 0;
-									n715 = 0;
-									n716 = 0;
-									n717 = 0;
+									store64(p18 + 16, n729);
 									n718 = 0;
 									n719 = 0;
 									n720 = 0;
+									n721 = 0;
+									n722 = 0;
+									n723 = 0;
+									n724 = 0;
+									n725 = 0;
+									n726 = 0;
 								}
 							}
 						}
 						break;
 					}
 					case 2: {
-						uint64_t n746, n747, n748;
+						uint64_t n755, n756, n757;
 						if ((load8(p18 + 1320) & 1) != 0) {
-							n746 = 1;
-							n747 = 0;
-							n748 = 0;
+							n755 = 1;
+							n756 = 0;
+							n757 = 0;
 						} else {
-							uint64_t n749 = load64(p18 + 16);
-							uint64_t n750 = load64(p18 + 8);
-							if (n749 == n750) {
-								n746 = 1;
-								n747 = 256;
-								n748 = 0;
+							uint64_t n758 = load64(p18 + 16);
+							uint64_t n759 = load64(p18 + 8);
+							if (n758 == n759) {
+								n755 = 1;
+								n756 = 256;
+								n757 = 0;
 							} else {
-								uint64_t n756;
-								uint64_t n751 = umin64(n750 - n749, n501);
-								uint64_t n752 = n749 + n751;
+								uint64_t n765;
+								uint64_t n760 = umin64(n759 - n758, n501);
+								uint64_t n761 = n758 + n760;
 								switch (MOSTLY_0(load8(p18))) {
 								case 0: {
-									if ((n752 ^ n749) < 64) {
-										uint64_t n753 = load64(p18 + 128);
-										if ((n753 == 0) || ((n752 & 63) < cttz64(n753)))
-											goto L21;
+									if ((n761 ^ n758) < 64) {
+										uint64_t n762 = load64(p18 + 128);
+										if ((n762 == 0) || ((n761 & 63) < cttz64(n762)))
+											goto L22;
 									}
 									break;
 								}
 								case 1: {
-									if ((n752 / 60) == (n749 / 60)) {
-										uint64_t n754 = load64(p18 + 128);
-										if ((n754 == 0) || ((n752 % 60) < cttz64(n754)))
-											goto L21;
+									if ((n761 / 60) == (n758 / 60)) {
+										uint64_t n763 = load64(p18 + 128);
+										if ((n763 == 0) || ((n761 % 60) < cttz64(n763)))
+											goto L22;
 									}
 									break;
 								}
 								case 2: {
-									if ((n752 ^ n749) < 16) {
-										uint64_t n755 = load64(p18 + 128);
-										if ((n755 == 0) || ((n752 & 15) < cttz64(n755)))
-											goto L21;
+									if ((n761 ^ n758) < 16) {
+										uint64_t n764 = load64(p18 + 128);
+										if ((n764 == 0) || ((n761 & 15) < cttz64(n764)))
+											goto L22;
 									}
 									break;
 								}
@@ -77534,83 +77701,83 @@ L19:
 									UNREACHABLE();
 								}
 								}
-								n756 = tp_HierWheel_advance_far(p18, n751);
-								n746 = 0;
-								n747 = 0;
-								n748 = n756;
-								goto L22;
-L21:
+								n765 = tp_HierWheel_advance_far(p18, n760);
+								n755 = 0;
+								n756 = 0;
+								n757 = n765;
+								goto L23;
+L22:
 								{
-									store64(p18 + 16, n752);
-									store64(p18 + 264, load64(p18 + 264) + n751);
-									n746 = 0;
-									n747 = 0;
-									n748 = n751;
+									store64(p18 + 16, n761);
+									store64(p18 + 264, load64(p18 + 264) + n760);
+									n755 = 0;
+									n756 = 0;
+									n757 = n760;
 								}
 							}
 						}
-L22:
+L23:
 						{
-							n712 = 0;
-							n713 = 0;
-							n714 = n501;
-							n715 = n501;
-							n716 = n501 & UINT64_C(18446744073709486080);
-							n717 = n746;
-							n718 = n747;
+							n718 = 0;
 							n719 = 0;
-							n720 = n748;
+							n720 = n501;
+							n721 = n501;
+							n722 = n501 & UINT64_C(18446744073709486080);
+							n723 = n755;
+							n724 = n756;
+							n725 = 0;
+							n726 = n757;
 						}
 						break;
 					}
 					case 3: {
-						uint64_t n757, n758, n759;
+						uint64_t n766, n767, n768;
 						if ((load8(p18 + 1320) & 1) != 0) {
-							n757 = 1;
-							n758 = 0;
-							n759 = 0;
+							n766 = 1;
+							n767 = 0;
+							n768 = 0;
 						} else {
-							uint8_t n760 = tp_facility_take_all(p18, p18 + 1328);
-							if ((n760 & 1) != 0) {
-								n757 = 1;
-								n758 = 256;
-								n759 = 0;
+							uint8_t n769 = tp_facility_take_all(p18, p18 + 1328);
+							if ((n769 & 1) != 0) {
+								n766 = 1;
+								n767 = 256;
+								n768 = 0;
 							} else {
 								store64(p18 + 1352, 0);
 								store8(p18 + 1320, 1);
-								n757 = 0;
-								n758 = 0;
-								n759 = load64(p18 + 1336);
+								n766 = 0;
+								n767 = 0;
+								n768 = load64(p18 + 1336);
 							}
 						}
-						n712 = 0;
-						n713 = 0;
-						n714 = n757;
-						n715 = n758;
-						n716 = 0;
-						n717 = n759;
-						n718 = n759;
-						n719 = n759 & UINT64_C(18446744073709486080);
-						n720 = 0;
+						n718 = 0;
+						n719 = 0;
+						n720 = n766;
+						n721 = n767;
+						n722 = 0;
+						n723 = n768;
+						n724 = n768;
+						n725 = n768 & UINT64_C(18446744073709486080);
+						n726 = 0;
 						break;
 					}
 					default: {
 						UNREACHABLE();
 					}
 					}
-L20:
+L21:
 					{
-						uint64_t n761 = load64(p16 + 8);
-						byte *p762 = inside(loadptr(p16), n761 * 136);
-						store8(p762, n500);
-						store8(p762 + 1, n712);
-						store8(p762 + 2, n713);
-						memset(p762 + 3, 0, 5);
-						store64u(p762 + 8, (n716 | (n715 & 65280)) | (n714 & 255));
-						store64u(p762 + 16, (n719 | (n718 & 65280)) | (n717 & 255));
-						store64u(p762 + 24, n720);
-						memset(p762 + 32, 0, 104);
-						store64(p16 + 8, n761 + 1);
+						uint64_t n770 = load64(p16 + 8);
+						byte *p771 = inside(loadptr(p16), n770 * 136);
+						store8(p771, n500);
+						store8(p771 + 1, n718);
+						store8(p771 + 2, n719);
+						memset(p771 + 3, 0, 5);
+						store64u(p771 + 8, (n722 | (n721 & 65280)) | (n720 & 255));
+						store64u(p771 + 16, (n725 | (n724 & 65280)) | (n723 & 255));
+						store64u(p771 + 24, n726);
+						memset(p771 + 32, 0, 104);
+						store64(p16 + 8, n770 + 1);
 						tp_dispatch_hand_out_and_report(p18, p18 + 1384, p16);
 					}
 L17:
@@ -77618,38 +77785,38 @@ L17:
 						n498 = n498 + 1;
 					}
 				}
-				p763 = loadptr(p16);
-				n764 = load64(p16 + 8);
-				n765 = load64(p16 + 16);
-				n766 = 0;
-				n767 = 0;
-				while (n766 != n764) {
-					uint8_t n773;
-					byte *p768 = at(p763, n766 * 136);
-					uint64_t n769 = load64u(p768 + 8);
-					uint64_t n770 = load64u(p768 + 16);
-					switch (MOSTLY_0(load8(p768))) {
+				p772 = loadptr(p16);
+				n773 = load64(p16 + 8);
+				n774 = load64(p16 + 16);
+				n775 = 0;
+				n776 = 0;
+				while (n775 != n773) {
+					uint8_t n782;
+					byte *p777 = at(p772, n775 * 136);
+					uint64_t n778 = load64u(p777 + 8);
+					uint64_t n779 = load64u(p777 + 16);
+					switch (MOSTLY_0(load8(p777))) {
 					case 0: {
-						switch ((uint8_t)n770) {
+						switch ((uint8_t)n779) {
 						case 3: {
-							if (n201 > n769) {
-								byte *p771 = at(p429, n769 << 4);
-								uint64_t n772 = load64(p771);
-								if (n5 > n772) {
-									store64(p771, n772 + 1);
-									n773 = 1;
+							if (n201 > n778) {
+								byte *p780 = at(p429, n778 << 4);
+								uint64_t n781 = load64(p780);
+								if (n5 > n781) {
+									store64(p780, n781 + 1);
+									n782 = 1;
 								} else {
-									n773 = n767;
+									n782 = n776;
 								}
 							} else {
-								n773 = n767;
+								n782 = n776;
 							}
 							break;
 						}
 						case 0:
 						case 1:
 						case 2: {
-							n773 = n767;
+							n782 = n776;
 							break;
 						}
 						default: {
@@ -77659,22 +77826,22 @@ L17:
 						break;
 					}
 					case 5: {
-						if ((n201 <= n769) || (n770 == 0)) {
-							n773 = n767;
+						if ((n201 <= n778) || (n779 == 0)) {
+							n782 = n776;
 						} else {
-							byte *p774 = at(p429, n769 << 4) + 8;
-							uint64_t n775 = load64(p774);
-							uint64_t n776 = n5 << 1;
-							if (n776 > n775) {
-								if (n770 < (n776 - n775)) {
-									store64(p774, n775 + n770);
-									n773 = 1;
+							byte *p783 = at(p429, n778 << 4) + 8;
+							uint64_t n784 = load64(p783);
+							uint64_t n785 = n5 << 1;
+							if (n785 > n784) {
+								if (n779 < (n785 - n784)) {
+									store64(p783, n784 + n779);
+									n782 = 1;
 								} else {
-									store64(p774, n776);
-									n773 = 1;
+									store64(p783, n785);
+									n782 = 1;
 								}
 							} else {
-								n773 = n767;
+								n782 = n776;
 							}
 						}
 						break;
@@ -77683,26 +77850,26 @@ L17:
 					case 2:
 					case 3:
 					case 4: {
-						n773 = n767;
+						n782 = n776;
 						break;
 					}
 					default: {
 						UNREACHABLE();
 					}
 					}
-					n766 = n766 + 1;
-					n767 = n773;
+					n775 = n775 + 1;
+					n776 = n782;
 				}
-				n777 = 0;
+				n786 = 0;
 				for (;;) {
-					if (n777 == n764)
-						goto L23;
-					byte *p778 = at(p763, n777 * 136);
-					switch (MOSTLY_0(load8(p778))) {
+					if (n786 == n773)
+						goto L24;
+					byte *p787 = at(p772, n786 * 136);
+					switch (MOSTLY_0(load8(p787))) {
 					case 0: {
-						switch (load8(p778 + 16)) {
+						switch (load8(p787 + 16)) {
 						case 2: {
-							goto L24;
+							goto L25;
 						}
 						case 0:
 						case 1:
@@ -77726,119 +77893,119 @@ L17:
 						UNREACHABLE();
 					}
 					}
-					n777 = n777 + 1;
+					n786 = n786 + 1;
+				}
+L25:
+				{
+					if (n786 < n773)
+						goto L26;
 				}
 L24:
 				{
-					if (n777 < n764)
-						goto L25;
-				}
-L23:
-				{
-					uint64_t n781;
-					byte *p779 = loadptru(p18 + 1408);
-					uint64_t n780 = load64u(p18 + 1424);
-					storeptru(p18 + 1408, p763);
-					store64u(p18 + 1416, n764);
-					store64u(p18 + 1424, n765);
-					if (n780 != 0)
-						rattle_dealloc(p779);
-					if ((n767 & 1) != 0) {
-						n781 = 0;
+					uint64_t n790;
+					byte *p788 = loadptru(p18 + 1408);
+					uint64_t n789 = load64u(p18 + 1424);
+					storeptru(p18 + 1408, p772);
+					store64u(p18 + 1416, n773);
+					store64u(p18 + 1424, n774);
+					if (n789 != 0)
+						rattle_dealloc(p788);
+					if ((n776 & 1) != 0) {
+						n790 = 0;
 					} else {
-						uint64_t n782 = n462 + 1;
+						uint64_t n791 = n462 + 1;
 						(void)os_sched_yield();
-						uint8_t n783 = load8_volatile((byte *)tp_static);
-						if (n783 != 0) {
+						uint8_t n792 = load8_volatile((byte *)tp_static);
+						if (n792 != 0) {
 							TRAP();
 							UNREACHABLE();
 						}
-						uint8_t n784 = load8_volatile((byte *)tp_static);
-						if (n784 != 0) {
+						uint8_t n793 = load8_volatile((byte *)tp_static);
+						if (n793 != 0) {
 							TRAP();
 							UNREACHABLE();
 						}
-						uint8_t n785 = load8_volatile((byte *)tp_static);
-						if (n785 != 0) {
+						uint8_t n794 = load8_volatile((byte *)tp_static);
+						if (n794 != 0) {
 							TRAP();
 							UNREACHABLE();
 						}
-						n781 = n782;
+						n790 = n791;
 					}
-					n462 = n781;
+					n462 = n790;
 					continue;
 				}
 L8:
 				{
-					p786 = loadptr(p18 + 80);
+					p795 = loadptr(p18 + 80);
 					goto L9;
 				}
 			}
-			n787 = load64(p18);
-			p788 = loadptr(p18 + 40);
-			n789 = load64(p18 + 56);
-			p790 = loadptr(p18 + 80);
-			n791 = load64(p18 + 96);
-			p792 = loadptr(p18 + 208);
-			n793 = load64(p18 + 224);
-			p794 = loadptr(p18 + 1328);
-			n795 = load64(p18 + 1344);
-			p796 = loadptr(p18 + 1360);
-			n797 = load64(p18 + 1368);
-			n798 = load64(p18 + 1376);
-			p799 = loadptr(p18 + 1384);
-			n800 = load64(p18 + 1392);
-			n801 = load64(p18 + 1400);
-			p802 = loadptr(p18 + 1408);
-			n803 = load64(p18 + 1424);
+			n796 = load64(p18);
+			p797 = loadptr(p18 + 40);
+			n798 = load64(p18 + 56);
+			p799 = loadptr(p18 + 80);
+			n800 = load64(p18 + 96);
+			p801 = loadptr(p18 + 208);
+			n802 = load64(p18 + 224);
+			p803 = loadptr(p18 + 1328);
+			n804 = load64(p18 + 1344);
+			p805 = loadptr(p18 + 1360);
+			n806 = load64(p18 + 1368);
+			n807 = load64(p18 + 1376);
+			p808 = loadptr(p18 + 1384);
+			n809 = load64(p18 + 1392);
+			n810 = load64(p18 + 1400);
+			p811 = loadptr(p18 + 1408);
+			n812 = load64(p18 + 1424);
 			if (load64u(p19 + 16) != 0)
 				rattle_dealloc(loadptru(p19));
 			if (b428) {
-				n444 = n787;
-				p445 = p788;
-				n446 = n789;
-				p447 = p790;
-				n448 = n791;
-				p449 = p792;
-				n450 = n793;
-				p451 = p794;
-				n452 = n795;
-				p453 = p796;
-				n454 = n797;
-				n455 = n798;
-				p456 = p799;
-				n457 = n800;
-				n458 = n801;
-				p459 = p802;
-				n460 = n803;
+				n444 = n796;
+				p445 = p797;
+				n446 = n798;
+				p447 = p799;
+				n448 = n800;
+				p449 = p801;
+				n450 = n802;
+				p451 = p803;
+				n452 = n804;
+				p453 = p805;
+				n454 = n806;
+				n455 = n807;
+				p456 = p808;
+				n457 = n809;
+				n458 = n810;
+				p459 = p811;
+				n460 = n812;
 				n461 = 1;
 				goto L7;
 			}
 			rattle_dealloc(p429);
-			n444 = n787;
-			p445 = p788;
-			n446 = n789;
-			p447 = p790;
-			n448 = n791;
-			p449 = p792;
-			n450 = n793;
-			p451 = p794;
-			n452 = n795;
-			p453 = p796;
-			n454 = n797;
-			n455 = n798;
-			p456 = p799;
-			n457 = n800;
-			n458 = n801;
-			p459 = p802;
-			n460 = n803;
+			n444 = n796;
+			p445 = p797;
+			n446 = n798;
+			p447 = p799;
+			n448 = n800;
+			p449 = p801;
+			n450 = n802;
+			p451 = p803;
+			n452 = n804;
+			p453 = p805;
+			n454 = n806;
+			n455 = n807;
+			p456 = p808;
+			n457 = n809;
+			n458 = n810;
+			p459 = p811;
+			n460 = n812;
 			n461 = 1;
 			goto L7;
-L25:
+L26:
 			{
-				if (n765 == 0)
+				if (n774 == 0)
 					goto L10;
-				rattle_dealloc(p763);
+				rattle_dealloc(p772);
 				goto L10;
 			}
 L11:
@@ -77848,148 +78015,148 @@ L11:
 			}
 L10:
 			{
-				uint64_t n804 = load64(p18);
-				byte *p805 = loadptr(p18 + 40);
-				uint64_t n806 = load64(p18 + 56);
-				byte *p807 = loadptr(p18 + 80);
-				uint64_t n808 = load64(p18 + 96);
-				byte *p809 = loadptr(p18 + 208);
-				uint64_t n810 = load64(p18 + 224);
-				byte *p811 = loadptr(p18 + 1328);
-				uint64_t n812 = load64(p18 + 1344);
-				byte *p813 = loadptr(p18 + 1360);
-				uint64_t n814 = load64(p18 + 1368);
-				uint64_t n815 = load64(p18 + 1376);
-				byte *p816 = loadptr(p18 + 1384);
-				uint64_t n817 = load64(p18 + 1392);
-				uint64_t n818 = load64(p18 + 1400);
-				byte *p819 = loadptr(p18 + 1408);
-				uint64_t n820 = load64(p18 + 1424);
+				uint64_t n813 = load64(p18);
+				byte *p814 = loadptr(p18 + 40);
+				uint64_t n815 = load64(p18 + 56);
+				byte *p816 = loadptr(p18 + 80);
+				uint64_t n817 = load64(p18 + 96);
+				byte *p818 = loadptr(p18 + 208);
+				uint64_t n819 = load64(p18 + 224);
+				byte *p820 = loadptr(p18 + 1328);
+				uint64_t n821 = load64(p18 + 1344);
+				byte *p822 = loadptr(p18 + 1360);
+				uint64_t n823 = load64(p18 + 1368);
+				uint64_t n824 = load64(p18 + 1376);
+				byte *p825 = loadptr(p18 + 1384);
+				uint64_t n826 = load64(p18 + 1392);
+				uint64_t n827 = load64(p18 + 1400);
+				byte *p828 = loadptr(p18 + 1408);
+				uint64_t n829 = load64(p18 + 1424);
 				if (load64u(p19 + 16) != 0)
 					rattle_dealloc(loadptru(p19));
 				rattle_dealloc(p429);
-				n444 = n804;
-				p445 = p805;
-				n446 = n806;
-				p447 = p807;
-				n448 = n808;
-				p449 = p809;
-				n450 = n810;
-				p451 = p811;
-				n452 = n812;
-				p453 = p813;
-				n454 = n814;
-				n455 = n815;
-				p456 = p816;
-				n457 = n817;
-				n458 = n818;
-				p459 = p819;
-				n460 = n820;
+				n444 = n813;
+				p445 = p814;
+				n446 = n815;
+				p447 = p816;
+				n448 = n817;
+				p449 = p818;
+				n450 = n819;
+				p451 = p820;
+				n452 = n821;
+				p453 = p822;
+				n454 = n823;
+				n455 = n824;
+				p456 = p825;
+				n457 = n826;
+				n458 = n827;
+				p459 = p828;
+				n460 = n829;
 				n461 = 2;
 				goto L7;
 			}
 L9:
 			{
-				uint64_t n821 = load64(p18);
-				byte *p822 = loadptr(p18 + 40);
-				uint64_t n823 = load64(p18 + 56);
-				uint64_t n824 = load64(p18 + 96);
-				byte *p825 = loadptr(p18 + 208);
-				uint64_t n826 = load64(p18 + 224);
-				byte *p827 = loadptr(p18 + 1328);
-				uint64_t n828 = load64(p18 + 1344);
-				byte *p829 = loadptr(p18 + 1360);
-				uint64_t n830 = load64(p18 + 1368);
-				uint64_t n831 = load64(p18 + 1376);
-				byte *p832 = loadptr(p18 + 1384);
-				uint64_t n833 = load64(p18 + 1392);
-				uint64_t n834 = load64(p18 + 1400);
-				byte *p835 = loadptr(p18 + 1408);
-				uint64_t n836 = load64(p18 + 1424);
+				uint64_t n830 = load64(p18);
+				byte *p831 = loadptr(p18 + 40);
+				uint64_t n832 = load64(p18 + 56);
+				uint64_t n833 = load64(p18 + 96);
+				byte *p834 = loadptr(p18 + 208);
+				uint64_t n835 = load64(p18 + 224);
+				byte *p836 = loadptr(p18 + 1328);
+				uint64_t n837 = load64(p18 + 1344);
+				byte *p838 = loadptr(p18 + 1360);
+				uint64_t n839 = load64(p18 + 1368);
+				uint64_t n840 = load64(p18 + 1376);
+				byte *p841 = loadptr(p18 + 1384);
+				uint64_t n842 = load64(p18 + 1392);
+				uint64_t n843 = load64(p18 + 1400);
+				byte *p844 = loadptr(p18 + 1408);
+				uint64_t n845 = load64(p18 + 1424);
 				if (load64u(p19 + 16) != 0)
 					rattle_dealloc(loadptru(p19));
 				if (b428) {
-					n444 = n821;
-					p445 = p822;
-					n446 = n823;
-					p447 = p786;
-					n448 = n824;
-					p449 = p825;
-					n450 = n826;
-					p451 = p827;
-					n452 = n828;
-					p453 = p829;
-					n454 = n830;
-					n455 = n831;
-					p456 = p832;
-					n457 = n833;
-					n458 = n834;
-					p459 = p835;
-					n460 = n836;
+					n444 = n830;
+					p445 = p831;
+					n446 = n832;
+					p447 = p795;
+					n448 = n833;
+					p449 = p834;
+					n450 = n835;
+					p451 = p836;
+					n452 = n837;
+					p453 = p838;
+					n454 = n839;
+					n455 = n840;
+					p456 = p841;
+					n457 = n842;
+					n458 = n843;
+					p459 = p844;
+					n460 = n845;
 					n461 = 0;
 				} else {
 					rattle_dealloc(p429);
-					n444 = n821;
-					p445 = p822;
-					n446 = n823;
-					p447 = p786;
-					n448 = n824;
-					p449 = p825;
-					n450 = n826;
-					p451 = p827;
-					n452 = n828;
-					p453 = p829;
-					n454 = n830;
-					n455 = n831;
-					p456 = p832;
-					n457 = n833;
-					n458 = n834;
-					p459 = p835;
-					n460 = n836;
+					n444 = n830;
+					p445 = p831;
+					n446 = n832;
+					p447 = p795;
+					n448 = n833;
+					p449 = p834;
+					n450 = n835;
+					p451 = p836;
+					n452 = n837;
+					p453 = p838;
+					n454 = n839;
+					n455 = n840;
+					p456 = p841;
+					n457 = n842;
+					n458 = n843;
+					p459 = p844;
+					n460 = n845;
 					n461 = 0;
 				}
 			}
 		}
 L7:
 		{
-			uint64_t n859, n860, n861, n862;
-			uint8_t n837 = load8_volatile((byte *)tp_static);
-			if (n837 != 0) {
+			uint64_t n868, n869, n870, n871;
+			uint8_t n846 = load8_volatile((byte *)tp_static);
+			if (n846 != 0) {
 				TRAP();
 				UNREACHABLE();
 			}
 			tp_Children_join(p198, p194);
-			uint8_t n838 = load8_volatile((byte *)tp_static);
-			if (n838 != 0) {
+			uint8_t n847 = load8_volatile((byte *)tp_static);
+			if (n847 != 0) {
 				TRAP();
 				UNREACHABLE();
 			}
-			byte *p839 = loadptru(p198);
-			uint64_t n840 = load64u(p198 + 8);
-			uint64_t n841 = load64u(p198 + 16);
+			byte *p848 = loadptru(p198);
+			uint64_t n849 = load64u(p198 + 8);
+			uint64_t n850 = load64u(p198 + 16);
 			switch (n461) {
 			case 2: {
-				uint64_t n842;
-				if (n840 == 0)
-					goto L26;
-				n842 = 0;
-				while (n842 != n840) {
-					byte *p843 = inside(p839, n842 * 112);
-					byte *p844 = loadptru(p843 + 24);
-					byte *p845 = loadptru(p843 + 32);
-					uint64_t n846 = load64u(p843 + 40);
+				uint64_t n851;
+				if (n849 == 0)
+					goto L27;
+				n851 = 0;
+				while (n851 != n849) {
+					byte *p852 = inside(p848, n851 * 112);
+					byte *p853 = loadptru(p852 + 24);
+					byte *p854 = loadptru(p852 + 32);
+					uint64_t n855 = load64u(p852 + 40);
 					BARRIER();
-					uint64_t n847 = atomic_exchange64(p844 + 256, 1, ORDER_SEQ_CST);
+					uint64_t n856 = atomic_exchange64(p853 + 256, 1, ORDER_SEQ_CST);
 					BARRIER();
-					if (n847 != 0)
-						tp_release_drop_slow(p844, p845, n846);
-					n842 = n842 + 1;
+					if (n856 != 0)
+						tp_release_drop_slow(p853, p854, n855);
+					n851 = n851 + 1;
 				}
-L26:
+L27:
 				{
-					uint64_t n848;
-					if (n841 != 0)
-						rattle_dealloc(p839);
+					uint64_t n857;
+					if (n850 != 0)
+						rattle_dealloc(p848);
 					if (n446 != 0)
 						rattle_dealloc(p445);
 					if (n448 != 0)
@@ -77999,55 +78166,55 @@ L26:
 					if (n452 != 0)
 						rattle_dealloc(p451);
 					if (n454 == 0)
-						goto L27;
-					n848 = 0;
-					while (n848 != n454) {
-						byte *p849 = inside(p453, n848 * 88);
-						byte *p850 = loadptru(p849);
-						byte *p851 = loadptru(p849 + 8);
-						uint64_t n852 = load64u(p849 + 16);
-						byte *p853 = loadptru(p849 + 40);
-						byte *p854 = loadptru(p849 + 48);
-						uint64_t n855 = load64u(p849 + 56);
+						goto L28;
+					n857 = 0;
+					while (n857 != n454) {
+						byte *p858 = inside(p453, n857 * 88);
+						byte *p859 = loadptru(p858);
+						byte *p860 = loadptru(p858 + 8);
+						uint64_t n861 = load64u(p858 + 16);
+						byte *p862 = loadptru(p858 + 40);
+						byte *p863 = loadptru(p858 + 48);
+						uint64_t n864 = load64u(p858 + 56);
 						BARRIER();
-						uint64_t n856 = atomic_exchange64(p850 + 256, 1, ORDER_SEQ_CST);
+						uint64_t n865 = atomic_exchange64(p859 + 256, 1, ORDER_SEQ_CST);
 						BARRIER();
-						if (n856 != 0)
-							tp_release_drop_slow(p850, p851, n852);
+						if (n865 != 0)
+							tp_release_drop_slow(p859, p860, n861);
 						BARRIER();
-						uint64_t n857 = atomic_exchange64(p853 + 256, 1, ORDER_SEQ_CST);
+						uint64_t n866 = atomic_exchange64(p862 + 256, 1, ORDER_SEQ_CST);
 						BARRIER();
-						if (n857 != 0)
-							tp_release_drop_slow(p853, p854, n855);
-						n848 = n848 + 1;
+						if (n866 != 0)
+							tp_release_drop_slow(p862, p863, n864);
+						n857 = n857 + 1;
 					}
-L27:
+L28:
 					{
-						uint64_t n858;
+						uint64_t n867;
 						if (n455 != 0)
 							rattle_dealloc(p453);
 						if (n457 == 0)
-							goto L28;
-						n858 = 0;
-						while (n858 != n457) {
-							rattle_dealloc(loadptru(inside(p456, n858 * 88)));
-							n858 = n858 + 1;
+							goto L29;
+						n867 = 0;
+						while (n867 != n457) {
+							rattle_dealloc(loadptru(inside(p456, n867 * 88)));
+							n867 = n867 + 1;
 						}
-L28:
+L29:
 						{
 							if (n458 != 0)
 								rattle_dealloc(p456);
 							if (n460 == 0) {
-								n859 = 1;
-								n860 = 0;
-								n861 = 0;
-								n862 = 0;
+								n868 = 1;
+								n869 = 0;
+								n870 = 0;
+								n871 = 0;
 							} else {
 								rattle_dealloc(p459);
-								n859 = 1;
-								n860 = 0;
-								n861 = 0;
-								n862 = 0;
+								n868 = 1;
+								n869 = 0;
+								n870 = 0;
+								n871 = 0;
 							}
 						}
 					}
@@ -78056,158 +78223,158 @@ L28:
 			}
 			case 0:
 			case 1: {
-				bool b864;
-				uint64_t n866;
-				uint64_t n863 = 0;
+				bool b873;
+				uint64_t n875;
+				uint64_t n872 = 0;
 				for (;;) {
-					b864 = n863 != n840;
-					if (!b864) {
-						n866 = 0;
+					b873 = n872 != n849;
+					if (!b873) {
+						n875 = 0;
 						break;
 					}
-					byte *p865 = at(p839, n863 * 112);
-					if ((load8(p865 + 96) & 1) != 0) {
-						n866 = n863;
+					byte *p874 = at(p848, n872 * 112);
+					if ((load8(p874 + 96) & 1) != 0) {
+						n875 = n872;
 						break;
 					}
-					if (load8(p865) != 1) {
-						n866 = n863;
+					if (load8(p874) != 1) {
+						n875 = n872;
 						break;
 					}
-					n863 = n863 + 1;
+					n872 = n872 + 1;
 				}
 				storeptru(p10, p6);
 				memset(p10 + 8, 0, 16);
-				uint64_t n867 = 0;
-				uint64_t n868 = 0;
+				uint64_t n876 = 0;
+				uint64_t n877 = 0;
 				for (;;) {
-					uint64_t n876;
-					if (n868 == n840)
-						goto L29;
-					byte *p869 = at(p839, n868 * 112);
-					uint8_t n870 = tp_threads_text_push_count(p10, (byte *)tp_static_299, 7, n868);
-					if ((n870 & 1) != 0)
+					uint64_t n885;
+					if (n877 == n849)
+						goto L30;
+					byte *p878 = at(p848, n877 * 112);
+					uint8_t n879 = tp_threads_text_push_count(p10, (byte *)tp_static_299, 7, n877);
+					if ((n879 & 1) != 0)
 						break;
-					uint8_t n871 = tp_threads_text_push_count(p10, (byte *)tp_static_300, 6, load64(p869 + 72));
-					if ((n871 & 1) != 0)
+					uint8_t n880 = tp_threads_text_push_count(p10, (byte *)tp_static_300, 6, load64(p878 + 72));
+					if ((n880 & 1) != 0)
 						break;
-					uint8_t n872 = tp_threads_text_push_count(p10, (byte *)tp_static_301, 9, load64(p869 + 80));
-					if ((n872 & 1) != 0)
+					uint8_t n881 = tp_threads_text_push_count(p10, (byte *)tp_static_301, 9, load64(p878 + 80));
+					if ((n881 & 1) != 0)
 						break;
-					uint8_t n873 = tp_threads_text_push_count(p10, (byte *)tp_static_302, 9, load64(p869 + 88));
-					if ((n873 & 1) != 0)
+					uint8_t n882 = tp_threads_text_push_count(p10, (byte *)tp_static_302, 9, load64(p878 + 88));
+					if ((n882 & 1) != 0)
 						break;
-					uint64_t n874 = load64(p10 + 8);
-					if (load64(p10 + 16) == n874) {
-						bool b875 = tp_vec_Vec_grow_amortized(p10, 1);
-						if (!b875)
+					uint64_t n883 = load64(p10 + 8);
+					if (load64(p10 + 16) == n883) {
+						bool b884 = tp_vec_Vec_grow_amortized(p10, 1);
+						if (!b884)
 							break;
-						n876 = load64(p10 + 8);
+						n885 = load64(p10 + 8);
 					} else {
-						n876 = n874;
+						n885 = n883;
 					}
-					store8(inside(loadptr(p10), n876), 10);
-					uint64_t n877 = n876 + 1;
-					store64(p10 + 8, n877);
-					n867 = n877;
-					n868 = n868 + 1;
+					store8(inside(loadptr(p10), n885), 10);
+					uint64_t n886 = n885 + 1;
+					store64(p10 + 8, n886);
+					n876 = n886;
+					n877 = n877 + 1;
 				}
 				if (load64u(p10 + 16) == 0)
-					goto L30;
+					goto L31;
 				rattle_dealloc(loadptru(p10));
-				goto L30;
-L29:
+				goto L31;
+L30:
 				{
-					uint64_t n880, n881, n884;
-					uint64_t n878 = load64(p10 + 16);
-					if ((n878 - n867) < 4) {
-						bool b879 = tp_vec_Vec_grow_amortized(p10, 4);
-						if (!b879) {
+					uint64_t n889, n890, n893;
+					uint64_t n887 = load64(p10 + 16);
+					if ((n887 - n876) < 4) {
+						bool b888 = tp_vec_Vec_grow_amortized(p10, 4);
+						if (!b888) {
 							if (load64u(p10 + 16) == 0)
-								goto L30;
+								goto L31;
 							rattle_dealloc(loadptru(p10));
-							goto L30;
+							goto L31;
 						}
-						n880 = load64(p10 + 16);
-						n881 = load64(p10 + 8);
+						n889 = load64(p10 + 16);
+						n890 = load64(p10 + 8);
 					} else {
-						n880 = n878;
-						n881 = n867;
+						n889 = n887;
+						n890 = n876;
 					}
-					byte *p882 = loadptr(p10);
-					byte *p883 = at(p882, n881);
-					if (((uint64_t)(uintptr_t)p883 - (uint64_t)(uintptr_t)(byte *)tp_static_298) >= 4) {
-						store32u(p883, 174354021);
-						goto L31;
+					byte *p891 = loadptr(p10);
+					byte *p892 = at(p891, n890);
+					if (((uint64_t)(uintptr_t)p892 - (uint64_t)(uintptr_t)(byte *)tp_static_298) >= 4) {
+						store32u(p892, 174354021);
+						goto L32;
 					}
-					n884 = 0;
-					while (n884 != 4) {
-						store8(inside(p883, n884), load8(inside((byte *)tp_static_298, n884)));
-						n884 = n884 + 1;
+					n893 = 0;
+					while (n893 != 4) {
+						store8(inside(p892, n893), load8(inside((byte *)tp_static_298, n893)));
+						n893 = n893 + 1;
 					}
-L31:
+L32:
 					{
-						byte *p888, *p889;
-						uint64_t n885 = n881 + 4;
-						uint64_t n886 = (uint64_t)(uintptr_t)p882;
+						byte *p897, *p898;
+						uint64_t n894 = n890 + 4;
+						uint64_t n895 = (uint64_t)(uintptr_t)p891;
 						memset(p7, 0, 16);
 						memset(p8, 0, 40);
 						memset(p9, 0, 40);
-						bool b887 = n840 == 0;
-						if (!b887) {
-							uint64_t n899;
-							if (n840 <= UINT64_C(576460752303423487)) {
-								of_i64_i64 s890 = rattle_alloc(n840 << 4, 8);
-								if ((s890.f0 & 1) != 0) {
-									byte *p891 = (byte *)(uintptr_t)s890.f1;
-									if (n840 <= UINT64_C(192153584101141162)) {
-										of_i64_i64 s892 = rattle_alloc(n840 * 48, 8);
-										if ((s892.f0 & 1) != 0) {
-											p888 = p891;
-											p889 = (byte *)(uintptr_t)s892.f1;
-											goto L32;
+						bool b896 = n849 == 0;
+						if (!b896) {
+							uint64_t n908;
+							if (n849 <= UINT64_C(576460752303423487)) {
+								of_i64_i64 s899 = rattle_alloc(n849 << 4, 8);
+								if ((s899.f0 & 1) != 0) {
+									byte *p900 = (byte *)(uintptr_t)s899.f1;
+									if (n849 <= UINT64_C(192153584101141162)) {
+										of_i64_i64 s901 = rattle_alloc(n849 * 48, 8);
+										if ((s901.f0 & 1) != 0) {
+											p897 = p900;
+											p898 = (byte *)(uintptr_t)s901.f1;
+											goto L33;
 										}
 									}
-									rattle_dealloc(p891);
-									uint64_t n893 = 0;
-									while (n893 != n840) {
-										byte *p894 = inside(p839, n893 * 112);
-										byte *p895 = loadptru(p894 + 24);
-										byte *p896 = loadptru(p894 + 32);
-										uint64_t n897 = load64u(p894 + 40);
+									rattle_dealloc(p900);
+									uint64_t n902 = 0;
+									while (n902 != n849) {
+										byte *p903 = inside(p848, n902 * 112);
+										byte *p904 = loadptru(p903 + 24);
+										byte *p905 = loadptru(p903 + 32);
+										uint64_t n906 = load64u(p903 + 40);
 										BARRIER();
-										uint64_t n898 = atomic_exchange64(p895 + 256, 1, ORDER_SEQ_CST);
+										uint64_t n907 = atomic_exchange64(p904 + 256, 1, ORDER_SEQ_CST);
 										BARRIER();
-										if (n898 != 0)
-											tp_release_drop_slow(p895, p896, n897);
-										n893 = n893 + 1;
+										if (n907 != 0)
+											tp_release_drop_slow(p904, p905, n906);
+										n902 = n902 + 1;
 									}
-									if (n841 == 0)
-										goto L33;
-									rattle_dealloc(p839);
-									goto L33;
+									if (n850 == 0)
+										goto L34;
+									rattle_dealloc(p848);
+									goto L34;
 								}
 							}
-							n899 = 0;
-							while (n899 != n840) {
-								byte *p900 = inside(p839, n899 * 112);
-								byte *p901 = loadptru(p900 + 24);
-								byte *p902 = loadptru(p900 + 32);
-								uint64_t n903 = load64u(p900 + 40);
+							n908 = 0;
+							while (n908 != n849) {
+								byte *p909 = inside(p848, n908 * 112);
+								byte *p910 = loadptru(p909 + 24);
+								byte *p911 = loadptru(p909 + 32);
+								uint64_t n912 = load64u(p909 + 40);
 								BARRIER();
-								uint64_t n904 = atomic_exchange64(p901 + 256, 1, ORDER_SEQ_CST);
+								uint64_t n913 = atomic_exchange64(p910 + 256, 1, ORDER_SEQ_CST);
 								BARRIER();
-								if (n904 != 0)
-									tp_release_drop_slow(p901, p902, n903);
-								n899 = n899 + 1;
+								if (n913 != 0)
+									tp_release_drop_slow(p910, p911, n912);
+								n908 = n908 + 1;
 							}
-							if (n841 != 0)
-								rattle_dealloc(p839);
-L33:
+							if (n850 != 0)
+								rattle_dealloc(p848);
+L34:
 							{
-								uint64_t n905;
-								if (n880 != 0)
-									rattle_dealloc(p882);
+								uint64_t n914;
+								if (n889 != 0)
+									rattle_dealloc(p891);
 								if (n446 != 0)
 									rattle_dealloc(p445);
 								if (n448 != 0)
@@ -78217,130 +78384,130 @@ L33:
 								if (n452 != 0)
 									rattle_dealloc(p451);
 								if (n454 == 0)
-									goto L34;
-								n905 = 0;
-								while (n905 != n454) {
-									byte *p906 = inside(p453, n905 * 88);
-									byte *p907 = loadptru(p906);
-									byte *p908 = loadptru(p906 + 8);
-									uint64_t n909 = load64u(p906 + 16);
-									byte *p910 = loadptru(p906 + 40);
-									byte *p911 = loadptru(p906 + 48);
-									uint64_t n912 = load64u(p906 + 56);
+									goto L35;
+								n914 = 0;
+								while (n914 != n454) {
+									byte *p915 = inside(p453, n914 * 88);
+									byte *p916 = loadptru(p915);
+									byte *p917 = loadptru(p915 + 8);
+									uint64_t n918 = load64u(p915 + 16);
+									byte *p919 = loadptru(p915 + 40);
+									byte *p920 = loadptru(p915 + 48);
+									uint64_t n921 = load64u(p915 + 56);
 									BARRIER();
-									uint64_t n913 = atomic_exchange64(p907 + 256, 1, ORDER_SEQ_CST);
+									uint64_t n922 = atomic_exchange64(p916 + 256, 1, ORDER_SEQ_CST);
 									BARRIER();
-									if (n913 != 0)
-										tp_release_drop_slow(p907, p908, n909);
+									if (n922 != 0)
+										tp_release_drop_slow(p916, p917, n918);
 									BARRIER();
-									uint64_t n914 = atomic_exchange64(p910 + 256, 1, ORDER_SEQ_CST);
+									uint64_t n923 = atomic_exchange64(p919 + 256, 1, ORDER_SEQ_CST);
 									BARRIER();
-									if (n914 != 0)
-										tp_release_drop_slow(p910, p911, n912);
-									n905 = n905 + 1;
+									if (n923 != 0)
+										tp_release_drop_slow(p919, p920, n921);
+									n914 = n914 + 1;
 								}
-L34:
+L35:
 								{
-									uint64_t n915;
+									uint64_t n924;
 									if (n455 != 0)
 										rattle_dealloc(p453);
 									if (n457 == 0)
-										goto L35;
-									n915 = 0;
-									while (n915 != n457) {
-										rattle_dealloc(loadptru(inside(p456, n915 * 88)));
-										n915 = n915 + 1;
+										goto L36;
+									n924 = 0;
+									while (n924 != n457) {
+										rattle_dealloc(loadptru(inside(p456, n924 * 88)));
+										n924 = n924 + 1;
 									}
-L35:
+L36:
 									{
 										if (n458 != 0)
 											rattle_dealloc(p456);
 										if (n460 == 0) {
-											n859 = 1;
-											n860 = 0;
-											n861 = 0;
-											n862 = 0;
-											goto L36;
+											n868 = 1;
+											n869 = 0;
+											n870 = 0;
+											n871 = 0;
+											goto L37;
 										}
 										rattle_dealloc(p459);
-										n859 = 1;
-										n860 = 0;
-										n861 = 0;
-										n862 = 0;
-										goto L36;
+										n868 = 1;
+										n869 = 0;
+										n870 = 0;
+										n871 = 0;
+										goto L37;
 									}
 								}
 							}
 						}
-						p888 = p6;
-						p889 = p6;
-L32:
+						p897 = p6;
+						p898 = p6;
+L33:
 						{
-							uint64_t n918, n919, n925, n930, n931, n948;
-							byte *p923, *p924;
-							uint8_t n949;
-							uint64_t n916 = 0;
-							uint64_t n917 = n840;
+							uint64_t n927, n928, n934, n939, n940, n957;
+							byte *p932, *p933;
+							uint8_t n958;
+							uint64_t n925 = 0;
+							uint64_t n926 = n849;
 							for (;;) {
-								if (n917 == 0)
-									goto L37;
-								n918 = n916 + 1;
-								n919 = n917 - 1;
-								byte *p920 = inside(p839, n916 * 112);
-								byte *p921 = loadptru(p920 + 8);
-								byte *p922 = loadptru(p920 + 16);
-								p923 = loadptru(p920 + 24);
-								p924 = loadptru(p920 + 32);
-								n925 = load64u(p920 + 40);
-								uint64_t n926 = load64u(p920 + 64);
-								uint8_t n927 = load8(p920);
-								memcpy(p7, p920 + 48, 16);
-								if (n927 != 1)
+								if (n926 == 0)
+									goto L38;
+								n927 = n925 + 1;
+								n928 = n926 - 1;
+								byte *p929 = inside(p848, n925 * 112);
+								byte *p930 = loadptru(p929 + 8);
+								byte *p931 = loadptru(p929 + 16);
+								p932 = loadptru(p929 + 24);
+								p933 = loadptru(p929 + 32);
+								n934 = load64u(p929 + 40);
+								uint64_t n935 = load64u(p929 + 64);
+								uint8_t n936 = load8(p929);
+								memcpy(p7, p929 + 48, 16);
+								if (n936 != 1)
 									break;
-								byte *p928 = inside(p888, n916 << 4);
-								storeptru(p928, p921);
-								storeptru(p928 + 8, p922);
-								byte *p929 = inside(p889, n916 * 48);
-								storeptru(p929, p923);
-								storeptru(p929 + 8, p924);
-								store64u(p929 + 16, n925);
-								memcpy(p929 + 24, p7, 16);
-								store64u(p929 + 40, n926);
-								n916 = n918;
-								n917 = n919;
+								byte *p937 = inside(p897, n925 << 4);
+								storeptru(p937, p930);
+								storeptru(p937 + 8, p931);
+								byte *p938 = inside(p898, n925 * 48);
+								storeptru(p938, p932);
+								storeptru(p938 + 8, p933);
+								store64u(p938 + 16, n934);
+								memcpy(p938 + 24, p7, 16);
+								store64u(p938 + 40, n935);
+								n925 = n927;
+								n926 = n928;
 							}
 							BARRIER();
-							n930 = atomic_exchange64(p923 + 256, 1, ORDER_SEQ_CST);
+							n939 = atomic_exchange64(p932 + 256, 1, ORDER_SEQ_CST);
 							BARRIER();
-							if (n930 != 0)
-								tp_release_drop_slow(p923, p924, n925);
-							storeptru(p8, p839);
-							store64u(p8 + 8, n919);
-							store64u(p8 + 16, n841);
-							store64u(p8 + 24, n918);
+							if (n939 != 0)
+								tp_release_drop_slow(p932, p933, n934);
+							storeptru(p8, p848);
+							store64u(p8 + 8, n928);
+							store64u(p8 + 16, n850);
+							store64u(p8 + 24, n927);
 							store64u(p8 + 32, 0);
 							tp_VecDeque_drop(p8);
-							if (n916 == 0)
-								goto L38;
-							n931 = 0;
-							while (n931 != n916) {
-								byte *p932 = inside(p889, n931 * 48);
-								byte *p933 = loadptru(p932);
-								byte *p934 = loadptru(p932 + 8);
-								uint64_t n935 = load64u(p932 + 16);
+							if (n925 == 0)
+								goto L39;
+							n940 = 0;
+							while (n940 != n925) {
+								byte *p941 = inside(p898, n940 * 48);
+								byte *p942 = loadptru(p941);
+								byte *p943 = loadptru(p941 + 8);
+								uint64_t n944 = load64u(p941 + 16);
 								BARRIER();
-								uint64_t n936 = atomic_exchange64(p933 + 256, 1, ORDER_SEQ_CST);
+								uint64_t n945 = atomic_exchange64(p942 + 256, 1, ORDER_SEQ_CST);
 								BARRIER();
-								if (n936 != 0)
-									tp_release_drop_slow(p933, p934, n935);
-								n931 = n931 + 1;
+								if (n945 != 0)
+									tp_release_drop_slow(p942, p943, n944);
+								n940 = n940 + 1;
 							}
-L38:
+L39:
 							{
-								uint64_t n937;
-								if (!b887) {
-									rattle_dealloc(p889);
-									rattle_dealloc(p888);
+								uint64_t n946;
+								if (!b896) {
+									rattle_dealloc(p898);
+									rattle_dealloc(p897);
 								}
 								if (n446 != 0)
 									rattle_dealloc(p445);
@@ -78351,164 +78518,164 @@ L38:
 								if (n452 != 0)
 									rattle_dealloc(p451);
 								if (n454 == 0)
-									goto L39;
-								n937 = 0;
-								while (n937 != n454) {
-									byte *p938 = inside(p453, n937 * 88);
-									byte *p939 = loadptru(p938);
-									byte *p940 = loadptru(p938 + 8);
-									uint64_t n941 = load64u(p938 + 16);
-									byte *p942 = loadptru(p938 + 40);
-									byte *p943 = loadptru(p938 + 48);
-									uint64_t n944 = load64u(p938 + 56);
+									goto L40;
+								n946 = 0;
+								while (n946 != n454) {
+									byte *p947 = inside(p453, n946 * 88);
+									byte *p948 = loadptru(p947);
+									byte *p949 = loadptru(p947 + 8);
+									uint64_t n950 = load64u(p947 + 16);
+									byte *p951 = loadptru(p947 + 40);
+									byte *p952 = loadptru(p947 + 48);
+									uint64_t n953 = load64u(p947 + 56);
 									BARRIER();
-									uint64_t n945 = atomic_exchange64(p939 + 256, 1, ORDER_SEQ_CST);
+									uint64_t n954 = atomic_exchange64(p948 + 256, 1, ORDER_SEQ_CST);
 									BARRIER();
-									if (n945 != 0)
-										tp_release_drop_slow(p939, p940, n941);
+									if (n954 != 0)
+										tp_release_drop_slow(p948, p949, n950);
 									BARRIER();
-									uint64_t n946 = atomic_exchange64(p942 + 256, 1, ORDER_SEQ_CST);
+									uint64_t n955 = atomic_exchange64(p951 + 256, 1, ORDER_SEQ_CST);
 									BARRIER();
-									if (n946 != 0)
-										tp_release_drop_slow(p942, p943, n944);
-									n937 = n937 + 1;
+									if (n955 != 0)
+										tp_release_drop_slow(p951, p952, n953);
+									n946 = n946 + 1;
 								}
-L39:
+L40:
 								{
-									uint64_t n947;
+									uint64_t n956;
 									if (n455 != 0)
 										rattle_dealloc(p453);
 									if (n457 == 0)
-										goto L40;
-									n947 = 0;
-									while (n947 != n457) {
-										rattle_dealloc(loadptru(inside(p456, n947 * 88)));
-										n947 = n947 + 1;
+										goto L41;
+									n956 = 0;
+									while (n956 != n457) {
+										rattle_dealloc(loadptru(inside(p456, n956 * 88)));
+										n956 = n956 + 1;
 									}
-L40:
+L41:
 									{
 										if (n458 != 0)
 											rattle_dealloc(p456);
 										if (n460 == 0) {
-											n948 = 0;
-											n949 = 0;
-											goto L41;
+											n957 = 0;
+											n958 = 0;
+											goto L42;
 										}
 										rattle_dealloc(p459);
-										n948 = 0;
-										n949 = 0;
-										goto L41;
+										n957 = 0;
+										n958 = 0;
+										goto L42;
 									}
 								}
 							}
-L37:
+L38:
 							{
-								bool b951, b975, b977, b979, b981, b984;
-								uint64_t n958, n962, n973, n983;
-								byte *p974, *p976, *p978, *p980, *p982;
-								storeptru(p9, p839);
+								bool b960, b984, b986, b988, b990, b993;
+								uint64_t n967, n971, n982, n992;
+								byte *p983, *p985, *p987, *p989, *p991;
+								storeptru(p9, p848);
 								store64u(p9 + 8, 0);
-								store64u(p9 + 16, n841);
-								store64u(p9 + 24, n840);
+								store64u(p9 + 16, n850);
+								store64u(p9 + 24, n849);
 								store64u(p9 + 32, 0);
 								tp_VecDeque_drop(p9);
-								uint64_t n950 = 0;
+								uint64_t n959 = 0;
 								for (;;) {
-									b951 = n950 != n840;
-									if (!b951)
+									b960 = n959 != n849;
+									if (!b960)
 										break;
-									uint64_t n952 = n950 * 88;
-									byte *p953 = at(p456, n952);
-									if (load8(p953 + 32) == 1)
-										goto L42;
-									if (load64(p953 + 16) != 0)
-										goto L42;
-									byte *p954 = at(p453, n952);
-									store8(p954 + 80, 1);
-									byte *p955 = loadptr(p954) + 128;
+									uint64_t n961 = n959 * 88;
+									byte *p962 = at(p456, n961);
+									if (load8(p962 + 32) == 1)
+										goto L43;
+									if (load64(p962 + 16) != 0)
+										goto L43;
+									byte *p963 = at(p453, n961);
+									store8(p963 + 80, 1);
+									byte *p964 = loadptr(p963) + 128;
 									BARRIER();
-									uint64_t n956 = atomic_load64(p955, ORDER_SEQ_CST);
+									uint64_t n965 = atomic_load64(p964, ORDER_SEQ_CST);
 									BARRIER();
-									store64(p954 + 32, n956);
-									uint64_t n957 = load64(p954 + 24);
-									if (n956 != (n957 - ((n957 > n956) ? (load64(p954 + 16) << 1) : 0)))
-										goto L42;
-									n950 = n950 + 1;
+									store64(p963 + 32, n965);
+									uint64_t n966 = load64(p963 + 24);
+									if (n965 != (n966 - ((n966 > n965) ? (load64(p963 + 16) << 1) : 0)))
+										goto L43;
+									n959 = n959 + 1;
 								}
-								n958 = 0;
-								while (n958 != n840) {
-									byte *p959 = at(p889, n958 * 48);
-									store8(p959 + 40, 1);
-									byte *p960 = loadptr(p959) + 128;
+								n967 = 0;
+								while (n967 != n849) {
+									byte *p968 = at(p898, n967 * 48);
+									store8(p968 + 40, 1);
+									byte *p969 = loadptr(p968) + 128;
 									BARRIER();
-									uint64_t n961 = atomic_load64(p960, ORDER_SEQ_CST);
+									uint64_t n970 = atomic_load64(p969, ORDER_SEQ_CST);
 									BARRIER();
-									store64(p959 + 32, n961);
-									n958 = n958 + 1;
+									store64(p968 + 32, n970);
+									n967 = n967 + 1;
 								}
 								if (n457 == 0)
-									goto L43;
-								n962 = 0;
-								while (n962 != n457) {
-									rattle_dealloc(loadptru(inside(p456, n962 * 88)));
-									n962 = n962 + 1;
+									goto L44;
+								n971 = 0;
+								while (n971 != n457) {
+									rattle_dealloc(loadptru(inside(p456, n971 * 88)));
+									n971 = n971 + 1;
 								}
-L43:
+L44:
 								{
-									uint64_t n963;
+									uint64_t n972;
 									if (n458 != 0)
 										rattle_dealloc(p456);
 									if (n460 != 0)
 										rattle_dealloc(p459);
 									if (n454 == 0)
-										goto L44;
-									n963 = 0;
-									while (n963 != n454) {
-										byte *p964 = inside(p453, n963 * 88);
-										byte *p965 = loadptru(p964);
-										byte *p966 = loadptru(p964 + 8);
-										uint64_t n967 = load64u(p964 + 16);
-										byte *p968 = loadptru(p964 + 40);
-										byte *p969 = loadptru(p964 + 48);
-										uint64_t n970 = load64u(p964 + 56);
+										goto L45;
+									n972 = 0;
+									while (n972 != n454) {
+										byte *p973 = inside(p453, n972 * 88);
+										byte *p974 = loadptru(p973);
+										byte *p975 = loadptru(p973 + 8);
+										uint64_t n976 = load64u(p973 + 16);
+										byte *p977 = loadptru(p973 + 40);
+										byte *p978 = loadptru(p973 + 48);
+										uint64_t n979 = load64u(p973 + 56);
 										BARRIER();
-										uint64_t n971 = atomic_exchange64(p965 + 256, 1, ORDER_SEQ_CST);
+										uint64_t n980 = atomic_exchange64(p974 + 256, 1, ORDER_SEQ_CST);
 										BARRIER();
-										if (n971 != 0)
-											tp_release_drop_slow(p965, p966, n967);
+										if (n980 != 0)
+											tp_release_drop_slow(p974, p975, n976);
 										BARRIER();
-										uint64_t n972 = atomic_exchange64(p968 + 256, 1, ORDER_SEQ_CST);
+										uint64_t n981 = atomic_exchange64(p977 + 256, 1, ORDER_SEQ_CST);
 										BARRIER();
-										if (n972 != 0)
-											tp_release_drop_slow(p968, p969, n970);
-										n963 = n963 + 1;
+										if (n981 != 0)
+											tp_release_drop_slow(p977, p978, n979);
+										n972 = n972 + 1;
 									}
-L44:
+L45:
 									{
 										if (n455 != 0)
 											rattle_dealloc(p453);
-										if (!b887)
-											rattle_dealloc(p888);
-										n973 = n444;
-										p974 = p445;
-										b975 = n446 == 0;
-										p976 = p447;
-										b977 = n448 == 0;
-										p978 = p449;
-										b979 = n450 == 0;
-										p980 = p451;
-										b981 = n452 == 0;
-										p982 = p889;
-										n983 = n840;
-										b984 = b887;
-										goto L45;
+										if (!b896)
+											rattle_dealloc(p897);
+										n982 = n444;
+										p983 = p445;
+										b984 = n446 == 0;
+										p985 = p447;
+										b986 = n448 == 0;
+										p987 = p449;
+										b988 = n450 == 0;
+										p989 = p451;
+										b990 = n452 == 0;
+										p991 = p898;
+										n992 = n849;
+										b993 = b896;
+										goto L46;
 									}
 								}
-L42:
+L43:
 								{
-									uint64_t n985;
-									if (!b887)
-										rattle_dealloc(p888);
+									uint64_t n994;
+									if (!b896)
+										rattle_dealloc(p897);
 									if (n446 != 0)
 										rattle_dealloc(p445);
 									if (n448 != 0)
@@ -78518,252 +78685,252 @@ L42:
 									if (n452 != 0)
 										rattle_dealloc(p451);
 									if (n454 == 0)
-										goto L46;
-									n985 = 0;
-									while (n985 != n454) {
-										byte *p986 = inside(p453, n985 * 88);
-										byte *p987 = loadptru(p986);
-										byte *p988 = loadptru(p986 + 8);
-										uint64_t n989 = load64u(p986 + 16);
-										byte *p990 = loadptru(p986 + 40);
-										byte *p991 = loadptru(p986 + 48);
-										uint64_t n992 = load64u(p986 + 56);
+										goto L47;
+									n994 = 0;
+									while (n994 != n454) {
+										byte *p995 = inside(p453, n994 * 88);
+										byte *p996 = loadptru(p995);
+										byte *p997 = loadptru(p995 + 8);
+										uint64_t n998 = load64u(p995 + 16);
+										byte *p999 = loadptru(p995 + 40);
+										byte *p1000 = loadptru(p995 + 48);
+										uint64_t n1001 = load64u(p995 + 56);
 										BARRIER();
-										uint64_t n993 = atomic_exchange64(p987 + 256, 1, ORDER_SEQ_CST);
+										uint64_t n1002 = atomic_exchange64(p996 + 256, 1, ORDER_SEQ_CST);
 										BARRIER();
-										if (n993 != 0)
-											tp_release_drop_slow(p987, p988, n989);
+										if (n1002 != 0)
+											tp_release_drop_slow(p996, p997, n998);
 										BARRIER();
-										uint64_t n994 = atomic_exchange64(p990 + 256, 1, ORDER_SEQ_CST);
+										uint64_t n1003 = atomic_exchange64(p999 + 256, 1, ORDER_SEQ_CST);
 										BARRIER();
-										if (n994 != 0)
-											tp_release_drop_slow(p990, p991, n992);
-										n985 = n985 + 1;
+										if (n1003 != 0)
+											tp_release_drop_slow(p999, p1000, n1001);
+										n994 = n994 + 1;
 									}
-L46:
+L47:
 									{
-										uint64_t n995;
+										uint64_t n1004;
 										if (n455 != 0)
 											rattle_dealloc(p453);
 										if (n457 == 0)
-											goto L47;
-										n995 = 0;
-										while (n995 != n457) {
-											rattle_dealloc(loadptru(inside(p456, n995 * 88)));
-											n995 = n995 + 1;
+											goto L48;
+										n1004 = 0;
+										while (n1004 != n457) {
+											rattle_dealloc(loadptru(inside(p456, n1004 * 88)));
+											n1004 = n1004 + 1;
 										}
-L47:
+L48:
 										{
 											if (n458 != 0)
 												rattle_dealloc(p456);
 											if (n460 != 0)
 												rattle_dealloc(p459);
-											if (b887) {
-												n973 = n950;
-												p974 = NULL;
-												b975 = true;
-												p976 = NULL;
-												b977 = true;
-												p978 = NULL;
-												b979 = true;
-												p980 = NULL;
-												b981 = true;
-												p982 = NULL;
-												n983 = 0;
+											if (b896) {
+												n982 = n959;
+												p983 = NULL;
 												b984 = true;
-												goto L45;
+												p985 = NULL;
+												b986 = true;
+												p987 = NULL;
+												b988 = true;
+												p989 = NULL;
+												b990 = true;
+												p991 = NULL;
+												n992 = 0;
+												b993 = true;
+												goto L46;
 											}
-											uint64_t n996 = 0;
-											while (n996 != n840) {
-												byte *p997 = inside(p889, n996 * 48);
-												byte *p998 = loadptru(p997);
-												byte *p999 = loadptru(p997 + 8);
-												uint64_t n1000 = load64u(p997 + 16);
+											uint64_t n1005 = 0;
+											while (n1005 != n849) {
+												byte *p1006 = inside(p898, n1005 * 48);
+												byte *p1007 = loadptru(p1006);
+												byte *p1008 = loadptru(p1006 + 8);
+												uint64_t n1009 = load64u(p1006 + 16);
 												BARRIER();
-												uint64_t n1001 = atomic_exchange64(p998 + 256, 1, ORDER_SEQ_CST);
+												uint64_t n1010 = atomic_exchange64(p1007 + 256, 1, ORDER_SEQ_CST);
 												BARRIER();
-												if (n1001 != 0)
-													tp_release_drop_slow(p998, p999, n1000);
-												n996 = n996 + 1;
+												if (n1010 != 0)
+													tp_release_drop_slow(p1007, p1008, n1009);
+												n1005 = n1005 + 1;
 											}
-											rattle_dealloc(p889);
-											n973 = n950;
-											p974 = NULL;
-											b975 = true;
-											p976 = NULL;
-											b977 = true;
-											p978 = NULL;
-											b979 = true;
-											p980 = NULL;
-											b981 = true;
-											p982 = NULL;
-											n983 = 0;
+											rattle_dealloc(p898);
+											n982 = n959;
+											p983 = NULL;
 											b984 = true;
+											p985 = NULL;
+											b986 = true;
+											p987 = NULL;
+											b988 = true;
+											p989 = NULL;
+											b990 = true;
+											p991 = NULL;
+											n992 = 0;
+											b993 = true;
 										}
 									}
 								}
-L45:
+L46:
 								{
-									uint64_t n1003, n1008;
-									uint8_t n1004;
-									if (b951) {
-										n948 = n973;
-										n949 = 1;
-										goto L41;
+									uint64_t n1012, n1017;
+									uint8_t n1013;
+									if (b960) {
+										n957 = n982;
+										n958 = 1;
+										goto L42;
 									}
-									uint64_t n1002 = 0;
+									uint64_t n1011 = 0;
 									for (;;) {
-										if (n1002 == n983) {
-											n1003 = 0;
-											n1004 = 0;
+										if (n1011 == n992) {
+											n1012 = 0;
+											n1013 = 0;
 											break;
 										}
-										byte *p1005 = at(p982, n1002 * 48);
-										if ((load8(p1005 + 40) & 1) == 0) {
-											n1003 = n1002;
-											n1004 = 1;
+										byte *p1014 = at(p991, n1011 * 48);
+										if ((load8(p1014 + 40) & 1) == 0) {
+											n1012 = n1011;
+											n1013 = 1;
 											break;
 										}
-										uint64_t n1006 = load64(p1005 + 24);
-										uint64_t n1007 = load64(p1005 + 32);
-										if (n1007 != (n1006 - ((n1006 > n1007) ? (load64(p1005 + 16) << 1) : 0))) {
-											n1003 = n1002;
-											n1004 = 1;
+										uint64_t n1015 = load64(p1014 + 24);
+										uint64_t n1016 = load64(p1014 + 32);
+										if (n1016 != (n1015 - ((n1015 > n1016) ? (load64(p1014 + 16) << 1) : 0))) {
+											n1012 = n1011;
+											n1013 = 1;
 											break;
 										}
-										n1002 = n1002 + 1;
+										n1011 = n1011 + 1;
 									}
-									if (n983 == 0)
-										goto L48;
-									n1008 = 0;
-									while (n1008 != n983) {
-										byte *p1009 = inside(p982, n1008 * 48);
-										byte *p1010 = loadptru(p1009);
-										byte *p1011 = loadptru(p1009 + 8);
-										uint64_t n1012 = load64u(p1009 + 16);
+									if (n992 == 0)
+										goto L49;
+									n1017 = 0;
+									while (n1017 != n992) {
+										byte *p1018 = inside(p991, n1017 * 48);
+										byte *p1019 = loadptru(p1018);
+										byte *p1020 = loadptru(p1018 + 8);
+										uint64_t n1021 = load64u(p1018 + 16);
 										BARRIER();
-										uint64_t n1013 = atomic_exchange64(p1010 + 256, 1, ORDER_SEQ_CST);
+										uint64_t n1022 = atomic_exchange64(p1019 + 256, 1, ORDER_SEQ_CST);
 										BARRIER();
-										if (n1013 != 0)
-											tp_release_drop_slow(p1010, p1011, n1012);
-										n1008 = n1008 + 1;
+										if (n1022 != 0)
+											tp_release_drop_slow(p1019, p1020, n1021);
+										n1017 = n1017 + 1;
 									}
-L48:
+L49:
 									{
+										if (!b993)
+											rattle_dealloc(p991);
 										if (!b984)
-											rattle_dealloc(p982);
-										if (!b975)
-											rattle_dealloc(p974);
-										if (!b977)
-											rattle_dealloc(p976);
-										if (!b979)
-											rattle_dealloc(p978);
-										if (b981) {
-											n948 = n1003;
-											n949 = n1004;
+											rattle_dealloc(p983);
+										if (!b986)
+											rattle_dealloc(p985);
+										if (!b988)
+											rattle_dealloc(p987);
+										if (b990) {
+											n957 = n1012;
+											n958 = n1013;
 										} else {
-											rattle_dealloc(p980);
-											n948 = n1003;
-											n949 = n1004;
+											rattle_dealloc(p989);
+											n957 = n1012;
+											n958 = n1013;
 										}
 									}
 								}
 							}
-L41:
+L42:
 							{
-								uint64_t n1014;
-								if (b864) {
-									if (n949 == 1) {
-										n1014 = umin64(n948, n866);
+								uint64_t n1023;
+								if (b873) {
+									if (n958 == 1) {
+										n1023 = umin64(n957, n875);
 									} else {
-										n1014 = n866;
+										n1023 = n875;
 									}
-								} else if (n949 == 1) {
-									n1014 = n948;
+								} else if (n958 == 1) {
+									n1023 = n957;
 								} else {
 									switch (MOSTLY_0(n461)) {
 									case 0: {
-										n859 = 0;
-										n860 = n886;
-										n861 = n885;
-										n862 = n880;
-										goto L36;
+										n868 = 0;
+										n869 = n895;
+										n870 = n894;
+										n871 = n889;
+										goto L37;
 									}
 									case 1: {
-										if (n880 == 0) {
-											n859 = 1;
-											n860 = 2;
-											n861 = 0;
-											n862 = 0;
-											goto L36;
+										if (n889 == 0) {
+											n868 = 1;
+											n869 = 2;
+											n870 = 0;
+											n871 = 0;
+											goto L37;
 										}
-										rattle_dealloc(p882);
-										n859 = 1;
-										n860 = 2;
-										n861 = 0;
-										n862 = 0;
-										goto L36;
+										rattle_dealloc(p891);
+										n868 = 1;
+										n869 = 2;
+										n870 = 0;
+										n871 = 0;
+										goto L37;
 									}
 									case 2: {
-										if (n880 == 0) {
-											n859 = 1;
-											n860 = 0;
-											n861 = 0;
-											n862 = 0;
-											goto L36;
+										if (n889 == 0) {
+											n868 = 1;
+											n869 = 0;
+											n870 = 0;
+											n871 = 0;
+											goto L37;
 										}
-										rattle_dealloc(p882);
-										n859 = 1;
-										n860 = 0;
-										n861 = 0;
-										n862 = 0;
-										goto L36;
+										rattle_dealloc(p891);
+										n868 = 1;
+										n869 = 0;
+										n870 = 0;
+										n871 = 0;
+										goto L37;
 									}
 									default: {
 										UNREACHABLE();
 									}
 									}
 								}
-								if (n880 == 0) {
-									n859 = 1;
-									n860 = 1;
-									n861 = n1014;
-									n862 = 0;
-									goto L36;
+								if (n889 == 0) {
+									n868 = 1;
+									n869 = 1;
+									n870 = n1023;
+									n871 = 0;
+									goto L37;
 								}
-								rattle_dealloc(p882);
-								n859 = 1;
-								n860 = 1;
-								n861 = n1014;
-								n862 = 0;
-								goto L36;
+								rattle_dealloc(p891);
+								n868 = 1;
+								n869 = 1;
+								n870 = n1023;
+								n871 = 0;
+								goto L37;
 							}
 						}
 					}
 				}
-L30:
+L31:
 				{
-					uint64_t n1015;
-					if (n840 == 0)
-						goto L49;
-					n1015 = 0;
-					while (n1015 != n840) {
-						byte *p1016 = inside(p839, n1015 * 112);
-						byte *p1017 = loadptru(p1016 + 24);
-						byte *p1018 = loadptru(p1016 + 32);
-						uint64_t n1019 = load64u(p1016 + 40);
+					uint64_t n1024;
+					if (n849 == 0)
+						goto L50;
+					n1024 = 0;
+					while (n1024 != n849) {
+						byte *p1025 = inside(p848, n1024 * 112);
+						byte *p1026 = loadptru(p1025 + 24);
+						byte *p1027 = loadptru(p1025 + 32);
+						uint64_t n1028 = load64u(p1025 + 40);
 						BARRIER();
-						uint64_t n1020 = atomic_exchange64(p1017 + 256, 1, ORDER_SEQ_CST);
+						uint64_t n1029 = atomic_exchange64(p1026 + 256, 1, ORDER_SEQ_CST);
 						BARRIER();
-						if (n1020 != 0)
-							tp_release_drop_slow(p1017, p1018, n1019);
-						n1015 = n1015 + 1;
+						if (n1029 != 0)
+							tp_release_drop_slow(p1026, p1027, n1028);
+						n1024 = n1024 + 1;
 					}
-L49:
+L50:
 					{
-						uint64_t n1021;
-						if (n841 != 0)
-							rattle_dealloc(p839);
+						uint64_t n1030;
+						if (n850 != 0)
+							rattle_dealloc(p848);
 						if (n446 != 0)
 							rattle_dealloc(p445);
 						if (n448 != 0)
@@ -78773,55 +78940,55 @@ L49:
 						if (n452 != 0)
 							rattle_dealloc(p451);
 						if (n454 == 0)
-							goto L50;
-						n1021 = 0;
-						while (n1021 != n454) {
-							byte *p1022 = inside(p453, n1021 * 88);
-							byte *p1023 = loadptru(p1022);
-							byte *p1024 = loadptru(p1022 + 8);
-							uint64_t n1025 = load64u(p1022 + 16);
-							byte *p1026 = loadptru(p1022 + 40);
-							byte *p1027 = loadptru(p1022 + 48);
-							uint64_t n1028 = load64u(p1022 + 56);
+							goto L51;
+						n1030 = 0;
+						while (n1030 != n454) {
+							byte *p1031 = inside(p453, n1030 * 88);
+							byte *p1032 = loadptru(p1031);
+							byte *p1033 = loadptru(p1031 + 8);
+							uint64_t n1034 = load64u(p1031 + 16);
+							byte *p1035 = loadptru(p1031 + 40);
+							byte *p1036 = loadptru(p1031 + 48);
+							uint64_t n1037 = load64u(p1031 + 56);
 							BARRIER();
-							uint64_t n1029 = atomic_exchange64(p1023 + 256, 1, ORDER_SEQ_CST);
+							uint64_t n1038 = atomic_exchange64(p1032 + 256, 1, ORDER_SEQ_CST);
 							BARRIER();
-							if (n1029 != 0)
-								tp_release_drop_slow(p1023, p1024, n1025);
+							if (n1038 != 0)
+								tp_release_drop_slow(p1032, p1033, n1034);
 							BARRIER();
-							uint64_t n1030 = atomic_exchange64(p1026 + 256, 1, ORDER_SEQ_CST);
+							uint64_t n1039 = atomic_exchange64(p1035 + 256, 1, ORDER_SEQ_CST);
 							BARRIER();
-							if (n1030 != 0)
-								tp_release_drop_slow(p1026, p1027, n1028);
-							n1021 = n1021 + 1;
+							if (n1039 != 0)
+								tp_release_drop_slow(p1035, p1036, n1037);
+							n1030 = n1030 + 1;
 						}
-L50:
+L51:
 						{
-							uint64_t n1031;
+							uint64_t n1040;
 							if (n455 != 0)
 								rattle_dealloc(p453);
 							if (n457 == 0)
-								goto L51;
-							n1031 = 0;
-							while (n1031 != n457) {
-								rattle_dealloc(loadptru(inside(p456, n1031 * 88)));
-								n1031 = n1031 + 1;
+								goto L52;
+							n1040 = 0;
+							while (n1040 != n457) {
+								rattle_dealloc(loadptru(inside(p456, n1040 * 88)));
+								n1040 = n1040 + 1;
 							}
-L51:
+L52:
 							{
 								if (n458 != 0)
 									rattle_dealloc(p456);
 								if (n460 == 0) {
-									n859 = 1;
-									n860 = 0;
-									n861 = 0;
-									n862 = 0;
+									n868 = 1;
+									n869 = 0;
+									n870 = 0;
+									n871 = 0;
 								} else {
 									rattle_dealloc(p459);
-									n859 = 1;
-									n860 = 0;
-									n861 = 0;
-									n862 = 0;
+									n868 = 1;
+									n869 = 0;
+									n870 = 0;
+									n871 = 0;
 								}
 							}
 						}
@@ -78833,12 +79000,12 @@ L51:
 				UNREACHABLE();
 			}
 			}
-L36:
+L37:
 			{
-				store64u(p1, n859);
-				store64u(p1 + 8, n860);
-				store64u(p1 + 16, n861);
-				store64u(p1 + 24, n862);
+				store64u(p1, n868);
+				store64u(p1 + 8, n869);
+				store64u(p1 + 16, n870);
+				store64u(p1 + 24, n871);
 				return;
 			}
 		}

@@ -38,14 +38,15 @@ class File:
         for name in module.declared:
             self.names[name] = name if name.startswith('rattle_') else self.kind.outside + name
         self.order = Order(module)
-        self.smooth = [self.out_of_line(path) for path in self.kind.smooth]
+        self.smooth = [name for path in self.kind.smooth for name in self.out_of_line(path)]
 
     def out_of_line(self, path):
-        """The function's name in the module, which has it once, and which doesn't copy its code to where it is called."""
+        """The function's names in the module: one, or two if the library and the desk pass it other arguments. Its code isn't
+        copied to where it is called."""
         found = [f for f in self.module.functions if '::'.join(path_of(f.name)) == path]
-        if len(found) != 1 or 'noinline' not in found[0].attributes:
+        if not found or not all('noinline' in f.attributes for f in found):
             raise Unknown(f'{len(found)} functions {path}, and one is wanted that is out of line')
-        return found[0].name
+        return [f.name for f in found]
 
     def text(self):
         first, second = self.order.parted(self.kind.second)
