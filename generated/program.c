@@ -364,12 +364,11 @@ static void rattle_dealloc(byte *block)
 {
 	release_block(block);
 }
-/* What the program asks of its system, over POSIX: reading and writing, threads, and a signal that it ignores. By hand. The
+/* What the program asks of its system, over POSIX: reading and writing, threads, and to ignore a signal. By hand. The
  * module has the calls as glibc has them on x86-64; here each is one of C, so that sizes and types are those of the platform. */
 #include <errno.h>
 #include <pthread.h>
 #include <sched.h>
-#include <signal.h>
 #include <unistd.h>
 #if EAGAIN != 11 || ENOMEM != 12 || EINTR != 4 || EPIPE != 32
 #error "the numbers of errors are not those of Linux"
@@ -399,12 +398,13 @@ static byte *os_malloc(uint64_t n) { return n > SIZE_MAX / 2 ? NULL : (byte *)ma
 static void os_free(byte *p) { free(p); }
 static uint32_t os_sched_yield(void) { return (uint32_t)sched_yield(); }
 
-/* signal(SIGPIPE, SIG_IGN) is all that it does. */
+/* All that it asks for is signal(SIGPIPE, SIG_IGN). SIGPIPE stays as the caller left it: by default a pipe that nobody reads
+ * ends the program without a line, as it ends other filters. Where the caller ignores it, the write fails. */
 static uint64_t os___sysv_signal(uint32_t number, uint64_t handler)
 {
 	if (number != 13 || handler != 1)
 		abort();
-	return signal(SIGPIPE, SIG_IGN) == SIG_ERR ? (uint64_t)-1 : 0;
+	return 0;
 }
 
 /* Of a thread's attributes the module sets the size of the guard alone: it is kept in the first 8 bytes of those that the
