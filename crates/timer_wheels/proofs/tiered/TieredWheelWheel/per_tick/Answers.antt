@@ -19,10 +19,3 @@ pub returns-in-Small-clause-counts : goal.returns-in-Small-clause-counts
 returns-in-Small-clause-counts c =
     let wheel = c.in-Hier.wheel in
     rw c.in-Hier.is (c.tick_by-in-Small.ensures.counts ∙ hier_chosen (counts_of wheel) (counts_of_tick (hier_state wheel) (counts_of wheel)) wheel)
-
-pub returns-in-Smooth-clause-counts : goal.returns-in-Smooth-clause-counts
-returns-in-Smooth-clause-counts c =
-    let wheel = c.in-Smooth.wheel in
-    let counts : WheelCounts = record { starts = starts_of wheel; moves = 0; visits = 0 } in
-    rw c.in-Smooth.is (ap (λ (n : ℕ). record { starts = n; moves = 0; visits = 0 }) c.tick_smooth.ensures.starts
-    ∙ smooth_chosen counts (counts_of_tick (smooth_state wheel) counts) wheel)
