@@ -72,8 +72,8 @@ begins_below t j k tick i l h e = elim (cases_eq j k) [
   | inr other ↦
       let m = multiples t j k (omega arith) h in
       let p : slot_in (radices t) k tick * m.by * weight j (radices t) ≡ tick =
-          (let q : slot_in (radices t) k tick * m.by * weight j (radices t) ≡ slot_in (radices t) k tick * (m.by * weight j (radices t)) = omega arith in q)
-          ∙ (ap (λ (x : ℕ). slot_in (radices t) k tick * x) (sym m.is) ∙ e) in
+      (let q : slot_in (radices t) k tick * m.by * weight j (radices t) ≡ slot_in (radices t) k tick * (m.by * weight j (radices t)) = omega arith in q)
+      ∙ (ap (λ (x : ℕ). slot_in (radices t) k tick * x) (sym m.is) ∙ e) in
       multiple (slot_in (radices t) k tick * m.by) (weight j (radices t)) tick (weight_some (radices t) j i) p
 ]
   where

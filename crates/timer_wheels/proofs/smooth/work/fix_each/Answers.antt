@@ -1,8 +1,7 @@
-use Rattle.std.proofs.Common.{◌≡◌, ◌<◌, ◌≤◌, ◌*◌, ◌==◌, ◌∙◌, ap, sym, true, inl, inr, arith}
+use Rattle.std.proofs.Common.{◌≡◌, ◌*◌, ◌∙◌, true, inl, inr, arith}
 use Rattle.std.proofs.lemmas.Bool.{cases_lt, eq-eqb}
 use Rattle.timer_wheels.specs.Digits.{weight}
-use Rattle.timer_wheels.specs.Paces.{pace_at}
-use Rattle.timer_wheels.specs.Smooth.{slot_in, ticks_left}
+use Rattle.timer_wheels.specs.Smooth.{slot_in}
 use Rattle.timer_wheels.specs.Tables.{radices}
 use Rattle.timer_wheels.proofs.SmoothWeights.{begins_below}
 use Rattle.timer_wheels.proofs.TableLaws.{of_table}
@@ -18,7 +17,7 @@ returns-then-not-fix_pace-clause-begun c =
           rw (c.fix_pace.ensures.others k (λ same. omega arith)) (c.loop-wheel.invariant.fixed.begun k z below l e)
       | inr above ↦
           let begins : slot_in (radices t) w tick * weight w (radices t) ≡ tick =
-              begins_below t w k tick (of_table t).is_table (omega arith) l e in
+          begins_below t w k tick (of_table t).is_table (omega arith) l e in
           let y : c.fix_pace.result ≡ true = c.fix_pace.ensures.begins ∙ eq-eqb (slot_in (radices t) w tick * weight w (radices t)) tick begins in
           absurd (let n = c.if-not-fix_pace.true in cc)
     ]

@@ -1,8 +1,6 @@
-use Rattle.std.proofs.Common.{ℕ, ap, ◌∙◌}
-use Rattle.timer_base.specs.Counts.{WheelCounts}
+use Rattle.std.proofs.Common.{◌∙◌}
 use Rattle.timer_wheels.specs.HierWheel.{hier_state, counts_of, counts_of_tick}
-use Rattle.timer_wheels.specs.SmoothWheel.{smooth_state, starts_of}
-use Rattle.timer_wheels.proofs.TieredLemmas.{hier_chosen, smooth_chosen}
+use Rattle.timer_wheels.proofs.TieredLemmas.{hier_chosen}
 use Rattle.timer_wheels.proofs.tiered.TieredWheelWheel.per_tick.Goals as goal
 
 pub returns-in-Wide-clause-counts : goal.returns-in-Wide-clause-counts
