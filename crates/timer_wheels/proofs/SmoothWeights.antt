@@ -1,8 +1,9 @@
 -- The weights of both tables: how many ticks the slots of their wheels are.
-use Rattle.std.proofs.Common.{◌≡◌, ◌<◌, ◌≤◌, ◌*◌, ℕ, zero, suc, List, [], ◌∷◌, length, refl, sym, ◌∙◌, ap, inl, inr, arith}
-use Rattle.std.proofs.Math.Nat.{mul-le-mul_right, mul-le-mul_left}
+use Rattle.std.proofs.Common.{◌≡◌, ◌<◌, ◌≤◌, ◌*◌, ◌/◌, ℕ, zero, suc, List, [], ◌∷◌, length, refl, sym, ◌∙◌, ap, inl, inr, arith}
+use Rattle.std.proofs.Math.Nat.{mul-le-mul_right, mul-le-mul_left, mul-div_cancel}
 use Rattle.std.proofs.lemmas.Bool.{cases_eq}
 use Rattle.timer_wheels.specs.Digits.{IsTable, weight, radix}
+use Rattle.timer_wheels.specs.Smooth.{slot_in}
 use Rattle.timer_wheels.specs.Tables.{wide, clock, small, radices}
 use Rattle.timer_wheels.specs.declared.table.Table.{Table}
 use Rattle.timer_wheels.specs.declared.table.Table.TheVariants.{Wide, Clock, Small}
@@ -62,6 +63,22 @@ multiples t j (suc k) l h =
                 ∙ (let q : radix k (radices t) * (m.by * weight j (radices t)) ≡ radix k (radices t) * m.by * weight j (radices t) = omega arith in q));
           }
     ]
+
+-- where a slot of a wheel begins, one of each lower wheel does
+pub begins_below : (t : Table) (j k tick : ℕ) → IsTable (radices t) → j ≤ k → k < length (radices t)
+    → slot_in (radices t) k tick * weight k (radices t) ≡ tick → slot_in (radices t) j tick * weight j (radices t) ≡ tick
+begins_below t j k tick i l h e = elim (cases_eq j k) [
+  | inl same ↦ rw same e
+  | inr other ↦
+      let m = multiples t j k (omega arith) h in
+      let p : slot_in (radices t) k tick * m.by * weight j (radices t) ≡ tick =
+      (let q : slot_in (radices t) k tick * m.by * weight j (radices t) ≡ slot_in (radices t) k tick * (m.by * weight j (radices t)) = omega arith in q)
+      ∙ (ap (λ (x : ℕ). slot_in (radices t) k tick * x) (sym m.is) ∙ e) in
+      multiple (slot_in (radices t) k tick * m.by) (weight j (radices t)) tick (weight_some (radices t) j i) p
+]
+  where
+    multiple : (x w tick : ℕ) → 0 < w → x * w ≡ tick → tick / w * w ≡ tick
+    multiple x w tick z p = ap (λ (n : ℕ). n / w * w) (sym p) ∙ (ap (λ (n : ℕ). n * w) (mul-div_cancel x z) ∙ p)
 
 -- a slot above the lowest wheel has two halves
 pub record HasHalf (n : ℕ) : Type 0 where

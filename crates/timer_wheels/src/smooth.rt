@@ -46,7 +46,7 @@ use crate::iteration::held_from;
 use crate::smooth::bank::Bank;
 use crate::smooth::paces::Paces;
 use crate::smooth::work::{fix_paces, make_way, move_all};
-use crate::table::{Table, last_tick_of};
+use crate::table::{Table, is_rollover, last_tick_of};
 use std::alloc::Global;
 use timer_base::{Handle, MakeFault, OutOfMemory, Timer, Wheel};
 use timer_links::Links;
@@ -167,6 +167,17 @@ impl SmoothWheel {
         ensures { result ≡ next_moves self.now }
     {
         self.paces.sum()
+    }
+
+    /// Whether the next tick is quiet: no timer moves or becomes due, and no pace is fixed. Nothing depends on it but how a
+    /// tick is compiled: short for the wide table.
+    #[inline(always)]
+    pub(crate) fn is_quiet(&self) -> bool {
+        let tick = self.bank.buckets.tick + 1;
+        matches!(self.bank.table, Table::Wide)
+            && self.paces.sum() == 0
+            && self.bank.is_empty_at(tick)
+            && !is_rollover(self.bank.table, tick)
     }
 
     /// The handle of the timer, pending or due, at this place or the first later one that has a timer, or

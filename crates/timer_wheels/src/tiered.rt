@@ -245,7 +245,13 @@ impl Wheel for TieredWheel {
                 Table::Clock => wheel.tick_by(Table::Clock),
                 Table::Small => wheel.tick_by(Table::Small),
             },
-            TieredWheel::Smooth(wheel) => tick_smooth(wheel),
+            TieredWheel::Smooth(wheel) => {
+                if wheel.is_quiet() {
+                    wheel.per_tick();
+                } else {
+                    tick_smooth(wheel);
+                }
+            }
         }
     }
 
@@ -435,22 +441,6 @@ fn restart_smooth(wheel: &mut SmoothWheel, handle: Handle, timer: Timer) -> Opti
 /// Advances by one tick.
 #[inline(never)]
 fn tick_smooth(wheel: &mut SmoothWheel)
-    requires nothing_due { (smooth_state wheel.old).due ≡ [] }
-    requires before_last { (smooth_state wheel.old).now < (smooth_state wheel.old).last_tick }
-    ensures ticked { smooth_state wheel.new ≡ after_tick (smooth_state wheel.old) }
-    ensures starts { starts_of wheel.new ≡ starts_of wheel.old }
-{
-    if wheel.next_moves() == 0 {
-        wheel.per_tick();
-    } else {
-        tick_moving(wheel);
-    }
-}
-
-/// Advances by one tick, at which timers move.
-// Out of line: else a tick at which none moves saves registers for it.
-#[inline(never)]
-fn tick_moving(wheel: &mut SmoothWheel)
     requires nothing_due { (smooth_state wheel.old).due ≡ [] }
     requires before_last { (smooth_state wheel.old).now < (smooth_state wheel.old).last_tick }
     ensures ticked { smooth_state wheel.new ≡ after_tick (smooth_state wheel.old) }

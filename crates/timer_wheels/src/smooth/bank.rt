@@ -3,7 +3,7 @@ ghost use Rattle.std.specs.Prelude.{IfOk, IfSome, IfNone, OnOk, OnErr, ◌≡◌
 ghost use Rattle.timer_base.specs.WheelState.{first_due, after_expiry, after_reserve, empty_wheel, held_at, held_count, old_timer, after_held_start, after_removal, after_replacement, after_tick, after_clear};
 ghost use Rattle.timer_base.specs.declared.limits.TheConstants.{LAST};
 ghost use Rattle.timer_wheels.specs.Digits.{level};
-ghost use Rattle.timer_links.specs.Lists.{list_at};
+ghost use Rattle.timer_links.specs.Lists.{list_at, appended};
 ghost use Rattle.timer_wheels.specs.Buckets.{state_of, IsListOf};
 ghost use Rattle.timer_wheels.specs.Bank.{IsBank, IsBank-prop, LeavesBits, next_len, potential_of, wheel_of, IsEarly, OthersStay, AllShrink, IsNextOf, ComesTo, restarted_of};
 ghost use Rattle.timer_wheels.specs.BucketLists.{EachRow};
@@ -183,6 +183,14 @@ impl Bank {
         moved
     }
 
+    /// Whether the lowest wheel's bucket of this tick has no timer.
+    #[inline(always)]
+    pub fn is_empty_at(&self, tick: u64) -> bool {
+        self.buckets
+            .links
+            .is_empty(list_of_slot(self.table, 0, tick))
+    }
+
     /// Advances to the next tick: its timers become due.
     ///
     /// No timer is left in a next bucket that begins to be the present one. Does not allocate.
@@ -205,9 +213,8 @@ impl Bank {
         let list = list_of_slot(self.table, 0, tick);
         let buckets = &mut self.buckets;
         let due = buckets.slots;
-        buckets.links.append(list, due);
+        make_due(&mut buckets.links, &mut self.filled, list, due);
         buckets.tick = tick;
-        self.filled.remove(list);
     }
 
     /// Sets the clock to a later tick, if nothing is due and no bucket with a timer begins to be the present one.
@@ -324,6 +331,25 @@ fn place_in(table: Table, bank: &Bank, deadline: u64) -> (usize, usize)
         (list, wheel)
     } else {
         (list, 0)
+    }
+}
+
+/// Moves the timers of a bucket to the list of due timers. Most ticks find their bucket empty, and write nothing.
+#[inline(always)]
+fn make_due(links: &mut Links, filled: &mut Filled, list: usize, due: usize)
+    requires list { list < length links.old.lists }
+    requires due { due < length links.old.lists }
+    requires apart { due ≢ list }
+    requires few { list < MOST_LISTS }
+    requires marked { list_at list links.old.lists ≡ [] → bit_of filled.old list ≡ 0 }
+    ensures appended { links.new.lists ≡ appended list due links.old.lists }
+    ensures room { links.new.room ≡ links.old.room }
+    ensures clear { bit_of filled.new list ≡ 0 }
+    ensures others { (s : ℕ) → s ≢ list → bit_of filled.new s ≡ bit_of filled.old s }
+{
+    if !links.is_empty(list) {
+        links.append(list, due);
+        filled.remove(list);
     }
 }
 

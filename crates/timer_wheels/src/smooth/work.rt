@@ -3,7 +3,7 @@
 //! At each tick as many timers of a wheel's next bucket move as its pace says. As a bucket begins to be the next one, with n
 //! timers held in all, its pace becomes 2 * (n / w + 1), w the ticks of its slot: so it is empty by the half of its time,
 //! however many of the n it has. What comes to it meanwhile moves two timers for each.
-ghost use Rattle.std.specs.Prelude.{◌≡◌, ◌≢◌, ◌<◌, ◌≤◌, ◌⊎◌, ◌+◌, ◌-◌, ◌*◌, ℕ, length};
+ghost use Rattle.std.specs.Prelude.{◌≡◌, ◌≢◌, ◌<◌, ◌≤◌, ◌⊎◌, ◌+◌, ◌-◌, ◌*◌, ◌==◌, ℕ, length};
 ghost use Rattle.timer_links.specs.Lists.{row_count};
 ghost use Rattle.timer_wheels.specs.Bank.{next_len, movable, potential_of, IsEarly, OthersShrink};
 ghost use Rattle.timer_wheels.specs.Buckets.{state_of};
@@ -129,7 +129,7 @@ pub fn fix_paces(bank: &Bank, paces: &mut Paces)
     }
 }
 
-/// The same, wheel by wheel.
+/// The same, wheel by wheel, up to the first whose slot does not begin.
 #[inline(never)]
 fn fix_each(bank: &Bank, paces: &mut Paces)
     ensures begun { (k : ℕ) → 0 < k → k < length (radices bank.now.table)
@@ -144,15 +144,20 @@ fn fix_each(bank: &Bank, paces: &mut Paces)
     let wheels = wheels_of(bank.table);
     let mut wheel = 1;
     while wheel < wheels {
-        fix_pace(bank, paces, wheel);
+        // A slot begins only as one of each lower wheel does.
+        if !fix_pace(bank, paces, wheel) {
+            return;
+        }
         wheel += 1;
     }
 }
 
-/// Fixes the pace of one wheel, if its slot begins at this tick.
-fn fix_pace(bank: &Bank, paces: &mut Paces, wheel: usize)
+/// Fixes the pace of one wheel, if its slot begins at this tick. Returns whether it does.
+fn fix_pace(bank: &Bank, paces: &mut Paces, wheel: usize) -> bool
     requires above { 0 < wheel }
     requires wheel { wheel < length (radices bank.now.table) }
+    ensures begins { result ≡ (slot_in (radices bank.now.table) wheel bank.now.buckets.tick
+        * weight wheel (radices bank.now.table) == bank.now.buckets.tick) }
     ensures begun { slot_in (radices bank.now.table) wheel bank.now.buckets.tick * weight wheel (radices bank.now.table)
         ≡ bank.now.buckets.tick → next_len bank.now.table bank.now.buckets wheel
         ≤ pace_at paces.new wheel * ticks_left (radices bank.now.table) bank.now.buckets.tick wheel }
@@ -165,9 +170,11 @@ fn fix_pace(bank: &Bank, paces: &mut Paces, wheel: usize)
 {
     let table = bank.table;
     let tick = bank.buckets.tick;
-    if slot_of(table, wheel, tick) * weight_of(table, wheel) == tick {
+    let begins = slot_of(table, wheel, tick) * weight_of(table, wheel) == tick;
+    if begins {
         paces.set(wheel, pace_of(bank, wheel));
     }
+    begins
 }
 
 /// The pace of a wheel whose next bucket begins to be the next one: enough for all timers that are held.

@@ -1,8 +1,6 @@
-use Rattle.std.proofs.Common.{ℕ, ap, ◌∙◌}
-use Rattle.timer_base.specs.Counts.{WheelCounts}
+use Rattle.std.proofs.Common.{◌∙◌}
 use Rattle.timer_wheels.specs.HierWheel.{hier_state, counts_of, counts_of_tick}
-use Rattle.timer_wheels.specs.SmoothWheel.{smooth_state, starts_of}
-use Rattle.timer_wheels.proofs.TieredLemmas.{hier_chosen, smooth_chosen}
+use Rattle.timer_wheels.proofs.TieredLemmas.{hier_chosen}
 use Rattle.timer_wheels.proofs.tiered.TieredWheelWheel.per_tick.Goals as goal
 
 pub returns-in-Wide-clause-counts : goal.returns-in-Wide-clause-counts
@@ -19,10 +17,3 @@ pub returns-in-Small-clause-counts : goal.returns-in-Small-clause-counts
 returns-in-Small-clause-counts c =
     let wheel = c.in-Hier.wheel in
     rw c.in-Hier.is (c.tick_by-in-Small.ensures.counts ∙ hier_chosen (counts_of wheel) (counts_of_tick (hier_state wheel) (counts_of wheel)) wheel)
-
-pub returns-in-Smooth-clause-counts : goal.returns-in-Smooth-clause-counts
-returns-in-Smooth-clause-counts c =
-    let wheel = c.in-Smooth.wheel in
-    let counts : WheelCounts = record { starts = starts_of wheel; moves = 0; visits = 0 } in
-    rw c.in-Smooth.is (ap (λ (n : ℕ). record { starts = n; moves = 0; visits = 0 }) c.tick_smooth.ensures.starts
-    ∙ smooth_chosen counts (counts_of_tick (smooth_state wheel) counts) wheel)

@@ -7,39 +7,39 @@ use Rattle.timer_wheels.proofs.BankLemmas.{tick_next, tick_heights, bank_ticked,
 use Rattle.timer_wheels.proofs.SmoothDescent.{few_lists}
 use Rattle.timer_wheels.proofs.smooth.bank.Bank.next_tick.Goals as goal
 
-pub remove-requires : goal.remove-requires
-remove-requires c = omega (arith, c.list_of_slot-list.ensures.in_range, few_lists c.args.self.now.table)
+pub make_due-requires-clause-few : goal.make_due-requires-clause-few
+make_due-requires-clause-few c = omega (arith, c.list_of_slot-list.ensures.in_range, few_lists c.args.self.now.table)
 
 pub invariant_of-buckets : goal.invariant_of-buckets
 invariant_of-buckets c =
     let w = c.args.self.now in
-    let q = c.append.ensures.appended ∙ ap (λ (x : ℕ). appended x w.buckets.slots w.buckets.links.lists) c.list_of_slot-list.ensures.value in
+    let q = c.make_due.ensures.appended ∙ ap (λ (x : ℕ). appended x w.buckets.slots w.buckets.links.lists) c.list_of_slot-list.ensures.value in
     record { sound = rw q (bank_ticked w.table w.buckets w.filled w.bank c.requires.before_last c.requires.nothing_due c.requires.empty).sound }
 
 pub invariant_of-self : goal.invariant_of-self
 invariant_of-self c =
     let w = c.args.self.now in
-    let q = c.append.ensures.appended ∙ ap (λ (x : ℕ). appended x w.buckets.slots w.buckets.links.lists) c.list_of_slot-list.ensures.value in
+    let q = c.make_due.ensures.appended ∙ ap (λ (x : ℕ). appended x w.buckets.slots w.buckets.links.lists) c.list_of_slot-list.ensures.value in
     record {
       bank = record {
         has_slots = w.bank.has_slots;
         clock = w.bank.clock;
         placed = rw q (tick_by_law w.table w.buckets w.filled w.bank c.requires.before_last c.requires.nothing_due c.requires.empty);
-        marked = rw q (tick_marked w.table w.buckets w.filled w.bank c.requires.before_last c.requires.nothing_due c.requires.empty c.remove.new.self (rw (← c.list_of_slot-list.ensures.value) c.remove.ensures.here)
-            (rw (← c.list_of_slot-list.ensures.value) c.remove.ensures.others));
+        marked = rw q (tick_marked w.table w.buckets w.filled w.bank c.requires.before_last c.requires.nothing_due c.requires.empty c.make_due.new.filled (rw (← c.list_of_slot-list.ensures.value) c.make_due.ensures.clear)
+            (rw (← c.list_of_slot-list.ensures.value) c.make_due.ensures.others));
       };
     }
 
 pub returns-clause-ticked : goal.returns-clause-ticked
 returns-clause-ticked c =
     let w = c.args.self.now in
-    let q = c.append.ensures.appended ∙ ap (λ (x : ℕ). appended x w.buckets.slots w.buckets.links.lists) c.list_of_slot-list.ensures.value in
-    rw (c.append.ensures.room, q) (ap (with_room w.buckets.links.room) (bank_ticked w.table w.buckets w.filled w.bank c.requires.before_last c.requires.nothing_due c.requires.empty).state)
+    let q = c.make_due.ensures.appended ∙ ap (λ (x : ℕ). appended x w.buckets.slots w.buckets.links.lists) c.list_of_slot-list.ensures.value in
+    rw (c.make_due.ensures.room, q) (ap (with_room w.buckets.links.room) (bank_ticked w.table w.buckets w.filled w.bank c.requires.before_last c.requires.nothing_due c.requires.empty).state)
 
 pub returns-clause-kept : goal.returns-clause-kept
 returns-clause-kept c =
     let w = c.args.self.now in
-    let q = c.append.ensures.appended ∙ ap (λ (x : ℕ). appended x w.buckets.slots w.buckets.links.lists) c.list_of_slot-list.ensures.value in
+    let q = c.make_due.ensures.appended ∙ ap (λ (x : ℕ). appended x w.buckets.slots w.buckets.links.lists) c.list_of_slot-list.ensures.value in
     λ j z l e. ap (λ (x : KeyedLists). length (list_at (next_list (radices w.table) (w.buckets.tick + 1) j) x)) q
     ∙ ap (λ (r : Rows). length r)
     (tick_next w.table w.buckets w.filled w.bank c.requires.before_last c.requires.nothing_due c.requires.empty j z l e)
@@ -47,7 +47,7 @@ returns-clause-kept c =
 pub returns-clause-potential : goal.returns-clause-potential
 returns-clause-potential c =
     let w = c.args.self.now in
-    let q = c.append.ensures.appended ∙ ap (λ (x : ℕ). appended x w.buckets.slots w.buckets.links.lists) c.list_of_slot-list.ensures.value in
+    let q = c.make_due.ensures.appended ∙ ap (λ (x : ℕ). appended x w.buckets.slots w.buckets.links.lists) c.list_of_slot-list.ensures.value in
     omega (
       arith,
       ap (heights (radices w.table) w.buckets.slots) q,
