@@ -10,7 +10,7 @@
 //! The nodes are in a `Slab`, whose keys these are. Their order is kept apart from them, as rings in one
 //! array (`ring`), so that changing a neighbour's link never touches the neighbour's node.
 ghost use Rattle.std.specs.Prelude.{◌≡◌, ◌≢◌, ◌<◌, ◌≤◌, ◌↔◌, ◌+◌, ◌⊎◌, max, IsTrue, Some, None, IfOk, OnOk, OnErr, IfErr, IfSome, IsSome, length, map, [], replicate};
-ghost use Rattle.timer_links.specs.Lists.{node_at, first_key, with_row, row_count, list_at, without_key, front_moved, appended, PopsFront, AreApart, IsNext, SetsRounds, SetsNode, MovesBack, IsAloneIn, HasRounds};
+ghost use Rattle.timer_links.specs.Lists.{node_at, first_key, last_key, with_row, row_count, list_at, without_key, front_moved, appended, PopsFront, AreApart, IsNext, IsPrevious, SetsRounds, SetsNode, MovesBack, IsAloneIn, HasRounds};
 ghost use Rattle.timer_links.specs.Keys.{IsFirstUsed};
 ghost use Rattle.std.specs.Vec.{vec_len, vec_capacity};
 ghost use Rattle.slab.specs.Slab.{HasRoomFor, slab_len};
@@ -143,6 +143,15 @@ impl Links {
         key_at(self.neighbours[list].after, self.lists)
     }
 
+    /// The key of the last node of a list, or None if the list is empty. Does not allocate.
+    #[inline]
+    pub fn last(&self, list: usize) -> Option<usize>
+        requires { list < length self.now.lists }
+        ensures { result ≡ last_key (list_at list self.now.lists) }
+    {
+        key_at(self.neighbours[list].before, self.lists)
+    }
+
     /// The same as `front`, with a proof that the key is in use.
     #[inline]
     fn used_front(&self, list: usize) -> Option<usize>
@@ -171,6 +180,15 @@ impl Links {
         ensures { IsNext key self.now.lists result }
     {
         key_at(self.neighbours[self.lists + key].after, self.lists)
+    }
+
+    /// The key before this one in its list, or None if it is the first one. Does not allocate.
+    #[inline]
+    pub fn previous(&self, key: usize) -> Option<usize>
+        requires { IsSome (node_at key self.now.lists) }
+        ensures { IsPrevious key self.now.lists result }
+    {
+        key_at(self.neighbours[self.lists + key].before, self.lists)
     }
 
     /// The rounds of the node under this key, and the key after it: one look-up of each. Does not allocate.

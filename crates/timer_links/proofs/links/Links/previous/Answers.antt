@@ -1,0 +1,13 @@
+use Rattle.std.proofs.Common.{◌∙◌, ap, refl}
+use Rattle.timer_links.specs.Ring.{key_of}
+use Rattle.timer_links.specs.declared.ring.Neighbours.{Neighbours}
+use Rattle.timer_links.proofs.UniqueLists.{opened}
+use Rattle.timer_links.proofs.LinksCalls.{used, previous_key, read_node}
+use Rattle.timer_links.proofs.links.Links.previous.Goals as goal
+
+pub returns : goal.returns
+returns c l front node rest b e =
+    let h = opened c.self.inside c.args.self.now c.self.view_is c.self.invariant in
+    let r = read_node _ _ _ _ h c.args.key c.self.inside.neighbours.items _ (used _ _ _ _ h c.args.key c.requires) refl c.index.ensures in
+    c.key_at.ensures ∙ (ap (λ (x : Neighbours). key_of c.self.inside.lists x.before) r.is
+    ∙ previous_key _ _ _ _ h c.args.key l front node rest b e)
