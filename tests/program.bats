@@ -413,6 +413,15 @@ shown() { gives 0 "show $1" "$2" "$(printf '%s\\n' "${@:3}")"; }
         '  wheel 1 slot 2: 2' 'started 1 2 3 131' '  now 0' '  wheel 1 slot 2: 3' 'restarted 0 2 1 4 131' '  now 0' \
         '  wheel 1 slot 2: 4' '  moved at 128 from wheel 1 slot 2 to wheel 0 slot 2: 2' \
         '  moved at 128 from wheel 1 slot 2 to wheel 0 slot 3: 3 4' '  now 128' 'stopped 1 3 3' '  now 128' 'end 128 2'
+    of_new() {
+        shown "--new $1" "$script" 'started 0 1 1 130' '  now 0' "$2" 'started 1 1 2 130' '  now 0' "$3" \
+            'started 1 2 3 131' '  now 0' "$4" 'restarted 0 2 1 4 131' '  now 0' "$5" \
+            '  now 128' 'stopped 1 3 3' '  now 128' 'end 128 2'
+    }
+    of_new "--scheme smooth" '  wheel 1 slot 2: 1' '  wheel 1 slot 2: 2' '  wheel 1 slot 2: 3' '  wheel 1 slot 2: 4'
+    of_new "--scheme clock" '  minute 2: 1' '  minute 2: 2' '  minute 2: 3' '  minute 2: 4'
+    of_new "--scheme hashed --slots 8" '  slot 2: 1:16' '  slot 2: 2:16' '  slot 3: 3:16' '  slot 3: 4:16'
+    of_new "--scheme plain" '  pending: 1:130' '  pending: 2:130' '  pending: 3:131' '  pending: 4:131'
     shown "--timer 3 --client 1 --moves --from 1" "$script" 'started 0 1 1 130' 'started 1 1 2 130' 'started 1 2 3 131' \
         'restarted 0 2 1 4 131' '  moved at 128 from wheel 1 slot 2 to wheel 0 slot 3: 3' '  now 128' \
         '  wheel 0 slot 3: 3' 'stopped 1 3 3' '  now 128' 'end 128 2'

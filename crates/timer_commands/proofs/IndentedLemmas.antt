@@ -2,6 +2,7 @@
 use Rattle.std.proofs.Common.{◌≡◌, ℕ, true, List, [], ◌∷◌, ◌++◌, decimal, codes, refl, sym, ap, subst, ◌∙◌, append_assoc, append-nil, Result, OnOk}
 use Rattle.std.proofs.lemmas.Result.{on_ok_weaker}
 use Rattle.timer_script.proofs.SplitterLemmas.{no_feed-append, is_bare, bare, decimal_bare}
+use Rattle.timer_script.specs.Decorator.{HasGrown}
 use Rattle.timer_commands.specs.Indented.{clock_line, HasGrownByPicture, HasGrownByIndented, HasGrownByBare, HasGrownByEnd}
 use Rattle.timer_commands.specs.IndentedLaws.{adds_nothing, adds_join, adds_line}
 
@@ -13,6 +14,9 @@ pub grown_join : (a b c : List ℕ) → HasGrownByIndented a b → HasGrownByInd
 grown_join a b c f g = (f.0 ++ g.0, g.1 ∙ ap (λ t. t ++ g.0) f.1 ∙ append_assoc a f.0 g.0, adds_join 32 [] [] f.0 g.0 f.2 g.2)
 
 -- ---- bytes without a line feed
+
+pub grown_more : (a b c : List ℕ) → HasGrownByIndented a b → HasGrown b c → HasGrown a c
+grown_more a b c f g = (f.0 ++ g.0, g.1 ∙ ap (λ t. t ++ g.0) f.1 ∙ append_assoc a f.0 g.0)
 
 pub bare_word : (a b word : List ℕ) → is_bare word ≡ true → b ≡ a ++ word → HasGrownByBare a b
 bare_word a b word free e = (word, e, bare word free)

@@ -1,4 +1,5 @@
 pub mod IndentedLemmas
+mod NewestLemmas
 pub mod PictureLemmas
 mod MarkedLemmas
 mod VerbLemmas
