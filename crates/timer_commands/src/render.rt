@@ -33,7 +33,7 @@ ghost use Rattle.timer_links.specs.Lists.{list_at};
 use crate::shows::Filter;
 use itoa::Buffer;
 use timer_base::{OutOfMemory, PlainWheel, Timer, Wheel};
-use timer_links::{Links, Node};
+use timer_links::{Kept, Links, Node};
 use timer_wheels::{HashedWheel, HierWheel, SmoothWheel, Table};
 
 /// The slots of each wheel of the hierarchy.
@@ -184,7 +184,7 @@ fn keep(timers: &mut Vec<Timer>, kept: Filter)
 }
 
 /// The first list that has a timer, or their number.
-fn first_list(links: &Links) -> usize {
+fn first_list<N: Kept>(links: &Links<N>) -> usize {
     for list in 0..links.lists() {
         if !links.is_empty(list) {
             return list;
@@ -194,9 +194,9 @@ fn first_list(links: &Links) -> usize {
 }
 
 /// Appends the rest of the line of a move: the bucket, that to which its timers went, and these.
-fn push_move(
+fn push_move<N: Kept>(
     text: &mut Vec<u8>,
-    links: &Links,
+    links: &Links<N>,
     from: usize,
     to: usize,
     naming: Naming,
@@ -213,9 +213,9 @@ fn push_move(
 }
 
 /// Appends a line for each list with a timer that is kept.
-fn push_lists(
+fn push_lists<N: Kept>(
     text: &mut Vec<u8>,
-    links: &Links,
+    links: &Links<N>,
     naming: Naming,
     filter: Filter,
 ) -> Result<(), OutOfMemory>
@@ -234,7 +234,7 @@ fn push_lists(
 }
 
 /// Whether a list has a timer that is kept.
-fn has_kept(links: &Links, list: usize, filter: Filter) -> bool
+fn has_kept<N: Kept>(links: &Links<N>, list: usize, filter: Filter) -> bool
     requires { list < length links.now.lists }
     ensures { result ≡ has_row (kept_rows filter (list_at list links.now.lists)) }
 {
@@ -256,9 +256,9 @@ fn has_kept(links: &Links, list: usize, filter: Filter) -> bool
 }
 
 /// Appends the timers of a list that are kept.
-fn push_rows(
+fn push_rows<N: Kept>(
     text: &mut Vec<u8>,
-    links: &Links,
+    links: &Links<N>,
     list: usize,
     naming: Naming,
     filter: Filter,
@@ -287,9 +287,9 @@ fn push_rows(
 }
 
 /// Appends a list's name and its timers that are kept, up to the end of the line.
-fn push_list(
+fn push_list<N: Kept>(
     text: &mut Vec<u8>,
-    links: &Links,
+    links: &Links<N>,
     list: usize,
     naming: Naming,
     filter: Filter,
