@@ -31,18 +31,11 @@ module _ {N : Type 0} (node_of : N → Node) where
   pub slab_len-nodes_of : (kept : Slab N) → slab_len (nodes_of node_of kept) ≡ slab_len kept
   slab_len-nodes_of kept = count_of kept.slots
 
-  some_of : (o : Option N) → IsSome o → IsSome (option_map node_of o)
-  some_of None i = i
-  some_of (Some kept) i = refl
-
   some_from : (o : Option N) → IsSome (option_map node_of o) → IsSome o
   some_from None i = i
   some_from (Some kept) i = refl
 
-  -- a key is in use in both
-  pub contains : (kept : Slab N) (key : ℕ) → ContainsKey kept key → ContainsKey (nodes_of node_of kept) key
-  contains kept key i = rw (get-nodes_of kept key) (some_of (get kept key) i)
-
+  -- a key that has a node has what was kept of it
   pub contained : (kept : Slab N) (key : ℕ) → ContainsKey (nodes_of node_of kept) key → ContainsKey kept key
   contained kept key i = some_from (get kept key) (rw (get-nodes_of kept key) at i)
 

@@ -1,35 +1,38 @@
-//! What lists keep of a node: all of it, or the part that its wheel needs.
-ghost use Rattle.std.specs.Prelude.{◌≡◌};
+//! What lists keep of a node: all of it, or the part that their wheel needs.
+//!
+//!     Node     40 bytes of a timer, and 8 of its rounds    for a hashed wheel
+//!     Timer    the 40 bytes                                for a hierarchy, which needs no rounds
+//!
+//! It stands for a whole node. So the contracts of `Links` name whole nodes, whatever is kept of them.
+ghost use Rattle.std.specs.Prelude.{◌≡◌, ⊤};
 ghost use Rattle.timer_links.specs.declared.node.Node.{Node};
 
 use crate::node::Node;
 use timer_base::Timer;
 
-/// What lists keep of each node. It has to stand for the whole node, so it keeps only nodes that it can give back.
+/// What lists keep of each node.
 pub trait Kept: Copy {
-    /// The nodes that it can keep.
+    /// The nodes that it can give back whole. Lists take no others.
     ghost keeps: { Node → Type 0 };
 
     /// The node that it stands for.
     ghost node_of: { Self → Node };
 
-    /// What is kept of a node.
+    /// What is kept of this node.
     fn keep(node: Node) -> Self
         requires { keeps node }
         ensures { node_of result ≡ node };
 
-    /// The node.
+    /// The whole node.
     fn node(&self) -> Node
         ensures { result ≡ node_of self.now };
 
-    /// A clone stands for the same node.
+    /// A clone is the same.
     ghost cloned: { (kept copy : Self) → Self.is_clone kept copy → copy ≡ kept };
 }
 
-/// The whole node, for lists whose nodes have rounds.
+/// A node stands for itself.
 impl Kept for Node {
-    ghost use Rattle.std.specs.Prelude.{⊤};
-
     ghost keeps = { λ node. ⊤ };
 
     ghost node_of = { λ node. node };
@@ -47,10 +50,8 @@ impl Kept for Node {
     }
 }
 
-/// The timer alone: a node without rounds.
+/// The timer alone stands for a node without rounds.
 impl Kept for Timer {
-    ghost use Rattle.std.specs.Prelude.{◌≡◌};
-
     ghost keeps = { λ node. node.rounds ≡ 0 };
 
     ghost node_of = { λ timer. record { timer = timer; rounds = 0 } };
