@@ -60,7 +60,7 @@ struct Nodes {
 };
 
 // As the product, links in one array of 8 bytes a place, which begins with the roots of the lists, and timers in an
-// array of their own, of 40 bytes (the product's: 56). Free places are linked through the first. 48 bytes a timer.
+// array of their own, of 40 bytes (the product's: 48). Free places are linked through the first. 48 bytes a timer.
 template <uint32_t LISTS> struct Apart {
   struct Side { uint32_t before, after; };
   std::vector<Side> sides;

@@ -33,7 +33,7 @@ ghost use Rattle.timer_links.specs.Lists.{first_key, list_at};
 use crate::shows::Filter;
 use itoa::Buffer;
 use timer_base::{OutOfMemory, PlainWheel, Timer, Wheel};
-use timer_links::{Links, Node};
+use timer_links::{Kept, Links, Node};
 use timer_wheels::{HashedWheel, HierWheel, SmoothWheel, Table};
 
 /// The slots of each wheel of the hierarchy.
@@ -185,7 +185,7 @@ fn keep(timers: &mut Vec<Timer>, kept: Filter)
 }
 
 /// The first list that has a timer, or their number.
-fn first_list(links: &Links) -> usize {
+fn first_list<N: Kept>(links: &Links<N>) -> usize {
     for list in 0..links.lists() {
         if !links.is_empty(list) {
             return list;
@@ -195,9 +195,9 @@ fn first_list(links: &Links) -> usize {
 }
 
 /// Appends the rest of the line of a move: the bucket, that to which its timers went, and these.
-fn push_move(
+fn push_move<N: Kept>(
     text: &mut Vec<u8>,
-    links: &Links,
+    links: &Links<N>,
     from: usize,
     to: usize,
     first: usize,
@@ -216,9 +216,9 @@ fn push_move(
 }
 
 /// Appends a line for each list with a timer that is kept.
-fn push_lists(
+fn push_lists<N: Kept>(
     text: &mut Vec<u8>,
-    links: &Links,
+    links: &Links<N>,
     naming: Naming,
     filter: Filter,
 ) -> Result<(), OutOfMemory>
@@ -240,7 +240,7 @@ fn push_lists(
 /// The key of the first timer of a list that is kept, or None if none is.
 ///
 /// It walks back from the end, and stops at a timer whose serial is too low: those before it are lower.
-fn first_kept(links: &Links, list: usize, filter: Filter) -> Option<usize>
+fn first_kept<N: Kept>(links: &Links<N>, list: usize, filter: Filter) -> Option<usize>
     requires list { list < length links.now.lists }
     requires by_serial { AreBySerial (list_at list links.now.lists) }
     ensures { result ≡ first_key (kept_rows filter (list_at list links.now.lists)) }
@@ -267,9 +267,9 @@ fn first_kept(links: &Links, list: usize, filter: Filter) -> Option<usize>
 }
 
 /// Appends the timers of a list that are kept, from the first of them on.
-fn push_rows(
+fn push_rows<N: Kept>(
     text: &mut Vec<u8>,
-    links: &Links,
+    links: &Links<N>,
     list: usize,
     first: usize,
     naming: Naming,
@@ -300,9 +300,9 @@ fn push_rows(
 }
 
 /// Appends a list's name and its timers that are kept, the first of which is given, up to the end of the line.
-fn push_list(
+fn push_list<N: Kept>(
     text: &mut Vec<u8>,
-    links: &Links,
+    links: &Links<N>,
     list: usize,
     first: usize,
     naming: Naming,

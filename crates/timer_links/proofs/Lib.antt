@@ -5,3 +5,4 @@ pub mod UniqueLists
 pub mod Room
 pub mod LinksCalls
 pub mod NewLinks
+pub mod KeptNodes

@@ -27,9 +27,9 @@ pub held : (o : Option Node) → IsSome o → Held o
 held None i = absurd (none_is i)
 held (Some x) i = record { node = x; is = refl }
 
-pub some_is : (o : Option Node) (node : Node) → o ≡ Some node → IsSome o
-some_is None node e = absurd (some_none node (sym e))
-some_is (Some x) node e = refl
+pub some_is : {N : Type 0} (o : Option N) (x : N) → o ≡ Some x → IsSome o
+some_is None x e = absurd (some_none x (sym e))
+some_is (Some y) x e = refl
 
 record IsFront (key : ℕ) (rows : Rows) : Type 0 where
   pub node : Node

@@ -8,10 +8,9 @@ use Rattle.std.proofs.lemmas.List.FromFn.{length-map-range_with_len, get_or-map-
 use Rattle.slab.specs.Slab.{Slab, get, slab_len}
 use Rattle.timer_links.specs.declared.node.Node.{Node}
 use Rattle.timer_links.specs.declared.ring.Neighbours.{Neighbours}
-use Rattle.timer_links.specs.declared.links.Links.TheInside.{Inside}
 use Rattle.timer_links.specs.Lists.{LinksState, list_at, row_count, KeyedLists, Rows}
 use Rattle.timer_links.specs.Ring.{neighbours_at, key_of}
-use Rattle.timer_links.specs.Links.{LeadsOver, walk, lists_of, IsLinked, HasRoom, IsReady}
+use Rattle.timer_links.specs.Links.{LeadsOver, walk, lists_of, IsLinked, HasRoom, IsReady, nodes_of}
 use Rattle.timer_links.proofs.Rows.{length_list_at}
 use Rattle.timer_links.proofs.Rings.{node_at-here}
 use Rattle.timer_links.proofs.Room.{room_stays, ready_kept}
@@ -60,21 +59,23 @@ module _ (n : ℕ) (nodes : Slab Node) (s : List Neighbours) (v : KeyedLists) (h
       (held_from l (list_at l v) [] b refl) (h.rings l b))
 
 -- the lists of a value, which is open
-pub opened : (s : Inside) (v : LinksState) → record { lists = lists_of s.lists s.nodes s.neighbours.items; room = s.room } ≡ v
-    → IsLinked s.lists s.nodes s.neighbours.items (lists_of s.lists s.nodes s.neighbours.items) × HasRoom s.room s.lists s.nodes
-    (vec_capacity s.neighbours) × IsReady s.ready s.lists s.nodes (vec_len s.neighbours)
-    → IsLinked s.lists s.nodes s.neighbours.items v.lists
-opened s v e h = let P : KeyedLists → Type 0 = λ x. IsLinked s.lists s.nodes s.neighbours.items x in
+pub opened : {N Z : Type 0} (node_of : N → Node) (n room ready : ℕ) (kept : Slab N) (neighbours : Vec Neighbours Z) (v : LinksState)
+    → record { lists = lists_of n (nodes_of node_of kept) neighbours.items; room = room } ≡ v
+    → IsLinked n (nodes_of node_of kept) neighbours.items (lists_of n (nodes_of node_of kept) neighbours.items)
+    × HasRoom room n kept.capacity (vec_capacity neighbours) × IsReady ready n kept.capacity (vec_len neighbours)
+    → IsLinked n (nodes_of node_of kept) neighbours.items v.lists
+opened node_of n room ready kept neighbours v e h =
+    let P : KeyedLists → Type 0 = λ x. IsLinked n (nodes_of node_of kept) neighbours.items x in
     subst P (ap (λ (r : LinksState). r.lists) e) h.0
 
 -- fields with these lists as their value, which may be closed again
 pub record Stands {Z : Type 0} (n room ready : ℕ) (nodes : Slab Node) (neighbours : Vec Neighbours Z) (v : KeyedLists) : Type 0 where
   pub invariant : IsLinked n nodes neighbours.items (lists_of n nodes neighbours.items)
-      × HasRoom room n nodes (vec_capacity neighbours) × IsReady ready n nodes (vec_len neighbours)
+      × HasRoom room n nodes.capacity (vec_capacity neighbours) × IsReady ready n nodes.capacity (vec_len neighbours)
   pub value : lists_of n nodes neighbours.items ≡ v
 
 pub stands : {Z : Type 0} (n room ready : ℕ) (nodes : Slab Node) (neighbours : Vec Neighbours Z) (v : KeyedLists)
-    → IsLinked n nodes neighbours.items v → HasRoom room n nodes (vec_capacity neighbours) → IsReady ready n nodes (vec_len neighbours)
+    → IsLinked n nodes neighbours.items v → HasRoom room n nodes.capacity (vec_capacity neighbours) → IsReady ready n nodes.capacity (vec_len neighbours)
     → Stands n room ready nodes neighbours v
 stands n room ready nodes neighbours v h r k =
     let e : lists_of n nodes neighbours.items ≡ v = lists_are n nodes neighbours.items v h in
@@ -82,14 +83,14 @@ stands n room ready nodes neighbours v h r k =
     record { invariant = (subst P (sym e) h, r, k); value = e }
 
 -- the same after a change of nodes, and of the links in the slice of the vector: room and what is ready stay
-pub written : {Z : Type 0} (n room ready : ℕ) (old new : Slab Node) (neighbours : Vec Neighbours Z) (ws : List Neighbours)
-    (v : KeyedLists) → HasRoom room n old (vec_capacity neighbours) → IsReady ready n old (vec_len neighbours)
-    → new.capacity ≡ old.capacity → length ws ≡ neighbours.len → IsLinked n new ws v
+pub written : {Z : Type 0} (n room ready capacity : ℕ) (new : Slab Node) (neighbours : Vec Neighbours Z) (ws : List Neighbours)
+    (v : KeyedLists) → HasRoom room n capacity (vec_capacity neighbours) → IsReady ready n capacity (vec_len neighbours)
+    → new.capacity ≡ capacity → length ws ≡ neighbours.len → IsLinked n new ws v
     → Stands n room ready new (with_items neighbours ws) v
-written n room ready old new neighbours ws v r k same e h =
+written n room ready capacity new neighbours ws v r k same e h =
     let P : List Neighbours → Type 0 = λ x. IsLinked n new x v in
     stands n room ready new (with_items neighbours ws) v (subst P (sym (with_items_is neighbours ws e)) h)
-    (room_stays room n _ _ old new r same refl) (ready_kept ready n _ _ old new k (omega arith) (omega arith))
+    (room_stays room n _ _ _ _ r same refl) (ready_kept ready n _ _ _ _ k (omega arith) (omega arith))
 
 -- the value of these fields is the state with these lists and this room
 pub state_is : (w : LinksState) (x : KeyedLists) (room : ℕ) → x ≡ w.lists → room ≡ w.room → record { lists = x; room = room } ≡ w

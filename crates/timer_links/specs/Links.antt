@@ -1,5 +1,5 @@
 -- How `Links` represents its lists by nodes and links: its invariant. No public clause cites this file.
-use Rattle.std.specs.Prelude.{◌≡◌, ℕ, ◌+◌, ◌<◌, ◌≤◌, ◌⊎◌, zero, suc, List, [], ◌∷◌, length, map, Option, Some, None}
+use Rattle.std.specs.Prelude.{◌≡◌, ℕ, ◌+◌, ◌<◌, ◌≤◌, ◌⊎◌, zero, suc, List, [], ◌∷◌, length, map, Option, Some, None, option_map}
 use Rattle.std.specs.List.{range_with_len}
 use Rattle.slab.specs.Slab.{Slab, get, slab_len, ContainsKey}
 use Rattle.timer_links.specs.declared.node.Node.{Node}
@@ -7,6 +7,14 @@ use Rattle.timer_links.specs.declared.ring.Neighbours.{Neighbours}
 use Rattle.timer_links.specs.declared.ring.TheConstants.{INDEXES}
 use Rattle.timer_links.specs.Lists.{list_at, node_at, row_count, KeyedLists, Rows}
 use Rattle.timer_links.specs.Ring.{neighbours_at, key_of, AreJoined}
+
+-- the nodes that were kept
+abbrev pub nodes_of : {N : Type 0} → (N → Node) → Slab N → Slab Node
+nodes_of node_of kept = record {
+  slots = map (option_map node_of) kept.slots;
+  vacant_key = kept.vacant_key;
+  capacity = kept.capacity;
+}
 
 -- the row of a key and its node, before these rows
 abbrev pub row_of : ℕ → Option Node → Rows → Rows
@@ -53,18 +61,18 @@ pub record IsLinked (lists : ℕ) (nodes : Slab Node) (neighbours : List Neighbo
   pub numbered : length neighbours ≤ INDEXES
 
 -- there is memory for this many nodes, and memory is reserved for the index of each key that they can get
-pub record HasRoom (room lists : ℕ) (nodes : Slab Node) (reserved : ℕ) : Type 0 where
-  pub fits : room ≤ nodes.capacity
-  pub indexes : 0 < room → lists + nodes.capacity ≤ reserved
+pub record HasRoom (room lists capacity reserved : ℕ) : Type 0 where
+  pub fits : room ≤ capacity
+  pub indexes : 0 < room → lists + capacity ≤ reserved
   -- each of these indexes has a number
-  pub numbered : 0 < room → lists + nodes.capacity ≤ INDEXES
+  pub numbered : 0 < room → lists + capacity ≤ INDEXES
 
 -- the next key has an index, or each key below the capacity has one
-abbrev pub HasIndex : ℕ → Slab Node → List Neighbours → Type 0
+abbrev pub HasIndex : {N : Type 0} → ℕ → Slab N → List Neighbours → Type 0
 HasIndex lists nodes neighbours =
     (lists + nodes.vacant_key < length neighbours) ⊎ (lists + nodes.capacity ≤ length neighbours)
 
 -- each key below this one has memory for its node, and an index
-pub record IsReady (ready lists : ℕ) (nodes : Slab Node) (added : ℕ) : Type 0 where
-  pub fits : ready ≤ nodes.capacity
+pub record IsReady (ready lists capacity added : ℕ) : Type 0 where
+  pub fits : ready ≤ capacity
   pub indexed : lists + ready ≤ added

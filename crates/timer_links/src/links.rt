@@ -18,6 +18,7 @@ ghost use Rattle.timer_links.specs.Links.{HasRoom, HasIndex, IsReady};
 ghost use Rattle.timer_links.specs.Ring.{IsGrown};
 ghost use Rattle.timer_links.specs.declared.ring.TheConstants.{INDEXES};
 
+use crate::kept::Kept;
 use crate::node::Node;
 use crate::ring::{
     INDEXES, Neighbours, add_index, join, join_last, key_at, only_neighbour, reserve_index,
@@ -46,10 +47,10 @@ pub struct RemovedNode {
     pub emptied: Option<usize>,
 }
 
-/// A fixed number of lists of nodes, each node under its key.
+/// A fixed number of lists of nodes, each node under its key. What it keeps of a node takes the memory of `N`.
 #[derive(Drop)]
-pub struct Links {
-    nodes: Slab<Node>,
+pub struct Links<N: Kept = Node> {
+    nodes: Slab<N>,
     // The links of the roots, of the keys that were ever in use, and of up to 63 more. Room is capacity alone, so
     // that `used_from` does not walk along it.
     neighbours: Vec<Neighbours>,
@@ -61,27 +62,27 @@ pub struct Links {
     ready: usize,
 }
 
-impl Model for Links {
+impl<N: Kept> Model for Links<N> {
     ghost use Rattle.std.specs.Vec.{vec_len, vec_capacity};
     ghost use Rattle.timer_links.specs.Lists.{LinksState};
-    ghost use Rattle.timer_links.specs.Links.{IsLinked, HasRoom, IsReady, lists_of};
+    ghost use Rattle.timer_links.specs.Links.{IsLinked, HasRoom, IsReady, lists_of, nodes_of};
 
     ghost Value = { LinksState };
 
     ghost view = { λ s. record {
-      lists = lists_of s.lists s.nodes s.neighbours.items;
+      lists = lists_of s.lists (nodes_of N.node_of s.nodes) s.neighbours.items;
       room = s.room;
     } };
 
-    ghost invariant = { λ s. IsLinked s.lists s.nodes s.neighbours.items
-        (lists_of s.lists s.nodes s.neighbours.items)
-        × HasRoom s.room s.lists s.nodes (vec_capacity s.neighbours)
-        × IsReady s.ready s.lists s.nodes (vec_len s.neighbours) };
+    ghost invariant = { λ s. IsLinked s.lists (nodes_of N.node_of s.nodes) s.neighbours.items
+        (lists_of s.lists (nodes_of N.node_of s.nodes) s.neighbours.items)
+        × HasRoom s.room s.lists s.nodes.capacity (vec_capacity s.neighbours)
+        × IsReady s.ready s.lists s.nodes.capacity (vec_len s.neighbours) };
 }
 
-impl Links {
+impl<N: Kept> Links<N> {
     /// Makes `lists` empty lists, at most 65,537. The only error is out of memory.
-    pub fn new(alloc: Global, lists: usize) -> Result<Links, OutOfMemory>
+    pub fn new(alloc: Global, lists: usize) -> Result<Links<N>, OutOfMemory>
         requires { lists ≤ 65537 }
         ensures { IfOk result (λ links. links ≡ record {
           lists = replicate lists [];
@@ -129,7 +130,7 @@ impl Links {
         ensures { result ≡ node_at key self.now.lists }
     {
         match self.nodes.get(key) {
-            Some(node) => Some(*node),
+            Some(kept) => Some(kept.node()),
             None => None,
         }
     }
@@ -199,7 +200,7 @@ impl Links {
         ensures next { IsNext key self.now.lists result.next }
     {
         WalkStep {
-            rounds: self.nodes[key].rounds,
+            rounds: self.nodes[key].node().rounds,
             next: self.next(key),
         }
     }
@@ -267,7 +268,8 @@ impl Links {
     // Inlined, but for the growth: a key that comes back through memory costs a start up to a half.
     #[inline(always)]
     pub fn push_back(&mut self, list: usize, node: Node) -> Result<usize, (Node, OutOfMemory)>
-        requires { list < length self.old.lists }
+        requires list { list < length self.old.lists }
+        requires keeps { N.keeps node }
         ensures fresh { IfOk result (λ key. node_at key self.old.lists ≡ None) }
         ensures pushed { IfOk result (λ key. self.new.lists ≡ with_row list (key, node) self.old.lists) }
         ensures room { self.new.room ≡ self.old.room }
@@ -285,7 +287,7 @@ impl Links {
         ) else {
             return Err((node, OutOfMemory));
         };
-        let key = self.nodes.insert_reserved(node);
+        let key = self.nodes.insert_reserved(N::keep(node));
         let index = self.lists + key;
         join_last(self.neighbours.as_mut_slice(), list, index);
         Ok(key)
@@ -317,14 +319,14 @@ impl Links {
         ensures emptied { IsAloneIn key self.old.lists result.emptied }
     {
         let neighbours = self.neighbours[self.lists + key];
-        let node = self.nodes.remove(key);
+        let kept = self.nodes.remove(key);
         join(
             self.neighbours.as_mut_slice(),
             neighbours.before as usize,
             neighbours.after as usize,
         );
         RemovedNode {
-            node,
+            node: kept.node(),
             emptied: only_neighbour(neighbours),
         }
     }
@@ -338,30 +340,21 @@ impl Links {
     {
         let key = self.used_front(list)?;
         let after = self.neighbours[self.lists + key].after as usize;
-        let node = self.nodes.remove(key);
+        let kept = self.nodes.remove(key);
         join(self.neighbours.as_mut_slice(), list, after);
-        Some((key, node))
-    }
-
-    /// Changes the rounds of a node where it stands. Does not allocate.
-    #[inline]
-    pub fn set_rounds(&mut self, key: usize, rounds: u64)
-        requires { IsSome (node_at key self.old.lists) }
-        ensures set { SetsRounds key rounds self.old.lists self.new.lists }
-        ensures room { self.new.room ≡ self.old.room }
-    {
-        self.nodes[key].rounds = rounds;
+        Some((key, kept.node()))
     }
 
     /// Replaces the node under a key by another, which keeps the key, the list and its position there.
     /// Does not allocate.
     #[inline]
     pub fn set_node(&mut self, key: usize, node: Node)
-        requires { IsSome (node_at key self.old.lists) }
+        requires used { IsSome (node_at key self.old.lists) }
+        requires keeps { N.keeps node }
         ensures set { SetsNode key node self.old.lists self.new.lists }
         ensures room { self.new.room ≡ self.old.room }
     {
-        self.nodes[key] = node;
+        self.nodes[key] = N::keep(node);
     }
 
     /// Moves a node to the back of a list, which may be its own, and returns the list that it was in, if it was the
@@ -443,12 +436,24 @@ impl Links {
     }
 }
 
+impl Links<Node> {
+    /// Changes the rounds of a node where it stands. Does not allocate.
+    #[inline]
+    pub fn set_rounds(&mut self, key: usize, rounds: u64)
+        requires { IsSome (node_at key self.old.lists) }
+        ensures set { SetsRounds key rounds self.old.lists self.new.lists }
+        ensures room { self.new.room ≡ self.old.room }
+    {
+        self.nodes[key].rounds = rounds;
+    }
+}
+
 /// Makes room for one more node and its index. On an error no node and no link changes.
 ///
 /// The keys below `ready` have both, so that it is mostly one comparison.
 #[inline(always)]
-fn make_way(
-    nodes: &mut Slab<Node>,
+fn make_way<N: Kept>(
+    nodes: &mut Slab<N>,
     neighbours: &mut Vec<Neighbours>,
     ready: &mut usize,
     lists: usize,
@@ -456,15 +461,15 @@ fn make_way(
 ) -> Result<(), OutOfMemory>
     requires roots { lists ≤ length neighbours.old.items }
     requires few { length neighbours.old.items ≤ INDEXES }
-    requires room { HasRoom room lists nodes.old (vec_capacity neighbours.old) }
-    requires ready { IsReady ready.old lists nodes.old (vec_len neighbours.old) }
+    requires room { HasRoom room lists nodes.old.capacity (vec_capacity neighbours.old) }
+    requires ready { IsReady ready.old lists nodes.old.capacity (vec_len neighbours.old) }
     ensures nodes { nodes.new ≡ record nodes.old { capacity = nodes.new.capacity } }
     ensures kept { IsGrown neighbours.old.items neighbours.new.items }
     ensures few { length neighbours.new.items ≤ INDEXES }
     ensures at_most { length neighbours.new.items
         ≤ max (length neighbours.old.items) (lists + nodes.old.vacant_key + 64) }
-    ensures room { HasRoom room lists nodes.new (vec_capacity neighbours.new) }
-    ensures ready { IsReady ready.new lists nodes.new (vec_len neighbours.new) }
+    ensures room { HasRoom room lists nodes.new.capacity (vec_capacity neighbours.new) }
+    ensures ready { IsReady ready.new lists nodes.new.capacity (vec_len neighbours.new) }
     ensures fits { OnOk result (HasRoomFor nodes.new 1) }
     ensures index { OnOk result (HasIndex lists nodes.new neighbours.new.items) }
     ensures full { OnErr result (room ≤ slab_len nodes.old) }
@@ -483,22 +488,22 @@ fn make_way(
 /// `make_way` small.
 #[cold]
 #[inline(never)]
-fn make_ready(
-    nodes: &mut Slab<Node>,
+fn make_ready<N: Kept>(
+    nodes: &mut Slab<N>,
     neighbours: &mut Vec<Neighbours>,
     lists: usize,
     room: usize,
 ) -> Result<(), OutOfMemory>
     requires roots { lists ≤ length neighbours.old.items }
     requires few { length neighbours.old.items ≤ INDEXES }
-    requires room { HasRoom room lists nodes.old (vec_capacity neighbours.old) }
+    requires room { HasRoom room lists nodes.old.capacity (vec_capacity neighbours.old) }
     ensures nodes { nodes.new ≡ record nodes.old { capacity = nodes.new.capacity } }
     ensures larger { nodes.old.capacity ≤ nodes.new.capacity }
     ensures kept { IsGrown neighbours.old.items neighbours.new.items }
     ensures few { length neighbours.new.items ≤ INDEXES }
     ensures at_most { length neighbours.new.items
         ≤ max (length neighbours.old.items) (lists + nodes.old.vacant_key + 64) }
-    ensures room { HasRoom room lists nodes.new (vec_capacity neighbours.new) }
+    ensures room { HasRoom room lists nodes.new.capacity (vec_capacity neighbours.new) }
     ensures fits { OnOk result (HasRoomFor nodes.new 1) }
     ensures index { OnOk result (HasIndex lists nodes.new neighbours.new.items) }
     ensures full { OnErr result (room ≤ slab_len nodes.old) }
@@ -518,8 +523,8 @@ fn make_ready(
 /// Makes way where room was promised, and either the next key has no index yet or all nodes that fit are in use.
 ///
 /// In the latter case it grows at once for all the nodes that fit then.
-fn make_way_in_room(
-    nodes: &mut Slab<Node>,
+fn make_way_in_room<N: Kept>(
+    nodes: &mut Slab<N>,
     neighbours: &mut Vec<Neighbours>,
     lists: usize,
 ) -> Result<(), OutOfMemory>
@@ -552,8 +557,8 @@ fn make_way_in_room(
 /// is below the capacity of the nodes. No node and no link changes.
 ///
 /// The nodes are copied to grow, so that they are as they were if the indexes can't grow with them.
-fn make_room(
-    nodes: &mut Slab<Node>,
+fn make_room<N: Kept>(
+    nodes: &mut Slab<N>,
     neighbours: &mut Vec<Neighbours>,
     lists: usize,
     more: usize,

@@ -9,8 +9,7 @@ use Rattle.timer_base.proofs.OrderLaws.{All-weaken}
 use Rattle.timer_base.specs.WakeUps.{IsWakeUp}
 use Rattle.timer_base.specs.WheelState.{with_room, WheelState, IsPending, after_tick, after_ticks, Advances}
 use Rattle.timer_links.specs.Lists.{list_at, Row, Rows}
-use Rattle.timer_wheels.specs.declared.buckets.Buckets.{Buckets}
-use Rattle.timer_wheels.specs.Buckets.{state_of}
+use Rattle.timer_wheels.specs.Buckets.{TimerBuckets, state_of}
 use Rattle.timer_wheels.specs.declared.table.Table.{Table}
 use Rattle.timer_wheels.specs.declared.wheels.Wheels.{Wheels}
 use Rattle.std.proofs.Math.Nat.{mul-le-mul_right}
@@ -57,7 +56,7 @@ pub record IsKnown (table : List ℕ) (now s : ℕ) (row : Row) : Type 0 where
   pub digits : HasDigits table (timer_in row).deadline
   pub placed : bucket table now (timer_in row).deadline ≡ s
 
-module _ {t : Table} {b : Buckets} {words : List ℕ} (h : IsHier t b words) where
+module _ {t : Table} {b : TimerBuckets} {words : List ℕ} (h : IsHier t b words) where
   pub last_digits : HasDigits (radices t) b.last_tick
   last_digits = rw h.clock (of_table t).digits
 
@@ -154,13 +153,13 @@ module _ {t : Table} {b : Buckets} {words : List ℕ} (h : IsHier t b words) whe
 
 -- The clock alone advances.
 
-pub record HasSkipped (t : Table) (b : Buckets) (tick : ℕ) : Type 0 where
+pub record HasSkipped (t : Table) (b : TimerBuckets) (tick : ℕ) : Type 0 where
   pub pending : ArePending b.last_tick tick b.last_serial (rows_below b.slots b.links.lists)
   pub placed : EachRow (IsPlaced (radices t) tick) b.slots b.links.lists
   pub leaps : Leaps (radices t) 0 (state_of b)
       (with_room b.links.room (wheel_state b.slots b.last_tick tick b.last_serial b.links.lists))
 
-module _ {t : Table} {b : Buckets} {words : List ℕ} (h : IsHier t b words) (z : (state_of b).due ≡ []) where
+module _ {t : Table} {b : TimerBuckets} {words : List ℕ} (h : IsHier t b words) (z : (state_of b).due ≡ []) where
   skipped_by : (n tick : ℕ) → b.tick + n ≡ tick → AreNotVisitedBefore (radices t) b.slots b.tick (tick + 1) b.links.lists
       → HasSkipped t b (b.tick + n)
   skipped_by n tick e q =

@@ -14,6 +14,7 @@ use Rattle.timer_links.specs.Lists.{list_at, node_at, AreApart, KeyedLists, Row}
 use Rattle.timer_wheels.specs.BucketLists.{entry_of, entries_of, rows_below}
 use Rattle.timer_wheels.specs.Buckets.{state_of}
 use Rattle.timer_wheels.specs.HeldPlaces.{IsHeld, IsFirstHeld, IsAlone}
+use Rattle.timer_links.specs.declared.kept.Kept.{Ghosts}
 use Rattle.timer_wheels.specs.declared.buckets.Buckets.{Buckets}
 use Rattle.timer_wheels.proofs.Handles.{timer_named, held_is}
 use Rattle.timer_wheels.proofs.AllLemmas.{all-map}
@@ -40,7 +41,7 @@ before from lists u row e = elim (cases_lt row.0 from) [
 some_timer : (t : Timer) (o : Option Timer) → Some t ≡ o → IsSome o
 some_timer t o e = subst IsSome e refl
 
-module _ (b : Buckets) (apart : AreApart b.links.lists) where
+module _ {N : Type 0} {kept : Ghosts N} (b : Buckets N kept) (apart : AreApart b.links.lists) where
   under : (l : ℕ) → l < b.slots + 1 → AllByRecursion (λ row. node_at row.0 b.links.lists ≡ Some row.1) (list_at l b.links.lists)
   under l h = under_keys l b.links.lists (omega (arith, b.sound.has_lists)) apart
 

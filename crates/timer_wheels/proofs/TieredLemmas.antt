@@ -7,11 +7,10 @@ use Rattle.timer_base.specs.Pending.{Entry, timers_of}
 use Rattle.timer_base.specs.WakeUps.{IsWakeUp, next_deadline}
 use Rattle.timer_base.specs.WheelState.{WheelState, IsPending, IsWellFormed}
 use Rattle.timer_base.specs.declared.limits.TheConstants.{LAST}
-use Rattle.timer_wheels.specs.Buckets.{state_of, state_of-well_formed}
+use Rattle.timer_wheels.specs.Buckets.{TimerBuckets, state_of, state_of-well_formed}
 use Rattle.timer_wheels.specs.HierWheel.{table_of}
 use Rattle.timer_wheels.specs.Tables.{slots_of_table, wide, clock, small}
 use Rattle.timer_wheels.specs.TieredWheel.{is_smooth, turns_are_smooth, option_of}
-use Rattle.timer_wheels.specs.declared.buckets.Buckets.{Buckets}
 use Rattle.timer_wheels.specs.declared.hier.HierWheel.{HierWheel}
 use Rattle.timer_wheels.specs.declared.smooth.SmoothWheel.{SmoothWheel}
 use Rattle.timer_wheels.specs.declared.table.Table.{Table}
@@ -55,7 +54,7 @@ next_in_clock w tick f e = of_first w.pending f.each e where
       let r : x.timer.deadline ≤ w.last_tick = a.0.in_range in
       omega (arith, f.last_in_range)
 
-pub first_in_clock : (b : Buckets) (o : Option ℕ) → o ≡ next_deadline (state_of b).pending → IfSome o (λ tick. tick ≤ LAST)
+pub first_in_clock : (b : TimerBuckets) (o : Option ℕ) → o ≡ next_deadline (state_of b).pending → IfSome o (λ tick. tick ≤ LAST)
 first_in_clock b None e = tt
 first_in_clock b (Some tick) e = next_in_clock (state_of b) tick (state_of-well_formed b) e
 

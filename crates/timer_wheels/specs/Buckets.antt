@@ -4,22 +4,28 @@ use Rattle.timer_base.specs.declared.timer.Handle.{Handle}
 use Rattle.timer_base.specs.declared.timer.Timer.{Timer}
 use Rattle.timer_base.specs.WellFormed.{with_room-well_formed}
 use Rattle.timer_base.specs.WheelState.{WheelState, IsWellFormed, with_room}
+use Rattle.timer_links.specs.declared.kept.Kept.{Ghosts}
+use Rattle.timer_links.specs.contracts.kept.TimerKept.TheImpl.{ghosts}
 use Rattle.timer_links.specs.Lists.{with_row, without_key, KeyedLists, Row}
 use Rattle.timer_wheels.specs.declared.buckets.Buckets.{Buckets}
 use Rattle.timer_wheels.specs.BucketLists.{wheel_state}
 use Rattle.timer_wheels.specs.BucketLaws.{wheel_state-well_formed}
 
+-- the buckets of a hierarchy, which keep the timer of a node alone
+abbrev pub TimerBuckets : Type 0
+TimerBuckets = Buckets Timer ghosts
+
 -- the wheel whose buckets these are, but for its room
-abbrev pub roomless_state : Buckets → WheelState
+abbrev pub roomless_state : {N : Type 0} {kept : Ghosts N} → Buckets N kept → WheelState
 roomless_state buckets =
     wheel_state buckets.slots buckets.last_tick buckets.tick buckets.last_serial buckets.links.lists
 
 -- the wheel whose buckets these are
-abbrev pub state_of : Buckets → WheelState
+abbrev pub state_of : {N : Type 0} {kept : Ghosts N} → Buckets N kept → WheelState
 state_of buckets = with_room buckets.links.room (roomless_state buckets)
 
 -- the clock and the number of buckets are unchanged
-pub record IsSameFrame (old new : Buckets) : Type 0 where
+pub record IsSameFrame {N : Type 0} {kept : Ghosts N} (old new : Buckets N kept) : Type 0 where
   pub last_tick : new.last_tick ≡ old.last_tick
   pub tick : new.tick ≡ old.tick
   pub slots : new.slots ≡ old.slots
@@ -53,7 +59,7 @@ ReplacesRow found l row old new = MatchOption found (new ≡ old) (λ r. new
     ≡ with_row l row (map (without_key row.0) old))
 
 -- the invariant of the buckets implies that of every wheel
-pub state_of-well_formed : (buckets : Buckets) → IsWellFormed (state_of buckets)
+pub state_of-well_formed : {N : Type 0} {kept : Ghosts N} (buckets : Buckets N kept) → IsWellFormed (state_of buckets)
 state_of-well_formed buckets =
     with_room-well_formed buckets.links.room (roomless_state buckets)
     (wheel_state-well_formed buckets.slots buckets.last_tick buckets.tick buckets.last_serial

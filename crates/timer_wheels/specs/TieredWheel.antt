@@ -2,12 +2,11 @@
 use Rattle.std.proofs.Common.{◌≡◌, ◌==◌, ◌∙◌, ap, ℕ, Bool, true, false, if◌then◌else◌, List, Option, Some, None, refl}
 use Rattle.timer_base.specs.Counts.{WheelCounts}
 use Rattle.timer_base.specs.WheelState.{WheelState, IsWellFormed}
-use Rattle.timer_wheels.specs.Buckets.{state_of, state_of-well_formed}
+use Rattle.timer_wheels.specs.Buckets.{TimerBuckets, state_of, state_of-well_formed}
 use Rattle.timer_wheels.specs.HierWheel.{counts_of, counts_of_tick, counts_of_advance}
 use Rattle.timer_wheels.specs.Smooth.{smooth_slots}
 use Rattle.timer_wheels.specs.SmoothWheel.{starts_of, moves_of, moves_ahead, radices_by_turns}
 use Rattle.timer_wheels.specs.Tables.{radices, radices_by_slots, wide, clock, small}
-use Rattle.timer_wheels.specs.declared.buckets.Buckets.{Buckets}
 use Rattle.timer_wheels.specs.declared.table.Table.{Table}
 use Rattle.timer_wheels.specs.declared.table.Table.TheVariants as tables
 use Rattle.timer_wheels.specs.declared.tiered.TheConstants.{NEVER}
@@ -15,7 +14,7 @@ use Rattle.timer_wheels.specs.declared.tiered.TieredWheel.{TieredWheel}
 use Rattle.timer_wheels.specs.declared.tiered.TieredWheel.TheVariants.{Hier, Smooth}
 
 -- the buckets of either wheel
-abbrev pub buckets_in : TieredWheel → Buckets
+abbrev pub buckets_in : TieredWheel → TimerBuckets
 buckets_in (Hier wheel) = wheel.wheels.buckets
 buckets_in (Smooth wheel) = wheel.bank.buckets
 

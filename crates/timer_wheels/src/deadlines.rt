@@ -14,18 +14,18 @@ ghost use Rattle.timer_wheels.specs.FirstDeadline.{IsKnownOf};
 use crate::buckets::Buckets;
 use crate::first::First;
 use timer_base::earlier;
-use timer_links::Links;
+use timer_links::{Kept, Links};
 
 /// The first pending deadline, found by a walk along every bucket. Does not allocate.
 #[tactic(auto, using(crate::proofs::DeadlineLemmas::least_is_next))]
-pub fn first_deadline_by_walk(buckets: &Buckets) -> Option<u64>
+pub fn first_deadline_by_walk<N: Kept>(buckets: &Buckets<N>) -> Option<u64>
     ensures { result ≡ next_deadline (state_of buckets.now).pending }
 {
     least_below(&buckets.links, buckets.slots)
 }
 
 /// The least deadline of the timers in the first `count` lists. It walks all of them.
-fn least_below(links: &Links, count: usize) -> Option<u64>
+fn least_below<N: Kept>(links: &Links<N>, count: usize) -> Option<u64>
     requires { count < length links.now.lists }
     ensures { IsLeastDeadline result (timers_in (rows_below count links.now.lists)) }
 {
@@ -37,7 +37,7 @@ fn least_below(links: &Links, count: usize) -> Option<u64>
 }
 
 /// The least deadline of the timers in one list. It walks the whole list.
-pub fn least_in(links: &Links, list: usize) -> Option<u64>
+pub fn least_in<N: Kept>(links: &Links<N>, list: usize) -> Option<u64>
     requires { list < length links.now.lists }
     ensures { IsLeastDeadline result (timers_in (list_at list links.now.lists)) }
 {
@@ -48,7 +48,7 @@ pub fn least_in(links: &Links, list: usize) -> Option<u64>
 /// the whole list.
 // Inlined: its result would go through memory.
 #[inline(always)]
-pub fn first_in(links: &Links, list: usize) -> First
+pub fn first_in<N: Kept>(links: &Links<N>, list: usize) -> First
     requires { list < length links.now.lists }
     ensures { IsKnownOf result (timers_in (list_at list links.now.lists)) }
 {

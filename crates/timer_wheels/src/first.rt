@@ -26,7 +26,7 @@ ghost use Rattle.timer_wheels.specs.FirstDeadline.{unknown_first, no_first, coun
 ghost use Rattle.timer_wheels.specs.Migration.{first_deadline};
 
 use crate::walks::front_deadline;
-use timer_links::Links;
+use timer_links::{Kept, Links};
 
 /// What is kept of the deadlines in a bucket.
 // The count stands first: so it fits beside the variant's number, and all is 16 bytes.
@@ -68,7 +68,7 @@ impl First {
 
     /// A timer with this deadline has come to the back of a list. Returns whether it was in order only until then.
     #[inline(always)]
-    pub fn enter(&mut self, links: &Links, list: usize, deadline: u64) -> bool
+    pub fn enter<N: Kept>(&mut self, links: &Links<N>, list: usize, deadline: u64) -> bool
         requires { list < length links.now.lists }
         ensures entered { self.new ≡ entered_first deadline (first_deadline (list_at list links.now.lists)) self.old }
         ensures breaks { result ≡ true → (counts_of self.old ≡ 0) × (counts_of self.new ≡ 1) }
@@ -122,7 +122,7 @@ impl First {
 
     /// The first deadline of a list, if it is known without a walk. An empty list has none.
     #[inline]
-    pub fn known(&self, links: &Links, list: usize) -> Option<u64>
+    pub fn known<N: Kept>(&self, links: &Links<N>, list: usize) -> Option<u64>
         requires { list < length links.now.lists }
         ensures found { IsFirstOf self.now (timers_in (list_at list links.now.lists))
             → IfSome result (λ d. IsLeast d (timers_in (list_at list links.now.lists))) }
@@ -147,7 +147,7 @@ impl First {
 /// The deadline of the front of a list, or this one if it is earlier.
 // Inlined: for a call a compiler saves registers at the start of each caller, also where it is never asked for.
 #[inline(always)]
-fn least_of_front(links: &Links, list: usize, deadline: u64) -> u64
+fn least_of_front<N: Kept>(links: &Links<N>, list: usize, deadline: u64) -> u64
     requires { list < length links.now.lists }
     ensures { result ≡ least_with (first_deadline (list_at list links.now.lists)) deadline }
 {

@@ -170,7 +170,7 @@ impl HierWheel {
     /// Slot s of wheel k is the list whose number is s more than the lower wheels have slots: `64 * k + s`
     /// in `Table::Wide`. The timers of a bucket stand by serial, each under its handle's place, with
     /// rounds 0. Does not allocate.
-    pub fn links(&self) -> &Links
+    pub fn links(&self) -> &Links<Timer>
         ensures { ShowsWheels (radices (table_of self.now)) (hier_state self.now) result.now.lists }
     {
         &self.wheels.buckets.links
@@ -238,7 +238,7 @@ impl HierWheel {
 
     /// The clock and the buckets.
     #[inline]
-    pub(crate) fn buckets(&self) -> &Buckets
+    pub(crate) fn buckets(&self) -> &Buckets<Timer>
         ensures { result.now ≡ self.now.wheels.buckets }
     {
         &self.wheels.buckets

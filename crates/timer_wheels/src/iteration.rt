@@ -10,9 +10,10 @@ ghost use Rattle.timer_wheels.specs.HeldPlaces.{IsFirstHeld, IsAlone};
 
 use crate::buckets::Buckets;
 use timer_base::Handle;
+use timer_links::Kept;
 
 /// The handle of the timer at this place or the first later one that has a timer. Does not allocate.
-pub fn held_from(buckets: &Buckets, place: usize) -> Option<Handle>
+pub fn held_from<N: Kept>(buckets: &Buckets<N>, place: usize) -> Option<Handle>
     ensures first { IsFirstHeld place (state_of buckets.now) result }
     ensures alone { IfSome result (λ handle. IsAlone handle (state_of buckets.now)) }
     ensures in_range { IfSome result (λ handle. handle.place < 4294967296) }

@@ -13,6 +13,7 @@ use crate::firsts::Firsts;
 use crate::occupied::Occupied;
 use crate::table::{Table, bucket_of, buckets_of, lowest_slots, with_wide_table};
 use crate::walks::front_deadline;
+use timer_base::Timer;
 use timer_links::Links;
 
 /// Empties a bucket: a timer whose deadline is this tick goes to the back of the list of due timers, and
@@ -24,7 +25,7 @@ use timer_links::Links;
 #[inline(always)]
 pub fn empty_bucket(
     table: Table,
-    links: &mut Links,
+    links: &mut Links<Timer>,
     occupied: &mut Occupied,
     firsts: &mut Firsts,
     list: usize,
@@ -63,7 +64,7 @@ pub fn empty_bucket(
 #[inline(never)]
 fn migrate(
     table: Table,
-    links: &mut Links,
+    links: &mut Links<Timer>,
     occupied: &mut Occupied,
     firsts: &mut Firsts,
     list: usize,
@@ -91,7 +92,7 @@ fn migrate(
 #[inline(always)]
 fn migrate_one_by_one(
     table: Table,
-    links: &mut Links,
+    links: &mut Links<Timer>,
     occupied: &mut Occupied,
     firsts: &mut Firsts,
     list: usize,
@@ -133,7 +134,7 @@ fn migrate_one_by_one(
 
 /// The deadline of the second timer of a list.
 #[inline(always)]
-fn next_deadline(links: &Links, list: usize) -> Option<u64>
+fn next_deadline(links: &Links<Timer>, list: usize) -> Option<u64>
     requires { list < length links.now.lists }
     ensures { result ≡ second_deadline (list_at list links.now.lists) }
 {

@@ -123,7 +123,7 @@ impl SmoothWheel {
     ///
     /// Slot i of wheel k, of the slots counted from tick 0 on, is list `128 * k + i % (2 * r)`, r the wheel's radix. The
     /// timers of a bucket stand by serial, each under its handle's place, with rounds 0. Does not allocate.
-    pub fn links(&self) -> &Links
+    pub fn links(&self) -> &Links<Timer>
         ensures shows { ShowsSmooth (smooth_table self.now) (smooth_state self.now) result.now.lists }
         ensures ahead { moves_ahead self.now ≡ next_lengths (radices (smooth_table self.now)) (smooth_state self.now).now
             result.now.lists (length (radices (smooth_table self.now)) - 1) }
@@ -141,7 +141,7 @@ impl SmoothWheel {
 
     /// The clock and the buckets.
     #[inline]
-    pub(crate) fn buckets(&self) -> &Buckets
+    pub(crate) fn buckets(&self) -> &Buckets<Timer>
         ensures { result.now ≡ self.now.bank.buckets }
     {
         &self.bank.buckets

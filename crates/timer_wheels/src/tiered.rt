@@ -81,7 +81,7 @@ impl TieredWheel {
     /// The buckets of the wheel.
     // Both wheels have them at the same place, so no branch is left of this.
     #[inline(always)]
-    fn buckets(&self) -> &Buckets
+    fn buckets(&self) -> &Buckets<Timer>
         ensures { result.now ≡ buckets_in self.now }
     {
         match self {

@@ -36,7 +36,7 @@ pub struct Wheels {
     /// The radices, which no call changes.
     pub table: Table,
     /// A bucket for each slot of each wheel.
-    pub buckets: Buckets,
+    pub buckets: Buckets<Timer>,
     /// Which buckets have a timer.
     pub occupied: Occupied,
     /// The first deadline of each bucket above the lowest wheel.
@@ -301,7 +301,7 @@ fn lowest_visit_by(table: Table, list: usize, now: u64) -> Option<u64>
 #[inline(always)]
 fn enter_list(
     table: &Table,
-    links: &Links,
+    links: &Links<Timer>,
     occupied: &mut Occupied,
     firsts: &mut Firsts,
     tick: u64,

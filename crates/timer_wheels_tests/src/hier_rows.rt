@@ -4,7 +4,7 @@ use crate::wheel_tests::{advance, expire, start};
 use std::alloc::Global;
 use std::process::Abort;
 use std::test::Fail;
-use timer_base::{LAST, MakeFault, Wheel};
+use timer_base::{LAST, MakeFault, Timer, Wheel};
 use timer_links::Links;
 use timer_wheels::{HashedWheel, HierWheel, Table};
 
@@ -189,7 +189,7 @@ fn tick_until(rt: &impl Abort, wheel: &mut HierWheel, tick: u64) {
 }
 
 /// Goes on only if the timers of a list have these serials, from its front.
-pub fn has_serials(rt: &impl Abort, links: &Links, list: usize, serials: &[u64]) {
+pub fn has_serials(rt: &impl Abort, links: &Links<Timer>, list: usize, serials: &[u64]) {
     assert!(rt; list < links.lists());
     let mut at = links.front(list);
     for serial in serials {

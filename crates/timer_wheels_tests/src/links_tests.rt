@@ -89,3 +89,19 @@ fn links(rt: HostRuntime) -> Result<(), OutOfMemory> {
     move_nodes(&rt, &mut links, a, c);
     Ok(())
 }
+
+/// Lists that keep timers alone give back the whole node.
+#[test]
+fn links_of_timers(rt: HostRuntime) -> Result<(), OutOfMemory> {
+    let mut links: Links<Timer> = Links::new(rt.alloc(), 1)?;
+    let node = Node {
+        timer: node(1).timer,
+        rounds: 0,
+    };
+    let Ok(key) = links.push_back(0, node) else {
+        return Err(OutOfMemory);
+    };
+    same(&rt, links.get(key), Some(node));
+    same(&rt, links.unlink(key), Some(node));
+    Ok(())
+}

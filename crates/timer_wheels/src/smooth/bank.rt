@@ -29,7 +29,7 @@ pub struct Bank {
     /// The radices, which no call changes.
     pub table: Table,
     /// The lists of two revolutions of each wheel.
-    pub buckets: Buckets,
+    pub buckets: Buckets<Timer>,
     /// Which lists have a timer.
     pub filled: Filled,
     ghost bank: { IsBank table buckets filled } by { IsBank-prop table buckets filled },
@@ -354,7 +354,7 @@ fn make_due(links: &mut Links, filled: &mut Filled, list: usize, due: usize)
 }
 
 /// A list lost a timer: its bit is cleared if it is empty.
-fn settle(links: &Links, filled: &mut Filled, list: usize)
+fn settle(links: &Links<Timer>, filled: &mut Filled, list: usize)
     requires list { list < length links.now.lists }
     requires few { list < MOST_LISTS }
     ensures empty { list_at list links.now.lists ≡ [] → bit_of filled.new list ≡ 0 }

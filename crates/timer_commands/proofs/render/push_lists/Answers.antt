@@ -8,7 +8,7 @@ use Rattle.timer_commands.proofs.render.push_lists.Goals as goal
 use Rattle.timer_commands.proofs.render.push_lists.Goals.{in-Some+in_ok-push+in_ok-push_list, in_default}
 
 pub loop-list-preserved : goal.loop-list-preserved
-loop-list-preserved c =
+loop-list-preserved g c =
     let old : List ℕ = c.args.text.now.items in
     let lists = c.args.links.now.lists in
     let n : ℕ = c.loop-list.list in

@@ -5,7 +5,7 @@ use Rattle.timer_commands.proofs.render.push_lists.Given as goal
 
 -- the lists so far have their lines
 abbrev pub invariant-loop-list : goal.invariant-loop-list
-invariant-loop-list l = record {
+invariant-loop-list g l = record {
   lines : l.text.items ≡ l.fn.text.items ++ lines_below l.naming l.filter l.links.lists l.list;
   indented : HasGrownByIndented l.fn.text.items l.text.items;
 }

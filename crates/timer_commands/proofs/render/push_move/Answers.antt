@@ -4,7 +4,7 @@ use Rattle.timer_commands.proofs.IndentedLemmas.{bare_word, bare_join, end_join}
 use Rattle.timer_commands.proofs.render.push_move.Goals as goal
 
 pub returns-clause-ended : goal.returns-clause-ended
-returns-clause-ended c =
+returns-clause-ended g c =
     let from = bare_word _ _ (codes " from") refl c.in_ok-extend_from_slice.ensures.items in
     let bucket = bare_join _ _ _ from c.in_ok-push_name.ensures.bare in
     let to = bare_join _ _ _ bucket (bare_word _ _ (codes " to") refl c.in_ok-extend_from_slice-2.ensures.items) in

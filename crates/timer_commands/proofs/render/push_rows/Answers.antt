@@ -9,13 +9,13 @@ use Rattle.timer_commands.proofs.render.push_rows.Goals as goal
 use Rattle.timer_commands.proofs.render.push_rows.Goals.{then-keeps+in_ok-push_node, else-keeps}
 
 pub loop-step-init : goal.loop-step-init
-loop-step-init c = record {
+loop-step-init g c = record {
   rows = from_first c.args.naming c.args.filter c.args.text.now.items c.args.list c.args.links.now.lists c.args.first c.requires.first;
   bare = bare_word c.args.text.now.items c.args.text.now.items [] refl (sym (append-nil c.args.text.now.items));
 }
 
 pub loop-step-preserved : goal.loop-step-preserved
-loop-step-preserved c =
+loop-step-preserved g c =
     let g = c.loop-step.invariant.rows.walk in
     let old : List ℕ = c.args.text.now.items in
     let found = node_at c.in-Some.key c.args.links.now.lists in
@@ -39,10 +39,10 @@ loop-step-preserved c =
     }
 
 pub returns-after-loop-step-clause-rows : goal.returns-after-loop-step-clause-rows
-returns-after-loop-step-clause-rows c =
+returns-after-loop-step-clause-rows g c =
     let b : c.len-step-end.result ≤ c.loop-step.step = c.loop-step-test.false in
     gathered_all c.loop-step.invariant.rows.walk (omega (arith, c.len-step-end.ensures))
 
 pub returns-in_default-get-clause-rows : goal.returns-in_default-get-clause-rows
-returns-in_default-get-clause-rows c = absurd (here_is_some c.loop-step.invariant.rows.walk c.requires.list c.lemma_keys_unique.ensures
+returns-in_default-get-clause-rows g c = absurd (here_is_some c.loop-step.invariant.rows.walk c.requires.list c.lemma_keys_unique.ensures
     c.in-Some.key c.in-Some.is c.in_default-get.ensures)

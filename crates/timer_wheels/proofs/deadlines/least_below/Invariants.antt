@@ -3,4 +3,4 @@ use Rattle.timer_wheels.specs.Deadlines.{IsLeastDeadline}
 use Rattle.timer_wheels.proofs.deadlines.least_below.Given as goal
 
 abbrev pub invariant-loop-list : goal.invariant-loop-list
-invariant-loop-list l = IsLeastDeadline l.least (timers_in (rows_below l.list l.links.lists))
+invariant-loop-list g l = IsLeastDeadline l.least (timers_in (rows_below l.list l.links.lists))

@@ -5,13 +5,13 @@ use Rattle.timer_wheels.proofs.WalkLemmas.{gathered_none, gathered_one, gathered
 use Rattle.timer_wheels.proofs.walks.copy_list.Goals as goal
 
 pub loop-step-init : goal.loop-step-init
-loop-step-init c = (
+loop-step-init g c = (
   gathered_none c.args.list c.args.links.now.lists c.front-at.result c.front-at.ensures (sym (append-nil c.args.timers.now.items)),
   refl,
 )
 
 pub push_reserved-requires : goal.push_reserved-requires
-push_reserved-requires c = omega (
+push_reserved-requires g c = omega (
   arith,
   c.requires.room,
   c.loop-step.timers.ok,
@@ -20,7 +20,7 @@ push_reserved-requires c = omega (
 )
 
 pub loop-step-preserved : goal.loop-step-preserved
-loop-step-preserved c =
+loop-step-preserved g c =
     let g = c.loop-step.invariant.0 in (
       gathered_one g c.requires.list c.lemma_keys_unique.ensures c.in-Some.key c.in-Some.is c.next-at.result c.next-at.ensures
           (λ node e h. copied_one c.in-Some.key node c.in-Some-get.node (node_at c.in-Some.key c.args.links.now.lists)
@@ -30,10 +30,10 @@ loop-step-preserved c =
     )
 
 pub returns-after-loop-step-clause-items : goal.returns-after-loop-step-clause-items
-returns-after-loop-step-clause-items c =
+returns-after-loop-step-clause-items g c =
     let b : c.len-step-end.result ≤ c.loop-step.step = c.loop-step-test.false in
     gathered_all c.loop-step.invariant.0 (omega (arith, c.len-step-end.ensures))
 
 pub returns-in_default-get-clause-items : goal.returns-in_default-get-clause-items
-returns-in_default-get-clause-items c = absurd (here_is_some c.loop-step.invariant.0 c.requires.list c.lemma_keys_unique.ensures
+returns-in_default-get-clause-items g c = absurd (here_is_some c.loop-step.invariant.0 c.requires.list c.lemma_keys_unique.ensures
     c.in-Some.key c.in-Some.is c.in_default-get.ensures)

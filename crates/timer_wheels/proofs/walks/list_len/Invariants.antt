@@ -2,4 +2,4 @@ use Rattle.timer_wheels.proofs.WalkLemmas.{IsGathering, IsCounted}
 use Rattle.timer_wheels.proofs.walks.list_len.Given as goal
 
 abbrev pub invariant-loop-step : goal.invariant-loop-step
-invariant-loop-step l = IsGathering (IsCounted l.step) l.list l.step l.links.lists l.at
+invariant-loop-step g l = IsGathering (IsCounted l.step) l.list l.step l.links.lists l.at

@@ -2,4 +2,4 @@ use Rattle.timer_links.specs.Keys.{AreUnused}
 use Rattle.timer_links.proofs.links.Links.used_from.Given as goal
 
 abbrev pub invariant-loop-key : goal.invariant-loop-key
-invariant-loop-key l = AreUnused l.from l.key l.self.lists
+invariant-loop-key g l = AreUnused l.from l.key l.self.lists

@@ -7,7 +7,7 @@ not_below : (n : ℕ) → n ≤ n
 not_below n = omega arith
 
 pub invariant_of-self : goal.invariant_of-self
-invariant_of-self c =
+invariant_of-self g c =
     let b = c.args.self.now in
     record {
       sound = cleared b.sound c.empty_lists.new.links.lists c.empty_lists.ensures.emptied
@@ -15,7 +15,7 @@ invariant_of-self c =
     }
 
 pub returns-clause-cleared : goal.returns-clause-cleared
-returns-clause-cleared c =
+returns-clause-cleared g c =
     let b = c.args.self.now in
     rw c.empty_lists.ensures.room (ap (with_room b.links.room) (cleared-state b.sound c.empty_lists.new.links.lists
     c.empty_lists.ensures.emptied (c.empty_lists.ensures.others b.slots (not_below b.slots))))

@@ -10,6 +10,6 @@ not_empty (x ∷ xs) true f = absurd (let h : x ∷ xs ≡ [] = f.0 refl in cc)
 not_empty (x ∷ xs) false f = ((λ h. omega arith), (λ h. refl))
 
 pub returns : goal.returns
-returns c =
+returns g c =
     let b = c.args.self.now in
     not_empty (list_at b.slots b.links.lists) c.is_empty.result c.is_empty.ensures

@@ -4,12 +4,12 @@ use Rattle.timer_wheels.proofs.BucketLemmas.{row_count-parts, length-pending_in}
 use Rattle.timer_wheels.proofs.buckets.Buckets.len.Goals as goal
 
 pub overflow_sub-result : goal.overflow_sub-result
-overflow_sub-result c =
+overflow_sub-result g c =
     let b = c.args.self.now in
     omega (arith, row_count-parts b.slots b.links.lists b.sound.has_lists, c.list_len.ensures)
 
 pub returns : goal.returns
-returns c =
+returns g c =
     let b = c.args.self.now in
     omega (
       arith,

@@ -11,7 +11,7 @@ use Rattle.timer_wheels.specs.BucketLaws.{timers_of-pending}
 use Rattle.timer_wheels.proofs.buckets.Buckets.list_into.Goals as goal
 
 pub copy_list-requires : goal.copy_list-requires
-copy_list-requires c =
+copy_list-requires g c =
     let b = c.args.self.now in
     let lists : length b.links.lists ≡ b.slots + 1 = b.sound.has_lists in
     let copied : length c.loop-bucket.timers.items ≡ length (rows_below c.loop-bucket.bucket b.links.lists) =
@@ -20,7 +20,7 @@ copy_list-requires c =
     record { list = omega arith; room = omega (arith, c.loop-bucket.invariant.1) }
 
 pub loop-bucket-init : goal.loop-bucket-init
-loop-bucket-init c =
+loop-bucket-init g c =
     let b = c.args.self.now in (
       c.clear.ensures.items,
       omega (
@@ -37,7 +37,7 @@ loop-bucket-init c =
     )
 
 pub loop-bucket-preserved : goal.loop-bucket-preserved
-loop-bucket-preserved c =
+loop-bucket-preserved g c =
     let b = c.args.self.now in
     let lists : length b.links.lists ≡ b.slots + 1 = b.sound.has_lists in (
       timers_below-more c.loop-bucket.bucket b.links.lists c.loop-bucket.timers.items c.copy_list.new.timers.items
@@ -53,7 +53,7 @@ sorted_rows n k lists items new a b i s =
     s ∙ (ap (in_order itself) (i ∙ ap (λ (y : ℕ). timers_in (rows_below y lists)) e) ∙ sym (timers_of-pending (rows_below n lists)))
 
 pub returns-clause-listed : goal.returns-clause-listed
-returns-clause-listed c =
+returns-clause-listed g c =
     let b = c.args.self.now in
     sorted_rows b.slots c.loop-bucket.bucket b.links.lists c.loop-bucket.timers.items c.sort_timers.new.timers.items
     c.loop-bucket-test.false

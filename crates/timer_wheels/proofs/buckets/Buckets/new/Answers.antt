@@ -10,14 +10,14 @@ at_new : (k s : ℕ) (links : LinksState) → links ≡ record { lists = replica
 at_new k s links e = ap (λ (x : LinksState). list_at s x.lists) e ∙ no_rows_at k s
 
 pub invariant_of-result : goal.invariant_of-result
-invariant_of-result c = record {
+invariant_of-result g c = record {
   sound = emptied c.args.slots c.args.last_tick c.args.first_tick c.in_ok-new.field-0.lists c.requires.last_tick
       c.requires.first_tick (ap (λ (x : LinksState). length x.lists) c.in_ok-new.ensures ∙ length-replicate (c.args.slots + 1) [])
       (λ s. at_new (c.args.slots + 1) s c.in_ok-new.field-0 c.in_ok-new.ensures);
 }
 
 pub returns-clause-state : goal.returns-clause-state
-returns-clause-state c = rw (
+returns-clause-state g c = rw (
   rows_below-none c.args.slots c.in_ok-new.field-0.lists (λ s h. at_new (c.args.slots + 1) s c.in_ok-new.field-0 c.in_ok-new.ensures),
   at_new (c.args.slots + 1) c.args.slots c.in_ok-new.field-0 c.in_ok-new.ensures,
   ap (λ (x : LinksState). x.room) c.in_ok-new.ensures,

@@ -7,14 +7,14 @@ use Rattle.timer_wheels.proofs.Updates.{removed, pushed_in, pushed_in-state, in_
 use Rattle.timer_wheels.proofs.buckets.Buckets.replace.Goals as goal
 
 pub replace_node-emptied-requires-clause-used : goal.replace_node-emptied-requires-clause-used
-replace_node-emptied-requires-clause-used c = held_used c.args.self.now.sound c.lemma_keys_unique.ensures c.args.handle c.in_ok-old.old
+replace_node-emptied-requires-clause-used g c = held_used c.args.self.now.sound c.lemma_keys_unique.ensures c.args.handle c.in_ok-old.old
     (sym c.look.ensures.timer ∙ c.in_ok-old.was)
 
 pub replace_node-emptied-requires-clause-list : goal.replace_node-emptied-requires-clause-list
-replace_node-emptied-requires-clause-list c = in_lists c.args.self.now.sound c.args.list c.args.timer.deadline c.requires.list
+replace_node-emptied-requires-clause-list g c = in_lists c.args.self.now.sound c.args.list c.args.timer.deadline c.requires.list
 
 pub invariant_of-self : goal.invariant_of-self
-invariant_of-self c =
+invariant_of-self g c =
     let row = row_at c.args.handle.place c.args.timer c.args.rounds in
     rw c.replace_node-emptied.ensures.replaced (record {
       sound = pushed_in (removed c.args.self.now.sound c.args.handle.place) c.args.list row.0 row.1 c.requires.deadline
@@ -22,7 +22,7 @@ invariant_of-self c =
     })
 
 pub returns-clause-restarted : goal.returns-clause-restarted
-returns-clause-restarted c =
+returns-clause-restarted g c =
     let b = c.args.self.now in
     let row = row_at c.args.handle.place c.args.timer c.args.rounds in
     rw (c.replace_node-emptied.ensures.replaced, c.replace_node-emptied.ensures.room) (ap (with_room b.links.room)

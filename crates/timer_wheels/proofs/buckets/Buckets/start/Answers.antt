@@ -9,11 +9,11 @@ use Rattle.timer_wheels.proofs.BucketLemmas.{row_count-parts, length-pending_in}
 use Rattle.timer_wheels.proofs.Updates.{pushed_in, pushed_in-state, in_lists}
 use Rattle.timer_wheels.proofs.buckets.Buckets.start.Goals as goal
 
-pub push_back-requires : goal.push_back-requires
-push_back-requires c = in_lists c.args.self.now.sound c.args.list c.args.timer.deadline c.requires.list
+pub push_back-requires-clause-list : goal.push_back-requires-clause-list
+push_back-requires-clause-list g c = in_lists c.args.self.now.sound c.args.list c.args.timer.deadline c.requires.list
 
 pub invariant_of-self-2 : goal.invariant_of-self-2
-invariant_of-self-2 c =
+invariant_of-self-2 g c =
     let row = row_at c.in-Ok.place c.args.timer c.args.rounds in
     rw c.in-Ok.ensures.pushed (record {
       sound = pushed_in c.args.self.now.sound c.args.list row.0 row.1 c.requires.deadline c.requires.fresh c.requires.serial
@@ -21,7 +21,7 @@ invariant_of-self-2 c =
     })
 
 pub returns-clause-started : goal.returns-clause-started
-returns-clause-started c =
+returns-clause-started g c =
     let b = c.args.self.now in
     let row = row_at c.in-Ok.place c.args.timer c.args.rounds in
     rw (c.in-Ok.ensures.pushed, c.in-Ok.ensures.room) (ap (with_room b.links.room)
@@ -29,7 +29,7 @@ returns-clause-started c =
     ∙ with_room-held_start b.links.room row.0 c.args.timer (roomless_state b))
 
 pub returns-in_default-clause-full : goal.returns-in_default-clause-full
-returns-in_default-clause-full c =
+returns-in_default-clause-full g c =
     let b = c.args.self.now in
     omega (
       arith,

@@ -12,30 +12,30 @@ abbrev first_of_as : (first same : First) (ts : List Timer) → first ≡ same �
 first_of_as first same ts e h = subst (λ (f : First). IsFirstOf f ts) e h
 
 pub returns-in-InOrder-clause-found : goal.returns-in-InOrder-clause-found
-returns-in-InOrder-clause-found c h =
+returns-in-InOrder-clause-found g c h =
     let rows = list_at c.args.list c.args.links.now.lists in
     rw c.front_deadline.ensures (least_if_some _ (timers_in rows)
     (front_least c.in-InOrder.latest rows (first_of_as _ _ (timers_in rows) c.in-InOrder.is h)))
 
 pub returns-in-InOrder-clause-all : goal.returns-in-InOrder-clause-all
-returns-in-InOrder-clause-all c h =
+returns-in-InOrder-clause-all g c h =
     let rows = list_at c.args.list c.args.links.now.lists in
     rw c.front_deadline.ensures (front_least c.in-InOrder.latest rows (first_of_as _ _ (timers_in rows) c.in-InOrder.is h.first_of))
 
 pub returns-then-count-gt0-clause-found : goal.returns-then-count-gt0-clause-found
-returns-then-count-gt0-clause-found c h =
+returns-then-count-gt0-clause-found g c h =
     let ts = timers_in (list_at c.args.list c.args.links.now.lists) in
     counted_least c.in-Counted.count c.in-Counted.bound ts c.if-count-gt0.true (first_of_as _ _ ts c.in-Counted.is h)
 
 pub returns-then-count-gt0-clause-all : goal.returns-then-count-gt0-clause-all
-returns-then-count-gt0-clause-all c h = returns-then-count-gt0-clause-found c h.first_of
+returns-then-count-gt0-clause-all g c h = returns-then-count-gt0-clause-found g c h.first_of
 
 pub returns-then-eq-clause-found : goal.returns-then-eq-clause-found
-returns-then-eq-clause-found c h =
+returns-then-eq-clause-found g c h =
     let rows = list_at c.args.list c.args.links.now.lists in
     let same = ap (λ o. option_eq eqb o (Some c.in-Counted.bound)) (sym c.front_deadline-else-count-gt0.ensures) ∙ sym c.eq.ensures
     ∙ c.if-eq.true in
     at_front_least c.in-Counted.count c.in-Counted.bound rows same (first_of_as _ _ (timers_in rows) c.in-Counted.is h)
 
 pub returns-then-eq-clause-all : goal.returns-then-eq-clause-all
-returns-then-eq-clause-all c h = returns-then-eq-clause-found c h.first_of
+returns-then-eq-clause-all g c h = returns-then-eq-clause-found g c h.first_of

@@ -1,0 +1,73 @@
+//! What lists keep of a node: all of it, or the part that their wheel needs.
+//!
+//!     Node     40 bytes of a timer, and 8 of its rounds    for a hashed wheel
+//!     Timer    the 40 bytes                                for a hierarchy, which needs no rounds
+//!
+//! It stands for a whole node. So the contracts of `Links` name whole nodes, whatever is kept of them.
+ghost use Rattle.std.specs.Prelude.{◌≡◌, ⊤};
+ghost use Rattle.timer_links.specs.declared.node.Node.{Node};
+
+use crate::node::Node;
+use timer_base::Timer;
+
+/// What lists keep of each node.
+pub trait Kept: Copy {
+    /// The nodes that it can give back whole. Lists take no others.
+    ghost keeps: { Node → Type 0 };
+
+    /// The node that it stands for.
+    ghost node_of: { Self → Node };
+
+    /// What is kept of this node.
+    fn keep(node: Node) -> Self
+        requires { keeps node }
+        ensures { node_of result ≡ node };
+
+    /// The whole node.
+    fn node(&self) -> Node
+        ensures { result ≡ node_of self.now };
+
+    /// A clone is the same.
+    ghost cloned: { (kept copy : Self) → Self.is_clone kept copy → copy ≡ kept };
+}
+
+/// A node stands for itself.
+impl Kept for Node {
+    ghost keeps = { λ node. ⊤ };
+
+    ghost node_of = { λ node. node };
+
+    ghost cloned = { λ kept copy is. is };
+
+    #[inline(always)]
+    fn keep(node: Node) -> Node {
+        node
+    }
+
+    #[inline(always)]
+    fn node(&self) -> Node {
+        *self
+    }
+}
+
+/// The timer alone stands for a node without rounds.
+impl Kept for Timer {
+    ghost keeps = { λ node. node.rounds ≡ 0 };
+
+    ghost node_of = { λ timer. record { timer = timer; rounds = 0 } };
+
+    ghost cloned = { λ kept copy is. is };
+
+    #[inline(always)]
+    fn keep(node: Node) -> Timer {
+        node.timer
+    }
+
+    #[inline(always)]
+    fn node(&self) -> Node {
+        Node {
+            timer: *self,
+            rounds: 0,
+        }
+    }
+}
