@@ -6,8 +6,8 @@ use Rattle.timer_links.proofs.LinksCalls.{used, previous_key, read_node}
 use Rattle.timer_links.proofs.links.Links.previous.Goals as goal
 
 pub returns : goal.returns
-returns c l front node rest b e =
-    let h = opened c.self.inside c.args.self.now c.self.view_is c.self.invariant in
+returns g c l front node rest b e =
+    let h = opened g.N.Kept.node_of _ _ _ c.self.inside.nodes c.self.inside.neighbours c.args.self.now c.self.view_is c.self.invariant in
     let r = read_node _ _ _ _ h c.args.key c.self.inside.neighbours.items _ (used _ _ _ _ h c.args.key c.requires) refl c.index.ensures in
     c.key_at.ensures ∙ (ap (λ (x : Neighbours). key_of c.self.inside.lists x.before) r.is
     ∙ previous_key _ _ _ _ h c.args.key l front node rest b e)
