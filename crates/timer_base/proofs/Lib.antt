@@ -11,3 +11,4 @@ pub mod PlainHeld
 pub mod PlainSteps
 pub mod SortedTimers
 pub mod PlainWakeUps
+pub mod PlainNewest

@@ -91,7 +91,7 @@ pub trait Placement {
 
 impl Placement for PlainWheel {
     fn push_placement(&self, text: &mut Vec<u8>, filter: Filter) -> Result<(), OutOfMemory> {
-        let mut timers = self.list()?;
+        let mut timers = self.list_since(filter.least)?;
         keep(&mut timers, filter);
         if timers.is_empty() {
             return Ok(());
