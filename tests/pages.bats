@@ -34,9 +34,9 @@ other_option() {
 }
 
 @test "each option has the range and the default of facts/, takes both ends and the default, and refuses the numbers beside them" {
-    for command in play serve show threads; do
+    for command in play serve show threads check; do
         section=play
-        [ $command != threads ] || section=threads
+        case $command in threads | check) section=$command ;; esac
         diff <(help_numbers $command) <(tools/facts --options $section)
         while read -r option least most default; do
             [ -n "$default" ] || continue

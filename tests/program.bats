@@ -205,6 +205,12 @@ clock_row() {
     refused threads --timers 0
     refused threads --slots 8
     refused check --slots=8
+    refused check --why --scheme plain
+    refused check --why=1
+    refused check --why --clients 0
+    refused check --first-tick -1
+    refused play --why
+    refused serve --why
     refused check x
     refused pause
     refused --scheme plain
@@ -225,6 +231,8 @@ clock_row() {
         'start {MAX_CLIENTS-1} 1 1 0\n' 'refused {MAX_CLIENTS-1} 1 {TooLate}\nend {LAST} 0\n'
     gives 0 "serve --wakeups" 'start 0 1 11 7\ntick 11\n' \
         'started 0 1 1 11\nwakeup 11\nexpired 11 0 1 7\nwakeup never\nend 11 0\n'
+    gives "{BAD}" "check --why --clients=1 --capacity=1 --first-tick=9" 'start 0 1 5 0\nstart 0 2 5 0\ntick 5\nstop 1 1 1\nstop 0 3 2\nstop 0 4 1\n' \
+        'line 5: {NoSuch}: timer 2 had not been started\nline 6: {NoSuch}: timer 1 expired at tick 14\n'
     gives 0 "show --moves" 'start 0 1 65 7\ntick 65\n' "$(printf %s 'started 0 1 1 65\n  now 0\n  wheel 1 slot 1: 1\n' \
         '  moved at 64 from wheel 1 slot 1 to wheel 0 slot 1: 1\nexpired 65 0 1 7\n  now 65\nend 65 0\n')"
 }
@@ -449,6 +457,31 @@ shown() { gives 0 "show $1" "$2" "$(printf '%s\\n' "${@:3}")"; }
     gives 1 "check" 'close\ntick 0\nclose\n' "line 2, column 6: $reason\n"
 }
 
+@test "check --why tells 20,000 ends of timers apart" {
+    local count=20000
+    awk -v count=$count 'BEGIN {
+        for (i = 1; i <= count; i++) print "start 0 " i " 1 7"
+        print "tick 1"
+        for (i = 1; i <= count; i++) {
+            print "stop 0 " count + i " " i
+            print "line " count + 1 + i ": {NoSuch}: timer " i " expired at tick 1" > "wanted"
+        }
+    }' > input
+    leaves "{BAD}" "check --why --capacity $count" "$(put_names < wanted)\n" ""
+    awk -v count=$count 'BEGIN {
+        for (i = 1; i <= count; i++) { print "start 0 " 2 * i - 1 " 9 7"; print "stop 0 " 2 * i " " i }
+        print "stop 0 " 2 * count + 1 " " count / 2
+    }' > input
+    leaves "{BAD}" "check --why" "line $((2 * count + 1)): {NoSuch}: timer $((count / 2)) was stopped by line $count\n" ""
+}
+
+@test "check --why reads no more than a script may have" {
+    local most
+    most=$("$BATS_TEST_DIRNAME/../tools/facts" MAX_SCRIPT)
+    { yes 'stop 0 1 1' || true; } | head -c $((most + 1)) > input
+    leaves "{CHECK_FAILED}" "check --why" "" "{TooLong}\n"
+}
+
 @test "check names the first byte with which no line begins" {
     command -v python3 > /dev/null || skip "no python3"
     python3 -B "$BATS_TEST_DIRNAME/columns.py" "$TIMERS"
@@ -494,7 +527,7 @@ help_of() {
     called serve " [OPTIONS] < FILE"
     called show " [OPTIONS] < FILE"
     called threads " [OPTIONS]"
-    called check " < FILE"
+    called check " [OPTIONS] < FILE"
 }
 
 @test "help and version are whole where they are asked for, and a full output is told" {

@@ -11,6 +11,7 @@ use Rattle.timer_facility.specs.Opened.{opened}
 use Rattle.timer_script.specs.declared.cutter.OnBadLine.TheVariants.{Stop}
 use Rattle.timer_script.specs.ScriptRun.{HasRun}
 use Rattle.timer_script.specs.ScriptReport.{HasChecked}
+use Rattle.timer_script.specs.Explanation.{HasExplained}
 use Rattle.timer_script.specs.Decorator.{Decoration, AddsNothing}
 use Rattle.timer_script.specs.Service.{HasServed, server_with}
 use Rattle.timer_script.specs.Streams.{Known, streams_state}
@@ -102,3 +103,18 @@ pub record HasCheckedScript {R S : Type 0} (known : Known R S) (old new : Stream
   pub good : status ≡ 0 → HasChecked known old new (Ok 0)
   pub bad : status ≡ 1 → (lines : ℕ) × (1 ≤ lines) × HasChecked known old new (Ok lines)
   pub failed : status ≡ 2 → (fault : CheckFault) × HasChecked known old new (Err fault)
+
+-- a script was explained from a state on: 0: no line is bad, no stop or restart found no timer, and nothing was written;
+-- 1: some line is bad, or some stop or restart found no timer, and the whole text was written; 2: explaining failed
+pub record HasExplainedOver {R S : Type 0} (before : FacilityState) (known : Known R S) (old new : Streams R S)
+    (status : ℕ) : Type 0 where
+  pub in_range : status ≤ 2
+  pub good : status ≡ 0 → HasExplained before known old new (Ok false)
+  pub found : status ≡ 1 → HasExplained before known old new (Ok true)
+  pub failed : status ≡ 2 → (fault : CheckFault) × HasExplained before known old new (Err fault)
+
+-- that was done from the state of the options on, or the options are refused and the streams are untouched
+abbrev pub HasExplainedScript : {R S : Type 0} → RunOptions → Known R S → (old new : Streams R S) → ℕ → Type 0
+HasExplainedScript options known old new status =
+    (IsPlayable options × HasExplainedOver (opened_by options) known old new status)
+    ⊎ (((fault : OptionsFault) × IsRefused fault options) × (new ≡ old) × (status ≡ 2))

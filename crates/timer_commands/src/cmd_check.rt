@@ -1,11 +1,19 @@
-//! The subcommand `check`: each bad line of a script is reported, and nothing is played.
-ghost use Rattle.std.specs.Prelude.{◌≡◌, false};
-ghost use Rattle.timer_commands.specs.Subcommands.{HasCheckedScript};
+//! The subcommand `check`: each bad line of a script is reported. With `--why` a script without one is played, and a line
+//! says of each stop or restart that found no timer what became of it.
+ghost use Rattle.std.specs.Prelude.{◌≡◌, [], false};
+ghost use Rattle.timer_commands.specs.declared.options.Scheme.TheVariants.{Hier};
+ghost use Rattle.timer_commands.specs.Options.{config_of, over_hierarchy, IsPlayable};
+ghost use Rattle.timer_commands.specs.Subcommands.{HasCheckedScript, HasExplainedOver, HasExplainedScript, opened_by};
 ghost use Rattle.timer_script.specs.Watched.{has_failed};
 
+use crate::options::{RunOptions, WhyOptions};
 use std::alloc::Global;
+use std::fmt::Display;
 use std::io::{Read, Write};
-use timer_script::{Streams, check};
+use timer_base::Wheel;
+use timer_facility::{Checked, Facility};
+use timer_script::{Streams, check, explain};
+use timer_wheels::{HierWheel, Table};
 
 /// Reports the bad lines of the script of the reader, and returns the exit status.
 ///
@@ -23,9 +31,86 @@ pub fn check_script<R: Read, W: Write, F: Write>(
 {
     match check(alloc, &mut streams.reader, &mut streams.writer) {
         Ok(bad) => { if bad == 0 { 0 } else { 1 } }
-        Err(fault) => {
-            let _ = writeln!(faults, "{fault}");
-            2
-        }
+        Err(fault) => report_failure(fault, faults),
+    }
+}
+
+/// Reports an error in one line, and returns its exit status. An error in reporting it is ignored.
+fn report_failure<F: Write>(fault: impl Display + Drop, faults: &mut F) -> u8
+    ensures { result ≡ 2 }
+{
+    let _ = writeln!(faults, "{fault}");
+    2
+}
+
+/// Plays the script of the reader on a facility of these options, and writes a line for each stop or restart that is
+/// refused as `no-such`: what became of the timer. If the script has bad lines, it reports those, as `check_script`, and
+/// plays nothing. Returns the exit status.
+///
+/// 0: nothing is written, since no line is bad and none is refused so. 1: a line was written. 2: an error of input or
+/// output, or out of memory; or the options are refused, and the streams are untouched. It is reported in one line on
+/// `faults`.
+pub fn explain_script<R: Read, W: Write, F: Write>(
+    alloc: Global,
+    options: WhyOptions,
+    streams: &mut Streams<R, W>,
+    faults: &mut F,
+) -> u8
+    requires reader_good { has_failed streams.old.reader ≡ false }
+    requires writer_good { has_failed streams.old.writer ≡ false }
+    ensures { HasExplainedScript (over_hierarchy options) (record { remaining = R.remaining; contents = W.contents })
+        streams.old streams.new result }
+{
+    let options = options.over_hierarchy();
+    match options.check() {
+        Ok(checked) => explain_with(alloc, options, checked, streams, faults),
+        Err(fault) => report_failure(fault, faults),
+    }
+}
+
+/// Explains the script over a new hierarchy of wheels.
+fn explain_with<R: Read, W: Write, F: Write>(
+    alloc: Global,
+    options: RunOptions,
+    checked: Checked,
+    streams: &mut Streams<R, W>,
+    faults: &mut F,
+) -> u8
+    requires scheme { options.scheme ≡ Hier }
+    requires playable { IsPlayable options }
+    requires config { checked ≡ config_of options }
+    requires reader_good { has_failed streams.old.reader ≡ false }
+    requires writer_good { has_failed streams.old.writer ≡ false }
+    ensures { HasExplainedOver (opened_by options) (record { remaining = R.remaining; contents = W.contents })
+        streams.old streams.new result }
+{
+    match HierWheel::with_table(alloc, Table::Wide, options.first_tick) {
+        Ok(wheel) => explain_over(
+            alloc,
+            Facility::open(alloc, checked, wheel),
+            streams,
+            faults,
+        ),
+        Err(fault) => report_failure(fault, faults),
+    }
+}
+
+/// Explains the script on this facility.
+fn explain_over<R: Read, S: Write, F: Write, W: Wheel + Drop>(
+    alloc: Global,
+    facility: Facility<W>,
+    streams: &mut Streams<R, S>,
+    faults: &mut F,
+) -> u8
+    requires reader_good { has_failed streams.old.reader ≡ false }
+    requires writer_good { has_failed streams.old.writer ≡ false }
+    requires pending { facility.state.pending ≡ [] }
+    requires waiting { facility.waiting ≡ [] }
+    ensures { HasExplainedOver facility.state (record { remaining = R.remaining; contents = S.contents })
+        streams.old streams.new result }
+{
+    match explain(alloc, &mut streams.reader, &mut streams.writer, facility) {
+        Ok(wrote) => { if wrote { 1 } else { 0 } }
+        Err(fault) => report_failure(fault, faults),
     }
 }

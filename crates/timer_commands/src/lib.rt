@@ -23,10 +23,10 @@ mod shows;
 mod threads_options;
 mod verbs;
 
-pub use cmd_check::check_script;
+pub use cmd_check::{check_script, explain_script};
 pub use cmd_threads::{end_clients, run_clients};
 pub use error_report::report;
-pub use options::{OptionsFault, RunOptions, Scheme};
+pub use options::{OptionsFault, RunOptions, Scheme, WhyOptions};
 pub use schemes::run_verb;
 pub use shows::Shows;
 pub use threads_options::ThreadsOptions;

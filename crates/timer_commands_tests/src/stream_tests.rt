@@ -27,7 +27,7 @@ static FAULTS: [Fault; 3] = [
 type Row = (Reading, &'static str, u8, &'static str, &'static str);
 
 /// Scripts without a bad line, and with some.
-static ROWS: [Row; 12] = [
+static ROWS: [Row; 15] = [
     (Reading::Play, MIGRATION, 0, MIGRATION_TEXT, ""),
     (Reading::Play, "close\ntick 0\n", 1, "", "bad line 2\n"),
     (Reading::Serve, MIGRATION, 0, MIGRATION_TEXT, ""),
@@ -89,6 +89,21 @@ static ROWS: [Row; 12] = [
         "line 1, column 6: count: {OutOfTicks}\nline 3, column 6: {NoLineEnd}\n",
         "",
     ),
+    (
+        Reading::Why,
+        "start 0 1 5 7\ntick 5\nstop 0 2 1\nclose\nstop 0 3 1\n",
+        1,
+        "line 3: no-such: timer 1 expired at tick 5\n",
+        "",
+    ),
+    (Reading::Why, "start 0 1 5 7\nstop 0 2 1\n", 0, "", ""),
+    (
+        Reading::Why,
+        "stop 0 1 1\ntick 0\n",
+        1,
+        "line 2, column 6: count: {OutOfTicks}\n",
+        "",
+    ),
 ];
 
 #[test]
@@ -127,7 +142,7 @@ fn read_fails(
 }
 
 /// What has come before the read fails: a part of a line, some lines, all of them.
-static FAILED_READS: [(usize, Row); 7] = [
+static FAILED_READS: [(usize, Row); 9] = [
     (3, (Reading::Serve, MIGRATION, 1, "", "read failed\n")),
     (
         16,
@@ -171,6 +186,8 @@ static FAILED_READS: [(usize, Row); 7] = [
     ),
     (3, (Reading::Check, "tick 0\n", 2, "", "read failed\n")),
     (7, (Reading::Check, "tick 0\n", 2, "", "read failed\n")),
+    (3, (Reading::Why, "stop 0 1 1\n", 2, "", "read failed\n")),
+    (11, (Reading::Why, "stop 0 1 1\n", 2, "", "read failed\n")),
 ];
 
 #[test]
@@ -201,7 +218,7 @@ fn write_fails(
         let source = Source::of(script.as_bytes()).in_pieces(7);
         let ended = call(alloc, subcommand, source, sink);
         let status = match subcommand {
-            Reading::Check => 2,
+            Reading::Check | Reading::Why => 2,
             _ => 1,
         };
         has_left(rt, room, &ended, status, front, b"write failed\n");
@@ -221,6 +238,12 @@ fn a_writer_that_fails_once_at_any_byte_ends_the_call(rt: HostRuntime) {
         (Reading::Serve, MIGRATION, 5, MIGRATION_TEXT),
         (Reading::Show, "start 0 1 5 0\ntick 5\n", 5, shown),
         (Reading::Check, "tick 0\n", 5, checked.as_str()),
+        (
+            Reading::Why,
+            "stop 0 1 1\n",
+            5,
+            "line 1: no-such: timer 1 had not been started\n",
+        ),
     ] {
         let text = text.as_bytes();
         for room in 0..text.len() {

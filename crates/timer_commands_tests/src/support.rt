@@ -4,7 +4,9 @@ use std::fmt::Debug;
 use std::io;
 use std::io::{ErrorKind, Read, Write};
 use std::process::Abort;
-use timer_commands::{RunOptions, Scheme, Shows, Verb, check_script, run_verb};
+use timer_commands::{
+    RunOptions, Scheme, Shows, Verb, WhyOptions, check_script, explain_script, run_verb,
+};
 use timer_facility::MAX_CLIENTS;
 use timer_script::{LineReason, OnBadLine, Streams, Watched};
 
@@ -208,7 +210,15 @@ pub enum Reading {
     ServeWakeups,
     Show,
     Check,
+    Why,
 }
+
+/// The options of `check --why` that are those of `USUAL`.
+const USUAL_WHY: WhyOptions = WhyOptions {
+    clients: USUAL.clients,
+    capacity: USUAL.capacity,
+    first_tick: USUAL.first_tick,
+};
 
 /// What a subcommand left.
 #[derive(Drop)]
@@ -239,7 +249,7 @@ pub fn call(alloc: Global, subcommand: Reading, source: Source, sink: Sink) -> E
             wakeups: true,
         }),
         Reading::Show => Some(Verb::Show(ALL_TIMERS)),
-        Reading::Check => None,
+        Reading::Check | Reading::Why => None,
     };
     let options = match subcommand {
         Reading::PlayBy(scheme) => RunOptions { scheme, ..USUAL },
@@ -247,7 +257,10 @@ pub fn call(alloc: Global, subcommand: Reading, source: Source, sink: Sink) -> E
     };
     let status = match verb {
         Some(verb) => run_verb(alloc, verb, options, &mut streams, &mut faults),
-        None => check_script(alloc, &mut streams, &mut faults),
+        None => match subcommand {
+            Reading::Why => explain_script(alloc, USUAL_WHY, &mut streams, &mut faults),
+            _ => check_script(alloc, &mut streams, &mut faults),
+        },
     };
     let Streams { reader, writer } = streams;
     let reader_failed = reader.failed();

@@ -7,7 +7,8 @@ use Rattle.clap.specs.declared.error.kind.ErrorKind.{ErrorKind}
 use Rattle.clap.specs.declared.error.kind.ErrorKind.TheVariants as kinds
 use Rattle.timer_script.specs.declared.watched.Watched.{Watched}
 use Rattle.timer_script.specs.Watched.{inner_of, has_failed}
-use Rattle.timer_commands.specs.Subcommands.{Bytes, Channels, HasEnded, HasCheckedScript}
+use Rattle.timer_commands.specs.Subcommands.{Bytes, Channels, HasEnded, HasCheckedScript, HasExplainedScript}
+use Rattle.timer_commands.specs.Options.{over_hierarchy}
 use Rattle.timer_commands.specs.Clients.{HasRunClients}
 use Rattle.timer_program.specs.declared.arguments.Subcommand.{Subcommand}
 use Rattle.timer_program.specs.declared.arguments.Subcommand.TheVariants as calls
@@ -29,8 +30,8 @@ pub record HasNotPlayed {S : Type 0} (kind : ErrorKind) (contents : S → Option
   pub refused : status ≡ 2 → (kind ≢ kinds.OutOfMemory) × ((¬ (IsShown kind)) × (writer' ≡ writer))
 
 -- What was done for arguments that were read as this: a script was played, or lines were answered; or clients
--- ran and nothing was read; or a script was checked. If they are read as none of these, nothing but a text was
--- written.
+-- ran and nothing was read; or a script was checked or explained. If they are read as none of these, nothing but a
+-- text was written.
 abbrev pub HasCalled : {R S F : Type 0} → Result Subcommand Error → Bytes R S F → (old new : Channels R S F)
     → ℕ → Type 0
 HasCalled (Ok (calls.Run verb options)) bytes old new status = HasEnded verb options bytes old new status
@@ -38,6 +39,8 @@ HasCalled (Ok (calls.Threads options)) bytes old new status =
     (new.streams.reader ≡ old.streams.reader)
     × HasRunClients options bytes.contents bytes.reports old.streams.writer new.streams.writer old.faults new.faults status
 HasCalled (Ok calls.Check) bytes old new status = HasCheckedScript
+    (record { remaining = bytes.remaining; contents = bytes.contents }) old.streams new.streams status
+HasCalled (Ok (calls.Explain options)) bytes old new status = HasExplainedScript (over_hierarchy options)
     (record { remaining = bytes.remaining; contents = bytes.contents }) old.streams new.streams status
 HasCalled (Err error) bytes old new status =
     (new.streams.reader ≡ old.streams.reader)

@@ -11,7 +11,7 @@ use std::alloc::Global;
 use std::convert::AsStr;
 use std::io::{Read, Write};
 use std::thread::Threads;
-use timer_commands::{check_script, report, run_clients, run_verb};
+use timer_commands::{check_script, explain_script, report, run_clients, run_verb};
 use timer_script::{ScriptFault, Streams, Watched, write_text};
 
 /// Runs the program on the arguments after its name, and returns its exit status.
@@ -19,7 +19,7 @@ use timer_script::{ScriptFault, Streams, Watched, write_text};
 /// 0: the subcommand reached its end, and its text was written; or help or the version, as was asked for.
 ///
 /// 1: an error, reported in one line on `faults`. Or a checked script has a bad line, and each is reported on
-/// standard output. Or a stream that is served past bad lines has one, and each is reported on `faults`.
+/// standard output; or a stop or a restart of an explained one found no timer, and each is. Or a stream that is served past bad lines has one, and each is reported on `faults`.
 ///
 /// 2: the arguments are refused, and `faults` gets the reason. The streams are untouched. Or a script could
 /// not be checked, which is reported in one line on `faults`.
@@ -66,6 +66,7 @@ fn run_subcommand<T: AllocGlobal + Threads, R: Read, W: Write, F: Write>(
             run_clients(rt, alloc, options, &mut streams.writer, faults)
         }
         Ok(Subcommand::Check) => check_script(alloc, streams, faults),
+        Ok(Subcommand::Explain(options)) => explain_script(alloc, options, streams, faults),
         Err(error) => end_unplayed(alloc, &error, &mut streams.writer, faults),
     }
 }

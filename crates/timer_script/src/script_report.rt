@@ -18,7 +18,7 @@ use std::io::{Read, Write};
 use timer_base::OutOfMemory;
 
 /// Adds a number in decimal.
-fn push_decimal(text: &mut Vec<u8>, n: u64) -> Result<(), OutOfMemory>
+pub fn push_decimal(text: &mut Vec<u8>, n: u64) -> Result<(), OutOfMemory>
     ensures { OnOk result (text.new.items ≡ text.old.items ++ decimal n) }
 {
     let mut buffer = Buffer::new();
@@ -53,7 +53,7 @@ pub fn push_fault(text: &mut Vec<u8>, n: u64, fault: LineFault) -> Result<(), Ou
 }
 
 /// The report of a script, and how many of its lines are bad.
-fn report_of(alloc: Global, script: &[u8]) -> Result<(Vec<u8>, u64), OutOfMemory>
+pub fn report_of(alloc: Global, script: &[u8]) -> Result<(Vec<u8>, u64), OutOfMemory>
     ensures { IfOk result (λ r. IsReport script.now r.0.items r.1) }
 {
     let mut text = Vec::new(alloc);
