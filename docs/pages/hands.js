@@ -146,12 +146,12 @@ function renderAim() {
   cards.get(wheel)?.aim(words.scheme === "plain" ? null : slot);
 }
 
-// A button has room for a word or two and, if that is short, for what it is about. The whole of what it does is its name.
+// A button has room for a word or two and, if that is short, for what it is about. That is its name, so that a reader who
+// speaks can say what is seen. Its title describes the whole of what it does.
 function name(id, said, whole, about = shown.followed) {
   const label = `${said} ${about}`;
   $(id).textContent = whole && label.length <= MOST_LABEL ? label : said;
   $(id).title = whole || said;
-  $(id).setAttribute("aria-label", whole || said);
 }
 
 function renderHands() {

@@ -62,7 +62,8 @@ function digitTable(timer, now) {
   const head = make("tr", {}, make(isHier ? "th" : "td", isHier ? {scope: "row"} : {}, isHier ? "wheel" : ""), ...names);
   const deadline = digitRow(`deadline ${timer.deadline}`, timer.deadline, level);
   const body = make("tbody", {}, digitRow(`now ${now}`, now, level), deadline);
-  return make("div", {class: "scroll"}, make("table", {class: "digits"}, make("thead", {}, head), body));
+  return make("div", {class: "scroll", role: "group", "aria-label": "Digits of now and of the deadline", "data-focus": "digits"},
+      make("table", {class: "digits"}, make("thead", {}, head), body));
 }
 
 function historyRow(event, step) {
@@ -105,6 +106,15 @@ function renderFollowed(step) {
         timer.from > step ? "It has not been started yet." : "It is no longer pending."));
   parts.push(eventsOf(timer, step));
   $("followed").replaceChildren(...parts);
+}
+
+// What scrolls and has nothing in it that takes the focus is a stop of the Tab key itself, so that a keyboard scrolls it.
+function setStops() {
+  for (const node of document.querySelectorAll("#news, .scroll, .buckets")) {
+    const isCut = node.scrollHeight > node.clientHeight || node.scrollWidth > node.clientWidth;
+    const tabIndex = isCut && !node.querySelector("button") ? 0 : -1;
+    if (node.tabIndex !== tabIndex || !node.hasAttribute("tabindex")) node.tabIndex = tabIndex;
+  }
 }
 
 // The present event of the followed timer is brought into sight where its history scrolls by itself. The form stays above
@@ -202,6 +212,7 @@ function renderStep(step) {
   for (const card of shown.isCompared ? [] : cards.values()) card.reveal();
   lines.reveal();
   showEvent();
+  setStops();
   if (step !== from) showStep(step);
   renderArrows(step === from + 1 && !calm.matches);
 }
@@ -466,7 +477,10 @@ function listen() {
     window.scrollTo({top: 0, behavior: "instant"});
     loadLink();
   });
-  window.addEventListener("resize", () => renderArrows(false));
+  window.addEventListener("resize", () => {
+    setStops();
+    renderArrows(false);
+  });
   listenToHands();
 }
 
