@@ -359,11 +359,14 @@ class Play {
   }
 
   // Where a timer would stand that is started now for this deadline, as the program names it, or why it would be refused.
+  // The latest answer is kept, since it is asked for at each step.
   placeFor(now, deadline) {
+    if (this.aimed?.now === now && this.aimed.deadline === deadline) return this.aimed;
     const rows = rowsOf(this.askedAt(now, [`start 0 1 ${deadline - now} 0`]));
     if (rows[0].startsWith("refused")) return {reason: rows[0]};
     const name = rows[2].slice(2, rows[2].indexOf(": "));
-    return {name, key: this.scheme.key(name)};
+    this.aimed = {now, deadline, name, key: this.scheme.key(name)};
+    return this.aimed;
   }
 
   whereIs(serial, step) { return this.standing(serial, step)?.key ?? null; }

@@ -173,7 +173,7 @@ function renderArrows(travels) {
 }
 
 // What can't be done now stays where the Tab key finds it, so that the focus isn't lost.
-function setOff(id, isOff) { $(id).setAttribute("aria-disabled", String(isOff)); }
+function setOff(id, isOff) { change($(id), "aria-disabled", isOff); }
 
 function isOff(id) { return $(id).getAttribute("aria-disabled") === "true"; }
 
@@ -192,11 +192,11 @@ function renderStep(step) {
   const from = shown.step;
   shown.step = step;
   document.body.classList.toggle("is-jump", Math.abs(step - from) > 1);
-  $("now").textContent = String(play.now(step));
-  $("face").textContent = words.face(play.now(step));
+  say($("now"), String(play.now(step)));
+  say($("face"), words.face(play.now(step)));
   $("news").replaceChildren(...newsOf(step));
-  $("count").textContent = `${renderCards(play, cards, step, shown.followed)} pending`;
-  $("looks").textContent = play.timers.size > MAX_COUNTED ? "" : `${timersCounted(play.looks(step))} looked at so far`;
+  say($("count"), `${renderCards(play, cards, step, shown.followed)} pending`);
+  say($("looks"), play.timers.size > MAX_COUNTED ? "" : `${timersCounted(play.looks(step))} looked at so far`);
   if (shown.isCompared) comparison.render(play, step, shown.followed, actsOf);
   lines.render(step);
   if (step !== from) closeHelp();
