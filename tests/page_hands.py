@@ -258,6 +258,12 @@ def by_keyboard(reader):
         had = reader.tab.value("focused()")
         reader.keys(Keys.ENTER)
         reader.expect(f"the focus after Enter at {selector}", reader.tab.value("focused()"), had)
+    reader.open(900, 700, "#lesson=shown_clock")
+    for selector, name in (("#news", "news"), (".scroll", "digits")):
+        reader.tab.run(f"go(2); document.querySelector('{selector}').focus()")
+        reader.keys(Keys.ARROW_RIGHT)
+        reader.expect(f"the focus after a step from {selector}", reader.tab.value("[focused(), shown.step]"), [name, 3])
+    reader.open(link="#lesson=shown_rounds&step=3", keep=True)
     reader.tab.run("go(play.last - 1); document.querySelector('#next').focus()")
     reader.keys(Keys.ENTER, Keys.ENTER)
     reader.expect("the focus at the end", reader.tab.value("focused()"), "next")
@@ -282,6 +288,7 @@ def accessible(reader):
                 reader.expect(f"too faint, {where}", reader.tab.value("faint()"), [])
                 reader.expect(f"misused, {where}", reader.tab.value("misused()"), [])
                 reader.expect(f"without a name, {where}", reader.tab.value("unnamed()"), 0)
+                reader.expect(f"stops of the Tab key, {where}", reader.tab.value("needless()"), [])
                 reader.expect(f"wider than the screen, {where}",
                               reader.tab.value("document.documentElement.scrollWidth > window.innerWidth"), False)
             reader.tab.run("document.querySelector('#compare').click()")
