@@ -16,6 +16,11 @@ SPOKEN = ["trouble alert", "news polite"]
 CALM = "document.querySelector('#news').getAttribute('aria-live')"
 FIRST = ["#play", "#lesson=shown_migration", "#lesson=shown_carry", "#lesson=shown_rounds", "#lesson=shown_clock", "theme",
          "deadline", "interval"]
+LIGHTHOUSE = ("identical-links-same-purpose", "label-content-name-mismatch", "table-fake-caption", "target-size", "td-has-header")
+FINDINGS = "({violations}) => violations.map(({id, nodes}) => `${id}: ${nodes.map(({target}) => target.join(' ')).join(', ')}`)"
+MIXED = "#scheme=7&script=start+0+1+4161+1;start+0+2+5+1;stop+0+9+1;tick+4161;bad"
+LOOKED_AT = ("#lesson=shown_carry", "#lesson=shown_rounds&step=6", "#lesson=shown_clock&step=2", f"{MIXED}&step=7",
+             f"{MIXED}&step=4&compare")
 
 
 class Reader:
@@ -253,6 +258,12 @@ def by_keyboard(reader):
         had = reader.tab.value("focused()")
         reader.keys(Keys.ENTER)
         reader.expect(f"the focus after Enter at {selector}", reader.tab.value("focused()"), had)
+    reader.open(900, 700, "#lesson=shown_clock")
+    for selector, name in (("#news", "news"), (".scroll", "digits")):
+        reader.tab.run(f"go(2); document.querySelector('{selector}').focus()")
+        reader.keys(Keys.ARROW_RIGHT)
+        reader.expect(f"the focus after a step from {selector}", reader.tab.value("[focused(), shown.step]"), [name, 3])
+    reader.open(link="#lesson=shown_rounds&step=3", keep=True)
     reader.tab.run("go(play.last - 1); document.querySelector('#next').focus()")
     reader.keys(Keys.ENTER, Keys.ENTER)
     reader.expect("the focus at the end", reader.tab.value("focused()"), "next")
@@ -277,6 +288,7 @@ def accessible(reader):
                 reader.expect(f"too faint, {where}", reader.tab.value("faint()"), [])
                 reader.expect(f"misused, {where}", reader.tab.value("misused()"), [])
                 reader.expect(f"without a name, {where}", reader.tab.value("unnamed()"), 0)
+                reader.expect(f"stops of the Tab key, {where}", reader.tab.value("needless()"), [])
                 reader.expect(f"wider than the screen, {where}",
                               reader.tab.value("document.documentElement.scrollWidth > window.innerWidth"), False)
             reader.tab.run("document.querySelector('#compare').click()")
@@ -286,6 +298,21 @@ def accessible(reader):
     reader.expect("what is spoken while it plays", reader.tab.value(CALM), "off")
     reader.tab.run("document.querySelector('#play').click()")
     reader.expect("and then", reader.tab.value(CALM), "polite")
+
+
+def by_axe(reader, source):
+    """axe-core finds nothing, also by the rules that Lighthouse adds. In the dark only colours differ."""
+    further = {rule: {"enabled": True} for rule in LIGHTHOUSE}
+    how = {"light": {"rules": further}, "dark": {"runOnly": ["color-contrast"]}}
+    for width, height in WIDTHS:
+        reader.open(width, height)
+        reader.tab.run(source)
+        for link in LOOKED_AT:
+            reader.tab.run(f"history.replaceState(null, '', '{link}'); loadLink()")
+            for theme, options in how.items():
+                reader.tab.run(f"setTheme('{theme}')")
+                look = f"axe.run(document, {json.dumps({'resultTypes': ['violations'], 'preload': False, **options})})"
+                reader.expect(f"{link} at {width} pixels, {theme}", reader.tab.value(f"{look}.then({FINDINGS})"), [])
 
 
 def arrows(reader):

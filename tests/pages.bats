@@ -63,11 +63,13 @@ script_status() { run -"$1" timers <<< "$2"; }
 
 # Runs the examples of a text: a line '$ COMMAND' after spaces, and the lines below it up to an empty one or one that is
 # indented less. What follows three spaces in a line is a remark. If the command has no input of its own, the lines that
-# are events are its input. There has to be one.
+# are events are its input. There has to be one. A command whose line ends with a backslash goes on in the next line.
 run_examples() {
     local count=0 line="" command="" indent="" input=$BATS_TEST_TMPDIR/input wanted=$BATS_TEST_TMPDIR/wanted
     while IFS= read -r line; do
-        if [ -z "$command" ] && [[ $line =~ ^(\ *)\$\ (.*timers.*)$ ]]; then
+        if [[ $command == *\\ ]]; then
+            command=${command%\\}$line
+        elif [ -z "$command" ] && [[ $line =~ ^(\ *)\$\ (.*timers.*)$ ]]; then
             indent=${BASH_REMATCH[1]}
             command=${BASH_REMATCH[2]//.\/timers/timers}
             : > "$input"

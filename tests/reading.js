@@ -102,6 +102,10 @@
       .map((node) => `${node.getAttribute("class")} is not all on the screen`)
       .concat(news.scrollHeight > news.clientHeight ? ["what is said is cut"] : []);
   };
+  // What scrolls without a stop of the Tab key, or has a stop and doesn't scroll.
+  window.needless = () => [...document.querySelectorAll("#news, .scroll")]
+    .filter((node) => (node.tabIndex === 0) !== (node.scrollHeight > node.clientHeight || node.scrollWidth > node.clientWidth))
+    .map((node) => node.className);
   // What can't be brought on the screen by scrolling.
   window.unreached = () => ["#legend", "#intro summary", "#followed", "#lines"].filter((name) => {
     const node = document.querySelector(name);

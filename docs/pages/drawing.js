@@ -28,6 +28,26 @@ function make(tag, attributes, ...children) {
   return made;
 }
 
+// Gives an element these children. Those that are there stay, since one that is put in again is laid out again.
+function fillWith(element, children) {
+  const wanted = new Set(children);
+  for (const child of [...element.children])
+    if (!wanted.has(child)) child.remove();
+  let next = element.firstChild;
+  for (const child of children)
+    if (child === next) next = next.nextSibling;
+    else element.insertBefore(child, next);
+}
+
+// Sets an attribute or a text that is another one.
+function change(element, name, value) {
+  if (element.getAttribute(name) !== String(value)) element.setAttribute(name, value);
+}
+
+function say(element, text) {
+  if (element.textContent !== text) element.textContent = text;
+}
+
 function point(turn, radius) {
   const angle = 2 * Math.PI * turn - Math.PI / 2;
   return [radius * Math.cos(angle), radius * Math.sin(angle)];
@@ -133,7 +153,9 @@ class WheelCard {
   }
 
   // The slot to which a timer would go.
-  aim(slot) { this.aimed?.setAttribute("d", slot === null ? "" : this.segment(slot)); }
+  aim(slot) {
+    if (this.aimed) change(this.aimed, "d", slot === null ? "" : this.segment(slot));
+  }
 
   // Where a slot is on the screen: the middle of its ring, the scale, and the turn at which the slot is. Arrows end at the
   // radius `end`, outside of the slot's number, and go round the ring at the radius `corridor`, outside of all numbers.
@@ -176,6 +198,8 @@ class WheelCard {
       });
       if (isFree) put.push(label);
     }
+    if (this.scaled === String(put)) return;
+    this.scaled = String(put);
     this.scale.replaceChildren(...put.map(([slot, kind]) => this.scaleLabel(slot, kind, slots)));
   }
 
@@ -194,23 +218,23 @@ class WheelCard {
   renderRing(held, chosen, left, now) {
     const {slots, name, ticks} = this.play.wheels[this.wheel];
     this.digitNow = digitsOf(this.play.wheels, now)[this.wheel];
-    this.held.setAttribute("d", held.map(([slot]) => (slot === chosen ? "" : this.segment(slot))).join(""));
-    this.chosen.setAttribute("d", chosen === null ? "" : this.segment(chosen));
-    this.left.setAttribute("d", [...left.keys()].map((slot) => this.segment(slot)).join(""));
+    change(this.held, "d", held.map(([slot]) => (slot === chosen ? "" : this.segment(slot))).join(""));
+    change(this.chosen, "d", chosen === null ? "" : this.segment(chosen));
+    change(this.left, "d", [...left.keys()].map((slot) => this.segment(slot)).join(""));
     this.digit.classList.toggle("is-long", this.digitNow > 99);
     this.turnTo(now);
     this.point();
     const does = ticks === 1n ? "each tick" : `each ${ticks} ticks`;
-    this.grip.setAttribute("aria-label", `Hand of ${name}, a slot ${does}: right arrow passes ticks up to the next slot`);
-    this.grip.setAttribute("aria-valuenow", this.digitNow);
-    this.grip.setAttribute("aria-valuetext", `slot ${this.digitNow}`);
-    this.svg.setAttribute("aria-label", `${upper(name)}: the hand is at slot ${this.digitNow}, ${held.length} slot${
+    change(this.grip, "aria-label", `Hand of ${name}, a slot ${does}: right arrow passes ticks up to the next slot`);
+    change(this.grip, "aria-valuenow", this.digitNow);
+    change(this.grip, "aria-valuetext", `slot ${this.digitNow}`);
+    change(this.svg, "aria-label", `${upper(name)}: the hand is at slot ${this.digitNow}, ${held.length} slot${
         held.length === 1 ? " has" : "s have"} timers`);
   }
 
   point() {
     const {slots} = this.play.wheels[this.wheel];
-    this.digit.textContent = String(this.digitNow);
+    say(this.digit, String(this.digitNow));
     this.grip.style.transform = `rotate(${(((this.turn + 0.5) / slots) * 360).toFixed(3)}deg)`;
   }
 
@@ -235,9 +259,8 @@ class WheelCard {
       rows.push(make("li", {class: "gone"}, make("span", {class: "name"}, this.slotName(slot)), this.gone(events, followed)));
     if (rows.length < held.length) rows.push(make("li", {}, this.unfold(-1, held.length - MAX_ROWS, "slots")));
     if (!held.length && !left.size) rows.push(make("li", {}, make("span", {class: "none"}, "empty")));
-    this.list.replaceChildren(...rows);
-    const chips = this.list.querySelectorAll("button");
-    chips.forEach((chip, at) => { chip.tabIndex = at ? -1 : 0; });
+    fillWith(this.list, rows);
+    this.list.querySelectorAll("button").forEach((chip, at) => change(chip, "tabindex", at ? -1 : 0));
     const live = new Set(held.map(([slot]) => slot));
     for (const slot of this.rows.keys())
       if (!live.has(slot)) this.rows.delete(slot);

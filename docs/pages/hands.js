@@ -130,28 +130,28 @@ function renderAim() {
   $("deadline").style.width = `${Math.max(7.5, 0.64 * $("deadline").value.length + 1.5)}em`;
   const now = play.now(shown.step);
   const deadline = deadlineTyped();
-  for (const card of cards.values()) card.aim(null);
   const isRefused = deadline === null || deadline <= now || deadline > play.scheme.last;
   setOff("restart", isRefused || !present());
   name("restart", "Restart", present() && `Restart timer ${shown.followed} for tick ${$("deadline").value}`);
   if (isRefused) {
-    $("preview").textContent = deadline === null ? "a number, please" : deadline <= now ? "has passed" : "after the last tick";
+    say($("preview"), deadline === null ? "a number, please" : deadline <= now ? "has passed" : "after the last tick");
+    for (const card of cards.values()) card.aim(null);
     return;
   }
   const interval = Number(deadline - now);
   if (document.activeElement !== $("interval")) $("interval").value = String((Math.log2(interval) / REACH) * 240);
   const found = play.placeFor(now, deadline);
-  $("preview").textContent = words.scheme === "plain" ? "" : `goes to ${found.name}`;
+  say($("preview"), words.scheme === "plain" ? "" : `goes to ${found.name}`);
   const {wheel, slot} = placeOf(found.key);
-  cards.get(wheel)?.aim(words.scheme === "plain" ? null : slot);
+  for (const [k, card] of cards) card.aim(k === wheel ? slot : null);
 }
 
-// A button has room for a word or two and, if that is short, for what it is about. The whole of what it does is its name.
+// A button has room for a word or two and, if that is short, for what it is about. That is its name, so that a reader who
+// speaks can say what is seen. Its title describes the whole of what it does.
 function name(id, said, whole, about = shown.followed) {
   const label = `${said} ${about}`;
-  $(id).textContent = whole && label.length <= MOST_LABEL ? label : said;
+  say($(id), whole && label.length <= MOST_LABEL ? label : said);
   $(id).title = whole || said;
-  $(id).setAttribute("aria-label", whole || said);
 }
 
 function renderHands() {

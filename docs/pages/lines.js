@@ -37,8 +37,9 @@ class LineList {
   window(from, to) {
     this.from = Math.max(from, 0);
     this.to = Math.min(to, this.play.lines.length);
+    const old = this.rows;
     this.rows = new Map();
-    for (let line = this.from; line < this.to; line += 1) this.rows.set(line, this.makeRow(line));
+    for (let line = this.from; line < this.to; line += 1) this.rows.set(line, old.get(line) ?? this.makeRow(line));
     const elsewhere = (count, name, act) => (count ? make("li", {class: "elsewhere"},
         make("button", {type: "button", tabindex: -1, onclick: act}, `${count} ${name} line${count === 1 ? "" : "s"}`)) : null);
     const rows = [
@@ -46,7 +47,7 @@ class LineList {
       ...[...this.rows.values()].map(({element}) => element),
       elsewhere(this.play.lines.length - this.to, "later", () => this.shift(this.to - 1)),
     ];
-    this.list.replaceChildren(...rows.filter((row) => row));
+    fillWith(this.list, rows.filter((row) => row));
     for (const [line, row] of this.rows) this.renderRow(line, row);
   }
 

@@ -9,7 +9,7 @@ const MAX_PIECES = 500;    // of one line; a line with as many stops before its 
 const MAX_STEPS = 5000;    // from then on a line is one step
 const MAX_LOOKS = 20000;   // at timers, to find where one line is cut
 const MAX_SHOWN = 400000;  // timers in the text of `show`: some 3 MB
-const MAX_KEPT = 100;      // steps of which the places are kept
+const MAX_KEPT = 100;      // steps of which the places are kept: of more, the oldest are asked for again
 const BACK = 32;           // steps by which the program is asked earlier, when the reader goes back
 const MAX_TICKS = 1000000n; // of one line
 
@@ -260,7 +260,7 @@ class Play {
   state(step) {
     if (!this.kept.has(step)) {
       const state = this.stateOf(step);
-      if (this.kept.size >= MAX_KEPT) this.kept.clear();
+      if (this.kept.size >= MAX_KEPT) this.kept.delete(this.kept.keys().next().value);
       this.kept.set(step, state);
     }
     return this.kept.get(step);
@@ -359,11 +359,14 @@ class Play {
   }
 
   // Where a timer would stand that is started now for this deadline, as the program names it, or why it would be refused.
+  // The latest answer is kept, since it is asked for at each step.
   placeFor(now, deadline) {
+    if (this.aimed?.now === now && this.aimed.deadline === deadline) return this.aimed;
     const rows = rowsOf(this.askedAt(now, [`start 0 1 ${deadline - now} 0`]));
     if (rows[0].startsWith("refused")) return {reason: rows[0]};
     const name = rows[2].slice(2, rows[2].indexOf(": "));
-    return {name, key: this.scheme.key(name)};
+    this.aimed = {now, deadline, name, key: this.scheme.key(name)};
+    return this.aimed;
   }
 
   whereIs(serial, step) { return this.standing(serial, step)?.key ?? null; }

@@ -62,7 +62,8 @@ function digitTable(timer, now) {
   const head = make("tr", {}, make(isHier ? "th" : "td", isHier ? {scope: "row"} : {}, isHier ? "wheel" : ""), ...names);
   const deadline = digitRow(`deadline ${timer.deadline}`, timer.deadline, level);
   const body = make("tbody", {}, digitRow(`now ${now}`, now, level), deadline);
-  return make("div", {class: "scroll"}, make("table", {class: "digits"}, make("thead", {}, head), body));
+  return make("div", {class: "scroll", role: "group", "aria-label": "Digits of now and of the deadline", "data-focus": "digits"},
+      make("table", {class: "digits"}, make("thead", {}, head), body));
 }
 
 function historyRow(event, step) {
@@ -105,6 +106,15 @@ function renderFollowed(step) {
         timer.from > step ? "It has not been started yet." : "It is no longer pending."));
   parts.push(eventsOf(timer, step));
   $("followed").replaceChildren(...parts);
+}
+
+// What scrolls and has nothing in it that takes the focus is a stop of the Tab key itself, so that a keyboard scrolls it.
+function setStops() {
+  for (const node of document.querySelectorAll("#news, .scroll, .buckets")) {
+    const isCut = node.scrollHeight > node.clientHeight || node.scrollWidth > node.clientWidth;
+    const tabIndex = isCut && !node.querySelector("button") ? 0 : -1;
+    if (node.tabIndex !== tabIndex || !node.hasAttribute("tabindex")) node.tabIndex = tabIndex;
+  }
 }
 
 // The present event of the followed timer is brought into sight where its history scrolls by itself. The form stays above
@@ -163,7 +173,7 @@ function renderArrows(travels) {
 }
 
 // What can't be done now stays where the Tab key finds it, so that the focus isn't lost.
-function setOff(id, isOff) { $(id).setAttribute("aria-disabled", String(isOff)); }
+function setOff(id, isOff) { change($(id), "aria-disabled", isOff); }
 
 function isOff(id) { return $(id).getAttribute("aria-disabled") === "true"; }
 
@@ -182,11 +192,11 @@ function renderStep(step) {
   const from = shown.step;
   shown.step = step;
   document.body.classList.toggle("is-jump", Math.abs(step - from) > 1);
-  $("now").textContent = String(play.now(step));
-  $("face").textContent = words.face(play.now(step));
+  say($("now"), String(play.now(step)));
+  say($("face"), words.face(play.now(step)));
   $("news").replaceChildren(...newsOf(step));
-  $("count").textContent = `${renderCards(play, cards, step, shown.followed)} pending`;
-  $("looks").textContent = play.timers.size > MAX_COUNTED ? "" : `${timersCounted(play.looks(step))} looked at so far`;
+  say($("count"), `${renderCards(play, cards, step, shown.followed)} pending`);
+  say($("looks"), play.timers.size > MAX_COUNTED ? "" : `${timersCounted(play.looks(step))} looked at so far`);
   if (shown.isCompared) comparison.render(play, step, shown.followed, actsOf);
   lines.render(step);
   if (step !== from) closeHelp();
@@ -202,6 +212,7 @@ function renderStep(step) {
   for (const card of shown.isCompared ? [] : cards.values()) card.reveal();
   lines.reveal();
   showEvent();
+  setStops();
   if (step !== from) showStep(step);
   renderArrows(step === from + 1 && !calm.matches);
 }
@@ -466,7 +477,10 @@ function listen() {
     window.scrollTo({top: 0, behavior: "instant"});
     loadLink();
   });
-  window.addEventListener("resize", () => renderArrows(false));
+  window.addEventListener("resize", () => {
+    setStops();
+    renderArrows(false);
+  });
   listenToHands();
 }
 

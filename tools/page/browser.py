@@ -1,15 +1,18 @@
 """A headless Chromium, driven by Debian's python3-selenium and chromium-driver."""
 import json
 import os
+import re
 import shutil
 
 from selenium import webdriver
+from selenium.common.exceptions import WebDriverException
 from selenium.webdriver.chrome.service import Service
 from selenium.webdriver.common.action_chains import ActionChains
 from selenium.webdriver.common.keys import Keys
 
 LIMIT = 120  # seconds for one answer
 DRIVER = shutil.which("chromedriver")
+LIGHTHOUSE = "devtools://devtools/bundled/third_party/lighthouse/lighthouse-dt-bundle.js"
 ARGUMENTS = ["--headless=new", "--no-sandbox", "--disable-gpu", "--disable-dev-shm-usage", "--hide-scrollbars"]
 
 
@@ -22,6 +25,7 @@ class Browser:
         self.driver = webdriver.Chrome(service=Service(DRIVER), options=options)
         self.driver.set_script_timeout(LIMIT)
         self.driver.set_page_load_timeout(LIMIT)
+        self.parts = set()
 
     def __enter__(self):
         return self
@@ -42,6 +46,18 @@ class Browser:
         self.parts = {f"file://{folder}/{part}" for part in parts}
         self.driver.get("about:blank")  # so that another link is another load
         self.driver.get(f"file://{os.path.abspath(path)}{link}")
+
+    def axe(self):
+        """The source of axe-core, from the copy of Lighthouse in Chromium's own tools, or None if it has none to be read."""
+        read = "const done = arguments[1]; fetch(arguments[0]).then((got) => got.text()).then(done, () => done(''))"
+        try:
+            self.driver.get("devtools://devtools/bundled/devtools_app.html")
+            bundle = self.driver.execute_async_script(read, LIGHTHOUSE)
+            self.driver.get("about:blank")
+            literal = re.search(r"`/\*! axe v[^`\\]*(?:\\.[^`\\]*)*`", bundle, re.DOTALL)
+            return literal and self.value(literal[0])
+        except WebDriverException:
+            return None
 
     def run(self, script):
         self.driver.execute_script(script)
