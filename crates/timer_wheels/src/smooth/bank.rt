@@ -336,7 +336,7 @@ fn place_in(table: Table, bank: &Bank, deadline: u64) -> (usize, usize)
 
 /// Moves the timers of a bucket to the list of due timers. Most ticks find their bucket empty, and write nothing.
 #[inline(always)]
-fn make_due(links: &mut Links, filled: &mut Filled, list: usize, due: usize)
+fn make_due(links: &mut Links<Timer>, filled: &mut Filled, list: usize, due: usize)
     requires list { list < length links.old.lists }
     requires due { due < length links.old.lists }
     requires apart { due ≢ list }
