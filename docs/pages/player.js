@@ -292,6 +292,7 @@ function playOn() {
   if (shown.timer === null) return;
   const time = rest();
   shown.timer = setTimeout(playOn, time);
+  if (calm.matches) return;
   shown.waiting = $("waiting").animate([{transform: "scaleX(0)"}, {transform: "scaleX(1)"}], time);
 }
 
@@ -359,7 +360,6 @@ function isDrawn([kind]) { return kind === "arrow" ? words.isHierarchy : kind !=
 
 // The sign of a row of the legend, as it is drawn at the wheels.
 function signOf(kind) {
-  if (kind === "rounds") return [make("text", {x: 8, y: 14, "text-anchor": "middle"}, "4:1")];
   if (kind === "hand")
     return [
       make("line", {class: "hand", x1: 8, y1: 20, x2: 8, y2: 8}), make("path", {class: "hand-tip", d: "M3 9L13 9L8 0Z"})
@@ -373,6 +373,7 @@ function signOf(kind) {
 }
 
 function legendRow([kind, said]) {
+  if (kind === "rounds") return make("span", {}, said);
   return make("span", {}, make("svg", {viewBox: "0 0 16 20", "aria-hidden": "true"}, ...signOf(kind)), said);
 }
 
@@ -394,7 +395,7 @@ function fillGuide() {
 
 function fill() {
   $("title").textContent = play.title;
-  $("title").parentElement.classList.toggle("is-lesson", shown.isLesson && LESSONS.length > 1);
+  document.body.classList.toggle("is-lesson", shown.isLesson && LESSONS.length > 1);
   document.title = `${play.title} · timing wheels`;
   $("explained").hidden = LESSONS.length < 2; // beside the page of docs/
   if (shown.isLesson) $("lesson").href = `#lesson=${play.name}`;

@@ -51,7 +51,7 @@ const LEGEND = [
   ["held-followed", "orange, framed: has the followed timer"],
   ["left", "dashed: timers just left it"],
   ["aimed", "dotted: where Start would put it"],
-  ["rounds", "timer 4, 1 round left"],
+  ["rounds", "4:1 = timer 4, 1 round left"],
   ["arrow", "arrow: a timer moved"],
 ];
 
@@ -85,12 +85,14 @@ function timersNamed(serials) {
 function upper(sentence) { return sentence.charAt(0).toUpperCase() + sentence.slice(1); }
 
 // The ticks of a slot of a high wheel are written as a power of 64.
-function isLong(wheel, scheme) { return scheme === "hier" && wheel > 3; }
+function isPower(wheel, scheme) { return scheme === "hier" && wheel > 3; }
 
 function powerOf(wheel) { return WEIGHTS[wheel].slice(3); }
 
-function ticksOf(count, wheel = 0, scheme = "") {
-  return `${isLong(wheel, scheme) ? powerOf(wheel) : count} tick${count === 1n ? "" : "s"}`;
+function ticksOf(count) { return `${count} tick${count === 1n ? "" : "s"}`; }
+
+function ticksOfWheel({ticks}, wheel, scheme) {
+  return isPower(wheel, scheme) ? `${powerOf(wheel)} ticks` : ticksOf(ticks);
 }
 
 function times(count) { return count === 1n ? "once" : count === 2n ? "twice" : `${count} times`; }
@@ -174,15 +176,15 @@ class Words {
     const {wheel} = placeOf(key);
     const [first, last] = this.ticksOfSlot(timer.deadline, wheel);
     if (first === last) return ` The hand is there at tick ${first}, and then the timer is due.`;
-    return ` That slot is for ${isLong(wheel, this.scheme) ? this.span(first, wheel) : `the deadlines ${first} to ${last}`
-        }, and is emptied at tick ${this.short(first, wheel)}.`;
+    const which = isPower(wheel, this.scheme) ? this.span(first, wheel) : `the deadlines ${first} to ${last}`;
+    return ` That slot is for ${which}, and is emptied at tick ${this.short(first, wheel)}.`;
   }
 
   // The ticks of a slot whose number has many figures: '64⁹ ticks, from tick 64⁹ on'.
-  span(first, wheel) { return `${ticksOf(this.play.wheels[wheel].ticks, wheel, this.scheme)}, from tick ${this.short(first, wheel)} on`; }
+  span(first, wheel) { return `${powerOf(wheel)} ticks, from tick ${this.short(first, wheel)} on`; }
 
   short(tick, wheel) {
-    if (!isLong(wheel, this.scheme)) return String(tick);
+    if (!isPower(wheel, this.scheme)) return String(tick);
     return tick === this.play.wheels[wheel].ticks ? powerOf(wheel) : this.written(tick);
   }
 
@@ -215,14 +217,14 @@ class Words {
   // What the slots of a wheel are for: 'each tick', or 'each 64 ticks'.
   eachOf(wheel) {
     const {ticks} = this.play.wheels[wheel];
-    return ticks === 1n ? "each tick" : `each ${ticks} ticks`;
+    return ticks === 1n ? "each tick" : `each ${ticksOfWheel({ticks}, wheel, this.scheme)}`;
   }
 
   // Why a slot that is for many ticks is emptied.
   coarse(deadline, key) {
     const {wheel} = placeOf(key);
     const [first, last] = this.ticksOfSlot(deadline, wheel);
-    const ticks = isLong(wheel, this.scheme) ? this.span(first, wheel) : `${last - first + 1n} ticks, ${first} to ${last}`;
+    const ticks = isPower(wheel, this.scheme) ? this.span(first, wheel) : `${last - first + 1n} ticks, ${first} to ${last}`;
     return `${upper(this.placed(key))} is one slot for ${ticks}, and can't tell them apart.`;
   }
 
