@@ -131,6 +131,28 @@ def in_place(reader):
     reader.expect("the lesson is back", reader.find("#changed").is_displayed(), False)
 
 
+def carries(reader):
+    """Where the next tick carries up to the digit for which a timer waits, the page says so, with powers of 64."""
+    nine = "The next tick is a carry: nine digits go from 63 to 0, and digit 9 becomes 1. The deadline lies behind it. "
+    one = "The next tick is a carry: digit 0 goes from 63 to 0, and digit 1 becomes 2. "
+    far = "The deadline lies behind it. "
+    for link, wanted, unwanted in (
+        ("#lesson=shown_carry&step=1", (nine, "That slot is for 64⁹ ticks, from tick 64⁹ on, and is emptied at tick 64⁹."), ()),
+        ("#lesson=shown_carry&step=2", ("one slot for 64⁹ ticks, from tick 64⁹ on, and can't tell them apart.",), ("a carry",)),
+        ("#scheme=7&first=127&script=start+0+1+3+1&step=1", (one + far,), ()),
+        ("#scheme=7&first=127&script=start+0+1+1+1&step=1", (one,), (far,)),
+        ("#scheme=7&first=127&script=start+0+1+4000+1&step=1", (), ("a carry",)),
+        ("#scheme=7&first=126&script=start+0+1+3+1&step=1", (), ("a carry",)),
+    ):
+        reader.open(link=link)
+        said = reader.find("#news").get_attribute("textContent")
+        reader.expect(f"{link} says", [words for words in wanted if words not in said], [])
+        reader.expect(f"{link} also says", [words for words in unwanted if words in said], [])
+    reader.open(link="#lesson=shown_carry")
+    foot = "[...document.querySelectorAll('.between')].map((node) => node.textContent)"
+    reader.expect("what isn't drawn", reader.tab.value(foot), ["Wheels 1 to 8: empty, not drawn"])
+
+
 def hands(reader):
     """The hand is dragged and pushed, and a slot is aimed at."""
     reader.open()
