@@ -15,7 +15,7 @@ MOST_STOPS = 70  # of the Tab key, on the page of docs/
 SPOKEN = ["trouble alert", "news polite"]
 CALM = "document.querySelector('#news').getAttribute('aria-live')"
 FIRST = ["#play", "#lesson=shown_migration", "#lesson=shown_carry", "#lesson=shown_rounds", "#lesson=shown_clock", "theme",
-         "deadline", "interval"]
+         "explained", "paper", "deadline", "interval"]
 LIGHTHOUSE = ("identical-links-same-purpose", "label-content-name-mismatch", "table-fake-caption", "target-size", "td-has-header")
 FINDINGS = "({violations}) => violations.map(({id, nodes}) => `${id}: ${nodes.map(({target}) => target.join(' ')).join(', ')}`)"
 MIXED = "#scheme=7&script=start+0+1+4161+1;start+0+2+5+1;stop+0+9+1;tick+4161;bad"
@@ -106,6 +106,53 @@ def acts(reader):
     reader.as_shown("an act at an earlier step", [*lines[:3], "tick 5", "tick 64"])
 
 
+def in_place(reader):
+    """The buttons stay where they are on the screen after each act, at three widths. There is a way back to the lesson."""
+    for width, height in ((1280, 900), (900, 900), (900, 700), (390, 844)):
+        for name in ("#starter button", "#tickNext", "#tick64", "#undo", "#undo", "#clear"):
+            if name == "#starter button":
+                reader.open(width, height)
+                reader.expect("no way back is needed", reader.find("#changed").is_displayed(), False)
+            elif name == "#undo":
+                reader.expect(f"a way back at {width} pixels", reader.find("#changed").is_displayed(), True)
+            top = f"Math.round(document.querySelector('{name}').getBoundingClientRect().top)"
+            if width < 600 and name == "#starter button":
+                reader.tab.run("document.querySelector('#hands').scrollIntoView({block: 'center', behavior: 'instant'})")
+            before = reader.tab.value(top)
+            reader.click(name)
+            moved = reader.tab.value(top) - before
+            reader.expect(f"{name} moved by {moved} at {width} pixels", abs(moved) <= 1, True)  # rounded
+            bar = reader.tab.value("document.querySelector('#controls').getBoundingClientRect().top")
+            reader.expect(f"{name} is in view at {width} x {height}", 0 <= before < bar - 30, True)
+    reader.open()
+    reader.click("#starter button")
+    reader.click("#lesson")
+    reader.wait("[play.name, shown.step]", ["shown_migration", 1])
+    reader.expect("the lesson is back", reader.find("#changed").is_displayed(), False)
+
+
+def carries(reader):
+    """Where the next tick carries up to the digit for which a timer waits, the page says so, with powers of 64."""
+    nine = "The next tick is a carry: nine digits go from 63 to 0, and digit 9 becomes 1. The deadline lies behind it. "
+    one = "The next tick is a carry: digit 0 goes from 63 to 0, and digit 1 becomes 2. "
+    far = "The deadline lies behind it. "
+    for link, wanted, unwanted in (
+        ("#lesson=shown_carry&step=1", (nine, "That slot is for 64⁹ ticks, from tick 64⁹ on, and is emptied at tick 64⁹."), ()),
+        ("#lesson=shown_carry&step=2", ("one slot for 64⁹ ticks, from tick 64⁹ on, and can't tell them apart.",), ("a carry",)),
+        ("#scheme=7&first=127&script=start+0+1+3+1&step=1", (one + far,), ()),
+        ("#scheme=7&first=127&script=start+0+1+1+1&step=1", (one,), (far,)),
+        ("#scheme=7&first=127&script=start+0+1+4000+1&step=1", (), ("a carry",)),
+        ("#scheme=7&first=126&script=start+0+1+3+1&step=1", (), ("a carry",)),
+    ):
+        reader.open(link=link)
+        said = reader.find("#news").get_attribute("textContent")
+        reader.expect(f"{link} says", [words for words in wanted if words not in said], [])
+        reader.expect(f"{link} also says", [words for words in unwanted if words in said], [])
+    reader.open(link="#lesson=shown_carry")
+    foot = "[...document.querySelectorAll('.between')].map((node) => node.textContent)"
+    reader.expect("what isn't drawn", reader.tab.value(foot), ["Wheels 1 to 8: empty, not drawn"])
+
+
 def hands(reader):
     """The hand is dragged and pushed, and a slot is aimed at."""
     reader.open()
@@ -191,7 +238,8 @@ def compared(reader):
     numbers = "[...document.querySelectorAll('.column strong')].map((node) => parseInt(node.textContent, 10))"
     wanted = looked(reader, reader.script()[0], 8)
     reader.expect("timers looked at", reader.tab.value(numbers), wanted)
-    reader.expect("of the scheme alone", reader.tab.value("parseInt(document.querySelector('#looks').textContent, 10)"), wanted[2])
+    alone = reader.find("#looks").get_attribute("textContent")
+    reader.expect("of the scheme alone", alone, f"work so far: {wanted[2]} timers looked at")
     reader.tab.run("go(play.steps.findIndex(({line}) => line === 6) + 1)")
     read = ("[...document.querySelectorAll('.column')].map((node) => [...node.querySelectorAll('.bucket')].map((row) =>"
             " [row.closest('article').querySelector('h3').textContent, row.querySelector('.name').textContent,"

@@ -79,7 +79,7 @@ class WheelCard {
     this.take(play, words);
     const {name, slots, ticks} = play.wheels[wheel];
     const isPlain = this.scheme === "plain";
-    const each = {plain: "", hashed: `${slots} slots, one a tick`}[this.scheme] ?? `${slots} slots of ${ticksOf(ticks)}`;
+    const each = isPlain ? "" : `${slots} slots of ${ticksOfWheel({ticks}, wheel, this.scheme)}`;
     this.list = make("ul", {class: "buckets", onkeydown: (event) => this.walk(event)});
     this.body = make("div", {class: "wheel-body"}, isPlain ? null : this.ring(slots), this.list);
     this.element = make("article", {class: "wheel", "aria-label": name},

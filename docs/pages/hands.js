@@ -9,7 +9,7 @@ const MOST_THROUGH = 40;   // pieces that are shown one after the other
 const FIRST_INTERVAL = 130n;
 const REACH = 18;          // the slider's largest interval is 2 to this power
 const ACTION = "1";
-const MOST_LABEL = 18;     // letters of a button
+const MOST_LABEL = 23;     // letters of a button
 
 const PROVED = [
   "Proved: this page runs the program timers itself, compiled to WebAssembly. Its answers, its refusals and the slots in" +
@@ -17,6 +17,15 @@ const PROVED = [
   "Not proved: the drawing. Rings, arrows, digits, sentences and the counts of timers that were looked at are made of" +
       " that text by JavaScript, which a test compares with the program's output. Neither are the compiler and the browser.",
 ];
+
+// An act leaves the buttons where the reader has them on the screen: the wheels above them may become more or fewer.
+function inPlace(act) {
+  const top = () => $("hands").getBoundingClientRect().top;
+  const before = top();
+  const isSeen = before < sight().bottom && $("hands").getBoundingClientRect().bottom > sight().top;
+  act();
+  if (isSeen) (isColumn() ? $("stage") : window).scrollBy({top: top() - before, behavior: "instant"});
+}
 
 function stopThrough() {
   clearTimeout(shown.through?.timer);
@@ -32,7 +41,7 @@ function goThrough(from) {
   }
   const time = Math.min(STEP_TIME, THROUGH_TIME / count);
   const on = () => {
-    render(shown.step + 1);
+    inPlace(() => render(shown.step + 1));
     shown.through = shown.step < play.last ? {timer: setTimeout(on, time)} : null;
   };
   on();
@@ -148,8 +157,8 @@ function renderAim() {
 
 // A button has room for a word or two and, if that is short, for what it is about. That is its name, so that a reader who
 // speaks can say what is seen. Its title describes the whole of what it does.
-function name(id, said, whole, about = shown.followed) {
-  const label = `${said} ${about}`;
+function name(id, said, whole, about = ` ${shown.followed}`) {
+  const label = `${said}${about}`;
   say($(id), whole && label.length <= MOST_LABEL ? label : said);
   $(id).title = whole || said;
 }
@@ -159,7 +168,7 @@ function renderHands() {
   const typed = deadlineTyped();
   if (document.activeElement !== $("deadline") && (typed === null || typed <= now)) $("deadline").value = String(now + FIRST_INTERVAL);
   const wakeup = shown.step ? play.steps[shown.step - 1].wakeup : null;
-  name("tickNext", "Next event", wakeup !== null && `To the next event, at tick ${wakeup}`, wakeup);
+  name("tickNext", "Next event", wakeup !== null && `To the next event, at tick ${wakeup}`, `: tick ${wakeup}`);
   setOff("tickNext", wakeup === null);
   setOff("stop", !present());
   name("stop", "Stop", present() && `Stop timer ${shown.followed}`);
@@ -220,10 +229,10 @@ function apply() {
 
 function listenToHands() {
   shown.undo = [];
-  const act = (id, does) => { $(id).onclick = () => { if (!isOff(id)) does(); }; };
+  const act = (id, does) => { $(id).onclick = () => { if (!isOff(id)) inPlace(does); }; };
   $("starter").onsubmit = (event) => {
     event.preventDefault();
-    if (deadlineTyped() !== null) startFor(deadlineTyped());
+    if (deadlineTyped() !== null) inPlace(() => startFor(deadlineTyped()));
   };
   $("deadline").oninput = renderAim;
   $("interval").oninput = () =>
@@ -244,8 +253,8 @@ function listenToHands() {
     render(shown.step);
   });
   act("apply", apply);
-  $("scheme").onchange = changeScheme;
-  $("slots").onchange = changeScheme;
+  $("scheme").onchange = () => inPlace(changeScheme);
+  $("slots").onchange = () => inPlace(changeScheme);
   $("edit").ontoggle = fillHands;
 }
 

@@ -1,8 +1,8 @@
 // The page: steps, the followed timer, and the controls.
 "use strict";
 
-const READ_FIRST = 2000; // milliseconds that Play rests, at speed 1, where a timer moves or expires
-const READ_LETTER = 20;  // and for each letter that is said there
+const READ_FIRST = 1500; // milliseconds that Play rests at a step, at speed 1
+const READ_LETTER = 6;   // and for each letter that is said there
 const GAP = 8;           // pixels between what is brought into sight and the edge of the screen
 const MAX_COUNTED = 3000; // timers of a script for which it is counted at how many each scheme looks
 
@@ -60,10 +60,11 @@ function digitTable(timer, now) {
   const isHier = play.scheme.name === "hier";
   const names = words.levels.map((k) => make("th", {scope: "col"}, isHier ? String(k) : play.wheels[k].name));
   const head = make("tr", {}, make(isHier ? "th" : "td", isHier ? {scope: "row"} : {}, isHier ? "wheel" : ""), ...names);
-  const deadline = digitRow(`deadline ${timer.deadline}`, timer.deadline, level);
-  const body = make("tbody", {}, digitRow(`now ${now}`, now, level), deadline);
+  const isLong = words.levels.length > 5; // then there is no room for the ticks, which are said beside it
+  const deadline = digitRow(isLong ? "deadline" : `deadline ${timer.deadline}`, timer.deadline, level);
+  const body = make("tbody", {}, digitRow(isLong ? "now" : `now ${now}`, now, level), deadline);
   return make("div", {class: "scroll", role: "group", "aria-label": "Digits of now and of the deadline", "data-focus": "digits"},
-      make("table", {class: "digits"}, make("thead", {}, head), body));
+      make("table", {class: `digits${isLong ? " is-long" : ""}`}, make("thead", {}, head), body));
 }
 
 function historyRow(event, step) {
@@ -84,12 +85,18 @@ function eventsOf(timer, step) {
   return make("div", {class: "rows"}, make("ol", {class: "history"}, ...events.map((event) => historyRow(event, step))));
 }
 
+function whyHere(timer, step) {
+  if (play.whereIs(timer.serial, step) !== null) return words.why(timer, play.now(step));
+  return timer.from > step ? `It is started later, in line ${play.steps[timer.from - 1].line + 1}.` : "It is no longer pending.";
+}
+
 function renderFollowed(step) {
   const timer = play.timers.get(shown.followed);
   if (document.activeElement !== $("serial") || !shown.isTyped) $("serial").value = shown.followed || "";
   setOff("before", !timer || !play.timers.has(String(BigInt(timer.serial) - 1n)));
   setOff("after", !timer || !play.timers.has(String(BigInt(timer.serial) + 1n)));
   if (!timer) {
+    $("digits").replaceChildren();
     $("followed")
         .replaceChildren(make("p", {},
             play.timers.size ? `The script starts no timer ${shown.followed}.` : "The script starts no timer."));
@@ -97,15 +104,9 @@ function renderFollowed(step) {
   }
   const now = play.now(step);
   const key = play.whereIs(timer.serial, step);
-  const parts = [make("p", {}, `Timer ${timer.serial} of client ${timer.client}, deadline ${timer.deadline}.`)];
-  if (key !== null) {
-    if (words.isHierarchy) parts.push(digitTable(timer, now));
-    parts.push(make("p", {class: "because"}, words.why(timer, now)));
-  } else
-    parts.push(make("p", {class: "because"},
-        timer.from > step ? "It has not been started yet." : "It is no longer pending."));
-  parts.push(eventsOf(timer, step));
-  $("followed").replaceChildren(...parts);
+  const whole = `Timer ${timer.serial} of client ${timer.client}, deadline ${timer.deadline}.`;
+  $("digits").replaceChildren(...(key !== null && words.isHierarchy ? [digitTable(timer, now)] : []));
+  $("followed").replaceChildren(make("p", {}, whole), make("p", {class: "because"}, whyHere(timer, step)), eventsOf(timer, step));
 }
 
 // What scrolls and has nothing in it that takes the focus is a stop of the Tab key itself, so that a keyboard scrolls it.
@@ -196,7 +197,7 @@ function renderStep(step) {
   say($("face"), words.face(play.now(step)));
   $("news").replaceChildren(...newsOf(step));
   say($("count"), `${renderCards(play, cards, step, shown.followed)} pending`);
-  say($("looks"), play.timers.size > MAX_COUNTED ? "" : `${timersCounted(play.looks(step))} looked at so far`);
+  say($("looks"), play.timers.size > MAX_COUNTED ? "" : `work so far: ${timersCounted(play.looks(step))} looked at`);
   if (shown.isCompared) comparison.render(play, step, shown.followed, actsOf);
   lines.render(step);
   if (step !== from) closeHelp();
@@ -277,20 +278,22 @@ function go(step) {
 function pause() {
   clearTimeout(shown.timer);
   shown.timer = null;
+  shown.waiting?.cancel();
   $("play").textContent = "Play";
   $("news").setAttribute("aria-live", "polite");
 }
 
-// How long Play rests at a step: at speed 1 a second, and longer where a timer moves or expires, by what is said.
-function rest(step) {
-  const isNews = play.events(step).some((event) => event.kind === "moved" || event.kind === "expired");
-  const reading = isNews ? READ_FIRST + READ_LETTER * $("news").textContent.length : 1000;
-  return reading / Number($("speed").value);
-}
+// How long Play rests at a step, by what is said.
+function rest() { return (READ_FIRST + READ_LETTER * $("news").textContent.length) / Number($("speed").value); }
 
+// A line above the controls grows as long as Play rests.
 function playOn() {
   go(shown.step + 1);
-  if (shown.timer !== null) shown.timer = setTimeout(playOn, rest(shown.step));
+  if (shown.timer === null) return;
+  const time = rest();
+  shown.timer = setTimeout(playOn, time);
+  if (calm.matches) return;
+  shown.waiting = $("waiting").animate([{transform: "scaleX(0)"}, {transform: "scaleX(1)"}], time);
 }
 
 function toggle() {
@@ -352,8 +355,8 @@ function followTyped() {
 
 function followNext(by) { follow(String(BigInt(shown.followed) + by)); }
 
-// Only a hierarchy has slots from which timers move.
-function isDrawn([kind]) { return kind !== "arrow" || words.isHierarchy; }
+// Only a hierarchy has slots from which timers move, and only a hashed wheel has rounds.
+function isDrawn([kind]) { return kind === "arrow" ? words.isHierarchy : kind !== "rounds" || words.scheme === "hashed"; }
 
 // The sign of a row of the legend, as it is drawn at the wheels.
 function signOf(kind) {
@@ -370,6 +373,7 @@ function signOf(kind) {
 }
 
 function legendRow([kind, said]) {
+  if (kind === "rounds") return make("span", {}, said);
   return make("span", {}, make("svg", {viewBox: "0 0 16 20", "aria-hidden": "true"}, ...signOf(kind)), said);
 }
 
@@ -391,7 +395,11 @@ function fillGuide() {
 
 function fill() {
   $("title").textContent = play.title;
+  document.body.classList.toggle("is-lesson", shown.isLesson && LESSONS.length > 1);
   document.title = `${play.title} · timing wheels`;
+  $("explained").hidden = LESSONS.length < 2; // beside the page of docs/
+  if (shown.isLesson) $("lesson").href = `#lesson=${play.name}`;
+  $("changed").hidden = shown.isLesson || !shown.undo.length || !$("lesson").hash;
   $("plays").replaceChildren(...(LESSONS.length > 1 ? LESSONS.map(lessonLink) : []));
   $("command").textContent = ["./timers show", ...play.options, ...(play.path ? ["<", play.path] : [])].join(" ");
   $("scheme-name").textContent = words.schemeName();
@@ -404,9 +412,16 @@ function fill() {
   $("slider").max = String(play.last);
 }
 
+// Says at the foot of a wheel's card which wheels aren't drawn between it and the next one that is.
+function sayGap(k, at, all) {
+  const below = all[at + 1] ?? k - 1;
+  const gap = below === k - 2 ? `Wheel ${k - 1}: empty` : `Wheels ${below + 1} to ${k - 1}: empty`;
+  if (below < k - 1) cards.get(k).body.append(make("p", {class: "between"}, `${gap}, not drawn`));
+}
+
 // The same wheels stay, so that their hands turn on.
 function drawWheels(isLesson) {
-  const more = isLesson || !play.scheme.isHierarchy ? [] : [0, 1, 2];
+  const more = isLesson || !play.scheme.isHierarchy ? [] : wide.matches ? [0, 1, 2] : [0, 1];
   const sign = `${words.scheme} ${play.wheels[0].slots} ${drawnOf(play, more)}`;
   if (sign === shown.sign) {
     for (const card of cards.values()) card.take(play, words);
@@ -414,6 +429,7 @@ function drawWheels(isLesson) {
   }
   shown.sign = sign;
   cards = cardsOf(play, words, actsOf(() => play), more);
+  [...cards.keys()].forEach(sayGap);
   $("wheels").replaceChildren(...[...cards.values()].map((card) => card.element), arrows.element);
   $("wheels").dataset.count = cards.size;
 }

@@ -4,7 +4,8 @@
 // What the page is about, in two sentences above the clock.
 const OPENING = {
   plain: "All pending timers wait in one list, in order of starting. The page shows it by deadline.",
-  hashed: "A timer waits in slot (deadline mod slots). The hand passes it once for each of its rounds. Next time it is due.",
+  hashed: "A timer waits in slot (deadline mod slots). The hand passes it once for each of its rounds. The time after" +
+      " that, it is due.",
   hier: "Write now and the deadline in base 64. A timer waits in the wheel of the highest digit in which they differ, and" +
       " moves down when the clock reaches that digit.",
   clock: "A timer waits in the wheel of the largest unit in which its deadline and now differ. Once that is equal, it moves" +
@@ -49,6 +50,8 @@ const LEGEND = [
   ["held", "blue: has timers"],
   ["held-followed", "orange, framed: has the followed timer"],
   ["left", "dashed: timers just left it"],
+  ["aimed", "dotted: where Start would put it"],
+  ["rounds", "4:1 = timer 4, 1 round left"],
   ["arrow", "arrow: a timer moved"],
 ];
 
@@ -66,6 +69,8 @@ const GLOSSARY = [
 // What a digit of each wheel of 64 slots counts.
 const WEIGHTS = ["", " × 64", ..."²³⁴⁵⁶⁷⁸⁹"].map((power, k) => (k < 2 ? power : ` × 64${power}`));
 
+const NUMBERS_TO_NINE = ["no", "one", "two", "three", "four", "five", "six", "seven", "eight", "nine"];
+
 function reasonOf(answer) { return REASONS[answer.slice(answer.lastIndexOf(" ") + 1)] || ""; }
 
 function listed(words) {
@@ -79,7 +84,16 @@ function timersNamed(serials) {
 
 function upper(sentence) { return sentence.charAt(0).toUpperCase() + sentence.slice(1); }
 
+// The ticks of a slot of a high wheel are written as a power of 64.
+function isPower(wheel, scheme) { return scheme === "hier" && wheel > 3; }
+
+function powerOf(wheel) { return WEIGHTS[wheel].slice(3); }
+
 function ticksOf(count) { return `${count} tick${count === 1n ? "" : "s"}`; }
+
+function ticksOfWheel({ticks}, wheel, scheme) {
+  return isPower(wheel, scheme) ? `${powerOf(wheel)} ticks` : ticksOf(ticks);
+}
 
 function times(count) { return count === 1n ? "once" : count === 2n ? "twice" : `${count} times`; }
 
@@ -161,8 +175,17 @@ class Words {
   until(timer, key) {
     const {wheel} = placeOf(key);
     const [first, last] = this.ticksOfSlot(timer.deadline, wheel);
-    return first === last ? ` The hand is there at tick ${first}, and then the timer is due.` :
-                            ` That slot is for the deadlines ${first} to ${last}, and is emptied at tick ${first}.`;
+    if (first === last) return ` The hand is there at tick ${first}, and then the timer is due.`;
+    const which = isPower(wheel, this.scheme) ? this.span(first, wheel) : `the deadlines ${first} to ${last}`;
+    return ` That slot is for ${which}, and is emptied at tick ${this.short(first, wheel)}.`;
+  }
+
+  // The ticks of a slot whose number has many figures: '64⁹ ticks, from tick 64⁹ on'.
+  span(first, wheel) { return `${powerOf(wheel)} ticks, from tick ${this.short(first, wheel)} on`; }
+
+  short(tick, wheel) {
+    if (!isPower(wheel, this.scheme)) return String(tick);
+    return tick === this.play.wheels[wheel].ticks ? powerOf(wheel) : this.written(tick);
   }
 
   // A place in a sentence.
@@ -173,26 +196,36 @@ class Words {
 
   started(event) {
     const timer = this.play.timers.get(event.serial);
-    const what =
-        timer.old ? `restarts timer ${timer.old}, which is now timer ${timer.serial},` : `starts timer ${timer.serial}`;
-    return `Client ${timer.client} ${what} for ${ticksOf(timer.deadline - timer.start)}: tick ${
+    const what = timer.old ? `Timer ${timer.old} is restarted, as timer ${timer.serial},` : `Timer ${timer.serial} is started`;
+    return `${what} for ${ticksOf(timer.deadline - timer.start)}: tick ${
         unbroken(`${timer.start} + ${timer.deadline - timer.start} = ${timer.deadline}`)}${
-        this.hasDigits ? `, which is ${this.written(timer.deadline)}` : ""}. ${this.why(timer, timer.start)}${
+        this.hasDigits ? `, which is ${this.written(timer.deadline)}` : ""}. ${this.carry(timer)}${this.why(timer, timer.start)}${
         this.isHierarchy && event.to !== undefined ? this.until(timer, event.to) : ""}`;
+  }
+
+  // Why a timer is in a high wheel although its deadline is near: the next tick carries up to the digit of that wheel.
+  carry({start, deadline}) {
+    const {wheels} = this.play;
+    const level = this.scheme === "hier" ? levelOf(wheels, start, start + 1n) : 0;
+    if (level < 1 || levelOf(wheels, start, deadline) !== level) return "";
+    const digit = digitsOf(wheels, start + 1n)[level];
+    const lower = level === 1 ? "digit 0 goes" : `${NUMBERS_TO_NINE[level]} digits go`;
+    const behind = deadline > start + 1n ? " The deadline lies behind it." : "";
+    return `The next tick is a carry: ${lower} from 63 to 0, and digit ${level} becomes ${digit}.${behind} `;
   }
 
   // What the slots of a wheel are for: 'each tick', or 'each 64 ticks'.
   eachOf(wheel) {
     const {ticks} = this.play.wheels[wheel];
-    return ticks === 1n ? "each tick" : `each ${ticks} ticks`;
+    return ticks === 1n ? "each tick" : `each ${ticksOfWheel({ticks}, wheel, this.scheme)}`;
   }
 
   // Why a slot that is for many ticks is emptied.
   coarse(deadline, key) {
     const {wheel} = placeOf(key);
     const [first, last] = this.ticksOfSlot(deadline, wheel);
-    return `${upper(this.placed(key))} is one slot for ${last - first + 1n} ticks, ${first} to ${
-        last}, and can't tell them apart.`;
+    const ticks = isPower(wheel, this.scheme) ? this.span(first, wheel) : `${last - first + 1n} ticks, ${first} to ${last}`;
+    return `${upper(this.placed(key))} is one slot for ${ticks}, and can't tell them apart.`;
   }
 
   // Why a timer moves, and where to. By which digits, the followed timer's table shows.
