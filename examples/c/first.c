@@ -15,7 +15,7 @@ int main(void)
 	    || timers_start(&t, 900, 'C', &call) != TIMERS_OK)
 		return 1;
 	timers_stop(&t, call, NULL);
-	while (timers_take(&t, 1000, &e))          /* what is due by tick 1000, where the clock is then */
+	while (timers_take(&t, 1000, &e))          /* what is due by tick 1000; at the end the clock is there */
 		printf("%" PRIu64 ": %c\n", e.deadline, (char)e.action);
 	timers_free(&t);
 	return 0;
