@@ -19,7 +19,8 @@ use timer_script::{ScriptFault, Streams, Watched, write_text};
 /// 0: the subcommand reached its end, and its text was written; or help or the version, as was asked for.
 ///
 /// 1: an error, reported in one line on `faults`. Or a checked script has a bad line, and each is reported on
-/// standard output; or a stop or a restart of an explained one found no timer, and each is. Or a stream that is served past bad lines has one, and each is reported on `faults`.
+/// standard output. Or `check --why` plays a script in which a stop or a restart found no timer, and each of these is
+/// reported there. Or a stream that is served past bad lines has one, and each is reported on `faults`.
 ///
 /// 2: the arguments are refused, and `faults` gets the reason. The streams are untouched. Or a script could
 /// not be checked, which is reported in one line on `faults`.
