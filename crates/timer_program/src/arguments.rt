@@ -158,8 +158,8 @@ fn show_command<'a>(alloc: Global) -> Result<Command<'a>, AllocError> {
     let new = "Show only timers that the line started or restarted; it does not concern moves";
     let client = "Show only timers of this client";
     let timer = "Show only the timer with this serial";
-    let from = "Show no timers before this tick";
-    let to = "Show no timers after this tick";
+    let from = "Show only answers while the clock is before this tick";
+    let to = "Show only answers while the clock is after this tick";
     // by hand
     playing_command(alloc, "show", SHOW_USAGE, SHOW_ABOUT, PLACEMENTS)?
         // made by tools/facts: arguments of show

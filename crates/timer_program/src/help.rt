@@ -144,7 +144,7 @@ Less is shown, never fewer answers, with
   --client 1                           only timers of client 1
   --timer 7                            only timer 7
   --new                                only timers that the line started or restarted
-  --from 64 --to 128                   nothing at ticks before 64 and after 128
+  --from 64 --to 128                   nothing while the clock is before 64 or after 128
 Each of them drops some of what is shown. With `--new --moves` each change is shown once.
 Why a stop of a script was `no-such`, `timers check --why` says.
 Without the lines that begin with a space the output is that of `timers serve`:
