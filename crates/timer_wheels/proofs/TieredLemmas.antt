@@ -9,7 +9,7 @@ use Rattle.timer_base.specs.WheelState.{WheelState, IsPending, IsWellFormed}
 use Rattle.timer_base.specs.declared.limits.TheConstants.{LAST}
 use Rattle.timer_wheels.specs.Buckets.{state_of, state_of-well_formed}
 use Rattle.timer_wheels.specs.HierWheel.{table_of}
-use Rattle.timer_wheels.specs.SmoothWheel.{TimerSmoothWheel}
+use Rattle.timer_wheels.specs.declared.smooth.SmoothWheel.{SmoothWheel}
 use Rattle.timer_wheels.specs.Tables.{slots_of_table, wide, clock, small}
 use Rattle.timer_wheels.specs.TieredWheel.{is_smooth, turns_are_smooth, option_of}
 use Rattle.timer_wheels.specs.declared.hier.HierWheel.{HierWheel}
@@ -33,11 +33,11 @@ pub hier_chosen : {N : Type 0} {kept : Ghosts N} {X : Type 0} (smooth hier : X) 
     → hier ≡ (if is_smooth wheel.wheels.buckets.slots then smooth else hier)
 hier_chosen smooth hier wheel = rw (is_not_smooth wheel) refl
 
-pub is_turned : (wheel : TimerSmoothWheel) → is_smooth wheel.bank.buckets.slots ≡ true
+pub is_turned : {N : Type 0} {kept : Ghosts N} (wheel : SmoothWheel N kept) → is_smooth wheel.bank.buckets.slots ≡ true
 is_turned wheel = ap is_smooth wheel.bank.bank.has_slots ∙ turns_are_smooth wheel.bank.table
 
 -- and of a smooth wheel it is the other
-pub smooth_chosen : {X : Type 0} (smooth hier : X) (wheel : TimerSmoothWheel)
+pub smooth_chosen : {N : Type 0} {kept : Ghosts N} {X : Type 0} (smooth hier : X) (wheel : SmoothWheel N kept)
     → smooth ≡ (if is_smooth wheel.bank.buckets.slots then smooth else hier)
 smooth_chosen smooth hier wheel = rw (is_turned wheel) refl
 

@@ -11,6 +11,12 @@ use Rattle.timer_wheels.specs.Digits.{lowest_radix}
 use Rattle.timer_wheels.specs.Placement.{hops_of, visited_between, has_any}
 use Rattle.timer_wheels.specs.Tables.{radices_by_slots}
 use Rattle.timer_links.specs.declared.kept.Kept.{Ghosts}
+use Rattle.timer_links.specs.contracts.kept.TimerKept.TheImpl.{ghosts}
+use Rattle.timer_base.specs.declared.timer.Timer.{Timer}
+
+-- the hierarchy that keeps all of a timer
+abbrev pub TimerHierWheel : Type 0
+TimerHierWheel = HierWheel Timer ghosts
 
 -- the state of the wheel
 abbrev pub hier_state : {N : Type 0} {kept : Ghosts N} → HierWheel N kept → WheelState
