@@ -6,10 +6,9 @@ use Rattle.timer_base.proofs.Basics.{some_same, some_none}
 use Rattle.timer_base.specs.declared.limits.TheConstants.{LAST}
 use Rattle.timer_base.specs.declared.timer.Timer.{Timer}
 use Rattle.timer_wheels.specs.Buckets.{row_at}
-use Rattle.timer_links.specs.declared.kept.Kept.{Ghosts}
-use Rattle.timer_wheels.specs.declared.buckets.Buckets.{Buckets}
 use Rattle.timer_base.specs.WheelState.{IsPending}
 use Rattle.timer_links.specs.Lists.{list_at, with_row, appended, front_moved, first_row_moved, KeyedLists, Row, Rows}
+use Rattle.timer_links.specs.declared.kept.Kept.{Ghosts}
 use Rattle.timer_wheels.specs.Bank.{IsBank}
 use Rattle.timer_wheels.specs.BucketLists.{timer_in, entries_of, AreBuckets, EachRow, wheel_state}
 use Rattle.timer_wheels.specs.Digits.{IsTable, HasDigits, radix, level}
@@ -17,6 +16,7 @@ use Rattle.timer_wheels.specs.Migration.{first_deadline}
 use Rattle.timer_wheels.specs.Occupied.{bit_of, filled, AreMarked}
 use Rattle.timer_wheels.specs.Smooth.{slot_in, smooth_list, smooth_slots, next_list, heights, ticks_left, moved_to, mark, smooth_bucket, smooth_level, descend, descend_by, HasTurns, IsByLaw, IsSmooth, Stands, IsStep, IsTicked, stepped}
 use Rattle.timer_wheels.specs.Tables.{radices, wide, clock, small}
+use Rattle.timer_wheels.specs.declared.buckets.Buckets.{Buckets}
 use Rattle.timer_wheels.specs.declared.table.Table.{Table}
 use Rattle.timer_wheels.specs.declared.table.Table.TheVariants.{Wide, Clock, Small}
 use Rattle.timer_wheels.proofs.AllLemmas.{all-both}

@@ -8,9 +8,9 @@ use Rattle.timer_wheels.specs.Digits.{IsTable, weight}
 use Rattle.timer_wheels.specs.Paces.{pace_at, sum_below, pace_sum, pace_for, FitPaces, HasMoved}
 use Rattle.timer_wheels.specs.Smooth.{slot_in, next_list, ticks_left}
 use Rattle.timer_wheels.specs.Tables.{radices, wide, clock, small}
+use Rattle.timer_links.specs.declared.ring.TheConstants.{INDEXES}
 use Rattle.timer_links.specs.declared.kept.Kept.{Ghosts}
 use Rattle.timer_wheels.specs.declared.buckets.Buckets.{Buckets}
-use Rattle.timer_links.specs.declared.ring.TheConstants.{INDEXES}
 use Rattle.timer_wheels.specs.declared.smooth.turns.TheConstants.{MOST_WHEELS}
 use Rattle.timer_wheels.specs.declared.table.Table.{Table}
 use Rattle.timer_wheels.specs.declared.table.Table.TheVariants.{Wide, Clock, Small}

@@ -8,15 +8,15 @@ use Rattle.timer_base.specs.Pending.{Entry, timer_of, is_due_at, entries_due, en
 use Rattle.timer_base.specs.WheelState.{IsPassing, WheelState, held_count, after_tick, after_ticks, Advances}
 use Rattle.timer_base.proofs.TickLaws.{passing_quiet, after_ticks-add}
 use Rattle.timer_links.specs.Lists.{list_at}
+use Rattle.timer_links.specs.declared.kept.Kept.{Ghosts}
 use Rattle.timer_wheels.specs.Bank.{IsBank, next_len}
 use Rattle.timer_wheels.specs.BucketLists.{timer_in, entry_of, entries_of, rows_below, EachRow}
 use Rattle.timer_wheels.specs.Buckets.{state_of}
-use Rattle.timer_links.specs.declared.kept.Kept.{Ghosts}
-use Rattle.timer_wheels.specs.declared.buckets.Buckets.{Buckets}
 use Rattle.timer_wheels.specs.Paces.{pace_at, pace_sum, AreInTime}
 use Rattle.timer_wheels.specs.Smooth.{mark, ticks_left, IsSmooth, IsAheadOf}
 use Rattle.timer_wheels.specs.SmoothWheel.{Passes}
 use Rattle.timer_wheels.specs.Tables.{radices}
+use Rattle.timer_wheels.specs.declared.buckets.Buckets.{Buckets}
 use Rattle.timer_wheels.specs.declared.smooth.turns.TheConstants.{MOST_WHEELS}
 use Rattle.timer_wheels.specs.declared.table.Table.{Table}
 use Rattle.timer_wheels.proofs.AllLemmas.{all-both, all-map}

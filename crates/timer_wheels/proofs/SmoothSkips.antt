@@ -5,12 +5,12 @@ use Rattle.std.proofs.lemmas.Bool.{cases_lt}
 use Rattle.timer_base.specs.declared.timer.Timer.{Timer}
 use Rattle.timer_base.specs.WheelState.{IsPending, IsDue}
 use Rattle.timer_links.specs.Lists.{list_at, Row}
+use Rattle.timer_links.specs.declared.kept.Kept.{Ghosts}
 use Rattle.timer_wheels.specs.Bank.{IsBank}
 use Rattle.timer_wheels.specs.BucketLists.{timer_in, AreBuckets, EachRow}
 use Rattle.timer_wheels.specs.Digits.{IsTable, HasDigits}
 use Rattle.timer_wheels.specs.Smooth.{slot_in, smooth_list, moved_to, mark, IsByLaw, IsSmooth, Stands, IsAheadOf}
 use Rattle.timer_wheels.specs.Tables.{radices}
-use Rattle.timer_links.specs.declared.kept.Kept.{Ghosts}
 use Rattle.timer_wheels.specs.declared.buckets.Buckets.{Buckets}
 use Rattle.timer_wheels.specs.declared.table.Table.{Table}
 use Rattle.timer_wheels.proofs.AllLemmas.{all-both}

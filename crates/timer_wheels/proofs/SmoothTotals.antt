@@ -5,16 +5,16 @@ use Rattle.std.proofs.lemmas.Bool.{cases_eq}
 use Rattle.timer_base.specs.declared.limits.TheConstants.{LAST}
 use Rattle.timer_base.specs.WheelState.{held_count}
 use Rattle.timer_links.specs.Lists.{list_at, row_count, KeyedLists, Rows}
+use Rattle.timer_links.specs.declared.kept.Kept.{Ghosts}
 use Rattle.timer_wheels.specs.Bank.{next_len}
 use Rattle.timer_wheels.specs.BucketLists.{entry_of, rows_below}
 use Rattle.timer_wheels.specs.Buckets.{state_of}
-use Rattle.timer_links.specs.declared.kept.Kept.{Ghosts}
-use Rattle.timer_wheels.specs.declared.buckets.Buckets.{Buckets}
 use Rattle.timer_wheels.specs.Digits.{IsTable, weight, lowest_radix}
 use Rattle.timer_wheels.specs.Paces.{pace_at, pace_sum, FitPaces, AreInTime, HasMoved, tick_bound}
 use Rattle.timer_wheels.specs.Placement.{most_moves}
 use Rattle.timer_wheels.specs.Smooth.{slot_in, next_list, heights, height, ticks_left}
 use Rattle.timer_wheels.specs.Tables.{radices, wide, clock, small}
+use Rattle.timer_wheels.specs.declared.buckets.Buckets.{Buckets}
 use Rattle.timer_wheels.specs.declared.table.Table.{Table}
 use Rattle.timer_wheels.specs.declared.table.Table.TheVariants.{Wide, Clock, Small}
 use Rattle.timer_wheels.proofs.BucketLemmas.{row_count-parts, length-pending_in}

@@ -64,6 +64,9 @@ mod work;
 ///
 /// A timer moves at most nine times in `Table::Wide` and three times in `Table::Clock`, and keeps its place in the order
 /// of starting.
+///
+/// `N` is what its lists keep of a timer. A start and a restart take the timers that it can give back whole; `Timer` keeps
+/// all of them.
 #[derive(Drop)]
 pub struct SmoothWheel<N: Kept = Timer> {
     /// The buckets and their bits.
