@@ -1,5 +1,6 @@
 -- The invariant of a hierarchy of wheels when it is made, after a start and a restart, and what `links` shows.
 use Rattle.timer_base.proofs.Basics.{either}
+use Rattle.timer_links.specs.declared.kept.Kept.{Ghosts}
 use Rattle.timer_wheels.proofs.RoomLemmas.{shows-with_room}
 use Rattle.std.proofs.Common.{◌≡◌, ◌<◌, ◌≤◌, ◌+◌, ◌*◌, ℕ, List, [], ◌∷◌, length, refl, sym, ◌∙◌, ap, subst, inl, inr, arith, Bool, filter, not, nat_lt, replicate}
 use Rattle.std.proofs.lemmas.Bool.{cases_lt}
@@ -12,6 +13,7 @@ use Rattle.timer_base.proofs.HeldLaws.{start_when_later, start_when_now, held_st
 use Rattle.timer_links.specs.Lists.{list_at}
 use Rattle.timer_links.proofs.NewLinks.{no_rows_at}
 use Rattle.timer_wheels.specs.Buckets.{state_of}
+use Rattle.timer_wheels.specs.declared.buckets.Buckets.{Buckets}
 use Rattle.timer_wheels.specs.declared.table.Table.{Table}
 use Rattle.timer_wheels.specs.Tables.{radices}
 use Rattle.timer_wheels.specs.Digits.{slots, level, last_of}
@@ -22,8 +24,6 @@ use Rattle.timer_wheels.proofs.BucketLemmas.{each-none}
 use Rattle.timer_wheels.specs.Shown.{ShowsBuckets}
 use Rattle.timer_wheels.proofs.ShownLemmas.{shows}
 use Rattle.std.proofs.lemmas.Nat.{mul-le}
-use Rattle.timer_wheels.specs.declared.buckets.Buckets.{Buckets}
-use Rattle.timer_links.specs.declared.kept.Kept.{Ghosts}
 
 -- The levels of the timers that are pending.
 

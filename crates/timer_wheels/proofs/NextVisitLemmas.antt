@@ -8,9 +8,11 @@ use Rattle.timer_base.proofs.OrderLaws.{All-weaken}
 use Rattle.timer_base.specs.Pending.{Entry, timer_of, timers_of, entries_due, AreAfter}
 use Rattle.timer_base.proofs.TickLaws.{left_all, after_ticks-now}
 use Rattle.timer_base.specs.WheelState.{WheelState, IsPending, after_ticks}
+use Rattle.timer_links.specs.declared.kept.Kept.{Ghosts}
 use Rattle.timer_wheels.specs.declared.table.TheConstants.{MOST_BUCKETS}
 use Rattle.timer_wheels.specs.declared.table.Table.{Table}
 use Rattle.timer_wheels.specs.Buckets.{state_of, state_of-well_formed}
+use Rattle.timer_wheels.specs.declared.buckets.Buckets.{Buckets}
 use Rattle.timer_wheels.specs.Digits.{IsTable, HasDigits, level, bucket, slots, hops}
 use Rattle.timer_wheels.specs.Hier.{IsHier}
 use Rattle.timer_wheels.specs.Leap.{list_visit, timer_visit, IsNextVisit}
@@ -26,8 +28,6 @@ use Rattle.timer_wheels.proofs.LeapLemmas.{hop_at, leapt_hops}
 use Rattle.timer_wheels.proofs.ShownLemmas.{some_at}
 use Rattle.timer_wheels.proofs.TableLaws.{of_table}
 use Rattle.timer_wheels.proofs.VisitLaws.{visit_near, visit_far, visit_in_time, list_is}
-use Rattle.timer_wheels.specs.declared.buckets.Buckets.{Buckets}
-use Rattle.timer_links.specs.declared.kept.Kept.{Ghosts}
 
 -- At the visit of its bucket the level of a timer falls.
 

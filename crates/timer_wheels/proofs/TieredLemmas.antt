@@ -7,7 +7,9 @@ use Rattle.timer_base.specs.Pending.{Entry, timers_of}
 use Rattle.timer_base.specs.WakeUps.{IsWakeUp, next_deadline}
 use Rattle.timer_base.specs.WheelState.{WheelState, IsPending, IsWellFormed}
 use Rattle.timer_base.specs.declared.limits.TheConstants.{LAST}
+use Rattle.timer_links.specs.declared.kept.Kept.{Ghosts}
 use Rattle.timer_wheels.specs.Buckets.{state_of, state_of-well_formed}
+use Rattle.timer_wheels.specs.declared.buckets.Buckets.{Buckets}
 use Rattle.timer_wheels.specs.HierWheel.{table_of}
 use Rattle.timer_wheels.specs.declared.smooth.SmoothWheel.{SmoothWheel}
 use Rattle.timer_wheels.specs.Tables.{slots_of_table, wide, clock, small}
@@ -16,8 +18,6 @@ use Rattle.timer_wheels.specs.declared.hier.HierWheel.{HierWheel}
 use Rattle.timer_wheels.specs.declared.table.Table.{Table}
 use Rattle.timer_wheels.specs.declared.table.Table.TheVariants.{Wide, Clock, Small}
 use Rattle.timer_wheels.specs.declared.tiered.TheConstants.{NEVER}
-use Rattle.timer_wheels.specs.declared.buckets.Buckets.{Buckets}
-use Rattle.timer_links.specs.declared.kept.Kept.{Ghosts}
 
 slots_are_not : (table : Table) → is_smooth (slots_of_table table) ≡ false
 unfolding wide clock small

@@ -9,9 +9,11 @@ use Rattle.timer_base.specs.declared.timer.Handle.{Handle}
 use Rattle.timer_base.specs.WheelState.{IsPending, IsDue, held_at}
 use Rattle.timer_links.specs.declared.node.Node.{Node}
 use Rattle.timer_links.specs.Lists.{list_at, with_row, without_key, list_if_alone, AreApart, IsAloneIn, KeyedLists, Row, Rows}
+use Rattle.timer_links.specs.declared.kept.Kept.{Ghosts}
 use Rattle.timer_wheels.specs.declared.table.TheConstants.{MOST_BUCKETS}
 use Rattle.timer_wheels.specs.declared.table.Table.{Table}
 use Rattle.timer_wheels.specs.Buckets.{IsSameFrame, IsListOf}
+use Rattle.timer_wheels.specs.declared.buckets.Buckets.{Buckets}
 use Rattle.timer_wheels.specs.BucketLists.{timer_in, wheel_state, AreDue, AreBuckets, EachRow}
 use Rattle.timer_wheels.specs.Digits.{bucket, slots, last_of, lowest_radix}
 use Rattle.timer_wheels.specs.Firsts.{FirstsState, AreFirsts}
@@ -26,8 +28,6 @@ use Rattle.timer_wheels.proofs.Handles.{held_node}
 use Rattle.timer_wheels.proofs.OccupiedLemmas.{marked_same, marked_set, filled_behind}
 use Rattle.timer_wheels.proofs.RowLemmas.{all-rest, all-list_at}
 use Rattle.timer_wheels.proofs.TableLaws.{of_table}
-use Rattle.timer_wheels.specs.declared.buckets.Buckets.{Buckets}
-use Rattle.timer_links.specs.declared.kept.Kept.{Ghosts}
 
 module _ (n : ℕ) (words words2 : List ℕ) (l : ℕ) (lists : KeyedLists) (h : l < n) (b : l < length lists)
     (t : AreMarked n words lists) where

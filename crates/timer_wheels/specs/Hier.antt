@@ -1,7 +1,9 @@
 -- The invariant of the buckets of a hierarchy of wheels and of their bits.
 use Rattle.std.specs.Prelude.{◌≡◌, ◌≢◌, ℕ, List, Option, MatchOption}
 use Rattle.std.proofs.Props.{props}
+use Rattle.timer_links.specs.declared.kept.Kept.{Ghosts}
 use Rattle.timer_wheels.specs.Buckets.{state_of}
+use Rattle.timer_wheels.specs.declared.buckets.Buckets.{Buckets}
 use Rattle.timer_wheels.specs.declared.table.Table.{Table}
 use Rattle.timer_wheels.specs.Digits.{slots, last_of, lowest_radix}
 use Rattle.timer_wheels.specs.Firsts.{FirstsState, Enters, Leaves, Empties, AreFirsts, AreFirsts-prop}
@@ -10,8 +12,6 @@ use Rattle.timer_wheels.specs.Placement.{IsPlaced, IsPlaced-prop, levels_of}
 use Rattle.timer_wheels.specs.Tables.{radices}
 use Rattle.timer_wheels.specs.BucketLaws.{EachRow-prop}
 use Rattle.timer_wheels.specs.BucketLists.{EachRow}
-use Rattle.timer_wheels.specs.declared.buckets.Buckets.{Buckets}
-use Rattle.timer_links.specs.declared.kept.Kept.{Ghosts}
 
 -- each row of the buckets is in its timer's bucket
 abbrev pub ArePlaced : {N : Type 0} {kept : Ghosts N} → Table → Buckets N kept → Type 0

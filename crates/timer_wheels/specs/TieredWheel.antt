@@ -2,7 +2,9 @@
 use Rattle.std.proofs.Common.{◌≡◌, ◌==◌, ◌∙◌, ap, ℕ, Bool, true, false, if◌then◌else◌, List, Option, Some, None, refl}
 use Rattle.timer_base.specs.Counts.{WheelCounts}
 use Rattle.timer_base.specs.WheelState.{WheelState, IsWellFormed}
+use Rattle.timer_links.specs.declared.kept.Kept.{Ghosts}
 use Rattle.timer_wheels.specs.Buckets.{state_of, state_of-well_formed}
+use Rattle.timer_wheels.specs.declared.buckets.Buckets.{Buckets}
 use Rattle.timer_wheels.specs.HierWheel.{counts_of, counts_of_tick, counts_of_advance}
 use Rattle.timer_wheels.specs.Smooth.{smooth_slots}
 use Rattle.timer_wheels.specs.SmoothWheel.{starts_of, moves_of, moves_ahead, radices_by_turns}
@@ -12,8 +14,6 @@ use Rattle.timer_wheels.specs.declared.table.Table.TheVariants as tables
 use Rattle.timer_wheels.specs.declared.tiered.TheConstants.{NEVER}
 use Rattle.timer_wheels.specs.declared.tiered.TieredWheel.{TieredWheel}
 use Rattle.timer_wheels.specs.declared.tiered.TieredWheel.TheVariants.{Hier, Smooth}
-use Rattle.timer_wheels.specs.declared.buckets.Buckets.{Buckets}
-use Rattle.timer_links.specs.declared.kept.Kept.{Ghosts}
 
 -- the buckets of either wheel
 abbrev pub buckets_in : {N : Type 0} {kept : Ghosts N} → TieredWheel N kept → Buckets N kept

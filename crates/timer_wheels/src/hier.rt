@@ -100,6 +100,9 @@ impl Counts {
 /// A timer moves at most nine times in `Table::Wide` and three times in `Table::Clock`, and keeps its
 /// place in the order of starting. At about 4.29 billion timers, the most that its links can name (after a
 /// `reserve` maybe at half of them), `start` returns out of memory though no allocation failed.
+///
+/// `N` is what its lists keep of a timer. A start and a restart take the timers that it can give back whole; `Timer` keeps
+/// all of them.
 #[derive(Drop)]
 pub struct HierWheel<N: Kept = Timer> {
     wheels: Wheels<N>,
@@ -112,13 +115,13 @@ pub struct HierWheel<N: Kept = Timer> {
         (state_of wheels.buckets).pending },
 }
 
-impl<N: Kept> HierWheel<N> {
-    ghost use Rattle.timer_wheels.specs.HierWheel.{hier_state, table_of, counts_of, counts_of_tick, IsHierFault};
+impl HierWheel {
+    ghost use Rattle.timer_wheels.specs.HierWheel.{hier_state, table_of, counts_of, IsHierFault};
 
     /// An empty hierarchy of ten wheels of 64 slots, a clock of 2^60 ticks, at its first tick.
     ///
     /// Errors, in this order: `FirstTick` above `LAST`; `OutOfMemory`.
-    pub fn new(alloc: Global, first_tick: u64) -> Result<HierWheel<N>, MakeFault>
+    pub fn new(alloc: Global, first_tick: u64) -> Result<HierWheel, MakeFault>
         ensures state { IfOk result (λ wheel. hier_state wheel
             ≡ empty_wheel (slots_of_table Wide) LAST first_tick) }
         ensures counts { IfOk result (λ wheel. counts_of wheel ≡ record {
@@ -137,12 +140,28 @@ impl<N: Kept> HierWheel<N> {
     ///
     /// Errors, in this order: `FirstTick` above the table's last tick, which is `LAST` or
     /// `LAST_OF_CLOCK`; `OutOfMemory`.
+    pub fn with_table(alloc: Global, table: Table, first_tick: u64) -> Result<HierWheel, MakeFault>
+        ensures state { IfOk result (λ wheel. hier_state wheel
+            ≡ empty_wheel (slots_of_table table) (last_of_table table) first_tick) }
+        ensures counts { IfOk result (λ wheel. counts_of wheel ≡ record {
+          starts = 0;
+          moves = 0;
+          visits = 0;
+        }) }
+        ensures table { IfOk result (λ wheel. table_of wheel ≡ table) }
+        ensures in_range { IfOk result (λ wheel. first_tick ≤ last_of_table table) }
+        ensures fault { IfErr result (λ fault. IsHierFault (last_of_table table) first_tick fault) }
+    {
+        HierWheel::keeping(alloc, table, first_tick)
+    }
+}
+
+impl<N: Kept> HierWheel<N> {
+    ghost use Rattle.timer_wheels.specs.HierWheel.{hier_state, table_of, counts_of, counts_of_tick, IsHierFault};
+
+    /// The same as `with_table`, whose lists keep of a timer what `N` says.
     #[tactic(auto, using(crate::proofs::HierLemmas::new_paid))]
-    pub fn with_table(
-        alloc: Global,
-        table: Table,
-        first_tick: u64,
-    ) -> Result<HierWheel<N>, MakeFault>
+    pub fn keeping(alloc: Global, table: Table, first_tick: u64) -> Result<HierWheel<N>, MakeFault>
         ensures state { IfOk result (λ wheel. hier_state wheel
             ≡ empty_wheel (slots_of_table table) (last_of_table table) first_tick) }
         ensures counts { IfOk result (λ wheel. counts_of wheel ≡ record {

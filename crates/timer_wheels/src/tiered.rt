@@ -27,7 +27,7 @@ use timer_links::Kept;
 /// In place of a tick: there is none.
 pub const NEVER: u64 = u64::MAX;
 
-/// One of the two hierarchies.
+/// One of the two hierarchies. `N` is what its lists keep of a timer.
 #[derive(Drop)]
 pub enum TieredWheel<N: Kept = Timer> {
     /// Scheme 7, which empties a bucket as its time comes.
@@ -75,7 +75,7 @@ impl<N: Kept> TieredWheel<N> {
         ensures in_range { IfOk result (λ wheel. first_tick ≤ last_of_table table) }
         ensures fault { IfErr result (λ fault. IsHierFault (last_of_table table) first_tick fault) }
     {
-        let wheel = HierWheel::with_table(alloc, table, first_tick)?;
+        let wheel = HierWheel::keeping(alloc, table, first_tick)?;
         Ok(TieredWheel::Hier(wheel))
     }
 

@@ -1,4 +1,5 @@
 use Rattle.std.proofs.Common.{◌≡◌, ◌≤◌, ◌+◌, ◌/◌, ◌%◌, ℕ, subst, sym}
+use Rattle.timer_links.specs.declared.kept.Kept.{Ghosts}
 use Rattle.timer_wheels.specs.declared.table.Table.{Table}
 use Rattle.timer_wheels.specs.Digits.{lowest_radix}
 use Rattle.timer_wheels.specs.declared.table.Table.TheVariants.{Wide, Clock, Small}
@@ -8,7 +9,6 @@ use Rattle.timer_wheels.specs.Occupied.{bit_of}
 use Rattle.timer_wheels.specs.Tables.{radices}
 use Rattle.timer_wheels.proofs.HierLeaps.{quiet_to}
 use Rattle.timer_wheels.proofs.wheels.Wheels.is_quiet_to.Goals as goal
-use Rattle.timer_links.specs.declared.kept.Kept.{Ghosts}
 
 abbrev IsWithin : {N : Type 0} {kept : Ghosts N} → Wheels N kept → ℕ → Table → Type 0
 IsWithin w end t = end / lowest_radix (radices t) ≡ w.buckets.tick / lowest_radix (radices t)
