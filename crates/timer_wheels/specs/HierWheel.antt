@@ -4,19 +4,13 @@ use Rattle.timer_base.specs.declared.fault.MakeFault.{MakeFault}
 use Rattle.timer_base.specs.declared.fault.MakeFault.TheVariants.{FirstTick, OutOfMemory}
 use Rattle.timer_base.specs.Counts.{WheelCounts}
 use Rattle.timer_base.specs.WheelState.{WheelState}
-use Rattle.timer_base.specs.declared.timer.Timer.{Timer}
 use Rattle.timer_links.specs.declared.kept.Kept.{Ghosts}
-use Rattle.timer_links.specs.contracts.kept.TimerKept.TheImpl.{ghosts}
 use Rattle.timer_wheels.specs.Buckets.{state_of}
 use Rattle.timer_wheels.specs.declared.hier.HierWheel.{HierWheel}
 use Rattle.timer_wheels.specs.declared.table.Table.{Table}
 use Rattle.timer_wheels.specs.Digits.{lowest_radix}
 use Rattle.timer_wheels.specs.Placement.{hops_of, visited_between, has_any}
 use Rattle.timer_wheels.specs.Tables.{radices_by_slots}
-
--- the hierarchy that keeps all of a timer
-abbrev pub TimerHierWheel : Type 0
-TimerHierWheel = HierWheel Timer ghosts
 
 -- the state of the wheel
 abbrev pub hier_state : {N : Type 0} {kept : Ghosts N} → HierWheel N kept → WheelState
