@@ -16,9 +16,10 @@
 //! equation on this record. The four routines of G. Varghese and T. Lauck, "Hashed and Hierarchical Timing
 //! Wheels" (SOSP 1987), are `start` (START_TIMER), `stop` (STOP_TIMER), `per_tick` (PER_TICK_BOOKKEEPING) and
 //! `expire` (the timers that their EXPIRY_PROCESSING is for).
-ghost use Rattle.std.specs.Prelude.{◌≡◌, ◌<◌, ◌≤◌, ◌-◌, ◌↔◌, ℕ, List, [], Option, length, IsTrue, IfOk, OnOk, OnErr, IfSome, MatchOption, MatchResult, vec_capacity};
+ghost use Rattle.std.specs.Prelude.{◌≡◌, ◌<◌, ◌≤◌, ◌-◌, ◌↔◌, ⊤, ℕ, List, [], Option, length, IsTrue, IfOk, OnOk, OnErr, IfSome, MatchOption, MatchResult, vec_capacity};
 ghost use Rattle.timer_base.specs.declared.limits.TheConstants.{LAST};
 ghost use Rattle.timer_base.specs.Counts.{WheelCounts, no_counts};
+ghost use Rattle.timer_base.specs.declared.timer.Timer.{Timer};
 ghost use Rattle.timer_base.specs.Pending.{Entry, timers_of};
 ghost use Rattle.timer_base.specs.WakeUps.{IsQuietUntil, next_deadline};
 ghost use Rattle.timer_base.specs.WheelState.{WheelState, IsWellFormed, NamesOne, held_at, held_count, old_timer, first_due, after_reserve, after_held_start, after_removal, after_replacement, after_tick, after_expiry, after_clear, Advances};
@@ -34,6 +35,10 @@ pub trait Wheel {
     /// The tick that `quiet_until` returns, from the number of slots, the present tick and the pending timers:
     /// each wheel says which it is.
     ghost wake_up: { ℕ → ℕ → List Entry → Option ℕ };
+
+    /// The timers that it can give back whole: a start and a restart take no others. A wheel that keeps all of a timer
+    /// leaves this out.
+    ghost keeps: { Timer → Type 0 } = { λ _. ⊤ };
 
     /// What it counted since it was made. No other call changes it than a start, a restart and ticks. A wheel
     /// that counts nothing leaves out these members.
@@ -84,6 +89,7 @@ pub trait Wheel {
         requires deadline { timer.deadline ≤ (state self.old).last_tick }
         requires fresh { (state self.old).last_serial < timer.serial }
         requires serial { timer.serial ≤ LAST }
+        requires keeps { keeps timer }
         ensures named { IfOk result (λ handle. handle.serial ≡ timer.serial) }
         ensures started { IfOk result (λ handle. state self.new
             ≡ after_held_start handle.place timer (state self.old)) }
@@ -132,6 +138,7 @@ pub trait Wheel {
         requires deadline { timer.deadline ≤ (state self.old).last_tick }
         requires fresh { (state self.old).last_serial < timer.serial }
         requires serial { timer.serial ≤ LAST }
+        requires keeps { keeps timer }
         ensures old { old_timer result ≡ held_at handle (state self.old) }
         ensures named { IfSome result (λ r. r.0.serial ≡ timer.serial) }
         ensures restarted { state self.new ≡ after_replacement result handle timer (state self.old) }

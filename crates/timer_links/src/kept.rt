@@ -1,7 +1,8 @@
 //! What lists keep of a node: all of it, or the part that their wheel needs.
 //!
-//!     Node     40 bytes of a timer, and 8 of its rounds    for a hashed wheel
-//!     Timer    the 40 bytes                                for a hierarchy, which needs no rounds
+//!     Node       40 bytes of a timer, and 8 of its rounds     for a hashed wheel
+//!     Timer      the 40 bytes                                 for a hierarchy, which needs no rounds
+//!     Unowned    24 bytes: serial, deadline and action        for a hierarchy whose timers all have client 0 and number 0
 //!
 //! It stands for a whole node. So the contracts of `Links` name whole nodes, whatever is kept of them.
 ghost use Rattle.std.specs.Prelude.{◌≡◌, ⊤};
@@ -69,5 +70,49 @@ impl Kept for Timer {
             timer: *self,
             rounds: 0,
         }
+    }
+}
+
+/// What is kept of a timer whose client and number are 0, without rounds.
+#[derive(Clone, Copy, Debug)]
+pub struct Unowned {
+    /// The serial.
+    pub serial: u64,
+    /// The deadline.
+    pub deadline: u64,
+    /// The action.
+    pub action: u64,
+}
+
+/// Serial, deadline and action stand for a node of client 0, number 0 and no rounds.
+impl Kept for Unowned {
+    ghost keeps = { λ node. (node.rounds ≡ 0) × (node.timer.client ≡ 0) × (node.timer.number ≡ 0) };
+
+    ghost node_of = { λ unowned. record {
+      timer = record { serial = unowned.serial; client = 0; number = 0; deadline = unowned.deadline; action = unowned.action };
+      rounds = 0;
+    } };
+
+    ghost cloned = { λ kept copy is. is };
+
+    #[inline(always)]
+    fn keep(node: Node) -> Unowned {
+        Unowned {
+            serial: node.timer.serial,
+            deadline: node.timer.deadline,
+            action: node.timer.action,
+        }
+    }
+
+    #[inline(always)]
+    fn node(&self) -> Node {
+        let timer = Timer {
+            serial: self.serial,
+            client: 0,
+            number: 0,
+            deadline: self.deadline,
+            action: self.action,
+        };
+        timer.node()
     }
 }

@@ -10,12 +10,14 @@ use Rattle.timer_base.specs.WheelState.{IsPending, IsDue, held_at}
 use Rattle.timer_links.proofs.Rows.{StandsIn, stands_in}
 use Rattle.timer_links.specs.declared.node.Node.{Node}
 use Rattle.timer_links.specs.Lists.{list_at, with_row, without_key, AreApart, KeyedLists, Row, Rows}
+use Rattle.timer_links.specs.declared.kept.Kept.{Ghosts}
 use Rattle.timer_wheels.specs.Bank.{IsBank, wheel_of}
 use Rattle.timer_wheels.specs.BucketLists.{timer_in}
-use Rattle.timer_wheels.specs.Buckets.{TimerBuckets, state_of}
+use Rattle.timer_wheels.specs.Buckets.{state_of}
 use Rattle.timer_wheels.specs.Digits.{IsTable, HasDigits, level}
 use Rattle.timer_wheels.specs.Smooth.{slot_in, smooth_list, smooth_level, smooth_bucket, mark, height, heights, descend_by, IsByLaw}
 use Rattle.timer_wheels.specs.Tables.{radices}
+use Rattle.timer_wheels.specs.declared.buckets.Buckets.{Buckets}
 use Rattle.timer_wheels.specs.declared.table.Table.{Table}
 use Rattle.timer_wheels.proofs.BankLemmas.{lists_in_range, turns_of_table, bits_are_law}
 use Rattle.timer_wheels.proofs.DigitLaws.{digits_down, level_in_table}
@@ -25,7 +27,7 @@ use Rattle.timer_wheels.proofs.SmoothHeights.{height_is, heights_above, heights_
 use Rattle.timer_wheels.proofs.SmoothLaws.{descend_below}
 use Rattle.timer_wheels.proofs.TableLaws.{of_table}
 
-module _ (t : Table) (b : TimerBuckets) (words : List ℕ) (h : IsBank t b words) (timer : Timer) (list : ℕ)
+module _ {N : Type 0} {kept : Ghosts N} (t : Table) (b : Buckets N kept) (words : List ℕ) (h : IsBank t b words) (timer : Timer) (list : ℕ)
     (in_range : timer.deadline ≤ b.last_tick) (fresh : b.last_serial < timer.serial) (serial : timer.serial ≤ LAST) where
   table : IsTable (radices t)
   table = (of_table t).is_table
@@ -75,7 +77,7 @@ length-around : (front rest : Rows) (row : Row) → length (front ++ row ∷ res
 length-around [] rest row = (let e : suc (length rest) ≡ length rest + 1 = omega arith in e)
 length-around (x ∷ xs) rest row = (let h = length-around xs rest row in omega arith)
 
-module _ (t : Table) (b : TimerBuckets) (words : List ℕ) (h : IsBank t b words) (handle : Handle) (apart : AreApart b.links.lists) (timer : Timer)
+module _ {N : Type 0} {kept : Ghosts N} (t : Table) (b : Buckets N kept) (words : List ℕ) (h : IsBank t b words) (handle : Handle) (apart : AreApart b.links.lists) (timer : Timer)
     (e : held_at handle (state_of b) ≡ Some timer) where
   node : Node
   node = (held_node b.sound apart handle timer e).node

@@ -5,9 +5,10 @@ use Rattle.std.proofs.lemmas.Bool.{cases_eq, cases_lt}
 use Rattle.timer_base.proofs.Basics.{some_same, some_none}
 use Rattle.timer_base.specs.declared.limits.TheConstants.{LAST}
 use Rattle.timer_base.specs.declared.timer.Timer.{Timer}
-use Rattle.timer_wheels.specs.Buckets.{TimerBuckets, row_at}
+use Rattle.timer_wheels.specs.Buckets.{row_at}
 use Rattle.timer_base.specs.WheelState.{IsPending}
 use Rattle.timer_links.specs.Lists.{list_at, with_row, appended, front_moved, first_row_moved, KeyedLists, Row, Rows}
+use Rattle.timer_links.specs.declared.kept.Kept.{Ghosts}
 use Rattle.timer_wheels.specs.Bank.{IsBank}
 use Rattle.timer_wheels.specs.BucketLists.{timer_in, entries_of, AreBuckets, EachRow, wheel_state}
 use Rattle.timer_wheels.specs.Digits.{IsTable, HasDigits, radix, level}
@@ -15,6 +16,7 @@ use Rattle.timer_wheels.specs.Migration.{first_deadline}
 use Rattle.timer_wheels.specs.Occupied.{bit_of, filled, AreMarked}
 use Rattle.timer_wheels.specs.Smooth.{slot_in, smooth_list, smooth_slots, next_list, heights, ticks_left, moved_to, mark, smooth_bucket, smooth_level, descend, descend_by, HasTurns, IsByLaw, IsSmooth, Stands, IsStep, IsTicked, stepped}
 use Rattle.timer_wheels.specs.Tables.{radices, wide, clock, small}
+use Rattle.timer_wheels.specs.declared.buckets.Buckets.{Buckets}
 use Rattle.timer_wheels.specs.declared.table.Table.{Table}
 use Rattle.timer_wheels.specs.declared.table.Table.TheVariants.{Wide, Clock, Small}
 use Rattle.timer_wheels.proofs.AllLemmas.{all-both}
@@ -123,7 +125,7 @@ first_row d [] e = absurd (some_none d e)
 first_row d (x ∷ xs) e = record { row = x; rest = xs; at = refl; deadline = some_same (timer_in x).deadline d (sym e) }
 
 -- what one move leaves
-pub record IsMoved (t : Table) (b : TimerBuckets) (wheel from to : ℕ) (new : KeyedLists) : Type 0 where
+pub record IsMoved {N : Type 0} {kept : Ghosts N} (t : Table) (b : Buckets N kept) (wheel from to : ℕ) (new : KeyedLists) : Type 0 where
   pub sound : AreBuckets b.slots b.last_tick b.tick b.last_serial new
   pub state : wheel_state b.slots b.last_tick b.tick b.last_serial new ≡ wheel_state b.slots b.last_tick b.tick b.last_serial b.links.lists
   pub placed : EachRow (IsByLaw (radices t) b.tick (mark (radices t) b.tick new)) b.slots new
@@ -142,7 +144,7 @@ pub record IsMoved (t : Table) (b : TimerBuckets) (wheel from to : ℕ) (new : K
   pub next_same : (ticks_left (radices t) b.tick wheel ≡ 0 → length (list_at from b.links.lists) ≡ 0) → (j : ℕ) → 0 < j
       → j < length (radices t) → j ≢ wheel → list_at (next_list (radices t) b.tick j) new ≡ list_at (next_list (radices t) b.tick j) b.links.lists
 
-module _ (t : Table) (b : TimerBuckets) (words : List ℕ) (h : IsBank t b words) (k d to : ℕ) (wheel : suc k < length (radices t))
+module _ {N : Type 0} {kept : Ghosts N} (t : Table) (b : Buckets N kept) (words : List ℕ) (h : IsBank t b words) (k d to : ℕ) (wheel : suc k < length (radices t))
     (e : Some d ≡ first_deadline (list_at (next_list (radices t) b.tick (suc k)) b.links.lists))
     (goes : to ≡ smooth_list (radices t) (descend_by (radices t) b.tick words d k)
     (slot_in (radices t) (descend_by (radices t) b.tick words d k) d)) where
@@ -283,7 +285,7 @@ is_none (x ∷ xs) = inr (λ (e : x ∷ xs ≡ []). nothing x xs e) where
   nothing : (x : Row) (xs : Rows) → x ∷ xs ≡ [] → ⊥
   nothing x xs e = let q : suc (length xs) ≡ 0 = ap (λ (r : Rows). length r) e in omega arith
 
-pub marked_moved : {t : Table} {b : TimerBuckets} {wheel from to : ℕ} {new : KeyedLists} (words words2 words3 : List ℕ) → IsMoved t b wheel from to new
+pub marked_moved : {N : Type 0} {kept : Ghosts N} {t : Table} {b : Buckets N kept} {wheel from to : ℕ} {new : KeyedLists} (words words2 words3 : List ℕ) → IsMoved t b wheel from to new
     → AreMarked b.slots words b.links.lists → bit_of words2 to ≡ 1 → ((s : ℕ) → s ≢ to → bit_of words2 s ≡ bit_of words s)
     → (list_at from new ≡ [] → bit_of words3 from ≡ 0) → (list_at from new ≢ [] → bit_of words3 from ≡ bit_of words2 from)
     → ((s : ℕ) → s ≢ from → bit_of words3 s ≡ bit_of words2 s) → AreMarked b.slots words3 new
@@ -303,7 +305,7 @@ marked_moved {t} {b} {wheel} {from} {to} {new} words words2 words3 m marked here
 )
 
 -- from what the calls of `move_one` return
-pub moved_by : (t : Table) (b : TimerBuckets) (words : List ℕ) (h : IsBank t b words) (wheel from d below slot to : ℕ) → 0 < wheel
+pub moved_by : {N : Type 0} {kept : Ghosts N} (t : Table) (b : Buckets N kept) (words : List ℕ) (h : IsBank t b words) (wheel from d below slot to : ℕ) → 0 < wheel
     → wheel < length (radices t) → from ≡ next_list (radices t) b.tick wheel → Some d ≡ first_deadline (list_at from b.links.lists)
     → below ≡ descend_by (radices t) b.tick words d (wheel - 1) → slot ≡ slot_in (radices t) below d
     → to ≡ smooth_list (radices t) below slot → (new : KeyedLists) → new ≡ front_moved from to b.links.lists → IsMoved t b wheel from to new
@@ -319,7 +321,7 @@ moved_by t b words h (suc k) from d below slot to z w ef ed eb es et new q =
 
 -- One tick.
 
-module _ (t : Table) (b : TimerBuckets) (words : List ℕ) (h : IsBank t b words) (before_last : b.tick < b.last_tick)
+module _ {N : Type 0} {kept : Ghosts N} (t : Table) (b : Buckets N kept) (words : List ℕ) (h : IsBank t b words) (before_last : b.tick < b.last_tick)
     (nothing_due : entries_of (list_at b.slots b.links.lists) ≡ [])
     (empty : (k : ℕ) → 0 < k → k < length (radices t) → slot_in (radices t) k (b.tick + 1) ≡ slot_in (radices t) k b.tick + 1
     → list_at (next_list (radices t) b.tick k) b.links.lists ≡ []) where
@@ -382,7 +384,7 @@ module _ (t : Table) (b : TimerBuckets) (words : List ℕ) (h : IsBank t b words
       )
 
 -- for a timer that is started now the bits lead where the law says
-pub bits_are_law : (t : Table) (b : TimerBuckets) (words : List ℕ) (h : IsBank t b words) (timer : Timer) → b.last_serial < timer.serial
+pub bits_are_law : {N : Type 0} {kept : Ghosts N} (t : Table) (b : Buckets N kept) (words : List ℕ) (h : IsBank t b words) (timer : Timer) → b.last_serial < timer.serial
     → timer.serial ≤ LAST → (k : ℕ) → k < length (radices t) → descend_by (radices t) b.tick words timer.deadline k
     ≡ descend (radices t) b.tick (mark (radices t) b.tick b.links.lists) timer.deadline timer.serial k
 bits_are_law t b words h timer fresh serial k l =
@@ -399,7 +401,7 @@ bits_are_law t b words h timer fresh serial k l =
 
 -- A start.
 
-module _ (t : Table) (b : TimerBuckets) (words : List ℕ) (h : IsBank t b words) (timer : Timer) (place list last2 : ℕ)
+module _ {N : Type 0} {kept : Ghosts N} (t : Table) (b : Buckets N kept) (words : List ℕ) (h : IsBank t b words) (timer : Timer) (place list last2 : ℕ)
     (in_range : timer.deadline ≤ b.last_tick) (fresh : b.last_serial < timer.serial) (serial : timer.serial ≤ LAST)
     (sound : AreBuckets b.slots b.last_tick b.tick last2 (with_row list (row_at place timer 0) b.links.lists)) where
   start_digits : HasDigits (radices t) b.last_tick
@@ -477,7 +479,7 @@ start_marked n now lists words words2 row list d marked len (inr q) pending due 
 
 -- A change of the due timers alone.
 
-pub same_placed : (t : Table) (b : TimerBuckets) (words : List ℕ) (h : IsBank t b words) (last2 : ℕ) (new : KeyedLists)
+pub same_placed : {N : Type 0} {kept : Ghosts N} (t : Table) (b : Buckets N kept) (words : List ℕ) (h : IsBank t b words) (last2 : ℕ) (new : KeyedLists)
     → AreBuckets b.slots b.last_tick b.tick last2 new → ((s : ℕ) → s < b.slots → list_at s new ≡ list_at s b.links.lists)
     → EachRow (IsByLaw (radices t) b.tick (mark (radices t) b.tick new)) b.slots new
 same_placed t b words h last2 new sound same =

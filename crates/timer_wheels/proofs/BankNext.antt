@@ -4,12 +4,14 @@ use Rattle.std.proofs.lemmas.Bool.{eqb-true, eq-eqb}
 use Rattle.timer_base.proofs.Basics.{either}
 use Rattle.timer_base.specs.declared.timer.Timer.{Timer}
 use Rattle.timer_links.specs.Lists.{list_at, with_row, without_key, KeyedLists, Row, Rows}
+use Rattle.timer_links.specs.declared.kept.Kept.{Ghosts}
 use Rattle.timer_wheels.specs.Bank.{IsBank, next_len, potential_of, AllShrink, IsNextOf, ComesTo}
-use Rattle.timer_wheels.specs.Buckets.{TimerBuckets, IsSameFrame, IsListOf}
+use Rattle.timer_wheels.specs.Buckets.{IsSameFrame, IsListOf}
 use Rattle.timer_wheels.specs.Digits.{IsTable, HasDigits, radix, level}
 use Rattle.timer_wheels.specs.Occupied.{bit_of, filled}
 use Rattle.timer_wheels.specs.Smooth.{slot_in, smooth_list, is_in_next, next_list, heights, descend_by}
 use Rattle.timer_wheels.specs.Tables.{radices}
+use Rattle.timer_wheels.specs.declared.buckets.Buckets.{Buckets}
 use Rattle.timer_wheels.specs.declared.table.Table.{Table}
 use Rattle.timer_wheels.proofs.BankLemmas.{lists_in_range, turns_of_table}
 use Rattle.timer_wheels.proofs.DigitLaws.{digits_down}
@@ -29,7 +31,7 @@ pub some_rows : (rows : Rows) → filled rows ≡ 1 → 0 < length rows
 some_rows [] e = absurd (omega arith)
 some_rows (x ∷ xs) e = omega arith
 
-module _ (t : Table) (b : TimerBuckets) (words : List ℕ) (h : IsBank t b words) where
+module _ {N : Type 0} {kept : Ghosts N} (t : Table) (b : Buckets N kept) (words : List ℕ) (h : IsBank t b words) where
   ranges : (j s : ℕ) → j < length (radices t) → smooth_list (radices t) j s < b.slots
   ranges j s l = rw h.has_slots (lists_in_range t j s l)
 
@@ -112,7 +114,7 @@ module _ (t : Table) (b : TimerBuckets) (words : List ℕ) (h : IsBank t b words
 
   -- Lists that get shorter.
 
-  module _ (new : TimerBuckets) (f : IsSameFrame b new)
+  module _ (new : Buckets N kept) (f : IsSameFrame b new)
       (shorter : (s : ℕ) → s < b.slots → length (list_at s new.links.lists) ≤ length (list_at s b.links.lists)) where
     pub all_shrink : AllShrink t b new
     all_shrink j z l =
@@ -128,7 +130,7 @@ module _ (t : Table) (b : TimerBuckets) (words : List ℕ) (h : IsBank t b words
 
   -- A row comes to the back of a list, after others got shorter.
 
-  module _ (new : TimerBuckets) (f : IsSameFrame b new) (mid : KeyedLists) (list wheel d : ℕ) (row : Row)
+  module _ (new : Buckets N kept) (f : IsSameFrame b new) (mid : KeyedLists) (list wheel d : ℕ) (row : Row)
       (is : new.links.lists ≡ with_row list row mid)
       (shorter : (s : ℕ) → s < b.slots → length (list_at s mid) ≤ length (list_at s b.links.lists)) (len : length mid ≡ b.slots + 1)
       (of : IsListOf list b.slots b.tick d) (next : IsNextOf (radices t) b.tick words list wheel) where

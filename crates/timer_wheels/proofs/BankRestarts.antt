@@ -9,12 +9,14 @@ use Rattle.timer_base.specs.declared.timer.Timer.{Timer}
 use Rattle.timer_base.specs.declared.timer.Handle.{Handle}
 use Rattle.timer_base.specs.WheelState.{IsPending}
 use Rattle.timer_links.specs.Lists.{list_at, with_row, without_key}
+use Rattle.timer_links.specs.declared.kept.Kept.{Ghosts}
 use Rattle.timer_wheels.specs.Bank.{IsBank}
 use Rattle.timer_wheels.specs.BucketLists.{timer_in, AreBuckets, EachRow}
-use Rattle.timer_wheels.specs.Buckets.{TimerBuckets, row_at}
+use Rattle.timer_wheels.specs.Buckets.{row_at}
 use Rattle.timer_wheels.specs.Digits.{IsTable, HasDigits, level}
 use Rattle.timer_wheels.specs.Smooth.{slot_in, smooth_list, next_list, moved_to, mark, descend_by, IsByLaw, IsSmooth}
 use Rattle.timer_wheels.specs.Tables.{radices}
+use Rattle.timer_wheels.specs.declared.buckets.Buckets.{Buckets}
 use Rattle.timer_wheels.specs.declared.table.Table.{Table}
 use Rattle.timer_wheels.proofs.BankLemmas.{to_relation, to_law, lists_in_range, turns_of_table}
 use Rattle.timer_wheels.proofs.BankStops.{stopped_placed}
@@ -27,7 +29,7 @@ use Rattle.timer_wheels.proofs.SmoothStarts.{GoesByBits, goes_by_bits, newest_ot
 use Rattle.timer_wheels.proofs.TableLaws.{of_table}
 use Rattle.timer_wheels.proofs.Updates.{removed}
 
-module _ (t : Table) (b : TimerBuckets) (words : List ℕ) (h : IsBank t b words) (handle : Handle) (timer : Timer) (list last2 : ℕ)
+module _ {N : Type 0} {kept : Ghosts N} (t : Table) (b : Buckets N kept) (words : List ℕ) (h : IsBank t b words) (handle : Handle) (timer : Timer) (list last2 : ℕ)
     (in_range : timer.deadline ≤ b.last_tick) (fresh : b.last_serial < timer.serial) (serial : timer.serial ≤ LAST)
     (sound : AreBuckets b.slots b.last_tick b.tick last2
     (with_row list (row_at handle.place timer 0) (map (without_key handle.place) b.links.lists))) where

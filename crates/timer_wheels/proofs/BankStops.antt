@@ -10,13 +10,15 @@ use Rattle.timer_base.specs.Order.{AreRising}
 use Rattle.timer_base.proofs.OrderLaws.{All-filter, AreRising-weaken}
 use Rattle.timer_base.specs.WheelState.{IsPending, held_at}
 use Rattle.timer_links.specs.Lists.{list_at, without_key, list_if_alone, AreApart, IsAloneIn, Row, Rows}
+use Rattle.timer_links.specs.declared.kept.Kept.{Ghosts}
 use Rattle.timer_wheels.specs.Bank.{IsBank, LeavesBits}
 use Rattle.timer_wheels.specs.BucketLists.{timer_in, timers_in, AreBuckets, EachRow}
-use Rattle.timer_wheels.specs.Buckets.{TimerBuckets, state_of}
+use Rattle.timer_wheels.specs.Buckets.{state_of}
 use Rattle.timer_wheels.specs.Digits.{IsTable, HasDigits}
 use Rattle.timer_wheels.specs.Occupied.{AreMarked, Clears}
 use Rattle.timer_wheels.specs.Smooth.{slot_in, smooth_list, next_list, moved_to, mark, IsByLaw}
 use Rattle.timer_wheels.specs.Tables.{radices}
+use Rattle.timer_wheels.specs.declared.buckets.Buckets.{Buckets}
 use Rattle.timer_wheels.specs.declared.table.Table.{Table}
 use Rattle.timer_wheels.proofs.Handles.{held_node}
 use Rattle.timer_wheels.proofs.OccupiedLemmas.{marked_same}
@@ -50,7 +52,7 @@ not_cleared n l [] [] words words2 h c = c.1 h
 not_cleared n l [] (x ∷ xs) words words2 h c = c
 not_cleared n l (x ∷ xs) rest words words2 h c = c
 
-module _ (t : Table) (b : TimerBuckets) (words : List ℕ) (h : IsBank t b words) (handle : Handle) where
+module _ {N : Type 0} {kept : Ghosts N} (t : Table) (b : Buckets N kept) (words : List ℕ) (h : IsBank t b words) (handle : Handle) where
   pub stopped_placed : (last2 : ℕ) → AreBuckets b.slots b.last_tick b.tick last2 (map (without_key handle.place) b.links.lists)
       → EachRow (IsByLaw (radices t) b.tick (mark (radices t) b.tick (map (without_key handle.place) b.links.lists))) b.slots
       (map (without_key handle.place) b.links.lists)

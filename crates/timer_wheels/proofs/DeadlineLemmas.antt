@@ -10,8 +10,10 @@ use Rattle.timer_base.specs.Pending.{Entry, timer_of}
 use Rattle.timer_base.specs.PlainState.{earliest}
 use Rattle.timer_base.specs.WakeUps.{next_deadline}
 use Rattle.timer_links.specs.Lists.{list_at, KeyedLists, Row, Rows}
+use Rattle.timer_links.specs.declared.kept.Kept.{Ghosts}
 use Rattle.timer_wheels.specs.BucketLists.{timer_in, timers_in, entry_of, pending_in, rows_below, EachRow}
-use Rattle.timer_wheels.specs.Buckets.{TimerBuckets, state_of}
+use Rattle.timer_wheels.specs.Buckets.{state_of}
+use Rattle.timer_wheels.specs.declared.buckets.Buckets.{Buckets}
 use Rattle.timer_wheels.specs.Deadlines.{HasDeadline, IsLeast, IsLeastDeadline}
 use Rattle.timer_wheels.specs.declared.table.TheConstants.{MOST_BUCKETS}
 use Rattle.timer_wheels.specs.declared.table.Table.{Table}
@@ -163,11 +165,11 @@ has_least P rows None k a m = absurd (some_rows rows k m)
 has_least P rows (Some d) k a m = let u = row_with d P rows a m.has in record { row = u.0; is = u.1; least = rw u.2 m }
 
 -- nothing is pending if no bit is set
-pub none_is_next : {t : Table} {b : TimerBuckets} {words : List ℕ} → IsHier t b words → IsFirstSet MOST_BUCKETS words None
+pub none_is_next : {N : Type 0} {kept : Ghosts N} {t : Table} {b : Buckets N kept} {words : List ℕ} → IsHier t b words → IsFirstSet MOST_BUCKETS words None
     → None ≡ next_deadline (state_of b).pending
 none_is_next h f = ap next_deadline (sym (none_wakes h f))
 
-module _ {t : Table} {b : TimerBuckets} {words : List ℕ} (h : IsHier t b words) (l : ℕ) (f : IsFirstSet MOST_BUCKETS words (Some l)) where
+module _ {N : Type 0} {kept : Ghosts N} {t : Table} {b : Buckets N kept} {words : List ℕ} (h : IsHier t b words) (l : ℕ) (f : IsFirstSet MOST_BUCKETS words (Some l)) where
   pub first_below : l < b.slots
   first_below = first_in h l f.0 f.1
 
@@ -232,6 +234,6 @@ module _ {t : Table} {b : TimerBuckets} {words : List ℕ} (h : IsHier t b words
       ∙ first_deadline_is first_deadline (state_of b).pending least_of_all
 
 -- and none is visited if no bit is set
-pub none_visited : {t : Table} {b : TimerBuckets} {words : List ℕ} → IsHier t b words → IsFirstSet MOST_BUCKETS words None
+pub none_visited : {N : Type 0} {kept : Ghosts N} {t : Table} {b : Buckets N kept} {words : List ℕ} → IsHier t b words → IsFirstSet MOST_BUCKETS words None
     → None ≡ next_visit (radices t) b.tick (state_of b).pending
 none_visited {t} {b} h f = ap (next_visit (radices t) b.tick) (sym (none_wakes h f))

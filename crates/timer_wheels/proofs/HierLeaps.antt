@@ -1,4 +1,5 @@
 -- Lemmas for `leap`: the first visit ahead, the clock set forward to it, and the loop of `advance_until_due`.
+use Rattle.timer_links.specs.declared.kept.Kept.{Ghosts}
 use Rattle.timer_wheels.specs.declared.table.TheConstants.{MOST_BUCKETS}
 use Rattle.timer_wheels.proofs.RoomLemmas.{leaps-with_room}
 use Rattle.std.proofs.Common.{◌≡◌, ◌<◌, ◌≤◌, ◌+◌, ◌-◌, ◌*◌, ◌/◌, ◌%◌, ℕ, List, [], ◌∷◌, length, refl, sym, ◌∙◌, ap, inl, inr, arith, Some}
@@ -9,7 +10,8 @@ use Rattle.timer_base.proofs.OrderLaws.{All-weaken}
 use Rattle.timer_base.specs.WakeUps.{IsWakeUp}
 use Rattle.timer_base.specs.WheelState.{with_room, WheelState, IsPending, after_tick, after_ticks, Advances}
 use Rattle.timer_links.specs.Lists.{list_at, Row, Rows}
-use Rattle.timer_wheels.specs.Buckets.{TimerBuckets, state_of}
+use Rattle.timer_wheels.specs.Buckets.{state_of}
+use Rattle.timer_wheels.specs.declared.buckets.Buckets.{Buckets}
 use Rattle.timer_wheels.specs.declared.table.Table.{Table}
 use Rattle.timer_wheels.specs.declared.wheels.Wheels.{Wheels}
 use Rattle.std.proofs.Math.Nat.{mul-le-mul_right}
@@ -56,7 +58,7 @@ pub record IsKnown (table : List ℕ) (now s : ℕ) (row : Row) : Type 0 where
   pub digits : HasDigits table (timer_in row).deadline
   pub placed : bucket table now (timer_in row).deadline ≡ s
 
-module _ {t : Table} {b : TimerBuckets} {words : List ℕ} (h : IsHier t b words) where
+module _ {N : Type 0} {kept : Ghosts N} {t : Table} {b : Buckets N kept} {words : List ℕ} (h : IsHier t b words) where
   pub last_digits : HasDigits (radices t) b.last_tick
   last_digits = rw h.clock (of_table t).digits
 
@@ -153,13 +155,13 @@ module _ {t : Table} {b : TimerBuckets} {words : List ℕ} (h : IsHier t b words
 
 -- The clock alone advances.
 
-pub record HasSkipped (t : Table) (b : TimerBuckets) (tick : ℕ) : Type 0 where
+pub record HasSkipped {N : Type 0} {kept : Ghosts N} (t : Table) (b : Buckets N kept) (tick : ℕ) : Type 0 where
   pub pending : ArePending b.last_tick tick b.last_serial (rows_below b.slots b.links.lists)
   pub placed : EachRow (IsPlaced (radices t) tick) b.slots b.links.lists
   pub leaps : Leaps (radices t) 0 (state_of b)
       (with_room b.links.room (wheel_state b.slots b.last_tick tick b.last_serial b.links.lists))
 
-module _ {t : Table} {b : TimerBuckets} {words : List ℕ} (h : IsHier t b words) (z : (state_of b).due ≡ []) where
+module _ {N : Type 0} {kept : Ghosts N} {t : Table} {b : Buckets N kept} {words : List ℕ} (h : IsHier t b words) (z : (state_of b).due ≡ []) where
   skipped_by : (n tick : ℕ) → b.tick + n ≡ tick → AreNotVisitedBefore (radices t) b.slots b.tick (tick + 1) b.links.lists
       → HasSkipped t b (b.tick + n)
   skipped_by n tick e q =
@@ -187,14 +189,14 @@ leap_and_tick table moves old mid new a z e m p =
 
 -- Leap by leap.
 
-pub record IsAdvancing (most moves : ℕ) (first w : Wheels) : Type 0 where
+pub record IsAdvancing {N : Type 0} {kept : Ghosts N} (most moves : ℕ) (first w : Wheels N kept) : Type 0 where
   pub table : w.table ≡ first.table
   pub last_tick : w.buckets.last_tick ≡ first.buckets.last_tick
   pub nothing_due : (state_of w.buckets).due ≡ []
   pub leaps : Leaps (radices first.table) moves (state_of first.buckets) (state_of w.buckets)
   pub not_past : w.buckets.tick ≤ first.buckets.tick + most
 
-pub advancing_none : (most : ℕ) (w : Wheels) → (state_of w.buckets).due ≡ [] → IsAdvancing most 0 w w
+pub advancing_none : {N : Type 0} {kept : Ghosts N} (most : ℕ) (w : Wheels N kept) → (state_of w.buckets).due ≡ [] → IsAdvancing most 0 w w
 advancing_none most w z = record {
   table = refl;
   last_tick = refl;
@@ -203,7 +205,7 @@ advancing_none most w z = record {
   not_past = omega arith;
 }
 
-module _ {most moves : ℕ} {first w : Wheels} (a : IsAdvancing most moves first w) (more : ℕ) (new : Wheels)
+module _ {N : Type 0} {kept : Ghosts N} {most moves : ℕ} {first w : Wheels N kept} (a : IsAdvancing most moves first w) (more : ℕ) (new : Wheels N kept)
     (l : Leaps (radices w.table) more (state_of w.buckets) (state_of new.buckets)) where
   pub leap_from : Leaps (radices first.table) more (state_of w.buckets) (state_of new.buckets)
   leap_from = rw a.table at l

@@ -1,5 +1,6 @@
 -- The invariant of a hierarchy of wheels when it is made, after a start and a restart, and what `links` shows.
 use Rattle.timer_base.proofs.Basics.{either}
+use Rattle.timer_links.specs.declared.kept.Kept.{Ghosts}
 use Rattle.timer_wheels.proofs.RoomLemmas.{shows-with_room}
 use Rattle.std.proofs.Common.{◌≡◌, ◌<◌, ◌≤◌, ◌+◌, ◌*◌, ℕ, List, [], ◌∷◌, length, refl, sym, ◌∙◌, ap, subst, inl, inr, arith, Bool, filter, not, nat_lt, replicate}
 use Rattle.std.proofs.lemmas.Bool.{cases_lt}
@@ -11,7 +12,8 @@ use Rattle.timer_base.specs.WheelState.{WheelState, empty_wheel, after_start, af
 use Rattle.timer_base.proofs.HeldLaws.{start_when_later, start_when_now, held_start-last_serial}
 use Rattle.timer_links.specs.Lists.{list_at}
 use Rattle.timer_links.proofs.NewLinks.{no_rows_at}
-use Rattle.timer_wheels.specs.Buckets.{TimerBuckets, state_of}
+use Rattle.timer_wheels.specs.Buckets.{state_of}
+use Rattle.timer_wheels.specs.declared.buckets.Buckets.{Buckets}
 use Rattle.timer_wheels.specs.declared.table.Table.{Table}
 use Rattle.timer_wheels.specs.Tables.{radices}
 use Rattle.timer_wheels.specs.Digits.{slots, level, last_of}
@@ -50,17 +52,17 @@ paid_more moves new more old top starts e d p = let x : top * (starts + 1) ≡ t
 
 -- A new wheel.
 
-pub new_placed : (table : List ℕ) (b : TimerBuckets) (n : ℕ) → b.links.lists ≡ replicate n [] → EachRow (IsPlaced table b.tick) b.slots
+pub new_placed : {N : Type 0} {kept : Ghosts N} (table : List ℕ) (b : Buckets N kept) (n : ℕ) → b.links.lists ≡ replicate n [] → EachRow (IsPlaced table b.tick) b.slots
     b.links.lists
 new_placed table b n e = each-none (IsPlaced table b.tick) b.slots b.links.lists (λ s h. ap (list_at s) e ∙ no_rows_at n s)
 
-pub new_paid : (table : List ℕ) (b : TimerBuckets) (n last first : ℕ) → state_of b ≡ empty_wheel n last first
+pub new_paid : {N : Type 0} {kept : Ghosts N} (table : List ℕ) (b : Buckets N kept) (n last first : ℕ) → state_of b ≡ empty_wheel n last first
     → IsPaid table 0 0 b.tick (state_of b).pending
 new_paid table b n last first e = omega (arith, ap (λ (w : WheelState). levels_of table b.tick w.pending) e)
 
 -- The moves that are left stay paid for.
 
-module _ (table : List ℕ) (old new : TimerBuckets) (starts moves : ℕ) (p : IsPaid table starts moves old.tick (state_of old).pending) where
+module _ {N : Type 0} {kept : Ghosts N} (table : List ℕ) (old new : Buckets N kept) (starts moves : ℕ) (p : IsPaid table starts moves old.tick (state_of old).pending) where
   -- one timer goes, if it was found
   pub paid_without : (handle : Handle) → new.tick ≡ old.tick
       → (state_of new).pending ≡ without_handle handle (state_of old).pending
@@ -102,14 +104,14 @@ module _ (table : List ℕ) (old new : TimerBuckets) (starts moves : ℕ) (p : I
       | inr same ↦ due_start (e ∙ start_when_now place t rest (omega arith))
     ]
 
-pub few_starts : (old new : TimerBuckets) (place starts : ℕ) (t : Timer) (rest : WheelState) → starts ≤ old.last_serial
+pub few_starts : {N : Type 0} {kept : Ghosts N} (old new : Buckets N kept) (place starts : ℕ) (t : Timer) (rest : WheelState) → starts ≤ old.last_serial
     → old.last_serial < t.serial → state_of new ≡ after_held_start place t rest → starts + 1 ≤ new.last_serial
 few_starts old new place starts t rest h k e =
     omega (arith, ap (λ (w : WheelState). w.last_serial) e, held_start-last_serial place t rest)
 
 -- What the buckets show.
 
-pub shown : (table : List ℕ) (b : TimerBuckets) → b.slots ≡ slots table → EachRow (IsPlaced table b.tick) b.slots b.links.lists
+pub shown : {N : Type 0} {kept : Ghosts N} (table : List ℕ) (b : Buckets N kept) → b.slots ≡ slots table → EachRow (IsPlaced table b.tick) b.slots b.links.lists
     → ShowsBuckets (slots table) (bucket_at table b.tick) no_rounds (state_of b) b.links.lists
 shown table b s p =
     let P : ℕ → Type 0 = λ n. ShowsBuckets n (bucket_at table b.tick) no_rounds (state_of b) b.links.lists in
@@ -117,7 +119,7 @@ shown table b s p =
     b.last_tick b.tick b.last_serial b.sound.in_order))
 
 -- the same of a table that is as it was
-pub paid_at : (starts moves : ℕ) (b : TimerBuckets) (old new : Table) → new ≡ old
+pub paid_at : {N : Type 0} {kept : Ghosts N} (starts moves : ℕ) (b : Buckets N kept) (old new : Table) → new ≡ old
     → IsPaid (radices old) starts moves b.tick (state_of b).pending → IsPaid (radices new) starts moves b.tick (state_of b).pending
 paid_at starts moves b old new e p = let P : Table → Type 0 = λ t. IsPaid (radices t) starts moves b.tick (state_of b).pending
     in subst P (sym e) p

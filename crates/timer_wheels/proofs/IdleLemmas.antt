@@ -4,12 +4,13 @@ use Rattle.std.proofs.lemmas.Bool.{cases_eq, cases_lt}
 use Rattle.std.proofs.lemmas.Bool.Decides.{nat_tests}
 use Rattle.timer_base.proofs.Basics.{either}
 use Rattle.timer_links.specs.Lists.{list_at, Rows}
+use Rattle.timer_links.specs.declared.kept.Kept.{Ghosts}
 use Rattle.timer_wheels.specs.Bank.{IsBank, next_len, movable, potential_of, OthersStay, OthersShrink}
 use Rattle.timer_wheels.specs.Occupied.{bit_of, filled}
 use Rattle.timer_wheels.specs.Paces.{pace_at, pace_sum, most_pace, FitPaces}
 use Rattle.timer_wheels.specs.Smooth.{slot_in, next_list, next_lengths}
 use Rattle.timer_wheels.specs.Tables.{radices}
-use Rattle.timer_wheels.specs.Buckets.{TimerBuckets}
+use Rattle.timer_wheels.specs.declared.buckets.Buckets.{Buckets}
 use Rattle.timer_wheels.specs.declared.smooth.turns.TheConstants.{MOST_WHEELS}
 use Rattle.timer_wheels.specs.declared.table.Table.{Table}
 use Rattle.timer_wheels.proofs.BankLemmas.{lists_in_range}
@@ -18,34 +19,34 @@ use Rattle.timer_wheels.proofs.PaceLemmas.{most_of_sum}
 -- Sums.
 
 -- how many timers the next buckets of wheels 1 to n have
-abbrev pub next_lens : Table → TimerBuckets → ℕ → ℕ
+abbrev pub next_lens : {N : Type 0} {kept : Ghosts N} → Table → Buckets N kept → ℕ → ℕ
 next_lens t b n = next_lengths (radices t) b.tick b.links.lists n
 
-pub lens_more : (t : Table) (b : TimerBuckets) (w : ℕ) → 0 < w → next_lens t b w ≡ next_lens t b (w - 1) + next_len t b w
+pub lens_more : {N : Type 0} {kept : Ghosts N} (t : Table) (b : Buckets N kept) (w : ℕ) → 0 < w → next_lens t b w ≡ next_lens t b (w - 1) + next_len t b w
 lens_more t b zero z = absurd (omega arith)
 lens_more t b (suc n) z =
     let e : suc n - 1 ≡ n = omega arith in
     ap (λ (x : ℕ). next_lens t b x + next_len t b (suc n)) (sym e)
 
-lens_same : (t : Table) (b c : TimerBuckets) (n : ℕ) → ((k : ℕ) → 0 < k → k ≤ n → next_len t c k ≡ next_len t b k)
+lens_same : {N : Type 0} {kept : Ghosts N} (t : Table) (b c : Buckets N kept) (n : ℕ) → ((k : ℕ) → 0 < k → k ≤ n → next_len t c k ≡ next_len t b k)
     → next_lens t c n ≡ next_lens t b n
 lens_same t b c zero f = refl
 lens_same t b c (suc n) f = omega (arith, lens_same t b c n (λ k z l. f k z (omega arith)), f (suc n) (omega arith) (omega arith))
 
-lens_one : (t : Table) (b : TimerBuckets) (n k : ℕ) → 0 < k → k ≤ n → next_len t b k ≤ next_lens t b n
+lens_one : {N : Type 0} {kept : Ghosts N} (t : Table) (b : Buckets N kept) (n k : ℕ) → 0 < k → k ≤ n → next_len t b k ≤ next_lens t b n
 lens_one t b zero k z l = absurd (omega arith)
 lens_one t b (suc n) k z l = elim (cases_eq k (suc n)) [
   | inl e ↦ subst (λ (x : ℕ). next_len t b x ≤ next_lens t b (suc n)) (sym e) (omega arith)
   | inr x ↦ omega (arith, lens_one t b n k z (omega arith))
 ]
 
-lens_fewer : (t : Table) (b c : TimerBuckets) (n : ℕ) → ((k : ℕ) → 0 < k → k ≤ n → next_len t c k ≤ next_len t b k)
+lens_fewer : {N : Type 0} {kept : Ghosts N} (t : Table) (b c : Buckets N kept) (n : ℕ) → ((k : ℕ) → 0 < k → k ≤ n → next_len t c k ≤ next_len t b k)
     → next_lens t c n ≤ next_lens t b n
 lens_fewer t b c zero f = omega arith
 lens_fewer t b c (suc n) f = omega (arith, lens_fewer t b c n (λ k z l. f k z (omega arith)), f (suc n) (omega arith) (omega arith))
 
 -- what a tick moves, wheel by wheel, is at most what stands there
-pub counted_more : (t : Table) (old mid new : TimerBuckets) (moves w more : ℕ) → 0 < w → w < length (radices t)
+pub counted_more : {N : Type 0} {kept : Ghosts N} (t : Table) (old mid new : Buckets N kept) (moves w more : ℕ) → 0 < w → w < length (radices t)
     → moves + next_lens t mid (w - 1) ≤ next_lens t old (w - 1) → next_len t mid w ≤ next_len t old w
     → more + next_len t new w ≡ next_len t mid w → OthersShrink t w mid new
     → moves + more + next_lens t new (w + 1 - 1) ≤ next_lens t old (w + 1 - 1)
@@ -66,7 +67,7 @@ none_filled : (rows : Rows) → filled rows ≡ 0 → length rows ≡ 0
 none_filled [] e = refl
 none_filled (x ∷ xs) e = absurd (omega arith)
 
-module _ (t : Table) (b : TimerBuckets) (words : List ℕ) (h : IsBank t b words) (wheel : ℕ) (above : 0 < wheel) (in_table : wheel < length (radices t)) where
+module _ {N : Type 0} {kept : Ghosts N} (t : Table) (b : Buckets N kept) (words : List ℕ) (h : IsBank t b words) (wheel : ℕ) (above : 0 < wheel) (in_table : wheel < length (radices t)) where
   bit_is : bit_of words (next_list (radices t) b.tick wheel) ≡ filled (list_at (next_list (radices t) b.tick wheel) b.links.lists)
   bit_is = h.marked.0 (next_list (radices t) b.tick wheel) (rw h.has_slots (lists_in_range t wheel (slot_in (radices t) wheel b.tick + 1) in_table))
 
@@ -87,7 +88,7 @@ module _ (t : Table) (b : TimerBuckets) (words : List ℕ) (h : IsBank t b words
 -- Moves ahead, wheel by wheel.
 
 -- timers of the next buckets of the wheels below w have moved: so many, of at most so many
-pub record AreAhead (t : Table) (old new : TimerBuckets) (paces paces2 : List ℕ) (most moved w : ℕ) : Type 0 where
+pub record AreAhead {N : Type 0} {kept : Ghosts N} (t : Table) (old new : Buckets N kept) (paces paces2 : List ℕ) (most moved w : ℕ) : Type 0 where
   pub at_most : moved ≤ most
   pub falls : potential_of t new + moved ≡ potential_of t old
   pub counted : moved + next_lens t new (w - 1) ≡ next_lens t old (w - 1)
@@ -101,7 +102,7 @@ pub record AreAhead (t : Table) (old new : TimerBuckets) (paces paces2 : List �
       → (pace_at paces2 k ≡ pace_at paces k) ⊎ ((pace_at paces2 k ≡ 0) × (next_len t new k ≡ 0))
   pub lower : (k : ℕ) → pace_at paces2 k ≤ pace_at paces k
 
-module _ (t : Table) (old mid new : TimerBuckets) (paces paces2 paces3 : List ℕ) (most moved w more : ℕ)
+module _ {N : Type 0} {kept : Ghosts N} (t : Table) (old mid new : Buckets N kept) (paces paces2 paces3 : List ℕ) (most moved w more : ℕ)
     (a : AreAhead t old mid paces paces2 most moved w) (above : 0 < w) (in_table : w < length (radices t)) (at_most : more ≤ most - moved)
     (counted : more + next_len t new w ≡ next_len t mid w)
     (all : more < most - moved → (next_len t new w ≡ 0) × (pace_at paces3 w ≡ 0))

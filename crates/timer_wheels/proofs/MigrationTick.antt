@@ -5,10 +5,12 @@ use Rattle.std.proofs.lemmas.Bool.{cases_eq}
 use Rattle.std.proofs.lemmas.Nat.{div-mul-add, mod-mul-add}
 use Rattle.timer_base.specs.WheelState.{IsPending}
 use Rattle.timer_links.specs.Lists.{list_at, KeyedLists, Rows}
+use Rattle.timer_links.specs.declared.kept.Kept.{Ghosts}
 use Rattle.timer_wheels.specs.BucketLists.{timer_in}
 use Rattle.timer_wheels.specs.declared.table.TheConstants.{MOST_BUCKETS}
 use Rattle.timer_wheels.specs.declared.table.Table.{Table}
-use Rattle.timer_wheels.specs.Buckets.{TimerBuckets, state_of}
+use Rattle.timer_wheels.specs.Buckets.{state_of}
+use Rattle.timer_wheels.specs.declared.buckets.Buckets.{Buckets}
 use Rattle.timer_wheels.specs.Digits.{IsTable, HasDigits, bucket, emptied, last_of, lowest_radix}
 use Rattle.timer_wheels.specs.Hier.{IsHier}
 use Rattle.timer_wheels.specs.Leap.{list_visit, timer_visit}
@@ -45,7 +47,7 @@ visit_empties (r ∷ rs) a d t i h = elim (cases_eq (a / r) (d / r)) [
       ∙ (ap (λ (x : ℕ). r + x) ih ∙ sym (bucket_far r rs a d e))))
 ]
 
-module _ {t : Table} {b : TimerBuckets} {words : List ℕ} (h : IsHier t b words) where
+module _ {N : Type 0} {kept : Ghosts N} {t : Table} {b : Buckets N kept} {words : List ℕ} (h : IsHier t b words) where
   first_row_is : (l : ℕ) (rows : Rows) → filled rows ≡ 1
       → AllByRecursion (λ row. IsPending b.last_tick b.tick b.last_serial (timer_in row)) rows
       → AllByRecursion (IsPlaced (radices t) b.tick l) rows → l ≡ emptied (radices t) (list_visit (radices t) l b.tick)
@@ -68,7 +70,7 @@ module _ {t : Table} {b : TimerBuckets} {words : List ℕ} (h : IsHier t b words
       (all-list_at (λ row. IsPending b.last_tick b.tick b.last_serial (timer_in row)) b.slots b.links.lists b.sound.pending l c)
       (h.placed l c) ∙ ap (emptied (radices t)) (sym e)
 
-module _ {t : Table} {b : TimerBuckets} {words : List ℕ} (h : IsHier t b words) (z : (state_of b).due ≡ []) (l : b.tick < b.last_tick) where
+module _ {N : Type 0} {kept : Ghosts N} {t : Table} {b : Buckets N kept} {words : List ℕ} (h : IsHier t b words) (z : (state_of b).due ≡ []) (l : b.tick < b.last_tick) where
   before_tick : IsBefore (radices t) b.last_tick b.tick b.last_serial b.links.lists
   before_tick =
       before_of (radices t) b.slots b.last_tick b.tick b.last_serial b.links.lists h.has_slots (of_table t).is_table (last_digits h) l

@@ -8,9 +8,11 @@ use Rattle.timer_base.proofs.OrderLaws.{All-weaken}
 use Rattle.timer_base.specs.Pending.{Entry, timer_of, timers_of, entries_due, AreAfter}
 use Rattle.timer_base.proofs.TickLaws.{left_all, after_ticks-now}
 use Rattle.timer_base.specs.WheelState.{WheelState, IsPending, after_ticks}
+use Rattle.timer_links.specs.declared.kept.Kept.{Ghosts}
 use Rattle.timer_wheels.specs.declared.table.TheConstants.{MOST_BUCKETS}
 use Rattle.timer_wheels.specs.declared.table.Table.{Table}
-use Rattle.timer_wheels.specs.Buckets.{TimerBuckets, state_of, state_of-well_formed}
+use Rattle.timer_wheels.specs.Buckets.{state_of, state_of-well_formed}
+use Rattle.timer_wheels.specs.declared.buckets.Buckets.{Buckets}
 use Rattle.timer_wheels.specs.Digits.{IsTable, HasDigits, level, bucket, slots, hops}
 use Rattle.timer_wheels.specs.Hier.{IsHier}
 use Rattle.timer_wheels.specs.Leap.{list_visit, timer_visit, IsNextVisit}
@@ -126,7 +128,7 @@ may_move table last now last_serial entries i h a =
     (λ entry p. record { later = p.later; digits = digits_down table entry.timer.deadline last i p.in_range h })
     (all-of_map timer_of (IsPending last now last_serial) entries a)
 
-module _ {t : Table} {b : TimerBuckets} {words : List ℕ} (h : IsHier t b words) (l visit : ℕ) (e : visit
+module _ {N : Type 0} {kept : Ghosts N} {t : Table} {b : Buckets N kept} {words : List ℕ} (h : IsHier t b words) (l visit : ℕ) (e : visit
     ≡ list_visit (radices t) l b.tick) (f : IsFirstSet MOST_BUCKETS words (Some l)) where
   shown_some : 0 < length (entries_at (bucket_at (radices t) b.tick) l (state_of b).pending)
   shown_some = some_at (slots (radices t)) (bucket_at (radices t) b.tick) no_rounds (state_of b) b.links.lists

@@ -8,8 +8,9 @@ use Rattle.timer_wheels.specs.Digits.{IsTable, weight}
 use Rattle.timer_wheels.specs.Paces.{pace_at, sum_below, pace_sum, pace_for, FitPaces, HasMoved}
 use Rattle.timer_wheels.specs.Smooth.{slot_in, next_list, ticks_left}
 use Rattle.timer_wheels.specs.Tables.{radices, wide, clock, small}
-use Rattle.timer_wheels.specs.Buckets.{TimerBuckets}
 use Rattle.timer_links.specs.declared.ring.TheConstants.{INDEXES}
+use Rattle.timer_links.specs.declared.kept.Kept.{Ghosts}
+use Rattle.timer_wheels.specs.declared.buckets.Buckets.{Buckets}
 use Rattle.timer_wheels.specs.declared.smooth.turns.TheConstants.{MOST_WHEELS}
 use Rattle.timer_wheels.specs.declared.table.Table.{Table}
 use Rattle.timer_wheels.specs.declared.table.Table.TheVariants.{Wide, Clock, Small}
@@ -88,7 +89,7 @@ one_of_rows zero (rows ∷ lists) = omega arith
 one_of_rows (suc l) (rows ∷ lists) = omega (arith, one_of_rows l lists)
 
 -- it is enough for all timers that are held
-pub enough : (t : Table) (b : TimerBuckets) (k n : ℕ) → 0 < k → n ≡ row_count b.links.lists
+pub enough : {N : Type 0} {kept : Ghosts N} (t : Table) (b : Buckets N kept) (k n : ℕ) → 0 < k → n ≡ row_count b.links.lists
     → slot_in (radices t) k b.tick * weight k (radices t) ≡ b.tick
     → next_len t b k ≤ pace_for (radices t) n k * ticks_left (radices t) b.tick k
 enough t b k n z e h =
@@ -101,7 +102,7 @@ enough t b k n z e h =
 -- Wheel by wheel.
 
 -- the wheels up to w have moved, and the others have not yet
-pub record AreMoving (t : Table) (old new : TimerBuckets) (paces paces2 : List ℕ) (moves w : ℕ) : Type 0 where
+pub record AreMoving {N : Type 0} {ghosts : Ghosts N} (t : Table) (old new : Buckets N ghosts) (paces paces2 : List ℕ) (moves w : ℕ) : Type 0 where
   pub at_most : moves ≤ sum_below paces w
   pub falls : potential_of t new + moves ≡ potential_of t old
   pub done : (k : ℕ) → 0 < k → k < w → k < length (radices t) → HasMoved t old new paces paces2 k
@@ -109,7 +110,7 @@ pub record AreMoving (t : Table) (old new : TimerBuckets) (paces paces2 : List �
   pub kept : (k : ℕ) → w ≤ k → pace_at paces2 k ≡ pace_at paces k
   pub lower : (k : ℕ) → pace_at paces2 k ≤ pace_at paces k
 
-pub moving_more : (t : Table) (old mid new : TimerBuckets) (paces paces2 paces3 : List ℕ) (moves w more : ℕ) → AreMoving t old mid paces paces2 moves w
+pub moving_more : {N : Type 0} {kept : Ghosts N} (t : Table) (old mid new : Buckets N kept) (paces paces2 paces3 : List ℕ) (moves w more : ℕ) → AreMoving t old mid paces paces2 moves w
     → 0 < w → w < length (radices t) → HasMoved t mid new paces2 paces3 w → OthersShrink t w mid new
     → ((k : ℕ) → k ≢ w → pace_at paces3 k ≡ pace_at paces2 k) → more ≤ pace_at paces2 w → potential_of t new + more ≡ potential_of t mid
     → AreMoving t old new paces paces3 (moves + more) (w + 1)
@@ -155,14 +156,14 @@ moving_more t old mid new paces paces2 paces3 moves w more m z l moved others pa
   ]
 
 -- with no pace nothing is left to move
-pub none_to_move : (t : Table) (b : TimerBuckets) (paces : List ℕ) → 0 ≡ pace_sum paces → (k : ℕ) → k < length (radices t)
+pub none_to_move : {N : Type 0} {kept : Ghosts N} (t : Table) (b : Buckets N kept) (paces : List ℕ) → 0 ≡ pace_sum paces → (k : ℕ) → k < length (radices t)
     → HasMoved t b b paces paces k
 none_to_move t b paces e k l =
     let z : pace_at paces k ≡ 0 = omega (arith, one_of_sum paces MOST_WHEELS k (few_wheels t k l)) in
     record { fewer = omega arith; pace = inl refl }
 
 -- the paces of the wheels up to w are fixed
-pub record AreFixed (t : Table) (b : TimerBuckets) (paces paces2 : List ℕ) (w : ℕ) : Type 0 where
+pub record AreFixed {N : Type 0} {kept : Ghosts N} (t : Table) (b : Buckets N kept) (paces paces2 : List ℕ) (w : ℕ) : Type 0 where
   pub begun : (k : ℕ) → 0 < k → k < w → k < length (radices t) → slot_in (radices t) k b.tick * weight k (radices t) ≡ b.tick
       → next_len t b k ≤ pace_at paces2 k * ticks_left (radices t) b.tick k
   pub others : (k : ℕ) → slot_in (radices t) k b.tick * weight k (radices t) ≢ b.tick → pace_at paces2 k ≡ pace_at paces k

@@ -6,6 +6,7 @@ use Rattle.std.proofs.lemmas.Bool.{cases_eq, cases_lt}
 use Rattle.timer_base.specs.declared.timer.Timer.{Timer}
 use Rattle.timer_base.specs.WheelState.{IsPending}
 use Rattle.timer_links.specs.Lists.{list_at, Row, Rows}
+use Rattle.timer_links.specs.declared.kept.Kept.{Ghosts}
 use Rattle.timer_wheels.specs.Bank.{IsBank, next_len}
 use Rattle.timer_wheels.specs.BucketLists.{timer_in, EachRow}
 use Rattle.timer_wheels.specs.Digits.{IsTable, HasDigits, weight, radix}
@@ -13,7 +14,7 @@ use Rattle.timer_wheels.specs.Occupied.{bit_of}
 use Rattle.timer_wheels.specs.Smooth.{slot_in, smooth_list, next_list, mark, IsSmooth, Stands, IsAheadOf}
 use Rattle.timer_wheels.specs.SmoothAhead.{IsFirst, event_tick, IsEventFrom}
 use Rattle.timer_wheels.specs.Tables.{radices}
-use Rattle.timer_wheels.specs.Buckets.{TimerBuckets}
+use Rattle.timer_wheels.specs.declared.buckets.Buckets.{Buckets}
 use Rattle.timer_wheels.specs.declared.table.Table.{Table}
 use Rattle.timer_wheels.proofs.BankLemmas.{to_relation, lists_in_range, turns_of_table}
 use Rattle.timer_wheels.proofs.BankNext.{some_rows}
@@ -46,7 +47,7 @@ pub record IsOn (table : List ℕ) (now k : ℕ) (t : Timer) : Type 0 where
   pub ahead : slot_in table k now < slot_in table k t.deadline
   pub within : slot_in table k t.deadline < slot_in table k now + 2 * radix k table
 
-module _ (t : Table) (b : TimerBuckets) (words : List ℕ) (h : IsBank t b words) where
+module _ {N : Type 0} {kept : Ghosts N} (t : Table) (b : Buckets N kept) (words : List ℕ) (h : IsBank t b words) where
   table : IsTable (radices t)
   table = (of_table t).is_table
 

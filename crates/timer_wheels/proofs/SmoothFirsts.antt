@@ -10,9 +10,10 @@ use Rattle.timer_base.specs.Pending.{Entry, timer_of}
 use Rattle.timer_base.specs.PlainState.{earliest}
 use Rattle.timer_base.specs.WakeUps.{IsWakeUp, next_deadline}
 use Rattle.timer_links.specs.Lists.{list_at, KeyedLists, Row, Rows}
+use Rattle.timer_links.specs.declared.kept.Kept.{Ghosts}
 use Rattle.timer_wheels.specs.Bank.{IsBank}
 use Rattle.timer_wheels.specs.BucketLists.{timer_in, timers_in, entry_of, entries_of, pending_in, rows_below, EachRow}
-use Rattle.timer_wheels.specs.Buckets.{TimerBuckets, state_of}
+use Rattle.timer_wheels.specs.Buckets.{state_of}
 use Rattle.timer_wheels.specs.Deadlines.{HasDeadline, IsLeast, IsLeastDeadline}
 use Rattle.timer_wheels.specs.Digits.{IsTable, HasDigits, weight, radix, level}
 use Rattle.timer_wheels.specs.Leap.{timer_visit}
@@ -20,6 +21,7 @@ use Rattle.timer_wheels.specs.Smooth.{slot_in, smooth_list, mark, IsSmooth}
 use Rattle.timer_wheels.specs.SmoothAhead.{IsFirst, IsNotBefore, IsInPresent, IsFoundBelow, IsPendingDeadline, IsBegin}
 use Rattle.timer_wheels.specs.Tables.{radices}
 use Rattle.timer_wheels.specs.WakeUps.{next_visit}
+use Rattle.timer_wheels.specs.declared.buckets.Buckets.{Buckets}
 use Rattle.timer_wheels.specs.declared.table.Table.{Table}
 use Rattle.timer_wheels.proofs.AllLemmas.{all-both, all-map, all-of_map}
 use Rattle.timer_wheels.proofs.BankLemmas.{lists_in_range}
@@ -66,7 +68,7 @@ deadline_of P [] d a h = absurd h
 deadline_of P (x ∷ xs) d a (inl e) = subst P e a.0
 deadline_of P (x ∷ xs) d a (inr h) = deadline_of P xs d a.1 h
 
-module _ (t : Table) (b : TimerBuckets) (words : List ℕ) (h : IsBank t b words) where
+module _ {N : Type 0} {kept : Ghosts N} (t : Table) (b : Buckets N kept) (words : List ℕ) (h : IsBank t b words) where
   table : IsTable (radices t)
   table = (of_table t).is_table
 

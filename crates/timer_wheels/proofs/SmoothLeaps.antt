@@ -8,13 +8,15 @@ use Rattle.timer_base.specs.Pending.{Entry, timer_of, is_due_at, entries_due, en
 use Rattle.timer_base.specs.WheelState.{IsPassing, WheelState, held_count, after_tick, after_ticks, Advances}
 use Rattle.timer_base.proofs.TickLaws.{passing_quiet, after_ticks-add}
 use Rattle.timer_links.specs.Lists.{list_at}
+use Rattle.timer_links.specs.declared.kept.Kept.{Ghosts}
 use Rattle.timer_wheels.specs.Bank.{IsBank, next_len}
 use Rattle.timer_wheels.specs.BucketLists.{timer_in, entry_of, entries_of, rows_below, EachRow}
-use Rattle.timer_wheels.specs.Buckets.{TimerBuckets, state_of}
+use Rattle.timer_wheels.specs.Buckets.{state_of}
 use Rattle.timer_wheels.specs.Paces.{pace_at, pace_sum, AreInTime}
 use Rattle.timer_wheels.specs.Smooth.{mark, ticks_left, IsSmooth, IsAheadOf}
 use Rattle.timer_wheels.specs.SmoothWheel.{Passes}
 use Rattle.timer_wheels.specs.Tables.{radices}
+use Rattle.timer_wheels.specs.declared.buckets.Buckets.{Buckets}
 use Rattle.timer_wheels.specs.declared.smooth.turns.TheConstants.{MOST_WHEELS}
 use Rattle.timer_wheels.specs.declared.table.Table.{Table}
 use Rattle.timer_wheels.proofs.AllLemmas.{all-both, all-map}
@@ -26,7 +28,7 @@ use Rattle.timer_wheels.proofs.SmoothSkips.{tick_ahead}
 use Rattle.timer_wheels.proofs.TableLaws.{of_table}
 
 -- with no pace no next bucket has timers
-pub open_of : (t : Table) (b : TimerBuckets) (paces : List ℕ) → AreInTime t b paces → 0 ≡ pace_sum paces → (k : ℕ) → 0 < k → k < length (radices t)
+pub open_of : {N : Type 0} {kept : Ghosts N} (t : Table) (b : Buckets N kept) (paces : List ℕ) → AreInTime t b paces → 0 ≡ pace_sum paces → (k : ℕ) → 0 < k → k < length (radices t)
     → next_len t b k ≡ 0
 open_of t b paces h e k z l =
     let p : pace_at paces k ≡ 0 = omega (arith, one_of_sum paces MOST_WHEELS k (few_wheels t k l)) in
@@ -36,7 +38,7 @@ open_of t b paces h e k z l =
 
 -- The clock alone advances.
 
-module _ (t : Table) (b : TimerBuckets) (words : List ℕ) (h : IsBank t b words) (tick : ℕ) (later : b.tick ≤ tick)
+module _ {N : Type 0} {kept : Ghosts N} (t : Table) (b : Buckets N kept) (words : List ℕ) (h : IsBank t b words) (tick : ℕ) (later : b.tick ≤ tick)
     (ahead : EachRow (IsAheadOf (radices t) tick) b.slots b.links.lists) where
   after_rows : EachRow (λ s row. tick < (timer_in row).deadline) b.slots b.links.lists
   after_rows s l = all-both (IsSmooth (radices t) b.tick (mark (radices t) b.tick b.links.lists) s) (IsAheadOf (radices t) tick s)

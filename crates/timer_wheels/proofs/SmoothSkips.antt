@@ -5,12 +5,13 @@ use Rattle.std.proofs.lemmas.Bool.{cases_lt}
 use Rattle.timer_base.specs.declared.timer.Timer.{Timer}
 use Rattle.timer_base.specs.WheelState.{IsPending, IsDue}
 use Rattle.timer_links.specs.Lists.{list_at, Row}
+use Rattle.timer_links.specs.declared.kept.Kept.{Ghosts}
 use Rattle.timer_wheels.specs.Bank.{IsBank}
 use Rattle.timer_wheels.specs.BucketLists.{timer_in, AreBuckets, EachRow}
 use Rattle.timer_wheels.specs.Digits.{IsTable, HasDigits}
 use Rattle.timer_wheels.specs.Smooth.{slot_in, smooth_list, moved_to, mark, IsByLaw, IsSmooth, Stands, IsAheadOf}
 use Rattle.timer_wheels.specs.Tables.{radices}
-use Rattle.timer_wheels.specs.Buckets.{TimerBuckets}
+use Rattle.timer_wheels.specs.declared.buckets.Buckets.{Buckets}
 use Rattle.timer_wheels.specs.declared.table.Table.{Table}
 use Rattle.timer_wheels.proofs.AllLemmas.{all-both}
 use Rattle.timer_wheels.proofs.RowLemmas.{all-rows_below, all-list_at}
@@ -48,7 +49,7 @@ tick_ahead table k b d i h = elim (cases_lt b d) [
   | inr l ↦ absurd (omega (arith, slots_later table k d b i (omega arith)))
 ]
 
-module _ (t : Table) (b : TimerBuckets) (words : List ℕ) (h : IsBank t b words) (tick : ℕ) (later : b.tick ≤ tick) (in_range : tick ≤ b.last_tick)
+module _ {N : Type 0} {kept : Ghosts N} (t : Table) (b : Buckets N kept) (words : List ℕ) (h : IsBank t b words) (tick : ℕ) (later : b.tick ≤ tick) (in_range : tick ≤ b.last_tick)
     (none_due : list_at b.slots b.links.lists ≡ []) (ahead : EachRow (IsAheadOf (radices t) tick) b.slots b.links.lists) where
   skip_table : IsTable (radices t)
   skip_table = (of_table t).is_table

@@ -5,14 +5,16 @@ use Rattle.std.proofs.lemmas.Bool.{cases_eq}
 use Rattle.timer_base.specs.declared.limits.TheConstants.{LAST}
 use Rattle.timer_base.specs.WheelState.{held_count}
 use Rattle.timer_links.specs.Lists.{list_at, row_count, KeyedLists, Rows}
+use Rattle.timer_links.specs.declared.kept.Kept.{Ghosts}
 use Rattle.timer_wheels.specs.Bank.{next_len}
 use Rattle.timer_wheels.specs.BucketLists.{entry_of, rows_below}
-use Rattle.timer_wheels.specs.Buckets.{TimerBuckets, state_of}
+use Rattle.timer_wheels.specs.Buckets.{state_of}
 use Rattle.timer_wheels.specs.Digits.{IsTable, weight, lowest_radix}
 use Rattle.timer_wheels.specs.Paces.{pace_at, pace_sum, FitPaces, AreInTime, HasMoved, tick_bound}
 use Rattle.timer_wheels.specs.Placement.{most_moves}
 use Rattle.timer_wheels.specs.Smooth.{slot_in, next_list, heights, height, ticks_left}
 use Rattle.timer_wheels.specs.Tables.{radices, wide, clock, small}
+use Rattle.timer_wheels.specs.declared.buckets.Buckets.{Buckets}
 use Rattle.timer_wheels.specs.declared.table.Table.{Table}
 use Rattle.timer_wheels.specs.declared.table.Table.TheVariants.{Wide, Clock, Small}
 use Rattle.timer_wheels.proofs.BucketLemmas.{row_count-parts, length-pending_in}
@@ -32,7 +34,7 @@ two_ticks : (t : Table) (k : ℕ) → 0 < k → 2 ≤ weight k (radices t)
 two_ticks t k z = let h = halves t k (of_table t).is_table z in omega (arith, h.some, h.is)
 
 -- a next bucket is empty before its slot begins
-pub ticks_empty : (t : Table) (old new : TimerBuckets) (paces paces2 : List ℕ) (k : ℕ) → AreInTime t old paces → new.tick ≡ old.tick
+pub ticks_empty : {N : Type 0} {kept : Ghosts N} (t : Table) (old new : Buckets N kept) (paces paces2 : List ℕ) (k : ℕ) → AreInTime t old paces → new.tick ≡ old.tick
     → HasMoved t old new paces paces2 k → 0 < k → k < length (radices t)
     → slot_in (radices t) k (new.tick + 1) ≡ slot_in (radices t) k new.tick + 1
     → list_at (next_list (radices t) new.tick k) new.links.lists ≡ []
@@ -54,7 +56,7 @@ begins table k a i e =
     ap (λ (x : ℕ). x * weight k table) e ∙ (let q : (slot_in table k a + 1) * weight k table ≡ weight k table * slot_in table k a + weight k table = omega arith in q) in
     omega arith
 
-pub in_time_ticked : (t : Table) (old mid new : TimerBuckets) (paces paces2 paces3 : List ℕ) → AreInTime t old paces → mid.tick ≡ old.tick
+pub in_time_ticked : {N : Type 0} {kept : Ghosts N} (t : Table) (old mid new : Buckets N kept) (paces paces2 paces3 : List ℕ) → AreInTime t old paces → mid.tick ≡ old.tick
     → ((k : ℕ) → 0 < k → k < length (radices t) → HasMoved t old mid paces paces2 k) → new.tick ≡ mid.tick + 1
     → ((k : ℕ) → 0 < k → k < length (radices t) → slot_in (radices t) k (mid.tick + 1) ≡ slot_in (radices t) k mid.tick
     → next_len t new k ≡ next_len t mid k)
@@ -104,7 +106,7 @@ begins_at_rollover (r ∷ rs) (suc k) tick z e s =
 
 -- Timers that are held.
 
-pub held_rows : (b : TimerBuckets) → row_count b.links.lists ≡ held_count (state_of b)
+pub held_rows : {N : Type 0} {kept : Ghosts N} (b : Buckets N kept) → row_count b.links.lists ≡ held_count (state_of b)
 held_rows b = omega (
   arith,
   row_count-parts b.slots b.links.lists b.sound.has_lists,

@@ -7,12 +7,14 @@ use Rattle.timer_base.specs.Pending.{Entry, timers_of}
 use Rattle.timer_base.specs.WakeUps.{IsWakeUp, next_deadline}
 use Rattle.timer_base.specs.WheelState.{WheelState, IsPending, IsWellFormed}
 use Rattle.timer_base.specs.declared.limits.TheConstants.{LAST}
-use Rattle.timer_wheels.specs.Buckets.{TimerBuckets, state_of, state_of-well_formed}
+use Rattle.timer_links.specs.declared.kept.Kept.{Ghosts}
+use Rattle.timer_wheels.specs.Buckets.{state_of, state_of-well_formed}
+use Rattle.timer_wheels.specs.declared.buckets.Buckets.{Buckets}
 use Rattle.timer_wheels.specs.HierWheel.{table_of}
+use Rattle.timer_wheels.specs.declared.smooth.SmoothWheel.{SmoothWheel}
 use Rattle.timer_wheels.specs.Tables.{slots_of_table, wide, clock, small}
 use Rattle.timer_wheels.specs.TieredWheel.{is_smooth, turns_are_smooth, option_of}
 use Rattle.timer_wheels.specs.declared.hier.HierWheel.{HierWheel}
-use Rattle.timer_wheels.specs.declared.smooth.SmoothWheel.{SmoothWheel}
 use Rattle.timer_wheels.specs.declared.table.Table.{Table}
 use Rattle.timer_wheels.specs.declared.table.Table.TheVariants.{Wide, Clock, Small}
 use Rattle.timer_wheels.specs.declared.tiered.TheConstants.{NEVER}
@@ -23,19 +25,19 @@ slots_are_not Wide = refl
 slots_are_not Clock = refl
 slots_are_not Small = refl
 
-pub is_not_smooth : (wheel : HierWheel) → is_smooth wheel.wheels.buckets.slots ≡ false
+pub is_not_smooth : {N : Type 0} {kept : Ghosts N} (wheel : HierWheel N kept) → is_smooth wheel.wheels.buckets.slots ≡ false
 is_not_smooth wheel = ap is_smooth wheel.wheels.hier.has_slots ∙ slots_are_not (table_of wheel)
 
 -- what is chosen by the slots is the hierarchy's
-pub hier_chosen : {X : Type 0} (smooth hier : X) (wheel : HierWheel)
+pub hier_chosen : {N : Type 0} {kept : Ghosts N} {X : Type 0} (smooth hier : X) (wheel : HierWheel N kept)
     → hier ≡ (if is_smooth wheel.wheels.buckets.slots then smooth else hier)
 hier_chosen smooth hier wheel = rw (is_not_smooth wheel) refl
 
-pub is_turned : (wheel : SmoothWheel) → is_smooth wheel.bank.buckets.slots ≡ true
+pub is_turned : {N : Type 0} {kept : Ghosts N} (wheel : SmoothWheel N kept) → is_smooth wheel.bank.buckets.slots ≡ true
 is_turned wheel = ap is_smooth wheel.bank.bank.has_slots ∙ turns_are_smooth wheel.bank.table
 
 -- and of a smooth wheel it is the other
-pub smooth_chosen : {X : Type 0} (smooth hier : X) (wheel : SmoothWheel)
+pub smooth_chosen : {N : Type 0} {kept : Ghosts N} {X : Type 0} (smooth hier : X) (wheel : SmoothWheel N kept)
     → smooth ≡ (if is_smooth wheel.bank.buckets.slots then smooth else hier)
 smooth_chosen smooth hier wheel = rw (is_turned wheel) refl
 
@@ -54,7 +56,7 @@ next_in_clock w tick f e = of_first w.pending f.each e where
       let r : x.timer.deadline ≤ w.last_tick = a.0.in_range in
       omega (arith, f.last_in_range)
 
-pub first_in_clock : (b : TimerBuckets) (o : Option ℕ) → o ≡ next_deadline (state_of b).pending → IfSome o (λ tick. tick ≤ LAST)
+pub first_in_clock : {N : Type 0} {kept : Ghosts N} (b : Buckets N kept) (o : Option ℕ) → o ≡ next_deadline (state_of b).pending → IfSome o (λ tick. tick ≤ LAST)
 first_in_clock b None e = tt
 first_in_clock b (Some tick) e = next_in_clock (state_of b) tick (state_of-well_formed b) e
 

@@ -9,9 +9,11 @@ use Rattle.timer_base.specs.declared.timer.Handle.{Handle}
 use Rattle.timer_base.specs.WheelState.{IsPending, IsDue, held_at}
 use Rattle.timer_links.specs.declared.node.Node.{Node}
 use Rattle.timer_links.specs.Lists.{list_at, with_row, without_key, list_if_alone, AreApart, IsAloneIn, KeyedLists, Row, Rows}
+use Rattle.timer_links.specs.declared.kept.Kept.{Ghosts}
 use Rattle.timer_wheels.specs.declared.table.TheConstants.{MOST_BUCKETS}
 use Rattle.timer_wheels.specs.declared.table.Table.{Table}
-use Rattle.timer_wheels.specs.Buckets.{TimerBuckets, IsSameFrame, IsListOf}
+use Rattle.timer_wheels.specs.Buckets.{IsSameFrame, IsListOf}
+use Rattle.timer_wheels.specs.declared.buckets.Buckets.{Buckets}
 use Rattle.timer_wheels.specs.BucketLists.{timer_in, wheel_state, AreDue, AreBuckets, EachRow}
 use Rattle.timer_wheels.specs.Digits.{bucket, slots, last_of, lowest_radix}
 use Rattle.timer_wheels.specs.Firsts.{FirstsState, AreFirsts}
@@ -210,15 +212,15 @@ pub in_word : (t : Table) (l : ℕ) → l < slots (radices t) → l < MOST_BUCKE
 in_word t l k = let y : slots (radices t) ≤ MOST_BUCKETS = (of_table t).few_slots in omega arith
 
 -- the invariant of `Wheels`
-pub record AreKept (t : Table) (b : TimerBuckets) (words : List ℕ) (firsts : FirstsState) : Type 0 where
+pub record AreKept {N : Type 0} {kept : Ghosts N} (t : Table) (b : Buckets N kept) (words : List ℕ) (firsts : FirstsState) : Type 0 where
   pub hier : IsHier t b words
   pub foretold : HasFirsts t b firsts
 
-pub wheels_of : {t : Table} {b : TimerBuckets} {words : List ℕ} {firsts : FirstsState} → IsHier t b words → HasFirsts t b firsts
+pub wheels_of : {N : Type 0} {kept : Ghosts N} {t : Table} {b : Buckets N kept} {words : List ℕ} {firsts : FirstsState} → IsHier t b words → HasFirsts t b firsts
     → AreWheels (radices t) b.tick b.slots words firsts b.links.lists
 wheels_of h f = record { placed = h.placed; marked = h.marked; foretold = f }
 
-module _ {t : Table} {b : TimerBuckets} {words : List ℕ} (h : IsHier t b words) where
+module _ {N : Type 0} {kept : Ghosts N} {t : Table} {b : Buckets N kept} {words : List ℕ} (h : IsHier t b words) where
   pub in_table : (emptied : Option ℕ) → IfSome emptied (λ l. l < b.slots)
       → IfSome emptied (λ l. l < slots (radices t))
   in_table emptied m = subst (λ (n : ℕ). IfSome emptied (λ l. l < n)) h.has_slots m
@@ -230,7 +232,7 @@ module _ {t : Table} {b : TimerBuckets} {words : List ℕ} (h : IsHier t b words
   in_slots_of l now d i later =
       let k : l < b.slots = later_list l b.slots now d i later in let x : b.slots ≡ slots (radices t) = h.has_slots in omega arith
 
-  pub framed : (new : TimerBuckets) (words2 : List ℕ) (firsts2 : FirstsState) (lists : KeyedLists) → IsSameFrame b new
+  pub framed : (new : Buckets N kept) (words2 : List ℕ) (firsts2 : FirstsState) (lists : KeyedLists) → IsSameFrame b new
       → new.links.lists ≡ lists → AreWheels (radices t) b.tick b.slots words2 firsts2 lists → AreKept t new words2 firsts2
   framed new words2 firsts2 lists f e w = record {
     hier = record {

@@ -5,20 +5,21 @@ use Rattle.std.proofs.Props.{props}
 use Rattle.timer_base.specs.declared.timer.Handle.{Handle}
 use Rattle.timer_base.specs.declared.timer.Timer.{Timer}
 use Rattle.timer_links.specs.Lists.{Row}
+use Rattle.timer_links.specs.declared.kept.Kept.{Ghosts}
 use Rattle.timer_wheels.specs.BucketLaws.{EachRow-prop}
 use Rattle.timer_wheels.specs.BucketLists.{EachRow}
 use Rattle.timer_wheels.specs.Digits.{last_of}
 use Rattle.timer_wheels.specs.Occupied.{bit_of, AreMarked, AreMarked-prop}
 use Rattle.timer_wheels.specs.Smooth.{smooth_slots, smooth_level, mark, next_list, next_length, next_lengths, heights, ticks_left, IsByLaw}
 use Rattle.timer_wheels.specs.Tables.{radices}
-use Rattle.timer_wheels.specs.Buckets.{TimerBuckets}
+use Rattle.timer_wheels.specs.declared.buckets.Buckets.{Buckets}
 use Rattle.timer_wheels.specs.declared.table.Table.{Table}
 
 -- each row is where the law says
-abbrev pub AreByLaw : Table → TimerBuckets → Type 0
+abbrev pub AreByLaw : {N : Type 0} {kept : Ghosts N} → Table → Buckets N kept → Type 0
 AreByLaw table b = EachRow (IsByLaw (radices table) b.tick (mark (radices table) b.tick b.links.lists)) b.slots b.links.lists
 
-pub record IsBank (table : Table) (b : TimerBuckets) (words : List ℕ) : Type 0 where
+pub record IsBank {N : Type 0} {kept : Ghosts N} (table : Table) (b : Buckets N kept) (words : List ℕ) : Type 0 where
   pub has_slots : b.slots ≡ smooth_slots (radices table)
   pub clock : b.last_tick ≡ last_of (radices table)
   pub placed : AreByLaw table b
@@ -28,11 +29,11 @@ pub record IsBank (table : Table) (b : TimerBuckets) (words : List ℕ) : Type 0
 IsByLaw-prop : (table : List ℕ) (now : ℕ) (marks : ℕ → ℕ) (s : ℕ) (row : Row) → IsProp (IsByLaw table now marks s row)
 IsByLaw-prop table now marks s row = ×_prop (hlevel props) (hlevel props)
 
-AreByLaw-prop : (table : Table) (b : TimerBuckets) → IsProp (AreByLaw table b)
+AreByLaw-prop : {N : Type 0} {kept : Ghosts N} (table : Table) (b : Buckets N kept) → IsProp (AreByLaw table b)
 AreByLaw-prop table b = EachRow-prop (IsByLaw (radices table) b.tick (mark (radices table) b.tick b.links.lists))
     (IsByLaw-prop (radices table) b.tick (mark (radices table) b.tick b.links.lists)) b.slots b.links.lists
 
-pub IsBank-prop : (table : Table) (b : TimerBuckets) (words : List ℕ) → IsProp (IsBank table b words)
+pub IsBank-prop : {N : Type 0} {kept : Ghosts N} (table : Table) (b : Buckets N kept) (words : List ℕ) → IsProp (IsBank table b words)
 IsBank-prop table b words = hlevel (props, AreByLaw-prop table b, AreMarked-prop b.slots words b.links.lists)
 
 -- a list became empty, if one did: the bit of a bucket is cleared, and all others stay
@@ -42,36 +43,36 @@ LeavesBits n (Some l) old new = (l < n → (bit_of new l ≡ 0) × ((s : ℕ) �
     × (n ≤ l → new ≡ old)
 
 -- how many timers the next bucket of wheel k has
-abbrev pub next_len : Table → TimerBuckets → ℕ → ℕ
+abbrev pub next_len : {N : Type 0} {kept : Ghosts N} → Table → Buckets N kept → ℕ → ℕ
 next_len table b k = next_length (radices table) b.tick b.links.lists k
 
 -- how many timers all next buckets have: those that may go to a lower wheel now
-abbrev pub movable : Table → TimerBuckets → ℕ
+abbrev pub movable : {N : Type 0} {kept : Ghosts N} → Table → Buckets N kept → ℕ
 movable table b = next_lengths (radices table) b.tick b.links.lists (length (radices table) - 1)
 
 -- the potential of the timers: the wheels of all of them, added up
-abbrev pub potential_of : Table → TimerBuckets → ℕ
+abbrev pub potential_of : {N : Type 0} {kept : Ghosts N} → Table → Buckets N kept → ℕ
 potential_of table b = heights (radices table) b.slots b.links.lists
 
 -- the wheel of a timer, by the placement law; that of one for now, which is due, is 0
-abbrev pub wheel_of : Table → TimerBuckets → Timer → ℕ
+abbrev pub wheel_of : {N : Type 0} {kept : Ghosts N} → Table → Buckets N kept → Timer → ℕ
 wheel_of table b timer = if nat_lt b.tick timer.deadline
     then smooth_level (radices table) b.tick (mark (radices table) b.tick b.links.lists) timer else 0
 
 -- the next bucket of wheel k has timers only in the first half of its time
-abbrev pub IsEarly : Table → TimerBuckets → ℕ → Type 0
+abbrev pub IsEarly : {N : Type 0} {kept : Ghosts N} → Table → Buckets N kept → ℕ → Type 0
 IsEarly table b k = ticks_left (radices table) b.tick k ≡ 0 → next_len table b k ≡ 0
 
 -- each other next bucket has as many timers as before
-abbrev pub OthersStay : Table → ℕ → TimerBuckets → TimerBuckets → Type 0
+abbrev pub OthersStay : {N : Type 0} {kept : Ghosts N} → Table → ℕ → Buckets N kept → Buckets N kept → Type 0
 OthersStay table k old new = (j : ℕ) → 0 < j → j < length (radices table) → j ≢ k → next_len table new j ≡ next_len table old j
 
 -- no other next bucket has more timers than before
-abbrev pub OthersShrink : Table → ℕ → TimerBuckets → TimerBuckets → Type 0
+abbrev pub OthersShrink : {N : Type 0} {kept : Ghosts N} → Table → ℕ → Buckets N kept → Buckets N kept → Type 0
 OthersShrink table k old new = (j : ℕ) → 0 < j → j < length (radices table) → j ≢ k → next_len table new j ≤ next_len table old j
 
 -- no next bucket has more timers than before
-abbrev pub AllShrink : Table → TimerBuckets → TimerBuckets → Type 0
+abbrev pub AllShrink : {N : Type 0} {kept : Ghosts N} → Table → Buckets N kept → Buckets N kept → Type 0
 AllShrink table old new = (j : ℕ) → 0 < j → j < length (radices table) → next_len table new j ≤ next_len table old j
 
 -- the list is the next bucket of a wheel, and has timers; or it is none's, if the wheel is 0
@@ -81,7 +82,7 @@ pub record IsNextOf (table : List ℕ) (now : ℕ) (words : List ℕ) (list whee
   pub no_other : (j : ℕ) → 0 < j → j < length table → j ≢ wheel → list ≢ next_list table now j
 
 -- a timer came: if the wheel is not 0, to that wheel's next bucket, which had timers
-pub record ComesTo (table : Table) (wheel : ℕ) (old new : TimerBuckets) : Type 0 where
+pub record ComesTo {N : Type 0} {kept : Ghosts N} (table : Table) (wheel : ℕ) (old new : Buckets N kept) : Type 0 where
   pub in_table : wheel < length (radices table)
   pub others : OthersShrink table wheel old new
   pub here : 0 < wheel → (0 < next_len table old wheel) × (next_len table new wheel ≤ next_len table old wheel + 1)

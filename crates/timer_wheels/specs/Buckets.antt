@@ -5,15 +5,10 @@ use Rattle.timer_base.specs.declared.timer.Timer.{Timer}
 use Rattle.timer_base.specs.WellFormed.{with_room-well_formed}
 use Rattle.timer_base.specs.WheelState.{WheelState, IsWellFormed, with_room}
 use Rattle.timer_links.specs.declared.kept.Kept.{Ghosts}
-use Rattle.timer_links.specs.contracts.kept.TimerKept.TheImpl.{ghosts}
 use Rattle.timer_links.specs.Lists.{with_row, without_key, KeyedLists, Row}
 use Rattle.timer_wheels.specs.declared.buckets.Buckets.{Buckets}
 use Rattle.timer_wheels.specs.BucketLists.{wheel_state}
 use Rattle.timer_wheels.specs.BucketLaws.{wheel_state-well_formed}
-
--- the buckets of a hierarchy, which keep the timer of a node alone
-abbrev pub TimerBuckets : Type 0
-TimerBuckets = Buckets Timer ghosts
 
 -- the wheel whose buckets these are, but for its room
 abbrev pub roomless_state : {N : Type 0} {kept : Ghosts N} → Buckets N kept → WheelState

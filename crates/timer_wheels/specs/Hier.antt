@@ -1,7 +1,9 @@
 -- The invariant of the buckets of a hierarchy of wheels and of their bits.
 use Rattle.std.specs.Prelude.{◌≡◌, ◌≢◌, ℕ, List, Option, MatchOption}
 use Rattle.std.proofs.Props.{props}
-use Rattle.timer_wheels.specs.Buckets.{TimerBuckets, state_of}
+use Rattle.timer_links.specs.declared.kept.Kept.{Ghosts}
+use Rattle.timer_wheels.specs.Buckets.{state_of}
+use Rattle.timer_wheels.specs.declared.buckets.Buckets.{Buckets}
 use Rattle.timer_wheels.specs.declared.table.Table.{Table}
 use Rattle.timer_wheels.specs.Digits.{slots, last_of, lowest_radix}
 use Rattle.timer_wheels.specs.Firsts.{FirstsState, Enters, Leaves, Empties, AreFirsts, AreFirsts-prop}
@@ -12,19 +14,19 @@ use Rattle.timer_wheels.specs.BucketLaws.{EachRow-prop}
 use Rattle.timer_wheels.specs.BucketLists.{EachRow}
 
 -- each row of the buckets is in its timer's bucket
-abbrev pub ArePlaced : Table → TimerBuckets → Type 0
+abbrev pub ArePlaced : {N : Type 0} {kept : Ghosts N} → Table → Buckets N kept → Type 0
 ArePlaced table b = EachRow (IsPlaced (radices table) b.tick) b.slots b.links.lists
 
-ArePlaced-prop : (table : Table) (b : TimerBuckets) → IsProp (ArePlaced table b)
+ArePlaced-prop : {N : Type 0} {kept : Ghosts N} (table : Table) (b : Buckets N kept) → IsProp (ArePlaced table b)
 ArePlaced-prop table b = EachRow-prop (IsPlaced (radices table) b.tick)
     (IsPlaced-prop (radices table) b.tick) b.slots b.links.lists
 
 -- the potential of the pending timers: the sum of their levels
-abbrev pub potential : Table → TimerBuckets → ℕ
+abbrev pub potential : {N : Type 0} {kept : Ghosts N} → Table → Buckets N kept → ℕ
 potential table b = levels_of (radices table) b.tick (state_of b).pending
 
 -- the invariant of a hierarchy of wheels
-pub record IsHier (table : Table) (b : TimerBuckets) (words : List ℕ) : Type 0 where
+pub record IsHier {N : Type 0} {kept : Ghosts N} (table : Table) (b : Buckets N kept) (words : List ℕ) : Type 0 where
   pub has_slots : b.slots ≡ slots (radices table)
   pub clock : b.last_tick ≡ last_of (radices table)
   -- each timer stands in its bucket
@@ -32,14 +34,14 @@ pub record IsHier (table : Table) (b : TimerBuckets) (words : List ℕ) : Type 0
   -- the bits mark which buckets have timers
   pub marked : AreMarked b.slots words b.links.lists
 
-pub IsHier-prop : (table : Table) (b : TimerBuckets) (words : List ℕ) → IsProp (IsHier table b words)
+pub IsHier-prop : {N : Type 0} {kept : Ghosts N} (table : Table) (b : Buckets N kept) (words : List ℕ) → IsProp (IsHier table b words)
 IsHier-prop table b words = hlevel (props, ArePlaced-prop table b, AreMarked-prop b.slots words b.links.lists)
 
 -- the first deadline of each bucket above the lowest wheel
-abbrev pub HasFirsts : Table → TimerBuckets → FirstsState → Type 0
+abbrev pub HasFirsts : {N : Type 0} {kept : Ghosts N} → Table → Buckets N kept → FirstsState → Type 0
 HasFirsts table b firsts = AreFirsts (lowest_radix (radices table)) b.slots firsts b.links.lists
 
-pub HasFirsts-prop : (table : Table) (b : TimerBuckets) (firsts : FirstsState) → IsProp (HasFirsts table b firsts)
+pub HasFirsts-prop : {N : Type 0} {kept : Ghosts N} (table : Table) (b : Buckets N kept) (firsts : FirstsState) → IsProp (HasFirsts table b firsts)
 HasFirsts-prop table b firsts = AreFirsts-prop (lowest_radix (radices table)) b.slots firsts b.links.lists
 
 -- a timer with this deadline came to the back of bucket l, whose front has now the other deadline: the bucket's bit is set,

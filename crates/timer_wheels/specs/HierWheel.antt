@@ -4,6 +4,7 @@ use Rattle.timer_base.specs.declared.fault.MakeFault.{MakeFault}
 use Rattle.timer_base.specs.declared.fault.MakeFault.TheVariants.{FirstTick, OutOfMemory}
 use Rattle.timer_base.specs.Counts.{WheelCounts}
 use Rattle.timer_base.specs.WheelState.{WheelState}
+use Rattle.timer_links.specs.declared.kept.Kept.{Ghosts}
 use Rattle.timer_wheels.specs.Buckets.{state_of}
 use Rattle.timer_wheels.specs.declared.hier.HierWheel.{HierWheel}
 use Rattle.timer_wheels.specs.declared.table.Table.{Table}
@@ -12,11 +13,11 @@ use Rattle.timer_wheels.specs.Placement.{hops_of, visited_between, has_any}
 use Rattle.timer_wheels.specs.Tables.{radices_by_slots}
 
 -- the state of the wheel
-abbrev pub hier_state : HierWheel → WheelState
+abbrev pub hier_state : {N : Type 0} {kept : Ghosts N} → HierWheel N kept → WheelState
 hier_state wheel = state_of wheel.wheels.buckets
 
 -- the table by which it reads its digits
-abbrev pub table_of : HierWheel → Table
+abbrev pub table_of : {N : Type 0} {kept : Ghosts N} → HierWheel N kept → Table
 table_of wheel = wheel.wheels.table
 
 -- the error of `new` and `with_table`: the first tick is after the last one, or out of memory
@@ -25,7 +26,7 @@ IsHierFault last first_tick fault =
     ((fault ≡ FirstTick) × (last < first_tick)) ⊎ ((fault ≡ OutOfMemory) × (first_tick ≤ last))
 
 -- its counts; each tick since it was made visited a bucket, except for those that it skipped
-abbrev pub counts_of : HierWheel → WheelCounts
+abbrev pub counts_of : {N : Type 0} {kept : Ghosts N} → HierWheel N kept → WheelCounts
 counts_of wheel = record {
   starts = wheel.counts.starts;
   moves = wheel.counts.moves;

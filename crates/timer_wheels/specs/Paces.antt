@@ -1,11 +1,12 @@
 -- The paces of a smooth wheel: how many timers of each wheel's next bucket move at a tick.
 use Rattle.std.specs.Coded.{Π_prop, le_prop}
 use Rattle.std.specs.Prelude.{◌≡◌, ◌≤◌, ◌⊎◌, ◌+◌, ◌-◌, ◌*◌, ◌/◌, ◌&&◌, nat_lt, if◌then◌else◌, zero, suc, ℕ, List, length, slice_index_or}
+use Rattle.timer_links.specs.declared.kept.Kept.{Ghosts}
 use Rattle.timer_wheels.specs.Bank.{next_len}
 use Rattle.timer_wheels.specs.Digits.{weight}
 use Rattle.timer_wheels.specs.Smooth.{IsInTime}
 use Rattle.timer_wheels.specs.Tables.{radices}
-use Rattle.timer_wheels.specs.Buckets.{TimerBuckets}
+use Rattle.timer_wheels.specs.declared.buckets.Buckets.{Buckets}
 use Rattle.timer_wheels.specs.declared.smooth.paces.TheConstants.{MOST_PACE}
 use Rattle.timer_wheels.specs.declared.smooth.turns.TheConstants.{MOST_WHEELS}
 use Rattle.timer_wheels.specs.declared.table.Table.{Table}
@@ -43,10 +44,10 @@ abbrev pub FitPaces : List ℕ → ℕ → List ℕ → Type 0
 FitPaces table n paces = (k : ℕ) → pace_at paces k ≤ most_pace table n k
 
 -- the next buckets are in time at these paces
-abbrev pub AreInTime : Table → TimerBuckets → List ℕ → Type 0
+abbrev pub AreInTime : {N : Type 0} {kept : Ghosts N} → Table → Buckets N kept → List ℕ → Type 0
 AreInTime table b paces = IsInTime (radices table) b.tick (pace_at paces) b.links.lists
 
-pub AreInTime-prop : (table : Table) (b : TimerBuckets) (paces : List ℕ) → IsProp (AreInTime table b paces)
+pub AreInTime-prop : {N : Type 0} {kept : Ghosts N} (table : Table) (b : Buckets N kept) (paces : List ℕ) → IsProp (AreInTime table b paces)
 AreInTime-prop table b paces = Π_prop (λ k. Π_prop (λ z. Π_prop (λ l. le_prop)))
 
 -- the most moves of a tick, if the paces were fixed for at most n timers: 2n/63 + 18 in `Wide`
@@ -56,6 +57,6 @@ tick_bound Clock n = n / 29 + 6
 tick_bound Small n = 2 * n / 15 + 10
 
 -- as many timers of a wheel's next bucket as its pace went, or all; and the pace is the same, or 0 if all are gone
-pub record HasMoved (table : Table) (old new : TimerBuckets) (paces paces2 : List ℕ) (k : ℕ) : Type 0 where
+pub record HasMoved {N : Type 0} {kept : Ghosts N} (table : Table) (old new : Buckets N kept) (paces paces2 : List ℕ) (k : ℕ) : Type 0 where
   pub fewer : next_len table new k ≤ next_len table old k - pace_at paces k
   pub pace : (pace_at paces2 k ≡ pace_at paces k) ⊎ ((pace_at paces2 k ≡ 0) × (next_len table new k ≡ 0))

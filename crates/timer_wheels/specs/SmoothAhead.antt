@@ -1,12 +1,13 @@
 -- What is ahead of a smooth wheel: the first slot with timers of each wheel, and the ticks at which slots matter.
 use Rattle.std.specs.Prelude.{◌≡◌, ◌<◌, ◌≤◌, ◌+◌, ◌-◌, ◌*◌, zero, suc, ℕ, List, [], length, Option, Some, None, IfSome}
 use Rattle.timer_links.specs.Lists.{list_at, KeyedLists, Row}
+use Rattle.timer_links.specs.declared.kept.Kept.{Ghosts}
 use Rattle.timer_wheels.specs.BucketLists.{timer_in, timers_in, rows_below, EachRow}
 use Rattle.timer_wheels.specs.Deadlines.{HasDeadline}
 use Rattle.timer_wheels.specs.Digits.{weight, radix}
 use Rattle.timer_wheels.specs.Leap.{timer_visit}
 use Rattle.timer_wheels.specs.Tables.{radices}
-use Rattle.timer_wheels.specs.Buckets.{TimerBuckets}
+use Rattle.timer_wheels.specs.declared.buckets.Buckets.{Buckets}
 use Rattle.timer_wheels.specs.declared.table.Table.{Table}
 use Rattle.timer_wheels.specs.Smooth.{slot_in, smooth_list}
 
@@ -44,18 +45,18 @@ IsNotBefore None tick = ⊥
 IsNotBefore (Some first) tick = first ≤ tick
 
 -- a first tick was found, if one is: it is as the fact says, and no deadline of the first w wheels is before it
-pub record IsFoundBelow (fact : ℕ → Type 0) (table : Table) (b : TimerBuckets) (w : ℕ) (first : Option ℕ) : Type 0 where
+pub record IsFoundBelow {N : Type 0} {kept : Ghosts N} (fact : ℕ → Type 0) (table : Table) (b : Buckets N kept) (w : ℕ) (first : Option ℕ) : Type 0 where
   pub has : IfSome first fact
   pub least : EachRow (λ s row. (k : ℕ) → k < w → k < length (radices table)
       → s ≡ smooth_list (radices table) k (slot_in (radices table) k (timer_in row).deadline)
       → IsNotBefore first (timer_in row).deadline) b.slots b.links.lists
 
 -- a pending timer has this deadline
-abbrev pub IsPendingDeadline : TimerBuckets → ℕ → Type 0
+abbrev pub IsPendingDeadline : {N : Type 0} {kept : Ghosts N} → Buckets N kept → ℕ → Type 0
 IsPendingDeadline b d = HasDeadline d (timers_in (rows_below b.slots b.links.lists))
 
 -- a slot begins at this tick ahead, and Scheme 7 would visit it when it visits some pending timer
-pub record IsBegin (table : Table) (b : TimerBuckets) (tick : ℕ) : Type 0 where
+pub record IsBegin {N : Type 0} {kept : Ghosts N} (table : Table) (b : Buckets N kept) (tick : ℕ) : Type 0 where
   pub later : b.tick < tick
   pub in_range : tick ≤ b.last_tick
   pub deadline : ℕ

@@ -3,6 +3,8 @@ use Rattle.std.specs.Prelude.{◌≡◌, ◌<◌, ◌-◌, ◌==◌, if◌then�
 use Rattle.timer_base.specs.declared.timer.Timer.{Timer}
 use Rattle.timer_base.specs.WheelState.{WheelState, after_ticks}
 use Rattle.timer_links.specs.Lists.{KeyedLists}
+use Rattle.timer_links.specs.contracts.kept.TimerKept.TheImpl.{ghosts}
+use Rattle.timer_links.specs.declared.kept.Kept.{Ghosts}
 use Rattle.timer_wheels.specs.Bank.{movable, potential_of, wheel_of}
 use Rattle.timer_wheels.specs.Buckets.{state_of}
 use Rattle.timer_wheels.specs.Paces.{pace_sum, FitPaces}
@@ -14,12 +16,16 @@ use Rattle.timer_wheels.specs.declared.smooth.SmoothWheel.{SmoothWheel}
 use Rattle.timer_wheels.specs.declared.table.Table.{Table}
 use Rattle.timer_wheels.specs.declared.table.Table.TheVariants.{Wide, Clock, Small}
 
+-- the smooth wheel that keeps all of a timer
+abbrev pub TimerSmoothWheel : Type 0
+TimerSmoothWheel = SmoothWheel Timer ghosts
+
 -- the state of the wheel
-abbrev pub smooth_state : SmoothWheel → WheelState
+abbrev pub smooth_state : {N : Type 0} {kept : Ghosts N} → SmoothWheel N kept → WheelState
 smooth_state wheel = state_of wheel.bank.buckets
 
 -- the table by which it reads its digits
-abbrev pub smooth_table : SmoothWheel → Table
+abbrev pub smooth_table : {N : Type 0} {kept : Ghosts N} → SmoothWheel N kept → Table
 smooth_table wheel = wheel.bank.table
 
 -- the table whose wheels have this many slots in two revolutions
@@ -31,31 +37,31 @@ abbrev pub radices_by_turns : ℕ → List ℕ
 radices_by_turns n = radices (table_by_turns n)
 
 -- how many timers were started or restarted, and how many times one moved to a lower wheel
-abbrev pub starts_of : SmoothWheel → ℕ
+abbrev pub starts_of : {N : Type 0} {kept : Ghosts N} → SmoothWheel N kept → ℕ
 starts_of wheel = wheel.starts
 
-abbrev pub moves_of : SmoothWheel → ℕ
+abbrev pub moves_of : {N : Type 0} {kept : Ghosts N} → SmoothWheel N kept → ℕ
 moves_of wheel = wheel.moves
 
 -- the most moves of the next tick: the sum of the paces
-abbrev pub next_moves : SmoothWheel → ℕ
+abbrev pub next_moves : {N : Type 0} {kept : Ghosts N} → SmoothWheel N kept → ℕ
 next_moves wheel = pace_sum wheel.paces
 
 -- how many timers stand in next buckets: the moves that can be made ahead of their ticks
-abbrev pub moves_ahead : SmoothWheel → ℕ
+abbrev pub moves_ahead : {N : Type 0} {kept : Ghosts N} → SmoothWheel N kept → ℕ
 moves_ahead wheel = movable wheel.bank.table wheel.bank.buckets
 
 -- the wheels in which its pending timers stand, added up: how many moves are left, if none is stopped and each goes one
 -- wheel down at a time
-abbrev pub wheels_left : SmoothWheel → ℕ
+abbrev pub wheels_left : {N : Type 0} {kept : Ghosts N} → SmoothWheel N kept → ℕ
 wheels_left wheel = potential_of wheel.bank.table wheel.bank.buckets
 
 -- the wheel in which a timer stands or, if it is started now, comes to; 0 for one that is due
-abbrev pub wheel_in : SmoothWheel → Timer → ℕ
+abbrev pub wheel_in : {N : Type 0} {kept : Ghosts N} → SmoothWheel N kept → Timer → ℕ
 wheel_in wheel timer = wheel_of wheel.bank.table wheel.bank.buckets timer
 
 -- each pace was fixed when at most n timers were held
-abbrev pub IsPacedFor : ℕ → SmoothWheel → Type 0
+abbrev pub IsPacedFor : {N : Type 0} {kept : Ghosts N} → ℕ → SmoothWheel N kept → Type 0
 IsPacedFor n wheel = FitPaces (radices wheel.bank.table) n wheel.paces
 
 -- each list has the pending timers that stand there by the placement law, with the marks of the lists themselves, by

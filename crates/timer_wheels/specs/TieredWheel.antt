@@ -2,7 +2,9 @@
 use Rattle.std.proofs.Common.{◌≡◌, ◌==◌, ◌∙◌, ap, ℕ, Bool, true, false, if◌then◌else◌, List, Option, Some, None, refl}
 use Rattle.timer_base.specs.Counts.{WheelCounts}
 use Rattle.timer_base.specs.WheelState.{WheelState, IsWellFormed}
-use Rattle.timer_wheels.specs.Buckets.{TimerBuckets, state_of, state_of-well_formed}
+use Rattle.timer_links.specs.declared.kept.Kept.{Ghosts}
+use Rattle.timer_wheels.specs.Buckets.{state_of, state_of-well_formed}
+use Rattle.timer_wheels.specs.declared.buckets.Buckets.{Buckets}
 use Rattle.timer_wheels.specs.HierWheel.{counts_of, counts_of_tick, counts_of_advance}
 use Rattle.timer_wheels.specs.Smooth.{smooth_slots}
 use Rattle.timer_wheels.specs.SmoothWheel.{starts_of, moves_of, moves_ahead, radices_by_turns}
@@ -14,12 +16,12 @@ use Rattle.timer_wheels.specs.declared.tiered.TieredWheel.{TieredWheel}
 use Rattle.timer_wheels.specs.declared.tiered.TieredWheel.TheVariants.{Hier, Smooth}
 
 -- the buckets of either wheel
-abbrev pub buckets_in : TieredWheel → TimerBuckets
+abbrev pub buckets_in : {N : Type 0} {kept : Ghosts N} → TieredWheel N kept → Buckets N kept
 buckets_in (Hier wheel) = wheel.wheels.buckets
 buckets_in (Smooth wheel) = wheel.bank.buckets
 
 -- the state of the wheel
-abbrev pub tiered_state : TieredWheel → WheelState
+abbrev pub tiered_state : {N : Type 0} {kept : Ghosts N} → TieredWheel N kept → WheelState
 tiered_state wheel = state_of (buckets_in wheel)
 
 -- whether wheels with this many slots are smooth: they have those of two revolutions
@@ -32,18 +34,18 @@ abbrev pub radices_of_slots : ℕ → List ℕ
 radices_of_slots n = if is_smooth n then radices_by_turns n else radices_by_slots n
 
 -- How many times a timer went to a lower wheel.
-abbrev pub moves_in : TieredWheel → ℕ
+abbrev pub moves_in : {N : Type 0} {kept : Ghosts N} → TieredWheel N kept → ℕ
 moves_in (Hier wheel) = (counts_of wheel).moves
 moves_in (Smooth wheel) = moves_of wheel
 
 -- How many moves of later ticks can be made now: a hierarchy has none.
-abbrev pub moves_ahead_in : TieredWheel → ℕ
+abbrev pub moves_ahead_in : {N : Type 0} {kept : Ghosts N} → TieredWheel N kept → ℕ
 moves_ahead_in (Hier wheel) = 0
 moves_ahead_in (Smooth wheel) = moves_ahead wheel
 
 -- What follows from the calls and the states alone: all counts of a hierarchy, and the starts of a smooth wheel, whose
 -- moves depend on its paces. It has no visits.
-abbrev pub counts_in : TieredWheel → WheelCounts
+abbrev pub counts_in : {N : Type 0} {kept : Ghosts N} → TieredWheel N kept → WheelCounts
 counts_in (Hier wheel) = counts_of wheel
 counts_in (Smooth wheel) = record { starts = starts_of wheel; moves = 0; visits = 0 }
 
@@ -55,7 +57,7 @@ counts_at_tick old counts = if is_smooth old.slots then counts else counts_of_ti
 abbrev pub counts_at_advance : WheelState → WheelState → WheelCounts → WheelCounts
 counts_at_advance old new counts = if is_smooth old.slots then counts else counts_of_advance old new counts
 
-pub tiered-well_formed : (wheel : TieredWheel) → IsWellFormed (tiered_state wheel)
+pub tiered-well_formed : {N : Type 0} {kept : Ghosts N} (wheel : TieredWheel N kept) → IsWellFormed (tiered_state wheel)
 tiered-well_formed wheel = state_of-well_formed (buckets_in wheel)
 
 pub turns_are_smooth : (table : Table) → is_smooth (smooth_slots (radices table)) ≡ true
@@ -65,7 +67,7 @@ turns_are_smooth tables.Clock = refl
 turns_are_smooth tables.Small = refl
 
 -- a hierarchy has no moves to make ahead, and its slots tell it from a smooth wheel
-pub tiered-none_ahead : (wheel : TieredWheel) → is_smooth (tiered_state wheel).slots ≡ false → moves_ahead_in wheel ≡ 0
+pub tiered-none_ahead : {N : Type 0} {kept : Ghosts N} (wheel : TieredWheel N kept) → is_smooth (tiered_state wheel).slots ≡ false → moves_ahead_in wheel ≡ 0
 tiered-none_ahead (Hier wheel) h = refl
 tiered-none_ahead (Smooth wheel) h =
     absurd (let s = ap is_smooth wheel.bank.bank.has_slots ∙ turns_are_smooth wheel.bank.table in cc)

@@ -28,8 +28,8 @@ use crate::occupied::Occupied;
 use crate::table::{Table, bucket_of, lowest_slots};
 use std::alloc::Global;
 use std::marker::Model;
-use timer_base::{OutOfMemory, Timer};
-use timer_links::Links;
+use timer_base::OutOfMemory;
+use timer_links::{Kept, Links};
 
 /// A first deadline for each bucket of a table, once they are kept.
 #[derive(Drop)]
@@ -130,7 +130,7 @@ impl Firsts {
 
     /// A timer with this deadline has come to the back of a bucket.
     #[inline]
-    pub fn enter(&mut self, table: &Table, links: &Links<Timer>, list: usize, deadline: u64)
+    pub fn enter<N: Kept>(&mut self, table: &Table, links: &Links<N>, list: usize, deadline: u64)
         requires list { list < length self.old.items }
         requires lists { list < length links.now.lists }
         requires positive { 0 < deadline }

@@ -68,7 +68,7 @@ use crate::table::{Table, emptied_at, last_tick_of, lowest_slots};
 use crate::wheels::Wheels;
 use std::alloc::Global;
 use timer_base::{Handle, LAST, MakeFault, OutOfMemory, Timer, Wheel};
-use timer_links::Links;
+use timer_links::{Kept, Links};
 
 /// What a wheel did since it was made.
 #[derive(Clone, Copy, Drop)]
@@ -100,9 +100,12 @@ impl Counts {
 /// A timer moves at most nine times in `Table::Wide` and three times in `Table::Clock`, and keeps its
 /// place in the order of starting. At about 4.29 billion timers, the most that its links can name (after a
 /// `reserve` maybe at half of them), `start` returns out of memory though no allocation failed.
+///
+/// `N` is what its lists keep of a timer. A start and a restart take the timers that it can give back whole; `Timer` keeps
+/// all of them.
 #[derive(Drop)]
-pub struct HierWheel {
-    wheels: Wheels,
+pub struct HierWheel<N: Kept = Timer> {
+    wheels: Wheels<N>,
     counts: Counts,
     ghost few_starts: { counts.starts ≤ wheels.buckets.last_serial },
     ghost few_skipped: { counts.skipped ≤ wheels.buckets.tick },
@@ -113,7 +116,7 @@ pub struct HierWheel {
 }
 
 impl HierWheel {
-    ghost use Rattle.timer_wheels.specs.HierWheel.{hier_state, table_of, counts_of, counts_of_tick, IsHierFault};
+    ghost use Rattle.timer_wheels.specs.HierWheel.{hier_state, table_of, counts_of, IsHierFault};
 
     /// An empty hierarchy of ten wheels of 64 slots, a clock of 2^60 ticks, at its first tick.
     ///
@@ -137,8 +140,28 @@ impl HierWheel {
     ///
     /// Errors, in this order: `FirstTick` above the table's last tick, which is `LAST` or
     /// `LAST_OF_CLOCK`; `OutOfMemory`.
-    #[tactic(auto, using(crate::proofs::HierLemmas::new_paid))]
     pub fn with_table(alloc: Global, table: Table, first_tick: u64) -> Result<HierWheel, MakeFault>
+        ensures state { IfOk result (λ wheel. hier_state wheel
+            ≡ empty_wheel (slots_of_table table) (last_of_table table) first_tick) }
+        ensures counts { IfOk result (λ wheel. counts_of wheel ≡ record {
+          starts = 0;
+          moves = 0;
+          visits = 0;
+        }) }
+        ensures table { IfOk result (λ wheel. table_of wheel ≡ table) }
+        ensures in_range { IfOk result (λ wheel. first_tick ≤ last_of_table table) }
+        ensures fault { IfErr result (λ fault. IsHierFault (last_of_table table) first_tick fault) }
+    {
+        HierWheel::keeping(alloc, table, first_tick)
+    }
+}
+
+impl<N: Kept> HierWheel<N> {
+    ghost use Rattle.timer_wheels.specs.HierWheel.{hier_state, table_of, counts_of, counts_of_tick, IsHierFault};
+
+    /// The same as `with_table`, whose lists keep of a timer what `N` says.
+    #[tactic(auto, using(crate::proofs::HierLemmas::new_paid))]
+    pub fn keeping(alloc: Global, table: Table, first_tick: u64) -> Result<HierWheel<N>, MakeFault>
         ensures state { IfOk result (λ wheel. hier_state wheel
             ≡ empty_wheel (slots_of_table table) (last_of_table table) first_tick) }
         ensures counts { IfOk result (λ wheel. counts_of wheel ≡ record {
@@ -170,7 +193,7 @@ impl HierWheel {
     /// Slot s of wheel k is the list whose number is s more than the lower wheels have slots: `64 * k + s`
     /// in `Table::Wide`. The timers of a bucket stand by serial, each under its handle's place, with
     /// rounds 0. Does not allocate.
-    pub fn links(&self) -> &Links<Timer>
+    pub fn links(&self) -> &Links<N>
         ensures { ShowsWheels (radices (table_of self.now)) (hier_state self.now) result.now.lists }
     {
         &self.wheels.buckets.links
@@ -238,7 +261,7 @@ impl HierWheel {
 
     /// The clock and the buckets.
     #[inline]
-    pub(crate) fn buckets(&self) -> &Buckets<Timer>
+    pub(crate) fn buckets(&self) -> &Buckets<N>
         ensures { result.now ≡ self.now.wheels.buckets }
     {
         &self.wheels.buckets
@@ -282,7 +305,7 @@ impl HierWheel {
     }
 }
 
-impl HierWheel {
+impl<N: Kept> HierWheel<N> {
     ghost use Rattle.timer_wheels.specs.HierWheel.{hier_state, counts_of, counts_of_advance};
 
     /// Passes ticks as `advance` does, wherever it leads.
@@ -309,12 +332,14 @@ impl HierWheel {
     }
 }
 
-impl Wheel for HierWheel {
+impl<N: Kept> Wheel for HierWheel<N> {
     ghost use Rattle.timer_wheels.specs.HierWheel.{hier_state, table_of, counts_of, with_start, counts_of_tick, counts_of_advance};
 
     ghost state = { λ wheel. hier_state wheel };
 
     ghost wake_up = { λ slots now pending. next_visit (radices_by_slots slots) now pending };
+
+    ghost keeps = { λ timer. N.keeps (record { timer = timer; rounds = 0 }) };
 
     ghost counts = { λ wheel. counts_of wheel };
 

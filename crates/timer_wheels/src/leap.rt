@@ -23,8 +23,9 @@ use crate::table::{
     Table, is_rollover, lowest_slots, revolutions, visit_of, with_constant_table, with_wide_table,
 };
 use crate::wheels::Wheels;
+use timer_links::Kept;
 
-impl Wheels {
+impl<N: Kept> Wheels<N> {
     /// Advances to the first tick at which something is due, by at most `most` ticks.
     ///
     /// Returns how many timers went to a lower wheel. Does not allocate.
@@ -123,7 +124,7 @@ impl Wheels {
 
 /// `first_visit` by the wheels' table.
 #[inline(always)]
-fn first_visit_by(table: Table, wheels: &Wheels) -> Option<u64>
+fn first_visit_by<N: Kept>(table: Table, wheels: &Wheels<N>) -> Option<u64>
     requires { table ≡ wheels.now.table }
     ensures quiet { IsQuietUntil result wheels.now.buckets.tick (state_of wheels.now.buckets).pending }
     ensures next { IfSome result (λ tick. IsNextVisit (radices wheels.now.table) tick (state_of wheels.now.buckets)) }

@@ -13,8 +13,7 @@ use crate::firsts::Firsts;
 use crate::occupied::Occupied;
 use crate::table::{Table, bucket_of, buckets_of, lowest_slots, with_wide_table};
 use crate::walks::front_deadline;
-use timer_base::Timer;
-use timer_links::Links;
+use timer_links::{Kept, Links};
 
 /// Empties a bucket: a timer whose deadline is this tick goes to the back of the list of due timers, and
 /// any other one to the back of its bucket in a lower wheel, one after the other.
@@ -23,9 +22,9 @@ use timer_links::Links;
 /// many timers went to a lower wheel. Does not allocate.
 // Always inlined: most ticks find their bucket empty or move it as a whole, which is less work than a call.
 #[inline(always)]
-pub fn empty_bucket(
+pub fn empty_bucket<N: Kept>(
     table: Table,
-    links: &mut Links<Timer>,
+    links: &mut Links<N>,
     occupied: &mut Occupied,
     firsts: &mut Firsts,
     list: usize,
@@ -62,9 +61,9 @@ pub fn empty_bucket(
 /// There is one loop for the wide table, in which all that depends on the table is constant, and one for the others.
 // Kept out of line, since a tick seldom needs it.
 #[inline(never)]
-fn migrate(
+fn migrate<N: Kept>(
     table: Table,
-    links: &mut Links<Timer>,
+    links: &mut Links<N>,
     occupied: &mut Occupied,
     firsts: &mut Firsts,
     list: usize,
@@ -90,9 +89,9 @@ fn migrate(
 /// Empties a bucket from its front, timer by timer, and returns how many went to a lower wheel.
 // Inlined if the table is a constant.
 #[inline(always)]
-fn migrate_one_by_one(
+fn migrate_one_by_one<N: Kept>(
     table: Table,
-    links: &mut Links<Timer>,
+    links: &mut Links<N>,
     occupied: &mut Occupied,
     firsts: &mut Firsts,
     list: usize,
@@ -134,7 +133,7 @@ fn migrate_one_by_one(
 
 /// The deadline of the second timer of a list.
 #[inline(always)]
-fn next_deadline(links: &Links<Timer>, list: usize) -> Option<u64>
+fn next_deadline<N: Kept>(links: &Links<N>, list: usize) -> Option<u64>
     requires { list < length links.now.lists }
     ensures { result ≡ second_deadline (list_at list links.now.lists) }
 {

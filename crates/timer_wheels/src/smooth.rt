@@ -49,7 +49,7 @@ use crate::smooth::work::{fix_paces, make_way, move_all};
 use crate::table::{Table, is_rollover, last_tick_of};
 use std::alloc::Global;
 use timer_base::{Handle, MakeFault, OutOfMemory, Timer, Wheel};
-use timer_links::Links;
+use timer_links::{Kept, Links};
 
 mod ahead;
 mod bank;
@@ -64,10 +64,13 @@ mod work;
 ///
 /// A timer moves at most nine times in `Table::Wide` and three times in `Table::Clock`, and keeps its place in the order
 /// of starting.
+///
+/// `N` is what its lists keep of a timer. A start and a restart take the timers that it can give back whole; `Timer` keeps
+/// all of them.
 #[derive(Drop)]
-pub struct SmoothWheel {
+pub struct SmoothWheel<N: Kept = Timer> {
     /// The buckets and their bits.
-    bank: Bank,
+    bank: Bank<N>,
     /// How many timers of each next bucket move at a tick.
     paces: Paces,
     /// Timers that were started or restarted.
@@ -82,7 +85,7 @@ pub struct SmoothWheel {
     ghost paid: { moves + potential_of bank.table bank.buckets ≤ most_moves (radices bank.table) * starts },
 }
 
-impl SmoothWheel {
+impl<N: Kept> SmoothWheel<N> {
     ghost use Rattle.timer_wheels.specs.SmoothWheel.{smooth_state, smooth_table, starts_of, moves_of, next_moves, moves_ahead, IsPacedFor, ShowsSmooth};
     ghost use Rattle.timer_wheels.specs.HierWheel.{IsHierFault};
 
@@ -94,7 +97,7 @@ impl SmoothWheel {
         alloc: Global,
         table: Table,
         first_tick: u64,
-    ) -> Result<SmoothWheel, MakeFault>
+    ) -> Result<SmoothWheel<N>, MakeFault>
         ensures state { IfOk result (λ wheel. smooth_state wheel
             ≡ empty_wheel (smooth_slots (radices table)) (last_of_table table) first_tick) }
         ensures table { IfOk result (λ wheel. smooth_table wheel ≡ table) }
@@ -123,7 +126,7 @@ impl SmoothWheel {
     ///
     /// Slot i of wheel k, of the slots counted from tick 0 on, is list `128 * k + i % (2 * r)`, r the wheel's radix. The
     /// timers of a bucket stand by serial, each under its handle's place, with rounds 0. Does not allocate.
-    pub fn links(&self) -> &Links<Timer>
+    pub fn links(&self) -> &Links<N>
         ensures shows { ShowsSmooth (smooth_table self.now) (smooth_state self.now) result.now.lists }
         ensures ahead { moves_ahead self.now ≡ next_lengths (radices (smooth_table self.now)) (smooth_state self.now).now
             result.now.lists (length (radices (smooth_table self.now)) - 1) }
@@ -141,7 +144,7 @@ impl SmoothWheel {
 
     /// The clock and the buckets.
     #[inline]
-    pub(crate) fn buckets(&self) -> &Buckets<Timer>
+    pub(crate) fn buckets(&self) -> &Buckets<N>
         ensures { result.now ≡ self.now.bank.buckets }
     {
         &self.bank.buckets
@@ -192,7 +195,7 @@ impl SmoothWheel {
     }
 }
 
-impl SmoothWheel {
+impl<N: Kept> SmoothWheel<N> {
     ghost use Rattle.timer_wheels.specs.SmoothWheel.{smooth_state, smooth_table, starts_of, moves_of, next_moves, wheels_left, wheel_in, radices_by_turns, Passes, IsPacedFor};
 
     /// Sets the clock forward to the tick before the next event, or before the end if that comes first, unless a tick has
@@ -239,10 +242,12 @@ impl SmoothWheel {
     }
 }
 
-impl Wheel for SmoothWheel {
+impl<N: Kept> Wheel for SmoothWheel<N> {
     ghost use Rattle.timer_wheels.specs.SmoothWheel.{smooth_state, smooth_table, starts_of, moves_of, next_moves, moves_ahead, wheels_left, wheel_in, radices_by_turns, Passes, IsPacedFor};
 
     ghost state = { λ wheel. smooth_state wheel };
+
+    ghost keeps = { λ timer. N.keeps (record { timer = timer; rounds = 0 }) };
 
     ghost wake_up = { λ slots now pending. next_visit (radices_by_turns slots) now pending };
 
@@ -273,6 +278,7 @@ impl Wheel for SmoothWheel {
         requires deadline { timer.deadline ≤ (smooth_state self.old).last_tick }
         requires fresh { (smooth_state self.old).last_serial < timer.serial }
         requires serial { timer.serial ≤ LAST }
+        requires keeps { N.keeps (record { timer = timer; rounds = 0 }) }
         ensures named { IfOk result (λ handle. handle.serial ≡ timer.serial) }
         ensures started { IfOk result (λ handle. smooth_state self.new
             ≡ after_held_start handle.place timer (smooth_state self.old)) }
@@ -327,6 +333,7 @@ impl Wheel for SmoothWheel {
         requires deadline { timer.deadline ≤ (smooth_state self.old).last_tick }
         requires fresh { (smooth_state self.old).last_serial < timer.serial }
         requires serial { timer.serial ≤ LAST }
+        requires keeps { N.keeps (record { timer = timer; rounds = 0 }) }
         ensures old { old_timer result ≡ held_at handle (smooth_state self.old) }
         ensures named { IfSome result (λ r. r.0.serial ≡ timer.serial) }
         ensures restarted { smooth_state self.new ≡ after_replacement result handle timer (smooth_state self.old) }

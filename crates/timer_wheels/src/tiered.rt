@@ -22,20 +22,21 @@ use crate::table::Table;
 use crate::tiers::Tiers;
 use std::alloc::Global;
 use timer_base::{Handle, MakeFault, OutOfMemory, Timer, Wheel};
+use timer_links::Kept;
 
 /// In place of a tick: there is none.
 pub const NEVER: u64 = u64::MAX;
 
-/// One of the two hierarchies.
+/// One of the two hierarchies. `N` is what its lists keep of a timer.
 #[derive(Drop)]
-pub enum TieredWheel {
+pub enum TieredWheel<N: Kept = Timer> {
     /// Scheme 7, which empties a bucket as its time comes.
-    Hier(HierWheel),
+    Hier(HierWheel<N>),
     /// The smooth wheel, whose timers move early.
-    Smooth(SmoothWheel),
+    Smooth(SmoothWheel<N>),
 }
 
-impl TieredWheel {
+impl<N: Kept> TieredWheel<N> {
     ghost use Rattle.timer_wheels.specs.TieredWheel.{tiered_state, buckets_in, is_smooth, counts_in, moves_in};
 
     /// An empty hierarchy at its first tick.
@@ -45,7 +46,7 @@ impl TieredWheel {
         alloc: Global,
         tiers: Tiers,
         first_tick: u64,
-    ) -> Result<TieredWheel, MakeFault>
+    ) -> Result<TieredWheel<N>, MakeFault>
         ensures state { IfOk result (λ wheel. tiered_state wheel
             ≡ empty_wheel (slots_of_tiers tiers) (last_of_tiers tiers) first_tick) }
         ensures counts { IfOk result (λ wheel. counts_in wheel ≡ no_counts) }
@@ -66,7 +67,7 @@ impl TieredWheel {
     }
 
     /// An empty `HierWheel` of this table.
-    fn hier(alloc: Global, table: Table, first_tick: u64) -> Result<TieredWheel, MakeFault>
+    fn hier(alloc: Global, table: Table, first_tick: u64) -> Result<TieredWheel<N>, MakeFault>
         ensures state { IfOk result (λ wheel. tiered_state wheel
             ≡ empty_wheel (slots_of_table table) (last_of_table table) first_tick) }
         ensures counts { IfOk result (λ wheel. counts_in wheel ≡ no_counts) }
@@ -74,14 +75,14 @@ impl TieredWheel {
         ensures in_range { IfOk result (λ wheel. first_tick ≤ last_of_table table) }
         ensures fault { IfErr result (λ fault. IsHierFault (last_of_table table) first_tick fault) }
     {
-        let wheel = HierWheel::with_table(alloc, table, first_tick)?;
+        let wheel = HierWheel::keeping(alloc, table, first_tick)?;
         Ok(TieredWheel::Hier(wheel))
     }
 
     /// The buckets of the wheel.
     // Both wheels have them at the same place, so no branch is left of this.
     #[inline(always)]
-    fn buckets(&self) -> &Buckets<Timer>
+    fn buckets(&self) -> &Buckets<N>
         ensures { result.now ≡ buckets_in self.now }
     {
         match self {
@@ -136,12 +137,14 @@ impl TieredWheel {
     }
 }
 
-impl Wheel for TieredWheel {
+impl<N: Kept> Wheel for TieredWheel<N> {
     ghost use Rattle.timer_wheels.specs.TieredWheel.{tiered_state, tiered-well_formed, radices_of_slots, counts_in, counts_at_tick, counts_at_advance};
 
     ghost state = { λ wheel. tiered_state wheel };
 
     ghost wake_up = { λ slots now pending. next_visit (radices_of_slots slots) now pending };
+
+    ghost keeps = { λ timer. N.keeps (record { timer = timer; rounds = 0 }) };
 
     ghost counts = { λ wheel. counts_in wheel };
 
@@ -343,8 +346,8 @@ fn handle_at(place: Option<usize>, serial: u64) -> Result<Handle, OutOfMemory>
 
 /// Starts a timer, and returns its place.
 #[inline(never)]
-fn start_hier(
-    wheel: &mut HierWheel,
+fn start_hier<N: Kept>(
+    wheel: &mut HierWheel<N>,
     serial: u64,
     client: u64,
     number: u64,
@@ -355,6 +358,10 @@ fn start_hier(
     requires deadline { deadline ≤ (hier_state wheel.old).last_tick }
     requires fresh { (hier_state wheel.old).last_serial < serial }
     requires serial { serial ≤ LAST }
+    requires keeps { N.keeps (record {
+      timer = record { serial = serial; client = client; number = number; deadline = deadline; action = action };
+      rounds = 0;
+    }) }
     ensures started { IfSome result (λ place. hier_state wheel.new
         ≡ after_held_start place (record { serial = serial; client = client; number = number; deadline = deadline; action = action }) (hier_state wheel.old)) }
     ensures full { IfNone result ((hier_state wheel.old).room ≤ held_count (hier_state wheel.old)) }
@@ -377,8 +384,8 @@ fn start_hier(
 
 /// Starts a timer, and returns its place.
 #[inline(never)]
-fn start_smooth(
-    wheel: &mut SmoothWheel,
+fn start_smooth<N: Kept>(
+    wheel: &mut SmoothWheel<N>,
     serial: u64,
     client: u64,
     number: u64,
@@ -389,6 +396,10 @@ fn start_smooth(
     requires deadline { deadline ≤ (smooth_state wheel.old).last_tick }
     requires fresh { (smooth_state wheel.old).last_serial < serial }
     requires serial { serial ≤ LAST }
+    requires keeps { N.keeps (record {
+      timer = record { serial = serial; client = client; number = number; deadline = deadline; action = action };
+      rounds = 0;
+    }) }
     ensures started { IfSome result (λ place. smooth_state wheel.new
         ≡ after_held_start place (record { serial = serial; client = client; number = number; deadline = deadline; action = action }) (smooth_state wheel.old)) }
     ensures full { IfNone result ((smooth_state wheel.old).room ≤ held_count (smooth_state wheel.old)) }
@@ -411,7 +422,7 @@ fn start_smooth(
 
 /// Removes the timer with this handle, if there is one.
 #[inline(never)]
-fn stop_smooth(wheel: &mut SmoothWheel, handle: Handle)
+fn stop_smooth<N: Kept>(wheel: &mut SmoothWheel<N>, handle: Handle)
     ensures stopped { smooth_state wheel.new ≡ after_removal handle (smooth_state wheel.old) }
     ensures starts { starts_of wheel.new ≡ starts_of wheel.old }
 {
@@ -420,11 +431,16 @@ fn stop_smooth(wheel: &mut SmoothWheel, handle: Handle)
 
 /// Removes the timer with this handle, starts another, and returns its place.
 #[inline(never)]
-fn restart_smooth(wheel: &mut SmoothWheel, handle: Handle, timer: Timer) -> Option<usize>
+fn restart_smooth<N: Kept>(
+    wheel: &mut SmoothWheel<N>,
+    handle: Handle,
+    timer: Timer,
+) -> Option<usize>
     requires not_past { (smooth_state wheel.old).now ≤ timer.deadline }
     requires deadline { timer.deadline ≤ (smooth_state wheel.old).last_tick }
     requires fresh { (smooth_state wheel.old).last_serial < timer.serial }
     requires serial { timer.serial ≤ LAST }
+    requires keeps { N.keeps (record { timer = timer; rounds = 0 }) }
     ensures none { IfNone result (held_at handle (smooth_state wheel.old) ≡ None) }
     ensures same { IfNone result (smooth_state wheel.new ≡ smooth_state wheel.old) }
     ensures restarted { IfSome result (λ place. smooth_state wheel.new
@@ -440,7 +456,7 @@ fn restart_smooth(wheel: &mut SmoothWheel, handle: Handle, timer: Timer) -> Opti
 
 /// Advances by one tick.
 #[inline(never)]
-fn tick_smooth(wheel: &mut SmoothWheel)
+fn tick_smooth<N: Kept>(wheel: &mut SmoothWheel<N>)
     requires nothing_due { (smooth_state wheel.old).due ≡ [] }
     requires before_last { (smooth_state wheel.old).now < (smooth_state wheel.old).last_tick }
     ensures ticked { smooth_state wheel.new ≡ after_tick (smooth_state wheel.old) }
@@ -451,7 +467,7 @@ fn tick_smooth(wheel: &mut SmoothWheel)
 
 /// The first pending deadline, or `NEVER`.
 #[inline(never)]
-fn next_smooth(wheel: &SmoothWheel) -> u64
+fn next_smooth<N: Kept>(wheel: &SmoothWheel<N>) -> u64
     ensures { option_of result ≡ next_deadline (smooth_state wheel.now).pending }
 {
     or_never(wheel.next_deadline())
@@ -459,7 +475,7 @@ fn next_smooth(wheel: &SmoothWheel) -> u64
 
 /// The next tick to wake up at, or `NEVER`.
 #[inline(never)]
-fn quiet_smooth(wheel: &SmoothWheel) -> u64
+fn quiet_smooth<N: Kept>(wheel: &SmoothWheel<N>) -> u64
     ensures quiet { IsQuietUntil (option_of result) (smooth_state wheel.now).now (smooth_state wheel.now).pending }
     ensures exact { option_of result ≡ next_visit (radices_by_turns (smooth_state wheel.now).slots)
         (smooth_state wheel.now).now (smooth_state wheel.now).pending }

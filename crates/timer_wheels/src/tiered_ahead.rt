@@ -5,8 +5,9 @@ ghost use Rattle.timer_wheels.specs.SmoothWheel.{smooth_state, starts_of, moves_
 use crate::smooth::SmoothWheel;
 use crate::tiered::TieredWheel;
 use timer_base::MovesAhead;
+use timer_links::Kept;
 
-impl MovesAhead for TieredWheel {
+impl<N: Kept> MovesAhead for TieredWheel<N> {
     ghost use Rattle.timer_wheels.specs.TieredWheel.{tiered_state, counts_in, moves_in, is_smooth, moves_ahead_in, tiered-none_ahead};
 
     ghost has_moves = { is_smooth };
@@ -33,7 +34,7 @@ impl MovesAhead for TieredWheel {
 
 /// Makes moves of later ticks, and returns how many.
 #[inline(never)]
-fn move_smooth(wheel: &mut SmoothWheel, most: u64) -> u64
+fn move_smooth<N: Kept>(wheel: &mut SmoothWheel<N>, most: u64) -> u64
     ensures moved { result ≡ min most (moves_ahead wheel.old) }
     ensures left { result + moves_ahead wheel.new ≡ moves_ahead wheel.old }
     ensures state { smooth_state wheel.new ≡ smooth_state wheel.old }

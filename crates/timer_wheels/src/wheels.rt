@@ -28,15 +28,15 @@ use crate::table::{
 };
 use std::alloc::Global;
 use timer_base::{Handle, OutOfMemory, Timer};
-use timer_links::Links;
+use timer_links::{Kept, Links};
 
 /// The buckets of a table, which of them have a timer, and their first deadlines.
 #[derive(Drop)]
-pub struct Wheels {
+pub struct Wheels<N: Kept = Timer> {
     /// The radices, which no call changes.
     pub table: Table,
     /// A bucket for each slot of each wheel.
-    pub buckets: Buckets<Timer>,
+    pub buckets: Buckets<N>,
     /// Which buckets have a timer.
     pub occupied: Occupied,
     /// The first deadline of each bucket above the lowest wheel.
@@ -45,14 +45,14 @@ pub struct Wheels {
     ghost foretold: { HasFirsts table buckets firsts } by { HasFirsts-prop table buckets firsts },
 }
 
-impl Wheels {
+impl<N: Kept> Wheels<N> {
     ghost use Rattle.timer_wheels.specs.BucketLists.{timers_in};
     ghost use Rattle.timer_wheels.specs.Deadlines.{IsLeast};
     ghost use Rattle.timer_wheels.specs.Placement.{hops_of};
     ghost use Rattle.timer_wheels.specs.Tables.{last_of_table, slots_of_table};
 
     /// Makes the empty buckets of a table.
-    pub fn new(alloc: Global, table: Table, first_tick: u64) -> Result<Wheels, OutOfMemory>
+    pub fn new(alloc: Global, table: Table, first_tick: u64) -> Result<Wheels<N>, OutOfMemory>
         requires { first_tick ≤ last_of_table table }
         ensures state { IfOk result (λ wheels. state_of wheels.buckets
             ≡ empty_wheel (slots_of_table table) (last_of_table table) first_tick) }
@@ -93,6 +93,7 @@ impl Wheels {
         requires deadline { timer.deadline ≤ self.old.buckets.last_tick }
         requires fresh { self.old.buckets.last_serial < timer.serial }
         requires serial { timer.serial ≤ LAST }
+        requires keeps { N.keeps (record { timer = timer; rounds = 0 }) }
         ensures named { IfOk result (λ handle. handle.serial ≡ timer.serial) }
         ensures started { IfOk result (λ handle. state_of self.new.buckets
             ≡ after_held_start handle.place timer (state_of self.old.buckets)) }
@@ -146,6 +147,7 @@ impl Wheels {
         requires deadline { timer.deadline ≤ self.old.buckets.last_tick }
         requires fresh { self.old.buckets.last_serial < timer.serial }
         requires serial { timer.serial ≤ LAST }
+        requires keeps { N.keeps (record { timer = timer; rounds = 0 }) }
         ensures old { old_timer result ≡ held_at handle (state_of self.old.buckets) }
         ensures named { IfSome result (λ r. r.0.serial ≡ timer.serial) }
         ensures restarted { state_of self.new.buckets
@@ -299,9 +301,9 @@ fn lowest_visit_by(table: Table, list: usize, now: u64) -> Option<u64>
 /// A timer with this deadline came to the back of a list. If that is a bucket, its bit is set, and its first deadline
 /// is kept. What is due has no bit.
 #[inline(always)]
-fn enter_list(
+fn enter_list<N: Kept>(
     table: &Table,
-    links: &Links<Timer>,
+    links: &Links<N>,
     occupied: &mut Occupied,
     firsts: &mut Firsts,
     tick: u64,

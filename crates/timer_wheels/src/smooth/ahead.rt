@@ -16,8 +16,9 @@ use crate::smooth::bank::Bank;
 use crate::smooth::turns::{level_of, list_of_slot, slot_of, turns_of, weight_of, wheels_of};
 use crate::table::{Table, with_wide_table};
 use timer_base::earlier;
+use timer_links::Kept;
 
-impl Bank {
+impl<N: Kept> Bank<N> {
     /// The first slot of a wheel after the present one that has a timer.
     pub fn first_slot(&self, wheel: usize) -> Option<u64>
         requires { wheel < length (radices self.now.table) }
@@ -162,7 +163,7 @@ impl Bank {
 
 /// The first slot of a wheel after the present one that has a timer, by the bank's table.
 #[inline(always)]
-fn first_slot_by(table: Table, bank: &Bank, wheel: usize) -> Option<u64>
+fn first_slot_by<N: Kept>(table: Table, bank: &Bank<N>, wheel: usize) -> Option<u64>
     requires table { table ≡ bank.now.table }
     requires wheel { wheel < length (radices table) }
     ensures first { IsFirstSlot (radices table) bank.now.buckets.tick wheel bank.now.buckets.links.lists result }

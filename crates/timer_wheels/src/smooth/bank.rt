@@ -21,23 +21,23 @@ use crate::table::{Table, last_tick_of, with_wide_table};
 use crate::walks::front_deadline;
 use std::alloc::Global;
 use timer_base::{Handle, OutOfMemory, Timer};
-use timer_links::Links;
+use timer_links::{Kept, Links};
 
 /// The buckets of a table, and which of them have a timer.
 #[derive(Drop)]
-pub struct Bank {
+pub struct Bank<N: Kept = Timer> {
     /// The radices, which no call changes.
     pub table: Table,
     /// The lists of two revolutions of each wheel.
-    pub buckets: Buckets<Timer>,
+    pub buckets: Buckets<N>,
     /// Which lists have a timer.
     pub filled: Filled,
     ghost bank: { IsBank table buckets filled } by { IsBank-prop table buckets filled },
 }
 
-impl Bank {
+impl<N: Kept> Bank<N> {
     /// The empty buckets of a table.
-    pub fn new(alloc: Global, table: Table, first_tick: u64) -> Result<Bank, OutOfMemory>
+    pub fn new(alloc: Global, table: Table, first_tick: u64) -> Result<Bank<N>, OutOfMemory>
         requires { first_tick ≤ last_of_table table }
         ensures state { IfOk result (λ bank. state_of bank.buckets
             ≡ empty_wheel (smooth_slots (radices table)) (last_of_table table) first_tick) }
@@ -96,6 +96,7 @@ impl Bank {
         requires deadline { timer.deadline ≤ self.old.buckets.last_tick }
         requires fresh { self.old.buckets.last_serial < timer.serial }
         requires serial { timer.serial ≤ LAST }
+        requires keeps { N.keeps (record { timer = timer; rounds = 0 }) }
         ensures named { IfOk result (λ r. r.0.serial ≡ timer.serial) }
         ensures started { IfOk result (λ r. state_of self.new.buckets
             ≡ after_held_start r.0.place timer (state_of self.old.buckets)) }
@@ -258,6 +259,7 @@ impl Bank {
         requires deadline { timer.deadline ≤ self.old.buckets.last_tick }
         requires fresh { self.old.buckets.last_serial < timer.serial }
         requires serial { timer.serial ≤ LAST }
+        requires keeps { N.keeps (record { timer = timer; rounds = 0 }) }
         ensures old { old_timer (restarted_of result) ≡ held_at handle (state_of self.old.buckets) }
         ensures named { IfSome result (λ r. r.0.0.serial ≡ timer.serial) }
         ensures restarted { state_of self.new.buckets
@@ -305,7 +307,7 @@ impl Bank {
 
 /// The list of a timer that is pending now, and the wheel whose next bucket that list is, or 0 if it is none's.
 #[inline(always)]
-fn place_in(table: Table, bank: &Bank, deadline: u64) -> (usize, usize)
+fn place_in<N: Kept>(table: Table, bank: &Bank<N>, deadline: u64) -> (usize, usize)
     requires table { table ≡ bank.now.table }
     requires later { bank.now.buckets.tick < deadline }
     requires deadline { deadline ≤ bank.now.buckets.last_tick }
@@ -336,7 +338,7 @@ fn place_in(table: Table, bank: &Bank, deadline: u64) -> (usize, usize)
 
 /// Moves the timers of a bucket to the list of due timers. Most ticks find their bucket empty, and write nothing.
 #[inline(always)]
-fn make_due(links: &mut Links<Timer>, filled: &mut Filled, list: usize, due: usize)
+fn make_due<N: Kept>(links: &mut Links<N>, filled: &mut Filled, list: usize, due: usize)
     requires list { list < length links.old.lists }
     requires due { due < length links.old.lists }
     requires apart { due ≢ list }
@@ -354,7 +356,7 @@ fn make_due(links: &mut Links<Timer>, filled: &mut Filled, list: usize, due: usi
 }
 
 /// A list lost a timer: its bit is cleared if it is empty.
-fn settle(links: &Links<Timer>, filled: &mut Filled, list: usize)
+fn settle<N: Kept>(links: &Links<N>, filled: &mut Filled, list: usize)
     requires list { list < length links.now.lists }
     requires few { list < MOST_LISTS }
     ensures empty { list_at list links.now.lists ≡ [] → bit_of filled.new list ≡ 0 }

@@ -12,8 +12,9 @@ use crate::smooth::SmoothWheel;
 use crate::smooth::bank::Bank;
 use crate::smooth::paces::Paces;
 use crate::smooth::turns::{next_list, wheels_of};
+use timer_links::Kept;
 
-impl SmoothWheel {
+impl<N: Kept> SmoothWheel<N> {
     ghost use Rattle.timer_wheels.specs.SmoothWheel.{smooth_state, smooth_table, starts_of, moves_of, next_moves, moves_ahead, wheels_left, IsPacedFor};
 
     /// Whether `move_ahead` has a move to make. If not, the next tick moves none. Does not allocate.
@@ -46,7 +47,7 @@ impl SmoothWheel {
 }
 
 /// Whether a next bucket has timers.
-fn has_movable(bank: &Bank) -> bool
+fn has_movable<N: Kept>(bank: &Bank<N>) -> bool
     ensures { IsTrue result ↔ (0 < movable bank.now.table bank.now.buckets) }
 {
     let wheels = wheels_of(bank.table);
@@ -66,7 +67,7 @@ fn has_movable(bank: &Bank) -> bool
 /// Moves timers of the next buckets, so many or all, from the lowest wheel up: its bucket's time ends first.
 ///
 /// Returns how many.
-fn move_early(bank: &mut Bank, paces: &mut Paces, most: u64) -> u64
+fn move_early<N: Kept>(bank: &mut Bank<N>, paces: &mut Paces, most: u64) -> u64
     requires in_time { AreInTime bank.old.table bank.old.buckets paces.old }
     ensures state { state_of bank.new.buckets ≡ state_of bank.old.buckets }
     ensures table { bank.new.table ≡ bank.old.table }
@@ -91,7 +92,7 @@ fn move_early(bank: &mut Bank, paces: &mut Paces, most: u64) -> u64
 /// Moves timers of one wheel's next bucket, so many or all. Its pace becomes 0 if none is left.
 ///
 /// Returns how many.
-fn empty_next(bank: &mut Bank, paces: &mut Paces, wheel: usize, most: u64) -> u64
+fn empty_next<N: Kept>(bank: &mut Bank<N>, paces: &mut Paces, wheel: usize, most: u64) -> u64
     requires above { 0 < wheel }
     requires wheel { wheel < length (radices bank.old.table) }
     requires early { IsEarly bank.old.table bank.old.buckets wheel }

@@ -17,12 +17,13 @@ use crate::smooth::bank::Bank;
 use crate::smooth::paces::Paces;
 use crate::smooth::turns::{next_list, slot_of, weight_of, wheels_of};
 use crate::table::is_rollover;
+use timer_links::Kept;
 
 /// Moves timers of each wheel's next bucket at its pace, from the lowest wheel up, and returns how many moved.
 ///
 /// The next buckets are in time, and so no timer comes to one of them. Does not allocate.
 #[inline]
-pub fn move_all(bank: &mut Bank, paces: &mut Paces) -> u64
+pub fn move_all<N: Kept>(bank: &mut Bank<N>, paces: &mut Paces) -> u64
     requires in_time { AreInTime bank.old.table bank.old.buckets paces.old }
     ensures state { state_of bank.new.buckets ≡ state_of bank.old.buckets }
     ensures table { bank.new.table ≡ bank.old.table }
@@ -43,7 +44,7 @@ pub fn move_all(bank: &mut Bank, paces: &mut Paces) -> u64
 /// The same, wheel by wheel.
 // Out of line, as `fix_each` is: a tick that needs neither saves no registers.
 #[inline(never)]
-fn move_each(bank: &mut Bank, paces: &mut Paces) -> u64
+fn move_each<N: Kept>(bank: &mut Bank<N>, paces: &mut Paces) -> u64
     requires in_time { AreInTime bank.old.table bank.old.buckets paces.old }
     requires few { pace_sum paces.old < 18446744073709551616 }
     ensures state { state_of bank.new.buckets ≡ state_of bank.old.buckets }
@@ -67,7 +68,7 @@ fn move_each(bank: &mut Bank, paces: &mut Paces) -> u64
 }
 
 /// Moves timers of one wheel's next bucket at its pace, which becomes 0 if none is left for the next tick.
-fn move_next(bank: &mut Bank, paces: &mut Paces, wheel: usize) -> u64
+fn move_next<N: Kept>(bank: &mut Bank<N>, paces: &mut Paces, wheel: usize) -> u64
     requires above { 0 < wheel }
     requires wheel { wheel < length (radices bank.old.table) }
     requires early { IsEarly bank.old.table bank.old.buckets wheel }
@@ -93,7 +94,7 @@ fn move_next(bank: &mut Bank, paces: &mut Paces, wheel: usize) -> u64
 ///
 /// Returns how many. Does not allocate.
 #[inline]
-pub fn make_way(bank: &mut Bank, wheel: usize) -> u64
+pub fn make_way<N: Kept>(bank: &mut Bank<N>, wheel: usize) -> u64
     requires wheel { wheel < length (radices bank.old.table) }
     requires early { 0 < wheel → IsEarly bank.old.table bank.old.buckets wheel }
     ensures state { state_of bank.new.buckets ≡ state_of bank.old.buckets }
@@ -113,7 +114,7 @@ pub fn make_way(bank: &mut Bank, wheel: usize) -> u64
 
 /// Fixes the paces as slots begin: of each wheel whose slot begins at this tick, for its new next bucket.
 #[inline]
-pub fn fix_paces(bank: &Bank, paces: &mut Paces)
+pub fn fix_paces<N: Kept>(bank: &Bank<N>, paces: &mut Paces)
     ensures begun { (k : ℕ) → 0 < k → k < length (radices bank.now.table)
         → slot_in (radices bank.now.table) k bank.now.buckets.tick * weight k (radices bank.now.table) ≡ bank.now.buckets.tick
         → next_len bank.now.table bank.now.buckets k
@@ -131,7 +132,7 @@ pub fn fix_paces(bank: &Bank, paces: &mut Paces)
 
 /// The same, wheel by wheel, up to the first whose slot does not begin.
 #[inline(never)]
-fn fix_each(bank: &Bank, paces: &mut Paces)
+fn fix_each<N: Kept>(bank: &Bank<N>, paces: &mut Paces)
     ensures begun { (k : ℕ) → 0 < k → k < length (radices bank.now.table)
         → slot_in (radices bank.now.table) k bank.now.buckets.tick * weight k (radices bank.now.table) ≡ bank.now.buckets.tick
         → next_len bank.now.table bank.now.buckets k
@@ -153,7 +154,7 @@ fn fix_each(bank: &Bank, paces: &mut Paces)
 }
 
 /// Fixes the pace of one wheel, if its slot begins at this tick. Returns whether it does.
-fn fix_pace(bank: &Bank, paces: &mut Paces, wheel: usize) -> bool
+fn fix_pace<N: Kept>(bank: &Bank<N>, paces: &mut Paces, wheel: usize) -> bool
     requires above { 0 < wheel }
     requires wheel { wheel < length (radices bank.now.table) }
     ensures begins { result ≡ (slot_in (radices bank.now.table) wheel bank.now.buckets.tick
@@ -178,7 +179,7 @@ fn fix_pace(bank: &Bank, paces: &mut Paces, wheel: usize) -> bool
 }
 
 /// The pace of a wheel whose next bucket begins to be the next one: enough for all timers that are held.
-fn pace_of(bank: &Bank, wheel: usize) -> u64
+fn pace_of<N: Kept>(bank: &Bank<N>, wheel: usize) -> u64
     requires above { 0 < wheel }
     requires wheel { wheel < length (radices bank.now.table) }
     ensures most { result ≤ MOST_PACE }

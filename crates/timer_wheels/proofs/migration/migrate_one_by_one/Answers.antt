@@ -10,7 +10,7 @@ use Rattle.timer_wheels.proofs.OccupiedLemmas.{marked_due, marked_left, marked_a
 use Rattle.timer_wheels.proofs.migration.migrate_one_by_one.Goals as goal
 
 pub loop-ahead-preserved-then-deadline-tick : goal.loop-ahead-preserved-then-deadline-tick
-loop-ahead-preserved-then-deadline-tick c =
+loop-ahead-preserved-then-deadline-tick g c =
     let i = c.loop-ahead.invariant in
     let f = first_row i.emptying (sym c.in-Some.is ∙ i.ahead) in
     let m = c.move_front in
@@ -30,7 +30,7 @@ loop-ahead-preserved-then-deadline-tick c =
     }
 
 pub loop-ahead-preserved : goal.loop-ahead-preserved
-loop-ahead-preserved c =
+loop-ahead-preserved g c =
     let n = slots (radices c.args.table) in
     let i = c.loop-ahead.invariant in
     let f = first_row i.emptying (sym c.in-Some.is ∙ i.ahead) in
@@ -56,7 +56,7 @@ loop-ahead-preserved c =
     }
 
 pub loop-ahead-smaller-then-deadline-tick : goal.loop-ahead-smaller-then-deadline-tick
-loop-ahead-smaller-then-deadline-tick c =
+loop-ahead-smaller-then-deadline-tick g c =
     let i = c.loop-ahead.invariant in
     let f = first_row i.emptying (sym c.in-Some.is ∙ i.ahead) in
     let m = c.move_front in
@@ -64,7 +64,7 @@ loop-ahead-smaller-then-deadline-tick c =
     c.buckets_of-due.ensures.value c.if-deadline-tick.true) m.ensures.moved
 
 pub loop-ahead-smaller : goal.loop-ahead-smaller
-loop-ahead-smaller c =
+loop-ahead-smaller g c =
     let i = c.loop-ahead.invariant in
     let f = first_row i.emptying (sym c.in-Some.is ∙ i.ahead) in
     let m = c.move_front-else-deadline-tick in
@@ -72,14 +72,14 @@ loop-ahead-smaller c =
     c.bucket_of-to.ensures.value c.if-deadline-tick.false) m.ensures.moved
 
 pub overflow_add-moves : goal.overflow_add-moves
-overflow_add-moves c =
+overflow_add-moves g c =
     let i = c.loop-ahead.invariant in
     let h : c.loop-ahead.moves + 1 < 18446744073709551616 = moves_fit c.loop-ahead.links.lists i.emptying (first_row i.emptying (sym c.in-Some.is
     ∙ i.ahead)) (omega (arith, c.lemma_countable.ensures)) in
     search rules
 
 pub enter-requires : goal.enter-requires
-enter-requires c =
+enter-requires g c =
     let i = c.loop-ahead.invariant in
     let to = c.bucket_of-to in
     let f = first_row i.emptying (sym c.in-Some.is ∙ i.ahead) in
@@ -93,12 +93,12 @@ enter-requires c =
     }
 
 pub returns-clause-marked : goal.returns-clause-marked
-returns-clause-marked c =
+returns-clause-marked g c =
     let i = c.loop-ahead.invariant in
     let z = (ended_none i.emptying (sym c.in_default.is ∙ i.ahead)).emptied in
     marked_all (slots (radices c.args.table)) c.loop-ahead.occupied c.args.list c.loop-ahead.links.lists (i.clear ∙ sym (ap filled z)) i.marked
 
 pub returns-clause-foretold : goal.returns-clause-foretold
-returns-clause-foretold c =
+returns-clause-foretold g c =
     let i = c.loop-ahead.invariant in
     but_ended i.foretold i.none (ended_none i.emptying (sym c.in_default.is ∙ i.ahead)).emptied

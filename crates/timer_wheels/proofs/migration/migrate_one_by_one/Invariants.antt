@@ -10,7 +10,7 @@ use Rattle.timer_wheels.proofs.MigrationLoop.{IsEmptying}
 use Rattle.timer_wheels.proofs.migration.migrate_one_by_one.Given as goal
 
 abbrev pub invariant-loop-ahead : goal.invariant-loop-ahead
-invariant-loop-ahead l = record {
+invariant-loop-ahead g l = record {
   emptying : IsEmptying (radices l.table) l.list l.tick l.moves l.initial.links.lists l.links.lists;
   room : l.links.room ≡ l.initial.links.room;
   ahead : l.ahead ≡ first_deadline (list_at l.list l.links.lists);
@@ -21,4 +21,4 @@ invariant-loop-ahead l = record {
 }
 
 abbrev pub decreases-loop-ahead : goal.decreases-loop-ahead
-decreases-loop-ahead l = length (list_at l.list l.links.lists)
+decreases-loop-ahead g l = length (list_at l.list l.links.lists)

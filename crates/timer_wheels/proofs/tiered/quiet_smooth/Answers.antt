@@ -7,14 +7,14 @@ use Rattle.timer_wheels.proofs.TieredLemmas.{some_tick, wake_in_clock}
 use Rattle.timer_wheels.proofs.tiered.quiet_smooth.Goals as goal
 
 pub returns-in-Some-clause-quiet : goal.returns-in-Some-clause-quiet
-returns-in-Some-clause-quiet c =
+returns-in-Some-clause-quiet g c =
     let w = smooth_state c.args.wheel.now in
     let some : option_of c.in-Some.tick ≡ Some c.in-Some.tick =
     some_tick c.in-Some.tick (wake_in_clock w c.in-Some.tick (state_of-well_formed c.args.wheel.now.bank.buckets) c.in-Some.ensures.quiet) in
     subst (λ (o : Option ℕ). IsQuietUntil o w.now w.pending) (sym some) c.in-Some.ensures.quiet
 
 pub returns-in-Some-clause-exact : goal.returns-in-Some-clause-exact
-returns-in-Some-clause-exact c =
+returns-in-Some-clause-exact g c =
     let w = smooth_state c.args.wheel.now in
     some_tick c.in-Some.tick (wake_in_clock w c.in-Some.tick (state_of-well_formed c.args.wheel.now.bank.buckets) c.in-Some.ensures.quiet)
     ∙ c.in-Some.ensures.exact

@@ -12,7 +12,7 @@ use Rattle.timer_wheels.proofs.HierCounts.{any_of, advanced_serial, leapt_paid, 
 use Rattle.timer_wheels.proofs.hier.HierWheel.advance_far.Goals as goal
 
 pub invariant_of-self-2-clause-few_starts : goal.invariant_of-self-2-clause-few_starts
-invariant_of-self-2-clause-few_starts c =
+invariant_of-self-2-clause-few_starts g c =
     let b = c.args.self.now.wheels.buckets in
     let n = c.advance_until_due-moves.new.self.buckets in
     let e : n.last_serial ≡ b.last_serial = advanced_serial c.args.most (n.tick - b.tick) (state_of b)
@@ -21,7 +21,7 @@ invariant_of-self-2-clause-few_starts c =
     omega arith
 
 pub invariant_of-self-2-clause-paid : goal.invariant_of-self-2-clause-paid
-invariant_of-self-2-clause-paid c =
+invariant_of-self-2-clause-paid g c =
     let w = c.args.self.now in
     let n = c.advance_until_due-moves.new.self in
     paid_at w.counts.starts (w.counts.moves + c.advance_until_due-moves.result) n.buckets w.wheels.table n.table
@@ -37,7 +37,7 @@ abbrev counts : ℕ → ℕ → ℕ → WheelCounts
 counts s m v = record { starts = s; moves = m; visits = v }
 
 pub returns-clause-counts : goal.returns-clause-counts
-returns-clause-counts c =
+returns-clause-counts g c =
     let b = c.args.self.now.wheels.buckets in
     let n = c.advance_until_due-moves.new.self.buckets in
     let k = c.args.self.now.counts in
@@ -60,7 +60,7 @@ least moves levels n h = omega arith
 
 pub advance_until_due-moves-requires-clause-few : goal.advance_until_due-moves-requires-clause-few
 unfolding Rattle.timer_wheels.specs.Tables.wide
-advance_until_due-moves-requires-clause-few c =
+advance_until_due-moves-requires-clause-few g c =
     let w = c.args.self.now in
     let t = radices w.wheels.table in
     let p = paid_bound t w.counts.starts w.counts.moves w.wheels.buckets.last_serial w.wheels.buckets.tick (state_of w.wheels.buckets).pending
@@ -68,7 +68,7 @@ advance_until_due-moves-requires-clause-few c =
     least w.counts.moves (levels_of t w.wheels.buckets.tick (state_of w.wheels.buckets).pending) 10376293541461622775 p
 
 pub overflow_add-counts : goal.overflow_add-counts
-overflow_add-counts c =
+overflow_add-counts g c =
     let w = c.args.self.now in
     let t = radices w.wheels.table in
     let n = c.advance_until_due-moves.new.self.buckets in

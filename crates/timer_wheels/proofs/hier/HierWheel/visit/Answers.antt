@@ -11,7 +11,7 @@ use Rattle.timer_wheels.specs.declared.hier.Counts.{Counts}
 use Rattle.timer_wheels.proofs.hier.HierWheel.visit.Goals as goal
 
 pub add_moves-requires : goal.add_moves-requires
-add_moves-requires c =
+add_moves-requires g c =
     let w = c.args.self.now in
     let t = radices w.wheels.table in
     let p = paid_bound t w.counts.starts w.counts.moves w.wheels.buckets.last_serial w.wheels.buckets.tick (state_of w.wheels.buckets).pending
@@ -26,7 +26,7 @@ abbrev counts : ℕ → ℕ → ℕ → WheelCounts
 counts s m v = record { starts = s; moves = m; visits = v }
 
 pub returns-clause-counts : goal.returns-clause-counts
-returns-clause-counts c =
+returns-clause-counts g c =
     let w = c.args.self.now in
     let b = w.wheels.buckets in
     let n = c.visit_next-moves.new.self.buckets in

@@ -14,7 +14,7 @@ none_more : (n : ℕ) → n + 0 ≡ n
 none_more n = omega arith
 
 pub invariant_of-self-clause-few_starts : goal.invariant_of-self-clause-few_starts
-invariant_of-self-clause-few_starts c =
+invariant_of-self-clause-few_starts g c =
     let w = c.args.self.now in
     omega (
       arith,
@@ -23,10 +23,10 @@ invariant_of-self-clause-few_starts c =
     )
 
 pub invariant_of-self-clause-few_skipped : goal.invariant_of-self-clause-few_skipped
-invariant_of-self-clause-few_skipped c = omega (arith, c.args.self.now.few_skipped, c.skip_to.ensures.tick)
+invariant_of-self-clause-few_skipped g c = omega (arith, c.args.self.now.few_skipped, c.skip_to.ensures.tick)
 
 pub invariant_of-self-clause-paid : goal.invariant_of-self-clause-paid
-invariant_of-self-clause-paid c =
+invariant_of-self-clause-paid g c =
     let w = c.args.self.now in
     let n = c.skip_to.new.self in
     paid_at w.counts.starts w.counts.moves n.buckets w.wheels.table n.table c.skip_to.ensures.table
@@ -37,7 +37,7 @@ abbrev counts : ℕ → ℕ → ℕ → WheelCounts
 counts s m v = record { starts = s; moves = m; visits = v }
 
 pub returns-clause-counts : goal.returns-clause-counts
-returns-clause-counts c =
+returns-clause-counts g c =
     let w = c.args.self.now in
     let b = w.wheels.buckets in
     let n = c.skip_to.new.self.buckets in

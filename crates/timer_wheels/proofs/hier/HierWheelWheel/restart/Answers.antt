@@ -7,14 +7,14 @@ use Rattle.timer_wheels.proofs.TableLaws.{of_table}
 use Rattle.timer_wheels.proofs.hier.HierWheelWheel.restart.Goals as goal
 
 pub invariant_of-self-2-clause-few_starts : goal.invariant_of-self-2-clause-few_starts
-invariant_of-self-2-clause-few_starts c =
+invariant_of-self-2-clause-few_starts g c =
     let w = c.args.self.now in
     few_starts w.wheels.buckets c.restart.new.self.buckets c.in_ok-restarted.restarted.0.place w.counts.starts c.args.timer
     (after_removal c.args.handle (state_of w.wheels.buckets)) w.few_starts c.requires.fresh
     c.in_ok-restarted.ensures.restarted
 
 pub invariant_of-self-2-clause-paid : goal.invariant_of-self-2-clause-paid
-invariant_of-self-2-clause-paid c =
+invariant_of-self-2-clause-paid g c =
     let w = c.args.self.now in
     let b = w.wheels.buckets in
     let n = c.restart.new.self in

@@ -6,14 +6,14 @@ use Rattle.timer_wheels.proofs.TableLaws.{of_table}
 use Rattle.timer_wheels.proofs.hier.HierWheelWheel.start.Goals as goal
 
 pub invariant_of-self-2-clause-few_starts : goal.invariant_of-self-2-clause-few_starts
-invariant_of-self-2-clause-few_starts c =
+invariant_of-self-2-clause-few_starts g c =
     let w = c.args.self.now in
     few_starts w.wheels.buckets c.start.new.self.buckets c.in_ok-handle.handle.place w.counts.starts c.args.timer
     (state_of w.wheels.buckets) w.few_starts c.requires.fresh
     c.in_ok-handle.ensures.started
 
 pub invariant_of-self-2-clause-paid : goal.invariant_of-self-2-clause-paid
-invariant_of-self-2-clause-paid c =
+invariant_of-self-2-clause-paid g c =
     let w = c.args.self.now in
     let b = w.wheels.buckets in
     let n = c.start.new.self in

@@ -5,7 +5,7 @@ use Rattle.timer_wheels.proofs.HierLemmas.{paid_at, paid_without}
 use Rattle.timer_wheels.proofs.hier.HierWheelWheel.stop.Goals as goal
 
 pub invariant_of-self-clause-paid : goal.invariant_of-self-clause-paid
-invariant_of-self-clause-paid c =
+invariant_of-self-clause-paid g c =
     let w = c.args.self.now in
     let n = c.stop.new.self in
     paid_at w.counts.starts w.counts.moves n.buckets w.wheels.table n.table c.stop.ensures.table

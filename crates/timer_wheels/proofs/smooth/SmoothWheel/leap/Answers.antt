@@ -10,19 +10,19 @@ use Rattle.timer_wheels.proofs.SmoothLeaps.{open_of, leap_passes}
 use Rattle.timer_wheels.proofs.smooth.SmoothWheel.leap.Goals as goal
 
 pub next_event-event-requires-clause-open : goal.next_event-event-requires-clause-open
-next_event-event-requires-clause-open c =
+next_event-event-requires-clause-open g c =
     let w = c.args.self.now in
     let e : 0 ≡ pace_sum w.paces = omega (arith, c.sum.ensures, c.if-sum-ne0.false) in
     open_of w.bank.table w.bank.buckets w.paces w.in_time e
 
 pub skip_to-requires-clause-ahead : goal.skip_to-requires-clause-ahead
-skip_to-requires-clause-ahead c =
+skip_to-requires-clause-ahead g c =
     let w = c.args.self.now.bank in
     let n = c.next_event-event in
     ahead_of w.table w.buckets w.filled w.bank n.result (n.result - 1) (omega (arith, n.ensures.later)) (omega (arith, n.ensures.later)) n.ensures.events
 
 pub invariant_of-self : goal.invariant_of-self
-invariant_of-self c =
+invariant_of-self g c =
     let w = c.args.self.now in
     let b = w.bank.buckets in
     let n = c.next_event-event in
@@ -46,7 +46,7 @@ invariant_of-self c =
     }
 
 pub returns-clause-passing : goal.returns-clause-passing
-returns-clause-passing c =
+returns-clause-passing g c =
     let w = c.args.self.now.bank in
     let n = c.next_event-event in
     let k = c.skip_to in

@@ -9,7 +9,7 @@ use Rattle.timer_wheels.proofs.ShownLemmas.{shows}
 use Rattle.timer_wheels.proofs.smooth.SmoothWheel.links.Goals as goal
 
 pub returns-clause-shows : goal.returns-clause-shows
-returns-clause-shows c =
+returns-clause-shows g c =
     let w = c.args.self.now.bank in
     let b = w.buckets in
     let P : ℕ → Type 0 = λ n. ShowsBuckets n (smooth_bucket (radices w.table) b.tick (mark (radices w.table) b.tick b.links.lists)) no_rounds

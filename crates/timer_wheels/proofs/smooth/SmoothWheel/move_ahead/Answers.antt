@@ -6,7 +6,7 @@ use Rattle.timer_wheels.proofs.SmoothTotals.{paid_most, fit_lower}
 use Rattle.timer_wheels.proofs.smooth.SmoothWheel.move_ahead.Goals as goal
 
 pub overflow_add-self : goal.overflow_add-self
-overflow_add-self c =
+overflow_add-self g c =
     let w = c.args.self.now in
     let b = w.bank.buckets in
     let p : w.moves + potential_of w.bank.table b ≤ 9 * LAST =
@@ -15,7 +15,7 @@ overflow_add-self c =
     search rules
 
 pub returns-clause-paced : goal.returns-clause-paced
-returns-clause-paced c =
+returns-clause-paced g c =
     let w = c.args.self.now in
     let m = c.move_early-moves in
     λ n f. rw m.ensures.table (fit_lower (radices w.bank.table) n w.paces m.new.paces f m.ensures.paces)

@@ -6,7 +6,7 @@ use Rattle.timer_wheels.proofs.SmoothTotals.{heights_none}
 use Rattle.timer_wheels.proofs.smooth.SmoothWheel.with_table.Goals as goal
 
 pub invariant_of-result : goal.invariant_of-result
-invariant_of-result c =
+invariant_of-result g c =
     let b = c.in-Ok.bank in
     record {
       in_time = λ k z l. omega (

@@ -8,13 +8,13 @@ use Rattle.timer_wheels.proofs.SmoothLeaps.{passing_pass, advance_stops, moves_m
 use Rattle.timer_wheels.proofs.smooth.SmoothWheelWheel.advance.Goals as goal
 
 pub returns-then-has_due-clause-advances : goal.returns-then-has_due-clause-advances
-returns-then-has_due-clause-advances c =
+returns-then-has_due-clause-advances g c =
     let w = c.loop-self.invariant in
     advance_stops c.args.most (smooth_state c.args.self.now) (smooth_state c.loop-self.self) (smooth_state c.pass.new.self) w.later w.passing
     c.pass.ensures.passes c.pass.ensures.end (c.has_due.ensures.0 c.if-has_due.true)
 
 pub returns-then-has_due-clause-bound : goal.returns-then-has_due-clause-bound
-returns-then-has_due-clause-bound c =
+returns-then-has_due-clause-bound g c =
     let w = c.loop-self.invariant in
     let old = c.args.self.now in
     let mid = c.loop-self.self in
@@ -23,12 +23,12 @@ returns-then-has_due-clause-bound c =
     (omega (arith, c.pass.ensures.bound n (w.paced n h f), ap (λ (t : Table). tick_bound t n) w.table))
 
 pub returns-then-has_due-clause-paced : goal.returns-then-has_due-clause-paced
-returns-then-has_due-clause-paced c =
+returns-then-has_due-clause-paced g c =
     let w = c.loop-self.invariant in
     λ n h f. c.pass.ensures.paced n (omega (arith, w.held, h)) (w.paced n h f)
 
 pub loop-self-preserved : goal.loop-self-preserved
-loop-self-preserved c =
+loop-self-preserved g c =
     let w = c.loop-self.invariant in
     let old = c.args.self.now in
     let mid = c.loop-self.self in

@@ -5,7 +5,7 @@ use Rattle.timer_wheels.specs.SmoothWheel.{smooth_state, smooth_table, starts_of
 use Rattle.timer_wheels.proofs.smooth.SmoothWheelWheel.advance.Given as goal
 
 abbrev pub invariant-loop-self : goal.invariant-loop-self
-invariant-loop-self l = record {
+invariant-loop-self g l = record {
   later : l.first ≤ l.self.bank.buckets.tick;
   at_most : l.self.bank.buckets.tick ≤ l.end;
   passing : IsPassing (l.self.bank.buckets.tick - l.first) (smooth_state l.initial.self) (smooth_state l.self);
@@ -20,4 +20,4 @@ invariant-loop-self l = record {
 }
 
 abbrev pub decreases-loop-self : goal.decreases-loop-self
-decreases-loop-self l = l.end - l.self.bank.buckets.tick
+decreases-loop-self g l = l.end - l.self.bank.buckets.tick

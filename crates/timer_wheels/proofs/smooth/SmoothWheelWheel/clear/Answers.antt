@@ -8,7 +8,7 @@ use Rattle.timer_wheels.proofs.SmoothTotals.{heights_none}
 use Rattle.timer_wheels.proofs.smooth.SmoothWheelWheel.clear.Goals as goal
 
 pub invariant_of-self : goal.invariant_of-self
-invariant_of-self c =
+invariant_of-self g c =
     let w = c.args.self.now in
     let n = c.clear.new.self in
     let slots : n.buckets.slots ≡ w.bank.buckets.slots = ap (λ (u : WheelState). u.slots) c.clear.ensures.cleared in

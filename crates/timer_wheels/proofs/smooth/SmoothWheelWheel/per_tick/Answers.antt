@@ -7,14 +7,14 @@ use Rattle.timer_wheels.proofs.SmoothTotals.{ticks_empty, in_time_ticked, held_r
 use Rattle.timer_wheels.proofs.smooth.SmoothWheelWheel.per_tick.Goals as goal
 
 pub next_tick-requires-clause-empty : goal.next_tick-requires-clause-empty
-next_tick-requires-clause-empty c =
+next_tick-requires-clause-empty g c =
     let w = c.args.self.now in
     let m = c.move_all-moves in
     rw m.ensures.table (λ k z l e. ticks_empty w.bank.table w.bank.buckets m.new.bank.buckets w.paces m.new.paces k w.in_time m.ensures.tick
     (m.ensures.moved k z l) z l e)
 
 pub overflow_add-self : goal.overflow_add-self
-overflow_add-self c =
+overflow_add-self g c =
     let w = c.args.self.now in
     let b = w.bank.buckets in
     let p : w.moves + potential_of w.bank.table b ≤ 9 * LAST =
@@ -23,7 +23,7 @@ overflow_add-self c =
     search rules
 
 pub invariant_of-self : goal.invariant_of-self
-invariant_of-self c =
+invariant_of-self g c =
     let w = c.args.self.now in
     let m = c.move_all-moves in
     let n = c.next_tick in
@@ -45,10 +45,10 @@ invariant_of-self c =
     }
 
 pub returns-clause-bound : goal.returns-clause-bound
-returns-clause-bound c = λ n f. omega (arith, c.move_all-moves.ensures.at_most, sum_bound c.args.self.now.bank.table n c.args.self.now.paces f)
+returns-clause-bound g c = λ n f. omega (arith, c.move_all-moves.ensures.at_most, sum_bound c.args.self.now.bank.table n c.args.self.now.paces f)
 
 pub returns-clause-paced : goal.returns-clause-paced
-returns-clause-paced c =
+returns-clause-paced g c =
     let w = c.args.self.now in
     let m = c.move_all-moves in
     let n = c.next_tick in
@@ -57,7 +57,7 @@ returns-clause-paced c =
     (rw table (fit_lower (radices w.bank.table) most w.paces m.new.paces f m.ensures.paces))
 
 pub returns-clause-counted : goal.returns-clause-counted
-returns-clause-counted c =
+returns-clause-counted g c =
     let w = c.args.self.now in
     let m = c.move_all-moves in
     let n = c.next_tick in

@@ -15,7 +15,7 @@ by_its_turns Clock = refl
 by_its_turns Small = refl
 
 pub returns-clause-exact : goal.returns-clause-exact
-returns-clause-exact c =
+returns-clause-exact g c =
     let w = c.args.self.now.bank in
     let e : radices w.table ≡ radices_by_turns w.buckets.slots =
     sym (ap radices (ap table_by_turns w.bank.has_slots ∙ by_its_turns w.table)) in

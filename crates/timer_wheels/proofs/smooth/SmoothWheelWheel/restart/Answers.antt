@@ -6,7 +6,7 @@ use Rattle.timer_wheels.proofs.TableLaws.{of_table}
 use Rattle.timer_wheels.proofs.smooth.SmoothWheelWheel.restart.Goals as goal
 
 pub overflow_add-self-2 : goal.overflow_add-self-2
-overflow_add-self-2 c =
+overflow_add-self-2 g c =
     let w = c.args.self.now in
     let b = w.bank.buckets in
     let p : w.moves + potential_of w.bank.table b ≤ 9 * LAST =
@@ -18,7 +18,7 @@ overflow_add-self-2 c =
     search rules
 
 pub returns-clause-counted : goal.returns-clause-counted
-returns-clause-counted c =
+returns-clause-counted g c =
     let w = c.args.self.now in
     let f : potential_of w.bank.table c.make_way.new.bank.buckets + c.make_way.result ≡ potential_of w.bank.table c.restart.new.self.buckets =
     rw (← c.restart.ensures.table) c.make_way.ensures.falls in

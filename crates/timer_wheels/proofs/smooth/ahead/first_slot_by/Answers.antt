@@ -10,10 +10,10 @@ use Rattle.timer_wheels.proofs.SmoothDescent.{few_lists}
 use Rattle.timer_wheels.proofs.smooth.ahead.first_slot_by.Goals as goal
 
 pub clear_from-clear-requires : goal.clear_from-clear-requires
-clear_from-clear-requires c = omega (arith, c.list_of_slot.ensures.in_range, few_lists c.args.table)
+clear_from-clear-requires g c = omega (arith, c.list_of_slot.ensures.in_range, few_lists c.args.table)
 
 pub returns-then-clear-eq0-clause-begins : goal.returns-then-clear-eq0-clause-begins
-returns-then-clear-eq0-clause-begins c =
+returns-then-clear-eq0-clause-begins g c =
     let w = c.args.bank.now in
     let t = c.args.table in
     let bank : IsBank t w.buckets w.filled = subst (λ (x : Table). IsBank x w.buckets w.filled) (sym c.requires.table) w.bank in
@@ -25,7 +25,7 @@ returns-then-clear-eq0-clause-begins c =
     (some_by_bit t w.buckets w.filled bank c.args.wheel c.loop-slot.slot c.requires.wheel bit)
 
 pub loop-slot-preserved : goal.loop-slot-preserved
-loop-slot-preserved c =
+loop-slot-preserved g c =
     let w = c.args.bank.now in
     let t = c.args.table in
     let bank : IsBank t w.buckets w.filled = subst (λ (x : Table). IsBank x w.buckets w.filled) (sym c.requires.table) w.bank in

@@ -7,7 +7,7 @@ use Rattle.timer_wheels.proofs.BankNext.{next_in, next_out}
 use Rattle.timer_wheels.proofs.smooth.bank.place_in.Goals as goal
 
 pub returns-then-is_in_next-clause-next : goal.returns-then-is_in_next-clause-next
-returns-then-is_in_next-clause-next c =
+returns-then-is_in_next-clause-next g c =
     let w = c.args.bank.now in
     let t = c.args.table in
     let bank : IsBank t w.buckets w.filled = subst (λ (x : Table). IsBank x w.buckets w.filled) (sym c.requires.table) w.bank in
@@ -18,7 +18,7 @@ returns-then-is_in_next-clause-next c =
     (sym c.is_in_next.ensures ∙ c.if-is_in_next.true)
 
 pub returns-else-is_in_next-clause-next : goal.returns-else-is_in_next-clause-next
-returns-else-is_in_next-clause-next c =
+returns-else-is_in_next-clause-next g c =
     let w = c.args.bank.now in
     let t = c.args.table in
     let bank : IsBank t w.buckets w.filled = subst (λ (x : Table). IsBank x w.buckets w.filled) (sym c.requires.table) w.bank in

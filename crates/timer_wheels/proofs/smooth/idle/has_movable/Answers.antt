@@ -5,10 +5,10 @@ use Rattle.timer_wheels.proofs.SmoothDescent.{few_lists}
 use Rattle.timer_wheels.proofs.smooth.idle.has_movable.Goals as goal
 
 pub has-requires : goal.has-requires
-has-requires c = omega (arith, c.next_list.ensures.in_range, few_lists c.args.bank.now.table)
+has-requires g c = omega (arith, c.next_list.ensures.in_range, few_lists c.args.bank.now.table)
 
 pub returns-then-has : goal.returns-then-has
-returns-then-has c =
+returns-then-has g c =
     let w = c.args.bank.now in
     let some : 0 < movable w.table w.buckets =
     movable_by_bit w.table w.buckets w.filled w.bank c.loop-wheel.wheel c.loop-wheel.invariant.some
@@ -17,7 +17,7 @@ returns-then-has c =
     ((λ t. some), (λ s. cc))
 
 pub loop-wheel-preserved : goal.loop-wheel-preserved
-loop-wheel-preserved c =
+loop-wheel-preserved g c =
     let w = c.args.bank.now in
     record {
       some = omega arith;

@@ -3,7 +3,7 @@ use Rattle.timer_wheels.proofs.IdleLemmas.{ahead_more, none_stopped}
 use Rattle.timer_wheels.proofs.smooth.idle.move_early.Goals as goal
 
 pub loop-wheel-preserved : goal.loop-wheel-preserved
-loop-wheel-preserved c =
+loop-wheel-preserved g c =
     let w = c.loop-wheel.invariant in
     let m = c.empty_next-moved in
     record {
@@ -20,7 +20,7 @@ loop-wheel-preserved c =
     }
 
 pub returns-clause-none : goal.returns-clause-none
-returns-clause-none c =
+returns-clause-none g c =
     let a = c.loop-wheel.invariant.ahead in
     λ less n fit. none_stopped c.args.bank.now.table c.args.paces.now c.loop-wheel.paces n fit a.lower
     (λ k z l. a.stopped less k z (omega (arith, c.wheels_of-wheels.ensures.value, c.loop-wheel-test.false)))

@@ -4,7 +4,7 @@ use Rattle.timer_wheels.proofs.IdleLemmas.{AreAhead}
 use Rattle.timer_wheels.proofs.smooth.idle.move_early.Given as goal
 
 abbrev pub invariant-loop-wheel : goal.invariant-loop-wheel
-invariant-loop-wheel l = record {
+invariant-loop-wheel g l = record {
   state : state_of l.bank.buckets ≡ state_of l.initial.bank.buckets;
   table : l.bank.table ≡ l.initial.bank.table;
   tick : l.bank.buckets.tick ≡ l.initial.bank.buckets.tick;
@@ -14,4 +14,4 @@ invariant-loop-wheel l = record {
 }
 
 abbrev pub decreases-loop-wheel : goal.decreases-loop-wheel
-decreases-loop-wheel l = l.wheels - l.wheel
+decreases-loop-wheel g l = l.wheels - l.wheel

@@ -8,7 +8,7 @@ use Rattle.timer_wheels.proofs.TableLaws.{of_table}
 use Rattle.timer_wheels.proofs.smooth.work.fix_each.Goals as goal
 
 pub returns-then-not-fix_pace-clause-begun : goal.returns-then-not-fix_pace-clause-begun
-returns-then-not-fix_pace-clause-begun c =
+returns-then-not-fix_pace-clause-begun g c =
     let t = c.args.bank.now.table in
     let tick = c.args.bank.now.buckets.tick in
     let w = c.loop-wheel.wheel in

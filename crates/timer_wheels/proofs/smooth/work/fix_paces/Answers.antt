@@ -7,7 +7,7 @@ use Rattle.timer_wheels.proofs.TableLaws.{of_table}
 use Rattle.timer_wheels.proofs.smooth.work.fix_paces.Goals as goal
 
 pub returns-else-is_rollover-clause-begun : goal.returns-else-is_rollover-clause-begun
-returns-else-is_rollover-clause-begun c =
+returns-else-is_rollover-clause-begun g c =
     let t = c.args.bank.now.table in
     λ k z l e.
     let r : c.args.bank.now.buckets.tick % lowest_radix (radices t) ≡ 0 =

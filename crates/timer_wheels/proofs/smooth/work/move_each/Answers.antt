@@ -6,7 +6,7 @@ use Rattle.timer_wheels.proofs.PaceLemmas.{moving_more, sums_mono}
 use Rattle.timer_wheels.proofs.smooth.work.move_each.Goals as goal
 
 pub overflow_add-moves : goal.overflow_add-moves
-overflow_add-moves c =
+overflow_add-moves g c =
     let w = c.loop-wheel.invariant in
     let m = c.move_next-moves in
     let next = moving_more c.args.bank.now.table c.args.bank.now.buckets c.loop-wheel.bank.buckets m.new.bank.buckets c.args.paces.now
@@ -24,7 +24,7 @@ overflow_add-moves c =
     search rules
 
 pub loop-wheel-preserved : goal.loop-wheel-preserved
-loop-wheel-preserved c =
+loop-wheel-preserved g c =
     let w = c.loop-wheel.invariant in
     let m = c.move_next-moves in
     record {
@@ -44,7 +44,7 @@ loop-wheel-preserved c =
     }
 
 pub returns-clause-at_most : goal.returns-clause-at_most
-returns-clause-at_most c =
+returns-clause-at_most g c =
     let w = c.loop-wheel.invariant in
     let h : c.loop-wheel.moves ≤ pace_sum c.args.paces.now =
     omega (

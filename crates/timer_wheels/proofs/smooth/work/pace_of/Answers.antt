@@ -5,15 +5,15 @@ use Rattle.timer_wheels.proofs.SmoothDescent.{few_lists}
 use Rattle.timer_wheels.proofs.smooth.work.pace_of.Goals as goal
 
 pub has-requires : goal.has-requires
-has-requires c = omega (arith, c.next_list.ensures.in_range, few_lists c.args.bank.now.table)
+has-requires g c = omega (arith, c.next_list.ensures.in_range, few_lists c.args.bank.now.table)
 
 pub nonzero_div-result : goal.nonzero_div-result
-nonzero_div-result c =
+nonzero_div-result g c =
     let t = c.args.bank.now.table in
     omega (arith, c.weight_of.ensures, sixteen_ticks t c.args.wheel (of_table t).is_table c.requires.above)
 
 pub overflow_add-result : goal.overflow_add-result
-overflow_add-result c =
+overflow_add-result g c =
     let q : c.len-held.result / c.weight_of.result ≤ 268435456 =
     rw c.weight_of.ensures (held_quotient c.args.bank.now.table c.args.wheel c.len-held.result c.requires.above
     (omega (arith, c.len-held.ensures, c.lemma_countable.ensures))) in
@@ -21,7 +21,7 @@ overflow_add-result c =
     search rules
 
 pub overflow_mul-result : goal.overflow_mul-result
-overflow_mul-result c =
+overflow_mul-result g c =
     let q : c.len-held.result / c.weight_of.result ≤ 268435456 =
     rw c.weight_of.ensures (held_quotient c.args.bank.now.table c.args.wheel c.len-held.result c.requires.above
     (omega (arith, c.len-held.ensures, c.lemma_countable.ensures))) in
@@ -29,12 +29,12 @@ overflow_mul-result c =
     search rules
 
 pub returns-clause-most : goal.returns-clause-most
-returns-clause-most c =
+returns-clause-most g c =
     let q : c.len-held.result / c.weight_of.result ≤ 268435456 =
     rw c.weight_of.ensures (held_quotient c.args.bank.now.table c.args.wheel c.len-held.result c.requires.above
     (omega (arith, c.len-held.ensures, c.lemma_countable.ensures))) in
     omega arith
 
 pub returns-clause-enough : goal.returns-clause-enough
-returns-clause-enough c = λ h. rw c.weight_of.ensures (enough c.args.bank.now.table c.args.bank.now.buckets c.args.wheel c.len-held.result
+returns-clause-enough g c = λ h. rw c.weight_of.ensures (enough c.args.bank.now.table c.args.bank.now.buckets c.args.wheel c.len-held.result
     c.requires.above c.len-held.ensures h)

@@ -12,11 +12,11 @@ few_moves : (table : Table) (moves starts : ℕ) → moves ≤ most_moves (radic
 few_moves table moves starts h = le_trans h (mul-le-mul_right starts (of_table table).few_wheels)
 
 pub returns-in-Hier-clause-at_most : goal.returns-in-Hier-clause-at_most
-returns-in-Hier-clause-at_most c =
+returns-in-Hier-clause-at_most g c =
     let wheel = c.in-Hier.wheel in
     rw c.in-Hier.is (few_moves (table_of wheel) c.moves.result (counts_of wheel).starts c.moves.ensures.at_most)
 
 pub returns-in-Smooth-clause-at_most : goal.returns-in-Smooth-clause-at_most
-returns-in-Smooth-clause-at_most c =
+returns-in-Smooth-clause-at_most g c =
     let wheel = c.in-Smooth.wheel in
     rw c.in-Smooth.is (few_moves (smooth_table wheel) c.moves-in-Smooth.result (starts_of wheel) c.moves-in-Smooth.ensures.at_most)

@@ -6,11 +6,11 @@ use Rattle.timer_wheels.proofs.HierLeaps.{advancing_none, advancing_leap, leap_f
 use Rattle.timer_wheels.proofs.wheels.Wheels.advance_until_due.Goals as goal
 
 pub loop-self-init : goal.loop-self-init
-loop-self-init c = advancing_none c.args.most c.args.self.now c.requires.nothing_due
+loop-self-init g c = advancing_none c.args.most c.args.self.now c.requires.nothing_due
 
 pub overflow_add-moves : goal.overflow_add-moves
 unfolding Rattle.timer_wheels.specs.Tables.wide
-overflow_add-moves c =
+overflow_add-moves g c =
     let w = c.loop-self.invariant in
     let l = leap_from w c.leap_to_visit-moves.result c.leap_to_visit-moves.new.self c.leap_to_visit-moves.ensures.leaps in
     let h : c.loop-self.moves + c.leap_to_visit-moves.result < 18446744073709551616 =
@@ -19,14 +19,14 @@ overflow_add-moves c =
     search rules
 
 pub returns-then-has_due-clause-leaps : goal.returns-then-has_due-clause-leaps
-returns-then-has_due-clause-leaps c = leaps_all c.loop-self.invariant c.leap_to_visit-moves.result
+returns-then-has_due-clause-leaps g c = leaps_all c.loop-self.invariant c.leap_to_visit-moves.result
     c.leap_to_visit-moves.new.self c.leap_to_visit-moves.ensures.leaps
 
 passed_on : (a p b c : ℕ) → b ≡ a + p → b < c → a < c
 passed_on a p b c e h = omega arith
 
 pub returns-then-has_due-clause-advances : goal.returns-then-has_due-clause-advances
-returns-then-has_due-clause-advances c =
+returns-then-has_due-clause-advances g c =
     let w = c.loop-self.invariant in
     let n = c.leap_to_visit-moves.new.self.buckets in
     advancing_ends (radices c.args.self.now.table) c.args.most (c.loop-self.moves + c.leap_to_visit-moves.result)
@@ -36,13 +36,13 @@ returns-then-has_due-clause-advances c =
     c.leap_to_visit-moves.ensures.later) c.leap_to_visit-moves.ensures.end (λ h. c.has_due.ensures.0 c.if-has_due.true)
 
 pub loop-self-preserved : goal.loop-self-preserved
-loop-self-preserved c = advancing_leap c.loop-self.invariant c.leap_to_visit-moves.result c.leap_to_visit-moves.new.self
+loop-self-preserved g c = advancing_leap c.loop-self.invariant c.leap_to_visit-moves.result c.leap_to_visit-moves.new.self
     c.leap_to_visit-moves.ensures.leaps c.leap_to_visit-moves.ensures.table
     (not_due (state_of c.leap_to_visit-moves.new.self.buckets).due c.has_due.result c.has_due.ensures c.if-has_due.false)
     c.leap_to_visit-moves.ensures.end
 
 pub returns-clause-advances : goal.returns-clause-advances
-returns-clause-advances c =
+returns-clause-advances g c =
     let w = c.loop-self.invariant in
     let p : 0 < c.args.most = c.requires.some in
     let n : c.loop-self.self.buckets.tick ≤ c.args.self.now.buckets.tick + c.args.most = w.not_past in

@@ -3,7 +3,7 @@ use Rattle.timer_wheels.proofs.HierLeaps.{IsAdvancing}
 use Rattle.timer_wheels.proofs.wheels.Wheels.advance_until_due.Given as goal
 
 abbrev pub invariant-loop-self : goal.invariant-loop-self
-invariant-loop-self l = IsAdvancing l.most l.moves l.initial.self l.self
+invariant-loop-self g l = IsAdvancing l.most l.moves l.initial.self l.self
 
 abbrev pub decreases-loop-self : goal.decreases-loop-self
-decreases-loop-self l = l.end - l.self.buckets.tick
+decreases-loop-self g l = l.end - l.self.buckets.tick

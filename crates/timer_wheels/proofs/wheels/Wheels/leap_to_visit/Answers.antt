@@ -19,37 +19,37 @@ sooner table n now visit tick lists h a s k =
     (λ row q. let p : visit ≤ timer_visit table now (timer_in row).deadline = q in omega arith) (a s k)
 
 pub skip_to-requires-clause-not_before : goal.skip_to-requires-clause-not_before
-skip_to-requires-clause-not_before c = none_ahead c.args.self.now.hier (c.args.end + 1) c.in_default.ensures
+skip_to-requires-clause-not_before g c = none_ahead c.args.self.now.hier (c.args.end + 1) c.in_default.ensures
 
 pub visit_of-visit-requires-clause-list : goal.visit_of-visit-requires-clause-list
-visit_of-visit-requires-clause-list c = first_in_range c.args.self.now.hier c.in-Some.list c.in-Some.ensures
+visit_of-visit-requires-clause-list g c = first_in_range c.args.self.now.hier c.in-Some.list c.in-Some.ensures
 
 pub visit_of-visit-requires-clause-now : goal.visit_of-visit-requires-clause-now
-visit_of-visit-requires-clause-now c =
+visit_of-visit-requires-clause-now g c =
     let b = c.args.self.now.buckets in
     up_to_last_of c.args.self.now.hier b.tick b.sound.tick_in_range
 
 pub skip_to-requires-then-end-visit-clause-not_before : goal.skip_to-requires-then-end-visit-clause-not_before
-skip_to-requires-then-end-visit-clause-not_before c =
+skip_to-requires-then-end-visit-clause-not_before g c =
     let w = c.args.self.now in
     sooner (radices w.table) w.buckets.slots w.buckets.tick c.visit_of-visit.result (c.args.end + 1) w.buckets.links.lists
     (omega (arith, c.if-end-visit.true))
     (first_ahead w.hier c.in-Some.list c.visit_of-visit.result c.visit_of-visit.ensures c.in-Some.ensures)
 
 pub overflow_sub-visit : goal.overflow_sub-visit
-overflow_sub-visit c = omega (
+overflow_sub-visit g c = omega (
   arith,
   first_later c.args.self.now.hier c.in-Some.list c.visit_of-visit.result c.visit_of-visit.ensures c.in-Some.ensures,
 )
 
 pub skip_to-requires-else-end-visit-clause-later : goal.skip_to-requires-else-end-visit-clause-later
-skip_to-requires-else-end-visit-clause-later c = omega (
+skip_to-requires-else-end-visit-clause-later g c = omega (
   arith,
   first_later c.args.self.now.hier c.in-Some.list c.visit_of-visit.result c.visit_of-visit.ensures c.in-Some.ensures,
 )
 
 pub skip_to-requires-else-end-visit-clause-not_before : goal.skip_to-requires-else-end-visit-clause-not_before
-skip_to-requires-else-end-visit-clause-not_before c =
+skip_to-requires-else-end-visit-clause-not_before g c =
     let w = c.args.self.now in
     let later = first_later w.hier c.in-Some.list c.visit_of-visit.result c.visit_of-visit.ensures c.in-Some.ensures in
     sooner (radices w.table) w.buckets.slots w.buckets.tick c.visit_of-visit.result (c.visit_of-visit.result - 1 + 1)
@@ -57,7 +57,7 @@ skip_to-requires-else-end-visit-clause-not_before c =
     (first_ahead w.hier c.in-Some.list c.visit_of-visit.result c.visit_of-visit.ensures c.in-Some.ensures)
 
 pub visit_next-requires-clause-emptied : goal.visit_next-requires-clause-emptied
-visit_next-requires-clause-emptied c =
+visit_next-requires-clause-emptied g c =
     let w = c.args.self.now in
     let s = c.skip_to-else-end-visit in
     let later = first_later w.hier c.in-Some.list c.visit_of-visit.result c.visit_of-visit.ensures c.in-Some.ensures in
@@ -65,7 +65,7 @@ visit_next-requires-clause-emptied c =
     rw (s.ensures.table, tick) (first_empties w.hier c.in-Some.list c.visit_of-visit.result c.visit_of-visit.ensures c.in-Some.ensures)
 
 pub returns-else-end-visit-clause-leaps : goal.returns-else-end-visit-clause-leaps
-returns-else-end-visit-clause-leaps c =
+returns-else-end-visit-clause-leaps g c =
     let s = c.skip_to-else-end-visit in
     let old = state_of c.args.self.now.buckets in
     let mid = state_of s.new.self.buckets in

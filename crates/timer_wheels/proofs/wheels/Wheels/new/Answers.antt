@@ -10,7 +10,7 @@ use Rattle.timer_wheels.proofs.OccupiedLemmas.{marked_none}
 use Rattle.timer_wheels.proofs.wheels.Wheels.new.Goals as goal
 
 pub invariant_of-result : goal.invariant_of-result
-invariant_of-result c =
+invariant_of-result g c =
     let b = c.in_ok-buckets.buckets in
     let empty = λ (s : ℕ) (h : s < b.slots). ap (list_at s) c.in_ok-buckets.ensures.lists
     ∙ no_rows_at (c.buckets_of-slots.result + 1) s in

@@ -3,18 +3,18 @@ use Rattle.timer_wheels.proofs.DeadlineLemmas.{none_is_next, first_below, first_
 use Rattle.timer_wheels.proofs.wheels.Wheels.next_deadline.Goals as goal
 
 pub returns-in_default : goal.returns-in_default
-returns-in_default c = none_is_next c.args.self.now.hier c.in_default.ensures
+returns-in_default g c = none_is_next c.args.self.now.hier c.in_default.ensures
 
 pub returns-in-Some-lowest_visit : goal.returns-in-Some-lowest_visit
-returns-in-Some-lowest_visit c = visit_is_next c.args.self.now.hier c.in-Some.list c.in-Some.ensures c.in-Some-lowest_visit.visit
+returns-in-Some-lowest_visit g c = visit_is_next c.args.self.now.hier c.in-Some.list c.in-Some.ensures c.in-Some-lowest_visit.visit
     c.in-Some-lowest_visit.ensures.some.1 c.in-Some-lowest_visit.ensures.some.0
 
 pub known_first-requires-clause-list : goal.known_first-requires-clause-list
-known_first-requires-clause-list c = first_below c.args.self.now.hier c.in-Some.list c.in-Some.ensures
+known_first-requires-clause-list g c = first_below c.args.self.now.hier c.in-Some.list c.in-Some.ensures
 
 pub returns-in-Some-known_first : goal.returns-in-Some-known_first
-returns-in-Some-known_first c = first_is_next c.args.self.now.hier c.in-Some.list c.in-Some.ensures (Some c.in-Some-known_first.first)
+returns-in-Some-known_first g c = first_is_next c.args.self.now.hier c.in-Some.list c.in-Some.ensures (Some c.in-Some-known_first.first)
     c.in-Some-known_first.ensures
 
 pub returns-in-None : goal.returns-in-None
-returns-in-None c = first_is_next c.args.self.now.hier c.in-Some.list c.in-Some.ensures c.least_in.result c.least_in.ensures
+returns-in-None g c = first_is_next c.args.self.now.hier c.in-Some.list c.in-Some.ensures c.least_in.result c.least_in.ensures

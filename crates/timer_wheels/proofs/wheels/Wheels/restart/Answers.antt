@@ -11,7 +11,7 @@ use Rattle.timer_wheels.proofs.WheelUpdates.{wheels_of, gone_wheels, emptied_in_
 use Rattle.timer_wheels.proofs.wheels.Wheels.restart.Goals as goal
 
 pub leave_list-requires : goal.leave_list-requires
-leave_list-requires c =
+leave_list-requires g c =
     let w = c.args.self.now in
     let apart = c.lemma_keys_unique.ensures in
     let r = c.in_ok-restarted in
@@ -27,7 +27,7 @@ leave_list-requires c =
     }
 
 pub enter_list-requires : goal.enter_list-requires
-enter_list-requires c =
+enter_list-requires g c =
     let w = c.args.self.now in
     let r = c.in_ok-restarted in
     let found : held_at c.args.handle (state_of w.buckets) ≡ Some r.restarted.1 =
@@ -46,7 +46,7 @@ enter_list-requires c =
     }
 
 pub invariant_of-self-3 : goal.invariant_of-self-3
-invariant_of-self-3 c =
+invariant_of-self-3 g c =
     let w = c.args.self.now in
     let r = c.in_ok-restarted in
     let found : held_at c.args.handle (state_of w.buckets) ≡ Some r.restarted.1 =

@@ -4,7 +4,7 @@ use Rattle.timer_wheels.proofs.BucketLemmas.{none_past}
 use Rattle.timer_wheels.proofs.wheels.Wheels.skip_to.Goals as goal
 
 pub invariant_of-buckets : goal.invariant_of-buckets
-invariant_of-buckets c =
+invariant_of-buckets g c =
     let b = c.args.self.now.buckets in
     record {
       sound = record {
@@ -20,7 +20,7 @@ invariant_of-buckets c =
     }
 
 pub invariant_of-self : goal.invariant_of-self
-invariant_of-self c =
+invariant_of-self g c =
     let w = c.args.self.now in
     record {
       hier = record {
@@ -33,5 +33,5 @@ invariant_of-self c =
     }
 
 pub returns-clause-leaps : goal.returns-clause-leaps
-returns-clause-leaps c =
+returns-clause-leaps g c =
     (skipped c.args.self.now.hier c.requires.nothing_due c.args.tick c.requires.later c.requires.not_before).leaps

@@ -9,23 +9,23 @@ use Rattle.timer_wheels.proofs.WheelUpdates.{wheels_of, come_wheels, in_slots_of
 use Rattle.timer_wheels.proofs.wheels.Wheels.start.Goals as goal
 
 pub enter_list-requires-clause-list : goal.enter_list-requires-clause-list
-enter_list-requires-clause-list c =
+enter_list-requires-clause-list g c =
     let w = c.args.self.now in
     let to = c.list_of-list in
     in_slots_of w.hier to.result w.buckets.tick c.args.timer.deadline to.ensures.list
 
 pub enter_list-requires-clause-size : goal.enter_list-requires-clause-size
-enter_list-requires-clause-size c = let w = c.args.self.now in w.foretold.size ∙ w.hier.has_slots
+enter_list-requires-clause-size g c = let w = c.args.self.now in w.foretold.size ∙ w.hier.has_slots
 
 pub enter_list-requires-clause-lists : goal.enter_list-requires-clause-lists
-enter_list-requires-clause-lists c =
+enter_list-requires-clause-lists g c =
     let b = c.args.self.now.buckets in
     let to = c.list_of-list in
     came_to to.result b.slots b.tick c.args.timer.deadline (row_at c.in_ok-handle.handle.place c.args.timer 0) b.links.lists
     c.start.new.self.links.lists to.ensures.list b.sound.has_lists c.in_ok-handle.ensures.lists
 
 pub invariant_of-self-2 : goal.invariant_of-self-2
-invariant_of-self-2 c =
+invariant_of-self-2 g c =
     let w = c.args.self.now in
     let to = c.list_of-list in
     let row = row_at c.in_ok-handle.handle.place c.args.timer 0 in

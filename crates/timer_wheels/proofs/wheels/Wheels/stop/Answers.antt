@@ -6,7 +6,7 @@ use Rattle.timer_wheels.proofs.WheelUpdates.{wheels_of, gone_wheels, emptied_in_
 use Rattle.timer_wheels.proofs.wheels.Wheels.stop.Goals as goal
 
 pub leave_list-requires : goal.leave_list-requires
-leave_list-requires c =
+leave_list-requires g c =
     let w = c.args.self.now in
     let apart = c.lemma_keys_unique.ensures in
     let t = c.in_ok-timer.timer in
@@ -20,7 +20,7 @@ leave_list-requires c =
     }
 
 pub invariant_of-self-3 : goal.invariant_of-self-3
-invariant_of-self-3 c =
+invariant_of-self-3 g c =
     let w = c.args.self.now in
     let t = c.in_ok-timer.timer in
     let found : held_at c.args.handle (state_of w.buckets) ≡ Some t = sym c.take.ensures.timer ∙ ap taken_timer c.in_ok-timer.was in

@@ -5,7 +5,7 @@ use Rattle.timer_wheels.proofs.SmoothFirsts.{found_without, found_begin}
 use Rattle.timer_wheels.proofs.smooth.bank.Bank.begin_before.Goals as goal
 
 pub returns-in-Some : goal.returns-in-Some
-returns-in-Some c =
+returns-in-Some g c =
     let w = c.args.self.now in
     subst (λ (o : Option ℕ). IsFoundBelow (IsBegin w.table w.buckets) w.table w.buckets (c.args.wheel + 1) o)
     (sym (c.earlier.ensures ∙ ap (λ (x : ℕ). earliest c.args.first (Some (c.in-Some.slot * x))) c.weight_of.ensures))
@@ -13,7 +13,7 @@ returns-in-Some c =
     c.in-Some.ensures.first c.in-Some.ensures.begins)
 
 pub returns-in-None : goal.returns-in-None
-returns-in-None c =
+returns-in-None g c =
     let w = c.args.self.now in
     found_without w.table w.buckets w.filled w.bank (IsBegin w.table w.buckets) c.args.wheel c.args.first c.requires.wheel c.requires.below
     c.in-None.ensures.first

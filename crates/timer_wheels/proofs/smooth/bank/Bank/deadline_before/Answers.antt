@@ -10,13 +10,13 @@ use Rattle.timer_wheels.proofs.SmoothFirsts.{found_without, found_low, found_hig
 use Rattle.timer_wheels.proofs.smooth.bank.Bank.deadline_before.Goals as goal
 
 pub returns-in_default : goal.returns-in_default
-returns-in_default c =
+returns-in_default g c =
     let w = c.args.self.now in
     found_without w.table w.buckets w.filled w.bank (IsPendingDeadline w.buckets) c.args.wheel c.args.first c.requires.wheel c.requires.below
     c.in_default.ensures.first
 
 pub returns-then-wheel-eq0 : goal.returns-then-wheel-eq0
-returns-then-wheel-eq0 c =
+returns-then-wheel-eq0 g c =
     let w = c.args.self.now in
     let z : 0 ≡ c.args.wheel = (let e = c.if-wheel-eq0.true in omega arith) in
     let at : IsFoundBelow (IsPendingDeadline w.buckets) w.table w.buckets 0 c.args.first =
@@ -28,7 +28,7 @@ returns-then-wheel-eq0 c =
     (found_low w.table w.buckets w.filled w.bank c.in-Some.slot c.args.first at f))
 
 pub returns-then-is_after : goal.returns-then-is_after
-returns-then-is_after c =
+returns-then-is_after g c =
     let w = c.args.self.now in
     let least : IsLeastDeadline c.least_in.result (timers_in (list_at (smooth_list (radices w.table) c.args.wheel c.in-Some.slot) w.buckets.links.lists)) =
     subst (λ (x : ℕ). IsLeastDeadline c.least_in.result (timers_in (list_at x w.buckets.links.lists))) c.list_of_slot.ensures.value
@@ -38,7 +38,7 @@ returns-then-is_after c =
     c.in-Some.ensures.first least)
 
 pub returns-else-is_after : goal.returns-else-is_after
-returns-else-is_after c =
+returns-else-is_after g c =
     let w = c.args.self.now in
     let n : IsNotBefore c.args.first (c.in-Some.slot * c.weight_of.result) = c.is_after.ensures c.if-is_after.false in
     let n2 : IsNotBefore c.args.first (c.in-Some.slot * weight c.args.wheel (radices w.table)) =

@@ -10,7 +10,7 @@ use Rattle.timer_wheels.proofs.OccupiedLemmas.{marked_same}
 use Rattle.timer_wheels.proofs.smooth.bank.Bank.expire.Goals as goal
 
 pub invariant_of-self : goal.invariant_of-self
-invariant_of-self c =
+invariant_of-self g c =
     let w = c.args.self.now in
     let b = w.buckets in
     let new = c.expire.new.self in
@@ -30,13 +30,13 @@ invariant_of-self c =
     }
 
 pub returns-clause-shrinks : goal.returns-clause-shrinks
-returns-clause-shrinks c =
+returns-clause-shrinks g c =
     let w = c.args.self.now in
     all_shrink w.table w.buckets w.filled w.bank c.expire.new.self c.expire.ensures.frame
     (λ s l. omega (arith, ap (λ (r : Rows). length r) (c.expire.ensures.lists s l)))
 
 pub returns-clause-falls : goal.returns-clause-falls
-returns-clause-falls c =
+returns-clause-falls g c =
     let w = c.args.self.now in
     potential_falls w.table w.buckets w.filled w.bank c.expire.new.self c.expire.ensures.frame
     (λ s l. omega (arith, ap (λ (r : Rows). length r) (c.expire.ensures.lists s l)))

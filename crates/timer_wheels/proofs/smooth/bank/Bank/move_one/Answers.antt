@@ -5,34 +5,35 @@ use Rattle.timer_wheels.specs.Smooth.{ticks_left}
 use Rattle.timer_wheels.specs.Tables.{radices}
 use Rattle.timer_wheels.proofs.BankLemmas.{IsMoved, moved_by, marked_moved}
 use Rattle.timer_wheels.proofs.SmoothDescent.{few_lists}
+use Rattle.timer_wheels.proofs.smooth.bank.Bank.move_one.Given.{Over}
 use Rattle.timer_wheels.proofs.smooth.bank.Bank.move_one.Goals as goal
 
 -- the move of the front
-moved : (c : goal.After-move_front) → IsMoved c.args.self.now.table c.args.self.now.buckets c.args.wheel c.next_list-from.result
+moved : (g : Over) (c : goal.After-move_front g) → IsMoved c.args.self.now.table c.args.self.now.buckets c.args.wheel c.next_list-from.result
     c.list_of_slot-to.result c.move_front.new.self.lists
-moved c =
+moved g c =
     let w = c.args.self.now in
     moved_by w.table w.buckets w.filled w.bank c.args.wheel c.next_list-from.result c.in-Some.deadline
     c.descend-below.result c.slot_of.result c.list_of_slot-to.result c.requires.above c.requires.wheel c.next_list-from.ensures.value
     (sym c.in-Some.is ∙ c.front_deadline.ensures) c.descend-below.ensures.value c.slot_of.ensures c.list_of_slot-to.ensures.value
     c.move_front.new.self.lists c.move_front.ensures.moved
 
-abbrev moved_then : (c : goal.After-settle) → goal.After-move_front
-moved_then c = c.before.before.before.before.before
+abbrev moved_then : (g : Over) (c : goal.After-settle g) → goal.After-move_front g
+moved_then g c = c.before.before.before.before.before
 
 pub invariant_of-buckets : goal.invariant_of-buckets
-invariant_of-buckets c = record { sound = (moved c).sound }
+invariant_of-buckets g c = record { sound = (moved g c).sound }
 
 pub insert_once-requires : goal.insert_once-requires
-insert_once-requires c = (omega arith, omega (arith, c.list_of_slot-to.ensures.in_range, few_lists c.args.self.now.table))
+insert_once-requires g c = (omega arith, omega (arith, c.list_of_slot-to.ensures.in_range, few_lists c.args.self.now.table))
 
 pub settle-requires-clause-few : goal.settle-requires-clause-few
-settle-requires-clause-few c = omega (arith, c.next_list-from.ensures.in_range, few_lists c.args.self.now.table)
+settle-requires-clause-few g c = omega (arith, c.next_list-from.ensures.in_range, few_lists c.args.self.now.table)
 
 pub invariant_of-self : goal.invariant_of-self
-invariant_of-self c =
+invariant_of-self g c =
     let w = c.args.self.now in
-    let m = moved (moved_then c) in
+    let m = moved g (moved_then g c) in
     record {
       bank = record {
         has_slots = w.bank.has_slots;
@@ -44,32 +45,32 @@ invariant_of-self c =
     }
 
 pub returns-clause-state : goal.returns-clause-state
-returns-clause-state c =
+returns-clause-state g c =
     let w = c.args.self.now in
-    let m = moved (moved_then c.before) in
+    let m = moved g (moved_then g c.before) in
     rw c.move_front.ensures.room (ap (with_room w.buckets.links.room) m.state)
 
 pub returns-clause-moved : goal.returns-clause-moved
-returns-clause-moved c =
+returns-clause-moved g c =
     let w = c.args.self.now in
-    let m = moved (moved_then c.before) in
+    let m = moved g (moved_then g c.before) in
     λ e. subst (λ (x : ℕ). length (list_at x c.move_front.new.self.lists) + 1 ≡ length (list_at x w.buckets.links.lists))
     c.next_list-from.ensures.value m.fewer
 
 pub returns-clause-falls : goal.returns-clause-falls
-returns-clause-falls c = λ e. (moved (moved_then c.before)).falls
+returns-clause-falls g c = λ e. (moved g (moved_then g c.before)).falls
 
 pub returns-clause-others : goal.returns-clause-others
-returns-clause-others c =
+returns-clause-others g c =
     let w = c.args.self.now in
-    let m = moved (moved_then c.before) in
+    let m = moved g (moved_then g c.before) in
     λ early j z l n. ap (λ (r : Rows). length r)
     (m.next_same (subst (λ (x : ℕ). ticks_left (radices w.table) w.buckets.tick c.args.wheel ≡ 0 → length (list_at x w.buckets.links.lists) ≡ 0)
     (sym c.next_list-from.ensures.value) early) j z l n)
 
 pub returns-clause-exact : goal.returns-clause-exact
-returns-clause-exact c =
+returns-clause-exact g c =
     let w = c.args.self.now in
-    let m = moved (moved_then c.before) in
+    let m = moved g (moved_then g c.before) in
     λ early e. m.one_down (subst (λ (x : ℕ). ticks_left (radices w.table) w.buckets.tick c.args.wheel ≡ 0
     → length (list_at x w.buckets.links.lists) ≡ 0) (sym c.next_list-from.ensures.value) early)

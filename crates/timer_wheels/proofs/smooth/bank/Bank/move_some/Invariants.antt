@@ -4,7 +4,7 @@ use Rattle.timer_wheels.specs.Buckets.{state_of}
 use Rattle.timer_wheels.proofs.smooth.bank.Bank.move_some.Given as goal
 
 abbrev pub invariant-loop-moved : goal.invariant-loop-moved
-invariant-loop-moved l = record {
+invariant-loop-moved g l = record {
   state : state_of l.self.buckets ≡ state_of l.initial.self.buckets;
   table : l.self.table ≡ l.initial.self.table;
   tick : l.self.buckets.tick ≡ l.initial.self.buckets.tick;
@@ -18,4 +18,4 @@ invariant-loop-moved l = record {
 }
 
 abbrev pub decreases-loop-moved : goal.decreases-loop-moved
-decreases-loop-moved l = l.most - l.moved
+decreases-loop-moved g l = l.most - l.moved

@@ -5,19 +5,19 @@ use Rattle.timer_wheels.proofs.SmoothFirsts.{found_none, found_rest, first_found
 use Rattle.timer_wheels.proofs.smooth.bank.Bank.next_deadline.Goals as goal
 
 pub loop-wheel-init : goal.loop-wheel-init
-loop-wheel-init c =
+loop-wheel-init g c =
     let w = c.args.self.now in
     record { most = omega arith; found = found_none w.table w.buckets w.filled w.bank (IsPendingDeadline w.buckets) }
 
 pub returns-then-is_settled : goal.returns-then-is_settled
-returns-then-is_settled c =
+returns-then-is_settled g c =
     let w = c.args.self.now in
     first_found w.table w.buckets w.filled w.bank c.loop-wheel.first
     (found_rest w.table w.buckets w.filled w.bank (IsPendingDeadline w.buckets) c.loop-wheel.wheel c.loop-wheel.first
     c.loop-wheel.invariant.found (c.is_settled.ensures c.if-is_settled.true))
 
 pub returns : goal.returns
-returns c =
+returns g c =
     let w = c.args.self.now in
     let e : c.loop-wheel.wheel ≡ length (radices w.table) =
     omega (arith, c.wheels_of-wheels.ensures.value, c.loop-wheel.invariant.most, c.loop-wheel-test.false) in

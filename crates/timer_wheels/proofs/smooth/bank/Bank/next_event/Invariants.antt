@@ -5,7 +5,7 @@ use Rattle.timer_wheels.specs.Tables.{radices}
 use Rattle.timer_wheels.proofs.smooth.bank.Bank.next_event.Given as goal
 
 abbrev pub invariant-loop-wheel : goal.invariant-loop-wheel
-invariant-loop-wheel l = record {
+invariant-loop-wheel g l = record {
   above : 0 < l.wheel;
   most : l.wheel ≤ l.wheels;
   later : l.self.buckets.tick < l.event;
@@ -14,4 +14,4 @@ invariant-loop-wheel l = record {
 }
 
 abbrev pub decreases-loop-wheel : goal.decreases-loop-wheel
-decreases-loop-wheel l = l.wheels - l.wheel
+decreases-loop-wheel g l = l.wheels - l.wheel

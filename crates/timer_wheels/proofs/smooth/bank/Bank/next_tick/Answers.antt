@@ -8,16 +8,16 @@ use Rattle.timer_wheels.proofs.SmoothDescent.{few_lists}
 use Rattle.timer_wheels.proofs.smooth.bank.Bank.next_tick.Goals as goal
 
 pub make_due-requires-clause-few : goal.make_due-requires-clause-few
-make_due-requires-clause-few c = omega (arith, c.list_of_slot-list.ensures.in_range, few_lists c.args.self.now.table)
+make_due-requires-clause-few g c = omega (arith, c.list_of_slot-list.ensures.in_range, few_lists c.args.self.now.table)
 
 pub invariant_of-buckets : goal.invariant_of-buckets
-invariant_of-buckets c =
+invariant_of-buckets g c =
     let w = c.args.self.now in
     let q = c.make_due.ensures.appended ∙ ap (λ (x : ℕ). appended x w.buckets.slots w.buckets.links.lists) c.list_of_slot-list.ensures.value in
     record { sound = rw q (bank_ticked w.table w.buckets w.filled w.bank c.requires.before_last c.requires.nothing_due c.requires.empty).sound }
 
 pub invariant_of-self : goal.invariant_of-self
-invariant_of-self c =
+invariant_of-self g c =
     let w = c.args.self.now in
     let q = c.make_due.ensures.appended ∙ ap (λ (x : ℕ). appended x w.buckets.slots w.buckets.links.lists) c.list_of_slot-list.ensures.value in
     record {
@@ -31,13 +31,13 @@ invariant_of-self c =
     }
 
 pub returns-clause-ticked : goal.returns-clause-ticked
-returns-clause-ticked c =
+returns-clause-ticked g c =
     let w = c.args.self.now in
     let q = c.make_due.ensures.appended ∙ ap (λ (x : ℕ). appended x w.buckets.slots w.buckets.links.lists) c.list_of_slot-list.ensures.value in
     rw (c.make_due.ensures.room, q) (ap (with_room w.buckets.links.room) (bank_ticked w.table w.buckets w.filled w.bank c.requires.before_last c.requires.nothing_due c.requires.empty).state)
 
 pub returns-clause-kept : goal.returns-clause-kept
-returns-clause-kept c =
+returns-clause-kept g c =
     let w = c.args.self.now in
     let q = c.make_due.ensures.appended ∙ ap (λ (x : ℕ). appended x w.buckets.slots w.buckets.links.lists) c.list_of_slot-list.ensures.value in
     λ j z l e. ap (λ (x : KeyedLists). length (list_at (next_list (radices w.table) (w.buckets.tick + 1) j) x)) q
@@ -45,7 +45,7 @@ returns-clause-kept c =
     (tick_next w.table w.buckets w.filled w.bank c.requires.before_last c.requires.nothing_due c.requires.empty j z l e)
 
 pub returns-clause-potential : goal.returns-clause-potential
-returns-clause-potential c =
+returns-clause-potential g c =
     let w = c.args.self.now in
     let q = c.make_due.ensures.appended ∙ ap (λ (x : ℕ). appended x w.buckets.slots w.buckets.links.lists) c.list_of_slot-list.ensures.value in
     omega (

@@ -7,17 +7,17 @@ use Rattle.timer_wheels.proofs.SmoothFirsts.{none_visited, visit_is, visit_wakes
 use Rattle.timer_wheels.proofs.smooth.bank.Bank.next_visit.Goals as goal
 
 pub returns-in-None-clause-quiet : goal.returns-in-None-clause-quiet
-returns-in-None-clause-quiet c =
+returns-in-None-clause-quiet g c =
     let w = c.args.self.now in
     none_visited w.table w.buckets w.filled w.bank c.in-None.ensures
 
 pub returns-in-None-clause-exact : goal.returns-in-None-clause-exact
-returns-in-None-clause-exact c =
+returns-in-None-clause-exact g c =
     let w = c.args.self.now in
     sym (ap (next_visit (radices w.table) w.buckets.tick) (none_visited w.table w.buckets w.filled w.bank c.in-None.ensures))
 
 pub returns-in-Some-clause-quiet : goal.returns-in-Some-clause-quiet
-returns-in-Some-clause-quiet c =
+returns-in-Some-clause-quiet g c =
     let w = c.args.self.now in
     let b = c.in-Some.begins in
     let e : c.slot_of.result * c.weight_of.result ≡ slot_in (radices w.table) (level (radices w.table) w.buckets.tick b) b
@@ -28,7 +28,7 @@ returns-in-Some-clause-quiet c =
     visit_wakes w.table w.buckets w.filled w.bank b c.in-Some.ensures (c.slot_of.result * c.weight_of.result) e
 
 pub returns-in-Some-clause-exact : goal.returns-in-Some-clause-exact
-returns-in-Some-clause-exact c =
+returns-in-Some-clause-exact g c =
     let w = c.args.self.now in
     let b = c.in-Some.begins in
     let e : c.slot_of.result * c.weight_of.result ≡ slot_in (radices w.table) (level (radices w.table) w.buckets.tick b) b

@@ -18,16 +18,16 @@ use Rattle.timer_wheels.proofs.Updates.{removed}
 use Rattle.timer_wheels.proofs.smooth.bank.Bank.restart.Goals as goal
 
 pub leave-requires : goal.leave-requires
-leave-requires c = omega (arith, c.replace.ensures.frame.slots, c.args.self.now.bank.has_slots, few_lists c.args.self.now.table)
+leave-requires g c = omega (arith, c.replace.ensures.frame.slots, c.args.self.now.bank.has_slots, few_lists c.args.self.now.table)
 
 pub enter-requires : goal.enter-requires
-enter-requires c = λ later. elim c.place_of-list.ensures.list [
+enter-requires g c = λ later. elim c.place_of-list.ensures.list [
   | inl q ↦ let s = c.args.self.now.bank.has_slots in let f = few_lists c.args.self.now.table in let r = q.0 in omega arith
   | inr q ↦ absurd (let e = q.1 in omega arith)
 ]
 
 pub invariant_of-self-2 : goal.invariant_of-self-2
-invariant_of-self-2 c =
+invariant_of-self-2 g c =
     let w = c.args.self.now in
     let b = w.buckets in
     let new = c.replace.new.self in
@@ -66,7 +66,7 @@ invariant_of-self-2 c =
     }
 
 pub returns-clause-comes : goal.returns-clause-comes
-returns-clause-comes c =
+returns-clause-comes g c =
     let w = c.args.self.now in
     let b = w.buckets in
     let key = c.args.handle.place in
@@ -75,7 +75,7 @@ returns-clause-comes c =
     (λ s l. without_shorter key s b.links.lists) (removed b.sound key).has_lists c.place_of-list.ensures.list c.place_of-list.ensures.next
 
 pub returns-clause-potential : goal.returns-clause-potential
-returns-clause-potential c =
+returns-clause-potential g c =
     let w = c.args.self.now in
     let b = w.buckets in
     let list = c.place_of-list.result.0 in

@@ -4,12 +4,12 @@ use Rattle.timer_wheels.proofs.SmoothSkips.{skip_sound, skip_by_law}
 use Rattle.timer_wheels.proofs.smooth.bank.Bank.skip_to.Goals as goal
 
 pub invariant_of-buckets : goal.invariant_of-buckets
-invariant_of-buckets c =
+invariant_of-buckets g c =
     let w = c.args.self.now in
     record { sound = skip_sound w.table w.buckets w.filled w.bank c.args.tick c.requires.later c.requires.in_range (no_rows (list_at w.buckets.slots w.buckets.links.lists) c.requires.nothing_due) c.requires.ahead }
 
 pub invariant_of-self : goal.invariant_of-self
-invariant_of-self c =
+invariant_of-self g c =
     let w = c.args.self.now in
     record {
       bank = record {

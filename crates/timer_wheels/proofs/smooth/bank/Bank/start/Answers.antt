@@ -14,13 +14,13 @@ use Rattle.timer_wheels.proofs.SmoothDescent.{few_lists}
 use Rattle.timer_wheels.proofs.smooth.bank.Bank.start.Goals as goal
 
 pub enter-requires : goal.enter-requires
-enter-requires c = λ later. elim c.place_of-list.ensures.list [
+enter-requires g c = λ later. elim c.place_of-list.ensures.list [
   | inl q ↦ let s = c.args.self.now.bank.has_slots in let f = few_lists c.args.self.now.table in let r = q.0 in omega arith
   | inr q ↦ absurd (let e = q.1 in omega arith)
 ]
 
 pub invariant_of-self-2 : goal.invariant_of-self-2
-invariant_of-self-2 c =
+invariant_of-self-2 g c =
     let w = c.args.self.now in
     let b = w.buckets in
     let new = c.start.new.self in
@@ -51,7 +51,7 @@ invariant_of-self-2 c =
     }
 
 pub returns-clause-comes : goal.returns-clause-comes
-returns-clause-comes c =
+returns-clause-comes g c =
     let w = c.args.self.now in
     let b = w.buckets in
     comes_to w.table b w.filled w.bank c.start.new.self c.start.ensures.frame b.links.lists c.place_of-list.result.0 c.place_of-list.result.1
@@ -59,7 +59,7 @@ returns-clause-comes c =
     b.sound.has_lists c.place_of-list.ensures.list c.place_of-list.ensures.next
 
 pub returns-clause-potential : goal.returns-clause-potential
-returns-clause-potential c =
+returns-clause-potential g c =
     let w = c.args.self.now in
     let b = w.buckets in
     let list = c.place_of-list.result.0 in

@@ -9,10 +9,10 @@ use Rattle.timer_wheels.proofs.SmoothDescent.{few_lists}
 use Rattle.timer_wheels.proofs.smooth.bank.Bank.stop.Goals as goal
 
 pub leave-requires : goal.leave-requires
-leave-requires c = omega (arith, c.take.ensures.frame.slots, c.args.self.now.bank.has_slots, few_lists c.args.self.now.table)
+leave-requires g c = omega (arith, c.take.ensures.frame.slots, c.args.self.now.bank.has_slots, few_lists c.args.self.now.table)
 
 pub invariant_of-self-2 : goal.invariant_of-self-2
-invariant_of-self-2 c =
+invariant_of-self-2 g c =
     let w = c.args.self.now in
     let b = w.buckets in
     let handle = c.args.handle in
@@ -36,7 +36,7 @@ invariant_of-self-2 c =
     }
 
 pub returns-clause-shrinks : goal.returns-clause-shrinks
-returns-clause-shrinks c =
+returns-clause-shrinks g c =
     let w = c.args.self.now in
     all_shrink w.table w.buckets w.filled w.bank c.take.new.self c.take.ensures.frame
     (λ s l. omega (
@@ -46,7 +46,7 @@ returns-clause-shrinks c =
     ))
 
 pub returns-clause-falls : goal.returns-clause-falls
-returns-clause-falls c =
+returns-clause-falls g c =
     let w = c.args.self.now in
     potential_falls w.table w.buckets w.filled w.bank c.take.new.self c.take.ensures.frame
     (λ s l. omega (

@@ -1,0 +1,22 @@
+use Rattle.std.proofs.Common.{◌+◌, ◌<◌, ℕ, ap, ◌∙◌}
+use Rattle.timer_base.specs.WheelState.{WheelState}
+use Rattle.timer_links.proofs.NewLinks.{no_rows_at}
+use Rattle.timer_links.specs.Lists.{list_at}
+use Rattle.timer_wheels.specs.Smooth.{mark, IsByLaw}
+use Rattle.timer_wheels.specs.Tables.{radices}
+use Rattle.timer_wheels.proofs.BucketLemmas.{each-none}
+use Rattle.timer_wheels.proofs.OccupiedLemmas.{marked_none}
+use Rattle.timer_wheels.proofs.smooth.bank.Bank.new.Goals as goal
+
+pub invariant_of-result : goal.invariant_of-result
+invariant_of-result g c =
+    let b = c.in_ok-buckets.buckets in
+    let empty = λ (s : ℕ) (h : s < b.slots). ap (list_at s) c.in_ok-buckets.ensures.lists ∙ no_rows_at (c.lists_of-slots.result + 1) s in
+    record {
+      bank = record {
+        has_slots = c.in_ok-buckets.ensures.slots ∙ c.lists_of-slots.ensures.value;
+        clock = ap (λ (w : WheelState). w.last_tick) c.in_ok-buckets.ensures.state ∙ c.last_tick_of.ensures.value;
+        placed = each-none (IsByLaw (radices c.args.table) b.tick (mark (radices c.args.table) b.tick b.links.lists)) b.slots b.links.lists empty;
+        marked = marked_none b.slots c.new-2.result b.links.lists c.new-2.ensures empty;
+      };
+    }
