@@ -85,8 +85,8 @@ pub struct SmoothWheel<N: Kept = Timer> {
     ghost paid: { moves + potential_of bank.table bank.buckets ≤ most_moves (radices bank.table) * starts },
 }
 
-impl<N: Kept> SmoothWheel<N> {
-    ghost use Rattle.timer_wheels.specs.SmoothWheel.{smooth_state, smooth_table, starts_of, moves_of, next_moves, moves_ahead, IsPacedFor, ShowsSmooth};
+impl SmoothWheel {
+    ghost use Rattle.timer_wheels.specs.SmoothWheel.{smooth_state, smooth_table, starts_of, moves_of, IsPacedFor};
     ghost use Rattle.timer_wheels.specs.HierWheel.{IsHierFault};
 
     /// An empty wheel at its first tick.
@@ -94,6 +94,29 @@ impl<N: Kept> SmoothWheel<N> {
     /// Errors, in this order: `FirstTick` above the table's last tick, which is `LAST` or
     /// `LAST_OF_CLOCK`; `OutOfMemory`.
     pub fn with_table(
+        alloc: Global,
+        table: Table,
+        first_tick: u64,
+    ) -> Result<SmoothWheel, MakeFault>
+        ensures state { IfOk result (λ wheel. smooth_state wheel
+            ≡ empty_wheel (smooth_slots (radices table)) (last_of_table table) first_tick) }
+        ensures table { IfOk result (λ wheel. smooth_table wheel ≡ table) }
+        ensures starts { IfOk result (λ wheel. starts_of wheel ≡ 0) }
+        ensures moves { IfOk result (λ wheel. moves_of wheel ≡ 0) }
+        ensures paced { IfOk result (λ wheel. IsPacedFor 0 wheel) }
+        ensures in_range { IfOk result (λ wheel. first_tick ≤ last_of_table table) }
+        ensures fault { IfErr result (λ fault. IsHierFault (last_of_table table) first_tick fault) }
+    {
+        SmoothWheel::keeping(alloc, table, first_tick)
+    }
+}
+
+impl<N: Kept> SmoothWheel<N> {
+    ghost use Rattle.timer_wheels.specs.SmoothWheel.{smooth_state, smooth_table, starts_of, moves_of, next_moves, moves_ahead, IsPacedFor, ShowsSmooth};
+    ghost use Rattle.timer_wheels.specs.HierWheel.{IsHierFault};
+
+    /// The same as `with_table`, whose lists keep of a timer what `N` says.
+    pub fn keeping(
         alloc: Global,
         table: Table,
         first_tick: u64,

@@ -56,7 +56,7 @@ impl<N: Kept> TieredWheel<N> {
     {
         let table = match tiers {
             Tiers::Smooth => {
-                let wheel = SmoothWheel::with_table(alloc, Table::Wide, first_tick)?;
+                let wheel = SmoothWheel::keeping(alloc, Table::Wide, first_tick)?;
                 return Ok(TieredWheel::Smooth(wheel));
             }
             Tiers::Wide => Table::Wide,

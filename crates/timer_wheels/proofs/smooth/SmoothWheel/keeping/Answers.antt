@@ -3,7 +3,7 @@ use Rattle.timer_links.specs.Lists.{Rows}
 use Rattle.timer_wheels.specs.Smooth.{slot_in, smooth_list}
 use Rattle.timer_wheels.specs.Tables.{radices}
 use Rattle.timer_wheels.proofs.SmoothTotals.{heights_none}
-use Rattle.timer_wheels.proofs.smooth.SmoothWheel.with_table.Goals as goal
+use Rattle.timer_wheels.proofs.smooth.SmoothWheel.keeping.Goals as goal
 
 pub invariant_of-result : goal.invariant_of-result
 invariant_of-result g c =
