@@ -1,6 +1,7 @@
 //! Goes through a trace.
 ghost use Rattle.std.specs.Prelude.{◌≡◌, ◌<◌, ◌≤◌, [], IfOk};
 ghost use Rattle.timer_base.specs.declared.limits.TheConstants.{LAST};
+ghost use Rattle.timer_base.specs.declared.timer.Timer.{Timer};
 
 use crate::sums::Sums;
 use std::alloc::{AllocError, Global};
@@ -50,7 +51,8 @@ pub fn replay<W: Wheel + Drop>(
     operations: &[u64],
     owners: usize,
 ) -> Result<[u64; 8], Fault>
-    requires { (W.state wheel).due ≡ [] }
+    requires due { (W.state wheel).due ≡ [] }
+    requires keeps { (timer : Timer) → W.keeps timer }
 {
     let none = Handle {
         place: 0,
@@ -75,7 +77,8 @@ fn replay_one<W: Wheel>(
     pushing: Pushing,
     operation: u64,
 ) -> Result<(), Fault>
-    requires { (W.state wheel.old).due ≡ [] }
+    requires due { (W.state wheel.old).due ≡ [] }
+    requires keeps { (timer : Timer) → W.keeps timer }
     ensures { (W.state wheel.new).due ≡ [] }
 {
     let kind = operation & KIND;

@@ -188,3 +188,8 @@ pub record IsFacility (p : Fields) : Type 0 where
   pub timers : AreTimers p.clients p.capacity p.next_serial p.wheel p.counts (drop p.handed p.returned)
   pub handed_in_range : p.handed ≤ length p.returned
   pub roomy : p.has_room ≡ true → (p.capacity ≤ p.wheel.room) × (p.capacity ≤ p.list_room)
+
+-- the invariant of a facility over a wheel that keeps such timers: its fields are sound, and the wheel keeps every timer
+pub record IsFacilityOver (keeps : Timer → Type 0) (p : Fields) : Type 0 where
+  pub fields : IsFacility p
+  pub keeps_all : (timer : Timer) → keeps timer

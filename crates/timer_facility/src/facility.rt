@@ -6,6 +6,7 @@
 //! then.
 ghost use Rattle.std.specs.Prelude.{◌≡◌, false, true, None, Some, is_some, ℕ, ◌+◌, ◌-◌, ◌<◌, ◌≤◌, ◌↔◌, [], length, drop, slice_get, slice_index, slice_set, IsTrue, IfSome, IfOk, IfErr, OnErr, OnOk, MatchResult, if◌then◌else◌, nat_lt, vec_capacity};
 ghost use Rattle.timer_base.specs.declared.limits.TheConstants.{LAST};
+ghost use Rattle.timer_base.specs.declared.timer.Timer.{Timer};
 ghost use Rattle.timer_base.specs.Pending.{timers_of};
 ghost use Rattle.timer_base.specs.WheelState.{after_clear};
 ghost use Rattle.timer_base.specs.WakeUps.{IsQuietUntil, next_deadline};
@@ -18,7 +19,7 @@ ghost use Rattle.timer_facility.specs.Owed.{timer_handed};
 ghost use Rattle.timer_facility.specs.Opened.{opened};
 ghost use Rattle.timer_facility.specs.Handles.{is_pending};
 ghost use Rattle.timer_facility.specs.Ticked.{AreTicked};
-ghost use Rattle.timer_facility.specs.Facility.{FacilityView, view_of, view_after, view_with_room, with_nothing_waiting, NoRoomToClose, IsTaken, IsNotTaken, Fields, IsFacility, model_of, is_for_a_tick, IsStart, IsAnswered, MakesTimer, HasAnswered};
+ghost use Rattle.timer_facility.specs.Facility.{FacilityView, view_of, view_after, view_with_room, with_nothing_waiting, NoRoomToClose, IsTaken, IsNotTaken, Fields, IsFacilityOver, model_of, is_for_a_tick, IsStart, IsAnswered, MakesTimer, HasAnswered};
 
 use crate::config::Checked;
 use crate::limits::CLIENTS;
@@ -64,7 +65,7 @@ impl<W: Wheel + Drop> Model for Facility<W> {
       list_room = vec_capacity f.returned;
     }) };
 
-    ghost invariant = { λ f. IsFacility (record {
+    ghost invariant = { λ f. IsFacilityOver W.keeps (record {
       wheel = W.state f.wheel;
       clients = f.clients;
       capacity = f.capacity;
@@ -80,7 +81,8 @@ impl<W: Wheel + Drop> Model for Facility<W> {
 }
 
 impl<W: Wheel + Drop> Facility<W> {
-    /// A facility with this configuration, over an empty wheel whose clock is at the first tick.
+    /// A facility with this configuration, over an empty wheel whose clock is at the first tick. The wheel must
+    /// keep every timer whole, with its client and its number.
     ///
     /// Does not allocate; the list that a close returns will be allocated from `alloc`, by `reserve` or by the close.
     pub fn open(alloc: Global, checked: Checked, wheel: W) -> Facility<W>
@@ -88,6 +90,7 @@ impl<W: Wheel + Drop> Facility<W> {
         requires due { (W.state wheel).due ≡ [] }
         requires now { (W.state wheel).now ≡ checked.first_tick }
         requires serial { (W.state wheel).last_serial < checked.first_serial }
+        requires keeps { (timer : Timer) → W.keeps timer }
         ensures { result ≡ with_nothing_waiting (opened checked (W.state wheel).last_tick
             (W.state wheel).slots) }
     {

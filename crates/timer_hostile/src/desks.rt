@@ -4,6 +4,7 @@
 //! Each step is taken by a call of its own, or by a turn of one step, and a step that is refused is taken
 //! again.
 ghost use Rattle.std.specs.Prelude.{◌≡◌, []};
+ghost use Rattle.timer_base.specs.declared.timer.Timer.{Timer};
 
 use crate::facilities::numbers;
 use crate::fault::{Fault, same, see};
@@ -60,6 +61,7 @@ fn open<W: Wheel + Drop, I: Inlet + Drop>(
     requires due { (W.state wheel).due ≡ [] }
     requires now { (W.state wheel).now ≡ 0 }
     requires serial { (W.state wheel).last_serial ≡ 0 }
+    requires keeps { (timer : Timer) → W.keeps timer }
 {
     let Ok(checked) = numbers(inlets.len() as u64, 1024).check() else {
         return Err(Fault::Wrong("the number of lines"));

@@ -1,5 +1,6 @@
 //! A facility: a start or the close is refused for memory. And one with room, of which nothing is refused.
 ghost use Rattle.std.specs.Prelude.{◌≡◌, [], OnOk};
+ghost use Rattle.timer_base.specs.declared.timer.Timer.{Timer};
 
 use crate::fault::{Fault, same, see};
 use std::alloc::Global;
@@ -33,6 +34,7 @@ fn open<W: Wheel + Drop>(alloc: Global, wheel: W, capacity: u64) -> Result<Facil
     requires due { (W.state wheel).due ≡ [] }
     requires now { (W.state wheel).now ≡ 0 }
     requires serial { (W.state wheel).last_serial ≡ 0 }
+    requires keeps { (timer : Timer) → W.keeps timer }
 {
     match numbers(1, capacity).check() {
         Ok(checked) => Ok(Facility::open(alloc, checked, wheel)),
@@ -84,6 +86,7 @@ pub fn start_and_close<W: Wheel + Drop>(alloc: Global, wheel: W) -> Result<(), F
     requires due { (W.state wheel).due ≡ [] }
     requires now { (W.state wheel).now ≡ 0 }
     requires serial { (W.state wheel).last_serial ≡ 0 }
+    requires keeps { (timer : Timer) → W.keeps timer }
 {
     let mut facility = open(alloc, wheel, 4)?;
     for interval in [5, 3, 5] {
@@ -128,6 +131,7 @@ pub fn start_with_room<W: Wheel + Drop>(alloc: Global, wheel: W, starts: u64) ->
     requires due { (W.state wheel).due ≡ [] }
     requires now { (W.state wheel).now ≡ 0 }
     requires serial { (W.state wheel).last_serial ≡ 0 }
+    requires keeps { (timer : Timer) → W.keeps timer }
 {
     let mut facility = open(alloc, wheel, MAX_PENDING)?;
     reserve(&mut facility)?;

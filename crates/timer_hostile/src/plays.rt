@@ -1,5 +1,6 @@
 //! Lists of events: `play` stops for memory, and is called again with the rest.
 ghost use Rattle.std.specs.Prelude.{◌≡◌, []};
+ghost use Rattle.timer_base.specs.declared.timer.Timer.{Timer};
 
 use crate::desks::Said;
 use crate::facilities::numbers;
@@ -146,6 +147,7 @@ pub fn play_row<W: Wheel + Drop>(alloc: Global, wheel: W, row: Row) -> Result<()
     requires due { (W.state wheel).due ≡ [] }
     requires now { (W.state wheel).now ≡ 0 }
     requires serial { (W.state wheel).last_serial ≡ 0 }
+    requires keeps { (timer : Timer) → W.keeps timer }
 {
     let Ok(checked) = numbers(MAX_CLIENTS, 1024).check() else {
         return Err(Fault::Wrong("the numbers of a facility"));

@@ -1,5 +1,6 @@
 //! The scenarios under their names.
 ghost use Rattle.std.specs.Prelude.{◌≡◌, []};
+ghost use Rattle.timer_base.specs.declared.timer.Timer.{Timer};
 
 use crate::desks::{By, close_in_memory, hold};
 use crate::drives::drive_two;
@@ -117,6 +118,7 @@ fn play_over<W: Wheel + Drop>(alloc: Global, wheel: W, what: OverWheel) -> Resul
     requires due { (W.state wheel).due ≡ [] }
     requires now { (W.state wheel).now ≡ 0 }
     requires serial { (W.state wheel).last_serial ≡ 0 }
+    requires keeps { (timer : Timer) → W.keeps timer }
 {
     match what {
         OverWheel::Starts => start_a_hundred(wheel),

@@ -3,6 +3,7 @@ ghost use Rattle.std.specs.Prelude.{◌≡◌, IfOk};
 ghost use Rattle.timer_base.specs.declared.limits.TheConstants.{LAST};
 ghost use Rattle.timer_base.specs.declared.plain.PlainWheel.{PlainWheel};
 ghost use Rattle.timer_base.specs.WheelState.{empty_wheel};
+ghost use Rattle.timer_total.specs.TimersState.{KeepsUnowned};
 ghost use Rattle.timer_wheels.specs.declared.hashed.HashedWheel.{HashedWheel};
 ghost use Rattle.timer_wheels.specs.declared.hier.HierWheel.{HierWheel};
 ghost use Rattle.timer_wheels.specs.declared.smooth.SmoothWheel.{SmoothWheel};
@@ -102,7 +103,8 @@ fn start<W: Wheel + Drop>(timers: &mut Timers<W>) -> Result<(), Fault> {
 
 /// Starts a hundred timers, lists them, and takes each at its tick.
 pub fn start_a_hundred<W: Wheel + Drop>(wheel: W) -> Result<(), Fault>
-    requires { (W.state wheel).last_serial ≡ 0 }
+    requires serial { (W.state wheel).last_serial ≡ 0 }
+    requires keeps { KeepsUnowned W.keeps }
 {
     let mut timers = Timers::new(wheel, 0);
     for _ in 0..STARTS {

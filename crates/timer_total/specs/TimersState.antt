@@ -1,6 +1,7 @@
 -- What a caller sees of `Timers`, and the state after a start and after ticks.
-use Rattle.std.specs.Prelude.{ℕ, ◌+◌, ◌==◌, if◌then◌else◌}
+use Rattle.std.specs.Prelude.{◌≡◌, ◌≤◌, ℕ, ◌+◌, ◌==◌, if◌then◌else◌}
 use Rattle.timer_base.specs.Counts.{WheelCounts}
+use Rattle.timer_base.specs.declared.timer.Timer.{Timer}
 use Rattle.timer_base.specs.WheelState.{WheelState}
 
 pub record TimersState : Type 0 where
@@ -10,6 +11,15 @@ pub record TimersState : Type 0 where
   pub counts : WheelCounts
   -- the serial of the last start or restart, also of one over an earlier wheel
   pub last_serial : ℕ
+
+-- of a wheel that keeps such timers: it keeps each timer without an owner, that is of client 0 and number 0
+abbrev pub KeepsUnowned : (Timer → Type 0) → Type 0
+KeepsUnowned keeps = (timer : Timer) → timer.client ≡ 0 → timer.number ≡ 0 → keeps timer
+
+-- the invariant over a wheel in this state that keeps such timers
+pub record IsTimersOver (keeps : Timer → Type 0) (wheel : WheelState) (last_serial : ℕ) : Type 0 where
+  pub serials : wheel.last_serial ≤ last_serial
+  pub keeps_unowned : KeepsUnowned keeps
 
 -- the wheel is in this state, and nothing was counted
 abbrev pub with_wheel : WheelState → TimersState → TimersState

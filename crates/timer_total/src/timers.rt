@@ -7,7 +7,7 @@ ghost use Rattle.timer_total.specs.Deadlines.{interval_until, after_start_at};
 ghost use Rattle.timer_total.specs.Refusals.{next_timer, timer_due, left_until, IsAt, IsStartable, IsRoomUsed, WhyNotStarted, WhyNotRestarted, WhyNotTicked, WhyNotAdvanced};
 ghost use Rattle.timer_total.specs.Taken.{IsTakenBy};
 ghost use Rattle.timer_total.specs.Ticks.{IsAdvanced};
-ghost use Rattle.timer_total.specs.TimersState.{with_wheel, with_start};
+ghost use Rattle.timer_total.specs.TimersState.{with_wheel, with_start, KeepsUnowned};
 ghost use Rattle.timer_total.specs.Drops.{without_due, after_drop};
 
 use crate::fault::{AdvanceFault, RestartFault, StartFault};
@@ -23,8 +23,7 @@ pub struct Timers<W: Wheel + Drop> {
 }
 
 impl<W: Wheel + Drop> Model for Timers<W> {
-    ghost use Rattle.std.specs.Prelude.{◌≤◌};
-    ghost use Rattle.timer_total.specs.TimersState.{TimersState};
+    ghost use Rattle.timer_total.specs.TimersState.{TimersState, IsTimersOver};
 
     ghost Value = { TimersState };
 
@@ -34,13 +33,15 @@ impl<W: Wheel + Drop> Model for Timers<W> {
       last_serial = t.last_serial;
     } };
 
-    ghost invariant = { λ t. (W.state t.wheel).last_serial ≤ t.last_serial };
+    ghost invariant = { λ t. IsTimersOver W.keeps (W.state t.wheel) t.last_serial };
 }
 
 impl<W: Wheel + Drop> Timers<W> {
-    /// Wraps a wheel. The next start gets the serial after `last_serial`.
+    /// Wraps a wheel. The next start gets the serial after `last_serial`. The wheel must keep every timer whole that
+    /// has no owner, that is whose client and number are 0: it is started no others.
     pub fn new(wheel: W, last_serial: u64) -> Timers<W>
-        requires { (W.state wheel).last_serial ≤ last_serial }
+        requires serial { (W.state wheel).last_serial ≤ last_serial }
+        requires keeps { KeepsUnowned W.keeps }
         ensures { result ≡ record {
           wheel = W.state wheel;
           counts = W.counts wheel;

@@ -16,7 +16,10 @@ returns g c =
 pub invariant_of-result : goal.invariant_of-result
 invariant_of-result g c =
     let k = c.config-config.result in
-    facility-open (g.W.Wheel.state c.args.wheel) k c.new.result.items (vec_capacity c.new.result) c.config-config.ensures.in_range
-    c.requires.pending c.requires.due
-    (subst (λ (d : Config). (g.W.Wheel.state c.args.wheel).last_serial < d.first_serial)
-    (sym c.config-config.ensures.config) c.requires.serial) c.new.ensures.items
+    record {
+      fields = facility-open (g.W.Wheel.state c.args.wheel) k c.new.result.items (vec_capacity c.new.result) c.config-config.ensures.in_range
+          c.requires.pending c.requires.due
+          (subst (λ (d : Config). (g.W.Wheel.state c.args.wheel).last_serial < d.first_serial)
+          (sym c.config-config.ensures.config) c.requires.serial) c.new.ensures.items;
+      keeps_all = c.requires.keeps;
+    }

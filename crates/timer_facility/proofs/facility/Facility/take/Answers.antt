@@ -17,7 +17,10 @@ overflow_add-self g c =
 pub invariant_of-self : goal.invariant_of-self
 invariant_of-self g c =
     let t = takable c.args.self.now.state c.args.client c.args.number c.in_default.ensures.verdict in
-    facility-used c.self.invariant c.args.client c.args.number (omega (arith, t.to_next, t.in_range))
+    record {
+      fields = facility-used c.self.invariant.fields c.args.client c.args.number (omega (arith, t.to_next, t.in_range));
+      keeps_all = c.self.invariant.keeps_all;
+    }
 
 pub returns-clause-quiet : goal.returns-clause-quiet
 returns-clause-quiet g c = λ h.
@@ -33,7 +36,7 @@ returns-clause-taken g c =
       arith,
       (takable s c.args.client c.args.number c.in_default.ensures.verdict).is_client,
       leaves.as_many,
-      (agrees c.self.invariant c.self.view_is).clients_are,
+      (agrees c.self.invariant.fields c.self.view_is).clients_are,
     ) in
     taken-answered s c.args.client c.args.number c.args.request c.in-Ok.answer v _ c.in_default.ensures.verdict c.in-Ok.ensures.answered
-    (view-used c.self.invariant c.self.view_is c.args.client c.args.number known)
+    (view-used c.self.invariant.fields c.self.view_is c.args.client c.args.number known)

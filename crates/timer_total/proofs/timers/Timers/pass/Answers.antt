@@ -43,8 +43,8 @@ invariant_of-self g c =
     let w = g.W.Wheel.state c.self.inside.wheel in let w' = g.W.Wheel.state c.advance.new.self in
     let same : w'.last_serial ≡ w.last_serial = ap (λ (u : WheelState). u.last_serial) c.advance.ensures.advances.ticked
     ∙ after_ticks-serial c.advance.result w in
-    let low = c.self.invariant in
-    omega arith
+    let low = c.self.invariant.serials in
+    record { serials = omega arith; keeps_unowned = c.self.invariant.keeps_unowned }
 
 pub returns : goal.returns
 returns g c =
