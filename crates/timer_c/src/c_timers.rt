@@ -3,8 +3,8 @@ ghost use Rattle.std.specs.Prelude.{◌≡◌, None, IfSome};
 ghost use Rattle.std.specs.Borrow.{LendsIf, sem};
 
 use crate::owned_cell::OwnedCell;
+use crate::wheel_maker::CWheel;
 use timer_total::Timers;
-use timer_wheels::TieredWheel;
 
 /// A slot for timers, and the last serial that its earlier timers used.
 #[repr(C)]
@@ -20,7 +20,7 @@ impl CTimers {
     ghost use Rattle.timer_c.specs.Lent.{c_timers, the_timers};
 
     /// Lends the timers, if there are any.
-    pub(crate) fn timers(&mut self) -> Option<&mut Timers<TieredWheel>>
+    pub(crate) fn timers(&mut self) -> Option<&mut Timers<CWheel>>
         ensures* writes_back { sem 𝓛 (LendsIf c_timers the_timers self.entry result
             (with_timers self.entry.now) self.entry.now) }
         ensures held { IfSome result (λ timers. IsOpen self.old × (timers.now ≡ self.old.slot.state)) }

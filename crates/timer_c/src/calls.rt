@@ -8,12 +8,12 @@ ghost use Rattle.timer_c.specs.declared.status.TheConstants.{OK};
 
 use crate::layout::{CHandle, Counts, Expired};
 use crate::status::{NEVER, NO_MEMORY, NOT_PENDING, OK, SERIALS_SPENT, TOO_LATE, ZERO_INTERVAL};
+use crate::wheel_maker::CWheel;
 use timer_base::Timer;
 use timer_total::{RestartFault, StartFault, Timers};
-use timer_wheels::TieredWheel;
 
 pub(crate) fn start(
-    timers: &mut Timers<TieredWheel>,
+    timers: &mut Timers<CWheel>,
     interval: u64,
     action: u64,
     handle: &mut CHandle,
@@ -32,7 +32,7 @@ pub(crate) fn start(
 }
 
 pub(crate) fn start_at(
-    timers: &mut Timers<TieredWheel>,
+    timers: &mut Timers<CWheel>,
     deadline: u64,
     action: u64,
     handle: &mut CHandle,
@@ -64,7 +64,7 @@ fn start_status(fault: StartFault) -> u32
 }
 
 pub(crate) fn restart(
-    timers: &mut Timers<TieredWheel>,
+    timers: &mut Timers<CWheel>,
     handle: CHandle,
     interval: u64,
     action: u64,
@@ -84,7 +84,7 @@ pub(crate) fn restart(
 }
 
 pub(crate) fn restart_at(
-    timers: &mut Timers<TieredWheel>,
+    timers: &mut Timers<CWheel>,
     handle: CHandle,
     deadline: u64,
     action: u64,
@@ -106,7 +106,7 @@ pub(crate) fn restart_at(
 
 /// Starts a timer for the tick `deadline`, in place of the one with this handle, if there is one.
 pub(crate) fn set_at(
-    timers: &mut Timers<TieredWheel>,
+    timers: &mut Timers<CWheel>,
     handle: &mut CHandle,
     deadline: u64,
     action: u64,
@@ -137,7 +137,7 @@ fn restart_status(fault: RestartFault) -> u32
     }
 }
 
-pub(crate) fn stop(timers: &mut Timers<TieredWheel>, handle: CHandle, action: &mut u64) -> u32
+pub(crate) fn stop(timers: &mut Timers<CWheel>, handle: CHandle, action: &mut u64) -> u32
     ensures stopped { result ≡ OK → IsStopped handle timers.old timers.new action.new }
     ensures refused { 0 < result → WhyNotStopped handle timers.old result }
     ensures kept { 0 < result → (timers.new ≡ timers.old) × (action.new ≡ action.old) }
@@ -152,7 +152,7 @@ pub(crate) fn stop(timers: &mut Timers<TieredWheel>, handle: CHandle, action: &m
 }
 
 /// Takes as many expired timers as there are, or as fit into `out`.
-pub(crate) fn expire_batch(timers: &mut Timers<TieredWheel>, out: &mut [Expired]) -> usize
+pub(crate) fn expire_batch(timers: &mut Timers<CWheel>, out: &mut [Expired]) -> usize
     ensures count { result ≡ min (length out.old) (length timers.old.wheel.due) }
     ensures told { out.new ≡ map tell (take result (timers_of timers.old.wheel.due)) ++ drop result out.old }
     ensures rest { timers.new ≡ with_wheel (after_expiries result timers.old.wheel) timers.old }
@@ -168,7 +168,7 @@ pub(crate) fn expire_batch(timers: &mut Timers<TieredWheel>, out: &mut [Expired]
 }
 
 /// The tick until which its owner may sleep.
-pub(crate) fn wakeup(timers: &Timers<TieredWheel>) -> u64
+pub(crate) fn wakeup(timers: &Timers<CWheel>) -> u64
     ensures { IsNextCall result timers.now.wheel }
 {
     if timers.has_due() {
@@ -181,7 +181,7 @@ pub(crate) fn wakeup(timers: &Timers<TieredWheel>) -> u64
 }
 
 /// What a wheel counted, as C's struct.
-pub(crate) fn to_c_counts(wheel: &TieredWheel) -> Counts
+pub(crate) fn to_c_counts(wheel: &CWheel) -> Counts
     ensures counted { IsCounted (tiered_state wheel.now).slots (counts_in wheel.now) result }
     ensures moves { result.moves ≡ moves_in wheel.now }
     ensures few_moves { result.moves ≤ 9 * result.starts }

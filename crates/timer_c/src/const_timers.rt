@@ -7,8 +7,8 @@ ghost use Rattle.std.specs.Prelude.{◌≡◌, None, IfSome};
 ghost use Rattle.std.specs.Borrow.{sem};
 
 use crate::c_timers::CTimers;
+use crate::wheel_maker::CWheel;
 use timer_total::Timers;
-use timer_wheels::TieredWheel;
 
 /// `struct timers` as such a call sees it. Only this file reaches what it holds.
 #[repr(C)]
@@ -22,7 +22,7 @@ impl ConstTimers {
     ghost use Rattle.timer_c.specs.Lent.{const_timers};
 
     /// Lends the timers to be read, if there are any.
-    pub(crate) fn timers(&mut self) -> Option<&Timers<TieredWheel>>
+    pub(crate) fn timers(&mut self) -> Option<&Timers<CWheel>>
         ensures* unchanged { sem 𝓛 (EndsUnchanged const_timers self.entry) }
         ensures held { IfSome result (λ timers. IsOpen self.old.held × (timers.now ≡ self.old.held.slot.state)) }
         ensures none { result ≡ None → IsShut self.old.held }

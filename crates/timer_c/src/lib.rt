@@ -5,7 +5,7 @@
 //!
 //!     exports      the functions that C calls: each checks the struct, if it takes one, and then forwards the call
 //!     calls        the calls, with C's statuses and structs
-//!     wheel_maker  a wheel by C's number for its table
+//!     wheel_maker  C's wheel, and how one is made by C's number for its table
 //!     c_timers     `struct timers`: the slot, and the last serial while the slot is empty
 //!     const_timers `struct timers` behind a const pointer, whose timers can only be read
 //!     owned_cell   the slot: the two machine words by which it owns the timers on the heap

@@ -6,10 +6,10 @@ ghost use Rattle.std.specs.Prelude.{◌≡◌};
 ghost use Rattle.std.specs.Borrow.{Lends, sem};
 ghost use Rattle.timer_total.specs.TimersState.{TimersState};
 
+use crate::wheel_maker::CWheel;
 use std::marker::Model;
 use timer_ffi_base::HeapCell;
 use timer_total::Timers;
-use timer_wheels::TieredWheel;
 
 /// The timers on the heap, if it holds any.
 #[repr(C)]
@@ -31,12 +31,12 @@ impl OwnedCell {
     ghost use Rattle.timer_ffi_base.specs.Lent.{cell_of};
 
     /// The same two words, as the cell whose methods are proved for any content.
-    pub(crate) fn cell(&mut self) -> &mut HeapCell<Timers<TieredWheel>>
+    pub(crate) fn cell(&mut self) -> &mut HeapCell<Timers<CWheel>>
         ensures* writes_back { sem 𝓛 (Lends the_slot (cell_of the_timers) self.entry result as_slot) }
         ensures value { result.now ≡ as_cell self.old }
     {
         // Both structs have the same words, and own the same.
-        unsafe { &mut *(self as *mut OwnedCell as *mut HeapCell<Timers<TieredWheel>>) }
+        unsafe { &mut *(self as *mut OwnedCell as *mut HeapCell<Timers<CWheel>>) }
     }
 }
 

@@ -1,5 +1,12 @@
 -- The state of a desk, and the row of a desk on the heap: `Cells` says what a slot owns of it.
+use Rattle.std.specs.Prelude.{◌≡◌, ⊤}
 use denote.RattleType.{RattleType}
+use Rattle.std.specs.declared.clone.Clone as clone
+use Rattle.timer_base.specs.declared.timer.Timer.{Timer}
+use Rattle.timer_base.specs.declared.wheel.Wheel.{Ghosts}
+use Rattle.timer_base.specs.contracts.timer.Timer as timer
+use Rattle.timer_links.specs.contracts.kept.TimerKept.TheImpl as kept
+use Rattle.timer_wheels.specs.declared.tiered.TieredWheel.{TieredWheel}
 use Rattle.timer_wheels.specs.contracts.tiered.TieredWheel as tiered
 use Rattle.timer_wheels.specs.contracts.tiered.TieredWheelWheel.TheImpl as wheel
 use Rattle.timer_desk.specs.declared.ring.RingInlet.{RingInlet}
@@ -11,5 +18,17 @@ use Rattle.timer_desk.specs.Desk.{DeskState as State}
 abbrev pub DeskState : Type 0
 DeskState = State RingInlet
 
+-- a copy of what is kept of a timer is the same
+abbrev pub timer_clone : clone.Ghosts Timer
+timer_clone = record { is_clone = λ kept copy. copy ≡ kept; is_infallible = λ kept. ⊤ }
+
+-- the desk's wheel
+abbrev pub tiered_row : RattleType
+tiered_row = tiered.the_row timer.the_row kept.ghosts
+
+-- what the wheel's impl of `Wheel` says of it
+abbrev pub wheel_ghosts : Ghosts (TieredWheel Timer kept.ghosts)
+wheel_ghosts = wheel.ghosts timer.the_row kept.ghosts kept.dict timer_clone kept.dict
+
 abbrev pub the_desk : RattleType
-the_desk = desk.the_row tiered.the_row ring.the_row wheel.ghosts inlet.ghosts
+the_desk = desk.the_row tiered_row ring.the_row wheel_ghosts inlet.ghosts

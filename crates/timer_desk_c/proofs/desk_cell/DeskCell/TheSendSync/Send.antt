@@ -3,8 +3,9 @@ use denote.Struct.Struct.{exits_of}
 use denote.Struct.Owning.{shape, fields, to}
 use denote.Param.Send.{IsSend, AllSend, owning_send, struct_send, sendable}
 use Rattle.std_alloc.proofs.SendSync.{quiet}
-use Rattle.timer_wheels.specs.contracts.tiered.TieredWheel as tiered
-use Rattle.timer_wheels.specs.contracts.tiered.TieredWheelWheel.TheImpl as wheel
+use Rattle.timer_base.specs.contracts.timer.Timer as timer
+use Rattle.timer_base.proofs.timer.Timer.TheSendSync as timer'
+use Rattle.timer_links.specs.contracts.kept.TimerKept.TheImpl as kept
 use Rattle.timer_wheels.proofs.tiered.TieredWheel.TheSendSync as tiered'
 use Rattle.timer_desk.specs.contracts.ring.RingInlet as ring
 use Rattle.timer_desk.specs.contracts.ring.RingInletInlet.TheImpl as inlet
@@ -12,11 +13,11 @@ use Rattle.timer_desk.proofs.ring.RingInlet.TheSendSync as ring'
 use Rattle.timer_desk.proofs.desk.Desk.TheSendSync as desk'
 use Rattle.timer_ffi_base.specs.Cells.{is_open}
 use Rattle.timer_ffi_base.proofs.Sends.{keyless}
-use Rattle.timer_desk_c.specs.DeskSlots.{the_desk}
+use Rattle.timer_desk_c.specs.DeskSlots.{tiered_row, wheel_ghosts, the_desk}
 use Rattle.timer_desk_c.specs.contracts.desk_cell.DeskCell.{the_row, the_type}
 
 desk_send : IsSend the_desk
-desk_send = desk'.the_send tiered.the_row ring.the_row wheel.ghosts inlet.ghosts tiered'.the_send ring'.the_send
+desk_send = desk'.the_send tiered_row ring.the_row wheel_ghosts inlet.ghosts (tiered'.the_send timer.the_row kept.ghosts timer'.the_send) ring'.the_send
 
 pub send : IsSend the_row
 send =
