@@ -3,7 +3,7 @@ ghost use Rattle.std.specs.Prelude.{◌≡◌, ◌*◌, ◌<◌, ◌≤◌, ◌+
 ghost use Rattle.timer_base.specs.Pending.{timers_of};
 ghost use Rattle.timer_c.specs.Outcomes.{IsStarted, IsStartedAt, IsStartRefusal, IsStartAtRefusal, IsRestarted, IsRestartedAt, IsRestartRefusal, IsRestartAtRefusal, IsSet, IsSetRefusal, start_status, restart_status, IsStopped, WhyNotStopped, IsNextCall, IsCounted, tell, after_expiries};
 ghost use Rattle.timer_total.specs.TimersState.{with_wheel};
-ghost use Rattle.timer_wheels.specs.TieredWheel.{tiered_state, counts_in, moves_in};
+ghost use Rattle.timer_wheels.specs.TieredWheel.{tiered_state, counts_in, moves_in, is_smooth};
 ghost use Rattle.timer_c.specs.declared.status.TheConstants.{OK};
 
 use crate::layout::{CHandle, Counts, Expired};
@@ -63,7 +63,48 @@ fn start_status(fault: StartFault) -> u32
     }
 }
 
+#[inline(always)]
 pub(crate) fn restart(
+    timers: &mut Timers<CWheel>,
+    handle: CHandle,
+    interval: u64,
+    action: u64,
+    restarted: &mut CHandle,
+) -> u32
+    ensures restarted { result ≡ OK → IsRestarted handle interval action timers.old timers.new restarted.new }
+    ensures refused { 0 < result → IsRestartRefusal handle interval timers.old result }
+    ensures kept { 0 < result → (timers.new ≡ timers.old) × (restarted.new ≡ restarted.old) }
+{
+    if timers.wheel().is_smooth() {
+        return restart_in_smooth(timers, handle, interval, action, restarted);
+    }
+    restart_in_any(timers, handle, interval, action, restarted)
+}
+
+/// A restart in a smooth wheel, out of line.
+// So the restart in a hierarchy has no call, for which a compiler would save registers at its start.
+#[inline(never)]
+fn restart_in_smooth(
+    timers: &mut Timers<CWheel>,
+    handle: CHandle,
+    interval: u64,
+    action: u64,
+    restarted: &mut CHandle,
+) -> u32
+    requires { is_smooth timers.old.wheel.slots ≡ true }
+    ensures restarted { result ≡ OK → IsRestarted handle interval action timers.old timers.new restarted.new }
+    ensures refused { 0 < result → IsRestartRefusal handle interval timers.old result }
+    ensures kept { 0 < result → (timers.new ≡ timers.old) × (restarted.new ≡ restarted.old) }
+{
+    // Known here, this leaves out the hierarchy.
+    if !timers.wheel().is_smooth() {
+        unreachable!()
+    }
+    restart_in_any(timers, handle, interval, action, restarted)
+}
+
+#[inline(always)]
+fn restart_in_any(
     timers: &mut Timers<CWheel>,
     handle: CHandle,
     interval: u64,

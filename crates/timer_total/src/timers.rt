@@ -261,6 +261,7 @@ impl<W: Wheel + Drop> Timers<W> {
 
     /// Removes the timer with exactly this handle, pending or expired and not yet taken, and starts another
     /// in its place, under the next serial. Does not allocate.
+    #[inline(always)]
     pub fn restart(
         &mut self,
         handle: Handle,

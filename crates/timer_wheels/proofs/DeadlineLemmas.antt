@@ -149,7 +149,7 @@ has_below d n l lists k m h =
     (has-rest d (timers_in w.front) (timers_in (list_at l lists) ++ timers_in w.rest)
     (has-front d (timers_in (list_at l lists)) (timers_in w.rest) h))
 
-some_rows : (rows : Rows) → 0 < length rows → timers_in rows ≡ [] → ⊥
+pub some_rows : (rows : Rows) → 0 < length rows → timers_in rows ≡ [] → ⊥
 some_rows [] k e = absurd (omega arith)
 some_rows (r ∷ rs) k e = absurd (cc)
 

@@ -122,7 +122,8 @@ pub fn is_rollover(table: Table, tick: u64) -> bool
 }
 
 /// The list of a timer that is pending now.
-#[inline]
+// Always inlined: for a call a compiler saves registers at the start of each stop and restart.
+#[inline(always)]
 pub fn bucket_of(table: Table, now: u64, deadline: u64) -> usize
     requires later { now < deadline }
     requires deadline { deadline ≤ last_of (radices table) }

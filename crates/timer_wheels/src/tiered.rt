@@ -91,6 +91,17 @@ impl<N: Kept> TieredWheel<N> {
         }
     }
 
+    /// Whether this is the smooth wheel. Does not allocate.
+    #[inline(always)]
+    pub fn is_smooth(&self) -> bool
+        ensures { result ≡ is_smooth (tiered_state self.now).slots }
+    {
+        match self {
+            TieredWheel::Hier(_) => false,
+            TieredWheel::Smooth(_) => true,
+        }
+    }
+
     /// How many timers were started or restarted since the wheel was made. Does not allocate.
     pub fn starts(&self) -> u64
         ensures { result ≡ (counts_in self.now).starts }

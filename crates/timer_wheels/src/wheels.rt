@@ -13,7 +13,12 @@ ghost use Rattle.timer_base.specs.WheelState.{empty_wheel, held_at, held_count, 
 ghost use Rattle.timer_wheels.specs.Buckets.{state_of, IsListOf};
 ghost use Rattle.timer_links.specs.Lists.{list_at};
 ghost use Rattle.timer_wheels.specs.Leap.{list_visit};
+ghost use Rattle.timer_wheels.specs.BucketLists.{timers_in};
+ghost use Rattle.timer_wheels.specs.Deadlines.{IsLeast};
+ghost use Rattle.timer_wheels.specs.FirstDeadline.{IsKnownOf};
+ghost use Rattle.timer_wheels.specs.Firsts.{first_at, Keeps};
 ghost use Rattle.timer_wheels.specs.Migration.{first_deadline};
+ghost use Rattle.timer_wheels.specs.declared.table.TheConstants.{MOST_BUCKETS};
 ghost use Rattle.timer_wheels.specs.Digits.{bucket, emptied, slots, last_of, lowest_radix};
 ghost use Rattle.timer_wheels.specs.Tables.{radices};
 ghost use Rattle.timer_wheels.specs.Hier.{IsHier, IsHier-prop, HasFirsts, HasFirsts-prop, Comes, Goes, potential};
@@ -46,8 +51,6 @@ pub struct Wheels<N: Kept = Timer> {
 }
 
 impl<N: Kept> Wheels<N> {
-    ghost use Rattle.timer_wheels.specs.BucketLists.{timers_in};
-    ghost use Rattle.timer_wheels.specs.Deadlines.{IsLeast};
     ghost use Rattle.timer_wheels.specs.Placement.{hops_of};
     ghost use Rattle.timer_wheels.specs.Tables.{last_of_table, slots_of_table};
 
@@ -243,9 +246,8 @@ impl<N: Kept> Wheels<N> {
         if let Some(first) = self.known_first(list) {
             return Some(first);
         }
-        let first = first_in(&self.buckets.links, list);
-        self.firsts.keep(&self.occupied, list, first);
-        first.known(&self.buckets.links, list)
+        let buckets = &self.buckets;
+        Some(walk_first(&buckets.links, &self.occupied, &mut self.firsts, list))
     }
 
     /// The visit of a bucket of the lowest wheel, which is the deadline of its timers. None if the bucket is one of a higher
@@ -280,6 +282,32 @@ impl<N: Kept> Wheels<N> {
         self.occupied = Occupied::new();
         self.firsts.clear();
     }
+}
+
+/// The first deadline of a bucket that has a timer, found by a walk along it. It is known from then on.
+// Out of line, and no `Option`: so a call that finds it known saves no register.
+#[cold]
+#[inline(never)]
+fn walk_first<N: Kept>(
+    links: &Links<N>,
+    occupied: &Occupied,
+    firsts: &mut Firsts,
+    list: usize,
+) -> u64
+    requires list { list < length links.now.lists }
+    requires some { 0 < length (list_at list links.now.lists) }
+    requires first { list < length firsts.old.items }
+    requires few { length firsts.old.items ≤ MOST_BUCKETS }
+    ensures least { IsLeast result (timers_in (list_at list links.now.lists)) }
+    ensures known { IsKnownOf (first_at list firsts.new) (timers_in (list_at list links.now.lists)) }
+    ensures others { Keeps occupied.now list firsts.old firsts.new }
+{
+    let first = first_in(links, list);
+    firsts.keep(occupied, list, first);
+    let Some(deadline) = first.known(links, list) else {
+        unreachable!()
+    };
+    deadline
 }
 
 /// `lowest_visit` by the wheels' table.

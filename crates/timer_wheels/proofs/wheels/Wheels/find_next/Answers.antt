@@ -1,6 +1,6 @@
 use Rattle.std.proofs.Common.{arith, Some}
 use Rattle.timer_wheels.proofs.DeadlineLemmas.{none_is_next, first_below, first_is_next, visit_is_next}
-use Rattle.timer_wheels.proofs.FirstsLemmas.{kept_firsts}
+use Rattle.timer_wheels.proofs.HierLeaps.{first_some}
 use Rattle.timer_wheels.proofs.TableLaws.{of_table}
 use Rattle.timer_wheels.proofs.wheels.Wheels.find_next.Goals as goal
 
@@ -18,17 +18,14 @@ pub returns-in-Some-known_first-clause-first : goal.returns-in-Some-known_first-
 returns-in-Some-known_first-clause-first g c = first_is_next c.args.self.now.hier c.in-Some.list c.in-Some.ensures
     (Some c.in-Some-known_first.first) c.in-Some-known_first.ensures
 
-pub keep-requires-clause-few : goal.keep-requires-clause-few
-keep-requires-clause-few g c =
+pub walk_first-requires-clause-some : goal.walk_first-requires-clause-some
+walk_first-requires-clause-some g c = first_some c.args.self.now.hier c.in-Some.list c.in-Some.ensures
+
+pub walk_first-requires-clause-few : goal.walk_first-requires-clause-few
+walk_first-requires-clause-few g c =
     let w = c.args.self.now in
     omega (arith, w.foretold.size, w.hier.has_slots, (of_table w.table).few_slots)
 
 pub returns-clause-first : goal.returns-clause-first
-returns-clause-first g c = first_is_next c.args.self.now.hier c.in-Some.list c.in-Some.ensures c.known.result
-    (c.known.ensures.all c.first_in-first.ensures)
-
-pub invariant_of-self-clause-foretold : goal.invariant_of-self-clause-foretold
-invariant_of-self-clause-foretold g c =
-    let w = c.args.self.now in
-    kept_firsts w.foretold w.occupied c.in-Some.list c.keep.new.self w.hier.marked c.keep.ensures.others
-    (rw c.keep.ensures.here c.first_in-first.ensures.first_of)
+returns-clause-first g c = first_is_next c.args.self.now.hier c.in-Some.list c.in-Some.ensures (Some c.walk_first.result)
+    c.walk_first.ensures.least
