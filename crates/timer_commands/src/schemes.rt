@@ -1,5 +1,6 @@
 //! Makes the wheel of a scheme, and does over it what a verb says.
 ghost use Rattle.std.specs.Prelude.{◌≡◌, ◌⊎◌, false, IfErr, IfOk};
+ghost use Rattle.timer_base.specs.declared.timer.Timer.{Timer};
 ghost use Rattle.timer_base.specs.WheelState.{empty_wheel};
 ghost use Rattle.timer_wheels.specs.HashedWheel.{slots_of};
 ghost use Rattle.timer_wheels.specs.HierWheel.{table_of};
@@ -130,6 +131,7 @@ fn over_wheel<R: Read, S: Write, F: Write, W: Wheel + Placement + OfScheme + Dro
     requires wheel { IfOk made (λ wheel. W.is_wheel_of _options wheel) }
     requires state { IfOk made (λ wheel. W.state wheel
         ≡ empty_wheel (scheme_slots _options.scheme _options.slots) (scheme_last _options.scheme) _options.first_tick) }
+    requires keeps { (timer : Timer) → W.keeps timer }
     requires memory { IfErr made (λ fault. fault ≡ MakeFault.OutOfMemory) }
     requires config { checked ≡ config_of _options }
     requires reader_good { has_failed streams.old.reader ≡ false }

@@ -1,6 +1,7 @@
 //! Rows of a desk's steps, over each wheel and over lines of two kinds: by single calls, and by one turn. What is
 //! refused for memory, `held_request` and `held_over_tick`, is played by timer_hostile.
 ghost use Rattle.std.specs.Prelude.{◌≡◌, [], All};
+ghost use Rattle.timer_base.specs.declared.timer.Timer.{Timer};
 ghost use Rattle.timer_desk.specs.Desk.{clients_of, InRange};
 
 use crate::support::{
@@ -211,6 +212,7 @@ enum Row {
 fn play<W: Wheel + Drop>(rt: &impl Abort, alloc: Global, wheel: W, row: Row, way: Way)
     requires pending { (W.state wheel).pending ≡ [] }
     requires due { (W.state wheel).due ≡ [] }
+    requires keeps { (timer : Timer) → W.keeps timer }
 {
     match row {
         Row::NoRoom => no_room_over(rt, alloc, wheel, way),
@@ -221,6 +223,7 @@ fn play<W: Wheel + Drop>(rt: &impl Abort, alloc: Global, wheel: W, row: Row, way
 fn no_room_over<W: Wheel + Drop>(rt: &impl Abort, alloc: Global, wheel: W, way: Way)
     requires pending { (W.state wheel).pending ≡ [] }
     requires due { (W.state wheel).due ≡ [] }
+    requires keeps { (timer : Timer) → W.keeps timer }
 {
     let inlets = one(rt, alloc, in_memory(rt, alloc, &[1, 1]));
     let mut desk = desk_over(rt, alloc, wheel, inlets, 2);
@@ -231,6 +234,7 @@ fn no_room_over<W: Wheel + Drop>(rt: &impl Abort, alloc: Global, wheel: W, way: 
 fn close_at_desk_over<W: Wheel + Drop>(rt: &impl Abort, alloc: Global, wheel: W, way: Way)
     requires pending { (W.state wheel).pending ≡ [] }
     requires due { (W.state wheel).due ≡ [] }
+    requires keeps { (timer : Timer) → W.keeps timer }
 {
     let first = in_memory(rt, alloc, &[5, 1]);
     let inlets = two(rt, alloc, first, in_memory(rt, alloc, &[3]));

@@ -1,5 +1,6 @@
 //! What the tests have in common: desks, ends of lines, requests, words, and gates that count.
 ghost use Rattle.std.specs.Prelude.{◌≡◌, ◌∷◌, []};
+ghost use Rattle.timer_base.specs.declared.timer.Timer.{Timer};
 ghost use Rattle.timer_wheels.specs.declared.hier.HierWheel.{HierWheel};
 ghost use Rattle.timer_base.specs.WheelState.{empty_wheel};
 ghost use Rattle.timer_desk.specs.Desk.{AllIdle, clients_of};
@@ -49,6 +50,7 @@ pub fn desk_over<W: Wheel + Drop, I: Inlet + Drop>(
 ) -> Desk<W, I>
     requires pending { (W.state wheel).pending ≡ [] }
     requires due { (W.state wheel).due ≡ [] }
+    requires keeps { (timer : Timer) → W.keeps timer }
     ensures inlets { result.inlets ≡ inlets.items }
 {
     let config = Config {

@@ -1,5 +1,6 @@
 //! Rows of calls on a facility, over each wheel: numbers, and handles of timers that are gone or were never there.
 ghost use Rattle.std.specs.Prelude.{◌≡◌, []};
+ghost use Rattle.timer_base.specs.declared.timer.Timer.{Timer};
 
 use crate::support::same;
 use std::alloc::Global;
@@ -249,6 +250,7 @@ fn play<W: Wheel + Drop>(rt: &impl Abort, alloc: Global, wheel: W, row: Row) -> 
     requires due { (W.state wheel).due ≡ [] }
     requires now { (W.state wheel).now ≡ 0 }
     requires serial { (W.state wheel).last_serial ≡ 0 }
+    requires keeps { (timer : Timer) → W.keeps timer }
 {
     let (config, steps) = row;
     assert!(rt; config.first_tick == 0);

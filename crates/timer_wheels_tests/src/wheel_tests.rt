@@ -1,5 +1,6 @@
 //! A whole use of each wheel: the schemes and their sizes are the rows.
 ghost use Rattle.std.specs.Prelude.{◌≡◌};
+ghost use Rattle.timer_base.specs.declared.timer.Timer.{Timer};
 
 use crate::support::same;
 use std::alloc::Global;
@@ -27,11 +28,9 @@ fn timer(serial: u64, deadline: u64) -> Timer
 }
 
 /// Starts the next timer.
-pub fn start<W: Wheel>(
-    rt: &impl Abort,
-    wheel: &mut W,
-    deadline: u64,
-) -> Result<Handle, OutOfMemory> {
+pub fn start<W: Wheel>(rt: &impl Abort, wheel: &mut W, deadline: u64) -> Result<Handle, OutOfMemory>
+    requires { (timer : Timer) → W.keeps timer }
+{
     assert!(rt; wheel.now() <= deadline);
     assert!(rt; deadline <= wheel.last_tick());
     assert!(rt; wheel.last_serial() < LAST);
@@ -45,7 +44,9 @@ pub fn restart<W: Wheel>(
     wheel: &mut W,
     handle: Handle,
     deadline: u64,
-) -> Option<(Handle, u64)> {
+) -> Option<(Handle, u64)>
+    requires { (timer : Timer) → W.keeps timer }
+{
     assert!(rt; wheel.now() <= deadline);
     assert!(rt; deadline <= wheel.last_tick());
     assert!(rt; wheel.last_serial() < LAST);
@@ -93,7 +94,9 @@ fn list<W: Wheel>(
 }
 
 /// Starts, restarts, lists and stops timers, and takes what expires.
-fn use_wheel<W: Wheel>(rt: &impl Abort, alloc: Global, wheel: &mut W) -> Result<(), OutOfMemory> {
+fn use_wheel<W: Wheel>(rt: &impl Abort, alloc: Global, wheel: &mut W) -> Result<(), OutOfMemory>
+    requires { (timer : Timer) → W.keeps timer }
+{
     wheel.reserve(2)?;
     let first = start(rt, wheel, 5)?;
     let second = start(rt, wheel, 4161)?;
