@@ -59,7 +59,7 @@ pub fn is_rollover(tick: u64) -> bool
 }
 
 /// The list of a timer that is pending now.
-#[inline]
+#[inline(always)]
 #[tactic(auto, using(crate::proofs::ClockDigits::clock_buckets), unfolding(crate::specs::Tables::clock))]
 pub fn bucket_of(now: u64, deadline: u64) -> usize
     requires later { now < deadline }

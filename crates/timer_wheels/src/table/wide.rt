@@ -103,7 +103,7 @@ fn lowest_digit(tick: u64) -> u32
 }
 
 /// The list of a timer that is pending now.
-#[inline]
+#[inline(always)]
 #[tactic(auto, using(crate::proofs::WideDigits::slot_by_product), unfolding(crate::specs::Tables::wide))]
 pub fn bucket_of(now: u64, deadline: u64) -> usize
     requires later { now < deadline }
