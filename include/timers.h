@@ -151,9 +151,9 @@
  *
  *     timers_new allocates some 15 KB for the buckets, and the first start some 5 KB more, unless timers_reserve
  *     made room (with TIMERS_CLOCK 6 KB and 2 KB, with TIMERS_SMOOTH 11 KB and 10 KB). Of the 15 KB some 10 are for
- *     first deadlines; TIMERS_SMOOTH keeps none, and has twice the buckets. A timer takes 56 bytes, in two arrays. An
- *     array that is full grows, the larger one to twice its length. So above some 1,000 timers they have 56 to 116
- *     bytes for each, of the most that were ever held. With a timers_reserve before the first start they have 56 for
+ *     first deadlines; TIMERS_SMOOTH keeps none, and has twice the buckets. A timer takes 40 bytes, in two arrays. An
+ *     array that is full grows, the larger one to twice its length. So above some 1,000 timers they have 40 to 82
+ *     bytes for each, of the most that were ever held. With a timers_reserve before the first start they have 40 for
  *     each, up to its room.
  *
  *     No block has more than SIZE_MAX / 2 bytes. A call that needed one returns TIMERS_NO_MEMORY.
@@ -390,7 +390,7 @@ void timers_clear(struct timers *t);
 /* Makes room for `most` timers held at once, pending or expired and not yet taken, with the ones that are held
  * already. While fewer are held, a start then allocates nothing and does not return
  * TIMERS_NO_MEMORY, whatever was started, stopped and taken before. The timers and the clock don't change.
- * Takes 56 bytes for each timer, of four at least; if it has to grow, of up to twice the most that were ever held.
+ * Takes 40 bytes for each timer, of four at least; if it has to grow, of up to twice the most that were ever held.
  * Takes time for these, which it may move. The rest is allocated and not written. The memory is kept until
  * timers_free. TIMERS_NO_MEMORY leaves it as it was. If an earlier timers_reserve made as much room, it allocates
  * nothing and returns TIMERS_OK. TIMERS_NO_MEMORY is also returned if `most` is above some 4.29 billion; after an

@@ -58,7 +58,7 @@ static void is_within(const char *what, size_t timers, size_t got, size_t least,
 	}
 }
 
-/* The buckets take `buckets` bytes at first, and `more` with the first timer. From 1,000 timers on each takes 56 to 114. */
+/* The buckets take `buckets` bytes at first, and `more` with the first timer. From 1,000 timers on each takes 40 to 82. */
 static void grow(uint32_t table, size_t buckets, size_t more, size_t most)
 {
 	struct timers t = TIMERS_INIT;
@@ -73,7 +73,7 @@ static void grow(uint32_t table, size_t buckets, size_t more, size_t most)
 		if (count == 1)
 			is_within("first start", 1, held - made, more / 10 * 8, more / 10 * 12);
 		if (count >= 1000)
-			is_within("starts", count, held - made, 56 * count, 114 * count);
+			is_within("starts", count, held - made, 40 * count, 82 * count);
 	}
 	size_t kept = held;
 	timers_clear(&t);
@@ -82,13 +82,13 @@ static void grow(uint32_t table, size_t buckets, size_t more, size_t most)
 	is_within("free", 0, held, 0, 0);
 }
 
-/* With room each timer takes 56 bytes, beside the buckets. */
+/* With room each timer takes 40 bytes, beside the buckets. */
 static void reserve(uint32_t table, size_t buckets, size_t most)
 {
 	struct timers t = TIMERS_INIT;
 	if (timers_new(&t, table, 0) != TIMERS_OK || timers_reserve(&t, most) != TIMERS_OK)
 		exit(2);
-	is_within("reserve", most, held, 56 * most, 56 * most + 2 * buckets);
+	is_within("reserve", most, held, 40 * most, 40 * most + 2 * buckets);
 	timers_free(&t);
 }
 

@@ -109,8 +109,8 @@ static int refuses(uint32_t table)
 	done = done && is(TIMERS_NO_MEMORY, timers_reserve(&t, MOST));
 	refuse = 0;
 	done = done && is(TIMERS_NO_MEMORY, timers_reserve(&t, SIZE_MAX)) && is(TIMERS_NO_MEMORY, timers_reserve(&t, SIZE_MAX / 64));
-	/* whose bytes are more than a size_t can count: at least 56 a timer */
-	done = done && is(TIMERS_NO_MEMORY, timers_reserve(&t, SIZE_MAX / 56 + 1));
+	/* whose bytes are more than a size_t can count: at least 40 a timer */
+	done = done && is(TIMERS_NO_MEMORY, timers_reserve(&t, SIZE_MAX / 40 + 1));
 	done = done && timers_len(&t) == 100 && timers_now(&t) == 7 && !timers_has_due(&t);
 	for (size_t i = 0; i < 100; i++)
 		done = done && is(TIMERS_OK, timers_look(&t, held[i], &out)) && out.action == i;

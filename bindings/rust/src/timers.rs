@@ -75,7 +75,7 @@ pub struct Counts {
 ///
 /// # Costs
 ///
-/// Starts, restarts, stops and looks take constant time, but for a start that makes the arrays grow. A timer takes 56
+/// Starts, restarts, stops and looks take constant time, but for a start that makes the arrays grow. A timer takes 40
 /// bytes, and its value with a tag, of the most that were ever held at once, and after growing up to twice as much. A
 /// million timers that move to a lower wheel at one tick take 10 ms or more.
 ///

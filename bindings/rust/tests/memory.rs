@@ -9,13 +9,13 @@ fn mapped() -> usize {
     pages.split(' ').next().unwrap().parse::<usize>().unwrap() * 4096
 }
 
-/// Room for a million timers is 56 MB, and 16 MB for their values. While fewer are held, nothing is added to it.
+/// Room for a million timers is 40 MB, and 16 MB for their values. While fewer are held, nothing is added to it.
 fn make_room() {
     let (most, before) = (1_000_000, mapped());
     let mut timers = Timers::new().unwrap();
     timers.reserve(most).unwrap();
     let reserved = mapped();
-    assert!(reserved - before > 68 * most && reserved - before < 88 * most, "{}", reserved - before);
+    assert!(reserved - before > 52 * most && reserved - before < 72 * most, "{}", reserved - before);
     for _ in 0..2 {
         for value in 0..most as u64 {
             timers.start(1 + value, value).unwrap();
@@ -25,7 +25,7 @@ fn make_room() {
     }
 }
 
-/// A timer that comes and goes adds nothing: 500,000 would be 28 MB, and 8 MB of values.
+/// A timer that comes and goes adds nothing: 500,000 would be 20 MB, and 8 MB of values.
 fn use_places_again() {
     let mut timers = Timers::new().unwrap();
     for value in 0..1000 {
@@ -40,7 +40,7 @@ fn use_places_again() {
     assert!(mapped() < before + (1 << 20), "{} bytes were added", mapped() - before);
 }
 
-/// What is dropped or replaced gives its memory back: 60 times 8 MB would be 480 MB.
+/// What is dropped or replaced gives its memory back: 60 times 5 MB would be 300 MB.
 fn free_what_is_dropped() {
     let before = mapped();
     let mut last = Timers::new().unwrap();
