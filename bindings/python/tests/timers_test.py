@@ -304,19 +304,19 @@ def mapped():
 
 
 def make_room():
-    """Room for 100,000 timers is 5.6 MB. While fewer are held, nothing is added to it."""
+    """Room for 100,000 timers is 4 MB. While fewer are held, nothing is added to it."""
     most, before = 100000, mapped()
     with Timers() as timers:
         timers.reserve(most)
         reserved = mapped()
-        assert 52 * most < reserved - before < 72 * most, reserved - before
+        assert 36 * most < reserved - before < 56 * most, reserved - before
         for number in range(most):
             timers.start(1 + number, None)
         assert mapped() < reserved + 2**21 and len(timers) == most
 
 
 def free_what_is_closed():
-    """What is closed, forgotten or made anew gives its memory back, once: 12 times 5.6 MB would be 67 MB for each kind."""
+    """What is closed, forgotten or made anew gives its memory back, once: 12 times 4 MB would be 48 MB for each kind."""
     before = mapped()
     for round_of in range(60):
         timers = Timers()
