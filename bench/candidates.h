@@ -3,6 +3,7 @@
 // and how many timers an owner may have. The first row is the reference. A peer that this
 // machine lacks is left out.
 CANDIDATE_ROW(run_ref_hier, "ref-hier", ANY, true, 0, MANY)
+CANDIDATE_ROW(run_ref_calls, "ref-calls", ANY, true, 0, MANY)
 CANDIDATE_ROW(run_ref_apart, "ref-apart", ANY, true, 0, MANY)
 CANDIDATE_ROW(run_ref_hash_64k, "ref-hash-64k", TICK_BY_TICK, true, 65536, MANY)
 #ifdef WITH_RUST

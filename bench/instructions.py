@@ -29,7 +29,7 @@ ROWS = (
     "start,stop,restart,quiet-1k,churn-1k,push-back-1k,expire-1000,expire-log20,expire-log30,expire-log40,steady-1M,"
     "burst-1000,burst-5000"
 )
-CANDIDATES = ["timers-hier", "timers-c", "ref-hier", "ref-apart", "tokio-wheel"]
+CANDIDATES = ["timers-hier", "timers-c", "ref-hier", "ref-calls", "ref-apart", "tokio-wheel"]
 MOST = 0.03  # how far a row may be from that of the page
 
 

@@ -25,7 +25,7 @@ SHORT = (
 )
 # The runs of build/bench: its length and repeats, and the workloads. A quiet tick takes nanoseconds, so it needs many.
 DRIVEN = [("0.3", "5", SHORT), ("8", "5", "quiet-1k,quiet-100k,quiet-1M"), ("0.3", "3", "steady-10M")]
-COLUMNS = ["timers-hier", "timers-c", "ref-apart", "tokio-wheel", "libuv", "timers-hash-64k", "ref-hash-64k"]
+COLUMNS = ["timers-hier", "timers-c", "ref-calls", "ref-apart", "tokio-wheel", "libuv", "timers-hash-64k", "ref-hash-64k"]
 SCRIPTS = {
     "instructions": ["instructions.py"],
     "programs": ["programs.py", TIMERS, "--runs", "60"],
