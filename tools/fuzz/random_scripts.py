@@ -68,7 +68,8 @@ class Script:
         if self.chance.random() < 0.02:
             c = self.chance.choice([2, MOST - 1, MOST, LAST])
         word = self.chance.choices(list(REQUESTS), REQUESTS.values())[0]
-        self.add(word, client=c, number=self.number(client), serial=self.old(client), interval=self.interval(), action=self.chance.randint(0, 9))
+        number, action = self.number(client), self.chance.randint(0, 9)
+        self.add(word, client=c, number=number, serial=self.old(client), interval=self.interval(), action=action)
         if "interval" in FIELDS[word]:
             client.serials.append(self.serial)
             self.serial += 1
