@@ -534,7 +534,7 @@ def name_what_is_refused():
     for wrong in (len(last_ticks), 2**32 - 1):
         assert refused(Timers, wrong) == NO_TABLE
     for table, last in enumerate(last_ticks):
-        assert refused(Timers, table, last + 1) == TOO_LATE
+        assert refused(Timers, table, last + 1) == TOO_LATE and Timers(table, last).now() == last
     assert set(module.__all__) | {"asyncio", "desk"} >= {name for name in vars(module) if not name.startswith("_")}
 
 
