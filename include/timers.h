@@ -58,9 +58,8 @@
  *     The clock never goes back. A real time that does, and so is before timers_now, is no error for
  *     timers_advance_to and timers_take: they pass no tick then.
  *
- *     The clock of TIMERS_WIDE has ticks for 36 million years of milliseconds. That of TIMERS_CLOCK ends after 8,640,000
- *     ticks: 100 days of seconds, 2.4 hours of milliseconds. That of TIMERS_SMALL ends after 16,777,216: 4.6 hours of
- *     milliseconds. Before that, free the timers, make them again at tick 0 and start what is left.
+ *     The clock of TIMERS_WIDE has ticks for 36 million years of milliseconds. That of another table may end soon
+ *     (TIMERS_LAST_OF). Before that, free the timers, make them again at tick 0 and start what is left.
  *
  *     The functions were proved, and then translated into C. Each meets the contract that the sources state for it
  *     (crates/timer_c/src/exports.rt), for every call that keeps the rules below. Nothing checks that a caller keeps
@@ -68,16 +67,16 @@
  *     nobody wants, and has timers_set_allocator and timers_message.
  *
  * COSTS
- *     The timers are in arrays, and each is in the bucket of a wheel. A bucket of the lowest wheel has one
- *     tick, one of the next wheel 64 ticks (of TIMERS_CLOCK 60, of TIMERS_SMALL 16), and so on. What each call takes time for,
- *     without the prefix timers_:
+ *     The timers are in arrays, and each is in the bucket of a wheel. A bucket of the lowest wheel has one tick. One of
+ *     the next wheel has a revolution: as many ticks as the lowest wheel has slots, 64 with TIMERS_WIDE. And so on. What
+ *     each call takes time for, without the prefix timers_:
  *
  *         start, start_at         constant; if the arrays are full, moves them
  *         restart, restart_at     constant
  *         set_at                  as restart_at if the handle names a timer, else as start_at
  *         stop, look, expire      constant
  *         expire_batch            each timer that it takes
- *         tick                    constant; at a multiple of 64 (60, 16), each timer of one bucket
+ *         tick                    constant; at a multiple of a revolution, each timer of one bucket
  *         advance, advance_to     each bucket with timers on the way; above the lowest wheel each timer in it
  *         take                    as advance_to
  *         clear                   each timer that is held, and the buckets
@@ -139,8 +138,8 @@
  *
  * PROOFS
  *     Of these costs two are proved. No start returns TIMERS_NO_MEMORY while fewer timers are held than
- *     timers_reserve made room for. And there are at most 9 moves for each start and restart. (With
- *     TIMERS_CLOCK there are at most 3, which is proved of the wheel and not of timers_counts.) The other
+ *     timers_reserve made room for. And there are at most 9 moves for each start and restart. (With fewer
+ *     wheels there are fewer, which is proved of the wheel and not of timers_counts.) The other
  *     costs are in no contract: they follow from the code. Tests count the allocations of each call, and what it
  *     runs with a thousand timers pending and with a million.
  *
@@ -323,8 +322,8 @@ enum timers_table {
 
 /* made by tools/facts: last ticks */
 #define TIMERS_LAST UINT64_C(1152921504606846975)   /* 2^60 - 1 */
-#define TIMERS_CLOCK_LAST UINT64_C(8639999)         /* day 99, 23:59:59 */
-#define TIMERS_SMALL_LAST UINT64_C(16777215)        /* 2^24 - 1 */
+#define TIMERS_CLOCK_LAST UINT64_C(8639999)         /* day 99, 23:59:59, or 2.4 hours of milliseconds */
+#define TIMERS_SMALL_LAST UINT64_C(16777215)        /* 2^24 - 1, or 4.6 hours of milliseconds */
 #define TIMERS_LAST_OF(table) \
 	((table) == TIMERS_CLOCK ? TIMERS_CLOCK_LAST : (table) == TIMERS_SMALL ? TIMERS_SMALL_LAST : TIMERS_LAST)
 #define TIMERS_TABLES 4                             /* how many tables there are: their numbers are less than this */
@@ -525,10 +524,9 @@ uint64_t timers_wakeup(const struct timers *t);
 
 /* The deadline of the timer that is taken next, exactly. It is the present tick if an expired timer waits to
  * be taken, and TIMERS_NEVER if nothing is pending or `t` is not open. Otherwise it is the first pending
- * deadline. Takes constant time if that comes before the next multiple of 64 ticks (of TIMERS_CLOCK 60, of
- * TIMERS_SMALL 16). So it does if the first deadline of its bucket is kept. Otherwise it walks the timers of that
- * bucket, and with TIMERS_SMOOTH of at most one in each wheel. Does not allocate. A loop that asks in each turn
- * calls timers_find_next. */
+ * deadline. Takes constant time if that comes before the next multiple of a revolution (COSTS). So it does if the
+ * first deadline of its bucket is kept. Otherwise it walks the timers of that bucket, and with TIMERS_SMOOTH of at
+ * most one in each wheel. Does not allocate. A loop that asks in each turn calls timers_find_next. */
 TIMERS_CALL
 uint64_t timers_next(const struct timers *t);
 
@@ -550,13 +548,12 @@ TIMERS_CALL
 uint64_t timers_move_ahead(struct timers *t, uint64_t most);
 
 /* Writes `*counts`, what the wheels have done since timers_new, at TIMERS_OK. `starts` counts each start and
- * restart that returned TIMERS_OK. `moves` is at most 9 times `starts` (of TIMERS_CLOCK 3, of TIMERS_SMALL 5
- * times). How many one call makes with TIMERS_SMOOTH is above, under WHICH TABLE, and there `visits` is always 0.
- * With the others `visits` counts one for each tick of timers_tick. Of timers_advance, timers_advance_to and
- * timers_take it counts one for each multiple of 64 ticks that is passed (of TIMERS_CLOCK 60, of TIMERS_SMALL 16).
- * It also counts their last tick if that is no such multiple and a timer expires there. A stop and taking expired
- * timers count nothing, and timers_clear changes no count. Constant time. Does not allocate.
- * TIMERS_NOT_OPEN. */
+ * restart that returned TIMERS_OK. `moves` is at most as many times `starts` as there are wheels above the lowest: 9
+ * times with TIMERS_WIDE. How many one call makes with TIMERS_SMOOTH is above, under WHICH TABLE, and there `visits`
+ * is always 0. With the others `visits` counts one for each tick of timers_tick. Of timers_advance,
+ * timers_advance_to and timers_take it counts one for each multiple of a revolution (COSTS) that is passed. It also
+ * counts their last tick if that is no such multiple and a timer expires there. A stop and taking expired timers
+ * count nothing, and timers_clear changes no count. Constant time. Does not allocate. TIMERS_NOT_OPEN. */
 TIMERS_CHECKED
 enum timers_status timers_counts(const struct timers *t, struct timers_counters *counts);
 

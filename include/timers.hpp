@@ -23,8 +23,8 @@
  *     timers.catch_up(std::chrono::steady_clock::now(), [](const auto &timer) { timer.action(); });
  *
  * An interval counts from `now`, the tick up to which the timers were advanced. Over a real clock that lags behind, so
- * start and restart do not compile there. The clock of TIMERS_CLOCK or TIMERS_SMALL is short: a real clock may be past
- * its end.
+ * start and restart do not compile there. The clock of a table other than TIMERS_WIDE may be short (TIMERS_LAST_OF): a
+ * real clock may be past its end.
  *
  * ACTIONS. An `Action` can be copied trivially, and has at most 8 bytes. It may be a pointer to an object or a
  * function, an index, an enum, or a lambda that captures one pointer. Its bytes are the action of C, so that it costs

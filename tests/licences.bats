@@ -61,7 +61,7 @@ lines_of() { tools/origins "$1" | awk '{ all += $3 } $1 ~ /^(core|std.*)$/ { the
     for file in timers.c program.c; do
         grep -xF "    origins    $(tools/origins "generated/$file" | paste -sd ,)" generated/PROVENANCE
     done
-    sed '/^\/\* The functions of timers.h, by hand/,$d' generated/timers.c > "$work/wheels.c"
+    sed '/^\/\* The functions of timers.h: /,$d' generated/timers.c > "$work/wheels.c"
     read -r theirs all <<< "$(lines_of "$work/wheels.c")"
     [ "$theirs" -gt 0 ]
     wheels=$((theirs * 100 / all + 1))

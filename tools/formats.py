@@ -1,4 +1,5 @@
 """What facts/ says, for the tools that need it. Run, it prints a header for tools/fuzz."""
+import math
 import os
 import re
 import tomllib
@@ -11,7 +12,12 @@ def facts(name):
         return tomllib.load(file)
 
 
-LIMITS, WORDS, SCHEMES, OPTIONS = facts("limits")["limits"], facts("words"), facts("schemes"), facts("options")
+LIMITS, WORDS, SCHEMES, OPTIONS, TABLES = facts("limits")["limits"], facts("words"), facts("schemes"), facts("options"), facts("tables")
+# The last tick of a table is a limit: LAST, or one of its own.
+for table, fact in TABLES.items():
+    last = math.prod(fact["radices"]) - 1
+    fact["last"] = "LAST" if last == LIMITS["LAST"] else f"LAST_OF_{table}"
+    LIMITS[fact["last"]] = last
 # A limit in a text: {NAME}, {NAME+1}, and {NAME,} or {NAME_} with that mark between thousands.
 NAMED = re.compile(r"\{(\w+?)([+-]\d+)?([,_]?)\}")
 

@@ -21,6 +21,11 @@ function partsOf(line) {
   return {word, ...Object.fromEntries(FIELDS[word].map((name, at) => [name, values[at]]))};
 }
 
+// What an answer says of timers, by its fields: whether one begins, and the serial of one that ends, or null.
+function isBegin({number, deadline}) { return number !== undefined && deadline !== undefined; }
+
+function endOf(said) { return said.old ?? (isBegin(said) ? null : said.serial ?? null); }
+
 function rowsOf(text) { return text.split("\n").slice(0, -1); }
 
 function linesOf(texts) { return ENGINE.bytesOf(texts.map((text) => `${text}\n`).join("")); }
@@ -83,12 +88,11 @@ class Cutter {
 
   note(answers, now) {
     for (const answer of answers) {
-      const {word, serial, old, deadline} = partsOf(answer);
-      if (["stopped", "expired", "returned"].includes(word)) this.deadlines.delete(serial);
-      if (word === "restarted") this.deadlines.delete(old);
-      if (word !== "started" && word !== "restarted") continue;
-      this.deadlines.set(serial, BigInt(deadline));
-      this.stops.add(this.scheme.nextStop(now, BigInt(deadline)), serial);
+      const said = partsOf(answer);
+      this.deadlines.delete(endOf(said));
+      if (!isBegin(said)) continue;
+      this.deadlines.set(said.serial, BigInt(said.deadline));
+      this.stops.add(this.scheme.nextStop(now, BigInt(said.deadline)), said.serial);
     }
   }
 
@@ -199,14 +203,14 @@ class Play {
 
   // An answer: a timer that begins or ends.
   hear(answer, step) {
-    const {word, client, serial, deadline, tick, old = null} = partsOf(answer);
+    const said = partsOf(answer);
+    const {word, client, serial, deadline, tick, old = null} = said;
     if (old !== null) this.finish(old, step, word, this.now(step), serial);
-    if (word === "started" || word === "restarted") {
+    if (isBegin(said)) {
       const {action} = partsOf(this.lines[this.steps[step - 1].line]);
       this.timers.set(serial, {serial, client, action, old, deadline: BigInt(deadline), start: this.now(step), from: step,
         to: null, end: null, kind: null, by: null});
-    } else if (word === "expired") this.finish(serial, step, word, BigInt(tick));
-    else if (word === "stopped" || word === "returned") this.finish(serial, step, word, this.now(step));
+    } else this.finish(serial, step, word, tick ? BigInt(tick) : this.now(step));
   }
 
   finish(serial, step, kind, end, by = null) {
@@ -294,9 +298,8 @@ class Play {
   after(base, step) {
     const [before, now] = [this.now(step - 1), this.now(step)];
     const said = this.steps[step - 1].answers.map(partsOf);
-    const ended = new Set(said.map(({word, serial, old}) =>
-      (word === "restarted" ? old : ["stopped", "expired", "returned"].includes(word) ? serial : null)));
-    const asked = said.filter(({word}) => word === "started" || word === "restarted").map(({serial}) => serial);
+    const ended = new Set(said.map(endOf));
+    const asked = said.filter(isBegin).map(({serial}) => serial);
     const kept = new Map();
     for (const [key, list] of base.buckets) {
       const first = this.timers.get(serialOf(list[0])).deadline;
@@ -380,13 +383,12 @@ class Play {
 
   eventsOf(step) {
     const made = [];
-    for (const answer of this.steps[step - 1].answers) {
-      const {word, serial, old = null, tick} = partsOf(answer);
+    for (const said of this.steps[step - 1].answers.map(partsOf)) {
+      const {word, serial, old = null, tick} = said;
       const from = this.standing(old ?? serial, step - 1)?.key;
       if (old !== null) made.push({kind: word, serial: old, by: serial, from});
-      if (word === "started" || word === "restarted") made.push({kind: "started", serial, to: this.standing(serial, step)?.key});
-      else if (["expired", "stopped", "returned"].includes(word))
-        made.push({kind: word, serial, from, ...(word === "expired" ? {tick: BigInt(tick)} : {})});
+      if (isBegin(said)) made.push({kind: "started", serial, to: this.standing(serial, step)?.key});
+      else if (serial) made.push({kind: word, serial, from, ...(tick ? {tick: BigInt(tick)} : {})});
     }
     const state = this.state(step);
     for (const serial of state.changed ?? state.where.keys()) {
@@ -465,7 +467,8 @@ class Play {
     let number = 0n;
     for (const {line, answers} of this.steps.slice(0, step)) {
       const asked = partsOf(this.lines[line]);
-      const isTaken = answers.some((answer) => /^(started|stopped|restarted) |^refused .* (zero-interval|too-late|serials-spent|full|no-such)$/.test(answer));
+      const isTaken = answers.some((answer) => (answer.startsWith("refused ") ?
+          / (zero-interval|too-late|serials-spent|full|no-such)$/.test(answer) : partsOf(answer).number === asked.number));
       if (asked.client === client && isTaken) number = BigInt(asked.number);
     }
     return number + 1n;

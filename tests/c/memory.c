@@ -4,7 +4,7 @@
 #include <stdlib.h>
 #include <string.h>
 
-#include <timers.h>
+#include "tables.h"
 
 static size_t held;     /* the bytes of all blocks */
 static int failed;
@@ -58,9 +58,10 @@ static void is_within(const char *what, size_t timers, size_t got, size_t least,
 	}
 }
 
-/* The buckets take `buckets` bytes at first, and `more` with the first timer. From 1,000 timers on each takes 40 to 82. */
-static void grow(uint32_t table, size_t buckets, size_t more, size_t most)
+/* From 1,000 timers on each takes 40 to 82 bytes, beside what the table takes. */
+static void grow(uint32_t table, size_t most)
 {
+	const size_t buckets = TABLES[table].buckets, more = TABLES[table].more;
 	struct timers t = TIMERS_INIT;
 	struct timers_handle handle;
 	if (timers_new(&t, table, 0) != TIMERS_OK)
@@ -83,27 +84,22 @@ static void grow(uint32_t table, size_t buckets, size_t more, size_t most)
 }
 
 /* With room each timer takes 40 bytes, beside the buckets. */
-static void reserve(uint32_t table, size_t buckets, size_t most)
+static void reserve(uint32_t table, size_t most)
 {
 	struct timers t = TIMERS_INIT;
 	if (timers_new(&t, table, 0) != TIMERS_OK || timers_reserve(&t, most) != TIMERS_OK)
 		exit(2);
-	is_within("reserve", most, held, 40 * most, 40 * most + 2 * buckets);
+	is_within("reserve", most, held, 40 * most, 40 * most + 2 * TABLES[table].buckets);
 	timers_free(&t);
 }
 
 int main(void)
 {
 	static const size_t rooms[] = { 1, 10, 100, 1000, 10000, 100000 };
-	grow(TIMERS_WIDE, 15300, 5300, ((size_t)1 << 21) + 1);
-	grow(TIMERS_CLOCK, 6100, 2200, 300000);
-	grow(TIMERS_SMOOTH, 10700, 10500, 300000);
-	grow(TIMERS_SMALL, 2700, 1000, 300000);
-	for (size_t i = 0; i < sizeof rooms / sizeof *rooms; i++) {
-		reserve(TIMERS_WIDE, 15300, rooms[i]);
-		reserve(TIMERS_CLOCK, 6100, rooms[i]);
-		reserve(TIMERS_SMOOTH, 10700, rooms[i]);
-		reserve(TIMERS_SMALL, 2700, rooms[i]);
+	for (uint32_t table = 0; table < TIMERS_TABLES; table++) {
+		grow(table, table == TIMERS_WIDE ? ((size_t)1 << 21) + 1 : 300000);
+		for (size_t i = 0; i < sizeof rooms / sizeof *rooms; i++)
+			reserve(table, rooms[i]);
 	}
 	printf(failed ? "it is not as the header says\n" : "the timers take what the header says\n");
 	return failed;

@@ -4,7 +4,7 @@
 #include <stdio.h>
 #include <sys/mman.h>
 
-#include <timers.h>
+#include "tables.h"
 
 enum { HEAD = 64, NO_ADDRESSES = 77 };
 
@@ -34,13 +34,21 @@ static int is(enum timers_status wanted, enum timers_status got)
 	return got == wanted;
 }
 
-/* The wheels of a table have so many buckets, and one more for what is due. */
-static int reaches(uint32_t table, uint64_t buckets)
+/* The wheels of a table have so many buckets, and there is one more for what is due. */
+static uint64_t buckets_of(uint32_t table)
+{
+	uint64_t slots = 0;
+	for (int wheel = 0; wheel < 10; wheel++)
+		slots += TABLES[table].radices[wheel];
+	return TABLES[table].revolutions * slots + 1;
+}
+
+static int reaches(uint32_t table)
 {
 	struct timers t = TIMERS_INIT;
 	struct timers_handle handle;
 	struct timers_expired out;
-	const size_t most = (size_t)((UINT64_C(1) << 32) - buckets - 1);
+	const size_t most = (size_t)((UINT64_C(1) << 32) - buckets_of(table));
 	int done = is(TIMERS_OK, timers_new(&t, table, 0));
 	done = done && is(TIMERS_NO_MEMORY, timers_reserve(&t, most + 1));
 	done = done && is(TIMERS_OK, timers_reserve(&t, most));
@@ -53,7 +61,7 @@ static int reaches(uint32_t table, uint64_t buckets)
 int main(void)
 {
 	int done = is(TIMERS_OK, timers_set_allocator(map, NULL, unmap));
-	done = done && reaches(TIMERS_WIDE, 10 * 64) && reaches(TIMERS_CLOCK, 60 + 60 + 24 + 100)
-	       && reaches(TIMERS_SMOOTH, 10 * 128) && reaches(TIMERS_SMALL, 6 * 16);
+	for (uint32_t table = 0; table < TIMERS_TABLES; table++)
+		done = done && reaches(table);
 	return done ? 0 : refused ? NO_ADDRESSES : 1;
 }

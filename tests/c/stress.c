@@ -11,7 +11,7 @@
 #include <stdlib.h>
 #include <string.h>
 
-#include <timers.h>
+#include "tables.h"
 
 static uint64_t refused, refused_before, allocations;
 #ifdef REFUSE
@@ -77,11 +77,12 @@ static uint64_t most_of_tick(void) { return 2 * held_most / 63 + 18; }
 
 static void set_units(uint32_t table)
 {
-	static const uint64_t clock_units[] = { 86400, 3600, 60, 1 };
-	const uint64_t bits = table == TIMERS_SMALL ? 4 : 6;
-	wheels = table == TIMERS_CLOCK ? 4 : table == TIMERS_SMALL ? 6 : 10;
-	for (uint64_t i = 0; i < wheels; i++)
-		units[i] = table == TIMERS_CLOCK ? clock_units[i] : UINT64_C(1) << (bits * (wheels - 1 - i));
+	const uint64_t *radices = TABLES[table].radices;
+	for (wheels = 0; wheels < 10 && radices[wheels] > 0;)
+		wheels++;
+	units[wheels - 1] = 1;
+	for (uint64_t i = wheels - 1; i > 0; i--)
+		units[i - 1] = units[i] * radices[wheels - 1 - i];
 }
 
 /* How often a timer has moved by now. Its bucket in a wheel is emptied at its deadline, rounded down to the unit of that

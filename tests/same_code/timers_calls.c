@@ -276,11 +276,13 @@ static void make_expire_batch(void)
 	     TIMER(out[5]), TIMER(out[6]), TIMER(out[7]));
 }
 
+/* made by tools/facts: reads */
 static void make_has_due(void) { TOLD(timers_has_due, timers_has_due(t)); }
 static void make_now(void) { TOLD(timers_now, timers_now(t)); }
 static void make_len(void) { TOLD(timers_len, timers_len(t)); }
 static void make_wakeup(void) { TOLD(timers_wakeup, timers_wakeup(t)); }
 static void make_next(void) { TOLD(timers_next, timers_next(t)); }
+/* by hand */
 static void make_find_next(void) { TOLD(timers_find_next, timers_find_next(t)); }
 static void make_version(void) { TOLD(timers_version, timers_version()); }
 
@@ -337,8 +339,13 @@ static const struct step STEPS[] = {
 	{ make_reserve, 1 }, { make_start, 30 }, { make_start_at, 20 }, { make_restart, 20 }, { make_restart_at, 20 },
 	{ make_set_at, 20 }, { make_stop, 10 }, { make_look, 5 }, { make_each, 5 }, { make_tick, 20 },
 	{ make_advance, 10 }, { make_advance_to, 5 }, { make_take, 10 }, { make_expire, 5 }, { make_expire_batch, 5 },
-	{ make_has_due, 2 }, { make_now, 2 }, { make_len, 2 }, { make_wakeup, 5 }, { make_next, 5 },
 	{ make_find_next, 5 }, { make_move_ahead, 5 }, { make_counts, 2 }, { make_version, 1 },
+	/* made by tools/facts: steps of reads */
+	{ make_has_due, 4 },
+	{ make_now, 4 },
+	{ make_len, 4 },
+	{ make_wakeup, 4 },
+	{ make_next, 4 },
 };
 
 void call_timers(uint64_t length)

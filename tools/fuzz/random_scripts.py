@@ -20,6 +20,10 @@ LAST, TICKS, MOST = (LIMITS[name] for name in ("LAST", "MAX_TICKS", "MAX_CLIENTS
 # Numbers at which something changes.
 EDGES = [0, 1, 2, 59, 60, 63, 64, 65, 3599, 3600, 4095, 4096, 4097, 86400, 262144, TICKS, TICKS + 1]
 EDGES += [LIMITS["LAST_OF_CLOCK"], LAST - 1, LAST]
+# The words of requests, with how often each is made, of other lines with a number, and of those that are made seldom.
+REQUESTS = {word: 0.23 if "serial" in FIELDS[word] else 0.55 for word in WORDS["script"] if "client" in FIELDS[word]}
+OTHERS = [word for word in WORDS["script"] if FIELDS[word] and word not in REQUESTS]
+SELDOM = [word for word in WORDS["script"] if not FIELDS[word]]
 
 
 class Client:
@@ -55,21 +59,20 @@ class Script:
             return self.chance.choice([0, self.serial, max(0, self.serial - 1), *EDGES])
         return self.chance.choice(client.serials[-20:])
 
+    def add(self, word, **values):
+        self.lines.append(" ".join([word, *(str(values[name]) for name in FIELDS[word])]))
+
     def request(self):
         c = self.chance.randrange(len(self.clients))
         client = self.clients[c]
         if self.chance.random() < 0.02:
             c = self.chance.choice([2, MOST - 1, MOST, LAST])
-        number, kind = self.number(client), self.chance.random()
-        if kind < 0.55:
-            self.lines.append(f"start {c} {number} {self.interval()} {self.chance.randint(0, 9)}")
-        elif kind < 0.75:
-            self.lines.append(f"stop {c} {number} {self.old(client)}")
-            return
-        else:
-            self.lines.append(f"restart {c} {number} {self.old(client)} {self.interval()} {self.chance.randint(0, 9)}")
-        client.serials.append(self.serial)
-        self.serial += 1
+        word = self.chance.choices(list(REQUESTS), REQUESTS.values())[0]
+        number, action = self.number(client), self.chance.randint(0, 9)
+        self.add(word, client=c, number=number, serial=self.old(client), interval=self.interval(), action=action)
+        if "interval" in FIELDS[word]:
+            client.serials.append(self.serial)
+            self.serial += 1
 
     def text(self):
         length = self.chance.choice([3, 10, 40, 200, 1500])
@@ -78,9 +81,9 @@ class Script:
             if kind < 0.8:
                 self.request()
             elif kind < 0.999:
-                self.lines.append(f"tick {min(TICKS, max(1, self.interval()))}")
+                self.add(self.chance.choice(OTHERS), count=min(TICKS, max(1, self.interval())))
             else:
-                self.lines.append("close")
+                self.add(self.chance.choice(SELDOM))
         if self.chance.random() < 0.1:
             at = self.chance.randrange(len(self.lines))
             self.lines[at] = self.spoiled(self.lines[at])

@@ -2,7 +2,7 @@
 import re
 from dataclasses import dataclass
 
-from formats import OPTIONS, SCHEMES
+from formats import OPTIONS, SCHEMES, TABLES
 
 HANDS = SCHEMES["clock"]["hands"]
 
@@ -48,6 +48,5 @@ def scheme_of(options):
     """The scheme that these options of show name."""
     given = dict(zip(options, options[1:])) | dict(word.split("=", 1) for word in options if "=" in word)
     name = given.get("--scheme", OPTIONS["play"]["scheme"]["default"])
-    if name == "clock":
-        return Scheme(name, hierarchy(SCHEMES["clock"]["radices"], HANDS))
-    return Scheme(name, hierarchy(SCHEMES["hier"]["radices"], [f"wheel {k}" for k in range(10)]))
+    radices = TABLES[SCHEMES[name].get("table", "WIDE")]["radices"]
+    return Scheme(name, hierarchy(radices, HANDS if name == "clock" else [f"wheel {k}" for k in range(len(radices))]))

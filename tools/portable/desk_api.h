@@ -1,4 +1,4 @@
-/* The functions of timers_desk.h, as those of timers.h above. By hand. */
+/* The functions of timers_desk.h, as those of timers.h above. */
 #define STATUS (enum timers_desk_status)
 
 /* Turns what callers may read of lines, the client, and may set in a desk, the lives. The calls that use them do so before
@@ -39,36 +39,6 @@ enum timers_desk_status timers_desk_new(struct timers_desk *d, struct timers_lin
 	status = tm_timers_desk_new(BYTES(d), BYTES(lines), clients, BYTES(config));
 	turn_desk(d, lines, clients);
 	return STATUS status;
-}
-
-void timers_desk_free(struct timers_desk *d)
-{
-	tm_timers_desk_free(BYTES(d));
-}
-
-enum timers_desk_status timers_desk_serve(struct timers_desk *d, size_t client)
-{
-	return STATUS tm_timers_desk_serve(BYTES(d), client);
-}
-
-enum timers_desk_status timers_desk_serve_all(struct timers_desk *d, uint64_t most)
-{
-	return STATUS tm_timers_desk_serve_all(BYTES(d), most);
-}
-
-bool timers_desk_flush_all(struct timers_desk *d)
-{
-	return tm_timers_desk_flush_all(BYTES(d));
-}
-
-size_t timers_desk_flush(struct timers_desk *d, size_t client)
-{
-	return (size_t)tm_timers_desk_flush(BYTES(d), client);
-}
-
-enum timers_desk_status timers_desk_tick(struct timers_desk *d)
-{
-	return STATUS tm_timers_desk_tick(BYTES(d));
 }
 
 enum timers_desk_status timers_desk_advance(struct timers_desk *d, uint64_t most, uint64_t *passed)
@@ -129,46 +99,6 @@ enum timers_desk_status timers_desk_open(struct timers_desk *d, size_t client, s
 	return STATUS status;
 }
 
-enum timers_desk_status timers_desk_reserve(struct timers_desk *d)
-{
-	return STATUS tm_timers_desk_reserve(BYTES(d));
-}
-
-uint64_t timers_desk_now(const struct timers_desk *d)
-{
-	return tm_timers_desk_now(BYTES(d));
-}
-
-size_t timers_desk_len(const struct timers_desk *d)
-{
-	return (size_t)tm_timers_desk_len(BYTES(d));
-}
-
-size_t timers_desk_pending(const struct timers_desk *d, size_t client)
-{
-	return (size_t)tm_timers_desk_pending(BYTES(d), client);
-}
-
-uint64_t timers_desk_wakeup(const struct timers_desk *d)
-{
-	return tm_timers_desk_wakeup(BYTES(d));
-}
-
-uint64_t timers_desk_next(const struct timers_desk *d)
-{
-	return tm_timers_desk_next(BYTES(d));
-}
-
-bool timers_desk_line_freed(struct timers_desk *d, size_t client)
-{
-	return tm_timers_desk_line_freed(BYTES(d), client);
-}
-
-size_t timers_desk_outbox(const struct timers_desk *d, size_t client)
-{
-	return (size_t)tm_timers_desk_outbox(BYTES(d), client);
-}
-
 enum timers_desk_status timers_line_start(struct timers_line *line, uint64_t interval, uint64_t action, uint64_t *number)
 {
 	return desk_answered(tm_timers_line_start(BYTES(line), interval, action, BYTES(number)), number);
@@ -196,6 +126,27 @@ enum timers_desk_status timers_line_restart_at(struct timers_line *line, struct 
 	return desk_answered(tm_timers_line_restart_at(BYTES(line), handle.place, handle.serial, deadline, action, BYTES(number)), number);
 }
 
+/* made by tools/facts: calls of desks that pass numbers on */
+void timers_desk_free(struct timers_desk *d) { tm_timers_desk_free(BYTES(d)); }
+enum timers_desk_status timers_desk_serve(struct timers_desk *d, size_t client) { return STATUS tm_timers_desk_serve(BYTES(d), client); }
+enum timers_desk_status timers_desk_serve_all(struct timers_desk *d, uint64_t most) { return STATUS tm_timers_desk_serve_all(BYTES(d), most); }
+bool timers_desk_flush_all(struct timers_desk *d) { return tm_timers_desk_flush_all(BYTES(d)); }
+size_t timers_desk_flush(struct timers_desk *d, size_t client) { return (size_t)tm_timers_desk_flush(BYTES(d), client); }
+enum timers_desk_status timers_desk_tick(struct timers_desk *d) { return STATUS tm_timers_desk_tick(BYTES(d)); }
+enum timers_desk_status timers_desk_reserve(struct timers_desk *d) { return STATUS tm_timers_desk_reserve(BYTES(d)); }
+uint64_t timers_desk_now(const struct timers_desk *d) { return tm_timers_desk_now(BYTES(d)); }
+size_t timers_desk_len(const struct timers_desk *d) { return (size_t)tm_timers_desk_len(BYTES(d)); }
+size_t timers_desk_pending(const struct timers_desk *d, size_t client) { return (size_t)tm_timers_desk_pending(BYTES(d), client); }
+uint64_t timers_desk_wakeup(const struct timers_desk *d) { return tm_timers_desk_wakeup(BYTES(d)); }
+uint64_t timers_desk_next(const struct timers_desk *d) { return tm_timers_desk_next(BYTES(d)); }
+bool timers_desk_line_freed(struct timers_desk *d, size_t client) { return tm_timers_desk_line_freed(BYTES(d), client); }
+size_t timers_desk_outbox(const struct timers_desk *d, size_t client) { return (size_t)tm_timers_desk_outbox(BYTES(d), client); }
+enum timers_desk_status timers_line_finish(struct timers_line *line) { return STATUS tm_timers_line_finish(BYTES(line)); }
+bool timers_line_ended(const struct timers_line *line) { return tm_timers_line_ended(BYTES(line)); }
+bool timers_line_abandoned(struct timers_line *line) { return tm_timers_line_abandoned(BYTES(line)); }
+void timers_line_free(struct timers_line *line) { tm_timers_line_free(BYTES(line)); }
+
+/* by hand */
 bool timers_line_receive(struct timers_line *line, struct timers_word *word)
 {
 	const bool received = tm_timers_line_receive(BYTES(line), BYTES(word));
@@ -208,24 +159,4 @@ bool timers_line_receive(struct timers_line *line, struct timers_word *word)
 	}
 #endif
 	return received;
-}
-
-enum timers_desk_status timers_line_finish(struct timers_line *line)
-{
-	return STATUS tm_timers_line_finish(BYTES(line));
-}
-
-bool timers_line_ended(const struct timers_line *line)
-{
-	return tm_timers_line_ended(BYTES(line));
-}
-
-bool timers_line_abandoned(struct timers_line *line)
-{
-	return tm_timers_line_abandoned(BYTES(line));
-}
-
-void timers_line_free(struct timers_line *line)
-{
-	tm_timers_line_free(BYTES(line));
 }

@@ -1,4 +1,4 @@
-/* The functions of timers.h, by hand: NULL where nobody wants an answer, and structs in the byte order of the processor. */
+/* The functions of timers.h: NULL where nobody wants an answer, and structs in the byte order of the processor. */
 
 /* The translated code keeps numbers little-endian in memory on each platform. On a big-endian one this turns `n` of 64 bits. */
 INLINE void turn(void *numbers, size_t n)
@@ -65,16 +65,6 @@ void timers_free(struct timers *t)
 {
 	if (t != NULL)
 		tm_timers_free(BYTES(t));
-}
-
-void timers_clear(struct timers *t)
-{
-	tm_timers_clear(BYTES(t));
-}
-
-enum timers_status timers_reserve(struct timers *t, size_t most)
-{
-	return (enum timers_status)tm_timers_reserve(BYTES(t), most);
 }
 
 enum timers_status timers_start(struct timers *t, uint64_t interval, uint64_t action, struct timers_handle *handle)
@@ -150,21 +140,11 @@ bool timers_each(const struct timers *t, uint64_t *cursor, struct timers_handle 
 	return taken(found, out, &timer);
 }
 
-enum timers_status timers_tick(struct timers *t)
-{
-	return (enum timers_status)tm_timers_tick(BYTES(t));
-}
-
 enum timers_status timers_advance(struct timers *t, uint64_t most, uint64_t *passed)
 {
 	uint64_t ticks;
 
 	return answered(tm_timers_advance(BYTES(t), most, BYTES(&ticks)), passed, &ticks, 1);
-}
-
-enum timers_status timers_advance_to(struct timers *t, uint64_t tick)
-{
-	return (enum timers_status)tm_timers_advance_to(BYTES(t), tick);
 }
 
 bool timers_take(struct timers *t, uint64_t tick, struct timers_expired *out)
@@ -189,49 +169,24 @@ size_t timers_expire_batch(struct timers *t, struct timers_expired *out, size_t 
 	return count;
 }
 
-bool timers_has_due(const struct timers *t)
-{
-	return tm_timers_has_due(BYTES(t));
-}
+/* made by tools/facts: calls that pass numbers on */
+void timers_clear(struct timers *t) { tm_timers_clear(BYTES(t)); }
+enum timers_status timers_reserve(struct timers *t, size_t most) { return (enum timers_status)tm_timers_reserve(BYTES(t), most); }
+enum timers_status timers_tick(struct timers *t) { return (enum timers_status)tm_timers_tick(BYTES(t)); }
+enum timers_status timers_advance_to(struct timers *t, uint64_t tick) { return (enum timers_status)tm_timers_advance_to(BYTES(t), tick); }
+bool timers_has_due(const struct timers *t) { return tm_timers_has_due(BYTES(t)); }
+uint64_t timers_now(const struct timers *t) { return tm_timers_now(BYTES(t)); }
+size_t timers_len(const struct timers *t) { return (size_t)tm_timers_len(BYTES(t)); }
+uint64_t timers_wakeup(const struct timers *t) { return tm_timers_wakeup(BYTES(t)); }
+uint64_t timers_next(const struct timers *t) { return tm_timers_next(BYTES(t)); }
+uint64_t timers_find_next(struct timers *t) { return tm_timers_find_next(BYTES(t)); }
+uint64_t timers_move_ahead(struct timers *t, uint64_t most) { return tm_timers_move_ahead(BYTES(t), most); }
+uint32_t timers_version(void) { return tm_timers_version(); }
 
-uint64_t timers_now(const struct timers *t)
-{
-	return tm_timers_now(BYTES(t));
-}
-
-size_t timers_len(const struct timers *t)
-{
-	return (size_t)tm_timers_len(BYTES(t));
-}
-
-uint64_t timers_wakeup(const struct timers *t)
-{
-	return tm_timers_wakeup(BYTES(t));
-}
-
-uint64_t timers_next(const struct timers *t)
-{
-	return tm_timers_next(BYTES(t));
-}
-
-uint64_t timers_find_next(struct timers *t)
-{
-	return tm_timers_find_next(BYTES(t));
-}
-
-uint64_t timers_move_ahead(struct timers *t, uint64_t most)
-{
-	return tm_timers_move_ahead(BYTES(t), most);
-}
-
+/* by hand */
 enum timers_status timers_counts(const struct timers *t, struct timers_counters *counts)
 {
 	struct timers_counters counted;
 
 	return answered(tm_timers_counts(BYTES(t), BYTES(&counted)), counts, &counted, 3);
-}
-
-uint32_t timers_version(void)
-{
-	return tm_timers_version();
 }

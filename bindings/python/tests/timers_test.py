@@ -10,8 +10,8 @@ import tracemalloc
 import weakref
 
 import timers as module
-from timers import (CLOCK, CLOCK_END, CLOCK_LAST, DUE, LAST, NO_MEMORY, NO_TABLE, NOT_OPEN, NOT_PENDING, OK, SMALL, SMALL_LAST, SMOOTH,
-                    TOO_LATE, WIDE, ZERO_INTERVAL, Handle, Timers, TimersError, desk)
+from timers import (CLOCK, CLOCK_END, CLOCK_LAST, DUE, LAST, NO_MEMORY, NO_TABLE, NOT_OPEN, NOT_PENDING, OK, SMOOTH, TOO_LATE,
+                    WIDE, ZERO_INTERVAL, Handle, Timers, TimersError, desk)
 
 try:
     import _testcapi
@@ -364,7 +364,7 @@ def take_whole_numbers():
     timers.advance_to(Number(8639993))
     timers.catch_up(Number(8639994), print)
     assert refused(timers.catch_up, Number(last + 1), print) == TOO_LATE and timers.now() == 8639994
-    for wrong in ((4, 0), (CLOCK, last + 1)):
+    for wrong in ((99, 0), (CLOCK, last + 1)):
         assert refused(timers.__init__, *wrong) != OK and len(timers) == 1  # and it keeps what it has
     place, serial = handle.place, handle.serial
     same, others = Handle(place, serial), (Handle(place, 9), Handle(9, serial), (place, serial))
@@ -527,10 +527,14 @@ def name_what_is_refused():
     for kind in (TimersError, desk.DeskError):
         assert raises(TypeError, kind) and raises(TypeError, kind, 1, 2) and raises(TypeError, kind, "x")
         assert raises(OverflowError, kind, -1) and raises(TypeError, lambda kind=kind: kind(status=1))
-    for wrong, status in ((4, NO_TABLE), (2**32 - 1, NO_TABLE)):
-        assert refused(Timers, wrong) == status
-    for table, last in ((WIDE, LAST), (CLOCK, CLOCK_LAST), (SMOOTH, LAST), (SMALL, SMALL_LAST)):
-        assert refused(Timers, table, last + 1) == TOO_LATE
+    last_ticks = [
+        # made by tools/facts: last ticks of tables in Python
+        module.LAST, module.CLOCK_LAST, module.LAST, module.SMALL_LAST,
+    ]
+    for wrong in (len(last_ticks), 2**32 - 1):
+        assert refused(Timers, wrong) == NO_TABLE
+    for table, last in enumerate(last_ticks):
+        assert refused(Timers, table, last + 1) == TOO_LATE and Timers(table, last).now() == last
     assert set(module.__all__) | {"asyncio", "desk"} >= {name for name in vars(module) if not name.startswith("_")}
 
 

@@ -21,7 +21,7 @@ pub static SHOW_USAGE: &str = "timers show [OPTIONS] < FILE";
 
 pub static PLAY_ABOUT: &str = "Plays the script on standard input and writes one line per result";
 
-/// The text below the help of the program.
+/// The text below the help of the program. tools/facts writes its list of lines.
 pub static SCRIPTS: &str = "\
 With no arguments, `timers` is `timers play`.
 

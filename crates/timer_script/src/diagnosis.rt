@@ -17,13 +17,14 @@ use crate::line_fault::{Field, LineFault, LineReason};
 use crate::lines::{MAX_TICKS, read_line};
 use timer_base::LAST;
 
-/// The fields of a start.
+// made by tools/facts: fields of lines
+/// The fields of `start`.
 static START: [Field; 4] = [Field::Client, Field::Number, Field::Interval, Field::Action];
 
-/// The fields of a stop.
+/// The fields of `stop`.
 static STOP: [Field; 3] = [Field::Client, Field::Number, Field::Serial];
 
-/// The fields of a restart.
+/// The fields of `restart`.
 static RESTART: [Field; 5] = [
     Field::Client,
     Field::Number,
@@ -32,12 +33,13 @@ static RESTART: [Field; 5] = [
     Field::Action,
 ];
 
-/// The field of ticks.
+/// The fields of `tick`.
 static TICK: [Field; 1] = [Field::Count];
 
-/// The fields of a close.
+/// The fields of `close`.
 static CLOSE: [Field; 0] = [];
 
+// by hand
 /// What is wrong with a line, of which the bytes have the line feed too. Nothing if they are the line
 /// of an event.
 ///
@@ -95,6 +97,7 @@ fn fields_of(word: &[u8]) -> Option<&'static [Field]>
     ensures none { result ≡ None → ¬ (IsWord word.now) }
 {
     match word {
+        // made by tools/facts: words of lines
         b"start" => Some(&START),
         b"stop" => Some(&STOP),
         b"restart" => Some(&RESTART),
@@ -144,6 +147,7 @@ fn known_len(line: &[u8]) -> usize
     ensures within { result ≤ length line.now }
     ensures letters { AreBefore IsLetter line.now result }
 {
+    // made by tools/facts: known words
     common_len(line, b"start")
         .max(common_len(line, b"stop"))
         .max(common_len(line, b"restart"))
