@@ -699,17 +699,19 @@ static const ALIGN(1) byte tp_static_48[31] = { 83, 104, 111, 119, 32, 111, 110,
 	32, 99, 108, 105, 101, 110, 116 };
 static const ALIGN(1) byte tp_static_49[36] = { 83, 104, 111, 119, 32, 111, 110, 108, 121, 32, 116, 104, 101, 32, 116, 105, 109, 101, 114, 32, 119, 105, 116, 104,
 	32, 116, 104, 105, 115, 32, 115, 101, 114, 105, 97, 108 };
-static const ALIGN(1) byte tp_static_50[31] = { 83, 104, 111, 119, 32, 110, 111, 32, 116, 105, 109, 101, 114, 115, 32, 98, 101, 102, 111, 114, 101, 32, 116, 104,
-	105, 115, 32, 116, 105, 99, 107 };
-static const ALIGN(1) byte tp_static_51[30] = { 83, 104, 111, 119, 32, 110, 111, 32, 116, 105, 109, 101, 114, 115, 32, 97, 102, 116, 101, 114, 32, 116, 104, 105,
-	115, 32, 116, 105, 99, 107 };
+static const ALIGN(1) byte tp_static_50[53] = { 83, 104, 111, 119, 32, 111, 110, 108, 121, 32, 97, 110, 115, 119, 101, 114, 115, 32, 119, 104, 105, 108, 101, 32,
+	116, 104, 101, 32, 99, 108, 111, 99, 107, 32, 105, 115, 32, 98, 101, 102, 111, 114, 101, 32, 116, 104, 105, 115, 32,
+	116, 105, 99, 107 };
+static const ALIGN(1) byte tp_static_51[52] = { 83, 104, 111, 119, 32, 111, 110, 108, 121, 32, 97, 110, 115, 119, 101, 114, 115, 32, 119, 104, 105, 108, 101, 32,
+	116, 104, 101, 32, 99, 108, 111, 99, 107, 32, 105, 115, 32, 97, 102, 116, 101, 114, 32, 116, 104, 105, 115, 32, 116,
+	105, 99, 107 };
 static const ALIGN(1) byte tp_static_52[28] = { 116, 105, 109, 101, 114, 115, 32, 115, 104, 111, 119, 32, 91, 79, 80, 84, 73, 79, 78, 83, 93, 32, 60, 32, 70, 73, 76,
 	69 };
 static const ALIGN(1) byte tp_static_53[80] = { 65, 110, 115, 119, 101, 114, 115, 32, 108, 105, 110, 101, 115, 32, 97, 115, 32, 96, 115, 101, 114, 118, 101, 96, 32,
 	100, 111, 101, 115, 44, 32, 97, 110, 100, 32, 115, 104, 111, 119, 115, 32, 97, 102, 116, 101, 114, 32, 101, 97, 99,
 	104, 32, 119, 104, 101, 114, 101, 32, 116, 104, 101, 32, 112, 101, 110, 100, 105, 110, 103, 32, 116, 105, 109, 101,
 	114, 115, 32, 97, 114, 101 };
-static const ALIGN(1) byte tp_static_54[1867] = { 65, 32, 115, 116, 114, 101, 97, 109, 32, 97, 110, 100, 32, 105, 116, 115, 32, 97, 110, 115, 119, 101, 114, 115, 32,
+static const ALIGN(1) byte tp_static_54[1876] = { 65, 32, 115, 116, 114, 101, 97, 109, 32, 97, 110, 100, 32, 105, 116, 115, 32, 97, 110, 115, 119, 101, 114, 115, 32,
 	97, 114, 101, 32, 116, 104, 111, 115, 101, 32, 111, 102, 32, 96, 116, 105, 109, 101, 114, 115, 32, 115, 101, 114, 118,
 	101, 96, 46, 32, 65, 102, 116, 101, 114, 32, 116, 104, 101, 32, 97, 110, 115, 119, 101, 114, 115, 32, 116, 111, 32,
 	101, 97, 99, 104, 32, 108, 105, 110, 101, 32, 99, 111, 109, 101, 10, 105, 110, 100, 101, 110, 116, 101, 100, 32, 108,
@@ -764,24 +766,24 @@ static const ALIGN(1) byte tp_static_54[1867] = { 65, 32, 115, 116, 114, 101, 97
 	110, 108, 121, 32, 116, 105, 109, 101, 114, 115, 32, 116, 104, 97, 116, 32, 116, 104, 101, 32, 108, 105, 110, 101, 32,
 	115, 116, 97, 114, 116, 101, 100, 32, 111, 114, 32, 114, 101, 115, 116, 97, 114, 116, 101, 100, 10, 32, 32, 45, 45,
 	102, 114, 111, 109, 32, 54, 52, 32, 45, 45, 116, 111, 32, 49, 50, 56, 32, 32, 32, 32, 32, 32, 32, 32, 32, 32, 32, 32,
-	32, 32, 32, 32, 32, 32, 32, 110, 111, 116, 104, 105, 110, 103, 32, 97, 116, 32, 116, 105, 99, 107, 115, 32, 98, 101,
-	102, 111, 114, 101, 32, 54, 52, 32, 97, 110, 100, 32, 97, 102, 116, 101, 114, 32, 49, 50, 56, 10, 69, 97, 99, 104, 32,
-	111, 102, 32, 116, 104, 101, 109, 32, 100, 114, 111, 112, 115, 32, 115, 111, 109, 101, 32, 111, 102, 32, 119, 104, 97,
-	116, 32, 105, 115, 32, 115, 104, 111, 119, 110, 46, 32, 87, 105, 116, 104, 32, 96, 45, 45, 110, 101, 119, 32, 45, 45,
-	109, 111, 118, 101, 115, 96, 32, 101, 97, 99, 104, 32, 99, 104, 97, 110, 103, 101, 32, 105, 115, 32, 115, 104, 111,
-	119, 110, 32, 111, 110, 99, 101, 46, 10, 87, 104, 121, 32, 97, 32, 115, 116, 111, 112, 32, 111, 102, 32, 97, 32, 115,
-	99, 114, 105, 112, 116, 32, 119, 97, 115, 32, 96, 110, 111, 45, 115, 117, 99, 104, 96, 44, 32, 96, 116, 105, 109, 101,
-	114, 115, 32, 99, 104, 101, 99, 107, 32, 45, 45, 119, 104, 121, 96, 32, 115, 97, 121, 115, 46, 10, 87, 105, 116, 104,
-	111, 117, 116, 32, 116, 104, 101, 32, 108, 105, 110, 101, 115, 32, 116, 104, 97, 116, 32, 98, 101, 103, 105, 110, 32,
-	119, 105, 116, 104, 32, 97, 32, 115, 112, 97, 99, 101, 32, 116, 104, 101, 32, 111, 117, 116, 112, 117, 116, 32, 105,
-	115, 32, 116, 104, 97, 116, 32, 111, 102, 32, 96, 116, 105, 109, 101, 114, 115, 32, 115, 101, 114, 118, 101, 96, 58,
-	10, 32, 32, 116, 105, 109, 101, 114, 115, 32, 115, 104, 111, 119, 32, 60, 32, 115, 99, 114, 105, 112, 116, 32, 124,
-	32, 103, 114, 101, 112, 32, 45, 118, 32, 39, 94, 32, 39, 10, 10, 69, 114, 114, 111, 114, 115, 32, 97, 110, 100, 32,
-	101, 120, 105, 116, 32, 115, 116, 97, 116, 117, 115, 101, 115, 32, 97, 114, 101, 32, 116, 104, 111, 115, 101, 32, 111,
-	102, 32, 96, 116, 105, 109, 101, 114, 115, 32, 115, 101, 114, 118, 101, 96, 46, 32, 100, 111, 99, 115, 47, 119, 97,
-	108, 107, 116, 104, 114, 111, 117, 103, 104, 115, 46, 109, 100, 32, 102, 111, 108, 108, 111, 119, 115, 32, 116, 105,
-	109, 101, 114, 115, 10, 102, 114, 111, 109, 32, 98, 117, 99, 107, 101, 116, 32, 116, 111, 32, 98, 117, 99, 107, 101,
-	116, 46 };
+	32, 32, 32, 32, 32, 32, 32, 110, 111, 116, 104, 105, 110, 103, 32, 119, 104, 105, 108, 101, 32, 116, 104, 101, 32, 99,
+	108, 111, 99, 107, 32, 105, 115, 32, 98, 101, 102, 111, 114, 101, 32, 54, 52, 32, 111, 114, 32, 97, 102, 116, 101,
+	114, 32, 49, 50, 56, 10, 69, 97, 99, 104, 32, 111, 102, 32, 116, 104, 101, 109, 32, 100, 114, 111, 112, 115, 32, 115,
+	111, 109, 101, 32, 111, 102, 32, 119, 104, 97, 116, 32, 105, 115, 32, 115, 104, 111, 119, 110, 46, 32, 87, 105, 116,
+	104, 32, 96, 45, 45, 110, 101, 119, 32, 45, 45, 109, 111, 118, 101, 115, 96, 32, 101, 97, 99, 104, 32, 99, 104, 97,
+	110, 103, 101, 32, 105, 115, 32, 115, 104, 111, 119, 110, 32, 111, 110, 99, 101, 46, 10, 87, 104, 121, 32, 97, 32,
+	115, 116, 111, 112, 32, 111, 102, 32, 97, 32, 115, 99, 114, 105, 112, 116, 32, 119, 97, 115, 32, 96, 110, 111, 45,
+	115, 117, 99, 104, 96, 44, 32, 96, 116, 105, 109, 101, 114, 115, 32, 99, 104, 101, 99, 107, 32, 45, 45, 119, 104, 121,
+	96, 32, 115, 97, 121, 115, 46, 10, 87, 105, 116, 104, 111, 117, 116, 32, 116, 104, 101, 32, 108, 105, 110, 101, 115,
+	32, 116, 104, 97, 116, 32, 98, 101, 103, 105, 110, 32, 119, 105, 116, 104, 32, 97, 32, 115, 112, 97, 99, 101, 32, 116,
+	104, 101, 32, 111, 117, 116, 112, 117, 116, 32, 105, 115, 32, 116, 104, 97, 116, 32, 111, 102, 32, 96, 116, 105, 109,
+	101, 114, 115, 32, 115, 101, 114, 118, 101, 96, 58, 10, 32, 32, 116, 105, 109, 101, 114, 115, 32, 115, 104, 111, 119,
+	32, 60, 32, 115, 99, 114, 105, 112, 116, 32, 124, 32, 103, 114, 101, 112, 32, 45, 118, 32, 39, 94, 32, 39, 10, 10, 69,
+	114, 114, 111, 114, 115, 32, 97, 110, 100, 32, 101, 120, 105, 116, 32, 115, 116, 97, 116, 117, 115, 101, 115, 32, 97,
+	114, 101, 32, 116, 104, 111, 115, 101, 32, 111, 102, 32, 96, 116, 105, 109, 101, 114, 115, 32, 115, 101, 114, 118,
+	101, 96, 46, 32, 100, 111, 99, 115, 47, 119, 97, 108, 107, 116, 104, 114, 111, 117, 103, 104, 115, 46, 109, 100, 32,
+	102, 111, 108, 108, 111, 119, 115, 32, 116, 105, 109, 101, 114, 115, 10, 102, 114, 111, 109, 32, 98, 117, 99, 107,
+	101, 116, 32, 116, 111, 32, 98, 117, 99, 107, 101, 116, 46 };
 static const ALIGN(1) byte tp_static_55[6] = { 99, 111, 117, 110, 116, 115 };
 static const ALIGN(1) byte tp_static_56[5] = { 109, 111, 118, 101, 115 };
 static const ALIGN(1) byte tp_static_57[3] = { 110, 101, 119 };
@@ -3368,7 +3370,7 @@ L1:
 					memset(p42, 0, 608);
 					memset(p43, 0, 608);
 					memset(p44, 0, 608);
-					tp_arguments_playing_command(p37, (byte *)tp_static_11, 4, (byte *)tp_static_52, 28, (byte *)tp_static_53, 80, (byte *)tp_static_54, 1867);
+					tp_arguments_playing_command(p37, (byte *)tp_static_11, 4, (byte *)tp_static_52, 28, (byte *)tp_static_53, 80, (byte *)tp_static_54, 1876);
 					if (load8(p37) == 0) {
 						storeptru(p38, (byte *)tp_static_55);
 						store64u(p38 + 8, 6);
@@ -3603,7 +3605,7 @@ L1:
 											store64u(p43 + 8, 4);
 											store64u(p43 + 16, 1);
 											storeptru(p43 + 24, (byte *)tp_static_50);
-											store64u(p43 + 32, 31);
+											store64u(p43 + 32, 53);
 											memset(p43 + 40, 0, 32);
 											store64u(p43 + 72, 1);
 											storeptru(p43 + 80, (byte *)tp_static_62);
@@ -3650,7 +3652,7 @@ L1:
 												store64u(p44 + 8, 2);
 												store64u(p44 + 16, 1);
 												storeptru(p44 + 24, (byte *)tp_static_51);
-												store64u(p44 + 32, 30);
+												store64u(p44 + 32, 52);
 												memset(p44 + 40, 0, 32);
 												store64u(p44 + 72, 1);
 												storeptru(p44 + 80, (byte *)tp_static_63);
@@ -61083,102 +61085,133 @@ static void tp_HierWheel_with_table(byte *p1, uint8_t n2, uint64_t n3)
 	ALIGN(8) byte p7[16];
 	ALIGN(8) byte p8[24];
 	ALIGN(8) byte p9[80];
-	ALIGN(8) byte p10[16];
-	ALIGN(1) byte p11[39];
-	ALIGN(8) byte p12[16];
-	ALIGN(8) byte p13[24];
-	uint64_t n14, n15, n16;
-	memset(p6, 0, 39);
-	memset(p7, 0, 16);
-	memset(p8, 0, 24);
-	memset(p9, 0, 80);
-	memset(p10, 0, 16);
+	ALIGN(8) byte p10[32];
+	uint64_t n11, n16, n17, n19, n20, n22, n23;
+	uint8_t n12, n13, n14;
+	byte *p15, *p18, *p21;
 	if (n2 == 0) {
-		n14 = UINT64_C(1152921504606846975);
+		n11 = UINT64_C(1152921504606846975);
 	} else {
-		n14 = 8639999;
+		n11 = 8639999;
 	}
-	if (n14 < n3) {
-		store8(p1, 1);
-		store8(p1 + 1, 1);
-		memset(p1 + 8, 0, 272);
+	if (n11 < n3) {
+		memset(p6, 0, 39);
+		memset(p7, 0, 16);
+		memset(p8, 0, 24);
+		memset(p9, 0, 80);
+		memset(p10, 0, 32);
+		n12 = 1;
+		n13 = 1;
+		n14 = 0;
+		p15 = NULL;
+		n16 = 0;
+		n17 = 0;
+		p18 = NULL;
+		n19 = 0;
+		n20 = 0;
+		p21 = NULL;
+		n22 = 0;
+		n23 = 0;
+	} else {
+		uint64_t n24, n25;
+		memset(p4, 0, 128);
+		memset(p5, 0, 7);
+		if (n2 == 0) {
+			n24 = 640;
+			n25 = UINT64_C(1152921504606846975);
+		} else {
+			n24 = 244;
+			n25 = 8639999;
+		}
+		tp_Buckets_new(p4, n24, n25, n3);
+		if (load8(p4) == 0) {
+			byte *p26 = loadptru(p4 + 40);
+			uint64_t n27 = load64u(p4 + 48);
+			uint64_t n28 = load64u(p4 + 56);
+			byte *p29 = loadptru(p4 + 80);
+			uint64_t n30 = load64u(p4 + 88);
+			uint64_t n31 = load64u(p4 + 96);
+			of_i64_i64 s32 = rattle_alloc(n24 << 4, 8);
+			if ((s32.f0 & 1) != 0) {
+				byte *p33 = (byte *)(uintptr_t)s32.f1;
+				uint64_t n34 = n24 - 1;
+				uint64_t n35 = 0;
+				while (n35 != n34) {
+					byte *p36 = inside(p33, n35 << 4);
+					store32u(p36, 1);
+					store32u(p36 + 4, 0);
+					store64u(p36 + 8, 0);
+					n35 = n35 + 1;
+				}
+				byte *p37 = inside(p33, n34 << 4);
+				store32u(p37, 1);
+				store32u(p37 + 4, 0);
+				store64u(p37 + 8, 0);
+				memcpy(p5 + 7, p4 + 8, 32);
+				memcpy(p6, p5, 39);
+				memcpy(p7, p4 + 64, 16);
+				memcpy(p8, p4 + 104, 24);
+				memset(p9, 0, 80);
+				memset(p10, 0, 32);
+				n12 = 0;
+				n13 = 0;
+				n14 = n2;
+				p15 = p26;
+				n16 = n27;
+				n17 = n28;
+				p18 = p29;
+				n19 = n30;
+				n20 = n31;
+				p21 = p33;
+				n22 = n24;
+				n23 = n3;
+				goto L1;
+			}
+			if (n28 != 0)
+				rattle_dealloc(p26);
+			if (n31 != 0)
+				rattle_dealloc(p29);
+		}
+		memset(p6, 0, 39);
+		memset(p7, 0, 16);
+		memset(p8, 0, 24);
+		memset(p9, 0, 80);
+		memset(p10, 0, 32);
+		n12 = 1;
+		n13 = 2;
+		n14 = 0;
+		p15 = NULL;
+		n16 = 0;
+		n17 = 0;
+		p18 = NULL;
+		n19 = 0;
+		n20 = 0;
+		p21 = NULL;
+		n22 = 0;
+		n23 = 0;
+	}
+L1:
+	{
+		store8(p1, n12);
+		store8(p1 + 1, n13);
+		store8(p1 + 8, n14);
+		memcpy(p1 + 9, p6, 39);
+		storeptru(p1 + 48, p15);
+		store64u(p1 + 56, n16);
+		store64u(p1 + 64, n17);
+		memcpy(p1 + 72, p7, 16);
+		storeptru(p1 + 88, p18);
+		store64u(p1 + 96, n19);
+		store64u(p1 + 104, n20);
+		memcpy(p1 + 112, p8, 24);
+		memcpy(p1 + 136, p9, 80);
+		storeptru(p1 + 216, p21);
+		store64u(p1 + 224, n22);
+		store64u(p1 + 232, n22);
+		memcpy(p1 + 240, p10, 32);
+		store64u(p1 + 272, n23);
 		return;
 	}
-	memset(p4, 0, 128);
-	memset(p5, 0, 7);
-	if (n2 == 0) {
-		n15 = 640;
-		n16 = UINT64_C(1152921504606846975);
-	} else {
-		n15 = 244;
-		n16 = 8639999;
-	}
-	tp_Buckets_new(p4, n15, n16, n3);
-	if (load8(p4) == 0) {
-		byte *p17 = loadptru(p4 + 40);
-		uint64_t n18 = load64u(p4 + 48);
-		uint64_t n19 = load64u(p4 + 56);
-		byte *p20 = loadptru(p4 + 80);
-		uint64_t n21 = load64u(p4 + 88);
-		uint64_t n22 = load64u(p4 + 96);
-		of_i64_i64 s23 = rattle_alloc(n15 << 4, 8);
-		if ((s23.f0 & 1) != 0) {
-			byte *p24 = (byte *)(uintptr_t)s23.f1;
-			uint64_t n25 = n15 - 1;
-			uint64_t n26 = 0;
-			while (n26 != n25) {
-				byte *p27 = inside(p24, n26 << 4);
-				store32u(p27, 1);
-				store32u(p27 + 4, 0);
-				store64u(p27 + 8, 0);
-				n26 = n26 + 1;
-			}
-			byte *p28 = inside(p24, n25 << 4);
-			store32u(p28, 1);
-			store32u(p28 + 4, 0);
-			store64u(p28 + 8, 0);
-			memcpy(p5 + 7, p4 + 8, 32);
-			memcpy(p11, p5, 39);
-			memcpy(p12, p4 + 64, 16);
-			memcpy(p13, p4 + 104, 24);
-			store8(p1, 0);
-			store8(p1 + 1, 0);
-			store8(p1 + 8, n2);
-			memcpy(p1 + 9, p11, 39);
-			storeptru(p1 + 48, p17);
-			store64u(p1 + 56, n18);
-			store64u(p1 + 64, n19);
-			memcpy(p1 + 72, p12, 16);
-			storeptru(p1 + 88, p20);
-			store64u(p1 + 96, n21);
-			store64u(p1 + 104, n22);
-			memcpy(p1 + 112, p13, 24);
-			memset(p1 + 136, 0, 80);
-			storeptru(p1 + 216, p24);
-			store64u(p1 + 224, n15);
-			store64u(p1 + 232, n15);
-			memset(p1 + 240, 0, 32);
-			store64u(p1 + 272, n3);
-			return;
-		}
-		if (n19 != 0)
-			rattle_dealloc(p17);
-		if (n22 != 0)
-			rattle_dealloc(p20);
-	}
-	store8(p1, 1);
-	store8(p1 + 1, 2);
-	store8(p1 + 8, 0);
-	memcpy(p1 + 9, p6, 39);
-	memset(p1 + 48, 0, 24);
-	memcpy(p1 + 72, p7, 16);
-	memset(p1 + 88, 0, 24);
-	memcpy(p1 + 112, p8, 24);
-	memcpy(p1 + 136, p9, 80);
-	memset(p1 + 216, 0, 24);
-	memcpy(p1 + 240, p10, 16);
-	memset(p1 + 256, 0, 24);
-	return;
 }
 
 /* timer_facility::facility::Facility::makes_timer: crates/timer_facility/src/facility.rt */
@@ -61296,61 +61329,6 @@ static bool tp_Facility_makes_timer(byte *p1, uint64_t n2, uint64_t n3, byte *p4
 		UNREACHABLE();
 	}
 	}
-}
-
-/* timer_wheels::table::bucket_of: crates/timer_wheels/src/table.rt */
-static uint64_t tp_table_bucket_of(uint8_t n1, uint64_t n2, uint64_t n3)
-{
-	uint64_t n11, n12, n13;
-	switch (MOSTLY_0(n1)) {
-	case 0: {
-		uint32_t n4 = (((uint32_t)ctlz64(n2 ^ n3) ^ 63) * 43) >> 8;
-		if (n4 == 0)
-			return n3 & 63;
-		return ((n3 >> ((uint64_t)(n4 * 6) & 63)) & 63) | (uint64_t)(n4 << 6);
-	}
-	case 1: {
-		uint32_t n8;
-		uint32_t n5 = (uint32_t)n3;
-		uint32_t n6 = (uint32_t)n2;
-		uint32_t n7 = n5 / 60;
-		if ((n6 / 60) == n7) {
-			n8 = n5 % 60;
-		} else {
-			uint32_t n9 = n5 / 3600;
-			if ((n6 / 3600) == n9) {
-				n8 = (n7 % 60) + 60;
-			} else {
-				uint32_t n10 = n5 / 86400;
-				if ((n6 / 86400) == n10) {
-					n8 = (n9 % 24) + 120;
-				} else {
-					n8 = n10 + 144;
-				}
-			}
-		}
-		return (uint64_t)n8;
-	}
-	case 2: {
-		n11 = n3;
-		n12 = n2;
-		n13 = 0;
-		break;
-	}
-	default: {
-		UNREACHABLE();
-	}
-	}
-	for (;;) {
-		uint64_t n14 = n12 >> 4;
-		uint64_t n15 = n11 >> 4;
-		if (n14 == n15)
-			break;
-		n11 = n15;
-		n12 = n14;
-		n13 = n13 + 16;
-	}
-	return n13 | (n11 & 15);
 }
 
 /* std_alloc::vec::Vec::grow_amortized */
@@ -61746,7 +61724,7 @@ static NOINLINE uint8_t tp_timer_script_script_run_answer_start(byte *p1, uint64
 	ALIGN(8) byte p13[40];
 	uint64_t n16;
 	byte *p17;
-	uint8_t n108, n109;
+	uint8_t n118, n119;
 	store64(p13, 0);
 	store64u(p13 + 8, n4);
 	store64u(p13 + 16, n5);
@@ -61780,8 +61758,8 @@ static NOINLINE uint8_t tp_timer_script_script_run_answer_start(byte *p1, uint64
 			p17 = (byte *)tp_static_238;
 		} else {
 			if (n20 >= n3) {
-				uint8_t n21, n52, n53;
-				uint64_t n51, n54;
+				uint8_t n21, n62, n63;
+				uint64_t n61, n64;
 				if (n4 == 0) {
 					n21 = 0;
 				} else {
@@ -61823,251 +61801,304 @@ static NOINLINE uint8_t tp_timer_script_script_run_answer_start(byte *p1, uint64
 								store8(p12, n35);
 								bool b36 = n22 < n34;
 								if (b36) {
-									uint64_t n37 = tp_table_bucket_of(n35, n22, n34);
-									n38 = n37;
+									uint64_t n44, n45, n46;
+									switch (MOSTLY_0(n35)) {
+									case 0: {
+										uint32_t n37 = (((uint32_t)ctlz64(n22 ^ n34) ^ 63) * 43) >> 8;
+										if (n37 == 0) {
+											n38 = n34 & 63;
+											goto L1;
+										}
+										n38 = ((n34 >> ((uint64_t)(n37 * 6) & 63)) & 63) | (uint64_t)(n37 << 6);
+										goto L1;
+									}
+									case 1: {
+										uint32_t n39 = (uint32_t)n34;
+										uint32_t n40 = (uint32_t)n22;
+										uint32_t n41 = n39 / 60;
+										if ((n40 / 60) == n41) {
+											n38 = (uint64_t)(n39 % 60);
+											goto L1;
+										}
+										uint32_t n42 = n39 / 3600;
+										if ((n40 / 3600) == n42) {
+											n38 = (uint64_t)((n41 % 60) + 60);
+											goto L1;
+										}
+										uint32_t n43 = n39 / 86400;
+										if ((n40 / 86400) == n43) {
+											n38 = (uint64_t)((n42 % 24) + 120);
+											goto L1;
+										}
+										n38 = (uint64_t)(n43 + 144);
+										goto L1;
+									}
+									case 2: {
+										n44 = n34;
+										n45 = n22;
+										n46 = 0;
+										break;
+									}
+									default: {
+										UNREACHABLE();
+									}
+									}
+									for (;;) {
+										uint64_t n47 = n45 >> 4;
+										uint64_t n48 = n44 >> 4;
+										if (n47 == n48)
+											break;
+										n44 = n48;
+										n45 = n47;
+										n46 = n46 + 16;
+									}
+									n38 = n46 | (n44 & 15);
 								} else {
 									n38 = n25;
 								}
-								if (load64(p1 + 72) >= load64(p1 + 120)) {
-									uint8_t n39 = tp_links_make_ready(p1 + 40, p1 + 80, n27, load64(p1 + 112));
-									if ((n39 & 1) != 0)
-										return 1;
-									store64(p1 + 120, umin64(load64(p1 + 88) - n27, load64(p1 + 56)));
+L1:
+								{
+									if (load64(p1 + 72) >= load64(p1 + 120)) {
+										uint8_t n49 = tp_links_make_ready(p1 + 40, p1 + 80, n27, load64(p1 + 112));
+										if ((n49 & 1) != 0)
+											return 1;
+										store64(p1 + 120, umin64(load64(p1 + 88) - n27, load64(p1 + 56)));
+									}
+									store64u(p11, n23);
+									store64u(p11 + 8, n2);
+									store64u(p11 + 16, n3);
+									store64u(p11 + 24, n34);
+									store64u(p11 + 32, n5);
+									uint64_t n50 = tp_Slab_insert_reserved(p1 + 40, p11);
+									uint64_t n51 = load64(p1 + 104) + n50;
+									byte *p52 = loadptr(p1 + 80);
+									byte *p53 = inside(p52, n38 << 3);
+									uint32_t n54 = load32(p53);
+									uint32_t n55 = (uint32_t)n51;
+									store32(inside(p52, (uint64_t)n54 << 3) + 4, n55);
+									byte *p56 = inside(p52, n51 << 3);
+									store32(p56, n54);
+									store32(p56 + 4, (uint32_t)n38);
+									store32(p53, n55);
+									store64(p1 + 24, n23);
+									if (b36) {
+										byte *p57 = inside(p1 + 128, (n38 >> 3) & 536870904);
+										store64(p57, load64(p57) | ((uint64_t)1 << (n38 & 63)));
+										tp_Firsts_enter(p1 + 208, p12, p1 + 40, n38, n34);
+									}
+									store64(p1 + 248, load64(p1 + 248) + 1);
+									store64(p1 + 288, load64(p1 + 288) + 1);
+									byte *p58 = inside(p1 + 808, n18);
+									store64(p58, load64(p58) + 1);
+									store64(p19, n3 + 1);
+									uint64_t n59 = load64(p1 + 1368);
+									byte *p60 = inside(loadptr(p1 + 1360), n59 << 4);
+									store64u(p60, n50);
+									store64u(p60 + 8, n23);
+									store64(p1 + 1368, n59 + 1);
+									n61 = n34;
+									n62 = 0;
+									n63 = 0;
+									n64 = n23;
+									goto L2;
 								}
-								store64u(p11, n23);
-								store64u(p11 + 8, n2);
-								store64u(p11 + 16, n3);
-								store64u(p11 + 24, n34);
-								store64u(p11 + 32, n5);
-								uint64_t n40 = tp_Slab_insert_reserved(p1 + 40, p11);
-								uint64_t n41 = load64(p1 + 104) + n40;
-								byte *p42 = loadptr(p1 + 80);
-								byte *p43 = inside(p42, n38 << 3);
-								uint32_t n44 = load32(p43);
-								uint32_t n45 = (uint32_t)n41;
-								store32(inside(p42, (uint64_t)n44 << 3) + 4, n45);
-								byte *p46 = inside(p42, n41 << 3);
-								store32(p46, n44);
-								store32(p46 + 4, (uint32_t)n38);
-								store32(p43, n45);
-								store64(p1 + 24, n23);
-								if (b36) {
-									byte *p47 = inside(p1 + 128, (n38 >> 3) & 536870904);
-									store64(p47, load64(p47) | ((uint64_t)1 << (n38 & 63)));
-									tp_Firsts_enter(p1 + 208, p12, p1 + 40, n38, n34);
-								}
-								store64(p1 + 248, load64(p1 + 248) + 1);
-								store64(p1 + 288, load64(p1 + 288) + 1);
-								byte *p48 = inside(p1 + 808, n18);
-								store64(p48, load64(p48) + 1);
-								store64(p19, n3 + 1);
-								uint64_t n49 = load64(p1 + 1368);
-								byte *p50 = inside(loadptr(p1 + 1360), n49 << 4);
-								store64u(p50, n40);
-								store64u(p50 + 8, n23);
-								store64(p1 + 1368, n49 + 1);
-								n51 = n34;
-								n52 = 0;
-								n53 = 0;
-								n54 = n23;
-								goto L1;
 							}
 							n21 = 3;
 						}
 					}
 				}
 				store64(p19, n3 + 1);
-				n51 = 0;
-				n52 = n21;
-				n53 = 3;
-				n54 = 0;
-L1:
+				n61 = 0;
+				n62 = n21;
+				n63 = 3;
+				n64 = 0;
+L2:
 				{
-					uint64_t n62;
-					uint8_t n104;
-					uint64_t n55 = load64(p1 + 64);
-					byte *p56 = loadptr(p1 + 80);
-					uint64_t n57 = load64(p1 + 104);
-					uint64_t n58 = (uint64_t)load32(at(p56, load64(p1 + 32) << 3) + 4);
-					uint64_t n59 = usub_sat64(n58, n57);
-					uint64_t n60 = 0;
-					uint64_t n61 = n58;
+					uint64_t n72;
+					uint8_t n114;
+					uint64_t n65 = load64(p1 + 64);
+					byte *p66 = loadptr(p1 + 80);
+					uint64_t n67 = load64(p1 + 104);
+					uint64_t n68 = (uint64_t)load32(at(p66, load64(p1 + 32) << 3) + 4);
+					uint64_t n69 = usub_sat64(n68, n67);
+					uint64_t n70 = 0;
+					uint64_t n71 = n68;
 					for (;;) {
-						if (n60 == n55) {
-							n62 = n55;
+						if (n70 == n65) {
+							n72 = n65;
 							break;
 						}
-						if (n57 > n61) {
-							n62 = n60;
+						if (n67 > n71) {
+							n72 = n70;
 							break;
 						}
-						uint64_t n63 = (uint64_t)load32(at(p56, (n57 + n59) << 3) + 4);
-						n59 = usub_sat64(n63, n57);
-						n60 = n60 + 1;
-						n61 = n63;
+						uint64_t n73 = (uint64_t)load32(at(p66, (n67 + n69) << 3) + 4);
+						n69 = usub_sat64(n73, n67);
+						n70 = n70 + 1;
+						n71 = n73;
 					}
-					if ((((n55 - n62) << 1) + 64) < load64(p1 + 1368))
+					if ((((n65 - n72) << 1) + 64) < load64(p1 + 1368))
 						tp_handles_sweep(p1 + 1360, p1);
 					memset(p10, 0, 16);
 					memset(p9, 0, 16);
-					if (n53 == 0) {
-						uint64_t n93;
+					if (n63 == 0) {
+						uint64_t n103;
 						store64(p8, n2);
 						store64(p8 + 8, n3);
-						store64(p8 + 16, n54);
-						store64(p8 + 24, n51);
+						store64(p8 + 16, n64);
+						store64(p8 + 24, n61);
 						memset(p7, 0, 117);
 						store8(p7 + 117, 10);
-						uint64_t n64 = 4;
-						uint64_t n65 = 117;
-						while (n64 != 0) {
-							uint64_t n77;
-							uint64_t n66 = n64 - 1;
-							uint64_t n67 = load64(inside(p8, n66 << 3));
-							uint64_t n68 = n65;
-							while (n67 > 9999) {
-								uint16_t n69 = (uint16_t)(n67 % 10000);
-								byte *p70 = inside((byte *)tp_static_242, (uint64_t)(uint16_t)((uint32_t)(uint16_t)(n69 % 100) << 1));
-								byte *p71 = at(p7, n68);
-								uint8_t n72 = load8(p70 + 1);
-								store8(at(p71, UINT64_C(18446744073709551614)), load8(p70));
-								store8(at(p71, UINT64_MAX), n72);
-								uint64_t n73 = n68 - 4;
-								byte *p74 = inside((byte *)tp_static_242, (uint64_t)(uint16_t)((uint32_t)(uint16_t)(n69 / 100) << 1));
-								uint8_t n75 = load8(p74 + 1);
-								store8(inside(p7, n73), load8(p74));
-								store8(at(p71, UINT64_C(18446744073709551613)), n75);
-								n67 = n67 / 10000;
-								n68 = n73;
+						uint64_t n74 = 4;
+						uint64_t n75 = 117;
+						while (n74 != 0) {
+							uint64_t n87;
+							uint64_t n76 = n74 - 1;
+							uint64_t n77 = load64(inside(p8, n76 << 3));
+							uint64_t n78 = n75;
+							while (n77 > 9999) {
+								uint16_t n79 = (uint16_t)(n77 % 10000);
+								byte *p80 = inside((byte *)tp_static_242, (uint64_t)(uint16_t)((uint32_t)(uint16_t)(n79 % 100) << 1));
+								byte *p81 = at(p7, n78);
+								uint8_t n82 = load8(p80 + 1);
+								store8(at(p81, UINT64_C(18446744073709551614)), load8(p80));
+								store8(at(p81, UINT64_MAX), n82);
+								uint64_t n83 = n78 - 4;
+								byte *p84 = inside((byte *)tp_static_242, (uint64_t)(uint16_t)((uint32_t)(uint16_t)(n79 / 100) << 1));
+								uint8_t n85 = load8(p84 + 1);
+								store8(inside(p7, n83), load8(p84));
+								store8(at(p81, UINT64_C(18446744073709551613)), n85);
+								n77 = n77 / 10000;
+								n78 = n83;
 							}
-							if (n67 < 100) {
-								if (n67 < 10) {
-									uint64_t n76 = n68 - 1;
-									store8(inside(p7, n76), (uint8_t)((uint8_t)n67 | 48));
-									n77 = n76;
+							if (n77 < 100) {
+								if (n77 < 10) {
+									uint64_t n86 = n78 - 1;
+									store8(inside(p7, n86), (uint8_t)((uint8_t)n77 | 48));
+									n87 = n86;
 								} else {
-									uint64_t n78 = n68 - 2;
-									byte *p79 = inside((byte *)tp_static_242, n67 << 1);
-									uint8_t n80 = load8(p79 + 1);
-									store8(inside(p7, n78), load8(p79));
-									store8(at(at(p7, n68), UINT64_MAX), n80);
-									n77 = n78;
+									uint64_t n88 = n78 - 2;
+									byte *p89 = inside((byte *)tp_static_242, n77 << 1);
+									uint8_t n90 = load8(p89 + 1);
+									store8(inside(p7, n88), load8(p89));
+									store8(at(at(p7, n78), UINT64_MAX), n90);
+									n87 = n88;
 								}
 							} else {
-								uint16_t n81 = (uint16_t)n67;
-								byte *p82 = inside((byte *)tp_static_242, (uint64_t)(uint16_t)((uint32_t)(uint16_t)(n81 % 100) << 1));
-								byte *p83 = at(p7, n68);
-								uint8_t n84 = load8(p82 + 1);
-								store8(at(p83, UINT64_C(18446744073709551614)), load8(p82));
-								store8(at(p83, UINT64_MAX), n84);
-								uint16_t n85 = (uint16_t)(n81 / 100);
-								if (n67 < 1000) {
-									uint64_t n86 = n68 - 3;
-									store8(inside(p7, n86), (uint8_t)((uint8_t)n85 | 48));
-									n77 = n86;
+								uint16_t n91 = (uint16_t)n77;
+								byte *p92 = inside((byte *)tp_static_242, (uint64_t)(uint16_t)((uint32_t)(uint16_t)(n91 % 100) << 1));
+								byte *p93 = at(p7, n78);
+								uint8_t n94 = load8(p92 + 1);
+								store8(at(p93, UINT64_C(18446744073709551614)), load8(p92));
+								store8(at(p93, UINT64_MAX), n94);
+								uint16_t n95 = (uint16_t)(n91 / 100);
+								if (n77 < 1000) {
+									uint64_t n96 = n78 - 3;
+									store8(inside(p7, n96), (uint8_t)((uint8_t)n95 | 48));
+									n87 = n96;
 								} else {
-									uint64_t n87 = n68 - 4;
-									byte *p88 = inside((byte *)tp_static_242, (uint64_t)(uint16_t)((uint32_t)n85 << 1));
-									uint8_t n89 = load8(p88 + 1);
-									store8(inside(p7, n87), load8(p88));
-									store8(at(p83, UINT64_C(18446744073709551613)), n89);
-									n77 = n87;
+									uint64_t n97 = n78 - 4;
+									byte *p98 = inside((byte *)tp_static_242, (uint64_t)(uint16_t)((uint32_t)n95 << 1));
+									uint8_t n99 = load8(p98 + 1);
+									store8(inside(p7, n97), load8(p98));
+									store8(at(p93, UINT64_C(18446744073709551613)), n99);
+									n87 = n97;
 								}
 							}
-							uint64_t n90 = n77 - 1;
-							store8(inside(p7, n90), 32);
-							n64 = n66;
-							n65 = n90;
+							uint64_t n100 = n87 - 1;
+							store8(inside(p7, n100), 32);
+							n74 = n76;
+							n75 = n100;
 						}
-						byte *p91 = at(at(p7, n65), UINT64_C(18446744073709551609));
-						uint64_t n92 = (uint64_t)(uintptr_t)p91;
-						if ((n92 - (uint64_t)(uintptr_t)(byte *)tp_static_228) >= 7) {
-							memcpy(p91, (byte *)tp_static_228, 7);
-							goto L2;
+						byte *p101 = at(at(p7, n75), UINT64_C(18446744073709551609));
+						uint64_t n102 = (uint64_t)(uintptr_t)p101;
+						if ((n102 - (uint64_t)(uintptr_t)(byte *)tp_static_228) >= 7) {
+							memcpy(p101, (byte *)tp_static_228, 7);
+							goto L3;
 						}
-						n93 = 0;
-						while (n93 != 7) {
-							store8(inside(p91, n93), load8(inside((byte *)tp_static_228, n93)));
-							n93 = n93 + 1;
+						n103 = 0;
+						while (n103 != 7) {
+							store8(inside(p101, n103), load8(inside((byte *)tp_static_228, n103)));
+							n103 = n103 + 1;
 						}
-L2:
+L3:
 						{
-							uint64_t n98, n99, n103;
-							uint8_t n100;
-							byte *p101, *p102;
-							uint64_t n94 = 125 - n65;
-							uint64_t n95 = load64(p6 + 16);
-							uint64_t n96 = load64(p6 + 8);
-							if (n94 > (n95 - n96)) {
-								bool b97 = tp_std_alloc_vec_Vec_grow_amortized_11(p6, n94);
-								if (!b97) {
-									n100 = 1;
-									goto L3;
+							uint64_t n108, n109, n113;
+							uint8_t n110;
+							byte *p111, *p112;
+							uint64_t n104 = 125 - n75;
+							uint64_t n105 = load64(p6 + 16);
+							uint64_t n106 = load64(p6 + 8);
+							if (n104 > (n105 - n106)) {
+								bool b107 = tp_std_alloc_vec_Vec_grow_amortized_11(p6, n104);
+								if (!b107) {
+									n110 = 1;
+									goto L4;
 								}
-								n98 = load64(p6 + 16);
-								n99 = load64(p6 + 8);
+								n108 = load64(p6 + 16);
+								n109 = load64(p6 + 8);
 							} else {
-								n98 = n95;
-								n99 = n96;
+								n108 = n105;
+								n109 = n106;
 							}
-							p101 = loadptr(p6);
-							p102 = at(p101, n99);
-							if (((uint64_t)(uintptr_t)p102 - n92) >= n94) {
-								memcpy(p102, p91, (size_t)n94);
-								goto L4;
+							p111 = loadptr(p6);
+							p112 = at(p111, n109);
+							if (((uint64_t)(uintptr_t)p112 - n102) >= n104) {
+								memcpy(p112, p101, (size_t)n104);
+								goto L5;
 							}
-							n103 = 0;
-							while (n103 != n94) {
-								store8(inside(p102, n103), load8(inside(p91, n103)));
-								n103 = n103 + 1;
+							n113 = 0;
+							while (n113 != n104) {
+								store8(inside(p112, n113), load8(inside(p101, n113)));
+								n113 = n113 + 1;
+							}
+L5:
+							{
+								storeptr(p6, p111);
+								store64(p6 + 8, n109 + n104);
+								store64(p6 + 16, n108);
+								n110 = 0;
 							}
 L4:
 							{
-								storeptr(p6, p101);
-								store64(p6 + 8, n99 + n94);
-								store64(p6 + 16, n98);
-								n100 = 0;
-							}
-L3:
-							{
-								n104 = n100;
+								n114 = n110;
 							}
 						}
 					} else {
-						uint64_t n105;
-						byte *p106;
+						uint64_t n115;
+						byte *p116;
 						store64(p9, n2);
 						store64(p9 + 8, n3);
-						switch (MOSTLY_0(n52)) {
+						switch (MOSTLY_0(n62)) {
 						case 0: {
-							n105 = 13;
-							p106 = (byte *)tp_static_231;
+							n115 = 13;
+							p116 = (byte *)tp_static_231;
 							break;
 						}
 						case 1: {
-							n105 = 8;
-							p106 = (byte *)tp_static_232;
+							n115 = 8;
+							p116 = (byte *)tp_static_232;
 							break;
 						}
 						case 2: {
-							n105 = 13;
-							p106 = (byte *)tp_static_233;
+							n115 = 13;
+							p116 = (byte *)tp_static_233;
 							break;
 						}
 						case 3: {
-							n105 = 4;
-							p106 = (byte *)tp_static_234;
+							n115 = 4;
+							p116 = (byte *)tp_static_234;
 							break;
 						}
 						default: {
 							UNREACHABLE();
 						}
 						}
-						uint8_t n107 = tp_text_push_refused(p6, (byte *)tp_static_221, 7, p9, 2, p106, n105);
-						n104 = n107;
+						uint8_t n117 = tp_text_push_refused(p6, (byte *)tp_static_221, 7, p9, 2, p116, n115);
+						n114 = n117;
 					}
-					n108 = n104;
-					goto L5;
+					n118 = n114;
+					goto L6;
 				}
 			}
 			store64(p10, n2);
@@ -62081,11 +62112,11 @@ L3:
 		n16 = 9;
 		p17 = (byte *)tp_static_236;
 	}
-	n109 = tp_text_push_refused(p6, (byte *)tp_static_221, 7, p10, 2, p17, n16);
-	n108 = n109;
-L5:
+	n119 = tp_text_push_refused(p6, (byte *)tp_static_221, 7, p10, 2, p17, n16);
+	n118 = n119;
+L6:
 	{
-		return n108;
+		return n118;
 	}
 }
 
@@ -62129,7 +62160,7 @@ static void tp_HierWheelWheel_stop(byte *p1, byte *p2, uint64_t n3, uint64_t n4)
 					byte *p18 = loadptr(p2 + 208);
 					uint64_t n19 = load64(p2 + 16);
 					if (n8 > n19) {
-						uint64_t n21, n22, n29, n30, n31;
+						uint64_t n21, n22, n27, n29, n30, n31;
 						switch (MOSTLY_0(load8(p2))) {
 						case 0: {
 							uint32_t n20 = (((uint32_t)ctlz64(n19 ^ n8) ^ 63) * 43) >> 8;
@@ -62140,28 +62171,23 @@ static void tp_HierWheelWheel_stop(byte *p1, byte *p2, uint64_t n3, uint64_t n4)
 							goto L2;
 						}
 						case 1: {
-							uint32_t n26;
 							uint32_t n23 = (uint32_t)n8;
 							uint32_t n24 = (uint32_t)n19;
 							uint32_t n25 = n23 / 60;
-							if ((n24 / 60) == n25) {
-								n26 = n23 % 60;
-							} else {
-								uint32_t n27 = n23 / 3600;
-								if ((n24 / 3600) == n27) {
-									n26 = (n25 % 60) + 60;
-								} else {
-									uint32_t n28 = n23 / 86400;
-									if ((n24 / 86400) == n28) {
-										n26 = (n27 % 24) + 120;
-									} else {
-										n26 = n28 + 144;
-									}
-								}
+							if ((n24 / 60) == n25)
+								goto L1;
+							uint32_t n26 = n23 / 3600;
+							if ((n24 / 3600) == n26) {
+								n27 = (uint64_t)((n25 % 60) + 60);
+								goto L3;
 							}
-							n21 = (uint64_t)n26;
-							n22 = 60;
-							goto L2;
+							uint32_t n28 = n23 / 86400;
+							if ((n24 / 86400) == n28) {
+								n27 = (uint64_t)((n26 % 24) + 120);
+								goto L3;
+							}
+							n27 = (uint64_t)(n28 + 144);
+							goto L3;
 						}
 						case 2: {
 							n29 = n8;
@@ -62186,14 +62212,18 @@ static void tp_HierWheelWheel_stop(byte *p1, byte *p2, uint64_t n3, uint64_t n4)
 						n22 = 16;
 L2:
 						{
-							if (n22 <= n21) {
-								byte *p34 = at(p18, n21 << 4);
-								if (load8(p34) == 1) {
-									if (n8 == load64(p34 + 8)) {
-										uint32_t n35 = usub_sat32(load32(p34 + 4), 1);
-										store32u(p34, 1);
-										store32u(p34 + 4, n35);
-									}
+							if (n22 > n21)
+								goto L1;
+							n27 = n21;
+						}
+L3:
+						{
+							byte *p34 = at(p18, n27 << 4);
+							if (load8(p34) == 1) {
+								if (n8 == load64(p34 + 8)) {
+									uint32_t n35 = usub_sat32(load32(p34 + 4), 1);
+									store32u(p34, 1);
+									store32u(p34 + 4, n35);
 								}
 							}
 						}
@@ -62206,7 +62236,7 @@ L1:
 					n37 = n8;
 					n38 = n9;
 					n39 = 1;
-					goto L3;
+					goto L4;
 				}
 			}
 		}
@@ -62216,7 +62246,7 @@ L1:
 	n37 = 0;
 	n38 = 0;
 	n39 = 0;
-L3:
+L4:
 	{
 		store64u(p1, n39);
 		store64u(p1 + 8, n36);
@@ -62551,7 +62581,7 @@ static void tp_Facility_take_restart(byte *p1, byte *p2, uint64_t n3, uint64_t n
 								uint64_t n14 = n12 + n8;
 								bool b15 = n12 < n14;
 								if (b15) {
-									uint64_t n24, n25, n26;
+									uint64_t n23, n24, n25;
 									switch (MOSTLY_0(load8(p2))) {
 									case 0: {
 										uint32_t n16 = (((uint32_t)ctlz64(n12 ^ n14) ^ 63) * 43) >> 8;
@@ -62563,32 +62593,30 @@ static void tp_Facility_take_restart(byte *p1, byte *p2, uint64_t n3, uint64_t n
 										goto L1;
 									}
 									case 1: {
-										uint32_t n21;
 										uint32_t n18 = (uint32_t)n14;
 										uint32_t n19 = (uint32_t)n12;
 										uint32_t n20 = n18 / 60;
 										if ((n19 / 60) == n20) {
-											n21 = n18 % 60;
-										} else {
-											uint32_t n22 = n18 / 3600;
-											if ((n19 / 3600) == n22) {
-												n21 = (n20 % 60) + 60;
-											} else {
-												uint32_t n23 = n18 / 86400;
-												if ((n19 / 86400) == n23) {
-													n21 = (n22 % 24) + 120;
-												} else {
-													n21 = n23 + 144;
-												}
-											}
+											n17 = (uint64_t)(n18 % 60);
+											goto L1;
 										}
-										n17 = (uint64_t)n21;
+										uint32_t n21 = n18 / 3600;
+										if ((n19 / 3600) == n21) {
+											n17 = (uint64_t)((n20 % 60) + 60);
+											goto L1;
+										}
+										uint32_t n22 = n18 / 86400;
+										if ((n19 / 86400) == n22) {
+											n17 = (uint64_t)((n21 % 24) + 120);
+											goto L1;
+										}
+										n17 = (uint64_t)(n22 + 144);
 										goto L1;
 									}
 									case 2: {
-										n24 = n14;
-										n25 = n12;
-										n26 = 0;
+										n23 = n14;
+										n24 = n12;
+										n25 = 0;
 										break;
 									}
 									default: {
@@ -62596,167 +62624,207 @@ static void tp_Facility_take_restart(byte *p1, byte *p2, uint64_t n3, uint64_t n
 									}
 									}
 									for (;;) {
-										uint64_t n27 = n25 >> 4;
-										uint64_t n28 = n24 >> 4;
-										if (n27 == n28)
+										uint64_t n26 = n24 >> 4;
+										uint64_t n27 = n23 >> 4;
+										if (n26 == n27)
 											break;
-										n24 = n28;
-										n25 = n27;
-										n26 = n26 + 16;
+										n23 = n27;
+										n24 = n26;
+										n25 = n25 + 16;
 									}
-									n17 = n26 | (n24 & 15);
+									n17 = n25 | (n23 & 15);
 								} else {
 									n17 = load64(p2 + 32);
 								}
 L1:
 								{
-									uint64_t n29 = load64u(p10 + 32);
+									uint64_t n28 = load64u(p10 + 32);
 									store64u(p10 + 8, n13);
 									store64u(p10 + 16, n3);
 									store64u(p10 + 24, n4);
 									store64u(p10 + 32, n14);
 									store64u(p10 + 40, n9);
-									uint64_t n30 = load64(p2 + 104) + n5;
-									byte *p31 = loadptr(p2 + 80);
-									byte *p32 = at(p31, n30 << 3);
-									uint32_t n33 = load32(p32);
-									uint32_t n34 = load32(p32 + 4);
-									uint64_t n35 = (uint64_t)n33;
-									store32(inside(p31, n35 << 3) + 4, n34);
-									store32(inside(p31, (uint64_t)n34 << 3), n33);
-									uint64_t n36 = n17 << 3;
-									byte *p37 = inside(p31, n36);
-									uint32_t n38 = load32(p37);
-									uint32_t n39 = (uint32_t)n30;
-									store32(inside(p31, (uint64_t)n38 << 3) + 4, n39);
-									store32(p32, n38);
-									store32(p32 + 4, (uint32_t)n17);
-									store32(p37, n39);
-									bool b40 = n33 == n34;
-									uint64_t n41 = b40 ? n35 : 0;
+									uint64_t n29 = load64(p2 + 104) + n5;
+									byte *p30 = loadptr(p2 + 80);
+									byte *p31 = at(p30, n29 << 3);
+									uint32_t n32 = load32(p31);
+									uint32_t n33 = load32(p31 + 4);
+									uint64_t n34 = (uint64_t)n32;
+									store32(inside(p30, n34 << 3) + 4, n33);
+									store32(inside(p30, (uint64_t)n33 << 3), n32);
+									uint64_t n35 = n17 << 3;
+									byte *p36 = inside(p30, n35);
+									uint32_t n37 = load32(p36);
+									uint32_t n38 = (uint32_t)n29;
+									store32(inside(p30, (uint64_t)n37 << 3) + 4, n38);
+									store32(p31, n37);
+									store32(p31 + 4, (uint32_t)n17);
+									store32(p36, n38);
+									bool b39 = n32 == n33;
+									uint64_t n40 = b39 ? n34 : 0;
 									store64(p2 + 24, n13);
-									if (b40) {
-										if (n12 < n29) {
-											byte *p42 = inside(p2 + 128, (n41 >> 3) & 536870904);
-											store64(p42, load64(p42) & (((uint64_t)1 << (n41 & 63)) ^ UINT64_MAX));
+									if (b39) {
+										if (n12 < n28) {
+											byte *p41 = inside(p2 + 128, (n40 >> 3) & 536870904);
+											store64(p41, load64(p41) & (((uint64_t)1 << (n40 & 63)) ^ UINT64_MAX));
 											if ((load8(p2 + 232) & 1) != 0) {
-												byte *p43 = at(loadptr(p2 + 208), n41 << 4);
-												store64(p2 + 240, load64(p2 + 240) + (uint64_t)((load8(p43) != 0) ? UINT64_MAX : 0));
-												memset(p43, 0, 16);
+												byte *p42 = at(loadptr(p2 + 208), n40 << 4);
+												store64(p2 + 240, load64(p2 + 240) + (uint64_t)((load8(p42) != 0) ? UINT64_MAX : 0));
+												memset(p42, 0, 16);
 											}
 										}
 									} else if (load64(p2 + 240) != 0) {
-										byte *p44 = loadptr(p2 + 208);
-										if (n29 > n12) {
-											uint64_t n47;
-											uint8_t n45 = load8(p2);
-											uint64_t n46 = tp_table_bucket_of(n45, n12, n29);
-											switch (MOSTLY_0(n45)) {
-											case 0: {
-												n47 = 64;
-												break;
-											}
-											case 1: {
-												n47 = 60;
-												break;
-											}
-											case 2: {
-												n47 = 16;
-												break;
-											}
-											default: {
-												UNREACHABLE();
-											}
-											}
-											if (n47 <= n46) {
-												byte *p48 = at(p44, n46 << 4);
-												if (load8(p48) == 1) {
-													if (n29 == load64(p48 + 8)) {
-														uint32_t n49 = usub_sat32(load32(p48 + 4), 1);
-														store32u(p48, 1);
-														store32u(p48 + 4, n49);
-													}
-												}
-											}
-										}
-									}
-									if (b15) {
-										byte *p50 = inside(p2 + 128, (n17 >> 3) & 536870904);
-										store64(p50, load64(p50) | ((uint64_t)1 << (n17 & 63)));
-										if ((load8(p2 + 232) & 1) != 0) {
-											uint64_t n51;
+										byte *p43 = loadptr(p2 + 208);
+										if (n28 > n12) {
+											uint64_t n45, n46, n51, n53, n54, n55;
 											switch (MOSTLY_0(load8(p2))) {
 											case 0: {
-												n51 = 64;
-												break;
+												uint32_t n44 = (((uint32_t)ctlz64(n12 ^ n28) ^ 63) * 43) >> 8;
+												if (n44 == 0)
+													goto L2;
+												n45 = ((n28 >> ((uint64_t)(n44 * 6) & 63)) & 63) | (uint64_t)(n44 << 6);
+												n46 = 64;
+												goto L3;
 											}
 											case 1: {
-												n51 = 60;
-												break;
+												uint32_t n47 = (uint32_t)n28;
+												uint32_t n48 = (uint32_t)n12;
+												uint32_t n49 = n47 / 60;
+												if ((n48 / 60) == n49)
+													goto L2;
+												uint32_t n50 = n47 / 3600;
+												if ((n48 / 3600) == n50) {
+													n51 = (uint64_t)((n49 % 60) + 60);
+													goto L4;
+												}
+												uint32_t n52 = n47 / 86400;
+												if ((n48 / 86400) == n52) {
+													n51 = (uint64_t)((n50 % 24) + 120);
+													goto L4;
+												}
+												n51 = (uint64_t)(n52 + 144);
+												goto L4;
 											}
 											case 2: {
-												n51 = 16;
+												n53 = n28;
+												n54 = n12;
+												n55 = 0;
 												break;
 											}
 											default: {
 												UNREACHABLE();
 											}
 											}
-											if (n17 >= n51) {
-												byte *p52 = at(loadptr(p2 + 208), n17 << 4);
-												if (load8(p52) == 0) {
-													if (n14 < load64(p52 + 8)) {
-														uint64_t n57;
-														uint64_t n53 = load64(p2 + 104);
-														uint64_t n54 = (uint64_t)load32(at(loadptr(p2 + 80), n36) + 4);
-														if (n53 <= n54) {
-															uint64_t n55 = usub_sat64(n54, n53);
-															byte *p56 = at(loadptr(p2 + 40), n55 * 48);
-															if (n55 < load64(p2 + 48)) {
-																if (load8(p56) == 1) {
-																	n57 = umin64(n14, load64u(p56 + 32));
-																} else {
-																	n57 = n14;
-																}
-															} else {
-																n57 = n14;
-															}
-														} else {
-															n57 = n14;
-														}
-														store32u(p52, 1);
-														store32u(p52 + 4, 1);
-														store64u(p52 + 8, n57);
-														store64(p2 + 240, load64(p2 + 240) + 1);
-													} else {
-														store32u(p52, 0);
-														store32u(p52 + 4, 0);
-														store64u(p52 + 8, n14);
-													}
-												} else {
-													uint32_t n58 = load32(p52 + 4);
-													uint64_t n59 = load64(p52 + 8);
-													if (n14 < n59) {
-														store32u(p52, 1);
-														store32u(p52 + 4, 1);
-														store64u(p52 + 8, n14);
-													} else if (n14 == n59) {
-														store32u(p52, 1);
-														store32u(p52 + 4, uadd_sat32(n58, 1));
+											for (;;) {
+												uint64_t n56 = n54 >> 4;
+												uint64_t n57 = n53 >> 4;
+												if (n56 == n57)
+													break;
+												n53 = n57;
+												n54 = n56;
+												n55 = n55 + 16;
+											}
+											n45 = n55 | (n53 & 15);
+											n46 = 16;
+L3:
+											{
+												if (n46 > n45)
+													goto L2;
+												n51 = n45;
+											}
+L4:
+											{
+												byte *p58 = at(p43, n51 << 4);
+												if (load8(p58) == 1) {
+													if (n28 == load64(p58 + 8)) {
+														uint32_t n59 = usub_sat32(load32(p58 + 4), 1);
+														store32u(p58, 1);
+														store32u(p58 + 4, n59);
 													}
 												}
 											}
 										}
 									}
-									store64(p2 + 248, load64(p2 + 248) + 1);
-									store64(p2 + 288, load64(p2 + 288) + 1);
-									store8(p1, 2);
-									store8(p1 + 1, 0);
-									store64u(p1 + 8, n5);
-									store64u(p1 + 16, n13);
-									store64u(p1 + 24, n14);
-									store64u(p1 + 32, n6);
-									return;
+L2:
+									{
+										if (b15) {
+											byte *p60 = inside(p2 + 128, (n17 >> 3) & 536870904);
+											store64(p60, load64(p60) | ((uint64_t)1 << (n17 & 63)));
+											if ((load8(p2 + 232) & 1) != 0) {
+												uint64_t n61;
+												switch (MOSTLY_0(load8(p2))) {
+												case 0: {
+													n61 = 64;
+													break;
+												}
+												case 1: {
+													n61 = 60;
+													break;
+												}
+												case 2: {
+													n61 = 16;
+													break;
+												}
+												default: {
+													UNREACHABLE();
+												}
+												}
+												if (n17 >= n61) {
+													byte *p62 = at(loadptr(p2 + 208), n17 << 4);
+													if (load8(p62) == 0) {
+														if (n14 < load64(p62 + 8)) {
+															uint64_t n67;
+															uint64_t n63 = load64(p2 + 104);
+															uint64_t n64 = (uint64_t)load32(at(loadptr(p2 + 80), n35) + 4);
+															if (n63 <= n64) {
+																uint64_t n65 = usub_sat64(n64, n63);
+																byte *p66 = at(loadptr(p2 + 40), n65 * 48);
+																if (n65 < load64(p2 + 48)) {
+																	if (load8(p66) == 1) {
+																		n67 = umin64(n14, load64u(p66 + 32));
+																	} else {
+																		n67 = n14;
+																	}
+																} else {
+																	n67 = n14;
+																}
+															} else {
+																n67 = n14;
+															}
+															store32u(p62, 1);
+															store32u(p62 + 4, 1);
+															store64u(p62 + 8, n67);
+															store64(p2 + 240, load64(p2 + 240) + 1);
+														} else {
+															store32u(p62, 0);
+															store32u(p62 + 4, 0);
+															store64u(p62 + 8, n14);
+														}
+													} else {
+														uint32_t n68 = load32(p62 + 4);
+														uint64_t n69 = load64(p62 + 8);
+														if (n14 < n69) {
+															store32u(p62, 1);
+															store32u(p62 + 4, 1);
+															store64u(p62 + 8, n14);
+														} else if (n14 == n69) {
+															store32u(p62, 1);
+															store32u(p62 + 4, uadd_sat32(n68, 1));
+														}
+													}
+												}
+											}
+										}
+										store64(p2 + 248, load64(p2 + 248) + 1);
+										store64(p2 + 288, load64(p2 + 288) + 1);
+										store8(p1, 2);
+										store8(p1 + 1, 0);
+										store64u(p1 + 8, n5);
+										store64u(p1 + 16, n13);
+										store64u(p1 + 24, n14);
+										store64u(p1 + 32, n6);
+										return;
+									}
 								}
 							}
 							n11 = 2;
@@ -63718,7 +63786,7 @@ static NOINLINE uint64_t tp_migration_migrate(uint8_t n1, byte *p2, byte *p3, by
 				n77 = n58;
 			}
 		} else {
-			uint64_t n79, n86, n87, n88;
+			uint64_t n79, n85, n86, n87;
 			switch (MOSTLY_0(n1)) {
 			case 0: {
 				uint32_t n78 = (((uint32_t)ctlz64(n6 ^ n60) ^ 63) * 43) >> 8;
@@ -63730,32 +63798,30 @@ static NOINLINE uint64_t tp_migration_migrate(uint8_t n1, byte *p2, byte *p3, by
 				goto L1;
 			}
 			case 1: {
-				uint32_t n83;
 				uint32_t n80 = (uint32_t)n60;
 				uint32_t n81 = (uint32_t)n6;
 				uint32_t n82 = n80 / 60;
 				if ((n81 / 60) == n82) {
-					n83 = n80 % 60;
-				} else {
-					uint32_t n84 = n80 / 3600;
-					if ((n81 / 3600) == n84) {
-						n83 = (n82 % 60) + 60;
-					} else {
-						uint32_t n85 = n80 / 86400;
-						if ((n81 / 86400) == n85) {
-							n83 = (n84 % 24) + 120;
-						} else {
-							n83 = n85 + 144;
-						}
-					}
+					n79 = (uint64_t)(n80 % 60);
+					goto L1;
 				}
-				n79 = (uint64_t)n83;
+				uint32_t n83 = n80 / 3600;
+				if ((n81 / 3600) == n83) {
+					n79 = (uint64_t)((n82 % 60) + 60);
+					goto L1;
+				}
+				uint32_t n84 = n80 / 86400;
+				if ((n81 / 86400) == n84) {
+					n79 = (uint64_t)((n83 % 24) + 120);
+					goto L1;
+				}
+				n79 = (uint64_t)(n84 + 144);
 				goto L1;
 			}
 			case 2: {
-				n86 = n60;
-				n87 = n6;
-				n88 = 0;
+				n85 = n60;
+				n86 = n6;
+				n87 = 0;
 				break;
 			}
 			default: {
@@ -63763,93 +63829,93 @@ static NOINLINE uint64_t tp_migration_migrate(uint8_t n1, byte *p2, byte *p3, by
 			}
 			}
 			for (;;) {
-				uint64_t n89 = n87 >> 4;
-				uint64_t n90 = n86 >> 4;
-				if (n89 == n90)
+				uint64_t n88 = n86 >> 4;
+				uint64_t n89 = n85 >> 4;
+				if (n88 == n89)
 					break;
-				n86 = n90;
-				n87 = n89;
-				n88 = n88 + 16;
+				n85 = n89;
+				n86 = n88;
+				n87 = n87 + 16;
 			}
-			n79 = n88 | (n86 & 15);
+			n79 = n87 | (n85 & 15);
 L1:
 			{
 				if (b65) {
-					uint64_t n91 = umax64(n64, n63);
-					byte *p92 = at(p61, n91 << 3);
-					uint32_t n93 = load32(p92 + 4);
-					store32(p62, n93);
-					store32(inside(p61, (uint64_t)n93 << 3), (uint32_t)n5);
-					byte *p94 = inside(p61, n79 << 3);
-					uint32_t n95 = load32(p94);
-					uint32_t n96 = (uint32_t)n91;
-					store32(inside(p61, (uint64_t)n95 << 3) + 4, n96);
-					store32(p92, n95);
-					store32(p92 + 4, (uint32_t)n79);
-					store32(p94, n96);
+					uint64_t n90 = umax64(n64, n63);
+					byte *p91 = at(p61, n90 << 3);
+					uint32_t n92 = load32(p91 + 4);
+					store32(p62, n92);
+					store32(inside(p61, (uint64_t)n92 << 3), (uint32_t)n5);
+					byte *p93 = inside(p61, n79 << 3);
+					uint32_t n94 = load32(p93);
+					uint32_t n95 = (uint32_t)n90;
+					store32(inside(p61, (uint64_t)n94 << 3) + 4, n95);
+					store32(p91, n94);
+					store32(p91 + 4, (uint32_t)n79);
+					store32(p93, n95);
 				}
-				byte *p97 = inside(p3, (n79 >> 3) & 536870904);
-				store64(p97, load64(p97) | ((uint64_t)1 << (n79 & 63)));
+				byte *p96 = inside(p3, (n79 >> 3) & 536870904);
+				store64(p96, load64(p96) | ((uint64_t)1 << (n79 & 63)));
 				if ((load8(p4 + 24) & 1) != 0) {
-					uint64_t n98;
+					uint64_t n97;
 					switch (MOSTLY_0(n1)) {
 					case 0: {
-						n98 = 64;
+						n97 = 64;
 						break;
 					}
 					case 1: {
-						n98 = 60;
+						n97 = 60;
 						break;
 					}
 					case 2: {
-						n98 = 16;
+						n97 = 16;
 						break;
 					}
 					default: {
 						UNREACHABLE();
 					}
 					}
-					if (n79 >= n98) {
-						byte *p99 = at(loadptr(p4), n79 << 4);
-						if (load8(p99) == 0) {
-							if (n60 < load64(p99 + 8)) {
-								uint64_t n104;
-								uint64_t n100 = load64(p2 + 64);
-								uint64_t n101 = (uint64_t)load32(at(loadptr(p2 + 40), n79 << 3) + 4);
-								if (n100 <= n101) {
-									uint64_t n102 = usub_sat64(n101, n100);
-									byte *p103 = at(loadptr(p2), n102 * 48);
-									if (n102 < load64(p2 + 8)) {
-										if (load8(p103) == 1) {
-											n104 = umin64(n60, load64u(p103 + 32));
+					if (n79 >= n97) {
+						byte *p98 = at(loadptr(p4), n79 << 4);
+						if (load8(p98) == 0) {
+							if (n60 < load64(p98 + 8)) {
+								uint64_t n103;
+								uint64_t n99 = load64(p2 + 64);
+								uint64_t n100 = (uint64_t)load32(at(loadptr(p2 + 40), n79 << 3) + 4);
+								if (n99 <= n100) {
+									uint64_t n101 = usub_sat64(n100, n99);
+									byte *p102 = at(loadptr(p2), n101 * 48);
+									if (n101 < load64(p2 + 8)) {
+										if (load8(p102) == 1) {
+											n103 = umin64(n60, load64u(p102 + 32));
 										} else {
-											n104 = n60;
+											n103 = n60;
 										}
 									} else {
-										n104 = n60;
+										n103 = n60;
 									}
 								} else {
-									n104 = n60;
+									n103 = n60;
 								}
-								store32u(p99, 1);
-								store32u(p99 + 4, 1);
-								store64u(p99 + 8, n104);
+								store32u(p98, 1);
+								store32u(p98 + 4, 1);
+								store64u(p98 + 8, n103);
 								store64(p4 + 32, load64(p4 + 32) + 1);
 							} else {
-								store32u(p99, 0);
-								store32u(p99 + 4, 0);
-								store64u(p99 + 8, n60);
+								store32u(p98, 0);
+								store32u(p98 + 4, 0);
+								store64u(p98 + 8, n60);
 							}
 						} else {
-							uint32_t n105 = load32(p99 + 4);
-							uint64_t n106 = load64(p99 + 8);
-							if (n60 < n106) {
-								store32u(p99, 1);
-								store32u(p99 + 4, 1);
-								store64u(p99 + 8, n60);
-							} else if (n60 == n106) {
-								store32u(p99, 1);
-								store32u(p99 + 4, uadd_sat32(n105, 1));
+							uint32_t n104 = load32(p98 + 4);
+							uint64_t n105 = load64(p98 + 8);
+							if (n60 < n105) {
+								store32u(p98, 1);
+								store32u(p98 + 4, 1);
+								store64u(p98 + 8, n60);
+							} else if (n60 == n105) {
+								store32u(p98, 1);
+								store32u(p98 + 4, uadd_sat32(n104, 1));
 							}
 						}
 					}
@@ -64372,7 +64438,7 @@ static uint8_t tp_Player_play_one(byte *p1, byte *p2, byte *p3)
 				n23 = 0;
 				n24 = 0;
 			} else {
-				uint64_t n29, n32, n33, n61;
+				uint64_t n29, n32, n33, n71;
 				uint8_t n30, n31;
 				of_i8_i8 s28 = tp_Facility_start_refusal(p1, n13);
 				if (s28.f0 == 1) {
@@ -64391,78 +64457,131 @@ static uint8_t tp_Player_play_one(byte *p1, byte *p2, byte *p3)
 					store8(p5, n37);
 					bool b38 = n35 < n36;
 					if (b38) {
-						uint64_t n39 = tp_table_bucket_of(n37, n35, n36);
-						n40 = n39;
+						uint64_t n46, n47, n48;
+						switch (MOSTLY_0(n37)) {
+						case 0: {
+							uint32_t n39 = (((uint32_t)ctlz64(n35 ^ n36) ^ 63) * 43) >> 8;
+							if (n39 == 0) {
+								n40 = n36 & 63;
+								goto L1;
+							}
+							n40 = ((n36 >> ((uint64_t)(n39 * 6) & 63)) & 63) | (uint64_t)(n39 << 6);
+							goto L1;
+						}
+						case 1: {
+							uint32_t n41 = (uint32_t)n36;
+							uint32_t n42 = (uint32_t)n35;
+							uint32_t n43 = n41 / 60;
+							if ((n42 / 60) == n43) {
+								n40 = (uint64_t)(n41 % 60);
+								goto L1;
+							}
+							uint32_t n44 = n41 / 3600;
+							if ((n42 / 3600) == n44) {
+								n40 = (uint64_t)((n43 % 60) + 60);
+								goto L1;
+							}
+							uint32_t n45 = n41 / 86400;
+							if ((n42 / 86400) == n45) {
+								n40 = (uint64_t)((n44 % 24) + 120);
+								goto L1;
+							}
+							n40 = (uint64_t)(n45 + 144);
+							goto L1;
+						}
+						case 2: {
+							n46 = n36;
+							n47 = n35;
+							n48 = 0;
+							break;
+						}
+						default: {
+							UNREACHABLE();
+						}
+						}
+						for (;;) {
+							uint64_t n49 = n47 >> 4;
+							uint64_t n50 = n46 >> 4;
+							if (n49 == n50)
+								break;
+							n46 = n50;
+							n47 = n49;
+							n48 = n48 + 16;
+						}
+						n40 = n48 | (n46 & 15);
 					} else {
 						n40 = load64(p1 + 32);
 					}
-					uint64_t n41 = load64(p1 + 104);
-					if (load64(p1 + 72) >= load64(p1 + 120)) {
-						uint8_t n42 = tp_links_make_ready(p1 + 40, p1 + 80, n41, load64(p1 + 112));
-						if ((n42 & 1) != 0)
-							return 1;
-						store64(p1 + 120, umin64(load64(p1 + 88) - n41, load64(p1 + 56)));
+L1:
+					{
+						uint64_t n51 = load64(p1 + 104);
+						if (load64(p1 + 72) >= load64(p1 + 120)) {
+							uint8_t n52 = tp_links_make_ready(p1 + 40, p1 + 80, n51, load64(p1 + 112));
+							if ((n52 & 1) != 0)
+								return 1;
+							store64(p1 + 120, umin64(load64(p1 + 88) - n51, load64(p1 + 56)));
+						}
+						store64u(p4, n34);
+						store64u(p4 + 8, n11);
+						store64u(p4 + 16, n12);
+						store64u(p4 + 24, n36);
+						store64u(p4 + 32, n14);
+						uint64_t n53 = tp_Slab_insert_reserved(p1 + 40, p4);
+						uint64_t n54 = load64(p1 + 104) + n53;
+						byte *p55 = loadptr(p1 + 80);
+						byte *p56 = inside(p55, n40 << 3);
+						uint32_t n57 = load32(p56);
+						uint32_t n58 = (uint32_t)n54;
+						store32(inside(p55, (uint64_t)n57 << 3) + 4, n58);
+						byte *p59 = inside(p55, n54 << 3);
+						store32(p59, n57);
+						store32(p59 + 4, (uint32_t)n40);
+						store32(p56, n58);
+						store64(p1 + 24, n34);
+						if (b38) {
+							byte *p60 = inside(p1 + 128, (n40 >> 3) & 536870904);
+							store64(p60, load64(p60) | ((uint64_t)1 << (n40 & 63)));
+							tp_Firsts_enter(p1 + 208, p5, p1 + 40, n40, n36);
+						}
+						store64(p1 + 248, load64(p1 + 248) + 1);
+						store64(p1 + 288, load64(p1 + 288) + 1);
+						byte *p61 = inside(p1 + 808, n25);
+						store64(p61, load64(p61) + 1);
+						store64(p26, n12 + 1);
+						uint64_t n62 = load64(p1 + 1368);
+						byte *p63 = inside(loadptr(p1 + 1360), n62 << 4);
+						store64u(p63, n53);
+						store64u(p63 + 8, n34);
+						store64(p1 + 1368, n62 + 1);
+						n29 = n36;
+						n30 = 0;
+						n31 = 0;
+						n32 = n34;
+						n33 = n53;
 					}
-					store64u(p4, n34);
-					store64u(p4 + 8, n11);
-					store64u(p4 + 16, n12);
-					store64u(p4 + 24, n36);
-					store64u(p4 + 32, n14);
-					uint64_t n43 = tp_Slab_insert_reserved(p1 + 40, p4);
-					uint64_t n44 = load64(p1 + 104) + n43;
-					byte *p45 = loadptr(p1 + 80);
-					byte *p46 = inside(p45, n40 << 3);
-					uint32_t n47 = load32(p46);
-					uint32_t n48 = (uint32_t)n44;
-					store32(inside(p45, (uint64_t)n47 << 3) + 4, n48);
-					byte *p49 = inside(p45, n44 << 3);
-					store32(p49, n47);
-					store32(p49 + 4, (uint32_t)n40);
-					store32(p46, n48);
-					store64(p1 + 24, n34);
-					if (b38) {
-						byte *p50 = inside(p1 + 128, (n40 >> 3) & 536870904);
-						store64(p50, load64(p50) | ((uint64_t)1 << (n40 & 63)));
-						tp_Firsts_enter(p1 + 208, p5, p1 + 40, n40, n36);
-					}
-					store64(p1 + 248, load64(p1 + 248) + 1);
-					store64(p1 + 288, load64(p1 + 288) + 1);
-					byte *p51 = inside(p1 + 808, n25);
-					store64(p51, load64(p51) + 1);
-					store64(p26, n12 + 1);
-					uint64_t n52 = load64(p1 + 1368);
-					byte *p53 = inside(loadptr(p1 + 1360), n52 << 4);
-					store64u(p53, n43);
-					store64u(p53 + 8, n34);
-					store64(p1 + 1368, n52 + 1);
-					n29 = n36;
-					n30 = 0;
-					n31 = 0;
-					n32 = n34;
-					n33 = n43;
 				}
-				uint64_t n54 = load64(p1 + 64);
-				byte *p55 = loadptr(p1 + 80);
-				uint64_t n56 = load64(p1 + 104);
-				uint64_t n57 = (uint64_t)load32(at(p55, load64(p1 + 32) << 3) + 4);
-				uint64_t n58 = usub_sat64(n57, n56);
-				uint64_t n59 = 0;
-				uint64_t n60 = n57;
+				uint64_t n64 = load64(p1 + 64);
+				byte *p65 = loadptr(p1 + 80);
+				uint64_t n66 = load64(p1 + 104);
+				uint64_t n67 = (uint64_t)load32(at(p65, load64(p1 + 32) << 3) + 4);
+				uint64_t n68 = usub_sat64(n67, n66);
+				uint64_t n69 = 0;
+				uint64_t n70 = n67;
 				for (;;) {
-					if (n59 == n54) {
-						n61 = n54;
+					if (n69 == n64) {
+						n71 = n64;
 						break;
 					}
-					if (n56 > n60) {
-						n61 = n59;
+					if (n66 > n70) {
+						n71 = n69;
 						break;
 					}
-					uint64_t n62 = (uint64_t)load32(at(p55, (n56 + n58) << 3) + 4);
-					n58 = usub_sat64(n62, n56);
-					n59 = n59 + 1;
-					n60 = n62;
+					uint64_t n72 = (uint64_t)load32(at(p65, (n66 + n68) << 3) + 4);
+					n68 = usub_sat64(n72, n66);
+					n69 = n69 + 1;
+					n70 = n72;
 				}
-				if ((((n54 - n61) << 1) + 64) < load64(p1 + 1368)) {
+				if ((((n64 - n71) << 1) + 64) < load64(p1 + 1368)) {
 					tp_handles_sweep(p1 + 1360, p1);
 					n19 = n31;
 					n20 = n33;
@@ -64487,79 +64606,79 @@ static uint8_t tp_Player_play_one(byte *p1, byte *p2, byte *p3)
 			n23 = 0;
 			n24 = 0;
 		}
-		uint64_t n63 = load64(p3 + 8);
-		byte *p64 = inside(loadptr(p3), n63 << 6);
-		store8(p64, n21);
-		store8(p64 + 1, 0);
-		store64u(p64 + 8, n11);
-		store64u(p64 + 16, n12);
-		store64u(p64 + 24, ((uint64_t)n22 << 8) | (uint64_t)n19);
-		store64u(p64 + 32, n20);
-		store64u(p64 + 40, n23);
-		store64u(p64 + 48, n24);
-		store64u(p64 + 56, 0);
-		store64(p3 + 8, n63 + 1);
+		uint64_t n73 = load64(p3 + 8);
+		byte *p74 = inside(loadptr(p3), n73 << 6);
+		store8(p74, n21);
+		store8(p74 + 1, 0);
+		store64u(p74 + 8, n11);
+		store64u(p74 + 16, n12);
+		store64u(p74 + 24, ((uint64_t)n22 << 8) | (uint64_t)n19);
+		store64u(p74 + 32, n20);
+		store64u(p74 + 40, n23);
+		store64u(p74 + 48, n24);
+		store64u(p74 + 56, 0);
+		store64(p3 + 8, n73 + 1);
 		return 0;
 	}
 	case 1: {
-		uint64_t n70;
+		uint64_t n80;
 		if (load64(p3 + 16) == load64(p3 + 8)) {
-			bool b65 = tp_std_alloc_vec_Vec_grow_amortized_4(p3, 1);
-			if (!b65)
+			bool b75 = tp_std_alloc_vec_Vec_grow_amortized_4(p3, 1);
+			if (!b75)
 				return 1;
 		}
-		byte *p66 = loadptr(p1 + 1360);
-		uint64_t n67 = load64(p1 + 1368);
-		if (n67 != 0) {
-			uint64_t n68 = load64(at(at(p66, n67 << 4), UINT64_C(18446744073709551608))) - n13;
-			if (n67 > n68) {
-				byte *p69 = inside(p66, (n67 + (n68 ^ UINT64_MAX)) << 4);
-				if (load64(p69 + 8) != n13)
-					goto L1;
-				n70 = load64(p69);
-				goto L2;
+		byte *p76 = loadptr(p1 + 1360);
+		uint64_t n77 = load64(p1 + 1368);
+		if (n77 != 0) {
+			uint64_t n78 = load64(at(at(p76, n77 << 4), UINT64_C(18446744073709551608))) - n13;
+			if (n77 > n78) {
+				byte *p79 = inside(p76, (n77 + (n78 ^ UINT64_MAX)) << 4);
+				if (load64(p79 + 8) != n13)
+					goto L2;
+				n80 = load64(p79);
+				goto L3;
 			}
 		}
-		if (n67 == 0) {
-			n70 = 0;
-			goto L2;
+		if (n77 == 0) {
+			n80 = 0;
+			goto L3;
 		}
-L1:
+L2:
 		{
-			uint64_t n71 = 0;
-			uint64_t n72 = n67;
-			while (n72 > 1) {
-				uint64_t n76;
-				uint64_t n73 = n72 >> 1;
-				uint64_t n74 = n71 + n73;
-				uint64_t n75 = load64(at(p66, n74 << 4) + 8);
-				switch (MOSTLY_0((n75 == n13) ? 1 : (uint8_t)((n75 < n13) ? 0 : 2))) {
+			uint64_t n81 = 0;
+			uint64_t n82 = n77;
+			while (n82 > 1) {
+				uint64_t n86;
+				uint64_t n83 = n82 >> 1;
+				uint64_t n84 = n81 + n83;
+				uint64_t n85 = load64(at(p76, n84 << 4) + 8);
+				switch (MOSTLY_0((n85 == n13) ? 1 : (uint8_t)((n85 < n13) ? 0 : 2))) {
 				case 0:
 				case 1: {
-					n76 = n74;
+					n86 = n84;
 					break;
 				}
 				case 2: {
-					n76 = n71;
+					n86 = n81;
 					break;
 				}
 				default: {
 					UNREACHABLE();
 				}
 				}
-				n71 = n76;
-				n72 = n72 - n73;
+				n81 = n86;
+				n82 = n82 - n83;
 			}
-			byte *p77 = at(p66, n71 << 4);
-			uint64_t n78 = load64(p77 + 8);
-			switch ((n78 == n13) ? 1 : (uint8_t)((n78 < n13) ? 0 : 2)) {
+			byte *p87 = at(p76, n81 << 4);
+			uint64_t n88 = load64(p87 + 8);
+			switch ((n88 == n13) ? 1 : (uint8_t)((n88 < n13) ? 0 : 2)) {
 			case 1: {
-				n70 = load64(p77);
+				n80 = load64(p87);
 				break;
 			}
 			case 0:
 			case 2: {
-				n70 = 0;
+				n80 = 0;
 				break;
 			}
 			default: {
@@ -64567,155 +64686,155 @@ L1:
 			}
 			}
 		}
-L2:
+L3:
 		{
-			uint64_t n79, n81;
-			uint8_t n80;
+			uint64_t n89, n91;
+			uint8_t n90;
 			if ((load8(p1 + 1320) & 1) != 0) {
-				n79 = 0;
-				n80 = 1;
-				n81 = 0;
+				n89 = 0;
+				n90 = 1;
+				n91 = 0;
 			} else if (load64(p1 + 272) > n11) {
-				uint64_t n82 = n11 << 3;
-				byte *p83 = inside(p1 + 296, n82);
-				uint64_t n84 = load64(p83);
-				if (n12 < n84) {
-					n79 = n84;
-					n80 = 1;
-					n81 = 2;
-				} else if (n84 > UINT64_C(1152921504606846975)) {
-					n79 = 0;
-					n80 = 1;
-					n81 = 3;
-				} else if (n84 < n12) {
-					n79 = n84;
-					n80 = 1;
-					n81 = 4;
+				uint64_t n92 = n11 << 3;
+				byte *p93 = inside(p1 + 296, n92);
+				uint64_t n94 = load64(p93);
+				if (n12 < n94) {
+					n89 = n94;
+					n90 = 1;
+					n91 = 2;
+				} else if (n94 > UINT64_C(1152921504606846975)) {
+					n89 = 0;
+					n90 = 1;
+					n91 = 3;
+				} else if (n94 < n12) {
+					n89 = n94;
+					n90 = 1;
+					n91 = 4;
 				} else {
-					uint64_t n85, n86, n96;
+					uint64_t n95, n96, n106;
 					memset(p7, 0, 48);
-					tp_Facility_find_named(p7, p1, n11, n70, n13);
+					tp_Facility_find_named(p7, p1, n11, n80, n13);
 					if (load8(p7) == 0) {
-						n85 = 1027;
-						n86 = 0;
+						n95 = 1027;
+						n96 = 0;
 					} else {
-						uint64_t n87 = load64u(p7 + 8);
-						tp_HierWheelWheel_stop(p8, p1, n70, n13);
-						byte *p88 = inside(p1 + 808, n82);
-						store64(p88, load64(p88) - 1);
-						n85 = 1;
-						n86 = n87;
+						uint64_t n97 = load64u(p7 + 8);
+						tp_HierWheelWheel_stop(p8, p1, n80, n13);
+						byte *p98 = inside(p1 + 808, n92);
+						store64(p98, load64(p98) - 1);
+						n95 = 1;
+						n96 = n97;
 					}
-					store64(p83, n12 + 1);
-					uint64_t n89 = load64(p1 + 64);
-					byte *p90 = loadptr(p1 + 80);
-					uint64_t n91 = load64(p1 + 104);
-					uint64_t n92 = (uint64_t)load32(at(p90, load64(p1 + 32) << 3) + 4);
-					uint64_t n93 = usub_sat64(n92, n91);
-					uint64_t n94 = 0;
-					uint64_t n95 = n92;
+					store64(p93, n12 + 1);
+					uint64_t n99 = load64(p1 + 64);
+					byte *p100 = loadptr(p1 + 80);
+					uint64_t n101 = load64(p1 + 104);
+					uint64_t n102 = (uint64_t)load32(at(p100, load64(p1 + 32) << 3) + 4);
+					uint64_t n103 = usub_sat64(n102, n101);
+					uint64_t n104 = 0;
+					uint64_t n105 = n102;
 					for (;;) {
-						if (n94 == n89) {
-							n96 = n89;
+						if (n104 == n99) {
+							n106 = n99;
 							break;
 						}
-						if (n91 > n95) {
-							n96 = n94;
+						if (n101 > n105) {
+							n106 = n104;
 							break;
 						}
-						uint64_t n97 = (uint64_t)load32(at(p90, (n91 + n93) << 3) + 4);
-						n93 = usub_sat64(n97, n91);
-						n94 = n94 + 1;
-						n95 = n97;
+						uint64_t n107 = (uint64_t)load32(at(p100, (n101 + n103) << 3) + 4);
+						n103 = usub_sat64(n107, n101);
+						n104 = n104 + 1;
+						n105 = n107;
 					}
-					if ((((n89 - n96) << 1) + 64) < load64(p1 + 1368)) {
+					if ((((n99 - n106) << 1) + 64) < load64(p1 + 1368)) {
 						tp_handles_sweep(p1 + 1360, p1);
-						n79 = n86;
-						n80 = 0;
-						n81 = n85;
+						n89 = n96;
+						n90 = 0;
+						n91 = n95;
 					} else {
-						n79 = n86;
-						n80 = 0;
-						n81 = n85;
+						n89 = n96;
+						n90 = 0;
+						n91 = n95;
 					}
 				}
 			} else {
-				n79 = 0;
-				n80 = 1;
-				n81 = 1;
+				n89 = 0;
+				n90 = 1;
+				n91 = 1;
 			}
-			uint64_t n98 = load64(p3 + 8);
-			byte *p99 = inside(loadptr(p3), n98 << 6);
-			store8(p99, n80);
-			store8(p99 + 1, 0);
-			store64u(p99 + 8, n11);
-			store64u(p99 + 16, n12);
-			store64u(p99 + 24, n81);
-			store64u(p99 + 32, n79);
-			memset(p99 + 40, 0, 24);
-			store64(p3 + 8, n98 + 1);
+			uint64_t n108 = load64(p3 + 8);
+			byte *p109 = inside(loadptr(p3), n108 << 6);
+			store8(p109, n90);
+			store8(p109 + 1, 0);
+			store64u(p109 + 8, n11);
+			store64u(p109 + 16, n12);
+			store64u(p109 + 24, n91);
+			store64u(p109 + 32, n89);
+			memset(p109 + 40, 0, 24);
+			store64(p3 + 8, n108 + 1);
 			return 0;
 		}
 	}
 	case 2: {
-		uint64_t n105;
+		uint64_t n115;
 		if (load64(p3 + 16) == load64(p3 + 8)) {
-			bool b100 = tp_std_alloc_vec_Vec_grow_amortized_4(p3, 1);
-			if (!b100)
+			bool b110 = tp_std_alloc_vec_Vec_grow_amortized_4(p3, 1);
+			if (!b110)
 				return 1;
 		}
-		byte *p101 = loadptr(p1 + 1360);
-		uint64_t n102 = load64(p1 + 1368);
-		if (n102 != 0) {
-			uint64_t n103 = load64(at(at(p101, n102 << 4), UINT64_C(18446744073709551608))) - n13;
-			if (n102 > n103) {
-				byte *p104 = inside(p101, (n102 + (n103 ^ UINT64_MAX)) << 4);
-				if (load64(p104 + 8) != n13)
-					goto L3;
-				n105 = load64(p104);
-				goto L4;
+		byte *p111 = loadptr(p1 + 1360);
+		uint64_t n112 = load64(p1 + 1368);
+		if (n112 != 0) {
+			uint64_t n113 = load64(at(at(p111, n112 << 4), UINT64_C(18446744073709551608))) - n13;
+			if (n112 > n113) {
+				byte *p114 = inside(p111, (n112 + (n113 ^ UINT64_MAX)) << 4);
+				if (load64(p114 + 8) != n13)
+					goto L4;
+				n115 = load64(p114);
+				goto L5;
 			}
 		}
-		if (n102 == 0) {
-			n105 = 0;
-			goto L4;
+		if (n112 == 0) {
+			n115 = 0;
+			goto L5;
 		}
-L3:
+L4:
 		{
-			uint64_t n106 = 0;
-			uint64_t n107 = n102;
-			while (n107 > 1) {
-				uint64_t n111;
-				uint64_t n108 = n107 >> 1;
-				uint64_t n109 = n106 + n108;
-				uint64_t n110 = load64(at(p101, n109 << 4) + 8);
-				switch (MOSTLY_0((n110 == n13) ? 1 : (uint8_t)((n110 < n13) ? 0 : 2))) {
+			uint64_t n116 = 0;
+			uint64_t n117 = n112;
+			while (n117 > 1) {
+				uint64_t n121;
+				uint64_t n118 = n117 >> 1;
+				uint64_t n119 = n116 + n118;
+				uint64_t n120 = load64(at(p111, n119 << 4) + 8);
+				switch (MOSTLY_0((n120 == n13) ? 1 : (uint8_t)((n120 < n13) ? 0 : 2))) {
 				case 0:
 				case 1: {
-					n111 = n109;
+					n121 = n119;
 					break;
 				}
 				case 2: {
-					n111 = n106;
+					n121 = n116;
 					break;
 				}
 				default: {
 					UNREACHABLE();
 				}
 				}
-				n106 = n111;
-				n107 = n107 - n108;
+				n116 = n121;
+				n117 = n117 - n118;
 			}
-			byte *p112 = at(p101, n106 << 4);
-			uint64_t n113 = load64(p112 + 8);
-			switch ((n113 == n13) ? 1 : (uint8_t)((n113 < n13) ? 0 : 2)) {
+			byte *p122 = at(p111, n116 << 4);
+			uint64_t n123 = load64(p122 + 8);
+			switch ((n123 == n13) ? 1 : (uint8_t)((n123 < n13) ? 0 : 2)) {
 			case 1: {
-				n105 = load64(p112);
+				n115 = load64(p122);
 				break;
 			}
 			case 0:
 			case 2: {
-				n105 = 0;
+				n115 = 0;
 				break;
 			}
 			default: {
@@ -64723,84 +64842,84 @@ L3:
 			}
 			}
 		}
-L4:
+L5:
 		{
-			uint8_t n116, n118, n119;
-			uint64_t n117, n120, n121, n122;
+			uint8_t n126, n128, n129;
+			uint64_t n127, n130, n131, n132;
 			store64u(p9, 3);
-			store64u(p9 + 8, n105);
+			store64u(p9 + 8, n115);
 			store64u(p9 + 16, n13);
 			store64u(p9 + 24, n14);
 			store64u(p9 + 32, n15);
-			if (load64(p1 + 1376) == n102) {
-				bool b114 = tp_std_alloc_vec_Vec_grow_amortized_3(p1 + 1360);
-				if (!b114) {
-					bool b115 = tp_Facility_makes_timer(p1, n11, n12, p9);
-					if (b115)
+			if (load64(p1 + 1376) == n112) {
+				bool b124 = tp_std_alloc_vec_Vec_grow_amortized_3(p1 + 1360);
+				if (!b124) {
+					bool b125 = tp_Facility_makes_timer(p1, n11, n12, p9);
+					if (b125)
 						return 1;
 				}
 			}
 			if ((load8(p1 + 1320) & 1) != 0) {
-				n116 = 0;
-				n117 = 0;
-				n118 = 1;
-				n119 = 0;
-				n120 = 0;
-				n121 = 0;
-				n122 = 0;
+				n126 = 0;
+				n127 = 0;
+				n128 = 1;
+				n129 = 0;
+				n130 = 0;
+				n131 = 0;
+				n132 = 0;
 			} else if (load64(p1 + 272) > n11) {
-				byte *p123 = inside(p1 + 296, n11 << 3);
-				uint64_t n124 = load64(p123);
-				if (n12 < n124) {
-					n116 = 2;
-					n117 = n124;
-					n118 = 1;
-					n119 = 0;
-					n120 = 0;
-					n121 = 0;
-					n122 = 0;
-				} else if (n124 > UINT64_C(1152921504606846975)) {
-					n116 = 3;
-					n117 = 0;
-					n118 = 1;
-					n119 = 0;
-					n120 = 0;
-					n121 = 0;
-					n122 = 0;
-				} else if (n124 < n12) {
-					n116 = 4;
-					n117 = n124;
-					n118 = 1;
-					n119 = 0;
-					n120 = 0;
-					n121 = 0;
-					n122 = 0;
+				byte *p133 = inside(p1 + 296, n11 << 3);
+				uint64_t n134 = load64(p133);
+				if (n12 < n134) {
+					n126 = 2;
+					n127 = n134;
+					n128 = 1;
+					n129 = 0;
+					n130 = 0;
+					n131 = 0;
+					n132 = 0;
+				} else if (n134 > UINT64_C(1152921504606846975)) {
+					n126 = 3;
+					n127 = 0;
+					n128 = 1;
+					n129 = 0;
+					n130 = 0;
+					n131 = 0;
+					n132 = 0;
+				} else if (n134 < n12) {
+					n126 = 4;
+					n127 = n134;
+					n128 = 1;
+					n129 = 0;
+					n130 = 0;
+					n131 = 0;
+					n132 = 0;
 				} else {
-					uint64_t n142;
+					uint64_t n152;
 					memset(p6, 0, 40);
-					tp_Facility_take_restart(p6, p1, n11, n12, n105, n13, n14, n14, n15);
-					uint8_t n125 = load8(p6);
-					uint8_t n126 = load8(p6 + 1);
-					uint64_t n127 = load64u(p6 + 8);
-					uint64_t n128 = load64u(p6 + 16);
-					uint64_t n129 = load64u(p6 + 24);
-					uint64_t n130 = load64u(p6 + 32);
-					store64(p123, n12 + 1);
-					switch (MOSTLY_0(n125)) {
+					tp_Facility_take_restart(p6, p1, n11, n12, n115, n13, n14, n14, n15);
+					uint8_t n135 = load8(p6);
+					uint8_t n136 = load8(p6 + 1);
+					uint64_t n137 = load64u(p6 + 8);
+					uint64_t n138 = load64u(p6 + 16);
+					uint64_t n139 = load64u(p6 + 24);
+					uint64_t n140 = load64u(p6 + 32);
+					store64(p133, n12 + 1);
+					switch (MOSTLY_0(n135)) {
 					case 0: {
-						uint64_t n131 = load64(p1 + 1368);
-						byte *p132 = inside(loadptr(p1 + 1360), n131 << 4);
-						store64u(p132, n127);
-						store64u(p132 + 8, n128);
-						store64(p1 + 1368, n131 + 1);
+						uint64_t n141 = load64(p1 + 1368);
+						byte *p142 = inside(loadptr(p1 + 1360), n141 << 4);
+						store64u(p142, n137);
+						store64u(p142 + 8, n138);
+						store64(p1 + 1368, n141 + 1);
 						break;
 					}
 					case 2: {
-						uint64_t n133 = load64(p1 + 1368);
-						byte *p134 = inside(loadptr(p1 + 1360), n133 << 4);
-						store64u(p134, n127);
-						store64u(p134 + 8, n128);
-						store64(p1 + 1368, n133 + 1);
+						uint64_t n143 = load64(p1 + 1368);
+						byte *p144 = inside(loadptr(p1 + 1360), n143 << 4);
+						store64u(p144, n137);
+						store64u(p144 + 8, n138);
+						store64(p1 + 1368, n143 + 1);
 						break;
 					}
 					case 1:
@@ -64811,140 +64930,140 @@ L4:
 						UNREACHABLE();
 					}
 					}
-					uint64_t n135 = load64(p1 + 64);
-					byte *p136 = loadptr(p1 + 80);
-					uint64_t n137 = load64(p1 + 104);
-					uint64_t n138 = (uint64_t)load32(at(p136, load64(p1 + 32) << 3) + 4);
-					uint64_t n139 = usub_sat64(n138, n137);
-					uint64_t n140 = 0;
-					uint64_t n141 = n138;
+					uint64_t n145 = load64(p1 + 64);
+					byte *p146 = loadptr(p1 + 80);
+					uint64_t n147 = load64(p1 + 104);
+					uint64_t n148 = (uint64_t)load32(at(p146, load64(p1 + 32) << 3) + 4);
+					uint64_t n149 = usub_sat64(n148, n147);
+					uint64_t n150 = 0;
+					uint64_t n151 = n148;
 					for (;;) {
-						if (n140 == n135) {
-							n142 = n135;
+						if (n150 == n145) {
+							n152 = n145;
 							break;
 						}
-						if (n137 > n141) {
-							n142 = n140;
+						if (n147 > n151) {
+							n152 = n150;
 							break;
 						}
-						uint64_t n143 = (uint64_t)load32(at(p136, (n137 + n139) << 3) + 4);
-						n139 = usub_sat64(n143, n137);
-						n140 = n140 + 1;
-						n141 = n143;
+						uint64_t n153 = (uint64_t)load32(at(p146, (n147 + n149) << 3) + 4);
+						n149 = usub_sat64(n153, n147);
+						n150 = n150 + 1;
+						n151 = n153;
 					}
-					if ((((n135 - n142) << 1) + 64) < load64(p1 + 1368)) {
+					if ((((n145 - n152) << 1) + 64) < load64(p1 + 1368)) {
 						tp_handles_sweep(p1 + 1360, p1);
-						n116 = n125;
-						n117 = n127;
-						n118 = 0;
-						n119 = n126;
-						n120 = n128;
-						n121 = n129;
-						n122 = n130;
+						n126 = n135;
+						n127 = n137;
+						n128 = 0;
+						n129 = n136;
+						n130 = n138;
+						n131 = n139;
+						n132 = n140;
 					} else {
-						n116 = n125;
-						n117 = n127;
-						n118 = 0;
-						n119 = n126;
-						n120 = n128;
-						n121 = n129;
-						n122 = n130;
+						n126 = n135;
+						n127 = n137;
+						n128 = 0;
+						n129 = n136;
+						n130 = n138;
+						n131 = n139;
+						n132 = n140;
 					}
 				}
 			} else {
-				n116 = 1;
-				n117 = 0;
-				n118 = 1;
-				n119 = 0;
-				n120 = 0;
-				n121 = 0;
-				n122 = 0;
+				n126 = 1;
+				n127 = 0;
+				n128 = 1;
+				n129 = 0;
+				n130 = 0;
+				n131 = 0;
+				n132 = 0;
 			}
-			uint64_t n144 = load64(p3 + 8);
-			byte *p145 = inside(loadptr(p3), n144 << 6);
-			store8(p145, n118);
-			store8(p145 + 1, 0);
-			store64u(p145 + 8, n11);
-			store64u(p145 + 16, n12);
-			store64u(p145 + 24, ((uint64_t)n119 << 8) | (uint64_t)n116);
-			store64u(p145 + 32, n117);
-			store64u(p145 + 40, n120);
-			store64u(p145 + 48, n121);
-			store64u(p145 + 56, n122);
-			store64(p3 + 8, n144 + 1);
+			uint64_t n154 = load64(p3 + 8);
+			byte *p155 = inside(loadptr(p3), n154 << 6);
+			store8(p155, n128);
+			store8(p155 + 1, 0);
+			store64u(p155 + 8, n11);
+			store64u(p155 + 16, n12);
+			store64u(p155 + 24, ((uint64_t)n129 << 8) | (uint64_t)n126);
+			store64u(p155 + 32, n127);
+			store64u(p155 + 40, n130);
+			store64u(p155 + 48, n131);
+			store64u(p155 + 56, n132);
+			store64(p3 + 8, n154 + 1);
 			return 0;
 		}
 	}
 	case 3: {
-		uint64_t n153, n168;
-		uint8_t n158;
-		byte *p169;
-		uint64_t n146 = load64(p1 + 64);
-		byte *p147 = loadptr(p1 + 80);
-		uint64_t n148 = load64(p1 + 104);
-		uint64_t n149 = (uint64_t)load32(at(p147, load64(p1 + 32) << 3) + 4);
-		uint64_t n150 = usub_sat64(n149, n148);
-		uint64_t n151 = 0;
-		uint64_t n152 = n149;
+		uint64_t n163, n178;
+		uint8_t n168;
+		byte *p179;
+		uint64_t n156 = load64(p1 + 64);
+		byte *p157 = loadptr(p1 + 80);
+		uint64_t n158 = load64(p1 + 104);
+		uint64_t n159 = (uint64_t)load32(at(p157, load64(p1 + 32) << 3) + 4);
+		uint64_t n160 = usub_sat64(n159, n158);
+		uint64_t n161 = 0;
+		uint64_t n162 = n159;
 		for (;;) {
-			if (n151 == n146) {
-				n153 = n146;
+			if (n161 == n156) {
+				n163 = n156;
 				break;
 			}
-			if (n148 > n152) {
-				n153 = n151;
+			if (n158 > n162) {
+				n163 = n161;
 				break;
 			}
-			uint64_t n154 = (uint64_t)load32(at(p147, (n148 + n150) << 3) + 4);
-			n150 = usub_sat64(n154, n148);
-			n151 = n151 + 1;
-			n152 = n154;
+			uint64_t n164 = (uint64_t)load32(at(p157, (n158 + n160) << 3) + 4);
+			n160 = usub_sat64(n164, n158);
+			n161 = n161 + 1;
+			n162 = n164;
 		}
-		uint64_t n155 = (n146 - n153) + 1;
-		if (n155 > (load64(p3 + 16) - load64(p3 + 8))) {
-			bool b156 = tp_std_alloc_vec_Vec_grow_amortized_4(p3, n155);
-			if (!b156)
+		uint64_t n165 = (n156 - n163) + 1;
+		if (n165 > (load64(p3 + 16) - load64(p3 + 8))) {
+			bool b166 = tp_std_alloc_vec_Vec_grow_amortized_4(p3, n165);
+			if (!b166)
 				return 1;
 		}
-		uint64_t n157 = n11;
+		uint64_t n167 = n11;
 		for (;;) {
-			uint64_t n166, n167;
-			if (n157 == 0)
-				goto L5;
+			uint64_t n176, n177;
+			if (n167 == 0)
+				goto L6;
 			if ((load8(p1 + 1320) & 1) != 0) {
-				n158 = 0;
+				n168 = 0;
 				break;
 			}
-			uint64_t n159 = load64(p1 + 16);
-			uint64_t n160 = load64(p1 + 8);
-			if (n159 == n160) {
-				n158 = 1;
+			uint64_t n169 = load64(p1 + 16);
+			uint64_t n170 = load64(p1 + 8);
+			if (n169 == n170) {
+				n168 = 1;
 				break;
 			}
-			uint64_t n161 = umin64(n160 - n159, n157);
-			uint64_t n162 = n159 + n161;
+			uint64_t n171 = umin64(n170 - n169, n167);
+			uint64_t n172 = n169 + n171;
 			switch (MOSTLY_0(load8(p1))) {
 			case 0: {
-				if ((n162 ^ n159) < 64) {
-					uint64_t n163 = load64(p1 + 128);
-					if ((n163 == 0) || ((n162 & 63) < cttz64(n163)))
-						goto L6;
+				if ((n172 ^ n169) < 64) {
+					uint64_t n173 = load64(p1 + 128);
+					if ((n173 == 0) || ((n172 & 63) < cttz64(n173)))
+						goto L7;
 				}
 				break;
 			}
 			case 1: {
-				if ((n162 / 60) == (n159 / 60)) {
-					uint64_t n164 = load64(p1 + 128);
-					if ((n164 == 0) || ((n162 % 60) < cttz64(n164)))
-						goto L6;
+				if ((n172 / 60) == (n169 / 60)) {
+					uint64_t n174 = load64(p1 + 128);
+					if ((n174 == 0) || ((n172 % 60) < cttz64(n174)))
+						goto L7;
 				}
 				break;
 			}
 			case 2: {
-				if ((n162 ^ n159) < 16) {
-					uint64_t n165 = load64(p1 + 128);
-					if ((n165 == 0) || ((n162 & 15) < cttz64(n165)))
-						goto L6;
+				if ((n172 ^ n169) < 16) {
+					uint64_t n175 = load64(p1 + 128);
+					if ((n175 == 0) || ((n172 & 15) < cttz64(n175)))
+						goto L7;
 				}
 				break;
 			}
@@ -64952,131 +65071,131 @@ L4:
 				UNREACHABLE();
 			}
 			}
-			n166 = tp_HierWheel_advance_far(p1, n161);
-			n167 = n166;
-			goto L7;
-L6:
-			{
-				store64(p1 + 16, n162);
-				store64(p1 + 264, load64(p1 + 264) + n161);
-				n167 = n161;
-			}
+			n176 = tp_HierWheel_advance_far(p1, n171);
+			n177 = n176;
+			goto L8;
 L7:
 			{
+				store64(p1 + 16, n172);
+				store64(p1 + 264, load64(p1 + 264) + n171);
+				n177 = n171;
+			}
+L8:
+			{
 				tp_player_hand_out(p1, p3);
-				n157 = n157 - n167;
+				n167 = n167 - n177;
 			}
 		}
-		n168 = load64(p3 + 8);
-		p169 = inside(loadptr(p3), n168 << 6);
-		store8(p169, 3);
-		store8(p169 + 1, n158);
-		memset(p169 + 8, 0, 56);
-		store64(p3 + 8, n168 + 1);
-L5:
+		n178 = load64(p3 + 8);
+		p179 = inside(loadptr(p3), n178 << 6);
+		store8(p179, 3);
+		store8(p179 + 1, n168);
+		memset(p179 + 8, 0, 56);
+		store64(p3 + 8, n178 + 1);
+L6:
 		{
-			uint64_t n177;
-			uint64_t n170 = load64(p1 + 64);
-			byte *p171 = loadptr(p1 + 80);
-			uint64_t n172 = load64(p1 + 104);
-			uint64_t n173 = (uint64_t)load32(at(p171, load64(p1 + 32) << 3) + 4);
-			uint64_t n174 = usub_sat64(n173, n172);
-			uint64_t n175 = 0;
-			uint64_t n176 = n173;
+			uint64_t n187;
+			uint64_t n180 = load64(p1 + 64);
+			byte *p181 = loadptr(p1 + 80);
+			uint64_t n182 = load64(p1 + 104);
+			uint64_t n183 = (uint64_t)load32(at(p181, load64(p1 + 32) << 3) + 4);
+			uint64_t n184 = usub_sat64(n183, n182);
+			uint64_t n185 = 0;
+			uint64_t n186 = n183;
 			for (;;) {
-				if (n175 == n170) {
-					n177 = n170;
+				if (n185 == n180) {
+					n187 = n180;
 					break;
 				}
-				if (n172 > n176) {
-					n177 = n175;
+				if (n182 > n186) {
+					n187 = n185;
 					break;
 				}
-				uint64_t n178 = (uint64_t)load32(at(p171, (n172 + n174) << 3) + 4);
-				n174 = usub_sat64(n178, n172);
-				n175 = n175 + 1;
-				n176 = n178;
+				uint64_t n188 = (uint64_t)load32(at(p181, (n182 + n184) << 3) + 4);
+				n184 = usub_sat64(n188, n182);
+				n185 = n185 + 1;
+				n186 = n188;
 			}
-			if ((((n170 - n177) << 1) + 64) >= load64(p1 + 1368))
+			if ((((n180 - n187) << 1) + 64) >= load64(p1 + 1368))
 				return 0;
 			tp_handles_sweep(p1 + 1360, p1);
 			return 0;
 		}
 	}
 	case 4: {
-		uint64_t n186, n203;
-		uint64_t n179 = load64(p1 + 64);
-		byte *p180 = loadptr(p1 + 80);
-		uint64_t n181 = load64(p1 + 104);
-		uint64_t n182 = (uint64_t)load32(at(p180, load64(p1 + 32) << 3) + 4);
-		uint64_t n183 = usub_sat64(n182, n181);
-		uint64_t n184 = 0;
-		uint64_t n185 = n182;
+		uint64_t n196, n213;
+		uint64_t n189 = load64(p1 + 64);
+		byte *p190 = loadptr(p1 + 80);
+		uint64_t n191 = load64(p1 + 104);
+		uint64_t n192 = (uint64_t)load32(at(p190, load64(p1 + 32) << 3) + 4);
+		uint64_t n193 = usub_sat64(n192, n191);
+		uint64_t n194 = 0;
+		uint64_t n195 = n192;
 		for (;;) {
-			if (n184 == n179) {
-				n186 = n179;
+			if (n194 == n189) {
+				n196 = n189;
 				break;
 			}
-			if (n181 > n185) {
-				n186 = n184;
+			if (n191 > n195) {
+				n196 = n194;
 				break;
 			}
-			uint64_t n187 = (uint64_t)load32(at(p180, (n181 + n183) << 3) + 4);
-			n183 = usub_sat64(n187, n181);
-			n184 = n184 + 1;
-			n185 = n187;
+			uint64_t n197 = (uint64_t)load32(at(p190, (n191 + n193) << 3) + 4);
+			n193 = usub_sat64(n197, n191);
+			n194 = n194 + 1;
+			n195 = n197;
 		}
-		uint64_t n188 = (n179 - n186) + 1;
-		if (n188 > (load64(p3 + 16) - load64(p3 + 8))) {
-			bool b189 = tp_std_alloc_vec_Vec_grow_amortized_4(p3, n188);
-			if (!b189)
+		uint64_t n198 = (n189 - n196) + 1;
+		if (n198 > (load64(p3 + 16) - load64(p3 + 8))) {
+			bool b199 = tp_std_alloc_vec_Vec_grow_amortized_4(p3, n198);
+			if (!b199)
 				return 1;
 		}
 		if ((load8(p1 + 1320) & 1) != 0) {
-			uint64_t n190 = load64(p3 + 8);
-			byte *p191 = inside(loadptr(p3), n190 << 6);
-			store8(p191, 5);
-			store8(p191 + 1, 0);
-			memset(p191 + 8, 0, 56);
-			store64(p3 + 8, n190 + 1);
+			uint64_t n200 = load64(p3 + 8);
+			byte *p201 = inside(loadptr(p3), n200 << 6);
+			store8(p201, 5);
+			store8(p201 + 1, 0);
+			memset(p201 + 8, 0, 56);
+			store64(p3 + 8, n200 + 1);
 			return 0;
 		}
-		uint8_t n192 = tp_facility_take_all(p1, p1 + 1328);
-		if ((n192 & 1) != 0)
+		uint8_t n202 = tp_facility_take_all(p1, p1 + 1328);
+		if ((n202 & 1) != 0)
 			return 1;
 		store64(p1 + 1352, 0);
 		store8(p1 + 1320, 1);
-		uint64_t n193 = load64(p3 + 8);
-		byte *p194 = inside(loadptr(p3), n193 << 6);
-		uint64_t n195 = load64(p1 + 1336);
-		store8(p194, 4);
-		store8(p194 + 1, 0);
-		store64u(p194 + 8, n195);
-		memset(p194 + 16, 0, 48);
-		store64(p3 + 8, n193 + 1);
+		uint64_t n203 = load64(p3 + 8);
+		byte *p204 = inside(loadptr(p3), n203 << 6);
+		uint64_t n205 = load64(p1 + 1336);
+		store8(p204, 4);
+		store8(p204 + 1, 0);
+		store64u(p204 + 8, n205);
+		memset(p204 + 16, 0, 48);
+		store64(p3 + 8, n203 + 1);
 		tp_player_hand_out(p1, p3);
-		uint64_t n196 = load64(p1 + 64);
-		byte *p197 = loadptr(p1 + 80);
-		uint64_t n198 = load64(p1 + 104);
-		uint64_t n199 = (uint64_t)load32(at(p197, load64(p1 + 32) << 3) + 4);
-		uint64_t n200 = usub_sat64(n199, n198);
-		uint64_t n201 = 0;
-		uint64_t n202 = n199;
+		uint64_t n206 = load64(p1 + 64);
+		byte *p207 = loadptr(p1 + 80);
+		uint64_t n208 = load64(p1 + 104);
+		uint64_t n209 = (uint64_t)load32(at(p207, load64(p1 + 32) << 3) + 4);
+		uint64_t n210 = usub_sat64(n209, n208);
+		uint64_t n211 = 0;
+		uint64_t n212 = n209;
 		for (;;) {
-			if (n201 == n196) {
-				n203 = n196;
+			if (n211 == n206) {
+				n213 = n206;
 				break;
 			}
-			if (n198 > n202) {
-				n203 = n201;
+			if (n208 > n212) {
+				n213 = n211;
 				break;
 			}
-			uint64_t n204 = (uint64_t)load32(at(p197, (n198 + n200) << 3) + 4);
-			n200 = usub_sat64(n204, n198);
-			n201 = n201 + 1;
-			n202 = n204;
+			uint64_t n214 = (uint64_t)load32(at(p207, (n208 + n210) << 3) + 4);
+			n210 = usub_sat64(n214, n208);
+			n211 = n211 + 1;
+			n212 = n214;
 		}
-		if ((((n196 - n203) << 1) + 64) >= load64(p1 + 1368))
+		if ((((n206 - n213) << 1) + 64) >= load64(p1 + 1368))
 			return 0;
 		tp_handles_sweep(p1 + 1360, p1);
 		return 0;
@@ -77435,16 +77554,16 @@ L5:
 		p429 = p6;
 L6:
 		{
-			byte *p772, *p795, *p797, *p799, *p801, *p803, *p805, *p808, *p811;
-			uint64_t n774, n796, n798, n800, n802, n804, n806, n807, n809, n810, n812;
+			byte *p770, *p793, *p795, *p797, *p799, *p801, *p803, *p806, *p809;
+			uint64_t n772, n794, n796, n798, n800, n802, n804, n805, n807, n808, n810;
 			storeptru(p19, p6);
 			memset(p19 + 8, 0, 16);
 			uint64_t n462 = 0;
 			while (n462 < 10000000) {
 				byte *p465, *p482, *p484, *p488;
-				uint64_t n466, n467, n468, n469, n470, n471, n473, n475, n476, n481, n483, n485, n487, n489, n490, n491, n492, n493, n494, n496, n498, n773, n775, n786;
+				uint64_t n466, n467, n468, n469, n470, n471, n473, n475, n476, n481, n483, n485, n487, n489, n490, n491, n492, n493, n494, n496, n498, n771, n773, n784;
 				bool b486;
-				uint8_t n776;
+				uint8_t n774;
 				uint64_t n463 = 0;
 				for (;;) {
 					if (n463 == n201)
@@ -77458,7 +77577,7 @@ L6:
 				}
 				p465 = loadptr(p18 + 80);
 				if (n463 >= n201) {
-					p795 = p465;
+					p793 = p465;
 					goto L9;
 				}
 				n466 = load64(p18 + 64);
@@ -77552,8 +77671,8 @@ L6:
 				memcpy(p16, p17 + 7, 24);
 				n498 = 0;
 				while (n498 != n483) {
-					uint8_t n718, n719;
-					uint64_t n720, n721, n722, n723, n724, n725, n726;
+					uint8_t n716, n717;
+					uint64_t n718, n719, n720, n721, n722, n723, n724;
 					byte *p499 = at(p484, n498 << 4);
 					uint8_t n500 = load8(p499);
 					uint64_t n501 = load64u(p499 + 8);
@@ -77812,7 +77931,7 @@ L6:
 											uint8_t n592 = load8(p18);
 											bool b593 = n579 < n591;
 											if (b593) {
-												uint64_t n602, n603, n604;
+												uint64_t n601, n602, n603;
 												switch (MOSTLY_0(n592)) {
 												case 0: {
 													uint32_t n594 = (((uint32_t)ctlz64(n579 ^ n591) ^ 63) * 43) >> 8;
@@ -77824,32 +77943,30 @@ L6:
 													goto L14;
 												}
 												case 1: {
-													uint32_t n599;
 													uint32_t n596 = (uint32_t)n591;
 													uint32_t n597 = (uint32_t)n579;
 													uint32_t n598 = n596 / 60;
 													if ((n597 / 60) == n598) {
-														n599 = n596 % 60;
-													} else {
-														uint32_t n600 = n596 / 3600;
-														if ((n597 / 3600) == n600) {
-															n599 = (n598 % 60) + 60;
-														} else {
-															uint32_t n601 = n596 / 86400;
-															if ((n597 / 86400) == n601) {
-																n599 = (n600 % 24) + 120;
-															} else {
-																n599 = n601 + 144;
-															}
-														}
+														n595 = (uint64_t)(n596 % 60);
+														goto L14;
 													}
-													n595 = (uint64_t)n599;
+													uint32_t n599 = n596 / 3600;
+													if ((n597 / 3600) == n599) {
+														n595 = (uint64_t)((n598 % 60) + 60);
+														goto L14;
+													}
+													uint32_t n600 = n596 / 86400;
+													if ((n597 / 86400) == n600) {
+														n595 = (uint64_t)((n599 % 24) + 120);
+														goto L14;
+													}
+													n595 = (uint64_t)(n600 + 144);
 													goto L14;
 												}
 												case 2: {
-													n602 = n591;
-													n603 = n579;
-													n604 = 0;
+													n601 = n591;
+													n602 = n579;
+													n603 = 0;
 													break;
 												}
 												default: {
@@ -77857,137 +77974,137 @@ L6:
 												}
 												}
 												for (;;) {
-													uint64_t n605 = n603 >> 4;
-													uint64_t n606 = n602 >> 4;
-													if (n605 == n606)
+													uint64_t n604 = n602 >> 4;
+													uint64_t n605 = n601 >> 4;
+													if (n604 == n605)
 														break;
-													n602 = n606;
-													n603 = n605;
-													n604 = n604 + 16;
+													n601 = n605;
+													n602 = n604;
+													n603 = n603 + 16;
 												}
-												n595 = n604 | (n602 & 15);
+												n595 = n603 | (n601 & 15);
 											} else {
 												n595 = n582;
 											}
 L14:
 											{
-												uint64_t n608, n609, n613;
-												uint64_t n607 = load64(p18 + 72);
-												if (n607 < load64(p18 + 120)) {
-													n608 = n581;
-													n609 = n607;
+												uint64_t n607, n608, n612;
+												uint64_t n606 = load64(p18 + 72);
+												if (n606 < load64(p18 + 120)) {
+													n607 = n581;
+													n608 = n606;
 												} else {
-													uint8_t n610 = tp_links_make_ready(p18 + 40, p18 + 80, n584, load64(p18 + 112));
-													if ((n610 & 1) != 0)
+													uint8_t n609 = tp_links_make_ready(p18 + 40, p18 + 80, n584, load64(p18 + 112));
+													if ((n609 & 1) != 0)
 														goto L15;
 													store64(p18 + 120, umin64(load64(p18 + 88) - n584, load64(p18 + 56)));
-													n608 = load64(p18 + 64);
-													n609 = load64(p18 + 72);
+													n607 = load64(p18 + 64);
+													n608 = load64(p18 + 72);
 												}
-												store64(p18 + 64, n608 + 1);
-												if (n609 == load64(p18 + 48)) {
-													byte *p611 = inside(loadptr(p18 + 40), n609 * 48);
-													store64u(p611, 1);
-													store64u(p611 + 8, n580);
-													store64u(p611 + 16, n501);
-													store64u(p611 + 24, n524);
-													store64u(p611 + 32, n591);
-													store64u(p611 + 40, n523);
-													uint64_t n612 = n609 + 1;
-													store64(p18 + 48, n612);
-													n613 = n612;
+												store64(p18 + 64, n607 + 1);
+												if (n608 == load64(p18 + 48)) {
+													byte *p610 = inside(loadptr(p18 + 40), n608 * 48);
+													store64u(p610, 1);
+													store64u(p610 + 8, n580);
+													store64u(p610 + 16, n501);
+													store64u(p610 + 24, n524);
+													store64u(p610 + 32, n591);
+													store64u(p610 + 40, n523);
+													uint64_t n611 = n608 + 1;
+													store64(p18 + 48, n611);
+													n612 = n611;
 												} else {
-													byte *p614 = at(loadptr(p18 + 40), n609 * 48);
-													uint8_t n615 = load8(p614);
-													uint64_t n616 = load64u(p614 + 8);
-													store64u(p614, 1);
-													store64u(p614 + 8, n580);
-													store64u(p614 + 16, n501);
-													store64u(p614 + 24, n524);
-													store64u(p614 + 32, n591);
-													store64u(p614 + 40, n523);
-													if (n615 != 0) {
+													byte *p613 = at(loadptr(p18 + 40), n608 * 48);
+													uint8_t n614 = load8(p613);
+													uint64_t n615 = load64u(p613 + 8);
+													store64u(p613, 1);
+													store64u(p613 + 8, n580);
+													store64u(p613 + 16, n501);
+													store64u(p613 + 24, n524);
+													store64u(p613 + 32, n591);
+													store64u(p613 + 40, n523);
+													if (n614 != 0) {
 														TRAP();
 														UNREACHABLE();
 													}
-													n613 = n616;
+													n612 = n615;
 												}
-												store64(p18 + 72, n613);
-												uint64_t n617 = load64(p18 + 104) + n609;
-												byte *p618 = loadptr(p18 + 80);
-												uint64_t n619 = n595 << 3;
-												byte *p620 = inside(p618, n619);
-												uint32_t n621 = load32(p620);
-												uint32_t n622 = (uint32_t)n617;
-												store32(inside(p618, (uint64_t)n621 << 3) + 4, n622);
-												byte *p623 = inside(p618, n617 << 3);
-												store32(p623, n621);
-												store32(p623 + 4, (uint32_t)n595);
-												store32(p620, n622);
+												store64(p18 + 72, n612);
+												uint64_t n616 = load64(p18 + 104) + n608;
+												byte *p617 = loadptr(p18 + 80);
+												uint64_t n618 = n595 << 3;
+												byte *p619 = inside(p617, n618);
+												uint32_t n620 = load32(p619);
+												uint32_t n621 = (uint32_t)n616;
+												store32(inside(p617, (uint64_t)n620 << 3) + 4, n621);
+												byte *p622 = inside(p617, n616 << 3);
+												store32(p622, n620);
+												store32(p622 + 4, (uint32_t)n595);
+												store32(p619, n621);
 												store64(p18 + 24, n580);
 												if (b593) {
-													byte *p624 = inside(p18 + 128, (n595 >> 3) & 536870904);
-													store64(p624, load64(p624) | ((uint64_t)1 << (n595 & 63)));
+													byte *p623 = inside(p18 + 128, (n595 >> 3) & 536870904);
+													store64(p623, load64(p623) | ((uint64_t)1 << (n595 & 63)));
 													if ((load8(p18 + 232) & 1) != 0) {
-														uint64_t n625;
+														uint64_t n624;
 														switch (MOSTLY_0(n592)) {
 														case 0: {
-															n625 = 64;
+															n624 = 64;
 															break;
 														}
 														case 1: {
-															n625 = 60;
+															n624 = 60;
 															break;
 														}
 														case 2: {
-															n625 = 16;
+															n624 = 16;
 															break;
 														}
 														default: {
 															UNREACHABLE();
 														}
 														}
-														if (n595 >= n625) {
-															byte *p626 = at(loadptr(p18 + 208), n595 << 4);
-															if (load8(p626) == 0) {
-																if (n591 < load64(p626 + 8)) {
-																	uint64_t n631;
-																	uint64_t n627 = load64(p18 + 104);
-																	uint64_t n628 = (uint64_t)load32(at(loadptr(p18 + 80), n619) + 4);
-																	if (n627 <= n628) {
-																		uint64_t n629 = usub_sat64(n628, n627);
-																		byte *p630 = at(loadptr(p18 + 40), n629 * 48);
-																		if (n629 < load64(p18 + 48)) {
-																			if (load8(p630) == 1) {
-																				n631 = umin64(n591, load64u(p630 + 32));
+														if (n595 >= n624) {
+															byte *p625 = at(loadptr(p18 + 208), n595 << 4);
+															if (load8(p625) == 0) {
+																if (n591 < load64(p625 + 8)) {
+																	uint64_t n630;
+																	uint64_t n626 = load64(p18 + 104);
+																	uint64_t n627 = (uint64_t)load32(at(loadptr(p18 + 80), n618) + 4);
+																	if (n626 <= n627) {
+																		uint64_t n628 = usub_sat64(n627, n626);
+																		byte *p629 = at(loadptr(p18 + 40), n628 * 48);
+																		if (n628 < load64(p18 + 48)) {
+																			if (load8(p629) == 1) {
+																				n630 = umin64(n591, load64u(p629 + 32));
 																			} else {
-																				n631 = n591;
+																				n630 = n591;
 																			}
 																		} else {
-																			n631 = n591;
+																			n630 = n591;
 																		}
 																	} else {
-																		n631 = n591;
+																		n630 = n591;
 																	}
-																	store32u(p626, 1);
-																	store32u(p626 + 4, 1);
-																	store64u(p626 + 8, n631);
+																	store32u(p625, 1);
+																	store32u(p625 + 4, 1);
+																	store64u(p625 + 8, n630);
 																	store64(p18 + 240, load64(p18 + 240) + 1);
 																} else {
-																	store32u(p626, 0);
-																	store32u(p626 + 4, 0);
-																	store64u(p626 + 8, n591);
+																	store32u(p625, 0);
+																	store32u(p625 + 4, 0);
+																	store64u(p625 + 8, n591);
 																}
 															} else {
-																uint32_t n632 = load32(p626 + 4);
-																uint64_t n633 = load64(p626 + 8);
-																if (n591 < n633) {
-																	store32u(p626, 1);
-																	store32u(p626 + 4, 1);
-																	store64u(p626 + 8, n591);
-																} else if (n591 == n633) {
-																	store32u(p626, 1);
-																	store32u(p626 + 4, uadd_sat32(n632, 1));
+																uint32_t n631 = load32(p625 + 4);
+																uint64_t n632 = load64(p625 + 8);
+																if (n591 < n632) {
+																	store32u(p625, 1);
+																	store32u(p625 + 4, 1);
+																	store64u(p625 + 8, n591);
+																} else if (n591 == n632) {
+																	store32u(p625, 1);
+																	store32u(p625 + 4, uadd_sat32(n631, 1));
 																}
 															}
 														}
@@ -77995,9 +78112,9 @@ L14:
 												}
 												store64(p18 + 248, load64(p18 + 248) + 1);
 												store64(p18 + 288, load64(p18 + 288) + 1);
-												byte *p634 = inside(p18 + 808, n570);
-												store64(p634, load64(p634) + 1);
-												n573 = n609;
+												byte *p633 = inside(p18 + 808, n570);
+												store64(p633, load64(p633) + 1);
+												n573 = n608;
 												n574 = n580;
 												n575 = 0;
 												n576 = 0;
@@ -78015,10 +78132,10 @@ L14:
 										goto L13;
 									}
 									case 1: {
-										uint64_t n646;
-										uint64_t n635 = load64(p18 + 16);
-										uint64_t n636 = usub_sat64(n522, n635);
-										if ((load64(p18 + 8) - n635) < umax64(n636, 1)) {
+										uint64_t n645;
+										uint64_t n634 = load64(p18 + 16);
+										uint64_t n635 = usub_sat64(n522, n634);
+										if ((load64(p18 + 8) - n634) < umax64(n635, 1)) {
 											n573 = 0;
 											n574 = 0;
 											n575 = 3;
@@ -78027,8 +78144,8 @@ L14:
 											n578 = 0;
 											goto L13;
 										}
-										uint64_t n637 = load64(p18 + 288);
-										if (n637 > UINT64_C(1152921504606846975)) {
+										uint64_t n636 = load64(p18 + 288);
+										if (n636 > UINT64_C(1152921504606846975)) {
 											n573 = 0;
 											n574 = 0;
 											n575 = 3;
@@ -78037,72 +78154,70 @@ L14:
 											n578 = 0;
 											goto L13;
 										}
-										uint64_t n638 = load64(p18 + 64);
-										uint64_t n639 = load64(p18 + 32);
-										byte *p640 = loadptr(p18 + 80);
-										uint64_t n641 = load64(p18 + 104);
-										uint64_t n642 = (uint64_t)load32(at(p640, n639 << 3) + 4);
-										uint64_t n643 = usub_sat64(n642, n641);
-										uint64_t n644 = 0;
-										uint64_t n645 = n642;
+										uint64_t n637 = load64(p18 + 64);
+										uint64_t n638 = load64(p18 + 32);
+										byte *p639 = loadptr(p18 + 80);
+										uint64_t n640 = load64(p18 + 104);
+										uint64_t n641 = (uint64_t)load32(at(p639, n638 << 3) + 4);
+										uint64_t n642 = usub_sat64(n641, n640);
+										uint64_t n643 = 0;
+										uint64_t n644 = n641;
 										for (;;) {
-											if (n644 == n638) {
-												n646 = n638;
+											if (n643 == n637) {
+												n645 = n637;
 												break;
 											}
-											if (n641 > n645) {
-												n646 = n644;
+											if (n640 > n644) {
+												n645 = n643;
 												break;
 											}
-											uint64_t n647 = (uint64_t)load32(at(p640, (n641 + n643) << 3) + 4);
-											n643 = usub_sat64(n647, n641);
-											n644 = n644 + 1;
-											n645 = n647;
+											uint64_t n646 = (uint64_t)load32(at(p639, (n640 + n642) << 3) + 4);
+											n642 = usub_sat64(n646, n640);
+											n643 = n643 + 1;
+											n644 = n646;
 										}
-										if ((n638 - n646) != load64(p18 + 280)) {
-											uint64_t n652;
-											uint64_t n648 = n635 + n636;
-											uint8_t n649 = load8(p18);
-											bool b650 = n635 < n648;
-											if (b650) {
-												uint64_t n659, n660, n661;
-												switch (MOSTLY_0(n649)) {
+										if ((n637 - n645) != load64(p18 + 280)) {
+											uint64_t n651;
+											uint64_t n647 = n634 + n635;
+											uint8_t n648 = load8(p18);
+											bool b649 = n634 < n647;
+											if (b649) {
+												uint64_t n657, n658, n659;
+												switch (MOSTLY_0(n648)) {
 												case 0: {
-													uint32_t n651 = (((uint32_t)ctlz64(n635 ^ n648) ^ 63) * 43) >> 8;
-													if (n651 == 0) {
-														n652 = n648 & 63;
+													uint32_t n650 = (((uint32_t)ctlz64(n634 ^ n647) ^ 63) * 43) >> 8;
+													if (n650 == 0) {
+														n651 = n647 & 63;
 														goto L16;
 													}
-													n652 = ((n648 >> ((uint64_t)(n651 * 6) & 63)) & 63) | (uint64_t)(n651 << 6);
+													n651 = ((n647 >> ((uint64_t)(n650 * 6) & 63)) & 63) | (uint64_t)(n650 << 6);
 													goto L16;
 												}
 												case 1: {
-													uint32_t n656;
-													uint32_t n653 = (uint32_t)n648;
-													uint32_t n654 = (uint32_t)n635;
-													uint32_t n655 = n653 / 60;
-													if ((n654 / 60) == n655) {
-														n656 = n653 % 60;
-													} else {
-														uint32_t n657 = n653 / 3600;
-														if ((n654 / 3600) == n657) {
-															n656 = (n655 % 60) + 60;
-														} else {
-															uint32_t n658 = n653 / 86400;
-															if ((n654 / 86400) == n658) {
-																n656 = (n657 % 24) + 120;
-															} else {
-																n656 = n658 + 144;
-															}
-														}
+													uint32_t n652 = (uint32_t)n647;
+													uint32_t n653 = (uint32_t)n634;
+													uint32_t n654 = n652 / 60;
+													if ((n653 / 60) == n654) {
+														n651 = (uint64_t)(n652 % 60);
+														goto L16;
 													}
-													n652 = (uint64_t)n656;
+													uint32_t n655 = n652 / 3600;
+													if ((n653 / 3600) == n655) {
+														n651 = (uint64_t)((n654 % 60) + 60);
+														goto L16;
+													}
+													uint32_t n656 = n652 / 86400;
+													if ((n653 / 86400) == n656) {
+														n651 = (uint64_t)((n655 % 24) + 120);
+														goto L16;
+													}
+													n651 = (uint64_t)(n656 + 144);
 													goto L16;
 												}
 												case 2: {
-													n659 = n648;
-													n660 = n635;
-													n661 = 0;
+													n657 = n647;
+													n658 = n634;
+													n659 = 0;
 													break;
 												}
 												default: {
@@ -78110,137 +78225,137 @@ L14:
 												}
 												}
 												for (;;) {
-													uint64_t n662 = n660 >> 4;
-													uint64_t n663 = n659 >> 4;
-													if (n662 == n663)
+													uint64_t n660 = n658 >> 4;
+													uint64_t n661 = n657 >> 4;
+													if (n660 == n661)
 														break;
-													n659 = n663;
-													n660 = n662;
-													n661 = n661 + 16;
+													n657 = n661;
+													n658 = n660;
+													n659 = n659 + 16;
 												}
-												n652 = n661 | (n659 & 15);
+												n651 = n659 | (n657 & 15);
 											} else {
-												n652 = n639;
+												n651 = n638;
 											}
 L16:
 											{
-												uint64_t n665, n666, n670;
-												uint64_t n664 = load64(p18 + 72);
-												if (n664 < load64(p18 + 120)) {
-													n665 = n638;
-													n666 = n664;
+												uint64_t n663, n664, n668;
+												uint64_t n662 = load64(p18 + 72);
+												if (n662 < load64(p18 + 120)) {
+													n663 = n637;
+													n664 = n662;
 												} else {
-													uint8_t n667 = tp_links_make_ready(p18 + 40, p18 + 80, n641, load64(p18 + 112));
-													if ((n667 & 1) != 0)
+													uint8_t n665 = tp_links_make_ready(p18 + 40, p18 + 80, n640, load64(p18 + 112));
+													if ((n665 & 1) != 0)
 														goto L15;
-													store64(p18 + 120, umin64(load64(p18 + 88) - n641, load64(p18 + 56)));
-													n665 = load64(p18 + 64);
-													n666 = load64(p18 + 72);
+													store64(p18 + 120, umin64(load64(p18 + 88) - n640, load64(p18 + 56)));
+													n663 = load64(p18 + 64);
+													n664 = load64(p18 + 72);
 												}
-												store64(p18 + 64, n665 + 1);
-												if (n666 == load64(p18 + 48)) {
-													byte *p668 = inside(loadptr(p18 + 40), n666 * 48);
-													store64u(p668, 1);
-													store64u(p668 + 8, n637);
-													store64u(p668 + 16, n501);
-													store64u(p668 + 24, n524);
-													store64u(p668 + 32, n648);
-													store64u(p668 + 40, n523);
-													uint64_t n669 = n666 + 1;
-													store64(p18 + 48, n669);
-													n670 = n669;
+												store64(p18 + 64, n663 + 1);
+												if (n664 == load64(p18 + 48)) {
+													byte *p666 = inside(loadptr(p18 + 40), n664 * 48);
+													store64u(p666, 1);
+													store64u(p666 + 8, n636);
+													store64u(p666 + 16, n501);
+													store64u(p666 + 24, n524);
+													store64u(p666 + 32, n647);
+													store64u(p666 + 40, n523);
+													uint64_t n667 = n664 + 1;
+													store64(p18 + 48, n667);
+													n668 = n667;
 												} else {
-													byte *p671 = at(loadptr(p18 + 40), n666 * 48);
-													uint8_t n672 = load8(p671);
-													uint64_t n673 = load64u(p671 + 8);
-													store64u(p671, 1);
-													store64u(p671 + 8, n637);
-													store64u(p671 + 16, n501);
-													store64u(p671 + 24, n524);
-													store64u(p671 + 32, n648);
-													store64u(p671 + 40, n523);
-													if (n672 != 0) {
+													byte *p669 = at(loadptr(p18 + 40), n664 * 48);
+													uint8_t n670 = load8(p669);
+													uint64_t n671 = load64u(p669 + 8);
+													store64u(p669, 1);
+													store64u(p669 + 8, n636);
+													store64u(p669 + 16, n501);
+													store64u(p669 + 24, n524);
+													store64u(p669 + 32, n647);
+													store64u(p669 + 40, n523);
+													if (n670 != 0) {
 														TRAP();
 														UNREACHABLE();
 													}
-													n670 = n673;
+													n668 = n671;
 												}
-												store64(p18 + 72, n670);
-												uint64_t n674 = load64(p18 + 104) + n666;
-												byte *p675 = loadptr(p18 + 80);
-												uint64_t n676 = n652 << 3;
-												byte *p677 = inside(p675, n676);
-												uint32_t n678 = load32(p677);
-												uint32_t n679 = (uint32_t)n674;
-												store32(inside(p675, (uint64_t)n678 << 3) + 4, n679);
-												byte *p680 = inside(p675, n674 << 3);
-												store32(p680, n678);
-												store32(p680 + 4, (uint32_t)n652);
-												store32(p677, n679);
-												store64(p18 + 24, n637);
-												if (b650) {
-													byte *p681 = inside(p18 + 128, (n652 >> 3) & 536870904);
-													store64(p681, load64(p681) | ((uint64_t)1 << (n652 & 63)));
+												store64(p18 + 72, n668);
+												uint64_t n672 = load64(p18 + 104) + n664;
+												byte *p673 = loadptr(p18 + 80);
+												uint64_t n674 = n651 << 3;
+												byte *p675 = inside(p673, n674);
+												uint32_t n676 = load32(p675);
+												uint32_t n677 = (uint32_t)n672;
+												store32(inside(p673, (uint64_t)n676 << 3) + 4, n677);
+												byte *p678 = inside(p673, n672 << 3);
+												store32(p678, n676);
+												store32(p678 + 4, (uint32_t)n651);
+												store32(p675, n677);
+												store64(p18 + 24, n636);
+												if (b649) {
+													byte *p679 = inside(p18 + 128, (n651 >> 3) & 536870904);
+													store64(p679, load64(p679) | ((uint64_t)1 << (n651 & 63)));
 													if ((load8(p18 + 232) & 1) != 0) {
-														uint64_t n682;
-														switch (MOSTLY_0(n649)) {
+														uint64_t n680;
+														switch (MOSTLY_0(n648)) {
 														case 0: {
-															n682 = 64;
+															n680 = 64;
 															break;
 														}
 														case 1: {
-															n682 = 60;
+															n680 = 60;
 															break;
 														}
 														case 2: {
-															n682 = 16;
+															n680 = 16;
 															break;
 														}
 														default: {
 															UNREACHABLE();
 														}
 														}
-														if (n652 >= n682) {
-															byte *p683 = at(loadptr(p18 + 208), n652 << 4);
-															if (load8(p683) == 0) {
-																if (n648 < load64(p683 + 8)) {
-																	uint64_t n688;
-																	uint64_t n684 = load64(p18 + 104);
-																	uint64_t n685 = (uint64_t)load32(at(loadptr(p18 + 80), n676) + 4);
-																	if (n684 <= n685) {
-																		uint64_t n686 = usub_sat64(n685, n684);
-																		byte *p687 = at(loadptr(p18 + 40), n686 * 48);
-																		if (n686 < load64(p18 + 48)) {
-																			if (load8(p687) == 1) {
-																				n688 = umin64(n648, load64u(p687 + 32));
+														if (n651 >= n680) {
+															byte *p681 = at(loadptr(p18 + 208), n651 << 4);
+															if (load8(p681) == 0) {
+																if (n647 < load64(p681 + 8)) {
+																	uint64_t n686;
+																	uint64_t n682 = load64(p18 + 104);
+																	uint64_t n683 = (uint64_t)load32(at(loadptr(p18 + 80), n674) + 4);
+																	if (n682 <= n683) {
+																		uint64_t n684 = usub_sat64(n683, n682);
+																		byte *p685 = at(loadptr(p18 + 40), n684 * 48);
+																		if (n684 < load64(p18 + 48)) {
+																			if (load8(p685) == 1) {
+																				n686 = umin64(n647, load64u(p685 + 32));
 																			} else {
-																				n688 = n648;
+																				n686 = n647;
 																			}
 																		} else {
-																			n688 = n648;
+																			n686 = n647;
 																		}
 																	} else {
-																		n688 = n648;
+																		n686 = n647;
 																	}
-																	store32u(p683, 1);
-																	store32u(p683 + 4, 1);
-																	store64u(p683 + 8, n688);
+																	store32u(p681, 1);
+																	store32u(p681 + 4, 1);
+																	store64u(p681 + 8, n686);
 																	store64(p18 + 240, load64(p18 + 240) + 1);
 																} else {
-																	store32u(p683, 0);
-																	store32u(p683 + 4, 0);
-																	store64u(p683 + 8, n648);
+																	store32u(p681, 0);
+																	store32u(p681 + 4, 0);
+																	store64u(p681 + 8, n647);
 																}
 															} else {
-																uint32_t n689 = load32(p683 + 4);
-																uint64_t n690 = load64(p683 + 8);
-																if (n648 < n690) {
-																	store32u(p683, 1);
-																	store32u(p683 + 4, 1);
-																	store64u(p683 + 8, n648);
-																} else if (n648 == n690) {
-																	store32u(p683, 1);
-																	store32u(p683 + 4, uadd_sat32(n689, 1));
+																uint32_t n687 = load32(p681 + 4);
+																uint64_t n688 = load64(p681 + 8);
+																if (n647 < n688) {
+																	store32u(p681, 1);
+																	store32u(p681 + 4, 1);
+																	store64u(p681 + 8, n647);
+																} else if (n647 == n688) {
+																	store32u(p681, 1);
+																	store32u(p681 + 4, uadd_sat32(n687, 1));
 																}
 															}
 														}
@@ -78248,13 +78363,13 @@ L16:
 												}
 												store64(p18 + 248, load64(p18 + 248) + 1);
 												store64(p18 + 288, load64(p18 + 288) + 1);
-												byte *p691 = inside(p18 + 808, n570);
-												store64(p691, load64(p691) + 1);
-												n573 = n666;
-												n574 = n637;
+												byte *p689 = inside(p18 + 808, n570);
+												store64(p689, load64(p689) + 1);
+												n573 = n664;
+												n574 = n636;
 												n575 = 0;
 												n576 = 0;
-												n577 = n648;
+												n577 = n647;
 												n578 = 0;
 												goto L13;
 											}
@@ -78268,43 +78383,43 @@ L16:
 										goto L13;
 									}
 									case 2: {
-										uint64_t n694;
-										uint8_t n695, n696;
-										byte *p692 = at(loadptr(p18 + 40), n522 * 48);
+										uint64_t n692;
+										uint8_t n693, n694;
+										byte *p690 = at(loadptr(p18 + 40), n522 * 48);
 										if (n522 < load64(p18 + 48)) {
-											if (load8(p692) == 1) {
-												if (load64u(p692 + 8) == n523) {
-													if (load64u(p692 + 16) == n501) {
+											if (load8(p690) == 1) {
+												if (load64u(p690 + 8) == n523) {
+													if (load64u(p690 + 16) == n501) {
 														tp_HierWheelWheel_stop(p13, p18, n522, n523);
-														byte *p693 = inside(p18 + 808, n570);
-														store64(p693, load64(p693) - 1);
-														n694 = n523;
-														n695 = 0;
-														n696 = 1;
+														byte *p691 = inside(p18 + 808, n570);
+														store64(p691, load64(p691) - 1);
+														n692 = n523;
+														n693 = 0;
+														n694 = 1;
 													} else {
-														n694 = 0;
-														n695 = 4;
-														n696 = 3;
+														n692 = 0;
+														n693 = 4;
+														n694 = 3;
 													}
 												} else {
-													n694 = 0;
-													n695 = 4;
-													n696 = 3;
+													n692 = 0;
+													n693 = 4;
+													n694 = 3;
 												}
 											} else {
-												n694 = 0;
-												n695 = 4;
-												n696 = 3;
+												n692 = 0;
+												n693 = 4;
+												n694 = 3;
 											}
 										} else {
-											n694 = 0;
-											n695 = 4;
-											n696 = 3;
+											n692 = 0;
+											n693 = 4;
+											n694 = 3;
 										}
-										n573 = n694;
+										n573 = n692;
 										n574 = 0;
-										n575 = n696;
-										n576 = n695;
+										n575 = n694;
+										n576 = n693;
 										n577 = 0;
 										n578 = 0;
 										goto L13;
@@ -78321,9 +78436,9 @@ L16:
 										goto L13;
 									}
 									case 4: {
-										uint64_t n697 = usub_sat64(n526, load64(p18 + 16));
+										uint64_t n695 = usub_sat64(n526, load64(p18 + 16));
 										memset(p11, 0, 40);
-										tp_Facility_take_restart(p11, p18, n501, n524, n522, n523, umax64(n697, 1), n697, n527);
+										tp_Facility_take_restart(p11, p18, n501, n524, n522, n523, umax64(n695, 1), n695, n527);
 										n573 = load64u(p11 + 8);
 										n574 = load64u(p11 + 16);
 										n575 = load8(p11);
@@ -78382,19 +78497,19 @@ L13:
 							}
 							if (load8(p503 + 32) == 1)
 								memset(p503 + 32, 0, 56);
-							uint64_t n698 = load64(p503 + 16);
-							uint64_t n699 = load64(p503 + 8);
-							if (n699 > n698) {
-								uint64_t n700 = load64(p503 + 24) + n698;
-								byte *p701 = inside(loadptru(p503), (n700 - ((n700 < n699) ? 0 : n699)) << 6);
-								store64u(p701, n565);
-								store64u(p701 + 8, n524);
-								store64u(p701 + 16, n563);
-								store64u(p701 + 24, n566);
-								store64u(p701 + 32, n564);
-								store64u(p701 + 40, n567);
-								store64u(p701 + 48, n568);
-								store64u(p701 + 56, n569);
+							uint64_t n696 = load64(p503 + 16);
+							uint64_t n697 = load64(p503 + 8);
+							if (n697 > n696) {
+								uint64_t n698 = load64(p503 + 24) + n696;
+								byte *p699 = inside(loadptru(p503), (n698 - ((n698 < n697) ? 0 : n697)) << 6);
+								store64u(p699, n565);
+								store64u(p699 + 8, n524);
+								store64u(p699 + 16, n563);
+								store64u(p699 + 24, n566);
+								store64u(p699 + 32, n564);
+								store64u(p699 + 40, n567);
+								store64u(p699 + 48, n568);
+								store64u(p699 + 56, n569);
 								store64(p503 + 16, load64(p503 + 16) + 1);
 								n508 = n563;
 								n509 = n566;
@@ -78429,146 +78544,146 @@ L13:
 						}
 L12:
 						{
-							uint64_t n702 = load64(p16 + 8);
-							byte *p703 = inside(loadptr(p16), n702 * 136);
-							store8(p703, 0);
-							memcpy(p703 + 1, p14, 7);
-							store64u(p703 + 8, n501);
-							store64u(p703 + 16, n519);
-							store64u(p703 + 24, n515);
-							store64u(p703 + 32, n516);
-							store64u(p703 + 40, n513);
-							store64u(p703 + 48, n514);
-							store64u(p703 + 56, n517);
-							store64u(p703 + 64, n518);
-							store64u(p703 + 72, n520);
-							store64u(p703 + 80, n515);
-							store64u(p703 + 88, n508);
-							store64u(p703 + 96, n509);
-							store64u(p703 + 104, n510);
-							store64u(p703 + 112, n511);
-							store64u(p703 + 120, n512);
-							store64u(p703 + 128, n521);
-							store64(p16 + 8, n702 + 1);
+							uint64_t n700 = load64(p16 + 8);
+							byte *p701 = inside(loadptr(p16), n700 * 136);
+							store8(p701, 0);
+							memcpy(p701 + 1, p14, 7);
+							store64u(p701 + 8, n501);
+							store64u(p701 + 16, n519);
+							store64u(p701 + 24, n515);
+							store64u(p701 + 32, n516);
+							store64u(p701 + 40, n513);
+							store64u(p701 + 48, n514);
+							store64u(p701 + 56, n517);
+							store64u(p701 + 64, n518);
+							store64u(p701 + 72, n520);
+							store64u(p701 + 80, n515);
+							store64u(p701 + 88, n508);
+							store64u(p701 + 96, n509);
+							store64u(p701 + 104, n510);
+							store64u(p701 + 112, n511);
+							store64u(p701 + 120, n512);
+							store64u(p701 + 128, n521);
+							store64(p16 + 8, n700 + 1);
 							tp_dispatch_hand_out_and_report(p18, p18 + 1384, p16);
 							goto L17;
 						}
 					}
 					case 4: {
-						uint64_t n708;
-						uint64_t n704 = n501 * 88;
-						byte *p705 = at(loadptr(p18 + 1384), n704);
-						byte *p706 = at(loadptr(p18 + 1360), n704);
-						uint64_t n707 = load64(p705 + 16);
-						if (n707 == 0) {
-							n708 = 0;
+						uint64_t n706;
+						uint64_t n702 = n501 * 88;
+						byte *p703 = at(loadptr(p18 + 1384), n702);
+						byte *p704 = at(loadptr(p18 + 1360), n702);
+						uint64_t n705 = load64(p703 + 16);
+						if (n705 == 0) {
+							n706 = 0;
 						} else {
-							uint64_t n713;
-							uint64_t n709 = load64(p705 + 24);
-							uint64_t n710 = load64(p705 + 8) - n709;
-							if (n707 > n710) {
-								byte *p711 = loadptru(p705);
-								uint64_t n712 = tp_RingInletInlet_put_slice(p706, at(p711, n709 << 6), n710);
-								if (n712 < n710) {
-									n713 = n712;
+							uint64_t n711;
+							uint64_t n707 = load64(p703 + 24);
+							uint64_t n708 = load64(p703 + 8) - n707;
+							if (n705 > n708) {
+								byte *p709 = loadptru(p703);
+								uint64_t n710 = tp_RingInletInlet_put_slice(p704, at(p709, n707 << 6), n708);
+								if (n710 < n708) {
+									n711 = n710;
 								} else {
-									uint64_t n714 = tp_RingInletInlet_put_slice(p706, p711, n707 - n710);
-									n713 = n712 + n714;
+									uint64_t n712 = tp_RingInletInlet_put_slice(p704, p709, n705 - n708);
+									n711 = n710 + n712;
 								}
 							} else {
-								uint64_t n715 = tp_RingInletInlet_put_slice(p706, at(loadptru(p705), n709 << 6), n707);
-								if (n715 >= n707) {
-									if (load64(p705 + 16) == 0) {
-										n708 = n715;
+								uint64_t n713 = tp_RingInletInlet_put_slice(p704, at(loadptru(p703), n707 << 6), n705);
+								if (n713 >= n705) {
+									if (load64(p703 + 16) == 0) {
+										n706 = n713;
 										goto L18;
 									}
-									store64(p705 + 16, 0);
-									n708 = n715;
+									store64(p703 + 16, 0);
+									n706 = n713;
 									goto L18;
 								}
-								n713 = n715;
+								n711 = n713;
 							}
-							tp_Backlog_remove(p705, n713);
-							n708 = n713;
+							tp_Backlog_remove(p703, n711);
+							n706 = n711;
 						}
 L18:
 						{
-							uint64_t n716 = load64(p16 + 8);
-							byte *p717 = inside(loadptr(p16), n716 * 136);
-							store8(p717, 5);
-							memset(p717 + 1, 0, 7);
-							store64u(p717 + 8, n501);
-							store64u(p717 + 16, n708);
-							memset(p717 + 24, 0, 112);
-							store64(p16 + 8, n716 + 1);
+							uint64_t n714 = load64(p16 + 8);
+							byte *p715 = inside(loadptr(p16), n714 * 136);
+							store8(p715, 5);
+							memset(p715 + 1, 0, 7);
+							store64u(p715 + 8, n501);
+							store64u(p715 + 16, n706);
+							memset(p715 + 24, 0, 112);
+							store64(p16 + 8, n714 + 1);
 							goto L17;
 						}
 					}
 					case 1: {
 						if ((load8(p18 + 1320) & 1) != 0) {
-							n718 = 1;
+							n716 = 1;
+							n717 = 0;
+							n718 = 0;
 							n719 = 0;
 							n720 = 0;
 							n721 = 0;
 							n722 = 0;
 							n723 = 0;
 							n724 = 0;
-							n725 = 0;
-							n726 = 0;
 						} else {
-							uint64_t n727 = load64(p18 + 16);
-							if (n727 == load64(p18 + 8)) {
-								n718 = 1;
-								n719 = 1;
+							uint64_t n725 = load64(p18 + 16);
+							if (n725 == load64(p18 + 8)) {
+								n716 = 1;
+								n717 = 1;
+								n718 = 0;
+								n719 = 0;
 								n720 = 0;
 								n721 = 0;
 								n722 = 0;
 								n723 = 0;
 								n724 = 0;
-								n725 = 0;
-								n726 = 0;
 							} else {
-								uint64_t n732, n733, n734, n740, n741, n742;
-								uint8_t n728 = load8(p18);
-								uint64_t n729 = n727 + 1;
-								switch (MOSTLY_0(n728)) {
+								uint64_t n730, n731, n732, n738, n739, n740;
+								uint8_t n726 = load8(p18);
+								uint64_t n727 = n725 + 1;
+								switch (MOSTLY_0(n726)) {
 								case 0: {
-									uint64_t n730 = n729 & 63;
-									if (n730 != 0) {
-										n734 = n730;
+									uint64_t n728 = n727 & 63;
+									if (n728 != 0) {
+										n732 = n728;
 										goto L19;
 									}
-									uint8_t n731 = (uint8_t)((uint8_t)cttz64(n729) / 6);
-									n732 = ((uint64_t)n731 << 6) | ((n729 >> ((uint64_t)(uint8_t)(1u * n731 * 6) & 63)) & 63);
-									n733 = 64;
+									uint8_t n729 = (uint8_t)((uint8_t)cttz64(n727) / 6);
+									n730 = ((uint64_t)n729 << 6) | ((n727 >> ((uint64_t)(uint8_t)(1u * n729 * 6) & 63)) & 63);
+									n731 = 64;
 									goto L20;
 								}
 								case 1: {
-									uint32_t n739;
-									uint32_t n735 = (uint32_t)n729;
-									uint32_t n736 = n735 % 60;
-									if (n736 == 0) {
-										uint32_t n737 = (n735 / 60) % 60;
-										if (n737 == 0) {
-											uint32_t n738 = (n735 / 3600) % 24;
-											if (n738 == 0) {
-												n739 = (n735 / 86400) + 144;
+									uint32_t n737;
+									uint32_t n733 = (uint32_t)n727;
+									uint32_t n734 = n733 % 60;
+									if (n734 == 0) {
+										uint32_t n735 = (n733 / 60) % 60;
+										if (n735 == 0) {
+											uint32_t n736 = (n733 / 3600) % 24;
+											if (n736 == 0) {
+												n737 = (n733 / 86400) + 144;
 											} else {
-												n739 = n738 + 120;
+												n737 = n736 + 120;
 											}
 										} else {
-											n739 = n737 + 60;
+											n737 = n735 + 60;
 										}
 									} else {
-										n739 = n736;
+										n737 = n734;
 									}
-									n732 = (uint64_t)n739;
-									n733 = 60;
+									n730 = (uint64_t)n737;
+									n731 = 60;
 									goto L20;
 								}
 								case 2: {
-									n740 = n729;
-									n741 = 0;
+									n738 = n727;
+									n739 = 0;
 									break;
 								}
 								default: {
@@ -78576,18 +78691,20 @@ L18:
 								}
 								}
 								for (;;) {
-									n742 = n740 & 15;
-									if (n742 != 0)
+									n740 = n738 & 15;
+									if (n740 != 0)
 										break;
-									n740 = n740 >> 4;
-									n741 = n741 + 16;
+									n738 = n738 >> 4;
+									n739 = n739 + 16;
 								}
-								n732 = n741 | n742;
-								n733 = 16;
+								n730 = n739 | n740;
+								n731 = 16;
 L20:
 								{
-									if (n732 >= n733) {
-										tp_HierWheel_visit_apart(p18, n732);
+									if (n730 >= n731) {
+										tp_HierWheel_visit_apart(p18, n730);
+										n716 = 0;
+										n717 = 0;
 										n718 = 0;
 										n719 = 0;
 										n720 = 0;
@@ -78595,45 +78712,45 @@ L20:
 										n722 = 0;
 										n723 = 0;
 										n724 = 0;
-										n725 = 0;
-										n726 = 0;
 										goto L21;
 									}
-									n734 = n732;
+									n732 = n730;
 								}
 L19:
 								{
-									byte *p743 = loadptr(p18 + 80);
-									byte *p744 = at(p743, n734 << 3);
-									if (n734 != (uint64_t)load32(p744 + 4)) {
-										uint64_t n745, n746;
-										store64(p18 + 128, load64(p18 + 128) & (((uint64_t)1 << (n734 & 63)) ^ UINT64_MAX));
-										switch (MOSTLY_0(n728)) {
+									byte *p741 = loadptr(p18 + 80);
+									byte *p742 = at(p741, n732 << 3);
+									if (n732 != (uint64_t)load32(p742 + 4)) {
+										uint64_t n743, n744;
+										store64(p18 + 128, load64(p18 + 128) & (((uint64_t)1 << (n732 & 63)) ^ UINT64_MAX));
+										switch (MOSTLY_0(n726)) {
 										case 0: {
-											n745 = 64;
+											n743 = 64;
 											break;
 										}
 										case 1: {
-											n745 = 60;
+											n743 = 60;
 											break;
 										}
 										case 2: {
-											n745 = 16;
+											n743 = 16;
 											break;
 										}
 										default: {
 											UNREACHABLE();
 										}
 										}
-										if (n734 >= n745) {
+										if (n732 >= n743) {
 											if ((load8(p18 + 232) & 1) != 0) {
-												byte *p753 = at(loadptr(p18 + 208), n734 << 4);
-												store64(p18 + 240, load64(p18 + 240) + (uint64_t)((load8(p753) != 0) ? UINT64_MAX : 0));
-												memset(p753, 0, 16);
+												byte *p751 = at(loadptr(p18 + 208), n732 << 4);
+												store64(p18 + 240, load64(p18 + 240) + (uint64_t)((load8(p751) != 0) ? UINT64_MAX : 0));
+												memset(p751, 0, 16);
 											}
-											uint64_t n754 = tp_migration_migrate(n728, p18 + 40, p18 + 128, p18 + 208, n734, n729);
-											store64(p18 + 16, n729);
-											if (n754 == 0) {
+											uint64_t n752 = tp_migration_migrate(n726, p18 + 40, p18 + 128, p18 + 208, n732, n727);
+											store64(p18 + 16, n727);
+											if (n752 == 0) {
+												n716 = 0;
+												n717 = 0;
 												n718 = 0;
 												n719 = 0;
 												n720 = 0;
@@ -78641,11 +78758,11 @@ L19:
 												n722 = 0;
 												n723 = 0;
 												n724 = 0;
-												n725 = 0;
-												n726 = 0;
 												goto L21;
 											}
-											store64(p18 + 256, load64(p18 + 256) + n754);
+											store64(p18 + 256, load64(p18 + 256) + n752);
+											n716 = 0;
+											n717 = 0;
 											n718 = 0;
 											n719 = 0;
 											n720 = 0;
@@ -78653,43 +78770,43 @@ L19:
 											n722 = 0;
 											n723 = 0;
 											n724 = 0;
-											n725 = 0;
-											n726 = 0;
 											goto L21;
 										}
-										switch (MOSTLY_0(n728)) {
+										switch (MOSTLY_0(n726)) {
 										case 0: {
-											n746 = 640;
+											n744 = 640;
 											break;
 										}
 										case 1: {
-											n746 = 244;
+											n744 = 244;
 											break;
 										}
 										case 2: {
-											n746 = 96;
+											n744 = 96;
 											break;
 										}
 										default: {
 											UNREACHABLE();
 										}
 										}
-										uint32_t n747 = load32(p744 + 4);
-										uint64_t n748 = (uint64_t)n747;
-										if (load64(p18 + 104) <= n748) {
-											uint32_t n749 = load32(p744);
-											byte *p750 = at(p743, n746 << 3);
-											uint32_t n751 = load32(p750);
-											store32(inside(p743, (uint64_t)n751 << 3) + 4, n747);
-											store32(inside(p743, n748 << 3), n751);
-											store32(inside(p743, (uint64_t)n749 << 3) + 4, (uint32_t)n746);
-											store32(p750, n749);
-											uint32_t n752 = (uint32_t)n734;
-											store32(p744 + 4, n752);
-											store32(p744, n752);
+										uint32_t n745 = load32(p742 + 4);
+										uint64_t n746 = (uint64_t)n745;
+										if (load64(p18 + 104) <= n746) {
+											uint32_t n747 = load32(p742);
+											byte *p748 = at(p741, n744 << 3);
+											uint32_t n749 = load32(p748);
+											store32(inside(p741, (uint64_t)n749 << 3) + 4, n745);
+											store32(inside(p741, n746 << 3), n749);
+											store32(inside(p741, (uint64_t)n747 << 3) + 4, (uint32_t)n744);
+											store32(p748, n747);
+											uint32_t n750 = (uint32_t)n732;
+											store32(p742 + 4, n750);
+											store32(p742, n750);
 										}
 									}
-									store64(p18 + 16, n729);
+									store64(p18 + 16, n727);
+									n716 = 0;
+									n717 = 0;
 									n718 = 0;
 									n719 = 0;
 									n720 = 0;
@@ -78697,51 +78814,49 @@ L19:
 									n722 = 0;
 									n723 = 0;
 									n724 = 0;
-									n725 = 0;
-									n726 = 0;
 								}
 							}
 						}
 						break;
 					}
 					case 2: {
-						uint64_t n755, n756, n757;
+						uint64_t n753, n754, n755;
 						if ((load8(p18 + 1320) & 1) != 0) {
-							n755 = 1;
-							n756 = 0;
-							n757 = 0;
+							n753 = 1;
+							n754 = 0;
+							n755 = 0;
 						} else {
-							uint64_t n758 = load64(p18 + 16);
-							uint64_t n759 = load64(p18 + 8);
-							if (n758 == n759) {
-								n755 = 1;
-								n756 = 256;
-								n757 = 0;
+							uint64_t n756 = load64(p18 + 16);
+							uint64_t n757 = load64(p18 + 8);
+							if (n756 == n757) {
+								n753 = 1;
+								n754 = 256;
+								n755 = 0;
 							} else {
-								uint64_t n765;
-								uint64_t n760 = umin64(n759 - n758, n501);
-								uint64_t n761 = n758 + n760;
+								uint64_t n763;
+								uint64_t n758 = umin64(n757 - n756, n501);
+								uint64_t n759 = n756 + n758;
 								switch (MOSTLY_0(load8(p18))) {
 								case 0: {
-									if ((n761 ^ n758) < 64) {
-										uint64_t n762 = load64(p18 + 128);
-										if ((n762 == 0) || ((n761 & 63) < cttz64(n762)))
+									if ((n759 ^ n756) < 64) {
+										uint64_t n760 = load64(p18 + 128);
+										if ((n760 == 0) || ((n759 & 63) < cttz64(n760)))
 											goto L22;
 									}
 									break;
 								}
 								case 1: {
-									if ((n761 / 60) == (n758 / 60)) {
-										uint64_t n763 = load64(p18 + 128);
-										if ((n763 == 0) || ((n761 % 60) < cttz64(n763)))
+									if ((n759 / 60) == (n756 / 60)) {
+										uint64_t n761 = load64(p18 + 128);
+										if ((n761 == 0) || ((n759 % 60) < cttz64(n761)))
 											goto L22;
 									}
 									break;
 								}
 								case 2: {
-									if ((n761 ^ n758) < 16) {
-										uint64_t n764 = load64(p18 + 128);
-										if ((n764 == 0) || ((n761 & 15) < cttz64(n764)))
+									if ((n759 ^ n756) < 16) {
+										uint64_t n762 = load64(p18 + 128);
+										if ((n762 == 0) || ((n759 & 15) < cttz64(n762)))
 											goto L22;
 									}
 									break;
@@ -78750,64 +78865,64 @@ L19:
 									UNREACHABLE();
 								}
 								}
-								n765 = tp_HierWheel_advance_far(p18, n760);
-								n755 = 0;
-								n756 = 0;
-								n757 = n765;
+								n763 = tp_HierWheel_advance_far(p18, n758);
+								n753 = 0;
+								n754 = 0;
+								n755 = n763;
 								goto L23;
 L22:
 								{
-									store64(p18 + 16, n761);
-									store64(p18 + 264, load64(p18 + 264) + n760);
-									n755 = 0;
-									n756 = 0;
-									n757 = n760;
+									store64(p18 + 16, n759);
+									store64(p18 + 264, load64(p18 + 264) + n758);
+									n753 = 0;
+									n754 = 0;
+									n755 = n758;
 								}
 							}
 						}
 L23:
 						{
-							n718 = 0;
-							n719 = 0;
-							n720 = n501;
-							n721 = n501;
-							n722 = n501 & UINT64_C(18446744073709486080);
-							n723 = n755;
-							n724 = n756;
-							n725 = 0;
-							n726 = n757;
+							n716 = 0;
+							n717 = 0;
+							n718 = n501;
+							n719 = n501;
+							n720 = n501 & UINT64_C(18446744073709486080);
+							n721 = n753;
+							n722 = n754;
+							n723 = 0;
+							n724 = n755;
 						}
 						break;
 					}
 					case 3: {
-						uint64_t n766, n767, n768;
+						uint64_t n764, n765, n766;
 						if ((load8(p18 + 1320) & 1) != 0) {
-							n766 = 1;
-							n767 = 0;
-							n768 = 0;
+							n764 = 1;
+							n765 = 0;
+							n766 = 0;
 						} else {
-							uint8_t n769 = tp_facility_take_all(p18, p18 + 1328);
-							if ((n769 & 1) != 0) {
-								n766 = 1;
-								n767 = 256;
-								n768 = 0;
+							uint8_t n767 = tp_facility_take_all(p18, p18 + 1328);
+							if ((n767 & 1) != 0) {
+								n764 = 1;
+								n765 = 256;
+								n766 = 0;
 							} else {
 								store64(p18 + 1352, 0);
 								store8(p18 + 1320, 1);
-								n766 = 0;
-								n767 = 0;
-								n768 = load64(p18 + 1336);
+								n764 = 0;
+								n765 = 0;
+								n766 = load64(p18 + 1336);
 							}
 						}
-						n718 = 0;
-						n719 = 0;
-						n720 = n766;
-						n721 = n767;
-						n722 = 0;
-						n723 = n768;
-						n724 = n768;
-						n725 = n768 & UINT64_C(18446744073709486080);
-						n726 = 0;
+						n716 = 0;
+						n717 = 0;
+						n718 = n764;
+						n719 = n765;
+						n720 = 0;
+						n721 = n766;
+						n722 = n766;
+						n723 = n766 & UINT64_C(18446744073709486080);
+						n724 = 0;
 						break;
 					}
 					default: {
@@ -78816,17 +78931,17 @@ L23:
 					}
 L21:
 					{
-						uint64_t n770 = load64(p16 + 8);
-						byte *p771 = inside(loadptr(p16), n770 * 136);
-						store8(p771, n500);
-						store8(p771 + 1, n718);
-						store8(p771 + 2, n719);
-						memset(p771 + 3, 0, 5);
-						store64u(p771 + 8, (n722 | (n721 & 65280)) | (n720 & 255));
-						store64u(p771 + 16, (n725 | (n724 & 65280)) | (n723 & 255));
-						store64u(p771 + 24, n726);
-						memset(p771 + 32, 0, 104);
-						store64(p16 + 8, n770 + 1);
+						uint64_t n768 = load64(p16 + 8);
+						byte *p769 = inside(loadptr(p16), n768 * 136);
+						store8(p769, n500);
+						store8(p769 + 1, n716);
+						store8(p769 + 2, n717);
+						memset(p769 + 3, 0, 5);
+						store64u(p769 + 8, (n720 | (n719 & 65280)) | (n718 & 255));
+						store64u(p769 + 16, (n723 | (n722 & 65280)) | (n721 & 255));
+						store64u(p769 + 24, n724);
+						memset(p769 + 32, 0, 104);
+						store64(p16 + 8, n768 + 1);
 						tp_dispatch_hand_out_and_report(p18, p18 + 1384, p16);
 					}
 L17:
@@ -78834,38 +78949,38 @@ L17:
 						n498 = n498 + 1;
 					}
 				}
-				p772 = loadptr(p16);
-				n773 = load64(p16 + 8);
-				n774 = load64(p16 + 16);
-				n775 = 0;
-				n776 = 0;
-				while (n775 != n773) {
-					uint8_t n782;
-					byte *p777 = at(p772, n775 * 136);
-					uint64_t n778 = load64u(p777 + 8);
-					uint64_t n779 = load64u(p777 + 16);
-					switch (MOSTLY_0(load8(p777))) {
+				p770 = loadptr(p16);
+				n771 = load64(p16 + 8);
+				n772 = load64(p16 + 16);
+				n773 = 0;
+				n774 = 0;
+				while (n773 != n771) {
+					uint8_t n780;
+					byte *p775 = at(p770, n773 * 136);
+					uint64_t n776 = load64u(p775 + 8);
+					uint64_t n777 = load64u(p775 + 16);
+					switch (MOSTLY_0(load8(p775))) {
 					case 0: {
-						switch ((uint8_t)n779) {
+						switch ((uint8_t)n777) {
 						case 3: {
-							if (n201 > n778) {
-								byte *p780 = at(p429, n778 << 4);
-								uint64_t n781 = load64(p780);
-								if (n5 > n781) {
-									store64(p780, n781 + 1);
-									n782 = 1;
+							if (n201 > n776) {
+								byte *p778 = at(p429, n776 << 4);
+								uint64_t n779 = load64(p778);
+								if (n5 > n779) {
+									store64(p778, n779 + 1);
+									n780 = 1;
 								} else {
-									n782 = n776;
+									n780 = n774;
 								}
 							} else {
-								n782 = n776;
+								n780 = n774;
 							}
 							break;
 						}
 						case 0:
 						case 1:
 						case 2: {
-							n782 = n776;
+							n780 = n774;
 							break;
 						}
 						default: {
@@ -78875,22 +78990,22 @@ L17:
 						break;
 					}
 					case 5: {
-						if ((n201 <= n778) || (n779 == 0)) {
-							n782 = n776;
+						if ((n201 <= n776) || (n777 == 0)) {
+							n780 = n774;
 						} else {
-							byte *p783 = at(p429, n778 << 4) + 8;
-							uint64_t n784 = load64(p783);
-							uint64_t n785 = n5 << 1;
-							if (n785 > n784) {
-								if (n779 < (n785 - n784)) {
-									store64(p783, n784 + n779);
-									n782 = 1;
+							byte *p781 = at(p429, n776 << 4) + 8;
+							uint64_t n782 = load64(p781);
+							uint64_t n783 = n5 << 1;
+							if (n783 > n782) {
+								if (n777 < (n783 - n782)) {
+									store64(p781, n782 + n777);
+									n780 = 1;
 								} else {
-									store64(p783, n785);
-									n782 = 1;
+									store64(p781, n783);
+									n780 = 1;
 								}
 							} else {
-								n782 = n776;
+								n780 = n774;
 							}
 						}
 						break;
@@ -78899,24 +79014,24 @@ L17:
 					case 2:
 					case 3:
 					case 4: {
-						n782 = n776;
+						n780 = n774;
 						break;
 					}
 					default: {
 						UNREACHABLE();
 					}
 					}
-					n775 = n775 + 1;
-					n776 = n782;
+					n773 = n773 + 1;
+					n774 = n780;
 				}
-				n786 = 0;
+				n784 = 0;
 				for (;;) {
-					if (n786 == n773)
+					if (n784 == n771)
 						goto L24;
-					byte *p787 = at(p772, n786 * 136);
-					switch (MOSTLY_0(load8(p787))) {
+					byte *p785 = at(p770, n784 * 136);
+					switch (MOSTLY_0(load8(p785))) {
 					case 0: {
-						switch (load8(p787 + 16)) {
+						switch (load8(p785 + 16)) {
 						case 2: {
 							goto L25;
 						}
@@ -78942,119 +79057,119 @@ L17:
 						UNREACHABLE();
 					}
 					}
-					n786 = n786 + 1;
+					n784 = n784 + 1;
 				}
 L25:
 				{
-					if (n786 < n773)
+					if (n784 < n771)
 						goto L26;
 				}
 L24:
 				{
-					uint64_t n790;
-					byte *p788 = loadptru(p18 + 1408);
-					uint64_t n789 = load64u(p18 + 1424);
-					storeptru(p18 + 1408, p772);
-					store64u(p18 + 1416, n773);
-					store64u(p18 + 1424, n774);
-					if (n789 != 0)
-						rattle_dealloc(p788);
-					if ((n776 & 1) != 0) {
-						n790 = 0;
+					uint64_t n788;
+					byte *p786 = loadptru(p18 + 1408);
+					uint64_t n787 = load64u(p18 + 1424);
+					storeptru(p18 + 1408, p770);
+					store64u(p18 + 1416, n771);
+					store64u(p18 + 1424, n772);
+					if (n787 != 0)
+						rattle_dealloc(p786);
+					if ((n774 & 1) != 0) {
+						n788 = 0;
 					} else {
-						uint64_t n791 = n462 + 1;
+						uint64_t n789 = n462 + 1;
 						(void)os_sched_yield();
+						uint8_t n790 = load8_volatile((byte *)tp_static);
+						if (n790 != 0) {
+							TRAP();
+							UNREACHABLE();
+						}
+						uint8_t n791 = load8_volatile((byte *)tp_static);
+						if (n791 != 0) {
+							TRAP();
+							UNREACHABLE();
+						}
 						uint8_t n792 = load8_volatile((byte *)tp_static);
 						if (n792 != 0) {
 							TRAP();
 							UNREACHABLE();
 						}
-						uint8_t n793 = load8_volatile((byte *)tp_static);
-						if (n793 != 0) {
-							TRAP();
-							UNREACHABLE();
-						}
-						uint8_t n794 = load8_volatile((byte *)tp_static);
-						if (n794 != 0) {
-							TRAP();
-							UNREACHABLE();
-						}
-						n790 = n791;
+						n788 = n789;
 					}
-					n462 = n790;
+					n462 = n788;
 					continue;
 				}
 L8:
 				{
-					p795 = loadptr(p18 + 80);
+					p793 = loadptr(p18 + 80);
 					goto L9;
 				}
 			}
-			n796 = load64(p18);
-			p797 = loadptr(p18 + 40);
-			n798 = load64(p18 + 56);
-			p799 = loadptr(p18 + 80);
-			n800 = load64(p18 + 96);
-			p801 = loadptr(p18 + 208);
-			n802 = load64(p18 + 224);
-			p803 = loadptr(p18 + 1328);
-			n804 = load64(p18 + 1344);
-			p805 = loadptr(p18 + 1360);
-			n806 = load64(p18 + 1368);
-			n807 = load64(p18 + 1376);
-			p808 = loadptr(p18 + 1384);
-			n809 = load64(p18 + 1392);
-			n810 = load64(p18 + 1400);
-			p811 = loadptr(p18 + 1408);
-			n812 = load64(p18 + 1424);
+			n794 = load64(p18);
+			p795 = loadptr(p18 + 40);
+			n796 = load64(p18 + 56);
+			p797 = loadptr(p18 + 80);
+			n798 = load64(p18 + 96);
+			p799 = loadptr(p18 + 208);
+			n800 = load64(p18 + 224);
+			p801 = loadptr(p18 + 1328);
+			n802 = load64(p18 + 1344);
+			p803 = loadptr(p18 + 1360);
+			n804 = load64(p18 + 1368);
+			n805 = load64(p18 + 1376);
+			p806 = loadptr(p18 + 1384);
+			n807 = load64(p18 + 1392);
+			n808 = load64(p18 + 1400);
+			p809 = loadptr(p18 + 1408);
+			n810 = load64(p18 + 1424);
 			if (load64u(p19 + 16) != 0)
 				rattle_dealloc(loadptru(p19));
 			if (b428) {
-				n444 = n796;
-				p445 = p797;
-				n446 = n798;
-				p447 = p799;
-				n448 = n800;
-				p449 = p801;
-				n450 = n802;
-				p451 = p803;
-				n452 = n804;
-				p453 = p805;
-				n454 = n806;
-				n455 = n807;
-				p456 = p808;
-				n457 = n809;
-				n458 = n810;
-				p459 = p811;
-				n460 = n812;
+				n444 = n794;
+				p445 = p795;
+				n446 = n796;
+				p447 = p797;
+				n448 = n798;
+				p449 = p799;
+				n450 = n800;
+				p451 = p801;
+				n452 = n802;
+				p453 = p803;
+				n454 = n804;
+				n455 = n805;
+				p456 = p806;
+				n457 = n807;
+				n458 = n808;
+				p459 = p809;
+				n460 = n810;
 				n461 = 1;
 				goto L7;
 			}
 			rattle_dealloc(p429);
-			n444 = n796;
-			p445 = p797;
-			n446 = n798;
-			p447 = p799;
-			n448 = n800;
-			p449 = p801;
-			n450 = n802;
-			p451 = p803;
-			n452 = n804;
-			p453 = p805;
-			n454 = n806;
-			n455 = n807;
-			p456 = p808;
-			n457 = n809;
-			n458 = n810;
-			p459 = p811;
-			n460 = n812;
+			n444 = n794;
+			p445 = p795;
+			n446 = n796;
+			p447 = p797;
+			n448 = n798;
+			p449 = p799;
+			n450 = n800;
+			p451 = p801;
+			n452 = n802;
+			p453 = p803;
+			n454 = n804;
+			n455 = n805;
+			p456 = p806;
+			n457 = n807;
+			n458 = n808;
+			p459 = p809;
+			n460 = n810;
 			n461 = 1;
 			goto L7;
 L26:
 			{
-				if (n774 == 0)
+				if (n772 == 0)
 					goto L10;
-				rattle_dealloc(p772);
+				rattle_dealloc(p770);
 				goto L10;
 			}
 L11:
@@ -79064,148 +79179,148 @@ L11:
 			}
 L10:
 			{
-				uint64_t n813 = load64(p18);
-				byte *p814 = loadptr(p18 + 40);
-				uint64_t n815 = load64(p18 + 56);
-				byte *p816 = loadptr(p18 + 80);
-				uint64_t n817 = load64(p18 + 96);
-				byte *p818 = loadptr(p18 + 208);
-				uint64_t n819 = load64(p18 + 224);
-				byte *p820 = loadptr(p18 + 1328);
-				uint64_t n821 = load64(p18 + 1344);
-				byte *p822 = loadptr(p18 + 1360);
-				uint64_t n823 = load64(p18 + 1368);
-				uint64_t n824 = load64(p18 + 1376);
-				byte *p825 = loadptr(p18 + 1384);
-				uint64_t n826 = load64(p18 + 1392);
-				uint64_t n827 = load64(p18 + 1400);
-				byte *p828 = loadptr(p18 + 1408);
-				uint64_t n829 = load64(p18 + 1424);
+				uint64_t n811 = load64(p18);
+				byte *p812 = loadptr(p18 + 40);
+				uint64_t n813 = load64(p18 + 56);
+				byte *p814 = loadptr(p18 + 80);
+				uint64_t n815 = load64(p18 + 96);
+				byte *p816 = loadptr(p18 + 208);
+				uint64_t n817 = load64(p18 + 224);
+				byte *p818 = loadptr(p18 + 1328);
+				uint64_t n819 = load64(p18 + 1344);
+				byte *p820 = loadptr(p18 + 1360);
+				uint64_t n821 = load64(p18 + 1368);
+				uint64_t n822 = load64(p18 + 1376);
+				byte *p823 = loadptr(p18 + 1384);
+				uint64_t n824 = load64(p18 + 1392);
+				uint64_t n825 = load64(p18 + 1400);
+				byte *p826 = loadptr(p18 + 1408);
+				uint64_t n827 = load64(p18 + 1424);
 				if (load64u(p19 + 16) != 0)
 					rattle_dealloc(loadptru(p19));
 				rattle_dealloc(p429);
-				n444 = n813;
-				p445 = p814;
-				n446 = n815;
-				p447 = p816;
-				n448 = n817;
-				p449 = p818;
-				n450 = n819;
-				p451 = p820;
-				n452 = n821;
-				p453 = p822;
-				n454 = n823;
-				n455 = n824;
-				p456 = p825;
-				n457 = n826;
-				n458 = n827;
-				p459 = p828;
-				n460 = n829;
+				n444 = n811;
+				p445 = p812;
+				n446 = n813;
+				p447 = p814;
+				n448 = n815;
+				p449 = p816;
+				n450 = n817;
+				p451 = p818;
+				n452 = n819;
+				p453 = p820;
+				n454 = n821;
+				n455 = n822;
+				p456 = p823;
+				n457 = n824;
+				n458 = n825;
+				p459 = p826;
+				n460 = n827;
 				n461 = 2;
 				goto L7;
 			}
 L9:
 			{
-				uint64_t n830 = load64(p18);
-				byte *p831 = loadptr(p18 + 40);
-				uint64_t n832 = load64(p18 + 56);
-				uint64_t n833 = load64(p18 + 96);
-				byte *p834 = loadptr(p18 + 208);
-				uint64_t n835 = load64(p18 + 224);
-				byte *p836 = loadptr(p18 + 1328);
-				uint64_t n837 = load64(p18 + 1344);
-				byte *p838 = loadptr(p18 + 1360);
-				uint64_t n839 = load64(p18 + 1368);
-				uint64_t n840 = load64(p18 + 1376);
-				byte *p841 = loadptr(p18 + 1384);
-				uint64_t n842 = load64(p18 + 1392);
-				uint64_t n843 = load64(p18 + 1400);
-				byte *p844 = loadptr(p18 + 1408);
-				uint64_t n845 = load64(p18 + 1424);
+				uint64_t n828 = load64(p18);
+				byte *p829 = loadptr(p18 + 40);
+				uint64_t n830 = load64(p18 + 56);
+				uint64_t n831 = load64(p18 + 96);
+				byte *p832 = loadptr(p18 + 208);
+				uint64_t n833 = load64(p18 + 224);
+				byte *p834 = loadptr(p18 + 1328);
+				uint64_t n835 = load64(p18 + 1344);
+				byte *p836 = loadptr(p18 + 1360);
+				uint64_t n837 = load64(p18 + 1368);
+				uint64_t n838 = load64(p18 + 1376);
+				byte *p839 = loadptr(p18 + 1384);
+				uint64_t n840 = load64(p18 + 1392);
+				uint64_t n841 = load64(p18 + 1400);
+				byte *p842 = loadptr(p18 + 1408);
+				uint64_t n843 = load64(p18 + 1424);
 				if (load64u(p19 + 16) != 0)
 					rattle_dealloc(loadptru(p19));
 				if (b428) {
-					n444 = n830;
-					p445 = p831;
-					n446 = n832;
-					p447 = p795;
-					n448 = n833;
-					p449 = p834;
-					n450 = n835;
-					p451 = p836;
-					n452 = n837;
-					p453 = p838;
-					n454 = n839;
-					n455 = n840;
-					p456 = p841;
-					n457 = n842;
-					n458 = n843;
-					p459 = p844;
-					n460 = n845;
+					n444 = n828;
+					p445 = p829;
+					n446 = n830;
+					p447 = p793;
+					n448 = n831;
+					p449 = p832;
+					n450 = n833;
+					p451 = p834;
+					n452 = n835;
+					p453 = p836;
+					n454 = n837;
+					n455 = n838;
+					p456 = p839;
+					n457 = n840;
+					n458 = n841;
+					p459 = p842;
+					n460 = n843;
 					n461 = 0;
 				} else {
 					rattle_dealloc(p429);
-					n444 = n830;
-					p445 = p831;
-					n446 = n832;
-					p447 = p795;
-					n448 = n833;
-					p449 = p834;
-					n450 = n835;
-					p451 = p836;
-					n452 = n837;
-					p453 = p838;
-					n454 = n839;
-					n455 = n840;
-					p456 = p841;
-					n457 = n842;
-					n458 = n843;
-					p459 = p844;
-					n460 = n845;
+					n444 = n828;
+					p445 = p829;
+					n446 = n830;
+					p447 = p793;
+					n448 = n831;
+					p449 = p832;
+					n450 = n833;
+					p451 = p834;
+					n452 = n835;
+					p453 = p836;
+					n454 = n837;
+					n455 = n838;
+					p456 = p839;
+					n457 = n840;
+					n458 = n841;
+					p459 = p842;
+					n460 = n843;
 					n461 = 0;
 				}
 			}
 		}
 L7:
 		{
-			uint64_t n868, n869, n870, n871;
-			uint8_t n846 = load8_volatile((byte *)tp_static);
-			if (n846 != 0) {
+			uint64_t n866, n867, n868, n869;
+			uint8_t n844 = load8_volatile((byte *)tp_static);
+			if (n844 != 0) {
 				TRAP();
 				UNREACHABLE();
 			}
 			tp_Children_join(p198, p194);
-			uint8_t n847 = load8_volatile((byte *)tp_static);
-			if (n847 != 0) {
+			uint8_t n845 = load8_volatile((byte *)tp_static);
+			if (n845 != 0) {
 				TRAP();
 				UNREACHABLE();
 			}
-			byte *p848 = loadptru(p198);
-			uint64_t n849 = load64u(p198 + 8);
-			uint64_t n850 = load64u(p198 + 16);
+			byte *p846 = loadptru(p198);
+			uint64_t n847 = load64u(p198 + 8);
+			uint64_t n848 = load64u(p198 + 16);
 			switch (n461) {
 			case 2: {
-				uint64_t n851;
-				if (n849 == 0)
+				uint64_t n849;
+				if (n847 == 0)
 					goto L27;
-				n851 = 0;
-				while (n851 != n849) {
-					byte *p852 = inside(p848, n851 * 112);
-					byte *p853 = loadptru(p852 + 24);
-					byte *p854 = loadptru(p852 + 32);
-					uint64_t n855 = load64u(p852 + 40);
+				n849 = 0;
+				while (n849 != n847) {
+					byte *p850 = inside(p846, n849 * 112);
+					byte *p851 = loadptru(p850 + 24);
+					byte *p852 = loadptru(p850 + 32);
+					uint64_t n853 = load64u(p850 + 40);
 					BARRIER();
-					uint64_t n856 = atomic_exchange64(p853 + 256, 1, ORDER_SEQ_CST);
+					uint64_t n854 = atomic_exchange64(p851 + 256, 1, ORDER_SEQ_CST);
 					BARRIER();
-					if (n856 != 0)
-						tp_release_drop_slow(p853, p854, n855);
-					n851 = n851 + 1;
+					if (n854 != 0)
+						tp_release_drop_slow(p851, p852, n853);
+					n849 = n849 + 1;
 				}
 L27:
 				{
-					uint64_t n857;
-					if (n850 != 0)
-						rattle_dealloc(p848);
+					uint64_t n855;
+					if (n848 != 0)
+						rattle_dealloc(p846);
 					if (n446 != 0)
 						rattle_dealloc(p445);
 					if (n448 != 0)
@@ -79216,54 +79331,54 @@ L27:
 						rattle_dealloc(p451);
 					if (n454 == 0)
 						goto L28;
-					n857 = 0;
-					while (n857 != n454) {
-						byte *p858 = inside(p453, n857 * 88);
-						byte *p859 = loadptru(p858);
-						byte *p860 = loadptru(p858 + 8);
-						uint64_t n861 = load64u(p858 + 16);
-						byte *p862 = loadptru(p858 + 40);
-						byte *p863 = loadptru(p858 + 48);
-						uint64_t n864 = load64u(p858 + 56);
+					n855 = 0;
+					while (n855 != n454) {
+						byte *p856 = inside(p453, n855 * 88);
+						byte *p857 = loadptru(p856);
+						byte *p858 = loadptru(p856 + 8);
+						uint64_t n859 = load64u(p856 + 16);
+						byte *p860 = loadptru(p856 + 40);
+						byte *p861 = loadptru(p856 + 48);
+						uint64_t n862 = load64u(p856 + 56);
 						BARRIER();
-						uint64_t n865 = atomic_exchange64(p859 + 256, 1, ORDER_SEQ_CST);
+						uint64_t n863 = atomic_exchange64(p857 + 256, 1, ORDER_SEQ_CST);
 						BARRIER();
-						if (n865 != 0)
-							tp_release_drop_slow(p859, p860, n861);
+						if (n863 != 0)
+							tp_release_drop_slow(p857, p858, n859);
 						BARRIER();
-						uint64_t n866 = atomic_exchange64(p862 + 256, 1, ORDER_SEQ_CST);
+						uint64_t n864 = atomic_exchange64(p860 + 256, 1, ORDER_SEQ_CST);
 						BARRIER();
-						if (n866 != 0)
-							tp_release_drop_slow(p862, p863, n864);
-						n857 = n857 + 1;
+						if (n864 != 0)
+							tp_release_drop_slow(p860, p861, n862);
+						n855 = n855 + 1;
 					}
 L28:
 					{
-						uint64_t n867;
+						uint64_t n865;
 						if (n455 != 0)
 							rattle_dealloc(p453);
 						if (n457 == 0)
 							goto L29;
-						n867 = 0;
-						while (n867 != n457) {
-							rattle_dealloc(loadptru(inside(p456, n867 * 88)));
-							n867 = n867 + 1;
+						n865 = 0;
+						while (n865 != n457) {
+							rattle_dealloc(loadptru(inside(p456, n865 * 88)));
+							n865 = n865 + 1;
 						}
 L29:
 						{
 							if (n458 != 0)
 								rattle_dealloc(p456);
 							if (n460 == 0) {
-								n868 = 1;
+								n866 = 1;
+								n867 = 0;
+								n868 = 0;
 								n869 = 0;
-								n870 = 0;
-								n871 = 0;
 							} else {
 								rattle_dealloc(p459);
-								n868 = 1;
+								n866 = 1;
+								n867 = 0;
+								n868 = 0;
 								n869 = 0;
-								n870 = 0;
-								n871 = 0;
 							}
 						}
 					}
@@ -79272,61 +79387,61 @@ L29:
 			}
 			case 0:
 			case 1: {
-				bool b873;
-				uint64_t n875;
-				uint64_t n872 = 0;
+				bool b871;
+				uint64_t n873;
+				uint64_t n870 = 0;
 				for (;;) {
-					b873 = n872 != n849;
-					if (!b873) {
-						n875 = 0;
+					b871 = n870 != n847;
+					if (!b871) {
+						n873 = 0;
 						break;
 					}
-					byte *p874 = at(p848, n872 * 112);
-					if ((load8(p874 + 96) & 1) != 0) {
-						n875 = n872;
+					byte *p872 = at(p846, n870 * 112);
+					if ((load8(p872 + 96) & 1) != 0) {
+						n873 = n870;
 						break;
 					}
-					if (load8(p874) != 1) {
-						n875 = n872;
+					if (load8(p872) != 1) {
+						n873 = n870;
 						break;
 					}
-					n872 = n872 + 1;
+					n870 = n870 + 1;
 				}
 				storeptru(p10, p6);
 				memset(p10 + 8, 0, 16);
-				uint64_t n876 = 0;
-				uint64_t n877 = 0;
+				uint64_t n874 = 0;
+				uint64_t n875 = 0;
 				for (;;) {
-					uint64_t n885;
-					if (n877 == n849)
+					uint64_t n883;
+					if (n875 == n847)
 						goto L30;
-					byte *p878 = at(p848, n877 * 112);
-					uint8_t n879 = tp_threads_text_push_count(p10, (byte *)tp_static_306, 7, n877);
+					byte *p876 = at(p846, n875 * 112);
+					uint8_t n877 = tp_threads_text_push_count(p10, (byte *)tp_static_306, 7, n875);
+					if ((n877 & 1) != 0)
+						break;
+					uint8_t n878 = tp_threads_text_push_count(p10, (byte *)tp_static_307, 6, load64(p876 + 72));
+					if ((n878 & 1) != 0)
+						break;
+					uint8_t n879 = tp_threads_text_push_count(p10, (byte *)tp_static_308, 9, load64(p876 + 80));
 					if ((n879 & 1) != 0)
 						break;
-					uint8_t n880 = tp_threads_text_push_count(p10, (byte *)tp_static_307, 6, load64(p878 + 72));
+					uint8_t n880 = tp_threads_text_push_count(p10, (byte *)tp_static_309, 9, load64(p876 + 88));
 					if ((n880 & 1) != 0)
 						break;
-					uint8_t n881 = tp_threads_text_push_count(p10, (byte *)tp_static_308, 9, load64(p878 + 80));
-					if ((n881 & 1) != 0)
-						break;
-					uint8_t n882 = tp_threads_text_push_count(p10, (byte *)tp_static_309, 9, load64(p878 + 88));
-					if ((n882 & 1) != 0)
-						break;
-					uint64_t n883 = load64(p10 + 8);
-					if (load64(p10 + 16) == n883) {
-						bool b884 = tp_std_alloc_vec_Vec_grow_amortized_6(p10, 1);
-						if (!b884)
+					uint64_t n881 = load64(p10 + 8);
+					if (load64(p10 + 16) == n881) {
+						bool b882 = tp_std_alloc_vec_Vec_grow_amortized_6(p10, 1);
+						if (!b882)
 							break;
-						n885 = load64(p10 + 8);
+						n883 = load64(p10 + 8);
 					} else {
-						n885 = n883;
+						n883 = n881;
 					}
-					store8(inside(loadptr(p10), n885), 10);
-					uint64_t n886 = n885 + 1;
-					store64(p10 + 8, n886);
-					n876 = n886;
-					n877 = n877 + 1;
+					store8(inside(loadptr(p10), n883), 10);
+					uint64_t n884 = n883 + 1;
+					store64(p10 + 8, n884);
+					n874 = n884;
+					n875 = n875 + 1;
 				}
 				if (load64u(p10 + 16) == 0)
 					goto L31;
@@ -79334,96 +79449,96 @@ L29:
 				goto L31;
 L30:
 				{
-					uint64_t n889, n890, n893;
-					uint64_t n887 = load64(p10 + 16);
-					if ((n887 - n876) < 4) {
-						bool b888 = tp_std_alloc_vec_Vec_grow_amortized_6(p10, 4);
-						if (!b888) {
+					uint64_t n887, n888, n891;
+					uint64_t n885 = load64(p10 + 16);
+					if ((n885 - n874) < 4) {
+						bool b886 = tp_std_alloc_vec_Vec_grow_amortized_6(p10, 4);
+						if (!b886) {
 							if (load64u(p10 + 16) == 0)
 								goto L31;
 							rattle_dealloc(loadptru(p10));
 							goto L31;
 						}
-						n889 = load64(p10 + 16);
-						n890 = load64(p10 + 8);
+						n887 = load64(p10 + 16);
+						n888 = load64(p10 + 8);
 					} else {
-						n889 = n887;
-						n890 = n876;
+						n887 = n885;
+						n888 = n874;
 					}
-					byte *p891 = loadptr(p10);
-					byte *p892 = at(p891, n890);
-					if (((uint64_t)(uintptr_t)p892 - (uint64_t)(uintptr_t)(byte *)tp_static_305) >= 4) {
-						store32u(p892, 174354021);
+					byte *p889 = loadptr(p10);
+					byte *p890 = at(p889, n888);
+					if (((uint64_t)(uintptr_t)p890 - (uint64_t)(uintptr_t)(byte *)tp_static_305) >= 4) {
+						store32u(p890, 174354021);
 						goto L32;
 					}
-					n893 = 0;
-					while (n893 != 4) {
-						store8(inside(p892, n893), load8(inside((byte *)tp_static_305, n893)));
-						n893 = n893 + 1;
+					n891 = 0;
+					while (n891 != 4) {
+						store8(inside(p890, n891), load8(inside((byte *)tp_static_305, n891)));
+						n891 = n891 + 1;
 					}
 L32:
 					{
-						byte *p897, *p898;
-						uint64_t n894 = n890 + 4;
-						uint64_t n895 = (uint64_t)(uintptr_t)p891;
+						byte *p895, *p896;
+						uint64_t n892 = n888 + 4;
+						uint64_t n893 = (uint64_t)(uintptr_t)p889;
 						memset(p7, 0, 16);
 						memset(p8, 0, 40);
 						memset(p9, 0, 40);
-						bool b896 = n849 == 0;
-						if (!b896) {
-							uint64_t n908;
-							if (n849 <= UINT64_C(576460752303423487)) {
-								of_i64_i64 s899 = rattle_alloc(n849 << 4, 8);
-								if ((s899.f0 & 1) != 0) {
-									byte *p900 = (byte *)(uintptr_t)s899.f1;
-									if (n849 <= UINT64_C(192153584101141162)) {
-										of_i64_i64 s901 = rattle_alloc(n849 * 48, 8);
-										if ((s901.f0 & 1) != 0) {
-											p897 = p900;
-											p898 = (byte *)(uintptr_t)s901.f1;
+						bool b894 = n847 == 0;
+						if (!b894) {
+							uint64_t n906;
+							if (n847 <= UINT64_C(576460752303423487)) {
+								of_i64_i64 s897 = rattle_alloc(n847 << 4, 8);
+								if ((s897.f0 & 1) != 0) {
+									byte *p898 = (byte *)(uintptr_t)s897.f1;
+									if (n847 <= UINT64_C(192153584101141162)) {
+										of_i64_i64 s899 = rattle_alloc(n847 * 48, 8);
+										if ((s899.f0 & 1) != 0) {
+											p895 = p898;
+											p896 = (byte *)(uintptr_t)s899.f1;
 											goto L33;
 										}
 									}
-									rattle_dealloc(p900);
-									uint64_t n902 = 0;
-									while (n902 != n849) {
-										byte *p903 = inside(p848, n902 * 112);
-										byte *p904 = loadptru(p903 + 24);
-										byte *p905 = loadptru(p903 + 32);
-										uint64_t n906 = load64u(p903 + 40);
+									rattle_dealloc(p898);
+									uint64_t n900 = 0;
+									while (n900 != n847) {
+										byte *p901 = inside(p846, n900 * 112);
+										byte *p902 = loadptru(p901 + 24);
+										byte *p903 = loadptru(p901 + 32);
+										uint64_t n904 = load64u(p901 + 40);
 										BARRIER();
-										uint64_t n907 = atomic_exchange64(p904 + 256, 1, ORDER_SEQ_CST);
+										uint64_t n905 = atomic_exchange64(p902 + 256, 1, ORDER_SEQ_CST);
 										BARRIER();
-										if (n907 != 0)
-											tp_release_drop_slow(p904, p905, n906);
-										n902 = n902 + 1;
+										if (n905 != 0)
+											tp_release_drop_slow(p902, p903, n904);
+										n900 = n900 + 1;
 									}
-									if (n850 == 0)
+									if (n848 == 0)
 										goto L34;
-									rattle_dealloc(p848);
+									rattle_dealloc(p846);
 									goto L34;
 								}
 							}
-							n908 = 0;
-							while (n908 != n849) {
-								byte *p909 = inside(p848, n908 * 112);
-								byte *p910 = loadptru(p909 + 24);
-								byte *p911 = loadptru(p909 + 32);
-								uint64_t n912 = load64u(p909 + 40);
+							n906 = 0;
+							while (n906 != n847) {
+								byte *p907 = inside(p846, n906 * 112);
+								byte *p908 = loadptru(p907 + 24);
+								byte *p909 = loadptru(p907 + 32);
+								uint64_t n910 = load64u(p907 + 40);
 								BARRIER();
-								uint64_t n913 = atomic_exchange64(p910 + 256, 1, ORDER_SEQ_CST);
+								uint64_t n911 = atomic_exchange64(p908 + 256, 1, ORDER_SEQ_CST);
 								BARRIER();
-								if (n913 != 0)
-									tp_release_drop_slow(p910, p911, n912);
-								n908 = n908 + 1;
+								if (n911 != 0)
+									tp_release_drop_slow(p908, p909, n910);
+								n906 = n906 + 1;
 							}
-							if (n850 != 0)
-								rattle_dealloc(p848);
+							if (n848 != 0)
+								rattle_dealloc(p846);
 L34:
 							{
-								uint64_t n914;
-								if (n889 != 0)
-									rattle_dealloc(p891);
+								uint64_t n912;
+								if (n887 != 0)
+									rattle_dealloc(p889);
 								if (n446 != 0)
 									rattle_dealloc(p445);
 								if (n448 != 0)
@@ -79434,129 +79549,129 @@ L34:
 									rattle_dealloc(p451);
 								if (n454 == 0)
 									goto L35;
-								n914 = 0;
-								while (n914 != n454) {
-									byte *p915 = inside(p453, n914 * 88);
-									byte *p916 = loadptru(p915);
-									byte *p917 = loadptru(p915 + 8);
-									uint64_t n918 = load64u(p915 + 16);
-									byte *p919 = loadptru(p915 + 40);
-									byte *p920 = loadptru(p915 + 48);
-									uint64_t n921 = load64u(p915 + 56);
+								n912 = 0;
+								while (n912 != n454) {
+									byte *p913 = inside(p453, n912 * 88);
+									byte *p914 = loadptru(p913);
+									byte *p915 = loadptru(p913 + 8);
+									uint64_t n916 = load64u(p913 + 16);
+									byte *p917 = loadptru(p913 + 40);
+									byte *p918 = loadptru(p913 + 48);
+									uint64_t n919 = load64u(p913 + 56);
 									BARRIER();
-									uint64_t n922 = atomic_exchange64(p916 + 256, 1, ORDER_SEQ_CST);
+									uint64_t n920 = atomic_exchange64(p914 + 256, 1, ORDER_SEQ_CST);
 									BARRIER();
-									if (n922 != 0)
-										tp_release_drop_slow(p916, p917, n918);
+									if (n920 != 0)
+										tp_release_drop_slow(p914, p915, n916);
 									BARRIER();
-									uint64_t n923 = atomic_exchange64(p919 + 256, 1, ORDER_SEQ_CST);
+									uint64_t n921 = atomic_exchange64(p917 + 256, 1, ORDER_SEQ_CST);
 									BARRIER();
-									if (n923 != 0)
-										tp_release_drop_slow(p919, p920, n921);
-									n914 = n914 + 1;
+									if (n921 != 0)
+										tp_release_drop_slow(p917, p918, n919);
+									n912 = n912 + 1;
 								}
 L35:
 								{
-									uint64_t n924;
+									uint64_t n922;
 									if (n455 != 0)
 										rattle_dealloc(p453);
 									if (n457 == 0)
 										goto L36;
-									n924 = 0;
-									while (n924 != n457) {
-										rattle_dealloc(loadptru(inside(p456, n924 * 88)));
-										n924 = n924 + 1;
+									n922 = 0;
+									while (n922 != n457) {
+										rattle_dealloc(loadptru(inside(p456, n922 * 88)));
+										n922 = n922 + 1;
 									}
 L36:
 									{
 										if (n458 != 0)
 											rattle_dealloc(p456);
 										if (n460 == 0) {
-											n868 = 1;
+											n866 = 1;
+											n867 = 0;
+											n868 = 0;
 											n869 = 0;
-											n870 = 0;
-											n871 = 0;
 											goto L37;
 										}
 										rattle_dealloc(p459);
-										n868 = 1;
+										n866 = 1;
+										n867 = 0;
+										n868 = 0;
 										n869 = 0;
-										n870 = 0;
-										n871 = 0;
 										goto L37;
 									}
 								}
 							}
 						}
-						p897 = p6;
-						p898 = p6;
+						p895 = p6;
+						p896 = p6;
 L33:
 						{
-							uint64_t n927, n928, n934, n939, n940, n957;
-							byte *p932, *p933;
-							uint8_t n958;
-							uint64_t n925 = 0;
-							uint64_t n926 = n849;
+							uint64_t n925, n926, n932, n937, n938, n955;
+							byte *p930, *p931;
+							uint8_t n956;
+							uint64_t n923 = 0;
+							uint64_t n924 = n847;
 							for (;;) {
-								if (n926 == 0)
+								if (n924 == 0)
 									goto L38;
-								n927 = n925 + 1;
-								n928 = n926 - 1;
-								byte *p929 = inside(p848, n925 * 112);
-								byte *p930 = loadptru(p929 + 8);
-								byte *p931 = loadptru(p929 + 16);
-								p932 = loadptru(p929 + 24);
-								p933 = loadptru(p929 + 32);
-								n934 = load64u(p929 + 40);
-								uint64_t n935 = load64u(p929 + 64);
-								uint8_t n936 = load8(p929);
-								memcpy(p7, p929 + 48, 16);
-								if (n936 != 1)
+								n925 = n923 + 1;
+								n926 = n924 - 1;
+								byte *p927 = inside(p846, n923 * 112);
+								byte *p928 = loadptru(p927 + 8);
+								byte *p929 = loadptru(p927 + 16);
+								p930 = loadptru(p927 + 24);
+								p931 = loadptru(p927 + 32);
+								n932 = load64u(p927 + 40);
+								uint64_t n933 = load64u(p927 + 64);
+								uint8_t n934 = load8(p927);
+								memcpy(p7, p927 + 48, 16);
+								if (n934 != 1)
 									break;
-								byte *p937 = inside(p897, n925 << 4);
-								storeptru(p937, p930);
-								storeptru(p937 + 8, p931);
-								byte *p938 = inside(p898, n925 * 48);
-								storeptru(p938, p932);
-								storeptru(p938 + 8, p933);
-								store64u(p938 + 16, n934);
-								memcpy(p938 + 24, p7, 16);
-								store64u(p938 + 40, n935);
-								n925 = n927;
-								n926 = n928;
+								byte *p935 = inside(p895, n923 << 4);
+								storeptru(p935, p928);
+								storeptru(p935 + 8, p929);
+								byte *p936 = inside(p896, n923 * 48);
+								storeptru(p936, p930);
+								storeptru(p936 + 8, p931);
+								store64u(p936 + 16, n932);
+								memcpy(p936 + 24, p7, 16);
+								store64u(p936 + 40, n933);
+								n923 = n925;
+								n924 = n926;
 							}
 							BARRIER();
-							n939 = atomic_exchange64(p932 + 256, 1, ORDER_SEQ_CST);
+							n937 = atomic_exchange64(p930 + 256, 1, ORDER_SEQ_CST);
 							BARRIER();
-							if (n939 != 0)
-								tp_release_drop_slow(p932, p933, n934);
-							storeptru(p8, p848);
-							store64u(p8 + 8, n928);
-							store64u(p8 + 16, n850);
-							store64u(p8 + 24, n927);
+							if (n937 != 0)
+								tp_release_drop_slow(p930, p931, n932);
+							storeptru(p8, p846);
+							store64u(p8 + 8, n926);
+							store64u(p8 + 16, n848);
+							store64u(p8 + 24, n925);
 							store64u(p8 + 32, 0);
 							tp_VecDeque_drop(p8);
-							if (n925 == 0)
+							if (n923 == 0)
 								goto L39;
-							n940 = 0;
-							while (n940 != n925) {
-								byte *p941 = inside(p898, n940 * 48);
-								byte *p942 = loadptru(p941);
-								byte *p943 = loadptru(p941 + 8);
-								uint64_t n944 = load64u(p941 + 16);
+							n938 = 0;
+							while (n938 != n923) {
+								byte *p939 = inside(p896, n938 * 48);
+								byte *p940 = loadptru(p939);
+								byte *p941 = loadptru(p939 + 8);
+								uint64_t n942 = load64u(p939 + 16);
 								BARRIER();
-								uint64_t n945 = atomic_exchange64(p942 + 256, 1, ORDER_SEQ_CST);
+								uint64_t n943 = atomic_exchange64(p940 + 256, 1, ORDER_SEQ_CST);
 								BARRIER();
-								if (n945 != 0)
-									tp_release_drop_slow(p942, p943, n944);
-								n940 = n940 + 1;
+								if (n943 != 0)
+									tp_release_drop_slow(p940, p941, n942);
+								n938 = n938 + 1;
 							}
 L39:
 							{
-								uint64_t n946;
-								if (!b896) {
-									rattle_dealloc(p898);
-									rattle_dealloc(p897);
+								uint64_t n944;
+								if (!b894) {
+									rattle_dealloc(p896);
+									rattle_dealloc(p895);
 								}
 								if (n446 != 0)
 									rattle_dealloc(p445);
@@ -79568,163 +79683,163 @@ L39:
 									rattle_dealloc(p451);
 								if (n454 == 0)
 									goto L40;
-								n946 = 0;
-								while (n946 != n454) {
-									byte *p947 = inside(p453, n946 * 88);
-									byte *p948 = loadptru(p947);
-									byte *p949 = loadptru(p947 + 8);
-									uint64_t n950 = load64u(p947 + 16);
-									byte *p951 = loadptru(p947 + 40);
-									byte *p952 = loadptru(p947 + 48);
-									uint64_t n953 = load64u(p947 + 56);
+								n944 = 0;
+								while (n944 != n454) {
+									byte *p945 = inside(p453, n944 * 88);
+									byte *p946 = loadptru(p945);
+									byte *p947 = loadptru(p945 + 8);
+									uint64_t n948 = load64u(p945 + 16);
+									byte *p949 = loadptru(p945 + 40);
+									byte *p950 = loadptru(p945 + 48);
+									uint64_t n951 = load64u(p945 + 56);
 									BARRIER();
-									uint64_t n954 = atomic_exchange64(p948 + 256, 1, ORDER_SEQ_CST);
+									uint64_t n952 = atomic_exchange64(p946 + 256, 1, ORDER_SEQ_CST);
 									BARRIER();
-									if (n954 != 0)
-										tp_release_drop_slow(p948, p949, n950);
+									if (n952 != 0)
+										tp_release_drop_slow(p946, p947, n948);
 									BARRIER();
-									uint64_t n955 = atomic_exchange64(p951 + 256, 1, ORDER_SEQ_CST);
+									uint64_t n953 = atomic_exchange64(p949 + 256, 1, ORDER_SEQ_CST);
 									BARRIER();
-									if (n955 != 0)
-										tp_release_drop_slow(p951, p952, n953);
-									n946 = n946 + 1;
+									if (n953 != 0)
+										tp_release_drop_slow(p949, p950, n951);
+									n944 = n944 + 1;
 								}
 L40:
 								{
-									uint64_t n956;
+									uint64_t n954;
 									if (n455 != 0)
 										rattle_dealloc(p453);
 									if (n457 == 0)
 										goto L41;
-									n956 = 0;
-									while (n956 != n457) {
-										rattle_dealloc(loadptru(inside(p456, n956 * 88)));
-										n956 = n956 + 1;
+									n954 = 0;
+									while (n954 != n457) {
+										rattle_dealloc(loadptru(inside(p456, n954 * 88)));
+										n954 = n954 + 1;
 									}
 L41:
 									{
 										if (n458 != 0)
 											rattle_dealloc(p456);
 										if (n460 == 0) {
-											n957 = 0;
-											n958 = 0;
+											n955 = 0;
+											n956 = 0;
 											goto L42;
 										}
 										rattle_dealloc(p459);
-										n957 = 0;
-										n958 = 0;
+										n955 = 0;
+										n956 = 0;
 										goto L42;
 									}
 								}
 							}
 L38:
 							{
-								bool b960, b984, b986, b988, b990, b993;
-								uint64_t n967, n971, n982, n992;
-								byte *p983, *p985, *p987, *p989, *p991;
-								storeptru(p9, p848);
+								bool b958, b982, b984, b986, b988, b991;
+								uint64_t n965, n969, n980, n990;
+								byte *p981, *p983, *p985, *p987, *p989;
+								storeptru(p9, p846);
 								store64u(p9 + 8, 0);
-								store64u(p9 + 16, n850);
-								store64u(p9 + 24, n849);
+								store64u(p9 + 16, n848);
+								store64u(p9 + 24, n847);
 								store64u(p9 + 32, 0);
 								tp_VecDeque_drop(p9);
-								uint64_t n959 = 0;
+								uint64_t n957 = 0;
 								for (;;) {
-									b960 = n959 != n849;
-									if (!b960)
+									b958 = n957 != n847;
+									if (!b958)
 										break;
-									uint64_t n961 = n959 * 88;
-									byte *p962 = at(p456, n961);
-									if (load8(p962 + 32) == 1)
+									uint64_t n959 = n957 * 88;
+									byte *p960 = at(p456, n959);
+									if (load8(p960 + 32) == 1)
 										goto L43;
-									if (load64(p962 + 16) != 0)
+									if (load64(p960 + 16) != 0)
 										goto L43;
-									byte *p963 = at(p453, n961);
-									store8(p963 + 80, 1);
-									byte *p964 = loadptr(p963) + 128;
+									byte *p961 = at(p453, n959);
+									store8(p961 + 80, 1);
+									byte *p962 = loadptr(p961) + 128;
 									BARRIER();
-									uint64_t n965 = atomic_load64(p964, ORDER_SEQ_CST);
+									uint64_t n963 = atomic_load64(p962, ORDER_SEQ_CST);
 									BARRIER();
-									store64(p963 + 32, n965);
-									uint64_t n966 = load64(p963 + 24);
-									if (n965 != (n966 - ((n966 > n965) ? (load64(p963 + 16) << 1) : 0)))
+									store64(p961 + 32, n963);
+									uint64_t n964 = load64(p961 + 24);
+									if (n963 != (n964 - ((n964 > n963) ? (load64(p961 + 16) << 1) : 0)))
 										goto L43;
-									n959 = n959 + 1;
+									n957 = n957 + 1;
 								}
-								n967 = 0;
-								while (n967 != n849) {
-									byte *p968 = at(p898, n967 * 48);
-									store8(p968 + 40, 1);
-									byte *p969 = loadptr(p968) + 128;
+								n965 = 0;
+								while (n965 != n847) {
+									byte *p966 = at(p896, n965 * 48);
+									store8(p966 + 40, 1);
+									byte *p967 = loadptr(p966) + 128;
 									BARRIER();
-									uint64_t n970 = atomic_load64(p969, ORDER_SEQ_CST);
+									uint64_t n968 = atomic_load64(p967, ORDER_SEQ_CST);
 									BARRIER();
-									store64(p968 + 32, n970);
-									n967 = n967 + 1;
+									store64(p966 + 32, n968);
+									n965 = n965 + 1;
 								}
 								if (n457 == 0)
 									goto L44;
-								n971 = 0;
-								while (n971 != n457) {
-									rattle_dealloc(loadptru(inside(p456, n971 * 88)));
-									n971 = n971 + 1;
+								n969 = 0;
+								while (n969 != n457) {
+									rattle_dealloc(loadptru(inside(p456, n969 * 88)));
+									n969 = n969 + 1;
 								}
 L44:
 								{
-									uint64_t n972;
+									uint64_t n970;
 									if (n458 != 0)
 										rattle_dealloc(p456);
 									if (n460 != 0)
 										rattle_dealloc(p459);
 									if (n454 == 0)
 										goto L45;
-									n972 = 0;
-									while (n972 != n454) {
-										byte *p973 = inside(p453, n972 * 88);
-										byte *p974 = loadptru(p973);
-										byte *p975 = loadptru(p973 + 8);
-										uint64_t n976 = load64u(p973 + 16);
-										byte *p977 = loadptru(p973 + 40);
-										byte *p978 = loadptru(p973 + 48);
-										uint64_t n979 = load64u(p973 + 56);
+									n970 = 0;
+									while (n970 != n454) {
+										byte *p971 = inside(p453, n970 * 88);
+										byte *p972 = loadptru(p971);
+										byte *p973 = loadptru(p971 + 8);
+										uint64_t n974 = load64u(p971 + 16);
+										byte *p975 = loadptru(p971 + 40);
+										byte *p976 = loadptru(p971 + 48);
+										uint64_t n977 = load64u(p971 + 56);
 										BARRIER();
-										uint64_t n980 = atomic_exchange64(p974 + 256, 1, ORDER_SEQ_CST);
+										uint64_t n978 = atomic_exchange64(p972 + 256, 1, ORDER_SEQ_CST);
 										BARRIER();
-										if (n980 != 0)
-											tp_release_drop_slow(p974, p975, n976);
+										if (n978 != 0)
+											tp_release_drop_slow(p972, p973, n974);
 										BARRIER();
-										uint64_t n981 = atomic_exchange64(p977 + 256, 1, ORDER_SEQ_CST);
+										uint64_t n979 = atomic_exchange64(p975 + 256, 1, ORDER_SEQ_CST);
 										BARRIER();
-										if (n981 != 0)
-											tp_release_drop_slow(p977, p978, n979);
-										n972 = n972 + 1;
+										if (n979 != 0)
+											tp_release_drop_slow(p975, p976, n977);
+										n970 = n970 + 1;
 									}
 L45:
 									{
 										if (n455 != 0)
 											rattle_dealloc(p453);
-										if (!b896)
-											rattle_dealloc(p897);
-										n982 = n444;
-										p983 = p445;
-										b984 = n446 == 0;
-										p985 = p447;
-										b986 = n448 == 0;
-										p987 = p449;
-										b988 = n450 == 0;
-										p989 = p451;
-										b990 = n452 == 0;
-										p991 = p898;
-										n992 = n849;
-										b993 = b896;
+										if (!b894)
+											rattle_dealloc(p895);
+										n980 = n444;
+										p981 = p445;
+										b982 = n446 == 0;
+										p983 = p447;
+										b984 = n448 == 0;
+										p985 = p449;
+										b986 = n450 == 0;
+										p987 = p451;
+										b988 = n452 == 0;
+										p989 = p896;
+										n990 = n847;
+										b991 = b894;
 										goto L46;
 									}
 								}
 L43:
 								{
-									uint64_t n994;
-									if (!b896)
-										rattle_dealloc(p897);
+									uint64_t n992;
+									if (!b894)
+										rattle_dealloc(p895);
 									if (n446 != 0)
 										rattle_dealloc(p445);
 									if (n448 != 0)
@@ -79735,38 +79850,38 @@ L43:
 										rattle_dealloc(p451);
 									if (n454 == 0)
 										goto L47;
-									n994 = 0;
-									while (n994 != n454) {
-										byte *p995 = inside(p453, n994 * 88);
-										byte *p996 = loadptru(p995);
-										byte *p997 = loadptru(p995 + 8);
-										uint64_t n998 = load64u(p995 + 16);
-										byte *p999 = loadptru(p995 + 40);
-										byte *p1000 = loadptru(p995 + 48);
-										uint64_t n1001 = load64u(p995 + 56);
+									n992 = 0;
+									while (n992 != n454) {
+										byte *p993 = inside(p453, n992 * 88);
+										byte *p994 = loadptru(p993);
+										byte *p995 = loadptru(p993 + 8);
+										uint64_t n996 = load64u(p993 + 16);
+										byte *p997 = loadptru(p993 + 40);
+										byte *p998 = loadptru(p993 + 48);
+										uint64_t n999 = load64u(p993 + 56);
 										BARRIER();
-										uint64_t n1002 = atomic_exchange64(p996 + 256, 1, ORDER_SEQ_CST);
+										uint64_t n1000 = atomic_exchange64(p994 + 256, 1, ORDER_SEQ_CST);
 										BARRIER();
-										if (n1002 != 0)
-											tp_release_drop_slow(p996, p997, n998);
+										if (n1000 != 0)
+											tp_release_drop_slow(p994, p995, n996);
 										BARRIER();
-										uint64_t n1003 = atomic_exchange64(p999 + 256, 1, ORDER_SEQ_CST);
+										uint64_t n1001 = atomic_exchange64(p997 + 256, 1, ORDER_SEQ_CST);
 										BARRIER();
-										if (n1003 != 0)
-											tp_release_drop_slow(p999, p1000, n1001);
-										n994 = n994 + 1;
+										if (n1001 != 0)
+											tp_release_drop_slow(p997, p998, n999);
+										n992 = n992 + 1;
 									}
 L47:
 									{
-										uint64_t n1004;
+										uint64_t n1002;
 										if (n455 != 0)
 											rattle_dealloc(p453);
 										if (n457 == 0)
 											goto L48;
-										n1004 = 0;
-										while (n1004 != n457) {
-											rattle_dealloc(loadptru(inside(p456, n1004 * 88)));
-											n1004 = n1004 + 1;
+										n1002 = 0;
+										while (n1002 != n457) {
+											rattle_dealloc(loadptru(inside(p456, n1002 * 88)));
+											n1002 = n1002 + 1;
 										}
 L48:
 										{
@@ -79774,8 +79889,10 @@ L48:
 												rattle_dealloc(p456);
 											if (n460 != 0)
 												rattle_dealloc(p459);
-											if (b896) {
-												n982 = n959;
+											if (b894) {
+												n980 = n957;
+												p981 = NULL;
+												b982 = true;
 												p983 = NULL;
 												b984 = true;
 												p985 = NULL;
@@ -79783,27 +79900,27 @@ L48:
 												p987 = NULL;
 												b988 = true;
 												p989 = NULL;
-												b990 = true;
-												p991 = NULL;
-												n992 = 0;
-												b993 = true;
+												n990 = 0;
+												b991 = true;
 												goto L46;
 											}
-											uint64_t n1005 = 0;
-											while (n1005 != n849) {
-												byte *p1006 = inside(p898, n1005 * 48);
-												byte *p1007 = loadptru(p1006);
-												byte *p1008 = loadptru(p1006 + 8);
-												uint64_t n1009 = load64u(p1006 + 16);
+											uint64_t n1003 = 0;
+											while (n1003 != n847) {
+												byte *p1004 = inside(p896, n1003 * 48);
+												byte *p1005 = loadptru(p1004);
+												byte *p1006 = loadptru(p1004 + 8);
+												uint64_t n1007 = load64u(p1004 + 16);
 												BARRIER();
-												uint64_t n1010 = atomic_exchange64(p1007 + 256, 1, ORDER_SEQ_CST);
+												uint64_t n1008 = atomic_exchange64(p1005 + 256, 1, ORDER_SEQ_CST);
 												BARRIER();
-												if (n1010 != 0)
-													tp_release_drop_slow(p1007, p1008, n1009);
-												n1005 = n1005 + 1;
+												if (n1008 != 0)
+													tp_release_drop_slow(p1005, p1006, n1007);
+												n1003 = n1003 + 1;
 											}
-											rattle_dealloc(p898);
-											n982 = n959;
+											rattle_dealloc(p896);
+											n980 = n957;
+											p981 = NULL;
+											b982 = true;
 											p983 = NULL;
 											b984 = true;
 											p985 = NULL;
@@ -79811,128 +79928,126 @@ L48:
 											p987 = NULL;
 											b988 = true;
 											p989 = NULL;
-											b990 = true;
-											p991 = NULL;
-											n992 = 0;
-											b993 = true;
+											n990 = 0;
+											b991 = true;
 										}
 									}
 								}
 L46:
 								{
-									uint64_t n1012, n1017;
-									uint8_t n1013;
-									if (b960) {
-										n957 = n982;
-										n958 = 1;
+									uint64_t n1010, n1015;
+									uint8_t n1011;
+									if (b958) {
+										n955 = n980;
+										n956 = 1;
 										goto L42;
 									}
-									uint64_t n1011 = 0;
+									uint64_t n1009 = 0;
 									for (;;) {
-										if (n1011 == n992) {
-											n1012 = 0;
-											n1013 = 0;
+										if (n1009 == n990) {
+											n1010 = 0;
+											n1011 = 0;
 											break;
 										}
-										byte *p1014 = at(p991, n1011 * 48);
-										if ((load8(p1014 + 40) & 1) == 0) {
-											n1012 = n1011;
-											n1013 = 1;
+										byte *p1012 = at(p989, n1009 * 48);
+										if ((load8(p1012 + 40) & 1) == 0) {
+											n1010 = n1009;
+											n1011 = 1;
 											break;
 										}
-										uint64_t n1015 = load64(p1014 + 24);
-										uint64_t n1016 = load64(p1014 + 32);
-										if (n1016 != (n1015 - ((n1015 > n1016) ? (load64(p1014 + 16) << 1) : 0))) {
-											n1012 = n1011;
-											n1013 = 1;
+										uint64_t n1013 = load64(p1012 + 24);
+										uint64_t n1014 = load64(p1012 + 32);
+										if (n1014 != (n1013 - ((n1013 > n1014) ? (load64(p1012 + 16) << 1) : 0))) {
+											n1010 = n1009;
+											n1011 = 1;
 											break;
 										}
-										n1011 = n1011 + 1;
+										n1009 = n1009 + 1;
 									}
-									if (n992 == 0)
+									if (n990 == 0)
 										goto L49;
-									n1017 = 0;
-									while (n1017 != n992) {
-										byte *p1018 = inside(p991, n1017 * 48);
-										byte *p1019 = loadptru(p1018);
-										byte *p1020 = loadptru(p1018 + 8);
-										uint64_t n1021 = load64u(p1018 + 16);
+									n1015 = 0;
+									while (n1015 != n990) {
+										byte *p1016 = inside(p989, n1015 * 48);
+										byte *p1017 = loadptru(p1016);
+										byte *p1018 = loadptru(p1016 + 8);
+										uint64_t n1019 = load64u(p1016 + 16);
 										BARRIER();
-										uint64_t n1022 = atomic_exchange64(p1019 + 256, 1, ORDER_SEQ_CST);
+										uint64_t n1020 = atomic_exchange64(p1017 + 256, 1, ORDER_SEQ_CST);
 										BARRIER();
-										if (n1022 != 0)
-											tp_release_drop_slow(p1019, p1020, n1021);
-										n1017 = n1017 + 1;
+										if (n1020 != 0)
+											tp_release_drop_slow(p1017, p1018, n1019);
+										n1015 = n1015 + 1;
 									}
 L49:
 									{
-										if (!b993)
-											rattle_dealloc(p991);
+										if (!b991)
+											rattle_dealloc(p989);
+										if (!b982)
+											rattle_dealloc(p981);
 										if (!b984)
 											rattle_dealloc(p983);
 										if (!b986)
 											rattle_dealloc(p985);
-										if (!b988)
-											rattle_dealloc(p987);
-										if (b990) {
-											n957 = n1012;
-											n958 = n1013;
+										if (b988) {
+											n955 = n1010;
+											n956 = n1011;
 										} else {
-											rattle_dealloc(p989);
-											n957 = n1012;
-											n958 = n1013;
+											rattle_dealloc(p987);
+											n955 = n1010;
+											n956 = n1011;
 										}
 									}
 								}
 							}
 L42:
 							{
-								uint64_t n1023;
-								if (b873) {
-									if (n958 == 1) {
-										n1023 = umin64(n957, n875);
+								uint64_t n1021;
+								if (b871) {
+									if (n956 == 1) {
+										n1021 = umin64(n955, n873);
 									} else {
-										n1023 = n875;
+										n1021 = n873;
 									}
-								} else if (n958 == 1) {
-									n1023 = n957;
+								} else if (n956 == 1) {
+									n1021 = n955;
 								} else {
 									switch (MOSTLY_0(n461)) {
 									case 0: {
-										n868 = 0;
-										n869 = n895;
-										n870 = n894;
-										n871 = n889;
+										n866 = 0;
+										n867 = n893;
+										n868 = n892;
+										n869 = n887;
 										goto L37;
 									}
 									case 1: {
-										if (n889 == 0) {
-											n868 = 1;
-											n869 = 2;
-											n870 = 0;
-											n871 = 0;
+										if (n887 == 0) {
+											n866 = 1;
+											n867 = 2;
+											n868 = 0;
+											n869 = 0;
 											goto L37;
 										}
-										rattle_dealloc(p891);
-										n868 = 1;
-										n869 = 2;
-										n870 = 0;
-										n871 = 0;
+										rattle_dealloc(p889);
+										n866 = 1;
+										n867 = 2;
+										n868 = 0;
+										n869 = 0;
 										goto L37;
 									}
 									case 2: {
-										if (n889 == 0) {
-											n868 = 1;
+										if (n887 == 0) {
+											n866 = 1;
+											n867 = 0;
+											n868 = 0;
 											n869 = 0;
-											n870 = 0;
-											n871 = 0;
 											goto L37;
 										}
-										rattle_dealloc(p891);
-										n868 = 1;
+										rattle_dealloc(p889);
+										n866 = 1;
+										n867 = 0;
+										n868 = 0;
 										n869 = 0;
-										n870 = 0;
-										n871 = 0;
 										goto L37;
 									}
 									default: {
@@ -79940,18 +80055,18 @@ L42:
 									}
 									}
 								}
-								if (n889 == 0) {
-									n868 = 1;
-									n869 = 1;
-									n870 = n1023;
-									n871 = 0;
+								if (n887 == 0) {
+									n866 = 1;
+									n867 = 1;
+									n868 = n1021;
+									n869 = 0;
 									goto L37;
 								}
-								rattle_dealloc(p891);
-								n868 = 1;
-								n869 = 1;
-								n870 = n1023;
-								n871 = 0;
+								rattle_dealloc(p889);
+								n866 = 1;
+								n867 = 1;
+								n868 = n1021;
+								n869 = 0;
 								goto L37;
 							}
 						}
@@ -79959,27 +80074,27 @@ L42:
 				}
 L31:
 				{
-					uint64_t n1024;
-					if (n849 == 0)
+					uint64_t n1022;
+					if (n847 == 0)
 						goto L50;
-					n1024 = 0;
-					while (n1024 != n849) {
-						byte *p1025 = inside(p848, n1024 * 112);
-						byte *p1026 = loadptru(p1025 + 24);
-						byte *p1027 = loadptru(p1025 + 32);
-						uint64_t n1028 = load64u(p1025 + 40);
+					n1022 = 0;
+					while (n1022 != n847) {
+						byte *p1023 = inside(p846, n1022 * 112);
+						byte *p1024 = loadptru(p1023 + 24);
+						byte *p1025 = loadptru(p1023 + 32);
+						uint64_t n1026 = load64u(p1023 + 40);
 						BARRIER();
-						uint64_t n1029 = atomic_exchange64(p1026 + 256, 1, ORDER_SEQ_CST);
+						uint64_t n1027 = atomic_exchange64(p1024 + 256, 1, ORDER_SEQ_CST);
 						BARRIER();
-						if (n1029 != 0)
-							tp_release_drop_slow(p1026, p1027, n1028);
-						n1024 = n1024 + 1;
+						if (n1027 != 0)
+							tp_release_drop_slow(p1024, p1025, n1026);
+						n1022 = n1022 + 1;
 					}
 L50:
 					{
-						uint64_t n1030;
-						if (n850 != 0)
-							rattle_dealloc(p848);
+						uint64_t n1028;
+						if (n848 != 0)
+							rattle_dealloc(p846);
 						if (n446 != 0)
 							rattle_dealloc(p445);
 						if (n448 != 0)
@@ -79990,54 +80105,54 @@ L50:
 							rattle_dealloc(p451);
 						if (n454 == 0)
 							goto L51;
-						n1030 = 0;
-						while (n1030 != n454) {
-							byte *p1031 = inside(p453, n1030 * 88);
-							byte *p1032 = loadptru(p1031);
-							byte *p1033 = loadptru(p1031 + 8);
-							uint64_t n1034 = load64u(p1031 + 16);
-							byte *p1035 = loadptru(p1031 + 40);
-							byte *p1036 = loadptru(p1031 + 48);
-							uint64_t n1037 = load64u(p1031 + 56);
+						n1028 = 0;
+						while (n1028 != n454) {
+							byte *p1029 = inside(p453, n1028 * 88);
+							byte *p1030 = loadptru(p1029);
+							byte *p1031 = loadptru(p1029 + 8);
+							uint64_t n1032 = load64u(p1029 + 16);
+							byte *p1033 = loadptru(p1029 + 40);
+							byte *p1034 = loadptru(p1029 + 48);
+							uint64_t n1035 = load64u(p1029 + 56);
 							BARRIER();
-							uint64_t n1038 = atomic_exchange64(p1032 + 256, 1, ORDER_SEQ_CST);
+							uint64_t n1036 = atomic_exchange64(p1030 + 256, 1, ORDER_SEQ_CST);
 							BARRIER();
-							if (n1038 != 0)
-								tp_release_drop_slow(p1032, p1033, n1034);
+							if (n1036 != 0)
+								tp_release_drop_slow(p1030, p1031, n1032);
 							BARRIER();
-							uint64_t n1039 = atomic_exchange64(p1035 + 256, 1, ORDER_SEQ_CST);
+							uint64_t n1037 = atomic_exchange64(p1033 + 256, 1, ORDER_SEQ_CST);
 							BARRIER();
-							if (n1039 != 0)
-								tp_release_drop_slow(p1035, p1036, n1037);
-							n1030 = n1030 + 1;
+							if (n1037 != 0)
+								tp_release_drop_slow(p1033, p1034, n1035);
+							n1028 = n1028 + 1;
 						}
 L51:
 						{
-							uint64_t n1040;
+							uint64_t n1038;
 							if (n455 != 0)
 								rattle_dealloc(p453);
 							if (n457 == 0)
 								goto L52;
-							n1040 = 0;
-							while (n1040 != n457) {
-								rattle_dealloc(loadptru(inside(p456, n1040 * 88)));
-								n1040 = n1040 + 1;
+							n1038 = 0;
+							while (n1038 != n457) {
+								rattle_dealloc(loadptru(inside(p456, n1038 * 88)));
+								n1038 = n1038 + 1;
 							}
 L52:
 							{
 								if (n458 != 0)
 									rattle_dealloc(p456);
 								if (n460 == 0) {
-									n868 = 1;
+									n866 = 1;
+									n867 = 0;
+									n868 = 0;
 									n869 = 0;
-									n870 = 0;
-									n871 = 0;
 								} else {
 									rattle_dealloc(p459);
-									n868 = 1;
+									n866 = 1;
+									n867 = 0;
+									n868 = 0;
 									n869 = 0;
-									n870 = 0;
-									n871 = 0;
 								}
 							}
 						}
@@ -80051,10 +80166,10 @@ L52:
 			}
 L37:
 			{
-				store64u(p1, n868);
-				store64u(p1 + 8, n869);
-				store64u(p1 + 16, n870);
-				store64u(p1 + 24, n871);
+				store64u(p1, n866);
+				store64u(p1 + 8, n867);
+				store64u(p1 + 16, n868);
+				store64u(p1 + 24, n869);
 				return;
 			}
 		}
