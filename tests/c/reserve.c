@@ -108,7 +108,9 @@ static int refuses(uint32_t table)
 	refuse = 1;
 	done = done && is(TIMERS_NO_MEMORY, timers_reserve(&t, MOST));
 	refuse = 0;
-	done = done && is(TIMERS_NO_MEMORY, timers_reserve(&t, SIZE_MAX)) && is(TIMERS_NO_MEMORY, timers_reserve(&t, SIZE_MAX / 64));
+	done = done && is(TIMERS_NO_MEMORY, timers_reserve(&t, SIZE_MAX));
+	/* which needs a block of more than SIZE_MAX / 2 bytes: 32 of the 40 a timer are in one */
+	done = done && is(TIMERS_NO_MEMORY, timers_reserve(&t, SIZE_MAX / 63));
 	/* whose bytes are more than a size_t can count: at least 40 a timer */
 	done = done && is(TIMERS_NO_MEMORY, timers_reserve(&t, SIZE_MAX / 40 + 1));
 	done = done && timers_len(&t) == 100 && timers_now(&t) == 7 && !timers_has_due(&t);
