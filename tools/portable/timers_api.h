@@ -30,7 +30,7 @@ INLINE enum timers_status answered(uint32_t status, void *to, void *answer, size
 	return (enum timers_status)status;
 }
 
-/* An answer that was written where the caller wants it: most compilers then save fewer registers than if it is copied. */
+/* An answer that was written where the caller wants it, and is not copied. */
 INLINE enum timers_status turned(uint32_t status, void *answer, size_t n)
 {
 	if (status == TIMERS_OK)
