@@ -96,9 +96,9 @@ fn restart_in_smooth(
     ensures refused { 0 < result → IsRestartRefusal handle interval timers.old result }
     ensures kept { 0 < result → (timers.new ≡ timers.old) × (restarted.new ≡ restarted.old) }
 {
-    // Known here, this leaves out the hierarchy.
+    // Never taken: but a compiler that knows so leaves out the hierarchy.
     if !timers.wheel().is_smooth() {
-        unreachable!()
+        return NOT_PENDING;
     }
     restart_in_any(timers, handle, interval, action, restarted)
 }

@@ -1,5 +1,5 @@
 -- Lemmas for the calls of `Links`: what they read, and the representation after a node is added, removed, moved or set.
-use Rattle.std.proofs.Common.{◌≡◌, ◌≢◌, ◌<◌, ◌≤◌, ◌+◌, ℕ, zero, suc, List, [], ◌∷◌, ◌++◌, length, refl, sym, ◌∙◌, ap, subst, inl, inr, arith, length-set, length-append, get_or-set_same, get_or-set_other, false, IsTrue, map, Option, Some, None, IsSome, IfSome, slice_set, slice_index_or}
+use Rattle.std.proofs.Common.{◌≡◌, ◌≢◌, ◌<◌, ◌≤◌, ◌+◌, ◌-◌, ℕ, zero, suc, List, [], ◌∷◌, ◌++◌, length, refl, sym, ◌∙◌, ap, subst, inl, inr, arith, length-set, length-append, get_or-set_same, get_or-set_other, false, IsTrue, map, Option, Some, None, IsSome, IfSome, slice_set, slice_index_or}
 use Rattle.std.specs.List.{AllByRecursion}
 use Rattle.std.proofs.lemmas.Bool.{cases_eq}
 use Rattle.std.proofs.lemmas.List.{get_or_read, append_assoc}
@@ -178,6 +178,22 @@ module _ (n : ℕ) (nodes : Slab Node) (s : List Neighbours) (v : KeyedLists) (h
       empty : (l : ℕ) (rows : Rows) → l < n → LeadsOver n s l rows l → (neighbours_at s l).after ≡ l → rows ≡ []
       empty l [] b c e = refl
       empty l (r ∷ rs) b c e = let q : n + r.0 ≡ l = sym c.0.forth ∙ e in absurd (omega arith)
+
+  -- and else its next index is that of its first key
+  pub root_leads : (l : ℕ) (x : Neighbours) → l < length v → x ≡ slice_index_or s l x → x.after ≢ l
+      → (n ≤ x.after) × (Some (x.after - n) ≡ first_key (list_at l v))
+  root_leads l x d f o =
+      let b : l < n = low l d in
+      let a : x.after ≡ (neighbours_at s l).after = ap (λ (y : Neighbours). y.after) (read_root l s x d refl f).is in
+      leads (list_at l v) (h.rings l b) a
+    where
+      leads : (rows : Rows) → LeadsOver n s l rows l → x.after ≡ (neighbours_at s l).after
+          → (n ≤ x.after) × (Some (x.after - n) ≡ first_key rows)
+      leads [] c a = absurd (o (a ∙ c.forth))
+      leads (r ∷ rs) c a =
+          let q : x.after ≡ n + r.0 = a ∙ c.0.forth in
+          let k : x.after - n ≡ r.0 = omega arith in
+          (omega arith, ap (λ (key : ℕ). Some key) k)
 
   pub is_alone_in : (key : ℕ) (x : Neighbours) → x ≡ neighbours_at s (n + key) → IsAloneIn key v (neighbour_on_both_sides x)
   is_alone_in key x q l front node rest d e =

@@ -141,7 +141,13 @@ impl<N: Kept> Links<N> {
         requires { list < length self.now.lists }
         ensures { result ≡ first_key (list_at list self.now.lists) }
     {
-        key_at(self.neighbours[list].after, self.lists)
+        let after = self.neighbours[list].after as usize;
+        // A link leads to a key if it doesn't lead back to its list: so the number of lists is not asked for.
+        if after == list {
+            None
+        } else {
+            Some(after - self.lists)
+        }
     }
 
     /// The key of the last node of a list, or None if the list is empty. Does not allocate.

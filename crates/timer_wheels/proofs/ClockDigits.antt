@@ -46,22 +46,34 @@ clock_fits = record {
 
 -- The four wheels.
 
+-- Now is before the deadline: both are in one minute, hour or day if the deadline's has begun.
 module _ (a d : ℕ) where
-  pub bucket_second : a / 60 ≡ d / 60 → d % 60 ≡ bucket clock a d
-  bucket_second e = rw clock_is (sym (bucket_near 60 minutes a d e))
+  pub bucket_second : a < d → 60 * (d / 60) ≤ a → d - 60 * (d / 60) ≡ bucket clock a d
+  bucket_second l b =
+      let e : a / 60 ≡ d / 60 = omega arith in
+      rw clock_is (omega (arith, bucket_near 60 minutes a d e))
 
-  pub bucket_minute : a / 60 ≢ d / 60 → a / 60 / 60 ≡ d / 60 / 60 → 60 + d / 60 % 60 ≡ bucket clock a d
-  bucket_minute n e = rw clock_is (omega (arith, bucket_far 60 minutes a d n, bucket_near 60 hours (a / 60) (d / 60) e))
+  pub bucket_minute : a < d → a < 60 * (d / 60) → 3600 * (d / 60 / 60) ≤ a
+      → 60 + (d / 60 - 60 * (d / 60 / 60)) ≡ bucket clock a d
+  bucket_minute l f b =
+      let n : a / 60 ≢ d / 60 = omega arith in
+      let e : a / 60 / 60 ≡ d / 60 / 60 = omega arith in
+      rw clock_is (omega (arith, bucket_far 60 minutes a d n, bucket_near 60 hours (a / 60) (d / 60) e))
 
-  pub bucket_hour : a / 60 ≢ d / 60 → a / 60 / 60 ≢ d / 60 / 60 → a / 60 / 60 / 24 ≡ d / 60 / 60 / 24
-      → 120 + d / 60 / 60 % 24 ≡ bucket clock a d
-  bucket_hour n m e =
+  pub bucket_hour : a < d → a < 3600 * (d / 60 / 60) → 86400 * (d / 60 / 60 / 24) ≤ a
+      → 120 + (d / 60 / 60 - 24 * (d / 60 / 60 / 24)) ≡ bucket clock a d
+  bucket_hour l f b =
+      let n : a / 60 ≢ d / 60 = omega arith in
+      let m : a / 60 / 60 ≢ d / 60 / 60 = omega arith in
+      let e : a / 60 / 60 / 24 ≡ d / 60 / 60 / 24 = omega arith in
       let days_up = bucket_near 24 days (a / 60 / 60) (d / 60 / 60) e in
       rw clock_is (omega (arith, bucket_far 60 minutes a d n, bucket_far 60 hours (a / 60) (d / 60) m))
 
-  pub bucket_day : a < d → d ≤ 8639999 → a / 60 ≢ d / 60 → a / 60 / 60 ≢ d / 60 / 60 → a / 60 / 60 / 24 ≢ d / 60 / 60 / 24
-      → 144 + d / 60 / 60 / 24 ≡ bucket clock a d
-  bucket_day l r n m k =
+  pub bucket_day : a < d → d ≤ 8639999 → a < 86400 * (d / 60 / 60 / 24) → 144 + d / 60 / 60 / 24 ≡ bucket clock a d
+  bucket_day l r f =
+      let n : a / 60 ≢ d / 60 = omega arith in
+      let m : a / 60 / 60 ≢ d / 60 / 60 = omega arith in
+      let k : a / 60 / 60 / 24 ≢ d / 60 / 60 / 24 = omega arith in
       let e : d / 60 / 60 / 24 / 100 ≡ 0 = days_end d r in
       let top = bucket_near 100 [] (a / 60 / 60 / 24) (d / 60 / 60 / 24) (days_end a (omega arith) ∙ sym e) in
       let last = bucket_far 24 days (a / 60 / 60) (d / 60 / 60) k in

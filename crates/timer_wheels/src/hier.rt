@@ -223,11 +223,12 @@ impl<N: Kept> HierWheel<N> {
         ensures ticked { hier_state self.new ≡ after_tick (hier_state self.old) }
         ensures counts { counts_of self.new ≡ counts_of_tick (hier_state self.old) (counts_of self.old) }
     {
-        let list = emptied_at(table, self.wheels.buckets.tick + 1);
-        if list < lowest_slots(table) {
-            self.visit(list);
+        let tick = self.wheels.buckets.tick + 1;
+        let slot = (tick % lowest_slots(table) as u64) as usize;
+        if slot == 0 {
+            self.roll_over();
         } else {
-            self.visit_apart(list);
+            self.visit(slot);
         }
     }
 
@@ -246,17 +247,16 @@ impl<N: Kept> HierWheel<N> {
         counts.add_moves(moves);
     }
 
-    /// The same, out of line.
+    /// Advances by one tick, at which the lowest wheel begins anew. It empties a bucket of a higher wheel.
+    // Out of line, with all that finds the bucket.
     #[inline(never)]
-    fn visit_apart(&mut self, list: usize)
+    fn roll_over(&mut self)
         requires nothing_due { (hier_state self.old).due ≡ [] }
         requires before_last { (hier_state self.old).now < (hier_state self.old).last_tick }
-        requires emptied { list ≡ emptied (radices (table_of self.old)) ((hier_state self.old).now + 1) }
-        requires in_range { list < slots (radices (table_of self.old)) }
         ensures ticked { hier_state self.new ≡ after_tick (hier_state self.old) }
         ensures counts { counts_of self.new ≡ counts_of_tick (hier_state self.old) (counts_of self.old) }
     {
-        self.visit(list);
+        self.visit(emptied_at(self.wheels.table, self.wheels.buckets.tick + 1));
     }
 
     /// The clock and the buckets.

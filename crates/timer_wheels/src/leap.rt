@@ -52,6 +52,7 @@ impl<N: Kept> Wheels<N> {
     }
 
     /// Advances to the next visit of a bucket with a timer, or to the end if that comes first.
+    #[inline(always)]
     fn leap_to_visit(&mut self, end: u64) -> u64
         requires nothing_due { (state_of self.old.buckets).due ≡ [] }
         requires before_end { self.old.buckets.tick < end }
@@ -62,18 +63,7 @@ impl<N: Kept> Wheels<N> {
         ensures end { self.new.buckets.tick ≤ end }
         ensures table { self.new.table ≡ self.old.table }
     {
-        let Some(list) = self.occupied.first() else {
-            self.skip_to(end);
-            return 0;
-        };
-        let visit = visit_of(self.table, list, self.buckets.tick);
-        if end < visit {
-            self.skip_to(end);
-            0
-        } else {
-            self.skip_to(visit - 1);
-            self.visit_next(list)
-        }
+        with_constant_table!(leap_by(self.table, self, end))
     }
 
     /// The next visit of a bucket with a timer, or None if no bucket has one.
@@ -134,6 +124,33 @@ fn first_visit_by<N: Kept>(table: Table, wheels: &Wheels<N>) -> Option<u64>
     match wheels.occupied.first() {
         Some(list) => Some(visit_of(table, list, wheels.buckets.tick)),
         None => None,
+    }
+}
+
+/// `leap_to_visit` by the wheels' table.
+#[inline(always)]
+fn leap_by<N: Kept>(table: Table, wheels: &mut Wheels<N>, end: u64) -> u64
+    requires table { table ≡ wheels.old.table }
+    requires nothing_due { (state_of wheels.old.buckets).due ≡ [] }
+    requires before_end { wheels.old.buckets.tick < end }
+    requires end { end ≤ wheels.old.buckets.last_tick }
+    ensures leaps { Leaps (radices wheels.old.table) result (state_of wheels.old.buckets)
+        (state_of wheels.new.buckets) }
+    ensures later { wheels.old.buckets.tick < wheels.new.buckets.tick }
+    ensures end { wheels.new.buckets.tick ≤ end }
+    ensures table { wheels.new.table ≡ wheels.old.table }
+{
+    let Some(list) = wheels.occupied.first() else {
+        wheels.skip_to(end);
+        return 0;
+    };
+    let visit = visit_of(table, list, wheels.buckets.tick);
+    if end < visit {
+        wheels.skip_to(end);
+        0
+    } else {
+        wheels.skip_to(visit - 1);
+        wheels.visit_next(list)
     }
 }
 

@@ -69,19 +69,20 @@ pub fn bucket_of(now: u64, deadline: u64) -> usize
 {
     let second = deadline as u32;
     let now = now as u32;
+    // As now is before the deadline, both are in one minute if the deadline's has begun: so only the deadline is divided.
     let minute = second / 60;
-    if now / 60 == minute {
-        return (second % 60) as usize;
+    if 60 * minute <= now {
+        return (second - 60 * minute) as usize;
     }
     let hour = minute / 60;
-    if now / 60 / 60 == hour {
-        return 60 + (minute % 60) as usize;
+    if 60 * 60 * hour <= now {
+        return (60 + (minute - 60 * hour)) as usize;
     }
     let day = hour / 24;
-    if now / 60 / 60 / 24 == day {
-        return 120 + (hour % 24) as usize;
+    if 60 * 60 * 24 * day <= now {
+        return (120 + (hour - 24 * day)) as usize;
     }
-    144 + day as usize
+    (144 + day) as usize
 }
 
 /// The list that a tick empties.
