@@ -51,9 +51,16 @@ def in_digits(ns):
     return of_ns(float(f"{ns:.2g}")).replace(" ", "\N{NO-BREAK SPACE}")
 
 
+def setting(part, column):
+    return next(row[column] for row in figures.read("settings") if row["part"] == part)
+
+
+def date(part):
+    return setting(part, "date")
+
+
 def machine(part):
-    row = next(row for row in figures.read("settings") if row["part"] == part)
-    return f"{row['machine'].replace('(R)', '').replace(' Processor', '')}, {row['date']}"
+    return f"{setting(part, 'machine').replace('(R)', '').replace(' Processor', '')}, {date(part)}"
 
 
 def draw(axes, at, cells, style, is_across=False):
@@ -143,7 +150,7 @@ def bench(folder):
         name(axes, style, label, at, -0.75, "right" if style == "product" else "left", "bottom", glyph=True)
     axes.set_yticks(range(len(rows)), [in_words(row["workload"]) for row in rows])
     axes.set_ylim(len(rows) - 0.4, -0.6)
-    ratio_axis(axes, 0.4, 25, [0.5, 1, 2, 5, 10, 20])
+    ratio_axis(axes, 0.35, 25, [0.5, 1, 2, 5, 10, 20])
     for at in range(len(rows) - 1):
         axes.axhline(at + 0.5, color=GRID, linewidth=0.6)
     under(figure, f"ratio to a hand-tuned C++ wheel (1); less is better\n{MARKS}\n"
@@ -179,8 +186,8 @@ def scale(folder):
             draw(axes, [float(size) for size in sizes], cells, style)
             if operation == "start":
                 is_below = style == "first"
-                name(axes, style, label, float(sizes[-1]), (0.55 if is_below else 1.35) * max(map(median, cells[-2:])), "right",
-                     "top" if is_below else "bottom")
+                at = 0.6 * min(ends(cell)[0] for cell in cells[-2:]) if is_below else 1.2 * max(ends(cell)[1] for cell in cells[-2:])
+                name(axes, style, label, float(sizes[-1]), at, "right", "top" if is_below else "bottom")
         axes.set_title(operation, fontweight="bold")
         axes.set_xscale("log")
         axes.set_xticks([float(size) for size in sizes], ["10³", "10⁴", "10⁵", "10⁶", "10⁷"])
@@ -246,7 +253,8 @@ def lines(folder):
     axes.set_yticks(range(len(rows)), [name for name, _ in rows])
     axes.set_ylim(len(rows) - 0.4, -0.6)
     ratio_axis(axes, 0.15, 10, [0.2, 0.5, 1, 2, 5, 10])
-    under(figure, f"ratio to the row's peer (1): the facility alone, or C++; less is better\n{MARKS}\n{machine('lines')}")
+    under(figure, f"ratio to the row's peer (1): the facility alone, or C++; less is better\n{MARKS}\n{machine('lines')}; "
+          f"threads {date('programs')}")
     desk, threads = ([median(cell) for name, cell in rows if name.startswith(of)] for of in ("desk", "threads"))
     save(figure, folder, "lines", f"A desk takes {min(desk):.1f} to {max(desk):.1f} times as long as the same requests without one, and client threads "
          f"{min(threads):.1f} to {max(threads):.1f} times as long as in C++",

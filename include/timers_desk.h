@@ -412,8 +412,9 @@ TIMERS_CHECKED
 enum timers_desk_status timers_desk_open(struct timers_desk *d, size_t client, struct timers_line *line, size_t room);
 
 /* Makes room for as many timers as may be pending, and for the list of them that a close makes. From then on no serve
- * and no timers_desk_close allocates or runs out of memory. Before the first start it takes 104 bytes for each of
- * `capacity` timers, afterwards up to 168. Below 4 timers it takes a little more. A second call allocates nothing.
+ * and no timers_desk_close allocates or runs out of memory. Before the first start it takes 96 bytes for each of
+ * `capacity` timers, and a little more below 4. Afterwards it takes up to 154, and more below 1,000 timers. A second
+ * call allocates nothing.
  * TIMERS_DESK_NOT_OPEN, TIMERS_DESK_NO_MEMORY: no timer and no word has changed, and part of the memory may be kept. */
 TIMERS_CHECKED
 enum timers_desk_status timers_desk_reserve(struct timers_desk *d);
