@@ -1,7 +1,8 @@
 -- Small facts that lemmas of several crates use: of Booleans, options, lists, and of one timer and a tick.
-use Rattle.std.proofs.Common.{arith, ◌≡◌, ◌≢◌, ◌<◌, ◌≤◌, ℕ, min, true, false, List, [], ◌∷◌, length, Some, None, refl}
+use Rattle.std.proofs.Common.{arith, ◌≡◌, ◌≢◌, ◌<◌, ◌≤◌, ℕ, min, Bool, true, false, List, [], ◌∷◌, length, filter, Some, None, refl}
 use Rattle.std.proofs.lemmas.Bool.Decides.{nat_tests}
-use Rattle.timer_base.specs.declared.timer.Timer.{Timer}
+use Rattle.std.proofs.lemmas.List.Sums.{length-filter, count_by-le-length}
+use Rattle.timer_base.specs.Types.{Timer}
 use Rattle.timer_base.specs.Order.{is_before}
 use Rattle.timer_base.specs.Pending.{is_due_at}
 pub use Rattle.timer_base.specs.WellFormed.{either}
@@ -18,6 +19,9 @@ none_some x e = cc
 pub empty_when : {X : Type 0} (xs : List X) → length xs ≤ 0 → xs ≡ []
 empty_when [] h = refl
 empty_when (x ∷ xs) h = absurd (omega arith)
+
+pub filter_no_longer : {X : Type 0} (p : X → Bool) (xs : List X) → length (filter p xs) ≤ length xs
+filter_no_longer p xs = omega (arith, length-filter p xs, count_by-le-length p xs)
 
 pub is_due : (tick : ℕ) (t : Timer) → t.deadline ≡ tick → is_due_at tick t ≡ true
 is_due tick t e = grind (arith, nat_tests)

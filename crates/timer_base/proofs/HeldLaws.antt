@@ -2,8 +2,7 @@
 use Rattle.std.proofs.Common.{◌∙◌, ap, sym, subst, inl, inr, arith, ◌==◌, ◌≡◌, ◌≢◌, ℕ, ◌<◌, Bool, true, false, nat_lt, List, [], ◌∷◌, Option, Some, None, refl}
 use Rattle.std.proofs.lemmas.Bool.{ne_eqb, eq-eqb, eqb-true, lt-ltb, le-ltb, and_parts}
 use Rattle.timer_base.proofs.Basics.{some_same, none_some, either}
-use Rattle.timer_base.specs.declared.timer.Handle.{Handle}
-use Rattle.timer_base.specs.declared.timer.Timer.{Timer}
+use Rattle.timer_base.specs.Types.{Handle, Timer}
 use Rattle.timer_base.specs.Order.{AreDistinct, IsNotAmong}
 use Rattle.timer_base.specs.Pending.{Entry, timers_of, has_handle, first_timer, first_found, without_serial, without_found, without_handle}
 use Rattle.timer_base.specs.WheelState.{WheelState, timer_at, due_at, held_at, after_start, after_due_start, after_held_start, after_stop, after_removal, after_restart, after_replacement, with_room}
@@ -143,5 +142,5 @@ gone handle (x ∷ xs) = elim (either (has_handle handle x)) [
 ]
 
 -- the handle names nothing then
-pub held_at-removed : (handle : Handle) (w : WheelState) → held_at handle (after_removal handle w) ≡ None
-held_at-removed handle w = rw (gone handle w.pending) (gone handle w.due)
+pub held_at_removed : (handle : Handle) (w : WheelState) → held_at handle (after_removal handle w) ≡ None
+held_at_removed handle w = rw (gone handle w.pending) (gone handle w.due)

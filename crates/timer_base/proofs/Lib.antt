@@ -9,6 +9,4 @@ pub mod PlainExpiries
 pub mod PlainJumps
 pub mod PlainHeld
 pub mod PlainSteps
-pub mod SortedTimers
-pub mod PlainWakeUps
 pub mod PlainNewest

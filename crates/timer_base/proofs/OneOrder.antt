@@ -1,16 +1,17 @@
--- Lemmas: the order of distinct timers is unique.
-use Rattle.std.proofs.Common.{sym, ◌∙◌, ap, subst, inl, inr, arith, ◌≡◌, ◌≢◌, ◌≤◌, ◌+◌, ℕ, false, ◌==◌, if◌then◌else◌, List, [], ◌∷◌, map, refl}
+-- Lemmas: the order of distinct timers is unique, so the result of a sort is the timers in order.
+use Rattle.std.proofs.Common.{sym, ◌∙◌, ap, subst, inl, inr, arith, ◌≡◌, ◌≢◌, ◌≤◌, ◌+◌, ℕ, suc, false, ◌==◌, if◌then◌else◌, List, [], ◌∷◌, get_or, map, refl}
 use Rattle.std.specs.List.{AllByRecursion, sum_by}
-use Rattle.std.specs.List.Sorted.{IsPermutation}
+use Rattle.std.specs.List.Sorted.{IsPermutation, IsSortedBy, IsSortedByKey}
+use Rattle.std.specs.Ordering.{nat_cmp, ordering_then, is_lt}
 use Rattle.std.proofs.lemmas.Bool.{eqb-true, eqb-false}
 use Rattle.std.proofs.lemmas.Bool.Decides.{nat_tests}
 use Rattle.std.proofs.lemmas.List.Elements.{All-from_recursion, recursion_from_All}
 use Rattle.std.proofs.lemmas.List.Sorted.{IsPermutation-refl, IsPermutation-sym, All-permutation, sum_by-IsPermutation}
 use Rattle.std.proofs.lemmas.List.Sums.{sum_by-cons}
 use Rattle.timer_base.proofs.Basics.{either}
-use Rattle.timer_base.proofs.OrderLaws.{All-weaken, All-in_order, IsOrdered-in_order, AreDistinct-in_order}
-use Rattle.timer_base.specs.declared.timer.Timer.{Timer}
-use Rattle.timer_base.specs.Order.{is_before, insert_in_order, in_order, IsFirst, IsOrdered, IsNotAmong, AreDistinct, IsMember}
+use Rattle.timer_base.proofs.OrderLaws.{All-weaken, All-in_order, IsFirst-weaken, IsOrdered-in_order, AreDistinct-in_order}
+use Rattle.timer_base.specs.Types.{Timer}
+use Rattle.timer_base.specs.Order.{is_before, insert_in_order, in_order, itself, IsFirst, IsOrdered, IsNotAmong, AreDistinct, IsMember}
 pub use Rattle.timer_base.specs.WellFormed.{map-itself}
 
 -- each member of xs is one of ys, and each of ys is one of xs
@@ -63,7 +64,7 @@ without_head timer x y (z ∷ zs) ys e n a = (
   without_head timer x y zs ys e n.1 a.1,
 )
 
-pub one_order : {X : Type 0} (timer : X → Timer) (xs ys : List X) → IsOrdered (map timer xs)
+one_order : {X : Type 0} (timer : X → Timer) (xs ys : List X) → IsOrdered (map timer xs)
     → IsOrdered (map timer ys)
     → AreDistinct (map timer xs) → AreDistinct (map timer ys)
     → AllByRecursion (λ z. IsMember z ys) xs → AllByRecursion (λ z. IsMember z xs) ys → xs ≡ ys
@@ -208,12 +209,11 @@ AreDistinct-permuted timer xs ys p d =
 -- The laws.
 
 -- two ordered lists of the same distinct timers are equal
-pub the_order_is_one : {X : Type 0} (timer : X → Timer) (xs ys : List X) → IsPermutation xs ys
-    → AreDistinct (map timer xs)
-    → IsOrdered (map timer xs) → IsOrdered (map timer ys) → xs ≡ ys
-the_order_is_one timer xs ys p d o q =
+pub the_order_is_one : (xs ys : List Timer) → IsPermutation xs ys → AreDistinct xs → IsOrdered xs → IsOrdered ys → xs ≡ ys
+the_order_is_one xs ys p d o q =
     let m = same_members xs ys p in
-    one_order timer xs ys o q d (AreDistinct-permuted timer xs ys p d) m.into m.back
+    let apart : AreDistinct (map itself xs) = rw (map-itself xs) d in
+    one_order itself xs ys (rw (map-itself xs) o) (rw (map-itself ys) q) apart (AreDistinct-permuted itself xs ys p apart) m.into m.back
 
 -- what is ordered and a permutation of distinct timers is those in order
 pub ordered_is_in_order : {X : Type 0} (timer : X → Timer) (xs ys : List X) → IsPermutation xs ys
@@ -231,3 +231,30 @@ ordered_is_in_order timer xs ys p d o =
 pub in_order-ordered : {X : Type 0} (timer : X → Timer) (xs : List X) → AreDistinct (map timer xs)
     → IsOrdered (map timer xs) → in_order timer xs ≡ xs
 in_order-ordered timer xs d o = sym (ordered_is_in_order timer xs xs (IsPermutation-refl xs) d o)
+
+-- A sort by deadline and serial.
+
+-- the sort key
+abbrev pub key_of : Timer → ℕ × ℕ
+key_of t = (t.deadline, t.serial)
+
+key_is_before : (a b : Timer) → is_lt (ordering_then (nat_cmp a.deadline b.deadline) (nat_cmp a.serial b.serial)) ≡ is_before a b
+key_is_before a b = grind (arith, nat_tests)
+
+sorted_tail : (t : Timer) (ts : List Timer) → IsSortedBy is_before (t ∷ ts) → IsSortedBy is_before ts
+sorted_tail t ts s = λ k d l h. let e : suc k + 1 ≡ suc (k + 1) = omega arith in rw e at (s (suc k) d (omega arith) (omega arith))
+
+sorted_is_ordered : (ts : List Timer) → IsSortedBy is_before ts → IsOrdered ts
+sorted_is_ordered [] s = tt
+sorted_is_ordered (t ∷ []) s = (tt, tt)
+sorted_is_ordered (t ∷ u ∷ us) s =
+    let front : is_before u t ≡ false = s 0 t (omega arith) (omega arith) in
+    let rest : IsOrdered (u ∷ us) = sorted_is_ordered (u ∷ us) (sorted_tail t (u ∷ us) s) in
+    ((front, IsFirst-weaken t u us front rest.0), rest)
+
+-- the result of a sort of distinct timers
+pub sorted_in_order : (old new : List Timer) → IsPermutation old new → AreDistinct old
+    → IsSortedByKey key_of (λ x y. ordering_then (nat_cmp x.0 y.0) (nat_cmp x.1 y.1)) new → new ≡ in_order itself old
+sorted_in_order old new p d s = ordered_is_in_order itself old new p (rw (map-itself old) d)
+    (rw (map-itself new) (sorted_is_ordered new
+    (λ k e l h. sym (key_is_before (get_or new (k + 1) e) (get_or new k e)) ∙ s k e l h)))

@@ -1,13 +1,13 @@
 -- Lemmas about the order of anything that has a timer.
-use Rattle.std.proofs.Common.{sym, ◌∙◌, ap, inl, inr, arith, ◌≡◌, ◌≢◌, ◌<◌, ℕ, suc, Bool, true, false, ◌==◌, nat_lt, if◌then◌else◌, List, [], ◌∷◌, ◌++◌, length, filter, map, refl}
+use Rattle.std.proofs.Common.{sym, ◌∙◌, ap, inl, inr, arith, ◌≡◌, ◌≢◌, ◌<◌, ℕ, suc, Bool, true, false, ◌==◌, nat_lt, if◌then◌else◌, List, [], ◌∷◌, ◌++◌, length, filter, map, refl, append-nil}
 use Rattle.std.specs.List.{AllByRecursion}
 use Rattle.std.proofs.lemmas.Bool.{eqb-true}
 use Rattle.std.proofs.lemmas.Bool.Decides.{nat_tests}
 use Rattle.timer_base.proofs.Basics.{either}
-use Rattle.timer_base.specs.declared.timer.Timer.{Timer}
-use Rattle.timer_base.specs.Order.{is_before, insert_in_order, in_order, insert_by_deadline, IsFirst, IsOrdered, IsNotAmong, AreRising, AreBelow}
-pub use Rattle.timer_base.specs.WellFormed.{All-in_order, All-filter, IsOrdered-in_order, AreRising-prop, AreRising-weaken, AreRising-filter, IsNotAmong-in_order, AreDistinct-in_order, AreDistinct-rising}
-use Rattle.timer_base.specs.WellFormed.{all_timers}
+use Rattle.timer_base.specs.Types.{Timer}
+use Rattle.timer_base.specs.Order.{is_before, insert_in_order, in_order, insert_by_deadline, itself, IsFirst, IsOrdered, IsNotAmong, AreRising, AreBelow}
+pub use Rattle.timer_base.specs.WellFormed.{All-in_order, All-filter, IsFirst-weaken, IsOrdered-in_order, AreRising-prop, AreRising-weaken, AreRising-filter, IsNotAmong-in_order, AreDistinct-in_order, AreDistinct-rising}
+use Rattle.timer_base.specs.WellFormed.{all_timers, map-itself}
 
 -- Of two timers at most one comes first.
 
@@ -60,6 +60,14 @@ in_order-newest timer e (x ∷ xs) ys b =
     ap (insert_in_order timer x) (in_order-newest timer e xs ys b.1)
     ∙ sym (insert_by_deadline-insert_in_order timer e x (in_order timer (xs ++ ys)) b.0)
 
+-- and after all others, if it is the last
+pub newest_last : (t : Timer) (ts : List Timer) → AreBelow t.serial ts
+    → in_order itself (ts ++ t ∷ []) ≡ insert_by_deadline itself t (in_order itself ts)
+newest_last t ts b =
+    let all : ts ++ [] ≡ ts = append-nil ts in
+    let below : AreBelow t.serial (map itself (ts ++ [])) = rw (all, map-itself ts) b in
+    in_order-newest itself t ts [] below ∙ ap (λ us. insert_by_deadline itself t (in_order itself us)) all
+
 -- The position of a member in the list does not affect the order.
 
 commutes_step : {X : Type 0} (timer : X → Timer) (x y z : X) (zs : List X) → (timer x).serial ≢ (timer y).serial
@@ -107,7 +115,21 @@ pub All-weaken : {X : Type 0} (P Q : X → Type 0) (xs : List X) → ((x : X) �
 All-weaken P Q [] f a = tt
 All-weaken P Q (x ∷ xs) f a = (f x a.0, All-weaken P Q xs f a.1)
 
--- A list that is put in order is ordered.
+pub All-append : {X : Type 0} (P : X → Type 0) (xs ys : List X) → AllByRecursion P xs → AllByRecursion P ys → AllByRecursion P (xs ++ ys)
+All-append P [] ys a b = b
+All-append P (x ∷ xs) ys a b = (a.0, All-append P xs ys a.1 b)
+
+pub filter_same : {X : Type 0} (p q : X → Bool) (xs : List X) → AllByRecursion (λ x. p x ≡ q x) xs → filter p xs ≡ filter q xs
+filter_same p q [] a = refl
+filter_same p q (x ∷ xs) a = rw a.0 (ap (λ r. if q x then x ∷ r else r) (filter_same p q xs a.1))
+
+pub filter_all : {X : Type 0} (p : X → Bool) (xs : List X) → AllByRecursion (λ x. p x ≡ true) xs → filter p xs ≡ xs
+filter_all p [] a = refl
+filter_all p (x ∷ xs) a = rw a.0 (ap (λ r. x ∷ r) (filter_all p xs a.1))
+
+pub filter_none : {X : Type 0} (p : X → Bool) (xs : List X) → AllByRecursion (λ x. p x ≡ false) xs → filter p xs ≡ []
+filter_none p [] a = refl
+filter_none p (x ∷ xs) a = rw a.0 (filter_none p xs a.1)
 
 -- Filtering commutes with ordering.
 
@@ -208,5 +230,3 @@ AllAt-filter tick (t ∷ ts) = elim (either (t.deadline == tick)) [
   | inl k ↦ rw k (eqb-true t.deadline tick k, AllAt-filter tick ts)
   | inr k ↦ rw k (AllAt-filter tick ts)
 ]
-
--- Distinct serials.

@@ -4,35 +4,35 @@ use Rattle.std.specs.List.{AllByRecursion}
 use Rattle.std.proofs.lemmas.Bool.{eq-eqb, ne_eqb}
 use Rattle.std.proofs.lemmas.Bool.Decides.{nat_tests}
 use Rattle.timer_base.proofs.Basics.{some_same, none_some, later_if_not_due, either}
-use Rattle.timer_base.specs.declared.timer.Timer.{Timer}
-use Rattle.timer_base.specs.declared.timer.Handle.{Handle}
+use Rattle.timer_base.specs.Types.{Timer, Handle}
 use Rattle.timer_base.specs.Order.{is_before, in_order, insert_in_order, IsFirst, IsOrdered, AreDistinct, AreBelow}
 use Rattle.timer_base.proofs.HeldLaws.{without_handle-found, without_handle-none, no_serial, found_among}
 use Rattle.timer_base.proofs.OrderLaws.{All-weaken, insert_newest, AreDistinct-rising}
 use Rattle.timer_base.proofs.OneOrder.{in_order-ordered}
-use Rattle.timer_base.specs.Pending.{Entry, timer_of, timers_of, put, has_handle, is_due_at, first_timer, first_found, entries_due, entries_left, without_serial, without_found, without_handle}
+use Rattle.timer_base.proofs.TickLaws.{due_none, left_all}
+use Rattle.timer_base.specs.Pending.{Entry, timer_of, timers_of, put, has_handle, is_due_at, first_timer, first_found, entries_due, entries_left, AreAfter, without_serial, without_found, without_handle}
 use Rattle.timer_base.specs.WheelState.{WheelState, IsWellFormed, IsPending, NamesOne, timer_at, due_at, held_at, held_count, after_start, after_stop, after_removal}
 
 -- A tick.
 
-not_due_behind : (tick : ℕ) (t u : Timer) → tick < t.deadline → is_before u t ≡ false → is_due_at tick u ≡ false
-not_due_behind tick t u h k = grind (arith, nat_tests)
+not_sooner : (t u : Timer) → is_before u t ≡ false → t.deadline ≤ u.deadline
+not_sooner t u h = grind (arith, nat_tests)
 
-none_due : (tick : ℕ) (t : Timer) (es : List Entry) → tick < t.deadline → IsFirst t (timers_of es) → entries_due tick es ≡ []
-none_due tick t [] h f = refl
-none_due tick t (e ∷ es) h f = rw (not_due_behind tick t e.timer h f.0) (none_due tick t es h f.1)
+pub none_sooner : (t : Timer) (es : List Entry) → IsFirst t (timers_of es) → AllByRecursion (λ entry. t.deadline ≤ entry.timer.deadline) es
+none_sooner t [] f = tt
+none_sooner t (e ∷ es) f = (not_sooner t e.timer f.0, none_sooner t es f.1)
 
-all_left : (tick : ℕ) (t : Timer) (es : List Entry) → tick < t.deadline → IsFirst t (timers_of es) → entries_left tick es ≡ es
-all_left tick t [] h f = refl
-all_left tick t (e ∷ es) h f = rw (not_due_behind tick t e.timer h f.0) (ap (λ r. e ∷ r) (all_left tick t es h f.1))
+all_later : (tick : ℕ) (t : Timer) (es : List Entry) → tick < t.deadline → IsFirst t (timers_of es) → AreAfter tick es
+all_later tick t es h f = All-weaken (λ e. t.deadline ≤ e.timer.deadline) (λ e. tick < e.timer.deadline) es (λ e k. omega arith)
+    (none_sooner t es f)
 
 front_is_due : (tick : ℕ) (es : List Entry) → IsOrdered (timers_of es) → AllByRecursion (λ t. tick ≤ t.deadline) (timers_of es)
     → es ≡ entries_due tick es ++ entries_left tick es
 front_is_due tick [] o a = refl
 front_is_due tick (e ∷ es) o a = elim (either (is_due_at tick e.timer)) [
   | inl h ↦ rw h (ap (λ r. e ∷ r) (front_is_due tick es o.1 a.1))
-  | inr h ↦ let later : tick < e.timer.deadline = later_if_not_due tick e.timer a.0 h in
-      rw (h, none_due tick e.timer es later o.0, all_left tick e.timer es later o.0) refl
+  | inr h ↦ let later : AreAfter tick es = all_later tick e.timer es (later_if_not_due tick e.timer a.0 h) o.0 in
+      rw (h, due_none tick es later, left_all tick es later) refl
 ]
 
 pub tick_cuts_front : (w : WheelState) → IsWellFormed w → w.pending

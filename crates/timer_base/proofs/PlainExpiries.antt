@@ -3,7 +3,7 @@ use Rattle.std.proofs.Common.{◌≡◌, ◌≢◌, ◌<◌, ◌≤◌, ◌-◌,
 use Rattle.std.proofs.lemmas.Bool.{eq-eqb, ne_eqb}
 use Rattle.std.proofs.lemmas.List.{drop-map, length-drop}
 use Rattle.timer_base.proofs.Basics.{some_same, either}
-use Rattle.timer_base.specs.declared.timer.Timer.{Timer}
+use Rattle.timer_base.specs.Types.{Timer}
 use Rattle.timer_base.specs.Order.{in_order, itself, AreRising}
 use Rattle.timer_base.specs.Pending.{is_due_at, has_serial}
 use Rattle.timer_base.specs.WheelState.{first_due, after_expiry, after_clear}

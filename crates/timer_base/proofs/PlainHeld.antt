@@ -2,16 +2,14 @@
 use Rattle.std.proofs.Common.{◌≡◌, ◌≢◌, ◌<◌, ◌≤◌, ℕ, Bool, true, not, List, [], ◌∷◌, length, refl, sym, ◌∙◌, ap, inl, inr, arith, slice_get, map, filter, find, if◌then◌else◌, Option, Some, None}
 use Rattle.std.specs.List.{AllByRecursion}
 use Rattle.std.proofs.lemmas.Bool.{cases_eq, eq-eqb, ne_eqb, eqb-true}
-use Rattle.std.proofs.lemmas.List.Sums.{length-filter, count_by-le-length}
-use Rattle.timer_base.proofs.Basics.{some_same, none_some, later_if_not_due, either}
-use Rattle.timer_base.specs.declared.timer.Timer.{Timer}
-use Rattle.timer_base.specs.declared.timer.Handle.{Handle}
+use Rattle.timer_base.proofs.Basics.{some_same, none_some, filter_no_longer, later_if_not_due, either}
+use Rattle.timer_base.specs.Types.{Timer, Handle}
 use Rattle.timer_base.specs.Order.{in_order, itself, AreRising}
 use Rattle.timer_base.proofs.OrderLaws.{filter-in_order, AreRising-filter, All-filter}
 use Rattle.timer_base.specs.Pending.{Entry, is_due_at, has_serial, has_handle, first_timer, first_found, without_handle}
 use Rattle.timer_base.specs.WheelState.{WheelState, NamesOne, timer_at, due_at, held_at, after_removal}
 use Rattle.timer_base.specs.PlainState.{IsKept, is_after, at_first_place, plain_state}
-use Rattle.timer_base.proofs.PlainSteps.{state_is, after_is, due_not_after}
+use Rattle.timer_base.proofs.PlainSteps.{state_is, after_is, due_not_after, filter-filter_same}
 use Rattle.timer_base.proofs.PlainExpiries.{find-filter}
 
 -- no other place has a timer
@@ -23,16 +21,6 @@ at_place : (h : Handle) (ts : List Timer) → h.place ≡ 0 → first_timer (has
     ≡ find (has_serial h.serial) ts
 at_place h [] z = refl
 at_place h (t ∷ ts) z = rw (eq-eqb 0 h.place (sym z)) (ap (λ o. if has_serial h.serial t then Some t else o) (at_place h ts z))
-
-filter-filter_same : (p q : Timer → Bool) (ts : List Timer) → filter p (filter q ts) ≡ filter q (filter p ts)
-filter-filter_same p q [] = refl
-filter-filter_same p q (t ∷ ts) = elim (either (p t)) [
-  | inl h ↦ elim (either (q t)) [
-    | inl k ↦ simp (h, k) (ap (λ us. t ∷ us) (filter-filter_same p q ts))
-    | inr k ↦ simp (h, k) (filter-filter_same p q ts)
-  ]
-  | inr h ↦ elim (either (q t)) [ inl k ↦ simp (h, k) (filter-filter_same p q ts) | inr k ↦ simp (h, k) (filter-filter_same p q ts) ]
-]
 
 -- at most one has the serial
 no_serial : (k low : ℕ) (ts : List Timer) → k ≤ low → AreRising low ts → filter (has_serial k) ts ≡ []
@@ -152,8 +140,7 @@ shorter : (k : ℕ) (t : Timer) (ts : List Timer) → find (has_serial k) ts ≡
     → length (filter (λ u. not (has_serial k u)) ts) < length ts
 shorter k t [] e = absurd (cc)
 shorter k t (x ∷ xs) e = elim (either (has_serial k x)) [
-  | inl h ↦ rw h (let p : Timer → Bool = λ u. not (has_serial k u) in
-      omega (arith, length-filter p xs, count_by-le-length p xs))
+  | inl h ↦ rw h (omega (arith, filter_no_longer (λ u. not (has_serial k u)) xs))
   | inr h ↦ rw h (omega (arith, shorter k t xs (rw h at e)))
 ]
 

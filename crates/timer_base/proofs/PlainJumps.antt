@@ -1,17 +1,63 @@
--- Lemmas for `advance` of a `PlainWheel`: nothing is due before the first pending deadline, and something is due at it.
+-- Lemmas for `quiet_until` and `advance` of a `PlainWheel`: the first pending deadline, before which nothing is due and at which
+-- something is.
 use Rattle.std.proofs.Common.{◌≡◌, ◌<◌, ◌≤◌, ◌+◌, ◌-◌, ℕ, suc, false, List, [], ◌∷◌, length, refl, sym, ◌∙◌, ap, subst, inl, inr, arith, filter, map, min, Option, Some, None}
 use Rattle.std.specs.List.{AllByRecursion}
 use Rattle.std.proofs.lemmas.Bool.{cases_lt}
-use Rattle.timer_base.proofs.Basics.{some_same, not_due_before, is_due, either}
-use Rattle.timer_base.specs.declared.timer.Timer.{Timer}
+use Rattle.timer_base.proofs.Basics.{some_same, not_due_before, is_due, either, least_if_before, least_if_after}
+use Rattle.timer_base.specs.Types.{Timer}
 use Rattle.std.proofs.lemmas.List.{length-map}
-use Rattle.timer_base.specs.Order.{in_order, itself, AreRising}
+use Rattle.timer_base.specs.Order.{in_order, itself, AreRising, insert_in_order, is_before, IsOrdered}
 use Rattle.timer_base.proofs.OrderLaws.{All-weaken, All-in_order, All-filter}
-use Rattle.timer_base.specs.Pending.{is_due_at, AreAfter}
+use Rattle.timer_base.specs.Pending.{is_due_at, AreAfter, Entry, timers_of}
 use Rattle.timer_base.specs.PlainState.{IsKept, AreDueAfter, IsJump, is_after, earliest, first_after, at_first_place, plain_state}
-use Rattle.timer_base.specs.WheelState.{IsPassing, WheelState, after_tick, after_ticks, Advances}
+use Rattle.timer_base.specs.WheelState.{IsPassing, WheelState, after_tick, after_ticks, Advances, IsPending, IsWellFormed}
 use Rattle.timer_base.proofs.TickLaws.{passing_quiet}
 use Rattle.timer_base.proofs.PlainSteps.{after_is, filter_after, kept_later, state_is, plain_state-after_tick}
+use Rattle.timer_base.proofs.PendingLaws.{none_sooner}
+use Rattle.timer_base.specs.WakeUps.{IsQuietUntil, next_deadline}
+
+-- A wake-up.
+
+-- the deadline of the first timer
+abbrev pub head_deadline : List Timer → Option ℕ
+head_deadline [] = None
+head_deadline (t ∷ ts) = Some t.deadline
+
+head-insert : (t : Timer) (ts : List Timer) → head_deadline (insert_in_order itself t ts) ≡ earliest (Some t.deadline) (head_deadline ts)
+head-insert t [] = refl
+head-insert t (u ∷ us) = elim (either (is_before t u)) [
+  | inl h ↦ rw h (ap Some (least_if_before t u h))
+  | inr h ↦ rw h (ap Some (least_if_after t u h))
+]
+
+head-in_order : (now : ℕ) (ts : List Timer) → head_deadline (in_order itself (filter (is_after now) ts)) ≡ first_after now ts
+head-in_order now [] = refl
+head-in_order now (t ∷ ts) = elim (either (is_after now t)) [
+  | inl h ↦ rw h (head-insert t (in_order itself (filter (is_after now) ts)) ∙ ap (earliest (Some t.deadline)) (head-in_order now ts))
+  | inr h ↦ rw h (head-in_order now ts)
+]
+
+next-at_first_place : (ts : List Timer) → next_deadline (map at_first_place ts) ≡ head_deadline ts
+next-at_first_place [] = refl
+next-at_first_place (t ∷ ts) = refl
+
+pub first_is_next : (now last : ℕ) (ts : List Timer) → first_after now ts ≡ next_deadline (plain_state now last ts).pending
+first_is_next now last ts = sym (next-at_first_place (in_order itself (filter (is_after now) ts)) ∙ head-in_order now ts)
+
+quiet_next : (last_tick now last : ℕ) (es : List Entry) → IsOrdered (timers_of es)
+    → AllByRecursion (IsPending last_tick now last) (timers_of es) → IsQuietUntil (next_deadline es) now es
+quiet_next last_tick now last [] o a = refl
+quiet_next last_tick now last (e ∷ es) o a = record {
+  some = omega arith;
+  later = a.0.later;
+  in_time = (omega arith, none_sooner e.timer es o.0);
+}
+
+-- the first pending deadline is a tick to wake up at
+pub quiet_until_next : (w : WheelState) → IsWellFormed w → IsQuietUntil (next_deadline w.pending) w.now w.pending
+quiet_until_next w f = quiet_next w.last_tick w.now w.last_serial w.pending f.ordered f.each
+
+-- What is due before the first deadline, and at it.
 
 not_none : (a : ℕ) (r : Option ℕ) → earliest (Some a) r ≡ None → ⊥
 not_none a None e = cc

@@ -1,13 +1,14 @@
 -- Lemmas for `list_since` of a `PlainWheel`: the timers since a serial are the last ones.
-use Rattle.std.proofs.Common.{◌≡◌, ◌<◌, ◌≤◌, ◌-◌, ℕ, Bool, true, false, List, [], ◌∷◌, ◌++◌, length, refl, sym, ◌∙◌, ap, subst, inl, inr, arith, append_assoc, append-nil, length-append, take, drop, filter, get_or}
+use Rattle.std.proofs.Common.{◌≡◌, ◌<◌, ◌≤◌, ◌-◌, ℕ, true, false, List, [], ◌∷◌, ◌++◌, length, refl, sym, ◌∙◌, ap, subst, arith, append_assoc, append-nil, length-append, take, drop, filter, get_or}
 use Rattle.std.proofs.lemmas.Bool.Decides.{nat_tests}
 use Rattle.std.proofs.lemmas.List.{take_rest}
 use Rattle.std.proofs.lemmas.List.Elements.{filter-append}
 use Rattle.std.proofs.Math.Seq.{drop-append_seam, get_or-append_seam}
-use Rattle.timer_base.proofs.Basics.{either, empty_when}
-use Rattle.timer_base.specs.declared.timer.Timer.{Timer}
+use Rattle.timer_base.proofs.Basics.{empty_when}
+use Rattle.timer_base.specs.Types.{Timer}
 use Rattle.timer_base.specs.Order.{in_order, itself, AreRising}
 use Rattle.timer_base.proofs.OrderLaws.{filter-in_order}
+use Rattle.timer_base.proofs.PlainSteps.{filter-filter_same}
 use Rattle.timer_base.specs.PlainState.{is_after, is_since}
 
 -- the timers from an index on all have the serial or a later one
@@ -96,26 +97,6 @@ module _ {serial first : ℕ} {ts : List Timer} (a : AreSince serial first ts) w
           let old : last.timer.serial < serial = subst (λ (u : Timer). u.serial < serial) last_is c in
           since_is (ap (filter (is_since serial)) last.is ∙ older 0 serial last.timer a.rest last.front (subst (AreRising 0) at_last r) old)
 
-pub fewer : (p : Timer → Bool) (ts : List Timer) → length (filter p ts) ≤ length ts
-fewer p [] = omega arith
-fewer p (t ∷ ts) = elim (either (p t)) [
-  | inl k ↦ rw k (omega (arith, fewer p ts))
-  | inr k ↦ rw k (omega (arith, fewer p ts))
-]
-
-swapped : (p q : Timer → Bool) (ts : List Timer) → filter p (filter q ts) ≡ filter q (filter p ts)
-swapped p q [] = refl
-swapped p q (t ∷ ts) = elim (either (p t)) [
-  | inl h ↦ elim (either (q t)) [
-    | inl k ↦ rw (h, k, h) (ap (λ r. t ∷ r) (swapped p q ts))
-    | inr k ↦ rw (h, k) (swapped p q ts)
-  ]
-  | inr h ↦ elim (either (q t)) [
-    | inl k ↦ rw (h, k, h) (swapped p q ts)
-    | inr k ↦ rw (h, k) (swapped p q ts)
-  ]
-]
-
 -- those of them that are pending were copied
 pub copied_is : (serial now first : ℕ) (timers items listed copied : List Timer) → timers ≡ items
     → drop first timers ≡ filter (is_since serial) timers → listed ≡ []
@@ -129,4 +110,4 @@ copied_is serial now first timers items listed copied e d n c =
 pub since_in_order : (serial now : ℕ) (ts : List Timer) → in_order itself (filter (is_after now) (filter (is_since serial) ts))
     ≡ filter (is_since serial) (in_order itself (filter (is_after now) ts))
 since_in_order serial now ts =
-    sym (filter-in_order itself (is_since serial) (filter (is_after now) ts) ∙ ap (in_order itself) (swapped (is_since serial) (is_after now) ts))
+    sym (filter-in_order itself (is_since serial) (filter (is_after now) ts) ∙ ap (in_order itself) (filter-filter_same (is_since serial) (is_after now) ts))

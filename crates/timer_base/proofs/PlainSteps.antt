@@ -6,10 +6,9 @@ use Rattle.std.proofs.lemmas.Bool.Decides.{nat_tests}
 use Rattle.std.proofs.lemmas.List.{length-map, map-append}
 use Rattle.std.proofs.lemmas.List.Elements.{filter-append}
 use Rattle.timer_base.proofs.Basics.{not_due_before, is_due, later_if_not_due, is_not_due, either}
-use Rattle.timer_base.specs.declared.timer.Timer.{Timer}
-use Rattle.timer_base.specs.declared.limits.TheConstants.{LAST}
+use Rattle.timer_base.specs.Types.{Timer, LAST}
 use Rattle.timer_base.specs.Order.{in_order, itself, insert_by_deadline, AreRising, AreBelow}
-use Rattle.timer_base.proofs.OrderLaws.{in_order-newest, filter-in_order, in_order-same, AllAt-filter, AreRising-append, AreRising-filter, length-in_order, All-weaken, All-filter}
+use Rattle.timer_base.proofs.OrderLaws.{newest_last, filter-in_order, in_order-same, AllAt-filter, AreRising-append, AreRising-filter, length-in_order, All-weaken, All-filter}
 use Rattle.timer_base.proofs.OneOrder.{map-itself}
 use Rattle.timer_base.specs.Pending.{Entry, put, is_due_at}
 use Rattle.timer_base.specs.WheelState.{WheelState, after_start, after_due_start, after_held_start, after_tick, with_room, held_count}
@@ -49,6 +48,16 @@ filter-map p [] = refl
 filter-map p (t ∷ ts) = elim (either (p t)) [
   | inl h ↦ rw h (ap (λ r. at_first_place t ∷ r) (filter-map p ts))
   | inr h ↦ rw h (filter-map p ts)
+]
+
+pub filter-filter_same : (p q : Timer → Bool) (ts : List Timer) → filter p (filter q ts) ≡ filter q (filter p ts)
+filter-filter_same p q [] = refl
+filter-filter_same p q (t ∷ ts) = elim (either (p t)) [
+  | inl h ↦ elim (either (q t)) [
+    | inl k ↦ simp (h, k) (ap (λ us. t ∷ us) (filter-filter_same p q ts))
+    | inr k ↦ simp (h, k) (filter-filter_same p q ts)
+  ]
+  | inr h ↦ elim (either (q t)) [ inl k ↦ simp (h, k) (filter-filter_same p q ts) | inr k ↦ simp (h, k) (filter-filter_same p q ts) ]
 ]
 
 pub state_is : (n : ℕ) {p q d e : List Entry} (l : ℕ) → p ≡ q → d ≡ e
@@ -127,13 +136,6 @@ map-insert_by_deadline t (x ∷ xs) = elim (either (nat_lt t.deadline x.deadline
   | inr k ↦ rw k (ap (λ r. at_first_place x ∷ r) (map-insert_by_deadline t xs))
 ]
 
-newest_last : (t : Timer) (ts : List Timer) → AreBelow t.serial ts
-    → in_order itself (ts ++ t ∷ []) ≡ insert_by_deadline itself t (in_order itself ts)
-newest_last t ts b =
-    let all : ts ++ [] ≡ ts = append-nil ts in
-    let below : AreBelow t.serial (map itself (ts ++ [])) = rw (all, map-itself ts) b in
-    in_order-newest itself t ts [] below ∙ ap (λ us. insert_by_deadline itself t (in_order itself us)) all
-
 plain_state-after_start : (now last : ℕ) (ts : List Timer) (t : Timer) → AllByRecursion (IsKept now last) ts → last < t.serial
     → now < t.deadline
     → plain_state now t.serial (ts ++ t ∷ []) ≡ after_start 0 t (plain_state now last ts)
@@ -211,8 +213,8 @@ all_counted now last (t ∷ ts) k = elim (either (is_due_at now t)) [
 pub due_count_is : (now last : ℕ) (ts : List Timer) → length (plain_state now last ts).due ≡ due_count now ts
 due_count_is now last ts = length-map (filter (is_due_at now) ts) at_first_place
 
-pub due_count-le : (now last : ℕ) (ts : List Timer) → AllByRecursion (IsKept now last) ts → due_count now ts ≤ length ts
-due_count-le now last ts k = let all = all_counted now last ts k in omega arith
+pub due_count_le : (now last : ℕ) (ts : List Timer) → AllByRecursion (IsKept now last) ts → due_count now ts ≤ length ts
+due_count_le now last ts k = let all = all_counted now last ts k in omega arith
 
 -- all timers are pending or due
 pub held_count-all : (now last room : ℕ) (ts : List Timer) → AllByRecursion (IsKept now last) ts

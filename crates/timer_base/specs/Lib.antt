@@ -1,4 +1,5 @@
 -- The definitions of this crate, and in WellFormed the lemmas that its ghost items cite.
+pub mod Types
 pub mod Order
 pub mod Pending
 pub mod PlainState

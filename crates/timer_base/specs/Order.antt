@@ -1,7 +1,7 @@
 -- The order of timers: by deadline, and then by serial. It orders lists of anything that has a timer.
 use Rattle.std.specs.Prelude.{◌≡◌, ◌≢◌, ◌<◌, ◌⊎◌, ℕ, Bool, false, ◌||◌, ◌&&◌, ◌==◌, nat_lt, if◌then◌else◌, List, [], ◌∷◌}
 use Rattle.std.specs.List.{AllByRecursion}
-use Rattle.timer_base.specs.declared.timer.Timer.{Timer}
+use Rattle.timer_base.specs.Types.{Timer}
 
 -- a is handed out before b: its deadline is earlier, or the same and its serial is lower
 abbrev pub is_before : Timer → Timer → Bool

@@ -1,8 +1,7 @@
 -- Pending timers, each with its place in the wheel, in one ordered list (Scheme 2 of Varghese and Lauck).
 use Rattle.std.specs.Prelude.{ℕ, ◌<◌, Bool, ◌&&◌, ◌==◌, not, if◌then◌else◌, List, [], ◌∷◌, Option, Some, None, map, filter}
 use Rattle.std.specs.List.{AllByRecursion}
-use Rattle.timer_base.specs.declared.timer.Timer.{Timer}
-use Rattle.timer_base.specs.declared.timer.Handle.{Handle}
+use Rattle.timer_base.specs.Types.{Timer, Handle}
 use Rattle.timer_base.specs.Order.{insert_by_deadline}
 
 -- a held timer and its place; its handle is the place and the timer's serial

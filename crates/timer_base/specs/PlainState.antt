@@ -2,8 +2,7 @@
 -- due.
 use Rattle.std.specs.List.{AllByRecursion}
 use Rattle.std.proofs.Common.{◌<◌, ◌≤◌, ◌+◌, ◌-◌, ℕ, Bool, nat_lt, nat_le, min, if◌then◌else◌, List, [], ◌∷◌, Option, Some, None, map, filter, length}
-use Rattle.timer_base.specs.declared.limits.TheConstants.{LAST}
-use Rattle.timer_base.specs.declared.timer.Timer.{Timer}
+use Rattle.timer_base.specs.Types.{LAST, Timer}
 use Rattle.timer_base.specs.Order.{in_order, itself}
 use Rattle.timer_base.specs.Pending.{Entry, is_due_at}
 use Rattle.timer_base.specs.WheelState.{WheelState}

@@ -4,8 +4,7 @@ use Rattle.std.proofs.Common.{inl, inr, arith, ◌≡◌, ◌≢◌, ◌<◌, �
 use Rattle.std.proofs.lemmas.Bool.Decides.{nat_tests}
 use Rattle.std.specs.Coded.{×_prop, Unit-prop, le_prop}
 use Rattle.std.specs.List.{AllByRecursion, AllByRecursion-prop}
-use Rattle.timer_base.specs.declared.limits.TheConstants.{LAST}
-use Rattle.timer_base.specs.declared.timer.Timer.{Timer}
+use Rattle.timer_base.specs.Types.{LAST, Timer}
 use Rattle.timer_base.specs.Order.{is_before, insert_in_order, in_order, IsFirst, IsOrdered, IsNotAmong, AreDistinct, AreRising, itself}
 use Rattle.timer_base.specs.Pending.{is_due_at, timers_of}
 use Rattle.timer_base.specs.PlainState.{is_after, at_first_place, plain_state, IsKept}
@@ -19,8 +18,7 @@ either b = elim b as (λ v. (v ≡ true) ⊎ (v ≡ false)) [ true ↦ inl refl 
 not_both : (a b : Timer) → is_before a b ≡ true → is_before b a ≡ false
 not_both a b h = grind (arith, nat_tests)
 
--- what is not handed out before c is not handed out before what comes before c
-first_through : (a b c : Timer) → is_before a b ≡ true → is_before c b ≡ false → is_before c a ≡ false
+first_through : (a b c : Timer) → is_before b a ≡ false → is_before c b ≡ false → is_before c a ≡ false
 first_through a b c h k = grind (arith, nat_tests)
 
 -- what holds of each timer holds of each in order
@@ -61,7 +59,7 @@ All-filter P Q p (x ∷ xs) f a = elim (either (p x)) [
   | inr k ↦ rw k (All-filter P Q p xs f a.1)
 ]
 
-IsFirst-weaken : (a b : Timer) (ts : List Timer) → is_before a b ≡ true → IsFirst b ts → IsFirst a ts
+pub IsFirst-weaken : (a b : Timer) (ts : List Timer) → is_before b a ≡ false → IsFirst b ts → IsFirst a ts
 IsFirst-weaken a b [] h f = tt
 IsFirst-weaken a b (t ∷ ts) h f = (first_through a b t h f.0, IsFirst-weaken a b ts h f.1)
 
@@ -78,10 +76,9 @@ IsOrdered-insert_in_order : {X : Type 0} (timer : X → Timer) (x : X) (ys : Lis
     → IsOrdered (map timer (insert_in_order timer x ys))
 IsOrdered-insert_in_order timer x [] o = (tt, tt)
 IsOrdered-insert_in_order timer x (y ∷ ys) o = elim (either (is_before (timer x) (timer y))) [
-  | inl k ↦ rw k (
-    (not_both (timer x) (timer y) k, IsFirst-weaken (timer x) (timer y) (map timer ys) k o.0),
-    o,
-  )
+  | inl k ↦
+      let n : is_before (timer y) (timer x) ≡ false = not_both (timer x) (timer y) k in
+      rw k ((n, IsFirst-weaken (timer x) (timer y) (map timer ys) n o.0), o)
   | inr k ↦ rw k (
     IsFirst-insert_in_order timer (timer y) x ys k o.0,
     IsOrdered-insert_in_order timer x ys o.1,

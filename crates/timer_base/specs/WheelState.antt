@@ -1,9 +1,7 @@
 -- The abstract state of a wheel, and the state after each call.
 use Rattle.std.specs.Prelude.{◌≡◌, ℕ, ◌+◌, ◌<◌, ◌≤◌, zero, suc, max, nat_lt, if◌then◌else◌, List, [], ◌∷◌, ◌++◌, Option, Some, None, drop, slice_get, length}
 use Rattle.std.specs.List.{AllByRecursion}
-use Rattle.timer_base.specs.declared.limits.TheConstants.{LAST}
-use Rattle.timer_base.specs.declared.timer.Handle.{Handle}
-use Rattle.timer_base.specs.declared.timer.Timer.{Timer}
+use Rattle.timer_base.specs.Types.{LAST, Handle, Timer}
 use Rattle.timer_base.specs.Order.{IsOrdered, AreDistinct, AreRising}
 use Rattle.timer_base.specs.Pending.{Entry, timers_of, put, has_handle, first_timer, first_found, without_found, without_handle, entries_due, entries_left}
 

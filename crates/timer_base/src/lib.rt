@@ -8,20 +8,18 @@
 #![tactic(auto)]
 
 mod ahead;
-mod deadline;
 mod fault;
 pub mod laws;
 mod limits;
+mod order;
 mod plain;
-mod sort;
 mod timer;
 mod wheel;
 
 pub use ahead::MovesAhead;
-pub use deadline::earlier;
 pub use fault::{MakeFault, OutOfMemory};
 pub use limits::LAST;
+pub use order::{earlier, sort_timers};
 pub use plain::PlainWheel;
-pub use sort::sort_timers;
 pub use timer::{Handle, Timer};
 pub use wheel::Wheel;

@@ -17,7 +17,7 @@
 ghost use Rattle.std.specs.Prelude.{◌≡◌, ◌≤◌, ◌<◌, ◌+◌, ◌↔◌, ◌++◌, ◌∷◌, [], IfOk, IfErr, IsErr, Some, length, filter, find, not, drop, vec_len, vec_capacity};
 ghost use Rattle.std.proofs.Math.Nat.{ℕ_set};
 ghost use Rattle.std.specs.List.{AllByRecursion};
-ghost use Rattle.timer_base.specs.declared.limits.TheConstants.{LAST};
+ghost use Rattle.timer_base.specs.Types.{LAST};
 ghost use Rattle.timer_base.specs.Order.{AreRising};
 ghost use Rattle.timer_base.specs.WellFormed.{AreRising-prop, IsKept-prop, plain_state-well_formed, with_room-well_formed};
 ghost use Rattle.timer_base.specs.Pending.{has_serial, is_due_at, timers_of};
@@ -25,10 +25,9 @@ ghost use Rattle.timer_base.specs.PlainState.{IsKept, AreDueAfter, IsJump, is_af
 ghost use Rattle.timer_base.specs.WakeUps.{IsQuietUntil, next_deadline};
 ghost use Rattle.timer_base.specs.WheelState.{empty_wheel, with_room};
 
-use crate::deadline::earlier;
 use crate::fault::{MakeFault, OutOfMemory};
 use crate::limits::LAST;
-use crate::sort::sort_timers;
+use crate::order::{earlier, sort_timers};
 use crate::timer::{Handle, Timer};
 use crate::wheel::Wheel;
 use std::alloc::Global;
@@ -134,6 +133,7 @@ impl Wheel for PlainWheel {
         self.now
     }
 
+    #[tactic(auto, using(crate::proofs::PlainSteps::due_count_le, crate::proofs::PlainSteps::pending_count))]
     fn len(&self) -> usize {
         self.timers.len() - self.due
     }

@@ -17,9 +17,8 @@
 //! Wheels" (SOSP 1987), are `start` (START_TIMER), `stop` (STOP_TIMER), `per_tick` (PER_TICK_BOOKKEEPING) and
 //! `expire` (the timers that their EXPIRY_PROCESSING is for).
 ghost use Rattle.std.specs.Prelude.{◌≡◌, ◌<◌, ◌≤◌, ◌-◌, ◌↔◌, ⊤, ℕ, List, [], Option, length, IsTrue, IfOk, OnOk, OnErr, IfSome, MatchOption, MatchResult, vec_capacity};
-ghost use Rattle.timer_base.specs.declared.limits.TheConstants.{LAST};
+ghost use Rattle.timer_base.specs.Types.{LAST, Timer};
 ghost use Rattle.timer_base.specs.Counts.{WheelCounts, no_counts};
-ghost use Rattle.timer_base.specs.declared.timer.Timer.{Timer};
 ghost use Rattle.timer_base.specs.Pending.{Entry, timers_of};
 ghost use Rattle.timer_base.specs.WakeUps.{IsQuietUntil, next_deadline};
 ghost use Rattle.timer_base.specs.WheelState.{WheelState, IsWellFormed, NamesOne, held_at, held_count, old_timer, first_due, after_reserve, after_held_start, after_removal, after_replacement, after_tick, after_expiry, after_clear, Advances};

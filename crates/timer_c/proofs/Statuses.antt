@@ -5,8 +5,7 @@ use Rattle.timer_base.specs.declared.timer.Handle as base
 use Rattle.timer_base.specs.WheelState.{held_at}
 use Rattle.timer_total.specs.TimersState.{TimersState}
 use Rattle.timer_total.specs.Refusals as total
-use Rattle.timer_total.specs.Deadlines.{interval_until}
-use Rattle.timer_total.specs.Refusals.{IsStartable, IsRoomUsed}
+use Rattle.timer_total.specs.Refusals.{interval_until, IsStartable, IsRoomUsed}
 use Rattle.timer_total.specs.declared.fault.StartFault.{StartFault}
 use Rattle.timer_total.specs.declared.fault.StartFault.TheVariants as start
 use Rattle.timer_total.specs.declared.fault.RestartFault.{RestartFault}

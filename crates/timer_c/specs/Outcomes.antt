@@ -13,14 +13,12 @@ use Rattle.timer_wheels.specs.HeldPlaces.{AreBefore, AreElsewhere}
 use Rattle.timer_wheels.specs.TieredWheel.{radices_of_slots, is_smooth, counts_at_tick, counts_at_advance}
 use Rattle.timer_wheels.specs.HierWheel as hier
 use Rattle.timer_wheels.specs.WakeUps.{next_visit}
-use Rattle.timer_total.specs.Deadlines.{interval_until, after_start_at}
-use Rattle.timer_total.specs.Refusals.{next_timer, left_until, IsStartable, IsRoomUsed, IsAt}
-use Rattle.timer_total.specs.Taken.{IsTakenBy}
+use Rattle.timer_total.specs.Refusals.{interval_until, after_start_at, next_timer, left_until, IsStartable, IsRoomUsed, IsAt}
+use Rattle.timer_total.specs.Ticks.{IsTakenBy, IsAdvanced}
 use Rattle.timer_total.specs.declared.fault.StartFault.{StartFault}
 use Rattle.timer_total.specs.declared.fault.StartFault.TheVariants as start
 use Rattle.timer_total.specs.declared.fault.RestartFault.{RestartFault}
 use Rattle.timer_total.specs.declared.fault.RestartFault.TheVariants as restart
-use Rattle.timer_total.specs.Ticks.{IsAdvanced}
 use Rattle.timer_total.specs.TimersState.{TimersState, with_wheel, with_start}
 use Rattle.timer_c.specs.declared.layout.Counts.{Counts}
 use Rattle.timer_c.specs.declared.layout.CHandle.{CHandle}

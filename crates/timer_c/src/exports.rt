@@ -9,11 +9,9 @@ ghost use Rattle.timer_base.specs.WheelState.{first_due, after_reserve, after_ex
 ghost use Rattle.timer_c.specs.Frames.{IsOpen, IsShut, IsRefused, with_timers};
 ghost use Rattle.timer_c.specs.Outcomes.{IsEmptyAt, IsOpenable, WhyNoWheel, IsStarted, IsStartedAt, IsStartRefusal, IsStartAtRefusal, IsRestarted, IsRestartedAt, IsRestartRefusal, IsRestartAtRefusal, IsSet, IsSetRefusal, IsSeen, IsStopped, WhyNotStopped, IsTicked, IsAdvancedTo, WhyNotTicked, WhyNotAdvanced, IsTaken, IsNextCall, IsNextDeadline, IsVisited, IsAllVisited, IsCounted, told, tell, after_expiries};
 ghost use Rattle.timer_c.specs.declared.status.TheConstants.{OK, NOT_OPEN, OPEN, NO_MEMORY, NEVER, VERSION_NUMBER};
-ghost use Rattle.timer_total.specs.Drops.{after_drop};
+ghost use Rattle.timer_total.specs.TimersState.{after_drop, with_wheel};
 ghost use Rattle.timer_total.specs.Refusals.{left_until};
-ghost use Rattle.timer_total.specs.Taken.{IsTakenBy};
-ghost use Rattle.timer_total.specs.Ticks.{IsAdvanced};
-ghost use Rattle.timer_total.specs.TimersState.{with_wheel};
+ghost use Rattle.timer_total.specs.Ticks.{IsTakenBy, IsAdvanced};
 ghost use Rattle.timer_wheels.specs.TieredWheel.{counts_at_advance, is_smooth};
 
 use crate::c_timers::CTimers;

@@ -6,7 +6,7 @@ use Rattle.std.proofs.Math.Seq.{take-set-lt}
 use Rattle.std.proofs.lemmas.Option.{slice_get_within, get_or_from_slice_get}
 use Rattle.std.proofs.lemmas.List.{drop_more, length-take-le, length-set, length-map, nil_from_length, map-append, take-replicate}
 use Rattle.std.proofs.lemmas.List.Elements.{All-from_recursion, recursion_from_All, All-set, All-replicate}
-use Rattle.timer_base.proofs.Basics.{either, some_same}
+use Rattle.timer_base.proofs.Basics.{either, filter_no_longer, some_same}
 use Rattle.timer_base.specs.Order.{IsMember}
 use Rattle.timer_facility.specs.Types.{LAST, Timer, Handle, MAX_PENDING, Config, Answer, Reason, Notice}
 use Rattle.timer_base.specs.Pending.{Entry, timer_of, timers_of, is_due_at, has_handle, first_timer, without_found, has_serial}
@@ -22,7 +22,7 @@ use Rattle.timer_facility.specs.Opened.{opened}
 use Rattle.timer_facility.specs.Config.{IsInRange}
 use Rattle.timer_facility.specs.Facility.{FacilityView, Fields, view_of, kept_in, AreCounted, IsFacility, view_after, with_nothing_waiting, with_expiries, place_in, IsAnswered}
 use Rattle.timer_facility.proofs.FacilityCounts.{count-append, count-kept, count-put, count-tick, count-without, count-front, counted-none, counted-as, counted-more, counted-less, IsCounted, is_counted, count_in_range}
-use Rattle.timer_facility.proofs.TimerLists.{length-filter, first_timer-among, timers_of-filter, of_client_some, length-put}
+use Rattle.timer_facility.proofs.TimerLists.{first_timer-among, timers_of-filter, of_client_some, length-put}
 use Rattle.timer_facility.proofs.NoticeLists.{notices_in-map}
 use Rattle.timer_facility.proofs.VerdictLemmas.{timely, ticking}
 
@@ -194,7 +194,7 @@ pub facility-tick : {p : Fields} → IsFacility p → p.wheel.due ≡ [] → {w'
 facility-tick {p} a h t =
     let rest : List Timer = drop p.handed p.returned in
     with_timers a t refl p.next_serial p.counts
-    (omega (arith, length-filter (λ x. not (is_due_at (p.wheel.now + 1) x.timer)) p.wheel.pending, a.timers.few_pending))
+    (omega (arith, filter_no_longer (λ x. not (is_due_at (p.wheel.now + 1) x.timer)) p.wheel.pending, a.timers.few_pending))
     a.timers.serial_unused a.timers.serial_in_range
     (counted-as a.timers.counted (kept_in (Wheels.after_tick p.wheel) rest) (λ client. omega (
       arith,
@@ -411,7 +411,7 @@ stopped_now {p} a e i h client handle t f {w'} s =
       counted = subst (λ k. 0 < slice_index p.counts k) o.owner (is_counted a.timers.counted t kept (kept_after_stop o i)).some;
       stopped = stopped;
       parts = λ less. with_timers a stopped refl p.next_serial _
-          (omega (arith, length-filter (λ x. not (has_serial t.serial x.timer)) p.wheel.pending, a.timers.few_pending))
+          (omega (arith, filter_no_longer (λ x. not (has_serial t.serial x.timer)) p.wheel.pending, a.timers.few_pending))
           a.timers.serial_unused a.timers.serial_in_range (counted-less a.timers.counted t kept (kept_after_stop o i)
           (less ∙ ap (λ k. slice_set p.counts k (slice_index p.counts k - 1)) (sym o.owner)));
     }
@@ -536,7 +536,7 @@ length-found test t [] h = absurd (cc)
 length-found test t (e ∷ es) h = elim (either (test e)) [
   | inl k ↦
       let f : Some e.timer ≡ Some t = rw k at h in
-      rw (same_serial e.timer t f) (omega (arith, length-filter (λ (x : Entry). not (has_serial t.serial x.timer)) es))
+      rw (same_serial e.timer t f) (omega (arith, filter_no_longer (λ (x : Entry). not (has_serial t.serial x.timer)) es))
   | inr k ↦ let n = length-found test t es (rw k at h) in
       elim (either (not (has_serial t.serial e.timer))) [ inl m ↦ rw m (omega arith) | inr m ↦ rw m (omega arith) ]
 ] where

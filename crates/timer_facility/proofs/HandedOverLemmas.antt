@@ -2,7 +2,7 @@
 use Rattle.std.proofs.Common.{◌≡◌, ◌≤◌, ◌+◌, ℕ, Bool, true, false, not, ◌==◌, List, [], ◌∷◌, length, refl, ◌∙◌, ap, inl, inr, arith}
 use Rattle.std.specs.Prelude.{map, filter, nat_lt, if◌then◌else◌, Option, Some, None}
 use Rattle.std.proofs.lemmas.List.{length-map}
-use Rattle.timer_base.proofs.Basics.{either}
+use Rattle.timer_base.proofs.Basics.{either, filter_no_longer}
 use Rattle.timer_facility.specs.Types.{Timer, Answer, TickFault, Notice}
 use Rattle.timer_base.specs.Pending.{Entry, timer_of, timers_of, is_due_at, has_serial}
 use Rattle.timer_facility.specs.declared.request.Notice.TheVariants.{Expired, Returned}
@@ -14,7 +14,7 @@ use Rattle.timer_facility.specs.Run.{notices_in}
 use Rattle.timer_facility.specs.Owed.{timer_handed}
 use Rattle.timer_facility.specs.HandedOver.{timers_handed, AddsAtMostOne, HandsOver}
 use Rattle.timer_facility.proofs.FacilityCounts.{count-put, count-tick}
-use Rattle.timer_facility.proofs.TimerLists.{length-filter, length-parts, timers_of-filter, length-put}
+use Rattle.timer_facility.proofs.TimerLists.{length-parts, timers_of-filter, length-put}
 use Rattle.timer_facility.proofs.NoticeLists.{notices_in-map}
 use Rattle.timer_facility.proofs.StepLemmas.{by_verdict, started-new}
 
@@ -46,7 +46,7 @@ pub adds_stop : (s : FacilityState) (old : Option Timer) → AddsNone s (without
 adds_stop s None = record { of_client = λ c. omega arith; all = omega arith }
 adds_stop s (Some t) = record {
   of_client = λ c. filter_fewer c (λ e. not (has_serial t.serial e.timer)) s.pending;
-  all = length-filter (λ e. not (has_serial t.serial e.timer)) s.pending;
+  all = filter_no_longer (λ e. not (has_serial t.serial e.timer)) s.pending;
 }
 
 -- a timer that is started is pending or due

@@ -6,7 +6,7 @@ use Rattle.std.proofs.lemmas.Bool.{and_right, eq-eqb, eqb-true}
 use Rattle.std.proofs.lemmas.Bool.Decides.{nat_tests}
 use Rattle.timer_facility.specs.Types.{Timer, Handle, TickFault, Request, Answer, Out}
 use Rattle.timer_base.proofs.Basics.{either}
-use Rattle.timer_base.proofs.OrderLaws.{All-filter, All-weaken}
+use Rattle.timer_base.proofs.OrderLaws.{All-append, All-filter, All-weaken}
 use Rattle.timer_base.specs.Pending.{Entry, put, has_handle, has_serial, first_timer}
 use Rattle.timer_facility.specs.declared.request.NotTaken.TheVariants as NotTakens
 use Rattle.timer_facility.specs.declared.request.Request.TheVariants as Requests
@@ -19,7 +19,6 @@ use Rattle.timer_facility.specs.Run.{state_after}
 use Rattle.timer_facility.specs.Ticked.{ticks, AreTicked}
 use Rattle.timer_facility.specs.Facility.{FacilityView, model_of, place_in, IsTaken, IsStart, MakesTimer, WhyNotTaken}
 use Rattle.timer_facility.specs.Handles.{HandleList, place_at, AreSorted, IsRecorded, with_answer, AddsHandle, AreRecorded}
-use Rattle.timer_facility.proofs.TimerLists.{All-join}
 use Rattle.timer_facility.proofs.StepLemmas.{by_verdict, started-new}
 
 -- the pending entries that a test keeps are recorded too
@@ -69,7 +68,7 @@ place_at-last (x ∷ xs) h serial e a = rw (is_less x.serial serial a.0) (place_
 
 AreSorted-last : (hs : HandleList) (h : Handle) → AreSorted hs → AllByRecursion (λ k. k.serial < h.serial) hs → AreSorted (hs ++ h ∷ [])
 AreSorted-last [] h a b = (tt, tt)
-AreSorted-last (x ∷ xs) h a b = (All-join (λ k. x.serial < k.serial) xs (h ∷ []) a.0 (b.0, tt), AreSorted-last xs h a.1 b.1)
+AreSorted-last (x ∷ xs) h a b = (All-append (λ k. x.serial < k.serial) xs (h ∷ []) a.0 (b.0, tt), AreSorted-last xs h a.1 b.1)
 
 AreRecorded-stop : {handles : HandleList} {s : FacilityState} (old : Option Timer) → AreRecorded handles s
     → AreRecorded handles (without_timer old s)
@@ -88,7 +87,7 @@ AreRecorded-start {handles} {s} place t n a =
     in
     record {
       sorted = AreSorted-last handles h a.sorted below;
-      used = All-join (λ k. k.serial < s.next_serial + 1) handles (h ∷ [])
+      used = All-append (λ k. k.serial < s.next_serial + 1) handles (h ∷ [])
           (All-weaken (λ k. k.serial < s.next_serial) _ handles (λ k l. omega (arith, l)) a.used) (omega (arith, n), tt);
       each = All-put_later (IsRecorded (handles ++ h ∷ [])) s.now (record { place = place; timer = t }) s.pending
           (place_at-last handles h t.serial refl below)

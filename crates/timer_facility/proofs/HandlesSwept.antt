@@ -71,8 +71,8 @@ AreSorted-filter p (x ∷ xs) a = elim (either (p x)) [
   | inr k ↦ rw k (AreSorted-filter p xs a.1)
 ]
 
-pub AreRecorded-sweep : (handles : HandleList) (s : FacilityState) → AreRecorded handles s → AreRecorded (filter (is_pending s) handles) s
-AreRecorded-sweep handles s a = record {
+pub recorded_swept : (handles : HandleList) (s : FacilityState) → AreRecorded handles s → AreRecorded (filter (is_pending s) handles) s
+recorded_swept handles s a = record {
   sorted = AreSorted-filter (is_pending s) handles a.sorted;
   used = All-filter (λ h. h.serial < s.next_serial) (λ h. h.serial < s.next_serial) (is_pending s) handles (λ h _ l. l) a.used;
   each = all_stay (is_pending s) handles s.pending (all_found s.pending) a.each;
@@ -124,8 +124,8 @@ some_pending s (x ∷ xs) q e = elim (either (is_pending s x)) [
   | inr k ↦ some_pending s xs q (rw k at e)
 ]
 
-pub few-swept : (handles : HandleList) (s : FacilityState) → AreSorted handles → AreFew (filter (is_pending s) handles) s
-few-swept handles s a =
+pub few_swept : (handles : HandleList) (s : FacilityState) → AreSorted handles → AreFew (filter (is_pending s) handles) s
+few_swept handles s a =
     let kept : HandleList = filter (is_pending s) handles in
     let few : length (serials kept) ≤ length (by_serial s.pending) =
     length-le_from_keys nat_eq_equiv (serials kept) (by_serial s.pending) (distinct kept (AreSorted-filter (is_pending s) handles a))

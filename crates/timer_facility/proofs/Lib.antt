@@ -1,4 +1,3 @@
-pub mod PlayedClose
 pub mod PlayedTicks
 pub mod PlayedLemmas
 pub mod HandlesLemmas
@@ -13,7 +12,6 @@ pub mod OwedFold
 pub mod OwedKeeps
 pub mod OwedLemmas
 pub mod RunBare
-pub mod RunClosed
 pub mod OwedOnce
 pub mod OwedAtLeastOnce
 pub mod RefusedLemmas
@@ -21,5 +19,4 @@ pub mod StepLemmas
 pub mod FacilityFields
 pub mod TickedLemmas
 pub mod WakeUpLemmas
-pub mod HeldTimers
 pub mod NoticeLists

@@ -8,14 +8,14 @@ use Rattle.std.proofs.lemmas.List.{map-append}
 use Rattle.std.proofs.lemmas.List.Elements.{filter-append, filter_agree}
 use Rattle.timer_base.proofs.Basics.{either, not_due_before}
 use Rattle.timer_base.specs.Order.{IsMember, itself, IsNotAmong, AreDistinct, AreBelow}
-use Rattle.timer_base.proofs.OrderLaws.{All-filter, All-weaken, All-in_order}
+use Rattle.timer_base.proofs.OrderLaws.{All-append, All-filter, All-weaken, All-in_order, newest_last, filter_same}
 use Rattle.timer_facility.specs.Types.{Timer, Notice}
 use Rattle.timer_base.specs.Pending.{timers_of, is_due_at, has_serial}
 use Rattle.timer_facility.specs.declared.request.Notice.TheVariants.{Expired, Returned}
 use Rattle.timer_facility.specs.State.{FacilityState, Tick, Close}
 use Rattle.timer_facility.specs.Step.{with_number, without_timer, with_timer, expired_next, accepted}
 use Rattle.timer_facility.specs.Owed.{timers_in_order, is_among}
-use Rattle.timer_facility.proofs.TimerLists.{or_false, insert_newest, timers_in_order-append, filter-timers_in_order, filter_same, filter-filter, timers_of-put, timers_of-filter, at_member, IsMember-in_order, IsMember-filter, All-join, IsOnly, AreDistinct-only, AreDistinct-join, is_among-append, is_among_below}
+use Rattle.timer_facility.proofs.TimerLists.{or_false, insert_newest, filter-timers_in_order, filter-filter, timers_of-put, timers_of-filter, at_member, IsMember-in_order, IsMember-filter, IsOnly, AreDistinct-only, AreDistinct-join, is_among-append, is_among_below}
 use Rattle.timer_facility.proofs.StepLemmas.{put_when_later, put_when_now}
 use Rattle.timer_facility.proofs.OwedFold.{Reading, all_started, is_owed_at, is_left_at, due_at, owed_at_ticks, owed_at_close, owed_for}
 
@@ -75,7 +75,7 @@ left_with_start s r now t below later unstopped =
     let new : is_left_at r now t ≡ true = and_from (nat_lt now t.deadline) (not (is_among t.serial r.stopped)) (lt-ltb now t.deadline later)
     (not_from_false (is_among t.serial r.stopped) unstopped) in
     rw (all_with_start s r t, filter-append (is_left_at r now) (all_started s r) (t ∷ []), new)
-    (sym (timers_in_order-append t left (All-filter (λ x. x.serial < t.serial) _ (is_left_at r now) (all_started s r) (λ x _ l. l) below)))
+    (sym (newest_last t left (All-filter (λ x. x.serial < t.serial) _ (is_left_at r now) (all_started s r) (λ x _ l. l) below)))
 
 -- a start for a later tick
 pub keeps-start : {s : FacilityState} {r : Reading} {ns : List Notice} {c : FacilityState} (place : ℕ) (t : Timer)
@@ -97,10 +97,10 @@ keeps-start {s} {r} {ns} {c} place t k h l fresh =
       distinct = rw (all_with_start s r t) (AreDistinct-join (all_started s r) (t ∷ []) k.distinct (tt, tt)
           (All-weaken (λ x. x.serial < t.serial) (λ x. IsNotAmong x.serial (t ∷ [])) (all_started s r)
           (λ x b. ((λ e. omega (arith, b, e)), tt)) below));
-      below = rw (all_with_start s r t) (All-join (λ x. x.serial < c.next_serial + 1) (all_started s r) (t ∷ [])
+      below = rw (all_with_start s r t) (All-append (λ x. x.serial < c.next_serial + 1) (all_started s r) (t ∷ [])
           (All-weaken (λ x. x.serial < c.next_serial) _ (all_started s r) (λ x b. omega (arith, b)) k.below) (omega (arith, fresh), tt));
       stopped_below = All-weaken (λ m. m < c.next_serial) (λ m. m < c.next_serial + 1) r.stopped (λ m b. omega (arith, b)) k.stopped_below;
-      not_past = rw (all_with_start s r t) (All-join (λ x. s.now ≤ x.deadline) (all_started s r) (t ∷ []) k.not_past (omega arith, tt));
+      not_past = rw (all_with_start s r t) (All-append (λ x. s.now ≤ x.deadline) (all_started s r) (t ∷ []) k.not_past (omega arith, tt));
     }
 
 -- a start for now
@@ -118,7 +118,7 @@ due_with_newest s r t below unstopped =
     let new : is_owed_at r t.deadline t ≡ true = and_from (t.deadline == t.deadline) (not (is_among t.serial r.stopped))
     (eq-eqb t.deadline t.deadline refl) (not_from_false (is_among t.serial r.stopped) unstopped) in
     rw (all_with_start s r t, filter-append (is_owed_at r t.deadline) (all_started s r) (t ∷ []), new)
-    (timers_in_order-append t here (All-filter (λ x. x.serial < t.serial) _ (is_owed_at r t.deadline) (all_started s r) (λ x _ l. l) below)
+    (newest_last t here (All-filter (λ x. x.serial < t.serial) _ (is_owed_at r t.deadline) (all_started s r) (λ x _ l. l) below)
     ∙ insert_last t (timers_in_order here) (All-in_order itself (λ x. x.deadline ≤ t.deadline) here
     (All-filter (λ x. x.serial < t.serial) (λ x. x.deadline ≤ t.deadline) (is_owed_at r t.deadline) (all_started s r)
     (λ x h _. let e = eqb-true x.deadline t.deadline
@@ -169,10 +169,10 @@ keeps-start_now {s} {r} {ns} {c} place t k h at fresh =
       distinct = rw (all_with_start s r t) (AreDistinct-join (all_started s r) (t ∷ []) k.distinct (tt, tt)
           (All-weaken (λ x. x.serial < t.serial) (λ x. IsNotAmong x.serial (t ∷ [])) (all_started s r)
           (λ x b. ((λ e. omega (arith, b, e)), tt)) below));
-      below = rw (all_with_start s r t) (All-join (λ x. x.serial < c.next_serial + 1) (all_started s r) (t ∷ [])
+      below = rw (all_with_start s r t) (All-append (λ x. x.serial < c.next_serial + 1) (all_started s r) (t ∷ [])
           (All-weaken (λ x. x.serial < c.next_serial) _ (all_started s r) (λ x b. omega (arith, b)) k.below) (omega (arith, fresh), tt));
       stopped_below = All-weaken (λ m. m < c.next_serial) (λ m. m < c.next_serial + 1) r.stopped (λ m b. omega (arith, b)) k.stopped_below;
-      not_past = rw (all_with_start s r t) (All-join (λ x. s.now ≤ x.deadline) (all_started s r) (t ∷ []) k.not_past
+      not_past = rw (all_with_start s r t) (All-append (λ x. s.now ≤ x.deadline) (all_started s r) (t ∷ []) k.not_past
           (omega (arith, at, n), tt));
     }
 
@@ -237,7 +237,7 @@ keeps-stop {s} {r} {ns} {c} t k h among =
           (is_left_at (with_stopped r t.serial) c.now) (k.left h) (left_stopped r c.now t.serial);
       distinct = k.distinct;
       below = k.below;
-      stopped_below = All-join (λ m. m < c.next_serial) r.stopped (t.serial ∷ []) k.stopped_below
+      stopped_below = All-append (λ m. m < c.next_serial) r.stopped (t.serial ∷ []) k.stopped_below
           (at_member (λ x. x.serial < c.next_serial) t (all_started s r) k.below passed.0, tt);
       not_past = k.not_past;
     }

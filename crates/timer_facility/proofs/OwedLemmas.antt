@@ -5,7 +5,7 @@ use Rattle.std.specs.List.{AllByRecursion}
 use Rattle.std.proofs.lemmas.Bool.{cases_lt, or_right}
 use Rattle.std.proofs.lemmas.Bool.Decides.{nat_tests}
 use Rattle.timer_base.specs.Order.{IsMember, AreDistinct}
-use Rattle.timer_base.proofs.OrderLaws.{All-weaken}
+use Rattle.timer_base.proofs.OrderLaws.{All-weaken, filter_all, filter_none}
 use Rattle.timer_facility.specs.Types.{Timer, Notice, TickFault}
 use Rattle.timer_base.specs.Pending.{timers_of}
 use Rattle.timer_facility.specs.declared.request.Notice.TheVariants.{Expired, Returned}
@@ -14,7 +14,7 @@ use Rattle.timer_facility.specs.Verdict.{tick_refusal}
 use Rattle.timer_facility.specs.Step.{StepResult, timer_stopped, expiries, timer_started, handle_of, answer_to, answered, due_at_start, with_timer, after_request, expired_next, step, step_of_tick, step_of_close}
 use Rattle.timer_facility.specs.Run.{PlacedEvent, history, state_after, notices, notices_in, outs_of}
 use Rattle.timer_facility.specs.Owed.{owed, started, timers_in_order, timer_answered}
-use Rattle.timer_facility.proofs.TimerLists.{or_false, filter_all, filter_none, timers_in_order-ordered}
+use Rattle.timer_facility.proofs.TimerLists.{or_false, timers_in_order-ordered}
 use Rattle.timer_facility.proofs.VerdictLemmas.{takable, ticking}
 use Rattle.timer_facility.proofs.StepLemmas.{by_verdict, stopped-among, IsNew, started-new, started-not_past, due_when_later, due_when_now}
 use Rattle.timer_facility.proofs.NoticeLists.{notices_in-map, timers_in-map, serials_told-map, closing-map, refusal-map, notices_in-append}

@@ -8,13 +8,13 @@ use Rattle.timer_base.specs.Order.{IsMember, itself, AreDistinct}
 use Rattle.timer_base.proofs.OneOrder.{each_is_member, map-itself}
 use Rattle.timer_facility.specs.Types.{Timer}
 use Rattle.timer_base.proofs.Basics.{either}
-use Rattle.timer_base.proofs.OrderLaws.{All-filter, All-weaken, All-in_order, AreDistinct-in_order}
+use Rattle.timer_base.proofs.OrderLaws.{All-append, All-filter, All-weaken, All-in_order, AreDistinct-in_order}
 use Rattle.timer_base.specs.Pending.{is_due_at}
 use Rattle.timer_facility.specs.declared.request.Notice.TheVariants.{Expired, Returned}
 use Rattle.timer_facility.specs.State.{FacilityState, IsSound}
 use Rattle.timer_facility.specs.Run.{PlacedEvent, HistoryEntry, history}
 use Rattle.timer_facility.specs.Owed.{started, stopped, accepted_ticks, has_closed, is_among, timers_in_order, due, left_after, owed_by_ticks, owed_by_close, timer_handed, handed_out, AreHandedOutOnce}
-use Rattle.timer_facility.proofs.TimerLists.{at_member, IsOnly, AreDistinct-only, AreDistinct-join, All-join}
+use Rattle.timer_facility.proofs.TimerLists.{at_member, IsOnly, AreDistinct-only, AreDistinct-join}
 use Rattle.timer_facility.proofs.HandedOverLemmas.{unwrapped}
 use Rattle.timer_facility.proofs.OwedLemmas.{notices-history, started-distinct}
 
@@ -70,7 +70,7 @@ joined all ks tick Later Any xs ys d u v later f g = record {
   distinct = AreDistinct-join xs ys u.distinct v.distinct (All-weaken (IsOwed all ks (λ d. d ≤ tick)) _ xs
       (λ x i. All-weaken (IsOwed all ks Later) _ ys
       (λ y j. other_serial all tick x y d i.among j.among i.at (later y.deadline j.at)) v.each) u.each);
-  each = All-join (IsOwed all ks Any) xs ys
+  each = All-append (IsOwed all ks Any) xs ys
       (All-weaken (IsOwed all ks (λ d. d ≤ tick)) _ xs
       (λ x i. record { among = i.among; unstopped = i.unstopped; at = f x.deadline i.at }) u.each)
       (All-weaken (IsOwed all ks Later) _ ys

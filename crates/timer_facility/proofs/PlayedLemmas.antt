@@ -1,20 +1,24 @@
--- Runs that go on.
-use Rattle.std.proofs.Common.{◌≡◌, ℕ, List, [], ◌∷◌, ◌++◌, refl, sym, ◌∙◌, ap, subst, append-nil, append_assoc, inl, inr}
-use Rattle.std.specs.Prelude.{Some, None, Result, Ok, Err, OnErr}
+-- Runs that go on, and the outs of a close.
+use Rattle.std.proofs.Common.{◌≡◌, ℕ, true, false, List, [], ◌∷◌, ◌++◌, length, refl, sym, ◌∙◌, ap, subst, append-nil, append_assoc, inl, inr}
+use Rattle.std.specs.Prelude.{map, Some, None, Result, Ok, Err, OnErr}
+use Rattle.std.proofs.lemmas.List.{length-map}
+use Rattle.timer_base.specs.Pending.{timers_of, timer_of}
 use Rattle.timer_facility.specs.Types.{Handle, Request, NotTaken, Event, Out, Answer}
 use Rattle.timer_facility.specs.declared.request.NotTaken.TheVariants as NotTakens
+use Rattle.timer_facility.specs.declared.request.Notice.TheVariants.{Returned}
 use Rattle.timer_facility.specs.declared.event.Event.TheVariants as Events
 use Rattle.timer_facility.specs.declared.request.Request.TheVariants as Requests
 use Rattle.timer_facility.specs.Handles.{HandleList, AreRecorded}
 use Rattle.timer_facility.proofs.HandlesLemmas.{IsHandleOf, named-recorded}
+use Rattle.timer_facility.proofs.NoticeLists.{outs-notices, length-notices}
 use Rattle.timer_facility.proofs.StepLemmas.{step-not_taken, step-stop, step-restart}
 use Rattle.timer_facility.proofs.OwedLemmas.{notices_take}
 use Rattle.timer_facility.specs.declared.event.Out.TheVariants as Outs
-use Rattle.timer_facility.specs.State.{FacilityState, IsSound, After, ByHandle, BySerial, Start, Stop, Restart, SingleEvent, Asked}
+use Rattle.timer_facility.specs.State.{FacilityState, IsSound, After, ByHandle, BySerial, Start, Stop, Restart, SingleEvent, Asked, Close}
 use Rattle.timer_facility.specs.Verdict.{not_taken, first_refusal, name_refusal, interval_refusal}
-use Rattle.timer_facility.specs.Step.{StepResult, step}
+use Rattle.timer_facility.specs.Step.{StepResult, step, step_of_close}
 use Rattle.timer_facility.specs.Run.{PlacedEvent, history, state_after, outs_of}
-use Rattle.timer_facility.specs.Facility.{FacilityView, model_of, event_of_request, notice_outs, place_in, IsTaken, IsNotTaken, MakesTimer, WhyNotTaken}
+use Rattle.timer_facility.specs.Facility.{FacilityView, view_after, model_of, event_of_request, notice_outs, place_in, IsTaken, IsNotTaken, MakesTimer, WhyNotTaken}
 use Rattle.timer_facility.specs.Played.{singles_of, ArePlaced, IsRun, IsPlayed, MakesStep, AddsRun}
 
 pub state_after-append : (s : FacilityState) (xs ys : List PlacedEvent) → state_after s (xs ++ ys) ≡ state_after (state_after s xs) ys
@@ -163,3 +167,22 @@ MakesStep-not_taken {old} {new} {t} {client} {number} {request} {reason} same h 
 pub IsPlayed-run : (s : FacilityState) (es : List Event) (outs : List Out) (c : FacilityState) → IsSound s → IsRun s es outs c
     → IsPlayed s es outs c
 IsPlayed-run s es outs c i a = record { runs = a; notices_owed = λ k. notices_take s a.placed k i }
+
+-- The outs of a close.
+
+-- after an accepted close each timer that was pending waits
+pub length-closed : (s : FacilityState) (v : FacilityView) → v ≡ view_after (step s Close 0) → s.is_closed ≡ false
+    → length v.waiting ≡ length s.pending
+length-closed s v e h = rw (e, h) (length-notices (λ t. Returned t) (timers_of s.pending) ∙ length-map s.pending timer_of)
+
+-- its outs are its own, and then their notices
+pub outs-closed : (s : FacilityState) (v : FacilityView) → v ≡ view_after (step s Close 0) → s.is_closed ≡ false
+    → Outs.Closed (length s.pending) ∷ map (λ notice. Outs.Notice notice) v.waiting ≡ (step s Close 0).outs
+outs-closed s v e h = rw (e, h) (ap (λ outs. Outs.Closed (length s.pending) ∷ outs) (outs-notices (λ t. Returned t) (timers_of s.pending)))
+
+-- a second close has one out, and changes nothing
+pub outs-close_refused : (s : FacilityState) → s.is_closed ≡ true → (step s Close 0).outs ≡ Outs.CloseRefused ∷ []
+outs-close_refused s h = ap (λ b. (step_of_close s b).outs) h
+
+pub state-close_refused : (s : FacilityState) → s.is_closed ≡ true → (step s Close 0).state ≡ s
+state-close_refused s h = ap (λ b. (step_of_close s b).state) h

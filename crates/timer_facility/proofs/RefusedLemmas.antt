@@ -1,5 +1,5 @@
--- The verdict on an event, read from its outs.
-use Rattle.std.proofs.Common.{◌≡◌, ℕ, Bool, true, false, List, [], ◌∷◌, refl, ap}
+-- The verdict on an event, read from its outs; and events after the close, which hand nothing out and change nothing.
+use Rattle.std.proofs.Common.{◌≡◌, ℕ, Bool, true, false, List, [], ◌∷◌, refl, sym, ap, subst}
 use Rattle.std.specs.Prelude.{if◌then◌else◌, Option, Some, None}
 use Rattle.timer_facility.specs.Types.{Timer, NotTaken, Reason, TickFault}
 use Rattle.timer_base.specs.Pending.{timers_of}
@@ -7,11 +7,12 @@ use Rattle.timer_facility.specs.declared.request.Notice.TheVariants.{Expired, Re
 use Rattle.timer_facility.specs.declared.event.Out.TheVariants as Outs
 use Rattle.timer_facility.specs.State.{FacilityState, ModelRequest, SingleEvent, Asked, Tick, Close}
 use Rattle.timer_facility.specs.Verdict.{not_taken, refusal, tick_refusal, CloseRefused, verdict_on_request, verdict_on_tick, verdict, closed_refusal}
-use Rattle.timer_facility.specs.Step.{expiries, timer_stopped, timer_started, answer_to, due_at_start, accepted, expired_next, step_by, step, step_of_tick, step_of_close}
+use Rattle.timer_facility.specs.Step.{StepResult, refused, expiries, timer_stopped, timer_started, answer_to, due_at_start, accepted, expired_next, step_by, step, step_of_tick, step_of_close}
+use Rattle.timer_facility.specs.Run.{PlacedEvent, run, notices_in}
 use Rattle.timer_facility.specs.Refused.{refusals_in, refusals_of}
-use Rattle.timer_facility.proofs.NoticeLists.{refusals_in-map}
+use Rattle.timer_facility.proofs.NoticeLists.{notices_in-append, refusals_in-map}
 use Rattle.timer_facility.proofs.VerdictLemmas.{not_taken-closed, tick_refusal-closed}
-use Rattle.timer_facility.proofs.StepLemmas.{accepted-some}
+use Rattle.timer_facility.proofs.StepLemmas.{accepted-some, step_refused}
 
 -- a closed facility refuses each event as such
 pub verdict_closed : (s : FacilityState) (event : SingleEvent) → s.is_closed ≡ true → verdict s event ≡ Some (closed_refusal event)
@@ -55,3 +56,26 @@ outs_verdict s (Asked client number request) place =
     (accepted-some s client number request)
 outs_verdict s Tick place = told_tick s (tick_refusal s)
 outs_verdict s Close place = told_close s s.is_closed
+
+-- After a close.
+
+-- a step that hands nothing out and changes nothing
+abbrev IsIdle : FacilityState → StepResult → Type 0
+IsIdle s st = (notices_in st.outs ≡ []) × (st.state ≡ s)
+
+step-closed : (s : FacilityState) (event : SingleEvent) (place : ℕ) → s.is_closed ≡ true → IsIdle s (step s event place)
+step-closed s event place h = subst (IsIdle s) (sym (step_refused s event place (closed_refusal event) (verdict_closed s event h)))
+    (idle event)
+  where
+    idle : (event : SingleEvent) → IsIdle s (refused s event (closed_refusal event))
+    idle (Asked client number request) = (refl, refl)
+    idle Tick = (refl, refl)
+    idle Close = (refl, refl)
+
+pub run-closed : (s : FacilityState) (ps : List PlacedEvent) → s.is_closed ≡ true → IsIdle s (run s ps)
+run-closed s [] h = (refl, refl)
+run-closed s (p ∷ ps) h =
+    let st : StepResult = step s p.event p.place in
+    let one : IsIdle s st = step-closed s p.event p.place h in
+    let rest : IsIdle s (run st.state ps) = subst (λ c. IsIdle s (run c ps)) (sym one.1) (run-closed s ps h) in
+    (rw (notices_in-append st.outs (run st.state ps).outs, one.0) rest.0, rest.1)

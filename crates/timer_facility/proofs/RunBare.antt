@@ -6,6 +6,7 @@ use Rattle.std.proofs.lemmas.List.{length-map, map-append}
 use Rattle.std.proofs.lemmas.List.Elements.{All-replicate, recursion_from_All}
 use Rattle.std.proofs.lemmas.Simd.{map-map}
 use Rattle.timer_base.proofs.Basics.{either}
+use Rattle.timer_base.proofs.OrderLaws.{All-append}
 use Rattle.timer_facility.specs.Types.{Timer, NotTaken, Reason, TickFault, Notice, Event, Out}
 use Rattle.timer_base.specs.Pending.{Entry, timer_of, timers_of, put, is_due_at, has_serial, first_timer, without_found}
 use Rattle.timer_facility.specs.declared.request.Notice.TheVariants.{Expired, Returned}
@@ -15,7 +16,6 @@ use Rattle.timer_facility.specs.State.{FacilityState, Deadline, After, At, inter
 use Rattle.timer_facility.specs.Verdict.{not_taken, of_client, timer_named, interval_refusal, room_refusal, refusal, tick_refusal, verdict_on_request}
 use Rattle.timer_facility.specs.Step.{StepResult, with_number, answered, timer_stopped, timer_started, due_at_start, answer_to, put_later, without_timer, with_timer, after_request, step_by, step, step_of_tick, step_of_close}
 use Rattle.timer_facility.specs.Run.{PlacedEvent, state_after, run, bare_answer, bare, bare_outs, bare_entry, bare_state, NamesBySerial, AreSameButForPlaces}
-use Rattle.timer_facility.proofs.TimerLists.{All-join}
 use Rattle.timer_facility.specs.Played.{ticks_left, singles_of, ArePlaced, IsRun}
 
 -- Lists of entries.
@@ -244,7 +244,7 @@ placed-alike s t (event ∷ events) ps qs e a b =
     (runs-bare s t one one' e here names).states_are a.4 b.4 in
     record {
       same = rw (a.2, b.2, map-append (λ p. p.event) one rest, map-append (λ p. p.event) one' rest', here, later.same) refl;
-      named = rw (a.2, map-append (λ p. p.event) one rest) (All-join NamesBySerial (events_of one) (events_of rest) names later.named);
+      named = rw (a.2, map-append (λ p. p.event) one rest) (All-append NamesBySerial (events_of one) (events_of rest) names later.named);
     }
 
 -- two runs of one list of events

@@ -1,30 +1,25 @@
--- Lists of timers, for what is owed.
-use Rattle.std.proofs.Common.{◌≡◌, ◌≢◌, ◌<◌, ◌≤◌, ◌+◌, ℕ, Bool, true, false, not, ◌==◌, ◌&&◌, ◌||◌, List, [], ◌∷◌, ◌++◌, length, refl, sym, ◌∙◌, ap, subst, inl, inr, arith, append-nil}
-use Rattle.std.specs.Prelude.{map, filter, nat_lt, if◌then◌else◌, Option, Some, None}
+-- Lists of timers, for what is owed, and the timers that a wheel holds.
+use Rattle.std.proofs.Common.{◌≡◌, ◌≢◌, ◌<◌, ◌+◌, ℕ, Bool, true, false, not, ◌==◌, ◌&&◌, ◌||◌, List, [], ◌∷◌, ◌++◌, length, refl, sym, ◌∙◌, ap, subst, inl, inr, arith}
+use Rattle.std.specs.Prelude.{filter, nat_lt, if◌then◌else◌, is_some, Option, Some, None}
 use Rattle.std.specs.List.{AllByRecursion}
 use Rattle.std.proofs.lemmas.Bool.{eqb-true, ne_eqb}
 use Rattle.std.proofs.lemmas.Bool.Decides.{nat_tests}
-use Rattle.std.proofs.lemmas.List.{length-map, map-id}
+use Rattle.std.proofs.lemmas.List.{length-map}
 use Rattle.std.proofs.lemmas.List.Filters.{length-filter_both}
 use Rattle.std.proofs.lemmas.Option.{cond_some}
 use Rattle.timer_base.proofs.Basics.{either, none_some, some_same}
-use Rattle.timer_facility.specs.Types.{Timer}
-use Rattle.timer_base.specs.Order.{is_before, itself, insert_in_order, insert_by_deadline, IsOrdered, IsNotAmong, AreDistinct, AreBelow, IsMember}
-use Rattle.timer_base.proofs.OneOrder.{each_is_member}
-use Rattle.timer_base.proofs.OrderLaws.{All-filter, All-weaken, All-in_order, in_order-newest, filter-in_order}
-use Rattle.timer_base.specs.Pending.{Entry, timer_of, timers_of, put, first_timer}
+use Rattle.timer_facility.specs.Types.{Timer, Handle}
+use Rattle.timer_base.specs.Order.{itself, insert_by_deadline, IsOrdered, IsNotAmong, AreDistinct, IsMember}
+use Rattle.timer_base.proofs.OneOrder.{each_is_member, in_order-ordered, map-itself}
+use Rattle.timer_base.proofs.OrderLaws.{All-append, All-filter, All-weaken, All-in_order, filter-in_order}
+use Rattle.timer_base.specs.Pending.{Entry, timer_of, timers_of, put, has_handle, first_timer, first_found}
+use Rattle.timer_base.specs.WheelState.{WheelState, IsPending, IsDue, IsWellFormed, timer_at, due_at, held_at}
 use Rattle.timer_facility.specs.Verdict.{of_client}
 use Rattle.timer_facility.specs.Owed.{timers_in_order, is_among}
 
 -- the timer goes before the first one with a later deadline
 abbrev pub insert_newest : Timer → List Timer → List Timer
 insert_newest t ts = insert_by_deadline (λ x. x) t ts
-
-pub timers_in_order-append : (t : Timer) (ts : List Timer) → AreBelow t.serial ts
-    → timers_in_order (ts ++ t ∷ []) ≡ insert_newest t (timers_in_order ts)
-timers_in_order-append t ts b =
-    let below : AreBelow t.serial (map (λ x. x) (ts ++ [])) = rw (map-id (ts ++ []), append-nil ts) b in
-    in_order-newest (λ x. x) t ts [] below ∙ ap (λ xs. insert_newest t (timers_in_order xs)) (append-nil ts)
 
 pub filter-timers_in_order : (p : Timer → Bool) (ts : List Timer) → filter p (timers_in_order ts) ≡ timers_in_order (filter p ts)
 filter-timers_in_order p ts = filter-in_order (λ x. x) p ts
@@ -33,24 +28,12 @@ pub or_false : (b : Bool) → (b || false) ≡ b
 or_false true = refl
 or_false false = refl
 
-pub filter_same : (p q : Timer → Bool) (xs : List Timer) → AllByRecursion (λ x. p x ≡ q x) xs → filter p xs ≡ filter q xs
-filter_same p q [] a = refl
-filter_same p q (x ∷ xs) a = rw a.0 (ap (λ r. if q x then x ∷ r else r) (filter_same p q xs a.1))
-
 pub filter-filter : (p q : Timer → Bool) (xs : List Timer) → filter p (filter q xs) ≡ filter (λ x. q x && p x) xs
 filter-filter p q [] = refl
 filter-filter p q (x ∷ xs) = elim (either (q x)) [
   | inl h ↦ rw h (ap (λ r. if p x then x ∷ r else r) (filter-filter p q xs))
   | inr h ↦ rw h (filter-filter p q xs)
 ]
-
-pub filter_all : (p : Timer → Bool) (xs : List Timer) → AllByRecursion (λ x. p x ≡ true) xs → filter p xs ≡ xs
-filter_all p [] a = refl
-filter_all p (x ∷ xs) a = rw a.0 (ap (λ r. x ∷ r) (filter_all p xs a.1))
-
-pub filter_none : (p : Timer → Bool) (xs : List Timer) → AllByRecursion (λ x. p x ≡ false) xs → filter p xs ≡ []
-filter_none p [] a = refl
-filter_none p (x ∷ xs) a = rw a.0 (filter_none p xs a.1)
 
 pub timers_of-put : (e : Entry) (es : List Entry) → timers_of (put e es) ≡ insert_newest e.timer (timers_of es)
 timers_of-put e [] = refl
@@ -80,10 +63,6 @@ pub IsMember-filter : (p : Timer → Bool) (t : Timer) (xs : List Timer) → IsM
 IsMember-filter p t xs m = at_member (λ x. IsMember x xs × (p x ≡ true)) t (filter p xs)
     (All-filter (λ x. IsMember x xs) (λ x. IsMember x xs × (p x ≡ true)) p xs (λ x h a. (a, h)) (each_is_member xs)) m
 
-pub All-join : {X : Type 0} (P : X → Type 0) (xs ys : List X) → AllByRecursion P xs → AllByRecursion P ys → AllByRecursion P (xs ++ ys)
-All-join P [] ys a b = b
-All-join P (x ∷ xs) ys a b = (a.0, All-join P xs ys a.1 b)
-
 -- if serials are distinct, whoever has the serial of t is t
 abbrev pub IsOnly : Timer → Timer → Type 0
 IsOnly t x = x.serial ≡ t.serial → x ≡ t
@@ -101,7 +80,7 @@ AreDistinct-only t (x ∷ xs) d a = elim a [
 pub AreDistinct-join : (xs ys : List Timer) → AreDistinct xs → AreDistinct ys → AllByRecursion (λ x. IsNotAmong x.serial ys) xs
     → AreDistinct (xs ++ ys)
 AreDistinct-join [] ys d e a = e
-AreDistinct-join (x ∷ xs) ys d e a = (All-join (λ u. u.serial ≢ x.serial) xs ys d.0 a.0, AreDistinct-join xs ys d.1 e a.1)
+AreDistinct-join (x ∷ xs) ys d e a = (All-append (λ u. u.serial ≢ x.serial) xs ys d.0 a.0, AreDistinct-join xs ys d.1 e a.1)
 
 pub is_among-append : (n k : ℕ) (ks : List ℕ) → is_among n (ks ++ k ∷ []) ≡ (is_among n ks || k == n)
 is_among-append n k [] = or_false (k == n)
@@ -114,15 +93,9 @@ pub is_among_below : (n : ℕ) (ks : List ℕ) → AllByRecursion (λ k. k < n) 
 is_among_below n [] b = refl
 is_among_below n (k ∷ ks) b = rw (ne_eqb k n (λ e. let b0 : k < n = b.0 in omega (arith, e))) (is_among_below n ks b.1)
 
-strictly_first : (x y : Timer) → is_before y x ≡ false → y.serial ≢ x.serial → is_before x y ≡ true
-strictly_first x y h n = grind (arith, nat_tests)
-
 -- what is in order already stays
 pub timers_in_order-ordered : (xs : List Timer) → IsOrdered xs → AreDistinct xs → timers_in_order xs ≡ xs
-timers_in_order-ordered [] o d = refl
-timers_in_order-ordered (x ∷ []) o d = refl
-timers_in_order-ordered (x ∷ y ∷ ys) o d = ap (insert_in_order itself x) (timers_in_order-ordered (y ∷ ys) o.1 d.1)
-    ∙ rw (strictly_first x y o.0.0 d.0.0) refl
+timers_in_order-ordered xs o d = in_order-ordered itself xs (rw (map-itself xs) d) (rw (map-itself xs) o)
 
 -- what is found is one of the timers
 pub first_timer-among : (test : Entry → Bool) (t : Timer) (es : List Entry) → first_timer test es ≡ Some t → IsMember t (timers_of es)
@@ -148,12 +121,26 @@ length-parts p es =
     ap length (sym (timers_of-filter p es)) ∙ length-map (filter (λ e. p e.timer) es) timer_of in
     omega arith
 
-pub length-filter : {X : Type 0} (p : X → Bool) (xs : List X) → length (filter p xs) ≤ length xs
-length-filter p xs = let parts = length-filter_both p (λ x. not (p x)) (λ x. refl) xs in omega arith
-
 pub length-put : (e : Entry) (es : List Entry) → length (put e es) ≡ length es + 1
 length-put e [] = refl
 length-put e (x ∷ xs) = elim (either (nat_lt e.timer.deadline x.timer.deadline)) [
   | inl h ↦ rw h (omega arith)
   | inr h ↦ rw h (let n = length-put e xs in omega arith)
 ]
+
+-- A timer that a wheel holds is pending exactly if its deadline is after now.
+
+by_deadline : (pending due : Option Timer) (now : ℕ) (t : Timer) → ((x : Timer) → pending ≡ Some x → now < x.deadline)
+    → ((x : Timer) → due ≡ Some x → x.deadline ≡ now) → first_found pending due ≡ Some t → nat_lt now t.deadline ≡ is_some pending
+by_deadline (Some x) due now t later at_now e =
+    let l : now < t.deadline = subst (λ (u : Timer). now < u.deadline) (some_same x t e) (later x refl) in grind (arith, nat_tests)
+by_deadline None due now t later at_now e = let d : t.deadline ≡ now = at_now t e in grind (arith, nat_tests)
+
+pub pending_by_deadline : (handle : Handle) (w : WheelState) (t : Timer) → IsWellFormed w → Some t ≡ held_at handle w
+    → nat_lt w.now t.deadline ≡ is_some (timer_at handle w)
+pending_by_deadline handle w t i e =
+    by_deadline (timer_at handle w) (due_at handle w) w.now t
+    (λ x f. (at_member (IsPending w.last_tick w.now w.last_serial) x (timers_of w.pending) i.each
+    (first_timer-among (has_handle handle) x w.pending f)).later)
+    (λ x f. (at_member (IsDue w.now w.last_serial) x (timers_of w.due) i.each_due
+    (first_timer-among (has_handle handle) x w.due f)).deadline) (sym e)

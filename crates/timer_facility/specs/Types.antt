@@ -3,10 +3,9 @@ pub use Rattle.timer_base.specs.declared.limits.TheConstants.{LAST}
 pub use Rattle.timer_base.specs.declared.timer.Handle.{Handle}
 pub use Rattle.timer_base.specs.declared.timer.Timer.{Timer}
 pub use Rattle.timer_facility.specs.declared.config.Config.{Config}
+pub use Rattle.timer_facility.specs.declared.config.TheConstants.{MAX_CLIENTS, MAX_PENDING}
 pub use Rattle.timer_facility.specs.declared.event.Event.{Event}
 pub use Rattle.timer_facility.specs.declared.event.Out.{Out}
-pub use Rattle.timer_facility.specs.declared.limits.TheConstants.{MAX_CLIENTS}
-pub use Rattle.timer_facility.specs.declared.limits.TheConstants.{MAX_PENDING}
 pub use Rattle.timer_facility.specs.declared.request.Answer.{Answer}
 pub use Rattle.timer_facility.specs.declared.request.CloseFault.{CloseFault}
 pub use Rattle.timer_facility.specs.declared.request.NotTaken.{NotTaken}

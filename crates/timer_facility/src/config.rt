@@ -1,11 +1,19 @@
-//! The configuration of a facility, and its ranges.
+//! The configuration of a facility, its limits and its ranges.
 ghost use Rattle.std.specs.Prelude.{◌≡◌, None, Some, MatchResult};
 ghost use Rattle.timer_facility.specs.Config.{is_outside, config_fault, IsInRange};
 
-use crate::limits::{MAX_CLIENTS, MAX_PENDING};
 use std::marker::Model;
 use thiserror::Error;
 use timer_base::LAST;
+
+/// The most clients that a facility may have.
+pub const MAX_CLIENTS: u64 = 64;
+
+/// The same number, as the length of an array with an element for each client.
+pub const CLIENTS: usize = 64;
+
+/// The most timers that a facility may be asked to hold pending.
+pub const MAX_PENDING: u64 = 1048576;
 
 /// The numbers that a facility is opened with.
 #[derive(Clone, Copy, Debug, PartialEq, Eq)]

@@ -10,7 +10,7 @@ ghost use Rattle.timer_base.specs.declared.timer.Timer.{Timer};
 ghost use Rattle.timer_base.specs.Pending.{timers_of};
 ghost use Rattle.timer_base.specs.WheelState.{after_clear};
 ghost use Rattle.timer_base.specs.WakeUps.{IsQuietUntil, next_deadline};
-ghost use Rattle.timer_facility.specs.declared.limits.TheConstants.{MAX_CLIENTS};
+ghost use Rattle.timer_facility.specs.declared.config.TheConstants.{MAX_CLIENTS};
 ghost use Rattle.timer_facility.specs.State.{FacilityState, IsSound, At, ByHandle, Stop, Tick, Close, number_of, pending_of, ticks_until};
 ghost use Rattle.timer_facility.specs.Verdict.{not_taken, timer_named, start_refusal, restart_refusal, interval_refusal, refusal, tick_refusal, TickRefused, verdict};
 ghost use Rattle.timer_facility.specs.Refused.{verdict_on_close};
@@ -21,8 +21,7 @@ ghost use Rattle.timer_facility.specs.Handles.{is_pending};
 ghost use Rattle.timer_facility.specs.Ticked.{AreTicked};
 ghost use Rattle.timer_facility.specs.Facility.{FacilityView, view_of, view_after, view_with_room, with_nothing_waiting, NoRoomToClose, IsTaken, IsNotTaken, Fields, IsFacilityOver, model_of, is_for_a_tick, IsStart, IsAnswered, MakesTimer, HasAnswered};
 
-use crate::config::Checked;
-use crate::limits::CLIENTS;
+use crate::config::{CLIENTS, Checked};
 use crate::request::{Answer, CloseFault, NotTaken, Notice, Reason, Request, TickFault};
 use std::alloc::Global;
 use std::marker::Model;
@@ -500,6 +499,7 @@ impl<W: Wheel + Drop> Facility<W> {
     }
 
     /// The timer of a start that is due in `left` ticks.
+    #[tactic(auto, using(crate::proofs::FacilityFields::agrees))]
     fn new_timer(&self, client: u64, number: u64, left: u64, action: u64) -> Timer
         requires { self.now.state.now + left ≤ LAST }
         ensures { result ≡ new_timer self.now.state client number left action }

@@ -83,6 +83,7 @@ impl Handles {
     }
 
     /// Drops the handles of timers that are no longer pending, if there are many. Does not allocate.
+    #[tactic(auto, using(crate::proofs::HandlesSwept::recorded_swept, crate::proofs::HandlesSwept::few_swept))]
     #[inline(always)]
     pub fn forget<W: Wheel + Drop>(&mut self, facility: &Facility<W>)
         requires { AreRecorded self.old.list.items facility.now.state }

@@ -3,7 +3,7 @@
 ghost use Rattle.std.specs.Prelude.{◌≡◌, ◌<◌, ◌≤◌, List, [], ℕ, ◌+◌, length, take, map, true, Some};
 ghost use Rattle.std.specs.List.{AllByRecursion};
 ghost use Rattle.timer_base.specs.WakeUps.{IsWakeUp};
-ghost use Rattle.timer_facility.specs.declared.limits.TheConstants.{MAX_CLIENTS, MAX_PENDING};
+ghost use Rattle.timer_facility.specs.declared.config.TheConstants.{MAX_CLIENTS, MAX_PENDING};
 ghost use Rattle.timer_facility.specs.declared.handles.TheConstants.{SPARE};
 ghost use Rattle.timer_facility.specs.State.{FacilityState, IsSound, SingleEvent, Asked, Tick, Close, ModelRequest, pending_of};
 ghost use Rattle.timer_facility.specs.Verdict.{Refusal, verdict, closed_refusal};

@@ -13,13 +13,11 @@ mod event;
 mod facility;
 mod handles;
 pub mod laws;
-mod limits;
 mod player;
 mod request;
 
-pub use config::{Checked, Config, ConfigFault};
+pub use config::{Checked, Config, ConfigFault, MAX_CLIENTS, MAX_PENDING};
 pub use event::{Event, Out};
 pub use facility::Facility;
-pub use limits::{MAX_CLIENTS, MAX_PENDING};
 pub use player::{PlayStop, Player};
 pub use request::{Answer, CloseFault, NotTaken, Notice, Reason, Request, TickFault};

@@ -2,8 +2,7 @@
 use Rattle.std.proofs.Common.{◌≡◌, ◌+◌, ℕ, zero, suc, List, [], ◌∷◌, refl, sym, ◌∙◌, ap, subst, map, Option, Some, None, IsSome, is_some, option_map, count_by, slice_set, slice_index_or, arith, cond}
 use Rattle.std.proofs.lemmas.List.Sums.{sum_by-cons}
 use Rattle.slab.specs.Slab.{Slab, get, slab_len, with_value, ContainsKey, Updates}
-use Rattle.timer_links.specs.declared.node.Node.{Node}
-use Rattle.timer_links.specs.declared.ring.Neighbours.{Neighbours}
+use Rattle.timer_links.specs.Types.{Node, Neighbours}
 use Rattle.timer_links.specs.Links.{nodes_of, IsLinked}
 use Rattle.timer_links.specs.Lists.{KeyedLists}
 

@@ -6,10 +6,8 @@ use Rattle.std.proofs.lemmas.List.{get_or_read, append_assoc}
 use Rattle.std.proofs.lemmas.List.Sums.{sum_by-set}
 use Rattle.slab.specs.Slab.{Slab, get, slab_len, with_value, ContainsKey, Updates}
 use Rattle.timer_base.proofs.Basics.{some_same, some_none}
-use Rattle.timer_base.proofs.OrderLaws.{All-weaken}
-use Rattle.timer_links.specs.declared.node.Node.{Node}
-use Rattle.timer_links.specs.declared.ring.Neighbours.{Neighbours}
-use Rattle.timer_links.specs.declared.ring.TheConstants.{INDEXES}
+use Rattle.timer_base.proofs.OrderLaws.{All-append, All-weaken}
+use Rattle.timer_links.specs.Types.{Node, Neighbours, INDEXES}
 use Rattle.timer_links.specs.Lists.{node_in, node_at, first_key, last_key, list_at, row_count, without_key, with_row, moved_back, first_row_moved, front_moved, appended, IsAloneIn, KeyedLists, Row, Rows}
 use Rattle.timer_links.specs.Ring.{neighbours_at, key_of, neighbour_on_both_sides, AreJoined, Joins, JoinsLast, IsGrown}
 use Rattle.timer_links.specs.Links.{LeadsOver, AreRings, IsLinked}
@@ -45,10 +43,6 @@ front_row key (r ∷ rs) e = record { node = r.1; rest = rs; is = ap (λ (x : �
 all_parts : (P : Row → Type 0) (xs ys : Rows) → AllByRecursion P (xs ++ ys) → AllByRecursion P xs × AllByRecursion P ys
 all_parts P [] ys a = (tt, a)
 all_parts P (x ∷ xs) ys a = let p = all_parts P xs ys a.1 in ((a.0, p.0), p.1)
-
-all_both : (P : Row → Type 0) (xs ys : Rows) → AllByRecursion P xs → AllByRecursion P ys → AllByRecursion P (xs ++ ys)
-all_both P [] ys a b = b
-all_both P (x ∷ xs) ys a b = (a.0, all_both P xs ys a.1 b)
 
 -- What is read: the neighbours of an index, in a slice that is to be written.
 
@@ -258,7 +252,7 @@ module _ (n : ℕ) (nodes : Slab Node) (s : List Neighbours) (v : KeyedLists) (h
       let apart = apart_here n s v h.rings key l front node rest b e in
       let many : length (slice_set v l new) ≡ n = length-set v l new ∙ h.many in
       let gone : (m : ℕ) → m < n → IsAbsent key (list_at m (slice_set v l new)) = λ m i. elim (cases_eq m l) [
-        | inl q ↦ rw (q, get_or-set_same v l new [] d) (all_both (λ r. r.0 ≢ key) front rest apart.0 apart.1)
+        | inl q ↦ rw (q, get_or-set_same v l new [] d) (All-append (λ r. r.0 ≢ key) front rest apart.0 apart.1)
         | inr o ↦ rw (get_or-set_other v l m new [] o) (not_elsewhere n s v h.rings key l front node rest b e m i o)
       ] in
       let length_was : length (list_at l v) ≡ length (front ++ (key, node) ∷ rest) = ap (λ (x : Rows). length x) e in

@@ -3,8 +3,7 @@ use Rattle.std.proofs.Common.{◌≡◌, ◌<◌, ◌≤◌, ◌+◌, ℕ, zero,
 use Rattle.std.proofs.lemmas.Bool.{cases_eq}
 use Rattle.std.proofs.lemmas.List.{get_or_append_left, get_or_push, length-replicate}
 use Rattle.slab.specs.Slab.{Slab, get}
-use Rattle.timer_links.specs.declared.node.Node.{Node}
-use Rattle.timer_links.specs.declared.ring.Neighbours.{Neighbours}
+use Rattle.timer_links.specs.Types.{Node, Neighbours}
 use Rattle.timer_links.specs.Lists.{list_at, row_count, KeyedLists}
 use Rattle.timer_links.specs.Ring.{neighbours_at}
 use Rattle.timer_links.specs.Links.{IsLinked}

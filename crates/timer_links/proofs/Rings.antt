@@ -5,8 +5,7 @@ use Rattle.std.specs.List.{AllByRecursion}
 use Rattle.std.proofs.lemmas.Bool.{cases_eq, eq-eqb, ne_eqb}
 use Rattle.timer_base.proofs.Basics.{some_none}
 use Rattle.timer_base.proofs.OrderLaws.{All-weaken}
-use Rattle.timer_links.specs.declared.node.Node.{Node}
-use Rattle.timer_links.specs.declared.ring.Neighbours.{Neighbours}
+use Rattle.timer_links.specs.Types.{Node, Neighbours}
 use Rattle.timer_links.specs.Lists.{node_at, list_at, list_if_alone, without_key, with_row, appended, AreApart, KeyedLists, Row, Rows}
 use Rattle.timer_links.specs.Ring.{neighbours_at, neighbour_on_both_sides, AreJoined, Joins}
 use Rattle.timer_links.specs.Links.{LeadsOver, AreRings}

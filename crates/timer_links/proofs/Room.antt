@@ -4,8 +4,7 @@ use Rattle.std.proofs.lemmas.Bool.{cases_lt}
 use Rattle.std.proofs.lemmas.List.Sums.{count_by-le-length, sum_by-cons}
 use Rattle.timer_base.proofs.Basics.{some_none}
 use Rattle.slab.specs.Slab.{Slab, get, HasRoomFor}
-use Rattle.timer_links.specs.declared.ring.Neighbours.{Neighbours}
-use Rattle.timer_links.specs.declared.ring.TheConstants.{INDEXES}
+use Rattle.timer_links.specs.Types.{Neighbours, INDEXES}
 use Rattle.timer_links.specs.Links.{HasRoom, HasIndex, IsReady}
 
 -- room that was made stays: the nodes' memory is as large, and so is that of the indexes

@@ -4,7 +4,7 @@ use Rattle.std.specs.List.{AllByRecursion}
 use Rattle.std.proofs.lemmas.Bool.{cases_eq, eq-eqb, ne_eqb}
 use Rattle.std.proofs.lemmas.List.{reverse-append}
 use Rattle.timer_base.proofs.Basics.{some_same, some_none}
-use Rattle.timer_links.specs.declared.node.Node.{Node}
+use Rattle.timer_links.specs.Types.{Node}
 use Rattle.timer_links.specs.Lists.{node_in, node_at, first_key, last_key, list_at, row_count, without_key, KeyedLists, Row, Rows}
 
 pub none_is : IsSome {T = Node} None → ⊥

@@ -6,8 +6,7 @@ use Rattle.std.proofs.lemmas.List.{ext_get_or, append_assoc, with_items_is}
 use Rattle.std.specs.Vec.{with_items, vec_len, vec_capacity}
 use Rattle.std.proofs.lemmas.List.FromFn.{length-map-range_with_len, get_or-map-range_with_len}
 use Rattle.slab.specs.Slab.{Slab, get, slab_len}
-use Rattle.timer_links.specs.declared.node.Node.{Node}
-use Rattle.timer_links.specs.declared.ring.Neighbours.{Neighbours}
+use Rattle.timer_links.specs.Types.{Node, Neighbours}
 use Rattle.timer_links.specs.Lists.{LinksState, list_at, row_count, KeyedLists, Rows}
 use Rattle.timer_links.specs.Ring.{neighbours_at, key_of}
 use Rattle.timer_links.specs.Links.{LeadsOver, walk, lists_of, IsLinked, HasRoom, IsReady, nodes_of}

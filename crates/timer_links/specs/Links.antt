@@ -2,9 +2,7 @@
 use Rattle.std.specs.Prelude.{◌≡◌, ℕ, ◌+◌, ◌<◌, ◌≤◌, ◌⊎◌, zero, suc, List, [], ◌∷◌, length, map, Option, Some, None, option_map}
 use Rattle.std.specs.List.{range_with_len}
 use Rattle.slab.specs.Slab.{Slab, get, slab_len, ContainsKey}
-use Rattle.timer_links.specs.declared.node.Node.{Node}
-use Rattle.timer_links.specs.declared.ring.Neighbours.{Neighbours}
-use Rattle.timer_links.specs.declared.ring.TheConstants.{INDEXES}
+use Rattle.timer_links.specs.Types.{Node, Neighbours, INDEXES}
 use Rattle.timer_links.specs.Lists.{list_at, node_at, row_count, KeyedLists, Rows}
 use Rattle.timer_links.specs.Ring.{neighbours_at, key_of, AreJoined}
 

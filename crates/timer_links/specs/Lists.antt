@@ -1,6 +1,6 @@
 -- Lists of nodes, each under its key: all that a layer above knows of `Links`.
-use Rattle.std.specs.Prelude.{◌≡◌, ◌<◌, ℕ, ◌+◌, not, ◌==◌, if◌then◌else◌, List, [], ◌∷◌, ◌++◌, length, map, filter, reverse, Option, Some, None, slice_index_or, slice_set}
-use Rattle.timer_links.specs.declared.node.Node.{Node}
+use Rattle.std.specs.Prelude.{◌≡◌, ◌<◌, ◌≤◌, ℕ, ◌+◌, not, ◌==◌, if◌then◌else◌, List, [], ◌∷◌, ◌++◌, length, map, filter, reverse, Option, Some, None, IsSome, slice_index_or, slice_set}
+use Rattle.timer_links.specs.Types.{Node}
 
 -- a key and the node under it
 abbrev pub Row : Type 0
@@ -135,3 +135,15 @@ AreApart lists =
     (l : ℕ) (front : Rows) (row : Row) (rest : Rows)
     → l < length lists → list_at l lists ≡ front ++ row ∷ rest
     → (node_at row.0 lists ≡ Some row.1) × (map (without_key row.0) lists ≡ slice_set lists l (front ++ rest))
+
+-- Which keys are in use, in the order of their numbers.
+
+-- no key from the first one up to the second is in use
+abbrev pub AreUnused : ℕ → ℕ → KeyedLists → Type 0
+AreUnused from to lists = (key : ℕ) → from ≤ key → key < to → node_at key lists ≡ None
+
+-- the first key in use from this one on, and none exactly if no such key is in use
+abbrev pub IsFirstUsed : ℕ → KeyedLists → Option ℕ → Type 0
+IsFirstUsed from lists None = (key : ℕ) → from ≤ key → node_at key lists ≡ None
+IsFirstUsed from lists (Some found) = (from ≤ found) × IsSome (node_at found lists)
+    × AreUnused from found lists

@@ -1,6 +1,6 @@
 -- The links of each index, what a join changes, and which indexes follow one another: all that `ring` states.
 use Rattle.std.specs.Prelude.{◌≡◌, ◌≢◌, ℕ, ◌-◌, ◌≤◌, nat_lt, ◌==◌, if◌then◌else◌, List, length, Option, Some, None, slice_index_or}
-use Rattle.timer_links.specs.declared.ring.Neighbours.{Neighbours}
+use Rattle.timer_links.specs.Types.{Neighbours}
 
 -- what is at an index, or a default past the end
 abbrev pub neighbours_at : List Neighbours → ℕ → Neighbours

@@ -6,7 +6,7 @@
 //!
 //! It stands for a whole node. So the contracts of `Links` name whole nodes, whatever is kept of them.
 ghost use Rattle.std.specs.Prelude.{◌≡◌, ⊤};
-ghost use Rattle.timer_links.specs.declared.node.Node.{Node};
+ghost use Rattle.timer_links.specs.Types.{Node};
 
 use crate::node::Node;
 use timer_base::Timer;

@@ -10,13 +10,12 @@
 //! The nodes are in a `Slab`, whose keys these are. Their order is kept apart from them, as rings in one
 //! array (`ring`), so that changing a neighbour's link never touches the neighbour's node.
 ghost use Rattle.std.specs.Prelude.{◌≡◌, ◌≢◌, ◌<◌, ◌≤◌, ◌↔◌, ◌+◌, ◌⊎◌, max, IsTrue, Some, None, IfOk, OnOk, OnErr, IfErr, IfSome, IsSome, length, map, [], replicate};
-ghost use Rattle.timer_links.specs.Lists.{node_at, first_key, last_key, with_row, row_count, list_at, without_key, front_moved, appended, PopsFront, AreApart, IsNext, IsPrevious, SetsRounds, SetsNode, MovesBack, IsAloneIn, HasRounds};
-ghost use Rattle.timer_links.specs.Keys.{IsFirstUsed};
+ghost use Rattle.timer_links.specs.Lists.{node_at, first_key, last_key, with_row, row_count, list_at, without_key, front_moved, appended, PopsFront, AreApart, IsNext, IsPrevious, SetsRounds, SetsNode, MovesBack, IsAloneIn, HasRounds, IsFirstUsed};
 ghost use Rattle.std.specs.Vec.{vec_len, vec_capacity};
 ghost use Rattle.slab.specs.Slab.{HasRoomFor, slab_len};
 ghost use Rattle.timer_links.specs.Links.{HasRoom, HasIndex, IsReady};
 ghost use Rattle.timer_links.specs.Ring.{IsGrown};
-ghost use Rattle.timer_links.specs.declared.ring.TheConstants.{INDEXES};
+ghost use Rattle.timer_links.specs.Types.{INDEXES};
 
 use crate::kept::Kept;
 use crate::node::Node;
@@ -457,6 +456,7 @@ impl Links<Node> {
 /// Makes room for one more node and its index. On an error no node and no link changes.
 ///
 /// The keys below `ready` have both, so that it is mostly one comparison.
+#[tactic(auto, using(crate::proofs::Room::fits_one))]
 #[inline(always)]
 fn make_way<N: Kept>(
     nodes: &mut Slab<N>,

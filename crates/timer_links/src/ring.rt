@@ -38,6 +38,11 @@ use timer_base::OutOfMemory;
 /// How many indexes a link can name.
 pub const INDEXES: usize = 4294967296;
 
+/// The number of lists and keys that a link of 32 bits can name, as a literal.
+pub fn the_limit_of_links()
+    ensures { INDEXES ≡ 4294967296 }
+{}
+
 /// The two neighbours of an index. Those of a root are the back and the front of its list.
 #[derive(Clone, Copy)]
 pub struct Neighbours {

@@ -1,9 +1,9 @@
--- Why a call is refused, and the timer that an accepted start adds.
-use Rattle.std.specs.Prelude.{ℕ, ◌≡◌, ◌+◌, ◌-◌, ◌<◌, ◌≤◌, ◌⊎◌, [], length, None, IsSome}
+-- Why a call is refused, and what an accepted start adds.
+use Rattle.std.specs.Prelude.{ℕ, ◌≡◌, ◌+◌, ◌-◌, ◌<◌, ◌≤◌, ◌⊎◌, [], length, max, None, IsSome}
 use Rattle.timer_base.specs.declared.limits.TheConstants.{LAST}
-use Rattle.timer_base.specs.declared.timer.Timer.{Timer}
 use Rattle.timer_base.specs.declared.timer.Handle.{Handle}
-use Rattle.timer_base.specs.WheelState.{held_count, held_at}
+use Rattle.timer_base.specs.declared.timer.Timer.{Timer}
+use Rattle.timer_base.specs.WheelState.{WheelState, held_count, held_at, after_held_start}
 use Rattle.timer_total.specs.TimersState.{TimersState}
 use Rattle.timer_total.specs.declared.fault.StartFault.{StartFault}
 use Rattle.timer_total.specs.declared.fault.StartFault.TheVariants as start
@@ -29,6 +29,17 @@ next_timer interval action s = timer_due (s.wheel.now + interval) action s
 -- how many ticks are left until this one, 0 if it is not after now
 abbrev pub left_until : ℕ → TimersState → ℕ
 left_until deadline s = deadline - s.wheel.now
+
+-- how many ticks are left until this one, and 1 if it is not after now: a passed deadline is accepted exactly
+-- if the next tick is
+abbrev pub interval_until : ℕ → TimersState → ℕ
+interval_until deadline s = max 1 (deadline - s.wheel.now)
+
+-- the next timer is started in a wheel for this tick, or for now if that is later: it is pending until then, or it is
+-- the last of what is due
+abbrev pub after_start_at : ℕ → ℕ → ℕ → WheelState → TimersState → WheelState
+after_start_at place deadline action wheel s =
+    after_held_start place (timer_due (max s.wheel.now deadline) action s) wheel
 
 -- a timer with this interval may be started if memory is available
 abbrev pub IsStartable : ℕ → TimersState → Type 0

@@ -1,5 +1,5 @@
--- What a caller sees of `Timers`, and the state after a start and after ticks.
-use Rattle.std.specs.Prelude.{◌≡◌, ◌≤◌, ℕ, ◌+◌, ◌==◌, if◌then◌else◌}
+-- What a caller sees of `Timers`, and the state after a start, after ticks and after timers are dropped.
+use Rattle.std.specs.Prelude.{◌≡◌, ◌≤◌, ℕ, ◌+◌, ◌==◌, if◌then◌else◌, []}
 use Rattle.timer_base.specs.Counts.{WheelCounts}
 use Rattle.timer_base.specs.declared.timer.Timer.{Timer}
 use Rattle.timer_base.specs.WheelState.{WheelState}
@@ -40,3 +40,14 @@ Counting = WheelState → WheelState → WheelCounts → WheelCounts
 -- the counts after an advance by this many ticks: one by none is no call of the wheel
 abbrev pub counts_of_ticks : Counting → ℕ → Counting
 counts_of_ticks count passed old new counts = if passed == 0 then counts else count old new counts
+
+-- nothing is due
+abbrev pub without_due : WheelState → WheelState
+without_due w = record w { due = [] }
+
+-- no timer is left; the clock and the last serial stay
+abbrev pub after_drop : WheelState → WheelState
+after_drop w = record w {
+  pending = [];
+  due = [];
+}

@@ -3,12 +3,9 @@ ghost use Rattle.std.specs.Prelude.{◌≡◌, ◌+◌, ◌<◌, ◌≤◌, ◌�
 ghost use Rattle.timer_base.specs.declared.limits.TheConstants.{LAST};
 ghost use Rattle.timer_base.specs.WakeUps.{IsQuietUntil, next_deadline};
 ghost use Rattle.timer_base.specs.WheelState.{held_at, first_due, after_start, after_held_start, after_removal, after_reserve, after_tick, after_expiry};
-ghost use Rattle.timer_total.specs.Deadlines.{interval_until, after_start_at};
-ghost use Rattle.timer_total.specs.Refusals.{next_timer, timer_due, left_until, IsAt, IsStartable, IsRoomUsed, WhyNotStarted, WhyNotRestarted, WhyNotTicked, WhyNotAdvanced};
-ghost use Rattle.timer_total.specs.Taken.{IsTakenBy};
-ghost use Rattle.timer_total.specs.Ticks.{IsAdvanced};
-ghost use Rattle.timer_total.specs.TimersState.{with_wheel, with_start, KeepsUnowned};
-ghost use Rattle.timer_total.specs.Drops.{without_due, after_drop};
+ghost use Rattle.timer_total.specs.Refusals.{interval_until, after_start_at, next_timer, timer_due, left_until, IsAt, IsStartable, IsRoomUsed, WhyNotStarted, WhyNotRestarted, WhyNotTicked, WhyNotAdvanced};
+ghost use Rattle.timer_total.specs.Ticks.{IsTakenBy, IsAdvanced};
+ghost use Rattle.timer_total.specs.TimersState.{with_wheel, with_start, KeepsUnowned, without_due, after_drop};
 
 use crate::fault::{AdvanceFault, RestartFault, StartFault};
 use std::marker::Model;
@@ -251,6 +248,7 @@ impl<W: Wheel + Drop> Timers<W> {
 
     /// Removes the timer with exactly this handle, pending or expired and not yet taken, and returns it. If
     /// there is none, nothing changes. The handle is dead then: no timer has it. Does not allocate.
+    #[tactic(auto, using(timer_base::proofs::HeldLaws::held_at_removed))]
     pub fn stop(&mut self, handle: Handle) -> Option<Timer>
         ensures timer { result ≡ held_at handle self.old.wheel }
         ensures stopped { self.new ≡ with_wheel (after_removal handle self.old.wheel) self.old }

@@ -1,6 +1,7 @@
 -- Facts of every member of a list: of two facts a third, of what a function makes of the members, and what passes a test.
-use Rattle.std.proofs.Common.{◌≡◌, List, [], ◌∷◌, map, filter, Bool, true, false, not, refl, ap}
+use Rattle.std.proofs.Common.{◌≡◌, List, [], ◌∷◌, map, filter, Bool, false, not, refl, ap}
 use Rattle.std.specs.List.{AllByRecursion}
+pub use Rattle.timer_base.proofs.OrderLaws.{filter_none, filter_all as filter_each}
 
 pub all-both : {X : Type 0} (P Q R : X → Type 0) (xs : List X) → ((x : X) → P x → Q x → R x) → AllByRecursion P xs → AllByRecursion Q xs
     → AllByRecursion R xs
@@ -14,14 +15,6 @@ all-map f P (x ∷ xs) a = (a.0, all-map f P xs a.1)
 pub all-of_map : {X Y : Type 0} (f : X → Y) (P : Y → Type 0) (xs : List X) → AllByRecursion P (map f xs) → AllByRecursion (λ x. P (f x)) xs
 all-of_map f P [] a = tt
 all-of_map f P (x ∷ xs) a = (a.0, all-of_map f P xs a.1)
-
-pub filter_none : {X : Type 0} (p : X → Bool) (xs : List X) → AllByRecursion (λ x. p x ≡ false) xs → filter p xs ≡ []
-filter_none p [] a = refl
-filter_none p (x ∷ xs) a = rw a.0 (filter_none p xs a.1)
-
-pub filter_each : {X : Type 0} (p : X → Bool) (xs : List X) → AllByRecursion (λ x. p x ≡ true) xs → filter p xs ≡ xs
-filter_each p [] a = refl
-filter_each p (x ∷ xs) a = rw a.0 (ap (λ rest. x ∷ rest) (filter_each p xs a.1))
 
 pub filter_rest : {X : Type 0} (p : X → Bool) (xs : List X) → AllByRecursion (λ x. p x ≡ false) xs → filter (λ x. not (p x)) xs ≡ xs
 filter_rest p [] a = refl

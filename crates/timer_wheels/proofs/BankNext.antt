@@ -1,7 +1,7 @@
 -- Lemmas for `Bank`: how its calls change the next buckets, and the potential of its timers.
-use Rattle.std.proofs.Common.{◌≡◌, ◌<◌, ◌≤◌, ◌+◌, ◌-◌, ◌*◌, ◌%◌, ℕ, List, [], ◌∷◌, ◌++◌, length, refl, sym, ◌∙◌, ap, inl, inr, subst, arith, get_or-set_same, get_or-set_other, map, filter, not, ◌==◌, Bool, true, false}
+use Rattle.std.proofs.Common.{◌≡◌, ◌<◌, ◌≤◌, ◌+◌, ◌-◌, ◌*◌, ◌%◌, ℕ, List, [], ◌∷◌, ◌++◌, length, refl, sym, ◌∙◌, ap, inl, inr, subst, arith, get_or-set_same, get_or-set_other, map, not, ◌==◌, true, false}
 use Rattle.std.proofs.lemmas.Bool.{eqb-true, eq-eqb}
-use Rattle.timer_base.proofs.Basics.{either}
+use Rattle.timer_base.proofs.Basics.{filter_no_longer}
 use Rattle.timer_base.specs.declared.timer.Timer.{Timer}
 use Rattle.timer_links.specs.Lists.{list_at, with_row, without_key, KeyedLists, Row, Rows}
 use Rattle.timer_links.specs.declared.kept.Kept.{Ghosts}
@@ -187,17 +187,9 @@ module _ {N : Type 0} {kept : Ghosts N} (t : Table) (b : Buckets N kept) (words 
           omega (arith, potential_comes of);
     }
 
--- a filter makes no list longer
-filter_shorter : (p : Row → Bool) (rows : Rows) → length (filter p rows) ≤ length rows
-filter_shorter p [] = omega arith
-filter_shorter p (x ∷ xs) = elim (either (p x)) [
-  | inl k ↦ rw k (let h = filter_shorter p xs in omega arith)
-  | inr k ↦ rw k (let h = filter_shorter p xs in omega arith)
-]
-
 pub without_shorter : (key s : ℕ) (lists : KeyedLists) → length (list_at s (map (without_key key) lists)) ≤ length (list_at s lists)
 without_shorter key s lists = omega (
   arith,
   ap (λ (r : Rows). length r) (list_at-without_key s key lists),
-  filter_shorter (λ row. not (row.0 == key)) (list_at s lists),
+  filter_no_longer (λ row. not (row.0 == key)) (list_at s lists),
 )

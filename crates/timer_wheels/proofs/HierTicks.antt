@@ -5,7 +5,7 @@ use Rattle.std.proofs.lemmas.Bool.{cases_eq, cases_lt, eq-eqb, ne_eqb, eqb-true}
 use Rattle.std.proofs.lemmas.Bool.Decides.{nat_tests}
 use Rattle.timer_base.proofs.Basics.{is_not_due, is_due, not_due_before, either}
 use Rattle.timer_base.specs.Order.{AreRising, in_order, insert_in_order, is_before}
-use Rattle.timer_base.proofs.OrderLaws.{map-in_order, in_order-same, AllAt, All-filter, All-weaken, All-in_order}
+use Rattle.timer_base.proofs.OrderLaws.{map-in_order, in_order-same, AllAt, All-filter, All-weaken, All-in_order, filter_same}
 use Rattle.timer_base.specs.Pending.{Entry, timer_of, is_due_at, entries_due, entries_left}
 use Rattle.timer_base.specs.WheelState.{IsPending, after_tick}
 use Rattle.timer_links.specs.Lists.{list_at, KeyedLists, Row, Rows}
@@ -100,13 +100,6 @@ last_test : (table : List ℕ) (a m : ℕ) (row : Row) → m ≤ slots table →
     → (target table (a + 1) row == slots table) ≡ is_due_at (a + 1) (timer_in row)
 last_test table a m row h (inl d) = eq-eqb (target table (a + 1) row) (slots table) d.to ∙ sym d.due
 last_test table a m row h (inr g) = ne_eqb (target table (a + 1) row) (slots table) (λ e. omega (arith, g.to)) ∙ sym g.not_due
-
-filter_alike : (p q : Row → Bool) (xs : Rows) → AllByRecursion (λ x. p x ≡ q x) xs → filter p xs ≡ filter q xs
-filter_alike p q [] e = refl
-filter_alike p q (x ∷ xs) e = elim (either (q x)) [
-  | inl k ↦ rw (e.0, k) (ap (λ (r : Rows). x ∷ r) (filter_alike p q xs e.1))
-  | inr k ↦ rw (e.0, k) (filter_alike p q xs e.1)
-]
 
 all_due_at : (tick : ℕ) (xs : Rows) → AllAt tick (timers_in (due_rows tick xs))
 all_due_at tick [] = tt
@@ -296,7 +289,7 @@ module _ {table : List ℕ} {last_tick a last_serial : ℕ} {lists : KeyedLists}
   due_list = list_at-after (slots table) (omega arith)
       ∙ (ap (λ (r : Rows). r ++ to_list table (a + 1) (slots table) rows_l)
       (list_at-base (slots table) (λ e. omega (arith, l_in_range)) ∙ b.none_due)
-      ∙ filter_alike (λ row. target table (a + 1) row == slots table) (λ row. is_due_at (a + 1) (timer_in row)) rows_l
+      ∙ filter_same (λ row. target table (a + 1) row == slots table) (λ row. is_due_at (a + 1) (timer_in row)) rows_l
       (all_leaving (λ row. (target table (a + 1) row == slots table) ≡ is_due_at (a + 1) (timer_in row))
       (λ row. last_test table a m row (omega (arith, l_in_range, not_below_m)))))
 

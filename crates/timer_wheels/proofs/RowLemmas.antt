@@ -8,15 +8,12 @@ use Rattle.timer_base.proofs.Basics.{either}
 use Rattle.timer_base.specs.declared.timer.Timer.{Timer}
 use Rattle.timer_base.specs.Order.{AreBelow, AreDistinct, IsNotAmong}
 use Rattle.timer_base.proofs.OrderLaws.{All-weaken}
+pub use Rattle.timer_base.proofs.OrderLaws.{All-append as all-append}
 use Rattle.timer_base.specs.Pending.{Entry}
 use Rattle.timer_links.specs.Lists.{list_at, with_row, without_key, KeyedLists, Row, Rows}
 use Rattle.timer_wheels.specs.BucketLists.{timer_in, timers_in, entry_of, entries_of, rows_below}
 
 -- Facts of every row.
-
-pub all-append : {X : Type 0} (P : X → Type 0) (xs ys : List X) → AllByRecursion P xs → AllByRecursion P ys → AllByRecursion P (xs ++ ys)
-all-append P [] ys a b = b
-all-append P (x ∷ xs) ys a b = (a.0, all-append P xs ys a.1 b)
 
 pub all-front : {X : Type 0} (P : X → Type 0) (xs ys : List X) → AllByRecursion P (xs ++ ys) → AllByRecursion P xs
 all-front P [] ys a = tt

@@ -1,4 +1,4 @@
-use Rattle.timer_total.specs.Deadlines.{interval_until}
+use Rattle.timer_total.specs.Refusals.{interval_until}
 use Rattle.timer_c.proofs.Statuses.{start_refused}
 use Rattle.timer_c.proofs.calls.start_at.Goals as goal
 

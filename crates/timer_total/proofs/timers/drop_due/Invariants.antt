@@ -1,5 +1,5 @@
 use Rattle.std.proofs.Common.{◌≡◌, length}
-use Rattle.timer_total.specs.Drops.{without_due}
+use Rattle.timer_total.specs.TimersState.{without_due}
 use Rattle.timer_total.proofs.timers.drop_due.Given as goal
 
 -- but for what is due, the wheel is as it was

@@ -4,7 +4,8 @@ use Rattle.timer_base.specs.Order.{in_order, itself}
 use Rattle.timer_base.specs.PlainState.{is_after, is_since}
 use Rattle.timer_base.specs.WellFormed.{timers_of-at_first_place}
 use Rattle.timer_base.proofs.OrderLaws.{AreDistinct-rising, AreRising-filter}
-use Rattle.timer_base.proofs.PlainNewest.{fewer, copied_is, since_in_order}
+use Rattle.timer_base.proofs.Basics.{filter_no_longer}
+use Rattle.timer_base.proofs.PlainNewest.{copied_is, since_in_order}
 use Rattle.timer_base.proofs.plain.PlainWheel.list_since.Goals as goal
 
 pub copy_pending-requires : goal.copy_pending-requires
@@ -14,7 +15,7 @@ copy_pending-requires c =
     let newest = take (length timers - first) (drop first timers) in
     let none : length c.in_ok-listed.listed.items ≡ 0 = ap (λ ts. length ts) c.in_ok-listed.ensures.items in
     let many : length newest ≡ length timers - first = ap (λ ts. length ts) (take_rest timers first) ∙ length-drop first timers in
-    omega (arith, many, fewer (is_after c.args.self.now.now) newest, c.in_ok-listed.ensures.capacity)
+    omega (arith, many, filter_no_longer (is_after c.args.self.now.now) newest, c.in_ok-listed.ensures.capacity)
 
 pub sort_timers-requires : goal.sort_timers-requires
 sort_timers-requires c =

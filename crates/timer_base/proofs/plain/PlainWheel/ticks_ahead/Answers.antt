@@ -1,8 +1,7 @@
 use Rattle.std.proofs.Common.{◌≡◌, sym, ◌∙◌, Some, None}
 use Rattle.timer_base.specs.PlainState.{first_after}
-use Rattle.timer_base.proofs.PlainJumps.{jump-none, jump-some}
+use Rattle.timer_base.proofs.PlainJumps.{jump-none, jump-some, first_is_next}
 use Rattle.timer_base.proofs.PlainSteps.{all_after, none_of_them}
-use Rattle.timer_base.proofs.PlainWakeUps.{first_is_next}
 use Rattle.timer_base.proofs.plain.PlainWheel.ticks_ahead.Goals as goal
 
 pub returns-in-Some : goal.returns-in-Some

@@ -2,7 +2,7 @@ use Rattle.std.proofs.Common.{◌≡◌, ℕ, sym, ◌∙◌, ap, subst, Option}
 use Rattle.timer_base.specs.PlainState.{first_after, plain_state}
 use Rattle.timer_base.specs.WellFormed.{plain_state-well_formed}
 use Rattle.timer_base.specs.WakeUps.{IsQuietUntil, next_deadline}
-use Rattle.timer_base.proofs.PlainWakeUps.{first_is_next, quiet_until_next}
+use Rattle.timer_base.proofs.PlainJumps.{first_is_next, quiet_until_next}
 use Rattle.timer_base.proofs.plain.PlainWheelWheel.quiet_until.Goals as goal
 
 pub returns-clause-exact : goal.returns-clause-exact

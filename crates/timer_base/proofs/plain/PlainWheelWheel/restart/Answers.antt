@@ -1,5 +1,5 @@
 use Rattle.std.proofs.Common.{◌<◌, List, length, sym, ◌∙◌, ap, subst}
-use Rattle.timer_base.specs.declared.timer.Timer.{Timer}
+use Rattle.timer_base.specs.Types.{Timer}
 use Rattle.timer_base.proofs.HeldLaws.{with_room-held_start}
 use Rattle.timer_base.proofs.OrderLaws.{AreRising-filter}
 use Rattle.timer_base.specs.PlainState.{due_count, plain_state}

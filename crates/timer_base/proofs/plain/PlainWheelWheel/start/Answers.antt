@@ -3,7 +3,7 @@ use Rattle.std.proofs.lemmas.Bool.{eq-eqb, ne_eqb}
 use Rattle.timer_base.proofs.HeldLaws.{with_room-held_start}
 use Rattle.timer_base.specs.PlainState.{due_count, plain_state}
 use Rattle.timer_base.specs.WheelState.{with_room}
-use Rattle.timer_base.proofs.PlainSteps.{held_count-all, plain_state-after_held_start, kept-after_start, rising-after_start, due_count-after_start, due_count-le}
+use Rattle.timer_base.proofs.PlainSteps.{held_count-all, plain_state-after_held_start, kept-after_start, rising-after_start, due_count-after_start, due_count_le}
 use Rattle.timer_base.proofs.plain.PlainWheelWheel.start.Goals as goal
 
 counts : (c : goal.After-from) → c.args.self.now.due + c.from.result ≡ due_count c.args.self.now.now c.push.new.self.items
@@ -19,7 +19,7 @@ overflow_add-self c =
     let s = c.args.self.now in
     let kept = kept-after_start s.now s.last_serial s.timers.items c.args.timer s.kept c.requires.fresh c.requires.not_past
     c.requires.deadline in
-    let due = due_count-le s.now c.args.timer.serial c.push.new.self.items (rw c.in-Ok.ensures.items kept) in
+    let due = due_count_le s.now c.args.timer.serial c.push.new.self.items (rw c.in-Ok.ensures.items kept) in
     let v = c.push.new.self in
     omega (arith, counts c, due, v.ok.0, v.ok.1, v.small)
 

@@ -2,7 +2,7 @@ use Rattle.std.proofs.Common.{ℕ, ◌∙◌, ap}
 use Rattle.std.specs.Prelude.{nat_lt}
 use Rattle.timer_facility.specs.Facility.{FacilityView}
 use Rattle.timer_facility.specs.Handles.{is_pending}
-use Rattle.timer_facility.proofs.HeldTimers.{pending_by_deadline}
+use Rattle.timer_facility.proofs.TimerLists.{pending_by_deadline}
 use Rattle.timer_facility.proofs.facility.Facility.is_pending.Goals as goal
 
 pub returns-in-Some : goal.returns-in-Some

@@ -4,8 +4,7 @@ use Rattle.timer_facility.specs.declared.event.Out.TheVariants as Outs
 use Rattle.timer_facility.specs.State.{FacilityState, Close}
 use Rattle.timer_facility.specs.Step.{step}
 use Rattle.timer_facility.specs.Played.{AddsRun}
-use Rattle.timer_facility.proofs.PlayedClose.{length-closed, outs-closed, outs-close_refused, state-close_refused}
-use Rattle.timer_facility.proofs.PlayedLemmas.{AddsRun-step}
+use Rattle.timer_facility.proofs.PlayedLemmas.{AddsRun-step, length-closed, outs-closed, outs-close_refused, state-close_refused}
 use Rattle.timer_facility.proofs.player.Player.play_close.Goals as goal
 
 pub hand_out-requires : goal.hand_out-requires

@@ -3,8 +3,7 @@ use Rattle.timer_facility.specs.declared.event.Event.TheVariants as Events
 use Rattle.timer_facility.specs.declared.event.Out.TheVariants as Outs
 use Rattle.timer_facility.specs.State.{FacilityState, Close}
 use Rattle.timer_facility.specs.Played.{AddsRun}
-use Rattle.timer_facility.proofs.PlayedClose.{outs-close_refused, state-close_refused}
-use Rattle.timer_facility.proofs.PlayedLemmas.{AddsRun-step}
+use Rattle.timer_facility.proofs.PlayedLemmas.{AddsRun-step, outs-close_refused, state-close_refused}
 use Rattle.timer_facility.proofs.player.Player.refused_close.Goals as goal
 
 pub returns-then-is_closed : goal.returns-then-is_closed

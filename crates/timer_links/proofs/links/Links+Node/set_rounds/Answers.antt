@@ -1,5 +1,5 @@
 use Rattle.std.proofs.Common.{◌∙◌, ◌++◌, ◌∷◌, ap, refl, arith, slice_set}
-use Rattle.timer_links.specs.declared.node.Node.{Node}
+use Rattle.timer_links.specs.Types.{Node}
 use Rattle.timer_links.proofs.UniqueLists.{opened, lists_are, stands}
 use Rattle.timer_links.proofs.Room.{room_stays, ready_kept}
 use Rattle.timer_links.proofs.KeptNodes.{kept_at, linked_set}

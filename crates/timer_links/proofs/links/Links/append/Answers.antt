@@ -1,6 +1,6 @@
 use Rattle.std.proofs.Common.{◌∙◌, ap, sym, refl}
 use Rattle.std.specs.Vec.{with_items}
-use Rattle.timer_links.specs.declared.ring.Neighbours.{Neighbours}
+use Rattle.timer_links.specs.Types.{Neighbours}
 use Rattle.timer_links.specs.Lists.{appended}
 use Rattle.timer_links.specs.Links.{nodes_of}
 use Rattle.timer_links.proofs.UniqueLists.{opened, Stands, written}

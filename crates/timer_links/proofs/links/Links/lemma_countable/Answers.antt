@@ -1,5 +1,5 @@
 use Rattle.std.proofs.Common.{arith}
-use Rattle.timer_links.specs.declared.ring.TheConstants.{INDEXES}
+use Rattle.timer_links.specs.Types.{INDEXES}
 use Rattle.timer_links.specs.Links.{nodes_of}
 use Rattle.timer_links.proofs.Room.{few_values}
 use Rattle.timer_links.proofs.UniqueLists.{opened}

@@ -1,6 +1,6 @@
 use Rattle.std.proofs.Common.{◌≡◌, ℕ, ◌∙◌, refl, sym, subst, Option, Some}
 use Rattle.std.specs.Vec.{with_items}
-use Rattle.timer_links.specs.declared.node.Node.{Node}
+use Rattle.timer_links.specs.Types.{Node}
 use Rattle.timer_links.specs.Lists.{node_at, moved_back, IsAloneIn}
 use Rattle.timer_links.specs.Links.{nodes_of}
 use Rattle.timer_links.proofs.UniqueLists.{opened, Stands, written}

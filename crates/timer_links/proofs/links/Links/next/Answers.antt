@@ -1,6 +1,6 @@
 use Rattle.std.proofs.Common.{◌∙◌, ap, refl}
 use Rattle.timer_links.specs.Ring.{key_of}
-use Rattle.timer_links.specs.declared.ring.Neighbours.{Neighbours}
+use Rattle.timer_links.specs.Types.{Neighbours}
 use Rattle.timer_links.proofs.UniqueLists.{opened}
 use Rattle.timer_links.proofs.LinksCalls.{used, next_key, read_node}
 use Rattle.timer_links.proofs.links.Links.next.Goals as goal

@@ -1,8 +1,7 @@
 use Rattle.std.proofs.Common.{◌≡◌, ◌∷◌, ◌∙◌, sym, ap, map, None}
 use Rattle.std.specs.Vec.{with_items}
 use Rattle.timer_base.proofs.Basics.{some_same}
-use Rattle.timer_links.specs.declared.node.Node.{Node}
-use Rattle.timer_links.specs.declared.ring.Neighbours.{Neighbours}
+use Rattle.timer_links.specs.Types.{Node, Neighbours}
 use Rattle.timer_links.specs.Lists.{without_key}
 use Rattle.timer_links.specs.Links.{nodes_of}
 use Rattle.timer_links.proofs.UniqueLists.{opened, Stands, written}

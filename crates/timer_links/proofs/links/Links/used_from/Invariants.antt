@@ -1,4 +1,4 @@
-use Rattle.timer_links.specs.Keys.{AreUnused}
+use Rattle.timer_links.specs.Lists.{AreUnused}
 use Rattle.timer_links.proofs.links.Links.used_from.Given as goal
 
 abbrev pub invariant-loop-key : goal.invariant-loop-key

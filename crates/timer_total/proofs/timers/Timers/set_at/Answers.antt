@@ -4,8 +4,7 @@ use Rattle.timer_base.proofs.HeldLaws.{none_removed}
 use Rattle.timer_base.specs.WheelState.{WheelState, held_at}
 use Rattle.timer_total.specs.declared.fault.RestartFault.{RestartFault}
 use Rattle.timer_total.specs.declared.fault.RestartFault.TheVariants.{NotPending, ZeroInterval, TooLate, SerialsSpent}
-use Rattle.timer_total.specs.Deadlines.{interval_until, after_start_at}
-use Rattle.timer_total.specs.Refusals.{WhyNotRestarted}
+use Rattle.timer_total.specs.Refusals.{interval_until, after_start_at, WhyNotRestarted}
 use Rattle.timer_total.specs.TimersState.{TimersState, with_start}
 use Rattle.timer_total.proofs.timers.Timers.set_at.Goals as goal
 

@@ -1,7 +1,7 @@
 use Rattle.std.proofs.Common.{rules}
 use Rattle.std.proofs.lemmas.List.Sorted.{answers_always}
-use Rattle.timer_base.proofs.SortedTimers.{key_of, sorted_in_order}
-use Rattle.timer_base.proofs.sort.sort_timers.Goals as goal
+use Rattle.timer_base.proofs.OneOrder.{key_of, sorted_in_order}
+use Rattle.timer_base.proofs.order.sort_timers.Goals as goal
 
 pub returns-clause-order : goal.returns-clause-order
 returns-clause-order c =
