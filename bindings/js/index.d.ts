@@ -63,6 +63,8 @@ export interface Timer<T> {
 export class Timers<T = unknown> {
   /** @param first the tick at which the clock begins, by default 0 */
   constructor(first?: number);
+  [Symbol.dispose](): void;
+  // made by tools/facts: calls in JavaScript
   /** Starts a timer that expires so many ticks after `now`, 1 or more. */
   start(interval: number, value: T): Handle;
   /** Starts a timer that expires at this tick. One that is not after `now` has expired, and waits to be taken. */
@@ -97,5 +99,4 @@ export class Timers<T = unknown> {
   clear(): void;
   /** Frees the memory, values too. Later calls are refused with NOT_OPEN, or find nothing. */
   free(): void;
-  [Symbol.dispose](): void;
 }

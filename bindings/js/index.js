@@ -114,76 +114,110 @@ export class Timers {
     forgotten.register(this, at, this);
   }
 
+  /** Starts a timer that expires so many ticks after `now`, 1 or more.
+   * @type {(interval: number, value: T) => Handle} */
   start(interval, value) {
     const ticks = this.#interval(interval);
     return this.#own(value, (slot) => c.timers_start(this.#at, ticks, slot, made));
   }
+  /** Starts a timer that expires at this tick. One that is not after `now` has expired, and waits to be taken.
+   * @type {(deadline: number, value: T) => Handle} */
   startAt(deadline, value) {
     const tick = whole(deadline, "the deadline");
     return this.#own(value, (slot) => c.timers_start_at(this.#at, tick, slot, made));
   }
+  /** Stops the timer, and starts another in its place. Without a value it has the same. The old handle is dead.
+   * @type {(handle: Handle, interval: number, value?: T) => Handle} */
   restart(handle, interval, ...value) {
     const ticks = this.#interval(interval);
     return this.#keep(handle, value, (slot) => c.timers_restart(this.#at, given, ticks, slot, made));
   }
+  /** @type {(handle: Handle, deadline: number, value?: T) => Handle} */
   restartAt(handle, deadline, ...value) {
     const tick = whole(deadline, "the deadline");
     return this.#keep(handle, value, (slot) => c.timers_restart_at(this.#at, given, tick, slot, made));
   }
+  /** Restarts the timer with this handle, or starts one if there is none.
+   * @type {(handle: Handle | null | undefined, deadline: number, value: T) => Handle} */
   setAt(handle, deadline, value) {
     if (handle != null && this.has(handle)) return this.restartAt(handle, deadline, value);
     return this.startAt(deadline, value);
   }
+  /** Stops the timer, and returns its value.
+   * @type {(handle: Handle) => T} */
   stop(handle) {
     store_handle(handle);
     check(c.timers_stop(this.#at, given, made));
     return this.#release(load(made));
   }
 
+  /** Whether a timer, pending or expired and not yet taken, has this handle.
+   * @type {(handle: Handle) => boolean} */
   has(handle) {
     store_handle(handle);
     return c.timers_look(this.#at, given, expired) === Status.OK;
   }
+  /** @type {(handle: Handle) => Timer<T>} */
   look(handle) {
     store_handle(handle);
     check(c.timers_look(this.#at, given, expired));
     return { deadline: load(expired), serial: load(expired + 8), value: this.#values[load(expired + 16)] };
   }
 
+  /** Takes the next timer that is due by this tick, by default `now`, and passes the ticks up to its deadline.
+   * @type {(tick?: number) => Timer<T> | undefined} */
   take(tick = this.now) {
     if (!c.timers_take(this.#at, whole(tick, "the tick"), expired)) return undefined;
     return { deadline: load(expired), serial: load(expired + 8), value: this.#release(load(expired + 16)) };
   }
+  /** Takes all that are due by this tick, one by one. What one of them stops does not come out.
+   * @type {(tick?: number) => Generator<Timer<T>, void, undefined>} */
   *expired(tick = this.now) {
     for (let timer = this.take(tick); timer; timer = this.take(tick)) yield timer;
   }
+  /** Passes ticks up to this one, or to the first at which a timer expires. Returns the present tick.
+   * @type {(tick: number) => number} */
   advanceTo(tick) {
     check(c.timers_advance_to(this.#at, whole(tick, "the tick")));
     return this.now;
   }
 
+  /** The present tick, to which the clock was advanced last.
+   * @type {number} */
   get now() {
     return tick_of(c.timers_now(this.#at));
   }
+  /** How many timers are pending. Expired ones that wait to be taken don't count.
+   * @type {number} */
   get length() {
     return c.timers_len(this.#at) >>> 0;
   }
+  /** A tick before which nothing expires, in constant time. Infinity if no timer is held.
+   * @type {() => number} */
   wakeup() {
     return tick_of(c.timers_wakeup(this.#at));
   }
+  /** The next deadline, or `now` if an expired timer waits. Infinity if no timer is held.
+   * @type {() => number} */
   next() {
     return tick_of(c.timers_find_next(this.#at));
   }
 
+  /** Makes room for so many timers: starts then don't run out of memory.
+   * @type {(most: number) => void} */
   reserve(most) {
     whole(most, "the number of timers");
     check(most < HIGH ? c.timers_reserve(this.#at, most) : this.#at === closed ? Status.NOT_OPEN : Status.NO_MEMORY);
   }
+  /** Drops all timers and their values.
+   * @type {() => void} */
   clear() {
     c.timers_clear(this.#at);
     this.#values = [];
     this.#spare = [];
   }
+  /** Frees the memory, values too. Later calls are refused with NOT_OPEN, or find nothing.
+   * @type {() => void} */
   free() {
     if (this.#at === closed) return;
     forgotten.unregister(this);

@@ -644,34 +644,34 @@ static PyType_Spec iterator_spec = {
 /* The type */
 
 static PyMethodDef timers_methods[] = {
-	{ "start", FAST(timers_object_start),
+	{ "start", FAST(timers_object_start), /* -> Handle */
 	  "start($self, interval, action, /)\n--\n\n"
 	  "Starts a timer that expires after `interval` ticks, 1 or more, and returns its handle.\n\n"
 	  "The interval counts from now(), the tick to which the clock was advanced last. If that may be\n"
 	  "behind the real time, give start_at the tick that is meant." },
-	{ "start_at", FAST(timers_object_start_at),
+	{ "start_at", FAST(timers_object_start_at), /* -> Handle */
 	  "start_at($self, deadline, action, /)\n--\n\n"
 	  "Starts a timer that expires at this tick, and returns its handle.\n\n"
 	  "One that is not after now() is due at once: it is taken after those that have expired already." },
-	{ "restart", FAST(timers_object_restart),
+	{ "restart", FAST(timers_object_restart), /* -> Handle */
 	  "restart($self, handle, interval, action=..., /)\n--\n\n"
 	  "Stops the timer with this handle, starts another in its place, and returns the new handle.\n\n"
 	  "The old handle names no timer any more. Without an action the new timer has that of the old one." },
-	{ "restart_at", FAST(timers_object_restart_at),
+	{ "restart_at", FAST(timers_object_restart_at), /* -> Handle */
 	  "restart_at($self, handle, deadline, action=..., /)\n--\n\n"
 	  "The same as restart, for a timer that expires at this tick, or at once, as by start_at." },
-	{ "set_at", FAST(timers_object_set_at),
+	{ "set_at", FAST(timers_object_set_at), /* -> Handle */
 	  "set_at($self, handle, deadline, action, /)\n--\n\n"
 	  "Restarts the timer with this handle for this tick, or starts one if there is none. Returns its handle.\n\n"
 	  "Before the first start the handle is None, which names no timer. The old handle names none any more." },
-	{ "stop", timers_object_stop, METH_O,
+	{ "stop", timers_object_stop, METH_O, /* -> _T */
 	  "stop($self, handle, /)\n--\n\n"
 	  "Stops the timer with this handle, pending or expired, and returns its action.\n\n"
 	  "Refused (NOT_PENDING) if the handle is dead or None: also restart, restart_at and look are." },
-	{ "look", timers_object_look, METH_O,
+	{ "look", timers_object_look, METH_O, /* -> tuple[int, int, _T] */
 	  "look($self, handle, /)\n--\n\n"
 	  "The timer with this handle, pending or expired, as (deadline, serial, action)." },
-	{ "take", timers_object_take, METH_O,
+	{ "take", timers_object_take, METH_O, /* -> tuple[int, int, _T] | None */
 	  "take($self, tick, /)\n--\n\n"
 	  "Takes the next timer that is due by this tick, and passes the ticks up to its deadline.\n\n"
 	  "Returns it as (deadline, serial, action), or None. After None the ticks up to `tick` have passed, as far\n"
@@ -679,65 +679,65 @@ static PyMethodDef timers_methods[] = {
 	  "before now() is none to pass.\n\n"
 	  "Don't take by LAST to get what is left. The clock is at its end then, and each later start is refused\n"
 	  "(TOO_LATE), also after clear. An iteration has all timers, and passes no tick." },
-	{ "catch_up", FAST(timers_object_catch_up),
+	{ "catch_up", FAST(timers_object_catch_up), /* -> None */
 	  "catch_up($self, now, run=None, /)\n--\n\n"
 	  "Passes the ticks up to `now`, and calls run(deadline, serial, action) for each timer on the way.\n\n"
 	  "Without `run` it calls action(). The timers are taken one at a time: what one of them stops does not come\n"
 	  "out. If a call raises, that timer is taken, and a further catch_up continues. It returns only once nothing\n"
 	  "is due: work that always starts a timer which is due at once keeps it from returning. With a tick before\n"
 	  "now() it does nothing. One after the last tick is refused (TOO_LATE), and nothing was run then." },
-	{ "expire", timers_object_expire, METH_NOARGS,
+	{ "expire", timers_object_expire, METH_NOARGS, /* -> tuple[int, int, _T] | None */
 	  "expire($self, /)\n--\n\n"
 	  "Takes the first of the expired timers, and returns it as (deadline, serial, action), or None." },
-	{ "expired", timers_object_expired, METH_NOARGS,
+	{ "expired", timers_object_expired, METH_NOARGS, /* -> list[tuple[int, int, _T]] */
 	  "expired($self, /)\n--\n\n"
 	  "Takes all that expired, and returns it as a list of (deadline, serial, action)." },
-	{ "advance", timers_object_advance, METH_O,
+	{ "advance", timers_object_advance, METH_O, /* -> list[tuple[int, int, _T]] */
 	  "advance($self, most, /)\n--\n\n"
 	  "Passes this many ticks, and returns what expired on the way as a list of (deadline, serial, action).\n\n"
 	  "These are taken, and can't be stopped any more. It passes fewer ticks if the clock comes to its last\n"
 	  "one. There it is refused (CLOCK_END) if nothing was left to take, unless `most` is 0." },
-	{ "advance_to", timers_object_advance_to, METH_O,
+	{ "advance_to", timers_object_advance_to, METH_O, /* -> None */
 	  "advance_to($self, tick, /)\n--\n\n"
 	  "Passes the ticks up to this one, or up to the first at which a timer expires.\n\n"
 	  "What expires waits to be taken. A tick that is not after now() is none to pass." },
-	{ "tick", timers_object_tick, METH_NOARGS,
+	{ "tick", timers_object_tick, METH_NOARGS, /* -> None */
 	  "tick($self, /)\n--\n\n"
 	  "Passes one tick. What expires then waits to be taken." },
-	{ "clear", timers_object_clear_all, METH_NOARGS,
+	{ "clear", timers_object_clear_all, METH_NOARGS, /* -> None */
 	  "clear($self, /)\n--\n\n"
 	  "Drops all timers, pending and expired. Their actions are released. The clock stays as it is." },
-	{ "reserve", timers_object_reserve, METH_O,
+	{ "reserve", timers_object_reserve, METH_O, /* -> None */
 	  "reserve($self, most, /)\n--\n\n"
 	  "Makes room for this many timers at once: the wheels allocate nothing while fewer are held." },
-	{ "pending", timers_object_pending, METH_NOARGS,
+	{ "pending", timers_object_pending, METH_NOARGS, /* -> int */
 	  "pending($self, /)\n--\n\n"
 	  "How many timers are pending: those that are held, but for the expired ones that wait to be taken." },
-	{ "has_due", timers_object_has_due, METH_NOARGS,
+	{ "has_due", timers_object_has_due, METH_NOARGS, /* -> bool */
 	  "has_due($self, /)\n--\n\n"
 	  "Whether an expired timer was not yet taken." },
-	{ "now", timers_object_now, METH_NOARGS,
+	{ "now", timers_object_now, METH_NOARGS, /* -> int */
 	  "now($self, /)\n--\n\n"
 	  "The present tick." },
-	{ "wakeup", timers_object_wakeup, METH_NOARGS,
+	{ "wakeup", timers_object_wakeup, METH_NOARGS, /* -> int | None */
 	  "wakeup($self, /)\n--\n\n"
 	  "A tick until which nothing expires, at most the next deadline, or None if no timer is held.\n\n"
 	  "For a loop that sleeps. Constant time. At that tick maybe nothing has expired: then ask again." },
-	{ "next", timers_object_next, METH_NOARGS,
+	{ "next", timers_object_next, METH_NOARGS, /* -> int | None */
 	  "next($self, /)\n--\n\n"
 	  "The deadline of the timer that is taken next, exactly, or None if no timer is held.\n\n"
 	  "For a single look: it may walk the timers of a bucket, each time." },
-	{ "find_next", timers_object_find_next, METH_NOARGS,
+	{ "find_next", timers_object_find_next, METH_NOARGS, /* -> int | None */
 	  "find_next($self, /)\n--\n\n"
 	  "The same as next. What it found is kept for later calls, for a loop that asks in each turn." },
-	{ "move_ahead", timers_object_move_ahead, METH_O,
+	{ "move_ahead", timers_object_move_ahead, METH_O, /* -> int */
 	  "move_ahead($self, most, /)\n--\n\n"
 	  "Makes at most so many moves of later ticks now, and returns how many: with the table SMOOTH, for a loop with\n"
 	  "time to spare. If it returns fewer, none is left for now. With another table there are none." },
-	{ "counts", timers_object_counts, METH_NOARGS,
+	{ "counts", timers_object_counts, METH_NOARGS, /* -> tuple[int, int, int] */
 	  "counts($self, /)\n--\n\n"
 	  "What the wheels did since they were made, as (starts, moves, visits)." },
-	{ "close", timers_object_close, METH_NOARGS,
+	{ "close", timers_object_close, METH_NOARGS, /* -> None */
 	  "close($self, /)\n--\n\n"
 	  "Frees all timers, and releases their actions.\n\n"
 	  "From then on each call that starts, stops, looks up or takes timers or passes ticks is refused (NOT_OPEN),\n"

@@ -15,10 +15,9 @@ use Rattle.timer_wheels.specs.Digits.{IsTable, HasDigits, radix, level}
 use Rattle.timer_wheels.specs.Migration.{first_deadline}
 use Rattle.timer_wheels.specs.Occupied.{bit_of, filled, AreMarked}
 use Rattle.timer_wheels.specs.Smooth.{slot_in, smooth_list, smooth_slots, next_list, heights, ticks_left, moved_to, mark, smooth_bucket, smooth_level, descend, descend_by, HasTurns, IsByLaw, IsSmooth, Stands, IsStep, IsTicked, stepped}
-use Rattle.timer_wheels.specs.Tables.{radices, wide, clock, small}
+use Rattle.timer_wheels.specs.Tables.{radices}
 use Rattle.timer_wheels.specs.declared.buckets.Buckets.{Buckets}
 use Rattle.timer_wheels.specs.declared.table.Table.{Table}
-use Rattle.timer_wheels.specs.declared.table.Table.TheVariants.{Wide, Clock, Small}
 use Rattle.timer_wheels.proofs.AllLemmas.{all-both}
 use Rattle.timer_wheels.proofs.DigitLaws.{digits_down, level_in_table}
 use Rattle.timer_wheels.proofs.OccupiedLemmas.{filled_behind, marked_set, marked_same}
@@ -35,52 +34,15 @@ use Rattle.timer_wheels.proofs.SmoothPlaces.{weaker, places_with_row, places_lef
 use Rattle.timer_wheels.proofs.SmoothSteps.{step, bit_is_mark}
 use Rattle.timer_wheels.proofs.SmoothTicks.{ticked, new_l, new_others, next_same}
 use Rattle.timer_wheels.proofs.BucketLemmas.{no_rows}
-use Rattle.timer_wheels.proofs.SmoothTurns.{wide_length, wide_radix, wide_list_in_range, wide_list}
-use Rattle.timer_wheels.proofs.SmallDigits.{small_length, small_radix, small_list, small_list_in_range}
-use Rattle.timer_wheels.proofs.TableLaws.{of_table}
+use Rattle.timer_wheels.proofs.TableLaws.{of_table, turns_in_range}
 
--- Both tables.
-
-turns_of_wide : HasTurns wide
-turns_of_wide k h = omega (arith, wide_length, wide_radix k (omega (arith, wide_length)))
-
-turns_of_clock : HasTurns clock
-unfolding clock
-turns_of_clock zero h = (let e : 60 ≤ 64 = omega arith in e)
-turns_of_clock (suc zero) h = (let e : 60 ≤ 64 = omega arith in e)
-turns_of_clock (suc (suc zero)) h = (let e : 24 ≤ 64 = omega arith in e)
-turns_of_clock (suc (suc (suc k))) h = absurd (omega arith)
-
-turns_of_small : HasTurns small
-turns_of_small k h = omega (arith, small_length, small_radix k (omega (arith, small_length)))
+-- Tables.
 
 pub turns_of_table : (t : Table) → HasTurns (radices t)
-turns_of_table Wide = turns_of_wide
-turns_of_table Clock = turns_of_clock
-turns_of_table Small = turns_of_small
-
-lists_of_clock : (j s : ℕ) → j < length clock → smooth_list clock j s < smooth_slots clock
-unfolding clock
-lists_of_clock zero s h = omega arith
-lists_of_clock (suc zero) s h = omega arith
-lists_of_clock (suc (suc zero)) s h = omega arith
-lists_of_clock (suc (suc (suc zero))) s h = omega arith
-lists_of_clock (suc (suc (suc (suc k)))) s h = absurd (omega arith)
-
-lists_of_wide : (j s : ℕ) → j < length wide → smooth_list wide j s < smooth_slots wide
-lists_of_wide j s h =
-    let b : j < 10 = omega (arith, wide_length) in
-    subst (λ (x : ℕ). x < smooth_slots wide) (wide_list j s b) (wide_list_in_range j s b)
-
-lists_of_small : (j s : ℕ) → j < length small → smooth_list small j s < smooth_slots small
-lists_of_small j s h =
-    let b : j < 6 = omega (arith, small_length) in
-    subst (λ (x : ℕ). x < smooth_slots small) (small_list j s b) (small_list_in_range j s b)
+turns_of_table t = (of_table t).turns
 
 pub lists_in_range : (t : Table) (j s : ℕ) → j < length (radices t) → smooth_list (radices t) j s < smooth_slots (radices t)
-lists_in_range Wide = lists_of_wide
-lists_in_range Clock = lists_of_clock
-lists_in_range Small = lists_of_small
+lists_in_range t = turns_in_range (radices t) (of_table t).turns (of_table t).two
 
 -- The law and the relation, for pending rows.
 

@@ -1,11 +1,10 @@
 -- The buckets and visits of `Table::Clock`, by quotients: seconds, minutes, hours and days.
-use Rattle.std.proofs.Common.{◌≡◌, ◌≢◌, ◌<◌, ◌≤◌, ◌+◌, ◌-◌, ◌*◌, ◌/◌, ◌%◌, ℕ, List, [], ◌∷◌, refl, sym, ◌∙◌, arith, le_refl}
-use Rattle.timer_base.specs.declared.limits.TheConstants.{LAST}
-use Rattle.timer_wheels.specs.declared.table.TheConstants.{MOST_BUCKETS}
-use Rattle.timer_wheels.specs.Digits.{IsTable, HasDigits, bucket, emptied, last_of}
+use Rattle.std.proofs.Common.{◌≡◌, ◌≢◌, ◌<◌, ◌≤◌, ◌+◌, ◌-◌, ◌*◌, ◌/◌, ◌%◌, ℕ, suc, List, [], ◌∷◌, length, refl, sym, ◌∙◌, ap, arith}
+use Rattle.timer_wheels.specs.Digits.{level, bucket, emptied}
 use Rattle.timer_wheels.specs.Tables.{clock}
-use Rattle.timer_wheels.proofs.DigitLaws.{bucket_near, bucket_far, emptied_here, emptied_above, visit_here, visit_above, IsHierTable}
+use Rattle.timer_wheels.proofs.DigitLaws.{level_near, level_far, bucket_near, bucket_far, emptied_here, emptied_above, visit_here, visit_above}
 use Rattle.timer_wheels.specs.Leap.{list_visit}
+use Rattle.timer_wheels.specs.Paces.{pace_at, pace_sum, FitPaces}
 
 -- the wheels from the minutes on, those from the hours on, and that of the days
 abbrev minutes : List ℕ
@@ -21,28 +20,8 @@ clock_is : clock ≡ 60 ∷ minutes
 unfolding clock
 clock_is = refl
 
-clock_is_table : IsTable clock
-unfolding clock
-clock_is_table = (omega arith, (omega arith, (omega arith, (omega arith, tt))))
-
 days_end : (t : ℕ) → t ≤ 8639999 → t / 60 / 60 / 24 / 100 ≡ 0
 days_end t h = omega arith
-
-in_clock : (t : ℕ) → t ≤ 8639999 → HasDigits clock t
-unfolding clock
-in_clock t h = days_end t h
-
-pub clock_fits : IsHierTable clock
-unfolding clock
-clock_fits = record {
-  is_table = clock_is_table;
-  digits = in_clock (last_of clock) (le_refl 8639999);
-  few_slots = (let h : 244 ≤ MOST_BUCKETS = omega arith in h);
-  in_range = (let h : 8639999 ≤ LAST = omega arith in h);
-  some_slots = (let h : 0 < 60 = omega arith in h);
-  few_wheels = (let h : 3 ≤ 9 = omega arith in h);
-  more_wheels = (let h : 0 < 4 = omega arith in h);
-}
 
 -- The four wheels.
 
@@ -120,6 +99,63 @@ module _ (l now : ℕ) where
       let last = visit_above 24 days (l - 60 - 60) (now / 60 / 60) (omega arith) in
       let above = visit_above 60 hours (l - 60) (now / 60) (omega arith) in
       rw clock_is (omega (arith, days_end now r, visit_above 60 minutes l now (omega arith)))
+
+-- Two revolutions of slots.
+
+pub clock_length : length clock ≡ 4
+unfolding clock
+clock_length = refl
+
+-- The level on the clock.
+
+module _ (a d : ℕ) where
+  pub clock_level_second : a / 60 ≡ d / 60 → level clock a d ≡ 0
+  unfolding clock
+  clock_level_second e = level_near 60 minutes a d e
+
+  pub clock_level_minute : a / 60 ≢ d / 60 → a / 60 / 60 ≡ d / 60 / 60 → level clock a d ≡ 1
+  unfolding clock
+  clock_level_minute n e = level_far 60 minutes a d n ∙ ap suc (level_near 60 hours (a / 60) (d / 60) e)
+
+  pub clock_level_hour : a / 60 ≢ d / 60 → a / 60 / 60 ≢ d / 60 / 60 → a / 60 / 60 / 24 ≡ d / 60 / 60 / 24 → level clock a d ≡ 2
+  unfolding clock
+  clock_level_hour n m e = level_far 60 minutes a d n ∙ ap suc (level_far 60 hours (a / 60) (d / 60) m
+      ∙ ap suc (level_near 24 days (a / 60 / 60) (d / 60 / 60) e))
+
+  pub clock_level_day : a < d → d ≤ 8639999 → a / 60 ≢ d / 60 → a / 60 / 60 ≢ d / 60 / 60 → a / 60 / 60 / 24 ≢ d / 60 / 60 / 24
+      → level clock a d ≡ 3
+  unfolding clock
+  clock_level_day l h n m o =
+      let e : a / 60 / 60 / 24 / 100 ≡ d / 60 / 60 / 24 / 100 = omega arith in
+      level_far 60 minutes a d n ∙ ap suc (level_far 60 hours (a / 60) (d / 60) m
+      ∙ ap suc (level_far 24 days (a / 60 / 60) (d / 60 / 60) o ∙ ap suc (level_near 100 [] (a / 60 / 60 / 24) (d / 60 / 60 / 24) e)))
+
+pub ruleset clock_levels = (clock_level_second, clock_level_minute, clock_level_hour, clock_level_day)
+
+-- The sum of the paces of a smooth wheel.
+
+-- how often a bucket of each wheel may hold n timers' worth of ticks, in sum
+quotients : (n : ℕ) → 58 * (n / 60 + n / 3600 + n / 86400) ≤ n
+quotients n = omega arith
+
+half : (s n : ℕ) → 58 * s ≤ n → 2 * s ≤ n / 29
+half s n h = omega arith
+
+pub sum_on_clock : (n : ℕ) (paces : List ℕ) → FitPaces clock n paces → pace_sum paces ≤ n / 29 + 6
+unfolding clock
+sum_on_clock n paces f =
+    let f0 : pace_at paces 0 ≤ 0 = f 0 in
+    let f1 : pace_at paces 1 ≤ 2 * (n / 60 + 1) = f 1 in
+    let f2 : pace_at paces 2 ≤ 2 * (n / 3600 + 1) = f 2 in
+    let f3 : pace_at paces 3 ≤ 2 * (n / 86400 + 1) = f 3 in
+    let f4 : pace_at paces 4 ≤ 0 = f 4 in
+    let f5 : pace_at paces 5 ≤ 0 = f 5 in
+    let f6 : pace_at paces 6 ≤ 0 = f 6 in
+    let f7 : pace_at paces 7 ≤ 0 = f 7 in
+    let f8 : pace_at paces 8 ≤ 0 = f 8 in
+    let f9 : pace_at paces 9 ≤ 0 = f 9 in
+    let d : 2 * (n / 60 + n / 3600 + n / 86400) ≤ n / 29 = half (n / 60 + n / 3600 + n / 86400) n (quotients n) in
+    omega arith
 
 -- what the functions of the table return
 pub ruleset clock_buckets = (bucket_second, bucket_minute, bucket_hour, bucket_day)

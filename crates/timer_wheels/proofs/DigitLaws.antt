@@ -7,9 +7,11 @@ use Rattle.std.proofs.Math.Nat.{mul-add-div, mul-add-mod_self_left, div-eq_of_lt
 use Rattle.timer_base.proofs.Basics.{either}
 use Rattle.timer_base.specs.declared.limits.TheConstants.{LAST}
 use Rattle.timer_wheels.specs.declared.table.TheConstants.{MOST_BUCKETS}
-use Rattle.timer_wheels.specs.Digits.{IsTable, HasDigits, digit, level, lowest, slots_below, slots, list_of_slot, bucket, emptied, IsHighest, IsLowest, BucketAtTick, last_of, lowest_radix}
+use Rattle.timer_wheels.specs.Digits.{IsTable, HasDigits, digit, radix, level, lowest, slots_below, slots, list_of_slot, bucket, emptied, IsHighest, IsLowest, BucketAtTick, last_of, lowest_radix}
 use Rattle.timer_wheels.specs.Leap.{list_visit}
 use Rattle.timer_wheels.specs.Placement.{most_moves}
+use Rattle.timer_wheels.specs.Smooth.{smooth_slots, HasTurns}
+use Rattle.timer_wheels.specs.declared.smooth.turns.TheConstants.{MOST_LISTS}
 
 -- Quotients by a radix.
 
@@ -267,3 +269,9 @@ pub record IsHierTable (table : List ℕ) : Type 0 where
   pub some_slots : 0 < lowest_radix table
   pub few_wheels : most_moves table ≤ 9
   pub more_wheels : 0 < length table
+  -- and a smooth one
+  pub turns : HasTurns table
+  pub two : (k : ℕ) → k < length table → 2 ≤ radix k table
+  pub few_lists : smooth_slots table ≤ MOST_LISTS
+  pub many : 16 ≤ lowest_radix table
+  pub even : lowest_radix table % 2 ≡ 0

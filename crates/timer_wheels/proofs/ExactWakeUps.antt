@@ -1,6 +1,6 @@
 -- Lemmas for the exact wake-ups: a hashed wheel's next sweep is the earliest of its timers, and a table is known by its
 -- number of slots.
-use Rattle.std.proofs.Common.{◌≡◌, ◌<◌, ◌≤◌, ◌+◌, ◌-◌, ◌%◌, ◌==◌, ℕ, List, [], ◌∷◌, length, refl, sym, ◌∙◌, ap, inl, inr, arith, Bool, true, Option, Some, None, IfSome, filter, min}
+use Rattle.std.proofs.Common.{◌≡◌, ◌<◌, ◌≤◌, ◌+◌, ◌-◌, ◌%◌, ◌==◌, ℕ, List, [], ◌∷◌, length, sym, ◌∙◌, ap, inl, inr, arith, Bool, true, Option, Some, None, IfSome, filter, min}
 use Rattle.std.specs.List.{AllByRecursion}
 use Rattle.std.proofs.lemmas.Bool.{cases_lt, cases_eq, eq-eqb, ne_eqb}
 use Rattle.timer_base.specs.Pending.{AreAfter, Entry, timer_of, timers_of}
@@ -10,13 +10,13 @@ use Rattle.timer_base.specs.PlainState.{earliest}
 use Rattle.timer_base.specs.WakeUps.{IsQuietUntil}
 use Rattle.timer_base.specs.WheelState.{WheelState, IsPending}
 use Rattle.timer_wheels.specs.declared.table.Table.{Table}
-use Rattle.timer_wheels.specs.declared.table.Table.TheVariants.{Wide, Clock, Small}
 use Rattle.timer_wheels.specs.Hashed.{slot_of, IsNextSweep}
 use Rattle.timer_wheels.specs.Shown.{entries_at}
-use Rattle.timer_wheels.specs.Tables.{radices, radices_by_slots, slots_of_table, table_by_slots, wide, clock, small}
+use Rattle.timer_wheels.specs.Tables.{radices, radices_by_slots, slots_of_table, table_by_slots}
 use Rattle.timer_wheels.specs.WakeUps.{sweep_of, earliest_sweep, next_visit}
 use Rattle.timer_wheels.proofs.AllLemmas.{all-of_map}
 use Rattle.timer_wheels.proofs.HashedTicks.{distance, same_slot, no_step}
+use Rattle.timer_wheels.proofs.TableLaws.{by_its_slots}
 
 -- The sweep of one deadline's slot.
 
@@ -110,12 +110,6 @@ earliest_sweep_is n w (Some tick) z a q s =
     s.none_before s.some)
 
 -- The table of a hierarchy.
-
-by_its_slots : (table : Table) → table_by_slots (slots_of_table table) ≡ table
-unfolding wide clock small
-by_its_slots Wide = refl
-by_its_slots Clock = refl
-by_its_slots Small = refl
 
 -- the radices of a wheel with the slots of its table
 pub radices_are : (table : Table) (slots : ℕ) → slots ≡ slots_of_table table → radices table ≡ radices_by_slots slots

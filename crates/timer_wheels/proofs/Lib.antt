@@ -9,7 +9,6 @@ pub mod Handles
 pub mod Updates
 pub mod RoomLemmas
 pub mod WalkLemmas
-pub mod WideDigits
 pub mod MigrationLemmas
 pub mod HierTicks
 pub mod MigrationLoop
@@ -27,8 +26,6 @@ pub mod NextVisitLemmas
 pub mod HierLeaps
 pub mod WheelUpdates
 pub mod HierCounts
-pub mod ClockDigits
-pub mod SmallDigits
 pub mod TableLaws
 pub mod ReplaceLemmas
 pub mod WakeUpLemmas
@@ -39,7 +36,6 @@ pub mod ExactWakeUps
 pub mod SmoothSlots
 pub mod SmoothLaws
 pub mod SmoothPace
-pub mod SmoothTurns
 pub mod SmoothLists
 pub mod SmoothMoves
 pub mod SmoothPlaces
@@ -63,3 +59,7 @@ pub mod SmoothLeaps
 pub mod BankRestarts
 pub mod TieredLemmas
 pub mod IdleLemmas
+-- made by tools/facts: proofs of tables
+pub mod WideDigits
+pub mod ClockDigits
+pub mod SmallDigits

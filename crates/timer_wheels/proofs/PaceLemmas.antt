@@ -4,20 +4,17 @@ use Rattle.std.proofs.Math.Nat.{div-mul-le_self, mul-le-mul_left}
 use Rattle.std.proofs.lemmas.Bool.{cases_eq}
 use Rattle.timer_links.specs.Lists.{list_at, row_count, KeyedLists}
 use Rattle.timer_wheels.specs.Bank.{next_len, potential_of, OthersShrink}
-use Rattle.timer_wheels.specs.Digits.{IsTable, weight}
+use Rattle.timer_wheels.specs.Digits.{IsTable, weight, lowest_radix}
 use Rattle.timer_wheels.specs.Paces.{pace_at, sum_below, pace_sum, pace_for, FitPaces, HasMoved}
 use Rattle.timer_wheels.specs.Smooth.{slot_in, next_list, ticks_left}
-use Rattle.timer_wheels.specs.Tables.{radices, wide, clock, small}
+use Rattle.timer_wheels.specs.Tables.{radices}
 use Rattle.timer_links.specs.declared.ring.TheConstants.{INDEXES}
 use Rattle.timer_links.specs.declared.kept.Kept.{Ghosts}
 use Rattle.timer_wheels.specs.declared.buckets.Buckets.{Buckets}
 use Rattle.timer_wheels.specs.declared.smooth.turns.TheConstants.{MOST_WHEELS}
 use Rattle.timer_wheels.specs.declared.table.Table.{Table}
-use Rattle.timer_wheels.specs.declared.table.Table.TheVariants.{Wide, Clock, Small}
 use Rattle.timer_wheels.proofs.SmoothPace.{pace_begun}
-use Rattle.timer_wheels.proofs.SmoothTurns.{wide_length, clock_length}
 use Rattle.timer_wheels.proofs.SmoothWeights.{weight_some, halves}
-use Rattle.timer_wheels.proofs.SmallDigits.{small_length}
 use Rattle.timer_wheels.proofs.TableLaws.{of_table}
 
 -- Sums.
@@ -45,33 +42,19 @@ sums_mono paces n (suc m) h = elim (cases_eq n (suc m)) [
 -- The pace that is fixed.
 
 pub few_wheels : (t : Table) (k : ℕ) → k < length (radices t) → k < MOST_WHEELS
-few_wheels Wide k h = omega (arith, wide_length)
-few_wheels Clock k h = omega (arith, clock_length)
-few_wheels Small k h = omega (arith, small_length)
+few_wheels t k h = omega (arith, (of_table t).few_wheels)
 
 -- a slot above the lowest wheel is at least 16 ticks
 sixteen : (r : ℕ) (rs : List ℕ) (k : ℕ) → IsTable rs → 16 ≤ r → 16 ≤ r * weight k rs
 sixteen r rs k i h = omega (arith, mul-le-mul_left r (weight_some rs k i))
 
-sixteen_of_wide : (k : ℕ) → IsTable wide → 0 < k → 16 ≤ weight k wide
-unfolding wide
-sixteen_of_wide zero i z = absurd (omega arith)
-sixteen_of_wide (suc k) i z = sixteen 64 (64 ∷ 64 ∷ 64 ∷ 64 ∷ 64 ∷ 64 ∷ 64 ∷ 64 ∷ 64 ∷ []) k i.1 (omega arith)
-
-sixteen_of_clock : (k : ℕ) → IsTable clock → 0 < k → 16 ≤ weight k clock
-unfolding clock
-sixteen_of_clock zero i z = absurd (omega arith)
-sixteen_of_clock (suc k) i z = sixteen 60 (60 ∷ 24 ∷ 100 ∷ []) k i.1 (omega arith)
-
-sixteen_of_small : (k : ℕ) → IsTable small → 0 < k → 16 ≤ weight k small
-unfolding small
-sixteen_of_small zero i z = absurd (omega arith)
-sixteen_of_small (suc k) i z = sixteen 16 (16 ∷ 16 ∷ 16 ∷ 16 ∷ 16 ∷ []) k i.1 (omega arith)
+sixteen_of : (table : List ℕ) (k : ℕ) → IsTable table → 16 ≤ lowest_radix table → 0 < k → 16 ≤ weight k table
+sixteen_of [] k i m z = absurd (omega arith)
+sixteen_of (r ∷ rs) zero i m z = absurd (omega arith)
+sixteen_of (r ∷ rs) (suc k) i m z = sixteen r rs k i.1 m
 
 pub sixteen_ticks : (t : Table) (k : ℕ) → IsTable (radices t) → 0 < k → 16 ≤ weight k (radices t)
-sixteen_ticks Wide = sixteen_of_wide
-sixteen_ticks Clock = sixteen_of_clock
-sixteen_ticks Small = sixteen_of_small
+sixteen_ticks t k i z = sixteen_of (radices t) k i (of_table t).many z
 
 quotient_few : (n w : ℕ) → 16 ≤ w → n ≤ INDEXES → n / w ≤ 268435456
 quotient_few n w h l =

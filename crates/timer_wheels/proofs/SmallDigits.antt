@@ -1,15 +1,14 @@
 -- The digits, buckets and visits of `Table::Small`, one digit after another.
-use Rattle.std.proofs.Common.{◌≡◌, ◌≢◌, ◌<◌, ◌≤◌, ◌+◌, ◌-◌, ◌*◌, ◌/◌, ◌%◌, ◌^◌, ℕ, zero, suc, List, [], ◌∷◌, length, refl, sym, ◌∙◌, ap, arith, inl, inr, le_refl}
+use Rattle.std.proofs.Common.{◌≡◌, ◌≢◌, ◌<◌, ◌≤◌, ◌+◌, ◌-◌, ◌*◌, ◌/◌, ◌%◌, ◌^◌, ℕ, zero, suc, List, [], ◌∷◌, length, refl, sym, ◌∙◌, ap, arith, inl, inr}
 use Rattle.std.proofs.lemmas.Bool.{cases_eq}
 use Rattle.std.proofs.lemmas.Nat.{pow-add}
 use Rattle.std.proofs.Math.Nat.{div-div-eq-div-mul, div-mul-le_self, mul-le-mul_right, pow-le-pow_right, mod-eq_of_lt}
-use Rattle.timer_base.specs.declared.limits.TheConstants.{LAST}
-use Rattle.timer_wheels.specs.declared.table.TheConstants.{MOST_BUCKETS}
-use Rattle.timer_wheels.specs.Digits.{IsTable, HasDigits, radix, weight, level, bucket, emptied, last_of}
+use Rattle.timer_wheels.specs.Digits.{IsTable, HasDigits, radix, weight, level, bucket, emptied}
 use Rattle.timer_wheels.specs.Leap.{list_visit}
-use Rattle.timer_wheels.specs.Smooth.{slot_in, smooth_list, smooth_slots}
+use Rattle.timer_wheels.specs.Paces.{pace_at, pace_sum, FitPaces}
+use Rattle.timer_wheels.specs.Smooth.{slot_in, smooth_list}
 use Rattle.timer_wheels.specs.Tables.{small}
-use Rattle.timer_wheels.proofs.DigitLaws.{bucket_near, bucket_far, emptied_here, visit_here, visit_above, less_quotient, level_near, level_far, level_in_table, IsHierTable}
+use Rattle.timer_wheels.proofs.DigitLaws.{bucket_near, bucket_far, emptied_here, visit_here, visit_above, less_quotient, level_near, level_far, level_in_table}
 
 -- a table of n digits in base 16
 abbrev pub sixteens : ℕ → List ℕ
@@ -49,18 +48,6 @@ in_small t h = rw small_is (has_digits 6 t (omega arith))
 
 small_is_table : IsTable small
 small_is_table = rw small_is (sixteens_are_table 6)
-
-pub small_fits : IsHierTable small
-unfolding small
-small_fits = record {
-  is_table = small_is_table;
-  digits = in_small (last_of small) (le_refl 16777215);
-  few_slots = (let h : 96 ≤ MOST_BUCKETS = omega arith in h);
-  in_range = (let h : 16777215 ≤ LAST = omega arith in h);
-  some_slots = (let h : 0 < 16 = omega arith in h);
-  few_wheels = (let h : 5 ≤ 9 = omega arith in h);
-  more_wheels = (let h : 0 < 6 = omega arith in h);
-}
 
 -- The wheels that a loop has passed: `below` slots are theirs, and the others are a table of `rest` digits.
 
@@ -155,10 +142,6 @@ pub small_length : length small ≡ 6
 unfolding small
 small_length = refl
 
-pub small_slots : smooth_slots small ≡ 672
-unfolding small
-small_slots = refl
-
 pub small_radix : (k : ℕ) → k < 6 → radix k small ≡ 16
 small_radix k h = rw small_is (radix_of_sixteens 6 k h)
 
@@ -170,9 +153,6 @@ small_turns k h = omega (arith, small_radix k h)
 
 pub small_list : (k s : ℕ) → k < 6 → 128 * k + s % 32 ≡ smooth_list small k s
 small_list k s h = ap (λ (x : ℕ). 128 * k + s % (2 * x)) (sym (small_radix k h))
-
-pub small_list_in_range : (k s : ℕ) → k < 6 → 128 * k + s % 32 < smooth_slots small
-small_list_in_range k s h = omega (arith, small_slots)
 
 pub small_shift : (k : ℕ) → k < 6 → 1 * 2 ^ (4 * k) % 18446744073709551616 ≡ weight k small
 small_shift k h =
@@ -198,3 +178,29 @@ small_level a d l h = rw small_is (level_step 6 a d (has_digits 6 d (omega arith
 
 pub small_level_in_range : (a d : ℕ) → a < d → d ≤ 16777215 → bucket small a d / 16 < length small
 small_level_in_range a d l h = omega (arith, small_level a d l h, small_length, level_in_table small a d small_is_table (in_small d h) l)
+
+-- The sum of the paces of a smooth wheel.
+
+-- how often a bucket of each wheel may hold n timers' worth of ticks, in sum
+quotients : (n : ℕ) → 15 * (n / 16 + n / 256 + n / 4096 + n / 65536 + n / 1048576) ≤ n
+quotients n = omega arith
+
+double : (s n : ℕ) → 15 * s ≤ n → 2 * s ≤ 2 * n / 15
+double s n h = omega arith
+
+pub sum_on_small : (n : ℕ) (paces : List ℕ) → FitPaces small n paces → pace_sum paces ≤ 2 * n / 15 + 10
+unfolding small
+sum_on_small n paces f =
+    let f0 : pace_at paces 0 ≤ 0 = f 0 in
+    let f1 : pace_at paces 1 ≤ 2 * (n / 16 + 1) = f 1 in
+    let f2 : pace_at paces 2 ≤ 2 * (n / 256 + 1) = f 2 in
+    let f3 : pace_at paces 3 ≤ 2 * (n / 4096 + 1) = f 3 in
+    let f4 : pace_at paces 4 ≤ 2 * (n / 65536 + 1) = f 4 in
+    let f5 : pace_at paces 5 ≤ 2 * (n / 1048576 + 1) = f 5 in
+    let f6 : pace_at paces 6 ≤ 0 = f 6 in
+    let f7 : pace_at paces 7 ≤ 0 = f 7 in
+    let f8 : pace_at paces 8 ≤ 0 = f 8 in
+    let f9 : pace_at paces 9 ≤ 0 = f 9 in
+    let s : ℕ = n / 16 + n / 256 + n / 4096 + n / 65536 + n / 1048576 in
+    let d : 2 * s ≤ 2 * n / 15 = double s n (quotients n) in
+    omega arith

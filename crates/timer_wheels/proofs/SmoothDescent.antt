@@ -4,17 +4,13 @@ use Rattle.std.proofs.lemmas.Bool.{eq-eqb, ne_eqb}
 use Rattle.timer_base.proofs.Basics.{either}
 use Rattle.timer_wheels.specs.declared.smooth.turns.TheConstants.{MOST_LISTS}
 use Rattle.timer_wheels.specs.declared.table.Table.{Table}
-use Rattle.timer_wheels.specs.declared.table.Table.TheVariants.{Wide, Clock, Small}
 use Rattle.timer_wheels.specs.Occupied.{bit_of}
 use Rattle.timer_wheels.specs.Smooth.{is_in_next, next_list, descend, descend_by, smooth_slots}
 use Rattle.timer_wheels.specs.Tables.{radices}
-use Rattle.timer_wheels.proofs.SmoothTurns.{wide_slots, clock_slots}
-use Rattle.timer_wheels.proofs.SmallDigits.{small_slots}
+use Rattle.timer_wheels.proofs.TableLaws.{of_table}
 
 pub few_lists : (table : Table) → smooth_slots (radices table) ≤ MOST_LISTS
-few_lists Wide = omega (arith, wide_slots)
-few_lists Clock = omega (arith, clock_slots)
-few_lists Small = omega (arith, small_slots)
+few_lists table = (of_table table).few_lists
 
 module _ (table : List ℕ) (now : ℕ) (words : List ℕ) (d : ℕ) where
   pub descend_stops : (k : ℕ) → is_in_next table now k d ≡ false → descend_by table now words d k ≡ k

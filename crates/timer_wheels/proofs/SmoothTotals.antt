@@ -1,5 +1,5 @@
 -- Lemmas for `SmoothWheel`: its next buckets stay in time over a tick, and the sums of its paces and of its moves.
-use Rattle.std.proofs.Common.{◌≡◌, ◌≢◌, ◌<◌, ◌≤◌, ◌+◌, ◌-◌, ◌*◌, ◌/◌, ◌%◌, ℕ, zero, suc, List, [], ◌∷◌, length, refl, sym, ◌∙◌, ap, inl, inr, subst, arith}
+use Rattle.std.proofs.Common.{◌≡◌, ◌≢◌, ◌<◌, ◌≤◌, ◌+◌, ◌-◌, ◌*◌, ◌%◌, ℕ, zero, suc, List, [], ◌∷◌, length, refl, sym, ◌∙◌, ap, inl, inr, subst, arith}
 use Rattle.std.proofs.Math.Nat.{div-mul-le_self, mul-le-mul_left, mul-le-mul_right, mul-mod_left}
 use Rattle.std.proofs.lemmas.Bool.{cases_eq}
 use Rattle.timer_base.specs.declared.limits.TheConstants.{LAST}
@@ -10,13 +10,12 @@ use Rattle.timer_wheels.specs.Bank.{next_len}
 use Rattle.timer_wheels.specs.BucketLists.{entry_of, rows_below}
 use Rattle.timer_wheels.specs.Buckets.{state_of}
 use Rattle.timer_wheels.specs.Digits.{IsTable, weight, lowest_radix}
-use Rattle.timer_wheels.specs.Paces.{pace_at, pace_sum, FitPaces, AreInTime, HasMoved, tick_bound}
+use Rattle.timer_wheels.specs.Paces.{pace_at, FitPaces, AreInTime, HasMoved}
 use Rattle.timer_wheels.specs.Placement.{most_moves}
 use Rattle.timer_wheels.specs.Smooth.{slot_in, next_list, heights, height, ticks_left}
-use Rattle.timer_wheels.specs.Tables.{radices, wide, clock, small}
+use Rattle.timer_wheels.specs.Tables.{radices}
 use Rattle.timer_wheels.specs.declared.buckets.Buckets.{Buckets}
 use Rattle.timer_wheels.specs.declared.table.Table.{Table}
-use Rattle.timer_wheels.specs.declared.table.Table.TheVariants.{Wide, Clock, Small}
 use Rattle.timer_wheels.proofs.BucketLemmas.{row_count-parts, length-pending_in}
 use Rattle.timer_wheels.proofs.SmoothPace.{pace_tick, none_left}
 use Rattle.timer_wheels.proofs.SmoothSlots.{slots_step}
@@ -132,81 +131,6 @@ heights_none table zero lists f = refl
 heights_none table (suc n) lists f =
     let e : height table n * length (list_at n lists) ≡ height table n * 0 = ap (λ (r : Rows). height table n * length r) (f n (omega arith)) in
     omega (arith, heights_none table n lists (λ s h. f s (omega arith)))
-
--- Sums of paces.
-
--- how often a bucket of each wheel may hold n timers' worth of ticks, in sum
-wide_quotients : (n : ℕ) → 63 * (n / 64 + n / 4096 + n / 262144 + n / 16777216 + n / 1073741824 + n / 68719476736 + n / 4398046511104 + n / 281474976710656 + n / 18014398509481984) ≤ n
-wide_quotients n = omega arith
-
-clock_quotients : (n : ℕ) → 58 * (n / 60 + n / 3600 + n / 86400) ≤ n
-clock_quotients n = omega arith
-
-small_quotients : (n : ℕ) → 15 * (n / 16 + n / 256 + n / 4096 + n / 65536 + n / 1048576) ≤ n
-small_quotients n = omega arith
-
-double : (s n : ℕ) → 63 * s ≤ n → 2 * s ≤ 2 * n / 63
-double s n h = omega arith
-
-double_of_small : (s n : ℕ) → 15 * s ≤ n → 2 * s ≤ 2 * n / 15
-double_of_small s n h = omega arith
-
-half : (s n : ℕ) → 58 * s ≤ n → 2 * s ≤ n / 29
-half s n h = omega arith
-
-sum_on_wide : (n : ℕ) (paces : List ℕ) → FitPaces wide n paces → pace_sum paces ≤ 2 * n / 63 + 18
-unfolding wide
-sum_on_wide n paces f =
-    let f0 : pace_at paces 0 ≤ 0 = f 0 in
-    let f1 : pace_at paces 1 ≤ 2 * (n / 64 + 1) = f 1 in
-    let f2 : pace_at paces 2 ≤ 2 * (n / 4096 + 1) = f 2 in
-    let f3 : pace_at paces 3 ≤ 2 * (n / 262144 + 1) = f 3 in
-    let f4 : pace_at paces 4 ≤ 2 * (n / 16777216 + 1) = f 4 in
-    let f5 : pace_at paces 5 ≤ 2 * (n / 1073741824 + 1) = f 5 in
-    let f6 : pace_at paces 6 ≤ 2 * (n / 68719476736 + 1) = f 6 in
-    let f7 : pace_at paces 7 ≤ 2 * (n / 4398046511104 + 1) = f 7 in
-    let f8 : pace_at paces 8 ≤ 2 * (n / 281474976710656 + 1) = f 8 in
-    let f9 : pace_at paces 9 ≤ 2 * (n / 18014398509481984 + 1) = f 9 in
-    let d : 2 * (n / 64 + n / 4096 + n / 262144 + n / 16777216 + n / 1073741824 + n / 68719476736 + n / 4398046511104 + n / 281474976710656 + n / 18014398509481984) ≤ 2 * n / 63 = double (n / 64 + n / 4096 + n / 262144 + n / 16777216 + n / 1073741824 + n / 68719476736 + n / 4398046511104 + n / 281474976710656 + n / 18014398509481984) n (wide_quotients n) in
-    omega arith
-
-sum_on_clock : (n : ℕ) (paces : List ℕ) → FitPaces clock n paces → pace_sum paces ≤ n / 29 + 6
-unfolding clock
-sum_on_clock n paces f =
-    let f0 : pace_at paces 0 ≤ 0 = f 0 in
-    let f1 : pace_at paces 1 ≤ 2 * (n / 60 + 1) = f 1 in
-    let f2 : pace_at paces 2 ≤ 2 * (n / 3600 + 1) = f 2 in
-    let f3 : pace_at paces 3 ≤ 2 * (n / 86400 + 1) = f 3 in
-    let f4 : pace_at paces 4 ≤ 0 = f 4 in
-    let f5 : pace_at paces 5 ≤ 0 = f 5 in
-    let f6 : pace_at paces 6 ≤ 0 = f 6 in
-    let f7 : pace_at paces 7 ≤ 0 = f 7 in
-    let f8 : pace_at paces 8 ≤ 0 = f 8 in
-    let f9 : pace_at paces 9 ≤ 0 = f 9 in
-    let d : 2 * (n / 60 + n / 3600 + n / 86400) ≤ n / 29 = half (n / 60 + n / 3600 + n / 86400) n (clock_quotients n) in
-    omega arith
-
-sum_on_small : (n : ℕ) (paces : List ℕ) → FitPaces small n paces → pace_sum paces ≤ 2 * n / 15 + 10
-unfolding small
-sum_on_small n paces f =
-    let f0 : pace_at paces 0 ≤ 0 = f 0 in
-    let f1 : pace_at paces 1 ≤ 2 * (n / 16 + 1) = f 1 in
-    let f2 : pace_at paces 2 ≤ 2 * (n / 256 + 1) = f 2 in
-    let f3 : pace_at paces 3 ≤ 2 * (n / 4096 + 1) = f 3 in
-    let f4 : pace_at paces 4 ≤ 2 * (n / 65536 + 1) = f 4 in
-    let f5 : pace_at paces 5 ≤ 2 * (n / 1048576 + 1) = f 5 in
-    let f6 : pace_at paces 6 ≤ 0 = f 6 in
-    let f7 : pace_at paces 7 ≤ 0 = f 7 in
-    let f8 : pace_at paces 8 ≤ 0 = f 8 in
-    let f9 : pace_at paces 9 ≤ 0 = f 9 in
-    let s : ℕ = n / 16 + n / 256 + n / 4096 + n / 65536 + n / 1048576 in
-    let d : 2 * s ≤ 2 * n / 15 = double_of_small s n (small_quotients n) in
-    omega arith
-
-pub sum_bound : (t : Table) (n : ℕ) (paces : List ℕ) → FitPaces (radices t) n paces → pace_sum paces ≤ tick_bound t n
-sum_bound Wide = sum_on_wide
-sum_bound Clock = sum_on_clock
-sum_bound Small = sum_on_small
 
 pub fit_lower : (table : List ℕ) (n : ℕ) (paces paces2 : List ℕ) → FitPaces table n paces → ((k : ℕ) → pace_at paces2 k ≤ pace_at paces k)
     → FitPaces table n paces2

@@ -1,14 +1,12 @@
--- The weights of both tables: how many ticks the slots of their wheels are.
-use Rattle.std.proofs.Common.{◌≡◌, ◌<◌, ◌≤◌, ◌*◌, ◌/◌, ℕ, zero, suc, List, [], ◌∷◌, length, refl, sym, ◌∙◌, ap, inl, inr, arith}
+-- The weights of tables: how many ticks the slots of their wheels are.
+use Rattle.std.proofs.Common.{◌≡◌, ◌<◌, ◌≤◌, ◌*◌, ◌/◌, ◌%◌, ℕ, zero, suc, List, [], ◌∷◌, length, refl, sym, ◌∙◌, ap, inl, inr, arith}
 use Rattle.std.proofs.Math.Nat.{mul-le-mul_right, mul-le-mul_left, mul-div_cancel}
 use Rattle.std.proofs.lemmas.Bool.{cases_eq}
-use Rattle.timer_wheels.specs.Digits.{IsTable, weight, radix}
+use Rattle.timer_wheels.specs.Digits.{IsTable, weight, radix, lowest_radix}
 use Rattle.timer_wheels.specs.Smooth.{slot_in}
-use Rattle.timer_wheels.specs.Tables.{wide, clock, small, radices}
+use Rattle.timer_wheels.specs.Tables.{radices}
 use Rattle.timer_wheels.specs.declared.table.Table.{Table}
-use Rattle.timer_wheels.specs.declared.table.Table.TheVariants.{Wide, Clock, Small}
-use Rattle.timer_wheels.proofs.SmallDigits.{small_length, small_radix}
-use Rattle.timer_wheels.proofs.SmoothTurns.{wide_length, wide_radix}
+use Rattle.timer_wheels.proofs.TableLaws.{of_table}
 
 pub weight_up : (table : List ℕ) (k : ℕ) → k < length table → weight (suc k) table ≡ radix k table * weight k table
 weight_up [] k h = absurd (omega arith)
@@ -23,20 +21,6 @@ weight_some [] k i = omega arith
 weight_some (r ∷ rs) zero i = omega arith
 weight_some (r ∷ rs) (suc k) i = omega (arith, i.0, weight_some rs k i.1, mul-le-mul_left r (weight_some rs k i.1))
 
--- each wheel has at least two slots
-two_on_clock : (k : ℕ) → k < length clock → 2 ≤ radix k clock
-unfolding clock
-two_on_clock zero h = (let e : 2 ≤ 60 = omega arith in e)
-two_on_clock (suc zero) h = (let e : 2 ≤ 60 = omega arith in e)
-two_on_clock (suc (suc zero)) h = (let e : 2 ≤ 24 = omega arith in e)
-two_on_clock (suc (suc (suc zero))) h = (let e : 2 ≤ 100 = omega arith in e)
-two_on_clock (suc (suc (suc (suc k)))) h = absurd (omega arith)
-
-radix_two : (t : Table) (k : ℕ) → k < length (radices t) → 2 ≤ radix k (radices t)
-radix_two Wide k h = omega (arith, wide_length, wide_radix k (omega (arith, wide_length)))
-radix_two Clock k h = two_on_clock k h
-radix_two Small k h = omega (arith, small_length, small_radix k (omega (arith, small_length)))
-
 -- a slot of a wheel is at least two of a lower one
 pub record IsMultiple (more less : ℕ) : Type 0 where
   pub by : ℕ
@@ -46,7 +30,7 @@ pub record IsMultiple (more less : ℕ) : Type 0 where
 pub multiples : (t : Table) (j k : ℕ) → j < k → k < length (radices t) → IsMultiple (weight k (radices t)) (weight j (radices t))
 multiples t j zero l h = absurd (omega arith)
 multiples t j (suc k) l h =
-    let r : 2 ≤ radix k (radices t) = radix_two t k (omega arith) in
+    let r : 2 ≤ radix k (radices t) = (of_table t).two k (omega arith) in
     let up : weight (suc k) (radices t) ≡ radix k (radices t) * weight k (radices t) = weight_up (radices t) k (omega arith) in
     elim (cases_eq j k) [
       | inl e ↦ record {
@@ -93,22 +77,10 @@ half_of r half rs k i e z = record {
   is = ap (λ (x : ℕ). x * weight k rs) e ∙ (let q : 2 * half * weight k rs ≡ 2 * (half * weight k rs) = omega arith in q);
 }
 
-halves_of_wide : (k : ℕ) → IsTable wide → 0 < k → HasHalf (weight k wide)
-unfolding wide
-halves_of_wide zero i z = absurd (omega arith)
-halves_of_wide (suc k) i z = half_of 64 32 (64 ∷ 64 ∷ 64 ∷ 64 ∷ 64 ∷ 64 ∷ 64 ∷ 64 ∷ 64 ∷ []) k i.1 (omega arith) (omega arith)
-
-halves_of_clock : (k : ℕ) → IsTable clock → 0 < k → HasHalf (weight k clock)
-unfolding clock
-halves_of_clock zero i z = absurd (omega arith)
-halves_of_clock (suc k) i z = half_of 60 30 (60 ∷ 24 ∷ 100 ∷ []) k i.1 (omega arith) (omega arith)
-
-halves_of_small : (k : ℕ) → IsTable small → 0 < k → HasHalf (weight k small)
-unfolding small
-halves_of_small zero i z = absurd (omega arith)
-halves_of_small (suc k) i z = half_of 16 8 (16 ∷ 16 ∷ 16 ∷ 16 ∷ 16 ∷ []) k i.1 (omega arith) (omega arith)
+halves_of : (table : List ℕ) (k : ℕ) → IsTable table → lowest_radix table % 2 ≡ 0 → 16 ≤ lowest_radix table → 0 < k → HasHalf (weight k table)
+halves_of [] k i e m z = absurd (omega arith)
+halves_of (r ∷ rs) zero i e m z = absurd (omega arith)
+halves_of (r ∷ rs) (suc k) i e m z = half_of r (r / 2) rs k i.1 (omega arith) (omega arith)
 
 pub halves : (t : Table) (k : ℕ) → IsTable (radices t) → 0 < k → HasHalf (weight k (radices t))
-halves Wide = halves_of_wide
-halves Clock = halves_of_clock
-halves Small = halves_of_small
+halves t k i z = halves_of (radices t) k i (of_table t).even (of_table t).many z

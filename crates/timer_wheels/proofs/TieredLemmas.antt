@@ -12,18 +12,11 @@ use Rattle.timer_wheels.specs.Buckets.{state_of, state_of-well_formed}
 use Rattle.timer_wheels.specs.declared.buckets.Buckets.{Buckets}
 use Rattle.timer_wheels.specs.HierWheel.{table_of}
 use Rattle.timer_wheels.specs.declared.smooth.SmoothWheel.{SmoothWheel}
-use Rattle.timer_wheels.specs.Tables.{slots_of_table, wide, clock, small}
-use Rattle.timer_wheels.specs.TieredWheel.{is_smooth, turns_are_smooth, option_of}
+use Rattle.timer_wheels.specs.Tables.{is_smooth, turns_are_smooth}
+use Rattle.timer_wheels.specs.TieredWheel.{option_of}
 use Rattle.timer_wheels.specs.declared.hier.HierWheel.{HierWheel}
-use Rattle.timer_wheels.specs.declared.table.Table.{Table}
-use Rattle.timer_wheels.specs.declared.table.Table.TheVariants.{Wide, Clock, Small}
 use Rattle.timer_wheels.specs.declared.tiered.TheConstants.{NEVER}
-
-slots_are_not : (table : Table) → is_smooth (slots_of_table table) ≡ false
-unfolding wide clock small
-slots_are_not Wide = refl
-slots_are_not Clock = refl
-slots_are_not Small = refl
+use Rattle.timer_wheels.proofs.TableLaws.{slots_are_not}
 
 pub is_not_smooth : {N : Type 0} {kept : Ghosts N} (wheel : HierWheel N kept) → is_smooth wheel.wheels.buckets.slots ≡ false
 is_not_smooth wheel = ap is_smooth wheel.wheels.hier.has_slots ∙ slots_are_not (table_of wheel)

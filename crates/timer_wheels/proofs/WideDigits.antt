@@ -1,5 +1,5 @@
 -- The digits, levels and visits of `Table::Wide`, by shifts and bit positions.
-use Rattle.std.proofs.Common.{◌≡◌, ◌≢◌, ◌<◌, ◌≤◌, ◌+◌, ◌-◌, ◌*◌, ◌/◌, ◌%◌, ◌^◌, ℕ, zero, suc, Bool, true, ◌==◌, ◌&&◌, List, [], ◌∷◌, length, refl, sym, ◌∙◌, ap, inl, inr, arith, le_refl, ◌↔◌}
+use Rattle.std.proofs.Common.{◌≡◌, ◌≢◌, ◌<◌, ◌≤◌, ◌+◌, ◌-◌, ◌*◌, ◌/◌, ◌%◌, ◌^◌, ℕ, zero, suc, Bool, true, ◌==◌, ◌&&◌, List, [], ◌∷◌, length, refl, sym, ◌∙◌, ap, inl, inr, arith, ◌↔◌}
 use Rattle.std.proofs.lemmas.Bool.{cases_eq, cases_lt, and_parts, eqb-true}
 use Rattle.std.proofs.lemmas.Nat.{xor_shr, xor_lt, pow-add, and_mask, leading_top, mod-pow-add, pow_pos, shr-shr, shr_le}
 use Rattle.std.proofs.lemmas.Nat.Bits.{bit_at-trailing_zeros}
@@ -7,12 +7,12 @@ use Rattle.std.specs.Int.Bits.{bit_xor, bit_and, xor_self, xor_assoc, xor_zero_l
 use Rattle.std.proofs.Math.Nat.{div-div-eq-div-mul, pow-le-pow_right, pow-suc, mul-le-mul_right, div-mul-le_self}
 use Rattle.std.specs.Int.{w64, trailing_zeros, bit_at}
 use Rattle.std.specs.Int.Count.{count_leading_zeros}
-use Rattle.timer_base.specs.declared.limits.TheConstants.{LAST}
-use Rattle.timer_wheels.specs.declared.table.TheConstants.{MOST_BUCKETS}
-use Rattle.timer_wheels.specs.Digits.{IsTable, HasDigits, digit, radix, level, lowest, slots_below, list_of_slot, bucket, emptied, last_of}
+use Rattle.timer_wheels.specs.Digits.{IsTable, HasDigits, digit, radix, weight, level, lowest, slots_below, list_of_slot, bucket, emptied}
 use Rattle.timer_wheels.specs.Leap.{list_visit}
+use Rattle.timer_wheels.specs.Paces.{pace_at, pace_sum, FitPaces}
+use Rattle.timer_wheels.specs.Smooth.{slot_in, smooth_list}
 use Rattle.timer_wheels.specs.Tables.{wide}
-use Rattle.timer_wheels.proofs.DigitLaws.{level_near, level_far, lowest_here, lowest_above, emptied_here, level_in_table, lowest-bound, visit_here, visit_above, IsHierTable}
+use Rattle.timer_wheels.proofs.DigitLaws.{level_near, level_far, lowest_here, lowest_above, emptied_here, level_in_table, lowest-bound, visit_here, visit_above}
 use Rattle.timer_wheels.proofs.SlotLaws.{list_by_slot}
 
 -- a table of n digits in base 64
@@ -31,9 +31,9 @@ wides_are_table (suc n) = (omega arith, wides_are_table n)
 wide_is_table : IsTable wide
 wide_is_table = rw wide_is (wides_are_table 10)
 
-length-wide : length wide ≡ 10
+pub wide_length : length wide ≡ 10
 unfolding wide
-length-wide = refl
+wide_length = refl
 
 -- Six bits are a digit.
 
@@ -96,18 +96,6 @@ has_digits (suc n) t h = has_digits n (t / 64) (omega (arith, six_more n))
 in_wide : (t : ℕ) → t ≤ 1152921504606846975 → HasDigits wide t
 in_wide t h = rw wide_is (has_digits 10 t (omega arith))
 
-pub wide_fits : IsHierTable wide
-unfolding wide
-wide_fits = record {
-  is_table = wide_is_table;
-  digits = in_wide (last_of wide) (le_refl 1152921504606846975);
-  few_slots = (let h : 640 ≤ MOST_BUCKETS = omega arith in h);
-  in_range = (let h : 1152921504606846975 ≤ LAST = omega arith in h);
-  some_slots = (let h : 0 < 64 = omega arith in h);
-  few_wheels = (let h : 9 ≤ 9 = omega arith in h);
-  more_wheels = (let h : 0 < 10 = omega arith in h);
-}
-
 -- the highest bit in which two ticks differ
 has_top : (a b : ℕ) → a < b → b ≤ 1152921504606846975
     → (j : ℕ) × (count_leading_zeros 64 (bit_xor a b) + suc j ≡ 64) × (2 ^ j ≤ bit_xor a b) × (bit_xor a b < 2 ^ suc j)
@@ -152,7 +140,7 @@ top_bound a b h r =
     omega (arith, turned (count_leading_zeros 64 (bit_xor a b)) z)
 
 pub level_below_ten : (a b : ℕ) → a < b → b ≤ 1152921504606846975 → bit_xor 63 (count_leading_zeros 64 (bit_xor a b)) * 43 / 256 < 10
-level_below_ten a b h r = omega (arith, level_in_table wide a b wide_is_table (in_wide b r) h, level_by_top a b h r, length-wide)
+level_below_ten a b h r = omega (arith, level_in_table wide a b wide_is_table (in_wide b r) h, level_by_top a b h r, wide_length)
 
 -- Digits and slots.
 
@@ -179,6 +167,11 @@ slots_step zero k h = omega arith
 slots_step (suc n) zero h = refl
 slots_step (suc n) (suc k) h = omega (arith, slots_step n k (omega arith))
 
+weight_step : (n k : ℕ) → k < n → weight k (wides n) ≡ 2 ^ (6 * k)
+weight_step zero k h = absurd (omega arith)
+weight_step (suc n) zero h = refl
+weight_step (suc n) (suc k) h = omega (arith, weight_step n k (omega arith), six_more k)
+
 radix_step : (n k : ℕ) → k < n → radix k (wides n) ≡ 64
 radix_step zero k h = absurd (omega arith)
 radix_step (suc n) zero h = refl
@@ -196,7 +189,7 @@ pub list_is_slot : (now deadline k s : ℕ) → now < deadline → deadline ≤ 
     → (bucket wide now deadline ≡ 64 * k + s) ↔ ((level wide now deadline ≡ k) × (digit wide k deadline ≡ s))
 list_is_slot now deadline k s h r b c =
     let e : radix k wide ≡ 64 = rw wide_is (radix_step 10 k b) in
-    rw (← slots_by_product k b) (list_by_slot wide now deadline k s wide_is_table (in_wide deadline r) h (rw length-wide b) (rw e c))
+    rw (← slots_by_product k b) (list_by_slot wide now deadline k s wide_is_table (in_wide deadline r) h (rw wide_length b) (rw e c))
 
 -- The lowest digit by the lowest bit.
 
@@ -253,7 +246,7 @@ emptied_low t n = rw wide_is (sym (emptied_here 64 (wides 9) t n))
 
 pub lowest_below_ten : (t : ℕ) → 0 < t → t ≤ 1152921504606846975 → trailing_zeros w64 t / 6 < 10
 lowest_below_ten t h r =
-    omega (arith, lowest-bound wide t wide_is_table (in_wide t r) (omega arith), lowest_by_zeros t h r, length-wide)
+    omega (arith, lowest-bound wide t wide_is_table (in_wide t r) (omega arith), lowest_by_zeros t h r, wide_length)
 
 -- The next visit of a list.
 
@@ -292,6 +285,54 @@ visit_by_shift l a h r =
     let e : 64 * (l / 64) + l % 64 ≡ l = omega arith in
     mod_small (above (a / 2 ^ (6 * (l / 64))) (l % 64) * 2 ^ (6 * (l / 64))) (in_word (l / 64) (l % 64) a (omega arith) (omega arith) r)
     ∙ rw wide_is (sym (visit_step 10 (l / 64) (l % 64) a (omega arith) (omega arith)) ∙ ap (λ (x : ℕ). list_visit (wides 10) x a) e)
+
+-- Two revolutions of slots.
+
+wide_weight : (k : ℕ) → k < 10 → weight k wide ≡ 2 ^ (6 * k)
+wide_weight k h = rw wide_is (weight_step 10 k h)
+
+wide_radix : (k : ℕ) → k < 10 → radix k wide ≡ 64
+wide_radix k h = rw wide_is (radix_step 10 k h)
+
+pub wide_slot : (k t : ℕ) → k < 10 → t / 2 ^ (6 * k) ≡ slot_in wide k t
+wide_slot k t h = ap (λ (x : ℕ). t / x) (sym (wide_weight k h))
+
+pub wide_turns : (k : ℕ) → k < 10 → 128 ≡ 2 * radix k wide
+wide_turns k h = omega (arith, wide_radix k h)
+
+pub wide_list : (k s : ℕ) → k < 10 → 128 * k + s % 128 ≡ smooth_list wide k s
+wide_list k s h = ap (λ (x : ℕ). 128 * k + s % (2 * x)) (sym (wide_radix k h))
+
+pub wide_shift : (k : ℕ) → k < 10 → 1 * 2 ^ (6 * k) % 18446744073709551616 ≡ weight k wide
+wide_shift k h =
+    let most : 2 ^ (6 * k) ≤ 2 ^ 54 = pow_mono (6 * k) 54 (omega arith) in
+    let less : 1 * 2 ^ (6 * k) < 18446744073709551616 = omega arith in
+    mod_small (1 * 2 ^ (6 * k)) less ∙ (omega (arith, wide_weight k h))
+
+-- The sum of the paces of a smooth wheel.
+
+-- how often a bucket of each wheel may hold n timers' worth of ticks, in sum
+quotients : (n : ℕ) → 63 * (n / 64 + n / 4096 + n / 262144 + n / 16777216 + n / 1073741824 + n / 68719476736 + n / 4398046511104 + n / 281474976710656 + n / 18014398509481984) ≤ n
+quotients n = omega arith
+
+double : (s n : ℕ) → 63 * s ≤ n → 2 * s ≤ 2 * n / 63
+double s n h = omega arith
+
+pub sum_on_wide : (n : ℕ) (paces : List ℕ) → FitPaces wide n paces → pace_sum paces ≤ 2 * n / 63 + 18
+unfolding wide
+sum_on_wide n paces f =
+    let f0 : pace_at paces 0 ≤ 0 = f 0 in
+    let f1 : pace_at paces 1 ≤ 2 * (n / 64 + 1) = f 1 in
+    let f2 : pace_at paces 2 ≤ 2 * (n / 4096 + 1) = f 2 in
+    let f3 : pace_at paces 3 ≤ 2 * (n / 262144 + 1) = f 3 in
+    let f4 : pace_at paces 4 ≤ 2 * (n / 16777216 + 1) = f 4 in
+    let f5 : pace_at paces 5 ≤ 2 * (n / 1073741824 + 1) = f 5 in
+    let f6 : pace_at paces 6 ≤ 2 * (n / 68719476736 + 1) = f 6 in
+    let f7 : pace_at paces 7 ≤ 2 * (n / 4398046511104 + 1) = f 7 in
+    let f8 : pace_at paces 8 ≤ 2 * (n / 281474976710656 + 1) = f 8 in
+    let f9 : pace_at paces 9 ≤ 2 * (n / 18014398509481984 + 1) = f 9 in
+    let d : 2 * (n / 64 + n / 4096 + n / 262144 + n / 16777216 + n / 1073741824 + n / 68719476736 + n / 4398046511104 + n / 281474976710656 + n / 18014398509481984) ≤ 2 * n / 63 = double (n / 64 + n / 4096 + n / 262144 + n / 16777216 + n / 1073741824 + n / 68719476736 + n / 4398046511104 + n / 281474976710656 + n / 18014398509481984) n (quotients n) in
+    omega arith
 
 -- what the functions of the table return
 pub ruleset wide_levels = (level_by_top, top_bound, level_below_ten)

@@ -6,11 +6,11 @@ use Rattle.timer_wheels.specs.Bank.{next_len}
 use Rattle.timer_wheels.specs.Digits.{weight}
 use Rattle.timer_wheels.specs.Smooth.{IsInTime}
 use Rattle.timer_wheels.specs.Tables.{radices}
+pub use Rattle.timer_wheels.specs.Tables.{tick_bound}
 use Rattle.timer_wheels.specs.declared.buckets.Buckets.{Buckets}
 use Rattle.timer_wheels.specs.declared.smooth.paces.TheConstants.{MOST_PACE}
 use Rattle.timer_wheels.specs.declared.smooth.turns.TheConstants.{MOST_WHEELS}
 use Rattle.timer_wheels.specs.declared.table.Table.{Table}
-use Rattle.timer_wheels.specs.declared.table.Table.TheVariants.{Wide, Clock, Small}
 
 -- the pace of wheel k
 abbrev pub pace_at : List ℕ → ℕ → ℕ
@@ -49,12 +49,6 @@ AreInTime table b paces = IsInTime (radices table) b.tick (pace_at paces) b.link
 
 pub AreInTime-prop : {N : Type 0} {kept : Ghosts N} (table : Table) (b : Buckets N kept) (paces : List ℕ) → IsProp (AreInTime table b paces)
 AreInTime-prop table b paces = Π_prop (λ k. Π_prop (λ z. Π_prop (λ l. le_prop)))
-
--- the most moves of a tick, if the paces were fixed for at most n timers: 2n/63 + 18 in `Wide`
-abbrev pub tick_bound : Table → ℕ → ℕ
-tick_bound Wide n = 2 * n / 63 + 18
-tick_bound Clock n = n / 29 + 6
-tick_bound Small n = 2 * n / 15 + 10
 
 -- as many timers of a wheel's next bucket as its pace went, or all; and the pace is the same, or 0 if all are gone
 pub record HasMoved {N : Type 0} {kept : Ghosts N} (table : Table) (old new : Buckets N kept) (paces paces2 : List ℕ) (k : ℕ) : Type 0 where

@@ -1,5 +1,5 @@
 -- The names in the public clauses of `SmoothWheel`.
-use Rattle.std.specs.Prelude.{◌≡◌, ◌<◌, ◌-◌, ◌==◌, if◌then◌else◌, ℕ, List, []}
+use Rattle.std.specs.Prelude.{◌≡◌, ◌<◌, ◌-◌, ℕ, List, []}
 use Rattle.timer_base.specs.declared.timer.Timer.{Timer}
 use Rattle.timer_base.specs.WheelState.{WheelState, after_ticks}
 use Rattle.timer_links.specs.Lists.{KeyedLists}
@@ -11,10 +11,9 @@ use Rattle.timer_wheels.specs.Paces.{pace_sum, FitPaces}
 use Rattle.timer_wheels.specs.Placement.{no_rounds}
 use Rattle.timer_wheels.specs.Shown.{ShowsBuckets}
 use Rattle.timer_wheels.specs.Smooth.{smooth_slots, smooth_bucket, mark}
-use Rattle.timer_wheels.specs.Tables.{radices}
+use Rattle.timer_wheels.specs.Tables.{radices, table_by_turns}
 use Rattle.timer_wheels.specs.declared.smooth.SmoothWheel.{SmoothWheel}
 use Rattle.timer_wheels.specs.declared.table.Table.{Table}
-use Rattle.timer_wheels.specs.declared.table.Table.TheVariants.{Wide, Clock, Small}
 
 -- the smooth wheel that keeps all of a timer
 abbrev pub TimerSmoothWheel : Type 0
@@ -28,11 +27,7 @@ smooth_state wheel = state_of wheel.bank.buckets
 abbrev pub smooth_table : {N : Type 0} {kept : Ghosts N} → SmoothWheel N kept → Table
 smooth_table wheel = wheel.bank.table
 
--- the table whose wheels have this many slots in two revolutions
-abbrev pub table_by_turns : ℕ → Table
-table_by_turns n = if n == smooth_slots (radices Wide) then Wide else if n == smooth_slots (radices Clock) then Clock else Small
-
--- its radices
+-- the radices of the table whose wheels have this many slots in two revolutions
 abbrev pub radices_by_turns : ℕ → List ℕ
 radices_by_turns n = radices (table_by_turns n)
 

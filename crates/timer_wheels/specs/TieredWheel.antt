@@ -1,16 +1,14 @@
 -- The names in the public clauses of `TieredWheel`.
-use Rattle.std.proofs.Common.{◌≡◌, ◌==◌, ◌∙◌, ap, ℕ, Bool, true, false, if◌then◌else◌, List, Option, Some, None, refl}
+use Rattle.std.proofs.Common.{◌≡◌, ◌==◌, ◌∙◌, ap, ℕ, false, if◌then◌else◌, List, Option, Some, None, refl}
 use Rattle.timer_base.specs.Counts.{WheelCounts}
 use Rattle.timer_base.specs.WheelState.{WheelState, IsWellFormed}
 use Rattle.timer_links.specs.declared.kept.Kept.{Ghosts}
 use Rattle.timer_wheels.specs.Buckets.{state_of, state_of-well_formed}
 use Rattle.timer_wheels.specs.declared.buckets.Buckets.{Buckets}
 use Rattle.timer_wheels.specs.HierWheel.{counts_of, counts_of_tick, counts_of_advance}
-use Rattle.timer_wheels.specs.Smooth.{smooth_slots}
 use Rattle.timer_wheels.specs.SmoothWheel.{starts_of, moves_of, moves_ahead, radices_by_turns}
-use Rattle.timer_wheels.specs.Tables.{radices, radices_by_slots, wide, clock, small}
-use Rattle.timer_wheels.specs.declared.table.Table.{Table}
-use Rattle.timer_wheels.specs.declared.table.Table.TheVariants as tables
+use Rattle.timer_wheels.specs.Tables.{radices_by_slots, turns_are_smooth}
+pub use Rattle.timer_wheels.specs.Tables.{is_smooth}
 use Rattle.timer_wheels.specs.declared.tiered.TheConstants.{NEVER}
 use Rattle.timer_wheels.specs.declared.tiered.TieredWheel.{TieredWheel}
 use Rattle.timer_wheels.specs.declared.tiered.TieredWheel.TheVariants.{Hier, Smooth}
@@ -23,11 +21,6 @@ buckets_in (Smooth wheel) = wheel.bank.buckets
 -- the state of the wheel
 abbrev pub tiered_state : {N : Type 0} {kept : Ghosts N} → TieredWheel N kept → WheelState
 tiered_state wheel = state_of (buckets_in wheel)
-
--- whether wheels with this many slots are smooth: they have those of two revolutions
-abbrev pub is_smooth : ℕ → Bool
-is_smooth n = if n == smooth_slots (radices tables.Wide) then true
-    else if n == smooth_slots (radices tables.Clock) then true else n == smooth_slots (radices tables.Small)
 
 -- the radices of the wheels with this many slots
 abbrev pub radices_of_slots : ℕ → List ℕ
@@ -59,12 +52,6 @@ counts_at_advance old new counts = if is_smooth old.slots then counts else count
 
 pub tiered-well_formed : {N : Type 0} {kept : Ghosts N} (wheel : TieredWheel N kept) → IsWellFormed (tiered_state wheel)
 tiered-well_formed wheel = state_of-well_formed (buckets_in wheel)
-
-pub turns_are_smooth : (table : Table) → is_smooth (smooth_slots (radices table)) ≡ true
-unfolding wide clock small
-turns_are_smooth tables.Wide = refl
-turns_are_smooth tables.Clock = refl
-turns_are_smooth tables.Small = refl
 
 -- a hierarchy has no moves to make ahead, and its slots tell it from a smooth wheel
 pub tiered-none_ahead : {N : Type 0} {kept : Ghosts N} (wheel : TieredWheel N kept) → is_smooth (tiered_state wheel).slots ≡ false → moves_ahead_in wheel ≡ 0

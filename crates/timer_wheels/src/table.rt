@@ -9,7 +9,7 @@
 //!     Small   4161 = 1 * 16^3 + 4 * 16 + 1                     digits  0 0 1 0 4 1
 //!
 //! How a digit is found is each table's own matter. All that depends on it is in the table's file (`wide`, `clock`,
-//! `small`), whose public functions are called by those here, and in its row of the two macros.
+//! `small`), whose public functions are called by those here and by those of a smooth wheel's `turns`.
 ghost use Rattle.std.specs.Prelude.{◌≡◌, ◌==◌, ◌<◌, ◌≤◌, ◌/◌, ◌%◌};
 ghost use Rattle.timer_base.specs.declared.limits.TheConstants.{LAST};
 ghost use Rattle.timer_wheels.specs.declared.table.TheConstants.{MOST_BUCKETS};
@@ -17,37 +17,46 @@ ghost use Rattle.timer_wheels.specs.Leap.{list_visit};
 ghost use Rattle.timer_wheels.specs.Tables.{radices, last_of_table};
 ghost use Rattle.timer_wheels.specs.Digits.{bucket, emptied, slots, last_of, lowest_radix};
 
-mod clock;
-mod small;
-mod wide;
+// made by tools/facts: modules of tables
+pub mod clock;
+pub mod small;
+pub mod wide;
 
 /// How many slots each wheel has.
 #[derive(Clone, Copy, Debug, PartialEq, Eq)]
 pub enum Table {
+    // made by tools/facts: tables of the crates
     /// Ten wheels of 64 slots: a clock of 2^60 ticks.
     Wide,
-    /// Wheels of 60 seconds, 60 minutes, 24 hours and 100 days: a clock of 8,640,000 ticks.
+    /// 60 seconds, 60 minutes, 24 hours, 100 days: a clock of 8,640,000 ticks.
     Clock,
-    /// Six wheels of 16 slots, for machines with little memory: a clock of 2^24 ticks.
+    /// Six wheels of 16 slots: a clock of 2^24 ticks.
     Small,
 }
 
-/// The last tick of the clock of `Table::Clock`: day 99, 23:59:59.
+// made by tools/facts: last ticks of the crates
+/// The last tick of the clock of `Table::Clock`: day 99, 23:59:59, or 2.4 hours of milliseconds.
 pub const LAST_OF_CLOCK: u64 = 8639999;
 
-/// The last tick of the clock of `Table::Small`: 2^24 - 1.
+/// The last tick of the clock of `Table::Small`: 2^24 - 1, or 4.6 hours of milliseconds.
 pub const LAST_OF_SMALL: u64 = 16777215;
 
 /// The most buckets that a table has.
 pub const MOST_BUCKETS: usize = 640;
 
+// by hand
+
+/// The lists of each wheel but the highest, if it has two revolutions of slots.
+pub const STRIDE: usize = 128;
+
 /// A call of a function in the table's own file.
 macro_rules! of_table {
     ($table:expr, $function:ident($($argument:expr),*)) => {
         match $table {
-            Table::Wide => wide::$function($($argument),*),
-            Table::Clock => clock::$function($($argument),*),
-            Table::Small => small::$function($($argument),*),
+            // made by tools/facts: calls of tables
+            Table::Wide => crate::table::wide::$function($($argument),*),
+            Table::Clock => crate::table::clock::$function($($argument),*),
+            Table::Small => crate::table::small::$function($($argument),*),
         }
     };
 }
@@ -56,6 +65,7 @@ macro_rules! of_table {
 macro_rules! with_constant_table {
     ($function:ident($table:expr, $($argument:expr),*)) => {
         match $table {
+            // made by tools/facts: constant tables
             Table::Wide => $function(Table::Wide, $($argument),*),
             Table::Clock => $function(Table::Clock, $($argument),*),
             Table::Small => $function(Table::Small, $($argument),*),
@@ -73,6 +83,7 @@ macro_rules! with_wide_table {
     };
 }
 
+pub(crate) use of_table;
 pub(crate) use with_constant_table;
 pub(crate) use with_wide_table;
 

@@ -59,6 +59,7 @@ impl<N: Kept> TieredWheel<N> {
                 let wheel = SmoothWheel::keeping(alloc, Table::Wide, first_tick)?;
                 return Ok(TieredWheel::Smooth(wheel));
             }
+            // made by tools/facts: tables of hierarchies
             Tiers::Wide => Table::Wide,
             Tiers::Clock => Table::Clock,
             Tiers::Small => Table::Small,
@@ -255,6 +256,7 @@ impl<N: Kept> Wheel for TieredWheel<N> {
     fn per_tick(&mut self) {
         match self {
             TieredWheel::Hier(wheel) => match wheel.table() {
+                // made by tools/facts: ticks of tables
                 Table::Wide => wheel.tick_by(Table::Wide),
                 Table::Clock => wheel.tick_by(Table::Clock),
                 Table::Small => wheel.tick_by(Table::Small),

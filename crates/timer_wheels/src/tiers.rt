@@ -4,6 +4,7 @@ ghost use Rattle.timer_wheels.specs.Tiers.{tiers_with_number, table_of_tiers, la
 
 use crate::table::{Table, last_tick_of};
 
+// made by tools/facts: numbers of tiers
 /// The number of `Tiers::Wide`.
 pub const WIDE: u32 = 0;
 
@@ -16,16 +17,19 @@ pub const SMOOTH: u32 = 2;
 /// The number of `Tiers::Small`.
 pub const SMALL: u32 = 3;
 
+// by hand
+
 /// Which wheels a hierarchy has, and when its timers move down.
 #[derive(Clone, Copy, Debug, PartialEq, Eq)]
 pub enum Tiers {
-    /// A `HierWheel` of `Table::Wide`: ten wheels, a clock of 2^60 ticks.
+    // made by tools/facts: tiers
+    /// A `HierWheel` of `Table::Wide`: ten wheels of 64 slots.
     Wide,
-    /// A `HierWheel` of `Table::Clock`: seconds, minutes, hours and days.
+    /// A `HierWheel` of `Table::Clock`: 60 seconds, 60 minutes, 24 hours, 100 days.
     Clock,
-    /// A `SmoothWheel` of `Table::Wide`: ten wheels whose timers move early, a few at a tick.
+    /// A `SmoothWheel` of `Table::Wide`: as `Wide`, with twice the slots, and a few moves at a tick.
     Smooth,
-    /// A `HierWheel` of `Table::Small`: six wheels of 16 slots, in little memory.
+    /// A `HierWheel` of `Table::Small`: six wheels of 16 slots.
     Small,
 }
 
@@ -35,6 +39,7 @@ impl Tiers {
         ensures { result ≡ tiers_with_number number }
     {
         match number {
+            // made by tools/facts: tiers with numbers
             WIDE => Some(Tiers::Wide),
             CLOCK => Some(Tiers::Clock),
             SMOOTH => Some(Tiers::Smooth),
@@ -48,6 +53,7 @@ impl Tiers {
         ensures { result ≡ table_of_tiers self }
     {
         match self {
+            // made by tools/facts: tables of tiers
             Tiers::Wide => Table::Wide,
             Tiers::Clock => Table::Clock,
             Tiers::Smooth => Table::Wide,

@@ -2,13 +2,15 @@
 //!
 //! The loops are shorter than a case for each wheel, and a machine with little memory has little room for code. They pass
 //! five wheels at most.
-ghost use Rattle.std.specs.Prelude.{◌≡◌, ◌==◌, ◌<◌, ◌≤◌, ◌/◌, ◌%◌};
+ghost use Rattle.std.specs.Prelude.{◌≡◌, ◌==◌, ◌<◌, ◌≤◌, ◌*◌, ◌/◌, ◌%◌, length};
 ghost use Rattle.timer_wheels.specs.Leap.{list_visit};
-ghost use Rattle.timer_wheels.specs.Digits.{bucket, emptied, slots, last_of, lowest_radix};
+ghost use Rattle.timer_wheels.specs.Digits.{level, bucket, emptied, slots, radix, weight, last_of, lowest_radix};
+ghost use Rattle.timer_wheels.specs.Smooth.{slot_in, smooth_list, smooth_slots};
 ghost use Rattle.timer_wheels.specs.Tables.{small};
+ghost use Rattle.timer_wheels.specs.declared.smooth.turns.TheConstants.{MOST_WHEELS, MOST_LISTS};
 ghost use Rattle.timer_wheels.specs.declared.table.TheConstants.{LAST_OF_SMALL, MOST_BUCKETS};
 
-use crate::table::LAST_OF_SMALL;
+use crate::table::{LAST_OF_SMALL, STRIDE};
 
 /// How many bits a digit has.
 const DIGIT_BITS: u32 = 4;
@@ -110,4 +112,79 @@ pub fn visit_of(list: usize, now: u64) -> u64
     let shift = DIGIT_BITS * (list / RADIX) as u32;
     let above = now >> shift;
     (above - above % 16 + (list % RADIX) as u64) << shift
+}
+
+/// How many wheels there are.
+#[inline]
+#[tactic(auto, unfolding(crate::specs::Tables::small))]
+pub fn wheels() -> usize
+    ensures value { result ≡ length small }
+    ensures few { result ≤ MOST_WHEELS }
+    ensures some { 0 < result }
+{
+    6
+}
+
+/// How many lists the buckets are, with two revolutions of slots each.
+#[inline]
+#[tactic(auto, unfolding(crate::specs::Tables::small))]
+pub fn turned_lists() -> usize
+    ensures value { result ≡ smooth_slots small }
+    ensures in_range { result ≤ MOST_LISTS }
+{
+    672
+}
+
+/// How many ticks a slot of a wheel is.
+#[inline]
+#[tactic(auto, using(crate::proofs::SmallDigits::small_shift, crate::proofs::SmallDigits::small_length))]
+pub fn weight_of(wheel: usize) -> u64
+    requires { wheel < length small }
+    ensures { result ≡ weight wheel small }
+{
+    1 << (4 * wheel)
+}
+
+/// How many slots a wheel has in two revolutions.
+#[inline]
+#[tactic(auto, using(crate::proofs::SmallDigits::small_turns, crate::proofs::SmallDigits::small_length))]
+pub fn turns_of(wheel: usize) -> u64
+    requires { wheel < length small }
+    ensures value { result ≡ 2 * radix wheel small }
+    ensures few { result ≤ 200 }
+{
+    32
+}
+
+/// The slot of a tick on a wheel, counted from tick 0 on.
+#[inline]
+#[tactic(auto, using(crate::proofs::SmallDigits::small_slot, crate::proofs::SmallDigits::small_length))]
+pub fn slot_of(wheel: usize, tick: u64) -> u64
+    requires { wheel < length small }
+    ensures { result ≡ slot_in small wheel tick }
+{
+    tick >> (4 * wheel)
+}
+
+/// The list of such a slot.
+#[inline]
+#[tactic(auto, using(crate::proofs::SmallDigits::small_list), unfolding(crate::specs::Tables::small))]
+pub fn list_of_slot(wheel: usize, slot: u64) -> usize
+    requires { wheel < length small }
+    ensures value { result ≡ smooth_list small wheel slot }
+    ensures in_range { result < smooth_slots small }
+{
+    STRIDE * wheel + (slot % 32) as usize
+}
+
+/// The highest wheel on which a deadline has another digit than now.
+#[inline]
+#[tactic(auto, using(crate::proofs::SmallDigits::small_level, crate::proofs::SmallDigits::small_level_in_range), unfolding(crate::specs::Tables::small))]
+pub fn wheel_of(now: u64, deadline: u64) -> usize
+    requires later { now < deadline }
+    requires deadline { deadline ≤ last_of small }
+    ensures value { result ≡ level small now deadline }
+    ensures in_range { result < length small }
+{
+    bucket_of(now, deadline) / 16
 }

@@ -2,13 +2,16 @@
 //!
 //! A digit is six bits: the highest digit in which two ticks differ holds the highest bit in which they differ, and the
 //! lowest digit that isn't zero holds the lowest bit that is set.
-ghost use Rattle.std.specs.Prelude.{◌≡◌, ◌==◌, ◌<◌, ◌≤◌, ◌/◌, ◌%◌};
+ghost use Rattle.std.specs.Prelude.{◌≡◌, ◌==◌, ◌<◌, ◌≤◌, ◌*◌, ◌/◌, ◌%◌, length};
 ghost use Rattle.timer_base.specs.declared.limits.TheConstants.{LAST};
 ghost use Rattle.timer_wheels.specs.Leap.{list_visit};
-ghost use Rattle.timer_wheels.specs.Digits.{digit, level, lowest, bucket, emptied, slots, last_of, lowest_radix};
+ghost use Rattle.timer_wheels.specs.Digits.{digit, level, lowest, bucket, emptied, slots, radix, weight, last_of, lowest_radix};
+ghost use Rattle.timer_wheels.specs.Smooth.{slot_in, smooth_list, smooth_slots};
 ghost use Rattle.timer_wheels.specs.Tables.{wide};
+ghost use Rattle.timer_wheels.specs.declared.smooth.turns.TheConstants.{MOST_WHEELS, MOST_LISTS};
 ghost use Rattle.timer_wheels.specs.declared.table.TheConstants.{MOST_BUCKETS};
 
+use crate::table::STRIDE;
 use timer_base::LAST;
 
 /// How many bits a digit has.
@@ -149,4 +152,79 @@ pub fn visit_of(list: usize, now: u64) -> u64
     let shift = DIGIT_BITS * (list / RADIX) as u32;
     let above = now >> shift;
     (above - above % 64 + (list % RADIX) as u64) << shift
+}
+
+/// How many wheels there are.
+#[inline]
+#[tactic(auto, unfolding(crate::specs::Tables::wide))]
+pub fn wheels() -> usize
+    ensures value { result ≡ length wide }
+    ensures few { result ≤ MOST_WHEELS }
+    ensures some { 0 < result }
+{
+    10
+}
+
+/// How many lists the buckets are, with two revolutions of slots each.
+#[inline]
+#[tactic(auto, unfolding(crate::specs::Tables::wide))]
+pub fn turned_lists() -> usize
+    ensures value { result ≡ smooth_slots wide }
+    ensures in_range { result ≤ MOST_LISTS }
+{
+    1280
+}
+
+/// How many ticks a slot of a wheel is.
+#[inline]
+#[tactic(auto, using(crate::proofs::WideDigits::wide_shift, crate::proofs::WideDigits::wide_length))]
+pub fn weight_of(wheel: usize) -> u64
+    requires { wheel < length wide }
+    ensures { result ≡ weight wheel wide }
+{
+    1 << (6 * wheel)
+}
+
+/// How many slots a wheel has in two revolutions.
+#[inline]
+#[tactic(auto, using(crate::proofs::WideDigits::wide_turns, crate::proofs::WideDigits::wide_length))]
+pub fn turns_of(wheel: usize) -> u64
+    requires { wheel < length wide }
+    ensures value { result ≡ 2 * radix wheel wide }
+    ensures few { result ≤ 200 }
+{
+    128
+}
+
+/// The slot of a tick on a wheel, counted from tick 0 on.
+#[inline]
+#[tactic(auto, using(crate::proofs::WideDigits::wide_slot, crate::proofs::WideDigits::wide_length))]
+pub fn slot_of(wheel: usize, tick: u64) -> u64
+    requires { wheel < length wide }
+    ensures { result ≡ slot_in wide wheel tick }
+{
+    tick >> (6 * wheel)
+}
+
+/// The list of such a slot.
+#[inline]
+#[tactic(auto, using(crate::proofs::WideDigits::wide_list), unfolding(crate::specs::Tables::wide))]
+pub fn list_of_slot(wheel: usize, slot: u64) -> usize
+    requires { wheel < length wide }
+    ensures value { result ≡ smooth_list wide wheel slot }
+    ensures in_range { result < smooth_slots wide }
+{
+    STRIDE * wheel + (slot % 128) as usize
+}
+
+/// The highest wheel on which a deadline has another digit than now.
+#[inline]
+#[tactic(auto, unfolding(crate::specs::Tables::wide))]
+pub fn wheel_of(now: u64, deadline: u64) -> usize
+    requires later { now < deadline }
+    requires deadline { deadline ≤ last_of wide }
+    ensures value { result ≡ level wide now deadline }
+    ensures in_range { result < length wide }
+{
+    level_of(now, deadline) as usize
 }

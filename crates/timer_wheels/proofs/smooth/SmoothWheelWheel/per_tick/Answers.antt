@@ -3,7 +3,8 @@ use Rattle.timer_base.specs.declared.limits.TheConstants.{LAST}
 use Rattle.timer_base.specs.WheelState.{WheelState}
 use Rattle.timer_wheels.specs.Bank.{potential_of}
 use Rattle.timer_wheels.specs.Tables.{radices}
-use Rattle.timer_wheels.proofs.SmoothTotals.{ticks_empty, in_time_ticked, held_rows, paid_most, sum_bound, fit_lower}
+use Rattle.timer_wheels.proofs.SmoothTotals.{ticks_empty, in_time_ticked, held_rows, paid_most, fit_lower}
+use Rattle.timer_wheels.proofs.TableLaws.{sum_bound}
 use Rattle.timer_wheels.proofs.smooth.SmoothWheelWheel.per_tick.Goals as goal
 
 pub next_tick-requires-clause-empty : goal.next_tick-requires-clause-empty

@@ -3,6 +3,7 @@ use Rattle.timer_wheels.specs.HierWheel.{hier_state, counts_of, counts_of_tick}
 use Rattle.timer_wheels.proofs.TieredLemmas.{hier_chosen}
 use Rattle.timer_wheels.proofs.tiered.TieredWheelWheel.per_tick.Goals as goal
 
+-- made by tools/facts: answers of ticks
 pub returns-in-Wide-clause-counts : goal.returns-in-Wide-clause-counts
 returns-in-Wide-clause-counts g c =
     let wheel = c.in-Hier.wheel in

@@ -2,6 +2,7 @@ use Rattle.std.proofs.Common.{◌≡◌, ◌≤◌, ◌+◌, ◌/◌, ◌%◌, �
 use Rattle.timer_links.specs.declared.kept.Kept.{Ghosts}
 use Rattle.timer_wheels.specs.declared.table.Table.{Table}
 use Rattle.timer_wheels.specs.Digits.{lowest_radix}
+-- made by tools/facts: variants in proofs
 use Rattle.timer_wheels.specs.declared.table.Table.TheVariants.{Wide, Clock, Small}
 use Rattle.timer_wheels.specs.declared.wheels.Wheels.{Wheels}
 use Rattle.timer_wheels.specs.Leap.{AreNotVisitedBefore}
@@ -20,6 +21,7 @@ quiet_by : {N : Type 0} {kept : Ghosts N} (w : Wheels N kept) (end : ℕ) (t : T
     → AreNotVisitedBefore (radices w.table) w.buckets.slots w.buckets.tick (end + 1) w.buckets.links.lists
 quiet_by w end t e a b = quiet_to w.hier end (subst (IsWithin w end) (sym e) a) (subst (IsClear w end) (sym e) b)
 
+-- made by tools/facts: answers of quiet tables
 pub returns-in-Wide-clause-not_before : goal.returns-in-Wide-clause-not_before
 returns-in-Wide-clause-not_before g c = λ yes. quiet_by c.args.self.now c.args.end Wide c.in-Wide.is
     (c.is_clear_to.ensures.within yes) (c.is_clear_to.ensures.clear yes)
