@@ -223,12 +223,11 @@ impl<N: Kept> HierWheel<N> {
         ensures ticked { hier_state self.new ≡ after_tick (hier_state self.old) }
         ensures counts { counts_of self.new ≡ counts_of_tick (hier_state self.old) (counts_of self.old) }
     {
-        let tick = self.wheels.buckets.tick + 1;
-        let slot = (tick % lowest_slots(table) as u64) as usize;
-        if slot == 0 {
-            self.roll_over();
+        let list = emptied_at(table, self.wheels.buckets.tick + 1);
+        if list < lowest_slots(table) {
+            self.visit(list);
         } else {
-            self.visit(slot);
+            self.visit_apart(list);
         }
     }
 
@@ -247,16 +246,17 @@ impl<N: Kept> HierWheel<N> {
         counts.add_moves(moves);
     }
 
-    /// Advances by one tick, at which the lowest wheel begins anew. It empties a bucket of a higher wheel.
-    // Out of line, with all that finds the bucket.
+    /// The same, out of line.
     #[inline(never)]
-    fn roll_over(&mut self)
+    fn visit_apart(&mut self, list: usize)
         requires nothing_due { (hier_state self.old).due ≡ [] }
         requires before_last { (hier_state self.old).now < (hier_state self.old).last_tick }
+        requires emptied { list ≡ emptied (radices (table_of self.old)) ((hier_state self.old).now + 1) }
+        requires in_range { list < slots (radices (table_of self.old)) }
         ensures ticked { hier_state self.new ≡ after_tick (hier_state self.old) }
         ensures counts { counts_of self.new ≡ counts_of_tick (hier_state self.old) (counts_of self.old) }
     {
-        self.visit(emptied_at(self.wheels.table, self.wheels.buckets.tick + 1));
+        self.visit(list);
     }
 
     /// The clock and the buckets.
