@@ -164,6 +164,7 @@ impl Wheel for PlainWheel {
         Ok(())
     }
 
+    #[tactic(auto, using(crate::proofs::PlainHeld::held_here, crate::proofs::PlainHeld::names_one))]
     fn look(&self, handle: Handle) -> Option<Timer> {
         if handle.place != 0 {
             return None;

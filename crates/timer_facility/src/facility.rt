@@ -225,6 +225,7 @@ impl<W: Wheel + Drop> Facility<W> {
     /// is out of memory. The place in a `Started` or `Restarted` is a free choice of the wheel. No timer may
     /// wait to be handed out. Afterwards one waits exactly if it was started for a tick that has passed, by `StartAt`
     /// or `RestartAt`.
+    #[tactic(auto, using(crate::proofs::VerdictLemmas::takable))]
     #[inline(always)]
     pub fn take(&mut self, client: u64, number: u64, request: Request) -> Result<Answer, NotTaken>
         requires { self.old.waiting ≡ [] }

@@ -6,14 +6,6 @@ use Rattle.timer_facility.proofs.VerdictLemmas.{takable}
 use Rattle.timer_facility.proofs.StepLemmas.{answered-leaves, answered-waiting, taken-answered}
 use Rattle.timer_facility.proofs.facility.Facility.take.Goals as goal
 
-pub answer-requires-clause-client : goal.answer-requires-clause-client
-answer-requires-clause-client g c = (takable c.args.self.now.state c.args.client c.args.number c.in_default.ensures.verdict).is_client
-
-pub overflow_add-self : goal.overflow_add-self
-overflow_add-self g c =
-    let t = takable c.args.self.now.state c.args.client c.args.number c.in_default.ensures.verdict in
-    omega (arith, t.to_next, t.in_range)
-
 pub invariant_of-self : goal.invariant_of-self
 invariant_of-self g c =
     let t = takable c.args.self.now.state c.args.client c.args.number c.in_default.ensures.verdict in
