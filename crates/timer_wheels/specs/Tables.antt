@@ -1,5 +1,4 @@
 -- The tables that a hierarchy of wheels may have: a row of each definition for each of them.
--- made by tools/facts: specification of tables
 use Rattle.std.specs.Prelude.{◌≡◌, ℕ, ◌+◌, ◌*◌, ◌/◌, ◌==◌, Bool, true, if◌then◌else◌, List, [], ◌∷◌}
 use Rattle.std.proofs.Common.{refl}
 use Rattle.timer_base.specs.declared.limits.TheConstants.{LAST}
@@ -9,15 +8,15 @@ use Rattle.timer_wheels.specs.declared.table.Table.TheVariants.{Wide, Clock, Sma
 use Rattle.timer_wheels.specs.Digits.{slots}
 use Rattle.timer_wheels.specs.Smooth.{smooth_slots}
 
--- ten wheels of 64 slots
+-- ten digits in base 64
 unfoldable pub wide : List ℕ
 wide = 64 ∷ 64 ∷ 64 ∷ 64 ∷ 64 ∷ 64 ∷ 64 ∷ 64 ∷ 64 ∷ 64 ∷ []
 
--- 60 seconds, 60 minutes, 24 hours, 100 days
+-- seconds, minutes, hours and days
 unfoldable pub clock : List ℕ
 clock = 60 ∷ 60 ∷ 24 ∷ 100 ∷ []
 
--- six wheels of 16 slots
+-- six digits in base 16
 unfoldable pub small : List ℕ
 small = 16 ∷ 16 ∷ 16 ∷ 16 ∷ 16 ∷ 16 ∷ []
 

@@ -1,5 +1,4 @@
 -- The wheels that a hierarchy can have, and the numbers by which C names them.
--- made by tools/facts: specification of tiers
 use Rattle.std.specs.Prelude.{ℕ, ◌≡◌, ◌≤◌, ◌==◌, if◌then◌else◌, Option, Some, None}
 use Rattle.timer_wheels.specs.declared.table.Table.{Table}
 use Rattle.timer_wheels.specs.declared.table.Table.TheVariants as tables
@@ -11,7 +10,8 @@ use Rattle.timer_wheels.specs.Tables.{radices, last_of_table, slots_of_table}
 
 -- the wheels with this number, if there are any
 abbrev pub tiers_with_number : ℕ → Option Tiers
-tiers_with_number number = if number == WIDE then Some Wide else if number == CLOCK then Some Clock else if number == SMOOTH then Some Smooth else if number == SMALL then Some Small else None
+tiers_with_number number = if number == WIDE then Some Wide else if number == CLOCK then Some Clock
+    else if number == SMOOTH then Some Smooth else if number == SMALL then Some Small else None
 
 -- the table of their radices
 abbrev pub table_of_tiers : Tiers → Table
