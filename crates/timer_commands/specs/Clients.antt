@@ -1,15 +1,15 @@
 -- Clients in threads: the ranges of their options, and how a call with them ends.
 use Rattle.std.specs.Prelude.{◌≡◌, ℕ, ◌≤◌, ◌⊎◌, ◌++◌, true, false, List, Option, Result, Ok, Err, Vec, codes, decimal}
 use Rattle.std.specs.Io.KnownBytes.{Appends}
-use Rattle.timer_threads.specs.declared.fault.ThreadsFault.{ThreadsFault}
-use Rattle.timer_threads.specs.declared.fault.ThreadsFault.TheVariants as faults
+use Rattle.timer_threads.specs.declared.outcome.ThreadsFault.{ThreadsFault}
+use Rattle.timer_threads.specs.declared.outcome.ThreadsFault.TheVariants as faults
 use Rattle.timer_threads.specs.Threads.{whole_text, IsRun, IsExplained, HasSucceeded}
 use Rattle.timer_commands.specs.declared.threads_options.ThreadsOptions.{ThreadsOptions}
 use Rattle.timer_script.specs.declared.watched.Watched.{Watched}
 use Rattle.timer_script.specs.Watched.{inner_of, has_failed}
 
 -- 1 to 64 clients, with 1 to 10,000 timers each
-pub record AreFew (options : ThreadsOptions) : Type 0 where
+pub record IsRunnable (options : ThreadsOptions) : Type 0 where
   pub some_clients : 1 ≤ options.clients
   pub few_clients : options.clients ≤ 64
   pub some_timers : 1 ≤ options.timers
@@ -20,10 +20,10 @@ abbrev pub client_fault : ℕ → List ℕ
 client_fault client = codes "client " ++ decimal client ++ codes " failed\n"
 
 -- the line of an error
-abbrev pub fault_line : ThreadsFault → List ℕ
-fault_line faults.OutOfMemory = codes "out of memory\n"
-fault_line (faults.Client client) = client_fault client
-fault_line faults.Desk = codes "desk failed\n"
+abbrev pub error_line : ThreadsFault → List ℕ
+error_line faults.OutOfMemory = codes "out of memory\n"
+error_line (faults.Client client) = client_fault client
+error_line faults.Desk = codes "desk failed\n"
 
 -- a text was written whole, or a writer failed
 abbrev pub WritesWhole : {S : Type 0} → (S → Option (List ℕ)) → Watched S → Watched S → List ℕ → Type 0
@@ -40,7 +40,7 @@ HasEndedClients (Ok text) contents contents-of-faults writer writer' errors erro
     (contents (inner_of writer')) text.items)
     ⊎ ((status ≡ 1) × (has_failed writer' ≡ true))
 HasEndedClients (Err fault) contents contents-of-faults writer writer' errors errors' status =
-    (status ≡ 1) × (writer' ≡ writer) × WritesWhole contents-of-faults errors errors' (fault_line fault)
+    (status ≡ 1) × (writer' ≡ writer) × WritesWhole contents-of-faults errors errors' (error_line fault)
 
 -- the line of options that are out of range
 abbrev pub range_line : List ℕ
@@ -51,7 +51,7 @@ pub record IsReported {F : Type 0} (options : ThreadsOptions) (reports : F → O
     (faults faults' : Watched F) : Type 0 where
   pub fault : ThreadsFault
   pub explained : IsExplained options.clients options.timers 10000000 fault
-  pub line : WritesWhole reports faults faults' (fault_line fault)
+  pub line : WritesWhole reports faults faults' (error_line fault)
 
 -- The clients ran, with this limit of idle turns, and their whole text was written. Or it was not, and unless the writer
 -- failed, the line says why.
@@ -60,12 +60,12 @@ pub record HasRunClients {S F : Type 0} (options : ThreadsOptions) (contents : S
   pub in_range : status ≤ 2
   -- 0: the whole text was written
   pub written : status ≡ 0
-      → AreFew options × IsRun options.clients options.timers 10000000 HasSucceeded
+      → IsRunnable options × IsRun options.clients options.timers 10000000 HasSucceeded
       × Appends (contents (inner_of writer)) (contents (inner_of writer'))
       (whole_text options.clients options.timers)
       × (has_failed writer' ≡ false)
   -- 1: the writer failed, or nothing was written, for this reason
-  pub failed : status ≡ 1 → AreFew options × ((has_failed writer' ≡ true)
+  pub failed : status ≡ 1 → IsRunnable options × ((has_failed writer' ≡ true)
       ⊎ ((writer' ≡ writer) × IsReported options reports faults faults'))
   -- 2: an option is out of range, and nothing was written
-  pub refused : status ≡ 2 → ¬ (AreFew options) × (writer' ≡ writer) × WritesWhole reports faults faults' range_line
+  pub refused : status ≡ 2 → ¬ (IsRunnable options) × (writer' ≡ writer) × WritesWhole reports faults faults' range_line

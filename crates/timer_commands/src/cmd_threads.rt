@@ -2,7 +2,7 @@
 ghost use Rattle.std.specs.Prelude.{◌≡◌, IfOk, IfErr, OnOk, OnErr, IsTrue, ◌↔◌, vec_len, true, false};
 ghost use Rattle.std.specs.Io.KnownBytes.{Appends};
 ghost use Rattle.timer_threads.specs.Threads.{whole_text, IsRun, IsExplained, HasSucceeded};
-ghost use Rattle.timer_commands.specs.Clients.{AreFew, HasRunClients, HasEndedClients, fault_line, client_fault};
+ghost use Rattle.timer_commands.specs.Clients.{IsRunnable, HasRunClients, HasEndedClients, error_line, client_fault};
 ghost use Rattle.timer_script.specs.Watched.{inner_of, has_failed};
 
 use crate::error_report::report;
@@ -48,7 +48,7 @@ fn run_open(
     alloc: Global,
     options: ThreadsOptions,
 ) -> Result<Vec<u8>, ThreadsFault>
-    requires { AreFew options }
+    requires { IsRunnable options }
     ensures text { IfOk result (λ text. text.items ≡ whole_text options.clients options.timers) }
     ensures ended { IfOk result (λ _. IsRun options.clients options.timers 10000000 HasSucceeded) }
     ensures failed { IfErr result (λ fault. IsExplained options.clients options.timers 10000000 fault) }
@@ -86,7 +86,7 @@ pub fn end_clients<W: Write, F: Write>(
 fn write_fault<F: Write>(fault: ThreadsFault, faults: &mut Watched<F>) -> Result<(), WriteFault>
     requires { has_failed faults.old ≡ false }
     ensures ok { OnOk result (Appends (F.contents (inner_of faults.old)) (F.contents (inner_of faults.new))
-        (fault_line fault)) }
+        (error_line fault)) }
     ensures good { OnOk result (has_failed faults.new ≡ false) }
     ensures failed { OnErr result (has_failed faults.new ≡ true) }
 {

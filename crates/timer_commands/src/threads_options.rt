@@ -15,11 +15,11 @@ pub struct ThreadsOptions {
 }
 
 impl ThreadsOptions {
-    ghost use Rattle.timer_commands.specs.Clients.{AreFew};
+    ghost use Rattle.timer_commands.specs.Clients.{IsRunnable};
 
     /// Whether there are 1 to 64 clients, with 1 to 10,000 timers each.
     pub fn is_in_range(&self) -> bool
-        ensures { (IsTrue result) ↔ AreFew self.now }
+        ensures { (IsTrue result) ↔ IsRunnable self.now }
     {
         self.clients >= 1
             && self.clients <= MAX_CLIENTS

@@ -12,7 +12,7 @@ use Rattle.timer_facility.specs.Facility.{FacilityView, with_nothing_waiting}
 use Rattle.timer_desk.specs.declared.word.Word.TheVariants as Words
 use Rattle.timer_desk.specs.declared.report.Done.TheVariants as Dones
 use Rattle.timer_desk.specs.Inlet.{LineKind}
-use Rattle.timer_desk.specs.Flush.{IsGiven, without_words, Flushes}
+use Rattle.timer_desk.specs.Flush.{IsGiven, without_words, FlushesClient}
 use Rattle.timer_desk.specs.Extends.{Extends-refl}
 use Rattle.timer_desk.specs.Backlog.{BacklogState, empty_backlog, with_word, with_words, client_of, with_notice, with_notices, notices_for, HoldsAtMostOneMore}
 use Rattle.timer_desk.specs.Report.{Account, account_of, got_but_held, held_list, HeldIsLast, IsAccount, request_in, word_in, asked_in, words_in, events_in, outs_in, step_in, steps_of}
@@ -223,12 +223,12 @@ flush_call kind c count f inlets bs i i' b b' d low is_i is_b given left =
     })
 
 -- the desk of which the client's outbox was flushed
-pub Flushes-one : {I : Type 0} (kind : LineKind I) (c count : ℕ) (f : FacilityView) (inlets : List I) (backlogs : List BacklogState)
+pub FlushesClient-one : {I : Type 0} (kind : LineKind I) (c count : ℕ) (f : FacilityView) (inlets : List I) (backlogs : List BacklogState)
     (i i' : I) (b b' : BacklogState)
     → length backlogs ≡ length inlets → c < length inlets → i ≡ get_or inlets c i → b ≡ get_or backlogs c b
     → IsGiven kind count b.outbox i i' → b' ≡ without_words count b
-    → Flushes kind c count (desk_of f inlets backlogs) (desk_of f (slice_set inlets c i') (slice_set backlogs c b'))
-Flushes-one kind c count f inlets backlogs i i' b b' as_many low is_i is_b given left =
+    → FlushesClient kind c count (desk_of f inlets backlogs) (desk_of f (slice_set inlets c i') (slice_set backlogs c b'))
+FlushesClient-one kind c count f inlets backlogs i i' b b' as_many low is_i is_b given left =
     let backlog : b ≡ get_or backlogs c (empty_backlog 0) = is_b
     ∙ get_or_default backlogs c b (empty_backlog 0) (omega (arith, as_many, low)) in record {
       line = i';

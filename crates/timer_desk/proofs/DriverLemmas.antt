@@ -19,7 +19,7 @@ use Rattle.timer_desk.specs.Report.{asked, asked_in, flushed}
 use Rattle.timer_desk.specs.Desk.{DeskState, at_rest, clients_of, InRange, ReportHolds}
 use Rattle.timer_desk.specs.Driver.{no_progress, progress_in, progress_of, left_for, all_left, AllDone, HasUnfinishedClient, AllCounted, NoneRanOut, is_served, steps_with, turn_steps, joined, IsIdleTurn, EndsIdle, IsTurn, AreTurns, TakesTurn, Drives}
 use Rattle.timer_desk.specs.Member.{IsKept}
-use Rattle.timer_desk.proofs.Members.{ReportHolds-joined, ReportHolds-nothing, follow, are_owed, IsLaw}
+use Rattle.timer_desk.proofs.Members.{joined_reports, ReportHolds-nothing, follow, are_owed, IsLaw}
 
 -- Reports, joined.
 
@@ -259,7 +259,7 @@ module _ {I : Type 0} (kind : LineKind I) (goal limit : ℕ) where
 
     holds_then : ReportHolds kind (joined turns_then) x z
     holds_then = subst (λ r. ReportHolds kind r x z) (sym (joined-push d.turns t.turn))
-        (ReportHolds-joined kind (joined d.turns) t.turn x y z d.holds t.holds)
+        (joined_reports kind (joined d.turns) t.turn x y z d.holds t.holds)
 
     each_then : AreTurns goal limit (clients_of x) turns_then
     each_then = AreTurns-push goal limit (clients_of x) d.turns t.turn d.each (record {

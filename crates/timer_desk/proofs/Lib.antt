@@ -5,5 +5,5 @@ pub mod DriverLemmas
 pub mod DriveBounds
 pub mod ForwardLemmas
 pub mod ProgressLemmas
-pub mod ShutdownLemmas
-pub mod StoppingLemmas
+pub mod WindingUpLemmas
+pub mod SettlementLemmas

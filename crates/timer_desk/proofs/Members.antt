@@ -14,7 +14,7 @@ use Rattle.timer_desk.specs.Inlet.{LineKind}
 use Rattle.timer_desk.specs.Backlog.{BacklogState, notices_for}
 use Rattle.timer_desk.specs.Extends.{Extends, Extends-refl, Extends-front, Extends-is, Extends-trans}
 use Rattle.timer_desk.specs.Forward.{RanOutOfMemory}
-use Rattle.timer_desk.specs.Report.{Account, got_but_held, held_list, left_of, HeldIsLast, IsAccount, ClientAccount, Runs, asked, words, flushed, events, outs, asked_in, words_in, flushed_in, events_in, outs_in}
+use Rattle.timer_desk.specs.Report.{Account, got_but_held, held_list, requests_left, HeldIsLast, IsAccount, ClientAccount, Runs, asked, words, flushed, events, outs, asked_in, words_in, flushed_in, events_in, outs_in}
 use Rattle.timer_desk.specs.Member.{Moment, ServeRespectsRoom, FacilityMember, IsRight, waiting_outs, is_notice, hands_out, is_any, account_then, IsKept, Member, Members}
 use Rattle.timer_desk.specs.Laws.{IsNeeded, outbox_after, pending_after, RespectsRoom, IsInTime}
 use Rattle.timer_desk.specs.Desk.{DeskState, clients_of, at_rest, account_at, ReportHolds, NoticesFollow, IsOwed, AreOwed}
@@ -228,9 +228,9 @@ module _ {I : Type 0} (kind : LineKind I) where
     lines = λ c i low. kind.reflexive (get_or x.inlets c i);
   }
 
-  pub ReportHolds-joined : (r q : List Done) (x y z : DeskState I) → ReportHolds kind r x y → ReportHolds kind q y z
+  pub joined_reports : (r q : List Done) (x y z : DeskState I) → ReportHolds kind r x y → ReportHolds kind q y z
       → ReportHolds kind (r ++ q) x z
-  ReportHolds-joined r q x y z f g = record {
+  joined_reports r q x y z f g = record {
     members = members_append kind r q (at_rest x) (at_rest y) (at_rest z) f.members g.members;
     same_clients = g.same_clients ∙ f.same_clients;
     lines = λ c i low. kind.transitive (get_or x.inlets c i) (get_or y.inlets c i) (get_or z.inlets c i) (f.lines c i low)
@@ -298,7 +298,7 @@ module _ {I : Type 0} (kind : LineKind I) where
               let few = account_before.fewer_left in
               rw (sym account_before.same_room, outbox_is c past a (account_then kind there.before c i b) account_before, sym pending_before)
               (by_fewer_left (get_or there.before.backlogs c b).room (length (get_or there.before.backlogs c b).outbox)
-              (left_of (account_then kind there.before c i b)) (left_of a - length (asked c past))
+              (requests_left (account_then kind there.before c i b)) (requests_left a - length (asked c past))
               (pending_of there.before.facility.state c) result (omega arith) one.room);
           needed = λ e.
               let one = (there.member.clients c i b within).serve NoMemory e in

@@ -52,6 +52,6 @@ pub record HoldsAtMostOneMore (client : ℕ) (f g : FacilityView) : Type 0 where
 
 -- each outbox has room for its words, for a notice of each pending timer of its client, and for its notices
 -- that wait
-abbrev pub HasRoom : List BacklogState → FacilityView → Type 0
-HasRoom bs f = (c : ℕ) (d : BacklogState) → c < length bs
+abbrev pub HasRoomForNotices : List BacklogState → FacilityView → Type 0
+HasRoomForNotices bs f = (c : ℕ) (d : BacklogState) → c < length bs
     → length (get_or bs c d).outbox + pending_of f.state c + notices_for c f.waiting ≤ (get_or bs c d).room

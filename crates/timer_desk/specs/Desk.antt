@@ -1,5 +1,5 @@
 -- The abstract state of a desk, and the desk before and after a report.
-use Rattle.std.specs.Prelude.{◌≡◌, if◌then◌else◌, ℕ, ◌++◌, ◌<◌, Bool, true, false, List, [], ◌∷◌, length, map, get_or, replicate, None, Ok}
+use Rattle.std.specs.Prelude.{◌≡◌, if◌then◌else◌, ℕ, ◌++◌, ◌<◌, Bool, true, false, List, [], ◌∷◌, length, map, get_or, replicate, None, Ok, ◌≤◌, ◌⊎◌}
 use Rattle.timer_desk.specs.Types.{Notice, Served, Done, Step}
 use Rattle.timer_facility.specs.State.{FacilityState, Tick, Close}
 use Rattle.timer_facility.specs.Facility.{FacilityView, with_nothing_waiting}
@@ -14,6 +14,9 @@ use Rattle.timer_desk.specs.Inlet.{LineKind}
 use Rattle.timer_desk.specs.Backlog.{BacklogState, empty_backlog}
 use Rattle.timer_desk.specs.Report.{Account, account_of, served_events, steps_of, events, outs}
 use Rattle.timer_desk.specs.Member.{Moment, Members, IsKept, is_notice, hands_out}
+use Rattle.timer_desk.specs.declared.constructor.OpenFault.{OpenFault}
+use Rattle.timer_desk.specs.declared.constructor.OpenFault.TheVariants.{Room, OutOfMemory}
+use Rattle.timer_desk.specs.declared.constructor.TheConstants.{MIN_ROOM, MAX_ROOM}
 
 -- the facility, in which nothing waits; and for each client its line and its backlog
 pub record DeskState (I : Type 0) : Type 0 where
@@ -28,6 +31,13 @@ opened_desk s inlets room = record {
   inlets = inlets;
   backlogs = replicate (length inlets) (empty_backlog room);
 }
+
+-- why no desk was opened: the facility and the lines are handed back unchanged; `Room` exactly if the room is out of range
+abbrev pub ReturnsArguments : {W I : Type 0} → ℕ → FacilityView → List I → OpenFault W I → Type 0
+ReturnsArguments room facility inlets (Room f is) = (f ≡ facility) × (is.items ≡ inlets)
+    × ((room < MIN_ROOM) ⊎ (MAX_ROOM < room))
+ReturnsArguments room facility inlets (OutOfMemory f is) = (f ≡ facility) × (is.items ≡ inlets)
+    × ((MIN_ROOM ≤ room) × (room ≤ MAX_ROOM))
 
 -- how many clients there are
 abbrev pub clients_of : {I : Type 0} → DeskState I → ℕ

@@ -21,7 +21,7 @@ pub record IsGiven {I : Type 0} (kind : LineKind I) (count : ℕ) (outbox : List
   pub at_most : count ≤ length outbox
 
 -- the first `count` words of client c have left its outbox and stand in its line; all else is the same
-pub record Flushes {I : Type 0} (kind : LineKind I) (c count : ℕ) (old new : DeskState I) : Type 0 where
+pub record FlushesClient {I : Type 0} (kind : LineKind I) (c count : ℕ) (old new : DeskState I) : Type 0 where
   pub line : I
   pub given : (i : I) → IsGiven kind count (backlog_at old c).outbox (get_or old.inlets c i) line
   pub desk : new ≡ record old {

@@ -6,7 +6,7 @@ use Rattle.timer_facility.specs.Facility.{NeedsMemory}
 use Rattle.timer_desk.specs.Types.{Numbered, Served, Done}
 use Rattle.timer_desk.specs.declared.report.Served.TheVariants.{NoMemory}
 use Rattle.timer_desk.specs.declared.report.Done.TheVariants as Dones
-use Rattle.timer_desk.specs.Report.{Account, left_of, held_list, asked, words, flushed, events, outs}
+use Rattle.timer_desk.specs.Report.{Account, requests_left, held_list, asked, words, flushed, events, outs}
 use Rattle.timer_desk.specs.Member.{ServeRespectsRoom, IsRight, is_notice}
 
 -- the line may run out of memory, or the facility allocates for the first of these requests
@@ -31,7 +31,7 @@ pending_after c s past = pending_of (run s (events past)).state c
 pub record RespectsRoom (may_refuse : Bool) (c : ℕ) (s : FacilityState) (a b : Account) (past : List Done)
     (done : Done) (later : List Done) : Type 0 where
   pub served : (result : Served) → done ≡ Dones.Served c result
-      → ServeRespectsRoom a.backlog.room (outbox_after c a past) (left_of a - length (asked c past))
+      → ServeRespectsRoom a.backlog.room (outbox_after c a past) (requests_left a - length (asked c past))
       (pending_after c s past) result
   pub needed : done ≡ Dones.Served c NoMemory → IsNeeded may_refuse c (run s (events past)).state
       (asked c later ++ held_list b.backlog.held)

@@ -10,12 +10,10 @@ pub mod Memory
 pub mod Report
 pub mod Laws
 pub mod Event
-pub mod Constructor
-pub mod Ring
+pub mod RingEnds
 pub mod Settlement
 pub mod Locked
 pub mod Queues
-pub mod Shutdown
+pub mod WindingUp
 pub mod Driver
 pub mod Flush
-pub mod Stopping

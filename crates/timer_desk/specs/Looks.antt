@@ -22,7 +22,7 @@ found_after Gone empty = if empty then GoneThenEmpty else Gone
 found_after GoneThenEmpty empty = if empty then GoneThenEmpty else Gone
 
 -- a look at the other end and then one at the items, after which the ring was known to be empty or not
-pub record AreInOrder (old new : Found) (empty : Bool) : Type 0 where
+pub record AreLooksInOrder (old new : Found) (empty : Bool) : Type 0 where
   pub between : Found
   pub at_the_end : MayFind old between
   pub at_the_items : new ≡ found_after between empty

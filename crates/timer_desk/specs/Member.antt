@@ -10,9 +10,9 @@ use Rattle.timer_desk.specs.declared.report.Served.TheVariants.{Idle, NoRoom, No
 use Rattle.timer_desk.specs.declared.report.Done.TheVariants as Dones
 use Rattle.timer_desk.specs.Inlet.{LineKind}
 use Rattle.timer_desk.specs.Extends.{Extends}
-use Rattle.timer_desk.specs.Backlog.{BacklogState, HasRoom}
+use Rattle.timer_desk.specs.Backlog.{BacklogState, HasRoomForNotices}
 use Rattle.timer_desk.specs.Forward.{IsNotOutOfMemory, CarriesAction, RanOutOfMemory}
-use Rattle.timer_desk.specs.Report.{Account, account_of, HeldIsLast, left_of, held_list, IsAccount, asked_in, words_in, flushed_in, events_in, outs_in}
+use Rattle.timer_desk.specs.Report.{Account, account_of, HeldIsLast, requests_left, held_list, IsAccount, asked_in, words_in, flushed_in, events_in, outs_in}
 
 -- a desk between two members: of its facility, whose notices may wait to be handed out; its lines and backlogs
 pub record Moment (I : Type 0) : Type 0 where
@@ -45,7 +45,7 @@ HoldsAfterServe may_refuse c s before (Did numbered word) after =
 -- a serve of client c, whose account was a and is b
 pub record IsServe (may_refuse : Bool) (c : ℕ) (s : FacilityState) (a : Account) (served : Served)
     (b : Account) : Type 0 where
-  pub room : ServeRespectsRoom a.backlog.room (length a.backlog.outbox) (left_of a) (pending_of s c) served
+  pub room : ServeRespectsRoom a.backlog.room (length a.backlog.outbox) (requests_left a) (pending_of s c) served
   pub holds : HoldsAfterServe may_refuse c s a.backlog.held served b.backlog.held
 
 -- no request was taken or tried
@@ -115,7 +115,7 @@ module _ {I : Type 0} (kind : LineKind I) where
   -- for those that wait, and a held request is the last that was got
   pub record IsKept (m : Moment I) : Type 0 where
     pub as_many : length m.backlogs ≡ length m.inlets
-    pub room : HasRoom m.backlogs m.facility
+    pub room : HasRoomForNotices m.backlogs m.facility
     pub held : (c : ℕ) (i : I) (b : BacklogState) → c < length m.inlets → HeldIsLast (account_then m c i b)
 
   -- one member, and the desk before and after it

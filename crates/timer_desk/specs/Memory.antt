@@ -4,21 +4,21 @@ use Rattle.timer_desk.specs.Types.{Numbered, Word}
 use Rattle.timer_desk.specs.declared.test_lines.memory.MemoryInlet.{MemoryInlet}
 use Rattle.timer_desk.specs.Inlet.{LineState, LineKind, SameLine, SameLine-refl, SameLine-trans}
 
-abbrev pub got_of : MemoryInlet → List Numbered
-got_of m = take m.next m.requests.items
+abbrev pub got_of_memory : MemoryInlet → List Numbered
+got_of_memory m = take m.next m.requests.items
 
-abbrev pub standing_of : MemoryInlet → List Numbered
-standing_of m = drop m.next m.requests.items
+abbrev pub standing_of_memory : MemoryInlet → List Numbered
+standing_of_memory m = drop m.next m.requests.items
 
-abbrev pub given_of : MemoryInlet → List Word
-given_of m = m.given.items
+abbrev pub given_of_memory : MemoryInlet → List Word
+given_of_memory m = m.given.items
 
-abbrev pub room_of : MemoryInlet → ℕ
-room_of m = m.room
+abbrev pub room_of_memory : MemoryInlet → ℕ
+room_of_memory m = m.room
 
 -- how many of so many words the line has room for
 abbrev pub fitting : MemoryInlet → ℕ → ℕ
-fitting m count = min count (room_of m - length (given_of m))
+fitting m count = min count (room_of_memory m - length (given_of_memory m))
 
 -- memory is not allocated yet for so many words more
 abbrev pub LacksMemory : MemoryInlet → ℕ → Type 0
@@ -29,7 +29,7 @@ abbrev line_of : MemoryInlet → List Numbered × ℕ
 line_of m = (m.requests.items, m.room)
 
 abbrev state_of : MemoryInlet → LineState
-state_of m = record { got = got_of m; standing = standing_of m; given = given_of m }
+state_of m = record { got = got_of_memory m; standing = standing_of_memory m; given = given_of_memory m }
 
 -- the requests of the line and its room are the same, and more may have been got and given
 abbrev pub SameMemoryLine : MemoryInlet → MemoryInlet → Type 0
@@ -46,7 +46,7 @@ abbrev pub memory_lines : LineKind MemoryInlet
 memory_lines = record {
   state = state_of;
   same = SameMemoryLine;
-  is_full = λ m. room_of m ≤ length (given_of m);
+  is_full = λ m. room_of_memory m ≤ length (given_of_memory m);
   take_may_refuse = false;
   put_may_refuse = true;
   reflexive = SameMemoryLine-refl;

@@ -169,8 +169,8 @@ abbrev pub HeldIsLast : Account → Type 0
 HeldIsLast a = got_but_held a ++ held_list a.backlog.held ≡ a.got
 
 -- how many requests are held or known to stand
-abbrev pub left_of : Account → ℕ
-left_of a = length (held_list a.backlog.held) + length a.standing
+abbrev pub requests_left : Account → ℕ
+requests_left a = length (held_list a.backlog.held) + length a.standing
 
 -- the account was a and is b, after these requests were done, these words pushed and so many of them flushed
 pub record IsAccount (requests : List Numbered) (words : List Word) (flushed : ℕ) (a b : Account) : Type 0 where
@@ -179,7 +179,7 @@ pub record IsAccount (requests : List Numbered) (words : List Word) (flushed : �
   pub asked_are : got_but_held a ++ requests ++ held_list b.backlog.held ≡ b.got
   pub words_are : b.given ++ b.backlog.outbox ≡ a.given ++ a.backlog.outbox ++ words
   pub flushed_are : length b.given ≡ length a.given + flushed
-  pub fewer_left : left_of a ≤ length requests + left_of b
+  pub fewer_left : requests_left a ≤ length requests + requests_left b
   pub same_room : b.backlog.room ≡ a.backlog.room
 
 -- what a report says of client c, whose account was a and is b

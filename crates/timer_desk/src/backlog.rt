@@ -152,6 +152,7 @@ impl Backlog {
     /// Serves the client once: a request is made at the facility, and its word pushed to the outbox. A timer that is
     /// due with it waits at the facility, and the outbox has room for its notice.
     #[inline(always)]
+    #[tactic(auto, using(crate::proofs::ForwardLemmas::clients_are))]
     pub fn serve<I: Inlet, W: Wheel + Drop>(
         &mut self,
         inlet: &mut I,

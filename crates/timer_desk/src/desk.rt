@@ -2,10 +2,9 @@
 ghost use Rattle.std.specs.Prelude.{◌≡◌, ◌<◌, ◌≤◌, ◌⊎◌, [], ◌∷◌, length, get_or, true, IfOk, IfErr, OnOk, OnErr, slice_set, vec_len};
 ghost use Rattle.timer_facility.specs.State.{FacilityState, IsSound, with_room};
 ghost use Rattle.timer_facility.specs.Facility.{NoRoomToClose, with_nothing_waiting};
-ghost use Rattle.timer_desk.specs.Constructor.{ReturnsArguments};
-ghost use Rattle.timer_desk.specs.Flush.{Flushes};
+ghost use Rattle.timer_desk.specs.Flush.{FlushesClient};
 ghost use Rattle.timer_desk.specs.Member.{IsKept};
-ghost use Rattle.timer_desk.specs.Desk.{DeskState, opened_desk, at_rest, clients_of, backlog_at, IsIdle, AllIdle, LeavesAlone, ReportHolds, event_report};
+ghost use Rattle.timer_desk.specs.Desk.{DeskState, opened_desk, ReturnsArguments, at_rest, clients_of, backlog_at, IsIdle, AllIdle, LeavesAlone, ReportHolds, event_report};
 
 use crate::backlog::Backlog;
 use crate::constructor::{MAX_ROOM, MIN_ROOM, OpenFault, empty_backlogs};
@@ -149,7 +148,7 @@ impl<W: Wheel + Drop, I: Inlet + Drop> Desk<W, I> {
     pub fn flush(&mut self, c: usize) -> usize
         requires { c < clients_of self.old }
         ensures report { ReportHolds I.kind (Done.Flushed c result ∷ []) self.old self.new }
-        ensures flushes { Flushes I.kind c result self.old self.new }
+        ensures flushes { FlushesClient I.kind c result self.old self.new }
         ensures stopped { (i : I) → ((backlog_at self.new c).outbox ≡ [])
             ⊎ (I.kind.is_full (get_or self.new.inlets c i) ⊎ (I.kind.put_may_refuse ≡ true)) }
     {

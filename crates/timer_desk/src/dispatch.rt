@@ -1,7 +1,7 @@
 //! Moves the notices that wait into their clients' outboxes.
 ghost use Rattle.std.specs.Prelude.{◌≡◌, ◌≤◌, ◌+◌, ◌++◌, [], map, take, drop, length, slice_get, vec_len, vec_capacity};
 ghost use Rattle.timer_facility.specs.Facility.{with_nothing_waiting};
-ghost use Rattle.timer_desk.specs.Backlog.{client_of, HasRoom, with_notices};
+ghost use Rattle.timer_desk.specs.Backlog.{client_of, HasRoomForNotices, with_notices};
 
 use crate::backlog::Backlog;
 use crate::report::Done;
@@ -12,11 +12,11 @@ use timer_facility::{Facility, Notice};
 /// Pushes each waiting notice to the back of its client's outbox. After most serves none waits.
 #[inline(always)]
 pub fn hand_out<W: Wheel + Drop>(facility: &mut Facility<W>, backlogs: &mut Vec<Backlog>)
-    requires room { HasRoom backlogs.old.items facility.old }
+    requires room { HasRoomForNotices backlogs.old.items facility.old }
     requires clients { vec_len backlogs.old ≡ length facility.old.state.numbers }
     ensures facility { facility.new ≡ with_nothing_waiting facility.old.state }
     ensures noted { backlogs.new.items ≡ with_notices facility.old.waiting backlogs.old.items }
-    ensures room { HasRoom backlogs.new.items facility.new }
+    ensures room { HasRoomForNotices backlogs.new.items facility.new }
 {
     if facility.has_out() {
         hand_out_all(facility, backlogs);
@@ -26,11 +26,11 @@ pub fn hand_out<W: Wheel + Drop>(facility: &mut Facility<W>, backlogs: &mut Vec<
 /// As `hand_out`, where some waits.
 #[inline(never)]
 fn hand_out_all<W: Wheel + Drop>(facility: &mut Facility<W>, backlogs: &mut Vec<Backlog>)
-    requires room { HasRoom backlogs.old.items facility.old }
+    requires room { HasRoomForNotices backlogs.old.items facility.old }
     requires clients { vec_len backlogs.old ≡ length facility.old.state.numbers }
     ensures facility { facility.new ≡ with_nothing_waiting facility.old.state }
     ensures noted { backlogs.new.items ≡ with_notices facility.old.waiting backlogs.old.items }
-    ensures room { HasRoom backlogs.new.items facility.new }
+    ensures room { HasRoomForNotices backlogs.new.items facility.new }
 {
     while hand_out_next(facility, backlogs).is_some() {}
 }
@@ -41,12 +41,12 @@ pub fn hand_out_and_report<W: Wheel + Drop>(
     backlogs: &mut Vec<Backlog>,
     report: &mut Vec<Done>,
 )
-    requires room { HasRoom backlogs.old.items facility.old }
+    requires room { HasRoomForNotices backlogs.old.items facility.old }
     requires clients { vec_len backlogs.old ≡ length facility.old.state.numbers }
     requires report { vec_len report.old + length facility.old.waiting ≤ vec_capacity report.old }
     ensures facility { facility.new ≡ with_nothing_waiting facility.old.state }
     ensures noted { backlogs.new.items ≡ with_notices facility.old.waiting backlogs.old.items }
-    ensures room { HasRoom backlogs.new.items facility.new }
+    ensures room { HasRoomForNotices backlogs.new.items facility.new }
     ensures report { report.new.items ≡ report.old.items ++ map Done.Noticed facility.old.waiting }
     ensures len { vec_len report.new ≡ vec_len report.old + length facility.old.waiting }
     ensures capacity { vec_capacity report.new ≡ vec_capacity report.old }
@@ -61,12 +61,12 @@ fn hand_out_next<W: Wheel + Drop>(
     facility: &mut Facility<W>,
     backlogs: &mut Vec<Backlog>,
 ) -> Option<Notice>
-    requires room { HasRoom backlogs.old.items facility.old }
+    requires room { HasRoomForNotices backlogs.old.items facility.old }
     requires clients { vec_len backlogs.old ≡ length facility.old.state.numbers }
     ensures first { result ≡ slice_get facility.old.waiting 0 }
     ensures rest { facility.new ≡ record facility.old { waiting = drop 1 facility.old.waiting } }
     ensures noted { backlogs.new.items ≡ with_notices (take 1 facility.old.waiting) backlogs.old.items }
-    ensures room { HasRoom backlogs.new.items facility.new }
+    ensures room { HasRoomForNotices backlogs.new.items facility.new }
 {
     let notice = facility.next_out()?;
     let client = client_of(&notice) as usize;

@@ -14,6 +14,7 @@ use crate::inlet::Inlet;
 use timer_facility::laws::notices_are_owed;
 
 /// The reports of two consecutive turns, joined, are one report.
+#[tactic(auto, using(crate::proofs::Members::joined_reports))]
 pub fn reports_join<I: Inlet>()
     ensures { (report next : List Done) (first second third : DeskState I)
         → ReportHolds I.kind report first second

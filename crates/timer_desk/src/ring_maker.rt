@@ -1,10 +1,10 @@
 //! The constructor of a ring line.
 ghost use Rattle.std.specs.Prelude.{◌≡◌, ◌≤◌, [], false, IfOk};
-ghost use Rattle.timer_desk.specs.Ring.{line_of_end, line_of_inlet, submitted, received_by_end, next_of, free_of, got_of, given_of, is_settled, free_of_inlet, found_by_end, found_by_inlet};
+ghost use Rattle.timer_desk.specs.RingEnds.{line_of_end, line_of_inlet, submitted, received_by_end, next_of, free_of, got_of, given_of, is_settled, free_of_inlet, found_by_end, found_by_inlet};
 ghost use Rattle.timer_desk.specs.declared.looks.Found.TheVariants as Found;
 
 use crate::looks::Looks;
-use crate::ring::{ClientEnd, RingInlet};
+use crate::ring_ends::{ClientEnd, RingInlet};
 use rtrb::RingBuffer;
 use std::alloc::Global;
 use timer_base::{LAST, OutOfMemory};

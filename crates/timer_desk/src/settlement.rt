@@ -4,19 +4,18 @@ ghost use Rattle.std.specs.Prelude.{◌≡◌, ◌==◌, ◌+◌, ◌<◌, ◌�
 ghost use Rattle.timer_facility.specs.State.{number_of};
 ghost use Rattle.timer_desk.specs.Backlog.{BacklogState};
 ghost use Rattle.timer_desk.specs.Desk.{clients_of, backlog_at};
-ghost use Rattle.timer_desk.specs.Ring.{line_of_inlet, got_of, standing_of, given_of, is_settled, seen_by_inlet, found_by_inlet, IsOver, requests_ring_of, all_submitted, words_ring_of_reader, read_by, unread_by, is_settled_reader};
-ghost use Rattle.timer_desk.specs.Looks.{MayFind, AreInOrder};
+ghost use Rattle.timer_desk.specs.RingEnds.{line_of_inlet, got_of, standing_of, given_of, is_settled, seen_by_inlet, found_by_inlet, IsOver, requests_ring_of, all_submitted, words_ring_of_reader, read_by, unread_by, is_settled_reader};
+ghost use Rattle.timer_desk.specs.Looks.{MayFind, AreLooksInOrder};
 ghost use Rattle.timer_desk.specs.declared.looks.Found.TheVariants as Found;
-ghost use Rattle.timer_desk.specs.Shutdown.{IsReadOut};
-ghost use Rattle.timer_desk.specs.Stopping.{stop_step, stop_outs};
+ghost use Rattle.timer_desk.specs.WindingUp.{IsReadOut};
 
 use crate::desk::Desk;
-use crate::ring::{ClientReader, RequestsEnded, RingInlet};
+use crate::ring_ends::{ClientReader, RequestsEnded, RingInlet};
 use timer_base::{Handle, Wheel};
 use timer_facility::{Answer, NotTaken, Request};
 
 impl<W: Wheel + Drop> Desk<W, RingInlet> {
-    ghost use Rattle.timer_desk.specs.Settlement.{HasSettled, HasLooked, OnlyLooks};
+    ghost use Rattle.timer_desk.specs.Settlement.{HasSettled, HasLooked, OnlyLooks, stop_step, stop_outs};
 
     /// Settles the line of client c, and returns how many requests stand in it. Does not allocate.
     pub fn settle(&mut self, c: usize, ended: &mut RequestsEnded) -> usize
@@ -57,7 +56,7 @@ impl<W: Wheel + Drop> Desk<W, RingInlet> {
         ensures looks { OnlyLooks c self.old self.new }
         ensures over { (i : RingInlet) → result ≡ true ↔ IsOver (get_or self.new.inlets c i) }
         ensures order { (i : RingInlet) → is_settled (get_or self.old.inlets c i) ≡ false
-            → AreInOrder (found_by_inlet (get_or self.old.inlets c i)) (found_by_inlet (get_or self.new.inlets c i))
+            → AreLooksInOrder (found_by_inlet (get_or self.old.inlets c i)) (found_by_inlet (get_or self.new.inlets c i))
             (length (seen_by_inlet (get_or self.new.inlets c i)) == 0) }
     {
         self.inlets[c].is_over()

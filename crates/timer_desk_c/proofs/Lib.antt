@@ -1,6 +1,4 @@
 pub mod RoundLemmas
 pub mod PlacementLemmas
-pub mod ShutdownLemmas
-pub mod OpeningLemmas
-pub mod PlaceLemmas
+pub mod EndingLemmas
 pub mod StoppingLemmas

@@ -8,7 +8,7 @@ use Rattle.std.proofs.lemmas.List.{length-map, get_or_default}
 use Rattle.std.proofs.Math.ListN.{get_or-map}
 
 -- these ends are left of all of them, and the others are placed
-pub record IsPlaced (life : ℕ) (all : List (Box Line Global)) (before : List CLine) (left : List (Box Line Global))
+pub record IsPlacedSoFar (life : ℕ) (all : List (Box Line Global)) (before : List CLine) (left : List (Box Line Global))
     (lines : List CLine) : Type 0 where
   pub as_many : length lines ≡ length before
   pub long : length before ≡ length all
@@ -29,7 +29,7 @@ value_at all k l b low =
     ∙ get_or-map (λ (x : Box Line Global). x.value) all k b
 
 pub all_held : (life : ℕ) (all : List (Box Line Global)) (before : List CLine) (left : List (Box Line Global)) (lines : List CLine)
-    → IsPlaced life all before left lines → length left ≡ 0 → AreHeld life (map (λ (x : Box Line Global). x.value) all) lines
+    → IsPlacedSoFar life all before left lines → length left ≡ 0 → AreHeld life (map (λ (x : Box Line Global). x.value) all) lines
 all_held life [] before left lines p e = record { as_many = p.as_many ∙ p.long; each = λ k x l low. absurd (omega arith) }
 all_held life (b ∷ bs) before left lines p e =
     let all = b ∷ bs in

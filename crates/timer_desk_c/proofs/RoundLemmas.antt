@@ -13,17 +13,17 @@ use Rattle.timer_desk.specs.declared.report.Served.{Served}
 use Rattle.timer_desk.specs.declared.report.Served.TheVariants.{Idle, NoRoom, NoMemory, Did}
 use Rattle.timer_desk.specs.declared.report.Done.{Done}
 use Rattle.timer_desk.specs.declared.report.Done.TheVariants as Dones
-use Rattle.timer_desk.specs.declared.ring.RingInlet.{RingInlet}
+use Rattle.timer_desk.specs.declared.ring_ends.RingInlet.{RingInlet}
 use Rattle.timer_desk.specs.Backlog.{BacklogState, empty_backlog}
 use Rattle.timer_desk.specs.Member.{IsKept, is_notice}
-use Rattle.timer_desk.specs.Ring.{ring_lines}
+use Rattle.timer_desk.specs.RingEnds.{ring_lines}
 use Rattle.timer_desk.specs.Desk.{at_rest, backlog_at, notices_of, event_report}
-use Rattle.timer_desk.specs.Flush.{Flushes, without_words}
-use Rattle.timer_desk.proofs.Members.{ReportHolds-joined, ReportHolds-nothing}
-use Rattle.timer_desk_c.specs.DeskSlots.{DeskState}
+use Rattle.timer_desk.specs.Flush.{FlushesClient, without_words}
+use Rattle.timer_desk.proofs.Members.{joined_reports, ReportHolds-nothing}
+use Rattle.timer_desk_c.specs.DeskSlots.{RingDesk}
 use Rattle.timer_desk_c.specs.Desks.{Says}
 use Rattle.timer_desk_c.specs.Rounds.{report_of, did, starved, serves_of, without_notices, SaysServes, AllDid, IsServedOut, HasServedClient, HasServedFirst, flush_of, IsFlushedOut, HasFlushedFirst}
-use Rattle.timer_desk_c.specs.Dropped.{IsDropped, HasDropped, HasDroppedFirst, waiting_at}
+use Rattle.timer_desk_c.specs.Freed.{IsDropped, HasDropped, HasDroppedFirst, waiting_at}
 
 -- One more client.
 
@@ -52,10 +52,10 @@ report_of-push {X} members k parts part many =
     ap (flat_map of) (enumerate-push 0 parts part) ∙ flat_map-append of (enumerate_from 0 parts) ((0 + length parts, part) ∷ [])
     ∙ ap (λ r. report_of members parts ++ r) (append-nil (members (0 + length parts) part) ∙ ap (λ n. members n part) e)
 
-says_more : {X : Type 0} (members : ℕ → X → List Done) (k : ℕ) (parts : List X) (part : X) (x y z : DeskState) → length parts ≡ k
+says_more : {X : Type 0} (members : ℕ → X → List Done) (k : ℕ) (parts : List X) (part : X) (x y z : RingDesk) → length parts ≡ k
     → Says (report_of members parts) x y → Says (members k part) y z → Says (report_of members (parts ++ part ∷ [])) x z
 says_more {X} members k parts part x y z many f g =
-    subst (λ r. Says r x z) (sym (report_of-push members k parts part many)) (ReportHolds-joined ring_lines (report_of members parts) (members k part) x y z f g)
+    subst (λ r. Says r x z) (sym (report_of-push members k parts part many)) (joined_reports ring_lines (report_of members parts) (members k part) x y z f g)
 
 -- The serves of one client.
 
@@ -69,14 +69,14 @@ none_starved : (results : List Served) → AllDid results → list_any starved r
 none_starved results all =
     list_any_none starved results (All-weaker (λ s. did s ≡ true) (λ s. starved s ≡ false) fed results all)
 
-no_serves : (x : DeskState) → IsKept ring_lines (at_rest x) → SaysServes [] x x
+no_serves : (x : RingDesk) → IsKept ring_lines (at_rest x) → SaysServes [] x x
 no_serves x kept = record { report = []; says = ReportHolds-nothing ring_lines x kept; serves_are = refl }
 
-serves_joined : (first second all : List Done) (x y z : DeskState) → SaysServes first x y → SaysServes second y z
+serves_joined : (first second all : List Done) (x y z : RingDesk) → SaysServes first x y → SaysServes second y z
     → all ≡ first ++ second → SaysServes all x z
 serves_joined first second all x y z f g e = record {
   report = f.report ++ g.report;
-  says = ReportHolds-joined ring_lines f.report g.report x y z f.says g.says;
+  says = joined_reports ring_lines f.report g.report x y z f.says g.says;
   serves_are = filter-append (λ done. not (is_notice done)) f.report g.report
       ∙ ap (λ r. r ++ without_notices g.report) f.serves_are ∙ ap (λ r. first ++ r) g.serves_are ∙ sym e;
 }
@@ -86,7 +86,7 @@ only_notices [] = refl
 only_notices (n ∷ ns) = only_notices ns
 
 -- a serve with what it hands out
-one_serve : (c : ℕ) (s : Served) (y z : DeskState) → Says (event_report y.facility (Dones.Served c s)) y z
+one_serve : (c : ℕ) (s : Served) (y z : RingDesk) → Says (event_report y.facility (Dones.Served c s)) y z
     → SaysServes (Dones.Served c s ∷ []) y z
 one_serve c s y z says = record {
   report = event_report y.facility (Dones.Served c s);
@@ -94,21 +94,21 @@ one_serve c s y z says = record {
   serves_are = ap (λ r. Dones.Served c s ∷ r) (only_notices (notices_of y.facility (Dones.Served c s)));
 }
 
-serves_more : (c : ℕ) (results : List Served) (s : Served) (x y z : DeskState) → SaysServes (serves_of c results) x y
+serves_more : (c : ℕ) (results : List Served) (s : Served) (x y z : RingDesk) → SaysServes (serves_of c results) x y
     → Says (event_report y.facility (Dones.Served c s)) y z → SaysServes (serves_of c (results ++ s ∷ [])) x z
 serves_more c results s x y z f g =
     serves_joined (serves_of c results) (Dones.Served c s ∷ []) (serves_of c (results ++ s ∷ [])) x y z f (one_serve c s y z g)
     (map_push (Dones.Served c) results s)
 
 -- so many serves of client c so far, each of which did a request
-pub record IsServing (c n : ℕ) (busy : Bool) (old now : DeskState) : Type 0 where
+pub record IsServing (c n : ℕ) (busy : Bool) (old now : RingDesk) : Type 0 where
   pub results : List Served
   pub says : SaysServes (serves_of c results) old now
   pub all_did : AllDid results
   pub count : length results ≡ n
   pub busy_is : busy ≡ list_any did results
 
-pub serving_nothing : (c : ℕ) (x : DeskState) → IsKept ring_lines (at_rest x) → IsServing c 0 false x x
+pub serving_nothing : (c : ℕ) (x : RingDesk) → IsKept ring_lines (at_rest x) → IsServing c 0 false x x
 serving_nothing c x kept = record {
   results = [];
   says = no_serves x kept;
@@ -117,7 +117,7 @@ serving_nothing c x kept = record {
   busy_is = refl;
 }
 
-pub serving_more : (c n : ℕ) (busy : Bool) (x y z : DeskState) (s : Served) → IsServing c n busy x y → did s ≡ true
+pub serving_more : (c n : ℕ) (busy : Bool) (x y z : RingDesk) (s : Served) → IsServing c n busy x y → did s ≡ true
     → Says (event_report y.facility (Dones.Served c s)) y z → IsServing c (n + 1) true x z
 serving_more c n busy x y z s f h says = record {
   results = f.results ++ s ∷ [];
@@ -127,7 +127,7 @@ serving_more c n busy x y z s f h says = record {
   busy_is = sym (or-true busy) ∙ any_more did f.results s busy true f.busy_is (sym h);
 }
 
-pub serving_ends : (c n most : ℕ) (busy out : Bool) (x y z : DeskState) (s : Served) → IsServing c n busy x y → n < most
+pub serving_ends : (c n most : ℕ) (busy out : Bool) (x y z : RingDesk) (s : Served) → IsServing c n busy x y → n < most
     → did s ≡ false → out ≡ starved s → Says (event_report y.facility (Dones.Served c s)) y z → HasServedClient c most busy out x z
 serving_ends c n most busy out x y z s f few h e says = record {
   results = f.results ++ s ∷ [];
@@ -144,7 +144,7 @@ serving_ends c n most busy out x y z s f few h e says = record {
   memory_is = any_more starved f.results s false out (sym (none_starved f.results f.all_did)) e;
 }
 
-pub serving_full : (c most : ℕ) (busy : Bool) (x y : DeskState) → IsServing c most busy x y → HasServedClient c most busy false x y
+pub serving_full : (c most : ℕ) (busy : Bool) (x y : RingDesk) → IsServing c most busy x y → HasServedClient c most busy false x y
 serving_full c most busy x y f = record {
   results = f.results;
   says = f.says;
@@ -155,7 +155,7 @@ serving_full c most busy x y f = record {
 
 -- A round of serves.
 
-pub round_nothing : (most : ℕ) (x : DeskState) → IsKept ring_lines (at_rest x) → HasServedFirst most 0 false false x x
+pub round_nothing : (most : ℕ) (x : RingDesk) → IsKept ring_lines (at_rest x) → HasServedFirst most 0 false false x x
 round_nothing most x kept = record {
   results = [];
   as_many = refl;
@@ -165,7 +165,7 @@ round_nothing most x kept = record {
   memory_is = refl;
 }
 
-pub round_more : (most k : ℕ) (busy out b o busy' out' : Bool) (x y z : DeskState) → HasServedFirst most k busy out x y
+pub round_more : (most k : ℕ) (busy out b o busy' out' : Bool) (x y z : RingDesk) → HasServedFirst most k busy out x y
     → HasServedClient k most b o y z → busy' ≡ busy || b → out' ≡ out || o → HasServedFirst most (k + 1) busy' out' x z
 round_more most k busy out b o busy' out' x y z f g busy_is out_is = record {
   results = f.results ++ g.results ∷ [];
@@ -180,26 +180,26 @@ round_more most k busy out b o busy' out' x y z f g busy_is out_is = record {
 -- The clients that a step leaves alone.
 
 -- the lines and backlogs of all clients but k are as they were
-record KeepsOthers (k : ℕ) (y z : DeskState) : Type 0 where
+record KeepsOthers (k : ℕ) (y z : RingDesk) : Type 0 where
   inlets : (c : ℕ) (i : RingInlet) → c ≢ k → get_or z.inlets c i ≡ get_or y.inlets c i
   backlogs : (c : ℕ) → c ≢ k → backlog_at z c ≡ backlog_at y c
 
 -- what held of one of them, holds
-still : (P : RingInlet → BacklogState → Type 0) (k c : ℕ) (i : RingInlet) (y z : DeskState) → KeepsOthers k y z → c ≢ k
+still : (P : RingInlet → BacklogState → Type 0) (k c : ℕ) (i : RingInlet) (y z : RingDesk) → KeepsOthers k y z → c ≢ k
     → P (get_or y.inlets c i) (backlog_at y c) → P (get_or z.inlets c i) (backlog_at z c)
 still P k c i y z o other p = subst (λ (j : RingInlet). P j (backlog_at z c)) (sym (o.inlets c i other))
     (subst (P (get_or y.inlets c i)) (sym (o.backlogs c other)) p)
 
 -- A round of flushes.
 
-flush_others : (k count : ℕ) (y z : DeskState) → Flushes ring_lines k count y z → KeepsOthers k y z
+flush_others : (k count : ℕ) (y z : RingDesk) → FlushesClient ring_lines k count y z → KeepsOthers k y z
 flush_others k count y z f = record {
-  inlets = λ c i other. ap (λ (d : DeskState). get_or d.inlets c i) f.desk ∙ get_or-set_other y.inlets k c f.line i other;
-  backlogs = λ c other. ap (λ (d : DeskState). backlog_at d c) f.desk
+  inlets = λ c i other. ap (λ (d : RingDesk). get_or d.inlets c i) f.desk ∙ get_or-set_other y.inlets k c f.line i other;
+  backlogs = λ c other. ap (λ (d : RingDesk). backlog_at d c) f.desk
       ∙ get_or-set_other y.backlogs k c (without_words count (backlog_at y k)) (empty_backlog 0) other;
 }
 
-pub flushing_nothing : (x : DeskState) → IsKept ring_lines (at_rest x) → HasFlushedFirst 0 false x x
+pub flushing_nothing : (x : RingDesk) → IsKept ring_lines (at_rest x) → HasFlushedFirst 0 false x x
 flushing_nothing x kept = record {
   counts = [];
   as_many = refl;
@@ -214,8 +214,8 @@ ring_stopped (inl none) = inl none
 ring_stopped (inr (inl full)) = inr full
 ring_stopped (inr (inr refuses)) = absurd (cc)
 
-pub flushing_more : (k count : ℕ) (moved b moved' : Bool) (x y z : DeskState) → HasFlushedFirst k moved x y
-    → Says (Dones.Flushed k count ∷ []) y z → b ≡ nat_lt 0 count → moved' ≡ moved || b → Flushes ring_lines k count y z
+pub flushing_more : (k count : ℕ) (moved b moved' : Bool) (x y z : RingDesk) → HasFlushedFirst k moved x y
+    → Says (Dones.Flushed k count ∷ []) y z → b ≡ nat_lt 0 count → moved' ≡ moved || b → FlushesClient ring_lines k count y z
     → ((i : RingInlet) → IsFlushedOut (get_or z.inlets k i) (backlog_at z k)) → HasFlushedFirst (k + 1) moved' x z
 flushing_more k count moved b moved' x y z f says e moved_is g stopped = record {
   counts = f.counts ++ count ∷ [];
@@ -228,16 +228,16 @@ flushing_more k count moved b moved' x y z f says e moved_is g stopped = record 
 
 -- A round that drops the words to clients that are gone.
 
-drop_others : (k : ℕ) (y z : DeskState) → HasDropped k y z → KeepsOthers k y z
+drop_others : (k : ℕ) (y z : RingDesk) → HasDropped k y z → KeepsOthers k y z
 drop_others k y z g = record { inlets = g.other_inlets; backlogs = λ c other. g.other_backlogs c (empty_backlog 0) other }
 
 -- so for each client below k, and the others are as they were
-pub record IsDropping (k : ℕ) (dropped : Bool) (old now : DeskState) : Type 0 where
+pub record IsDropping (k : ℕ) (dropped : Bool) (old now : RingDesk) : Type 0 where
   pub first : HasDroppedFirst k dropped old now
   pub later_inlets : (c : ℕ) (i : RingInlet) → k ≤ c → get_or now.inlets c i ≡ get_or old.inlets c i
   pub later_backlogs : (c : ℕ) → k ≤ c → backlog_at now c ≡ backlog_at old c
 
-pub dropping_nothing : (x : DeskState) → IsDropping 0 false x x
+pub dropping_nothing : (x : RingDesk) → IsDropping 0 false x x
 dropping_nothing x = record {
   first = record {
     counts = [];
@@ -253,7 +253,7 @@ dropping_nothing x = record {
   later_backlogs = λ c high. refl;
 }
 
-counted_more : (k count : ℕ) (counts : List ℕ) (x y z : DeskState) → length counts ≡ k → KeepsOthers k y z
+counted_more : (k count : ℕ) (counts : List ℕ) (x y z : RingDesk) → length counts ≡ k → KeepsOthers k y z
     → count + waiting_at z k ≡ waiting_at y k → waiting_at y k ≡ waiting_at x k
     → ((c : ℕ) → c < k → get_or counts c 0 + waiting_at y c ≡ waiting_at x c)
     → (c : ℕ) → c < k + 1 → get_or (counts ++ count ∷ []) c 0 + waiting_at z c ≡ waiting_at x c
@@ -266,7 +266,7 @@ counted_more k count counts x y z many o e was before =
     omega (arith, b, n, same))
     (let n = get_or_push counts count 0 k many in omega (arith, n, e, was))
 
-pub dropping_more : (k count : ℕ) (dropped b dropped' : Bool) (x y z : DeskState) → IsDropping k dropped x y → HasDropped k y z
+pub dropping_more : (k count : ℕ) (dropped b dropped' : Bool) (x y z : RingDesk) → IsDropping k dropped x y → HasDropped k y z
     → count + waiting_at z k ≡ waiting_at y k → b ≡ nat_lt 0 count → dropped' ≡ dropped || b → IsDropping (k + 1) dropped' x z
 dropping_more k count dropped b dropped' x y z f g e is dropped_is = let o = drop_others k y z g in let so_far = f.first in record {
   first = record {

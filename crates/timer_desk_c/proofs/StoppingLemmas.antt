@@ -1,6 +1,6 @@
 -- The stops of the pending timers of a client, one after another along the places.
 use Rattle.std.proofs.Common.{◌≡◌, ◌≢◌, ◌<◌, ◌≤◌, ◌+◌, ◌⊎◌, ◌==◌, not, ℕ, true, false, List, [], ◌∷◌, ◌++◌, length, get_or, refl, sym, ◌∙◌, ap, subst, inl, inr, arith}
-use Rattle.std.specs.Prelude.{Option, Some, None, All, slice_set}
+use Rattle.std.specs.Prelude.{Option, Some, None, All, slice_set, IsSome, IfSome}
 use Rattle.std.specs.List.{AllByRecursion}
 use Rattle.std.proofs.lemmas.Bool.{eqb-true, eq-eqb, ne_eqb}
 use Rattle.std.proofs.lemmas.Bool.Decides.{nat_tests}
@@ -12,7 +12,7 @@ use Rattle.timer_base.specs.declared.timer.Handle.{Handle}
 use Rattle.timer_base.proofs.Basics.{either, some_same}
 use Rattle.timer_base.specs.Order.{AreDistinct}
 use Rattle.timer_base.specs.Pending.{Entry, timers_of, has_handle, has_serial, first_timer, without_serial}
-use Rattle.timer_wheels.specs.HeldPlaces.{AreBefore}
+use Rattle.timer_wheels.specs.HeldPlaces.{AreBefore, IsFirstHeld, IsAlone}
 use Rattle.timer_facility.specs.declared.request.Answer.TheVariants.{Stopped}
 use Rattle.timer_facility.specs.declared.event.Out.{Out}
 use Rattle.timer_facility.specs.State.{FacilityState, number_of, count_of, one_of, pending_of, ByHandle, Stop, SingleEvent, Asked}
@@ -23,8 +23,10 @@ use Rattle.timer_facility.proofs.FacilityCounts.{count-without}
 use Rattle.timer_facility.proofs.TimerLists.{IsOnly, AreDistinct-only, first_timer-among}
 use Rattle.timer_facility.proofs.VerdictLemmas.{IsKnown, not_taken-none}
 use Rattle.timer_facility.proofs.StepLemmas.{step-accepted}
-use Rattle.timer_desk.specs.Stopping.{stop_step}
-use Rattle.timer_desk_c.specs.Stopping.{stop_out, stops, stops_outs, of_others, AreStopped, IsFirstAt}
+use Rattle.timer_desk.specs.Settlement.{stop_step}
+use Rattle.timer_desk_c.specs.Stopping.{stop_out, stops, stops_outs, of_others, AreStopped, IsFirstAt, IsFirstPending}
+use Rattle.timer_base.proofs.HeldLaws.{held_when_none_due}
+use Rattle.timer_base.specs.WheelState.{WheelState, held_at}
 
 -- Entries.
 
@@ -271,3 +273,22 @@ module _ (client place : ℕ) (s now new : FacilityState) (handle : Handle) (h :
 
   pub stopping-next : IsStopping client (handle.place + 1) s new
   stopping-next = either_way (timer_named now client (ByHandle handle)) refl
+
+-- The timer at a place of a wheel where nothing is due.
+
+some_of : (o : Option Timer) → IsSome o → (t : Timer) × (o ≡ Some t)
+some_of None h = absurd (cc)
+some_of (Some t) h = (t, refl)
+
+-- what a wheel without due timers has from a place on
+pub first_pending : (w : WheelState) (from : ℕ) (found : Option Handle) → w.due ≡ [] → IsFirstHeld from w found
+    → IfSome found (λ handle. IsAlone handle w) → IsFirstPending from w.pending found
+first_pending w from None none h alone = h.0
+first_pending w from (Some handle) none h alone =
+    let some = some_of (held_at handle w) h.1 in record {
+      from_on = h.0;
+      timer = some.0;
+      there = sym (held_when_none_due handle w none) ∙ some.1;
+      alone = alone some.0 some.1;
+      elsewhere = h.2;
+    }

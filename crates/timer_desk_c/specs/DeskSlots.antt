@@ -9,14 +9,14 @@ use Rattle.timer_links.specs.contracts.kept.TimerKept.TheImpl as kept
 use Rattle.timer_wheels.specs.declared.tiered.TieredWheel.{TieredWheel}
 use Rattle.timer_wheels.specs.contracts.tiered.TieredWheel as tiered
 use Rattle.timer_wheels.specs.contracts.tiered.TieredWheelWheel.TheImpl as wheel
-use Rattle.timer_desk.specs.declared.ring.RingInlet.{RingInlet}
-use Rattle.timer_desk.specs.contracts.ring.RingInlet as ring
-use Rattle.timer_desk.specs.contracts.ring.RingInletInlet.TheImpl as inlet
+use Rattle.timer_desk.specs.declared.ring_ends.RingInlet.{RingInlet}
+use Rattle.timer_desk.specs.contracts.ring_ends.RingInlet as ring
+use Rattle.timer_desk.specs.contracts.ring_ends.RingInletInlet.TheImpl as inlet
 use Rattle.timer_desk.specs.contracts.desk.Desk as desk
-use Rattle.timer_desk.specs.Desk.{DeskState as State}
+use Rattle.timer_desk.specs.Desk.{DeskState}
 
-abbrev pub DeskState : Type 0
-DeskState = State RingInlet
+abbrev pub RingDesk : Type 0
+RingDesk = DeskState RingInlet
 
 -- a copy of what is kept of a timer is the same
 abbrev pub timer_clone : clone.Ghosts Timer

@@ -19,24 +19,24 @@ use Rattle.timer_desk.specs.declared.report.Served.{Served}
 use Rattle.timer_desk.specs.declared.report.Served.TheVariants as Serveds
 use Rattle.timer_desk.specs.declared.report.Done.{Done}
 use Rattle.timer_desk.specs.declared.report.Done.TheVariants as Dones
-use Rattle.timer_desk.specs.declared.ring.RingInlet.{RingInlet}
+use Rattle.timer_desk.specs.declared.ring_ends.RingInlet.{RingInlet}
 use Rattle.timer_desk.specs.declared.looks.Found.TheVariants.{Nothing}
-use Rattle.timer_desk.specs.Ring.{line_of_inlet, got_of, given_of, is_settled, free_of_inlet, found_by_inlet, ring_lines}
+use Rattle.timer_desk.specs.RingEnds.{line_of_inlet, got_of, given_of, is_settled, free_of_inlet, found_by_inlet, ring_lines}
 use Rattle.timer_desk.specs.Settlement.{HasSettled}
 use Rattle.timer_desk.specs.Desk.{opened_desk, clients_of, ReportHolds, LeavesAlone, event_report}
 use Rattle.timer_desk_c.specs.declared.layout.DeskConfig.{DeskConfig}
 use Rattle.timer_desk_c.specs.declared.layout.TheConstants.{CONFIG_SIZE}
 use Rattle.timer_desk_c.specs.declared.c_structs.CLine.{CLine}
 use Rattle.timer_desk_c.specs.declared.line.Line.{Line}
-use Rattle.timer_desk_c.specs.declared.desk_maker.TheConstants.{MIN_LINE, MAX_LINE}
+use Rattle.timer_desk_c.specs.declared.desk_maker.TheConstants.{MIN_ITEMS, MAX_ITEMS}
 use Rattle.timer_desk_c.specs.declared.status.TheConstants.{OK, NO_MEMORY, IDLE, NO_ROOM, OUT_OF_RANGE, CLOSED, CLOCK_END, NO_CLIENT, NOT_FINISHED, OTHER_LINE, NEVER}
-use Rattle.timer_desk_c.specs.DeskSlots.{DeskState}
+use Rattle.timer_desk_c.specs.DeskSlots.{RingDesk}
 use Rattle.timer_desk_c.specs.Frames.{HasLine, HasNoLine}
 use Rattle.timer_desk_c.specs.Lines.{requests_ring_on, words_ring_on, submitted_on, received_on, next_on, free_on, found_on, is_open_line, IsSameLine, SameTraffic}
 
 -- the configuration of the facility
-abbrev pub config_of : ℕ → DeskConfig → facility.Config
-config_of clients c = record {
+abbrev pub desk_config : ℕ → DeskConfig → facility.Config
+desk_config clients c = record {
   clients = clients;
   capacity = c.capacity;
   first_tick = c.first_tick;
@@ -47,9 +47,9 @@ config_of clients c = record {
 -- each number is in its range
 abbrev pub IsFit : ℕ → DeskConfig → Type 0
 IsFit clients c =
-    (c.size ≡ CONFIG_SIZE) × (config_fault (config_of clients c) ≡ None)
+    (c.size ≡ CONFIG_SIZE) × (config_fault (desk_config clients c) ≡ None)
     × ((tiers : Tiers) × AreTiersFor c.table c.first_tick tiers) × (MIN_ROOM ≤ c.room) × (c.room ≤ MAX_ROOM)
-    × (MIN_LINE ≤ c.line) × (c.line ≤ MAX_LINE)
+    × (MIN_ITEMS ≤ c.line) × (c.line ≤ MAX_ITEMS)
 
 -- the two ends of a new line: nothing was sent or received, got or given, and neither end has seen the other to be
 -- gone. The first request has this number, and there is room for this many items each way.
@@ -73,7 +73,7 @@ abbrev pub AreNewLines : ℕ → List RingInlet → List Line → Type 0
 AreNewLines room inlets ends = AllZip (IsNewLine 1 room) inlets ends
 
 -- C's line holds this end of a client, in this life of the desk's struct
-pub record IsHeld (life client : ℕ) (end : Line) (line : CLine) : Type 0 where
+pub record HoldsLine (life client : ℕ) (end : Line) (line : CLine) : Type 0 where
   pub held : HasLine line
   pub state_is : line.slot.state ≡ end
   pub client_is : line.client ≡ client
@@ -82,7 +82,7 @@ pub record IsHeld (life client : ℕ) (end : Line) (line : CLine) : Type 0 where
 -- each of C's lines holds the end at its index
 pub record AreHeld (life : ℕ) (ends : List Line) (lines : List CLine) : Type 0 where
   pub as_many : length lines ≡ length ends
-  pub each : (k : ℕ) (x : CLine) (l : Line) → k < length ends → IsHeld life k (get_or ends k l) (get_or lines k x)
+  pub each : (k : ℕ) (x : CLine) (l : Line) → k < length ends → HoldsLine life k (get_or ends k l) (get_or lines k x)
 
 -- none of C's lines holds one
 abbrev pub AllEmpty : List CLine → Type 0
@@ -95,14 +95,14 @@ pub record IsOneHeld (lines : List CLine) : Type 0 where
   pub held : (x : CLine) → HasLine (get_or lines index x)
 
 -- a new desk of this configuration over these lines
-pub record IsNewDesk (clients : ℕ) (c : DeskConfig) (d : DeskState) : Type 0 where
+pub record IsNewDesk (clients : ℕ) (c : DeskConfig) (d : RingDesk) : Type 0 where
   pub tiers : Tiers
   pub are_tiers : AreTiersFor c.table c.first_tick tiers
-  pub is : d ≡ opened_desk (opened (config_of clients c) (last_of_tiers tiers) (slots_of_tiers tiers)) d.inlets c.room
+  pub is : d ≡ opened_desk (opened (desk_config clients c) (last_of_tiers tiers) (slots_of_tiers tiers)) d.inlets c.room
   pub as_many : clients_of d ≡ clients
 
 -- a new desk, and its lines at C, in this life of its struct
-pub record IsMade (life : ℕ) (c : DeskConfig) (d : DeskState) (lines : List CLine) : Type 0 where
+pub record IsMade (life : ℕ) (c : DeskConfig) (d : RingDesk) (lines : List CLine) : Type 0 where
   pub desk : IsNewDesk (length lines) c d
   pub ends : List Line
   pub lines_of : AreNewLines c.line d.inlets ends
@@ -113,7 +113,7 @@ WhyNotMade clients c status = ((status ≡ OUT_OF_RANGE) × (IsFit clients c →
     ⊎ ((status ≡ NO_MEMORY) × IsFit clients c)
 
 -- what this report says of the desk
-abbrev pub Says : List Done → DeskState → DeskState → Type 0
+abbrev pub Says : List Done → RingDesk → RingDesk → Type 0
 Says report old new = ReportHolds ring_lines report old new
 
 abbrev pub status_of : Served → ℕ
@@ -123,7 +123,7 @@ status_of Serveds.NoMemory = NO_MEMORY
 status_of (Serveds.Did numbered word) = OK
 
 -- the client was served once, with this status; if a timer was due with its request, the notice is in the outbox
-pub record HasServed (client status : ℕ) (old new : DeskState) : Type 0 where
+pub record HasServed (client status : ℕ) (old new : RingDesk) : Type 0 where
   pub served : Served
   pub status_is : status ≡ status_of served
   pub says : Says (event_report old.facility (Dones.Served client served)) old new
@@ -135,7 +135,7 @@ tick_status (Err TickFaults.Closed) = CLOSED
 tick_status (Err TickFaults.ClockEnd) = CLOCK_END
 
 -- a tick was tried, with this status, and the notices of the timers that expired are in the outboxes
-pub record HasTicked (status : ℕ) (old new : DeskState) : Type 0 where
+pub record HasTicked (status : ℕ) (old new : RingDesk) : Type 0 where
   pub result : Result (Unit {0}) TickFault
   pub status_is : status ≡ tick_status result
   pub says : Says (event_report old.facility (Dones.Ticked result)) old new
@@ -148,7 +148,7 @@ close_status (Err CloseFaults.OutOfMemory) = NO_MEMORY
 
 -- a close was tried, with this status and this number of timers that were returned, whose notices are in the
 -- outboxes
-pub record HasClosed (status returned : ℕ) (old new : DeskState) : Type 0 where
+pub record HasClosed (status returned : ℕ) (old new : RingDesk) : Type 0 where
   pub result : Result ℕ CloseFault
   pub status_is : status ≡ close_status result
   pub returned_is : IfOk result (λ count. returned ≡ count)
@@ -158,7 +158,7 @@ pub record HasClosed (status returned : ℕ) (old new : DeskState) : Type 0 wher
   pub room : status ≡ NO_MEMORY → old.facility.has_room ≡ false
 
 -- the same desk, and room was made for as many timers as may be pending
-abbrev pub with_reserve : DeskState → DeskState
+abbrev pub with_reserve : RingDesk → RingDesk
 with_reserve d = record d { facility = with_room d.facility }
 
 -- the first tick at which a timer expires or moves to a lower wheel, and before which nothing expires
@@ -172,7 +172,7 @@ IsFirstDeadline tick s = ((tick ≡ NEVER) × (s.pending ≡ [])) ⊎ (next_dead
 
 -- the line of this client, which has finished, is settled: what was got of it followed by what stands is all
 -- that was ever submitted on it
-pub record IsSettled (client standing : ℕ) (line : Line) (old new : DeskState) : Type 0 where
+pub record IsSettled (client standing : ℕ) (line : Line) (old new : RingDesk) : Type 0 where
   pub client_in_range : client < clients_of old
   pub same_clients : clients_of new ≡ clients_of old
   pub same_facility : new.facility ≡ old.facility
@@ -182,7 +182,7 @@ pub record IsSettled (client standing : ℕ) (line : Line) (old new : DeskState)
       (submitted_on line) standing
 
 -- a line that is given as a client's is of that client of the desk, or its requests could not be ended
-abbrev pub IsGivenAs : ℕ → DeskState → Line → Type 0
+abbrev pub IsGivenAs : ℕ → RingDesk → Line → Type 0
 IsGivenAs client d l = (i : RingInlet) → (requests_ring_on l ≡ None)
     ⊎ (requests_ring_on l ≡ Some (line_of_inlet (get_or d.inlets client i)).0)
 

@@ -2,7 +2,7 @@
 use Rattle.std.specs.Prelude.{◌≡◌, ◌==◌, ◌&&◌, ◌+◌, ◌%◌, ◌^◌, ℕ, Bool, true, false}
 use Rattle.timer_desk_c.specs.declared.c_structs.CDesk.{CDesk}
 use Rattle.timer_desk_c.specs.declared.c_structs.CLine.{CLine}
-use Rattle.timer_desk_c.specs.DeskSlots.{DeskState}
+use Rattle.timer_desk_c.specs.DeskSlots.{RingDesk}
 use Rattle.timer_desk_c.specs.declared.line.Line.{Line}
 use Rattle.timer_ffi_base.specs.Cells.{is_open}
 
@@ -15,7 +15,7 @@ abbrev pub IsShut : CDesk → Type 0
 IsShut d = is_open d.slot.mark ≡ false
 
 -- the same, with a desk of this state
-abbrev pub with_desk : CDesk → DeskState → CDesk
+abbrev pub with_desk : CDesk → RingDesk → CDesk
 with_desk d state = record d { slot = record d.slot { state = state } }
 
 -- the life after this one: they are counted in 64 bits

@@ -6,10 +6,8 @@ pub mod LineLent
 pub mod Frames
 pub mod Desks
 pub mod Ticks
-pub mod Dropped
-pub mod Rounds
-pub mod Shutdown
-pub mod ShutdownAll
 pub mod Freed
+pub mod Rounds
+pub mod Ending
 pub mod Opening
 pub mod Stopping

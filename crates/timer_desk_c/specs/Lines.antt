@@ -4,8 +4,8 @@ use Rattle.timer_base.specs.declared.limits.TheConstants.{LAST}
 use Rattle.timer_facility.specs.declared.request.Request.{Request}
 use Rattle.timer_desk.specs.declared.word.Numbered.{Numbered}
 use Rattle.timer_desk.specs.declared.word.Word.{Word}
-use Rattle.timer_desk.specs.Ring.{Ring, line_of_end, requests_ring_of, words_ring_of_reader, submitted, all_submitted, received_by_end, read_by, unread_by, is_settled_reader, seen_by_end, seen_by_reader, free_of, next_of, numbered, found_by_end, found_by_reader}
-use Rattle.timer_desk.specs.Looks.{AreInOrder}
+use Rattle.timer_desk.specs.RingEnds.{Ring, line_of_end, requests_ring_of, words_ring_of_reader, submitted, all_submitted, received_by_end, read_by, unread_by, is_settled_reader, seen_by_end, seen_by_reader, free_of, next_of, numbered, found_by_end, found_by_reader}
+use Rattle.timer_desk.specs.Looks.{AreLooksInOrder}
 use Rattle.timer_desk.specs.declared.looks.Found.{Found}
 use Rattle.timer_desk.specs.declared.looks.Found.TheVariants.{Nothing}
 use Rattle.timer_desk_c.specs.declared.c_structs.CLine.{CLine}
@@ -99,7 +99,7 @@ SameTraffic old new =
 
 -- it was looked for the owner's end, and then for a word in the line
 abbrev pub LookedInOrder : Line → Line → Type 0
-LookedInOrder old new = AreInOrder (found_on old) (found_on new) (length (seen_on new) == 0)
+LookedInOrder old new = AreLooksInOrder (found_on old) (found_on new) (length (seen_on new) == 0)
 
 -- no request was sent
 abbrev pub SameSent : Line → Line → Type 0

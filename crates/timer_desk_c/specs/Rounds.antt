@@ -5,15 +5,15 @@ use Rattle.timer_desk.specs.declared.report.Served.{Served}
 use Rattle.timer_desk.specs.declared.report.Served.TheVariants.{NoMemory, Did}
 use Rattle.timer_desk.specs.declared.report.Done.{Done}
 use Rattle.timer_desk.specs.declared.report.Done.TheVariants as Dones
-use Rattle.timer_desk.specs.declared.ring.RingInlet.{RingInlet}
+use Rattle.timer_desk.specs.declared.ring_ends.RingInlet.{RingInlet}
 use Rattle.timer_desk.specs.Backlog.{BacklogState}
 use Rattle.timer_desk.specs.Member.{is_notice}
 use Rattle.timer_desk.specs.Desk.{clients_of, backlog_at}
-use Rattle.timer_desk.specs.Ring.{free_of_inlet}
+use Rattle.timer_desk.specs.RingEnds.{free_of_inlet}
 use Rattle.timer_desk_c.specs.declared.status.TheConstants.{OK, NO_MEMORY, IDLE}
-use Rattle.timer_desk_c.specs.DeskSlots.{DeskState}
+use Rattle.timer_desk_c.specs.DeskSlots.{RingDesk}
 use Rattle.timer_desk_c.specs.Desks.{Says}
-use Rattle.timer_desk_c.specs.Dropped.{HasDroppedFirst}
+use Rattle.timer_desk_c.specs.Freed.{HasDroppedFirst}
 
 -- the report of a round: for each client, in order, the members of its part
 abbrev pub report_of : {X : Type 0} → (ℕ → X → List Done) → List X → List Done
@@ -41,7 +41,7 @@ without_notices report = filter (λ done. not (is_notice done)) report
 
 -- these serves were made: a report of them, in which a serve may be followed by the notice of a timer that was due with
 -- its request
-pub record SaysServes (serves : List Done) (old new : DeskState) : Type 0 where
+pub record SaysServes (serves : List Done) (old new : RingDesk) : Type 0 where
   pub report : List Done
   pub says : Says report old new
   pub serves_are : without_notices report ≡ serves
@@ -64,7 +64,7 @@ abbrev pub IsServedOut : ℕ → List Served → Type 0
 IsServedOut most results = (AllDid results × (length results ≡ most)) ⊎ EndsEarly most results
 
 -- client c alone was served, up to `most` times: whether a request was done, and whether one failed with out of memory
-pub record HasServedClient (c most : ℕ) (busy out_of_memory : Bool) (old new : DeskState) : Type 0 where
+pub record HasServedClient (c most : ℕ) (busy out_of_memory : Bool) (old new : RingDesk) : Type 0 where
   pub results : List Served
   pub says : SaysServes (serves_of c results) old new
   pub served_out : IsServedOut most results
@@ -77,7 +77,7 @@ round_status out_of_memory busy = if out_of_memory then NO_MEMORY else if busy t
 
 -- the first `many` clients were served, in order, up to `most` times: whether a request was done, and whether a serve
 -- failed with out of memory
-pub record HasServedFirst (most many : ℕ) (busy out_of_memory : Bool) (old new : DeskState) : Type 0 where
+pub record HasServedFirst (most many : ℕ) (busy out_of_memory : Bool) (old new : RingDesk) : Type 0 where
   pub results : List (List Served)
   pub as_many : length results ≡ many
   pub says : SaysServes (report_of serves_of results) old new
@@ -86,7 +86,7 @@ pub record HasServedFirst (most many : ℕ) (busy out_of_memory : Bool) (old new
   pub memory_is : out_of_memory ≡ list_any (list_any starved) results
 
 -- each client was, and this is the status of the round
-pub record HasServedAll (most status : ℕ) (old new : DeskState) : Type 0 where
+pub record HasServedAll (most status : ℕ) (old new : RingDesk) : Type 0 where
   pub busy : Bool
   pub out_of_memory : Bool
   pub each : HasServedFirst most (clients_of old) busy out_of_memory old new
@@ -103,7 +103,7 @@ abbrev pub IsFlushedOut : RingInlet → BacklogState → Type 0
 IsFlushedOut i b = (b.outbox ≡ []) ⊎ (free_of_inlet i ≡ 0)
 
 -- the first `many` clients were flushed, in order, as far as their lines had room; and whether a word was moved
-pub record HasFlushedFirst (many : ℕ) (moved : Bool) (old new : DeskState) : Type 0 where
+pub record HasFlushedFirst (many : ℕ) (moved : Bool) (old new : RingDesk) : Type 0 where
   pub counts : List ℕ
   pub as_many : length counts ≡ many
   pub says : Says (report_of flush_of counts) old new
@@ -111,9 +111,9 @@ pub record HasFlushedFirst (many : ℕ) (moved : Bool) (old new : DeskState) : T
   pub moved_is : moved ≡ list_any (nat_lt 0) counts
 
 -- each client was flushed, and the words that its line did not take were dropped if the client is gone
-pub record HasFlushedAll (moved : Bool) (old new : DeskState) : Type 0 where
+pub record HasFlushedAll (moved : Bool) (old new : RingDesk) : Type 0 where
   pub put : Bool
-  pub between : DeskState
+  pub between : RingDesk
   pub flushed : HasFlushedFirst (clients_of old) put old between
   pub dropped : Bool
   pub rest : HasDroppedFirst (clients_of between) dropped between new

@@ -11,13 +11,13 @@ use Rattle.timer_facility.specs.declared.event.Out.{Out}
 use Rattle.timer_facility.specs.declared.event.Out.TheVariants as Outs
 use Rattle.timer_facility.specs.State.{FacilityState, number_of, pending_of, ByHandle, Stop, Asked}
 use Rattle.timer_facility.specs.Run.{PlacedEvent, run}
-use Rattle.timer_desk.specs.declared.ring.RingInlet.{RingInlet}
+use Rattle.timer_desk.specs.declared.ring_ends.RingInlet.{RingInlet}
 use Rattle.timer_desk.specs.declared.looks.Found.TheVariants.{Nothing}
 use Rattle.timer_desk.specs.Desk.{clients_of}
 use Rattle.timer_desk.specs.Report.{placed}
-use Rattle.timer_desk.specs.Ring.{found_by_inlet}
+use Rattle.timer_desk.specs.RingEnds.{found_by_inlet}
 use Rattle.timer_desk_c.specs.declared.status.TheConstants.{NO_CLIENT, NOT_FREED, CLOSED, NUMBERS_SPENT}
-use Rattle.timer_desk_c.specs.DeskSlots.{DeskState}
+use Rattle.timer_desk_c.specs.DeskSlots.{RingDesk}
 use Rattle.timer_desk_c.specs.Freed.{OnlyLooks}
 
 -- the client's request, under this number, to stop the timer with this handle
@@ -55,17 +55,17 @@ pub record AreStopped (client count : ℕ) (s t : FacilityState) : Type 0 where
   }
 
 -- the client was seen to have freed its end, and then all its pending timers were stopped
-pub record HasStopped (client count : ℕ) (old new : DeskState) : Type 0 where
+pub record HasStopped (client count : ℕ) (old new : RingDesk) : Type 0 where
   pub client_in_range : client < clients_of old
   pub still_open : old.facility.is_closed ≡ false
-  pub between : DeskState
+  pub between : RingDesk
   pub looked : OnlyLooks client old between
   pub gone : (i : RingInlet) → found_by_inlet (get_or between.inlets client i) ≢ Nothing
   pub stopped : AreStopped client count old.facility new.facility
   pub only : new ≡ record between { facility = new.facility }
 
 -- why no timers were stopped: the first that holds
-abbrev pub WhyNotStopped : ℕ → DeskState → DeskState → ℕ → Type 0
+abbrev pub WhyNotStopped : ℕ → RingDesk → RingDesk → ℕ → Type 0
 WhyNotStopped client old new status =
     ((status ≡ NO_CLIENT) × (clients_of old ≤ client))
     ⊎ ((status ≡ NOT_FREED) × (client < clients_of old)

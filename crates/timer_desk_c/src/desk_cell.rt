@@ -4,7 +4,7 @@
 //! type argument in an exported function, so C's struct has this one.
 ghost use Rattle.std.specs.Prelude.{◌≡◌};
 ghost use Rattle.std.specs.Borrow.{Lends, sem};
-ghost use Rattle.timer_desk_c.specs.DeskSlots.{DeskState};
+ghost use Rattle.timer_desk_c.specs.DeskSlots.{RingDesk};
 
 use std::marker::Model;
 use timer_desk::{Desk, RingInlet};
@@ -16,7 +16,7 @@ use timer_wheels::TieredWheel;
 pub struct DeskCell {
     at: *mut u8,
     pub mark: u64,
-    pub ghost state: { DeskState },
+    pub ghost state: { RingDesk },
 }
 
 impl Model for DeskCell {

@@ -6,13 +6,12 @@
 ghost use Rattle.std.specs.Prelude.{◌≡◌, ◌≢◌, ◌<◌, ◌≤◌, ◌⊎◌, length, true, false};
 ghost use Rattle.timer_facility.specs.State.{pending_of};
 ghost use Rattle.timer_desk.specs.Desk.{clients_of, backlog_at};
-ghost use Rattle.timer_desk.specs.Shutdown.{KeepsLines};
+ghost use Rattle.timer_desk.specs.WindingUp.{KeepsLines};
 ghost use Rattle.timer_desk_c.specs.Frames.{IsOpen, IsShut, with_desk, HasLine, HasNoLine, with_line, is_own, next_life};
 ghost use Rattle.timer_desk_c.specs.Desks.{IsFit, IsMade, AllEmpty, IsOneHeld, WhyNotMade, with_reserve, HasServed, HasTicked, HasClosed, IsNextTick, IsFirstDeadline, IsSettled, IsGivenAs, IsAsBefore, WhyNotSettled};
 ghost use Rattle.timer_desk_c.specs.Rounds.{HasServedAll, HasFlushedAll};
 ghost use Rattle.timer_desk_c.specs.Ticks.{HasAdvanced, WhyNotAdvanced, HasFlushed};
-ghost use Rattle.timer_desk_c.specs.Shutdown.{IsTied, OnlySettles, HasEnded, WhyNotEnded};
-ghost use Rattle.timer_desk_c.specs.ShutdownAll.{AreTied, OnlyStates, AllEnded, WhyNotAllEnded};
+ghost use Rattle.timer_desk_c.specs.Ending.{IsTied, AreTied, OnlySettles, OnlyStates, HasEnded, AllEnded, WhyNotEnded, WhyNotAllEnded};
 ghost use Rattle.timer_desk_c.specs.Freed.{OnlyLooks, IsSeenFreed};
 ghost use Rattle.timer_desk_c.specs.Opening.{HasOpened, WhyNotOpened};
 ghost use Rattle.timer_desk_c.specs.Stopping.{HasStopped, WhyNotStopped};
@@ -21,13 +20,12 @@ ghost use Rattle.timer_desk_c.specs.declared.status.TheConstants.{OK, NOT_OPEN, 
 use crate::c_structs::{CDesk, CLine, is_line_of};
 use crate::const_structs::ConstDesk;
 use crate::desk_maker::{Made, make};
+use crate::ending::{end, end_all};
 use crate::layout::DeskConfig;
 use crate::line::Line;
 use crate::opening::open;
 use crate::placement::{are_empty, hold, place};
 use crate::rounds;
-use crate::shutdown::end;
-use crate::shutdown_all::end_all;
 use crate::status::{
     CLOCK_END, CLOSED, IDLE, NEVER, NO_CLIENT, NO_MEMORY, NO_ROOM, NOT_FINISHED, NOT_OPEN, OK,
     OPEN, OTHER_LINE,

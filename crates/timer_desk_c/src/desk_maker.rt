@@ -2,7 +2,7 @@
 ghost use Rattle.std.specs.Prelude.{◌≡◌, ◌<◌, ◌≤◌, map, vec_len, IfOk, IfErr, IfSome};
 ghost use Rattle.timer_wheels.specs.Tiers.{AreTiersFor};
 ghost use Rattle.timer_base.specs.declared.limits.TheConstants.{LAST};
-ghost use Rattle.timer_desk_c.specs.Desks.{config_of, IsFit, IsNewLine, AreNewLines, IsNewDesk, WhyNotMade};
+ghost use Rattle.timer_desk_c.specs.Desks.{desk_config, IsFit, IsNewLine, AreNewLines, IsNewDesk, WhyNotMade};
 ghost use Rattle.timer_desk_c.specs.Opening.{IsRoom};
 
 use crate::layout::{CONFIG_SIZE, DeskConfig};
@@ -15,10 +15,10 @@ use timer_facility::{Checked, Config, Facility};
 use timer_wheels::{TieredWheel, Tiers};
 
 /// The least room of a line, each way.
-pub const MIN_LINE: usize = 1;
+pub const MIN_ITEMS: usize = 1;
 
 /// The greatest room of a line, each way.
-pub const MAX_LINE: usize = 65536;
+pub const MAX_ITEMS: usize = 65536;
 
 /// The owner's end of a new line, and the client's.
 pub(crate) struct NewEnds {
@@ -68,7 +68,7 @@ pub(crate) fn make(alloc: Global, clients: usize, config: DeskConfig) -> Result<
 
 /// The configuration of the facility and the wheels, if each number is in its range.
 fn checked(clients: usize, config: DeskConfig) -> Option<(Checked, Tiers)>
-    ensures some { IfSome result (λ made. (made.0 ≡ config_of clients config)
+    ensures some { IfSome result (λ made. (made.0 ≡ desk_config clients config)
         × AreTiersFor config.table config.first_tick made.1 × IsFit clients config) }
     ensures none { result ≡ None → IsFit clients config → ⊥ }
 {
@@ -78,7 +78,7 @@ fn checked(clients: usize, config: DeskConfig) -> Option<(Checked, Tiers)>
     if config.room < MIN_ROOM || config.room > MAX_ROOM {
         return None;
     }
-    if config.line < MIN_LINE || config.line > MAX_LINE {
+    if config.line < MIN_ITEMS || config.line > MAX_ITEMS {
         return None;
     }
     let tiers = Tiers::with_number(config.table)?;
@@ -98,7 +98,7 @@ fn checked(clients: usize, config: DeskConfig) -> Option<(Checked, Tiers)>
 
 /// Makes a line for each of `clients` clients, each with this room each way.
 fn new_lines(alloc: Global, clients: usize, room: usize) -> Result<NewLines, OutOfMemory>
-    requires room { (MIN_LINE ≤ room) × (room ≤ MAX_LINE) }
+    requires room { (MIN_ITEMS ≤ room) × (room ≤ MAX_ITEMS) }
     ensures lines { IfOk result (λ l. AreNewLines room l.inlets.items (map (λ b. b.value) l.ends.items)) }
     ensures as_many { IfOk result (λ l. (vec_len l.inlets ≡ clients) × (vec_len l.ends ≡ clients)) }
 {

@@ -6,7 +6,7 @@
 //!
 //!     desk_exports   the owner's calls: each tests whether a desk is held, and passes the call on
 //!     line_exports   a client's calls, the same for its line
-//!     rounds, stopping, shutdown, shutdown_all, opening
+//!     rounds, stopping, ending, opening
 //!                    what they do to a desk, with C's statuses
 //!     line           a client's end, before and after it has finished
 //!     messages       words as C's struct
@@ -22,6 +22,7 @@ mod const_structs;
 mod desk_cell;
 mod desk_exports;
 mod desk_maker;
+mod ending;
 mod layout;
 mod line;
 mod line_cell;
@@ -30,8 +31,6 @@ mod messages;
 mod opening;
 mod placement;
 mod rounds;
-mod shutdown;
-mod shutdown_all;
 mod status;
 mod stopping;
 

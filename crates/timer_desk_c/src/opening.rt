@@ -5,13 +5,13 @@
 ghost use Rattle.std.specs.Prelude.{◌≡◌, ◌<◌, ◌≤◌, ◌≢◌, ◌⊎◌, true, false, get_or, IfOk, IfErr};
 ghost use Rattle.timer_base.specs.declared.limits.TheConstants.{LAST};
 ghost use Rattle.timer_facility.specs.State.{number_of, pending_of};
-ghost use Rattle.timer_desk.specs.declared.ring.RingInlet.{RingInlet};
+ghost use Rattle.timer_desk.specs.declared.ring_ends.RingInlet.{RingInlet};
 ghost use Rattle.timer_desk.specs.Desk.{clients_of, backlog_at, IsIdle};
-ghost use Rattle.timer_desk.specs.Ring.{IsOver};
+ghost use Rattle.timer_desk.specs.RingEnds.{IsOver};
 ghost use Rattle.timer_desk_c.specs.Freed.{OnlyLooks};
 ghost use Rattle.timer_desk_c.specs.Opening.{IsClear, IsSeenOver, HasOpened, WhyNotOpened};
 
-use crate::desk_maker::{MAX_LINE, MIN_LINE, NewEnds, new_ends};
+use crate::desk_maker::{MAX_ITEMS, MIN_ITEMS, NewEnds, new_ends};
 use crate::line::Line;
 use crate::status::{LEFT, NO_CLIENT, NO_MEMORY, NOT_FREED, NUMBERS_SPENT, OUT_OF_RANGE};
 use std::alloc::Global;
@@ -34,7 +34,7 @@ pub(crate) fn open<W: Wheel + Drop>(
     if client >= desk.clients() {
         return Err(NO_CLIENT);
     }
-    if room < MIN_LINE || room > MAX_LINE {
+    if room < MIN_ITEMS || room > MAX_ITEMS {
         return Err(OUT_OF_RANGE);
     }
     if !desk.is_abandoned(client) {

@@ -1,6 +1,6 @@
 //! Puts the clients' ends of new lines into C's structs.
 ghost use Rattle.std.specs.Prelude.{◌≡◌, map, length, vec_len, true, false};
-ghost use Rattle.timer_desk_c.specs.Desks.{AllEmpty, IsOneHeld, IsHeld, AreHeld};
+ghost use Rattle.timer_desk_c.specs.Desks.{AllEmpty, IsOneHeld, HoldsLine, AreHeld};
 ghost use Rattle.timer_desk_c.specs.Frames.{HasNoLine};
 
 use crate::c_structs::CLine;
@@ -36,7 +36,7 @@ pub(crate) fn place(ends: Vec<Box<Line>>, lines: &mut [CLine], life: u64)
 /// Puts the end of a client into a line that holds none, in this life of its desk's struct.
 pub(crate) fn hold(line: &mut CLine, end: Box<Line>, client: usize, life: u64)
     requires { HasNoLine line.old }
-    ensures { IsHeld life client end.value line.new }
+    ensures { HoldsLine life client end.value line.new }
 {
     line.slot.cell().put(end);
     line.client = client as u64;

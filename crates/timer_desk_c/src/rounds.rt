@@ -2,7 +2,7 @@
 ghost use Rattle.std.specs.Prelude.{◌≡◌, ◌<◌, ◌+◌, ◌||◌, nat_lt};
 ghost use Rattle.timer_desk.specs.Desk.{clients_of};
 ghost use Rattle.timer_desk_c.specs.Rounds.{did, starved, round_status, HasServedClient, HasServedAll, HasFlushedFirst, HasFlushedAll};
-ghost use Rattle.timer_desk_c.specs.Dropped.{HasDropped, HasDroppedFirst, waiting_at};
+ghost use Rattle.timer_desk_c.specs.Freed.{HasDropped, HasDroppedFirst, waiting_at};
 
 use crate::status::{IDLE, NO_MEMORY, OK};
 use timer_base::Wheel;

@@ -11,11 +11,11 @@ ghost use Rattle.std.specs.Prelude.{◌≡◌, ◌≢◌, ◌+◌, ◌<◌, ◌�
 ghost use Rattle.timer_base.specs.declared.limits.TheConstants.{LAST};
 ghost use Rattle.timer_facility.specs.State.{number_of, pending_of, ByHandle};
 ghost use Rattle.timer_facility.specs.Verdict.{timer_named};
-ghost use Rattle.timer_desk.specs.declared.ring.RingInlet.{RingInlet};
+ghost use Rattle.timer_desk.specs.declared.ring_ends.RingInlet.{RingInlet};
 ghost use Rattle.timer_desk.specs.declared.looks.Found.TheVariants as Found;
 ghost use Rattle.timer_desk.specs.Desk.{clients_of};
-ghost use Rattle.timer_desk.specs.Ring.{found_by_inlet};
-ghost use Rattle.timer_desk.specs.Stopping.{stop_step};
+ghost use Rattle.timer_desk.specs.RingEnds.{found_by_inlet};
+ghost use Rattle.timer_desk.specs.Settlement.{stop_step};
 ghost use Rattle.timer_desk_c.specs.Freed.{OnlyLooks};
 ghost use Rattle.timer_desk_c.specs.Stopping.{AreStopped, HasStopped, WhyNotStopped, IsFirstPending};
 ghost use Rattle.timer_desk_c.specs.declared.status.TheConstants.{OK};

@@ -1,7 +1,7 @@
 //! Rows of one thread: a ring line to its end, and a client that never receives.
 ghost use Rattle.std.specs.Prelude.{◌≡◌, get_or};
-ghost use Rattle.timer_desk.specs.declared.ring.RingInlet.{RingInlet};
-ghost use Rattle.timer_desk.specs.Ring.{line_of_end, line_of_inlet, words_ring_of_reader};
+ghost use Rattle.timer_desk.specs.declared.ring_ends.RingInlet.{RingInlet};
+ghost use Rattle.timer_desk.specs.RingEnds.{line_of_end, line_of_inlet, words_ring_of_reader};
 ghost use Rattle.timer_desk.specs.Desk.{clients_of};
 
 use crate::row_tests::served;

@@ -12,17 +12,17 @@ use Rattle.timer_base.proofs.Basics.{either}
 use Rattle.timer_facility.specs.declared.request.Answer.TheVariants as Answers
 use Rattle.timer_facility.specs.declared.request.Notice.TheVariants as Notices
 use Rattle.timer_desk.specs.declared.word.Word.TheVariants as Words
-use Rattle.timer_desk.specs.declared.ring.ClientEnd.{ClientEnd}
-use Rattle.timer_desk.specs.declared.ring.RequestsEnded.{RequestsEnded}
-use Rattle.timer_desk.specs.declared.ring.ClientReader.{ClientReader}
+use Rattle.timer_desk.specs.declared.ring_ends.ClientEnd.{ClientEnd}
+use Rattle.timer_desk.specs.declared.ring_ends.RequestsEnded.{RequestsEnded}
+use Rattle.timer_desk.specs.declared.ring_ends.ClientReader.{ClientReader}
 use Rattle.timer_threads.specs.declared.log.Log.{Log}
-use Rattle.timer_desk.specs.Ring.{line_of_end, next_of, submitted, received_by_end, numbered, all_submitted, read_by, found_by_end, found_by_reader}
+use Rattle.timer_desk.specs.RingEnds.{line_of_end, next_of, submitted, received_by_end, numbered, all_submitted, read_by, found_by_end, found_by_reader}
 use Rattle.timer_facility.specs.declared.request.Request.TheVariants.{Start}
 use Rattle.timer_threads.specs.declared.client.Client.{Client}
 use Rattle.timer_threads.proofs.ResultsLemmas.{or_false}
 use Rattle.timer_threads.specs.Turns.{requests_of, words_of, idle_at_end}
-use Rattle.timer_threads.specs.Work.{HasWorked, request_of, requests_from, started_in, expired_in, started_by, expired_by, follows, AreAscending, ArePassed, IsStopped, GoesOn, AreTurns, IsLetGo}
-use Rattle.timer_threads.specs.Client.{passes, counted, AreChecked, IsAtWork, IsRecorded, turns_by, IsSound, is_complete}
+use Rattle.timer_threads.specs.Work.{HasWorked, request_of, requests_from, started_in, expired_in, started_in_words, expired_by, follows, AreAscending, ArePassed, StopsAtWord, GoesOn, AreClientTurns, IsLetGo}
+use Rattle.timer_threads.specs.Client.{passes, counted, AreChecked, IsAtWork, IsLogged, turns_by, KeepsToCount, is_complete}
 
 -- The requests.
 
@@ -75,51 +75,51 @@ was_after o (x ∷ ts) t a = was_after (Some x) ts t a.1
 
 -- One more word.
 
-started_by-more : (ws : List Word) (w : Word) → started_by (ws ++ w ∷ []) ≡ started_by ws ++ started_in w
-started_by-more ws w = flat_map-append started_in ws (w ∷ []) ∙ ap (λ xs. started_by ws ++ xs) (append-nil (started_in w))
+started_in_words-more : (ws : List Word) (w : Word) → started_in_words (ws ++ w ∷ []) ≡ started_in_words ws ++ started_in w
+started_in_words-more ws w = flat_map-append started_in ws (w ∷ []) ∙ ap (λ xs. started_in_words ws ++ xs) (append-nil (started_in w))
 
 expired_by-more : (ws : List Word) (w : Word) → expired_by (ws ++ w ∷ []) ≡ expired_by ws ++ expired_in w
 expired_by-more ws w = flat_map-append expired_in ws (w ∷ []) ∙ ap (λ xs. expired_by ws ++ xs) (append-nil (expired_in w))
 
 -- the lists of the answers and of the timers, with one more word
 record AreWith (ws : List Word) (w : Word) (numbers : List ℕ) (timers : List Timer) : Type 0 where
-  pub started : started_by (ws ++ w ∷ []) ≡ started_by ws ++ numbers
+  pub started : started_in_words (ws ++ w ∷ []) ≡ started_in_words ws ++ numbers
   pub expired : expired_by (ws ++ w ∷ []) ≡ expired_by ws ++ timers
   pub long : length (ws ++ w ∷ []) ≡ length ws + 1
-  pub starts : length (started_by (ws ++ w ∷ [])) ≡ length (started_by ws) + length numbers
+  pub starts : length (started_in_words (ws ++ w ∷ [])) ≡ length (started_in_words ws) + length numbers
   pub expiries : length (expired_by (ws ++ w ∷ [])) ≡ length (expired_by ws) + length timers
 
 are_with : (ws : List Word) (w : Word) → AreWith ws w (started_in w) (expired_in w)
 are_with ws w = record {
-  started = started_by-more ws w;
+  started = started_in_words-more ws w;
   expired = expired_by-more ws w;
   long = length-append ws (w ∷ []);
-  starts = ap length (started_by-more ws w) ∙ length-append (started_by ws) (started_in w);
+  starts = ap length (started_in_words-more ws w) ∙ length-append (started_in_words ws) (started_in w);
   expiries = ap length (expired_by-more ws w) ∙ length-append (expired_by ws) (expired_in w);
 }
 
 start_passes : (first count : ℕ) (ws : List Word) (w : Word) (n : ℕ) → AreWith ws w (n ∷ []) [] → ArePassed first count ws
-    → length (started_by ws) < count → n ≡ first + length (started_by ws) → ArePassed first count (ws ++ w ∷ [])
+    → length (started_in_words ws) < count → n ≡ first + length (started_in_words ws) → ArePassed first count (ws ++ w ∷ [])
 start_passes first count ws w n more was few is = record {
   each = let a = more.long in let b = more.starts in let c = more.expiries in let d = was.each in omega (arith, a, b, c, d);
-  numbers = subst (λ xs. xs ≡ range_with_len first (length xs)) (sym more.started) (next_number first n (started_by ws) was.numbers is);
+  numbers = subst (λ xs. xs ≡ range_with_len first (length xs)) (sym more.started) (next_number first n (started_in_words ws) was.numbers is);
   order = subst (AreAscending None) (sym (more.expired ∙ append-nil (expired_by ws))) was.order;
   few_started = let b = more.starts in omega (arith, b, few);
   few_expired = let c = more.expiries in let d = was.few_expired in omega (arith, c, d);
 }
 
 start_passed : (first count : ℕ) (ws : List Word) (w : Word) (n : ℕ) → AreWith ws w (n ∷ []) [] → ArePassed first count (ws ++ w ∷ [])
-    → (length (started_by ws) < count) × (n ≡ first + length (started_by ws))
+    → (length (started_in_words ws) < count) × (n ≡ first + length (started_in_words ws))
 start_passed first count ws w n more now = (
   (let b = more.starts in let d = now.few_started in omega (arith, b, d)),
-  was_next first n (started_by ws) (subst (λ xs. xs ≡ range_with_len first (length xs)) more.started now.numbers),
+  was_next first n (started_in_words ws) (subst (λ xs. xs ≡ range_with_len first (length xs)) more.started now.numbers),
 )
 
 expiry_passes : (first count : ℕ) (ws : List Word) (w : Word) (t : Timer) → AreWith ws w [] (t ∷ []) → ArePassed first count ws
     → length (expired_by ws) < count → follows (last_or None (expired_by ws)) t ≡ true → ArePassed first count (ws ++ w ∷ [])
 expiry_passes first count ws w t more was few after = record {
   each = let a = more.long in let b = more.starts in let c = more.expiries in let d = was.each in omega (arith, a, b, c, d);
-  numbers = subst (λ xs. xs ≡ range_with_len first (length xs)) (sym (more.started ∙ append-nil (started_by ws))) was.numbers;
+  numbers = subst (λ xs. xs ≡ range_with_len first (length xs)) (sym (more.started ∙ append-nil (started_in_words ws))) was.numbers;
   order = subst (AreAscending None) (sym more.expired) (AreAscending-more None (expired_by ws) t was.order after);
   few_started = let b = more.starts in let d = was.few_started in omega (arith, b, d);
   few_expired = let c = more.expiries in omega (arith, c, few);
@@ -133,7 +133,7 @@ expiry_passed first count ws w t more now = (
 )
 
 other_fails : (first count : ℕ) (ws : List Word) (w : Word) → length (started_in w) ≡ 0 → length (expired_in w) ≡ 0
-    → ArePassed first count ws → IsStopped first count (ws ++ w ∷ [])
+    → ArePassed first count ws → StopsAtWord first count (ws ++ w ∷ [])
 other_fails first count ws w no_start no_expiry was = record {
   passed = ws;
   last = w;
@@ -161,14 +161,14 @@ not_both_test a b true h l e = grind (arith, nat_tests)
 not_both_test a b false h l e = grind (arith, nat_tests)
 
 AreChecked-more : (c : Client) (ws : List Word) (w : Word) → ArePassed c.first c.count ws
-    → length (started_by ws) ≡ c.started → length (expired_by ws) ≡ c.expired → c.last ≡ last_or None (expired_by ws)
+    → length (started_in_words ws) ≡ c.started → length (expired_by ws) ≡ c.expired → c.last ≡ last_or None (expired_by ws)
     → AreChecked (not (passes c w)) c.first c.count (ws ++ w ∷ [])
 AreChecked-more c ws (Words.Answered number action (Answers.Started handle deadline)) was started expired last =
     let w : Word = Words.Answered number action (Answers.Started handle deadline) in
     checked_by (nat_lt c.started c.count && (number == c.first + c.started)) c.first c.count ws w was
     (λ p.
     let b = both_test c.started c.count (number == c.first + c.started) p in
-    let is : number ≡ c.first + length (started_by ws) = grind (arith, nat_tests, b.1, started) in
+    let is : number ≡ c.first + length (started_in_words ws) = grind (arith, nat_tests, b.1, started) in
     start_passes c.first c.count ws w number (are_with ws w) was (omega (arith, started, b.0)) is)
     (λ p now.
     let b = start_passed c.first c.count ws w number (are_with ws w) now in
@@ -257,41 +257,41 @@ short_means : (s t e s' t' e' n : ℕ) → s ≡ s' → t ≡ t' → e ≡ e' �
 short_means s t e s' t' e' n h k m a b d f = grind (arith, nat_tests)
 
 -- the words and the requests of the turns are those that were counted and checked
-words_counted : (start : ClientEnd) (c : Client) (h : IsAtWork start c) → IsRecorded start c → h.words ≡ words_of (turns_by c)
+words_counted : (start : ClientEnd) (c : Client) (h : IsAtWork start c) → IsLogged start c → h.words ≡ words_of (turns_by c)
 words_counted start c h r = append_cancel_left (received_by_end start) h.words (words_of (turns_by c)) (sym h.received ∙ r.words)
 
-requests_counted : (start : ClientEnd) (c : Client) → IsAtWork start c → IsRecorded start c
+requests_counted : (start : ClientEnd) (c : Client) → IsAtWork start c → IsLogged start c
     → requests_of (turns_by c) ≡ requests_from (next_of start) c.sent
 requests_counted start c h r =
     append_cancel_left (submitted start) (requests_of (turns_by c)) (requests_from c.first c.sent) (sym r.requests ∙ h.sends)
     ∙ ap (λ n. requests_from n c.sent) h.first
 
-expired_counted : (start : ClientEnd) (c : Client) → IsAtWork start c → IsRecorded start c → c.expired ≡ length (expired_by (words_of (turns_by c)))
+expired_counted : (start : ClientEnd) (c : Client) → IsAtWork start c → IsLogged start c → c.expired ≡ length (expired_by (words_of (turns_by c)))
 expired_counted start c h r = sym h.expired ∙ ap (λ ws. length (expired_by ws)) (words_counted start c h r)
 
-passed_counted : (start : ClientEnd) (c : Client) → IsAtWork start c → IsRecorded start c → c.failed ≡ false
+passed_counted : (start : ClientEnd) (c : Client) → IsAtWork start c → IsLogged start c → c.failed ≡ false
     → ArePassed (next_of start) c.count (words_of (turns_by c))
 passed_counted start c h r good = rw (good, h.first, words_counted start c h r) at h.checked
 
 -- a client that is not over goes on
-pub goes_on : (start : ClientEnd) (count limit idle : ℕ) (c : Client) → c.count ≡ count → IsSound c → IsAtWork start c → IsRecorded start c
+pub goes_on : (start : ClientEnd) (count limit idle : ℕ) (c : Client) → c.count ≡ count → KeepsToCount c → IsAtWork start c → IsLogged start c
     → c.failed || is_complete c ≡ false → idle ≡ idle_at_end (turns_by c) → idle < limit → GoesOn (next_of start) count limit (turns_by c)
 goes_on start count limit idle c is_count sound h r not_over is few =
     let both = or_false c.failed (is_complete c) not_over in
     let same = words_counted start c h r in
     let sent : c.sent ≡ length (requests_of (turns_by c)) =
     sym (ap length (requests_counted start c h r) ∙ length-map-range_with_len (request_of (next_of start)) 1 c.sent) in
-    let started : c.started ≡ length (started_by (words_of (turns_by c))) = sym h.started ∙ ap (λ ws. length (started_by ws)) same in
+    let started : c.started ≡ length (started_in_words (words_of (turns_by c))) = sym h.started ∙ ap (λ ws. length (started_in_words ws)) same in
     subst (λ n. GoesOn (next_of start) n limit (turns_by c)) is_count (record {
       passed = passed_counted start c h r both.0;
-      short = short_means c.sent c.started c.expired (length (requests_of (turns_by c))) (length (started_by (words_of (turns_by c))))
+      short = short_means c.sent c.started c.expired (length (requests_of (turns_by c))) (length (started_in_words (words_of (turns_by c))))
           (length (expired_by (words_of (turns_by c)))) c.count sent started (expired_counted start c h r)
           sound.sent (sound.started both.0) (sound.expired both.0) both.1;
       idle = subst (λ n. n < limit) is few;
     })
 
 -- the request of a turn was let go if the gate was asked with the client's count
-pub IsLetGo-counted : (lets_go : ℕ → ℕ → Type 0) (start : ClientEnd) (c : Client) (t : Turn) → IsAtWork start c → IsRecorded start c
+pub IsLetGo-counted : (lets_go : ℕ → ℕ → Type 0) (start : ClientEnd) (c : Client) (t : Turn) → IsAtWork start c → IsLogged start c
     → IfSome t.sent (λ request. lets_go request.number c.expired) → IsLetGo lets_go (turns_by c) t
 IsLetGo-counted lets_go start c t h r asked =
     subst (λ n. IfSome t.sent (λ request. lets_go request.number n)) (expired_counted start c h r) asked
@@ -310,8 +310,8 @@ finished c ended reader failed idle last = record {
 }
 
 pub HasWorked-finished : (start : ClientEnd) (limit : ℕ) (c : Client) (ended : Option RequestsEnded) (reader : ClientReader) (failed : Bool)
-    (idle : ℕ) (last : Log ClientEnd) → IsSound c → IsAtWork start c → IsRecorded start c
-    → AreTurns (next_of start) c.count limit (turns_by c) → idle ≡ idle_at_end (turns_by c) → last.items ≡ c.end ∷ []
+    (idle : ℕ) (last : Log ClientEnd) → KeepsToCount c → IsAtWork start c → IsLogged start c
+    → AreClientTurns (next_of start) c.count limit (turns_by c) → idle ≡ idle_at_end (turns_by c) → last.items ≡ c.end ∷ []
     → IfSome ended (λ e. all_submitted e ≡ submitted c.end) → read_by reader ≡ received_by_end c.end
     → found_by_reader reader ≡ found_by_end c.end → failed ≡ c.failed || not (is_complete c) → (c.failed || is_complete c ≡ false → idle ≡ limit)
     → HasWorked c.count limit start (finished c ended reader failed idle last)
@@ -329,7 +329,7 @@ HasWorked-finished start limit c ended reader failed idle last sound h r taken i
       requests = requests_counted start c h r;
       found = found ∙ h.found;
       received = read ∙ h.received ∙ ap (λ ws. received_by_end start ++ ws) same;
-      started = ap (λ ws. length (started_by ws)) (sym same) ∙ h.started;
+      started = ap (λ ws. length (started_in_words ws)) (sym same) ∙ h.started;
       expired = ap (λ ws. length (expired_by ws)) (sym same) ∙ h.expired;
       taken = taken;
       idle = idle_is;

@@ -4,15 +4,15 @@ use Rattle.std.proofs.lemmas.Bool.{cases_lt}
 use Rattle.std.proofs.lemmas.List.{length-append}
 use Rattle.std.specs.Prelude.{Option, Some, None, IfSome, IsNone}
 use Rattle.timer_base.proofs.Basics.{some_same}
-use Rattle.timer_desk.specs.declared.ring.RingInlet.{RingInlet}
-use Rattle.timer_desk.specs.declared.ring.RequestsEnded.{RequestsEnded}
-use Rattle.timer_desk.specs.declared.ring.ClientReader.{ClientReader}
-use Rattle.timer_desk.specs.Ring.{got_of, given_of, all_submitted, read_by, unread_by, words_ring_of_reader}
+use Rattle.timer_desk.specs.declared.ring_ends.RingInlet.{RingInlet}
+use Rattle.timer_desk.specs.declared.ring_ends.RequestsEnded.{RequestsEnded}
+use Rattle.timer_desk.specs.declared.ring_ends.ClientReader.{ClientReader}
+use Rattle.timer_desk.specs.RingEnds.{got_of, given_of, all_submitted, read_by, unread_by, words_ring_of_reader}
 use Rattle.timer_desk.specs.Desk.{DeskState, AllIdle, backlog_at}
-use Rattle.timer_desk.specs.Shutdown.{AreEndsOf, AreReadersOf, IsReadOut, AllGot, AllReadOut, IsWaiting, IsFirstUnfinished}
+use Rattle.timer_desk.specs.WindingUp.{AreEndsOf, AreReadersOf, IsReadOut, AllGot, AllReadOut, IsWaiting, IsFirstUnfinished}
 use Rattle.timer_threads.specs.Types.{Worked}
-use Rattle.timer_threads.specs.Results.{has_failed, NoneFailed, AllEnded, IsFirstFailed, AreUnzipped, lower_of}
-use Rattle.timer_threads.specs.Threads.{NoneUnread, AreSettled, IsFirstWithWords, AllServed, IsWoundUp, IsUnfinished, IsFirstHeld, AreOfLines, IsFirstClient}
+use Rattle.timer_threads.specs.Results.{is_failed, NoneFailed, AllRequestsEnded, IsFirstFailed, AreUnzipped, lower_of}
+use Rattle.timer_threads.specs.Threads.{NoneUnread, AreSettled, IsFirstWithWords, AllServed, IsWoundUp, IsUnfinished, IsFirstNotServed, AreOfLines, IsFirstClient}
 use Rattle.timer_threads.proofs.ResultsLemmas.{ends_many, readers_many, ended_is, ended_at, reader_at, all_ended}
 
 -- a list with this index has an item
@@ -57,7 +57,7 @@ module _ (desk : DeskState RingInlet) (all : List Worked) (es : List RequestsEnd
       }
 
   -- the first client of which something waits
-  pub held_waiting : (c : ℕ) → IsFirstUnfinished desk es c → IsFirstHeld desk all c
+  pub held_waiting : (c : ℕ) → IsFirstUnfinished desk es c → IsFirstNotServed desk all c
   held_waiting c blamed =
       let low : c < length all = let m = lines.as_many in let l = blamed.client in omega (arith, l, m) in record {
         client = low;
@@ -90,7 +90,7 @@ module _ (desk : DeskState RingInlet) (all : List Worked) (es : List RequestsEnd
     }
 
     -- the first for which a word is left
-    pub held_reading : (c : ℕ) → IsFirstWithWords after c → IsFirstHeld desk all c
+    pub held_reading : (c : ℕ) → IsFirstWithWords after c → IsFirstNotServed desk all c
     held_reading c first =
         let low : c < length all = let m = lines.as_many in let l = first.client in omega (arith, l, m, long) in record {
           client = low;
@@ -118,8 +118,8 @@ wound_by (Some x) missing wound ended = wound
 -- The lower of two clients.
 
 pub first_client : (desk : DeskState RingInlet) (all : List Worked) (failed held : Option ℕ) (c : ℕ) → lower_of failed held ≡ Some c
-    → IfSome failed (λ k. IsFirstFailed all k) → (IsNone failed → NoneFailed all) → IfSome held (λ k. IsFirstHeld desk all k)
-    → (IsNone held → AllEnded all → IsWoundUp desk all) → IsFirstClient desk all c
+    → IfSome failed (λ k. IsFirstFailed all k) → (IsNone failed → NoneFailed all) → IfSome held (λ k. IsFirstNotServed desk all k)
+    → (IsNone held → AllRequestsEnded all → IsWoundUp desk all) → IsFirstClient desk all c
 first_client desk all None None c is some none back wound = absurd (cc)
 first_client desk all None (Some b) c is some none back wound =
     let at : b ≡ c = some_same b c is in record {
@@ -132,7 +132,7 @@ first_client desk all (Some a) None c is some none back wound =
     let at : a ≡ c = some_same a c is in
     let low = some.client in record {
       client = omega (arith, low, at);
-      reason = inl (λ w. subst (λ k. has_failed (get_or all k w) ≡ true) at (some.failed w));
+      reason = inl (λ w. subst (λ k. is_failed (get_or all k w) ≡ true) at (some.failed w));
       others = λ k w l. some.others k w (omega (arith, at, l));
       served = λ ended k l. (wound refl ended).served k (omega (arith, low, at, l));
     }
@@ -141,7 +141,7 @@ first_client desk all (Some a) (Some b) c is some none back wound =
       client = let h = some.client in let low = back.client in omega (arith, h, low, at);
       reason = elim (cases_lt b a) [
         | inl l ↦ inr (subst (λ k. IsUnfinished desk all k) (let e : b ≡ c = omega (arith, at, l) in e) back.back)
-        | inr l ↦ inl (λ w. subst (λ k. has_failed (get_or all k w) ≡ true) (let e : a ≡ c = omega (arith, at, l) in e) (some.failed w))
+        | inr l ↦ inl (λ w. subst (λ k. is_failed (get_or all k w) ≡ true) (let e : a ≡ c = omega (arith, at, l) in e) (some.failed w))
       ];
       others = λ k w l. some.others k w (omega (arith, at, l));
       served = λ _ k l. back.before k (omega (arith, at, l));
@@ -149,7 +149,7 @@ first_client desk all (Some a) (Some b) c is some none back wound =
 
 -- if no client failed or is held back, the desk was wound up
 pub none_blamed : (desk : DeskState RingInlet) (all : List Worked) (failed held : Option ℕ) → lower_of failed held ≡ None
-    → (IsNone failed → NoneFailed all) → (IsNone held → AllEnded all → IsWoundUp desk all) → NoneFailed all × IsWoundUp desk all
+    → (IsNone failed → NoneFailed all) → (IsNone held → AllRequestsEnded all → IsWoundUp desk all) → NoneFailed all × IsWoundUp desk all
 none_blamed desk all None None is none wound = let good = none refl in (good, wound refl (all_ended all good))
 none_blamed desk all None (Some b) is none wound = absurd (cc)
 none_blamed desk all (Some a) None is none wound = absurd (cc)

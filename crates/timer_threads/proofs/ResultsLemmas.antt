@@ -3,10 +3,10 @@ use Rattle.std.proofs.Common.{◌≡◌, ◌<◌, ◌++◌, ◌||◌, ℕ, Bool,
 use Rattle.std.specs.Prelude.{Some, is_none}
 use Rattle.std.proofs.lemmas.List.{map_push, get_or-map, length-map}
 use Rattle.timer_base.proofs.Basics.{some_same}
-use Rattle.timer_desk.specs.declared.ring.RequestsEnded.{RequestsEnded}
-use Rattle.timer_desk.specs.declared.ring.ClientReader.{ClientReader}
+use Rattle.timer_desk.specs.declared.ring_ends.RequestsEnded.{RequestsEnded}
+use Rattle.timer_desk.specs.declared.ring_ends.ClientReader.{ClientReader}
 use Rattle.timer_threads.specs.Types.{Worked}
-use Rattle.timer_threads.specs.Results.{NoneFailed, AllEnded, AreUnzipped}
+use Rattle.timer_threads.specs.Results.{NoneFailed, AllRequestsEnded, AreUnzipped}
 
 pub AreUnzipped-more : (ws : List Worked) (es : List RequestsEnded) (rs : List ClientReader) (w : Worked) (e : RequestsEnded)
     → AreUnzipped ws es rs → w.ended ≡ Some e → AreUnzipped (ws ++ w ∷ []) (es ++ e ∷ []) (rs ++ w.reader ∷ [])
@@ -40,5 +40,5 @@ or_false true b h = absurd (cc)
 or_false false b h = (refl, h)
 
 -- a client whose requests could not be ended has failed
-pub all_ended : (all : List Worked) → NoneFailed all → AllEnded all
+pub all_ended : (all : List Worked) → NoneFailed all → AllRequestsEnded all
 all_ended all good k w l = (or_false (get_or all k w).failed (is_none (get_or all k w).ended) (good k w l)).1

@@ -6,25 +6,25 @@ use Rattle.std.proofs.lemmas.Grind.{flat_map-append}
 use Rattle.std.proofs.lemmas.List.{get_or_push, get_or_append_left, take_more}
 use Rattle.std.proofs.lemmas.Slice.Zip.{AllZip-long}
 use Rattle.std.proofs.lemmas.List.FromFn.{length-enumerate_from, get_or-enumerate_from}
-use Rattle.timer_desk.specs.declared.ring.RingInlet.{RingInlet}
+use Rattle.timer_desk.specs.declared.ring_ends.RingInlet.{RingInlet}
 use Rattle.timer_desk.specs.Driver.{Drives}
-use Rattle.timer_desk.specs.Ring.{line_of_inlet, ring_lines}
+use Rattle.timer_desk.specs.RingEnds.{line_of_inlet, ring_lines}
 use Rattle.timer_threads.specs.Types.{DriveEnd, ThreadsFault, Worked}
 use Rattle.timer_facility.specs.Facility.{FacilityView, with_nothing_waiting}
 use Rattle.timer_desk.specs.Desk.{DeskState, opened_desk}
 use Rattle.timer_threads.specs.declared.child.Child.{Child}
-use Rattle.timer_threads.specs.declared.fault.ThreadsFault.TheVariants as Faults
+use Rattle.timer_threads.specs.declared.outcome.ThreadsFault.TheVariants as Faults
 use Rattle.timer_threads.specs.Children.{promise_of, HasLeft, HaveLeft}
 use Rattle.timer_threads.specs.Work.{IsOfLine, IsWork}
 use Rattle.timer_threads.specs.Results.{NoneFailed}
-use Rattle.timer_threads.specs.Threads.{new_facility, IsNewDesk, IsTied, AreTied, AreOfLines, AllWhole, HasSucceeded, IsRun, IsExplained, IsFirstFault, client_text, clients_text, client_line, whole_lines}
+use Rattle.timer_threads.specs.Threads.{new_facility, IsFreshDesk, IsThreadOfLine, AreThreadsOfLines, AreOfLines, AllWhole, HasSucceeded, IsRun, IsExplained, IsFirstFault, client_text, clients_text, client_line, whole_lines}
 use Rattle.timer_threads.proofs.ResultsLemmas.{or_false}
 use Rattle.timer_threads.proofs.EndedLines.{some_item}
 
 -- one more line, and the thread that was started with its end
-pub AreTied-more : (count limit : ℕ) (inlets : List RingInlet) (children : List Child) (i : RingInlet) (h : Child)
-    → AreTied count limit inlets children → IsTied count limit i h → AreTied count limit (inlets ++ i ∷ []) (children ++ h ∷ [])
-AreTied-more count limit inlets children i h was one =
+pub AreThreadsOfLines-more : (count limit : ℕ) (inlets : List RingInlet) (children : List Child) (i : RingInlet) (h : Child)
+    → AreThreadsOfLines count limit inlets children → IsThreadOfLine count limit i h → AreThreadsOfLines count limit (inlets ++ i ∷ []) (children ++ h ∷ [])
+AreThreadsOfLines-more count limit inlets children i h was one =
     let many : length children ≡ length inlets = was.as_many in
     let more = length-append inlets (i ∷ []) in
     let more' = length-append children (h ∷ []) in record {
@@ -69,7 +69,7 @@ leads_end children rest all leads none =
     subst (λ xs. HaveLeft children xs) (append-nil all) (leads [] (subst (λ cs. HaveLeft cs []) (sym none) tt))
 
 pub work_kept : (count limit : ℕ) (first : List RingInlet) (children : List Child) (all : List Worked)
-    → AreTied count limit first children → HaveLeft children all
+    → AreThreadsOfLines count limit first children → HaveLeft children all
     → (k : ℕ) (w : Worked) → k < length all → IsWork count limit (get_or all k w)
 work_kept count limit first children all tied left k w l =
     let joined = AllZip-long HasLeft children all left in
@@ -83,7 +83,7 @@ work_kept count limit first children all tied left k w l =
     }
 
 pub all_left : (count limit : ℕ) (inlets : List RingInlet) (children : List Child) (all : List Worked)
-    → AreTied count limit inlets children → HaveLeft children all → length all ≡ length inlets
+    → AreThreadsOfLines count limit inlets children → HaveLeft children all → length all ≡ length inlets
 all_left count limit inlets children all tied left = AllZip-long HasLeft children all left ∙ tied.as_many
 
 -- a desk that was opened over a new facility
@@ -95,7 +95,7 @@ opened_new clients inlets f desk is new = is ∙ ap (λ (v : FacilityView). open
 -- a desk that was opened over new lines and driven, and what the threads of its clients left
 module _ (clients timers limit : ℕ) (inlets : List RingInlet) (opened desk : DeskState RingInlet) (outcome : DriveEnd)
     (children : List Child) (all : List Worked) (is : opened ≡ opened_desk (new_facility clients) inlets 1024)
-    (many : clients ≡ length inlets) (tied : AreTied timers limit inlets children)
+    (many : clients ≡ length inlets) (tied : AreThreadsOfLines timers limit inlets children)
     (driven : Drives ring_lines timers limit opened desk outcome) (left : HaveLeft children all) where
   pub driven_lines : AreOfLines desk.inlets all
   driven_lines =
@@ -115,7 +115,7 @@ module _ (clients timers limit : ℕ) (inlets : List RingInlet) (opened desk : D
   pub is_run : (Ends : DeskState RingInlet → DriveEnd → List Worked → Type 0) → Ends desk outcome all → IsRun clients timers limit Ends
   is_run Ends h = record {
     opened = opened;
-    new = subst (IsNewDesk clients) (sym is) (record {
+    new = subst (IsFreshDesk clients) (sym is) (record {
       lines = λ k i l. (tied.each k i (some_item children k (let a = tied.as_many in omega (arith, a, l))) l).inlet_new;
       is = refl;
     });

@@ -5,7 +5,7 @@ use Rattle.std.proofs.lemmas.List.{reverse-append}
 use Rattle.timer_desk.proofs.DriverLemmas.{push_each}
 use Rattle.timer_threads.specs.Types.{Turn}
 use Rattle.timer_threads.specs.Turns.{is_idle, idle_at_end}
-use Rattle.timer_threads.specs.Work.{GoesOn, AreTurns, IsLetGo, AreLetGo}
+use Rattle.timer_threads.specs.Work.{GoesOn, AreClientTurns, IsLetGo, AreLetGo}
 
 idle_at_end-more : (ts : List Turn) (t : Turn) → idle_at_end (ts ++ t ∷ []) ≡ cond (is_idle t) (1 + idle_at_end ts) 0
 idle_at_end-more ts t = ap (prefix_len is_idle) (reverse-append ts (t ∷ []))
@@ -20,9 +20,9 @@ idle_after ts us t busy idle more is before = sym (ap idle_at_end more ∙ idle_
     same false true h = refl
     same false false h = absurd (cc)
 
-pub AreTurns-more : (first count limit : ℕ) (ts us : List Turn) (t : Turn) → us ≡ ts ++ t ∷ [] → AreTurns first count limit ts
-    → GoesOn first count limit ts → AreTurns first count limit us
-AreTurns-more first count limit ts us t more each one = subst (AreTurns first count limit) (sym more)
+pub AreClientTurns-more : (first count limit : ℕ) (ts us : List Turn) (t : Turn) → us ≡ ts ++ t ∷ [] → AreClientTurns first count limit ts
+    → GoesOn first count limit ts → AreClientTurns first count limit us
+AreClientTurns-more first count limit ts us t more each one = subst (AreClientTurns first count limit) (sym more)
     (push_each (λ k past turn. GoesOn first count limit past) ts t t each one)
 
 pub AreLetGo-more : (lets_go : ℕ → ℕ → Type 0) (ts us : List Turn) (t : Turn) → us ≡ ts ++ t ∷ [] → AreLetGo lets_go ts

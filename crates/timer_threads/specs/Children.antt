@@ -1,7 +1,7 @@
 -- The threads that were started for the clients, and what these left.
 use Rattle.std.specs.Prelude.{ℕ, List, vec_capacity}
 use Rattle.std.specs.List.{AllZip}
-use Rattle.timer_desk.specs.Ring.{line_of_end}
+use Rattle.timer_desk.specs.RingEnds.{line_of_end}
 use Rattle.timer_threads.specs.declared.child.Child.{Child}
 use Rattle.timer_threads.specs.declared.children.Children.{Children}
 use Rattle.timer_threads.specs.declared.promise.Finishes.{Finishes}

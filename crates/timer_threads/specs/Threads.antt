@@ -4,22 +4,22 @@ use Rattle.std.specs.List.{flat_map, enumerate_from}
 use Rattle.timer_threads.specs.Types.{LAST, DriveEnd, ThreadsFault, Worked}
 use Rattle.timer_wheels.specs.Tables.{slots_of_table}
 use Rattle.timer_wheels.specs.declared.table.Table.TheVariants.{Wide}
-use Rattle.timer_desk.specs.declared.ring.RingInlet.{RingInlet}
+use Rattle.timer_desk.specs.declared.ring_ends.RingInlet.{RingInlet}
 use Rattle.timer_desk.specs.declared.looks.Found.TheVariants.{Nothing}
-use Rattle.timer_desk.specs.declared.ring.RequestsEnded.{RequestsEnded}
-use Rattle.timer_desk.specs.declared.ring.ClientReader.{ClientReader}
+use Rattle.timer_desk.specs.declared.ring_ends.RequestsEnded.{RequestsEnded}
+use Rattle.timer_desk.specs.declared.ring_ends.ClientReader.{ClientReader}
 use Rattle.timer_desk.specs.declared.driver.DriveEnd.TheVariants as DriveEnds
 use Rattle.timer_facility.specs.State.{FacilityState}
 use Rattle.timer_facility.specs.Opened.{opened}
 use Rattle.timer_desk.specs.Desk.{DeskState, opened_desk, IsIdle, backlog_at}
 use Rattle.timer_desk.specs.Driver.{Drives}
-use Rattle.timer_desk.specs.Shutdown.{IsWaiting}
-use Rattle.timer_desk.specs.Ring.{line_of_end, line_of_inlet, got_of, given_of, is_settled, free_of_inlet, found_by_inlet, all_submitted, read_by, unread_by, is_settled_reader, ring_lines}
+use Rattle.timer_desk.specs.WindingUp.{IsWaiting}
+use Rattle.timer_desk.specs.RingEnds.{line_of_end, line_of_inlet, got_of, given_of, is_settled, free_of_inlet, found_by_inlet, all_submitted, read_by, unread_by, is_settled_reader, ring_lines}
 use Rattle.timer_threads.specs.declared.child.Child.{Child}
-use Rattle.timer_threads.specs.declared.fault.ThreadsFault.TheVariants as Faults
+use Rattle.timer_threads.specs.declared.outcome.ThreadsFault.TheVariants as Faults
 use Rattle.timer_threads.specs.Children.{promise_of}
 use Rattle.timer_threads.specs.Work.{IsOfLine, IsNewEnd, IsWork, IsWhole}
-use Rattle.timer_threads.specs.Results.{has_failed, NoneFailed, AllEnded}
+use Rattle.timer_threads.specs.Results.{is_failed, NoneFailed, AllRequestsEnded}
 
 -- nothing was taken from this inlet, given to it or seen of its client's end, and it has room for 64 words
 pub record IsNewInlet (inlet : RingInlet) : Type 0 where
@@ -45,12 +45,12 @@ new_facility clients = opened (record {
 }) LAST (slots_of_table Wide)
 
 -- a new desk, with empty outboxes for 1,024 words, over new lines
-pub record IsNewDesk (clients : ℕ) (desk : DeskState RingInlet) : Type 0 where
+pub record IsFreshDesk (clients : ℕ) (desk : DeskState RingInlet) : Type 0 where
   pub lines : AreNewInlets desk.inlets
   pub is : desk ≡ opened_desk (new_facility clients) desk.inlets 1024
 
 -- the thread was started with the new end of this new line, with this many requests to send and with this limit
-pub record IsTied (count limit : ℕ) (inlet : RingInlet) (child : Child) : Type 0 where
+pub record IsThreadOfLine (count limit : ℕ) (inlet : RingInlet) (child : Child) : Type 0 where
   pub line : line_of_inlet inlet ≡ line_of_end (promise_of child).end.value
   pub count_is : (promise_of child).count ≡ count
   pub limit_is : (promise_of child).limit ≡ limit
@@ -58,10 +58,10 @@ pub record IsTied (count limit : ℕ) (inlet : RingInlet) (child : Child) : Type
   pub end_new : IsNewEnd (promise_of child).end.value
 
 -- so at each index
-pub record AreTied (count limit : ℕ) (inlets : List RingInlet) (children : List Child) : Type 0 where
+pub record AreThreadsOfLines (count limit : ℕ) (inlets : List RingInlet) (children : List Child) : Type 0 where
   pub as_many : length children ≡ length inlets
   pub each : (k : ℕ) (i : RingInlet) (h : Child) → k < length inlets
-      → IsTied count limit (get_or inlets k i) (get_or children k h)
+      → IsThreadOfLine count limit (get_or inlets k i) (get_or children k h)
 
 -- what the client at each index left is of the line of the inlet at that index
 pub record AreOfLines (inlets : List RingInlet) (all : List Worked) : Type 0 where
@@ -139,7 +139,7 @@ IsUnfinished desk all c =
     ⊎ IsFirstUnread desk all c
 
 -- this client is unfinished, and each before it is served
-pub record IsFirstHeld (desk : DeskState RingInlet) (all : List Worked) (c : ℕ) : Type 0 where
+pub record IsFirstNotServed (desk : DeskState RingInlet) (all : List Worked) (c : ℕ) : Type 0 where
   pub client : c < length all
   pub back : IsUnfinished desk all c
   pub before : (k : ℕ) → k < c → IsServed desk all k
@@ -148,9 +148,9 @@ pub record IsFirstHeld (desk : DeskState RingInlet) (all : List Worked) (c : ℕ
 -- ended, each before it is served.
 pub record IsFirstClient (desk : DeskState RingInlet) (all : List Worked) (c : ℕ) : Type 0 where
   pub client : c < length all
-  pub reason : ((w : Worked) → has_failed (get_or all c w) ≡ true) ⊎ IsUnfinished desk all c
-  pub others : (k : ℕ) (w : Worked) → k < c → has_failed (get_or all k w) ≡ false
-  pub served : AllEnded all → (k : ℕ) → k < c → IsServed desk all k
+  pub reason : ((w : Worked) → is_failed (get_or all c w) ≡ true) ⊎ IsUnfinished desk all c
+  pub others : (k : ℕ) (w : Worked) → k < c → is_failed (get_or all k w) ≡ false
+  pub served : AllRequestsEnded all → (k : ℕ) → k < c → IsServed desk all k
 
 -- the first error of the desk and of the clients: memory, then clients, then the desk
 abbrev pub IsFirstFault : DeskState RingInlet → DriveEnd → List Worked → ThreadsFault → Type 0
@@ -163,7 +163,7 @@ IsFirstFault desk outcome all Faults.Desk = (outcome ≡ DriveEnds.Limit) × Non
 pub record IsRun (clients timers limit : ℕ)
     (Ends : DeskState RingInlet → DriveEnd → List Worked → Type 0) : Type 0 where
   pub opened : DeskState RingInlet
-  pub new : IsNewDesk clients opened
+  pub new : IsFreshDesk clients opened
   pub desk : DeskState RingInlet
   pub outcome : DriveEnd
   pub all : List Worked

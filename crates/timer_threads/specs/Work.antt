@@ -8,8 +8,8 @@ use Rattle.timer_facility.specs.declared.request.Answer.TheVariants as Answers
 use Rattle.timer_facility.specs.declared.request.Notice.TheVariants as Notices
 use Rattle.timer_desk.specs.declared.word.Word.TheVariants as Words
 use Rattle.timer_desk.specs.declared.looks.Found.TheVariants.{Nothing}
-use Rattle.timer_desk.specs.declared.ring.ClientEnd.{ClientEnd}
-use Rattle.timer_desk.specs.Ring.{Line, line_of_end, next_of, numbered, submitted, received_by_end, all_submitted, requests_ring_of, words_ring_of_reader, read_by, free_of, found_by_end, found_by_reader}
+use Rattle.timer_desk.specs.declared.ring_ends.ClientEnd.{ClientEnd}
+use Rattle.timer_desk.specs.RingEnds.{Line, line_of_end, next_of, numbered, submitted, received_by_end, all_submitted, requests_ring_of, words_ring_of_reader, read_by, free_of, found_by_end, found_by_reader}
 use Rattle.timer_threads.specs.Turns.{requests_of, words_of, idle_at_end}
 
 -- What is sent.
@@ -35,8 +35,8 @@ expired_in (Words.Notice (Notices.Expired timer)) = timer ∷ []
 expired_in word = []
 
 -- the numbers of the requests that started a timer, by these words
-abbrev pub started_by : List Word → List ℕ
-started_by words = flat_map started_in words
+abbrev pub started_in_words : List Word → List ℕ
+started_in_words words = flat_map started_in words
 
 -- the timers that expired, by these words
 abbrev pub expired_by : List Word → List Timer
@@ -55,14 +55,14 @@ AreAscending earlier (t ∷ ts) = (follows earlier t ≡ true) × AreAscending (
 -- the words satisfy the checks of a client with this many requests, from this number on
 pub record ArePassed (first count : ℕ) (words : List Word) : Type 0 where
   -- each is a `Started` answer or an `Expired` notice
-  pub each : length words ≡ length (started_by words) + length (expired_by words)
-  pub numbers : started_by words ≡ range_with_len first (length (started_by words))
+  pub each : length words ≡ length (started_in_words words) + length (expired_by words)
+  pub numbers : started_in_words words ≡ range_with_len first (length (started_in_words words))
   pub order : AreAscending None (expired_by words)
-  pub few_started : length (started_by words) ≤ count
+  pub few_started : length (started_in_words words) ≤ count
   pub few_expired : length (expired_by words) ≤ count
 
 -- the last of the words is the first that does not satisfy the checks
-pub record IsStopped (first count : ℕ) (words : List Word) : Type 0 where
+pub record StopsAtWord (first count : ℕ) (words : List Word) : Type 0 where
   pub passed : List Word
   pub last : Word
   pub are : words ≡ passed ++ last ∷ []
@@ -74,7 +74,7 @@ pub record IsStopped (first count : ℕ) (words : List Word) : Type 0 where
 -- something was not sent, or of the words not received
 abbrev pub IsShort : ℕ → List Turn → Type 0
 IsShort count turns = (length (requests_of turns) < count)
-    ⊎ ((length (started_by (words_of turns)) < count) ⊎ (length (expired_by (words_of turns)) < count))
+    ⊎ ((length (started_in_words (words_of turns)) < count) ⊎ (length (expired_by (words_of turns)) < count))
 
 -- A client goes on after these turns: the words that it received satisfy its checks, something is left to send or to
 -- receive, and fewer than `limit` turns in a row were idle.
@@ -84,8 +84,8 @@ pub record GoesOn (first count limit : ℕ) (turns : List Turn) : Type 0 where
   pub idle : idle_at_end turns < limit
 
 -- it took each of its turns only while it went on after those before
-abbrev pub AreTurns : ℕ → ℕ → ℕ → List Turn → Type 0
-AreTurns first count limit turns = (k : ℕ) → k < length turns → GoesOn first count limit (take k turns)
+abbrev pub AreClientTurns : ℕ → ℕ → ℕ → List Turn → Type 0
+AreClientTurns first count limit turns = (k : ℕ) → k < length turns → GoesOn first count limit (take k turns)
 
 -- the gate let the request of this turn go, if there is one: it was asked with the request's number, and with how many
 -- timers had expired by the words of the turns before
@@ -134,13 +134,13 @@ pub record HasWorked (count limit : ℕ) (start : ClientEnd) (w : Worked) : Type
   pub requests : requests_of (turns_of w) ≡ requests_from (next_of start) w.sent
   pub received : read_by w.reader ≡ received_by_end start ++ words_of (turns_of w)
   pub found : found_by_reader w.reader ≡ found_by_end start
-  pub started : length (started_by (words_of (turns_of w))) ≡ w.started
+  pub started : length (started_in_words (words_of (turns_of w))) ≡ w.started
   pub expired : length (expired_by (words_of (turns_of w))) ≡ w.expired
-  pub taken : AreTurns (next_of start) count limit (turns_of w)
+  pub taken : AreClientTurns (next_of start) count limit (turns_of w)
   pub idle : w.idle ≡ idle_at_end (turns_of w)
   pub passed : w.failed ≡ false → ArePassed (next_of start) count (words_of (turns_of w))
   pub complete : IsWhole count w
-  pub failed : w.failed ≡ true → IsStopped (next_of start) count (words_of (turns_of w))
+  pub failed : w.failed ≡ true → StopsAtWord (next_of start) count (words_of (turns_of w))
       ⊎ (ArePassed (next_of start) count (words_of (turns_of w)) × IsIncomplete count w × (w.idle ≡ limit))
 
 -- a new end with room for 64 requests: nothing was sent, received or seen of the owner's end, and the first request

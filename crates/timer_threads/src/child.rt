@@ -5,7 +5,7 @@
 //! runs out.
 ghost use Rattle.std.specs.Prelude.{◌≡◌, ◌≤◌, IfOk};
 ghost use Rattle.timer_base.specs.declared.limits.TheConstants.{LAST};
-ghost use Rattle.timer_desk.specs.Ring.{line_of_end};
+ghost use Rattle.timer_desk.specs.RingEnds.{line_of_end};
 ghost use Rattle.timer_threads.specs.Children.{promise_of};
 ghost use Rattle.timer_threads.specs.Work.{IsOfLine, HasWorked};
 

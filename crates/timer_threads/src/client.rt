@@ -7,10 +7,10 @@
 //! write that record, and it has no bytes.
 ghost use Rattle.std.specs.Prelude.{◌≡◌, ◌+◌, ◌<◌, ◌≤◌, ◌==◌, ◌||◌, ◌++◌, [], ℕ, false, true, is_some, IsNone, IfSome, option_to_list};
 ghost use Rattle.timer_base.specs.declared.limits.TheConstants.{LAST};
-ghost use Rattle.timer_desk.specs.Ring.{line_of_end, next_of, submitted, received_by_end, seen_by_end};
-ghost use Rattle.timer_desk.specs.declared.ring.ClientEnd.{ClientEnd};
+ghost use Rattle.timer_desk.specs.RingEnds.{line_of_end, next_of, submitted, received_by_end, seen_by_end};
+ghost use Rattle.timer_desk.specs.declared.ring_ends.ClientEnd.{ClientEnd};
 ghost use Rattle.timer_threads.specs.Turns.{idle_at_end};
-ghost use Rattle.timer_threads.specs.Work.{follows, AreTurns, AreLetGo, turns_of, IsOfLine, HasWorked};
+ghost use Rattle.timer_threads.specs.Work.{follows, AreClientTurns, AreLetGo, turns_of, IsOfLine, HasWorked};
 
 use crate::client_turn::Turn;
 use crate::gate::Gate;
@@ -47,15 +47,15 @@ pub struct History {
 }
 
 impl Client {
-    ghost use Rattle.timer_threads.specs.Client.{is_complete, counted, IsSound, IsAtWork, IsRecorded, TakesTurn, turns_by, left_of, IsLess};
+    ghost use Rattle.timer_threads.specs.Client.{is_complete, counted, KeepsToCount, IsAtWork, IsLogged, AddsTurn, turns_by, work_left, IsLess};
 
     /// A client that has sent and received nothing yet, of `count` requests.
     pub fn new(end: ClientEnd, count: u64) -> Client
         requires { count ≤ LAST }
         ensures count { result.count ≡ count }
-        ensures sound { IsSound result }
+        ensures sound { KeepsToCount result }
         ensures at_work { IsAtWork end result }
-        ensures recorded { IsRecorded end result }
+        ensures recorded { IsLogged end result }
         ensures none { turns_by result ≡ [] }
     {
         let first = end.next_number();
@@ -89,16 +89,16 @@ impl Client {
     /// Takes a turn: sends a request if the gate lets it go, and reads a word. Returns whether one of the two was
     /// done.
     pub fn work_once<G: Gate>(&mut self, gate: &mut G) -> bool
-        requires sound { IsSound self.old }
+        requires sound { KeepsToCount self.old }
         requires good { self.old.failed ≡ false }
-        ensures sound { IsSound self.new }
+        ensures sound { KeepsToCount self.new }
         ensures at_work { (start : ClientEnd) → IsAtWork start self.old → IsAtWork start self.new }
-        ensures turn { TakesTurn result self.old self.new }
-        ensures recorded { (start : ClientEnd) → IsRecorded start self.old → IsRecorded start self.new }
-        ensures asked { (start : ClientEnd) → IsAtWork start self.old → IsRecorded start self.old
+        ensures turn { AddsTurn result self.old self.new }
+        ensures recorded { (start : ClientEnd) → IsLogged start self.old → IsLogged start self.new }
+        ensures asked { (start : ClientEnd) → IsAtWork start self.old → IsLogged start self.old
             → AreLetGo G.lets_go (turns_by self.old) → AreLetGo G.lets_go (turns_by self.new) }
         ensures count { self.new.count ≡ self.old.count }
-        ensures left { IsLess result (left_of self.old) (left_of self.new) }
+        ensures left { IsLess result (work_left self.old) (work_left self.new) }
     {
         let sent = self.send_next(gate);
         let received = self.read_next();
@@ -109,16 +109,16 @@ impl Client {
 
     /// Sends the next request, and returns it if it went.
     fn send_next<G: Gate>(&mut self, gate: &mut G) -> Option<Numbered>
-        requires sound { IsSound self.old }
+        requires sound { KeepsToCount self.old }
         requires good { self.old.failed ≡ false }
-        ensures sound { IsSound self.new }
+        ensures sound { KeepsToCount self.new }
         ensures good { self.new.failed ≡ false }
         ensures at_work { (start : ClientEnd) → IsAtWork start self.old → IsAtWork start self.new }
         ensures sends { submitted self.new.end ≡ submitted self.old.end ++ option_to_list result }
         ensures received { received_by_end self.new.end ≡ received_by_end self.old.end }
         ensures asked { IfSome result (λ request. G.lets_go request.number self.old.expired) }
         ensures same { (self.new.count ≡ self.old.count) × (self.new.turns ≡ self.old.turns) }
-        ensures left { IsLess (is_some result) (left_of self.old) (left_of self.new) }
+        ensures left { IsLess (is_some result) (work_left self.old) (work_left self.new) }
     {
         if self.sent >= self.count {
             return None;
@@ -142,15 +142,15 @@ impl Client {
 
     /// Reads the next word, and returns it if one came.
     fn read_next(&mut self) -> Option<Word>
-        requires sound { IsSound self.old }
+        requires sound { KeepsToCount self.old }
         requires good { self.old.failed ≡ false }
-        ensures sound { IsSound self.new }
+        ensures sound { KeepsToCount self.new }
         ensures at_work { (start : ClientEnd) → IsAtWork start self.old → IsAtWork start self.new }
         ensures receives { received_by_end self.new.end ≡ received_by_end self.old.end ++ option_to_list result }
         ensures none { IsNone result → seen_by_end self.old.end ≡ [] }
         ensures sent { submitted self.new.end ≡ submitted self.old.end }
         ensures same { (self.new.count ≡ self.old.count) × (self.new.turns ≡ self.old.turns) }
-        ensures left { IsLess (is_some result) (left_of self.old) (left_of self.new) }
+        ensures left { IsLess (is_some result) (work_left self.old) (work_left self.new) }
     {
         let Some(word) = self.end.receive() else {
             return None;
@@ -161,11 +161,11 @@ impl Client {
 
     /// Counts and checks a word that was received.
     fn check(&mut self, word: Word)
-        requires sound { IsSound self.old }
+        requires sound { KeepsToCount self.old }
         requires good { self.old.failed ≡ false }
-        ensures sound { IsSound self.new }
+        ensures sound { KeepsToCount self.new }
         ensures counted { self.new ≡ counted self.old word }
-        ensures fewer { left_of self.new < left_of self.old }
+        ensures fewer { work_left self.new < work_left self.old }
     {
         match word {
             Word::Answered {
@@ -207,10 +207,10 @@ impl Client {
 
     /// Ends the work, after so many turns in a row in which it neither sent nor received.
     pub fn finish(self, idle: u64) -> Worked
-        requires { IsSound self }
+        requires { KeepsToCount self }
         ensures line { (start : ClientEnd) → IsAtWork start self → IsOfLine (line_of_end start) result }
-        ensures worked { (start : ClientEnd) (limit : ℕ) → IsAtWork start self → IsRecorded start self
-            → AreTurns (next_of start) self.count limit (turns_by self) → idle ≡ idle_at_end (turns_by self)
+        ensures worked { (start : ClientEnd) (limit : ℕ) → IsAtWork start self → IsLogged start self
+            → AreClientTurns (next_of start) self.count limit (turns_by self) → idle ≡ idle_at_end (turns_by self)
             → (self.failed || is_complete self ≡ false → idle ≡ limit) → HasWorked self.count limit start result }
         ensures turns { turns_of result ≡ turns_by self }
     {

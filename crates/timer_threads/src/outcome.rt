@@ -1,4 +1,4 @@
-//! The result of a client's run.
+//! The result of a client's run, and why a run of clients failed.
 use crate::client::History;
 use timer_desk::{ClientReader, RequestsEnded};
 
@@ -21,4 +21,15 @@ pub struct Worked {
     pub idle: u64,
     /// What it did, turn by turn. It has no bytes: only contracts read it.
     pub history: History,
+}
+
+/// Why a run of clients in threads failed: the first of these that applies.
+#[derive(Clone, Copy, Debug, PartialEq, Eq)]
+pub enum ThreadsFault {
+    /// Allocation failed, or a thread could not be started.
+    OutOfMemory,
+    /// A check of this client failed, it came to its limit, or something of it was left.
+    Client(usize),
+    /// The desk came to its limit.
+    Desk,
 }

@@ -14,7 +14,7 @@ pub struct Finishes {
 }
 
 impl Promise<Worked> for Finishes {
-    ghost use Rattle.timer_desk.specs.Ring.{line_of_end};
+    ghost use Rattle.timer_desk.specs.RingEnds.{line_of_end};
     ghost use Rattle.timer_threads.specs.Work.{IsOfLine, HasWorked};
 
     ghost kept_by = { λ p w. IsOfLine (line_of_end p.end.value) w × HasWorked p.count p.limit p.end.value w };

@@ -1,6 +1,6 @@
 //! Splits the clients' results, and finds the first client that failed.
 ghost use Rattle.std.specs.Prelude.{◌≡◌, IfOk, IfSome, IsNone};
-ghost use Rattle.timer_threads.specs.Results.{NoneFailed, AllEnded, IsFirstFailed, lower_of, AreUnzipped};
+ghost use Rattle.timer_threads.specs.Results.{NoneFailed, AllRequestsEnded, IsFirstFailed, lower_of, AreUnzipped};
 
 use crate::outcome::Worked;
 use std::alloc::Global;
@@ -38,7 +38,7 @@ pub fn unzip_results(
     all: Vec<Worked>,
 ) -> Result<Option<(Vec<RequestsEnded>, Vec<ClientReader>)>, OutOfMemory>
     ensures some { IfOk result (λ parts. IfSome parts (λ p. AreUnzipped all.items p.0.items p.1.items)) }
-    ensures none { IfOk result (λ parts. IsNone parts → ¬ (AllEnded all.items)) }
+    ensures none { IfOk result (λ parts. IsNone parts → ¬ (AllRequestsEnded all.items)) }
 {
     let mut ends = Vec::with_capacity(alloc, all.len())?;
     let mut readers = Vec::with_capacity(alloc, all.len())?;

@@ -1,12 +1,11 @@
 //! The end of a run of clients in threads, once each of them has finished.
 ghost use Rattle.std.specs.Prelude.{◌≡◌, List, IfOk, IfErr, IfSome, IsNone, vec_len};
-ghost use Rattle.timer_desk.specs.Shutdown.{AreEndsOf, AreReadersOf};
+ghost use Rattle.timer_desk.specs.WindingUp.{AreEndsOf, AreReadersOf};
 ghost use Rattle.timer_threads.specs.declared.outcome.Worked.{Worked};
 ghost use Rattle.timer_threads.specs.Results.{AreUnzipped};
-ghost use Rattle.timer_threads.specs.Threads.{AreOfLines, AllWhole, NoneUnread, AreSettled, IsFirstWithWords, IsFirstHeld, IsWoundUp, HasSucceeded, IsFirstFault, whole_text};
+ghost use Rattle.timer_threads.specs.Threads.{AreOfLines, AllWhole, NoneUnread, AreSettled, IsFirstWithWords, IsFirstNotServed, IsWoundUp, HasSucceeded, IsFirstFault, whole_text};
 
-use crate::fault::ThreadsFault;
-use crate::outcome::Worked;
+use crate::outcome::{ThreadsFault, Worked};
 use crate::results::{first_failed, lower, unzip_results};
 use crate::threads_text::threads_text;
 use std::alloc::Global;
@@ -65,7 +64,7 @@ fn first_unfinished(
     requires ends { IfSome parts (λ p. AreEndsOf desk.inlets p.0.items) }
     requires readers { IfSome parts (λ p. AreReadersOf desk.inlets p.1.items) }
     ensures held { (all : List Worked) → AreOfLines desk.inlets all
-        → IfSome parts (λ p. AreUnzipped all p.0.items p.1.items) → IfSome result (λ c. IsFirstHeld desk all c) }
+        → IfSome parts (λ p. AreUnzipped all p.0.items p.1.items) → IfSome result (λ c. IsFirstNotServed desk all c) }
     ensures wound { (all : List Worked) → AreOfLines desk.inlets all
         → IfSome parts (λ p. AreUnzipped all p.0.items p.1.items) → IsNone result
         → IfSome parts (λ _. IsWoundUp desk all) }

@@ -9,12 +9,12 @@ ghost use Rattle.std.specs.Prelude.{◌≡◌, ◌<◌, ◌≤◌, [], length, t
 ghost use Rattle.timer_base.specs.declared.limits.TheConstants.{LAST};
 ghost use Rattle.timer_facility.specs.Facility.{with_nothing_waiting};
 ghost use Rattle.timer_threads.specs.Children.{threads_of};
-ghost use Rattle.timer_threads.specs.Threads.{new_facility, AreTied, HasSucceeded, IsRun, IsExplained, whole_text};
+ghost use Rattle.timer_threads.specs.Threads.{new_facility, AreThreadsOfLines, HasSucceeded, IsRun, IsExplained, whole_text};
 
 use crate::child::Child;
 use crate::children::Children;
-use crate::fault::ThreadsFault;
 use crate::gate::Gate;
+use crate::outcome::ThreadsFault;
 use crate::run_end::end_all;
 use std::alloc::Global;
 use std::thread::Threads;
@@ -66,7 +66,7 @@ fn start_all<G: Gate + Drop + Send + 'static>(
 ) -> Result<Clients, OutOfMemory>
     requires count { count ≤ LAST }
     requires limit { limit ≤ LAST }
-    ensures tied { IfOk result (λ c. AreTied count limit c.inlets.items (threads_of c.children)) }
+    ensures tied { IfOk result (λ c. AreThreadsOfLines count limit c.inlets.items (threads_of c.children)) }
     ensures all { IfOk result (λ c. c.all ≡ true → vec_len c.inlets ≡ vec_len gates) }
 {
     let mut inlets = Vec::with_capacity(alloc, gates.len())?;
@@ -139,7 +139,7 @@ fn drive_beside(
     limit: u64,
 ) -> Result<Vec<u8>, ThreadsFault>
     requires new { facility ≡ with_nothing_waiting (new_facility (vec_len inlets)) }
-    requires tied { AreTied timers limit inlets.items (threads_of children) }
+    requires tied { AreThreadsOfLines timers limit inlets.items (threads_of children) }
     requires timers { timers ≤ LAST }
     requires limit { limit ≤ LAST }
     ensures text { IfOk result (λ text. text.items ≡ whole_text (vec_len inlets) timers) }

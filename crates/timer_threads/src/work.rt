@@ -1,7 +1,7 @@
 //! Runs one client to its end, and returns what is left of its line.
 ghost use Rattle.std.specs.Prelude.{◌≤◌};
 ghost use Rattle.timer_base.specs.declared.limits.TheConstants.{LAST};
-ghost use Rattle.timer_desk.specs.Ring.{line_of_end};
+ghost use Rattle.timer_desk.specs.RingEnds.{line_of_end};
 ghost use Rattle.timer_threads.specs.Work.{AreLetGo, turns_of, IsOfLine, HasWorked};
 
 use crate::client::Client;

@@ -1,7 +1,7 @@
 //! A line over two queues under one lock, whose ends may wait.
 
 use crate::inlet::{Inlet, Put, Taken};
-use crate::ring::Unsent;
+use crate::ring_ends::Unsent;
 use crate::test_lines::queues::Queues;
 use crate::word::{Numbered, Word};
 use std::alloc::Global;
@@ -28,7 +28,7 @@ pub struct LockedInlet<R: Wait> {
 impl LockedEnd {
     ghost use Rattle.std.specs.Prelude.{◌≡◌, ◌+◌, ◌≤◌, IfOk, IfErr};
     ghost use Rattle.timer_desk.specs.Locked.{next_of_locked};
-    ghost use Rattle.timer_desk.specs.Ring.{IsUnsent};
+    ghost use Rattle.timer_desk.specs.RingEnds.{IsUnsent};
 
     /// Sends a request, and returns its number. It may wait for the lock.
     pub fn submit(&mut self, rt: &impl Wait, request: Request) -> Result<u64, Unsent>

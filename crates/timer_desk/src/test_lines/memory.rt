@@ -18,14 +18,14 @@ pub struct MemoryInlet {
 }
 
 impl MemoryInlet {
-    ghost use Rattle.timer_desk.specs.Memory.{got_of, standing_of, given_of, room_of};
+    ghost use Rattle.timer_desk.specs.Memory.{got_of_memory, standing_of_memory, given_of_memory, room_of_memory};
 
     /// A line in which all these requests stand, with room for `room` words. Does not allocate.
     pub fn new(alloc: Global, requests: Vec<Numbered>, room: usize) -> MemoryInlet
-        ensures got { got_of result ≡ [] }
-        ensures standing { standing_of result ≡ requests.items }
-        ensures given { given_of result ≡ [] }
-        ensures room { room_of result ≡ room }
+        ensures got { got_of_memory result ≡ [] }
+        ensures standing { standing_of_memory result ≡ requests.items }
+        ensures given { given_of_memory result ≡ [] }
+        ensures room { room_of_memory result ≡ room }
     {
         MemoryInlet {
             requests,
@@ -37,7 +37,7 @@ impl MemoryInlet {
 
     /// The words put into the line. Does not allocate.
     pub fn given(&self) -> &[Word]
-        ensures { result.now ≡ given_of self.now }
+        ensures { result.now ≡ given_of_memory self.now }
     {
         self.given.as_slice()
     }
@@ -45,7 +45,7 @@ impl MemoryInlet {
 
 impl Inlet for MemoryInlet {
     ghost use Rattle.std.specs.Prelude.{◌≡◌, [], ◌++◌, ◌<◌, ◌≤◌, ◌⊎◌, length, take, true, false, ◌↔◌};
-    ghost use Rattle.timer_desk.specs.Memory.{got_of, standing_of, given_of, room_of, fitting, LacksMemory, SameMemoryLine, memory_lines};
+    ghost use Rattle.timer_desk.specs.Memory.{got_of_memory, standing_of_memory, given_of_memory, room_of_memory, fitting, LacksMemory, SameMemoryLine, memory_lines};
     ghost use Rattle.timer_desk.specs.Inlet.{taken_of, put_of, HandsBack};
 
     ghost kind = { memory_lines };
@@ -62,12 +62,12 @@ impl Inlet for MemoryInlet {
     /// Puts a word. The line is full once it has `room` words.
     fn put(&mut self, word: Word) -> Put
         ensures line { SameMemoryLine self.old self.new }
-        ensures given { given_of self.new ≡ given_of self.old ++ put_of result word }
+        ensures given { given_of_memory self.new ≡ given_of_memory self.old ++ put_of result word }
         ensures back { HandsBack true result word }
-        ensures full { result ≡ Put.Full word → room_of self.new ≤ length (given_of self.new) }
-        ensures only_full { result ≡ Put.Full word ↔ (room_of self.old ≤ length (given_of self.old)) }
-        ensures got { got_of self.new ≡ got_of self.old }
-        ensures standing { standing_of self.new ≡ standing_of self.old }
+        ensures full { result ≡ Put.Full word → room_of_memory self.new ≤ length (given_of_memory self.new) }
+        ensures only_full { result ≡ Put.Full word ↔ (room_of_memory self.old ≤ length (given_of_memory self.old)) }
+        ensures got { got_of_memory self.new ≡ got_of_memory self.old }
+        ensures standing { standing_of_memory self.new ≡ standing_of_memory self.old }
     {
         if self.given.len() >= self.room {
             return Put::Full(word);
@@ -84,14 +84,14 @@ impl Inlet for MemoryInlet {
     /// for two words a request, and for no more than the room.
     fn put_slice(&mut self, words: &[Word]) -> usize
         ensures line { SameMemoryLine self.old self.new }
-        ensures given { given_of self.new ≡ given_of self.old ++ take result words.now }
+        ensures given { given_of_memory self.new ≡ given_of_memory self.old ++ take result words.now }
         ensures count { result ≤ length words.now }
         ensures stopped { result < length words.now
-            → (room_of self.new ≤ length (given_of self.new)) ⊎ (true ≡ true) }
+            → (room_of_memory self.new ≤ length (given_of_memory self.new)) ⊎ (true ≡ true) }
         ensures as_many { (result ≡ fitting self.old (length words.now))
             ⊎ ((result ≡ 0) × LacksMemory self.old (fitting self.old (length words.now))) }
-        ensures got { got_of self.new ≡ got_of self.old }
-        ensures standing { standing_of self.new ≡ standing_of self.old }
+        ensures got { got_of_memory self.new ≡ got_of_memory self.old }
+        ensures standing { standing_of_memory self.new ≡ standing_of_memory self.old }
     {
         let count = words.len().min(self.room.saturating_sub(self.given.len()));
         if self.given.capacity() == 0 {

@@ -19,11 +19,11 @@ pub struct Queues {
 impl Queues {
     ghost use Rattle.std.specs.Prelude.{◌≡◌, ◌≢◌, ◌≤◌, ◌<◌, [], ◌∷◌, ◌++◌, length, drop, slice_get, IfOk, IfErr, OnOk, OnErr, IsOk, ◌↔◌, true};
     ghost use Rattle.timer_desk.specs.Inlet.{taken_of, put_of, HandsBack};
-    ghost use Rattle.timer_desk.specs.Queues.{requests_in, words_in, capacity_of};
+    ghost use Rattle.timer_desk.specs.Queues.{requests_queued, words_queued, capacity_of};
 
     /// Two empty queues.
     pub fn new(alloc: Global, capacity: usize) -> Result<Queues, AllocError>
-        ensures { IfOk result (λ q. (requests_in q ≡ []) × (words_in q ≡ []) × (capacity_of q ≡ capacity)) }
+        ensures { IfOk result (λ q. (requests_queued q ≡ []) × (words_queued q ≡ []) × (capacity_of q ≡ capacity)) }
     {
         Ok(Queues {
             requests: HeapCircularBuffer::with_capacity(alloc, capacity)?,
@@ -34,10 +34,10 @@ impl Queues {
 
     /// Pushes a request, or hands it back if its queue is full.
     pub fn push_request(&mut self, numbered: Numbered) -> Result<(), Numbered>
-        ensures ok { OnOk result (requests_in self.new ≡ requests_in self.old ++ numbered ∷ []) }
-        ensures err { IfErr result (λ n. (n ≡ numbered) × (requests_in self.new ≡ requests_in self.old)) }
-        ensures when { IsOk result ↔ (length (requests_in self.old) < capacity_of self.old) }
-        ensures others { (words_in self.new ≡ words_in self.old)
+        ensures ok { OnOk result (requests_queued self.new ≡ requests_queued self.old ++ numbered ∷ []) }
+        ensures err { IfErr result (λ n. (n ≡ numbered) × (requests_queued self.new ≡ requests_queued self.old)) }
+        ensures when { IsOk result ↔ (length (requests_queued self.old) < capacity_of self.old) }
+        ensures others { (words_queued self.new ≡ words_queued self.old)
             × (capacity_of self.new ≡ capacity_of self.old) }
     {
         self.requests.try_push_back(numbered)
@@ -45,9 +45,9 @@ impl Queues {
 
     /// Pops the first request.
     pub fn pop_request(&mut self) -> Option<Numbered>
-        ensures value { result ≡ slice_get (requests_in self.old) 0 }
-        ensures requests { requests_in self.new ≡ drop 1 (requests_in self.old) }
-        ensures others { (words_in self.new ≡ words_in self.old)
+        ensures value { result ≡ slice_get (requests_queued self.old) 0 }
+        ensures requests { requests_queued self.new ≡ drop 1 (requests_queued self.old) }
+        ensures others { (words_queued self.new ≡ words_queued self.old)
             × (capacity_of self.new ≡ capacity_of self.old) }
     {
         self.requests.pop_front()
@@ -56,10 +56,10 @@ impl Queues {
     /// Takes the first request, and records it in `got`. An empty queue is reported before out of memory.
     pub fn take_into(&mut self, got: &mut Vec<Numbered>) -> Taken
         ensures got { got.new.items ≡ got.old.items ++ taken_of result }
-        ensures requests { requests_in self.old ≡ taken_of result ++ requests_in self.new }
-        ensures empty { result ≡ Taken.Empty → requests_in self.old ≡ [] }
-        ensures memory { result ≡ Taken.NoMemory → requests_in self.old ≢ [] }
-        ensures others { (words_in self.new ≡ words_in self.old)
+        ensures requests { requests_queued self.old ≡ taken_of result ++ requests_queued self.new }
+        ensures empty { result ≡ Taken.Empty → requests_queued self.old ≡ [] }
+        ensures memory { result ≡ Taken.NoMemory → requests_queued self.old ≢ [] }
+        ensures others { (words_queued self.new ≡ words_queued self.old)
             × (capacity_of self.new ≡ capacity_of self.old) }
     {
         if self.requests.is_empty() {
@@ -80,11 +80,11 @@ impl Queues {
     /// Puts a word, and records it in `given`. A full queue is reported before out of memory.
     pub fn put_into(&mut self, given: &mut Vec<Word>, word: Word) -> Put
         ensures given { given.new.items ≡ given.old.items ++ put_of result word }
-        ensures words { words_in self.new ≡ words_in self.old ++ put_of result word }
+        ensures words { words_queued self.new ≡ words_queued self.old ++ put_of result word }
         ensures back { HandsBack true result word }
-        ensures full { result ≡ Put.Full word → length (words_in self.old) ≡ capacity_of self.old }
-        ensures memory { result ≡ Put.NoMemory word → length (words_in self.old) < capacity_of self.old }
-        ensures others { (requests_in self.new ≡ requests_in self.old)
+        ensures full { result ≡ Put.Full word → length (words_queued self.old) ≡ capacity_of self.old }
+        ensures memory { result ≡ Put.NoMemory word → length (words_queued self.old) < capacity_of self.old }
+        ensures others { (requests_queued self.new ≡ requests_queued self.old)
             × (capacity_of self.new ≡ capacity_of self.old) }
     {
         if self.words.len() == self.capacity {
@@ -104,10 +104,10 @@ impl Queues {
 
     /// Pushes a word, or hands it back if its queue is full.
     pub fn push_word(&mut self, word: Word) -> Result<(), Word>
-        ensures ok { OnOk result (words_in self.new ≡ words_in self.old ++ word ∷ []) }
-        ensures err { IfErr result (λ w. (w ≡ word) × (words_in self.new ≡ words_in self.old)) }
-        ensures when { IsOk result ↔ (length (words_in self.old) < capacity_of self.old) }
-        ensures others { (requests_in self.new ≡ requests_in self.old)
+        ensures ok { OnOk result (words_queued self.new ≡ words_queued self.old ++ word ∷ []) }
+        ensures err { IfErr result (λ w. (w ≡ word) × (words_queued self.new ≡ words_queued self.old)) }
+        ensures when { IsOk result ↔ (length (words_queued self.old) < capacity_of self.old) }
+        ensures others { (requests_queued self.new ≡ requests_queued self.old)
             × (capacity_of self.new ≡ capacity_of self.old) }
     {
         self.words.try_push_back(word)
@@ -115,9 +115,9 @@ impl Queues {
 
     /// Pops the first word.
     pub fn pop_word(&mut self) -> Option<Word>
-        ensures value { result ≡ slice_get (words_in self.old) 0 }
-        ensures words { words_in self.new ≡ drop 1 (words_in self.old) }
-        ensures others { (requests_in self.new ≡ requests_in self.old)
+        ensures value { result ≡ slice_get (words_queued self.old) 0 }
+        ensures words { words_queued self.new ≡ drop 1 (words_queued self.old) }
+        ensures others { (requests_queued self.new ≡ requests_queued self.old)
             × (capacity_of self.new ≡ capacity_of self.old) }
     {
         self.words.pop_front()

@@ -1,7 +1,7 @@
 use Rattle.std.proofs.Common.{◌≡◌, ap, ◌∙◌, arith, subst}
 use Rattle.timer_facility.specs.State.{FacilityState, number_of}
 use Rattle.timer_desk_c.specs.Desks.{IsNewLine}
-use Rattle.timer_desk_c.proofs.OpeningLemmas.{looks_then}
+use Rattle.timer_desk_c.proofs.EndingLemmas.{looks_then}
 use Rattle.timer_desk_c.proofs.opening.open.Goals as goal
 
 pub returns-clause-opened : goal.returns-clause-opened
@@ -14,7 +14,7 @@ returns-clause-opened g c =
     let number_is : c.next_number-number.result ≡ number_of old.facility client = c.next_number-number.ensures
     ∙ ap (λ (s : FacilityState). number_of s client) looked.same_facility in record {
       client_in_range = omega (arith, c.if-client-clients.false, c.clients.ensures);
-      room_in_range = (omega (arith, c.if-room-lt-MIN_LINE.false), omega (arith, c.if-room-gt-MAX_LINE.false));
+      room_in_range = (omega (arith, c.if-room-lt-MIN_ITEMS.false), omega (arith, c.if-room-gt-MAX_ITEMS.false));
       clear = record { idle = record { outbox_empty = cc; none_held = cc }; none_pending = cc };
       between = c.is_left.new.desk;
       looked = looked;

@@ -1,10 +1,10 @@
-use Rattle.timer_desk_c.proofs.PlacementLemmas.{IsPlaced}
+use Rattle.timer_desk_c.proofs.PlacementLemmas.{IsPlacedSoFar}
 use Rattle.timer_desk_c.proofs.placement.place.Given as goal
 
 -- the lines from so many on hold their ends, and those below are as they were
 abbrev pub invariant-loop-end : goal.invariant-loop-end
 invariant-loop-end l = record {
-  placed : IsPlaced l.life l.initial.ends.items l.fn.lines l.ends.items l.lines;
+  placed : IsPlacedSoFar l.life l.initial.ends.items l.fn.lines l.ends.items l.lines;
 }
 
 abbrev pub decreases-loop-end : goal.decreases-loop-end

@@ -1,5 +1,5 @@
 use Rattle.std.proofs.Common.{subst, arith}
-use Rattle.timer_desk_c.specs.Dropped.{HasDroppedFirst}
+use Rattle.timer_desk_c.specs.Freed.{HasDroppedFirst}
 use Rattle.timer_desk_c.proofs.RoundLemmas.{dropping_nothing, dropping_more}
 use Rattle.timer_desk_c.proofs.rounds.drop_each.Goals as goal
 

@@ -2,7 +2,7 @@ use Rattle.std.proofs.Common.{◌∙◌, ap, subst}
 use Rattle.timer_facility.specs.Facility.{FacilityView}
 use Rattle.timer_desk_c.specs.Stopping.{IsFirstPending}
 use Rattle.timer_wheels.specs.TieredWheel.{tiered_state}
-use Rattle.timer_desk_c.proofs.PlaceLemmas.{first_pending}
+use Rattle.timer_desk_c.proofs.StoppingLemmas.{first_pending}
 use Rattle.timer_desk_c.proofs.stopping.first_from.Goals as goal
 
 pub returns-clause-first : goal.returns-clause-first

@@ -1,5 +1,5 @@
 use Rattle.std.proofs.Common.{arith, refl, ◌∙◌, ap, inl}
-use Rattle.timer_desk_c.specs.DeskSlots.{DeskState}
+use Rattle.timer_desk_c.specs.DeskSlots.{RingDesk}
 use Rattle.timer_desk_c.proofs.StoppingLemmas.{stopping-next, stopping-done}
 use Rattle.timer_desk_c.proofs.stopping.stop_each.Goals as goal
 
@@ -26,7 +26,7 @@ loop-handle-preserved c =
     let did = c.stop_own.ensures in record {
       stopping = stopping-next c.args.client c.loop-handle.place c.args.desk.now.facility now new c.in-Some.handle was.stopping
           c.lemma_invariant-in-Some.ensures.sound.distinct c.in-Some.ensures.first did.own did.other;
-      only = did.only ∙ ap (λ (d : DeskState). let e : DeskState = record d { facility = new } in e) was.only;
+      only = did.only ∙ ap (λ (d : RingDesk). let e : RingDesk = record d { facility = new } in e) was.only;
       place_in_range = let h = c.in-Some.ensures.in_range in omega (arith, h);
     }
 

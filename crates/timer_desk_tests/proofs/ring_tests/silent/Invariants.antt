@@ -1,7 +1,7 @@
 use Rattle.std.proofs.Common.{◌≡◌, get_or}
-use Rattle.timer_desk.specs.declared.ring.RingInlet.{RingInlet}
+use Rattle.timer_desk.specs.declared.ring_ends.RingInlet.{RingInlet}
 use Rattle.timer_desk.specs.Desk.{clients_of}
-use Rattle.timer_desk.specs.Ring.{line_of_end, line_of_inlet}
+use Rattle.timer_desk.specs.RingEnds.{line_of_end, line_of_inlet}
 use Rattle.timer_desk_tests.proofs.ring_tests.silent.Given as goal
 
 -- two clients, and the line of the first

@@ -1,9 +1,9 @@
 use Rattle.std.proofs.Common.{◌∙◌, ap, sym, subst, arith}
 use Rattle.std.proofs.lemmas.Grind.{common_steps}
-use Rattle.timer_desk.specs.Ring.{line_of_end}
+use Rattle.timer_desk.specs.RingEnds.{line_of_end}
 use Rattle.timer_threads.specs.Children.{threads_of}
 use Rattle.timer_threads.specs.Work.{IsNewEnd}
-use Rattle.timer_threads.proofs.ThreadLemmas.{AreTied-more}
+use Rattle.timer_threads.proofs.ThreadLemmas.{AreThreadsOfLines-more}
 use Rattle.timer_threads.proofs.threads.start_all.Goals as goal
 
 pub loop-gate-preserved : goal.loop-gate-preserved
@@ -14,7 +14,7 @@ loop-gate-preserved g c =
     let line = c.in-Ok.ensures in
     let child = c.in-Ok-start.ensures in record {
       tied = rw (inlets.items, children.threads)
-          (AreTied-more c.args.count c.args.limit c.loop-gate.inlets.items (threads_of c.loop-gate.children) c.in-Ok.inlet
+          (AreThreadsOfLines-more c.args.count c.args.limit c.loop-gate.inlets.items (threads_of c.loop-gate.children) c.in-Ok.inlet
           c.in-Ok-start.child was.tied (record {
             line = sym line.line ∙ ap line_of_end (sym child.end);
             count_is = child.count;

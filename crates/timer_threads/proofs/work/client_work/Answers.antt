@@ -1,9 +1,9 @@
 use Rattle.std.proofs.Common.{true, false, refl, ◌∙◌, sym, subst, arith}
-use Rattle.timer_desk.specs.Ring.{next_of}
-use Rattle.timer_threads.specs.Client.{left_of, turns_by}
-use Rattle.timer_threads.specs.Work.{HasWorked, AreTurns}
+use Rattle.timer_desk.specs.RingEnds.{next_of}
+use Rattle.timer_threads.specs.Client.{work_left, turns_by}
+use Rattle.timer_threads.specs.Work.{HasWorked, AreClientTurns}
 use Rattle.timer_threads.proofs.ClientLemmas.{less_to_do, nearer_the_limit, goes_on}
-use Rattle.timer_threads.proofs.TurnLemmas.{AreTurns-more, idle_after}
+use Rattle.timer_threads.proofs.TurnLemmas.{AreClientTurns-more, idle_after}
 use Rattle.timer_threads.proofs.work.client_work.Goals as goal
 use Rattle.timer_threads.proofs.work.client_work.Goals.{else-loop-idle-test, then-loop-idle-test+else-not-is_over}
 
@@ -22,7 +22,7 @@ loop-idle-init g c =
 
 pub loop-idle-smaller-then-work_once : goal.loop-idle-smaller-then-work_once
 loop-idle-smaller-then-work_once g c =
-    less_to_do (left_of c.loop-idle.client) (left_of c.work_once.new.self) c.args.limit c.loop-idle.idle c.if-work_once.ensures.left
+    less_to_do (work_left c.loop-idle.client) (work_left c.work_once.new.self) c.args.limit c.loop-idle.idle c.if-work_once.ensures.left
 
 pub loop-idle-preserved-then-work_once : goal.loop-idle-preserved-then-work_once
 loop-idle-preserved-then-work_once g c =
@@ -34,7 +34,7 @@ loop-idle-preserved-then-work_once g c =
       at_work = c.work_once.ensures.at_work c.args.end was.at_work;
       recorded = c.work_once.ensures.recorded c.args.end was.recorded;
       count = c.work_once.ensures.count ∙ was.count;
-      taken = AreTurns-more (next_of c.args.end) c.args.count c.args.limit (turns_by c.loop-idle.client) (turns_by c.work_once.new.self)
+      taken = AreClientTurns-more (next_of c.args.end) c.args.count c.args.limit (turns_by c.loop-idle.client) (turns_by c.work_once.new.self)
           turn.turn turn.added was.taken on;
       idle_is = idle_after (turns_by c.loop-idle.client) (turns_by c.work_once.new.self) turn.turn true c.loop-idle.idle turn.added
           turn.busy_is was.idle_is;
@@ -44,7 +44,7 @@ loop-idle-preserved-then-work_once g c =
 
 pub loop-idle-smaller : goal.loop-idle-smaller
 loop-idle-smaller g c =
-    nearer_the_limit (left_of c.loop-idle.client) (left_of c.work_once.new.self) c.args.limit c.loop-idle.idle
+    nearer_the_limit (work_left c.loop-idle.client) (work_left c.work_once.new.self) c.args.limit c.loop-idle.idle
     c.loop-idle-test.true c.if-work_once.ensures.left
 
 pub loop-idle-preserved : goal.loop-idle-preserved
@@ -57,7 +57,7 @@ loop-idle-preserved g c =
       at_work = c.work_once.ensures.at_work c.args.end was.at_work;
       recorded = c.work_once.ensures.recorded c.args.end was.recorded;
       count = c.work_once.ensures.count ∙ was.count;
-      taken = AreTurns-more (next_of c.args.end) c.args.count c.args.limit (turns_by c.loop-idle.client) (turns_by c.work_once.new.self)
+      taken = AreClientTurns-more (next_of c.args.end) c.args.count c.args.limit (turns_by c.loop-idle.client) (turns_by c.work_once.new.self)
           turn.turn turn.added was.taken on;
       idle_is = idle_after (turns_by c.loop-idle.client) (turns_by c.work_once.new.self) turn.turn false c.loop-idle.idle turn.added
           turn.busy_is was.idle_is;
@@ -73,7 +73,7 @@ returns-clause-worked g c =
     let was = c.loop-idle.invariant in
     subst (λ n. HasWorked n c.args.limit c.args.end c.finish.result) was.count
     (c.finish.ensures.worked c.args.end c.args.limit was.at_work was.recorded
-    (subst (λ n. AreTurns (next_of c.args.end) n c.args.limit (turns_by c.loop-idle.client)) (sym was.count) was.taken) was.idle_is
+    (subst (λ n. AreClientTurns (next_of c.args.end) n c.args.limit (turns_by c.loop-idle.client)) (sym was.count) was.taken) was.idle_is
     (λ not_over. elim c.loop-idle-test.branch [
       | else-loop-idle-test w ↦ omega (arith, was.within, w.loop-idle-test.false)
       | then-loop-idle-test+else-not-is_over w ↦ absurd (let over = w.if-not-is_over.ensures in cc)

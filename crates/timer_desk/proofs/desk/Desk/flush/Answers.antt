@@ -2,8 +2,8 @@ use Rattle.std.proofs.Common.{◌<◌, [], ◌∷◌, length, ap, arith, subst}
 use Rattle.std.specs.Prelude.{slice_set}
 use Rattle.timer_desk.specs.declared.report.Done.TheVariants.{Flushed}
 use Rattle.timer_desk.specs.Desk.{DeskState, clients_of, ReportHolds}
-use Rattle.timer_desk.proofs.DeskLemmas.{desk_of, flush_call, client_quiet, desk_handed, report_handed, Flushes-one}
-use Rattle.timer_desk.specs.Flush.{Flushes}
+use Rattle.timer_desk.proofs.DeskLemmas.{desk_of, flush_call, client_quiet, desk_handed, report_handed, FlushesClient-one}
+use Rattle.timer_desk.specs.Flush.{FlushesClient}
 use Rattle.timer_desk.proofs.desk.Desk.flush.Goals as goal
 
 pub invariant_of-self : goal.invariant_of-self
@@ -52,7 +52,7 @@ returns-clause-flushes g c =
     let low : c.args.c < length c.self.inside.inlets.items = omega (arith, c.requires, ap clients_of c.self.view_is) in
     let new = desk_of c.self.inside.facility (slice_set c.self.inside.inlets.items c.args.c c.flush.new.inlet)
     (slice_set c.self.inside.backlogs.items c.args.c c.flush.new.self) in
-    subst (λ (d : DeskState g.row.I.Denot). Flushes g.I.Inlet.kind c.args.c c.flush.result d new) c.self.view_is
-    (Flushes-one g.I.Inlet.kind c.args.c c.flush.result c.self.inside.facility c.self.inside.inlets.items c.self.inside.backlogs.items
+    subst (λ (d : DeskState g.row.I.Denot). FlushesClient g.I.Inlet.kind c.args.c c.flush.result d new) c.self.view_is
+    (FlushesClient-one g.I.Inlet.kind c.args.c c.flush.result c.self.inside.facility c.self.inside.inlets.items c.self.inside.backlogs.items
     c.index_mut-2.result.now c.flush.new.inlet c.index_mut.result.now c.flush.new.self
     c.self.invariant.kept.as_many low c.index_mut-2.ensures.value c.index_mut.ensures.value flushed.given flushed.left)

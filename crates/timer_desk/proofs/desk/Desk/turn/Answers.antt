@@ -4,7 +4,7 @@ use Rattle.std.proofs.lemmas.List.{take_all}
 use Rattle.timer_facility.specs.State.{IsSound}
 use Rattle.timer_desk.specs.Desk.{DeskState, ReportHolds}
 use Rattle.timer_desk.specs.Report.{step_in}
-use Rattle.timer_desk.proofs.Members.{ReportHolds-joined, are_owed}
+use Rattle.timer_desk.proofs.Members.{joined_reports, are_owed}
 use Rattle.timer_desk.proofs.desk.Desk.turn.Goals as goal
 
 pub loop-step-preserved : goal.loop-step-preserved
@@ -13,7 +13,7 @@ loop-step-preserved g c =
     let adds = c.step.ensures.adds in
     let split = flat_map-append step_in c.loop-step.report.items adds.more in record {
       holds = subst (λ report. ReportHolds g.I.Inlet.kind report c.args.self.now c.step.new.self) (sym adds.added)
-          (ReportHolds-joined g.I.Inlet.kind c.loop-step.report.items adds.more c.args.self.now c.loop-step.self c.step.new.self was.holds
+          (joined_reports g.I.Inlet.kind c.loop-step.report.items adds.more c.args.self.now c.loop-step.self c.step.new.self was.holds
           adds.holds);
       clients = adds.holds.same_clients ∙ was.clients;
       steps = grind (arith, common_steps, split, was.steps, adds.added, adds.step);

@@ -1,10 +1,10 @@
 use Rattle.std.proofs.Common.{◌≡◌, refl, subst}
 use Rattle.timer_facility.specs.State.{number_of}
-use Rattle.timer_desk.specs.declared.ring.RingInlet.{RingInlet}
+use Rattle.timer_desk.specs.declared.ring_ends.RingInlet.{RingInlet}
 use Rattle.timer_desk.specs.Desk.{DeskState}
-use Rattle.timer_desk.specs.Ring.{ring_lines}
-use Rattle.timer_desk.specs.Stopping.{stop_step, stop_outs}
-use Rattle.timer_desk.proofs.StoppingLemmas.{stop_is, stopped_desk, stopped_desk_is}
+use Rattle.timer_desk.specs.RingEnds.{ring_lines}
+use Rattle.timer_desk.specs.Settlement.{stop_step, stop_outs}
+use Rattle.timer_desk.proofs.SettlementLemmas.{stop_is, stopped_desk, stopped_desk_is}
 use Rattle.timer_desk.proofs.settlement.Desk+W+RingInlet.stop_for.Goals as goal
 
 pub invariant_of-self : goal.invariant_of-self

@@ -7,9 +7,9 @@ use Rattle.timer_base.specs.contracts.timer.Timer as timer
 use Rattle.timer_base.proofs.timer.Timer.TheSendSync as timer'
 use Rattle.timer_links.specs.contracts.kept.TimerKept.TheImpl as kept
 use Rattle.timer_wheels.proofs.tiered.TieredWheel.TheSendSync as tiered'
-use Rattle.timer_desk.specs.contracts.ring.RingInlet as ring
-use Rattle.timer_desk.specs.contracts.ring.RingInletInlet.TheImpl as inlet
-use Rattle.timer_desk.proofs.ring.RingInlet.TheSendSync as ring'
+use Rattle.timer_desk.specs.contracts.ring_ends.RingInlet as ring
+use Rattle.timer_desk.specs.contracts.ring_ends.RingInletInlet.TheImpl as inlet
+use Rattle.timer_desk.proofs.ring_ends.RingInlet.TheSendSync as ring'
 use Rattle.timer_desk.proofs.desk.Desk.TheSendSync as desk'
 use Rattle.timer_ffi_base.specs.Cells.{is_open}
 use Rattle.timer_ffi_base.proofs.Sends.{keyless}

@@ -2,12 +2,11 @@
 ghost use Rattle.std.specs.Prelude.{◌≡◌, ◌<◌, ℕ, get_or, vec_len, false, IsTrue, IfOk, IfErr};
 ghost use Rattle.timer_facility.specs.Facility.{with_nothing_waiting};
 ghost use Rattle.timer_desk.specs.Desk.{clients_of, backlog_at, IsIdle, AllIdle};
-ghost use Rattle.timer_desk.specs.Ring.{line_of_inlet, got_of, requests_ring_of, all_submitted};
-ghost use Rattle.timer_desk.specs.Shutdown.{AreEndsOf, AreReadersOf, AllGot, AllReadOut};
-ghost use Rattle.timer_desk.specs.Shutdown.{KeepsLines, IsWaiting, IsFirstUnfinished};
+ghost use Rattle.timer_desk.specs.RingEnds.{line_of_inlet, got_of, requests_ring_of, all_submitted};
+ghost use Rattle.timer_desk.specs.WindingUp.{AreEndsOf, AreReadersOf, AllGot, AllReadOut, KeepsLines, IsWaiting, IsFirstUnfinished};
 
 use crate::desk::Desk;
-use crate::ring::{ClientReader, RequestsEnded, RingInlet};
+use crate::ring_ends::{ClientReader, RequestsEnded, RingInlet};
 use timer_base::Wheel;
 use timer_facility::Facility;
 

@@ -9,7 +9,7 @@
 //! other settles the line, and from then on knows all that stands in the ring.
 ghost use Rattle.std.specs.Prelude.{◌≡◌, ◌==◌, ◌↔◌, [], true, length};
 ghost use Rattle.rtrb.specs.Ring.{ConsumerLooked, known_items};
-ghost use Rattle.timer_desk.specs.Looks.{found_in, AreInOrder};
+ghost use Rattle.timer_desk.specs.Looks.{found_in, AreLooksInOrder};
 ghost use Rattle.timer_desk.specs.declared.looks.Found.TheVariants as Found;
 
 use crate::inlet::{Inlet, Put, Taken};
@@ -71,8 +71,8 @@ pub struct ClientReader {
 
 impl ClientEnd {
     ghost use Rattle.std.specs.Prelude.{◌≡◌, ◌==◌, ◌+◌, ◌<◌, ◌≤◌, ◌↔◌, [], ◌∷◌, ◌++◌, true, false, length, Err, IsOk, OnOk, IfOk, OnErr, IfErr, IfSome, IsNone};
-    ghost use Rattle.timer_desk.specs.Ring.{line_of_end, submitted, received_by_end, free_of, seen_by_end, next_of, numbered, IsUnsent, requests_ring_of, words_ring_of_reader, all_submitted, read_by, is_settled_reader, found_by_end, found_by_reader};
-    ghost use Rattle.timer_desk.specs.Looks.{AreInOrder};
+    ghost use Rattle.timer_desk.specs.RingEnds.{line_of_end, submitted, received_by_end, free_of, seen_by_end, next_of, numbered, IsUnsent, requests_ring_of, words_ring_of_reader, all_submitted, read_by, is_settled_reader, found_by_end, found_by_reader};
+    ghost use Rattle.timer_desk.specs.Looks.{AreLooksInOrder};
     ghost use Rattle.timer_desk.specs.declared.looks.Found.TheVariants as Found;
 
     /// The next request's number.
@@ -138,7 +138,7 @@ impl ClientEnd {
     pub fn is_abandoned(&mut self) -> bool
         ensures line { line_of_end self.new ≡ line_of_end self.old }
         ensures over { result ≡ true ↔ (found_by_end self.new ≡ Found.GoneThenEmpty) }
-        ensures order { AreInOrder (found_by_end self.old) (found_by_end self.new)
+        ensures order { AreLooksInOrder (found_by_end self.old) (found_by_end self.new)
             (length (seen_by_end self.new) == 0) }
         ensures yes { result ≡ true → (seen_by_end self.old ≡ []) × (seen_by_end self.new ≡ []) }
         ensures received { received_by_end self.new ≡ received_by_end self.old }
@@ -179,7 +179,7 @@ impl ClientEnd {
 impl Inlet for RingInlet {
     ghost use Rattle.std.specs.Prelude.{◌≡◌, ◌+◌, ◌<◌, ◌≤◌, ◌⊎◌, [], ◌++◌, true, false, length, take};
     ghost use Rattle.timer_desk.specs.Inlet.{taken_of, put_of, HandsBack};
-    ghost use Rattle.timer_desk.specs.Ring.{got_of, standing_of, given_of, is_settled, seen_by_inlet, free_of_inlet, SameRingLine, ring_lines};
+    ghost use Rattle.timer_desk.specs.RingEnds.{got_of, standing_of, given_of, is_settled, seen_by_inlet, free_of_inlet, SameRingLine, ring_lines};
 
     ghost kind = { ring_lines };
 
@@ -252,9 +252,9 @@ impl Inlet for RingInlet {
 
 impl RingInlet {
     ghost use Rattle.std.specs.Prelude.{◌≡◌, ◌≢◌, ◌==◌, ◌↔◌, [], ◌++◌, true, false, length, IfSome};
-    ghost use Rattle.timer_desk.specs.Ring.{line_of_inlet, got_of, standing_of, given_of, is_settled, free_of_inlet, seen_by_inlet, found_by_inlet, IsOver, requests_ring_of, words_ring_of, all_submitted, all_given};
+    ghost use Rattle.timer_desk.specs.RingEnds.{line_of_inlet, got_of, standing_of, given_of, is_settled, free_of_inlet, seen_by_inlet, found_by_inlet, IsOver, requests_ring_of, words_ring_of, all_submitted, all_given};
     ghost use Rattle.timer_desk.specs.Settlement.{HasLooked};
-    ghost use Rattle.timer_desk.specs.Looks.{MayFind, AreInOrder};
+    ghost use Rattle.timer_desk.specs.Looks.{MayFind, AreLooksInOrder};
     ghost use Rattle.timer_desk.specs.declared.looks.Found.TheVariants as Found;
 
     /// Settles the line once its client has finished, and returns how many requests stand in it.
@@ -295,7 +295,7 @@ impl RingInlet {
     pub fn is_over(&mut self) -> bool
         ensures looked { HasLooked self.old self.new }
         ensures over { result ≡ true ↔ IsOver self.new }
-        ensures order { is_settled self.old ≡ false → AreInOrder (found_by_inlet self.old)
+        ensures order { is_settled self.old ≡ false → AreLooksInOrder (found_by_inlet self.old)
             (found_by_inlet self.new) (length (seen_by_inlet self.new) == 0) }
         ensures settled { is_settled self.old ≡ true → MayFind (found_by_inlet self.old) (found_by_inlet self.new) }
         ensures yes { result ≡ true → seen_by_inlet self.old ≡ [] }
@@ -328,10 +328,10 @@ impl RingInlet {
 
 impl ClientReader {
     ghost use Rattle.std.specs.Prelude.{◌≡◌, ◌==◌, ◌<◌, ◌↔◌, ◌⊎◌, [], ◌∷◌, ◌++◌, true, false, length, IfSome, IsNone};
-    ghost use Rattle.timer_desk.specs.Ring.{words_ring_of_reader, words_ring_of, read_by, unread_by, seen_by_reader, is_settled_reader, found_by_reader, found_by_inlet, all_given, line_of_inlet};
-    ghost use Rattle.timer_desk.specs.Looks.{AreInOrder};
+    ghost use Rattle.timer_desk.specs.RingEnds.{words_ring_of_reader, words_ring_of, read_by, unread_by, seen_by_reader, is_settled_reader, found_by_reader, found_by_inlet, all_given, line_of_inlet};
+    ghost use Rattle.timer_desk.specs.Looks.{AreLooksInOrder};
     ghost use Rattle.timer_desk.specs.declared.looks.Found.TheVariants as Found;
-    ghost use Rattle.timer_desk.specs.Shutdown.{IsReadOut};
+    ghost use Rattle.timer_desk.specs.WindingUp.{IsReadOut};
     ghost use Rattle.timer_desk.specs.Settlement.{HasLooked};
 
     /// Receives the next word.
@@ -381,7 +381,7 @@ impl ClientReader {
         ensures line { words_ring_of_reader self.new ≡ words_ring_of_reader self.old }
         ensures over { is_settled_reader self.old ≡ false
             → (result ≡ true ↔ (found_by_reader self.new ≡ Found.GoneThenEmpty)) }
-        ensures order { is_settled_reader self.old ≡ false → AreInOrder (found_by_reader self.old)
+        ensures order { is_settled_reader self.old ≡ false → AreLooksInOrder (found_by_reader self.old)
             (found_by_reader self.new) (length (seen_by_reader self.new) == 0) }
         ensures same { is_settled_reader self.old ≡ true → self.new ≡ self.old }
         ensures yes { result ≡ true → (is_settled_reader self.old ≡ false)
@@ -423,7 +423,7 @@ impl ClientReader {
 /// comes any more.
 fn no_word_comes(looks: &mut Looks, words: &mut Consumer<Word>) -> bool
     ensures over { result ≡ true ↔ (found_in looks.new ≡ Found.GoneThenEmpty) }
-    ensures order { AreInOrder (found_in looks.old) (found_in looks.new) (length (known_items words.new) == 0) }
+    ensures order { AreLooksInOrder (found_in looks.old) (found_in looks.new) (length (known_items words.new) == 0) }
     ensures yes { result ≡ true → (known_items words.old ≡ []) × (known_items words.new ≡ []) }
     ensures looked { ConsumerLooked words.old words.new }
 {

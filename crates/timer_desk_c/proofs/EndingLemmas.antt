@@ -1,4 +1,4 @@
--- Clients whose words are ended one after the other.
+-- Clients whose words are ended one after the other, and looks at their lines.
 use Rattle.std.proofs.Common.{◌≡◌, ◌<◌, ◌≤◌, ◌+◌, ◌++◌, ◌==◌, ℕ, List, [], ◌∷◌, length, get_or, refl, sym, ◌∙◌, ap, subst, inl, inr, arith, ne_of_lt}
 use borrow.Author.Count.{below_more}
 use Rattle.std.specs.Prelude.{Option, None, slice_set}
@@ -6,35 +6,43 @@ use Rattle.std.proofs.lemmas.Bool.{cases_eq}
 use Rattle.std.proofs.lemmas.List.{get_or-set_same, get_or-set_other, get_or_push, get_or_append_left, length_push, length-set}
 use Rattle.timer_base.proofs.Basics.{either}
 use Rattle.timer_facility.specs.State.{FacilityState, pending_of}
-use Rattle.timer_desk.specs.declared.ring.RingInlet.{RingInlet}
+use Rattle.timer_desk.specs.declared.ring_ends.RingInlet.{RingInlet}
 use Rattle.timer_desk.specs.Backlog.{BacklogState, empty_backlog}
 use Rattle.timer_desk.specs.Desk.{clients_of, backlog_at}
-use Rattle.timer_desk.specs.Ring.{line_of_inlet, got_of, given_of}
-use Rattle.timer_desk.specs.Shutdown.{KeepsLines, IsWaiting}
+use Rattle.timer_desk.specs.RingEnds.{line_of_inlet, got_of, given_of}
+use Rattle.timer_desk.specs.WindingUp.{KeepsLines, IsWaiting}
 use Rattle.timer_desk_c.specs.declared.c_structs.CLine.{CLine}
-use Rattle.timer_desk_c.specs.declared.shutdown_all.Left.{Left}
+use Rattle.timer_desk_c.specs.declared.ending.Unended.{Unended}
 use Rattle.timer_desk_c.specs.declared.status.TheConstants.{OK}
-use Rattle.timer_desk_c.specs.DeskSlots.{DeskState}
+use Rattle.timer_desk_c.specs.DeskSlots.{RingDesk}
 use Rattle.timer_desk_c.specs.Desks.{WhyNotSettled}
 use Rattle.timer_desk_c.specs.Frames.{with_line, is_own}
 use Rattle.timer_desk_c.specs.Lines.{submitted_on}
-use Rattle.timer_desk_c.specs.Shutdown.{IsLeft, OnlySettles, WhyNotEnded}
-use Rattle.timer_desk_c.specs.ShutdownAll.{IsEndedAt, IsTriedAt, first_left, next_left, AllTried}
+use Rattle.timer_desk_c.specs.Ending.{IsLeft, OnlySettles, WhyNotEnded, IsEndedAt, IsTriedAt, first_left, next_left, AllTried}
+use Rattle.timer_desk.specs.Settlement.{HasLooked}
+use Rattle.timer_desk_c.specs.Freed.{OnlyLooks}
 
 -- A desk of which more is known.
 
-keeps_nothing : (d : DeskState) → KeepsLines d d
+-- two looks at the line of a client, one after the other
+looked_then : (a b d : RingInlet) → HasLooked a b → HasLooked b d → HasLooked a d
+looked_then a b d p q = grind arith
+
+pub looks_then : (c : ℕ) (a b d : RingDesk) → OnlyLooks c a b → OnlyLooks c b d → OnlyLooks c a d
+looks_then c a b d p q = grind (arith, looked_then)
+
+keeps_nothing : (d : RingDesk) → KeepsLines d d
 keeps_nothing d = grind arith
 
 -- what depends on a client's inlet alone, and is the same for the client that was settled, is the same for each
-same_at : {X : Type 0} (f : RingInlet → X) (k c : ℕ) (i : RingInlet) (y z : DeskState) → OnlySettles k y z
+same_at : {X : Type 0} (f : RingInlet → X) (k c : ℕ) (i : RingInlet) (y z : RingDesk) → OnlySettles k y z
     → f (get_or z.inlets k i) ≡ f (get_or y.inlets k i) → f (get_or z.inlets c i) ≡ f (get_or y.inlets c i)
 same_at f k c i y z s here = elim (cases_eq c k) [
   | inl e ↦ subst (λ n. f (get_or z.inlets n i) ≡ f (get_or y.inlets n i)) (sym e) here
   | inr e ↦ ap f (s.others c i e)
 ]
 
-keeps_more : (k : ℕ) (d y z : DeskState) → KeepsLines d y → OnlySettles k y z → KeepsLines d z
+keeps_more : (k : ℕ) (d y z : RingDesk) → KeepsLines d y → OnlySettles k y z → KeepsLines d z
 keeps_more k d y z was s = record {
   same_clients = s.same_clients ∙ was.same_clients;
   same_facility = s.same_facility ∙ was.same_facility;
@@ -60,7 +68,7 @@ first_left-more c status (s ∷ statuses) = elim (either (s == OK)) [
 
 module _ (lives : ℕ) where
   -- client c was tried at the desk y, at which more is known of the lines of others than at d
-  module _ (c : ℕ) (d y : DeskState) (u v : CLine) (was : KeepsLines d y) (low : c < clients_of d) where
+  module _ (c : ℕ) (d y : RingDesk) (u v : CLine) (was : KeepsLines d y) (low : c < clients_of d) where
     ended_before : IsEndedAt lives c y u v → IsEndedAt lives c d u v
     ended_before h = record {
       held = h.held;
@@ -106,7 +114,7 @@ module _ (lives : ℕ) where
   -- The clients that were tried.
 
   -- each client below k was tried, and the others' lines are as they were
-  pub record IsEnding (k : ℕ) (left : Option Left) (d y : DeskState) (old now : List CLine) : Type 0 where
+  pub record IsEnding (k : ℕ) (left : Option Unended) (d y : RingDesk) (old now : List CLine) : Type 0 where
     pub keeps : KeepsLines d y
     pub as_many : length now ≡ length old
     pub statuses : List ℕ
@@ -118,7 +126,7 @@ module _ (lives : ℕ) where
     pub later_inlets : (c : ℕ) (i : RingInlet) → k ≤ c → get_or y.inlets c i ≡ get_or d.inlets c i
     pub left_is : left ≡ first_left 0 statuses
 
-  pub ending_nothing : (d : DeskState) (lines : List CLine) → IsEnding 0 None d d lines lines
+  pub ending_nothing : (d : RingDesk) (lines : List CLine) → IsEnding 0 None d d lines lines
   ending_nothing d lines = record {
     keeps = keeps_nothing d;
     as_many = refl;
@@ -138,7 +146,7 @@ module _ (lives : ℕ) where
   up_to P k x line old now low was new = below_more (λ n. P n (get_or old n x) (get_or (slice_set now k line) n x)) k
       (λ c under. rw (get_or-set_other now k c line x (ne_of_lt under)) (was c under)) (rw (get_or-set_same now k line x low) new)
 
-  pub ending_more : (k status : ℕ) (left result : Option Left) (d y z : DeskState) (old now : List CLine) (line new : CLine)
+  pub ending_more : (k status : ℕ) (left result : Option Unended) (d y z : RingDesk) (old now : List CLine) (line new : CLine)
       → IsEnding k left d y old now → k < length now → length old ≡ clients_of d
       → ((x : CLine) → line ≡ get_or now k x)
       → ((i : RingInlet) → IsTriedAt lives k status y (get_or y.inlets k i) (get_or z.inlets k i) line new)
@@ -170,7 +178,7 @@ module _ (lives : ℕ) where
             ∙ ap (λ n. next_left (first_left 0 was.statuses) n status) at ∙ sym (first_left-more 0 status was.statuses);
       }
 
-  pub ending_done : (k : ℕ) (left : Option Left) (d y : DeskState) (old now : List CLine) → IsEnding k left d y old now
+  pub ending_done : (k : ℕ) (left : Option Unended) (d y : RingDesk) (old now : List CLine) → IsEnding k left d y old now
       → k ≡ length old → length old ≡ clients_of d → AllTried lives left d y old now
   ending_done k left d y old now h all many = record {
     as_many = many;

@@ -1,7 +1,7 @@
 use Rattle.std.proofs.Common.{◌≡◌, ◌<◌, length}
 use Rattle.std.specs.Prelude.{IfSome}
-use Rattle.timer_desk_c.proofs.ShutdownLemmas.{IsEnding}
-use Rattle.timer_desk_c.proofs.shutdown_all.end_each.Given as goal
+use Rattle.timer_desk_c.proofs.EndingLemmas.{IsEnding}
+use Rattle.timer_desk_c.proofs.ending.end_each.Given as goal
 
 -- the clients so far were tried, and what is left was refused
 abbrev pub invariant-loop-client : goal.invariant-loop-client

@@ -1,11 +1,11 @@
 use Rattle.std.proofs.Common.{◌≡◌, ◌<◌, ◌≤◌, ℕ, get_or, vec_len}
-use Rattle.timer_desk.specs.declared.ring.RingInlet.{RingInlet}
-use Rattle.timer_desk.specs.declared.ring.RequestsEnded.{RequestsEnded}
-use Rattle.timer_desk.specs.declared.ring.ClientReader.{ClientReader}
+use Rattle.timer_desk.specs.declared.ring_ends.RingInlet.{RingInlet}
+use Rattle.timer_desk.specs.declared.ring_ends.RequestsEnded.{RequestsEnded}
+use Rattle.timer_desk.specs.declared.ring_ends.ClientReader.{ClientReader}
 use Rattle.timer_desk.specs.Desk.{IsIdle, backlog_at}
-use Rattle.timer_desk.specs.Ring.{got_of, all_submitted}
-use Rattle.timer_desk.specs.Shutdown.{KeepsLines, IsReadOut}
-use Rattle.timer_desk.proofs.shutdown.wind_up.Given as goal
+use Rattle.timer_desk.specs.RingEnds.{got_of, all_submitted}
+use Rattle.timer_desk.specs.WindingUp.{KeepsLines, IsReadOut}
+use Rattle.timer_desk.proofs.winding_up.wind_up.Given as goal
 
 -- the ends from c on are unchanged, and the clients below c are done
 abbrev pub invariant-loop-c : goal.invariant-loop-c

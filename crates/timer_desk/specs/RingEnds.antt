@@ -7,13 +7,13 @@ use Rattle.rtrb.specs.declared.end.End.{End}
 use Rattle.rtrb.specs.Ring.{sent, received, known_free, known_items, all_sent}
 use Rattle.std.specs.declared.alloc.Global.{Global}
 use Rattle.timer_desk.specs.Types.{Numbered, Request, Word, LAST, Found}
-use Rattle.timer_desk.specs.declared.ring.ClientEnd.{ClientEnd}
-use Rattle.timer_desk.specs.declared.ring.RingInlet.{RingInlet}
-use Rattle.timer_desk.specs.declared.ring.RequestsEnded.{RequestsEnded}
-use Rattle.timer_desk.specs.declared.ring.WordsEnded.{WordsEnded}
-use Rattle.timer_desk.specs.declared.ring.ClientReader.{ClientReader}
-use Rattle.timer_desk.specs.declared.ring.Unsent.{Unsent}
-use Rattle.timer_desk.specs.declared.ring.Unsent.TheVariants.{Spent, Full}
+use Rattle.timer_desk.specs.declared.ring_ends.ClientEnd.{ClientEnd}
+use Rattle.timer_desk.specs.declared.ring_ends.RingInlet.{RingInlet}
+use Rattle.timer_desk.specs.declared.ring_ends.RequestsEnded.{RequestsEnded}
+use Rattle.timer_desk.specs.declared.ring_ends.WordsEnded.{WordsEnded}
+use Rattle.timer_desk.specs.declared.ring_ends.ClientReader.{ClientReader}
+use Rattle.timer_desk.specs.declared.ring_ends.Unsent.{Unsent}
+use Rattle.timer_desk.specs.declared.ring_ends.Unsent.TheVariants.{Spent, Full}
 use Rattle.timer_desk.specs.declared.looks.Found.TheVariants.{Nothing, GoneThenEmpty}
 use Rattle.timer_desk.specs.Looks.{found_in}
 use Rattle.timer_desk.specs.Inlet.{LineState, LineKind, SameLine, SameLine-refl, SameLine-trans}
@@ -106,8 +106,8 @@ free_of_inlet i = known_free i.words
 abbrev pub found_by_inlet : RingInlet → Found
 found_by_inlet i = found_in i.looks
 
-abbrev pub state_of : RingInlet → LineState
-state_of i = record { got = got_of i; standing = standing_of i; given = given_of i }
+abbrev pub state_of_inlet : RingInlet → LineState
+state_of_inlet i = record { got = got_of i; standing = standing_of i; given = given_of i }
 
 -- No request arrives any more: the client's end was seen to be gone, and then no request stood in the line. All
 -- requests that stand in a settled line are known, so that of it the first is enough.
@@ -119,17 +119,17 @@ pub record IsOver (i : RingInlet) : Type 0 where
 -- The line is the same one, and more may have been got and given. Nothing was found of the client's end and nothing
 -- forgotten. Once settled it stays settled, and what was got followed by what stands stays the same.
 pub record SameRingLine (a b : RingInlet) : Type 0 where
-  pub same : SameLine line_of_inlet state_of a b
+  pub same : SameLine line_of_inlet state_of_inlet a b
   pub found : found_by_inlet b ≡ found_by_inlet a
   pub settled : is_settled a ≡ true → (is_settled b ≡ true)
       × (got_of b ++ standing_of b ≡ got_of a ++ standing_of a)
 
 pub SameRingLine-refl : (a : RingInlet) → SameRingLine a a
-SameRingLine-refl a = record { same = SameLine-refl line_of_inlet state_of a; found = refl; settled = λ h. (h, refl) }
+SameRingLine-refl a = record { same = SameLine-refl line_of_inlet state_of_inlet a; found = refl; settled = λ h. (h, refl) }
 
 pub SameRingLine-trans : (a b c : RingInlet) → SameRingLine a b → SameRingLine b c → SameRingLine a c
 SameRingLine-trans a b c p q = record {
-  same = SameLine-trans line_of_inlet state_of a b c p.same q.same;
+  same = SameLine-trans line_of_inlet state_of_inlet a b c p.same q.same;
   found = q.found ∙ p.found;
   settled = λ h. (let k = p.settled h in ((q.settled (k.0)).0, (q.settled (k.0)).1 ∙ k.1));
 }
@@ -137,7 +137,7 @@ SameRingLine-trans a b c p q = record {
 -- ring lines as a kind of line
 abbrev pub ring_lines : LineKind RingInlet
 ring_lines = record {
-  state = state_of;
+  state = state_of_inlet;
   same = SameRingLine;
   is_full = λ i. free_of_inlet i ≡ 0;
   take_may_refuse = false;

@@ -1,8 +1,8 @@
 use Rattle.std.proofs.Common.{◌<◌, length, get_or, refl, ap, arith}
 use Rattle.std.proofs.lemmas.List.{get_or_default}
-use Rattle.timer_desk_c.specs.DeskSlots.{DeskState}
-use Rattle.timer_desk_c.proofs.ShutdownLemmas.{ending_nothing, ending_more, ending_done}
-use Rattle.timer_desk_c.proofs.shutdown_all.end_each.Goals as goal
+use Rattle.timer_desk_c.specs.DeskSlots.{RingDesk}
+use Rattle.timer_desk_c.proofs.EndingLemmas.{ending_nothing, ending_more, ending_done}
+use Rattle.timer_desk_c.proofs.ending.end_each.Goals as goal
 
 pub loop-client-init : goal.loop-client-init
 loop-client-init g c = record { done = ending_nothing c.args.lives c.args.desk.now c.args.lines.now; refused = tt; all = refl }
@@ -25,7 +25,7 @@ loop-client-preserved g c =
           (λ i. record {
             over = λ ok. tried.over ok i;
             left = λ more. tried.left more i;
-            same_inlet = λ more other held. ap (λ (d : DeskState). get_or d.inlets k i) (tried.same more other held);
+            same_inlet = λ more other held. ap (λ (d : RingDesk). get_or d.inlets k i) (tried.same more other held);
             looked = λ none. tried.looked none i;
             still_gone = tried.desk.still_gone i;
           }) tried.desk tried.only first.next;

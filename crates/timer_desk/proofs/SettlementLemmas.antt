@@ -16,7 +16,7 @@ use Rattle.timer_facility.proofs.StepLemmas.{by_verdict, step-not_taken}
 use Rattle.timer_desk.specs.Inlet.{LineKind}
 use Rattle.timer_desk.specs.Backlog.{BacklogState, notices_for}
 use Rattle.timer_desk.specs.Desk.{DeskState, IsDesk}
-use Rattle.timer_desk.specs.Stopping.{stop_step, stop_outs}
+use Rattle.timer_desk.specs.Settlement.{stop_step, stop_outs}
 use Rattle.timer_desk.proofs.DeskLemmas.{desk_of, still}
 
 -- The step.

@@ -1,23 +1,85 @@
-//! Ends the words of every client: each is tried in turn, and the first that is left is reported.
-ghost use Rattle.std.specs.Prelude.{◌≡◌, ◌≢◌, ◌<◌, ◌⊎◌, length, get_or, true, Some, None, IfSome};
+//! Ends the words of a client that has finished, once nothing of it is left at the desk; and those of every client:
+//! each is tried in turn, and the first that is left is reported.
+ghost use Rattle.std.specs.Prelude.{◌≡◌, ◌≢◌, ◌<◌, ◌⊎◌, length, get_or, true, false, Some, None, IfSome};
+ghost use Rattle.timer_desk.specs.declared.ring_ends.RingInlet.{RingInlet};
 ghost use Rattle.timer_desk.specs.Desk.{clients_of};
-ghost use Rattle.timer_desk.specs.declared.ring.RingInlet.{RingInlet};
+ghost use Rattle.timer_desk.specs.RingEnds.{line_of_inlet, requests_ring_of, all_submitted};
 ghost use Rattle.timer_desk.specs.Settlement.{HasLooked};
-ghost use Rattle.timer_desk.specs.Shutdown.{KeepsLines};
+ghost use Rattle.timer_desk.specs.WindingUp.{KeepsLines};
+ghost use Rattle.timer_desk_c.specs.Desks.{IsAsBefore};
 ghost use Rattle.timer_desk_c.specs.Frames.{HasLine, HasNoLine, with_line, is_own};
-ghost use Rattle.timer_desk_c.specs.Shutdown.{IsTied, OnlySettles};
-ghost use Rattle.timer_desk_c.specs.ShutdownAll.{AreTied, OnlyStates, IsFreedAt, IsEndedAt, IsHeldBackAt, IsElsewhereAt, next_left, AllTried, AllEnded, WhyNotAllEnded};
+ghost use Rattle.timer_desk_c.specs.Ending.{IsGone, IsLeft, IsTied, OnlySettles, HasEnded, WhyNotEnded, AreTied, OnlyStates, IsFreedAt, IsEndedAt, IsHeldBackAt, IsElsewhereAt, next_left, AllTried, AllEnded, WhyNotAllEnded};
 ghost use Rattle.timer_desk_c.specs.declared.status.TheConstants.{OK, LEFT, NOT_FREED};
 
 use crate::c_structs::{CLine, is_line_of};
-use crate::shutdown::end;
-use crate::status::{NOT_FREED, OK, OUT_OF_RANGE};
+use crate::line::Line;
+use crate::opening::is_clear;
+use crate::status::{LEFT, NO_CLIENT, NOT_FINISHED, NOT_FREED, OK, OTHER_LINE, OUT_OF_RANGE};
 use timer_base::Wheel;
-use timer_desk::{Desk, RingInlet};
+use timer_desk::{Desk, RequestsEnded, RingInlet};
+
+/// Ends the words of a client, and writes how many stand in its line. `own` says whether the line is the client's, in
+/// this life of the desk's struct.
+pub(crate) fn end<W: Wheel + Drop>(
+    desk: &mut Desk<W, RingInlet>,
+    client: usize,
+    own: bool,
+    line: &mut Line,
+    unread: &mut usize,
+) -> u32
+    requires line { client < clients_of desk.old → own ≡ true → IsTied client desk.old line.old }
+    ensures ended { result ≡ OK → (own ≡ true) × HasEnded client unread.new desk.old line.old line.new }
+    ensures refused { 0 < result → WhyNotEnded client own desk.old line.old result }
+    ensures kept { 0 < result → (unread.new ≡ unread.old) × IsAsBefore line.old line.new }
+    ensures same { 0 < result → result ≢ LEFT → desk.new ≡ desk.old }
+    ensures desk { OnlySettles client desk.old desk.new }
+{
+    if client >= desk.clients() {
+        return NO_CLIENT;
+    }
+    if !own {
+        return OTHER_LINE;
+    }
+    match line {
+        Line::Open(_) => NOT_FINISHED,
+        Line::Finished(requests, reader) => match requests {
+            Some(ended) => {
+                if is_left(desk, client, ended) {
+                    return LEFT;
+                }
+                *unread = desk.settle_reader(client, reader);
+                OK
+            }
+            None => OTHER_LINE,
+        },
+        Line::Gone => OTHER_LINE,
+    }
+}
+
+/// Settles the requests of a client, and returns whether something of it is left at the desk.
+fn is_left<W: Wheel + Drop>(
+    desk: &mut Desk<W, RingInlet>,
+    client: usize,
+    ended: &mut RequestsEnded,
+) -> bool
+    requires client { client < clients_of desk.old }
+    requires line { (i : RingInlet) → requests_ring_of ended.old
+        ≡ (line_of_inlet (get_or desk.old.inlets client i)).0 }
+    ensures gone { result ≡ false → IsGone client desk.old (all_submitted ended.old) }
+    ensures left { result ≡ true → IsLeft client desk.old (all_submitted ended.old) }
+    ensures desk { OnlySettles client desk.old desk.new }
+    ensures ended { (requests_ring_of ended.new ≡ requests_ring_of ended.old)
+        × (all_submitted ended.new ≡ all_submitted ended.old) }
+{
+    if !is_clear(desk, client) {
+        return true;
+    }
+    desk.settle(client, ended) > 0
+}
 
 /// A client whose words were not ended.
 #[derive(Clone, Copy)]
-pub struct Left {
+pub struct Unended {
     pub client: usize,
     /// Why not.
     pub status: u32,
@@ -57,7 +119,7 @@ fn end_each<W: Wheel + Drop>(
     desk: &mut Desk<W, RingInlet>,
     lives: u64,
     lines: &mut [CLine],
-) -> Option<Left>
+) -> Option<Unended>
     requires as_many { length lines.old ≡ clients_of desk.old }
     requires lines { AreTied lives desk.old lines.old }
     ensures tried { AllTried lives result desk.old desk.new lines.old lines.new }
@@ -104,12 +166,12 @@ fn end_held<W: Wheel + Drop>(
 }
 
 /// The first client that was left, after this one.
-fn first_left(left: Option<Left>, client: usize, status: u32) -> Option<Left>
+fn first_left(left: Option<Unended>, client: usize, status: u32) -> Option<Unended>
     ensures next { result ≡ next_left left client status }
     ensures still { IfSome left (λ l. 0 < l.status) → IfSome result (λ l. 0 < l.status) }
 {
     if left.is_some() || status == OK {
         return left;
     }
-    Some(Left { client, status })
+    Some(Unended { client, status })
 }
