@@ -8,7 +8,7 @@ use Rattle.timer_facility.specs.declared.event.Out.TheVariants as Outs
 use Rattle.timer_facility.specs.State.{FacilityState, ModelRequest, SingleEvent, Asked, Tick, Close}
 use Rattle.timer_facility.specs.Verdict.{not_taken, refusal, tick_refusal, CloseRefused, verdict_on_request, verdict_on_tick, verdict, closed_refusal}
 use Rattle.timer_facility.specs.Step.{StepResult, refused, expiries, timer_stopped, timer_started, answer_to, due_at_start, accepted, expired_next, step_by, step, step_of_tick, step_of_close}
-use Rattle.timer_facility.specs.Run.{PlacedEvent, run, notices_in}
+use Rattle.timer_facility.specs.Run.{PlacedEvent, history, state_after, outs_of, notices, notices_in}
 use Rattle.timer_facility.specs.Refused.{refusals_in, refusals_of}
 use Rattle.timer_facility.proofs.NoticeLists.{notices_in-append, refusals_in-map}
 use Rattle.timer_facility.proofs.VerdictLemmas.{not_taken-closed, tick_refusal-closed}
@@ -72,10 +72,13 @@ step-closed s event place h = subst (IsIdle s) (sym (step_refused s event place 
     idle Tick = (refl, refl)
     idle Close = (refl, refl)
 
-pub run-closed : (s : FacilityState) (ps : List PlacedEvent) → s.is_closed ≡ true → IsIdle s (run s ps)
-run-closed s [] h = (refl, refl)
-run-closed s (p ∷ ps) h =
+pub state_closed : (s : FacilityState) (ps : List PlacedEvent) → s.is_closed ≡ true → state_after s ps ≡ s
+state_closed s [] h = refl
+state_closed s (p ∷ ps) h = rw (step-closed s p.event p.place h).1 (state_closed s ps h)
+
+pub none_after_close : (s : FacilityState) (ps : List PlacedEvent) → s.is_closed ≡ true → notices (history s ps) ≡ []
+none_after_close s [] h = refl
+none_after_close s (p ∷ ps) h =
     let st : StepResult = step s p.event p.place in
     let one : IsIdle s st = step-closed s p.event p.place h in
-    let rest : IsIdle s (run st.state ps) = subst (λ c. IsIdle s (run c ps)) (sym one.1) (run-closed s ps h) in
-    (rw (notices_in-append st.outs (run st.state ps).outs, one.0) rest.0, rest.1)
+    rw (notices_in-append st.outs (outs_of (history st.state ps)), one.0, one.1) (none_after_close s ps h)

@@ -89,6 +89,7 @@ pub fn a_closed_facility_refuses_each_event()
 {}
 
 /// After the close nothing is handed out, and nothing changes.
+#[tactic(auto, using(crate::proofs::RefusedLemmas::none_after_close, crate::proofs::RefusedLemmas::state_closed))]
 pub fn nothing_comes_after_the_close()
     ensures { (s : FacilityState) (placed : List PlacedEvent) → s.is_closed ≡ true
         → (notices_in (run s placed).outs ≡ []) × ((run s placed).state ≡ s) }
