@@ -58,7 +58,7 @@ declared() {
 # An archive whose names are not hidden lets a plug-in use the calls, also from inline functions of the program's headers.
 # With the other archive the plug-in can't be loaded.
 @test "plug-ins may use the calls if who builds the archive shows its names" {
-    CFLAGS=-DTIMERS_SHARED tools/lib "$work/visible"
+    CFLAGS="-O0 -DTIMERS_SHARED" tools/lib "$work/visible"
     cat > "$work/inlined.h" << 'EOT'
 #include <timers.h>
 static inline uint64_t first_deadline(struct timers *t) { return timers_next(t); }
@@ -256,7 +256,7 @@ EOT
 }
 @test "misuses in Rust don't compile" {
     needs_cargo
-    cargo build --quiet --offline --manifest-path bindings/rust/Cargo.toml --target-dir "$work/cargo"
+    CFLAGS=-O0 cargo build --quiet --offline --manifest-path bindings/rust/Cargo.toml --target-dir "$work/cargo"
     misuse() {
         rustc --edition 2021 -A unexpected_cfgs --emit=metadata --extern "timers=$work/cargo/debug/libtimers.rlib" -o "$work/misuse" \
             bindings/rust/tests/misuse/misuse.rs "$@"

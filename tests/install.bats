@@ -200,7 +200,7 @@ refused() {
     printf '[package]\nname = "app"\nversion = "1.0.0"\nedition = "2021"\n[dependencies]\ntimers = { path = "%s" }\n' "$work/prefix/share/timers/rust" \
         > "$work/app/Cargo.toml"
     chmod -R a-w "$work/prefix/share/timers/rust"
-    cargo run --quiet --offline --manifest-path "$work/app/Cargo.toml" > "$work/out"
+    CFLAGS=-O0 cargo run --quiet --offline --manifest-path "$work/app/Cargo.toml" > "$work/out"
     chmod -R u+w "$work/prefix/share/timers/rust"
     printf '240: egg\n300: tea\n' | diff - "$work/out"
 }

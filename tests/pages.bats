@@ -9,16 +9,8 @@ setup_file() {
     cd "$BATS_TEST_DIRNAME/.." || return
     mkdir "$BATS_FILE_TMPDIR/bin"
     ln -s "$(realpath "${TIMERS:-timers}")" "$BATS_FILE_TMPDIR/bin/timers"
-    LAST=$(tools/facts LAST)
     EVENTS=$(tools/facts SCRIPT | tr ' ' '|')
-    export LAST EVENTS PATH=$BATS_FILE_TMPDIR/bin:$PATH
-}
-
-# Prints 'OPTION LEAST MOST DEFAULT' for each option of a help. The last tick of the scheme stands for the greatest one.
-help_numbers() {
-    timers "$1" -h | sed -nE -e "s/the last tick of the scheme/$LAST/" \
-        -e 's/^ +--([a-z-]+) <[A-Z]+> .*[^0-9]([0-9]+) to ([0-9]+).*\[default: ([0-9]+)\].*/\1 \2 \3 \4/p' \
-        -e 's/^ +--scheme <SCHEME> .*\[default: ([a-z]+)\].*/scheme \1/p'
+    export EVENTS PATH=$BATS_FILE_TMPDIR/bin:$PATH
 }
 
 # has_status STATUS COMMAND..: on the empty script
@@ -33,11 +25,11 @@ other_option() {
     esac
 }
 
-@test "each option has the range and the default of facts/, takes both ends and the default, and refuses the numbers beside them" {
+# tools/facts writes ranges and defaults into the program's options and its help.
+@test "each option takes both ends of its range and the default, and refuses the numbers beside them" {
     for command in play serve show threads check; do
-        section=play
+        section=play tried=0
         case $command in threads | check) section=$command ;; esac
-        diff <(help_numbers $command) <(tools/facts --options $section)
         while read -r option least most default; do
             [ -n "$default" ] || continue
             other=$(other_option $command "$option")
@@ -45,7 +37,9 @@ other_option() {
             for number in "$least" "$most" "$default"; do has_status 0 $command "--$option=$number" $other; done
             has_status 2 $command "--$option=$((most + 1))"
             has_status 2 $command "--$option=$((least - 1))"
-        done < <(help_numbers $command)
+            tried=$((tried + 1))
+        done < <(tools/facts --options $section)
+        [ "$tried" -gt 1 ]
     done
 }
 
@@ -118,7 +112,6 @@ run_examples() {
         [[ $example =~ ^$pattern$ ]]
         if [[ $row =~ ^($EVENTS)(\ [A-Z]+)*$ ]]; then
             script_status 0 "$example"
-            timers --help | grep -qE "^  $row( |\$)"
         fi
     done < <(sed -nE 's/^\| `([a-z ]+[A-Z ]*)` \|.*\| `([^`]*)` \|$/\1\t\2/p' docs/formats.md)
     [ "$rows" -gt 0 ]

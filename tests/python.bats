@@ -25,10 +25,11 @@ wheels_of() { "$python" -c "import sys; sys.path[:0] = ['$1']; import backend; p
     in_package "$python" -W error -X dev "$PWD/bindings/python/tests/desk_test.py"
 }
 
-# A block that was freed is kept for a while there, so that what is mapped is more: of 4 MB.
+# Not optimized, as in sanitizers.bats. A block that was freed is kept for a while there, so that what is mapped is more: of
+# 4 MB.
 @test "both do the same under the sanitizers of addresses and of undefined behaviour" {
     needs_python_package
-    CFLAGS="-g -fsanitize=address,undefined -fno-sanitize-recover=all" "$python" bindings/python/backend.py "$work/sanitized" ||
+    CFLAGS="-g -O0 -fsanitize=address,undefined -fno-sanitize-recover=all" "$python" bindings/python/backend.py "$work/sanitized" ||
         skip "cc has no sanitizers"
     local test preloaded
     preloaded="$(cc -print-file-name=libasan.so) $(cc -print-file-name=libubsan.so)"
@@ -106,7 +107,7 @@ wheels_of() { "$python" -c "import sys; sys.path[:0] = ['$1']; import backend; p
     needs_python_package
     needs_venv
     new_venv installed
-    "$work/installed/bin/pip" install ./bindings/python
+    CFLAGS=-O0 "$work/installed/bin/pip" install ./bindings/python
     printf '240: egg\n300: tea\n' | diff - <(cd / && "$work/installed/bin/python" "$OLDPWD/examples/c/first.py")
 }
 @test "the wheel names what it is for and what it is, and is removed again" {
@@ -130,6 +131,7 @@ wheels_of() { "$python" -c "import sys; sys.path[:0] = ['$1']; import backend; p
 @test "the source distribution alone builds, and has its tests" {
     needs_python_package
     needs_venv
+    export CFLAGS=-O0
     mkdir -p "$work/sdist"
     "$python" -c "import sys; sys.path[:0] = ['bindings/python']; import backend; backend.build_sdist('$work/sdist')"
     new_venv "from sources"
@@ -145,7 +147,7 @@ wheels_of() { "$python" -c "import sys; sys.path[:0] = ['$1']; import backend; p
     needs_venv
     copy_tree "$work/tree"
     new_venv editable
-    (cd / && "$work/editable/bin/pip" install --editable "$work/tree/bindings/python")
+    (cd / && CFLAGS=-O0 "$work/editable/bin/pip" install --editable "$work/tree/bindings/python")
     echo 'CHANGED = 1' >> "$work/tree/bindings/python/src/timers/__init__.py"
     (cd / && "$work/editable/bin/python" -c 'import timers; assert timers.CHANGED and timers.Timers().start(1, 2)')
 }

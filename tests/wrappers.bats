@@ -7,7 +7,8 @@ setup_file() {
     cd "$BATS_TEST_DIRNAME/.." || return
     hide_toolchain
     export work=$BATS_FILE_TMPDIR lib=${LIB:-$PWD/build/lib}
-    export CARGO_HOME=$work/cargo_home CARGO_TARGET_DIR=$work/cargo
+    # The C of a packed crate is compiled as users compile it; elsewhere it is not optimized.
+    export CARGO_HOME=$work/cargo_home CARGO_TARGET_DIR=$work/cargo CFLAGS=-O0
 }
 
 egg_and_tea() { printf '240: egg\n300: tea\n'; }
@@ -77,6 +78,7 @@ of_crate() { cargo "$1" --quiet --offline --manifest-path bindings/rust/Cargo.to
 
 # unpacks_crate: unpacks the crate's file into $crate, where nothing else is
 unpacks_crate() {
+    unset CFLAGS
     crate=$work/unpacked/timers-$(cat tools/install/version)
     if [ ! -e "$crate" ]; then
         tools/crate "$work/to_pack"
@@ -214,6 +216,7 @@ EOT
     grep -x "cargo::rustc-link-lib=static=timers" "$work/out"
     [ -e "$(sed -n 's/^cargo::metadata=include=//p' "$work/out")/timers.h" ]
     readelf -h "$work/libtimers.a" | grep AArch64
+    export CFLAGS=-O0
     while read -r target compiler; do
         ! command -v "$compiler" || TARGET=$target "$work/build" | grep -x "cargo::rustc-link-lib=static=timers"
     done << EOT
