@@ -78,11 +78,18 @@ pub(crate) fn restart(
     if timers.wheel().is_smooth() {
         return restart_in_smooth(timers, handle, interval, action, restarted);
     }
-    restart_in_any(timers, handle, interval, action, restarted)
+    match timers.restart(from_c_handle(handle), interval, action) {
+        Ok(made) => {
+            *restarted = to_c_handle(made);
+            OK
+        }
+        Err(fault) => restart_status(fault),
+    }
 }
 
 /// A restart in a smooth wheel, out of line.
-// So the restart in a hierarchy has no call, for which a compiler would save registers at its start.
+// So the restart in a hierarchy has no call, for which a compiler would save registers at its start. The body stands twice:
+// what a compiler knows of the wheel makes of it two.
 #[inline(never)]
 fn restart_in_smooth(
     timers: &mut Timers<CWheel>,
@@ -100,21 +107,6 @@ fn restart_in_smooth(
     if !timers.wheel().is_smooth() {
         return NOT_PENDING;
     }
-    restart_in_any(timers, handle, interval, action, restarted)
-}
-
-#[inline(always)]
-fn restart_in_any(
-    timers: &mut Timers<CWheel>,
-    handle: CHandle,
-    interval: u64,
-    action: u64,
-    restarted: &mut CHandle,
-) -> u32
-    ensures restarted { result ≡ OK → IsRestarted handle interval action timers.old timers.new restarted.new }
-    ensures refused { 0 < result → IsRestartRefusal handle interval timers.old result }
-    ensures kept { 0 < result → (timers.new ≡ timers.old) × (restarted.new ≡ restarted.old) }
-{
     match timers.restart(from_c_handle(handle), interval, action) {
         Ok(made) => {
             *restarted = to_c_handle(made);

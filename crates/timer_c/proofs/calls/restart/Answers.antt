@@ -1,5 +1,5 @@
 use Rattle.timer_c.proofs.Statuses.{restart_refused}
-use Rattle.timer_c.proofs.calls.restart_in_any.Goals as goal
+use Rattle.timer_c.proofs.calls.restart.Goals as goal
 
 pub returns-in-Err-clause-refused : goal.returns-in-Err-clause-refused
 returns-in-Err-clause-refused c = λ refused.
