@@ -1,7 +1,7 @@
 -- Text that grows by indented lines.
 use Rattle.std.proofs.Common.{◌≡◌, ℕ, true, List, [], ◌∷◌, ◌++◌, decimal, codes, refl, sym, ap, subst, ◌∙◌, append_assoc, append-nil, Result, OnOk}
 use Rattle.std.proofs.lemmas.Result.{on_ok_weaker}
-use Rattle.timer_script.proofs.SplitterLemmas.{no_feed-append, is_bare, bare, decimal_bare}
+use Rattle.timer_script.proofs.FeedLemmas.{no_feed-append, is_bare, no_feed_if_bare, decimal_bare}
 use Rattle.timer_script.specs.Decorator.{HasGrown}
 use Rattle.timer_commands.specs.Indented.{clock_line, HasGrownByPicture, HasGrownByIndented, HasGrownByBare, HasGrownByEnd}
 use Rattle.timer_commands.specs.IndentedLaws.{adds_nothing, adds_join, adds_line}
@@ -19,7 +19,7 @@ pub grown_more : (a b c : List ℕ) → HasGrownByIndented a b → HasGrown b c 
 grown_more a b c f g = (f.0 ++ g.0, g.1 ∙ ap (λ t. t ++ g.0) f.1 ∙ append_assoc a f.0 g.0)
 
 pub bare_word : (a b word : List ℕ) → is_bare word ≡ true → b ≡ a ++ word → HasGrownByBare a b
-bare_word a b word free e = (word, e, bare word free)
+bare_word a b word free e = (word, e, no_feed_if_bare word free)
 
 pub bare_join : (a b c : List ℕ) → HasGrownByBare a b → HasGrownByBare b c → HasGrownByBare a c
 bare_join a b c f g =
@@ -30,7 +30,7 @@ pub numbered : (a b word : List ℕ) (n : ℕ) → is_bare word ≡ true → b �
 numbered a b word n free e = (
   word ++ decimal n,
   e ∙ append_assoc a word (decimal n),
-  no_feed-append word (decimal n) (bare word free) (decimal_bare n),
+  no_feed-append word (decimal n) (no_feed_if_bare word free) (decimal_bare n),
 )
 
 pub numbered_ok : {E : Type 0} (result : Result Unit E) (a b word : List ℕ) (n : ℕ) → is_bare word ≡ true
@@ -84,7 +84,7 @@ pictured a x b d n now is number line f =
     let clock : List ℕ = clock_line n in
     let begin : b ≡ a ++ clock = line ∙ ap (λ t. t ++ 10 ∷ []) (number ∙ append_assoc a (codes "  now ") (decimal n))
     ∙ append_assoc a (32 ∷ front) (10 ∷ []) in
-    let free = no_feed-append (codes " now ") (decimal n) (bare (codes " now ") refl) (decimal_bare n) in
+    let free = no_feed-append (codes " now ") (decimal n) (no_feed_if_bare (codes " now ") refl) (decimal_bare n) in
     let added = adds_join 32 [] [] clock f.0 (adds_line 32 front (λ e. absurd cc) free) f.2 in
     subst (λ k. HasGrownByPicture k a d) is
     (clock ++ f.0, f.1 ∙ ap (λ t. t ++ f.0) begin ∙ append_assoc a clock f.0, (f.0, refl, added))

@@ -1,10 +1,10 @@
 -- The lines that a decorator adds are those with a mark.
-use Rattle.std.proofs.Common.{ℕ, Bool, true, false, List, [], ◌∷◌, ◌++◌, decimal, codes, refl, sym, subst, ◌∙◌, append-nil, Option, None, Some}
+use Rattle.std.proofs.Common.{ℕ, Bool, true, false, List, [], ◌∷◌, ◌++◌, decimal, codes, refl, sym, subst, ◌∙◌, append-nil, Option, None, Some, inl, inr, lit≤}
 use Rattle.timer_script.specs.Types.{Event, Out, FacilityState}
 use Rattle.timer_script.specs.Text.{lines_of}
 use Rattle.timer_script.specs.Service.{last_line}
 use Rattle.timer_script.specs.Decorator.{Decoration, AreDecorated}
-use Rattle.timer_script.proofs.SplitterLemmas.{no_feed-append, bare, decimal_bare}
+use Rattle.timer_script.proofs.FeedLemmas.{no_feed-append, no_feed_if_bare, decimal_bare}
 use Rattle.timer_commands.specs.declared.shows.Shows.{Shows}
 use Rattle.timer_commands.specs.Shows.{is_covered}
 use Rattle.timer_commands.specs.Indented.{AddsMarked, IsPictureIf, AddsPictures}
@@ -38,12 +38,12 @@ whole_text mark A u m s t events answer text h = adds_join mark answer (last_lin
 -- ---- the line of a wake-up
 
 wakeup_is_marked : (quiet : Option ℕ) → AddsMarked 119 [] (wakeup_line quiet)
-wakeup_is_marked None = adds_line 119 (codes "akeup never") (λ e. absurd cc) (bare (codes "akeup never") refl)
+wakeup_is_marked None = adds_line 119 (codes "akeup never") (λ e. absurd cc) (no_feed_if_bare (codes "akeup never") refl)
 wakeup_is_marked (Some tick) = adds_line 119 (codes "akeup " ++ decimal tick) (λ e. absurd cc)
-    (no_feed-append (codes "akeup ") (decimal tick) (bare (codes "akeup ") refl) (decimal_bare tick))
+    (no_feed-append (codes "akeup ") (decimal tick) (no_feed_if_bare (codes "akeup ") refl) (decimal_bare tick))
 
 unused_w : IsUnused 119
-unused_w = record { s = refl; r = refl; e = refl; c = refl; t = refl }
+unused_w = inr (lit≤ tt)
 
 pub wakeups_marked : (s t : FacilityState) (events : List Event) (answer text : List ℕ) → AreDecorated AddsWakeups s events t answer text
     → AddsMarked 119 (answer ++ last_line t) (text ++ last_line t)
@@ -58,7 +58,7 @@ picture_is_marked false now added h = subst (AddsMarked 32 []) (sym h) (adds_not
 
 pub pictures_marked : (shows : Shows) (s t : FacilityState) (events : List Event) (answer text : List ℕ)
     → AreDecorated (AddsPictures shows) s events t answer text → AddsMarked 32 (answer ++ last_line t) (text ++ last_line t)
-pictures_marked shows = whole_text 32 (AddsPictures shows) (record { s = refl; r = refl; e = refl; c = refl; t = refl }) (record {
+pictures_marked shows = whole_text 32 (AddsPictures shows) (inl (lit≤ tt)) (record {
   within = λ outs text h. h;
   after = λ serial s added h. picture_is_marked (is_covered shows s.now) s.now added h;
 })

@@ -17,11 +17,11 @@ use Rattle.timer_commands.specs.declared.verbs.Verb.{Verb}
 use Rattle.timer_commands.specs.declared.verbs.Verb.TheVariants as verbs
 use Rattle.timer_commands.specs.Indented.{AddsPictures}
 use Rattle.timer_commands.specs.Wakeups.{AddsWakeups}
-use Rattle.timer_commands.specs.Subcommands.{Bytes, HasAnswered, HasDone}
+use Rattle.timer_commands.specs.Subcommands.{Bytes, ServingEnds, HasDone}
 
 unserved : {R S F : Type 0} (on_bad : OnBadLine) (A : Decoration) (before : FacilityState) (bytes : Bytes R S F)
     (streams : Streams R S) (faults faults' : Watched F) → has_failed streams.reader ≡ false → has_failed streams.writer ≡ false
-    → HasAnswered on_bad A before bytes (record { streams = streams; faults = faults }) (record { streams = streams; faults = faults' }) 1
+    → ServingEnds on_bad A before bytes (record { streams = streams; faults = faults }) (record { streams = streams; faults = faults' }) 1
 unserved on_bad A before bytes streams faults faults' reading writing = record {
   in_range = omega arith;
   good = λ e. absurd cc;

@@ -1,7 +1,7 @@
 -- Text with lines added between its own: lines that begin with a byte with which none of its own does.
 use Rattle.std.specs.Prelude.{◌≡◌, ℕ, ◌==◌, Bool, true, false, not, List, [], ◌∷◌, ◌++◌, codes, decimal}
 use Rattle.std.specs.List.{filter, concat, AllByRecursion}
-use Rattle.timer_script.specs.Splitter.{HasNoFeed}
+use Rattle.timer_script.specs.Script.{HasNoFeed}
 use Rattle.timer_script.specs.Decorator.{Decoration}
 use Rattle.timer_commands.specs.declared.shows.Shows.{Shows}
 use Rattle.timer_commands.specs.Shows.{is_covered}

@@ -66,11 +66,11 @@ pub record IsPlayable (options : RunOptions) : Type 0 where
   pub first_tick : options.first_tick ≤ scheme_last options.scheme
 
 -- why it is refused: the first test that fails
-abbrev pub IsRefused : OptionsFault → RunOptions → Type 0
-IsRefused (faults.Config fault) options = config_fault (config_of options) ≡ Some fault
-IsRefused faults.Slots options = (config_fault (config_of options) ≡ None)
+abbrev pub RefusesOptions : OptionsFault → RunOptions → Type 0
+RefusesOptions (faults.Config fault) options = config_fault (config_of options) ≡ Some fault
+RefusesOptions faults.Slots options = (config_fault (config_of options) ≡ None)
     × ((options.slots ≡ 0) ⊎ (65536 < options.slots))
-IsRefused (faults.FirstTick last) options =
+RefusesOptions (faults.FirstTick last) options =
     (config_fault (config_of options) ≡ None) × (1 ≤ options.slots) × (options.slots ≤ 65536)
     × (last ≡ scheme_last options.scheme)
     × (last < options.first_tick)

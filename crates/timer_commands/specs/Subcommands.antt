@@ -13,13 +13,13 @@ use Rattle.timer_script.specs.ScriptRun.{HasRun}
 use Rattle.timer_script.specs.ScriptReport.{HasChecked}
 use Rattle.timer_script.specs.Explanation.{HasExplained}
 use Rattle.timer_script.specs.Decorator.{Decoration, AddsNothing}
-use Rattle.timer_script.specs.Service.{HasServed, server_with}
+use Rattle.timer_script.specs.Service.{HasServedPeer, server_with}
 use Rattle.timer_script.specs.Streams.{Known, streams_state}
 use Rattle.timer_commands.specs.declared.options.RunOptions.{RunOptions}
 use Rattle.timer_commands.specs.declared.options.OptionsFault.{OptionsFault}
 use Rattle.timer_commands.specs.declared.verbs.Verb.{Verb}
 use Rattle.timer_commands.specs.declared.verbs.Verb.TheVariants as verbs
-use Rattle.timer_commands.specs.Options.{config_of, scheme_last, scheme_slots, IsPlayable, IsRefused}
+use Rattle.timer_commands.specs.Options.{config_of, scheme_last, scheme_slots, IsPlayable, RefusesOptions}
 use Rattle.timer_commands.specs.Indented.{AddsPictures}
 use Rattle.timer_commands.specs.Wakeups.{AddsWakeups}
 
@@ -55,7 +55,7 @@ HasPlayed before bytes old new result =
 abbrev pub HasServedStreams : {R S F : Type 0} → OnBadLine → Decoration → FacilityState → Bytes R S F
     → (old new : Channels R S F) → Result Bool ServeFault → Type 0
 HasServedStreams on_bad Adds before bytes old new result =
-    HasServed (server_with on_bad Adds before bytes.reports)
+    HasServedPeer (server_with on_bad Adds before bytes.reports)
     (record {
       peer = streams_state bytes.remaining bytes.contents old.streams.reader old.streams.writer;
       faults = old.faults;
@@ -68,9 +68,9 @@ HasServedStreams on_bad Adds before bytes old new result =
 -- 0: the input came to its end, no line was bad, and the whole text was written; 1: some line was bad, each was
 -- reported until the writer of reports failed, and the whole text of the others was written; or serving failed, and
 -- `told` is the writer of reports before the failure's own report, which no clause describes
-abbrev pub HasAnswered : {R S F : Type 0} → OnBadLine → Decoration → FacilityState → Bytes R S F
+abbrev pub ServingEnds : {R S F : Type 0} → OnBadLine → Decoration → FacilityState → Bytes R S F
     → (old new : Channels R S F) → ℕ → Type 0
-HasAnswered {R} {S} {F} on_bad Adds before bytes old new status =
+ServingEnds {R} {S} {F} on_bad Adds before bytes old new status =
     Ends (HasServedStreams on_bad Adds before bytes old new (Ok true))
     (HasServedStreams on_bad Adds before bytes old new (Ok false)
     ⊎ ((fault : ServeFault) × (told : Watched F)
@@ -84,17 +84,17 @@ HasDone verbs.Play before bytes old new status =
     Ends (HasPlayed before bytes old new (Ok tt)) ((fault : RunFault) × HasPlayed before bytes old new (Err fault))
     status
 HasDone (verbs.Serve on_bad false) before bytes old new status =
-    HasAnswered on_bad AddsNothing before bytes old new status
+    ServingEnds on_bad AddsNothing before bytes old new status
 HasDone (verbs.Serve on_bad true) before bytes old new status =
-    HasAnswered on_bad AddsWakeups before bytes old new status
-HasDone (verbs.Show shows) before bytes old new status = HasAnswered Stop (AddsPictures shows) before bytes old new status
+    ServingEnds on_bad AddsWakeups before bytes old new status
+HasDone (verbs.Show shows) before bytes old new status = ServingEnds Stop (AddsPictures shows) before bytes old new status
 
 -- that was done over the facility of the options, or the options are refused and the streams are untouched
-pub record HasEnded {R S F : Type 0} (verb : Verb) (options : RunOptions) (bytes : Bytes R S F)
+pub record HasRunVerb {R S F : Type 0} (verb : Verb) (options : RunOptions) (bytes : Bytes R S F)
     (old new : Channels R S F) (status : ℕ) : Type 0 where
   pub in_range : status ≤ 2
   pub done : status ≤ 1 → IsPlayable options × HasDone verb (opened_by options) bytes old new status
-  pub refused : status ≡ 2 → ((fault : OptionsFault) × IsRefused fault options) × (new.streams ≡ old.streams)
+  pub refused : status ≡ 2 → ((fault : OptionsFault) × RefusesOptions fault options) × (new.streams ≡ old.streams)
 
 -- a script was checked: 0: no line is bad, and the report, which is empty, was written; 1: some line is bad, and
 -- the whole report was written; 2: the check failed, by its input, its output or memory
@@ -117,4 +117,4 @@ pub record HasExplainedOver {R S : Type 0} (before : FacilityState) (known : Kno
 abbrev pub HasExplainedScript : {R S : Type 0} → RunOptions → Known R S → (old new : Streams R S) → ℕ → Type 0
 HasExplainedScript options known old new status =
     (IsPlayable options × HasExplainedOver (opened_by options) known old new status)
-    ⊎ (((fault : OptionsFault) × IsRefused fault options) × (new ≡ old) × (status ≡ 2))
+    ⊎ (((fault : OptionsFault) × RefusesOptions fault options) × (new ≡ old) × (status ≡ 2))

@@ -6,9 +6,9 @@ ghost use Rattle.timer_commands.specs.Options.{config_of, over_hierarchy, IsPlay
 ghost use Rattle.timer_commands.specs.Subcommands.{HasCheckedScript, HasExplainedOver, HasExplainedScript, opened_by};
 ghost use Rattle.timer_script.specs.Watched.{has_failed};
 
+use crate::error_report::report_failure;
 use crate::options::{RunOptions, WhyOptions};
 use std::alloc::Global;
-use std::fmt::Display;
 use std::io::{Read, Write};
 use timer_base::Wheel;
 use timer_facility::{Checked, Facility};
@@ -33,14 +33,6 @@ pub fn check_script<R: Read, W: Write, F: Write>(
         Ok(bad) => { if bad == 0 { 0 } else { 1 } }
         Err(fault) => report_failure(fault, faults),
     }
-}
-
-/// Reports an error in one line, and returns its exit status. An error in reporting it is ignored.
-fn report_failure<F: Write>(fault: impl Display + Drop, faults: &mut F) -> u8
-    ensures { result ≡ 2 }
-{
-    let _ = writeln!(faults, "{fault}");
-    2
 }
 
 /// Plays the script of the reader on a facility of these options, and writes a line for each stop or restart that is

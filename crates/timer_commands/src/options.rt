@@ -1,6 +1,6 @@
 //! The options of `play`, `serve`, `show` and `check --why`, and their ranges.
 ghost use Rattle.std.specs.Prelude.{◌≡◌, ◌<◌, ◌≤◌, IfOk, IfErr, OnOk};
-ghost use Rattle.timer_commands.specs.Options.{scheme_last, config_of, over_hierarchy, IsPlayable, IsRefused};
+ghost use Rattle.timer_commands.specs.Options.{scheme_last, config_of, over_hierarchy, IsPlayable, RefusesOptions};
 
 use thiserror::Error;
 use timer_base::LAST;
@@ -99,7 +99,7 @@ impl RunOptions {
     pub fn check(&self) -> Result<Checked, OptionsFault>
         ensures config { IfOk result (λ checked. checked ≡ config_of self.now) }
         ensures playable { OnOk result (IsPlayable self.now) }
-        ensures fault { IfErr result (λ fault. IsRefused fault self.now) }
+        ensures fault { IfErr result (λ fault. RefusesOptions fault self.now) }
     {
         let checked = match self.config().check() {
             Ok(checked) => checked,

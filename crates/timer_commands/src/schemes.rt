@@ -8,7 +8,7 @@ ghost use Rattle.timer_wheels.specs.SmoothWheel.{smooth_table};
 ghost use Rattle.timer_wheels.specs.declared.table.Table.TheVariants as tables;
 ghost use Rattle.timer_commands.specs.declared.options.Scheme.TheVariants as schemes;
 ghost use Rattle.timer_commands.specs.Options.{scheme_last, scheme_slots, config_of, IsPlayable};
-ghost use Rattle.timer_commands.specs.Subcommands.{opened_by, HasDone, HasEnded};
+ghost use Rattle.timer_commands.specs.Subcommands.{opened_by, HasDone, HasRunVerb};
 ghost use Rattle.timer_script.specs.Watched.{has_failed};
 
 use crate::error_report::report;
@@ -59,7 +59,7 @@ pub fn run_verb<R: Read, S: Write, F: Write>(
 ) -> u8
     requires reader_good { has_failed streams.old.reader ≡ false }
     requires writer_good { has_failed streams.old.writer ≡ false }
-    ensures { HasEnded verb options
+    ensures { HasRunVerb verb options
         (record { remaining = R.remaining; contents = S.contents; reports = F.contents })
         (record { streams = streams.old; faults = faults.old })
         (record { streams = streams.new; faults = faults.new }) result }

@@ -3,7 +3,7 @@
 //! It is done over any wheel: `schemes` makes the wheel, and hands the facility over.
 ghost use Rattle.std.specs.Prelude.{◌≡◌, [], false};
 ghost use Rattle.timer_script.specs.Watched.{has_failed};
-ghost use Rattle.timer_commands.specs.Subcommands.{HasAnswered, HasDone};
+ghost use Rattle.timer_commands.specs.Subcommands.{ServingEnds, HasDone};
 
 use crate::error_report::report;
 use crate::render::{Placement, push_shown, push_wakeup};
@@ -182,7 +182,7 @@ fn serve_with<R: Read, S: Write, F: Write, W: Wheel + Drop, D: Decorator<W>>(
     requires writer_good { has_failed streams.old.writer ≡ false }
     requires pending { facility.state.pending ≡ [] }
     requires waiting { facility.waiting ≡ [] }
-    ensures { HasAnswered on_bad (D.adds decorator.now) facility.state
+    ensures { ServingEnds on_bad (D.adds decorator.now) facility.state
         (record { remaining = R.remaining; contents = S.contents; reports = F.contents })
         (record { streams = streams.old; faults = faults.old })
         (record { streams = streams.new; faults = faults.new }) result }

@@ -54,8 +54,8 @@ IsNumberOf found option n =
     (text : List ℕ) × (one_text found option ≡ Some text) × (n ≡ digits_value 10 (without_leading_plus text))
 
 -- whether an option without a value was given
-abbrev pub IsGiven : Found → List ℕ → Bool → Type 0
-IsGiven found option given = (one_text found option ≡ None → given ≡ false)
+abbrev pub IsFlagGiven : Found → List ℕ → Bool → Type 0
+IsFlagGiven found option given = (one_text found option ≡ None → given ≡ false)
     × (one_text found option ≡ Some (codes "true") → given ≡ true)
     × (one_text found option ≡ Some (codes "false") → given ≡ false)
 
@@ -79,9 +79,9 @@ pub record AreRunOptions (found : Found) (options : RunOptions) : Type 0 where
 
 -- those of `show` alone
 pub record AreShowsOptions (found : Found) (shows : Shows) : Type 0 where
-  pub counts : IsGiven found (codes "counts") shows.counts
-  pub moves : IsGiven found (codes "moves") shows.moves
-  pub new : IsGiven found (codes "new") shows.new
+  pub counts : IsFlagGiven found (codes "counts") shows.counts
+  pub moves : IsFlagGiven found (codes "moves") shows.moves
+  pub new : IsFlagGiven found (codes "new") shows.new
   pub client : IsNumberIfGiven found (codes "client") shows.client
   pub timer : IsNumberIfGiven found (codes "timer") shows.timer
   pub from : IsNumberIfGiven found (codes "from") shows.from
@@ -97,9 +97,9 @@ pub record AreWhyOptions (found : Found) (options : WhyOptions) : Type 0 where
 abbrev pub HasOptions : Found → Subcommand → Type 0
 HasOptions found (Run Play options) = AreRunOptions found options
 HasOptions found (Run (Serve on_bad wakeups) options) = AreRunOptions found options
-    × IsGiven found (codes "keep-going") (reports on_bad) × IsGiven found (codes "wakeups") wakeups
+    × IsFlagGiven found (codes "keep-going") (reports on_bad) × IsFlagGiven found (codes "wakeups") wakeups
 HasOptions found (Run (Show shows) options) = AreRunOptions found options × AreShowsOptions found shows
 HasOptions found (Threads options) = IsNumberOf found (codes "clients") options.clients
     × IsNumberOf found (codes "timers") options.timers
-HasOptions found Check = IsGiven found (codes "why") false
-HasOptions found (Explain options) = IsGiven found (codes "why") true × AreWhyOptions found options
+HasOptions found Check = IsFlagGiven found (codes "why") false
+HasOptions found (Explain options) = IsFlagGiven found (codes "why") true × AreWhyOptions found options

@@ -7,7 +7,7 @@ use Rattle.clap.specs.declared.error.kind.ErrorKind.{ErrorKind}
 use Rattle.clap.specs.declared.error.kind.ErrorKind.TheVariants as kinds
 use Rattle.timer_script.specs.declared.watched.Watched.{Watched}
 use Rattle.timer_script.specs.Watched.{inner_of, has_failed}
-use Rattle.timer_commands.specs.Subcommands.{Bytes, Channels, HasEnded, HasCheckedScript, HasExplainedScript}
+use Rattle.timer_commands.specs.Subcommands.{Bytes, Channels, HasRunVerb, HasCheckedScript, HasExplainedScript}
 use Rattle.timer_commands.specs.Options.{over_hierarchy}
 use Rattle.timer_commands.specs.Clients.{HasRunClients}
 use Rattle.timer_program.specs.declared.arguments.Subcommand.{Subcommand}
@@ -34,7 +34,7 @@ pub record HasNotPlayed {S : Type 0} (kind : ErrorKind) (contents : S → Option
 -- text was written.
 abbrev pub HasCalled : {R S F : Type 0} → Result Subcommand Error → Bytes R S F → (old new : Channels R S F)
     → ℕ → Type 0
-HasCalled (Ok (calls.Run verb options)) bytes old new status = HasEnded verb options bytes old new status
+HasCalled (Ok (calls.Run verb options)) bytes old new status = HasRunVerb verb options bytes old new status
 HasCalled (Ok (calls.Threads options)) bytes old new status =
     (new.streams.reader ≡ old.streams.reader)
     × HasRunClients options bytes.contents bytes.reports old.streams.writer new.streams.writer old.faults new.faults status

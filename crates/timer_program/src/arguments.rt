@@ -13,7 +13,7 @@
 ghost use Rattle.std.specs.Prelude.{◌≡◌, None, IfSome, IfOk, IfErr, IsTrue, Any, codes};
 ghost use Rattle.clap.specs.Words.{kind_of, found_of, one_text};
 ghost use Rattle.timer_commands.specs.Options.{name_of};
-ghost use Rattle.timer_program.specs.Arguments.{first_or_play, subcommand_name, IsShown, AsksForText, IsNumberOf, IsGiven, reports, AreRunOptions, AreShowsOptions, AreWhyOptions, HasOptions};
+ghost use Rattle.timer_program.specs.Arguments.{first_or_play, subcommand_name, IsShown, AsksForText, IsNumberOf, IsFlagGiven, reports, AreRunOptions, AreShowsOptions, AreWhyOptions, HasOptions};
 
 use crate::help::{
     ABOUT, CHECK_ABOUT, CHECK_USAGE, CHECKS, NAME, PLACEMENTS, PLAY_ABOUT, PLAY_USAGE, SCHEMES,
@@ -281,7 +281,7 @@ fn run_options(options: &ArgMatches) -> Option<RunOptions>
 
 /// What `serve` does at a bad line.
 fn on_bad_of(options: &ArgMatches) -> OnBadLine
-    ensures { IsGiven (found_of options.now) (codes "keep-going") (reports result) }
+    ensures { IsFlagGiven (found_of options.now) (codes "keep-going") (reports result) }
 {
     if options.get_flag("keep-going") {
         OnBadLine::Report

@@ -10,11 +10,11 @@ use Rattle.timer_script.specs.Types.{Event, OnBadLine, Cutter, Watched, LineFaul
 use Rattle.timer_script.specs.declared.cutter.OnBadLine.TheVariants.{Stop, Report}
 use Rattle.timer_script.specs.declared.line_fault.LineReason.TheVariants.{NoLineEnd}
 use Rattle.timer_script.specs.Watched.{inner_of, has_failed}
-use Rattle.timer_script.specs.Script.{IsInRange, spelling}
+use Rattle.timer_script.specs.Script.{AreFieldsInRange, spelling}
 use Rattle.timer_script.specs.Diagnosis.{IsFaultOf}
-use Rattle.timer_script.specs.Cutter.{bytes_of, number_next, Complaint, bad_among, IsLastBad, complaint_line, complaints, HasSorted, HasSortedSince, HasReported, BadLines, AreSoFar, AreFirst, HasPassed, HasSeen, HasSeenPart, HasEnded, HasTakenIn, IsStoppedAt, HasStopped, UnlessStopped}
+use Rattle.timer_script.specs.Cutter.{bytes_of, number_next, Complaint, bad_among, IsLastBad, complaint_line, complaints, HasSorted, HasSortedSince, HasReported, BadLines, AreSoFar, AreFirst, HasPassed, HasSeen, HasSeenPart, HasReachedEnd, HasTakenIn, IsStoppedAt, EndsAtBadLine, UnlessStopped}
 use Rattle.timer_script.proofs.Results.{true_false}
-use Rattle.timer_script.proofs.SplitterLemmas.{bare_no_line}
+use Rattle.timer_script.proofs.LineLemmas.{bare_no_line}
 use Rattle.timer_script.proofs.CutterLines.{stop_report, good_script, nil_left, all_good, last_some, stopped_at}
 
 -- ---- reports
@@ -124,7 +124,7 @@ ended : {F : Type 0} {o : OnBadLine} {contents : F → Option (List ℕ)} {w u :
     {events : List Event} (v : Watched F) (clean : Bool) (last : List Complaint) (h : HasTakenIn o cutter contents w u came events)
     → IsLastBad (number_next h.passed.passes.lines) h.passed.passes.left last → HasReported contents u v (complaints last)
     → (o ≡ Stop → (v ≡ u) × (h.passed.passes.left ≡ [])) → ((clean ≡ true) ↔ (h.passed.bad ++ last ≡ []))
-    → HasEnded o clean contents w v came events
+    → HasReachedEnd o clean contents w v came events
 ended {contents = contents} {w = w} {u = u} v clean last h is_last reports stops clean_is =
     let q = h.passed.passes in
     let bad : List Complaint = h.passed.bad in
@@ -142,14 +142,14 @@ ended {contents = contents} {w = w} {u = u} v clean last h is_last reports stops
           record {
             lines = q.cut.parts ∙ ap (λ t. flat_map bytes_of q.lines ++ t) (stops stop).1 ∙ append-nil (flat_map bytes_of q.lines) ∙ all.0
                 ∙ ap spelling (sym q.events_are);
-            in_range = subst (AllByRecursion IsInRange) (sym q.events_are) (good_script q.lines q.cut.each);
+            in_range = subst (AllByRecursion AreFieldsInRange) (sym q.events_are) (good_script q.lines q.cut.each);
           };
     }
 
 -- no line is left
 pub ended_none : {F : Type 0} {o : OnBadLine} {contents : F → Option (List ℕ)} {w v : Watched F} {cutter : Cutter} {came : List ℕ}
     {events : List Event} → HasTakenIn o cutter contents w v came events → cutter.held.items ≡ []
-    → HasEnded o cutter.clean contents w v came events
+    → HasReachedEnd o cutter.clean contents w v came events
 ended_none {contents = contents} {v = v} {cutter = cutter} h none =
     let q = h.passed.passes in
     let gone : q.left ≡ [] = nil_from_length q.left (omega (arith, ap length (sym h.held_is ∙ none), length-take MAX_LINE q.left)) in
@@ -159,7 +159,7 @@ ended_none {contents = contents} {v = v} {cutter = cutter} h none =
 -- the end came, and a line that has not ended ends the stream
 pub ended_stopped : {F : Type 0} {o : OnBadLine} {contents : F → Option (List ℕ)} {w v : Watched F} {cutter : Cutter} {came : List ℕ}
     {events : List Event} → HasTakenIn o cutter contents w v came events → 1 ≤ length cutter.held.items → cutter.on_bad ≡ Stop
-    → HasStopped o w v came events cutter.number
+    → EndsAtBadLine o w v came events cutter.number
 ended_stopped {o} {cutter = cutter} {came = came} {events = events} h some is =
     let q = h.passed.passes in
     let stop : o ≡ Stop = sym h.kept ∙ is in
@@ -176,7 +176,7 @@ ended_stopped {o} {cutter = cutter} {came = came} {events = events} h some is =
 pub ended_bad : {F : Type 0} {o : OnBadLine} {contents : F → Option (List ℕ)} {w u : Watched F} {cutter : Cutter} {came : List ℕ}
     {events : List Event} (v : Watched F) (fault : LineFault) (said : List ℕ) → HasTakenIn o cutter contents w u came events
     → 1 ≤ length cutter.held.items → cutter.on_bad ≡ Report → IsFaultOf fault cutter.held.items
-    → said ≡ complaint_line (cutter.number, fault) → HasReported contents u v said → HasEnded o false contents w v came events
+    → said ≡ complaint_line (cutter.number, fault) → HasReported contents u v said → HasReachedEnd o false contents w v came events
 ended_bad {o} {contents} {u = u} {cutter = cutter} v fault said h some report wrong is reports =
     let q = h.passed.passes in
     let last : List Complaint = (cutter.number, fault) ∷ [] in
@@ -234,6 +234,6 @@ piece_seen new (Some n) came events h = inr (n, h)
 
 -- so it was at the end
 pub ended_seen : {F : Type 0} {o : OnBadLine} {clean : Bool} {contents : F → Option (List ℕ)} {w v : Watched F} {came : List ℕ}
-    {events : List Event} → HasEnded o clean contents w v came events → HasSeenPart o contents w v came events
+    {events : List Event} → HasReachedEnd o clean contents w v came events → HasSeenPart o contents w v came events
 ended_seen h =
     let p = h.passed in seen_whole (inl (first_of p p.are.0 [] p.are.1 (sym p.are.2 ∙ sym (append-nil p.bad))))

@@ -4,25 +4,24 @@ use Rattle.std.specs.List.{flat_map, enumerate_from, AllByRecursion}
 use Rattle.std.proofs.lemmas.Grind.{flat_map-append}
 use Rattle.std.proofs.lemmas.List.{take_rest, length-take, nil_from_length, take-take, take_min}
 use Rattle.timer_script.specs.Types.{Event, MAX_LINE, LineFault, OnBadLine, Cutter, ScriptFault}
-use Rattle.timer_script.specs.Splitter.{HasNoFeed}
-use Rattle.timer_script.specs.Script.{IsInRange, line, spelling, BeginsNoLine}
+use Rattle.timer_script.specs.Script.{HasNoFeed, AreFieldsInRange, line, spelling, BeginsNoLine}
 use Rattle.timer_script.specs.Lines.{line_at}
 use Rattle.timer_script.specs.Diagnosis.{IsFaultOf}
 use Rattle.timer_script.specs.declared.cutter.OnBadLine.TheVariants.{Stop, Report}
-use Rattle.timer_script.specs.Cutter.{Line, Good, Bad, bytes_of, IsGoodOrBad, event_in, events_of, number_next, Complaint, complaint_of, bad_among, IsLastBad, complaint_line, complaints, Passes, IsStoppedAt, HasEndedLine, StopsLine, HasSorted, HasSortedSince, StopsAt}
+use Rattle.timer_script.specs.Cutter.{InputLine, Good, Bad, bytes_of, IsGoodOrBad, event_in, events_of, number_next, Complaint, complaint_of, bad_among, IsLastBad, complaint_line, complaints, PassesEvents, IsStoppedAt, HasEndedLine, StopsLine, HasSorted, HasSortedSince, StopsAt}
 use Rattle.timer_script.specs.declared.fault.ScriptFault.TheVariants as faults
-use Rattle.timer_script.proofs.LineLemmas.{line_sound}
+use Rattle.timer_script.proofs.LineLemmas.{line_sound, line_fed, bare_no_line}
 use Rattle.timer_script.proofs.DiagnosisLemmas.{unread_no_line}
 use Rattle.timer_script.proofs.Results.{all_append}
-use Rattle.timer_script.proofs.SplitterLemmas.{IsFed, line_fed, at_feed, first_feed, no_feed-append, no_feed-take, feed-take, bare_no_line}
+use Rattle.timer_script.proofs.FeedLemmas.{IsFed, at_feed, first_feed, no_feed-append, no_feed-take, feed-take}
 
 -- ---- lists of lines
 
 -- what is reported of lines from the n-th on
-abbrev pub among : ℕ → List Line → List Complaint
+abbrev pub among : ℕ → List InputLine → List Complaint
 among n xs = flat_map (λ numbered. complaint_of (min numbered.0 (2 ^ 64 - 1)) numbered.1) (enumerate_from n xs)
 
-among_more : (n k : ℕ) (xs : List Line) (x : Line) → k ≡ length xs + n
+among_more : (n k : ℕ) (xs : List InputLine) (x : InputLine) → k ≡ length xs + n
     → among n (xs ++ x ∷ []) ≡ among n xs ++ complaint_of (min k (2 ^ 64 - 1)) x
 among_more n k [] x is =
     let first : n ≡ k = omega arith in append-nil (complaint_of (min n (2 ^ 64 - 1)) x) ∙ ap (λ j. complaint_of (min j (2 ^ 64 - 1)) x) first
@@ -32,13 +31,13 @@ among_more n k (y ∷ ys) x is =
     ∙ sym (append_assoc first (among (n + 1) ys) (complaint_of (min k (2 ^ 64 - 1)) x))
 
 -- the good lines are a script
-pub good_script : (xs : List Line) → AllByRecursion IsGoodOrBad xs → AllByRecursion IsInRange (events_of xs)
+pub good_script : (xs : List InputLine) → AllByRecursion IsGoodOrBad xs → AllByRecursion AreFieldsInRange (events_of xs)
 good_script [] a = tt
 good_script (Good event ∷ xs) a = (a.0, good_script xs a.1)
 good_script (Bad front fault ∷ xs) a = good_script xs a.1
 
 -- lines of which none is bad are the spelling of their events
-pub all_good : (n : ℕ) (xs : List Line) → among n xs ≡ []
+pub all_good : (n : ℕ) (xs : List InputLine) → among n xs ≡ []
     → (flat_map bytes_of xs ≡ spelling (events_of xs)) × (length xs ≡ length (events_of xs))
 all_good n [] e = (refl, refl)
 all_good n (Good event ∷ xs) e =
@@ -55,7 +54,7 @@ nil_left xs ys e = nil_from_length xs (omega (arith, ap length e, length-append 
 
 -- what can be read of the front of a line is all of it
 read_all : (front held after : List ℕ) (event : Event) → HasNoFeed front → held ≡ take MAX_LINE (front ++ 10 ∷ [])
-    → line_at held ≡ Some (event, after) → IsInRange event × (line event ≡ front ++ 10 ∷ []) × (held ≡ line event)
+    → line_at held ≡ Some (event, after) → AreFieldsInRange event × (line event ≡ front ++ 10 ∷ []) × (held ≡ line event)
 read_all front held after event none is some =
     let (fits, parts) = line_sound held after event some in
     let f : IsFed (line event) = line_fed event fits in
@@ -194,7 +193,7 @@ pub line_sorted : {o : OnBadLine} {old : Cutter} {came : List ℕ} {events : Lis
     → HasSortedSince o new (came ++ take n bytes) events bad
 line_sorted {old = old} {events = events} {bad = bad} new bytes n some within is same none next h e =
     let p = h.sorted.passes in
-    let one : List Line = e.line ∷ [] in
+    let one : List InputLine = e.line ∷ [] in
     let before : List ℕ = flat_map bytes_of p.lines in
     let said : List Complaint = complaint_of old.number e.line in
     let counted = h.sorted.counted in
@@ -237,7 +236,7 @@ since_none new piece kept no_events no_reports h =
 -- ---- a line that ends the stream
 
 -- after lines of which none is bad, and what is left after them, come bytes, so that no line begins there
-pub stopped_at : {o : OnBadLine} {came : List ℕ} {events : List Event} (p : Passes o came events) (more rest : List ℕ) (n : ℕ)
+pub stopped_at : {o : OnBadLine} {came : List ℕ} {events : List Event} (p : PassesEvents o came events) (more rest : List ℕ) (n : ℕ)
     → o ≡ Stop → p.left ++ more ≡ rest → 1 ≤ length rest → BeginsNoLine rest → n ≡ number_next p.lines
     → IsStoppedAt (came ++ more) events n
 stopped_at p more rest n stop parts some bad counted =

@@ -4,9 +4,9 @@ use Rattle.std.proofs.lemmas.Bool.{both_ways}
 use Rattle.std.proofs.lemmas.Option.{none-some}
 use Rattle.std.proofs.NetLemmas.Options.{same_parts}
 use Rattle.timer_script.specs.Types.{Event, Field}
-use Rattle.timer_script.specs.Script.{IsInRange, line}
+use Rattle.timer_script.specs.Script.{AreFieldsInRange, line}
 use Rattle.timer_script.specs.Lines.{line_at}
-use Rattle.timer_script.specs.Diagnosis.{IsLine, IsDigit, IsAt, AreBefore, IsDigitAt, IsAfterZero, LeavesRange, IsEndOf, IsInNumber}
+use Rattle.timer_script.specs.Diagnosis.{IsLine, IsDigit, IsByteAt, AreBytesBefore, IsDigitAt, IsAfterZero, LeavesRange, IsEndOf, IsInNumber}
 use Rattle.timer_script.proofs.Results.{emptied}
 use Rattle.timer_script.proofs.LineLemmas.{line_again, line_sound}
 
@@ -16,7 +16,7 @@ line_whole bytes rest event read none =
     (event, fits, is ∙ ap (λ t. line event ++ t) none ∙ append-nil (line event))
 
 -- the line of an event is read whole
-read_again : (bytes : List ℕ) (event : Event) → IsInRange event → bytes ≡ line event → line_at bytes ≡ Some (event, [])
+read_again : (bytes : List ℕ) (event : Event) → AreFieldsInRange event → bytes ≡ line event → line_at bytes ≡ Some (event, [])
 read_again bytes event fits is = ap line_at (is ∙ sym (append-nil (line event))) ∙ line_again event [] fits
 
 pub unread_no_line : (bytes : List ℕ) → line_at bytes ≡ None → IsLine bytes → ⊥
@@ -56,8 +56,8 @@ leaves_range bytes at len number digit other =
         let space = z.1.1 in omega arith
 
 -- so many digits after a space
-pub in_number : (bytes rest : List ℕ) (at len : ℕ) → rest ≡ drop (at + 1) bytes → IsAt 32 bytes at → len ≤ length rest
-    → AreBefore IsDigit rest len → (len ≡ 0) ⊎ IsDigitAt bytes (at + 1 + len) → IsInNumber bytes (at + 1 + len) len
+pub in_number : (bytes rest : List ℕ) (at len : ℕ) → rest ≡ drop (at + 1) bytes → IsByteAt 32 bytes at → len ≤ length rest
+    → AreBytesBefore IsDigit rest len → (len ≡ 0) ⊎ IsDigitAt bytes (at + 1 + len) → IsInNumber bytes (at + 1 + len) len
 in_number bytes rest at len is space within are stuck = record {
   within = omega (arith, space.0, within, ap length is, length-drop (at + 1) bytes);
   some = omega arith;
@@ -69,8 +69,8 @@ in_number bytes rest at len is space within are stuck = record {
 }
 
 -- and no more
-pub end_of_number : (bytes rest : List ℕ) (at len : ℕ) (field : Field) → rest ≡ drop (at + 1) bytes → IsAt 32 bytes at → len ≤ length rest
-    → AreBefore IsDigit rest len → (len ≡ 0 → ⊥) → ¬ (IsDigitAt bytes (at + 1 + len)) → IsEndOf (Some field) bytes (at + 1 + len)
+pub end_of_number : (bytes rest : List ℕ) (at len : ℕ) (field : Field) → rest ≡ drop (at + 1) bytes → IsByteAt 32 bytes at → len ≤ length rest
+    → AreBytesBefore IsDigit rest len → (len ≡ 0 → ⊥) → ¬ (IsDigitAt bytes (at + 1 + len)) → IsEndOf (Some field) bytes (at + 1 + len)
 end_of_number bytes rest at zero field is space within are some last = absurd (some refl)
 end_of_number bytes rest at (suc k) field is space within are some last = record {
   some = omega arith;

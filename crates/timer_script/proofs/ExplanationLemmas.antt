@@ -4,10 +4,9 @@ use Rattle.std.specs.List.{list_any}
 use Rattle.timer_script.specs.Types.{Event, Out, FacilityState, Streams, MAX_BYTES}
 use Rattle.timer_script.specs.declared.fault.WriteFault.{WriteFault}
 use Rattle.timer_script.specs.declared.fault.CheckFault.TheVariants as faults
-use Rattle.timer_script.specs.Watched.{has_failed}
-use Rattle.timer_script.specs.Streams.{Known, left_of, taken_by}
+use Rattle.timer_script.specs.Watched.{has_failed, StopsWriting}
+use Rattle.timer_script.specs.Streams.{Known, unread_of, taken_by}
 use Rattle.timer_script.specs.Input.{ReadsWhole}
-use Rattle.timer_script.specs.Output.{StopsWriting}
 use Rattle.timer_script.specs.declared.fates.Fate.{Fate}
 use Rattle.timer_script.specs.Fates.{Told, told_by, fate_by, fate_in, no_such_line, Follows}
 use Rattle.timer_script.specs.Explanation.{named_by, finds_none, line_on, why_line, ArePlayed, why_lines, IsExplanationOf, IsExplanation, HasExplained, HasExplainedLine}
@@ -78,7 +77,7 @@ explained_all before s events rest line fates text none h =
 
 -- a part of the explanation was written before the writer failed
 pub cut_short : {R S : Type 0} (before : FacilityState) (known : Known R S) (old new : Streams R S) (bytes text : List ℕ) (fault : WriteFault)
-    → ReadsWhole (left_of known old) (left_of known new) bytes → length bytes ≤ MAX_BYTES → has_failed new.reader ≡ false
+    → ReadsWhole (unread_of known old) (unread_of known new) bytes → length bytes ≤ MAX_BYTES → has_failed new.reader ≡ false
     → IsExplanation before bytes text
     → StopsWriting fault (taken_by known old) (taken_by known new) (has_failed new.writer) text
     → HasExplained before known old new (Err (faults.Write fault.written))

@@ -8,7 +8,7 @@ pub mod ScriptLemmas
 pub mod KnownBytes
 pub mod TextLemmas
 pub mod ScriptRunLemmas
-pub mod SplitterLemmas
+pub mod FeedLemmas
 pub mod CutterLines
 pub mod PeerLemmas
 pub mod CutterLemmas

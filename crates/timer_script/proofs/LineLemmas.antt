@@ -1,5 +1,5 @@
 -- What is read from the front of the bytes is their spelling, and what is spelled so is read.
-use Rattle.std.proofs.Common.{◌≡◌, ◌≢◌, [], ℕ, ◌^◌, ◌<◌, ◌≤◌, ◌==◌, nat_lt, true, false, ◌&&◌, List, ◌∷◌, ◌++◌, length, get_or, take, drop, slice_index, lt_irrefl, ◌-◌, Option, Some, None, decimal, codes, refl, sym, ap, subst, ◌∙◌, arith, inl, inr, drop_at, take_at, take-append-drop, append_assoc, lit≤, le-ltb, lt-ltb, ne_eqb, eq-eqb, get_or-take, get_or-drop, add-zero, le_refl}
+use Rattle.std.proofs.Common.{rules, ◌⊎◌, ◌≡◌, ◌≢◌, [], ℕ, ◌^◌, ◌<◌, ◌≤◌, ◌==◌, nat_lt, true, false, ◌&&◌, List, ◌∷◌, ◌++◌, length, length-append, get_or, take, drop, slice_index, lt_irrefl, ◌-◌, Option, Some, None, decimal, codes, refl, sym, ap, subst, ◌∙◌, arith, inl, inr, drop_at, take_at, take-append-drop, append_assoc, lit≤, le-ltb, lt-ltb, ne_eqb, eq-eqb, get_or-take, get_or-drop, add-zero, le_refl}
 use Rattle.std.specs.Cmp.Lexicographic.{bytes_decides}
 use Rattle.std.proofs.lemmas.Bool.{and_left, and_right, and_from, and_parts, or_from, or_parts, both_ways, cases_lt, cases_Bool, leb-true, le-leb, ltb-false, eqb-false}
 use Rattle.std.proofs.lemmas.List.{get_or_append_left, nil_from_length, length-take-le, take_rest}
@@ -12,9 +12,10 @@ use Rattle.std.specs.Str.Parse.{AllDigits, digits_value}
 use Rattle.std.specs.Net.Reader.{digit_count, read_number}
 use Rattle.std.proofs.NetLemmas.Numbers.{NoDigit, digit_count-append, digit_count_none, read_number_sound}
 use Rattle.std.proofs.NetLemmas.Options.{cond_some, cond_none, and_then_some, same_parts}
-use Rattle.timer_script.specs.Types.{LAST, MAX_TICKS, Event}
+use Rattle.timer_script.specs.Types.{LAST, MAX_TICKS, MAX_LINE, Event}
 use Rattle.timer_facility.specs.declared.event.Event.TheVariants.{Start, Stop, Restart, Ticks, Close}
-use Rattle.timer_script.specs.Script.{IsInRange, line}
+use Rattle.timer_script.specs.Script.{AreFieldsInRange, line, HasNoFeed, BeginsNoLine}
+use Rattle.timer_script.proofs.FeedLemmas.{IsFed, fed, no_feed_long, at_feed}
 use Rattle.timer_script.specs.Lines.{◌>>=◌, or_try, has_word, strip, number_at, field_at, start_at, stop_at, restart_at, tick_at, other_at, line_at}
 
 -- ---- a word
@@ -146,7 +147,7 @@ field_sound end bytes rest n e =
 
 -- ---- a line
 
-pub line_again : (event : Event) (rest : List ℕ) → IsInRange event → line_at (line event ++ rest) ≡ Some (event, rest)
+pub line_again : (event : Event) (rest : List ℕ) → AreFieldsInRange event → line_at (line event ++ rest) ≡ Some (event, rest)
 unfolding line_at other_at start_at stop_at restart_at tick_at line has_word
 line_again (Start c n i a) rest fits =
     simp append_assoc (rw (spaced c _ fits.0, spaced n _ fits.1, spaced i _ fits.2, ended a _ fits.3) refl)
@@ -159,12 +160,12 @@ line_again Close rest fits = refl
 
 -- what was read of a line is the event and the rest that were wanted
 same_line : (word bytes rest after : List ℕ) (event read : Event)
-    → ◌≡◌ {A = Option (Event × List ℕ)} (Some (read, after)) (Some (event, rest)) → IsInRange read
-    → word ++ bytes ≡ line read ++ after → IsInRange event × (word ++ bytes ≡ line event ++ rest)
+    → ◌≡◌ {A = Option (Event × List ℕ)} (Some (read, after)) (Some (event, rest)) → AreFieldsInRange read
+    → word ++ bytes ≡ line read ++ after → AreFieldsInRange event × (word ++ bytes ≡ line event ++ rest)
 same_line word bytes rest after event read e fits is =
     let (event_is, rest_is) = same_parts read event after rest e in
-    subst (λ (x : Event). IsInRange x × (word ++ bytes ≡ line x ++ rest)) event_is
-    (subst (λ (r : List ℕ). IsInRange read × (word ++ bytes ≡ line read ++ r)) rest_is (fits, is))
+    subst (λ (x : Event). AreFieldsInRange x × (word ++ bytes ≡ line x ++ rest)) event_is
+    (subst (λ (r : List ℕ). AreFieldsInRange read × (word ++ bytes ≡ line read ++ r)) rest_is (fits, is))
 
 -- what was read after a field
 field_then : {A P : Type 0} (end : ℕ) (bytes : List ℕ) (f : ℕ × List ℕ → Option A) (y : A) → (field_at end bytes >>= f) ≡ Some y
@@ -175,7 +176,7 @@ field_then end bytes f y e more =
     more m.0 m.1 is.0 is.1 e₁
 
 start_sound : (bytes rest : List ℕ) (event : Event) → start_at bytes ≡ Some (event, rest)
-    → IsInRange event × (codes "start " ++ bytes ≡ line event ++ rest)
+    → AreFieldsInRange event × (codes "start " ++ bytes ≡ line event ++ rest)
 unfolding start_at line
 start_sound bytes rest event e =
     field_then 32 bytes _ _ e λ c r₁ fit_c is_c e₁.
@@ -186,7 +187,7 @@ start_sound bytes rest event e =
     (rw (is_c, is_n, is_i, is_a) (simp append_assoc))
 
 stop_sound : (bytes rest : List ℕ) (event : Event) → stop_at bytes ≡ Some (event, rest)
-    → IsInRange event × (codes "stop " ++ bytes ≡ line event ++ rest)
+    → AreFieldsInRange event × (codes "stop " ++ bytes ≡ line event ++ rest)
 unfolding stop_at line
 stop_sound bytes rest event e =
     field_then 32 bytes _ _ e λ c r₁ fit_c is_c e₁.
@@ -195,7 +196,7 @@ stop_sound bytes rest event e =
     same_line (codes "stop ") bytes rest r₃ event (Stop c n s) e₃ (fit_c, fit_n, fit_s) (rw (is_c, is_n, is_s) (simp append_assoc))
 
 restart_sound : (bytes rest : List ℕ) (event : Event) → restart_at bytes ≡ Some (event, rest)
-    → IsInRange event × (codes "restart " ++ bytes ≡ line event ++ rest)
+    → AreFieldsInRange event × (codes "restart " ++ bytes ≡ line event ++ rest)
 unfolding restart_at line
 restart_sound bytes rest event e =
     field_then 32 bytes _ _ e λ c r₁ fit_c is_c e₁.
@@ -207,7 +208,7 @@ restart_sound bytes rest event e =
     (rw (is_c, is_n, is_s, is_i, is_a) (simp append_assoc))
 
 tick_sound : (bytes rest : List ℕ) (event : Event) → tick_at bytes ≡ Some (event, rest)
-    → IsInRange event × (codes "tick " ++ bytes ≡ line event ++ rest)
+    → AreFieldsInRange event × (codes "tick " ++ bytes ≡ line event ++ rest)
 unfolding tick_at line
 tick_sound bytes rest event e =
     field_then 10 bytes _ _ e λ k r₁ fit_k is_k e₁.
@@ -219,8 +220,8 @@ tick_sound bytes rest event e =
 -- a word is at the front, or not
 by_word : (word bytes rest : List ℕ) (event : Event) (f : List ℕ → Option (Event × List ℕ)) (other : Option (Event × List ℕ))
     → or_try (strip word bytes) f other ≡ Some (event, rest)
-    → ((s : List ℕ) → f s ≡ Some (event, rest) → IsInRange event × (word ++ s ≡ line event ++ rest))
-    → (other ≡ Some (event, rest) → IsInRange event × (bytes ≡ line event ++ rest)) → IsInRange event × (bytes ≡ line event ++ rest)
+    → ((s : List ℕ) → f s ≡ Some (event, rest) → AreFieldsInRange event × (word ++ s ≡ line event ++ rest))
+    → (other ≡ Some (event, rest) → AreFieldsInRange event × (bytes ≡ line event ++ rest)) → AreFieldsInRange event × (bytes ≡ line event ++ rest)
 by_word word bytes rest event f other e some none = elim (cases_Bool (has_word word bytes)) [
   | inl begins ↦
       let (fits, is) = some (drop (length word) bytes) (rw begins at e) in
@@ -228,7 +229,7 @@ by_word word bytes rest event f other e some none = elim (cases_Bool (has_word w
   | inr not_so ↦ none (rw not_so at e)
 ]
 
-pub line_sound : (bytes rest : List ℕ) (event : Event) → line_at bytes ≡ Some (event, rest) → IsInRange event × (bytes ≡ line event ++ rest)
+pub line_sound : (bytes rest : List ℕ) (event : Event) → line_at bytes ≡ Some (event, rest) → AreFieldsInRange event × (bytes ≡ line event ++ rest)
 unfolding line_at other_at line
 line_sound bytes rest event e =
     by_word (codes "start ") bytes rest event start_at _ e (λ s. start_sound s rest event) λ e₁.
@@ -237,6 +238,34 @@ line_sound bytes rest event e =
     (λ s is. same_line (codes "close\n") s rest s event Close is tt refl) λ e₃.
     by_word (codes "tick ") bytes rest event tick_at _ e₃ (λ s. tick_sound s rest event) λ e₄.
     by_word (codes "restart ") bytes rest event restart_at _ e₄ (λ s. restart_sound s rest event) λ e₅. absurd (none-some _ e₅)
+
+-- ---- where a line ends
+
+pub line_fed : (event : Event) → AreFieldsInRange event → IsFed (line event)
+unfolding line
+line_fed (Start c n i a) fits =
+    fed (codes "start") (c ∷ n ∷ i ∷ a ∷ []) (line (Start c n i a)) (search rules) (lit≤ tt)
+    (fits.0, (fits.1, (fits.2, (fits.3, tt)))) (simp append_assoc refl)
+line_fed (Stop c n s) fits =
+    fed (codes "stop") (c ∷ n ∷ s ∷ []) (line (Stop c n s)) (search rules) (lit≤ tt) (fits.0, (fits.1, (fits.2, tt))) (simp append_assoc refl)
+line_fed (Restart c n s i a) fits =
+    fed (codes "restart") (c ∷ n ∷ s ∷ i ∷ a ∷ []) (line (Restart c n s i a)) (search rules) (lit≤ tt)
+    (fits.0, (fits.1, (fits.2, (fits.3, (fits.4, tt))))) (simp append_assoc refl)
+line_fed (Ticks k) fits =
+    fed (codes "tick") (k ∷ []) (line (Ticks k)) (search rules) (lit≤ tt) (omega (arith, fits.1), tt) (simp append_assoc refl)
+line_fed Close fits = fed (codes "close") [] (line Close) (search rules) (lit≤ tt) tt refl
+
+-- bytes with no line feed begin no line, if they are all, or too many for a line
+pub bare_no_line : (xs more : List ℕ) → HasNoFeed xs → (more ≡ []) ⊎ (MAX_LINE ≤ length xs) → BeginsNoLine (xs ++ more)
+bare_no_line xs more none why event rest fits e =
+    let f : IsFed (line event) = line_fed event fits in
+    let whole : xs ++ more ≡ f.front ++ 10 ∷ rest = e ∙ ap (λ t. t ++ rest) f.is ∙ at_feed f.front rest in
+    let long = no_feed_long xs f.front more rest none whole in
+    let short = f.short in
+    elim why [
+      | inl all ↦ absurd (omega (arith, ap length whole, ap length all, length-append xs more, length-append f.front (10 ∷ rest)))
+      | inr many ↦ absurd (omega arith)
+    ]
 
 -- the tests of a number
 pub ruleset number_tests = (digit_count_at, nat_tests, take_rest)

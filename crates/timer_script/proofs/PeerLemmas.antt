@@ -6,42 +6,42 @@ use Rattle.std.specs.List.{AllByRecursion}
 use Rattle.std.proofs.lemmas.Grind.{flat_map-append}
 use Rattle.std.proofs.lemmas.List.{take_rest, length-take}
 use Rattle.timer_script.specs.declared.service.TheConstants.{PIECE}
-use Rattle.timer_script.specs.Peer.{PeerState, Moment, Came, Went, Flush, Grows, Gives, Takes, Flushes, count_in}
-use Rattle.timer_script.specs.Service.{came_in, came_of, gone_in, gone_of, is_flushed, IsPromptBy, HasTalkedBy, IsWrite, HasWritten, HasSent, HasSentBut}
+use Rattle.timer_script.specs.Peer.{PeerState, PeerCall, Came, Went, Flush, Grows, Gives, Takes, Flushes, count_in}
+use Rattle.timer_script.specs.Service.{came_in, came_of, gone_in, gone_of, is_flushed, IsPromptBy, HasTalkedBy, IsWrite, HasWritten, HasSentText, HasSentBut}
 use Rattle.timer_script.proofs.Results.{all_append}
 
 -- ---- lists of calls
 
-grows_none : (a : Option (List Moment)) → Grows a a []
+grows_none : (a : Option (List PeerCall)) → Grows a a []
 grows_none None = tt
 grows_none (Some xs) = sym (append-nil xs)
 
-grows_join : (a b c : Option (List Moment)) (xs ys : List Moment) → Grows a b xs → Grows b c ys → Grows a c (xs ++ ys)
+grows_join : (a b c : Option (List PeerCall)) (xs ys : List PeerCall) → Grows a b xs → Grows b c ys → Grows a c (xs ++ ys)
 grows_join None b c xs ys p q = tt
 grows_join (Some x) None c xs ys p q = absurd p
 grows_join (Some x) (Some y) None xs ys p q = absurd q
 grows_join (Some x) (Some y) (Some z) xs ys p q = q ∙ ap (λ t. t ++ ys) p ∙ append_assoc x xs ys
 
-flushed_join : (flushed : Bool) (xs ys : List Moment) → is_flushed flushed (xs ++ ys) ≡ is_flushed (is_flushed flushed xs) ys
+flushed_join : (flushed : Bool) (xs ys : List PeerCall) → is_flushed flushed (xs ++ ys) ≡ is_flushed (is_flushed flushed xs) ys
 flushed_join flushed [] ys = refl
 flushed_join flushed (Came bytes ∷ xs) ys = flushed_join flushed xs ys
 flushed_join flushed (Went bytes ∷ xs) ys = flushed_join false xs ys
 flushed_join flushed (Flush ∷ xs) ys = flushed_join true xs ys
 
-nothing_came : (xs : List Moment) → AllByRecursion IsWrite xs → came_of xs ≡ []
+nothing_came : (xs : List PeerCall) → AllByRecursion IsWrite xs → came_of xs ≡ []
 nothing_came [] a = refl
 nothing_came (Came bytes ∷ xs) a = absurd a.0
 nothing_came (Went bytes ∷ xs) a = nothing_came xs a.1
 nothing_came (Flush ∷ xs) a = nothing_came xs a.1
 
-writes_prompt : (Answers : List ℕ → List ℕ → Type 0) (came gone : List ℕ) (flushed : Bool) (xs : List Moment)
+writes_prompt : (Answers : List ℕ → List ℕ → Type 0) (came gone : List ℕ) (flushed : Bool) (xs : List PeerCall)
     → AllByRecursion IsWrite xs → IsPromptBy Answers came gone flushed xs
 writes_prompt Answers came gone flushed [] a = tt
 writes_prompt Answers came gone flushed (Came bytes ∷ xs) a = absurd a.0
 writes_prompt Answers came gone flushed (Went bytes ∷ xs) a = writes_prompt Answers came (gone ++ bytes) false xs a.1
 writes_prompt Answers came gone flushed (Flush ∷ xs) a = writes_prompt Answers came gone true xs a.1
 
-prompt_join : (Answers : List ℕ → List ℕ → Type 0) (came gone : List ℕ) (flushed : Bool) (xs ys : List Moment)
+prompt_join : (Answers : List ℕ → List ℕ → Type 0) (came gone : List ℕ) (flushed : Bool) (xs ys : List PeerCall)
     → IsPromptBy Answers came gone flushed xs
     → IsPromptBy Answers (came ++ came_of xs) (gone ++ gone_of xs) (is_flushed flushed xs) ys
     → IsPromptBy Answers came gone flushed (xs ++ ys)
@@ -65,8 +65,8 @@ Appends-kept (Some x) (Some y) k = k ∙ sym (append-nil x)
 
 pub written_none : (p : PeerState) → HasWritten p [] p
 written_none p = record {
-  moments = [];
-  grows = grows_none p.moments;
+  calls = [];
+  grows = grows_none p.calls;
   writes = tt;
   gone_is = refl;
   written = Appends-nil p.contents;
@@ -78,22 +78,22 @@ written_none p = record {
 pub written_join : (p q r : PeerState) (xs ys text : List ℕ) → xs ++ ys ≡ text → HasWritten p xs q → HasWritten q ys r
     → HasWritten p text r
 written_join p q r xs ys text is a b = record {
-  moments = a.moments ++ b.moments;
-  grows = grows_join p.moments q.moments r.moments a.moments b.moments a.grows b.grows;
-  writes = all_append IsWrite a.moments b.moments a.writes b.writes;
-  gone_is = rw (flat_map-append gone_in a.moments b.moments, a.gone_is, b.gone_is) is;
+  calls = a.calls ++ b.calls;
+  grows = grows_join p.calls q.calls r.calls a.calls b.calls a.grows b.grows;
+  writes = all_append IsWrite a.calls b.calls a.writes b.writes;
+  gone_is = rw (flat_map-append gone_in a.calls b.calls, a.gone_is, b.gone_is) is;
   written = subst (Appends p.contents r.contents) is (Appends-trans p.contents q.contents r.contents xs ys a.written b.written);
   remaining = b.remaining ∙ a.remaining;
   reading = b.reading ∙ a.reading;
 }
 
 -- after a text came a write or a flush
-written_call : (p q r : PeerState) (m : Moment) (xs text : List ℕ) → xs ++ gone_in m ≡ text → HasWritten p xs q → IsWrite m
-    → Grows q.moments r.moments (m ∷ []) → Appends q.contents r.contents (gone_in m) → r.remaining ≡ q.remaining
+written_call : (p q r : PeerState) (m : PeerCall) (xs text : List ℕ) → xs ++ gone_in m ≡ text → HasWritten p xs q → IsWrite m
+    → Grows q.calls r.calls (m ∷ []) → Appends q.contents r.contents (gone_in m) → r.remaining ≡ q.remaining
     → r.read_failed ≡ q.read_failed → HasWritten p text r
 unfolding written_join
 written_call p q r m xs text is w write grows written remaining reading = written_join p q r xs (gone_in m) text is w (record {
-  moments = m ∷ [];
+  calls = m ∷ [];
   grows = grows;
   writes = (write, tt);
   gone_is = append-nil (gone_in m);
@@ -108,26 +108,26 @@ pub written_more : {E : Type 0} (p q r : PeerState) (text : List ℕ) (i n : ℕ
 written_more {E} p q r text i n w t =
     let piece : List ℕ = take n (take (length text - i) (drop i text)) in
     let parts : take i text ++ piece ≡ take (i + n) text = ap (λ t. take i text ++ take n t) (take_rest text i) ∙ sym (take-add i n text) in
-    written_call p q r (Went piece) (take i text) (take (i + n) text) parts w tt t.moment t.bytes t.remaining t.reading
+    written_call p q r (Went piece) (take i text) (take (i + n) text) parts w tt t.noted t.bytes t.remaining t.reading
 
 -- one more write that failed
 pub written_failed : {E : Type 0} (p q r : PeerState) (text piece : List ℕ) (e : E) → HasWritten p text q → Takes {E = E} q (Err e) piece r
     → HasWritten p text r
 written_failed {E} p q r text piece e w t =
-    written_call p q r (Went []) text text (append-nil text) w tt t.moment (Appends-kept q.contents r.contents t.bytes) t.remaining t.reading
+    written_call p q r (Went []) text text (append-nil text) w tt t.noted (Appends-kept q.contents r.contents t.bytes) t.remaining t.reading
 
 -- a flush after the text
 pub written_flush : {E : Type 0} (p q r : PeerState) (text : List ℕ) (result : Result Unit E) → HasWritten p text q
     → Flushes {E = E} q result r → HasWritten p text r
 written_flush {E} p q r text result w f =
-    written_call p q r Flush text text (append-nil text) w tt f.moment (Appends-kept q.contents r.contents f.bytes) f.remaining f.reading
+    written_call p q r Flush text text (append-nil text) w tt f.noted (Appends-kept q.contents r.contents f.bytes) f.remaining f.reading
 
 pub sent_all : {E : Type 0} (p q r : PeerState) (text : List ℕ) (u : Unit) → HasWritten p text q → Flushes {E = E} q (Ok u) r
-    → r.write_failed ≡ false → HasSent p text r
+    → r.write_failed ≡ false → HasSentText p text r
 unfolding written_flush written_call written_join
 sent_all {E} p q r text u w f good = record {
   written = written_flush {E = E} p q r text (Ok u) w f;
-  flushed = flushed_join true w.moments (Flush ∷ []);
+  flushed = flushed_join true w.calls (Flush ∷ []);
   good = good;
 }
 
@@ -138,12 +138,12 @@ but_none X p text all = record { sent = []; written = written_none p; flush = re
 
 -- its first bytes were sent
 pub but_sent : {X : List ℕ → Type 0} {p q r : PeerState} {front : List ℕ} (text rest : List ℕ) (flushed : Bool) → text ≡ front ++ rest
-    → HasSentBut X text true p q → (w : HasWritten q front r) → is_flushed true w.moments ≡ flushed → HasSentBut X rest flushed p r
+    → HasSentBut X text true p q → (w : HasWritten q front r) → is_flushed true w.calls ≡ flushed → HasSentBut X rest flushed p r
 unfolding written_join
 but_sent {X} {p} {q} {r} {front} text rest flushed parts h w last = record {
   sent = h.sent ++ front;
   written = written_join p q r h.sent front (h.sent ++ front) refl h.written w;
-  flush = flushed_join true h.written.moments w.moments ∙ ap (λ f. is_flushed f w.moments) h.flush ∙ last;
+  flush = flushed_join true h.written.calls w.calls ∙ ap (λ f. is_flushed f w.calls) h.flush ∙ last;
   all = subst X (ap (λ t. h.sent ++ t) parts ∙ sym (append_assoc h.sent front rest)) h.all;
 }
 
@@ -151,8 +151,8 @@ but_sent {X} {p} {q} {r} {front} text rest flushed parts h w last = record {
 
 pub talked_nothing : (Answers : List ℕ → List ℕ → Type 0) (p : PeerState) → HasTalkedBy Answers p p [] [] true
 talked_nothing Answers p = record {
-  moments = [];
-  grows = grows_none p.moments;
+  calls = [];
+  grows = grows_none p.calls;
   came_is = refl;
   gone_is = refl;
   prompt = tt;
@@ -174,41 +174,41 @@ talked_read {E} {Answers} {p} {q} {r} {came} {gone} {result} {piece} t answered 
     let bytes : List ℕ = take (count_in result) piece in
     let counted : length bytes ≡ min (count_in result) (length piece) = length-take (count_in result) piece in
     record {
-      moments = t.moments ++ Came bytes ∷ [];
-      grows = grows_join p.moments q.moments r.moments t.moments (Came bytes ∷ []) t.grows g.moment;
-      came_is = rw (flat_map-append came_in t.moments (Came bytes ∷ []), t.came_is, append-nil bytes);
-      gone_is = flat_map-append gone_in t.moments (Came bytes ∷ []) ∙ append-nil (gone_of t.moments) ∙ t.gone_is;
-      prompt = prompt_join Answers [] [] true t.moments (Came bytes ∷ []) t.prompt (
+      calls = t.calls ++ Came bytes ∷ [];
+      grows = grows_join p.calls q.calls r.calls t.calls (Came bytes ∷ []) t.grows g.noted;
+      came_is = rw (flat_map-append came_in t.calls (Came bytes ∷ []), t.came_is, append-nil bytes);
+      gone_is = flat_map-append gone_in t.calls (Came bytes ∷ []) ∙ append-nil (gone_of t.calls) ∙ t.gone_is;
+      prompt = prompt_join Answers [] [] true t.calls (Came bytes ∷ []) t.prompt (
         t.flush,
-        subst (λ y. Answers (came_of t.moments) y) (sym t.gone_is) (subst (λ x. Answers x gone) (sym t.came_is) answered),
+        subst (λ y. Answers (came_of t.calls) y) (sym t.gone_is) (subst (λ x. Answers x gone) (sym t.came_is) answered),
         omega arith,
         tt,
       );
-      flush = flushed_join true t.moments (Came bytes ∷ []) ∙ t.flush;
+      flush = flushed_join true t.calls (Came bytes ∷ []) ∙ t.flush;
       read = Consumes-trans p.remaining q.remaining r.remaining came bytes t.read (gave q r result piece g);
       written = subst (λ c. Appends p.contents c gone) (sym g.contents) t.written;
     }
 
 -- text was written after it
 pub talked_wrote : {Answers : List ℕ → List ℕ → Type 0} {p q r : PeerState} {came gone text : List ℕ} (flushed : Bool)
-    → HasTalkedBy Answers p q came gone true → (w : HasWritten q text r) → is_flushed true w.moments ≡ flushed
+    → HasTalkedBy Answers p q came gone true → (w : HasWritten q text r) → is_flushed true w.calls ≡ flushed
     → HasTalkedBy Answers p r came (gone ++ text) flushed
 talked_wrote {Answers} {p} {q} {r} {came} {gone} {text} flushed t w last = record {
-  moments = t.moments ++ w.moments;
-  grows = grows_join p.moments q.moments r.moments t.moments w.moments t.grows w.grows;
-  came_is = rw (flat_map-append came_in t.moments w.moments, nothing_came w.moments w.writes, append-nil (came_of t.moments)) t.came_is;
-  gone_is = rw (flat_map-append gone_in t.moments w.moments, t.gone_is, w.gone_is);
-  prompt = prompt_join Answers [] [] true t.moments w.moments t.prompt
-      (writes_prompt Answers (came_of t.moments) (gone_of t.moments) (is_flushed true t.moments) w.moments w.writes);
-  flush = flushed_join true t.moments w.moments ∙ ap (λ f. is_flushed f w.moments) t.flush ∙ last;
+  calls = t.calls ++ w.calls;
+  grows = grows_join p.calls q.calls r.calls t.calls w.calls t.grows w.grows;
+  came_is = rw (flat_map-append came_in t.calls w.calls, nothing_came w.calls w.writes, append-nil (came_of t.calls)) t.came_is;
+  gone_is = rw (flat_map-append gone_in t.calls w.calls, t.gone_is, w.gone_is);
+  prompt = prompt_join Answers [] [] true t.calls w.calls t.prompt
+      (writes_prompt Answers (came_of t.calls) (gone_of t.calls) (is_flushed true t.calls) w.calls w.writes);
+  flush = flushed_join true t.calls w.calls ∙ ap (λ f. is_flushed f w.calls) t.flush ∙ last;
   read = subst (λ x. Consumes p.remaining x came) (sym w.remaining) t.read;
   written = Appends-trans p.contents q.contents r.contents gone text t.written w.written;
 }
 
 -- ---- calls that are known
 
-pub known_prompt : {Answers : List ℕ → List ℕ → Type 0} {old new : PeerState} {came gone : List ℕ} {flushed : Bool} (calls : List Moment)
-    → old.moments ≡ Some [] → new.moments ≡ Some calls → HasTalkedBy Answers old new came gone flushed
+pub known_prompt : {Answers : List ℕ → List ℕ → Type 0} {old new : PeerState} {came gone : List ℕ} {flushed : Bool} (calls : List PeerCall)
+    → old.calls ≡ Some [] → new.calls ≡ Some calls → HasTalkedBy Answers old new came gone flushed
     → IsPromptBy Answers [] [] true calls
 known_prompt calls none known talked =
-    let is : calls ≡ talked.moments = rw (none, known) at talked.grows in rw is talked.prompt
+    let is : calls ≡ talked.calls = rw (none, known) at talked.grows in rw is talked.prompt

@@ -5,32 +5,32 @@ use Rattle.std.proofs.lemmas.Option.{none-some}
 use Rattle.std.proofs.NetLemmas.Options.{same_parts}
 use Rattle.std.proofs.lemmas.List.{length-append, append-nil}
 use Rattle.timer_facility.specs.declared.event.Event.{Event}
-use Rattle.timer_facility.specs.declared.event.Event.TheVariants.{Start, Stop, Restart, Ticks, Close}
-use Rattle.timer_script.specs.Script.{IsInRange, line, spelling, IsScript, BeginsNoLine, IsBadLine}
-use Rattle.timer_script.specs.Lines.{line_at}
+use Rattle.timer_script.specs.Script.{AreFieldsInRange, line, spelling, IsScript, BeginsNoLine, IsBadLine}
+use Rattle.timer_script.specs.Lines.{has_word, other_at, line_at}
 use Rattle.timer_script.proofs.Results.{all_append, emptied, not_emptied}
 use Rattle.timer_script.proofs.LineLemmas.{line_again, line_sound}
 
 -- the first lines of two texts that are one
-one_line : (d e : Event) (xs ys : List ℕ) → IsInRange d → IsInRange e → line d ++ xs ≡ line e ++ ys → (d ≡ e) × (xs ≡ ys)
+one_line : (d e : Event) (xs ys : List ℕ) → AreFieldsInRange d → AreFieldsInRange e → line d ++ xs ≡ line e ++ ys → (d ≡ e) × (xs ≡ ys)
 one_line d e xs ys fit_d fit_e same = same_parts d e xs ys (sym (line_again d xs fit_d) ∙ ap line_at same ∙ line_again e ys fit_e)
 
 no_line_none : (bytes : List ℕ) → line_at bytes ≡ None → BeginsNoLine bytes
 no_line_none bytes none event more fits e = none-some _ (sym none ∙ ap line_at e ∙ line_again event more fits)
 
-line_long : (event : Event) → 1 ≤ length (line event)
-unfolding line
-line_long (Start c n i a) = omega arith
-line_long (Stop c n s) = omega arith
-line_long (Restart c n s i a) = omega arith
-line_long (Ticks k) = omega arith
-line_long Close = omega arith
+-- no event is read of no bytes
+read_of_some : (bytes : List ℕ) (event : Event) → line_at (bytes ++ []) ≡ Some (event, []) → 1 ≤ length bytes
+unfolding line_at other_at has_word
+read_of_some [] event read = absurd (none-some _ read)
+read_of_some (b ∷ bytes) event read = omega arith
+
+line_long : (event : Event) → AreFieldsInRange event → 1 ≤ length (line event)
+line_long event fits = read_of_some (line event) event (line_again event [] fits)
 
 end_is_no_line : BeginsNoLine []
-end_is_no_line event more fits e = let h = line_long event in absurd (omega (arith, ap length e, length-append (line event) more))
+end_is_no_line event more fits e = let h = line_long event fits in absurd (omega (arith, ap length e, length-append (line event) more))
 
 -- lines, and bytes after them that begin with none, are read in one way
-same_lines : (xs ys : List Event) (rest other : List ℕ) → AllByRecursion IsInRange xs → AllByRecursion IsInRange ys → BeginsNoLine rest
+same_lines : (xs ys : List Event) (rest other : List ℕ) → AllByRecursion AreFieldsInRange xs → AllByRecursion AreFieldsInRange ys → BeginsNoLine rest
     → BeginsNoLine other → spelling xs ++ rest ≡ spelling ys ++ other → (xs ≡ ys) × (rest ≡ other)
 same_lines [] [] rest other fx fy bad worse e = (refl, e)
 same_lines [] (y ∷ ys) rest other fx fy bad worse e =
@@ -71,7 +71,7 @@ spelling_push (y ∷ ys) x rest =
 -- the lines before the rest were read as these events
 pub record HasReadTo (bytes rest : List ℕ) (events : List Event) : Type 0 where
   pub parts : bytes ≡ spelling events ++ rest
-  pub in_range : AllByRecursion IsInRange events
+  pub in_range : AllByRecursion AreFieldsInRange events
 
 pub read_nothing : (bytes : List ℕ) → HasReadTo bytes bytes []
 read_nothing bytes = record { parts = refl; in_range = tt }
@@ -80,7 +80,7 @@ read_nothing bytes = record { parts = refl; in_range = tt }
 pub line_shorter : (rest after : List ℕ) (event : Event) → line_at rest ≡ Some (event, after) → length after + 1 ≤ length rest
 line_shorter rest after event read =
     let (fits, is) = line_sound rest after event read in
-    let long = line_long event in
+    let long = line_long event fits in
     omega (arith, ap length is, length-append (line event) after)
 
 pub read_more : (bytes rest after : List ℕ) (events : List Event) (event : Event) → HasReadTo bytes rest events
@@ -89,7 +89,7 @@ read_more bytes rest after events event h read =
     let (fits, is) = line_sound rest after event read in
     record {
       parts = h.parts ∙ ap (λ t. spelling events ++ t) is ∙ sym (spelling_push events event after);
-      in_range = all_append IsInRange events (event ∷ []) h.in_range (fits, tt);
+      in_range = all_append AreFieldsInRange events (event ∷ []) h.in_range (fits, tt);
     }
 
 pub read_all : (bytes rest : List ℕ) (events : List Event) → HasReadTo bytes rest events → rest ≡ [] → IsScript events bytes

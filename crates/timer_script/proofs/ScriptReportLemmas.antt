@@ -6,12 +6,12 @@ use Rattle.std.proofs.lemmas.List.Sums.{sum_by-cons}
 use Rattle.std.proofs.lemmas.Bool.{both_ways, cases_lt}
 use Rattle.std.proofs.lemmas.List.{nil_from_length, length-drop, take_rest}
 use Rattle.timer_base.proofs.Basics.{either}
-use Rattle.timer_script.specs.Splitter.{HasNoFeed}
+use Rattle.timer_script.specs.Script.{HasNoFeed, AreFieldsInRange, line, spelling, IsScript}
 use Rattle.timer_script.specs.Diagnosis.{IsVerdict}
-use Rattle.timer_script.specs.ScriptReport.{push_front, cut_lines, AreVerdicts, verdict_line, is_bad, IsReport}
-use Rattle.timer_script.proofs.SplitterLemmas.{no_feed-take, feed-take, IsFed, line_fed}
+use Rattle.timer_script.specs.ScriptReport.{push_front, cut_lines, AreVerdicts, verdict_line, is_bad, IsScriptReport}
+use Rattle.timer_script.proofs.FeedLemmas.{no_feed-take, feed-take, IsFed}
+use Rattle.timer_script.proofs.LineLemmas.{line_fed}
 use Rattle.timer_script.specs.Types.{Event, LineFault}
-use Rattle.timer_script.specs.Script.{IsInRange, line, spelling, IsScript}
 
 -- ---- one line
 
@@ -82,13 +82,13 @@ pub record Leads (script : List ℕ) (others : List (Option LineFault)) (lines b
   pub counted : bad + bad_lines others ≡ bad_lines all
 
 -- the lines before the rest are reported in the text, which are this many, and so many are bad
-pub record HasReported (script rest : List ℕ) (lines bad : ℕ) (text : List ℕ) : Type 0 where
+pub record HasReportedTo (script rest : List ℕ) (lines bad : ℕ) (text : List ℕ) : Type 0 where
   pub leads : (others : List (Option LineFault)) → AreVerdicts others (cut_lines rest) → Leads script others lines bad text
   pub short : lines + length rest ≤ length script
   pub few : bad ≤ lines
 
-pub reported_all : (script rest : List ℕ) (lines bad : ℕ) (text : List ℕ) → HasReported script rest lines bad text → rest ≡ []
-    → IsReport script text bad
+pub reported_all : (script rest : List ℕ) (lines bad : ℕ) (text : List ℕ) → HasReportedTo script rest lines bad text → rest ≡ []
+    → IsScriptReport script text bad
 reported_all script rest lines bad text h none =
     let l = h.leads [] (subst (λ r. AreVerdicts [] (cut_lines r)) (sym none) tt) in
     record {
@@ -106,15 +106,15 @@ at_most_one (Some fault) = lit≤ tt
 
 -- one more line has this verdict, and if it is bad its fault is in the text
 pub line_more : (script rest : List ℕ) (n lines bad bad' : ℕ) (text new : List ℕ) (verdict : Option LineFault)
-    → HasReported script rest lines bad text → 0 < n → n ≤ length rest → HasNoFeed (take (n - 1) rest)
+    → HasReportedTo script rest lines bad text → 0 < n → n ≤ length rest → HasNoFeed (take (n - 1) rest)
     → (n < length rest → get_or rest (n - 1) 0 ≡ 10) → IsVerdict verdict (take n rest)
     → new ≡ text ++ verdict_line (lines + 1) verdict → bad' ≡ bad + count_of verdict
-    → HasReported script (take (length rest - n) (drop n rest)) (lines + 1) bad' new
+    → HasReportedTo script (take (length rest - n) (drop n rest)) (lines + 1) bad' new
 line_more script rest n lines bad bad' text new verdict h some within free whole right joined one_more =
     let after : List ℕ = drop n rest in
     let cut = cut_at rest n some within free whole in
     let shorter : length after + 1 ≤ length rest = omega (arith, length-drop n rest) in
-    subst (λ r. HasReported script r (lines + 1) bad' new) (sym (take_rest rest n)) (record {
+    subst (λ r. HasReportedTo script r (lines + 1) bad' new) (sym (take_rest rest n)) (record {
       leads = λ others rights.
           let l = h.leads (verdict ∷ others) (subst (AreVerdicts (verdict ∷ others)) (sym cut) (right, rights)) in
           record {
@@ -145,14 +145,14 @@ join_cut [] = refl
 join_cut (b ∷ rest) = join_step (b == 10) b rest (cut_lines rest) (join_cut rest)
 
 -- lines of which none is bad have an empty report, and are those of events
-record AreGood (n : ℕ) (verdicts : List (Option LineFault)) (lines : List (List ℕ)) : Type 0 where
+record AreGoodLines (n : ℕ) (verdicts : List (Option LineFault)) (lines : List (List ℕ)) : Type 0 where
   pub empty : report_from n verdicts ≡ []
   pub events : List Event
   pub joined : concat lines ≡ spelling events
-  pub in_range : AllByRecursion IsInRange events
+  pub in_range : AllByRecursion AreFieldsInRange events
 
 all_good : (n : ℕ) (verdicts : List (Option LineFault)) (lines : List (List ℕ)) → AreVerdicts verdicts lines → 0 ≡ bad_lines verdicts
-    → AreGood n verdicts lines
+    → AreGoodLines n verdicts lines
 all_good n [] [] right none = record { empty = refl; events = []; joined = refl; in_range = tt }
 all_good n [] (first ∷ rest) right none = absurd right
 all_good n (verdict ∷ verdicts) [] right none = absurd right
@@ -167,26 +167,26 @@ all_good n (None ∷ verdicts) (first ∷ rest) right none =
     }
 all_good n (Some fault ∷ verdicts) (first ∷ rest) right none = absurd (omega (arith, none, bad-more (Some fault) verdicts))
 
-pub no_bad_lines : (bytes text : List ℕ) → IsReport bytes text 0 → (text ≡ []) × ((events : List Event) × IsScript events bytes)
+pub no_bad_lines : (bytes text : List ℕ) → IsScriptReport bytes text 0 → (text ≡ []) × ((events : List Event) × IsScript events bytes)
 no_bad_lines bytes text r =
     let h = all_good 1 r.verdicts (cut_lines bytes) r.right r.counted in
     (r.text_is ∙ h.empty, (h.events, record { lines = sym (join_cut bytes) ∙ h.joined; in_range = h.in_range }))
 
 -- the line of an event is the first line
-cut_event : (event : Event) (rest : List ℕ) → IsInRange event → cut_lines (line event ++ rest) ≡ line event ∷ cut_lines rest
+cut_event : (event : Event) (rest : List ℕ) → AreFieldsInRange event → cut_lines (line event ++ rest) ≡ line event ∷ cut_lines rest
 cut_event event rest fits =
     let f : IsFed (line event) = line_fed event fits in
     ap cut_lines (ap (λ t. t ++ rest) f.is ∙ append_assoc f.front (10 ∷ []) rest) ∙ cut_line f.front rest f.no_feed
     ∙ ap (λ t. t ∷ cut_lines rest) (sym f.is)
 
-good_more : (event : Event) (rest : List ℕ) (verdicts : List (Option LineFault)) → IsInRange event
+good_more : (event : Event) (rest : List ℕ) (verdicts : List (Option LineFault)) → AreFieldsInRange event
     → ((others : List (Option LineFault)) → AreVerdicts others (cut_lines rest) → bad_lines others ≡ 0)
     → AreVerdicts verdicts (line event ∷ cut_lines rest) → bad_lines verdicts ≡ 0
 good_more event rest [] fits more right = absurd right
 good_more event rest (None ∷ others) fits more right = omega (arith, bad-more None others, more others right.1)
 good_more event rest (Some fault ∷ others) fits more right = absurd (right.0.0 (event, fits, refl))
 
-script_good : (events : List Event) (verdicts : List (Option LineFault)) → AllByRecursion IsInRange events
+script_good : (events : List Event) (verdicts : List (Option LineFault)) → AllByRecursion AreFieldsInRange events
     → AreVerdicts verdicts (cut_lines (spelling events)) → bad_lines verdicts ≡ 0
 script_good [] [] fits right = refl
 script_good [] (verdict ∷ others) fits right = absurd right
@@ -194,6 +194,6 @@ script_good (event ∷ events) verdicts fits right =
     good_more event (spelling events) verdicts fits.0 (λ others. script_good events others fits.1)
     (subst (AreVerdicts verdicts) (cut_event event (spelling events) fits.0) right)
 
-pub script_has_none : (events : List Event) (bytes text : List ℕ) (bad : ℕ) → IsScript events bytes → IsReport bytes text bad → bad ≡ 0
+pub script_has_none : (events : List Event) (bytes text : List ℕ) (bad : ℕ) → IsScript events bytes → IsScriptReport bytes text bad → bad ≡ 0
 script_has_none events bytes text bad script r =
     r.counted ∙ script_good events r.verdicts script.in_range (subst (λ b. AreVerdicts r.verdicts (cut_lines b)) script.lines r.right)

@@ -9,9 +9,9 @@ use Rattle.timer_script.specs.declared.fault.TurnFault.TheVariants as turns
 use Rattle.timer_script.specs.declared.fault.ServeFault.TheVariants as faults
 use Rattle.timer_script.specs.Fault.{serve_fault}
 use Rattle.timer_script.specs.Text.{lines_of}
-use Rattle.timer_script.specs.Cutter.{HasSeenPart, HasEnded, HasTakenIn, UnlessStopped}
-use Rattle.timer_script.specs.Peer.{PeerState, Moment, Gives}
-use Rattle.timer_script.specs.Service.{AreGood, HasSent, HasSentPart, is_flushed, last_line, StopsTurn, IsPrompt, Server, Sides, HasAnsweredSoFar, HasAnsweredAll, HasServed, HasServedSoFar}
+use Rattle.timer_script.specs.Cutter.{HasSeenPart, HasReachedEnd, HasTakenIn, UnlessStopped}
+use Rattle.timer_script.specs.Peer.{PeerState, PeerCall, Gives}
+use Rattle.timer_script.specs.Service.{AreGood, HasSentText, HasSentPart, is_flushed, last_line, StopsTurn, IsPrompt, Server, Sides, HasAnsweredSoFar, HasAnsweredAll, HasServedPeer, HasServedSoFar}
 use Rattle.timer_script.proofs.CutterLemmas.{seen_part, seen_whole, piece_seen, passed_none}
 use Rattle.timer_script.proofs.PeerLemmas.{known_prompt, talked_wrote}
 use Rattle.timer_script.proofs.ServicePieces.{so_none, so_some, so_read, so_part}
@@ -24,7 +24,7 @@ SoFar S = HasAnsweredSoFar S.on_bad S.Adds S.before
 
 -- out of memory before anything was read
 pub served_nothing : {F : Type 0} (S : Server F) (p : PeerState) (w : Watched F) → AreGood p
-    → HasServed S (record { peer = p; faults = w }) (record { peer = p; faults = w }) (Err faults.OutOfMemory)
+    → HasServedPeer S (record { peer = p; faults = w }) (record { peer = p; faults = w }) (Err faults.OutOfMemory)
 served_nothing {F} S p w good = (
   record {
     came = [];
@@ -49,7 +49,7 @@ turn_read {n = n} {buffer = buffer} len rest now room all same h gives =
 -- the last bytes that came were not taken in
 pub piece_lost : {F : Type 0} {S : Server F} {cutter : Cutter} {old before : Sides F} {s : FacilityState} (all piece : List ℕ) (now : Sides F)
     → (h : HasServedSoFar S cutter old before s) → h.came ++ piece ≡ all → SoFar S all h.events old.peer now.peer s
-    → now.faults ≡ before.faults → AreGood now.peer → HasServed S old now (Err faults.OutOfMemory)
+    → now.faults ≡ before.faults → AreGood now.peer → HasServedPeer S old now (Err faults.OutOfMemory)
 piece_lost {S = S} {old = old} all piece now h parts so same good = (
   record {
     came = all;
@@ -65,11 +65,11 @@ pub piece_stopped : {F : Type 0} {S : Server F} {cutter : Cutter} {old before : 
     {came : List ℕ} {earlier : List Event} → HasServedSoFar S cutter old before s → (fault : TurnFault) (new : Cutter) (stop : Option ℕ)
     (now : Sides F) (events events' : List Event) → events ≡ events' → SoFar S came earlier old.peer q s
     → UnlessStopped stop (HasTakenIn S.on_bad new S.contents old.faults now.faults) S.on_bad old.faults now.faults came
-    (earlier ++ events') → StopsTurn S.Adds fault events s q now.peer → HasServed S old now (Err (serve_fault fault))
+    (earlier ++ events') → StopsTurn S.Adds fault events s q now.peer → HasServedPeer S old now (Err (serve_fault fault))
 piece_stopped {S = S} {old = old} {s = s} {q = q} {came = came} {earlier = earlier} h fault new stop now events events' is so taken stops =
     go fault (subst (λ es. StopsTurn S.Adds fault es s q now.peer) is stops)
   where
-    go : (fault : TurnFault) → StopsTurn S.Adds fault events' s q now.peer → HasServed S old now (Err (serve_fault fault))
+    go : (fault : TurnFault) → StopsTurn S.Adds fault events' s q now.peer → HasServedPeer S old now (Err (serve_fault fault))
     go turns.OutOfMemory stops = (
       record {
         came = came;
@@ -99,7 +99,7 @@ pub bad_at : {F : Type 0} {S : Server F} {cutter : Cutter} {old before : Sides F
     {events : List Event} → HasServedSoFar S cutter old before s → (stop : Option ℕ) (n : ℕ) (now : Sides F)
     (Holds : List ℕ → List Event → Type 0) → stop ≡ Some n
     → UnlessStopped stop Holds S.on_bad old.faults now.faults came events → AreGood now.peer → SoFar S came events old.peer now.peer t
-    → HasServed S old now (Err (faults.Bad n))
+    → HasServedPeer S old now (Err (faults.Bad n))
 bad_at {S = S} {old = old} {t = t} {came = came} {events = events} h stop n now Holds is taken good so =
     let stopped = subst (λ z. UnlessStopped z Holds S.on_bad old.faults now.faults came events) is taken in
     (stopped.stop, stopped.untouched, t, record { came = came; events = events; passed = stopped.stopped; so_far = so }, good)
@@ -113,7 +113,7 @@ unstopped Holds o w v came events stop is h = subst (λ z. UnlessStopped z Holds
 pub read_failed : {E F : Type 0} {S : Server F} {cutter : Cutter} {old before : Sides F} {s : FacilityState} {e : E} {buffer : List ℕ}
     (q : PeerState) (len : ℕ) → HasServedSoFar S cutter old before s → len ≡ PIECE → length buffer ≡ len → q.read_failed ≡ true
     → q.write_failed ≡ false → Gives before.peer (Err e) buffer q
-    → HasServed S old (record { peer = q; faults = before.faults }) (Err faults.Read)
+    → HasServedPeer S old (record { peer = q; faults = before.faults }) (Err faults.Read)
 read_failed {S = S} {old = old} {s = s} q len h room all failed good gives = (
   s,
   record {
@@ -150,15 +150,15 @@ whole {S = S} {s = s} h q sound at_end same =
 
 -- the end line was not written completely
 pub end_unsent : {F : Type 0} {S : Server F} {cutter : Cutter} {old before : Sides F} {s : FacilityState} {clean : Bool} {w : Watched F}
-    {q : PeerState} (h : HasServedSoFar S cutter old before s) → HasEnded S.on_bad clean S.contents old.faults w h.came h.events
+    {q : PeerState} (h : HasServedSoFar S cutter old before s) → HasReachedEnd S.on_bad clean S.contents old.faults w h.came h.events
     → AreGood before.peer → IsAtEnd before.peer.remaining → IsSound S.before → HasSentPart before.peer (last_line s) q
-    → HasServed S old (record { peer = q; faults = w }) (Err faults.Write)
+    → HasServedPeer S old (record { peer = q; faults = w }) (Err faults.Write)
 end_unsent {S = S} {s = s} {clean = clean} {q = q} h ended good at_end sound part =
     let sent : List ℕ = h.so_far.sent in
     let front : List ℕ = take part.count (last_line s) in
     let rest : List ℕ = drop part.count (last_line s) in
     let cut : sent ++ last_line s ≡ (sent ++ front) ++ rest = simp (append_assoc, take-append-drop) refl in
-    let flushed : Bool = is_flushed true part.written.moments in (
+    let flushed : Bool = is_flushed true part.written.calls in (
       inr (
         h.came,
         h.events,
@@ -176,9 +176,9 @@ end_unsent {S = S} {s = s} {clean = clean} {q = q} h ended good at_end sound par
 
 -- it was
 pub end_served : {F : Type 0} {S : Server F} {cutter : Cutter} {old before : Sides F} {s : FacilityState} {clean : Bool} {w : Watched F}
-    {q : PeerState} (h : HasServedSoFar S cutter old before s) → HasEnded S.on_bad clean S.contents old.faults w h.came h.events
-    → AreGood before.peer → IsAtEnd before.peer.remaining → IsSound S.before → HasSent before.peer (last_line s) q
-    → HasServed S old (record { peer = q; faults = w }) (Ok clean)
+    {q : PeerState} (h : HasServedSoFar S cutter old before s) → HasReachedEnd S.on_bad clean S.contents old.faults w h.came h.events
+    → AreGood before.peer → IsAtEnd before.peer.remaining → IsSound S.before → HasSentText before.peer (last_line s) q
+    → HasServedPeer S old (record { peer = q; faults = w }) (Ok clean)
 end_served {s = s} {q = q} h ended good at_end sound sent = (
   h.came,
   h.events,
@@ -192,8 +192,8 @@ end_served {s = s} {q = q} h ended good at_end sound sent = (
 -- ---- calls that are known
 
 -- calls that are known are prompt, however serving ended
-pub prompt : {F : Type 0} (S : Server F) (old new : Sides F) (result : Result Bool ServeFault) (calls : List Moment)
-    → old.peer.moments ≡ Some [] → new.peer.moments ≡ Some calls → HasServed S old new result
+pub prompt : {F : Type 0} (S : Server F) (old new : Sides F) (result : Result Bool ServeFault) (calls : List PeerCall)
+    → old.peer.calls ≡ Some [] → new.peer.calls ≡ Some calls → HasServedPeer S old new result
     → IsPrompt S.on_bad S.Adds S.before calls
 prompt S old new (Ok clean) calls none is h = known_prompt calls none is h.5
 prompt S old new (Err faults.Read) calls none is h = known_prompt calls none is h.1.so_far.talked

@@ -5,21 +5,21 @@ use Rattle.timer_script.specs.Types.{Event, FacilityState, TurnFault, PIECE, OnB
 use Rattle.timer_facility.proofs.PlayedLemmas.{IsRun-none, IsRun-join}
 use Rattle.timer_script.specs.declared.fault.TurnFault.TheVariants as turns
 use Rattle.timer_script.specs.Text.{out_line, lines_of}
-use Rattle.timer_script.specs.Decorator.{Decoration, HasGrownAfter, AreDecorated, HasGrownByAnswer}
-use Rattle.timer_script.specs.Cutter.{Passes}
+use Rattle.timer_script.specs.Decorator.{Decoration, HasGrownAfter, AddsNothing, AreDecorated, HasGrownByAnswer}
+use Rattle.timer_script.specs.Cutter.{PassesEvents}
 use Rattle.timer_script.specs.Peer.{PeerState, Gives, count_in}
-use Rattle.timer_script.specs.Service.{is_flushed, HasAnswered, IsBegun, HasAnsweredPart, GrowsBy, HasSentBut, HasSentPart, StopsTurn, IsAnsweredWith, HasAnsweredSoFar, HasAnsweredSome}
+use Rattle.timer_script.specs.Service.{is_flushed, HasAnsweredEvents, IsBegun, HasAnsweredPart, GrowsBy, HasSentBut, HasSentPart, StopsTurn, IsAnsweredWith, HasAnsweredSoFar, HasAnsweredSome}
 use Rattle.timer_script.proofs.PeerLemmas.{but_sent, talked_nothing, talked_wrote, talked_read}
 
 -- ---- some events
 
-pub answered_none : (A : Decoration) (s : FacilityState) → HasAnswered A s [] s []
+pub answered_none : (A : Decoration) (s : FacilityState) → HasAnsweredEvents A s [] s []
 answered_none A s = record { outs = []; runs = IsRun-none s; added = (refl, refl, refl) }
 
 -- ---- the first of some events
 
 pub part_of : {A : Decoration} {s t : FacilityState} {done : List Event} {decorated : List ℕ} (events rest : List Event)
-    (text last : List ℕ) → events ≡ done ++ rest → text ≡ decorated ++ last → HasAnswered A s done t decorated → IsBegun A t rest last
+    (text last : List ℕ) → events ≡ done ++ rest → text ≡ decorated ++ last → HasAnsweredEvents A s done t decorated → IsBegun A t rest last
     → HasAnsweredPart A s events text
 part_of {t = t} {done = done} {decorated = decorated} events rest text last parts text_is answered begun = record {
   done = done;
@@ -50,8 +50,8 @@ decorated_join A s t u (event ∷ events) more a b x y h k = (
   ap (λ z. z ++ y) h.8 ∙ append_assoc h.2 h.4 y,
 )
 
-pub answered_join : (A : Decoration) (a b c : FacilityState) (x y : List Event) (t u : List ℕ) → HasAnswered A a x b t
-    → HasAnswered A b y c u → HasAnswered A a (x ++ y) c (t ++ u)
+pub answered_join : (A : Decoration) (a b c : FacilityState) (x y : List Event) (t u : List ℕ) → HasAnsweredEvents A a x b t
+    → HasAnsweredEvents A b y c u → HasAnsweredEvents A a (x ++ y) c (t ++ u)
 answered_join A a b c x y t u f g = record {
   outs = f.outs ++ g.outs;
   runs = IsRun-join a b c x y f.outs g.outs f.runs g.runs;
@@ -59,7 +59,7 @@ answered_join A a b c x y t u f g = record {
       (decorated_join A a b c x y (lines_of f.outs) (lines_of g.outs) t u f.added g.added);
 }
 
-pub part_join : (A : Decoration) (a b : FacilityState) (x y : List Event) (t u : List ℕ) → HasAnswered A a x b t
+pub part_join : (A : Decoration) (a b : FacilityState) (x y : List Event) (t u : List ℕ) → HasAnsweredEvents A a x b t
     → HasAnsweredPart A b y u → HasAnsweredPart A a (x ++ y) (t ++ u)
 part_join A a b x y t u f g = record {
   done = x ++ g.done;
@@ -75,7 +75,7 @@ part_join A a b x y t u f g = record {
 
 -- an event was played, and decorated
 pub answered_one : (A : Decoration) (s t : FacilityState) (event : Event) (a b text : List ℕ) → HasGrownByAnswer A s (event ∷ []) t a b
-    → HasGrownAfter A s.next_serial t b text → GrowsBy (HasAnswered A s (event ∷ []) t) a text
+    → HasGrownAfter A s.next_serial t b text → GrowsBy (HasAnsweredEvents A s (event ∷ []) t) a text
 answered_one A s t event a b text grown after =
     let (line, line_is, h) = grown in
     let (added, added_is, comes_after) = after in (
@@ -112,13 +112,13 @@ but_grown {X} {Y} {Z} old new h grown join = record {
 
 -- so it does by the answer to one more event, or by the first of it
 pub but_more : {A : Decoration} {s t u : FacilityState} {p q : PeerState} (old new : List ℕ) (events : List Event) (i : ℕ) (e : Event)
-    → take (i + 1) events ≡ take i events ++ e ∷ [] → HasSentBut (HasAnswered A s (take i events) t) old true p q
-    → GrowsBy (HasAnswered A t (e ∷ []) u) old new → HasSentBut (HasAnswered A s (take (i + 1) events) u) new true p q
+    → take (i + 1) events ≡ take i events ++ e ∷ [] → HasSentBut (HasAnsweredEvents A s (take i events) t) old true p q
+    → GrowsBy (HasAnsweredEvents A t (e ∷ []) u) old new → HasSentBut (HasAnsweredEvents A s (take (i + 1) events) u) new true p q
 but_more {A} {s} {t} {u} old new events i e more h grown = but_grown old new h grown (λ a b x y.
     rw more (answered_join A s t u (take i events) (e ∷ []) a b x y))
 
 pub but_part : {A : Decoration} {s t : FacilityState} {p q : PeerState} (old new : List ℕ) (events : List Event) (i : ℕ) (e : Event)
-    → take (i + 1) events ≡ take i events ++ e ∷ [] → HasSentBut (HasAnswered A s (take i events) t) old true p q
+    → take (i + 1) events ≡ take i events ++ e ∷ [] → HasSentBut (HasAnsweredEvents A s (take i events) t) old true p q
     → GrowsBy (HasAnsweredPart A t (e ∷ drop (i + 1) events)) old new → HasSentBut (HasAnsweredPart A s events) new true p q
 but_part {A} {s} {t} old new events i e more h grown =
     let later : List Event = drop (i + 1) events in
@@ -129,7 +129,7 @@ but_part {A} {s} {t} old new events i e more h grown =
 
 -- the answers to the first events are a part of all
 pub but_first : {A : Decoration} {s t : FacilityState} {p q : PeerState} {text : List ℕ} (events : List Event) (i : ℕ)
-    → HasSentBut (HasAnswered A s (take i events) t) text true p q → HasSentBut (HasAnsweredPart A s events) text true p q
+    → HasSentBut (HasAnsweredEvents A s (take i events) t) text true p q → HasSentBut (HasAnsweredPart A s events) text true p q
 but_first {A} {s} {text = text} events i h = record {
   sent = h.sent;
   written = h.written;
@@ -144,7 +144,7 @@ pub stops_unsent : {A : Decoration} {s : FacilityState} {events : List Event} {p
     → q.read_failed ≡ false → StopsTurn A fault events s p r
 stops_unsent {A} {s} {events} {p} {q} {r} {text} fault is h same sent good = subst (λ f. StopsTurn A f events s p r) (sym is) (
     let part = subst (λ t. HasSentPart q t r) same sent in
-    let flushed : Bool = is_flushed true part.written.moments in (
+    let flushed : Bool = is_flushed true part.written.calls in (
       drop part.count text,
       flushed,
       but_sent text (drop part.count text) flushed (sym (take-append-drop part.count text)) h part.written refl,
@@ -170,7 +170,7 @@ so_some {events = events} h = record {
 
 -- whether a read gave some bytes or failed, all was answered before
 pub so_read : {E : Type 0} {o : OnBadLine} {A : Decoration} {before s : FacilityState} {came : List ℕ} {events : List Event}
-    {p q r : PeerState} {result : Result ℕ E} {piece : List ℕ} → HasAnsweredSoFar o A before came events p q s → Passes o came events
+    {p q r : PeerState} {result : Result ℕ E} {piece : List ℕ} → HasAnsweredSoFar o A before came events p q s → PassesEvents o came events
     → length piece ≤ PIECE → Gives q result piece r
     → HasAnsweredSoFar o A before (came ++ take (count_in result) piece) events p r s
 so_read {s = s} {events = events} h passes short gives = record {
@@ -182,13 +182,13 @@ so_read {s = s} {events = events} h passes short gives = record {
 -- more events were answered
 pub so_more : {o : OnBadLine} {A : Decoration} {before s t : FacilityState} {came : List ℕ} {earlier events events' : List Event}
     {p q r : PeerState} → events ≡ events' → HasAnsweredSoFar o A before came earlier p q s
-    → HasSentBut (HasAnswered A s events t) [] true q r → HasAnsweredSoFar o A before came (earlier ++ events') p r t
+    → HasSentBut (HasAnsweredEvents A s events t) [] true q r → HasAnsweredSoFar o A before came (earlier ++ events') p r t
 so_more {o} {A} {before} {s} {t} {came} {earlier} {events} {p = p} {r = r} is h more =
     subst (λ es. HasAnsweredSoFar o A before came (earlier ++ es) p r t) is (record {
       sent = h.sent ++ more.sent;
       talked = talked_wrote true h.talked more.written more.flush;
       answered = answered_join A before s t earlier events h.sent more.sent h.answered
-          (subst (HasAnswered A s events t) (append-nil more.sent) more.all);
+          (subst (HasAnsweredEvents A s events t) (append-nil more.sent) more.all);
     })
 
 -- or the first of them
@@ -202,3 +202,14 @@ so_part {o} {A} {before} {s} {came} {earlier} {events} {unsent = unsent} {flushe
   answered = subst (HasAnsweredPart A before (earlier ++ events)) (sym (append_assoc h.sent more.sent unsent))
       (part_join A before s earlier events h.sent (more.sent ++ unsent) h.answered more.all);
 }
+
+-- ---- nothing is added
+
+pub undecorated : (s t : FacilityState) (events : List Event) (answer text : List ℕ) → AreDecorated AddsNothing s events t answer text
+    → text ≡ answer
+undecorated s t [] answer text h = h.2 ∙ sym h.1
+undecorated s t (event ∷ events) answer text h =
+    let line = h.5 in
+    h.8 ∙ ap (λ z. z ++ h.4) (line.text_is ∙ ap (λ z. line.line ++ z) line.comes_after ∙ append-nil line.line ∙ line.answered.within
+    ∙ sym line.answer_is)
+    ∙ ap (λ z. h.1 ++ z) (undecorated h.0 t events h.3 h.4 h.6) ∙ sym h.7

@@ -6,20 +6,19 @@ use Rattle.timer_script.specs.Types.{Event, LineFault, MAX_LINE, ScriptFault, On
 use Rattle.timer_script.specs.declared.fault.ScriptFault.TheVariants as faults
 use Rattle.timer_script.specs.declared.cutter.OnBadLine.TheVariants.{Stop}
 use Rattle.timer_script.specs.Watched.{inner_of, has_failed}
-use Rattle.timer_script.specs.Splitter.{HasNoFeed}
-use Rattle.timer_script.specs.Script.{IsInRange, line, BeginsNoLine, IsScript, IsBadLine}
+use Rattle.timer_script.specs.Script.{HasNoFeed, AreFieldsInRange, line, BeginsNoLine, IsScript, IsBadLine}
 use Rattle.timer_script.specs.Lines.{line_at}
 use Rattle.timer_script.specs.Diagnosis.{IsFaultOf}
 use Rattle.timer_script.specs.ScriptReport.{fault_line}
 
 -- a line of an input: that of an event, or a bad one, which is given without its line feed, and what is wrong
 -- with it
-pub data Line : Type 0 where
-  Good : Event → Line
-  Bad : List ℕ → LineFault → Line
+pub data InputLine : Type 0 where
+  Good : Event → InputLine
+  Bad : List ℕ → LineFault → InputLine
 
 -- the bytes of a line
-abbrev pub bytes_of : Line → List ℕ
+abbrev pub bytes_of : InputLine → List ℕ
 bytes_of (Good event) = line event
 bytes_of (Bad front fault) = front ++ 10 ∷ []
 
@@ -28,21 +27,21 @@ abbrev pub IsFaultIn : LineFault → List ℕ → Type 0
 IsFaultIn fault bytes = IsFaultOf fault (take MAX_LINE bytes)
 
 -- the numbers of a good line are in range, and a bad one is the line of no event, and has this fault
-abbrev pub IsGoodOrBad : Line → Type 0
-IsGoodOrBad (Good event) = IsInRange event
+abbrev pub IsGoodOrBad : InputLine → Type 0
+IsGoodOrBad (Good event) = AreFieldsInRange event
 IsGoodOrBad (Bad front fault) =
     HasNoFeed front × BeginsNoLine (front ++ 10 ∷ []) × IsFaultIn fault (front ++ 10 ∷ [])
 
 -- the event of a good line, and those of many, in order
-abbrev pub event_in : Line → List Event
+abbrev pub event_in : InputLine → List Event
 event_in (Good event) = event ∷ []
 event_in (Bad front fault) = []
 
-abbrev pub events_of : List Line → List Event
+abbrev pub events_of : List InputLine → List Event
 events_of lines = flat_map event_in lines
 
 -- the bytes are these lines and the front of one more
-pub record IsCut (bytes : List ℕ) (lines : List Line) (left : List ℕ) : Type 0 where
+pub record IsCut (bytes : List ℕ) (lines : List InputLine) (left : List ℕ) : Type 0 where
   pub parts : bytes ≡ flat_map bytes_of lines ++ left
   pub each : AllByRecursion IsGoodOrBad lines
   pub unended : HasNoFeed left
@@ -54,17 +53,17 @@ abbrev pub Complaint : Type 0
 Complaint = ℕ × LineFault
 
 -- what is reported of a line under this number: nothing of a good one
-abbrev pub complaint_of : ℕ → Line → List Complaint
+abbrev pub complaint_of : ℕ → InputLine → List Complaint
 complaint_of n (Good event) = []
 complaint_of n (Bad front fault) = (n, fault) ∷ []
 
 -- what is reported of the lines of an input, each under its number, counted from 1; 2^64 - 1 stands for any later one
-abbrev pub bad_among : List Line → List Complaint
+abbrev pub bad_among : List InputLine → List Complaint
 bad_among lines =
     flat_map (λ numbered. complaint_of (min numbered.0 (2 ^ 64 - 1)) numbered.1) (enumerate_from 1 lines)
 
 -- the number of the line after those of an input
-abbrev pub number_next : List Line → ℕ
+abbrev pub number_next : List InputLine → ℕ
 number_next lines = min (length lines + 1) (2 ^ 64 - 1)
 
 -- bytes after the last line feed are a bad line, the n-th
@@ -92,7 +91,7 @@ pub record HasReported {F : Type 0} (contents : F → Option (List ℕ)) (old ne
 
 -- what is reported of these lines, after which come the bytes of one that has not ended
 abbrev pub BadLines : Type 1
-BadLines = List Line → List ℕ → List Complaint → Type 0
+BadLines = List InputLine → List ℕ → List Complaint → Type 0
 
 -- the bad lines that ended
 abbrev pub AreSoFar : BadLines
@@ -112,8 +111,8 @@ AreAll clean lines left bad = (last : List Complaint) × IsLastBad (number_next 
 
 -- these bytes came, and the events of their good lines pass; if a bad line ends the stream, none of them is bad,
 -- and the bytes after them are fewer than a line may have
-pub record Passes (on_bad : OnBadLine) (came : List ℕ) (events : List Event) : Type 0 where
-  pub lines : List Line
+pub record PassesEvents (on_bad : OnBadLine) (came : List ℕ) (events : List Event) : Type 0 where
+  pub lines : List InputLine
   pub left : List ℕ
   pub cut : IsCut came lines left
   pub events_are : events ≡ events_of lines
@@ -123,7 +122,7 @@ pub record Passes (on_bad : OnBadLine) (came : List ℕ) (events : List Event) :
 -- of the bad lines these were reported; none, and nothing written, if a bad line ends the stream
 pub record HasPassed {F : Type 0} (on_bad : OnBadLine) (Are : BadLines) (contents : F → Option (List ℕ))
     (writer writer' : Watched F) (came : List ℕ) (events : List Event) : Type 0 where
-  pub passes : Passes on_bad came events
+  pub passes : PassesEvents on_bad came events
   pub bad : List Complaint
   pub are : Are passes.lines passes.left bad
   pub reported : HasReported contents writer writer' (complaints bad)
@@ -131,7 +130,7 @@ pub record HasPassed {F : Type 0} (on_bad : OnBadLine) (Are : BadLines) (content
 
 -- no more bytes come: what was reported is all that is to be, and whether that is nothing; if a bad line ends the
 -- stream, the bytes are the script of the events
-pub record HasEnded {F : Type 0} (on_bad : OnBadLine) (clean : Bool) (contents : F → Option (List ℕ))
+pub record HasReachedEnd {F : Type 0} (on_bad : OnBadLine) (clean : Bool) (contents : F → Option (List ℕ))
     (writer writer' : Watched F) (came : List ℕ) (events : List Event) : Type 0 where
   pub passed : HasPassed on_bad (AreAll clean) contents writer writer' came events
   pub script : on_bad ≡ Stop → IsScript events came
@@ -145,7 +144,7 @@ pub record IsStoppedAt (bytes : List ℕ) (events : List Event) (n : ℕ) : Type
   pub counted : n ≡ min line (2 ^ 64 - 1)
 
 -- a bad line ends the stream, and nothing was reported
-pub record HasStopped {F : Type 0} (on_bad : OnBadLine) (writer writer' : Watched F) (came : List ℕ)
+pub record EndsAtBadLine {F : Type 0} (on_bad : OnBadLine) (writer writer' : Watched F) (came : List ℕ)
     (events : List Event) (n : ℕ) : Type 0 where
   pub stop : on_bad ≡ Stop
   pub untouched : writer' ≡ writer
@@ -155,7 +154,7 @@ pub record HasStopped {F : Type 0} (on_bad : OnBadLine) (writer writer' : Watche
 abbrev pub HasSeen : {F : Type 0} → OnBadLine → (contents : F → Option (List ℕ)) → (writer writer' : Watched F)
     → List ℕ → List Event → Type 0
 HasSeen on_bad contents writer writer' came events = HasPassed on_bad AreFirst contents writer writer' came events
-    ⊎ ((n : ℕ) × HasStopped on_bad writer writer' came events n)
+    ⊎ ((n : ℕ) × EndsAtBadLine on_bad writer writer' came events n)
 
 -- the last of them were not looked at
 pub record HasSeenPart {F : Type 0} (on_bad : OnBadLine) (contents : F → Option (List ℕ))
@@ -170,7 +169,7 @@ pub record HasSeenPart {F : Type 0} (on_bad : OnBadLine) (contents : F → Optio
 -- a line of these bytes, the n-th, was ended: its event is kept if it is good, and else it is reported
 pub record HasEndedLine (on_bad : OnBadLine) (bytes : List ℕ) (n : ℕ) (events events' : List Event)
     (said said' : List ℕ) : Type 0 where
-  pub line : Line
+  pub line : InputLine
   pub bytes_is : bytes_of line ≡ bytes
   pub is_line : IsGoodOrBad line
   pub events_are : events' ≡ events ++ events_of (line ∷ [])
@@ -187,7 +186,7 @@ StopsLine faults.OutOfMemory on_bad n held events events' = Unit {0}
 -- as much is held as a line may have
 pub record HasSorted (on_bad : OnBadLine) (held : List ℕ) (number : ℕ) (came : List ℕ) (events : List Event)
     (bad : List Complaint) : Type 0 where
-  pub passes : Passes on_bad came events
+  pub passes : PassesEvents on_bad came events
   pub held_is : held ≡ take MAX_LINE passes.left
   pub counted : number ≡ number_next passes.lines
   pub bad_is : bad ≡ bad_among passes.lines
@@ -218,4 +217,4 @@ pub record HasTakenIn {F : Type 0} (on_bad : OnBadLine) (cutter : Cutter) (conte
 abbrev pub UnlessStopped : {F : Type 0} → Option ℕ → (List ℕ → List Event → Type 0) → OnBadLine
     → (writer writer' : Watched F) → List ℕ → List Event → Type 0
 UnlessStopped None Holds on_bad writer writer' came events = Holds came events
-UnlessStopped (Some n) Holds on_bad writer writer' came events = HasStopped on_bad writer writer' came events n
+UnlessStopped (Some n) Holds on_bad writer writer' came events = EndsAtBadLine on_bad writer writer' came events n

@@ -1,13 +1,13 @@
 -- Why bytes are not the line of an event, and from which column on.
 use Rattle.std.specs.Prelude.{◌≡◌, ◌≢◌, ◌⊎◌, ℕ, ◌+◌, ◌-◌, ◌<◌, ◌≤◌, List, [], ◌∷◌, length, take, slice_index, Option, Some, None, codes}
 use Rattle.timer_script.specs.Types.{Event, Field, LineReason, LineFault}
-use Rattle.timer_script.specs.Script.{IsInRange, line}
+use Rattle.timer_script.specs.Script.{AreFieldsInRange, line, IsWord}
 use Rattle.timer_script.specs.declared.line_fault.Field.TheVariants as fields
 use Rattle.timer_script.specs.declared.line_fault.LineReason.TheVariants as reasons
 
 -- the bytes are the line of an event
 abbrev pub IsLine : List ℕ → Type 0
-IsLine bytes = (event : Event) × IsInRange event × (bytes ≡ line event)
+IsLine bytes = (event : Event) × AreFieldsInRange event × (bytes ≡ line event)
 
 -- the byte is a digit
 abbrev pub IsDigit : ℕ → Type 0
@@ -17,22 +17,17 @@ IsDigit byte = (48 ≤ byte) × (byte ≤ 57)
 abbrev pub IsLetter : ℕ → Type 0
 IsLetter byte = (97 ≤ byte) × (byte ≤ 122)
 
--- the bytes are a word that begins a line
-abbrev pub IsWord : List ℕ → Type 0
-IsWord word = (word ≡ codes "start") ⊎ ((word ≡ codes "stop") ⊎ ((word ≡ codes "restart") ⊎ ((word ≡ codes "tick")
-    ⊎ (word ≡ codes "close"))))
-
 -- this byte is at this place, counted from 0
-abbrev pub IsAt : ℕ → List ℕ → ℕ → Type 0
-IsAt byte bytes at = (at < length bytes) × (slice_index bytes at ≡ byte)
+abbrev pub IsByteAt : ℕ → List ℕ → ℕ → Type 0
+IsByteAt byte bytes at = (at < length bytes) × (slice_index bytes at ≡ byte)
 
 -- this byte is right before it
-abbrev pub IsBefore : ℕ → List ℕ → ℕ → Type 0
-IsBefore byte bytes at = (1 ≤ at) × (slice_index bytes (at - 1) ≡ byte)
+abbrev pub IsByteBefore : ℕ → List ℕ → ℕ → Type 0
+IsByteBefore byte bytes at = (1 ≤ at) × (slice_index bytes (at - 1) ≡ byte)
 
 -- each byte before it is so
-abbrev pub AreBefore : (ℕ → Type 0) → List ℕ → ℕ → Type 0
-AreBefore P bytes at = (i : ℕ) → i < at → P (slice_index bytes i)
+abbrev pub AreBytesBefore : (ℕ → Type 0) → List ℕ → ℕ → Type 0
+AreBytesBefore P bytes at = (i : ℕ) → i < at → P (slice_index bytes i)
 
 -- some byte before it is a space
 abbrev pub IsAfterSpace : List ℕ → ℕ → Type 0
@@ -49,7 +44,7 @@ EndsAfter bytes at = (at + 1 ≡ length bytes) ⊎ ((slice_index bytes (at + 1) 
 -- a byte of no word, or one at which the line would end before it has one
 pub record IsUnknown (bytes : List ℕ) (at : ℕ) : Type 0 where
   pub within : at < length bytes
-  pub in_word : AreBefore (λ b. b ≡ 32 → ⊥) bytes at
+  pub in_word : AreBytesBefore (λ b. b ≡ 32 → ⊥) bytes at
   pub no_return : slice_index bytes at ≡ 13 → ⊥
   pub no_tab : slice_index bytes at ≡ 9 → ⊥
   pub ends : (slice_index bytes at ≡ 10) ⊎ (slice_index bytes at ≡ 32) → (1 ≤ at) × ¬ (IsWord (take at bytes))
@@ -69,7 +64,7 @@ IsDigitAt bytes at = (at < length bytes) × IsDigit (slice_index bytes at)
 
 -- the number before it is a single zero
 abbrev pub IsAfterZero : List ℕ → ℕ → Type 0
-IsAfterZero bytes at = IsBefore 48 bytes at × IsBefore 32 bytes (at - 1)
+IsAfterZero bytes at = IsByteBefore 48 bytes at × IsByteBefore 32 bytes (at - 1)
 
 -- a digit after the word, and not after a single zero: a number may leave its range with it
 abbrev pub LeavesRange : List ℕ → ℕ → Type 0
@@ -79,19 +74,19 @@ LeavesRange bytes at = IsDigitAt bytes at × IsAfterSpace bytes at × ¬ (IsAfte
 -- two ranges are told apart by the field
 abbrev pub IsReasonAt : LineReason → List ℕ → ℕ → Type 0
 IsReasonAt reasons.NoLineEnd bytes at = at ≡ length bytes
-IsReasonAt reasons.EmptyLine bytes at = (at ≡ 0) × IsAt 10 bytes at
-IsReasonAt reasons.CarriageReturn bytes at = IsAt 13 bytes at
+IsReasonAt reasons.EmptyLine bytes at = (at ≡ 0) × IsByteAt 10 bytes at
+IsReasonAt reasons.CarriageReturn bytes at = IsByteAt 13 bytes at
 IsReasonAt reasons.ByteOrderMark bytes at = (at ≡ 0) × (take 3 bytes ≡ 239 ∷ 187 ∷ 191 ∷ [])
-IsReasonAt reasons.Tab bytes at = IsAt 9 bytes at
+IsReasonAt reasons.Tab bytes at = IsByteAt 9 bytes at
 -- at the start, after another space, or at the end
 IsReasonAt reasons.Space bytes at =
-    IsAt 32 bytes at × ((at ≡ 0) ⊎ (IsBefore 32 bytes at ⊎ (IsPastWord bytes at × EndsAfter bytes at)))
+    IsByteAt 32 bytes at × ((at ≡ 0) ⊎ (IsByteBefore 32 bytes at ⊎ (IsPastWord bytes at × EndsAfter bytes at)))
 IsReasonAt reasons.UnknownWord bytes at = IsUnknown bytes at
-IsReasonAt reasons.MissingField bytes at = IsAt 10 bytes at × IsPastWord bytes at
+IsReasonAt reasons.MissingField bytes at = IsByteAt 10 bytes at × IsPastWord bytes at
 -- a space, after which more comes; or bytes after a line feed
 IsReasonAt reasons.TooManyFields bytes at =
-    (IsAt 32 bytes at × (1 ≤ at) × ¬ (IsBefore 32 bytes at) × IsPastWord bytes at × ¬ (EndsAfter bytes at))
-    ⊎ ((at < length bytes) × IsBefore 10 bytes at)
+    (IsByteAt 32 bytes at × (1 ≤ at) × ¬ (IsByteBefore 32 bytes at) × IsPastWord bytes at × ¬ (EndsAfter bytes at))
+    ⊎ ((at < length bytes) × IsByteBefore 10 bytes at)
 IsReasonAt reasons.NotANumber bytes at = IsForeign bytes at
 IsReasonAt reasons.LeadingZero bytes at = IsDigitAt bytes at × IsAfterZero bytes at
 IsReasonAt reasons.OutOfRange bytes at = LeavesRange bytes at
@@ -122,7 +117,7 @@ IsVerdict (Some fault) bytes = ¬ (IsLine bytes) × IsFaultOf fault bytes
 
 -- what stands before this place: the letters of a word that begins a line, or fields, of which this is the last
 abbrev pub IsBehind : Option Field → List ℕ → ℕ → Type 0
-IsBehind None bytes at = AreBefore IsLetter bytes at × IsWord (take at bytes)
+IsBehind None bytes at = AreBytesBefore IsLetter bytes at × IsWord (take at bytes)
 IsBehind (Some field) bytes at = IsAfterSpace bytes at × ¬ (IsDigitAt bytes at)
 
 -- the word or a field ends here

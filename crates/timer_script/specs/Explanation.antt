@@ -9,7 +9,7 @@ use Rattle.timer_facility.specs.declared.request.Answer.TheVariants.{Refused}
 use Rattle.timer_facility.specs.declared.request.Reason.TheVariants.{NoSuch}
 use Rattle.timer_script.specs.Streams.{Known}
 use Rattle.timer_script.specs.Script.{IsScript, IsBadLine}
-use Rattle.timer_script.specs.ScriptReport.{IsReport, HasReportedOn}
+use Rattle.timer_script.specs.ScriptReport.{IsScriptReport, HasReportedOn}
 use Rattle.timer_script.specs.declared.fates.Fate.{Fate}
 use Rattle.timer_script.specs.Fates.{Told, told_by, fate_by, fate_in, no_such_line, Follows}
 
@@ -58,7 +58,7 @@ pub record IsExplanationOf (before : FacilityState) (events : List Event) (text 
 -- that are
 abbrev pub IsExplanation : FacilityState → (bytes text : List ℕ) → Type 0
 IsExplanation before bytes text = ((events : List Event) × IsScript events bytes × IsExplanationOf before events text)
-    ⊎ ((line : ℕ) × IsBadLine bytes line × ((bad : ℕ) × IsReport bytes text bad))
+    ⊎ ((line : ℕ) × IsBadLine bytes line × ((bad : ℕ) × IsScriptReport bytes text bad))
 
 -- whether a text is not empty
 abbrev pub SaysIfEmpty : Bool → List ℕ → Type 0

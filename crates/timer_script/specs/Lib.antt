@@ -2,10 +2,8 @@ pub mod Types
 pub mod Lines
 pub mod Script
 pub mod Text
-pub mod Splitter
 pub mod Diagnosis
 pub mod Input
-pub mod Output
 pub mod Fault
 pub mod Watched
 pub mod ScriptRun

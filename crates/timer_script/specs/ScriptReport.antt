@@ -5,7 +5,7 @@ use Rattle.std.specs.List.{flat_map, enumerate_from, count_by}
 use Rattle.timer_script.specs.Types.{Field, LineFault, MAX_BYTES, CheckFault, Streams}
 use Rattle.timer_script.specs.declared.fault.CheckFault.TheVariants as faults
 use Rattle.timer_script.specs.Watched.{has_failed}
-use Rattle.timer_script.specs.Streams.{Known, left_of, taken_by}
+use Rattle.timer_script.specs.Streams.{Known, unread_of, taken_by}
 use Rattle.timer_script.specs.Input.{ReadsUpTo, ReadsTooMany}
 use Rattle.timer_script.specs.ScriptRun.{ReadsAs}
 use Rattle.timer_script.specs.Diagnosis.{IsVerdict, field_words, reason_words}
@@ -51,7 +51,7 @@ is_bad None = false
 is_bad (Some fault) = true
 
 -- the text reports each bad line of the bytes, in order, and `bad` is their number
-pub record IsReport (bytes text : List ℕ) (bad : ℕ) : Type 0 where
+pub record IsScriptReport (bytes text : List ℕ) (bad : ℕ) : Type 0 where
   pub verdicts : List (Option LineFault)
   pub right : AreVerdicts verdicts (cut_lines bytes)
   -- the lines are numbered from 1
@@ -63,26 +63,26 @@ abbrev pub HasReportedOn : {A R S : Type 0} → (List ℕ → List ℕ → A →
     → Result A CheckFault → Type 0
 -- the whole report was written, and nothing else
 HasReportedOn Holds known old new (Ok returned) = (text : List ℕ)
-    × ReadsAs (λ bytes. Holds bytes text returned) (left_of known old) (left_of known new)
+    × ReadsAs (λ bytes. Holds bytes text returned) (unread_of known old) (unread_of known new)
     × (has_failed new.reader ≡ false)
     × Appends (taken_by known old) (taken_by known new) text × (has_failed new.writer ≡ false)
 -- the reader failed in this call, after at most `MAX_BYTES` bytes, and nothing was written
-HasReportedOn Holds known old new (Err faults.Read) = ReadsUpTo MAX_BYTES (left_of known old) (left_of known new)
+HasReportedOn Holds known old new (Err faults.Read) = ReadsUpTo MAX_BYTES (unread_of known old) (unread_of known new)
     × (has_failed new.reader ≡ true) × (new.writer ≡ old.writer)
 -- one byte more than `MAX_BYTES` was read, and nothing was written
-HasReportedOn Holds known old new (Err faults.TooLong) = ReadsTooMany (left_of known old) (left_of known new)
+HasReportedOn Holds known old new (Err faults.TooLong) = ReadsTooMany (unread_of known old) (unread_of known new)
     × (has_failed new.reader ≡ false) × (new.writer ≡ old.writer)
 -- nothing was written, and at most one byte more than `MAX_BYTES` was read
 HasReportedOn Holds known old new (Err faults.OutOfMemory) =
-    ReadsUpTo (MAX_BYTES + 1) (left_of known old) (left_of known new) × (has_failed new.reader ≡ false)
+    ReadsUpTo (MAX_BYTES + 1) (unread_of known old) (unread_of known new) × (has_failed new.reader ≡ false)
     × (new.writer ≡ old.writer)
 -- the writer failed in this call, and a prefix of the report was written, of this length, and nothing else
 HasReportedOn {A} Holds known old new (Err (faults.Write written)) = (text : List ℕ) × (returned : A)
-    × ReadsAs (λ bytes. Holds bytes text returned) (left_of known old) (left_of known new)
+    × ReadsAs (λ bytes. Holds bytes text returned) (unread_of known old) (unread_of known new)
     × (has_failed new.reader ≡ false)
     × (written < length text) × Appends (taken_by known old) (taken_by known new) (take written text)
     × (has_failed new.writer ≡ true)
 
 -- what a check did, which reports bad lines and returns their number
 abbrev pub HasChecked : {R S : Type 0} → Known R S → (old new : Streams R S) → Result ℕ CheckFault → Type 0
-HasChecked known old new result = HasReportedOn IsReport known old new result
+HasChecked known old new result = HasReportedOn IsScriptReport known old new result

@@ -5,7 +5,7 @@ use Rattle.timer_script.specs.Types.{Event, Out, FacilityState, MAX_BYTES, RunFa
 use Rattle.timer_facility.specs.Played.{IsRun, IsPlayed}
 use Rattle.timer_script.specs.declared.fault.RunFault.TheVariants as faults
 use Rattle.timer_script.specs.Watched.{has_failed}
-use Rattle.timer_script.specs.Streams.{Known, left_of, taken_by}
+use Rattle.timer_script.specs.Streams.{Known, unread_of, taken_by}
 use Rattle.timer_script.specs.Script.{IsScript, IsBadLine}
 use Rattle.timer_script.specs.Text.{lines_of, text}
 use Rattle.timer_script.specs.Input.{ReadsWhole, ReadsUpTo, ReadsTooMany}
@@ -47,26 +47,26 @@ abbrev pub HasRun : {R S : Type 0} → FacilityState → Known R S → (old new 
     → Type 0
 -- the whole answer was written, and nothing else
 HasRun before known old new (Ok u) = (answer : List ℕ)
-    × ReadsAs (λ bytes. IsAnswerTo before bytes answer) (left_of known old) (left_of known new)
+    × ReadsAs (λ bytes. IsAnswerTo before bytes answer) (unread_of known old) (unread_of known new)
     × (has_failed new.reader ≡ false)
     × Appends (taken_by known old) (taken_by known new) answer × (has_failed new.writer ≡ false)
 -- the reader failed in this call, after at most `MAX_BYTES` bytes, and nothing was written
-HasRun before known old new (Err faults.Read) = ReadsUpTo MAX_BYTES (left_of known old) (left_of known new)
+HasRun before known old new (Err faults.Read) = ReadsUpTo MAX_BYTES (unread_of known old) (unread_of known new)
     × (has_failed new.reader ≡ true) × (new.writer ≡ old.writer)
 -- one byte more than `MAX_BYTES` was read, and nothing was written
-HasRun before known old new (Err faults.TooLong) = ReadsTooMany (left_of known old) (left_of known new)
+HasRun before known old new (Err faults.TooLong) = ReadsTooMany (unread_of known old) (unread_of known new)
     × (has_failed new.reader ≡ false) × (new.writer ≡ old.writer)
 -- the input is not a script, this is its first bad line, and nothing was written
 HasRun before known old new (Err (faults.Bad line)) =
-    ReadsAs (λ bytes. IsBadLine bytes line) (left_of known old) (left_of known new)
+    ReadsAs (λ bytes. IsBadLine bytes line) (unread_of known old) (unread_of known new)
     × (has_failed new.reader ≡ false) × (new.writer ≡ old.writer)
 -- nothing was written, and at most one byte more than `MAX_BYTES` was read
 HasRun before known old new (Err faults.OutOfMemory) =
-    ReadsUpTo (MAX_BYTES + 1) (left_of known old) (left_of known new) × (has_failed new.reader ≡ false)
+    ReadsUpTo (MAX_BYTES + 1) (unread_of known old) (unread_of known new) × (has_failed new.reader ≡ false)
     × (new.writer ≡ old.writer)
 -- the writer failed in this call, and a prefix of the answer was written, of this length, and nothing else
 HasRun before known old new (Err (faults.Write written)) = (answer : List ℕ)
-    × ReadsAs (λ bytes. IsAnswerTo before bytes answer) (left_of known old) (left_of known new)
+    × ReadsAs (λ bytes. IsAnswerTo before bytes answer) (unread_of known old) (unread_of known new)
     × (has_failed new.reader ≡ false)
     × (written < length answer) × Appends (taken_by known old) (taken_by known new) (take written answer)
     × (has_failed new.writer ≡ true)

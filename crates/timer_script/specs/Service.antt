@@ -10,55 +10,55 @@ use Rattle.timer_script.specs.declared.cutter.OnBadLine.TheVariants.{Stop}
 use Rattle.timer_script.specs.Text.{lines_of, end_line}
 use Rattle.timer_script.specs.ScriptRun.{IsAnswer}
 use Rattle.timer_script.specs.Decorator.{Decoration, HasAnsweredWithin, AreDecorated}
-use Rattle.timer_script.specs.Cutter.{Passes, AreSoFar, HasPassed, HasSeen, HasSeenPart, HasEnded, IsStoppedAt, HasTakenIn}
-use Rattle.timer_script.specs.Peer.{PeerState, Moment, Came, Went, Flush, Grows}
+use Rattle.timer_script.specs.Cutter.{PassesEvents, AreSoFar, HasPassed, HasSeen, HasSeenPart, HasReachedEnd, IsStoppedAt, HasTakenIn}
+use Rattle.timer_script.specs.Peer.{PeerState, PeerCall, Came, Went, Flush, Grows}
 
 -- the bytes that came from a peer in one call, and in all
-abbrev pub came_in : Moment → List ℕ
+abbrev pub came_in : PeerCall → List ℕ
 came_in (Came bytes) = bytes
 came_in (Went bytes) = []
 came_in Flush = []
 
-abbrev pub came_of : List Moment → List ℕ
-came_of moments = flat_map came_in moments
+abbrev pub came_of : List PeerCall → List ℕ
+came_of calls = flat_map came_in calls
 
 -- the bytes that went to it
-abbrev pub gone_in : Moment → List ℕ
+abbrev pub gone_in : PeerCall → List ℕ
 gone_in (Came bytes) = []
 gone_in (Went bytes) = bytes
 gone_in Flush = []
 
-abbrev pub gone_of : List Moment → List ℕ
-gone_of moments = flat_map gone_in moments
+abbrev pub gone_of : List PeerCall → List ℕ
+gone_of calls = flat_map gone_in calls
 
 -- whether what went to it was flushed, if it was before
-abbrev pub is_flushed : Bool → List Moment → Bool
+abbrev pub is_flushed : Bool → List PeerCall → Bool
 is_flushed flushed [] = flushed
-is_flushed flushed (Came bytes ∷ moments) = is_flushed flushed moments
-is_flushed flushed (Went bytes ∷ moments) = is_flushed false moments
-is_flushed flushed (Flush ∷ moments) = is_flushed true moments
+is_flushed flushed (Came bytes ∷ calls) = is_flushed flushed calls
+is_flushed flushed (Went bytes ∷ calls) = is_flushed false calls
+is_flushed flushed (Flush ∷ calls) = is_flushed true calls
 
 -- before each read what went so far answers what came so far, and it was flushed; a read gives few bytes, so
 -- all lines are answered but those of the last ones
-abbrev pub IsPromptBy : (List ℕ → List ℕ → Type 0) → (came gone : List ℕ) → Bool → List Moment → Type 0
+abbrev pub IsPromptBy : (List ℕ → List ℕ → Type 0) → (came gone : List ℕ) → Bool → List PeerCall → Type 0
 IsPromptBy Answers came gone flushed [] = Unit {0}
-IsPromptBy Answers came gone flushed (Came bytes ∷ moments) =
+IsPromptBy Answers came gone flushed (Came bytes ∷ calls) =
     (flushed ≡ true) × Answers came gone × (length bytes ≤ PIECE)
-    × IsPromptBy Answers (came ++ bytes) gone flushed moments
-IsPromptBy Answers came gone flushed (Went bytes ∷ moments) =
-    IsPromptBy Answers came (gone ++ bytes) false moments
-IsPromptBy Answers came gone flushed (Flush ∷ moments) = IsPromptBy Answers came gone true moments
+    × IsPromptBy Answers (came ++ bytes) gone flushed calls
+IsPromptBy Answers came gone flushed (Went bytes ∷ calls) =
+    IsPromptBy Answers came (gone ++ bytes) false calls
+IsPromptBy Answers came gone flushed (Flush ∷ calls) = IsPromptBy Answers came gone true calls
 
 -- these bytes came from the peer and this text went to it, and before more was read the text so far was an
 -- answer
 pub record HasTalkedBy (Answers : List ℕ → List ℕ → Type 0) (old new : PeerState) (came gone : List ℕ)
     (flushed : Bool) : Type 0 where
-  pub moments : List Moment
-  pub grows : Grows old.moments new.moments moments
-  pub came_is : came_of moments ≡ came
-  pub gone_is : gone_of moments ≡ gone
-  pub prompt : IsPromptBy Answers [] [] true moments
-  pub flush : is_flushed true moments ≡ flushed
+  pub calls : List PeerCall
+  pub grows : Grows old.calls new.calls calls
+  pub came_is : came_of calls ≡ came
+  pub gone_is : gone_of calls ≡ gone
+  pub prompt : IsPromptBy Answers [] [] true calls
+  pub flush : is_flushed true calls ≡ flushed
   pub read : Consumes old.remaining new.remaining came
   pub written : Appends old.contents new.contents gone
 
@@ -68,25 +68,25 @@ pub record AreGood (peer : PeerState) : Type 0 where
   pub writing : peer.write_failed ≡ false
 
 -- the call is no read
-abbrev pub IsWrite : Moment → Type 0
+abbrev pub IsWrite : PeerCall → Type 0
 IsWrite (Came bytes) = ⊥
 IsWrite (Went bytes) = Unit {0}
 IsWrite Flush = Unit {0}
 
 -- the text was written, and nothing was read
 pub record HasWritten (old : PeerState) (text : List ℕ) (new : PeerState) : Type 0 where
-  pub moments : List Moment
-  pub grows : Grows old.moments new.moments moments
-  pub writes : AllByRecursion IsWrite moments
-  pub gone_is : gone_of moments ≡ text
+  pub calls : List PeerCall
+  pub grows : Grows old.calls new.calls calls
+  pub writes : AllByRecursion IsWrite calls
+  pub gone_is : gone_of calls ≡ text
   pub written : Appends old.contents new.contents text
   pub remaining : new.remaining ≡ old.remaining
   pub reading : new.read_failed ≡ old.read_failed
 
 -- the text was written, and it is flushed if what was written before is
-pub record HasSent (old : PeerState) (text : List ℕ) (new : PeerState) : Type 0 where
+pub record HasSentText (old : PeerState) (text : List ℕ) (new : PeerState) : Type 0 where
   pub written : HasWritten old text new
-  pub flushed : is_flushed true written.moments ≡ true
+  pub flushed : is_flushed true written.calls ≡ true
   pub good : new.write_failed ≡ false
 
 -- a prefix of the text was written, and then the peer failed
@@ -96,7 +96,7 @@ pub record HasSentPart (old : PeerState) (text : List ℕ) (new : PeerState) : T
   pub failed : new.write_failed ≡ true
 
 -- these events were played, and the text is the answer to each, followed by what comes after it
-pub record HasAnswered (Adds : Decoration) (before : FacilityState) (events : List Event) (after : FacilityState)
+pub record HasAnsweredEvents (Adds : Decoration) (before : FacilityState) (events : List Event) (after : FacilityState)
     (text : List ℕ) : Type 0 where
   pub outs : List Out
   pub runs : IsRun before events outs after
@@ -116,7 +116,7 @@ pub record HasAnsweredPart (Adds : Decoration) (before : FacilityState) (events 
   pub parts : events ≡ done ++ rest
   pub after : FacilityState
   pub decorated : List ℕ
-  pub answered : HasAnswered Adds before done after decorated
+  pub answered : HasAnsweredEvents Adds before done after decorated
   pub last : List ℕ
   pub begun : IsBegun Adds after rest last
   pub text_is : text ≡ decorated ++ last
@@ -149,11 +149,11 @@ pub record IsAnsweredWith (on_bad : OnBadLine) (Adds : Decoration) (before : Fac
     (came gone : List ℕ) : Type 0 where
   pub events : List Event
   pub after : FacilityState
-  pub passes : Passes on_bad came events
-  pub answered : HasAnswered Adds before events after gone
+  pub passes : PassesEvents on_bad came events
+  pub answered : HasAnsweredEvents Adds before events after gone
 
 -- before each read all complete lines so far have been answered, and the answers flushed
-abbrev pub IsPrompt : OnBadLine → Decoration → FacilityState → List Moment → Type 0
+abbrev pub IsPrompt : OnBadLine → Decoration → FacilityState → List PeerCall → Type 0
 IsPrompt on_bad Adds before = IsPromptBy (IsAnsweredWith on_bad Adds before) [] [] true
 
 -- these bytes came from the peer and this text went to it, each complete line that passes answered before more
@@ -166,7 +166,7 @@ pub record HasAnsweredSoFar (on_bad : OnBadLine) (Adds : Decoration) (before : F
     (events : List Event) (old new : PeerState) (after : FacilityState) : Type 0 where
   pub sent : List ℕ
   pub talked : HasTalkedBy (IsAnsweredWith on_bad Adds before) old new came sent true
-  pub answered : HasAnswered Adds before events after sent
+  pub answered : HasAnsweredEvents Adds before events after sent
 
 -- the first of the events are answered, and the last of the text for them has not been sent
 pub record HasAnsweredSome (on_bad : OnBadLine) (Adds : Decoration) (before : FacilityState) (came : List ℕ)
@@ -176,7 +176,7 @@ pub record HasAnsweredSome (on_bad : OnBadLine) (Adds : Decoration) (before : Fa
   pub answered : HasAnsweredPart Adds before events (sent ++ unsent)
 
 -- of the bytes that came from the peer events passed, and all of them are answered
-pub record HasServedAll {F : Type 0} (server : Server F) (Passed : List ℕ → List Event → Type 0)
+pub record HasServedWhole {F : Type 0} (server : Server F) (Passed : List ℕ → List Event → Type 0)
     (old new : PeerState) (after : FacilityState) : Type 0 where
   pub came : List ℕ
   pub events : List Event
@@ -203,39 +203,39 @@ pub record HasAnsweredAll {F : Type 0} (server : Server F) (peer : PeerState) (e
 
 -- what serving did, by how it ended; in each case every complete line that passes was answered, and its answer
 -- flushed, before more was read
-abbrev pub HasServed : {F : Type 0} → Server F → (old new : Sides F) → Result Bool ServeFault → Type 0
+abbrev pub HasServedPeer : {F : Type 0} → Server F → (old new : Sides F) → Result Bool ServeFault → Type 0
 -- the whole answer, with what is added, was written and flushed, and nothing else; all bad lines were reported, up to
 -- the first failure of the writer of reports
-HasServed server old new (Ok clean) = (came : List ℕ) × (events : List Event) × (text : List ℕ)
-    × HasEnded server.on_bad clean server.contents old.faults new.faults came events
+HasServedPeer server old new (Ok clean) = (came : List ℕ) × (events : List Event) × (text : List ℕ)
+    × HasReachedEnd server.on_bad clean server.contents old.faults new.faults came events
     × HasAnsweredAll server new.peer events text × HasTalked server old.peer new.peer came text true
     × AreGood new.peer
 -- a read failed, each complete line that came is answered, or was reported as above
-HasServed server old new (Err faults.Read) = (s : FacilityState)
-    × HasServedAll server (HasPassed server.on_bad AreSoFar server.contents old.faults new.faults) old.peer new.peer s
+HasServedPeer server old new (Err faults.Read) = (s : FacilityState)
+    × HasServedWhole server (HasPassed server.on_bad AreSoFar server.contents old.faults new.faults) old.peer new.peer s
     × (new.peer.read_failed ≡ true) × (new.peer.write_failed ≡ false)
 -- a bad line ends it: the n-th line is the first bad one, each line before it is answered, and nothing else was
 -- written but what is added
-HasServed server old new (Err (faults.Bad n)) = (server.on_bad ≡ Stop) × (new.faults ≡ old.faults)
-    × (s : FacilityState) × HasServedAll server (λ came events. IsStoppedAt came events n) old.peer new.peer s
+HasServedPeer server old new (Err (faults.Bad n)) = (server.on_bad ≡ Stop) × (new.faults ≡ old.faults)
+    × (s : FacilityState) × HasServedWhole server (λ came events. IsStoppedAt came events n) old.peer new.peer s
     × AreGood new.peer
 -- out of memory: all the text so far was written, and it answers the first lines
-HasServed server old new (Err faults.OutOfMemory) =
+HasServedPeer server old new (Err faults.OutOfMemory) =
     HasServedPart server (HasSeenPart server.on_bad server.contents old.faults new.faults) old.peer new.peer [] true
     × AreGood new.peer
 -- a write failed: a prefix was written of the answers with what is added, or of the whole answer with that
-HasServed server old new (Err faults.Write) =
+HasServedPeer server old new (Err faults.Write) =
     (((unsent : List ℕ) × (flushed : Bool)
     × HasServedPart server (HasSeen server.on_bad server.contents old.faults new.faults) old.peer new.peer unsent
     flushed)
     ⊎ ((came : List ℕ) × (events : List Event) × (sent unsent : List ℕ) × (flushed clean : Bool)
-    × HasEnded server.on_bad clean server.contents old.faults new.faults came events
+    × HasReachedEnd server.on_bad clean server.contents old.faults new.faults came events
     × HasAnsweredAll server new.peer events (sent ++ unsent)
     × HasTalked server old.peer new.peer came sent flushed))
     × (new.peer.read_failed ≡ false) × (new.peer.write_failed ≡ true)
 -- 2^64 - 1 bytes came or more, and each complete line of them is answered, or was reported as above
-HasServed server old new (Err faults.TooLong) = (s : FacilityState)
-    × (served : HasServedAll server (HasPassed server.on_bad AreSoFar server.contents old.faults new.faults)
+HasServedPeer server old new (Err faults.TooLong) = (s : FacilityState)
+    × (served : HasServedWhole server (HasPassed server.on_bad AreSoFar server.contents old.faults new.faults)
     old.peer new.peer s)
     × (2 ^ 64 - 1 ≤ length served.came) × AreGood new.peer
 
@@ -249,7 +249,7 @@ GrowsBy Is old new = (added : List ℕ) × (new ≡ old ++ added) × Is added
 pub record HasSentBut (Is : List ℕ → Type 0) (unsent : List ℕ) (flushed : Bool) (old new : PeerState) : Type 0 where
   pub sent : List ℕ
   pub written : HasWritten old sent new
-  pub flush : is_flushed true written.moments ≡ flushed
+  pub flush : is_flushed true written.calls ≡ flushed
   pub all : Is (sent ++ unsent)
 
 -- why not all of these events were answered

@@ -10,7 +10,7 @@ abbrev pub streams_state : {R S : Type 0} → (R → Option (List ℕ)) → (S �
 streams_state remaining contents reader writer = record {
   remaining = remaining (inner_of reader);
   contents = contents (inner_of writer);
-  moments = None;
+  calls = None;
   read_failed = has_failed reader;
   write_failed = has_failed writer;
 }
@@ -21,8 +21,8 @@ pub record Known (R S : Type 0) : Type 0 where
   pub contents : S → Option (List ℕ)
 
 -- the bytes that the reader has still to give, and those that the writer took
-abbrev pub left_of : {R S : Type 0} → Known R S → Streams R S → Option (List ℕ)
-left_of known streams = known.remaining (inner_of streams.reader)
+abbrev pub unread_of : {R S : Type 0} → Known R S → Streams R S → Option (List ℕ)
+unread_of known streams = known.remaining (inner_of streams.reader)
 
 abbrev pub taken_by : {R S : Type 0} → Known R S → Streams R S → Option (List ℕ)
 taken_by known streams = known.contents (inner_of streams.writer)

@@ -19,8 +19,7 @@ pub use Rattle.timer_script.specs.declared.input.TheConstants.{MAX_BYTES}
 pub use Rattle.timer_script.specs.declared.line_fault.Field.{Field}
 pub use Rattle.timer_script.specs.declared.line_fault.LineFault.{LineFault}
 pub use Rattle.timer_script.specs.declared.line_fault.LineReason.{LineReason}
-pub use Rattle.timer_script.specs.declared.lines.TheConstants.{MAX_TICKS}
+pub use Rattle.timer_script.specs.declared.lines.TheConstants.{MAX_TICKS, MAX_LINE}
 pub use Rattle.timer_script.specs.declared.service.TheConstants.{PIECE}
-pub use Rattle.timer_script.specs.declared.splitter.TheConstants.{MAX_LINE}
 pub use Rattle.timer_script.specs.declared.streams.Streams.{Streams}
 pub use Rattle.timer_script.specs.declared.watched.Watched.{Watched}

@@ -10,16 +10,15 @@
 //!     " 3\n"                tick 3
 ghost use Rattle.std.specs.Prelude.{◌≡◌, ◌↔◌, ◌<◌, ◌≤◌, ◌++◌, ◌∷◌, [], ℕ, List, length, take, true, IfOk, IfErr, OnOk, OnErr};
 ghost use Rattle.timer_script.specs.Types.{Event, OnBadLine, Watched, MAX_LINE};
-ghost use Rattle.timer_script.specs.Splitter.{HasNoFeed};
-ghost use Rattle.timer_script.specs.Cutter.{Complaint, complaint_line, HasEndedLine, StopsLine, HasSorted, HasSortedSince, StopsAt, HasReported, HasEnded, HasTakenIn, UnlessStopped};
+ghost use Rattle.timer_script.specs.Script.{HasNoFeed};
+ghost use Rattle.timer_script.specs.Cutter.{Complaint, complaint_line, HasEndedLine, StopsLine, HasSorted, HasSortedSince, StopsAt, HasReported, HasReachedEnd, HasTakenIn, UnlessStopped};
 
 use crate::diagnosis::fault_of_bad;
 use crate::fault::ScriptFault;
 use crate::line_fault::LineFault;
-use crate::lines::read_line;
+use crate::lines::{MAX_LINE, line_len, read_line};
 use crate::output::write_text;
 use crate::script_report::push_fault;
-use crate::splitter::{MAX_LINE, line_len};
 use crate::watched::Watched;
 use std::alloc::Global;
 use std::io::Write;
@@ -158,7 +157,7 @@ impl Cutter {
     pub fn end<F: Write>(&mut self, faults: &mut Watched<F>) -> Result<Option<u64>, OutOfMemory>
         ensures ended { IfOk result (λ stop. (on_bad : OnBadLine) (writer : Watched F) (came : List ℕ)
             (events : List Event) → HasTakenIn on_bad self.old F.contents writer faults.old came events
-            → UnlessStopped stop (HasEnded on_bad self.new.clean F.contents writer faults.new) on_bad writer faults.new
+            → UnlessStopped stop (HasReachedEnd on_bad self.new.clean F.contents writer faults.new) on_bad writer faults.new
             came events) }
         ensures unreported { OnErr result (faults.new ≡ faults.old) }
     {

@@ -11,7 +11,8 @@
 //! one). That no earlier byte is at fault, and which of its word's fields is named, is only tested.
 ghost use Rattle.std.specs.Prelude.{◌≡◌, ◌↔◌, ◌+◌, ◌<◌, ◌≤◌, ℕ, None, Some, false, IsTrue, IfSome, length, take, slice_index, Option};
 ghost use Rattle.timer_base.specs.declared.limits.TheConstants.{LAST};
-ghost use Rattle.timer_script.specs.Diagnosis.{IsLine, IsReasonAt, NamesField, IsFaultOf, IsVerdict, IsDigit, IsLetter, IsWord, IsAt, IsBefore, AreBefore, IsDigitAt, IsBehind, IsEndOf, IsInNumber};
+ghost use Rattle.timer_script.specs.Script.{IsWord};
+ghost use Rattle.timer_script.specs.Diagnosis.{IsLine, IsReasonAt, NamesField, IsFaultOf, IsVerdict, IsDigit, IsLetter, IsByteAt, IsByteBefore, AreBytesBefore, IsDigitAt, IsBehind, IsEndOf, IsInNumber};
 
 use crate::line_fault::{Field, LineFault, LineReason};
 use crate::lines::{MAX_TICKS, read_line};
@@ -80,7 +81,7 @@ pub fn fault_of_bad(line: &[u8]) -> LineFault
 /// How many lower-case letters are at the front.
 fn word_len(line: &[u8]) -> usize
     ensures within { result ≤ length line.now }
-    ensures letters { AreBefore IsLetter line.now result }
+    ensures letters { AreBytesBefore IsLetter line.now result }
     ensures ends { ¬ (IsLetter (slice_index line.now result)) }
 {
     for i in 0..line.len() {
@@ -124,7 +125,7 @@ fn fault_at(line: &[u8], at: usize, field: Option<Field>, reason: LineReason) ->
 
 /// What is wrong with a line whose word does not begin one: the first byte that begins none.
 fn fault_in_word(line: &[u8]) -> LineFault
-    requires { (n : ℕ) → AreBefore IsLetter line.now n → ¬ (IsLetter (slice_index line.now n)) → ¬ (IsWord (take n line.now)) }
+    requires { (n : ℕ) → AreBytesBefore IsLetter line.now n → ¬ (IsLetter (slice_index line.now n)) → ¬ (IsWord (take n line.now)) }
     ensures { IsFaultOf result line.now }
 {
     let at = known_len(line);
@@ -145,7 +146,7 @@ fn fault_in_word(line: &[u8]) -> LineFault
 /// How many bytes at the front begin a word.
 fn known_len(line: &[u8]) -> usize
     ensures within { result ≤ length line.now }
-    ensures letters { AreBefore IsLetter line.now result }
+    ensures letters { AreBytesBefore IsLetter line.now result }
 {
     // made by tools/facts: known words
     common_len(line, b"start")
@@ -157,9 +158,9 @@ fn known_len(line: &[u8]) -> usize
 
 /// How many bytes at the front are those of the word.
 fn common_len(line: &[u8], word: &[u8]) -> usize
-    requires { AreBefore IsLetter word.now (length word.now) }
+    requires { AreBytesBefore IsLetter word.now (length word.now) }
     ensures within { result ≤ length line.now }
-    ensures letters { AreBefore IsLetter line.now result }
+    ensures letters { AreBytesBefore IsLetter line.now result }
 {
     let most = line.len().min(word.len());
     for i in 0..most {
@@ -194,7 +195,7 @@ fn fault_in_fields(line: &[u8], word: usize, fields: &[Field]) -> LineFault
 
 /// Whether this byte is at `at`.
 fn is_byte(line: &[u8], at: usize, byte: u8) -> bool
-    ensures { (IsTrue result) ↔ IsAt byte line.now at }
+    ensures { (IsTrue result) ↔ IsByteAt byte line.now at }
 {
     at < line.len() && line[at] == byte
 }
@@ -219,7 +220,7 @@ fn range_of(field: Field) -> (u64, u64)
 /// How many bytes at the front begin a number in the range of the field.
 fn number_len(bytes: &[u8], field: Field) -> usize
     ensures within { result ≤ length bytes.now }
-    ensures digits { AreBefore IsDigit bytes.now result }
+    ensures digits { AreBytesBefore IsDigit bytes.now result }
 {
     let (least, most) = range_of(field);
     let mut value = 0u64;
@@ -242,7 +243,7 @@ fn number_len(bytes: &[u8], field: Field) -> usize
 /// What is wrong if a space and a field should follow.
 fn fault_in_gap(line: &[u8], at: usize, before: Option<Field>, field: Field) -> LineFault
     requires end { IsEndOf before line.now at }
-    requires no_space { ¬ (IsAt 32 line.now at) }
+    requires no_space { ¬ (IsByteAt 32 line.now at) }
     ensures { IsFaultOf result line.now }
 {
     if is_byte(line, at, b'\n') {
@@ -308,7 +309,7 @@ fn fault_at_end(line: &[u8], at: usize, before: Option<Field>) -> LineFault
 
 /// What is wrong after a line feed that ends a line. The line of an event, which ends there, is not diagnosed.
 fn fault_after_feed(line: &[u8], at: usize) -> LineFault
-    requires { (at ≤ length line.now) × IsBefore 10 line.now at }
+    requires { (at ≤ length line.now) × IsByteBefore 10 line.now at }
     ensures { IsFaultOf result line.now }
 {
     let reason = if at < line.len() {
@@ -323,7 +324,7 @@ fn fault_after_feed(line: &[u8], at: usize) -> LineFault
 fn fault_of_byte(line: &[u8], at: usize, before: Option<Field>) -> LineFault
     requires within { (1 ≤ at) × (at ≤ length line.now) }
     requires behind { IsBehind before line.now at }
-    requires other { ¬ (IsAt 10 line.now at) × ¬ (IsAt 32 line.now at) }
+    requires other { ¬ (IsByteAt 10 line.now at) × ¬ (IsByteAt 32 line.now at) }
     ensures { IsFaultOf result line.now }
 {
     if at == line.len() {

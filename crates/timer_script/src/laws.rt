@@ -5,8 +5,8 @@ ghost use Rattle.timer_facility.specs.Run.{bare_state};
 ghost use Rattle.timer_script.specs.Script.{IsScript, IsBadLine};
 ghost use Rattle.timer_script.specs.ScriptRun.{IsAnswer};
 ghost use Rattle.timer_script.specs.Decorator.{AddsNothing, AreDecorated};
-ghost use Rattle.timer_script.specs.Peer.{Moment};
-ghost use Rattle.timer_script.specs.Service.{Sides, IsPrompt, HasServed, server_with};
+ghost use Rattle.timer_script.specs.Peer.{PeerCall};
+ghost use Rattle.timer_script.specs.Service.{Sides, IsPrompt, HasServedPeer, server_with};
 
 use std::io::Write;
 use timer_facility::laws::players_give_the_same;
@@ -45,13 +45,14 @@ pub fn each_wheel_gives_the_same_text()
 #[tactic(auto, using(crate::proofs::ServiceLemmas::prompt))]
 pub fn served_calls_are_prompt<F: Write>()
     ensures { (on_bad : OnBadLine) (before : FacilityState) (old new : Sides F)
-        (result : Result Bool ServeFault) (calls : List Moment)
-        → old.peer.moments ≡ Some [] → new.peer.moments ≡ Some calls
-        → HasServed (server_with on_bad AddsNothing before F.contents) old new result
+        (result : Result Bool ServeFault) (calls : List PeerCall)
+        → old.peer.calls ≡ Some [] → new.peer.calls ≡ Some calls
+        → HasServedPeer (server_with on_bad AddsNothing before F.contents) old new result
         → IsPrompt on_bad AddsNothing before calls }
 {}
 
 /// With a decorator that adds nothing the text for lines is the answer to them.
+#[tactic(auto, using(crate::proofs::ServicePieces::undecorated))]
 pub fn undecorated_text_is_the_answer()
     ensures { (before after : FacilityState) (events : List Event) (answer text : List ℕ)
         → AreDecorated AddsNothing before events after answer text → text ≡ answer }

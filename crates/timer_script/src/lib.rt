@@ -8,7 +8,7 @@
 //!
 //! Most modules have their definitions in the file of that name in `specs/`, and lemmas in `proofs/`:
 //!
-//!     bytes       digits and lines (`lines`, `splitter`), scripts (`script`)
+//!     bytes       digits and lines (`lines`), scripts (`script`)
 //!     runs        `input`, `output`, `script_run`, `text`
 //!     streams     a stream cut into lines (`cutter`), `session`, `steps`, `peer`, `streams`,
 //!                 `service`, `decorator`
@@ -33,7 +33,6 @@ mod script_report;
 mod script_run;
 mod service;
 mod session;
-mod splitter;
 mod steps;
 mod streams;
 mod text;

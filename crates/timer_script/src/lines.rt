@@ -1,4 +1,4 @@
-//! One line of a script, read from the front of the bytes.
+//! One line of a script, read from the front of the bytes; and where it ends.
 //!
 //!     start CLIENT NUMBER INTERVAL ACTION   the client's request NUMBER starts a timer
 //!     stop CLIENT NUMBER SERIAL             the client's request NUMBER stops a timer
@@ -10,11 +10,12 @@
 //! Fields are separated by one space, and a line feed ends the line. A number is at most `LAST` and
 //! has no sign and no leading zero. Each reader returns what it read and the bytes after it, so no line
 //! is copied.
-ghost use Rattle.std.specs.Prelude.{◌≡◌, ◌≤◌, IsTrue, length, take, get_or};
+ghost use Rattle.std.specs.Prelude.{◌≡◌, ◌<◌, ◌≤◌, ◌-◌, ℕ, IsTrue, length, take, get_or, slice_index};
 ghost use Rattle.std.specs.Char.{digit_value};
 ghost use Rattle.std.specs.Int.{from_le_bytes, w32};
 ghost use Rattle.std.specs.Str.Parse.{AllDigits, digits_value};
 ghost use Rattle.timer_script.specs.declared.lines.TheConstants.{MOST_DIGITS};
+ghost use Rattle.timer_script.specs.Script.{HasNoFeed};
 ghost use Rattle.timer_script.specs.Lines.{read_view, has_word, number_at, field_at, start_at, stop_at, restart_at, tick_at, other_at, line_at};
 
 use timer_base::LAST;
@@ -22,6 +23,10 @@ use timer_facility::Event;
 
 /// The most ticks of one line.
 pub const MAX_TICKS: u64 = 1000000;
+
+/// The most bytes of one line, with its line feed: `restart`, five numbers of 19 digits, and a space
+/// before each.
+pub const MAX_LINE: usize = 108;
 
 /// The most digits of a number.
 const MOST_DIGITS: usize = 19;
@@ -204,4 +209,21 @@ pub fn read_line(bytes: &[u8]) -> Option<(Event, &[u8])>
         return Some((Event::Close, &bytes[6..]));
     }
     read_other(bytes)
+}
+
+/// How many bytes at the front belong to one line: all up to the first line feed.
+pub fn line_len(bytes: &[u8]) -> usize
+    requires some { 0 < length bytes.now }
+    ensures some { 0 < result }
+    ensures within { result ≤ length bytes.now }
+    ensures no_feed { HasNoFeed (take (result - 1) bytes.now) }
+    ensures whole { result < length bytes.now → slice_index bytes.now (result - 1) ≡ 10 }
+{
+    let last = bytes.len() - 1;
+    for i in 0..last {
+        if bytes[i] == b'\n' {
+            return i + 1;
+        }
+    }
+    bytes.len()
 }

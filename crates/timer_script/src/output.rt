@@ -2,8 +2,7 @@
 //! writer fails. No error is retried.
 ghost use Rattle.std.specs.Prelude.{◌≡◌, ◌<◌, length, take, Ok, IfOk, IfErr, OnOk, true, false};
 ghost use Rattle.std.specs.Io.KnownBytes.{Appends};
-ghost use Rattle.timer_script.specs.Output.{StopsWriting};
-ghost use Rattle.timer_script.specs.Watched.{inner_of, has_failed};
+ghost use Rattle.timer_script.specs.Watched.{StopsWriting, inner_of, has_failed};
 
 use crate::fault::WriteFault;
 use crate::watched::Watched;

@@ -2,15 +2,15 @@
 ghost use Rattle.std.specs.Prelude.{◌≡◌, ◌↔◌, ◌++◌, ℕ, List, [], false, IsTrue, IfOk, OnOk, IsErrOf, decimal};
 ghost use Rattle.timer_facility.specs.declared.event.Event.{Event};
 ghost use Rattle.timer_script.specs.Script.{IsScript};
-ghost use Rattle.timer_script.specs.ScriptReport.{fault_line, of_field, IsReport, HasChecked};
+ghost use Rattle.timer_script.specs.ScriptReport.{fault_line, of_field, IsScriptReport, HasChecked};
 ghost use Rattle.timer_script.specs.Watched.{has_failed};
 
 use crate::diagnosis::fault_in_line;
 use crate::fault::CheckFault;
 use crate::input::read_script;
 use crate::line_fault::{Field, LineFault};
+use crate::lines::line_len;
 use crate::output::write_text;
-use crate::splitter::line_len;
 use crate::watched::Watched;
 use itoa::Buffer;
 use std::alloc::Global;
@@ -54,7 +54,7 @@ pub fn push_fault(text: &mut Vec<u8>, n: u64, fault: LineFault) -> Result<(), Ou
 
 /// The report of a script, and how many of its lines are bad.
 pub fn report_of(alloc: Global, script: &[u8]) -> Result<(Vec<u8>, u64), OutOfMemory>
-    ensures { IfOk result (λ r. IsReport script.now r.0.items r.1) }
+    ensures { IfOk result (λ r. IsScriptReport script.now r.0.items r.1) }
 {
     let mut text = Vec::new(alloc);
     let mut lines = 0u64;
@@ -98,8 +98,8 @@ pub fn check<R: Read, S: Write>(
 
 /// Bytes with no bad line are the script of some events, and their report is empty; a script has no bad line.
 pub fn scripts_have_no_bad_line()
-    ensures script { (bytes text : List ℕ) → IsReport bytes text 0
+    ensures script { (bytes text : List ℕ) → IsScriptReport bytes text 0
         → (text ≡ []) × ((events : List Event) × IsScript events bytes) }
     ensures none { (events : List Event) (bytes text : List ℕ) (bad : ℕ) → IsScript events bytes
-        → IsReport bytes text bad → bad ≡ 0 }
+        → IsScriptReport bytes text bad → bad ≡ 0 }
 {}

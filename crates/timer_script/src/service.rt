@@ -8,7 +8,7 @@ ghost use Rattle.std.specs.Io.KnownBytes.{IsAtEnd};
 ghost use Rattle.timer_script.specs.Types.{Event, OnBadLine};
 ghost use Rattle.timer_facility.specs.State.{FacilityState, IsSound};
 ghost use Rattle.timer_script.specs.Decorator.{HasGrownByAnswer};
-ghost use Rattle.timer_script.specs.Service.{AreGood, HasSent, HasSentPart, HasAnswered, HasAnsweredPart, GrowsBy, HasSentBut, StopsTurn, Sides, HasServedSoFar, HasServed, server_with};
+ghost use Rattle.timer_script.specs.Service.{AreGood, HasSentText, HasSentPart, HasAnsweredEvents, HasAnsweredPart, GrowsBy, HasSentBut, StopsTurn, Sides, HasServedSoFar, HasServedPeer, server_with};
 
 use crate::cutter::{Cutter, OnBadLine};
 use crate::decorator::Decorator;
@@ -30,7 +30,7 @@ pub const PIECE: usize = 16384;
 /// takes no byte.
 fn send<P: Peer>(peer: &mut P, text: &[u8]) -> Result<(), TurnFault>
     requires { (P.state peer.old).write_failed ≡ false }
-    ensures ok { OnOk result (HasSent (P.state peer.old) text.now (P.state peer.new)) }
+    ensures ok { OnOk result (HasSentText (P.state peer.old) text.now (P.state peer.new)) }
     ensures fault { IfErr result (λ fault. fault ≡ TurnFault.Write) }
     ensures part { OnErr result (HasSentPart (P.state peer.old) text.now (P.state peer.new)) }
 {
@@ -78,7 +78,7 @@ fn answer_one<W: Wheel + Drop, D: Decorator<W>>(
     event: Event,
     text: &mut Vec<u8>,
 ) -> Result<(), OutOfMemory>
-    ensures whole { OnOk result (GrowsBy (HasAnswered (D.adds decorator.now) session.old.player (event ∷ []) session.new.player)
+    ensures whole { OnOk result (GrowsBy (HasAnsweredEvents (D.adds decorator.now) session.old.player (event ∷ []) session.new.player)
         text.old.items text.new.items) }
     ensures part { OnErr result ((later : List Event) → GrowsBy (HasAnsweredPart (D.adds decorator.now) session.old.player
         (event ∷ later)) text.old.items text.new.items) }
@@ -106,7 +106,7 @@ fn serve_events<P: Peer, W: Wheel + Drop, D: Decorator<W>>(
     text: &mut Vec<u8>,
 ) -> Result<(), TurnFault>
     requires { AreGood (P.state peer.old) }
-    ensures served { OnOk result (HasSentBut (HasAnswered (D.adds decorator.now) session.old.player events.now session.new.player) []
+    ensures served { OnOk result (HasSentBut (HasAnsweredEvents (D.adds decorator.now) session.old.player events.now session.new.player) []
         true (P.state peer.old) (P.state peer.new)) }
     ensures good { OnOk result (AreGood (P.state peer.new)) }
     ensures fault { IfErr result (λ fault. StopsTurn (D.adds decorator.now) fault events.now session.old.player
@@ -145,7 +145,7 @@ fn end_stream<P: Peer, W: Wheel + Drop, D: Decorator<W>, F: Write>(
     ensures { (on_bad : OnBadLine) (before : FacilityState) (start : Sides F) → IsSound before
         → HasServedSoFar (server_with on_bad (D.adds _decorator.now) before F.contents) cutter.old start
         (record { peer = P.state peer.old; faults = faults.old }) session.now.player
-        → HasServed (server_with on_bad (D.adds _decorator.now) before F.contents) start
+        → HasServedPeer (server_with on_bad (D.adds _decorator.now) before F.contents) start
         (record { peer = P.state peer.new; faults = faults.new }) result }
 {
     let Ok(bad) = cutter.end(faults) else {
@@ -189,7 +189,7 @@ pub fn serve<P: Peer, W: Wheel + Drop, D: Decorator<W>, F: Write>(
     requires good { AreGood (P.state peer.old) }
     requires pending { facility.state.pending ≡ [] }
     requires waiting { facility.waiting ≡ [] }
-    ensures { HasServed (server_with on_bad (D.adds decorator.now) facility.state F.contents)
+    ensures { HasServedPeer (server_with on_bad (D.adds decorator.now) facility.state F.contents)
         (record { peer = P.state peer.old; faults = faults.old })
         (record { peer = P.state peer.new; faults = faults.new }) result }
 {

@@ -7,8 +7,7 @@
 ghost use Rattle.std.specs.Prelude.{◌≡◌, ◌||◌, ◌&&◌, ◌==◌, ◌<◌, not, false, length, is_ok, is_err};
 ghost use Rattle.std.specs.Io.{ReadsAtMost, WritesAtMost};
 ghost use Rattle.std.specs.Io.KnownBytes.{Keeps, ReadConsumes, WriteAppends};
-ghost use Rattle.timer_script.specs.Output.{took_nothing};
-ghost use Rattle.timer_script.specs.Watched.{inner_of, has_failed};
+ghost use Rattle.timer_script.specs.Watched.{took_nothing, inner_of, has_failed};
 
 use std::io;
 use std::io::{Read, Write};

@@ -1,7 +1,7 @@
 //! A peer whose calls are known to proofs, so that the clause of `serve` on promptness says something of
 //! each of them. (Of a reader and a writer it says nothing: in which order they are called isn't known.)
 ghost use Rattle.std.specs.Prelude.{◌≡◌, ◌∷◌, ◌++◌, [], None, Some, false, true, map};
-ghost use Rattle.timer_script.specs.Peer.{moment_of};
+ghost use Rattle.timer_script.specs.Peer.{call_of};
 ghost use Rattle.timer_script.specs.Decorator.{AddsNothing};
 ghost use Rattle.timer_script.specs.Service.{IsPrompt};
 
@@ -48,7 +48,7 @@ impl<R: Abort + Drop> Peer for Known<'_, R> {
     ghost state = { λ peer. record {
       remaining = None;
       contents = None;
-      moments = Some (map moment_of (map (λ call. call.items) peer.calls.items));
+      calls = Some (map call_of (map (λ call. call.items) peer.calls.items));
       read_failed = false;
       write_failed = false;
     } };
@@ -83,7 +83,7 @@ fn serve_known<R: Abort + Drop>(
     requires pending { facility.state.pending ≡ [] }
     requires waiting { facility.waiting ≡ [] }
     ensures { IsPrompt OnBadLine.Stop AddsNothing facility.state
-        (map moment_of (map (λ call. call.items) peer.new.calls.items)) }
+        (map call_of (map (λ call. call.items) peer.new.calls.items)) }
 {
     served_calls_are_prompt::<Nowhere>();
     serve(

@@ -1,8 +1,7 @@
 use Rattle.std.proofs.Common.{subst}
 use Rattle.timer_script.specs.declared.fault.CheckFault.TheVariants as faults
 use Rattle.timer_script.specs.Explanation.{IsExplanation}
-use Rattle.timer_script.specs.Output.{StopsWriting}
-use Rattle.timer_script.specs.Watched.{inner_of, has_failed}
+use Rattle.timer_script.specs.Watched.{StopsWriting, inner_of, has_failed}
 use Rattle.timer_script.proofs.Results.{passed_on}
 use Rattle.timer_script.proofs.ExplanationLemmas.{cut_short}
 use Rattle.timer_script.proofs.explanation.explain.Goals as goal

@@ -1,6 +1,6 @@
 use Rattle.std.proofs.Common.{[], Err, ◌∙◌, ap, sym, subst, append-nil, rules}
 use Rattle.timer_script.specs.Fault.{serve_fault}
-use Rattle.timer_script.specs.Service.{HasSent, HasSentPart, HasServed}
+use Rattle.timer_script.specs.Service.{HasSentText, HasSentPart, HasServedPeer}
 use Rattle.timer_script.proofs.Results.{passed_on}
 use Rattle.timer_script.proofs.CutterLemmas.{ended_seen}
 use Rattle.timer_script.proofs.ServicePieces.{so_some}
@@ -27,7 +27,7 @@ returns-in_err-send-in-None g c = λ o before start sound h.
     let r = g.P.Peer.state c.send.new.peer in
     let ended = unstopped _ o start.faults c.end.new.faults h.came h.events c.in-Ok.bad c.in-None.is
     (c.in-Ok.ensures.ended o start.faults h.came h.events h.taken) in
-    subst (HasServed _ _ _) (sym (passed_on c.from_residual.result _ c.from_residual.ensures.1 ∙ ap (λ f. Err (serve_fault f)) c.in_err-send-in-None.ensures.fault))
+    subst (HasServedPeer _ _ _) (sym (passed_on c.from_residual.result _ c.from_residual.ensures.1 ∙ ap (λ f. Err (serve_fault f)) c.in_err-send-in-None.ensures.fault))
     (end_unsent h ended c.requires.good c.requires.ended sound
     (subst (λ t. HasSentPart (g.P.Peer.state c.args.peer.now) t r) (search rules) c.in_err-send-in-None.ensures.part))
 
@@ -37,4 +37,4 @@ returns-in_ok-send-in-None g c = λ o before start sound h.
     let ended = unstopped _ o start.faults c.end.new.faults h.came h.events c.in-Ok.bad c.in-None.is
     (c.in-Ok.ensures.ended o start.faults h.came h.events h.taken) in
     end_served h ended c.requires.good c.requires.ended sound
-    (subst (λ t. HasSent (g.P.Peer.state c.args.peer.now) t r) (search rules) c.in_ok-send-in-None.ensures.ok)
+    (subst (λ t. HasSentText (g.P.Peer.state c.args.peer.now) t r) (search rules) c.in_ok-send-in-None.ensures.ok)

@@ -1,7 +1,7 @@
 use Rattle.std.proofs.Common.{◌≡◌, ◌≤◌, ◌++◌, ◌∙◌, ◌||◌, true, [], length, take, ap, refl, sym, subst, arith, rules, length-append}
 use Rattle.std.proofs.lemmas.List.{length-take}
 use Rattle.std.specs.Io.KnownBytes.{IsAtEnd}
-use Rattle.timer_script.specs.Service.{server_with, HasAnsweredSoFar, HasServed}
+use Rattle.timer_script.specs.Service.{server_with, HasAnsweredSoFar, HasServedPeer}
 use Rattle.timer_script.proofs.Results.{passed_on}
 use Rattle.timer_script.proofs.CutterLemmas.{taken_none}
 use Rattle.timer_script.proofs.ServicePieces.{so_none, so_more}
@@ -54,7 +54,7 @@ returns-in_err-serve_events g c =
     let h = i.so in
     let read = turn_read _ _ c.deref.result.now i.room (search rules) c.deref.ensures.value h c.in-Ok-read.ensures in
     let taken = c.in-Ok-take_in.ensures.taken c.args.on_bad c.args.faults.now h.came h.events h.taken in
-    subst (HasServed _ _ _) (sym (passed_on c.from_residual.result _ c.from_residual.ensures.1))
+    subst (HasServedPeer _ _ _) (sym (passed_on c.from_residual.result _ c.from_residual.ensures.1))
     (piece_stopped h c.in_err-serve_events.field-0.0 c.take_in.new.self c.in-Ok-take_in.bad
     (record { peer = g.P.Peer.state c.serve_events.new.peer; faults = c.take_in.new.faults }) c.deref-in-loop-turned.result.now _
     c.deref-in-loop-turned.ensures.value read taken c.in_err-serve_events.ensures.fault)

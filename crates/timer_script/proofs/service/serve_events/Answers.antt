@@ -1,6 +1,6 @@
 use Rattle.std.proofs.Common.{true, [], ◌∙◌, ◌+◌, ◌++◌, ap, sym, subst, append-nil, rules}
 use Rattle.std.proofs.lemmas.List.{take_more, take_all}
-use Rattle.timer_script.specs.Service.{HasAnswered, HasSent, HasSentBut}
+use Rattle.timer_script.specs.Service.{HasAnsweredEvents, HasSentText, HasSentBut}
 use Rattle.timer_script.proofs.Results.{handed_on, true_false}
 use Rattle.timer_script.proofs.PeerLemmas.{but_none, but_sent}
 use Rattle.timer_script.proofs.ServicePieces.{answered_none, but_more, but_part, but_first, stops_unsent}
@@ -11,8 +11,8 @@ loop-event-init g c =
     let s = c.args.session.now.player in
     let A = g.D.Decorator.adds c.args.decorator.now in
     record {
-      sent = but_none (HasAnswered A s [] s) (g.P.Peer.state c.args.peer.now) c.clear.new.self.items
-          (subst (HasAnswered A s [] s) (sym c.clear.ensures.items) (answered_none A s));
+      sent = but_none (HasAnsweredEvents A s [] s) (g.P.Peer.state c.args.peer.now) c.clear.new.self.items
+          (subst (HasAnsweredEvents A s [] s) (sym c.clear.ensures.items) (answered_none A s));
       good = c.requires;
       each = λ e. c.clear.ensures.items;
     }
@@ -34,7 +34,7 @@ returns-in_default-clause-fault g c =
     let n = c.loop-event.event-index in
     let events = c.args.events.now in
     let text = c.answer_one.new.text.items in
-    let sent = subst (λ t. HasSent (g.P.Peer.state c.loop-event.peer) t (g.P.Peer.state c.send.new.peer)) c.deref.ensures.value
+    let sent = subst (λ t. HasSentText (g.P.Peer.state c.loop-event.peer) t (g.P.Peer.state c.send.new.peer)) c.deref.ensures.value
     c.in_ok-send.ensures.ok in (
       but_sent text [] _ (sym (append-nil text))
           (but_part _ text events n _ (take_more events n _ c.loop-event-test.true) i.sent (c.in_default.ensures.part _))
@@ -73,7 +73,7 @@ loop-event-preserved g c =
     let text = c.answer_one.new.text.items in
     let q = g.P.Peer.state c.loop-event.peer in
     let r = g.P.Peer.state c.send-in-loop-event.new.peer in
-    let sent = subst (λ t. HasSent q t r) c.deref-in-loop-event.ensures.value c.in_ok-send-2.ensures.ok in
+    let sent = subst (λ t. HasSentText q t r) c.deref-in-loop-event.ensures.value c.in_ok-send-2.ensures.ok in
     let all = but_more _ text events n _ (take_more events n _ c.loop-event-test.true) i.sent c.in-Ok.ensures.whole in
     record {
       sent = but_sent text _ true (sym (append-nil text) ∙ ap (λ t. text ++ t) (sym c.clear-in-loop-event.ensures.items)) all
@@ -99,7 +99,7 @@ returns-in_ok-send-3-clause-served g c =
     let r = g.P.Peer.state c.send-then-not-each_line-2.new.peer in
     let A = g.D.Decorator.adds c.args.decorator.now in
     let s = c.args.session.now.player in
-    let sent = subst (λ t. HasSent q t r) c.deref-then-not-each_line-2.ensures.value c.in_ok-send-3.ensures.ok in
-    subst (λ es. HasSentBut (HasAnswered A s es c.loop-event.session.player) [] true p r)
+    let sent = subst (λ t. HasSentText q t r) c.deref-then-not-each_line-2.ensures.value c.in_ok-send-3.ensures.ok in
+    subst (λ es. HasSentBut (HasAnsweredEvents A s es c.loop-event.session.player) [] true p r)
     (take_all c.loop-event.event-index c.args.events.now c.loop-event-test.false)
     (but_sent text [] true (sym (append-nil text)) i.sent sent.written sent.flushed)

@@ -1,7 +1,7 @@
 use Rattle.std.proofs.Common.{rules, ◌++◌, ◌-◌, ◌∙◌, take, refl}
 use Rattle.timer_script.proofs.Results.{handed_on, true_false}
 use Rattle.timer_script.proofs.CutterLines.{held_sorted, line_front, line_sorted, line_stops, long_stops}
-use Rattle.timer_script.proofs.SplitterLemmas.{no_feed-append}
+use Rattle.timer_script.proofs.FeedLemmas.{no_feed-append}
 use Rattle.timer_script.proofs.cutter.Cutter.take_line.Goals as goal
 
 pub returns-in_ok-sort_line-clause-cut : goal.returns-in_ok-sort_line-clause-cut

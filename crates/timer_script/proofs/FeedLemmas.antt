@@ -4,11 +4,9 @@ use Rattle.std.specs.List.{AllByRecursion}
 use Rattle.std.specs.Fmt.{digits, digits_onto, digit_glyph}
 use Rattle.std.proofs.lemmas.Fmt.{length-decimal-le}
 use Rattle.std.proofs.lemmas.List.{take_more}
-use Rattle.timer_script.specs.Types.{LAST, MAX_LINE, Event}
+use Rattle.timer_script.specs.Types.{LAST, MAX_LINE}
 use Rattle.timer_base.proofs.Basics.{either}
-use Rattle.timer_facility.specs.declared.event.Event.TheVariants.{Start, Stop, Restart, Ticks, Close}
-use Rattle.timer_script.specs.Script.{IsInRange, line, BeginsNoLine}
-use Rattle.timer_script.specs.Splitter.{HasNoFeed}
+use Rattle.timer_script.specs.Script.{HasNoFeed}
 use Rattle.timer_script.specs.Text.{numbers}
 
 pub no_feed-append : (xs ys : List ℕ) → HasNoFeed xs → HasNoFeed ys → HasNoFeed (xs ++ ys)
@@ -20,11 +18,11 @@ abbrev pub is_bare : List ℕ → Bool
 is_bare [] = true
 is_bare (b ∷ bytes) = not (b == 10) && is_bare bytes
 
-pub bare : (bytes : List ℕ) → is_bare bytes ≡ true → HasNoFeed bytes
-bare [] e = tt
-bare (b ∷ bytes) e = elim (either (b == 10)) [
+pub no_feed_if_bare : (bytes : List ℕ) → is_bare bytes ≡ true → HasNoFeed bytes
+no_feed_if_bare [] e = tt
+no_feed_if_bare (b ∷ bytes) e = elim (either (b == 10)) [
   | inl k ↦ (let h : false ≡ true = rw k at e in absurd cc)
-  | inr k ↦ (λ is. (let h : (10 == 10) ≡ false = rw is at k in absurd cc), bare bytes (rw k at e))
+  | inr k ↦ (λ is. (let h : (10 == 10) ≡ false = rw is at k in absurd cc), no_feed_if_bare bytes (rw k at e))
 ]
 
 -- a number has no line feed
@@ -67,7 +65,7 @@ pub record IsFed (bytes : List ℕ) : Type 0 where
   pub short : length front < MAX_LINE
 
 -- numbers up to the end of a line
-abbrev ended : List ℕ → List ℕ
+abbrev pub ended : List ℕ → List ℕ
 ended [] = 10 ∷ []
 ended (n ∷ ns) = 32 ∷ (decimal n ++ ended ns)
 
@@ -77,7 +75,7 @@ ended_is (n ∷ ns) =
     ap (λ t. 32 ∷ (decimal n ++ t)) (ended_is ns) ∙ ap (λ t. 32 ∷ t) (sym (append_assoc (decimal n) (numbers ns) (10 ∷ [])))
 
 -- a word and numbers
-fed : (word ns bytes : List ℕ) → HasNoFeed word → length word + 20 * length ns < MAX_LINE
+pub fed : (word ns bytes : List ℕ) → HasNoFeed word → length word + 20 * length ns < MAX_LINE
     → AllByRecursion (λ n. n ≤ LAST) ns → bytes ≡ word ++ ended ns → IsFed bytes
 fed word ns bytes free small fit is = record {
   front = word ++ numbers ns;
@@ -85,20 +83,6 @@ fed word ns bytes free small fit is = record {
   no_feed = no_feed-append word (numbers ns) free (numbers_bare ns);
   short = omega (arith, small, length-append word (numbers ns), numbers_short ns fit);
 }
-
-pub line_fed : (event : Event) → IsInRange event → IsFed (line event)
-unfolding line
-line_fed (Start c n i a) fits =
-    fed (codes "start") (c ∷ n ∷ i ∷ a ∷ []) (line (Start c n i a)) (search rules) (lit≤ tt)
-    (fits.0, (fits.1, (fits.2, (fits.3, tt)))) (simp append_assoc refl)
-line_fed (Stop c n s) fits =
-    fed (codes "stop") (c ∷ n ∷ s ∷ []) (line (Stop c n s)) (search rules) (lit≤ tt) (fits.0, (fits.1, (fits.2, tt))) (simp append_assoc refl)
-line_fed (Restart c n s i a) fits =
-    fed (codes "restart") (c ∷ n ∷ s ∷ i ∷ a ∷ []) (line (Restart c n s i a)) (search rules) (lit≤ tt)
-    (fits.0, (fits.1, (fits.2, (fits.3, (fits.4, tt))))) (simp append_assoc refl)
-line_fed (Ticks k) fits =
-    fed (codes "tick") (k ∷ []) (line (Ticks k)) (search rules) (lit≤ tt) (omega (arith, fits.1), tt) (simp append_assoc refl)
-line_fed Close fits = fed (codes "close") [] (line Close) (search rules) (lit≤ tt) tt refl
 
 -- bytes split at their first line feed in one way
 pub first_feed : (xs ys more other : List ℕ) → HasNoFeed xs → HasNoFeed ys → xs ++ 10 ∷ more ≡ ys ++ 10 ∷ other → (xs ≡ ys) × (more ≡ other)
@@ -118,18 +102,6 @@ no_feed_long (x ∷ xs) (y ∷ ys) more other a e = let h = no_feed_long xs ys m
 
 pub at_feed : (xs more : List ℕ) → (xs ++ 10 ∷ []) ++ more ≡ xs ++ 10 ∷ more
 at_feed xs more = append_assoc xs (10 ∷ []) more
-
--- bytes with no line feed begin no line, if they are all, or too many for a line
-pub bare_no_line : (xs more : List ℕ) → HasNoFeed xs → (more ≡ []) ⊎ (MAX_LINE ≤ length xs) → BeginsNoLine (xs ++ more)
-bare_no_line xs more none why event rest fits e =
-    let f : IsFed (line event) = line_fed event fits in
-    let whole : xs ++ more ≡ f.front ++ 10 ∷ rest = e ∙ ap (λ t. t ++ rest) f.is ∙ at_feed f.front rest in
-    let long = no_feed_long xs f.front more rest none whole in
-    let short = f.short in
-    elim why [
-      | inl all ↦ absurd (omega (arith, ap length whole, ap length all, length-append xs more, length-append f.front (10 ∷ rest)))
-      | inr many ↦ absurd (omega arith)
-    ]
 
 -- one more byte
 last_byte : (bytes : List ℕ) (n : ℕ) → 0 < n → n ≤ length bytes → take n bytes ≡ take (n - 1) bytes ++ get_or bytes (n - 1) 0 ∷ []
