@@ -47911,8 +47911,8 @@ static NOINLINE void tp_edits_mirror(byte *p1, byte *p2, uint64_t n3)
 	}
 }
 
-/* timer_base::sort::sort_timers: crates/timer_base/src/sort.rt */
-static void tp_sort_sort_timers(byte *p1)
+/* timer_base::order::sort_timers: crates/timer_base/src/order.rt */
+static void tp_order_sort_timers(byte *p1)
 {
 	uint8_t n7;
 	uint64_t n10;
@@ -49672,7 +49672,7 @@ L6:
 				n152 = n156;
 				n153 = n153 + 1;
 			}
-			tp_sort_sort_timers(p1 + 1112);
+			tp_order_sort_timers(p1 + 1112);
 			uint64_t n157 = load64(p1);
 			uint64_t n158 = load64(p1 + 24);
 			byte *p159 = loadptr(p1 + 16);
@@ -54668,7 +54668,7 @@ L42:
 							n419 = n423;
 							n420 = n420 + 1;
 						}
-						tp_sort_sort_timers(p10);
+						tp_order_sort_timers(p10);
 						p424 = loadptr(p10);
 						n425 = load64(p10 + 8);
 						b426 = load64(p10 + 16) == 0;
@@ -55194,7 +55194,8 @@ static bool tp_timer_facility_facility_Facility_makes_timer(byte *p1, uint64_t n
 		return false;
 	switch (MOSTLY_0(n5)) {
 	case 0: {
-		uint64_t n17;
+		uint8_t n14;
+		uint64_t n15, n19;
 		if (n6 == 0)
 			return false;
 		if ((load64(p1) - load64(p1 + 8)) < n6)
@@ -55202,88 +55203,105 @@ static bool tp_timer_facility_facility_Facility_makes_timer(byte *p1, uint64_t n
 		if (load64(p1 + 144) > UINT64_C(1152921504606846975))
 			return false;
 		uint64_t n10 = load64(p1 + 56);
-		byte *p11 = loadptr(p1 + 72);
-		uint64_t n12 = load64(p1 + 96);
-		uint64_t n13 = (uint64_t)load32(at(p11, load64(p1 + 24) << 3) + 4);
-		uint64_t n14 = usub_sat64(n13, n12);
-		uint64_t n15 = 0;
-		uint64_t n16 = n13;
-		for (;;) {
-			if (n15 == n10) {
-				n17 = n10;
-				break;
-			}
-			if (n12 > n16) {
-				n17 = n15;
-				break;
-			}
-			uint64_t n18 = (uint64_t)load32(at(p11, (n12 + n14) << 3) + 4);
-			n14 = usub_sat64(n18, n12);
-			n15 = n15 + 1;
-			n16 = n18;
+		uint64_t n11 = load64(p1 + 24);
+		byte *p12 = loadptr(p1 + 72);
+		uint64_t n13 = (uint64_t)load32(at(p12, n11 << 3) + 4);
+		if (n11 == n13) {
+			n14 = 0;
+			n15 = 0;
+		} else {
+			n14 = 1;
+			n15 = n13 - load64(p1 + 96);
 		}
-		return (n10 - n17) != load64(p1 + 136);
+		uint64_t n16 = n15;
+		uint64_t n17 = 0;
+		uint8_t n18 = n14;
+		for (;;) {
+			if (n17 == n10) {
+				n19 = n10;
+				break;
+			}
+			if (n18 != 1) {
+				n19 = n17;
+				break;
+			}
+			uint64_t n20 = load64(p1 + 96);
+			uint64_t n21 = (uint64_t)load32(at(p12, (n20 + n16) << 3) + 4);
+			n16 = usub_sat64(n21, n20);
+			n17 = n17 + 1;
+			n18 = (uint8_t)(n20 <= n21);
+		}
+		return (n10 - n19) != load64(p1 + 136);
 	}
 	case 1: {
-		uint64_t n27;
-		uint64_t n19 = load64(p1 + 8);
-		if ((load64(p1) - n19) < umax64(usub_sat64(n6, n19), 1))
+		uint8_t n27;
+		uint64_t n28, n32;
+		uint64_t n22 = load64(p1 + 8);
+		if ((load64(p1) - n22) < umax64(usub_sat64(n6, n22), 1))
 			return false;
 		if (load64(p1 + 144) > UINT64_C(1152921504606846975))
 			return false;
-		uint64_t n20 = load64(p1 + 56);
-		byte *p21 = loadptr(p1 + 72);
-		uint64_t n22 = load64(p1 + 96);
-		uint64_t n23 = (uint64_t)load32(at(p21, load64(p1 + 24) << 3) + 4);
-		uint64_t n24 = usub_sat64(n23, n22);
-		uint64_t n25 = 0;
-		uint64_t n26 = n23;
-		for (;;) {
-			if (n25 == n20) {
-				n27 = n20;
-				break;
-			}
-			if (n22 > n26) {
-				n27 = n25;
-				break;
-			}
-			uint64_t n28 = (uint64_t)load32(at(p21, (n22 + n24) << 3) + 4);
-			n24 = usub_sat64(n28, n22);
-			n25 = n25 + 1;
-			n26 = n28;
+		uint64_t n23 = load64(p1 + 56);
+		uint64_t n24 = load64(p1 + 24);
+		byte *p25 = loadptr(p1 + 72);
+		uint64_t n26 = (uint64_t)load32(at(p25, n24 << 3) + 4);
+		if (n24 == n26) {
+			n27 = 0;
+			n28 = 0;
+		} else {
+			n27 = 1;
+			n28 = n26 - load64(p1 + 96);
 		}
-		return (n20 - n27) != load64(p1 + 136);
+		uint64_t n29 = n28;
+		uint64_t n30 = 0;
+		uint8_t n31 = n27;
+		for (;;) {
+			if (n30 == n23) {
+				n32 = n23;
+				break;
+			}
+			if (n31 != 1) {
+				n32 = n30;
+				break;
+			}
+			uint64_t n33 = load64(p1 + 96);
+			uint64_t n34 = (uint64_t)load32(at(p25, (n33 + n29) << 3) + 4);
+			n29 = usub_sat64(n34, n33);
+			n30 = n30 + 1;
+			n31 = (uint8_t)(n33 <= n34);
+		}
+		return (n23 - n32) != load64(p1 + 136);
 	}
 	case 2: {
 		return false;
 	}
 	case 3: {
-		byte *p29 = at(loadptr(p1 + 32), n6 * 56);
+		byte *p35 = at(loadptr(p1 + 32), n6 * 56);
 		if (n6 >= load64(p1 + 40))
 			return false;
-		if (load8(p29) != 1)
+		if (load8(p35) != 1)
 			return false;
-		if (load64u(p29 + 8) != n7)
+		if (load64u(p35 + 8) != n7)
 			return false;
-		if ((int)(load64u(p29 + 16) != n2) | (int)(n8 == 0))
+		if ((int)(load64u(p35 + 16) != n2) | (int)(n8 == 0))
 			return false;
 		if ((load64(p1) - load64(p1 + 8)) < n8)
 			return false;
 		return load64(p1 + 144) < UINT64_C(1152921504606846976);
 	}
 	case 4: {
-		uint64_t n30 = load64(p1 + 8);
-		uint64_t n31 = umax64(usub_sat64(n8, n30), 1);
-		byte *p32 = at(loadptr(p1 + 32), n6 * 56);
+		uint64_t n36 = load64(p1 + 8);
+		uint64_t n37 = umax64(usub_sat64(n8, n36), 1);
+		byte *p38 = at(loadptr(p1 + 32), n6 * 56);
 		if (n6 >= load64(p1 + 40))
 			return false;
-		if (load8(p32) != 1)
+		if (load8(p38) != 1)
 			return false;
-		if (load64u(p32 + 8) != n7)
+		if (load64u(p38 + 8) != n7)
 			return false;
-		if (load64u(p32 + 16) != n2)
+		if (load64u(p38 + 16) != n2)
 			return false;
-		if ((load64(p1) - n30) < n31)
+		if ((load64(p1) - n36) < n37)
 			return false;
 		return load64(p1 + 144) < UINT64_C(1152921504606846976);
 	}
@@ -55714,7 +55732,7 @@ static NOINLINE uint8_t tp_timer_script_script_run_answer_start_2(byte *p1, uint
 	ALIGN(8) byte p13[16];
 	uint64_t n16;
 	byte *p17;
-	uint8_t n96, n97;
+	uint8_t n102, n103;
 	store64(p9, 0);
 	store64u(p9 + 8, n4);
 	store64u(p9 + 16, n5);
@@ -55748,8 +55766,8 @@ static NOINLINE uint8_t tp_timer_script_script_run_answer_start_2(byte *p1, uint
 			p17 = (byte *)tp_static_238;
 		} else {
 			if (n20 >= n3) {
-				uint8_t n21, n40, n41;
-				uint64_t n39, n42;
+				uint8_t n21, n43, n44;
+				uint64_t n42, n45;
 				memset(p8, 0, 24);
 				if (n4 == 0) {
 					n21 = 0;
@@ -55762,53 +55780,62 @@ static NOINLINE uint8_t tp_timer_script_script_run_answer_start_2(byte *p1, uint
 						if (n23 > UINT64_C(1152921504606846975)) {
 							n21 = 2;
 						} else {
-							uint64_t n31;
+							uint8_t n28;
+							uint64_t n29, n33;
 							uint64_t n24 = load64(p1 + 56);
-							byte *p25 = loadptr(p1 + 72);
-							uint64_t n26 = load64(p1 + 96);
-							uint64_t n27 = (uint64_t)load32(at(p25, load64(p1 + 24) << 3) + 4);
-							uint64_t n28 = usub_sat64(n27, n26);
-							uint64_t n29 = 0;
-							uint64_t n30 = n27;
-							for (;;) {
-								if (n29 == n24) {
-									n31 = n24;
-									break;
-								}
-								if (n26 > n30) {
-									n31 = n29;
-									break;
-								}
-								uint64_t n32 = (uint64_t)load32(at(p25, (n26 + n28) << 3) + 4);
-								n28 = usub_sat64(n32, n26);
-								n29 = n29 + 1;
-								n30 = n32;
+							uint64_t n25 = load64(p1 + 24);
+							byte *p26 = loadptr(p1 + 72);
+							uint64_t n27 = (uint64_t)load32(at(p26, n25 << 3) + 4);
+							if (n25 == n27) {
+								n28 = 0;
+								n29 = 0;
+							} else {
+								n28 = 1;
+								n29 = n27 - load64(p1 + 96);
 							}
-							if ((n24 - n31) != load64(p1 + 136)) {
-								uint64_t n33 = n22 + n4;
+							uint64_t n30 = n29;
+							uint64_t n31 = 0;
+							uint8_t n32 = n28;
+							for (;;) {
+								if (n31 == n24) {
+									n33 = n24;
+									break;
+								}
+								if (n32 != 1) {
+									n33 = n31;
+									break;
+								}
+								uint64_t n34 = load64(p1 + 96);
+								uint64_t n35 = (uint64_t)load32(at(p26, (n34 + n30) << 3) + 4);
+								n30 = usub_sat64(n35, n34);
+								n31 = n31 + 1;
+								n32 = (uint8_t)(n34 <= n35);
+							}
+							if ((n24 - n33) != load64(p1 + 136)) {
+								uint64_t n36 = n22 + n4;
 								store64u(p7, n23);
 								store64u(p7 + 8, n2);
 								store64u(p7 + 16, n3);
-								store64u(p7 + 24, n33);
+								store64u(p7 + 24, n36);
 								store64u(p7 + 32, n5);
 								tp_HashedWheelWheel_start(p8, p1, p7);
 								if (load8(p8) != 0)
 									return 1;
-								uint64_t n34 = load64u(p8 + 16);
-								uint64_t n35 = load64u(p8 + 8);
+								uint64_t n37 = load64u(p8 + 16);
+								uint64_t n38 = load64u(p8 + 8);
 								store64(p1 + 144, load64(p1 + 144) + 1);
-								byte *p36 = inside(p1 + 664, n18);
-								store64(p36, load64(p36) + 1);
+								byte *p39 = inside(p1 + 664, n18);
+								store64(p39, load64(p39) + 1);
 								store64(p19, n3 + 1);
-								uint64_t n37 = load64(p1 + 1224);
-								byte *p38 = inside(loadptr(p1 + 1216), n37 << 4);
-								store64u(p38, n35);
-								store64u(p38 + 8, n34);
-								store64(p1 + 1224, n37 + 1);
-								n39 = n34;
-								n40 = 0;
-								n41 = 0;
-								n42 = n33;
+								uint64_t n40 = load64(p1 + 1224);
+								byte *p41 = inside(loadptr(p1 + 1216), n40 << 4);
+								store64u(p41, n38);
+								store64u(p41 + 8, n37);
+								store64(p1 + 1224, n40 + 1);
+								n42 = n37;
+								n43 = 0;
+								n44 = 0;
+								n45 = n36;
 								goto L1;
 							}
 							n21 = 3;
@@ -55816,196 +55843,204 @@ static NOINLINE uint8_t tp_timer_script_script_run_answer_start_2(byte *p1, uint
 					}
 				}
 				store64(p19, n3 + 1);
-				n39 = 0;
-				n40 = 3;
-				n41 = n21;
 				n42 = 0;
+				n43 = 3;
+				n44 = n21;
+				n45 = 0;
 L1:
 				{
-					uint64_t n50;
-					uint8_t n92;
-					uint64_t n43 = load64(p1 + 56);
-					byte *p44 = loadptr(p1 + 72);
-					uint64_t n45 = load64(p1 + 96);
-					uint64_t n46 = (uint64_t)load32(at(p44, load64(p1 + 24) << 3) + 4);
-					uint64_t n47 = usub_sat64(n46, n45);
-					uint64_t n48 = 0;
-					uint64_t n49 = n46;
-					for (;;) {
-						if (n48 == n43) {
-							n50 = n43;
-							break;
-						}
-						if (n45 > n49) {
-							n50 = n48;
-							break;
-						}
-						uint64_t n51 = (uint64_t)load32(at(p44, (n45 + n47) << 3) + 4);
-						n47 = usub_sat64(n51, n45);
-						n48 = n48 + 1;
-						n49 = n51;
+					uint8_t n50, n98;
+					uint64_t n51, n55;
+					uint64_t n46 = load64(p1 + 56);
+					uint64_t n47 = load64(p1 + 24);
+					byte *p48 = loadptr(p1 + 72);
+					uint64_t n49 = (uint64_t)load32(at(p48, n47 << 3) + 4);
+					if (n47 == n49) {
+						n50 = 0;
+						n51 = 0;
+					} else {
+						n50 = 1;
+						n51 = n49 - load64(p1 + 96);
 					}
-					if ((((n43 - n50) << 1) + 64) < load64(p1 + 1224))
+					uint64_t n52 = n51;
+					uint64_t n53 = 0;
+					uint8_t n54 = n50;
+					for (;;) {
+						if (n53 == n46) {
+							n55 = n46;
+							break;
+						}
+						if (n54 != 1) {
+							n55 = n53;
+							break;
+						}
+						uint64_t n56 = load64(p1 + 96);
+						uint64_t n57 = (uint64_t)load32(at(p48, (n56 + n52) << 3) + 4);
+						n52 = usub_sat64(n57, n56);
+						n53 = n53 + 1;
+						n54 = (uint8_t)(n56 <= n57);
+					}
+					if ((((n46 - n55) << 1) + 64) < load64(p1 + 1224))
 						tp_timer_facility_handles_sweep(p1 + 1216, p1);
 					memset(p13, 0, 16);
 					memset(p12, 0, 16);
-					if (n40 == 0) {
-						uint64_t n81;
+					if (n43 == 0) {
+						uint64_t n87;
 						store64(p11, n2);
 						store64(p11 + 8, n3);
-						store64(p11 + 16, n39);
-						store64(p11 + 24, n42);
+						store64(p11 + 16, n42);
+						store64(p11 + 24, n45);
 						memset(p10, 0, 117);
 						store8(p10 + 117, 10);
-						uint64_t n52 = 117;
-						uint64_t n53 = 4;
-						while (n53 != 0) {
-							uint64_t n65;
-							uint64_t n54 = n53 - 1;
-							uint64_t n55 = load64(inside(p11, n54 << 3));
-							uint64_t n56 = n52;
-							while (n55 > 9999) {
-								uint16_t n57 = (uint16_t)(n55 % 10000);
-								byte *p58 = inside((byte *)tp_static_242, (uint64_t)(uint16_t)((uint32_t)(uint16_t)(n57 % 100) << 1));
-								byte *p59 = at(p10, n56);
-								uint8_t n60 = load8(p58 + 1);
-								store8(at(p59, UINT64_C(18446744073709551614)), load8(p58));
-								store8(at(p59, UINT64_MAX), n60);
-								uint64_t n61 = n56 - 4;
-								byte *p62 = inside((byte *)tp_static_242, (uint64_t)(uint16_t)((uint32_t)(uint16_t)(n57 / 100) << 1));
-								uint8_t n63 = load8(p62 + 1);
-								store8(inside(p10, n61), load8(p62));
-								store8(at(p59, UINT64_C(18446744073709551613)), n63);
-								n55 = n55 / 10000;
-								n56 = n61;
+						uint64_t n58 = 117;
+						uint64_t n59 = 4;
+						while (n59 != 0) {
+							uint64_t n71;
+							uint64_t n60 = n59 - 1;
+							uint64_t n61 = load64(inside(p11, n60 << 3));
+							uint64_t n62 = n58;
+							while (n61 > 9999) {
+								uint16_t n63 = (uint16_t)(n61 % 10000);
+								byte *p64 = inside((byte *)tp_static_242, (uint64_t)(uint16_t)((uint32_t)(uint16_t)(n63 % 100) << 1));
+								byte *p65 = at(p10, n62);
+								uint8_t n66 = load8(p64 + 1);
+								store8(at(p65, UINT64_C(18446744073709551614)), load8(p64));
+								store8(at(p65, UINT64_MAX), n66);
+								uint64_t n67 = n62 - 4;
+								byte *p68 = inside((byte *)tp_static_242, (uint64_t)(uint16_t)((uint32_t)(uint16_t)(n63 / 100) << 1));
+								uint8_t n69 = load8(p68 + 1);
+								store8(inside(p10, n67), load8(p68));
+								store8(at(p65, UINT64_C(18446744073709551613)), n69);
+								n61 = n61 / 10000;
+								n62 = n67;
 							}
-							if (n55 < 100) {
-								if (n55 < 10) {
-									uint64_t n64 = n56 - 1;
-									store8(inside(p10, n64), (uint8_t)((uint8_t)n55 | 48));
-									n65 = n64;
+							if (n61 < 100) {
+								if (n61 < 10) {
+									uint64_t n70 = n62 - 1;
+									store8(inside(p10, n70), (uint8_t)((uint8_t)n61 | 48));
+									n71 = n70;
 								} else {
-									uint64_t n66 = n56 - 2;
-									byte *p67 = inside((byte *)tp_static_242, n55 << 1);
-									uint8_t n68 = load8(p67 + 1);
-									store8(inside(p10, n66), load8(p67));
-									store8(at(at(p10, n56), UINT64_MAX), n68);
-									n65 = n66;
+									uint64_t n72 = n62 - 2;
+									byte *p73 = inside((byte *)tp_static_242, n61 << 1);
+									uint8_t n74 = load8(p73 + 1);
+									store8(inside(p10, n72), load8(p73));
+									store8(at(at(p10, n62), UINT64_MAX), n74);
+									n71 = n72;
 								}
 							} else {
-								uint16_t n69 = (uint16_t)n55;
-								byte *p70 = inside((byte *)tp_static_242, (uint64_t)(uint16_t)((uint32_t)(uint16_t)(n69 % 100) << 1));
-								byte *p71 = at(p10, n56);
-								uint8_t n72 = load8(p70 + 1);
-								store8(at(p71, UINT64_C(18446744073709551614)), load8(p70));
-								store8(at(p71, UINT64_MAX), n72);
-								uint16_t n73 = (uint16_t)(n69 / 100);
-								if (n55 < 1000) {
-									uint64_t n74 = n56 - 3;
-									store8(inside(p10, n74), (uint8_t)((uint8_t)n73 | 48));
-									n65 = n74;
+								uint16_t n75 = (uint16_t)n61;
+								byte *p76 = inside((byte *)tp_static_242, (uint64_t)(uint16_t)((uint32_t)(uint16_t)(n75 % 100) << 1));
+								byte *p77 = at(p10, n62);
+								uint8_t n78 = load8(p76 + 1);
+								store8(at(p77, UINT64_C(18446744073709551614)), load8(p76));
+								store8(at(p77, UINT64_MAX), n78);
+								uint16_t n79 = (uint16_t)(n75 / 100);
+								if (n61 < 1000) {
+									uint64_t n80 = n62 - 3;
+									store8(inside(p10, n80), (uint8_t)((uint8_t)n79 | 48));
+									n71 = n80;
 								} else {
-									uint64_t n75 = n56 - 4;
-									byte *p76 = inside((byte *)tp_static_242, (uint64_t)(uint16_t)((uint32_t)n73 << 1));
-									uint8_t n77 = load8(p76 + 1);
-									store8(inside(p10, n75), load8(p76));
-									store8(at(p71, UINT64_C(18446744073709551613)), n77);
-									n65 = n75;
+									uint64_t n81 = n62 - 4;
+									byte *p82 = inside((byte *)tp_static_242, (uint64_t)(uint16_t)((uint32_t)n79 << 1));
+									uint8_t n83 = load8(p82 + 1);
+									store8(inside(p10, n81), load8(p82));
+									store8(at(p77, UINT64_C(18446744073709551613)), n83);
+									n71 = n81;
 								}
 							}
-							uint64_t n78 = n65 - 1;
-							store8(inside(p10, n78), 32);
-							n52 = n78;
-							n53 = n54;
+							uint64_t n84 = n71 - 1;
+							store8(inside(p10, n84), 32);
+							n58 = n84;
+							n59 = n60;
 						}
-						byte *p79 = at(at(p10, n52), UINT64_C(18446744073709551609));
-						uint64_t n80 = (uint64_t)(uintptr_t)p79;
-						if ((n80 - (uint64_t)(uintptr_t)(byte *)tp_static_228) >= 7) {
-							memcpy(p79, (byte *)tp_static_228, 7);
+						byte *p85 = at(at(p10, n58), UINT64_C(18446744073709551609));
+						uint64_t n86 = (uint64_t)(uintptr_t)p85;
+						if ((n86 - (uint64_t)(uintptr_t)(byte *)tp_static_228) >= 7) {
+							memcpy(p85, (byte *)tp_static_228, 7);
 							goto L2;
 						}
-						n81 = 0;
-						while (n81 != 7) {
-							store8(inside(p79, n81), load8(inside((byte *)tp_static_228, n81)));
-							n81 = n81 + 1;
+						n87 = 0;
+						while (n87 != 7) {
+							store8(inside(p85, n87), load8(inside((byte *)tp_static_228, n87)));
+							n87 = n87 + 1;
 						}
 L2:
 						{
-							uint64_t n86, n87, n91;
-							uint8_t n88;
-							byte *p89, *p90;
-							uint64_t n82 = 125 - n52;
-							uint64_t n83 = load64(p6 + 16);
-							uint64_t n84 = load64(p6 + 8);
-							if (n82 > (n83 - n84)) {
-								bool b85 = tp_std_alloc_vec_Vec_grow_amortized_11(p6, n82);
-								if (!b85) {
-									n88 = 1;
+							uint64_t n92, n93, n97;
+							uint8_t n94;
+							byte *p95, *p96;
+							uint64_t n88 = 125 - n58;
+							uint64_t n89 = load64(p6 + 16);
+							uint64_t n90 = load64(p6 + 8);
+							if (n88 > (n89 - n90)) {
+								bool b91 = tp_std_alloc_vec_Vec_grow_amortized_11(p6, n88);
+								if (!b91) {
+									n94 = 1;
 									goto L3;
 								}
-								n86 = load64(p6 + 16);
-								n87 = load64(p6 + 8);
+								n92 = load64(p6 + 16);
+								n93 = load64(p6 + 8);
 							} else {
-								n86 = n83;
-								n87 = n84;
+								n92 = n89;
+								n93 = n90;
 							}
-							p89 = loadptr(p6);
-							p90 = at(p89, n87);
-							if (((uint64_t)(uintptr_t)p90 - n80) >= n82) {
-								memcpy(p90, p79, (size_t)n82);
+							p95 = loadptr(p6);
+							p96 = at(p95, n93);
+							if (((uint64_t)(uintptr_t)p96 - n86) >= n88) {
+								memcpy(p96, p85, (size_t)n88);
 								goto L4;
 							}
-							n91 = 0;
-							while (n91 != n82) {
-								store8(inside(p90, n91), load8(inside(p79, n91)));
-								n91 = n91 + 1;
+							n97 = 0;
+							while (n97 != n88) {
+								store8(inside(p96, n97), load8(inside(p85, n97)));
+								n97 = n97 + 1;
 							}
 L4:
 							{
-								storeptr(p6, p89);
-								store64(p6 + 8, n87 + n82);
-								store64(p6 + 16, n86);
-								n88 = 0;
+								storeptr(p6, p95);
+								store64(p6 + 8, n93 + n88);
+								store64(p6 + 16, n92);
+								n94 = 0;
 							}
 L3:
 							{
-								n92 = n88;
+								n98 = n94;
 							}
 						}
 					} else {
-						uint64_t n93;
-						byte *p94;
+						uint64_t n99;
+						byte *p100;
 						store64(p12, n2);
 						store64(p12 + 8, n3);
-						switch (MOSTLY_0(n41)) {
+						switch (MOSTLY_0(n44)) {
 						case 0: {
-							n93 = 13;
-							p94 = (byte *)tp_static_231;
+							n99 = 13;
+							p100 = (byte *)tp_static_231;
 							break;
 						}
 						case 1: {
-							n93 = 8;
-							p94 = (byte *)tp_static_232;
+							n99 = 8;
+							p100 = (byte *)tp_static_232;
 							break;
 						}
 						case 2: {
-							n93 = 13;
-							p94 = (byte *)tp_static_233;
+							n99 = 13;
+							p100 = (byte *)tp_static_233;
 							break;
 						}
 						case 3: {
-							n93 = 4;
-							p94 = (byte *)tp_static_234;
+							n99 = 4;
+							p100 = (byte *)tp_static_234;
 							break;
 						}
 						default: {
 							UNREACHABLE();
 						}
 						}
-						uint8_t n95 = tp_text_push_refused(p6, (byte *)tp_static_221, 7, p12, 2, p94, n93);
-						n92 = n95;
+						uint8_t n101 = tp_text_push_refused(p6, (byte *)tp_static_221, 7, p12, 2, p100, n99);
+						n98 = n101;
 					}
-					n96 = n92;
+					n102 = n98;
 					goto L5;
 				}
 			}
@@ -56020,11 +56055,11 @@ L3:
 		n16 = 9;
 		p17 = (byte *)tp_static_236;
 	}
-	n97 = tp_text_push_refused(p6, (byte *)tp_static_221, 7, p13, 2, p17, n16);
-	n96 = n97;
+	n103 = tp_text_push_refused(p6, (byte *)tp_static_221, 7, p13, 2, p17, n16);
+	n102 = n103;
 L5:
 	{
-		return n96;
+		return n102;
 	}
 }
 
@@ -56120,8 +56155,8 @@ L2:
 				p24 = (byte *)tp_static_238;
 			} else {
 				if (n27 >= n3) {
-					uint64_t n35, n36, n44;
-					uint8_t n49;
+					uint64_t n35, n36, n42, n46;
+					uint8_t n41, n52;
 					byte *p28 = at(loadptr(p1 + 32), n14 * 56);
 					if (n14 < load64(p1 + 40)) {
 						if (load8(p28) == 1) {
@@ -56161,168 +56196,176 @@ L2:
 					}
 					store64(p26, n3 + 1);
 					uint64_t n37 = load64(p1 + 56);
-					byte *p38 = loadptr(p1 + 72);
-					uint64_t n39 = load64(p1 + 96);
-					uint64_t n40 = (uint64_t)load32(at(p38, load64(p1 + 24) << 3) + 4);
-					uint64_t n41 = usub_sat64(n40, n39);
-					uint64_t n42 = 0;
-					uint64_t n43 = n40;
-					for (;;) {
-						if (n42 == n37) {
-							n44 = n37;
-							break;
-						}
-						if (n39 > n43) {
-							n44 = n42;
-							break;
-						}
-						uint64_t n45 = (uint64_t)load32(at(p38, (n39 + n41) << 3) + 4);
-						n41 = usub_sat64(n45, n39);
-						n42 = n42 + 1;
-						n43 = n45;
+					uint64_t n38 = load64(p1 + 24);
+					byte *p39 = loadptr(p1 + 72);
+					uint64_t n40 = (uint64_t)load32(at(p39, n38 << 3) + 4);
+					if (n38 == n40) {
+						n41 = 0;
+						n42 = 0;
+					} else {
+						n41 = 1;
+						n42 = n40 - load64(p1 + 96);
 					}
-					if ((((n37 - n44) << 1) + 64) < load64(p1 + 1224))
+					uint64_t n43 = n42;
+					uint64_t n44 = 0;
+					uint8_t n45 = n41;
+					for (;;) {
+						if (n44 == n37) {
+							n46 = n37;
+							break;
+						}
+						if (n45 != 1) {
+							n46 = n44;
+							break;
+						}
+						uint64_t n47 = load64(p1 + 96);
+						uint64_t n48 = (uint64_t)load32(at(p39, (n47 + n43) << 3) + 4);
+						n43 = usub_sat64(n48, n47);
+						n44 = n44 + 1;
+						n45 = (uint8_t)(n47 <= n48);
+					}
+					if ((((n37 - n46) << 1) + 64) < load64(p1 + 1224))
 						tp_timer_facility_handles_sweep(p1 + 1216, p1);
 					memset(p9, 0, 16);
 					memset(p8, 0, 16);
 					if ((uint8_t)n36 == 3) {
-						uint64_t n46;
-						byte *p47;
+						uint64_t n49;
+						byte *p50;
 						store64(p8, n2);
 						store64(p8 + 8, n3);
 						if ((uint8_t)(n36 >> 8) == 0) {
-							n46 = 13;
-							p47 = (byte *)tp_static_231;
+							n49 = 13;
+							p50 = (byte *)tp_static_231;
 						} else {
-							n46 = 7;
-							p47 = (byte *)tp_static_235;
+							n49 = 7;
+							p50 = (byte *)tp_static_235;
 						}
-						uint8_t n48 = tp_text_push_refused(p5, (byte *)tp_static_221, 7, p8, 2, p47, n46);
-						n49 = n48;
+						uint8_t n51 = tp_text_push_refused(p5, (byte *)tp_static_221, 7, p8, 2, p50, n49);
+						n52 = n51;
 					} else {
-						uint64_t n79;
+						uint64_t n82;
 						store64(p7, n2);
 						store64(p7 + 8, n3);
 						store64(p7 + 16, n35);
 						memset(p6, 0, 117);
 						store8(p6 + 117, 10);
-						uint64_t n50 = 117;
-						uint64_t n51 = 3;
-						while (n51 != 0) {
-							uint64_t n63;
-							uint64_t n52 = n51 - 1;
-							uint64_t n53 = load64(inside(p7, n52 << 3));
-							uint64_t n54 = n50;
-							while (n53 > 9999) {
-								uint16_t n55 = (uint16_t)(n53 % 10000);
-								byte *p56 = inside((byte *)tp_static_242, (uint64_t)(uint16_t)((uint32_t)(uint16_t)(n55 % 100) << 1));
-								byte *p57 = at(p6, n54);
-								uint8_t n58 = load8(p56 + 1);
-								store8(at(p57, UINT64_C(18446744073709551614)), load8(p56));
-								store8(at(p57, UINT64_MAX), n58);
-								uint64_t n59 = n54 - 4;
-								byte *p60 = inside((byte *)tp_static_242, (uint64_t)(uint16_t)((uint32_t)(uint16_t)(n55 / 100) << 1));
-								uint8_t n61 = load8(p60 + 1);
-								store8(inside(p6, n59), load8(p60));
-								store8(at(p57, UINT64_C(18446744073709551613)), n61);
-								n53 = n53 / 10000;
-								n54 = n59;
+						uint64_t n53 = 117;
+						uint64_t n54 = 3;
+						while (n54 != 0) {
+							uint64_t n66;
+							uint64_t n55 = n54 - 1;
+							uint64_t n56 = load64(inside(p7, n55 << 3));
+							uint64_t n57 = n53;
+							while (n56 > 9999) {
+								uint16_t n58 = (uint16_t)(n56 % 10000);
+								byte *p59 = inside((byte *)tp_static_242, (uint64_t)(uint16_t)((uint32_t)(uint16_t)(n58 % 100) << 1));
+								byte *p60 = at(p6, n57);
+								uint8_t n61 = load8(p59 + 1);
+								store8(at(p60, UINT64_C(18446744073709551614)), load8(p59));
+								store8(at(p60, UINT64_MAX), n61);
+								uint64_t n62 = n57 - 4;
+								byte *p63 = inside((byte *)tp_static_242, (uint64_t)(uint16_t)((uint32_t)(uint16_t)(n58 / 100) << 1));
+								uint8_t n64 = load8(p63 + 1);
+								store8(inside(p6, n62), load8(p63));
+								store8(at(p60, UINT64_C(18446744073709551613)), n64);
+								n56 = n56 / 10000;
+								n57 = n62;
 							}
-							if (n53 < 100) {
-								if (n53 < 10) {
-									uint64_t n62 = n54 - 1;
-									store8(inside(p6, n62), (uint8_t)((uint8_t)n53 | 48));
-									n63 = n62;
+							if (n56 < 100) {
+								if (n56 < 10) {
+									uint64_t n65 = n57 - 1;
+									store8(inside(p6, n65), (uint8_t)((uint8_t)n56 | 48));
+									n66 = n65;
 								} else {
-									uint64_t n64 = n54 - 2;
-									byte *p65 = inside((byte *)tp_static_242, n53 << 1);
-									uint8_t n66 = load8(p65 + 1);
-									store8(inside(p6, n64), load8(p65));
-									store8(at(at(p6, n54), UINT64_MAX), n66);
-									n63 = n64;
+									uint64_t n67 = n57 - 2;
+									byte *p68 = inside((byte *)tp_static_242, n56 << 1);
+									uint8_t n69 = load8(p68 + 1);
+									store8(inside(p6, n67), load8(p68));
+									store8(at(at(p6, n57), UINT64_MAX), n69);
+									n66 = n67;
 								}
 							} else {
-								uint16_t n67 = (uint16_t)n53;
-								byte *p68 = inside((byte *)tp_static_242, (uint64_t)(uint16_t)((uint32_t)(uint16_t)(n67 % 100) << 1));
-								byte *p69 = at(p6, n54);
-								uint8_t n70 = load8(p68 + 1);
-								store8(at(p69, UINT64_C(18446744073709551614)), load8(p68));
-								store8(at(p69, UINT64_MAX), n70);
-								uint16_t n71 = (uint16_t)(n67 / 100);
-								if (n53 < 1000) {
-									uint64_t n72 = n54 - 3;
-									store8(inside(p6, n72), (uint8_t)((uint8_t)n71 | 48));
-									n63 = n72;
+								uint16_t n70 = (uint16_t)n56;
+								byte *p71 = inside((byte *)tp_static_242, (uint64_t)(uint16_t)((uint32_t)(uint16_t)(n70 % 100) << 1));
+								byte *p72 = at(p6, n57);
+								uint8_t n73 = load8(p71 + 1);
+								store8(at(p72, UINT64_C(18446744073709551614)), load8(p71));
+								store8(at(p72, UINT64_MAX), n73);
+								uint16_t n74 = (uint16_t)(n70 / 100);
+								if (n56 < 1000) {
+									uint64_t n75 = n57 - 3;
+									store8(inside(p6, n75), (uint8_t)((uint8_t)n74 | 48));
+									n66 = n75;
 								} else {
-									uint64_t n73 = n54 - 4;
-									byte *p74 = inside((byte *)tp_static_242, (uint64_t)(uint16_t)((uint32_t)n71 << 1));
-									uint8_t n75 = load8(p74 + 1);
-									store8(inside(p6, n73), load8(p74));
-									store8(at(p69, UINT64_C(18446744073709551613)), n75);
-									n63 = n73;
+									uint64_t n76 = n57 - 4;
+									byte *p77 = inside((byte *)tp_static_242, (uint64_t)(uint16_t)((uint32_t)n74 << 1));
+									uint8_t n78 = load8(p77 + 1);
+									store8(inside(p6, n76), load8(p77));
+									store8(at(p72, UINT64_C(18446744073709551613)), n78);
+									n66 = n76;
 								}
 							}
-							uint64_t n76 = n63 - 1;
-							store8(inside(p6, n76), 32);
-							n50 = n76;
-							n51 = n52;
+							uint64_t n79 = n66 - 1;
+							store8(inside(p6, n79), 32);
+							n53 = n79;
+							n54 = n55;
 						}
-						byte *p77 = at(at(p6, n50), UINT64_C(18446744073709551609));
-						uint64_t n78 = (uint64_t)(uintptr_t)p77;
-						if ((n78 - (uint64_t)(uintptr_t)(byte *)tp_static_229) >= 7) {
-							memcpy(p77, (byte *)tp_static_229, 7);
+						byte *p80 = at(at(p6, n53), UINT64_C(18446744073709551609));
+						uint64_t n81 = (uint64_t)(uintptr_t)p80;
+						if ((n81 - (uint64_t)(uintptr_t)(byte *)tp_static_229) >= 7) {
+							memcpy(p80, (byte *)tp_static_229, 7);
 							goto L3;
 						}
-						n79 = 0;
-						while (n79 != 7) {
-							store8(inside(p77, n79), load8(inside((byte *)tp_static_229, n79)));
-							n79 = n79 + 1;
+						n82 = 0;
+						while (n82 != 7) {
+							store8(inside(p80, n82), load8(inside((byte *)tp_static_229, n82)));
+							n82 = n82 + 1;
 						}
 L3:
 						{
-							uint64_t n84, n85, n89;
-							uint8_t n86;
-							byte *p87, *p88;
-							uint64_t n80 = 125 - n50;
-							uint64_t n81 = load64(p5 + 16);
-							uint64_t n82 = load64(p5 + 8);
-							if (n80 > (n81 - n82)) {
-								bool b83 = tp_std_alloc_vec_Vec_grow_amortized_11(p5, n80);
-								if (!b83) {
-									n86 = 1;
+							uint64_t n87, n88, n92;
+							uint8_t n89;
+							byte *p90, *p91;
+							uint64_t n83 = 125 - n53;
+							uint64_t n84 = load64(p5 + 16);
+							uint64_t n85 = load64(p5 + 8);
+							if (n83 > (n84 - n85)) {
+								bool b86 = tp_std_alloc_vec_Vec_grow_amortized_11(p5, n83);
+								if (!b86) {
+									n89 = 1;
 									goto L4;
 								}
-								n84 = load64(p5 + 16);
-								n85 = load64(p5 + 8);
+								n87 = load64(p5 + 16);
+								n88 = load64(p5 + 8);
 							} else {
-								n84 = n81;
-								n85 = n82;
+								n87 = n84;
+								n88 = n85;
 							}
-							p87 = loadptr(p5);
-							p88 = at(p87, n85);
-							if (((uint64_t)(uintptr_t)p88 - n78) >= n80) {
-								memcpy(p88, p77, (size_t)n80);
+							p90 = loadptr(p5);
+							p91 = at(p90, n88);
+							if (((uint64_t)(uintptr_t)p91 - n81) >= n83) {
+								memcpy(p91, p80, (size_t)n83);
 								goto L5;
 							}
-							n89 = 0;
-							while (n89 != n80) {
-								store8(inside(p88, n89), load8(inside(p77, n89)));
-								n89 = n89 + 1;
+							n92 = 0;
+							while (n92 != n83) {
+								store8(inside(p91, n92), load8(inside(p80, n92)));
+								n92 = n92 + 1;
 							}
 L5:
 							{
-								storeptr(p5, p87);
-								store64(p5 + 8, n85 + n80);
-								store64(p5 + 16, n84);
-								n86 = 0;
+								storeptr(p5, p90);
+								store64(p5 + 8, n88 + n83);
+								store64(p5 + 16, n87);
+								n89 = 0;
 							}
 L4:
 							{
-								n49 = n86;
+								n52 = n89;
 							}
 						}
 					}
-					return n49;
+					return n52;
 				}
 				store64(p9, n2);
 				store64(p9 + 8, n3);
@@ -56335,8 +56378,8 @@ L4:
 			n23 = 9;
 			p24 = (byte *)tp_static_236;
 		}
-		uint8_t n90 = tp_text_push_refused(p5, (byte *)tp_static_221, 7, p9, 2, p24, n23);
-		return n90;
+		uint8_t n93 = tp_text_push_refused(p5, (byte *)tp_static_221, 7, p9, 2, p24, n23);
+		return n93;
 	}
 }
 
@@ -56498,7 +56541,7 @@ L2:
 	{
 		uint64_t n33;
 		byte *p34;
-		uint8_t n180, n181;
+		uint8_t n183, n184;
 		store64u(p9, 3);
 		store64u(p9 + 8, n22);
 		store64u(p9 + 16, n4);
@@ -56532,8 +56575,8 @@ L2:
 				p34 = (byte *)tp_static_238;
 			} else {
 				if (n36 >= n3) {
-					uint64_t n54;
-					uint8_t n96;
+					uint8_t n51, n99;
+					uint64_t n52, n56;
 					memset(p8, 0, 40);
 					tp_timer_facility_facility_Facility_take_restart(p8, p1, n2, n3, n22, n4, n5, n5, n6);
 					uint8_t n37 = load8(p8);
@@ -56569,282 +56612,290 @@ L2:
 					}
 					}
 					uint64_t n47 = load64(p1 + 56);
-					byte *p48 = loadptr(p1 + 72);
-					uint64_t n49 = load64(p1 + 96);
-					uint64_t n50 = (uint64_t)load32(at(p48, load64(p1 + 24) << 3) + 4);
-					uint64_t n51 = usub_sat64(n50, n49);
-					uint64_t n52 = 0;
-					uint64_t n53 = n50;
-					for (;;) {
-						if (n52 == n47) {
-							n54 = n47;
-							break;
-						}
-						if (n49 > n53) {
-							n54 = n52;
-							break;
-						}
-						uint64_t n55 = (uint64_t)load32(at(p48, (n49 + n51) << 3) + 4);
-						n51 = usub_sat64(n55, n49);
-						n52 = n52 + 1;
-						n53 = n55;
+					uint64_t n48 = load64(p1 + 24);
+					byte *p49 = loadptr(p1 + 72);
+					uint64_t n50 = (uint64_t)load32(at(p49, n48 << 3) + 4);
+					if (n48 == n50) {
+						n51 = 0;
+						n52 = 0;
+					} else {
+						n51 = 1;
+						n52 = n50 - load64(p1 + 96);
 					}
-					if ((((n47 - n54) << 1) + 64) < load64(p1 + 1224))
+					uint64_t n53 = n52;
+					uint64_t n54 = 0;
+					uint8_t n55 = n51;
+					for (;;) {
+						if (n54 == n47) {
+							n56 = n47;
+							break;
+						}
+						if (n55 != 1) {
+							n56 = n54;
+							break;
+						}
+						uint64_t n57 = load64(p1 + 96);
+						uint64_t n58 = (uint64_t)load32(at(p49, (n57 + n53) << 3) + 4);
+						n53 = usub_sat64(n58, n57);
+						n54 = n54 + 1;
+						n55 = (uint8_t)(n57 <= n58);
+					}
+					if ((((n47 - n56) << 1) + 64) < load64(p1 + 1224))
 						tp_timer_facility_handles_sweep(p1 + 1216, p1);
 					memset(p17, 0, 16);
 					memset(p16, 0, 16);
 					switch (MOSTLY_0(n37)) {
 					case 0: {
-						uint64_t n85;
+						uint64_t n88;
 						store64(p13, n2);
 						store64(p13 + 8, n3);
 						store64(p13 + 16, n40);
 						store64(p13 + 24, n41);
 						memset(p12, 0, 117);
 						store8(p12 + 117, 10);
-						uint64_t n56 = 117;
-						uint64_t n57 = 4;
-						while (n57 != 0) {
-							uint64_t n69;
-							uint64_t n58 = n57 - 1;
-							uint64_t n59 = load64(inside(p13, n58 << 3));
-							uint64_t n60 = n56;
-							while (n59 > 9999) {
-								uint16_t n61 = (uint16_t)(n59 % 10000);
-								byte *p62 = inside((byte *)tp_static_242, (uint64_t)(uint16_t)((uint32_t)(uint16_t)(n61 % 100) << 1));
-								byte *p63 = at(p12, n60);
-								uint8_t n64 = load8(p62 + 1);
-								store8(at(p63, UINT64_C(18446744073709551614)), load8(p62));
-								store8(at(p63, UINT64_MAX), n64);
-								uint64_t n65 = n60 - 4;
-								byte *p66 = inside((byte *)tp_static_242, (uint64_t)(uint16_t)((uint32_t)(uint16_t)(n61 / 100) << 1));
-								uint8_t n67 = load8(p66 + 1);
-								store8(inside(p12, n65), load8(p66));
-								store8(at(p63, UINT64_C(18446744073709551613)), n67);
-								n59 = n59 / 10000;
-								n60 = n65;
+						uint64_t n59 = 117;
+						uint64_t n60 = 4;
+						while (n60 != 0) {
+							uint64_t n72;
+							uint64_t n61 = n60 - 1;
+							uint64_t n62 = load64(inside(p13, n61 << 3));
+							uint64_t n63 = n59;
+							while (n62 > 9999) {
+								uint16_t n64 = (uint16_t)(n62 % 10000);
+								byte *p65 = inside((byte *)tp_static_242, (uint64_t)(uint16_t)((uint32_t)(uint16_t)(n64 % 100) << 1));
+								byte *p66 = at(p12, n63);
+								uint8_t n67 = load8(p65 + 1);
+								store8(at(p66, UINT64_C(18446744073709551614)), load8(p65));
+								store8(at(p66, UINT64_MAX), n67);
+								uint64_t n68 = n63 - 4;
+								byte *p69 = inside((byte *)tp_static_242, (uint64_t)(uint16_t)((uint32_t)(uint16_t)(n64 / 100) << 1));
+								uint8_t n70 = load8(p69 + 1);
+								store8(inside(p12, n68), load8(p69));
+								store8(at(p66, UINT64_C(18446744073709551613)), n70);
+								n62 = n62 / 10000;
+								n63 = n68;
 							}
-							if (n59 < 100) {
-								if (n59 < 10) {
-									uint64_t n68 = n60 - 1;
-									store8(inside(p12, n68), (uint8_t)((uint8_t)n59 | 48));
-									n69 = n68;
+							if (n62 < 100) {
+								if (n62 < 10) {
+									uint64_t n71 = n63 - 1;
+									store8(inside(p12, n71), (uint8_t)((uint8_t)n62 | 48));
+									n72 = n71;
 								} else {
-									uint64_t n70 = n60 - 2;
-									byte *p71 = inside((byte *)tp_static_242, n59 << 1);
-									uint8_t n72 = load8(p71 + 1);
-									store8(inside(p12, n70), load8(p71));
-									store8(at(at(p12, n60), UINT64_MAX), n72);
-									n69 = n70;
+									uint64_t n73 = n63 - 2;
+									byte *p74 = inside((byte *)tp_static_242, n62 << 1);
+									uint8_t n75 = load8(p74 + 1);
+									store8(inside(p12, n73), load8(p74));
+									store8(at(at(p12, n63), UINT64_MAX), n75);
+									n72 = n73;
 								}
 							} else {
-								uint16_t n73 = (uint16_t)n59;
-								byte *p74 = inside((byte *)tp_static_242, (uint64_t)(uint16_t)((uint32_t)(uint16_t)(n73 % 100) << 1));
-								byte *p75 = at(p12, n60);
-								uint8_t n76 = load8(p74 + 1);
-								store8(at(p75, UINT64_C(18446744073709551614)), load8(p74));
-								store8(at(p75, UINT64_MAX), n76);
-								uint16_t n77 = (uint16_t)(n73 / 100);
-								if (n59 < 1000) {
-									uint64_t n78 = n60 - 3;
-									store8(inside(p12, n78), (uint8_t)((uint8_t)n77 | 48));
-									n69 = n78;
+								uint16_t n76 = (uint16_t)n62;
+								byte *p77 = inside((byte *)tp_static_242, (uint64_t)(uint16_t)((uint32_t)(uint16_t)(n76 % 100) << 1));
+								byte *p78 = at(p12, n63);
+								uint8_t n79 = load8(p77 + 1);
+								store8(at(p78, UINT64_C(18446744073709551614)), load8(p77));
+								store8(at(p78, UINT64_MAX), n79);
+								uint16_t n80 = (uint16_t)(n76 / 100);
+								if (n62 < 1000) {
+									uint64_t n81 = n63 - 3;
+									store8(inside(p12, n81), (uint8_t)((uint8_t)n80 | 48));
+									n72 = n81;
 								} else {
-									uint64_t n79 = n60 - 4;
-									byte *p80 = inside((byte *)tp_static_242, (uint64_t)(uint16_t)((uint32_t)n77 << 1));
-									uint8_t n81 = load8(p80 + 1);
-									store8(inside(p12, n79), load8(p80));
-									store8(at(p75, UINT64_C(18446744073709551613)), n81);
-									n69 = n79;
+									uint64_t n82 = n63 - 4;
+									byte *p83 = inside((byte *)tp_static_242, (uint64_t)(uint16_t)((uint32_t)n80 << 1));
+									uint8_t n84 = load8(p83 + 1);
+									store8(inside(p12, n82), load8(p83));
+									store8(at(p78, UINT64_C(18446744073709551613)), n84);
+									n72 = n82;
 								}
 							}
-							uint64_t n82 = n69 - 1;
-							store8(inside(p12, n82), 32);
-							n56 = n82;
-							n57 = n58;
+							uint64_t n85 = n72 - 1;
+							store8(inside(p12, n85), 32);
+							n59 = n85;
+							n60 = n61;
 						}
-						byte *p83 = at(at(p12, n56), UINT64_C(18446744073709551609));
-						uint64_t n84 = (uint64_t)(uintptr_t)p83;
-						if ((n84 - (uint64_t)(uintptr_t)(byte *)tp_static_228) >= 7) {
-							memcpy(p83, (byte *)tp_static_228, 7);
+						byte *p86 = at(at(p12, n59), UINT64_C(18446744073709551609));
+						uint64_t n87 = (uint64_t)(uintptr_t)p86;
+						if ((n87 - (uint64_t)(uintptr_t)(byte *)tp_static_228) >= 7) {
+							memcpy(p86, (byte *)tp_static_228, 7);
 							goto L3;
 						}
-						n85 = 0;
-						while (n85 != 7) {
-							store8(inside(p83, n85), load8(inside((byte *)tp_static_228, n85)));
-							n85 = n85 + 1;
+						n88 = 0;
+						while (n88 != 7) {
+							store8(inside(p86, n88), load8(inside((byte *)tp_static_228, n88)));
+							n88 = n88 + 1;
 						}
 L3:
 						{
-							uint64_t n90, n91, n95;
-							uint8_t n92;
-							byte *p93, *p94;
-							uint64_t n86 = 125 - n56;
-							uint64_t n87 = load64(p7 + 16);
-							uint64_t n88 = load64(p7 + 8);
-							if (n86 > (n87 - n88)) {
-								bool b89 = tp_std_alloc_vec_Vec_grow_amortized_11(p7, n86);
-								if (!b89) {
-									n92 = 1;
+							uint64_t n93, n94, n98;
+							uint8_t n95;
+							byte *p96, *p97;
+							uint64_t n89 = 125 - n59;
+							uint64_t n90 = load64(p7 + 16);
+							uint64_t n91 = load64(p7 + 8);
+							if (n89 > (n90 - n91)) {
+								bool b92 = tp_std_alloc_vec_Vec_grow_amortized_11(p7, n89);
+								if (!b92) {
+									n95 = 1;
 									goto L4;
 								}
-								n90 = load64(p7 + 16);
-								n91 = load64(p7 + 8);
+								n93 = load64(p7 + 16);
+								n94 = load64(p7 + 8);
 							} else {
-								n90 = n87;
-								n91 = n88;
+								n93 = n90;
+								n94 = n91;
 							}
-							p93 = loadptr(p7);
-							p94 = at(p93, n91);
-							if (((uint64_t)(uintptr_t)p94 - n84) >= n86) {
-								memcpy(p94, p83, (size_t)n86);
+							p96 = loadptr(p7);
+							p97 = at(p96, n94);
+							if (((uint64_t)(uintptr_t)p97 - n87) >= n89) {
+								memcpy(p97, p86, (size_t)n89);
 								goto L5;
 							}
-							n95 = 0;
-							while (n95 != n86) {
-								store8(inside(p94, n95), load8(inside(p83, n95)));
-								n95 = n95 + 1;
+							n98 = 0;
+							while (n98 != n89) {
+								store8(inside(p97, n98), load8(inside(p86, n98)));
+								n98 = n98 + 1;
 							}
 L5:
 							{
-								storeptr(p7, p93);
-								store64(p7 + 8, n91 + n86);
-								store64(p7 + 16, n90);
-								n92 = 0;
+								storeptr(p7, p96);
+								store64(p7 + 8, n94 + n89);
+								store64(p7 + 16, n93);
+								n95 = 0;
 							}
 L4:
 							{
-								n96 = n92;
+								n99 = n95;
 							}
 						}
 						break;
 					}
 					case 1: {
-						uint64_t n126;
+						uint64_t n129;
 						store64(p14, n2);
 						store64(p14 + 8, n3);
 						store64(p14 + 16, n39);
 						memset(p11, 0, 117);
 						store8(p11 + 117, 10);
-						uint64_t n97 = 117;
-						uint64_t n98 = 3;
-						while (n98 != 0) {
-							uint64_t n110;
-							uint64_t n99 = n98 - 1;
-							uint64_t n100 = load64(inside(p14, n99 << 3));
-							uint64_t n101 = n97;
-							while (n100 > 9999) {
-								uint16_t n102 = (uint16_t)(n100 % 10000);
-								byte *p103 = inside((byte *)tp_static_242, (uint64_t)(uint16_t)((uint32_t)(uint16_t)(n102 % 100) << 1));
-								byte *p104 = at(p11, n101);
-								uint8_t n105 = load8(p103 + 1);
-								store8(at(p104, UINT64_C(18446744073709551614)), load8(p103));
-								store8(at(p104, UINT64_MAX), n105);
-								uint64_t n106 = n101 - 4;
-								byte *p107 = inside((byte *)tp_static_242, (uint64_t)(uint16_t)((uint32_t)(uint16_t)(n102 / 100) << 1));
-								uint8_t n108 = load8(p107 + 1);
-								store8(inside(p11, n106), load8(p107));
-								store8(at(p104, UINT64_C(18446744073709551613)), n108);
-								n100 = n100 / 10000;
-								n101 = n106;
+						uint64_t n100 = 117;
+						uint64_t n101 = 3;
+						while (n101 != 0) {
+							uint64_t n113;
+							uint64_t n102 = n101 - 1;
+							uint64_t n103 = load64(inside(p14, n102 << 3));
+							uint64_t n104 = n100;
+							while (n103 > 9999) {
+								uint16_t n105 = (uint16_t)(n103 % 10000);
+								byte *p106 = inside((byte *)tp_static_242, (uint64_t)(uint16_t)((uint32_t)(uint16_t)(n105 % 100) << 1));
+								byte *p107 = at(p11, n104);
+								uint8_t n108 = load8(p106 + 1);
+								store8(at(p107, UINT64_C(18446744073709551614)), load8(p106));
+								store8(at(p107, UINT64_MAX), n108);
+								uint64_t n109 = n104 - 4;
+								byte *p110 = inside((byte *)tp_static_242, (uint64_t)(uint16_t)((uint32_t)(uint16_t)(n105 / 100) << 1));
+								uint8_t n111 = load8(p110 + 1);
+								store8(inside(p11, n109), load8(p110));
+								store8(at(p107, UINT64_C(18446744073709551613)), n111);
+								n103 = n103 / 10000;
+								n104 = n109;
 							}
-							if (n100 < 100) {
-								if (n100 < 10) {
-									uint64_t n109 = n101 - 1;
-									store8(inside(p11, n109), (uint8_t)((uint8_t)n100 | 48));
-									n110 = n109;
+							if (n103 < 100) {
+								if (n103 < 10) {
+									uint64_t n112 = n104 - 1;
+									store8(inside(p11, n112), (uint8_t)((uint8_t)n103 | 48));
+									n113 = n112;
 								} else {
-									uint64_t n111 = n101 - 2;
-									byte *p112 = inside((byte *)tp_static_242, n100 << 1);
-									uint8_t n113 = load8(p112 + 1);
-									store8(inside(p11, n111), load8(p112));
-									store8(at(at(p11, n101), UINT64_MAX), n113);
-									n110 = n111;
+									uint64_t n114 = n104 - 2;
+									byte *p115 = inside((byte *)tp_static_242, n103 << 1);
+									uint8_t n116 = load8(p115 + 1);
+									store8(inside(p11, n114), load8(p115));
+									store8(at(at(p11, n104), UINT64_MAX), n116);
+									n113 = n114;
 								}
 							} else {
-								uint16_t n114 = (uint16_t)n100;
-								byte *p115 = inside((byte *)tp_static_242, (uint64_t)(uint16_t)((uint32_t)(uint16_t)(n114 % 100) << 1));
-								byte *p116 = at(p11, n101);
-								uint8_t n117 = load8(p115 + 1);
-								store8(at(p116, UINT64_C(18446744073709551614)), load8(p115));
-								store8(at(p116, UINT64_MAX), n117);
-								uint16_t n118 = (uint16_t)(n114 / 100);
-								if (n100 < 1000) {
-									uint64_t n119 = n101 - 3;
-									store8(inside(p11, n119), (uint8_t)((uint8_t)n118 | 48));
-									n110 = n119;
+								uint16_t n117 = (uint16_t)n103;
+								byte *p118 = inside((byte *)tp_static_242, (uint64_t)(uint16_t)((uint32_t)(uint16_t)(n117 % 100) << 1));
+								byte *p119 = at(p11, n104);
+								uint8_t n120 = load8(p118 + 1);
+								store8(at(p119, UINT64_C(18446744073709551614)), load8(p118));
+								store8(at(p119, UINT64_MAX), n120);
+								uint16_t n121 = (uint16_t)(n117 / 100);
+								if (n103 < 1000) {
+									uint64_t n122 = n104 - 3;
+									store8(inside(p11, n122), (uint8_t)((uint8_t)n121 | 48));
+									n113 = n122;
 								} else {
-									uint64_t n120 = n101 - 4;
-									byte *p121 = inside((byte *)tp_static_242, (uint64_t)(uint16_t)((uint32_t)n118 << 1));
-									uint8_t n122 = load8(p121 + 1);
-									store8(inside(p11, n120), load8(p121));
-									store8(at(p116, UINT64_C(18446744073709551613)), n122);
-									n110 = n120;
+									uint64_t n123 = n104 - 4;
+									byte *p124 = inside((byte *)tp_static_242, (uint64_t)(uint16_t)((uint32_t)n121 << 1));
+									uint8_t n125 = load8(p124 + 1);
+									store8(inside(p11, n123), load8(p124));
+									store8(at(p119, UINT64_C(18446744073709551613)), n125);
+									n113 = n123;
 								}
 							}
-							uint64_t n123 = n110 - 1;
-							store8(inside(p11, n123), 32);
-							n97 = n123;
-							n98 = n99;
+							uint64_t n126 = n113 - 1;
+							store8(inside(p11, n126), 32);
+							n100 = n126;
+							n101 = n102;
 						}
-						byte *p124 = at(at(p11, n97), UINT64_C(18446744073709551609));
-						uint64_t n125 = (uint64_t)(uintptr_t)p124;
-						if ((n125 - (uint64_t)(uintptr_t)(byte *)tp_static_229) >= 7) {
-							memcpy(p124, (byte *)tp_static_229, 7);
+						byte *p127 = at(at(p11, n100), UINT64_C(18446744073709551609));
+						uint64_t n128 = (uint64_t)(uintptr_t)p127;
+						if ((n128 - (uint64_t)(uintptr_t)(byte *)tp_static_229) >= 7) {
+							memcpy(p127, (byte *)tp_static_229, 7);
 							goto L6;
 						}
-						n126 = 0;
-						while (n126 != 7) {
-							store8(inside(p124, n126), load8(inside((byte *)tp_static_229, n126)));
-							n126 = n126 + 1;
+						n129 = 0;
+						while (n129 != 7) {
+							store8(inside(p127, n129), load8(inside((byte *)tp_static_229, n129)));
+							n129 = n129 + 1;
 						}
 L6:
 						{
-							uint64_t n131, n132, n136;
-							uint8_t n133;
-							byte *p134, *p135;
-							uint64_t n127 = 125 - n97;
-							uint64_t n128 = load64(p7 + 16);
-							uint64_t n129 = load64(p7 + 8);
-							if (n127 > (n128 - n129)) {
-								bool b130 = tp_std_alloc_vec_Vec_grow_amortized_11(p7, n127);
-								if (!b130) {
-									n133 = 1;
+							uint64_t n134, n135, n139;
+							uint8_t n136;
+							byte *p137, *p138;
+							uint64_t n130 = 125 - n100;
+							uint64_t n131 = load64(p7 + 16);
+							uint64_t n132 = load64(p7 + 8);
+							if (n130 > (n131 - n132)) {
+								bool b133 = tp_std_alloc_vec_Vec_grow_amortized_11(p7, n130);
+								if (!b133) {
+									n136 = 1;
 									goto L7;
 								}
-								n131 = load64(p7 + 16);
-								n132 = load64(p7 + 8);
+								n134 = load64(p7 + 16);
+								n135 = load64(p7 + 8);
 							} else {
-								n131 = n128;
-								n132 = n129;
+								n134 = n131;
+								n135 = n132;
 							}
-							p134 = loadptr(p7);
-							p135 = at(p134, n132);
-							if (((uint64_t)(uintptr_t)p135 - n125) >= n127) {
-								memcpy(p135, p124, (size_t)n127);
+							p137 = loadptr(p7);
+							p138 = at(p137, n135);
+							if (((uint64_t)(uintptr_t)p138 - n128) >= n130) {
+								memcpy(p138, p127, (size_t)n130);
 								goto L8;
 							}
-							n136 = 0;
-							while (n136 != n127) {
-								store8(inside(p135, n136), load8(inside(p124, n136)));
-								n136 = n136 + 1;
+							n139 = 0;
+							while (n139 != n130) {
+								store8(inside(p138, n139), load8(inside(p127, n139)));
+								n139 = n139 + 1;
 							}
 L8:
 							{
-								storeptr(p7, p134);
-								store64(p7 + 8, n132 + n127);
-								store64(p7 + 16, n131);
-								n133 = 0;
+								storeptr(p7, p137);
+								store64(p7 + 8, n135 + n130);
+								store64(p7 + 16, n134);
+								n136 = 0;
 							}
 L7:
 							{
-								n96 = n133;
+								n99 = n136;
 							}
 						}
 						break;
 					}
 					case 2: {
-						uint64_t n166;
+						uint64_t n169;
 						store64(p15, n2);
 						store64(p15 + 8, n3);
 						store64(p15 + 16, n42);
@@ -56852,167 +56903,167 @@ L7:
 						store64(p15 + 32, n41);
 						memset(p10, 0, 117);
 						store8(p10 + 117, 10);
-						uint64_t n137 = 117;
-						uint64_t n138 = 5;
-						while (n138 != 0) {
-							uint64_t n150;
-							uint64_t n139 = n138 - 1;
-							uint64_t n140 = load64(inside(p15, n139 << 3));
-							uint64_t n141 = n137;
-							while (n140 > 9999) {
-								uint16_t n142 = (uint16_t)(n140 % 10000);
-								byte *p143 = inside((byte *)tp_static_242, (uint64_t)(uint16_t)((uint32_t)(uint16_t)(n142 % 100) << 1));
-								byte *p144 = at(p10, n141);
-								uint8_t n145 = load8(p143 + 1);
-								store8(at(p144, UINT64_C(18446744073709551614)), load8(p143));
-								store8(at(p144, UINT64_MAX), n145);
-								uint64_t n146 = n141 - 4;
-								byte *p147 = inside((byte *)tp_static_242, (uint64_t)(uint16_t)((uint32_t)(uint16_t)(n142 / 100) << 1));
-								uint8_t n148 = load8(p147 + 1);
-								store8(inside(p10, n146), load8(p147));
-								store8(at(p144, UINT64_C(18446744073709551613)), n148);
-								n140 = n140 / 10000;
-								n141 = n146;
+						uint64_t n140 = 117;
+						uint64_t n141 = 5;
+						while (n141 != 0) {
+							uint64_t n153;
+							uint64_t n142 = n141 - 1;
+							uint64_t n143 = load64(inside(p15, n142 << 3));
+							uint64_t n144 = n140;
+							while (n143 > 9999) {
+								uint16_t n145 = (uint16_t)(n143 % 10000);
+								byte *p146 = inside((byte *)tp_static_242, (uint64_t)(uint16_t)((uint32_t)(uint16_t)(n145 % 100) << 1));
+								byte *p147 = at(p10, n144);
+								uint8_t n148 = load8(p146 + 1);
+								store8(at(p147, UINT64_C(18446744073709551614)), load8(p146));
+								store8(at(p147, UINT64_MAX), n148);
+								uint64_t n149 = n144 - 4;
+								byte *p150 = inside((byte *)tp_static_242, (uint64_t)(uint16_t)((uint32_t)(uint16_t)(n145 / 100) << 1));
+								uint8_t n151 = load8(p150 + 1);
+								store8(inside(p10, n149), load8(p150));
+								store8(at(p147, UINT64_C(18446744073709551613)), n151);
+								n143 = n143 / 10000;
+								n144 = n149;
 							}
-							if (n140 < 100) {
-								if (n140 < 10) {
-									uint64_t n149 = n141 - 1;
-									store8(inside(p10, n149), (uint8_t)((uint8_t)n140 | 48));
-									n150 = n149;
+							if (n143 < 100) {
+								if (n143 < 10) {
+									uint64_t n152 = n144 - 1;
+									store8(inside(p10, n152), (uint8_t)((uint8_t)n143 | 48));
+									n153 = n152;
 								} else {
-									uint64_t n151 = n141 - 2;
-									byte *p152 = inside((byte *)tp_static_242, n140 << 1);
-									uint8_t n153 = load8(p152 + 1);
-									store8(inside(p10, n151), load8(p152));
-									store8(at(at(p10, n141), UINT64_MAX), n153);
-									n150 = n151;
+									uint64_t n154 = n144 - 2;
+									byte *p155 = inside((byte *)tp_static_242, n143 << 1);
+									uint8_t n156 = load8(p155 + 1);
+									store8(inside(p10, n154), load8(p155));
+									store8(at(at(p10, n144), UINT64_MAX), n156);
+									n153 = n154;
 								}
 							} else {
-								uint16_t n154 = (uint16_t)n140;
-								byte *p155 = inside((byte *)tp_static_242, (uint64_t)(uint16_t)((uint32_t)(uint16_t)(n154 % 100) << 1));
-								byte *p156 = at(p10, n141);
-								uint8_t n157 = load8(p155 + 1);
-								store8(at(p156, UINT64_C(18446744073709551614)), load8(p155));
-								store8(at(p156, UINT64_MAX), n157);
-								uint16_t n158 = (uint16_t)(n154 / 100);
-								if (n140 < 1000) {
-									uint64_t n159 = n141 - 3;
-									store8(inside(p10, n159), (uint8_t)((uint8_t)n158 | 48));
-									n150 = n159;
+								uint16_t n157 = (uint16_t)n143;
+								byte *p158 = inside((byte *)tp_static_242, (uint64_t)(uint16_t)((uint32_t)(uint16_t)(n157 % 100) << 1));
+								byte *p159 = at(p10, n144);
+								uint8_t n160 = load8(p158 + 1);
+								store8(at(p159, UINT64_C(18446744073709551614)), load8(p158));
+								store8(at(p159, UINT64_MAX), n160);
+								uint16_t n161 = (uint16_t)(n157 / 100);
+								if (n143 < 1000) {
+									uint64_t n162 = n144 - 3;
+									store8(inside(p10, n162), (uint8_t)((uint8_t)n161 | 48));
+									n153 = n162;
 								} else {
-									uint64_t n160 = n141 - 4;
-									byte *p161 = inside((byte *)tp_static_242, (uint64_t)(uint16_t)((uint32_t)n158 << 1));
-									uint8_t n162 = load8(p161 + 1);
-									store8(inside(p10, n160), load8(p161));
-									store8(at(p156, UINT64_C(18446744073709551613)), n162);
-									n150 = n160;
+									uint64_t n163 = n144 - 4;
+									byte *p164 = inside((byte *)tp_static_242, (uint64_t)(uint16_t)((uint32_t)n161 << 1));
+									uint8_t n165 = load8(p164 + 1);
+									store8(inside(p10, n163), load8(p164));
+									store8(at(p159, UINT64_C(18446744073709551613)), n165);
+									n153 = n163;
 								}
 							}
-							uint64_t n163 = n150 - 1;
-							store8(inside(p10, n163), 32);
-							n137 = n163;
-							n138 = n139;
+							uint64_t n166 = n153 - 1;
+							store8(inside(p10, n166), 32);
+							n140 = n166;
+							n141 = n142;
 						}
-						byte *p164 = at(at(p10, n137), UINT64_C(18446744073709551607));
-						uint64_t n165 = (uint64_t)(uintptr_t)p164;
-						if ((n165 - (uint64_t)(uintptr_t)(byte *)tp_static_230) >= 9) {
-							memcpy(p164, (byte *)tp_static_230, 9);
+						byte *p167 = at(at(p10, n140), UINT64_C(18446744073709551607));
+						uint64_t n168 = (uint64_t)(uintptr_t)p167;
+						if ((n168 - (uint64_t)(uintptr_t)(byte *)tp_static_230) >= 9) {
+							memcpy(p167, (byte *)tp_static_230, 9);
 							goto L9;
 						}
-						n166 = 0;
-						while (n166 != 9) {
-							store8(inside(p164, n166), load8(inside((byte *)tp_static_230, n166)));
-							n166 = n166 + 1;
+						n169 = 0;
+						while (n169 != 9) {
+							store8(inside(p167, n169), load8(inside((byte *)tp_static_230, n169)));
+							n169 = n169 + 1;
 						}
 L9:
 						{
-							uint64_t n171, n172, n176;
-							uint8_t n173;
-							byte *p174, *p175;
-							uint64_t n167 = 127 - n137;
-							uint64_t n168 = load64(p7 + 16);
-							uint64_t n169 = load64(p7 + 8);
-							if (n167 > (n168 - n169)) {
-								bool b170 = tp_std_alloc_vec_Vec_grow_amortized_11(p7, n167);
-								if (!b170) {
-									n173 = 1;
+							uint64_t n174, n175, n179;
+							uint8_t n176;
+							byte *p177, *p178;
+							uint64_t n170 = 127 - n140;
+							uint64_t n171 = load64(p7 + 16);
+							uint64_t n172 = load64(p7 + 8);
+							if (n170 > (n171 - n172)) {
+								bool b173 = tp_std_alloc_vec_Vec_grow_amortized_11(p7, n170);
+								if (!b173) {
+									n176 = 1;
 									goto L10;
 								}
-								n171 = load64(p7 + 16);
-								n172 = load64(p7 + 8);
+								n174 = load64(p7 + 16);
+								n175 = load64(p7 + 8);
 							} else {
-								n171 = n168;
-								n172 = n169;
+								n174 = n171;
+								n175 = n172;
 							}
-							p174 = loadptr(p7);
-							p175 = at(p174, n172);
-							if (((uint64_t)(uintptr_t)p175 - n165) >= n167) {
-								memcpy(p175, p164, (size_t)n167);
+							p177 = loadptr(p7);
+							p178 = at(p177, n175);
+							if (((uint64_t)(uintptr_t)p178 - n168) >= n170) {
+								memcpy(p178, p167, (size_t)n170);
 								goto L11;
 							}
-							n176 = 0;
-							while (n176 != n167) {
-								store8(inside(p175, n176), load8(inside(p164, n176)));
-								n176 = n176 + 1;
+							n179 = 0;
+							while (n179 != n170) {
+								store8(inside(p178, n179), load8(inside(p167, n179)));
+								n179 = n179 + 1;
 							}
 L11:
 							{
-								storeptr(p7, p174);
-								store64(p7 + 8, n172 + n167);
-								store64(p7 + 16, n171);
-								n173 = 0;
+								storeptr(p7, p177);
+								store64(p7 + 8, n175 + n170);
+								store64(p7 + 16, n174);
+								n176 = 0;
 							}
 L10:
 							{
-								n96 = n173;
+								n99 = n176;
 							}
 						}
 						break;
 					}
 					case 3: {
-						uint64_t n177;
-						byte *p178;
+						uint64_t n180;
+						byte *p181;
 						store64(p16, n2);
 						store64(p16 + 8, n3);
 						switch (MOSTLY_0(n38)) {
 						case 0: {
-							n177 = 13;
-							p178 = (byte *)tp_static_231;
+							n180 = 13;
+							p181 = (byte *)tp_static_231;
 							break;
 						}
 						case 1: {
-							n177 = 8;
-							p178 = (byte *)tp_static_232;
+							n180 = 8;
+							p181 = (byte *)tp_static_232;
 							break;
 						}
 						case 2: {
-							n177 = 13;
-							p178 = (byte *)tp_static_233;
+							n180 = 13;
+							p181 = (byte *)tp_static_233;
 							break;
 						}
 						case 3: {
-							n177 = 4;
-							p178 = (byte *)tp_static_234;
+							n180 = 4;
+							p181 = (byte *)tp_static_234;
 							break;
 						}
 						case 4: {
-							n177 = 7;
-							p178 = (byte *)tp_static_235;
+							n180 = 7;
+							p181 = (byte *)tp_static_235;
 							break;
 						}
 						default: {
 							UNREACHABLE();
 						}
 						}
-						uint8_t n179 = tp_text_push_refused(p7, (byte *)tp_static_221, 7, p16, 2, p178, n177);
-						n96 = n179;
+						uint8_t n182 = tp_text_push_refused(p7, (byte *)tp_static_221, 7, p16, 2, p181, n180);
+						n99 = n182;
 						break;
 					}
 					default: {
 						UNREACHABLE();
 					}
 					}
-					n180 = n96;
+					n183 = n99;
 					goto L12;
 				}
 				store64(p17, n2);
@@ -57026,11 +57077,11 @@ L10:
 			n33 = 9;
 			p34 = (byte *)tp_static_236;
 		}
-		n181 = tp_text_push_refused(p7, (byte *)tp_static_221, 7, p17, 2, p34, n33);
-		n180 = n181;
+		n184 = tp_text_push_refused(p7, (byte *)tp_static_221, 7, p17, 2, p34, n33);
+		n183 = n184;
 L12:
 		{
-			return n180;
+			return n183;
 		}
 	}
 }
@@ -57049,31 +57100,40 @@ static of_i8_i8 tp_timer_facility_facility_Facility_start_refusal(byte *p1, uint
 		n3 = 2;
 		n4 = 1;
 	} else {
-		uint64_t n12;
+		uint8_t n9;
+		uint64_t n10, n14;
 		uint64_t n5 = load64(p1 + 56);
-		byte *p6 = loadptr(p1 + 72);
-		uint64_t n7 = load64(p1 + 96);
-		uint64_t n8 = (uint64_t)load32(at(p6, load64(p1 + 24) << 3) + 4);
-		uint64_t n9 = usub_sat64(n8, n7);
-		uint64_t n10 = 0;
-		uint64_t n11 = n8;
-		for (;;) {
-			if (n10 == n5) {
-				n12 = n5;
-				break;
-			}
-			if (n7 > n11) {
-				n12 = n10;
-				break;
-			}
-			uint64_t n13 = (uint64_t)load32(at(p6, (n7 + n9) << 3) + 4);
-			n9 = usub_sat64(n13, n7);
-			n10 = n10 + 1;
-			n11 = n13;
+		uint64_t n6 = load64(p1 + 24);
+		byte *p7 = loadptr(p1 + 72);
+		uint64_t n8 = (uint64_t)load32(at(p7, n6 << 3) + 4);
+		if (n6 == n8) {
+			n9 = 0;
+			n10 = 0;
+		} else {
+			n9 = 1;
+			n10 = n8 - load64(p1 + 96);
 		}
-		bool b14 = (n5 - n12) == load64(p1 + 136);
-		n3 = (uint8_t)(b14 ? 3 : 0);
-		n4 = (uint8_t)b14;
+		uint64_t n11 = n10;
+		uint64_t n12 = 0;
+		uint8_t n13 = n9;
+		for (;;) {
+			if (n12 == n5) {
+				n14 = n5;
+				break;
+			}
+			if (n13 != 1) {
+				n14 = n12;
+				break;
+			}
+			uint64_t n15 = load64(p1 + 96);
+			uint64_t n16 = (uint64_t)load32(at(p7, (n15 + n11) << 3) + 4);
+			n11 = usub_sat64(n16, n15);
+			n12 = n12 + 1;
+			n13 = (uint8_t)(n15 <= n16);
+		}
+		bool b17 = (n5 - n14) == load64(p1 + 136);
+		n3 = (uint8_t)(b17 ? 3 : 0);
+		n4 = (uint8_t)b17;
 	}
 	return of_i8_i8_of(of_i8_i8_of(n4, 0).f0, n3);
 }
@@ -57156,64 +57216,63 @@ static void tp_timer_facility_player_hand_out_2(byte *p1, byte *p2)
 	ALIGN(8) byte p3[24];
 	ALIGN(8) byte p4[24];
 	for (;;) {
-		uint64_t n19, n20, n21;
+		uint64_t n14, n15, n16;
 		uint64_t n5 = load64(p1 + 24);
 		byte *p6 = loadptr(p1 + 72);
 		uint64_t n7 = n5 << 3;
-		uint64_t n8 = load64(p1 + 96);
-		uint64_t n9 = (uint64_t)load32(at(p6, n7) + 4);
-		uint64_t n10 = usub_sat64(n9, n8);
-		if (n8 <= n9) {
-			uint32_t n11 = load32(at(p6, (n8 + n10) << 3) + 4);
-			byte *p12 = at(loadptr(p1 + 32), n10 * 56);
-			uint64_t n13 = load64u(p12 + 8);
-			uint64_t n14 = load64u(p12 + 16);
-			uint64_t n15 = load64(p1 + 64);
-			uint8_t n16 = load8(p12);
-			memcpy(p3, p12 + 24, 24);
-			store64u(p12, 0);
-			store64u(p12 + 8, n15);
-			memset(p12 + 16, 0, 40);
-			if (n16 != 1) {
+		uint64_t n8 = (uint64_t)load32(at(p6, n7) + 4);
+		if (n5 == n8) {
+			uint64_t n9 = load64(p1 + 1208);
+			if (n9 == load64(p1 + 1192))
+				return;
+			byte *p10 = at(loadptr(p1 + 1184), n9 * 40);
+			uint64_t n11 = load64u(p10 + 8);
+			uint64_t n12 = load64u(p10);
+			memcpy(p4, p10 + 16, 24);
+			store64(p1 + 1208, n9 + 1);
+			byte *p13 = inside(p1 + 664, n11 << 3);
+			store64(p13, load64(p13) - 1);
+			n14 = 1;
+			n15 = n12;
+			n16 = n11;
+		} else {
+			uint64_t n17 = n8 - load64(p1 + 96);
+			uint32_t n18 = load32(at(p6, n8 << 3) + 4);
+			byte *p19 = at(loadptr(p1 + 32), n17 * 56);
+			uint64_t n20 = load64u(p19 + 8);
+			uint64_t n21 = load64u(p19 + 16);
+			uint64_t n22 = load64(p1 + 64);
+			uint8_t n23 = load8(p19);
+			memcpy(p3, p19 + 24, 24);
+			store64u(p19, 0);
+			store64u(p19 + 8, n22);
+			memset(p19 + 16, 0, 40);
+			if (n23 != 1) {
 				TRAP();
 				UNREACHABLE();
 			}
 			store64(p1 + 56, load64(p1 + 56) - 1);
-			store64(p1 + 64, n10);
+			store64(p1 + 64, n17);
 			memcpy(p4, p3, 24);
-			byte *p17 = loadptr(p1 + 72);
-			store32(inside(p17, n7) + 4, n11);
-			store32(inside(p17, (uint64_t)n11 << 3), (uint32_t)n5);
-			byte *p18 = inside(p1 + 664, n14 << 3);
-			store64(p18, load64(p18) - 1);
-			n19 = 0;
-			n20 = n13;
-			n21 = n14;
-		} else {
-			uint64_t n22 = load64(p1 + 1208);
-			if (n22 == load64(p1 + 1192))
-				return;
-			byte *p23 = at(loadptr(p1 + 1184), n22 * 40);
-			uint64_t n24 = load64u(p23 + 8);
-			uint64_t n25 = load64u(p23);
-			memcpy(p4, p23 + 16, 24);
-			store64(p1 + 1208, n22 + 1);
-			byte *p26 = inside(p1 + 664, n24 << 3);
-			store64(p26, load64(p26) - 1);
-			n19 = 1;
-			n20 = n25;
-			n21 = n24;
+			byte *p24 = loadptr(p1 + 72);
+			store32(inside(p24, n7) + 4, n18);
+			store32(inside(p24, (uint64_t)n18 << 3), (uint32_t)n5);
+			byte *p25 = inside(p1 + 664, n21 << 3);
+			store64(p25, load64(p25) - 1);
+			n14 = 0;
+			n15 = n20;
+			n16 = n21;
 		}
-		uint64_t n27 = load64(p2 + 8);
-		byte *p28 = inside(loadptr(p2), n27 << 6);
-		store8(p28, 2);
-		store8(p28 + 1, 0);
-		store64u(p28 + 8, n19);
-		store64u(p28 + 16, n20);
-		store64u(p28 + 24, n21);
-		memcpy(p28 + 32, p4, 24);
-		store64u(p28 + 56, 0);
-		store64(p2 + 8, n27 + 1);
+		uint64_t n26 = load64(p2 + 8);
+		byte *p27 = inside(loadptr(p2), n26 << 6);
+		store8(p27, 2);
+		store8(p27 + 1, 0);
+		store64u(p27 + 8, n14);
+		store64u(p27 + 16, n15);
+		store64u(p27 + 24, n16);
+		memcpy(p27 + 32, p4, 24);
+		store64u(p27 + 56, 0);
+		store64(p2 + 8, n26 + 1);
 	}
 }
 
@@ -57289,8 +57348,8 @@ static uint8_t tp_timer_script_script_run_answer_outs(byte *p1, byte *p2, byte *
 				n25 = 0;
 				n26 = 0;
 			} else {
-				uint64_t n31, n34, n35, n49;
-				uint8_t n32, n33;
+				uint64_t n31, n34, n35, n47, n51;
+				uint8_t n32, n33, n46;
 				memset(p9, 0, 24);
 				of_i8_i8 s30 = tp_timer_facility_facility_Facility_start_refusal(p1, n15);
 				if (s30.f0 == 1) {
@@ -57328,27 +57387,35 @@ static uint8_t tp_timer_script_script_run_answer_outs(byte *p1, byte *p2, byte *
 					n35 = n37;
 				}
 				uint64_t n42 = load64(p1 + 56);
-				byte *p43 = loadptr(p1 + 72);
-				uint64_t n44 = load64(p1 + 96);
-				uint64_t n45 = (uint64_t)load32(at(p43, load64(p1 + 24) << 3) + 4);
-				uint64_t n46 = usub_sat64(n45, n44);
-				uint64_t n47 = 0;
-				uint64_t n48 = n45;
-				for (;;) {
-					if (n47 == n42) {
-						n49 = n42;
-						break;
-					}
-					if (n44 > n48) {
-						n49 = n47;
-						break;
-					}
-					uint64_t n50 = (uint64_t)load32(at(p43, (n44 + n46) << 3) + 4);
-					n46 = usub_sat64(n50, n44);
-					n47 = n47 + 1;
-					n48 = n50;
+				uint64_t n43 = load64(p1 + 24);
+				byte *p44 = loadptr(p1 + 72);
+				uint64_t n45 = (uint64_t)load32(at(p44, n43 << 3) + 4);
+				if (n43 == n45) {
+					n46 = 0;
+					n47 = 0;
+				} else {
+					n46 = 1;
+					n47 = n45 - load64(p1 + 96);
 				}
-				if ((((n42 - n49) << 1) + 64) < load64(p1 + 1224)) {
+				uint64_t n48 = n47;
+				uint64_t n49 = 0;
+				uint8_t n50 = n46;
+				for (;;) {
+					if (n49 == n42) {
+						n51 = n42;
+						break;
+					}
+					if (n50 != 1) {
+						n51 = n49;
+						break;
+					}
+					uint64_t n52 = load64(p1 + 96);
+					uint64_t n53 = (uint64_t)load32(at(p44, (n52 + n48) << 3) + 4);
+					n48 = usub_sat64(n53, n52);
+					n49 = n49 + 1;
+					n50 = (uint8_t)(n52 <= n53);
+				}
+				if ((((n42 - n51) << 1) + 64) < load64(p1 + 1224)) {
 					tp_timer_facility_handles_sweep(p1 + 1216, p1);
 					n21 = n33;
 					n22 = n35;
@@ -57373,79 +57440,79 @@ static uint8_t tp_timer_script_script_run_answer_outs(byte *p1, byte *p2, byte *
 			n25 = 0;
 			n26 = 0;
 		}
-		uint64_t n51 = load64(p3 + 8);
-		byte *p52 = inside(loadptr(p3), n51 << 6);
-		store8(p52, n23);
-		store8(p52 + 1, 0);
-		store64u(p52 + 8, n13);
-		store64u(p52 + 16, n14);
-		store64u(p52 + 24, ((uint64_t)n24 << 8) | (uint64_t)n21);
-		store64u(p52 + 32, n22);
-		store64u(p52 + 40, n25);
-		store64u(p52 + 48, n26);
-		store64u(p52 + 56, 0);
-		store64(p3 + 8, n51 + 1);
+		uint64_t n54 = load64(p3 + 8);
+		byte *p55 = inside(loadptr(p3), n54 << 6);
+		store8(p55, n23);
+		store8(p55 + 1, 0);
+		store64u(p55 + 8, n13);
+		store64u(p55 + 16, n14);
+		store64u(p55 + 24, ((uint64_t)n24 << 8) | (uint64_t)n21);
+		store64u(p55 + 32, n22);
+		store64u(p55 + 40, n25);
+		store64u(p55 + 48, n26);
+		store64u(p55 + 56, 0);
+		store64(p3 + 8, n54 + 1);
 		break;
 	}
 	case 1: {
-		uint64_t n58;
+		uint64_t n61;
 		if (load64(p3 + 16) == 0) {
-			bool b53 = tp_std_alloc_vec_Vec_grow_amortized_4(p3, 1);
-			if (!b53)
+			bool b56 = tp_std_alloc_vec_Vec_grow_amortized_4(p3, 1);
+			if (!b56)
 				return 1;
 		}
-		byte *p54 = loadptr(p1 + 1216);
-		uint64_t n55 = load64(p1 + 1224);
-		if (n55 != 0) {
-			uint64_t n56 = load64(at(at(p54, n55 << 4), UINT64_C(18446744073709551608))) - n15;
-			if (n55 > n56) {
-				byte *p57 = inside(p54, (n55 + (n56 ^ UINT64_MAX)) << 4);
-				if (load64(p57 + 8) != n15)
+		byte *p57 = loadptr(p1 + 1216);
+		uint64_t n58 = load64(p1 + 1224);
+		if (n58 != 0) {
+			uint64_t n59 = load64(at(at(p57, n58 << 4), UINT64_C(18446744073709551608))) - n15;
+			if (n58 > n59) {
+				byte *p60 = inside(p57, (n58 + (n59 ^ UINT64_MAX)) << 4);
+				if (load64(p60 + 8) != n15)
 					goto L1;
-				n58 = load64(p57);
+				n61 = load64(p60);
 				goto L2;
 			}
 		}
-		if (n55 == 0) {
-			n58 = 0;
+		if (n58 == 0) {
+			n61 = 0;
 			goto L2;
 		}
 L1:
 		{
-			uint64_t n59 = 0;
-			uint64_t n60 = n55;
-			while (n60 > 1) {
-				uint64_t n64;
-				uint64_t n61 = n60 >> 1;
-				uint64_t n62 = n59 + n61;
-				uint64_t n63 = load64(at(p54, n62 << 4) + 8);
-				switch (MOSTLY_0((n63 == n15) ? 1 : (uint8_t)((n63 < n15) ? 0 : 2))) {
+			uint64_t n62 = 0;
+			uint64_t n63 = n58;
+			while (n63 > 1) {
+				uint64_t n67;
+				uint64_t n64 = n63 >> 1;
+				uint64_t n65 = n62 + n64;
+				uint64_t n66 = load64(at(p57, n65 << 4) + 8);
+				switch (MOSTLY_0((n66 == n15) ? 1 : (uint8_t)((n66 < n15) ? 0 : 2))) {
 				case 0:
 				case 1: {
-					n64 = n62;
+					n67 = n65;
 					break;
 				}
 				case 2: {
-					n64 = n59;
+					n67 = n62;
 					break;
 				}
 				default: {
 					UNREACHABLE();
 				}
 				}
-				n59 = n64;
-				n60 = n60 - n61;
+				n62 = n67;
+				n63 = n63 - n64;
 			}
-			byte *p65 = at(p54, n59 << 4);
-			uint64_t n66 = load64(p65 + 8);
-			switch ((n66 == n15) ? 1 : (uint8_t)((n66 < n15) ? 0 : 2)) {
+			byte *p68 = at(p57, n62 << 4);
+			uint64_t n69 = load64(p68 + 8);
+			switch ((n69 == n15) ? 1 : (uint8_t)((n69 < n15) ? 0 : 2)) {
 			case 1: {
-				n58 = load64(p65);
+				n61 = load64(p68);
 				break;
 			}
 			case 0:
 			case 2: {
-				n58 = 0;
+				n61 = 0;
 				break;
 			}
 			default: {
@@ -57455,153 +57522,162 @@ L1:
 		}
 L2:
 		{
-			uint64_t n67, n69;
-			uint8_t n68;
+			uint64_t n70, n72;
+			uint8_t n71;
 			if ((load8(p1 + 1176) & 1) != 0) {
-				n67 = 0;
-				n68 = 1;
-				n69 = 0;
+				n70 = 0;
+				n71 = 1;
+				n72 = 0;
 			} else if (load64(p1 + 128) > n13) {
-				uint64_t n70 = n13 << 3;
-				byte *p71 = inside(p1 + 152, n70);
-				uint64_t n72 = load64(p71);
-				if (n14 < n72) {
-					n67 = n72;
-					n68 = 1;
-					n69 = 2;
-				} else if (n72 > UINT64_C(1152921504606846975)) {
-					n67 = 0;
-					n68 = 1;
-					n69 = 3;
-				} else if (n72 < n14) {
-					n67 = n72;
-					n68 = 1;
-					n69 = 4;
+				uint64_t n73 = n13 << 3;
+				byte *p74 = inside(p1 + 152, n73);
+				uint64_t n75 = load64(p74);
+				if (n14 < n75) {
+					n70 = n75;
+					n71 = 1;
+					n72 = 2;
+				} else if (n75 > UINT64_C(1152921504606846975)) {
+					n70 = 0;
+					n71 = 1;
+					n72 = 3;
+				} else if (n75 < n14) {
+					n70 = n75;
+					n71 = 1;
+					n72 = 4;
 				} else {
-					uint64_t n73, n74, n84;
+					uint64_t n76, n77, n85, n89;
+					uint8_t n84;
 					memset(p6, 0, 48);
-					tp_facility_Facility_find_named(p6, p1, n13, n58, n15);
+					tp_facility_Facility_find_named(p6, p1, n13, n61, n15);
 					if (load8(p6) == 0) {
-						n73 = 0;
-						n74 = 1027;
+						n76 = 0;
+						n77 = 1027;
 					} else {
-						uint64_t n75 = load64u(p6 + 8);
-						tp_HashedWheelWheel_stop(p7, p1, n58, n15);
-						byte *p76 = inside(p1 + 664, n70);
-						store64(p76, load64(p76) - 1);
-						n73 = n75;
-						n74 = 1;
+						uint64_t n78 = load64u(p6 + 8);
+						tp_HashedWheelWheel_stop(p7, p1, n61, n15);
+						byte *p79 = inside(p1 + 664, n73);
+						store64(p79, load64(p79) - 1);
+						n76 = n78;
+						n77 = 1;
 					}
-					store64(p71, n14 + 1);
-					uint64_t n77 = load64(p1 + 56);
-					byte *p78 = loadptr(p1 + 72);
-					uint64_t n79 = load64(p1 + 96);
-					uint64_t n80 = (uint64_t)load32(at(p78, load64(p1 + 24) << 3) + 4);
-					uint64_t n81 = usub_sat64(n80, n79);
-					uint64_t n82 = 0;
-					uint64_t n83 = n80;
+					store64(p74, n14 + 1);
+					uint64_t n80 = load64(p1 + 56);
+					uint64_t n81 = load64(p1 + 24);
+					byte *p82 = loadptr(p1 + 72);
+					uint64_t n83 = (uint64_t)load32(at(p82, n81 << 3) + 4);
+					if (n81 == n83) {
+						n84 = 0;
+						n85 = 0;
+					} else {
+						n84 = 1;
+						n85 = n83 - load64(p1 + 96);
+					}
+					uint64_t n86 = n85;
+					uint64_t n87 = 0;
+					uint8_t n88 = n84;
 					for (;;) {
-						if (n82 == n77) {
-							n84 = n77;
+						if (n87 == n80) {
+							n89 = n80;
 							break;
 						}
-						if (n79 > n83) {
-							n84 = n82;
+						if (n88 != 1) {
+							n89 = n87;
 							break;
 						}
-						uint64_t n85 = (uint64_t)load32(at(p78, (n79 + n81) << 3) + 4);
-						n81 = usub_sat64(n85, n79);
-						n82 = n82 + 1;
-						n83 = n85;
+						uint64_t n90 = load64(p1 + 96);
+						uint64_t n91 = (uint64_t)load32(at(p82, (n90 + n86) << 3) + 4);
+						n86 = usub_sat64(n91, n90);
+						n87 = n87 + 1;
+						n88 = (uint8_t)(n90 <= n91);
 					}
-					if ((((n77 - n84) << 1) + 64) < load64(p1 + 1224)) {
+					if ((((n80 - n89) << 1) + 64) < load64(p1 + 1224)) {
 						tp_timer_facility_handles_sweep(p1 + 1216, p1);
-						n67 = n73;
-						n68 = 0;
-						n69 = n74;
+						n70 = n76;
+						n71 = 0;
+						n72 = n77;
 					} else {
-						n67 = n73;
-						n68 = 0;
-						n69 = n74;
+						n70 = n76;
+						n71 = 0;
+						n72 = n77;
 					}
 				}
 			} else {
-				n67 = 0;
-				n68 = 1;
-				n69 = 1;
+				n70 = 0;
+				n71 = 1;
+				n72 = 1;
 			}
-			uint64_t n86 = load64(p3 + 8);
-			byte *p87 = inside(loadptr(p3), n86 << 6);
-			store8(p87, n68);
-			store8(p87 + 1, 0);
-			store64u(p87 + 8, n13);
-			store64u(p87 + 16, n14);
-			store64u(p87 + 24, n69);
-			store64u(p87 + 32, n67);
-			memset(p87 + 40, 0, 24);
-			store64(p3 + 8, n86 + 1);
+			uint64_t n92 = load64(p3 + 8);
+			byte *p93 = inside(loadptr(p3), n92 << 6);
+			store8(p93, n71);
+			store8(p93 + 1, 0);
+			store64u(p93 + 8, n13);
+			store64u(p93 + 16, n14);
+			store64u(p93 + 24, n72);
+			store64u(p93 + 32, n70);
+			memset(p93 + 40, 0, 24);
+			store64(p3 + 8, n92 + 1);
 		}
 		break;
 	}
 	case 2: {
-		uint64_t n93;
+		uint64_t n99;
 		if (load64(p3 + 16) == 0) {
-			bool b88 = tp_std_alloc_vec_Vec_grow_amortized_4(p3, 1);
-			if (!b88)
+			bool b94 = tp_std_alloc_vec_Vec_grow_amortized_4(p3, 1);
+			if (!b94)
 				return 1;
 		}
-		byte *p89 = loadptr(p1 + 1216);
-		uint64_t n90 = load64(p1 + 1224);
-		if (n90 != 0) {
-			uint64_t n91 = load64(at(at(p89, n90 << 4), UINT64_C(18446744073709551608))) - n15;
-			if (n90 > n91) {
-				byte *p92 = inside(p89, (n90 + (n91 ^ UINT64_MAX)) << 4);
-				if (load64(p92 + 8) != n15)
+		byte *p95 = loadptr(p1 + 1216);
+		uint64_t n96 = load64(p1 + 1224);
+		if (n96 != 0) {
+			uint64_t n97 = load64(at(at(p95, n96 << 4), UINT64_C(18446744073709551608))) - n15;
+			if (n96 > n97) {
+				byte *p98 = inside(p95, (n96 + (n97 ^ UINT64_MAX)) << 4);
+				if (load64(p98 + 8) != n15)
 					goto L3;
-				n93 = load64(p92);
+				n99 = load64(p98);
 				goto L4;
 			}
 		}
-		if (n90 == 0) {
-			n93 = 0;
+		if (n96 == 0) {
+			n99 = 0;
 			goto L4;
 		}
 L3:
 		{
-			uint64_t n94 = 0;
-			uint64_t n95 = n90;
-			while (n95 > 1) {
-				uint64_t n99;
-				uint64_t n96 = n95 >> 1;
-				uint64_t n97 = n94 + n96;
-				uint64_t n98 = load64(at(p89, n97 << 4) + 8);
-				switch (MOSTLY_0((n98 == n15) ? 1 : (uint8_t)((n98 < n15) ? 0 : 2))) {
+			uint64_t n100 = 0;
+			uint64_t n101 = n96;
+			while (n101 > 1) {
+				uint64_t n105;
+				uint64_t n102 = n101 >> 1;
+				uint64_t n103 = n100 + n102;
+				uint64_t n104 = load64(at(p95, n103 << 4) + 8);
+				switch (MOSTLY_0((n104 == n15) ? 1 : (uint8_t)((n104 < n15) ? 0 : 2))) {
 				case 0:
 				case 1: {
-					n99 = n97;
+					n105 = n103;
 					break;
 				}
 				case 2: {
-					n99 = n94;
+					n105 = n100;
 					break;
 				}
 				default: {
 					UNREACHABLE();
 				}
 				}
-				n94 = n99;
-				n95 = n95 - n96;
+				n100 = n105;
+				n101 = n101 - n102;
 			}
-			byte *p100 = at(p89, n94 << 4);
-			uint64_t n101 = load64(p100 + 8);
-			switch ((n101 == n15) ? 1 : (uint8_t)((n101 < n15) ? 0 : 2)) {
+			byte *p106 = at(p95, n100 << 4);
+			uint64_t n107 = load64(p106 + 8);
+			switch ((n107 == n15) ? 1 : (uint8_t)((n107 < n15) ? 0 : 2)) {
 			case 1: {
-				n93 = load64(p100);
+				n99 = load64(p106);
 				break;
 			}
 			case 0:
 			case 2: {
-				n93 = 0;
+				n99 = 0;
 				break;
 			}
 			default: {
@@ -57611,82 +57687,83 @@ L3:
 		}
 L4:
 		{
-			uint8_t n104, n106, n107;
-			uint64_t n105, n108, n109, n110;
+			uint8_t n110, n112, n113;
+			uint64_t n111, n114, n115, n116;
 			store64u(p10, 3);
-			store64u(p10 + 8, n93);
+			store64u(p10 + 8, n99);
 			store64u(p10 + 16, n15);
 			store64u(p10 + 24, n16);
 			store64u(p10 + 32, n17);
-			if (load64(p1 + 1232) == n90) {
-				bool b102 = tp_std_alloc_vec_Vec_grow_amortized_3(p1 + 1216);
-				if (!b102) {
-					bool b103 = tp_timer_facility_facility_Facility_makes_timer(p1, n13, n14, p10);
-					if (b103)
+			if (load64(p1 + 1232) == n96) {
+				bool b108 = tp_std_alloc_vec_Vec_grow_amortized_3(p1 + 1216);
+				if (!b108) {
+					bool b109 = tp_timer_facility_facility_Facility_makes_timer(p1, n13, n14, p10);
+					if (b109)
 						return 1;
 				}
 			}
 			if ((load8(p1 + 1176) & 1) != 0) {
-				n104 = 0;
-				n105 = 0;
-				n106 = 1;
-				n107 = 0;
-				n108 = 0;
-				n109 = 0;
 				n110 = 0;
+				n111 = 0;
+				n112 = 1;
+				n113 = 0;
+				n114 = 0;
+				n115 = 0;
+				n116 = 0;
 			} else if (load64(p1 + 128) > n13) {
-				byte *p111 = inside(p1 + 152, n13 << 3);
-				uint64_t n112 = load64(p111);
-				if (n14 < n112) {
-					n104 = 2;
-					n105 = n112;
-					n106 = 1;
-					n107 = 0;
-					n108 = 0;
-					n109 = 0;
-					n110 = 0;
-				} else if (n112 > UINT64_C(1152921504606846975)) {
-					n104 = 3;
-					n105 = 0;
-					n106 = 1;
-					n107 = 0;
-					n108 = 0;
-					n109 = 0;
-					n110 = 0;
-				} else if (n112 < n14) {
-					n104 = 4;
-					n105 = n112;
-					n106 = 1;
-					n107 = 0;
-					n108 = 0;
-					n109 = 0;
-					n110 = 0;
+				byte *p117 = inside(p1 + 152, n13 << 3);
+				uint64_t n118 = load64(p117);
+				if (n14 < n118) {
+					n110 = 2;
+					n111 = n118;
+					n112 = 1;
+					n113 = 0;
+					n114 = 0;
+					n115 = 0;
+					n116 = 0;
+				} else if (n118 > UINT64_C(1152921504606846975)) {
+					n110 = 3;
+					n111 = 0;
+					n112 = 1;
+					n113 = 0;
+					n114 = 0;
+					n115 = 0;
+					n116 = 0;
+				} else if (n118 < n14) {
+					n110 = 4;
+					n111 = n118;
+					n112 = 1;
+					n113 = 0;
+					n114 = 0;
+					n115 = 0;
+					n116 = 0;
 				} else {
-					uint64_t n130;
+					uint8_t n133;
+					uint64_t n134, n138;
 					memset(p5, 0, 40);
-					tp_timer_facility_facility_Facility_take_restart(p5, p1, n13, n14, n93, n15, n16, n16, n17);
-					uint8_t n113 = load8(p5);
-					uint8_t n114 = load8(p5 + 1);
-					uint64_t n115 = load64u(p5 + 8);
-					uint64_t n116 = load64u(p5 + 16);
-					uint64_t n117 = load64u(p5 + 24);
-					uint64_t n118 = load64u(p5 + 32);
-					store64(p111, n14 + 1);
-					switch (MOSTLY_0(n113)) {
+					tp_timer_facility_facility_Facility_take_restart(p5, p1, n13, n14, n99, n15, n16, n16, n17);
+					uint8_t n119 = load8(p5);
+					uint8_t n120 = load8(p5 + 1);
+					uint64_t n121 = load64u(p5 + 8);
+					uint64_t n122 = load64u(p5 + 16);
+					uint64_t n123 = load64u(p5 + 24);
+					uint64_t n124 = load64u(p5 + 32);
+					store64(p117, n14 + 1);
+					switch (MOSTLY_0(n119)) {
 					case 0: {
-						uint64_t n119 = load64(p1 + 1224);
-						byte *p120 = inside(loadptr(p1 + 1216), n119 << 4);
-						store64u(p120, n115);
-						store64u(p120 + 8, n116);
-						store64(p1 + 1224, n119 + 1);
+						uint64_t n125 = load64(p1 + 1224);
+						byte *p126 = inside(loadptr(p1 + 1216), n125 << 4);
+						store64u(p126, n121);
+						store64u(p126 + 8, n122);
+						store64(p1 + 1224, n125 + 1);
 						break;
 					}
 					case 2: {
-						uint64_t n121 = load64(p1 + 1224);
-						byte *p122 = inside(loadptr(p1 + 1216), n121 << 4);
-						store64u(p122, n115);
-						store64u(p122 + 8, n116);
-						store64(p1 + 1224, n121 + 1);
+						uint64_t n127 = load64(p1 + 1224);
+						byte *p128 = inside(loadptr(p1 + 1216), n127 << 4);
+						store64u(p128, n121);
+						store64u(p128 + 8, n122);
+						store64(p1 + 1224, n127 + 1);
 						break;
 					}
 					case 1:
@@ -57697,500 +57774,583 @@ L4:
 						UNREACHABLE();
 					}
 					}
-					uint64_t n123 = load64(p1 + 56);
-					byte *p124 = loadptr(p1 + 72);
-					uint64_t n125 = load64(p1 + 96);
-					uint64_t n126 = (uint64_t)load32(at(p124, load64(p1 + 24) << 3) + 4);
-					uint64_t n127 = usub_sat64(n126, n125);
-					uint64_t n128 = 0;
-					uint64_t n129 = n126;
-					for (;;) {
-						if (n128 == n123) {
-							n130 = n123;
-							break;
-						}
-						if (n125 > n129) {
-							n130 = n128;
-							break;
-						}
-						uint64_t n131 = (uint64_t)load32(at(p124, (n125 + n127) << 3) + 4);
-						n127 = usub_sat64(n131, n125);
-						n128 = n128 + 1;
-						n129 = n131;
-					}
-					if ((((n123 - n130) << 1) + 64) < load64(p1 + 1224)) {
-						tp_timer_facility_handles_sweep(p1 + 1216, p1);
-						n104 = n113;
-						n105 = n115;
-						n106 = 0;
-						n107 = n114;
-						n108 = n116;
-						n109 = n117;
-						n110 = n118;
+					uint64_t n129 = load64(p1 + 56);
+					uint64_t n130 = load64(p1 + 24);
+					byte *p131 = loadptr(p1 + 72);
+					uint64_t n132 = (uint64_t)load32(at(p131, n130 << 3) + 4);
+					if (n130 == n132) {
+						n133 = 0;
+						n134 = 0;
 					} else {
-						n104 = n113;
-						n105 = n115;
-						n106 = 0;
-						n107 = n114;
-						n108 = n116;
-						n109 = n117;
-						n110 = n118;
+						n133 = 1;
+						n134 = n132 - load64(p1 + 96);
+					}
+					uint64_t n135 = n134;
+					uint64_t n136 = 0;
+					uint8_t n137 = n133;
+					for (;;) {
+						if (n136 == n129) {
+							n138 = n129;
+							break;
+						}
+						if (n137 != 1) {
+							n138 = n136;
+							break;
+						}
+						uint64_t n139 = load64(p1 + 96);
+						uint64_t n140 = (uint64_t)load32(at(p131, (n139 + n135) << 3) + 4);
+						n135 = usub_sat64(n140, n139);
+						n136 = n136 + 1;
+						n137 = (uint8_t)(n139 <= n140);
+					}
+					if ((((n129 - n138) << 1) + 64) < load64(p1 + 1224)) {
+						tp_timer_facility_handles_sweep(p1 + 1216, p1);
+						n110 = n119;
+						n111 = n121;
+						n112 = 0;
+						n113 = n120;
+						n114 = n122;
+						n115 = n123;
+						n116 = n124;
+					} else {
+						n110 = n119;
+						n111 = n121;
+						n112 = 0;
+						n113 = n120;
+						n114 = n122;
+						n115 = n123;
+						n116 = n124;
 					}
 				}
 			} else {
-				n104 = 1;
-				n105 = 0;
-				n106 = 1;
-				n107 = 0;
-				n108 = 0;
-				n109 = 0;
-				n110 = 0;
+				n110 = 1;
+				n111 = 0;
+				n112 = 1;
+				n113 = 0;
+				n114 = 0;
+				n115 = 0;
+				n116 = 0;
 			}
-			uint64_t n132 = load64(p3 + 8);
-			byte *p133 = inside(loadptr(p3), n132 << 6);
-			store8(p133, n106);
-			store8(p133 + 1, 0);
-			store64u(p133 + 8, n13);
-			store64u(p133 + 16, n14);
-			store64u(p133 + 24, ((uint64_t)n107 << 8) | (uint64_t)n104);
-			store64u(p133 + 32, n105);
-			store64u(p133 + 40, n108);
-			store64u(p133 + 48, n109);
-			store64u(p133 + 56, n110);
-			store64(p3 + 8, n132 + 1);
+			uint64_t n141 = load64(p3 + 8);
+			byte *p142 = inside(loadptr(p3), n141 << 6);
+			store8(p142, n112);
+			store8(p142 + 1, 0);
+			store64u(p142 + 8, n13);
+			store64u(p142 + 16, n14);
+			store64u(p142 + 24, ((uint64_t)n113 << 8) | (uint64_t)n110);
+			store64u(p142 + 32, n111);
+			store64u(p142 + 40, n114);
+			store64u(p142 + 48, n115);
+			store64u(p142 + 56, n116);
+			store64(p3 + 8, n141 + 1);
 		}
 		break;
 	}
 	case 3: {
-		uint64_t n141, n205;
-		uint8_t n146;
-		byte *p206;
-		uint64_t n134 = load64(p1 + 56);
-		byte *p135 = loadptr(p1 + 72);
-		uint64_t n136 = load64(p1 + 96);
-		uint64_t n137 = (uint64_t)load32(at(p135, load64(p1 + 24) << 3) + 4);
-		uint64_t n138 = usub_sat64(n137, n136);
-		uint64_t n139 = 0;
-		uint64_t n140 = n137;
-		for (;;) {
-			if (n139 == n134) {
-				n141 = n134;
-				break;
-			}
-			if (n136 > n140) {
-				n141 = n139;
-				break;
-			}
-			uint64_t n142 = (uint64_t)load32(at(p135, (n136 + n138) << 3) + 4);
-			n138 = usub_sat64(n142, n136);
-			n139 = n139 + 1;
-			n140 = n142;
+		uint8_t n147, n158;
+		uint64_t n148, n152, n221;
+		byte *p222;
+		uint64_t n143 = load64(p1 + 56);
+		uint64_t n144 = load64(p1 + 24);
+		byte *p145 = loadptr(p1 + 72);
+		uint64_t n146 = (uint64_t)load32(at(p145, n144 << 3) + 4);
+		if (n144 == n146) {
+			n147 = 0;
+			n148 = 0;
+		} else {
+			n147 = 1;
+			n148 = n146 - load64(p1 + 96);
 		}
-		uint64_t n143 = (n134 - n141) + 1;
-		if (n143 > load64(p3 + 16)) {
-			bool b144 = tp_std_alloc_vec_Vec_grow_amortized_4(p3, n143);
-			if (!b144)
+		uint64_t n149 = n148;
+		uint64_t n150 = 0;
+		uint8_t n151 = n147;
+		for (;;) {
+			if (n150 == n143) {
+				n152 = n143;
+				break;
+			}
+			if (n151 != 1) {
+				n152 = n150;
+				break;
+			}
+			uint64_t n153 = load64(p1 + 96);
+			uint64_t n154 = (uint64_t)load32(at(p145, (n153 + n149) << 3) + 4);
+			n149 = usub_sat64(n154, n153);
+			n150 = n150 + 1;
+			n151 = (uint8_t)(n153 <= n154);
+		}
+		uint64_t n155 = (n143 - n152) + 1;
+		if (n155 > load64(p3 + 16)) {
+			bool b156 = tp_std_alloc_vec_Vec_grow_amortized_4(p3, n155);
+			if (!b156)
 				return 1;
 		}
-		uint64_t n145 = n13;
+		uint64_t n157 = n13;
 		for (;;) {
-			uint64_t n178;
-			if (n145 == 0)
+			uint64_t n191;
+			if (n157 == 0)
 				goto L5;
 			if ((load8(p1 + 1176) & 1) != 0) {
-				n146 = 0;
+				n158 = 0;
 				break;
 			}
-			uint64_t n147 = load64(p1 + 8);
-			uint64_t n148 = load64(p1);
-			if (n147 == n148) {
-				n146 = 1;
+			uint64_t n159 = load64(p1 + 8);
+			uint64_t n160 = load64(p1);
+			if (n159 == n160) {
+				n158 = 1;
 				break;
 			}
-			uint64_t n149 = umin64(n148 - n147, n145);
-			uint64_t n150 = load64(p1 + 24);
-			uint64_t n151 = 0;
+			uint64_t n161 = umin64(n160 - n159, n157);
+			uint64_t n162 = load64(p1 + 24);
+			uint64_t n163 = 0;
 			for (;;) {
-				uint64_t n182;
-				if (n151 >= n149) {
-					n178 = n149;
+				uint64_t n195;
+				if (n163 >= n161) {
+					n191 = n161;
 					break;
 				}
-				uint64_t n152 = umin64(n149 - n151, n150);
-				uint64_t n153 = load64(p1 + 24);
-				uint64_t n154 = 0;
-				while (n154 != n152) {
-					uint64_t n155 = load64(p1 + 120) + 1;
-					uint64_t n156 = n155 - ((n155 < n153) ? 0 : n153);
-					uint64_t n157 = load64(p1 + 96);
-					uint64_t n158 = (uint64_t)load32(at(loadptr(p1 + 72), n156 << 3) + 4);
-					uint64_t n159 = load64(p1 + 56);
-					uint64_t n160 = 0;
-					uint64_t n161 = usub_sat64(n158, n157);
-					bool b162 = n157 <= n158;
-					while (n160 != n159) {
-						if (!b162)
+				uint64_t n164 = umin64(n161 - n163, n162);
+				uint64_t n165 = load64(p1 + 24);
+				uint64_t n166 = 0;
+				while (n166 != n164) {
+					uint8_t n170;
+					uint64_t n171;
+					uint64_t n167 = load64(p1 + 120) + 1;
+					uint64_t n168 = n167 - ((n167 < n165) ? 0 : n165);
+					uint64_t n169 = (uint64_t)load32(at(loadptr(p1 + 72), n168 << 3) + 4);
+					if (n168 == n169) {
+						n170 = 0;
+						n171 = 0;
+					} else {
+						n170 = 1;
+						n171 = n169 - load64(p1 + 96);
+					}
+					uint64_t n172 = load64(p1 + 56);
+					uint64_t n173 = 0;
+					uint64_t n174 = n171;
+					uint8_t n175 = n170;
+					while (n173 != n172) {
+						if (n175 != 1)
 							break;
-						byte *p163 = at(loadptr(p1 + 32), n161 * 56);
-						if (n161 >= load64(p1 + 40)) {
+						byte *p176 = at(loadptr(p1 + 32), n174 * 56);
+						if (n174 >= load64(p1 + 40)) {
 							TRAP();
 							UNREACHABLE();
 						}
-						if (load8(p163) != 1) {
+						if (load8(p176) != 1) {
 							TRAP();
 							UNREACHABLE();
 						}
-						uint64_t n164 = load64u(p163 + 48);
-						uint64_t n165 = load64(p1 + 96);
-						uint64_t n166 = n165 + n161;
-						byte *p167 = loadptr(p1 + 72);
-						byte *p168 = at(p167, n166 << 3);
-						uint32_t n169 = load32(p168 + 4);
-						uint64_t n170 = (uint64_t)n169;
-						bool b171 = n165 <= n170;
-						uint64_t n172 = usub_sat64(n170, n165);
-						if (n164 == 0) {
-							uint32_t n173 = load32(p168);
-							store32(inside(p167, (uint64_t)n173 << 3) + 4, n169);
-							store32(inside(p167, n170 << 3), n173);
-							byte *p174 = inside(p167, n153 << 3);
-							uint32_t n175 = load32(p174);
-							uint32_t n176 = (uint32_t)n166;
-							store32(inside(p167, (uint64_t)n175 << 3) + 4, n176);
-							store32(p168, n175);
-							store32(p168 + 4, (uint32_t)n153);
-							store32(p174, n176);
+						uint64_t n177 = load64u(p176 + 48);
+						uint64_t n178 = load64(p1 + 96);
+						uint64_t n179 = n178 + n174;
+						byte *p180 = loadptr(p1 + 72);
+						byte *p181 = at(p180, n179 << 3);
+						uint32_t n182 = load32(p181 + 4);
+						uint64_t n183 = (uint64_t)n182;
+						uint64_t n184 = usub_sat64(n183, n178);
+						uint8_t n185 = (uint8_t)(n178 <= n183);
+						if (n177 == 0) {
+							uint32_t n186 = load32(p181);
+							store32(inside(p180, (uint64_t)n186 << 3) + 4, n182);
+							store32(inside(p180, n183 << 3), n186);
+							byte *p187 = inside(p180, n165 << 3);
+							uint32_t n188 = load32(p187);
+							uint32_t n189 = (uint32_t)n179;
+							store32(inside(p180, (uint64_t)n188 << 3) + 4, n189);
+							store32(p181, n188);
+							store32(p181 + 4, (uint32_t)n165);
+							store32(p187, n189);
 						} else {
-							store64(p163 + 48, n164 - 1);
+							store64(p176 + 48, n177 - 1);
 						}
-						n160 = n160 + 1;
-						n161 = n172;
-						b162 = b171;
+						n173 = n173 + 1;
+						n174 = n184;
+						n175 = n185;
 					}
 					store64(p1 + 8, load64(p1 + 8) + 1);
-					store64(p1 + 120, n156);
-					uint64_t n177 = load64(p1 + 24);
-					if (n177 != (uint64_t)load32(at(loadptr(p1 + 72), n177 << 3) + 4)) {
-						n178 = n151 + (n154 + 1);
+					store64(p1 + 120, n168);
+					uint64_t n190 = load64(p1 + 24);
+					if (n190 != (uint64_t)load32(at(loadptr(p1 + 72), n190 << 3) + 4)) {
+						n191 = n163 + (n166 + 1);
 						goto L6;
 					}
-					n153 = n177;
-					n154 = n154 + 1;
+					n165 = n190;
+					n166 = n166 + 1;
 				}
-				byte *p179 = loadptr(p1 + 72);
-				uint64_t n180 = n151 + n152;
-				if (n153 != (uint64_t)load32(at(p179, n153 << 3) + 4)) {
-					n178 = n180;
+				byte *p192 = loadptr(p1 + 72);
+				uint64_t n193 = n163 + n164;
+				if (n165 != (uint64_t)load32(at(p192, n165 << 3) + 4)) {
+					n191 = n193;
 					break;
 				}
-				uint64_t n181 = n149 - n180;
-				if (n181 < n153) {
-					n182 = 0;
+				uint64_t n194 = n161 - n193;
+				if (n194 < n165) {
+					n195 = 0;
 				} else {
-					if (n153 == 0) {
+					if (n165 == 0) {
 						TRAP();
 						UNREACHABLE();
 					}
-					uint64_t n183 = 0;
-					uint64_t n184 = n181 / n153;
-					while (n183 != n153) {
-						uint64_t n185 = load64(p1 + 96);
-						uint64_t n186 = (uint64_t)load32(at(p179, n183 << 3) + 4);
-						uint64_t n187 = load64(p1 + 56);
-						uint64_t n188 = usub_sat64(n186, n185);
-						uint64_t n189 = 0;
-						uint64_t n190 = n186;
-						uint64_t n191 = n184;
-						while (n189 != n187) {
-							if (n185 > n190)
+					uint64_t n196 = 0;
+					uint64_t n197 = n194 / n165;
+					while (n196 != n165) {
+						uint8_t n199;
+						uint64_t n200;
+						uint64_t n198 = (uint64_t)load32(at(p192, n196 << 3) + 4);
+						if (n196 == n198) {
+							n199 = 0;
+							n200 = 0;
+						} else {
+							n199 = 1;
+							n200 = n198 - load64(p1 + 96);
+						}
+						uint64_t n201 = load64(p1 + 56);
+						uint64_t n202 = n200;
+						uint64_t n203 = 0;
+						uint8_t n204 = n199;
+						uint64_t n205 = n197;
+						while (n203 != n201) {
+							if (n204 != 1)
 								break;
-							byte *p192 = at(loadptr(p1 + 32), n188 * 56);
-							if (n188 >= load64(p1 + 40)) {
+							byte *p206 = at(loadptr(p1 + 32), n202 * 56);
+							if (n202 >= load64(p1 + 40)) {
 								TRAP();
 								UNREACHABLE();
 							}
-							if (load8(p192) != 1) {
+							if (load8(p206) != 1) {
 								TRAP();
 								UNREACHABLE();
 							}
-							uint64_t n193 = (uint64_t)load32(at(p179, (n185 + n188) << 3) + 4);
-							n188 = usub_sat64(n193, n185);
-							n189 = n189 + 1;
-							n190 = n193;
-							n191 = umin64(load64u(p192 + 48), n191);
+							uint64_t n207 = load64(p1 + 96);
+							uint64_t n208 = (uint64_t)load32(at(p192, (n207 + n202) << 3) + 4);
+							n202 = usub_sat64(n208, n207);
+							n203 = n203 + 1;
+							n204 = (uint8_t)(n207 <= n208);
+							n205 = umin64(load64u(p206 + 48), n205);
 						}
-						n183 = n183 + 1;
-						n184 = n191;
+						n196 = n196 + 1;
+						n197 = n205;
 					}
-					if (n184 == 0) {
-						n182 = 0;
+					if (n197 == 0) {
+						n195 = 0;
 					} else {
-						uint64_t n194 = n184 * n153;
-						uint64_t n195 = 0;
-						while (n195 != n153) {
-							uint64_t n196 = load64(p1 + 96);
-							uint64_t n197 = (uint64_t)load32(at(loadptr(p1 + 72), n195 << 3) + 4);
-							uint64_t n198 = load64(p1 + 56);
-							uint64_t n199 = 0;
-							uint64_t n200 = usub_sat64(n197, n196);
-							bool b201 = n196 <= n197;
-							while (n199 != n198) {
-								if (!b201)
-									break;
-								byte *p202 = at(loadptr(p1 + 32), n200 * 56);
-								if (n200 >= load64(p1 + 40)) {
-									TRAP();
-									UNREACHABLE();
-								}
-								if (load8(p202) != 1) {
-									TRAP();
-									UNREACHABLE();
-								}
-								uint64_t n203 = load64(p1 + 96);
-								uint64_t n204 = (uint64_t)load32(at(loadptr(p1 + 72), (n203 + n200) << 3) + 4);
-								store64(p202 + 48, load64u(p202 + 48) - n184);
-								n199 = n199 + 1;
-								n200 = usub_sat64(n204, n203);
-								b201 = n203 <= n204;
+						uint64_t n209 = n197 * n165;
+						uint64_t n210 = 0;
+						while (n210 != n165) {
+							uint8_t n212;
+							uint64_t n213;
+							uint64_t n211 = (uint64_t)load32(at(loadptr(p1 + 72), n210 << 3) + 4);
+							if (n210 == n211) {
+								n212 = 0;
+								n213 = 0;
+							} else {
+								n212 = 1;
+								n213 = n211 - load64(p1 + 96);
 							}
-							n195 = n195 + 1;
+							uint64_t n214 = load64(p1 + 56);
+							uint64_t n215 = 0;
+							uint64_t n216 = n213;
+							uint8_t n217 = n212;
+							while (n215 != n214) {
+								if (n217 != 1)
+									break;
+								byte *p218 = at(loadptr(p1 + 32), n216 * 56);
+								if (n216 >= load64(p1 + 40)) {
+									TRAP();
+									UNREACHABLE();
+								}
+								if (load8(p218) != 1) {
+									TRAP();
+									UNREACHABLE();
+								}
+								uint64_t n219 = load64(p1 + 96);
+								uint64_t n220 = (uint64_t)load32(at(loadptr(p1 + 72), (n219 + n216) << 3) + 4);
+								store64(p218 + 48, load64u(p218 + 48) - n197);
+								n215 = n215 + 1;
+								n216 = usub_sat64(n220, n219);
+								n217 = (uint8_t)(n219 <= n220);
+							}
+							n210 = n210 + 1;
 						}
-						store64(p1 + 8, load64(p1 + 8) + n194);
-						n182 = n194;
+						store64(p1 + 8, load64(p1 + 8) + n209);
+						n195 = n209;
 					}
 				}
-				n151 = n180 + n182;
+				n163 = n193 + n195;
 			}
 L6:
 			{
 				tp_timer_facility_player_hand_out_2(p1, p3);
-				n145 = n145 - n178;
+				n157 = n157 - n191;
 			}
 		}
-		n205 = load64(p3 + 8);
-		p206 = inside(loadptr(p3), n205 << 6);
-		store8(p206, 3);
-		store8(p206 + 1, n146);
-		memset(p206 + 8, 0, 56);
-		store64(p3 + 8, n205 + 1);
+		n221 = load64(p3 + 8);
+		p222 = inside(loadptr(p3), n221 << 6);
+		store8(p222, 3);
+		store8(p222 + 1, n158);
+		memset(p222 + 8, 0, 56);
+		store64(p3 + 8, n221 + 1);
 L5:
 		{
-			uint64_t n214;
-			uint64_t n207 = load64(p1 + 56);
-			byte *p208 = loadptr(p1 + 72);
-			uint64_t n209 = load64(p1 + 96);
-			uint64_t n210 = (uint64_t)load32(at(p208, load64(p1 + 24) << 3) + 4);
-			uint64_t n211 = usub_sat64(n210, n209);
-			uint64_t n212 = 0;
-			uint64_t n213 = n210;
-			for (;;) {
-				if (n212 == n207) {
-					n214 = n207;
-					break;
-				}
-				if (n209 > n213) {
-					n214 = n212;
-					break;
-				}
-				uint64_t n215 = (uint64_t)load32(at(p208, (n209 + n211) << 3) + 4);
-				n211 = usub_sat64(n215, n209);
-				n212 = n212 + 1;
-				n213 = n215;
+			uint8_t n227;
+			uint64_t n228, n232;
+			uint64_t n223 = load64(p1 + 56);
+			uint64_t n224 = load64(p1 + 24);
+			byte *p225 = loadptr(p1 + 72);
+			uint64_t n226 = (uint64_t)load32(at(p225, n224 << 3) + 4);
+			if (n224 == n226) {
+				n227 = 0;
+				n228 = 0;
+			} else {
+				n227 = 1;
+				n228 = n226 - load64(p1 + 96);
 			}
-			if ((((n207 - n214) << 1) + 64) < load64(p1 + 1224))
+			uint64_t n229 = n228;
+			uint64_t n230 = 0;
+			uint8_t n231 = n227;
+			for (;;) {
+				if (n230 == n223) {
+					n232 = n223;
+					break;
+				}
+				if (n231 != 1) {
+					n232 = n230;
+					break;
+				}
+				uint64_t n233 = load64(p1 + 96);
+				uint64_t n234 = (uint64_t)load32(at(p225, (n233 + n229) << 3) + 4);
+				n229 = usub_sat64(n234, n233);
+				n230 = n230 + 1;
+				n231 = (uint8_t)(n233 <= n234);
+			}
+			if ((((n223 - n232) << 1) + 64) < load64(p1 + 1224))
 				tp_timer_facility_handles_sweep(p1 + 1216, p1);
 		}
 		break;
 	}
 	case 4: {
-		uint64_t n223;
-		uint64_t n216 = load64(p1 + 56);
-		byte *p217 = loadptr(p1 + 72);
-		uint64_t n218 = load64(p1 + 96);
-		uint64_t n219 = (uint64_t)load32(at(p217, load64(p1 + 24) << 3) + 4);
-		uint64_t n220 = usub_sat64(n219, n218);
-		uint64_t n221 = 0;
-		uint64_t n222 = n219;
-		for (;;) {
-			if (n221 == n216) {
-				n223 = n216;
-				break;
-			}
-			if (n218 > n222) {
-				n223 = n221;
-				break;
-			}
-			uint64_t n224 = (uint64_t)load32(at(p217, (n218 + n220) << 3) + 4);
-			n220 = usub_sat64(n224, n218);
-			n221 = n221 + 1;
-			n222 = n224;
+		uint8_t n239;
+		uint64_t n240, n244;
+		uint64_t n235 = load64(p1 + 56);
+		uint64_t n236 = load64(p1 + 24);
+		byte *p237 = loadptr(p1 + 72);
+		uint64_t n238 = (uint64_t)load32(at(p237, n236 << 3) + 4);
+		if (n236 == n238) {
+			n239 = 0;
+			n240 = 0;
+		} else {
+			n239 = 1;
+			n240 = n238 - load64(p1 + 96);
 		}
-		uint64_t n225 = (n216 - n223) + 1;
-		if (n225 > load64(p3 + 16)) {
-			bool b226 = tp_std_alloc_vec_Vec_grow_amortized_4(p3, n225);
-			if (!b226)
+		uint64_t n241 = n240;
+		uint64_t n242 = 0;
+		uint8_t n243 = n239;
+		for (;;) {
+			if (n242 == n235) {
+				n244 = n235;
+				break;
+			}
+			if (n243 != 1) {
+				n244 = n242;
+				break;
+			}
+			uint64_t n245 = load64(p1 + 96);
+			uint64_t n246 = (uint64_t)load32(at(p237, (n245 + n241) << 3) + 4);
+			n241 = usub_sat64(n246, n245);
+			n242 = n242 + 1;
+			n243 = (uint8_t)(n245 <= n246);
+		}
+		uint64_t n247 = (n235 - n244) + 1;
+		if (n247 > load64(p3 + 16)) {
+			bool b248 = tp_std_alloc_vec_Vec_grow_amortized_4(p3, n247);
+			if (!b248)
 				return 1;
 		}
 		if ((load8(p1 + 1176) & 1) != 0) {
-			uint64_t n227 = load64(p3 + 8);
-			byte *p228 = inside(loadptr(p3), n227 << 6);
-			store8(p228, 5);
-			store8(p228 + 1, 0);
-			memset(p228 + 8, 0, 56);
-			store64(p3 + 8, n227 + 1);
+			uint64_t n249 = load64(p3 + 8);
+			byte *p250 = inside(loadptr(p3), n249 << 6);
+			store8(p250, 5);
+			store8(p250 + 1, 0);
+			memset(p250 + 8, 0, 56);
+			store64(p3 + 8, n249 + 1);
 		} else {
-			uint64_t n236, n247, n286;
-			uint64_t n229 = load64(p1 + 56);
-			byte *p230 = loadptr(p1 + 72);
-			uint64_t n231 = load64(p1 + 96);
-			uint64_t n232 = (uint64_t)load32(at(p230, load64(p1 + 24) << 3) + 4);
-			uint64_t n233 = usub_sat64(n232, n231);
-			uint64_t n234 = 0;
-			uint64_t n235 = n232;
-			for (;;) {
-				if (n234 == n229) {
-					n236 = n229;
-					break;
-				}
-				if (n231 > n235) {
-					n236 = n234;
-					break;
-				}
-				uint64_t n237 = (uint64_t)load32(at(p230, (n231 + n233) << 3) + 4);
-				n233 = usub_sat64(n237, n231);
-				n234 = n234 + 1;
-				n235 = n237;
-			}
-			uint64_t n238 = load64(p1 + 1192);
-			uint64_t n239 = usub_sat64(n229 - n236, n238);
-			uint64_t n240 = load64(p1 + 1200);
-			if (n239 > (n240 - n238)) {
-				byte *p244;
-				if (n239 > (n238 ^ UINT64_MAX))
-					return 1;
-				uint64_t n241 = n238 + n239;
-				if (n241 > UINT64_C(230584300921369395))
-					return 1;
-				if (n240 == 0) {
-					of_i64_i64 s242 = rattle_alloc(n241 * 40, 8);
-					bool b243 = (s242.f0 & 1) != 0;
-					if (!b243)
-						return 1;
-					p244 = b243 ? (byte *)(uintptr_t)s242.f1 : NULL;
-				} else {
-					of_i64_i64 s245 = rattle_realloc(loadptr(p1 + 1184), n238 * 40, n241 * 40, 8);
-					bool b246 = (s245.f0 & 1) != 0;
-					if (!b246)
-						return 1;
-					p244 = b246 ? (byte *)(uintptr_t)s245.f1 : NULL;
-				}
-				storeptr(p1 + 1184, p244);
-				store64(p1 + 1200, n241);
-				n247 = load64(p1 + 1192);
+			uint8_t n255, n308;
+			uint64_t n256, n260, n272, n309, n313;
+			uint64_t n251 = load64(p1 + 56);
+			uint64_t n252 = load64(p1 + 24);
+			byte *p253 = loadptr(p1 + 72);
+			uint64_t n254 = (uint64_t)load32(at(p253, n252 << 3) + 4);
+			if (n252 == n254) {
+				n255 = 0;
+				n256 = 0;
 			} else {
-				n247 = n238;
+				n255 = 1;
+				n256 = n254 - load64(p1 + 96);
 			}
-			if (n247 != 0)
-				store64(p1 + 1192, 0);
-			uint64_t n248 = load64(p1 + 24);
-			uint64_t n249 = 0;
-			uint64_t n250 = 0;
-			while (n250 != n248) {
-				uint64_t n251 = load64(p1 + 96);
-				uint64_t n252 = (uint64_t)load32(at(loadptr(p1 + 72), n250 << 3) + 4);
-				uint64_t n253 = load64(p1 + 56);
-				uint64_t n254 = n249;
-				uint64_t n255 = 0;
-				uint64_t n256 = usub_sat64(n252, n251);
-				bool b257 = n251 <= n252;
-				while (n255 != n253) {
-					if (!b257)
-						break;
-					byte *p258 = at(loadptr(p1 + 32), n256 * 56);
-					if (n256 >= load64(p1 + 40))
-						break;
-					if (load8(p258) != 1)
-						break;
-					memmove(inside(loadptr(p1 + 1184), n254 * 40), p258 + 8, 40);
-					uint64_t n259 = n254 + 1;
-					store64(p1 + 1192, n259);
-					uint64_t n260 = load64(p1 + 96);
-					uint64_t n261 = (uint64_t)load32(at(loadptr(p1 + 72), (n260 + n256) << 3) + 4);
-					n254 = n259;
-					n255 = n255 + 1;
-					n256 = usub_sat64(n261, n260);
-					b257 = n260 <= n261;
+			uint64_t n257 = n256;
+			uint64_t n258 = 0;
+			uint8_t n259 = n255;
+			for (;;) {
+				if (n258 == n251) {
+					n260 = n251;
+					break;
 				}
-				n249 = n254;
-				n250 = n250 + 1;
+				if (n259 != 1) {
+					n260 = n258;
+					break;
+				}
+				uint64_t n261 = load64(p1 + 96);
+				uint64_t n262 = (uint64_t)load32(at(p253, (n261 + n257) << 3) + 4);
+				n257 = usub_sat64(n262, n261);
+				n258 = n258 + 1;
+				n259 = (uint8_t)(n261 <= n262);
 			}
-			tp_sort_sort_timers(p1 + 1184);
-			uint64_t n262 = load64(p1 + 24);
-			uint64_t n263 = 0;
-			while (n263 != n262) {
-				uint64_t n264 = load64(p1 + 56);
-				uint64_t n265 = 0;
-				while (n265 != n264) {
-					byte *p266 = loadptr(p1 + 72);
-					uint64_t n267 = n263 << 3;
-					uint64_t n268 = load64(p1 + 96);
-					uint64_t n269 = (uint64_t)load32(at(p266, n267) + 4);
-					uint64_t n270 = usub_sat64(n269, n268);
-					if (n268 > n269)
+			uint64_t n263 = load64(p1 + 1192);
+			uint64_t n264 = usub_sat64(n251 - n260, n263);
+			uint64_t n265 = load64(p1 + 1200);
+			if (n264 > (n265 - n263)) {
+				byte *p269;
+				if (n264 > (n263 ^ UINT64_MAX))
+					return 1;
+				uint64_t n266 = n263 + n264;
+				if (n266 > UINT64_C(230584300921369395))
+					return 1;
+				if (n265 == 0) {
+					of_i64_i64 s267 = rattle_alloc(n266 * 40, 8);
+					bool b268 = (s267.f0 & 1) != 0;
+					if (!b268)
+						return 1;
+					p269 = b268 ? (byte *)(uintptr_t)s267.f1 : NULL;
+				} else {
+					of_i64_i64 s270 = rattle_realloc(loadptr(p1 + 1184), n263 * 40, n266 * 40, 8);
+					bool b271 = (s270.f0 & 1) != 0;
+					if (!b271)
+						return 1;
+					p269 = b271 ? (byte *)(uintptr_t)s270.f1 : NULL;
+				}
+				storeptr(p1 + 1184, p269);
+				store64(p1 + 1200, n266);
+				n272 = load64(p1 + 1192);
+			} else {
+				n272 = n263;
+			}
+			if (n272 != 0)
+				store64(p1 + 1192, 0);
+			uint64_t n273 = load64(p1 + 24);
+			uint64_t n274 = 0;
+			uint64_t n275 = 0;
+			while (n275 != n273) {
+				uint8_t n277;
+				uint64_t n278;
+				uint64_t n276 = (uint64_t)load32(at(loadptr(p1 + 72), n275 << 3) + 4);
+				if (n275 == n276) {
+					n277 = 0;
+					n278 = 0;
+				} else {
+					n277 = 1;
+					n278 = n276 - load64(p1 + 96);
+				}
+				uint64_t n279 = load64(p1 + 56);
+				uint64_t n280 = n274;
+				uint64_t n281 = 0;
+				uint64_t n282 = n278;
+				uint8_t n283 = n277;
+				while (n281 != n279) {
+					if (n283 != 1)
 						break;
-					uint32_t n271 = load32(at(p266, (n268 + n270) << 3) + 4);
-					byte *p272 = at(loadptr(p1 + 32), n270 * 56);
-					uint64_t n273 = load64(p1 + 64);
-					uint8_t n274 = load8(p272);
-					store64u(p272, 0);
-					store64u(p272 + 8, n273);
-					memset(p272 + 16, 0, 40);
-					if (n274 != 1) {
+					byte *p284 = at(loadptr(p1 + 32), n282 * 56);
+					if (n282 >= load64(p1 + 40))
+						break;
+					if (load8(p284) != 1)
+						break;
+					memmove(inside(loadptr(p1 + 1184), n280 * 40), p284 + 8, 40);
+					uint64_t n285 = n280 + 1;
+					store64(p1 + 1192, n285);
+					uint64_t n286 = load64(p1 + 96);
+					uint64_t n287 = (uint64_t)load32(at(loadptr(p1 + 72), (n286 + n282) << 3) + 4);
+					n280 = n285;
+					n281 = n281 + 1;
+					n282 = usub_sat64(n287, n286);
+					n283 = (uint8_t)(n286 <= n287);
+				}
+				n274 = n280;
+				n275 = n275 + 1;
+			}
+			tp_order_sort_timers(p1 + 1184);
+			uint64_t n288 = load64(p1 + 24);
+			uint64_t n289 = 0;
+			while (n289 != n288) {
+				uint64_t n290 = load64(p1 + 56);
+				uint64_t n291 = 0;
+				while (n291 != n290) {
+					byte *p292 = loadptr(p1 + 72);
+					uint64_t n293 = n289 << 3;
+					uint64_t n294 = (uint64_t)load32(at(p292, n293) + 4);
+					if (n289 == n294)
+						break;
+					uint64_t n295 = n294 - load64(p1 + 96);
+					uint32_t n296 = load32(at(p292, n294 << 3) + 4);
+					byte *p297 = at(loadptr(p1 + 32), n295 * 56);
+					uint64_t n298 = load64(p1 + 64);
+					uint8_t n299 = load8(p297);
+					store64u(p297, 0);
+					store64u(p297 + 8, n298);
+					memset(p297 + 16, 0, 40);
+					if (n299 != 1) {
 						TRAP();
 						UNREACHABLE();
 					}
 					store64(p1 + 56, load64(p1 + 56) - 1);
-					store64(p1 + 64, n270);
-					byte *p275 = loadptr(p1 + 72);
-					store32(inside(p275, n267) + 4, n271);
-					store32(inside(p275, (uint64_t)n271 << 3), (uint32_t)n263);
-					n265 = n265 + 1;
+					store64(p1 + 64, n295);
+					byte *p300 = loadptr(p1 + 72);
+					store32(inside(p300, n293) + 4, n296);
+					store32(inside(p300, (uint64_t)n296 << 3), (uint32_t)n289);
+					n291 = n291 + 1;
 				}
-				n263 = n263 + 1;
+				n289 = n289 + 1;
 			}
 			store64(p1 + 1208, 0);
 			store8(p1 + 1176, 1);
-			uint64_t n276 = load64(p3 + 8);
-			byte *p277 = inside(loadptr(p3), n276 << 6);
-			uint64_t n278 = load64(p1 + 1192);
-			store8(p277, 4);
-			store8(p277 + 1, 0);
-			store64u(p277 + 8, n278);
-			memset(p277 + 16, 0, 48);
-			store64(p3 + 8, n276 + 1);
+			uint64_t n301 = load64(p3 + 8);
+			byte *p302 = inside(loadptr(p3), n301 << 6);
+			uint64_t n303 = load64(p1 + 1192);
+			store8(p302, 4);
+			store8(p302 + 1, 0);
+			store64u(p302 + 8, n303);
+			memset(p302 + 16, 0, 48);
+			store64(p3 + 8, n301 + 1);
 			tp_timer_facility_player_hand_out_2(p1, p3);
-			uint64_t n279 = load64(p1 + 56);
-			byte *p280 = loadptr(p1 + 72);
-			uint64_t n281 = load64(p1 + 96);
-			uint64_t n282 = (uint64_t)load32(at(p280, load64(p1 + 24) << 3) + 4);
-			uint64_t n283 = usub_sat64(n282, n281);
-			uint64_t n284 = 0;
-			uint64_t n285 = n282;
-			for (;;) {
-				if (n284 == n279) {
-					n286 = n279;
-					break;
-				}
-				if (n281 > n285) {
-					n286 = n284;
-					break;
-				}
-				uint64_t n287 = (uint64_t)load32(at(p280, (n281 + n283) << 3) + 4);
-				n283 = usub_sat64(n287, n281);
-				n284 = n284 + 1;
-				n285 = n287;
+			uint64_t n304 = load64(p1 + 56);
+			uint64_t n305 = load64(p1 + 24);
+			byte *p306 = loadptr(p1 + 72);
+			uint64_t n307 = (uint64_t)load32(at(p306, n305 << 3) + 4);
+			if (n305 == n307) {
+				n308 = 0;
+				n309 = 0;
+			} else {
+				n308 = 1;
+				n309 = n307 - load64(p1 + 96);
 			}
-			if ((((n279 - n286) << 1) + 64) < load64(p1 + 1224))
+			uint64_t n310 = n309;
+			uint64_t n311 = 0;
+			uint8_t n312 = n308;
+			for (;;) {
+				if (n311 == n304) {
+					n313 = n304;
+					break;
+				}
+				if (n312 != 1) {
+					n313 = n311;
+					break;
+				}
+				uint64_t n314 = load64(p1 + 96);
+				uint64_t n315 = (uint64_t)load32(at(p306, (n314 + n310) << 3) + 4);
+				n310 = usub_sat64(n315, n314);
+				n311 = n311 + 1;
+				n312 = (uint8_t)(n314 <= n315);
+			}
+			if ((((n304 - n313) << 1) + 64) < load64(p1 + 1224))
 				tp_timer_facility_handles_sweep(p1 + 1216, p1);
 		}
 		break;
@@ -58199,8 +58359,8 @@ L5:
 		UNREACHABLE();
 	}
 	}
-	uint8_t n288 = tp_text_push_outs(p4, loadptr(p3), load64(p3 + 8));
-	return n288;
+	uint8_t n316 = tp_text_push_outs(p4, loadptr(p3), load64(p3 + 8));
+	return n316;
 }
 
 /* timer_script::script_run::answer_ticks: crates/timer_script/src/script_run.rt */
@@ -58427,8 +58587,8 @@ static uint8_t tp_timer_commands_verbs_do_verb_2(byte *p1, byte *p2, byte *p3, b
 	uint64_t n81 = load64u(p2 + 1208);
 	switch (MOSTLY_0(load8(p1))) {
 	case 0: {
-		uint8_t n241;
-		uint64_t n242;
+		uint8_t n243;
+		uint64_t n244;
 		memcpy(p54, p2 + 16, 16);
 		memcpy(p55, p2 + 56, 16);
 		memcpy(p56, p2 + 96, 32);
@@ -59077,95 +59237,97 @@ L12:
 				}
 L3:
 				{
-					uint64_t n222;
+					uint64_t n224;
 					if (load64u(p51 + 16) != 0)
 						rattle_dealloc(loadptru(p51));
 					uint64_t n214 = load64(p52 + 8);
 					uint64_t n215 = load64(p52 + 56);
-					byte *p216 = loadptr(p52 + 72);
-					uint64_t n217 = load64(p52 + 96);
-					uint64_t n218 = (uint64_t)load32(at(p216, load64(p52 + 24) << 3) + 4);
-					uint64_t n219 = usub_sat64(n218, n217);
-					uint64_t n220 = 0;
-					uint64_t n221 = n218;
+					uint64_t n216 = load64(p52 + 24);
+					byte *p217 = loadptr(p52 + 72);
+					uint64_t n218 = (uint64_t)load32(at(p217, n216 << 3) + 4);
+					bool b219 = n216 != n218;
+					uint64_t n220 = load64(p52 + 96);
+					uint64_t n221 = b219 ? (n218 - n220) : 0;
+					uint64_t n222 = 0;
+					bool b223 = b219;
 					for (;;) {
-						if (n220 == n215) {
-							n222 = n215;
+						if (n222 == n215) {
+							n224 = n215;
 							break;
 						}
-						if (n217 > n221) {
-							n222 = n220;
+						if (!b223) {
+							n224 = n222;
 							break;
 						}
-						uint64_t n223 = (uint64_t)load32(at(p216, (n217 + n219) << 3) + 4);
-						n219 = usub_sat64(n223, n217);
-						n220 = n220 + 1;
-						n221 = n223;
+						uint64_t n225 = (uint64_t)load32(at(p217, (n220 + n221) << 3) + 4);
+						n221 = usub_sat64(n225, n220);
+						n222 = n222 + 1;
+						b223 = n220 <= n225;
 					}
-					uint8_t n224 = tp_text_push_end(p53, n214, n215 - n222);
-					if ((n224 & 1) == 0) {
-						uint64_t n229 = load64u(p53);
-						uint64_t n230 = load64u(p53 + 8);
-						uint64_t n231 = load64u(p53 + 16);
-						byte *p232 = loadptru(p52 + 72);
-						uint64_t n233 = load64u(p52 + 88);
-						byte *p234 = loadptru(p52 + 1184);
-						uint64_t n235 = load64u(p52 + 1200);
+					uint8_t n226 = tp_text_push_end(p53, n214, n215 - n224);
+					if ((n226 & 1) == 0) {
+						uint64_t n231 = load64u(p53);
+						uint64_t n232 = load64u(p53 + 8);
+						uint64_t n233 = load64u(p53 + 16);
+						byte *p234 = loadptru(p52 + 72);
+						uint64_t n235 = load64u(p52 + 88);
+						byte *p236 = loadptru(p52 + 1184);
+						uint64_t n237 = load64u(p52 + 1200);
 						if (load64u(p52 + 48) != 0)
 							rattle_dealloc(loadptru(p52 + 32));
-						if (n233 != 0)
-							rattle_dealloc(p232);
 						if (n235 != 0)
 							rattle_dealloc(p234);
+						if (n237 != 0)
+							rattle_dealloc(p236);
 						if (load64u(p52 + 1232) != 0)
 							rattle_dealloc(loadptru(p52 + 1216));
-						byte *p236 = (byte *)(uintptr_t)n229;
-						uint64_t n237 = 0;
-						while (n237 < n230) {
-							uint64_t n238 = n230 - n237;
-							uint64_t n239 = os_write(1, at(p236, n237), n238);
-							if ((int64_t)n239 < (int64_t)0) {
+						byte *p238 = (byte *)(uintptr_t)n231;
+						uint64_t n239 = 0;
+						while (n239 < n232) {
+							uint64_t n240 = n232 - n239;
+							uint64_t n241 = os_write(1, at(p238, n239), n240);
+							if ((int64_t)n241 < (int64_t)0) {
 								tp_error_last_error(p49);
 								goto L15;
 							}
-							uint64_t n240 = umin64(n239, n238);
-							if (n240 == 0)
+							uint64_t n242 = umin64(n241, n240);
+							if (n242 == 0)
 								goto L15;
-							n237 = n237 + n240;
+							n239 = n239 + n242;
 						}
-						if (n231 != 0)
-							rattle_dealloc(p236);
+						if (n233 != 0)
+							rattle_dealloc(p238);
 						if (!b84)
 							rattle_dealloc(p82);
 						return 0;
 L15:
 						{
 							store8(p3 + 1, 1);
-							if (n231 != 0)
-								rattle_dealloc(p236);
+							if (n233 != 0)
+								rattle_dealloc(p238);
 							if (b84) {
-								n241 = 4;
-								n242 = n237;
+								n243 = 4;
+								n244 = n239;
 								goto L16;
 							}
 							rattle_dealloc(p82);
-							n241 = 4;
-							n242 = n237;
+							n243 = 4;
+							n244 = n239;
 							goto L16;
 						}
 					}
 					if (load64u(p53 + 16) != 0)
 						rattle_dealloc(loadptru(p53));
-					byte *p225 = loadptru(p52 + 72);
-					uint64_t n226 = load64u(p52 + 88);
-					byte *p227 = loadptru(p52 + 1184);
-					uint64_t n228 = load64u(p52 + 1200);
+					byte *p227 = loadptru(p52 + 72);
+					uint64_t n228 = load64u(p52 + 88);
+					byte *p229 = loadptru(p52 + 1184);
+					uint64_t n230 = load64u(p52 + 1200);
 					if (load64u(p52 + 48) != 0)
 						rattle_dealloc(loadptru(p52 + 32));
-					if (n226 != 0)
-						rattle_dealloc(p225);
 					if (n228 != 0)
 						rattle_dealloc(p227);
+					if (n230 != 0)
+						rattle_dealloc(p229);
 					if (load64u(p52 + 1232) != 0)
 						rattle_dealloc(loadptru(p52 + 1216));
 				}
@@ -59179,27 +59341,27 @@ L13:
 L14:
 			{
 				if (b84) {
-					n241 = n212;
-					n242 = n213;
+					n243 = n212;
+					n244 = n213;
 				} else {
 					rattle_dealloc(p82);
-					n241 = n212;
-					n242 = n213;
+					n243 = n212;
+					n244 = n213;
 				}
 			}
 		} else {
-			uint8_t n243;
+			uint8_t n245;
 			switch (MOSTLY_0(load8(p58 + 1))) {
 			case 0: {
-				n243 = 0;
+				n245 = 0;
 				break;
 			}
 			case 1: {
-				n243 = 1;
+				n245 = 1;
 				break;
 			}
 			case 2: {
-				n243 = 3;
+				n245 = 3;
 				break;
 			}
 			default: {
@@ -59211,26 +59373,26 @@ L14:
 			if (n77 != 0)
 				rattle_dealloc(p75);
 			if (n80 == 0) {
-				n241 = n243;
-				n242 = 0;
+				n243 = n245;
+				n244 = 0;
 			} else {
 				rattle_dealloc(p78);
-				n241 = n243;
-				n242 = 0;
+				n243 = n245;
+				n244 = 0;
 			}
 		}
 L16:
 		{
-			tp_timer_commands_error_report_report(n241, n242, p4);
+			tp_timer_commands_error_report_report(n243, n244, p4);
 			return 1;
 		}
 	}
 	case 1: {
-		uint8_t n347, n412;
-		uint64_t n348, n411;
+		uint8_t n351, n418;
+		uint64_t n352, n417;
 		if ((load8(p1 + 2) & 1) != 0) {
-			uint8_t n245, n327;
-			uint64_t n246, n326;
+			uint8_t n247, n331;
+			uint64_t n248, n330;
 			memcpy(p41, p2 + 16, 16);
 			memcpy(p42, p2 + 56, 16);
 			memcpy(p43, p2 + 96, 32);
@@ -59239,31 +59401,31 @@ L16:
 			memset(p46, 0, 1288);
 			memset(p47, 0, 96);
 			memset(p48, 0, 24);
-			of_i64_i64 s244 = rattle_alloc(16384, 1);
-			if ((s244.f0 & 1) == 0) {
+			of_i64_i64 s246 = rattle_alloc(16384, 1);
+			if ((s246.f0 & 1) == 0) {
 				if (n74 != 0)
 					rattle_dealloc(p72);
 				if (n77 != 0)
 					rattle_dealloc(p75);
 				if (n80 == 0) {
-					n245 = 2;
-					n246 = 0;
+					n247 = 2;
+					n248 = 0;
 				} else {
 					rattle_dealloc(p78);
-					n245 = 2;
-					n246 = 0;
+					n247 = 2;
+					n248 = 0;
 				}
 			} else {
-				uint64_t n252, n263, n264, n282, n284, n286;
-				uint8_t n279;
-				byte *p281, *p283, *p285;
-				byte *p247 = (byte *)(uintptr_t)s244.f1;
-				uint64_t n248 = 0;
-				while (n248 != 16383) {
-					store8(inside(p247, n248), 0);
-					n248 = n248 + 1;
+				uint64_t n254, n265, n266, n284, n286, n288;
+				uint8_t n281;
+				byte *p283, *p285, *p287;
+				byte *p249 = (byte *)(uintptr_t)s246.f1;
+				uint64_t n250 = 0;
+				while (n250 != 16383) {
+					store8(inside(p249, n250), 0);
+					n250 = n250 + 1;
 				}
-				store8(p247 + 16383, 0);
+				store8(p249 + 16383, 0);
 				storeptru(p45, p5);
 				memset(p45 + 8, 0, 16);
 				store64u(p46, n70);
@@ -59299,100 +59461,100 @@ L16:
 				store64u(p47 + 80, 1);
 				store8(p47 + 88, 1);
 				memset(p47 + 89, 0, 7);
-				uint64_t n249 = 0;
+				uint64_t n251 = 0;
 				for (;;) {
-					if (n249 == UINT64_MAX)
+					if (n251 == UINT64_MAX)
 						goto L17;
-					uint64_t n250 = os_read(0, p247, 16384);
-					if ((int64_t)n250 < (int64_t)0)
+					uint64_t n252 = os_read(0, p249, 16384);
+					if ((int64_t)n252 < (int64_t)0)
 						goto L18;
-					tp_Cutter_take_in(p48, p47, p247, umin64(n250, 16384), p4);
+					tp_Cutter_take_in(p48, p47, p249, umin64(n252, 16384), p4);
 					if (load8(p48) != 0)
 						break;
-					uint8_t n251 = load8(p48 + 8);
-					n252 = load64u(p48 + 16);
-					byte *p253 = loadptr(p47 + 8);
-					uint64_t n254 = load64(p47 + 16);
+					uint8_t n253 = load8(p48 + 8);
+					n254 = load64u(p48 + 16);
+					byte *p255 = loadptr(p47 + 8);
+					uint64_t n256 = load64(p47 + 16);
 					if (load64(p45 + 8) != 0)
 						store64(p45 + 8, 0);
-					uint64_t n255 = 0;
-					while (n255 != n254) {
-						uint64_t n266;
-						uint8_t n267;
-						byte *p256 = at(p253, n255 * 48);
-						uint64_t n257 = load64u(p256 + 8);
-						uint64_t n258 = load64u(p256 + 16);
-						uint64_t n259 = load64u(p256 + 24);
-						uint64_t n260 = load64u(p256 + 32);
-						uint64_t n261 = load64u(p256 + 40);
-						store64u(p39, (uint64_t)load8(p256));
-						store64(p39 + 8, n257);
-						store64(p39 + 16, n258);
-						store64(p39 + 24, n259);
-						store64(p39 + 32, n260);
-						store64(p39 + 40, n261);
-						uint8_t n262 = tp_timer_script_session_Session_play_one(p46, p39, p45);
-						if ((n262 & 1) != 0) {
-							n263 = load64(p45 + 8);
+					uint64_t n257 = 0;
+					while (n257 != n256) {
+						uint64_t n268;
+						uint8_t n269;
+						byte *p258 = at(p255, n257 * 48);
+						uint64_t n259 = load64u(p258 + 8);
+						uint64_t n260 = load64u(p258 + 16);
+						uint64_t n261 = load64u(p258 + 24);
+						uint64_t n262 = load64u(p258 + 32);
+						uint64_t n263 = load64u(p258 + 40);
+						store64u(p39, (uint64_t)load8(p258));
+						store64(p39 + 8, n259);
+						store64(p39 + 16, n260);
+						store64(p39 + 24, n261);
+						store64(p39 + 32, n262);
+						store64(p39 + 40, n263);
+						uint8_t n264 = tp_timer_script_session_Session_play_one(p46, p39, p45);
+						if ((n264 & 1) != 0) {
+							n265 = load64(p45 + 8);
 							goto L19;
 						}
-						n264 = load64(p45 + 8);
-						uint64_t n265 = load64(p46 + 120);
+						n266 = load64(p45 + 8);
+						uint64_t n267 = load64(p46 + 120);
 						if (load64(p46 + 56) == 0) {
-							n266 = 0;
-							n267 = 0;
+							n268 = 0;
+							n269 = 0;
 						} else {
-							uint64_t n268 = load64(p46 + 24);
-							uint64_t n269 = 0;
+							uint64_t n270 = load64(p46 + 24);
+							uint64_t n271 = 0;
 							for (;;) {
-								if (n269 == n268) {
-									n266 = 0;
-									n267 = 0;
+								if (n271 == n270) {
+									n268 = 0;
+									n269 = 0;
 									break;
 								}
-								uint64_t n270 = n269 + 1;
-								uint64_t n271 = n265 + n270;
-								uint64_t n272 = n271 - ((n271 < n268) ? 0 : n268);
-								if (n272 != (uint64_t)load32(at(loadptr(p46 + 72), n272 << 3) + 4)) {
-									n266 = load64(p46 + 8) + n270;
-									n267 = 1;
+								uint64_t n272 = n271 + 1;
+								uint64_t n273 = n267 + n272;
+								uint64_t n274 = n273 - ((n273 < n270) ? 0 : n270);
+								if (n274 != (uint64_t)load32(at(loadptr(p46 + 72), n274 << 3) + 4)) {
+									n268 = load64(p46 + 8) + n272;
+									n269 = 1;
 									break;
 								}
-								n269 = n270;
+								n271 = n272;
 							}
 						}
-						uint8_t n273 = tp_render_push_wakeup(p45, n267, n266);
-						if ((n273 & 1) != 0)
+						uint8_t n275 = tp_render_push_wakeup(p45, n269, n268);
+						if ((n275 & 1) != 0)
 							goto L20;
-						byte *p274 = loadptr(p45);
-						uint64_t n275 = load64(p45 + 8);
-						uint64_t n276 = 0;
-						while (n276 < n275) {
-							uint64_t n277 = n275 - n276;
-							uint64_t n278 = os_write(1, at(p274, n276), n277);
-							if ((int64_t)n278 < (int64_t)0) {
+						byte *p276 = loadptr(p45);
+						uint64_t n277 = load64(p45 + 8);
+						uint64_t n278 = 0;
+						while (n278 < n277) {
+							uint64_t n279 = n277 - n278;
+							uint64_t n280 = os_write(1, at(p276, n278), n279);
+							if ((int64_t)n280 < (int64_t)0) {
 								tp_error_last_error(p37);
 								store8(p3 + 1, 1);
-								n279 = 3;
+								n281 = 3;
 								goto L21;
 							}
-							uint64_t n280 = umin64(n278, n277);
-							if (n280 == 0) {
+							uint64_t n282 = umin64(n280, n279);
+							if (n282 == 0) {
 								store8(p3 + 1, 1);
-								n279 = 3;
+								n281 = 3;
 								goto L21;
 							}
-							n276 = n276 + n280;
+							n278 = n278 + n282;
 						}
 						if (load64(p45 + 8) != 0)
 							store64(p45 + 8, 0);
-						n255 = n255 + 1;
+						n257 = n257 + 1;
 					}
-					if (n251 == 1)
+					if (n253 == 1)
 						goto L22;
-					if (n250 == 0)
+					if (n252 == 0)
 						goto L23;
-					n249 = n249 + 1;
+					n251 = n251 + 1;
 				}
 				if (load64u(p47 + 24) != 0)
 					rattle_dealloc(loadptru(p47 + 8));
@@ -59400,64 +59562,64 @@ L16:
 					rattle_dealloc(loadptru(p47 + 32));
 				if (load64u(p47 + 72) != 0)
 					rattle_dealloc(loadptru(p47 + 56));
-				p281 = loadptru(p46 + 72);
-				n282 = load64u(p46 + 88);
-				p283 = loadptru(p46 + 1184);
-				n284 = load64u(p46 + 1200);
-				p285 = loadptru(p46 + 1216);
-				n286 = load64u(p46 + 1232);
+				p283 = loadptru(p46 + 72);
+				n284 = load64u(p46 + 88);
+				p285 = loadptru(p46 + 1184);
+				n286 = load64u(p46 + 1200);
+				p287 = loadptru(p46 + 1216);
+				n288 = load64u(p46 + 1232);
 				if (load64u(p46 + 48) != 0)
 					rattle_dealloc(loadptru(p46 + 32));
-				if (n282 != 0)
-					rattle_dealloc(p281);
 				if (n284 != 0)
 					rattle_dealloc(p283);
 				if (n286 != 0)
 					rattle_dealloc(p285);
+				if (n288 != 0)
+					rattle_dealloc(p287);
 				if (load64u(p46 + 1256) != 0)
 					rattle_dealloc(loadptru(p46 + 1240));
 				if (load64u(p46 + 1280) != 0)
 					rattle_dealloc(loadptru(p46 + 1264));
 				if (load64u(p45 + 16) != 0)
 					rattle_dealloc(loadptru(p45));
-				rattle_dealloc(p247);
-				n245 = 2;
-				n246 = 0;
+				rattle_dealloc(p249);
+				n247 = 2;
+				n248 = 0;
 				goto L24;
 L20:
 				{
-					uint64_t n287 = load64(p45 + 8);
-					if (n287 > n264) {
-						store64(p45 + 8, n264);
-						n263 = n264;
+					uint64_t n289 = load64(p45 + 8);
+					if (n289 > n266) {
+						store64(p45 + 8, n266);
+						n265 = n266;
 					} else {
-						n263 = n287;
+						n265 = n289;
 					}
 				}
 L19:
 				{
-					byte *p288 = loadptr(p45);
-					uint64_t n289 = 0;
+					byte *p290 = loadptr(p45);
+					uint64_t n291 = 0;
 					for (;;) {
-						if (n289 >= n263) {
-							n279 = 2;
+						if (n291 >= n265) {
+							n281 = 2;
 							break;
 						}
-						uint64_t n290 = n263 - n289;
-						uint64_t n291 = os_write(1, at(p288, n289), n290);
-						if ((int64_t)n291 < (int64_t)0) {
+						uint64_t n292 = n265 - n291;
+						uint64_t n293 = os_write(1, at(p290, n291), n292);
+						if ((int64_t)n293 < (int64_t)0) {
 							tp_error_last_error(p38);
 							store8(p3 + 1, 1);
-							n279 = 3;
+							n281 = 3;
 							break;
 						}
-						uint64_t n292 = umin64(n291, n290);
-						if (n292 == 0) {
+						uint64_t n294 = umin64(n293, n292);
+						if (n294 == 0) {
 							store8(p3 + 1, 1);
-							n279 = 3;
+							n281 = 3;
 							break;
 						}
-						n289 = n289 + n292;
+						n291 = n291 + n294;
 					}
 				}
 L21:
@@ -59468,112 +59630,114 @@ L21:
 						rattle_dealloc(loadptru(p47 + 32));
 					if (load64u(p47 + 72) != 0)
 						rattle_dealloc(loadptru(p47 + 56));
-					byte *p293 = loadptru(p46 + 72);
-					uint64_t n294 = load64u(p46 + 88);
-					byte *p295 = loadptru(p46 + 1184);
-					uint64_t n296 = load64u(p46 + 1200);
-					byte *p297 = loadptru(p46 + 1216);
-					uint64_t n298 = load64u(p46 + 1232);
+					byte *p295 = loadptru(p46 + 72);
+					uint64_t n296 = load64u(p46 + 88);
+					byte *p297 = loadptru(p46 + 1184);
+					uint64_t n298 = load64u(p46 + 1200);
+					byte *p299 = loadptru(p46 + 1216);
+					uint64_t n300 = load64u(p46 + 1232);
 					if (load64u(p46 + 48) != 0)
 						rattle_dealloc(loadptru(p46 + 32));
-					if (n294 != 0)
-						rattle_dealloc(p293);
 					if (n296 != 0)
 						rattle_dealloc(p295);
 					if (n298 != 0)
 						rattle_dealloc(p297);
+					if (n300 != 0)
+						rattle_dealloc(p299);
 					if (load64u(p46 + 1256) != 0)
 						rattle_dealloc(loadptru(p46 + 1240));
 					if (load64u(p46 + 1280) != 0)
 						rattle_dealloc(loadptru(p46 + 1264));
 					if (load64u(p45 + 16) != 0)
 						rattle_dealloc(loadptru(p45));
-					rattle_dealloc(p247);
-					n245 = n279;
-					n246 = 0;
+					rattle_dealloc(p249);
+					n247 = n281;
+					n248 = 0;
 					goto L24;
 				}
 L23:
 				{
-					uint64_t n299;
-					uint8_t n300, n301;
-					bool b302;
+					uint64_t n301;
+					uint8_t n302, n303;
+					bool b304;
 					memset(p36, 0, 24);
 					tp_Cutter_end(p36, p47, p4);
 					if (load8(p36) == 0) {
 						if (load8(p36 + 8) == 1) {
-							n299 = load64u(p36 + 16);
-							n300 = 1;
-							n301 = 1;
-							b302 = true;
+							n301 = load64u(p36 + 16);
+							n302 = 1;
+							n303 = 1;
+							b304 = true;
 						} else {
-							uint64_t n311;
+							uint64_t n315;
 							if (load64(p45 + 8) != 0)
 								store64(p45 + 8, 0);
-							uint64_t n303 = load64(p46 + 8);
-							uint64_t n304 = load64(p46 + 56);
-							byte *p305 = loadptr(p46 + 72);
-							uint64_t n306 = load64(p46 + 96);
-							uint64_t n307 = (uint64_t)load32(at(p305, load64(p46 + 24) << 3) + 4);
-							uint64_t n308 = usub_sat64(n307, n306);
-							uint64_t n309 = 0;
-							uint64_t n310 = n307;
+							uint64_t n305 = load64(p46 + 8);
+							uint64_t n306 = load64(p46 + 56);
+							uint64_t n307 = load64(p46 + 24);
+							byte *p308 = loadptr(p46 + 72);
+							uint64_t n309 = (uint64_t)load32(at(p308, n307 << 3) + 4);
+							bool b310 = n307 != n309;
+							uint64_t n311 = load64(p46 + 96);
+							uint64_t n312 = b310 ? (n309 - n311) : 0;
+							uint64_t n313 = 0;
+							bool b314 = b310;
 							for (;;) {
-								if (n309 == n304) {
-									n311 = n304;
+								if (n313 == n306) {
+									n315 = n306;
 									break;
 								}
-								if (n306 > n310) {
-									n311 = n309;
+								if (!b314) {
+									n315 = n313;
 									break;
 								}
-								uint64_t n312 = (uint64_t)load32(at(p305, (n306 + n308) << 3) + 4);
-								n308 = usub_sat64(n312, n306);
-								n309 = n309 + 1;
-								n310 = n312;
+								uint64_t n316 = (uint64_t)load32(at(p308, (n311 + n312) << 3) + 4);
+								n312 = usub_sat64(n316, n311);
+								n313 = n313 + 1;
+								b314 = n311 <= n316;
 							}
-							uint8_t n313 = tp_text_push_end(p45, n303, n304 - n311);
-							if ((n313 & 1) != 0) {
-								n299 = 0;
-								n300 = 2;
-								n301 = 1;
-								b302 = true;
+							uint8_t n317 = tp_text_push_end(p45, n305, n306 - n315);
+							if ((n317 & 1) != 0) {
+								n301 = 0;
+								n302 = 2;
+								n303 = 1;
+								b304 = true;
 							} else {
-								byte *p314 = loadptr(p45);
-								uint64_t n315 = load64(p45 + 8);
-								uint64_t n316 = 0;
-								while (n316 < n315) {
-									uint64_t n317 = n315 - n316;
-									uint64_t n318 = os_write(1, at(p314, n316), n317);
-									if ((int64_t)n318 < (int64_t)0) {
+								byte *p318 = loadptr(p45);
+								uint64_t n319 = load64(p45 + 8);
+								uint64_t n320 = 0;
+								while (n320 < n319) {
+									uint64_t n321 = n319 - n320;
+									uint64_t n322 = os_write(1, at(p318, n320), n321);
+									if ((int64_t)n322 < (int64_t)0) {
 										tp_error_last_error(p35);
 										goto L25;
 									}
-									uint64_t n319 = umin64(n318, n317);
-									if (n319 == 0)
+									uint64_t n323 = umin64(n322, n321);
+									if (n323 == 0)
 										goto L25;
-									n316 = n316 + n319;
+									n320 = n320 + n323;
 								}
-								n299 = 0;
-								n300 = 0;
-								n301 = (uint8_t)(load8(p47 + 88) ^ 1);
-								b302 = false;
+								n301 = 0;
+								n302 = 0;
+								n303 = (uint8_t)(load8(p47 + 88) ^ 1);
+								b304 = false;
 								goto L26;
 L25:
 								{
 									store8(p3 + 1, 1);
-									n299 = 0;
-									n300 = 3;
-									n301 = 1;
-									b302 = true;
+									n301 = 0;
+									n302 = 3;
+									n303 = 1;
+									b304 = true;
 								}
 							}
 						}
 					} else {
-						n299 = 0;
-						n300 = 2;
-						n301 = 1;
-						b302 = true;
+						n301 = 0;
+						n302 = 2;
+						n303 = 1;
+						b304 = true;
 					}
 L26:
 					{
@@ -59583,31 +59747,31 @@ L26:
 							rattle_dealloc(loadptru(p47 + 32));
 						if (load64u(p47 + 72) != 0)
 							rattle_dealloc(loadptru(p47 + 56));
-						byte *p320 = loadptru(p46 + 72);
-						uint64_t n321 = load64u(p46 + 88);
-						byte *p322 = loadptru(p46 + 1184);
-						uint64_t n323 = load64u(p46 + 1200);
-						byte *p324 = loadptru(p46 + 1216);
-						uint64_t n325 = load64u(p46 + 1232);
+						byte *p324 = loadptru(p46 + 72);
+						uint64_t n325 = load64u(p46 + 88);
+						byte *p326 = loadptru(p46 + 1184);
+						uint64_t n327 = load64u(p46 + 1200);
+						byte *p328 = loadptru(p46 + 1216);
+						uint64_t n329 = load64u(p46 + 1232);
 						if (load64u(p46 + 48) != 0)
 							rattle_dealloc(loadptru(p46 + 32));
-						if (n321 != 0)
-							rattle_dealloc(p320);
-						if (n323 != 0)
-							rattle_dealloc(p322);
 						if (n325 != 0)
 							rattle_dealloc(p324);
+						if (n327 != 0)
+							rattle_dealloc(p326);
+						if (n329 != 0)
+							rattle_dealloc(p328);
 						if (load64u(p46 + 1256) != 0)
 							rattle_dealloc(loadptru(p46 + 1240));
 						if (load64u(p46 + 1280) != 0)
 							rattle_dealloc(loadptru(p46 + 1264));
 						if (load64u(p45 + 16) != 0)
 							rattle_dealloc(loadptru(p45));
-						rattle_dealloc(p247);
-						if (!b302)
-							return n301;
-						n326 = n299;
-						n327 = n300;
+						rattle_dealloc(p249);
+						if (!b304)
+							return n303;
+						n330 = n301;
+						n331 = n302;
 						goto L27;
 					}
 				}
@@ -59619,29 +59783,29 @@ L22:
 						rattle_dealloc(loadptru(p47 + 32));
 					if (load64u(p47 + 72) != 0)
 						rattle_dealloc(loadptru(p47 + 56));
-					byte *p328 = loadptru(p46 + 72);
-					uint64_t n329 = load64u(p46 + 88);
-					byte *p330 = loadptru(p46 + 1184);
-					uint64_t n331 = load64u(p46 + 1200);
-					byte *p332 = loadptru(p46 + 1216);
-					uint64_t n333 = load64u(p46 + 1232);
+					byte *p332 = loadptru(p46 + 72);
+					uint64_t n333 = load64u(p46 + 88);
+					byte *p334 = loadptru(p46 + 1184);
+					uint64_t n335 = load64u(p46 + 1200);
+					byte *p336 = loadptru(p46 + 1216);
+					uint64_t n337 = load64u(p46 + 1232);
 					if (load64u(p46 + 48) != 0)
 						rattle_dealloc(loadptru(p46 + 32));
-					if (n329 != 0)
-						rattle_dealloc(p328);
-					if (n331 != 0)
-						rattle_dealloc(p330);
 					if (n333 != 0)
 						rattle_dealloc(p332);
+					if (n335 != 0)
+						rattle_dealloc(p334);
+					if (n337 != 0)
+						rattle_dealloc(p336);
 					if (load64u(p46 + 1256) != 0)
 						rattle_dealloc(loadptru(p46 + 1240));
 					if (load64u(p46 + 1280) != 0)
 						rattle_dealloc(loadptru(p46 + 1264));
 					if (load64u(p45 + 16) != 0)
 						rattle_dealloc(loadptru(p45));
-					rattle_dealloc(p247);
-					n245 = 1;
-					n246 = n252;
+					rattle_dealloc(p249);
+					n247 = 1;
+					n248 = n254;
 					goto L24;
 				}
 L18:
@@ -59654,29 +59818,29 @@ L18:
 						rattle_dealloc(loadptru(p47 + 32));
 					if (load64u(p47 + 72) != 0)
 						rattle_dealloc(loadptru(p47 + 56));
-					byte *p334 = loadptru(p46 + 72);
-					uint64_t n335 = load64u(p46 + 88);
-					byte *p336 = loadptru(p46 + 1184);
-					uint64_t n337 = load64u(p46 + 1200);
-					byte *p338 = loadptru(p46 + 1216);
-					uint64_t n339 = load64u(p46 + 1232);
+					byte *p338 = loadptru(p46 + 72);
+					uint64_t n339 = load64u(p46 + 88);
+					byte *p340 = loadptru(p46 + 1184);
+					uint64_t n341 = load64u(p46 + 1200);
+					byte *p342 = loadptru(p46 + 1216);
+					uint64_t n343 = load64u(p46 + 1232);
 					if (load64u(p46 + 48) != 0)
 						rattle_dealloc(loadptru(p46 + 32));
-					if (n335 != 0)
-						rattle_dealloc(p334);
-					if (n337 != 0)
-						rattle_dealloc(p336);
 					if (n339 != 0)
 						rattle_dealloc(p338);
+					if (n341 != 0)
+						rattle_dealloc(p340);
+					if (n343 != 0)
+						rattle_dealloc(p342);
 					if (load64u(p46 + 1256) != 0)
 						rattle_dealloc(loadptru(p46 + 1240));
 					if (load64u(p46 + 1280) != 0)
 						rattle_dealloc(loadptru(p46 + 1264));
 					if (load64u(p45 + 16) != 0)
 						rattle_dealloc(loadptru(p45));
-					rattle_dealloc(p247);
-					n245 = 0;
-					n246 = 0;
+					rattle_dealloc(p249);
+					n247 = 0;
+					n248 = 0;
 					goto L24;
 				}
 L17:
@@ -59687,39 +59851,39 @@ L17:
 						rattle_dealloc(loadptru(p47 + 32));
 					if (load64u(p47 + 72) != 0)
 						rattle_dealloc(loadptru(p47 + 56));
-					byte *p340 = loadptru(p46 + 72);
-					uint64_t n341 = load64u(p46 + 88);
-					byte *p342 = loadptru(p46 + 1184);
-					uint64_t n343 = load64u(p46 + 1200);
-					byte *p344 = loadptru(p46 + 1216);
-					uint64_t n345 = load64u(p46 + 1232);
+					byte *p344 = loadptru(p46 + 72);
+					uint64_t n345 = load64u(p46 + 88);
+					byte *p346 = loadptru(p46 + 1184);
+					uint64_t n347 = load64u(p46 + 1200);
+					byte *p348 = loadptru(p46 + 1216);
+					uint64_t n349 = load64u(p46 + 1232);
 					if (load64u(p46 + 48) != 0)
 						rattle_dealloc(loadptru(p46 + 32));
-					if (n341 != 0)
-						rattle_dealloc(p340);
-					if (n343 != 0)
-						rattle_dealloc(p342);
 					if (n345 != 0)
 						rattle_dealloc(p344);
+					if (n347 != 0)
+						rattle_dealloc(p346);
+					if (n349 != 0)
+						rattle_dealloc(p348);
 					if (load64u(p46 + 1256) != 0)
 						rattle_dealloc(loadptru(p46 + 1240));
 					if (load64u(p46 + 1280) != 0)
 						rattle_dealloc(loadptru(p46 + 1264));
 					if (load64u(p45 + 16) != 0)
 						rattle_dealloc(loadptru(p45));
-					rattle_dealloc(p247);
-					n245 = 4;
-					n246 = 0;
+					rattle_dealloc(p249);
+					n247 = 4;
+					n248 = 0;
 				}
 			}
 L24:
 			{
-				n326 = n246;
-				n327 = n245;
+				n330 = n248;
+				n331 = n247;
 			}
 L27:
 			{
-				tp_timer_commands_error_report_report_2(n327, n326, p4);
+				tp_timer_commands_error_report_report_2(n331, n330, p4);
 				return 1;
 			}
 		}
@@ -59731,31 +59895,31 @@ L27:
 		memset(p32, 0, 1288);
 		memset(p33, 0, 96);
 		memset(p34, 0, 24);
-		of_i64_i64 s346 = rattle_alloc(16384, 1);
-		if ((s346.f0 & 1) == 0) {
+		of_i64_i64 s350 = rattle_alloc(16384, 1);
+		if ((s350.f0 & 1) == 0) {
 			if (n74 != 0)
 				rattle_dealloc(p72);
 			if (n77 != 0)
 				rattle_dealloc(p75);
 			if (n80 == 0) {
-				n347 = 2;
-				n348 = 0;
+				n351 = 2;
+				n352 = 0;
 			} else {
 				rattle_dealloc(p78);
-				n347 = 2;
-				n348 = 0;
+				n351 = 2;
+				n352 = 0;
 			}
 		} else {
-			uint64_t n354, n373, n375, n377;
-			uint8_t n370;
-			byte *p372, *p374, *p376;
-			byte *p349 = (byte *)(uintptr_t)s346.f1;
-			uint64_t n350 = 0;
-			while (n350 != 16383) {
-				store8(inside(p349, n350), 0);
-				n350 = n350 + 1;
+			uint64_t n358, n377, n379, n381;
+			uint8_t n374;
+			byte *p376, *p378, *p380;
+			byte *p353 = (byte *)(uintptr_t)s350.f1;
+			uint64_t n354 = 0;
+			while (n354 != 16383) {
+				store8(inside(p353, n354), 0);
+				n354 = n354 + 1;
 			}
-			store8(p349 + 16383, 0);
+			store8(p353 + 16383, 0);
 			storeptru(p31, p5);
 			memset(p31 + 8, 0, 16);
 			store64u(p32, n70);
@@ -59791,66 +59955,66 @@ L27:
 			store64u(p33 + 80, 1);
 			store8(p33 + 88, 1);
 			memset(p33 + 89, 0, 7);
-			uint64_t n351 = 0;
+			uint64_t n355 = 0;
 			for (;;) {
-				if (n351 == UINT64_MAX)
+				if (n355 == UINT64_MAX)
 					goto L28;
-				uint64_t n352 = os_read(0, p349, 16384);
-				if ((int64_t)n352 < (int64_t)0)
+				uint64_t n356 = os_read(0, p353, 16384);
+				if ((int64_t)n356 < (int64_t)0)
 					goto L29;
-				tp_Cutter_take_in(p34, p33, p349, umin64(n352, 16384), p4);
+				tp_Cutter_take_in(p34, p33, p353, umin64(n356, 16384), p4);
 				if (load8(p34) != 0)
 					break;
-				uint8_t n353 = load8(p34 + 8);
-				n354 = load64u(p34 + 16);
-				byte *p355 = loadptr(p33 + 8);
-				uint64_t n356 = load64(p33 + 16);
+				uint8_t n357 = load8(p34 + 8);
+				n358 = load64u(p34 + 16);
+				byte *p359 = loadptr(p33 + 8);
+				uint64_t n360 = load64(p33 + 16);
 				if (load64(p31 + 8) != 0)
 					store64(p31 + 8, 0);
-				uint64_t n357 = 0;
-				while (n357 != n356) {
-					byte *p358 = at(p355, n357 * 48);
-					uint64_t n359 = load64u(p358 + 8);
-					uint64_t n360 = load64u(p358 + 16);
-					uint64_t n361 = load64u(p358 + 24);
-					uint64_t n362 = load64u(p358 + 32);
-					uint64_t n363 = load64u(p358 + 40);
-					store64u(p25, (uint64_t)load8(p358));
-					store64(p25 + 8, n359);
-					store64(p25 + 16, n360);
-					store64(p25 + 24, n361);
-					store64(p25 + 32, n362);
-					store64(p25 + 40, n363);
-					uint8_t n364 = tp_timer_script_session_Session_play_one(p32, p25, p31);
-					if ((n364 & 1) != 0)
+				uint64_t n361 = 0;
+				while (n361 != n360) {
+					byte *p362 = at(p359, n361 * 48);
+					uint64_t n363 = load64u(p362 + 8);
+					uint64_t n364 = load64u(p362 + 16);
+					uint64_t n365 = load64u(p362 + 24);
+					uint64_t n366 = load64u(p362 + 32);
+					uint64_t n367 = load64u(p362 + 40);
+					store64u(p25, (uint64_t)load8(p362));
+					store64(p25 + 8, n363);
+					store64(p25 + 16, n364);
+					store64(p25 + 24, n365);
+					store64(p25 + 32, n366);
+					store64(p25 + 40, n367);
+					uint8_t n368 = tp_timer_script_session_Session_play_one(p32, p25, p31);
+					if ((n368 & 1) != 0)
 						goto L30;
-					n357 = n357 + 1;
+					n361 = n361 + 1;
 				}
-				byte *p365 = loadptr(p31);
-				uint64_t n366 = load64(p31 + 8);
-				uint64_t n367 = 0;
-				while (n367 < n366) {
-					uint64_t n368 = n366 - n367;
-					uint64_t n369 = os_write(1, at(p365, n367), n368);
-					if ((int64_t)n369 < (int64_t)0) {
+				byte *p369 = loadptr(p31);
+				uint64_t n370 = load64(p31 + 8);
+				uint64_t n371 = 0;
+				while (n371 < n370) {
+					uint64_t n372 = n370 - n371;
+					uint64_t n373 = os_write(1, at(p369, n371), n372);
+					if ((int64_t)n373 < (int64_t)0) {
 						tp_error_last_error(p23);
 						store8(p3 + 1, 1);
-						n370 = 3;
+						n374 = 3;
 						goto L31;
 					}
-					uint64_t n371 = umin64(n369, n368);
-					if (n371 == 0) {
+					uint64_t n375 = umin64(n373, n372);
+					if (n375 == 0) {
 						store8(p3 + 1, 1);
-						n370 = 3;
+						n374 = 3;
 						goto L31;
 					}
-					n367 = n367 + n371;
+					n371 = n371 + n375;
 				}
-				if (n353 == 1)
+				if (n357 == 1)
 					goto L32;
-				if (n352 == 0)
+				if (n356 == 0)
 					goto L33;
-				n351 = n351 + 1;
+				n355 = n355 + 1;
 			}
 			if (load64u(p33 + 24) != 0)
 				rattle_dealloc(loadptru(p33 + 8));
@@ -59858,138 +60022,140 @@ L27:
 				rattle_dealloc(loadptru(p33 + 32));
 			if (load64u(p33 + 72) != 0)
 				rattle_dealloc(loadptru(p33 + 56));
-			p372 = loadptru(p32 + 72);
-			n373 = load64u(p32 + 88);
-			p374 = loadptru(p32 + 1184);
-			n375 = load64u(p32 + 1200);
-			p376 = loadptru(p32 + 1216);
-			n377 = load64u(p32 + 1232);
+			p376 = loadptru(p32 + 72);
+			n377 = load64u(p32 + 88);
+			p378 = loadptru(p32 + 1184);
+			n379 = load64u(p32 + 1200);
+			p380 = loadptru(p32 + 1216);
+			n381 = load64u(p32 + 1232);
 			if (load64u(p32 + 48) != 0)
 				rattle_dealloc(loadptru(p32 + 32));
-			if (n373 != 0)
-				rattle_dealloc(p372);
-			if (n375 != 0)
-				rattle_dealloc(p374);
 			if (n377 != 0)
 				rattle_dealloc(p376);
+			if (n379 != 0)
+				rattle_dealloc(p378);
+			if (n381 != 0)
+				rattle_dealloc(p380);
 			if (load64u(p32 + 1256) != 0)
 				rattle_dealloc(loadptru(p32 + 1240));
 			if (load64u(p32 + 1280) != 0)
 				rattle_dealloc(loadptru(p32 + 1264));
 			if (load64u(p31 + 16) != 0)
 				rattle_dealloc(loadptru(p31));
-			rattle_dealloc(p349);
-			n347 = 2;
-			n348 = 0;
+			rattle_dealloc(p353);
+			n351 = 2;
+			n352 = 0;
 			goto L34;
 L30:
 			{
-				byte *p378 = loadptr(p31);
-				uint64_t n379 = load64(p31 + 8);
-				uint64_t n380 = 0;
+				byte *p382 = loadptr(p31);
+				uint64_t n383 = load64(p31 + 8);
+				uint64_t n384 = 0;
 				for (;;) {
-					if (n380 >= n379) {
-						n370 = 2;
+					if (n384 >= n383) {
+						n374 = 2;
 						goto L31;
 					}
-					uint64_t n381 = n379 - n380;
-					uint64_t n382 = os_write(1, at(p378, n380), n381);
-					if ((int64_t)n382 < (int64_t)0) {
+					uint64_t n385 = n383 - n384;
+					uint64_t n386 = os_write(1, at(p382, n384), n385);
+					if ((int64_t)n386 < (int64_t)0) {
 						tp_error_last_error(p24);
 						store8(p3 + 1, 1);
-						n370 = 3;
+						n374 = 3;
 						goto L31;
 					}
-					uint64_t n383 = umin64(n382, n381);
-					if (n383 == 0) {
+					uint64_t n387 = umin64(n386, n385);
+					if (n387 == 0) {
 						store8(p3 + 1, 1);
-						n370 = 3;
+						n374 = 3;
 						goto L31;
 					}
-					n380 = n380 + n383;
+					n384 = n384 + n387;
 				}
 			}
 L33:
 			{
-				uint64_t n384;
-				uint8_t n385, n386;
-				bool b387;
+				uint64_t n388;
+				uint8_t n389, n390;
+				bool b391;
 				memset(p22, 0, 24);
 				tp_Cutter_end(p22, p33, p4);
 				if (load8(p22) == 0) {
 					if (load8(p22 + 8) == 1) {
-						n384 = load64u(p22 + 16);
-						n385 = 1;
-						n386 = 1;
-						b387 = true;
+						n388 = load64u(p22 + 16);
+						n389 = 1;
+						n390 = 1;
+						b391 = true;
 					} else {
-						uint64_t n396;
+						uint64_t n402;
 						if (load64(p31 + 8) != 0)
 							store64(p31 + 8, 0);
-						uint64_t n388 = load64(p32 + 8);
-						uint64_t n389 = load64(p32 + 56);
-						byte *p390 = loadptr(p32 + 72);
-						uint64_t n391 = load64(p32 + 96);
-						uint64_t n392 = (uint64_t)load32(at(p390, load64(p32 + 24) << 3) + 4);
-						uint64_t n393 = usub_sat64(n392, n391);
-						uint64_t n394 = 0;
-						uint64_t n395 = n392;
+						uint64_t n392 = load64(p32 + 8);
+						uint64_t n393 = load64(p32 + 56);
+						uint64_t n394 = load64(p32 + 24);
+						byte *p395 = loadptr(p32 + 72);
+						uint64_t n396 = (uint64_t)load32(at(p395, n394 << 3) + 4);
+						bool b397 = n394 != n396;
+						uint64_t n398 = load64(p32 + 96);
+						uint64_t n399 = b397 ? (n396 - n398) : 0;
+						uint64_t n400 = 0;
+						bool b401 = b397;
 						for (;;) {
-							if (n394 == n389) {
-								n396 = n389;
+							if (n400 == n393) {
+								n402 = n393;
 								break;
 							}
-							if (n391 > n395) {
-								n396 = n394;
+							if (!b401) {
+								n402 = n400;
 								break;
 							}
-							uint64_t n397 = (uint64_t)load32(at(p390, (n391 + n393) << 3) + 4);
-							n393 = usub_sat64(n397, n391);
-							n394 = n394 + 1;
-							n395 = n397;
+							uint64_t n403 = (uint64_t)load32(at(p395, (n398 + n399) << 3) + 4);
+							n399 = usub_sat64(n403, n398);
+							n400 = n400 + 1;
+							b401 = n398 <= n403;
 						}
-						uint8_t n398 = tp_text_push_end(p31, n388, n389 - n396);
-						if ((n398 & 1) != 0) {
-							n384 = 0;
-							n385 = 2;
-							n386 = 1;
-							b387 = true;
+						uint8_t n404 = tp_text_push_end(p31, n392, n393 - n402);
+						if ((n404 & 1) != 0) {
+							n388 = 0;
+							n389 = 2;
+							n390 = 1;
+							b391 = true;
 						} else {
-							byte *p399 = loadptr(p31);
-							uint64_t n400 = load64(p31 + 8);
-							uint64_t n401 = 0;
-							while (n401 < n400) {
-								uint64_t n402 = n400 - n401;
-								uint64_t n403 = os_write(1, at(p399, n401), n402);
-								if ((int64_t)n403 < (int64_t)0) {
+							byte *p405 = loadptr(p31);
+							uint64_t n406 = load64(p31 + 8);
+							uint64_t n407 = 0;
+							while (n407 < n406) {
+								uint64_t n408 = n406 - n407;
+								uint64_t n409 = os_write(1, at(p405, n407), n408);
+								if ((int64_t)n409 < (int64_t)0) {
 									tp_error_last_error(p21);
 									goto L35;
 								}
-								uint64_t n404 = umin64(n403, n402);
-								if (n404 == 0)
+								uint64_t n410 = umin64(n409, n408);
+								if (n410 == 0)
 									goto L35;
-								n401 = n401 + n404;
+								n407 = n407 + n410;
 							}
-							n384 = 0;
-							n385 = 0;
-							n386 = (uint8_t)(load8(p33 + 88) ^ 1);
-							b387 = false;
+							n388 = 0;
+							n389 = 0;
+							n390 = (uint8_t)(load8(p33 + 88) ^ 1);
+							b391 = false;
 							goto L36;
 L35:
 							{
 								store8(p3 + 1, 1);
-								n384 = 0;
-								n385 = 3;
-								n386 = 1;
-								b387 = true;
+								n388 = 0;
+								n389 = 3;
+								n390 = 1;
+								b391 = true;
 							}
 						}
 					}
 				} else {
-					n384 = 0;
-					n385 = 2;
-					n386 = 1;
-					b387 = true;
+					n388 = 0;
+					n389 = 2;
+					n390 = 1;
+					b391 = true;
 				}
 L36:
 				{
@@ -59999,68 +60165,35 @@ L36:
 						rattle_dealloc(loadptru(p33 + 32));
 					if (load64u(p33 + 72) != 0)
 						rattle_dealloc(loadptru(p33 + 56));
-					byte *p405 = loadptru(p32 + 72);
-					uint64_t n406 = load64u(p32 + 88);
-					byte *p407 = loadptru(p32 + 1184);
-					uint64_t n408 = load64u(p32 + 1200);
-					byte *p409 = loadptru(p32 + 1216);
-					uint64_t n410 = load64u(p32 + 1232);
+					byte *p411 = loadptru(p32 + 72);
+					uint64_t n412 = load64u(p32 + 88);
+					byte *p413 = loadptru(p32 + 1184);
+					uint64_t n414 = load64u(p32 + 1200);
+					byte *p415 = loadptru(p32 + 1216);
+					uint64_t n416 = load64u(p32 + 1232);
 					if (load64u(p32 + 48) != 0)
 						rattle_dealloc(loadptru(p32 + 32));
-					if (n406 != 0)
-						rattle_dealloc(p405);
-					if (n408 != 0)
-						rattle_dealloc(p407);
-					if (n410 != 0)
-						rattle_dealloc(p409);
+					if (n412 != 0)
+						rattle_dealloc(p411);
+					if (n414 != 0)
+						rattle_dealloc(p413);
+					if (n416 != 0)
+						rattle_dealloc(p415);
 					if (load64u(p32 + 1256) != 0)
 						rattle_dealloc(loadptru(p32 + 1240));
 					if (load64u(p32 + 1280) != 0)
 						rattle_dealloc(loadptru(p32 + 1264));
 					if (load64u(p31 + 16) != 0)
 						rattle_dealloc(loadptru(p31));
-					rattle_dealloc(p349);
-					if (!b387)
-						return n386;
-					n411 = n384;
-					n412 = n385;
+					rattle_dealloc(p353);
+					if (!b391)
+						return n390;
+					n417 = n388;
+					n418 = n389;
 					goto L37;
 				}
 			}
 L32:
-			{
-				if (load64u(p33 + 24) != 0)
-					rattle_dealloc(loadptru(p33 + 8));
-				if (load64u(p33 + 48) != 0)
-					rattle_dealloc(loadptru(p33 + 32));
-				if (load64u(p33 + 72) != 0)
-					rattle_dealloc(loadptru(p33 + 56));
-				byte *p413 = loadptru(p32 + 72);
-				uint64_t n414 = load64u(p32 + 88);
-				byte *p415 = loadptru(p32 + 1184);
-				uint64_t n416 = load64u(p32 + 1200);
-				byte *p417 = loadptru(p32 + 1216);
-				uint64_t n418 = load64u(p32 + 1232);
-				if (load64u(p32 + 48) != 0)
-					rattle_dealloc(loadptru(p32 + 32));
-				if (n414 != 0)
-					rattle_dealloc(p413);
-				if (n416 != 0)
-					rattle_dealloc(p415);
-				if (n418 != 0)
-					rattle_dealloc(p417);
-				if (load64u(p32 + 1256) != 0)
-					rattle_dealloc(loadptru(p32 + 1240));
-				if (load64u(p32 + 1280) != 0)
-					rattle_dealloc(loadptru(p32 + 1264));
-				if (load64u(p31 + 16) != 0)
-					rattle_dealloc(loadptru(p31));
-				rattle_dealloc(p349);
-				n347 = 1;
-				n348 = n354;
-				goto L34;
-			}
-L31:
 			{
 				if (load64u(p33 + 24) != 0)
 					rattle_dealloc(loadptru(p33 + 8));
@@ -60088,15 +60221,13 @@ L31:
 					rattle_dealloc(loadptru(p32 + 1264));
 				if (load64u(p31 + 16) != 0)
 					rattle_dealloc(loadptru(p31));
-				rattle_dealloc(p349);
-				n347 = n370;
-				n348 = 0;
+				rattle_dealloc(p353);
+				n351 = 1;
+				n352 = n358;
 				goto L34;
 			}
-L29:
+L31:
 			{
-				tp_error_last_error(p26);
-				store8(p3, 1);
 				if (load64u(p33 + 24) != 0)
 					rattle_dealloc(loadptru(p33 + 8));
 				if (load64u(p33 + 48) != 0)
@@ -60123,13 +60254,15 @@ L29:
 					rattle_dealloc(loadptru(p32 + 1264));
 				if (load64u(p31 + 16) != 0)
 					rattle_dealloc(loadptru(p31));
-				rattle_dealloc(p349);
-				n347 = 0;
-				n348 = 0;
+				rattle_dealloc(p353);
+				n351 = n374;
+				n352 = 0;
 				goto L34;
 			}
-L28:
+L29:
 			{
+				tp_error_last_error(p26);
+				store8(p3, 1);
 				if (load64u(p33 + 24) != 0)
 					rattle_dealloc(loadptru(p33 + 8));
 				if (load64u(p33 + 48) != 0)
@@ -60156,25 +60289,58 @@ L28:
 					rattle_dealloc(loadptru(p32 + 1264));
 				if (load64u(p31 + 16) != 0)
 					rattle_dealloc(loadptru(p31));
-				rattle_dealloc(p349);
-				n347 = 4;
-				n348 = 0;
+				rattle_dealloc(p353);
+				n351 = 0;
+				n352 = 0;
+				goto L34;
+			}
+L28:
+			{
+				if (load64u(p33 + 24) != 0)
+					rattle_dealloc(loadptru(p33 + 8));
+				if (load64u(p33 + 48) != 0)
+					rattle_dealloc(loadptru(p33 + 32));
+				if (load64u(p33 + 72) != 0)
+					rattle_dealloc(loadptru(p33 + 56));
+				byte *p437 = loadptru(p32 + 72);
+				uint64_t n438 = load64u(p32 + 88);
+				byte *p439 = loadptru(p32 + 1184);
+				uint64_t n440 = load64u(p32 + 1200);
+				byte *p441 = loadptru(p32 + 1216);
+				uint64_t n442 = load64u(p32 + 1232);
+				if (load64u(p32 + 48) != 0)
+					rattle_dealloc(loadptru(p32 + 32));
+				if (n438 != 0)
+					rattle_dealloc(p437);
+				if (n440 != 0)
+					rattle_dealloc(p439);
+				if (n442 != 0)
+					rattle_dealloc(p441);
+				if (load64u(p32 + 1256) != 0)
+					rattle_dealloc(loadptru(p32 + 1240));
+				if (load64u(p32 + 1280) != 0)
+					rattle_dealloc(loadptru(p32 + 1264));
+				if (load64u(p31 + 16) != 0)
+					rattle_dealloc(loadptru(p31));
+				rattle_dealloc(p353);
+				n351 = 4;
+				n352 = 0;
 			}
 		}
 L34:
 		{
-			n411 = n348;
-			n412 = n347;
+			n417 = n352;
+			n418 = n351;
 		}
 L37:
 		{
-			tp_timer_commands_error_report_report_2(n412, n411, p4);
+			tp_timer_commands_error_report_report_2(n418, n417, p4);
 			return 1;
 		}
 	}
 	case 2: {
-		uint8_t n438, n572;
-		uint64_t n439, n571;
+		uint8_t n444, n580;
+		uint64_t n445, n579;
 		memcpy(p13, p2 + 16, 16);
 		memcpy(p14, p2 + 56, 16);
 		memcpy(p15, p2 + 96, 32);
@@ -60183,31 +60349,31 @@ L37:
 		memset(p18, 0, 1288);
 		memset(p19, 0, 96);
 		memset(p20, 0, 24);
-		of_i64_i64 s437 = rattle_alloc(16384, 1);
-		if ((s437.f0 & 1) == 0) {
+		of_i64_i64 s443 = rattle_alloc(16384, 1);
+		if ((s443.f0 & 1) == 0) {
 			if (n74 != 0)
 				rattle_dealloc(p72);
 			if (n77 != 0)
 				rattle_dealloc(p75);
 			if (n80 == 0) {
-				n438 = 2;
-				n439 = 0;
+				n444 = 2;
+				n445 = 0;
 			} else {
 				rattle_dealloc(p78);
-				n438 = 2;
-				n439 = 0;
+				n444 = 2;
+				n445 = 0;
 			}
 		} else {
-			uint64_t n445, n470, n471, n527, n529, n531;
-			uint8_t n524;
-			byte *p526, *p528, *p530;
-			byte *p440 = (byte *)(uintptr_t)s437.f1;
-			uint64_t n441 = 0;
-			while (n441 != 16383) {
-				store8(inside(p440, n441), 0);
-				n441 = n441 + 1;
+			uint64_t n451, n476, n477, n533, n535, n537;
+			uint8_t n530;
+			byte *p532, *p534, *p536;
+			byte *p446 = (byte *)(uintptr_t)s443.f1;
+			uint64_t n447 = 0;
+			while (n447 != 16383) {
+				store8(inside(p446, n447), 0);
+				n447 = n447 + 1;
 			}
-			store8(p440 + 16383, 0);
+			store8(p446 + 16383, 0);
 			storeptru(p17, p5);
 			memset(p17 + 8, 0, 16);
 			store64u(p18, n70);
@@ -60242,43 +60408,43 @@ L37:
 			store64u(p19 + 80, 1);
 			store8(p19 + 88, 1);
 			memset(p19 + 89, 0, 7);
-			uint64_t n442 = 0;
+			uint64_t n448 = 0;
 			for (;;) {
-				if (n442 == UINT64_MAX)
+				if (n448 == UINT64_MAX)
 					goto L38;
-				uint64_t n443 = os_read(0, p440, 16384);
-				if ((int64_t)n443 < (int64_t)0)
+				uint64_t n449 = os_read(0, p446, 16384);
+				if ((int64_t)n449 < (int64_t)0)
 					goto L39;
-				tp_Cutter_take_in(p20, p19, p440, umin64(n443, 16384), p4);
+				tp_Cutter_take_in(p20, p19, p446, umin64(n449, 16384), p4);
 				if (load8(p20) != 0)
 					break;
-				uint8_t n444 = load8(p20 + 8);
-				n445 = load64u(p20 + 16);
-				byte *p446 = loadptr(p19 + 8);
-				uint64_t n447 = load64(p19 + 16);
+				uint8_t n450 = load8(p20 + 8);
+				n451 = load64u(p20 + 16);
+				byte *p452 = loadptr(p19 + 8);
+				uint64_t n453 = load64(p19 + 16);
 				if (load64(p17 + 8) != 0)
 					store64(p17 + 8, 0);
-				uint64_t n448 = 0;
-				while (n448 != n447) {
-					byte *p449 = at(p446, n448 * 48);
-					uint8_t n450 = load8(p449);
-					uint64_t n451 = load64u(p449 + 8);
-					uint64_t n452 = load64(p18 + 144);
-					uint64_t n453 = load64u(p449 + 16);
-					uint64_t n454 = load64u(p449 + 24);
-					uint64_t n455 = load64u(p449 + 32);
-					uint64_t n456 = load64u(p449 + 40);
-					store64u(p11, (uint64_t)n450);
-					store64(p11 + 8, n451);
-					store64(p11 + 16, n453);
-					store64(p11 + 24, n454);
-					store64(p11 + 32, n455);
-					store64(p11 + 40, n456);
+				uint64_t n454 = 0;
+				while (n454 != n453) {
+					byte *p455 = at(p452, n454 * 48);
+					uint8_t n456 = load8(p455);
+					uint64_t n457 = load64u(p455 + 8);
+					uint64_t n458 = load64(p18 + 144);
+					uint64_t n459 = load64u(p455 + 16);
+					uint64_t n460 = load64u(p455 + 24);
+					uint64_t n461 = load64u(p455 + 32);
+					uint64_t n462 = load64u(p455 + 40);
+					store64u(p11, (uint64_t)n456);
+					store64(p11 + 8, n457);
+					store64(p11 + 16, n459);
+					store64(p11 + 24, n460);
+					store64(p11 + 32, n461);
+					store64(p11 + 40, n462);
 					if ((n60 & 1) != 0) {
-						uint64_t n457;
-						switch (n450) {
+						uint64_t n463;
+						switch (n456) {
 						case 3: {
-							n457 = n451;
+							n463 = n457;
 							break;
 						}
 						case 0:
@@ -60291,266 +60457,266 @@ L37:
 							UNREACHABLE();
 						}
 						}
-						while (n457 != 0) {
-							uint64_t n462;
-							uint64_t n458 = load64(p18 + 8);
-							uint64_t n459 = load64(p18);
-							bool b460 = (load8(p18 + 1176) & 1) != 0;
-							uint64_t n461 = load64(p18 + 120);
+						while (n463 != 0) {
+							uint64_t n468;
+							uint64_t n464 = load64(p18 + 8);
+							uint64_t n465 = load64(p18);
+							bool b466 = (load8(p18 + 1176) & 1) != 0;
+							uint64_t n467 = load64(p18 + 120);
 							if (load64(p18 + 56) == 0) {
-								n462 = n457;
+								n468 = n463;
 							} else {
-								uint64_t n465;
-								uint64_t n463 = load64(p18 + 24);
-								uint64_t n464 = 0;
+								uint64_t n471;
+								uint64_t n469 = load64(p18 + 24);
+								uint64_t n470 = 0;
 								for (;;) {
-									if (n464 == n463) {
-										n462 = n457;
+									if (n470 == n469) {
+										n468 = n463;
 										goto L41;
 									}
-									n465 = n464 + 1;
-									uint64_t n466 = n461 + n465;
-									uint64_t n467 = n466 - ((n466 < n463) ? 0 : n463);
-									if (n467 != (uint64_t)load32(at(loadptr(p18 + 72), n467 << 3) + 4))
+									n471 = n470 + 1;
+									uint64_t n472 = n467 + n471;
+									uint64_t n473 = n472 - ((n472 < n469) ? 0 : n469);
+									if (n473 != (uint64_t)load32(at(loadptr(p18 + 72), n473 << 3) + 4))
 										break;
-									n464 = n465;
+									n470 = n471;
 								}
-								if (((n458 + n465) > n459) || b460) {
-									n462 = n457;
+								if (((n464 + n471) > n465) || b466) {
+									n468 = n463;
 								} else {
-									n462 = umin64(n465, n457);
+									n468 = umin64(n471, n463);
 								}
 							}
 L41:
 							{
 								memset(p10 + 16, 0, 32);
 								store64u(p10, 3);
-								store64(p10 + 8, n462);
-								uint8_t n468 = tp_timer_script_session_Session_play_one(p18, p10, p17);
-								if ((n468 & 1) != 0)
+								store64(p10 + 8, n468);
+								uint8_t n474 = tp_timer_script_session_Session_play_one(p18, p10, p17);
+								if ((n474 & 1) != 0)
 									goto L42;
-								n457 = n457 - n462;
+								n463 = n463 - n468;
 							}
 						}
 						goto L43;
 					}
 L40:
 					{
-						uint8_t n469 = tp_timer_script_session_Session_play_one(p18, p11, p17);
-						if ((n469 & 1) != 0) {
-							n470 = load64(p17 + 8);
+						uint8_t n475 = tp_timer_script_session_Session_play_one(p18, p11, p17);
+						if ((n475 & 1) != 0) {
+							n476 = load64(p17 + 8);
 							goto L44;
 						}
 					}
 L43:
 					{
-						uint64_t n473, n474, n476, n478, n479, n480, n481, n482;
-						uint8_t n475;
-						n471 = load64(p17 + 8);
-						uint64_t n472 = load64(p18 + 8);
+						uint64_t n479, n480, n482, n484, n485, n486, n487, n488;
+						uint8_t n481;
+						n477 = load64(p17 + 8);
+						uint64_t n478 = load64(p18 + 8);
 						if (n66 == 1) {
-							if (n67 > n472) {
-								n473 = n471;
+							if (n67 > n478) {
+								n479 = n477;
 								goto L45;
 							}
 						}
 						if (n68 == 1) {
-							if (n472 > n69) {
-								n473 = n471;
+							if (n478 > n69) {
+								n479 = n477;
 								goto L45;
 							}
 						}
-						n474 = ((n61 & 1) != 0) ? n452 : 0;
-						n475 = tp_render_push_number(p17, (byte *)tp_static_283, 6, n472);
-						if ((n475 & 1) != 0)
+						n480 = ((n61 & 1) != 0) ? n458 : 0;
+						n481 = tp_render_push_number(p17, (byte *)tp_static_283, 6, n478);
+						if ((n481 & 1) != 0)
 							goto L46;
-						n476 = load64(p17 + 8);
-						if (load64(p17 + 16) == n476) {
-							bool b477 = tp_std_alloc_vec_Vec_grow_amortized_6(p17, 1);
-							if (!b477)
+						n482 = load64(p17 + 8);
+						if (load64(p17 + 16) == n482) {
+							bool b483 = tp_std_alloc_vec_Vec_grow_amortized_6(p17, 1);
+							if (!b483)
 								goto L46;
-							n478 = load64(p17 + 8);
+							n484 = load64(p17 + 8);
 						} else {
-							n478 = n476;
+							n484 = n482;
 						}
-						store8(inside(loadptr(p17), n478), 10);
-						n479 = n478 + 1;
-						store64(p17 + 8, n479);
-						n480 = load64(p18 + 96);
-						n481 = n479;
-						n482 = 0;
+						store8(inside(loadptr(p17), n484), 10);
+						n485 = n484 + 1;
+						store64(p17 + 8, n485);
+						n486 = load64(p18 + 96);
+						n487 = n485;
+						n488 = 0;
 						for (;;) {
-							uint64_t n519;
-							if (n482 == n480) {
-								n473 = n481;
+							uint64_t n525;
+							if (n488 == n486) {
+								n479 = n487;
 								break;
 							}
-							byte *p483 = loadptr(p18 + 72);
-							uint64_t n484 = load64(p18 + 96);
-							uint64_t n485 = (uint64_t)load32(at(p483, n482 << 3));
-							uint64_t n486 = load64(p18 + 56);
-							uint8_t n487 = 0;
-							uint64_t n488 = 0;
-							uint64_t n489 = n485;
-							uint64_t n490 = usub_sat64(n485, n484);
-							uint64_t n491 = 0;
-							while (n491 != n486) {
-								uint8_t n495;
-								uint64_t n496;
-								if (n484 > n489)
+							byte *p489 = loadptr(p18 + 72);
+							uint64_t n490 = load64(p18 + 96);
+							uint64_t n491 = (uint64_t)load32(at(p489, n488 << 3));
+							uint64_t n492 = load64(p18 + 56);
+							uint8_t n493 = 0;
+							uint64_t n494 = 0;
+							uint64_t n495 = n491;
+							uint64_t n496 = usub_sat64(n491, n490);
+							uint64_t n497 = 0;
+							while (n497 != n492) {
+								uint8_t n501;
+								uint64_t n502;
+								if (n490 > n495)
 									break;
-								byte *p492 = at(loadptr(p18 + 32), n490 * 56);
-								if (n490 >= load64(p18 + 40))
+								byte *p498 = at(loadptr(p18 + 32), n496 * 56);
+								if (n496 >= load64(p18 + 40))
 									break;
-								if (load8(p492) != 1)
+								if (load8(p498) != 1)
 									break;
-								uint64_t n493 = load64u(p492 + 8);
-								uint64_t n494 = load64u(p492 + 16);
-								if (n493 < n474)
+								uint64_t n499 = load64u(p498 + 8);
+								uint64_t n500 = load64u(p498 + 16);
+								if (n499 < n480)
 									break;
 								if (n62 == 1) {
-									if (n63 != n494) {
-										n495 = n487;
-										n496 = n488;
+									if (n63 != n500) {
+										n501 = n493;
+										n502 = n494;
 										goto L47;
 									}
 								}
 								if (n64 == 1) {
-									if (n65 != n493) {
-										n495 = n487;
-										n496 = n488;
+									if (n65 != n499) {
+										n501 = n493;
+										n502 = n494;
 										goto L47;
 									}
 								}
-								n495 = 1;
-								n496 = n490;
+								n501 = 1;
+								n502 = n496;
 L47:
 								{
-									uint64_t n497 = (uint64_t)load32(at(p483, (n484 + n490) << 3));
-									n487 = n495;
-									n488 = n496;
-									n489 = n497;
-									n490 = usub_sat64(n497, n484);
-									n491 = n491 + 1;
+									uint64_t n503 = (uint64_t)load32(at(p489, (n490 + n496) << 3));
+									n493 = n501;
+									n494 = n502;
+									n495 = n503;
+									n496 = usub_sat64(n503, n490);
+									n497 = n497 + 1;
 								}
 							}
-							if (n487 == 1) {
-								uint64_t n499, n503, n517;
-								if (load64(p17 + 16) == n481) {
-									bool b498 = tp_std_alloc_vec_Vec_grow_amortized_6(p17, 1);
-									if (!b498)
+							if (n493 == 1) {
+								uint64_t n505, n509, n523;
+								if (load64(p17 + 16) == n487) {
+									bool b504 = tp_std_alloc_vec_Vec_grow_amortized_6(p17, 1);
+									if (!b504)
 										goto L46;
-									n499 = load64(p17 + 8);
+									n505 = load64(p17 + 8);
 								} else {
-									n499 = n481;
+									n505 = n487;
 								}
-								store8(inside(loadptr(p17), n499), 32);
-								store64(p17 + 8, n499 + 1);
-								uint8_t n500 = tp_render_push_number(p17, (byte *)tp_static_287, 6, n482);
-								if ((n500 & 1) != 0)
+								store8(inside(loadptr(p17), n505), 32);
+								store64(p17 + 8, n505 + 1);
+								uint8_t n506 = tp_render_push_number(p17, (byte *)tp_static_287, 6, n488);
+								if ((n506 & 1) != 0)
 									goto L46;
-								uint64_t n501 = load64(p17 + 8);
-								if (load64(p17 + 16) == n501) {
-									bool b502 = tp_std_alloc_vec_Vec_grow_amortized_6(p17, 1);
-									if (!b502)
+								uint64_t n507 = load64(p17 + 8);
+								if (load64(p17 + 16) == n507) {
+									bool b508 = tp_std_alloc_vec_Vec_grow_amortized_6(p17, 1);
+									if (!b508)
 										goto L46;
-									n503 = load64(p17 + 8);
+									n509 = load64(p17 + 8);
 								} else {
-									n503 = n501;
+									n509 = n507;
 								}
-								store8(inside(loadptr(p17), n503), 58);
-								store64(p17 + 8, n503 + 1);
-								uint64_t n504 = load64(p18 + 56);
-								uint64_t n505 = n488;
-								uint64_t n506 = 0;
-								bool b507 = true;
-								while (n506 != n504) {
-									uint8_t n511, n512;
-									if (!b507)
+								store8(inside(loadptr(p17), n509), 58);
+								store64(p17 + 8, n509 + 1);
+								uint64_t n510 = load64(p18 + 56);
+								uint64_t n511 = n494;
+								uint64_t n512 = 0;
+								bool b513 = true;
+								while (n512 != n510) {
+									uint8_t n517, n518;
+									if (!b513)
 										break;
-									byte *p508 = at(loadptr(p18 + 32), n505 * 56);
-									if (n505 >= load64(p18 + 40))
+									byte *p514 = at(loadptr(p18 + 32), n511 * 56);
+									if (n511 >= load64(p18 + 40))
 										break;
-									if (load8(p508) != 1)
+									if (load8(p514) != 1)
 										break;
-									uint64_t n509 = load64u(p508 + 8);
-									uint64_t n510 = load64u(p508 + 48);
+									uint64_t n515 = load64u(p514 + 8);
+									uint64_t n516 = load64u(p514 + 48);
 									if (n62 == 1) {
-										if (n63 != load64u(p508 + 16))
+										if (n63 != load64u(p514 + 16))
 											goto L48;
 									}
 									if (n64 == 1) {
-										if ((n65 != n509) || (n474 > n509))
+										if ((n65 != n515) || (n480 > n515))
 											goto L48;
-									} else if (n474 > n509) {
+									} else if (n480 > n515) {
 										goto L48;
 									}
-									n511 = tp_render_push_number(p17, (byte *)tp_static_93, 1, n509);
-									if ((n511 & 1) != 0)
+									n517 = tp_render_push_number(p17, (byte *)tp_static_93, 1, n515);
+									if ((n517 & 1) != 0)
 										goto L46;
-									n512 = tp_render_push_number(p17, (byte *)tp_static_191, 1, n510);
-									if ((n512 & 1) != 0)
+									n518 = tp_render_push_number(p17, (byte *)tp_static_191, 1, n516);
+									if ((n518 & 1) != 0)
 										goto L46;
 L48:
 									{
-										uint64_t n513 = load64(p18 + 96);
-										uint64_t n514 = (uint64_t)load32(at(loadptr(p18 + 72), (n513 + n505) << 3) + 4);
-										n505 = usub_sat64(n514, n513);
-										n506 = n506 + 1;
-										b507 = n513 <= n514;
+										uint64_t n519 = load64(p18 + 96);
+										uint64_t n520 = (uint64_t)load32(at(loadptr(p18 + 72), (n519 + n511) << 3) + 4);
+										n511 = usub_sat64(n520, n519);
+										n512 = n512 + 1;
+										b513 = n519 <= n520;
 									}
 								}
-								uint64_t n515 = load64(p17 + 8);
-								if (load64(p17 + 16) == n515) {
-									bool b516 = tp_std_alloc_vec_Vec_grow_amortized_6(p17, 1);
-									if (!b516)
+								uint64_t n521 = load64(p17 + 8);
+								if (load64(p17 + 16) == n521) {
+									bool b522 = tp_std_alloc_vec_Vec_grow_amortized_6(p17, 1);
+									if (!b522)
 										goto L46;
-									n517 = load64(p17 + 8);
+									n523 = load64(p17 + 8);
 								} else {
-									n517 = n515;
+									n523 = n521;
 								}
-								store8(inside(loadptr(p17), n517), 10);
-								uint64_t n518 = n517 + 1;
-								store64(p17 + 8, n518);
-								n519 = n518;
+								store8(inside(loadptr(p17), n523), 10);
+								uint64_t n524 = n523 + 1;
+								store64(p17 + 8, n524);
+								n525 = n524;
 							} else {
-								n519 = n481;
+								n525 = n487;
 							}
-							n481 = n519;
-							n482 = n482 + 1;
+							n487 = n525;
+							n488 = n488 + 1;
 						}
 L45:
 						{
-							byte *p520 = loadptr(p17);
-							uint64_t n521 = 0;
-							while (n521 < n473) {
-								uint64_t n522 = n473 - n521;
-								uint64_t n523 = os_write(1, at(p520, n521), n522);
-								if ((int64_t)n523 < (int64_t)0) {
+							byte *p526 = loadptr(p17);
+							uint64_t n527 = 0;
+							while (n527 < n479) {
+								uint64_t n528 = n479 - n527;
+								uint64_t n529 = os_write(1, at(p526, n527), n528);
+								if ((int64_t)n529 < (int64_t)0) {
 									tp_error_last_error(p8);
 									store8(p3 + 1, 1);
-									n524 = 3;
+									n530 = 3;
 									goto L49;
 								}
-								uint64_t n525 = umin64(n523, n522);
-								if (n525 == 0) {
+								uint64_t n531 = umin64(n529, n528);
+								if (n531 == 0) {
 									store8(p3 + 1, 1);
-									n524 = 3;
+									n530 = 3;
 									goto L49;
 								}
-								n521 = n521 + n525;
+								n527 = n527 + n531;
 							}
 							if (load64(p17 + 8) != 0)
 								store64(p17 + 8, 0);
-							n448 = n448 + 1;
+							n454 = n454 + 1;
 						}
 					}
 				}
-				if (n444 == 1)
+				if (n450 == 1)
 					goto L50;
-				if (n443 == 0)
+				if (n449 == 0)
 					goto L51;
-				n442 = n442 + 1;
+				n448 = n448 + 1;
 			}
 			if (load64u(p19 + 24) != 0)
 				rattle_dealloc(loadptru(p19 + 8));
@@ -60558,71 +60724,71 @@ L45:
 				rattle_dealloc(loadptru(p19 + 32));
 			if (load64u(p19 + 72) != 0)
 				rattle_dealloc(loadptru(p19 + 56));
-			p526 = loadptru(p18 + 72);
-			n527 = load64u(p18 + 88);
-			p528 = loadptru(p18 + 1184);
-			n529 = load64u(p18 + 1200);
-			p530 = loadptru(p18 + 1216);
-			n531 = load64u(p18 + 1232);
+			p532 = loadptru(p18 + 72);
+			n533 = load64u(p18 + 88);
+			p534 = loadptru(p18 + 1184);
+			n535 = load64u(p18 + 1200);
+			p536 = loadptru(p18 + 1216);
+			n537 = load64u(p18 + 1232);
 			if (load64u(p18 + 48) != 0)
 				rattle_dealloc(loadptru(p18 + 32));
-			if (n527 != 0)
-				rattle_dealloc(p526);
-			if (n529 != 0)
-				rattle_dealloc(p528);
-			if (n531 != 0)
-				rattle_dealloc(p530);
+			if (n533 != 0)
+				rattle_dealloc(p532);
+			if (n535 != 0)
+				rattle_dealloc(p534);
+			if (n537 != 0)
+				rattle_dealloc(p536);
 			if (load64u(p18 + 1256) != 0)
 				rattle_dealloc(loadptru(p18 + 1240));
 			if (load64u(p18 + 1280) != 0)
 				rattle_dealloc(loadptru(p18 + 1264));
 			if (load64u(p17 + 16) != 0)
 				rattle_dealloc(loadptru(p17));
-			rattle_dealloc(p440);
-			n438 = 2;
-			n439 = 0;
+			rattle_dealloc(p446);
+			n444 = 2;
+			n445 = 0;
 			goto L52;
 L42:
 			{
 				if (load64(p17 + 8) != 0)
 					store64(p17 + 8, 0);
-				n470 = 0;
+				n476 = 0;
 				goto L44;
 			}
 L46:
 			{
-				uint64_t n532 = load64(p17 + 8);
-				if (n532 > n471) {
-					store64(p17 + 8, n471);
-					n470 = n471;
+				uint64_t n538 = load64(p17 + 8);
+				if (n538 > n477) {
+					store64(p17 + 8, n477);
+					n476 = n477;
 				} else {
-					n470 = n532;
+					n476 = n538;
 				}
 			}
 L44:
 			{
-				byte *p533 = loadptr(p17);
-				uint64_t n534 = 0;
+				byte *p539 = loadptr(p17);
+				uint64_t n540 = 0;
 				for (;;) {
-					if (n534 >= n470) {
-						n524 = 2;
+					if (n540 >= n476) {
+						n530 = 2;
 						break;
 					}
-					uint64_t n535 = n470 - n534;
-					uint64_t n536 = os_write(1, at(p533, n534), n535);
-					if ((int64_t)n536 < (int64_t)0) {
+					uint64_t n541 = n476 - n540;
+					uint64_t n542 = os_write(1, at(p539, n540), n541);
+					if ((int64_t)n542 < (int64_t)0) {
 						tp_error_last_error(p9);
 						store8(p3 + 1, 1);
-						n524 = 3;
+						n530 = 3;
 						break;
 					}
-					uint64_t n537 = umin64(n536, n535);
-					if (n537 == 0) {
+					uint64_t n543 = umin64(n542, n541);
+					if (n543 == 0) {
 						store8(p3 + 1, 1);
-						n524 = 3;
+						n530 = 3;
 						break;
 					}
-					n534 = n534 + n537;
+					n540 = n540 + n543;
 				}
 			}
 L49:
@@ -60633,112 +60799,114 @@ L49:
 					rattle_dealloc(loadptru(p19 + 32));
 				if (load64u(p19 + 72) != 0)
 					rattle_dealloc(loadptru(p19 + 56));
-				byte *p538 = loadptru(p18 + 72);
-				uint64_t n539 = load64u(p18 + 88);
-				byte *p540 = loadptru(p18 + 1184);
-				uint64_t n541 = load64u(p18 + 1200);
-				byte *p542 = loadptru(p18 + 1216);
-				uint64_t n543 = load64u(p18 + 1232);
+				byte *p544 = loadptru(p18 + 72);
+				uint64_t n545 = load64u(p18 + 88);
+				byte *p546 = loadptru(p18 + 1184);
+				uint64_t n547 = load64u(p18 + 1200);
+				byte *p548 = loadptru(p18 + 1216);
+				uint64_t n549 = load64u(p18 + 1232);
 				if (load64u(p18 + 48) != 0)
 					rattle_dealloc(loadptru(p18 + 32));
-				if (n539 != 0)
-					rattle_dealloc(p538);
-				if (n541 != 0)
-					rattle_dealloc(p540);
-				if (n543 != 0)
-					rattle_dealloc(p542);
+				if (n545 != 0)
+					rattle_dealloc(p544);
+				if (n547 != 0)
+					rattle_dealloc(p546);
+				if (n549 != 0)
+					rattle_dealloc(p548);
 				if (load64u(p18 + 1256) != 0)
 					rattle_dealloc(loadptru(p18 + 1240));
 				if (load64u(p18 + 1280) != 0)
 					rattle_dealloc(loadptru(p18 + 1264));
 				if (load64u(p17 + 16) != 0)
 					rattle_dealloc(loadptru(p17));
-				rattle_dealloc(p440);
-				n438 = n524;
-				n439 = 0;
+				rattle_dealloc(p446);
+				n444 = n530;
+				n445 = 0;
 				goto L52;
 			}
 L51:
 			{
-				uint64_t n544;
-				uint8_t n545, n546;
-				bool b547;
+				uint64_t n550;
+				uint8_t n551, n552;
+				bool b553;
 				memset(p7, 0, 24);
 				tp_Cutter_end(p7, p19, p4);
 				if (load8(p7) == 0) {
 					if (load8(p7 + 8) == 1) {
-						n544 = load64u(p7 + 16);
-						n545 = 1;
-						n546 = 1;
-						b547 = true;
+						n550 = load64u(p7 + 16);
+						n551 = 1;
+						n552 = 1;
+						b553 = true;
 					} else {
-						uint64_t n556;
+						uint64_t n564;
 						if (load64(p17 + 8) != 0)
 							store64(p17 + 8, 0);
-						uint64_t n548 = load64(p18 + 8);
-						uint64_t n549 = load64(p18 + 56);
-						byte *p550 = loadptr(p18 + 72);
-						uint64_t n551 = load64(p18 + 96);
-						uint64_t n552 = (uint64_t)load32(at(p550, load64(p18 + 24) << 3) + 4);
-						uint64_t n553 = usub_sat64(n552, n551);
-						uint64_t n554 = 0;
-						uint64_t n555 = n552;
+						uint64_t n554 = load64(p18 + 8);
+						uint64_t n555 = load64(p18 + 56);
+						uint64_t n556 = load64(p18 + 24);
+						byte *p557 = loadptr(p18 + 72);
+						uint64_t n558 = (uint64_t)load32(at(p557, n556 << 3) + 4);
+						bool b559 = n556 != n558;
+						uint64_t n560 = load64(p18 + 96);
+						uint64_t n561 = b559 ? (n558 - n560) : 0;
+						uint64_t n562 = 0;
+						bool b563 = b559;
 						for (;;) {
-							if (n554 == n549) {
-								n556 = n549;
+							if (n562 == n555) {
+								n564 = n555;
 								break;
 							}
-							if (n551 > n555) {
-								n556 = n554;
+							if (!b563) {
+								n564 = n562;
 								break;
 							}
-							uint64_t n557 = (uint64_t)load32(at(p550, (n551 + n553) << 3) + 4);
-							n553 = usub_sat64(n557, n551);
-							n554 = n554 + 1;
-							n555 = n557;
+							uint64_t n565 = (uint64_t)load32(at(p557, (n560 + n561) << 3) + 4);
+							n561 = usub_sat64(n565, n560);
+							n562 = n562 + 1;
+							b563 = n560 <= n565;
 						}
-						uint8_t n558 = tp_text_push_end(p17, n548, n549 - n556);
-						if ((n558 & 1) != 0) {
-							n544 = 0;
-							n545 = 2;
-							n546 = 1;
-							b547 = true;
+						uint8_t n566 = tp_text_push_end(p17, n554, n555 - n564);
+						if ((n566 & 1) != 0) {
+							n550 = 0;
+							n551 = 2;
+							n552 = 1;
+							b553 = true;
 						} else {
-							byte *p559 = loadptr(p17);
-							uint64_t n560 = load64(p17 + 8);
-							uint64_t n561 = 0;
-							while (n561 < n560) {
-								uint64_t n562 = n560 - n561;
-								uint64_t n563 = os_write(1, at(p559, n561), n562);
-								if ((int64_t)n563 < (int64_t)0) {
+							byte *p567 = loadptr(p17);
+							uint64_t n568 = load64(p17 + 8);
+							uint64_t n569 = 0;
+							while (n569 < n568) {
+								uint64_t n570 = n568 - n569;
+								uint64_t n571 = os_write(1, at(p567, n569), n570);
+								if ((int64_t)n571 < (int64_t)0) {
 									tp_error_last_error(p6);
 									goto L53;
 								}
-								uint64_t n564 = umin64(n563, n562);
-								if (n564 == 0)
+								uint64_t n572 = umin64(n571, n570);
+								if (n572 == 0)
 									goto L53;
-								n561 = n561 + n564;
+								n569 = n569 + n572;
 							}
-							n544 = 0;
-							n545 = 0;
-							n546 = (uint8_t)(load8(p19 + 88) ^ 1);
-							b547 = false;
+							n550 = 0;
+							n551 = 0;
+							n552 = (uint8_t)(load8(p19 + 88) ^ 1);
+							b553 = false;
 							goto L54;
 L53:
 							{
 								store8(p3 + 1, 1);
-								n544 = 0;
-								n545 = 3;
-								n546 = 1;
-								b547 = true;
+								n550 = 0;
+								n551 = 3;
+								n552 = 1;
+								b553 = true;
 							}
 						}
 					}
 				} else {
-					n544 = 0;
-					n545 = 2;
-					n546 = 1;
-					b547 = true;
+					n550 = 0;
+					n551 = 2;
+					n552 = 1;
+					b553 = true;
 				}
 L54:
 				{
@@ -60748,31 +60916,31 @@ L54:
 						rattle_dealloc(loadptru(p19 + 32));
 					if (load64u(p19 + 72) != 0)
 						rattle_dealloc(loadptru(p19 + 56));
-					byte *p565 = loadptru(p18 + 72);
-					uint64_t n566 = load64u(p18 + 88);
-					byte *p567 = loadptru(p18 + 1184);
-					uint64_t n568 = load64u(p18 + 1200);
-					byte *p569 = loadptru(p18 + 1216);
-					uint64_t n570 = load64u(p18 + 1232);
+					byte *p573 = loadptru(p18 + 72);
+					uint64_t n574 = load64u(p18 + 88);
+					byte *p575 = loadptru(p18 + 1184);
+					uint64_t n576 = load64u(p18 + 1200);
+					byte *p577 = loadptru(p18 + 1216);
+					uint64_t n578 = load64u(p18 + 1232);
 					if (load64u(p18 + 48) != 0)
 						rattle_dealloc(loadptru(p18 + 32));
-					if (n566 != 0)
-						rattle_dealloc(p565);
-					if (n568 != 0)
-						rattle_dealloc(p567);
-					if (n570 != 0)
-						rattle_dealloc(p569);
+					if (n574 != 0)
+						rattle_dealloc(p573);
+					if (n576 != 0)
+						rattle_dealloc(p575);
+					if (n578 != 0)
+						rattle_dealloc(p577);
 					if (load64u(p18 + 1256) != 0)
 						rattle_dealloc(loadptru(p18 + 1240));
 					if (load64u(p18 + 1280) != 0)
 						rattle_dealloc(loadptru(p18 + 1264));
 					if (load64u(p17 + 16) != 0)
 						rattle_dealloc(loadptru(p17));
-					rattle_dealloc(p440);
-					if (!b547)
-						return n546;
-					n571 = n544;
-					n572 = n545;
+					rattle_dealloc(p446);
+					if (!b553)
+						return n552;
+					n579 = n550;
+					n580 = n551;
 					goto L55;
 				}
 			}
@@ -60784,29 +60952,29 @@ L50:
 					rattle_dealloc(loadptru(p19 + 32));
 				if (load64u(p19 + 72) != 0)
 					rattle_dealloc(loadptru(p19 + 56));
-				byte *p573 = loadptru(p18 + 72);
-				uint64_t n574 = load64u(p18 + 88);
-				byte *p575 = loadptru(p18 + 1184);
-				uint64_t n576 = load64u(p18 + 1200);
-				byte *p577 = loadptru(p18 + 1216);
-				uint64_t n578 = load64u(p18 + 1232);
+				byte *p581 = loadptru(p18 + 72);
+				uint64_t n582 = load64u(p18 + 88);
+				byte *p583 = loadptru(p18 + 1184);
+				uint64_t n584 = load64u(p18 + 1200);
+				byte *p585 = loadptru(p18 + 1216);
+				uint64_t n586 = load64u(p18 + 1232);
 				if (load64u(p18 + 48) != 0)
 					rattle_dealloc(loadptru(p18 + 32));
-				if (n574 != 0)
-					rattle_dealloc(p573);
-				if (n576 != 0)
-					rattle_dealloc(p575);
-				if (n578 != 0)
-					rattle_dealloc(p577);
+				if (n582 != 0)
+					rattle_dealloc(p581);
+				if (n584 != 0)
+					rattle_dealloc(p583);
+				if (n586 != 0)
+					rattle_dealloc(p585);
 				if (load64u(p18 + 1256) != 0)
 					rattle_dealloc(loadptru(p18 + 1240));
 				if (load64u(p18 + 1280) != 0)
 					rattle_dealloc(loadptru(p18 + 1264));
 				if (load64u(p17 + 16) != 0)
 					rattle_dealloc(loadptru(p17));
-				rattle_dealloc(p440);
-				n438 = 1;
-				n439 = n445;
+				rattle_dealloc(p446);
+				n444 = 1;
+				n445 = n451;
 				goto L52;
 			}
 L39:
@@ -60819,29 +60987,29 @@ L39:
 					rattle_dealloc(loadptru(p19 + 32));
 				if (load64u(p19 + 72) != 0)
 					rattle_dealloc(loadptru(p19 + 56));
-				byte *p579 = loadptru(p18 + 72);
-				uint64_t n580 = load64u(p18 + 88);
-				byte *p581 = loadptru(p18 + 1184);
-				uint64_t n582 = load64u(p18 + 1200);
-				byte *p583 = loadptru(p18 + 1216);
-				uint64_t n584 = load64u(p18 + 1232);
+				byte *p587 = loadptru(p18 + 72);
+				uint64_t n588 = load64u(p18 + 88);
+				byte *p589 = loadptru(p18 + 1184);
+				uint64_t n590 = load64u(p18 + 1200);
+				byte *p591 = loadptru(p18 + 1216);
+				uint64_t n592 = load64u(p18 + 1232);
 				if (load64u(p18 + 48) != 0)
 					rattle_dealloc(loadptru(p18 + 32));
-				if (n580 != 0)
-					rattle_dealloc(p579);
-				if (n582 != 0)
-					rattle_dealloc(p581);
-				if (n584 != 0)
-					rattle_dealloc(p583);
+				if (n588 != 0)
+					rattle_dealloc(p587);
+				if (n590 != 0)
+					rattle_dealloc(p589);
+				if (n592 != 0)
+					rattle_dealloc(p591);
 				if (load64u(p18 + 1256) != 0)
 					rattle_dealloc(loadptru(p18 + 1240));
 				if (load64u(p18 + 1280) != 0)
 					rattle_dealloc(loadptru(p18 + 1264));
 				if (load64u(p17 + 16) != 0)
 					rattle_dealloc(loadptru(p17));
-				rattle_dealloc(p440);
-				n438 = 0;
-				n439 = 0;
+				rattle_dealloc(p446);
+				n444 = 0;
+				n445 = 0;
 				goto L52;
 			}
 L38:
@@ -60852,39 +61020,39 @@ L38:
 					rattle_dealloc(loadptru(p19 + 32));
 				if (load64u(p19 + 72) != 0)
 					rattle_dealloc(loadptru(p19 + 56));
-				byte *p585 = loadptru(p18 + 72);
-				uint64_t n586 = load64u(p18 + 88);
-				byte *p587 = loadptru(p18 + 1184);
-				uint64_t n588 = load64u(p18 + 1200);
-				byte *p589 = loadptru(p18 + 1216);
-				uint64_t n590 = load64u(p18 + 1232);
+				byte *p593 = loadptru(p18 + 72);
+				uint64_t n594 = load64u(p18 + 88);
+				byte *p595 = loadptru(p18 + 1184);
+				uint64_t n596 = load64u(p18 + 1200);
+				byte *p597 = loadptru(p18 + 1216);
+				uint64_t n598 = load64u(p18 + 1232);
 				if (load64u(p18 + 48) != 0)
 					rattle_dealloc(loadptru(p18 + 32));
-				if (n586 != 0)
-					rattle_dealloc(p585);
-				if (n588 != 0)
-					rattle_dealloc(p587);
-				if (n590 != 0)
-					rattle_dealloc(p589);
+				if (n594 != 0)
+					rattle_dealloc(p593);
+				if (n596 != 0)
+					rattle_dealloc(p595);
+				if (n598 != 0)
+					rattle_dealloc(p597);
 				if (load64u(p18 + 1256) != 0)
 					rattle_dealloc(loadptru(p18 + 1240));
 				if (load64u(p18 + 1280) != 0)
 					rattle_dealloc(loadptru(p18 + 1264));
 				if (load64u(p17 + 16) != 0)
 					rattle_dealloc(loadptru(p17));
-				rattle_dealloc(p440);
-				n438 = 4;
-				n439 = 0;
+				rattle_dealloc(p446);
+				n444 = 4;
+				n445 = 0;
 			}
 		}
 L52:
 		{
-			n571 = n439;
-			n572 = n438;
+			n579 = n445;
+			n580 = n444;
 		}
 L55:
 		{
-			tp_timer_commands_error_report_report_2(n572, n571, p4);
+			tp_timer_commands_error_report_report_2(n580, n579, p4);
 			return 1;
 		}
 	}
@@ -61232,7 +61400,8 @@ static bool tp_Facility_makes_timer(byte *p1, uint64_t n2, uint64_t n3, byte *p4
 		return false;
 	switch (MOSTLY_0(n5)) {
 	case 0: {
-		uint64_t n17;
+		uint8_t n14;
+		uint64_t n15, n19;
 		if (n6 == 0)
 			return false;
 		if ((load64(p1 + 8) - load64(p1 + 16)) < n6)
@@ -61240,88 +61409,105 @@ static bool tp_Facility_makes_timer(byte *p1, uint64_t n2, uint64_t n3, byte *p4
 		if (load64(p1 + 288) > UINT64_C(1152921504606846975))
 			return false;
 		uint64_t n10 = load64(p1 + 64);
-		byte *p11 = loadptr(p1 + 80);
-		uint64_t n12 = load64(p1 + 104);
-		uint64_t n13 = (uint64_t)load32(at(p11, load64(p1 + 32) << 3) + 4);
-		uint64_t n14 = usub_sat64(n13, n12);
-		uint64_t n15 = 0;
-		uint64_t n16 = n13;
-		for (;;) {
-			if (n15 == n10) {
-				n17 = n10;
-				break;
-			}
-			if (n12 > n16) {
-				n17 = n15;
-				break;
-			}
-			uint64_t n18 = (uint64_t)load32(at(p11, (n12 + n14) << 3) + 4);
-			n14 = usub_sat64(n18, n12);
-			n15 = n15 + 1;
-			n16 = n18;
+		uint64_t n11 = load64(p1 + 32);
+		byte *p12 = loadptr(p1 + 80);
+		uint64_t n13 = (uint64_t)load32(at(p12, n11 << 3) + 4);
+		if (n11 == n13) {
+			n14 = 0;
+			n15 = 0;
+		} else {
+			n14 = 1;
+			n15 = n13 - load64(p1 + 104);
 		}
-		return (n10 - n17) != load64(p1 + 280);
+		uint64_t n16 = n15;
+		uint64_t n17 = 0;
+		uint8_t n18 = n14;
+		for (;;) {
+			if (n17 == n10) {
+				n19 = n10;
+				break;
+			}
+			if (n18 != 1) {
+				n19 = n17;
+				break;
+			}
+			uint64_t n20 = load64(p1 + 104);
+			uint64_t n21 = (uint64_t)load32(at(p12, (n20 + n16) << 3) + 4);
+			n16 = usub_sat64(n21, n20);
+			n17 = n17 + 1;
+			n18 = (uint8_t)(n20 <= n21);
+		}
+		return (n10 - n19) != load64(p1 + 280);
 	}
 	case 1: {
-		uint64_t n27;
-		uint64_t n19 = load64(p1 + 16);
-		if ((load64(p1 + 8) - n19) < umax64(usub_sat64(n6, n19), 1))
+		uint8_t n27;
+		uint64_t n28, n32;
+		uint64_t n22 = load64(p1 + 16);
+		if ((load64(p1 + 8) - n22) < umax64(usub_sat64(n6, n22), 1))
 			return false;
 		if (load64(p1 + 288) > UINT64_C(1152921504606846975))
 			return false;
-		uint64_t n20 = load64(p1 + 64);
-		byte *p21 = loadptr(p1 + 80);
-		uint64_t n22 = load64(p1 + 104);
-		uint64_t n23 = (uint64_t)load32(at(p21, load64(p1 + 32) << 3) + 4);
-		uint64_t n24 = usub_sat64(n23, n22);
-		uint64_t n25 = 0;
-		uint64_t n26 = n23;
-		for (;;) {
-			if (n25 == n20) {
-				n27 = n20;
-				break;
-			}
-			if (n22 > n26) {
-				n27 = n25;
-				break;
-			}
-			uint64_t n28 = (uint64_t)load32(at(p21, (n22 + n24) << 3) + 4);
-			n24 = usub_sat64(n28, n22);
-			n25 = n25 + 1;
-			n26 = n28;
+		uint64_t n23 = load64(p1 + 64);
+		uint64_t n24 = load64(p1 + 32);
+		byte *p25 = loadptr(p1 + 80);
+		uint64_t n26 = (uint64_t)load32(at(p25, n24 << 3) + 4);
+		if (n24 == n26) {
+			n27 = 0;
+			n28 = 0;
+		} else {
+			n27 = 1;
+			n28 = n26 - load64(p1 + 104);
 		}
-		return (n20 - n27) != load64(p1 + 280);
+		uint64_t n29 = n28;
+		uint64_t n30 = 0;
+		uint8_t n31 = n27;
+		for (;;) {
+			if (n30 == n23) {
+				n32 = n23;
+				break;
+			}
+			if (n31 != 1) {
+				n32 = n30;
+				break;
+			}
+			uint64_t n33 = load64(p1 + 104);
+			uint64_t n34 = (uint64_t)load32(at(p25, (n33 + n29) << 3) + 4);
+			n29 = usub_sat64(n34, n33);
+			n30 = n30 + 1;
+			n31 = (uint8_t)(n33 <= n34);
+		}
+		return (n23 - n32) != load64(p1 + 280);
 	}
 	case 2: {
 		return false;
 	}
 	case 3: {
-		byte *p29 = at(loadptr(p1 + 40), n6 * 48);
+		byte *p35 = at(loadptr(p1 + 40), n6 * 48);
 		if (n6 >= load64(p1 + 48))
 			return false;
-		if (load8(p29) != 1)
+		if (load8(p35) != 1)
 			return false;
-		if (load64u(p29 + 8) != n7)
+		if (load64u(p35 + 8) != n7)
 			return false;
-		if ((int)(load64u(p29 + 16) != n2) | (int)(n8 == 0))
+		if ((int)(load64u(p35 + 16) != n2) | (int)(n8 == 0))
 			return false;
 		if ((load64(p1 + 8) - load64(p1 + 16)) < n8)
 			return false;
 		return load64(p1 + 288) < UINT64_C(1152921504606846976);
 	}
 	case 4: {
-		uint64_t n30 = load64(p1 + 16);
-		uint64_t n31 = umax64(usub_sat64(n8, n30), 1);
-		byte *p32 = at(loadptr(p1 + 40), n6 * 48);
+		uint64_t n36 = load64(p1 + 16);
+		uint64_t n37 = umax64(usub_sat64(n8, n36), 1);
+		byte *p38 = at(loadptr(p1 + 40), n6 * 48);
 		if (n6 >= load64(p1 + 48))
 			return false;
-		if (load8(p32) != 1)
+		if (load8(p38) != 1)
 			return false;
-		if (load64u(p32 + 8) != n7)
+		if (load64u(p38 + 8) != n7)
 			return false;
-		if (load64u(p32 + 16) != n2)
+		if (load64u(p38 + 16) != n2)
 			return false;
-		if ((load64(p1 + 8) - n30) < n31)
+		if ((load64(p1 + 8) - n36) < n37)
 			return false;
 		return load64(p1 + 288) < UINT64_C(1152921504606846976);
 	}
@@ -61599,27 +61785,26 @@ static void tp_Firsts_enter(byte *p1, byte *p2, byte *p3, uint64_t n4, uint64_t 
 	byte *p7 = at(loadptr(p1), n4 << 4);
 	if (load8(p7) == 0) {
 		if (n5 < load64(p7 + 8)) {
-			uint64_t n12;
-			uint64_t n8 = load64(p3 + 64);
-			uint64_t n9 = (uint64_t)load32(at(loadptr(p3 + 40), n4 << 3) + 4);
-			if (n8 <= n9) {
-				uint64_t n10 = usub_sat64(n9, n8);
+			uint64_t n9;
+			uint64_t n8 = (uint64_t)load32(at(loadptr(p3 + 40), n4 << 3) + 4);
+			if (n4 == n8) {
+				n9 = n5;
+			} else {
+				uint64_t n10 = n8 - load64(p3 + 64);
 				byte *p11 = at(loadptr(p3), n10 * 48);
 				if (n10 < load64(p3 + 8)) {
 					if (load8(p11) == 1) {
-						n12 = umin64(n5, load64u(p11 + 32));
+						n9 = umin64(n5, load64u(p11 + 32));
 					} else {
-						n12 = n5;
+						n9 = n5;
 					}
 				} else {
-					n12 = n5;
+					n9 = n5;
 				}
-			} else {
-				n12 = n5;
 			}
 			store32u(p7, 1);
 			store32u(p7 + 4, 1);
-			store64u(p7 + 8, n12);
+			store64u(p7 + 8, n9);
 			store64(p1 + 32, load64(p1 + 32) + 1);
 			return;
 		}
@@ -61628,18 +61813,18 @@ static void tp_Firsts_enter(byte *p1, byte *p2, byte *p3, uint64_t n4, uint64_t 
 		store64u(p7 + 8, n5);
 		return;
 	}
-	uint32_t n13 = load32(p7 + 4);
-	uint64_t n14 = load64(p7 + 8);
-	if (n5 < n14) {
+	uint32_t n12 = load32(p7 + 4);
+	uint64_t n13 = load64(p7 + 8);
+	if (n5 < n13) {
 		store32u(p7, 1);
 		store32u(p7 + 4, 1);
 		store64u(p7 + 8, n5);
 		return;
 	}
-	if (n5 != n14)
+	if (n5 != n13)
 		return;
 	store32u(p7, 1);
-	store32u(p7 + 4, uadd_sat32(n13, 1));
+	store32u(p7 + 4, uadd_sat32(n12, 1));
 	return;
 }
 
@@ -61724,7 +61909,7 @@ static NOINLINE uint8_t tp_timer_script_script_run_answer_start(byte *p1, uint64
 	ALIGN(8) byte p13[40];
 	uint64_t n16;
 	byte *p17;
-	uint8_t n118, n119;
+	uint8_t n125, n126;
 	store64(p13, 0);
 	store64u(p13 + 8, n4);
 	store64u(p13 + 16, n5);
@@ -61758,8 +61943,8 @@ static NOINLINE uint8_t tp_timer_script_script_run_answer_start(byte *p1, uint64
 			p17 = (byte *)tp_static_238;
 		} else {
 			if (n20 >= n3) {
-				uint8_t n21, n62, n63;
-				uint64_t n61, n64;
+				uint8_t n21, n66, n67;
+				uint64_t n65, n68;
 				if (n4 == 0) {
 					n21 = 0;
 				} else {
@@ -61771,72 +61956,81 @@ static NOINLINE uint8_t tp_timer_script_script_run_answer_start(byte *p1, uint64
 						if (n23 > UINT64_C(1152921504606846975)) {
 							n21 = 2;
 						} else {
-							uint64_t n32;
+							uint8_t n28;
+							uint64_t n29, n33;
 							uint64_t n24 = load64(p1 + 64);
 							uint64_t n25 = load64(p1 + 32);
 							byte *p26 = loadptr(p1 + 80);
-							uint64_t n27 = load64(p1 + 104);
-							uint64_t n28 = (uint64_t)load32(at(p26, n25 << 3) + 4);
-							uint64_t n29 = usub_sat64(n28, n27);
-							uint64_t n30 = 0;
-							uint64_t n31 = n28;
-							for (;;) {
-								if (n30 == n24) {
-									n32 = n24;
-									break;
-								}
-								if (n27 > n31) {
-									n32 = n30;
-									break;
-								}
-								uint64_t n33 = (uint64_t)load32(at(p26, (n27 + n29) << 3) + 4);
-								n29 = usub_sat64(n33, n27);
-								n30 = n30 + 1;
-								n31 = n33;
+							uint64_t n27 = (uint64_t)load32(at(p26, n25 << 3) + 4);
+							if (n25 == n27) {
+								n28 = 0;
+								n29 = 0;
+							} else {
+								n28 = 1;
+								n29 = n27 - load64(p1 + 104);
 							}
-							if ((n24 - n32) != load64(p1 + 280)) {
-								uint64_t n38;
-								uint64_t n34 = n22 + n4;
-								uint8_t n35 = load8(p1);
-								store8(p12, n35);
-								bool b36 = n22 < n34;
-								if (b36) {
-									uint64_t n44, n45, n46;
-									switch (MOSTLY_0(n35)) {
+							uint64_t n30 = n29;
+							uint64_t n31 = 0;
+							uint8_t n32 = n28;
+							for (;;) {
+								if (n31 == n24) {
+									n33 = n24;
+									break;
+								}
+								if (n32 != 1) {
+									n33 = n31;
+									break;
+								}
+								uint64_t n34 = load64(p1 + 104);
+								uint64_t n35 = (uint64_t)load32(at(p26, (n34 + n30) << 3) + 4);
+								n30 = usub_sat64(n35, n34);
+								n31 = n31 + 1;
+								n32 = (uint8_t)(n34 <= n35);
+							}
+							if ((n24 - n33) != load64(p1 + 280)) {
+								uint64_t n40;
+								uint64_t n36 = n22 + n4;
+								uint8_t n37 = load8(p1);
+								store8(p12, n37);
+								bool b38 = n22 < n36;
+								if (b38) {
+									uint64_t n47, n48, n49;
+									switch (MOSTLY_0(n37)) {
 									case 0: {
-										uint32_t n37 = (((uint32_t)ctlz64(n22 ^ n34) ^ 63) * 43) >> 8;
-										if (n37 == 0) {
-											n38 = n34 & 63;
+										uint32_t n39 = (((uint32_t)ctlz64(n22 ^ n36) ^ 63) * 43) >> 8;
+										if (n39 == 0) {
+											n40 = n36 & 63;
 											goto L1;
 										}
-										n38 = ((n34 >> ((uint64_t)(n37 * 6) & 63)) & 63) | (uint64_t)(n37 << 6);
+										n40 = ((n36 >> ((uint64_t)(n39 * 6) & 63)) & 63) | (uint64_t)(n39 << 6);
 										goto L1;
 									}
 									case 1: {
-										uint32_t n39 = (uint32_t)n34;
-										uint32_t n40 = (uint32_t)n22;
-										uint32_t n41 = n39 / 60;
-										if ((n40 / 60) == n41) {
-											n38 = (uint64_t)(n39 % 60);
+										uint32_t n41 = (uint32_t)n36;
+										uint32_t n42 = (uint32_t)n22;
+										uint32_t n43 = n41 / 60;
+										uint32_t n44 = n43 * 60;
+										if (n44 <= n42) {
+											n40 = (uint64_t)(n41 - n44);
 											goto L1;
 										}
-										uint32_t n42 = n39 / 3600;
-										if ((n40 / 3600) == n42) {
-											n38 = (uint64_t)((n41 % 60) + 60);
+										uint32_t n45 = n41 / 3600;
+										if ((n45 * 3600) <= n42) {
+											n40 = (uint64_t)(((n45 * 4294967236u) + n43) + 60);
 											goto L1;
 										}
-										uint32_t n43 = n39 / 86400;
-										if ((n40 / 86400) == n43) {
-											n38 = (uint64_t)((n42 % 24) + 120);
+										uint32_t n46 = n41 / 86400;
+										if ((n46 * 86400) > n42) {
+											n40 = (uint64_t)(n46 + 144);
 											goto L1;
 										}
-										n38 = (uint64_t)(n43 + 144);
+										n40 = (uint64_t)(((n46 * 4294967272u) + n45) + 120);
 										goto L1;
 									}
 									case 2: {
-										n44 = n34;
-										n45 = n22;
-										n46 = 0;
+										n47 = n36;
+										n48 = n22;
+										n49 = 0;
 										break;
 									}
 									default: {
@@ -61844,62 +62038,63 @@ static NOINLINE uint8_t tp_timer_script_script_run_answer_start(byte *p1, uint64
 									}
 									}
 									for (;;) {
-										uint64_t n47 = n45 >> 4;
-										uint64_t n48 = n44 >> 4;
-										if (n47 == n48)
+										uint64_t n50 = n48 >> 4;
+										uint64_t n51 = n47 >> 4;
+										if (n50 == n51)
 											break;
-										n44 = n48;
-										n45 = n47;
-										n46 = n46 + 16;
+										n47 = n51;
+										n48 = n50;
+										n49 = n49 + 16;
 									}
-									n38 = n46 | (n44 & 15);
+									n40 = n49 | (n47 & 15);
 								} else {
-									n38 = n25;
+									n40 = n25;
 								}
 L1:
 								{
+									uint64_t n52 = load64(p1 + 104);
 									if (load64(p1 + 72) >= load64(p1 + 120)) {
-										uint8_t n49 = tp_links_make_ready(p1 + 40, p1 + 80, n27, load64(p1 + 112));
-										if ((n49 & 1) != 0)
+										uint8_t n53 = tp_links_make_ready(p1 + 40, p1 + 80, n52, load64(p1 + 112));
+										if ((n53 & 1) != 0)
 											return 1;
-										store64(p1 + 120, umin64(load64(p1 + 88) - n27, load64(p1 + 56)));
+										store64(p1 + 120, umin64(load64(p1 + 88) - n52, load64(p1 + 56)));
 									}
 									store64u(p11, n23);
 									store64u(p11 + 8, n2);
 									store64u(p11 + 16, n3);
-									store64u(p11 + 24, n34);
+									store64u(p11 + 24, n36);
 									store64u(p11 + 32, n5);
-									uint64_t n50 = tp_Slab_insert_reserved(p1 + 40, p11);
-									uint64_t n51 = load64(p1 + 104) + n50;
-									byte *p52 = loadptr(p1 + 80);
-									byte *p53 = inside(p52, n38 << 3);
-									uint32_t n54 = load32(p53);
-									uint32_t n55 = (uint32_t)n51;
-									store32(inside(p52, (uint64_t)n54 << 3) + 4, n55);
-									byte *p56 = inside(p52, n51 << 3);
-									store32(p56, n54);
-									store32(p56 + 4, (uint32_t)n38);
-									store32(p53, n55);
+									uint64_t n54 = tp_Slab_insert_reserved(p1 + 40, p11);
+									uint64_t n55 = load64(p1 + 104) + n54;
+									byte *p56 = loadptr(p1 + 80);
+									byte *p57 = inside(p56, n40 << 3);
+									uint32_t n58 = load32(p57);
+									uint32_t n59 = (uint32_t)n55;
+									store32(inside(p56, (uint64_t)n58 << 3) + 4, n59);
+									byte *p60 = inside(p56, n55 << 3);
+									store32(p60, n58);
+									store32(p60 + 4, (uint32_t)n40);
+									store32(p57, n59);
 									store64(p1 + 24, n23);
-									if (b36) {
-										byte *p57 = inside(p1 + 128, (n38 >> 3) & 536870904);
-										store64(p57, load64(p57) | ((uint64_t)1 << (n38 & 63)));
-										tp_Firsts_enter(p1 + 208, p12, p1 + 40, n38, n34);
+									if (b38) {
+										byte *p61 = inside(p1 + 128, (n40 >> 3) & 536870904);
+										store64(p61, load64(p61) | ((uint64_t)1 << (n40 & 63)));
+										tp_Firsts_enter(p1 + 208, p12, p1 + 40, n40, n36);
 									}
 									store64(p1 + 248, load64(p1 + 248) + 1);
 									store64(p1 + 288, load64(p1 + 288) + 1);
-									byte *p58 = inside(p1 + 808, n18);
-									store64(p58, load64(p58) + 1);
+									byte *p62 = inside(p1 + 808, n18);
+									store64(p62, load64(p62) + 1);
 									store64(p19, n3 + 1);
-									uint64_t n59 = load64(p1 + 1368);
-									byte *p60 = inside(loadptr(p1 + 1360), n59 << 4);
-									store64u(p60, n50);
-									store64u(p60 + 8, n23);
-									store64(p1 + 1368, n59 + 1);
-									n61 = n34;
-									n62 = 0;
-									n63 = 0;
-									n64 = n23;
+									uint64_t n63 = load64(p1 + 1368);
+									byte *p64 = inside(loadptr(p1 + 1360), n63 << 4);
+									store64u(p64, n54);
+									store64u(p64 + 8, n23);
+									store64(p1 + 1368, n63 + 1);
+									n65 = n36;
+									n66 = 0;
+									n67 = 0;
+									n68 = n23;
 									goto L2;
 								}
 							}
@@ -61908,196 +62103,204 @@ L1:
 					}
 				}
 				store64(p19, n3 + 1);
-				n61 = 0;
-				n62 = n21;
-				n63 = 3;
-				n64 = 0;
+				n65 = 0;
+				n66 = n21;
+				n67 = 3;
+				n68 = 0;
 L2:
 				{
-					uint64_t n72;
-					uint8_t n114;
-					uint64_t n65 = load64(p1 + 64);
-					byte *p66 = loadptr(p1 + 80);
-					uint64_t n67 = load64(p1 + 104);
-					uint64_t n68 = (uint64_t)load32(at(p66, load64(p1 + 32) << 3) + 4);
-					uint64_t n69 = usub_sat64(n68, n67);
-					uint64_t n70 = 0;
-					uint64_t n71 = n68;
-					for (;;) {
-						if (n70 == n65) {
-							n72 = n65;
-							break;
-						}
-						if (n67 > n71) {
-							n72 = n70;
-							break;
-						}
-						uint64_t n73 = (uint64_t)load32(at(p66, (n67 + n69) << 3) + 4);
-						n69 = usub_sat64(n73, n67);
-						n70 = n70 + 1;
-						n71 = n73;
+					uint8_t n73, n121;
+					uint64_t n74, n78;
+					uint64_t n69 = load64(p1 + 64);
+					uint64_t n70 = load64(p1 + 32);
+					byte *p71 = loadptr(p1 + 80);
+					uint64_t n72 = (uint64_t)load32(at(p71, n70 << 3) + 4);
+					if (n70 == n72) {
+						n73 = 0;
+						n74 = 0;
+					} else {
+						n73 = 1;
+						n74 = n72 - load64(p1 + 104);
 					}
-					if ((((n65 - n72) << 1) + 64) < load64(p1 + 1368))
+					uint64_t n75 = n74;
+					uint64_t n76 = 0;
+					uint8_t n77 = n73;
+					for (;;) {
+						if (n76 == n69) {
+							n78 = n69;
+							break;
+						}
+						if (n77 != 1) {
+							n78 = n76;
+							break;
+						}
+						uint64_t n79 = load64(p1 + 104);
+						uint64_t n80 = (uint64_t)load32(at(p71, (n79 + n75) << 3) + 4);
+						n75 = usub_sat64(n80, n79);
+						n76 = n76 + 1;
+						n77 = (uint8_t)(n79 <= n80);
+					}
+					if ((((n69 - n78) << 1) + 64) < load64(p1 + 1368))
 						tp_handles_sweep(p1 + 1360, p1);
 					memset(p10, 0, 16);
 					memset(p9, 0, 16);
-					if (n63 == 0) {
-						uint64_t n103;
+					if (n67 == 0) {
+						uint64_t n110;
 						store64(p8, n2);
 						store64(p8 + 8, n3);
-						store64(p8 + 16, n64);
-						store64(p8 + 24, n61);
+						store64(p8 + 16, n68);
+						store64(p8 + 24, n65);
 						memset(p7, 0, 117);
 						store8(p7 + 117, 10);
-						uint64_t n74 = 4;
-						uint64_t n75 = 117;
-						while (n74 != 0) {
-							uint64_t n87;
-							uint64_t n76 = n74 - 1;
-							uint64_t n77 = load64(inside(p8, n76 << 3));
-							uint64_t n78 = n75;
-							while (n77 > 9999) {
-								uint16_t n79 = (uint16_t)(n77 % 10000);
-								byte *p80 = inside((byte *)tp_static_242, (uint64_t)(uint16_t)((uint32_t)(uint16_t)(n79 % 100) << 1));
-								byte *p81 = at(p7, n78);
-								uint8_t n82 = load8(p80 + 1);
-								store8(at(p81, UINT64_C(18446744073709551614)), load8(p80));
-								store8(at(p81, UINT64_MAX), n82);
-								uint64_t n83 = n78 - 4;
-								byte *p84 = inside((byte *)tp_static_242, (uint64_t)(uint16_t)((uint32_t)(uint16_t)(n79 / 100) << 1));
-								uint8_t n85 = load8(p84 + 1);
-								store8(inside(p7, n83), load8(p84));
-								store8(at(p81, UINT64_C(18446744073709551613)), n85);
-								n77 = n77 / 10000;
-								n78 = n83;
+						uint64_t n81 = 4;
+						uint64_t n82 = 117;
+						while (n81 != 0) {
+							uint64_t n94;
+							uint64_t n83 = n81 - 1;
+							uint64_t n84 = load64(inside(p8, n83 << 3));
+							uint64_t n85 = n82;
+							while (n84 > 9999) {
+								uint16_t n86 = (uint16_t)(n84 % 10000);
+								byte *p87 = inside((byte *)tp_static_242, (uint64_t)(uint16_t)((uint32_t)(uint16_t)(n86 % 100) << 1));
+								byte *p88 = at(p7, n85);
+								uint8_t n89 = load8(p87 + 1);
+								store8(at(p88, UINT64_C(18446744073709551614)), load8(p87));
+								store8(at(p88, UINT64_MAX), n89);
+								uint64_t n90 = n85 - 4;
+								byte *p91 = inside((byte *)tp_static_242, (uint64_t)(uint16_t)((uint32_t)(uint16_t)(n86 / 100) << 1));
+								uint8_t n92 = load8(p91 + 1);
+								store8(inside(p7, n90), load8(p91));
+								store8(at(p88, UINT64_C(18446744073709551613)), n92);
+								n84 = n84 / 10000;
+								n85 = n90;
 							}
-							if (n77 < 100) {
-								if (n77 < 10) {
-									uint64_t n86 = n78 - 1;
-									store8(inside(p7, n86), (uint8_t)((uint8_t)n77 | 48));
-									n87 = n86;
+							if (n84 < 100) {
+								if (n84 < 10) {
+									uint64_t n93 = n85 - 1;
+									store8(inside(p7, n93), (uint8_t)((uint8_t)n84 | 48));
+									n94 = n93;
 								} else {
-									uint64_t n88 = n78 - 2;
-									byte *p89 = inside((byte *)tp_static_242, n77 << 1);
-									uint8_t n90 = load8(p89 + 1);
-									store8(inside(p7, n88), load8(p89));
-									store8(at(at(p7, n78), UINT64_MAX), n90);
-									n87 = n88;
+									uint64_t n95 = n85 - 2;
+									byte *p96 = inside((byte *)tp_static_242, n84 << 1);
+									uint8_t n97 = load8(p96 + 1);
+									store8(inside(p7, n95), load8(p96));
+									store8(at(at(p7, n85), UINT64_MAX), n97);
+									n94 = n95;
 								}
 							} else {
-								uint16_t n91 = (uint16_t)n77;
-								byte *p92 = inside((byte *)tp_static_242, (uint64_t)(uint16_t)((uint32_t)(uint16_t)(n91 % 100) << 1));
-								byte *p93 = at(p7, n78);
-								uint8_t n94 = load8(p92 + 1);
-								store8(at(p93, UINT64_C(18446744073709551614)), load8(p92));
-								store8(at(p93, UINT64_MAX), n94);
-								uint16_t n95 = (uint16_t)(n91 / 100);
-								if (n77 < 1000) {
-									uint64_t n96 = n78 - 3;
-									store8(inside(p7, n96), (uint8_t)((uint8_t)n95 | 48));
-									n87 = n96;
+								uint16_t n98 = (uint16_t)n84;
+								byte *p99 = inside((byte *)tp_static_242, (uint64_t)(uint16_t)((uint32_t)(uint16_t)(n98 % 100) << 1));
+								byte *p100 = at(p7, n85);
+								uint8_t n101 = load8(p99 + 1);
+								store8(at(p100, UINT64_C(18446744073709551614)), load8(p99));
+								store8(at(p100, UINT64_MAX), n101);
+								uint16_t n102 = (uint16_t)(n98 / 100);
+								if (n84 < 1000) {
+									uint64_t n103 = n85 - 3;
+									store8(inside(p7, n103), (uint8_t)((uint8_t)n102 | 48));
+									n94 = n103;
 								} else {
-									uint64_t n97 = n78 - 4;
-									byte *p98 = inside((byte *)tp_static_242, (uint64_t)(uint16_t)((uint32_t)n95 << 1));
-									uint8_t n99 = load8(p98 + 1);
-									store8(inside(p7, n97), load8(p98));
-									store8(at(p93, UINT64_C(18446744073709551613)), n99);
-									n87 = n97;
+									uint64_t n104 = n85 - 4;
+									byte *p105 = inside((byte *)tp_static_242, (uint64_t)(uint16_t)((uint32_t)n102 << 1));
+									uint8_t n106 = load8(p105 + 1);
+									store8(inside(p7, n104), load8(p105));
+									store8(at(p100, UINT64_C(18446744073709551613)), n106);
+									n94 = n104;
 								}
 							}
-							uint64_t n100 = n87 - 1;
-							store8(inside(p7, n100), 32);
-							n74 = n76;
-							n75 = n100;
+							uint64_t n107 = n94 - 1;
+							store8(inside(p7, n107), 32);
+							n81 = n83;
+							n82 = n107;
 						}
-						byte *p101 = at(at(p7, n75), UINT64_C(18446744073709551609));
-						uint64_t n102 = (uint64_t)(uintptr_t)p101;
-						if ((n102 - (uint64_t)(uintptr_t)(byte *)tp_static_228) >= 7) {
-							memcpy(p101, (byte *)tp_static_228, 7);
+						byte *p108 = at(at(p7, n82), UINT64_C(18446744073709551609));
+						uint64_t n109 = (uint64_t)(uintptr_t)p108;
+						if ((n109 - (uint64_t)(uintptr_t)(byte *)tp_static_228) >= 7) {
+							memcpy(p108, (byte *)tp_static_228, 7);
 							goto L3;
 						}
-						n103 = 0;
-						while (n103 != 7) {
-							store8(inside(p101, n103), load8(inside((byte *)tp_static_228, n103)));
-							n103 = n103 + 1;
+						n110 = 0;
+						while (n110 != 7) {
+							store8(inside(p108, n110), load8(inside((byte *)tp_static_228, n110)));
+							n110 = n110 + 1;
 						}
 L3:
 						{
-							uint64_t n108, n109, n113;
-							uint8_t n110;
-							byte *p111, *p112;
-							uint64_t n104 = 125 - n75;
-							uint64_t n105 = load64(p6 + 16);
-							uint64_t n106 = load64(p6 + 8);
-							if (n104 > (n105 - n106)) {
-								bool b107 = tp_std_alloc_vec_Vec_grow_amortized_11(p6, n104);
-								if (!b107) {
-									n110 = 1;
+							uint64_t n115, n116, n120;
+							uint8_t n117;
+							byte *p118, *p119;
+							uint64_t n111 = 125 - n82;
+							uint64_t n112 = load64(p6 + 16);
+							uint64_t n113 = load64(p6 + 8);
+							if (n111 > (n112 - n113)) {
+								bool b114 = tp_std_alloc_vec_Vec_grow_amortized_11(p6, n111);
+								if (!b114) {
+									n117 = 1;
 									goto L4;
 								}
-								n108 = load64(p6 + 16);
-								n109 = load64(p6 + 8);
+								n115 = load64(p6 + 16);
+								n116 = load64(p6 + 8);
 							} else {
-								n108 = n105;
-								n109 = n106;
+								n115 = n112;
+								n116 = n113;
 							}
-							p111 = loadptr(p6);
-							p112 = at(p111, n109);
-							if (((uint64_t)(uintptr_t)p112 - n102) >= n104) {
-								memcpy(p112, p101, (size_t)n104);
+							p118 = loadptr(p6);
+							p119 = at(p118, n116);
+							if (((uint64_t)(uintptr_t)p119 - n109) >= n111) {
+								memcpy(p119, p108, (size_t)n111);
 								goto L5;
 							}
-							n113 = 0;
-							while (n113 != n104) {
-								store8(inside(p112, n113), load8(inside(p101, n113)));
-								n113 = n113 + 1;
+							n120 = 0;
+							while (n120 != n111) {
+								store8(inside(p119, n120), load8(inside(p108, n120)));
+								n120 = n120 + 1;
 							}
 L5:
 							{
-								storeptr(p6, p111);
-								store64(p6 + 8, n109 + n104);
-								store64(p6 + 16, n108);
-								n110 = 0;
+								storeptr(p6, p118);
+								store64(p6 + 8, n116 + n111);
+								store64(p6 + 16, n115);
+								n117 = 0;
 							}
 L4:
 							{
-								n114 = n110;
+								n121 = n117;
 							}
 						}
 					} else {
-						uint64_t n115;
-						byte *p116;
+						uint64_t n122;
+						byte *p123;
 						store64(p9, n2);
 						store64(p9 + 8, n3);
-						switch (MOSTLY_0(n62)) {
+						switch (MOSTLY_0(n66)) {
 						case 0: {
-							n115 = 13;
-							p116 = (byte *)tp_static_231;
+							n122 = 13;
+							p123 = (byte *)tp_static_231;
 							break;
 						}
 						case 1: {
-							n115 = 8;
-							p116 = (byte *)tp_static_232;
+							n122 = 8;
+							p123 = (byte *)tp_static_232;
 							break;
 						}
 						case 2: {
-							n115 = 13;
-							p116 = (byte *)tp_static_233;
+							n122 = 13;
+							p123 = (byte *)tp_static_233;
 							break;
 						}
 						case 3: {
-							n115 = 4;
-							p116 = (byte *)tp_static_234;
+							n122 = 4;
+							p123 = (byte *)tp_static_234;
 							break;
 						}
 						default: {
 							UNREACHABLE();
 						}
 						}
-						uint8_t n117 = tp_text_push_refused(p6, (byte *)tp_static_221, 7, p9, 2, p116, n115);
-						n114 = n117;
+						uint8_t n124 = tp_text_push_refused(p6, (byte *)tp_static_221, 7, p9, 2, p123, n122);
+						n121 = n124;
 					}
-					n118 = n114;
+					n125 = n121;
 					goto L6;
 				}
 			}
@@ -62112,11 +62315,11 @@ L4:
 		n16 = 9;
 		p17 = (byte *)tp_static_236;
 	}
-	n119 = tp_text_push_refused(p6, (byte *)tp_static_221, 7, p10, 2, p17, n16);
-	n118 = n119;
+	n126 = tp_text_push_refused(p6, (byte *)tp_static_221, 7, p10, 2, p17, n16);
+	n125 = n126;
 L6:
 	{
-		return n118;
+		return n125;
 	}
 }
 
@@ -62125,7 +62328,7 @@ static void tp_HierWheelWheel_stop(byte *p1, byte *p2, uint64_t n3, uint64_t n4)
 {
 	ALIGN(8) byte p5[16];
 	ALIGN(8) byte p6[16];
-	uint64_t n36, n37, n38, n39;
+	uint64_t n37, n38, n39, n40;
 	byte *p7 = at(loadptr(p2 + 40), n3 * 48);
 	if (n3 < load64(p2 + 48)) {
 		if (load8(p7) == 1) {
@@ -62160,7 +62363,7 @@ static void tp_HierWheelWheel_stop(byte *p1, byte *p2, uint64_t n3, uint64_t n4)
 					byte *p18 = loadptr(p2 + 208);
 					uint64_t n19 = load64(p2 + 16);
 					if (n8 > n19) {
-						uint64_t n21, n22, n27, n29, n30, n31;
+						uint64_t n21, n22, n29, n30, n31, n32;
 						switch (MOSTLY_0(load8(p2))) {
 						case 0: {
 							uint32_t n20 = (((uint32_t)ctlz64(n19 ^ n8) ^ 63) * 43) >> 8;
@@ -62174,25 +62377,31 @@ static void tp_HierWheelWheel_stop(byte *p1, byte *p2, uint64_t n3, uint64_t n4)
 							uint32_t n23 = (uint32_t)n8;
 							uint32_t n24 = (uint32_t)n19;
 							uint32_t n25 = n23 / 60;
-							if ((n24 / 60) == n25)
-								goto L1;
-							uint32_t n26 = n23 / 3600;
-							if ((n24 / 3600) == n26) {
-								n27 = (uint64_t)((n25 % 60) + 60);
-								goto L3;
+							uint32_t n26 = n25 * 60;
+							if (n26 <= n24) {
+								n21 = (uint64_t)(n23 - n26);
+								n22 = 60;
+								goto L2;
+							}
+							uint32_t n27 = n23 / 3600;
+							if ((n27 * 3600) <= n24) {
+								n21 = (uint64_t)(((n27 * 4294967236u) + n25) + 60);
+								n22 = 60;
+								goto L2;
 							}
 							uint32_t n28 = n23 / 86400;
-							if ((n24 / 86400) == n28) {
-								n27 = (uint64_t)((n26 % 24) + 120);
+							if ((n28 * 86400) > n24) {
+								n29 = (uint64_t)(n28 + 144);
 								goto L3;
 							}
-							n27 = (uint64_t)(n28 + 144);
-							goto L3;
+							n21 = (uint64_t)(((n28 * 4294967272u) + n27) + 120);
+							n22 = 60;
+							goto L2;
 						}
 						case 2: {
-							n29 = n8;
-							n30 = n19;
-							n31 = 0;
+							n30 = n8;
+							n31 = n19;
+							n32 = 0;
 							break;
 						}
 						default: {
@@ -62200,30 +62409,30 @@ static void tp_HierWheelWheel_stop(byte *p1, byte *p2, uint64_t n3, uint64_t n4)
 						}
 						}
 						for (;;) {
-							uint64_t n32 = n30 >> 4;
-							uint64_t n33 = n29 >> 4;
-							if (n32 == n33)
+							uint64_t n33 = n31 >> 4;
+							uint64_t n34 = n30 >> 4;
+							if (n33 == n34)
 								break;
-							n29 = n33;
-							n30 = n32;
-							n31 = n31 + 16;
+							n30 = n34;
+							n31 = n33;
+							n32 = n32 + 16;
 						}
-						n21 = n31 | (n29 & 15);
+						n21 = n32 | (n30 & 15);
 						n22 = 16;
 L2:
 						{
 							if (n22 > n21)
 								goto L1;
-							n27 = n21;
+							n29 = n21;
 						}
 L3:
 						{
-							byte *p34 = at(p18, n27 << 4);
-							if (load8(p34) == 1) {
-								if (n8 == load64(p34 + 8)) {
-									uint32_t n35 = usub_sat32(load32(p34 + 4), 1);
-									store32u(p34, 1);
-									store32u(p34 + 4, n35);
+							byte *p35 = at(p18, n29 << 4);
+							if (load8(p35) == 1) {
+								if (n8 == load64(p35 + 8)) {
+									uint32_t n36 = usub_sat32(load32(p35 + 4), 1);
+									store32u(p35, 1);
+									store32u(p35 + 4, n36);
 								}
 							}
 						}
@@ -62232,27 +62441,27 @@ L3:
 L1:
 				{
 					memcpy(p6, p5, 16);
-					n36 = n4;
-					n37 = n8;
-					n38 = n9;
-					n39 = 1;
+					n37 = n4;
+					n38 = n8;
+					n39 = n9;
+					n40 = 1;
 					goto L4;
 				}
 			}
 		}
 	}
 	memset(p6, 0, 16);
-	n36 = 0;
 	n37 = 0;
 	n38 = 0;
 	n39 = 0;
+	n40 = 0;
 L4:
 	{
-		store64u(p1, n39);
-		store64u(p1 + 8, n36);
+		store64u(p1, n40);
+		store64u(p1 + 8, n37);
 		memcpy(p1 + 16, p6, 16);
-		store64u(p1 + 32, n37);
-		store64u(p1 + 40, n38);
+		store64u(p1 + 32, n38);
+		store64u(p1 + 40, n39);
 		return;
 	}
 }
@@ -62350,8 +62559,8 @@ L2:
 				p25 = (byte *)tp_static_238;
 			} else {
 				if (n28 >= n3) {
-					uint64_t n31, n32, n40;
-					uint8_t n45;
+					uint64_t n31, n32, n38, n42;
+					uint8_t n37, n48;
 					byte *p29 = at(loadptr(p1 + 40), n15 * 48);
 					if (n15 < load64(p1 + 48)) {
 						if (load8(p29) == 1) {
@@ -62380,168 +62589,176 @@ L2:
 					}
 					store64(p27, n3 + 1);
 					uint64_t n33 = load64(p1 + 64);
-					byte *p34 = loadptr(p1 + 80);
-					uint64_t n35 = load64(p1 + 104);
-					uint64_t n36 = (uint64_t)load32(at(p34, load64(p1 + 32) << 3) + 4);
-					uint64_t n37 = usub_sat64(n36, n35);
-					uint64_t n38 = 0;
-					uint64_t n39 = n36;
-					for (;;) {
-						if (n38 == n33) {
-							n40 = n33;
-							break;
-						}
-						if (n35 > n39) {
-							n40 = n38;
-							break;
-						}
-						uint64_t n41 = (uint64_t)load32(at(p34, (n35 + n37) << 3) + 4);
-						n37 = usub_sat64(n41, n35);
-						n38 = n38 + 1;
-						n39 = n41;
+					uint64_t n34 = load64(p1 + 32);
+					byte *p35 = loadptr(p1 + 80);
+					uint64_t n36 = (uint64_t)load32(at(p35, n34 << 3) + 4);
+					if (n34 == n36) {
+						n37 = 0;
+						n38 = 0;
+					} else {
+						n37 = 1;
+						n38 = n36 - load64(p1 + 104);
 					}
-					if ((((n33 - n40) << 1) + 64) < load64(p1 + 1368))
+					uint64_t n39 = n38;
+					uint64_t n40 = 0;
+					uint8_t n41 = n37;
+					for (;;) {
+						if (n40 == n33) {
+							n42 = n33;
+							break;
+						}
+						if (n41 != 1) {
+							n42 = n40;
+							break;
+						}
+						uint64_t n43 = load64(p1 + 104);
+						uint64_t n44 = (uint64_t)load32(at(p35, (n43 + n39) << 3) + 4);
+						n39 = usub_sat64(n44, n43);
+						n40 = n40 + 1;
+						n41 = (uint8_t)(n43 <= n44);
+					}
+					if ((((n33 - n42) << 1) + 64) < load64(p1 + 1368))
 						tp_handles_sweep(p1 + 1360, p1);
 					memset(p9, 0, 16);
 					memset(p8, 0, 16);
 					if ((uint8_t)n31 == 3) {
-						uint64_t n42;
-						byte *p43;
+						uint64_t n45;
+						byte *p46;
 						store64(p8, n2);
 						store64(p8 + 8, n3);
 						if ((uint8_t)(n31 >> 8) == 0) {
-							n42 = 13;
-							p43 = (byte *)tp_static_231;
+							n45 = 13;
+							p46 = (byte *)tp_static_231;
 						} else {
-							n42 = 7;
-							p43 = (byte *)tp_static_235;
+							n45 = 7;
+							p46 = (byte *)tp_static_235;
 						}
-						uint8_t n44 = tp_text_push_refused(p5, (byte *)tp_static_221, 7, p8, 2, p43, n42);
-						n45 = n44;
+						uint8_t n47 = tp_text_push_refused(p5, (byte *)tp_static_221, 7, p8, 2, p46, n45);
+						n48 = n47;
 					} else {
-						uint64_t n75;
+						uint64_t n78;
 						store64(p7, n2);
 						store64(p7 + 8, n3);
 						store64(p7 + 16, n32);
 						memset(p6, 0, 117);
 						store8(p6 + 117, 10);
-						uint64_t n46 = 3;
-						uint64_t n47 = 117;
-						while (n46 != 0) {
-							uint64_t n59;
-							uint64_t n48 = n46 - 1;
-							uint64_t n49 = load64(inside(p7, n48 << 3));
-							uint64_t n50 = n47;
-							while (n49 > 9999) {
-								uint16_t n51 = (uint16_t)(n49 % 10000);
-								byte *p52 = inside((byte *)tp_static_242, (uint64_t)(uint16_t)((uint32_t)(uint16_t)(n51 % 100) << 1));
-								byte *p53 = at(p6, n50);
-								uint8_t n54 = load8(p52 + 1);
-								store8(at(p53, UINT64_C(18446744073709551614)), load8(p52));
-								store8(at(p53, UINT64_MAX), n54);
-								uint64_t n55 = n50 - 4;
-								byte *p56 = inside((byte *)tp_static_242, (uint64_t)(uint16_t)((uint32_t)(uint16_t)(n51 / 100) << 1));
-								uint8_t n57 = load8(p56 + 1);
-								store8(inside(p6, n55), load8(p56));
-								store8(at(p53, UINT64_C(18446744073709551613)), n57);
-								n49 = n49 / 10000;
-								n50 = n55;
+						uint64_t n49 = 3;
+						uint64_t n50 = 117;
+						while (n49 != 0) {
+							uint64_t n62;
+							uint64_t n51 = n49 - 1;
+							uint64_t n52 = load64(inside(p7, n51 << 3));
+							uint64_t n53 = n50;
+							while (n52 > 9999) {
+								uint16_t n54 = (uint16_t)(n52 % 10000);
+								byte *p55 = inside((byte *)tp_static_242, (uint64_t)(uint16_t)((uint32_t)(uint16_t)(n54 % 100) << 1));
+								byte *p56 = at(p6, n53);
+								uint8_t n57 = load8(p55 + 1);
+								store8(at(p56, UINT64_C(18446744073709551614)), load8(p55));
+								store8(at(p56, UINT64_MAX), n57);
+								uint64_t n58 = n53 - 4;
+								byte *p59 = inside((byte *)tp_static_242, (uint64_t)(uint16_t)((uint32_t)(uint16_t)(n54 / 100) << 1));
+								uint8_t n60 = load8(p59 + 1);
+								store8(inside(p6, n58), load8(p59));
+								store8(at(p56, UINT64_C(18446744073709551613)), n60);
+								n52 = n52 / 10000;
+								n53 = n58;
 							}
-							if (n49 < 100) {
-								if (n49 < 10) {
-									uint64_t n58 = n50 - 1;
-									store8(inside(p6, n58), (uint8_t)((uint8_t)n49 | 48));
-									n59 = n58;
+							if (n52 < 100) {
+								if (n52 < 10) {
+									uint64_t n61 = n53 - 1;
+									store8(inside(p6, n61), (uint8_t)((uint8_t)n52 | 48));
+									n62 = n61;
 								} else {
-									uint64_t n60 = n50 - 2;
-									byte *p61 = inside((byte *)tp_static_242, n49 << 1);
-									uint8_t n62 = load8(p61 + 1);
-									store8(inside(p6, n60), load8(p61));
-									store8(at(at(p6, n50), UINT64_MAX), n62);
-									n59 = n60;
+									uint64_t n63 = n53 - 2;
+									byte *p64 = inside((byte *)tp_static_242, n52 << 1);
+									uint8_t n65 = load8(p64 + 1);
+									store8(inside(p6, n63), load8(p64));
+									store8(at(at(p6, n53), UINT64_MAX), n65);
+									n62 = n63;
 								}
 							} else {
-								uint16_t n63 = (uint16_t)n49;
-								byte *p64 = inside((byte *)tp_static_242, (uint64_t)(uint16_t)((uint32_t)(uint16_t)(n63 % 100) << 1));
-								byte *p65 = at(p6, n50);
-								uint8_t n66 = load8(p64 + 1);
-								store8(at(p65, UINT64_C(18446744073709551614)), load8(p64));
-								store8(at(p65, UINT64_MAX), n66);
-								uint16_t n67 = (uint16_t)(n63 / 100);
-								if (n49 < 1000) {
-									uint64_t n68 = n50 - 3;
-									store8(inside(p6, n68), (uint8_t)((uint8_t)n67 | 48));
-									n59 = n68;
+								uint16_t n66 = (uint16_t)n52;
+								byte *p67 = inside((byte *)tp_static_242, (uint64_t)(uint16_t)((uint32_t)(uint16_t)(n66 % 100) << 1));
+								byte *p68 = at(p6, n53);
+								uint8_t n69 = load8(p67 + 1);
+								store8(at(p68, UINT64_C(18446744073709551614)), load8(p67));
+								store8(at(p68, UINT64_MAX), n69);
+								uint16_t n70 = (uint16_t)(n66 / 100);
+								if (n52 < 1000) {
+									uint64_t n71 = n53 - 3;
+									store8(inside(p6, n71), (uint8_t)((uint8_t)n70 | 48));
+									n62 = n71;
 								} else {
-									uint64_t n69 = n50 - 4;
-									byte *p70 = inside((byte *)tp_static_242, (uint64_t)(uint16_t)((uint32_t)n67 << 1));
-									uint8_t n71 = load8(p70 + 1);
-									store8(inside(p6, n69), load8(p70));
-									store8(at(p65, UINT64_C(18446744073709551613)), n71);
-									n59 = n69;
+									uint64_t n72 = n53 - 4;
+									byte *p73 = inside((byte *)tp_static_242, (uint64_t)(uint16_t)((uint32_t)n70 << 1));
+									uint8_t n74 = load8(p73 + 1);
+									store8(inside(p6, n72), load8(p73));
+									store8(at(p68, UINT64_C(18446744073709551613)), n74);
+									n62 = n72;
 								}
 							}
-							uint64_t n72 = n59 - 1;
-							store8(inside(p6, n72), 32);
-							n46 = n48;
-							n47 = n72;
+							uint64_t n75 = n62 - 1;
+							store8(inside(p6, n75), 32);
+							n49 = n51;
+							n50 = n75;
 						}
-						byte *p73 = at(at(p6, n47), UINT64_C(18446744073709551609));
-						uint64_t n74 = (uint64_t)(uintptr_t)p73;
-						if ((n74 - (uint64_t)(uintptr_t)(byte *)tp_static_229) >= 7) {
-							memcpy(p73, (byte *)tp_static_229, 7);
+						byte *p76 = at(at(p6, n50), UINT64_C(18446744073709551609));
+						uint64_t n77 = (uint64_t)(uintptr_t)p76;
+						if ((n77 - (uint64_t)(uintptr_t)(byte *)tp_static_229) >= 7) {
+							memcpy(p76, (byte *)tp_static_229, 7);
 							goto L3;
 						}
-						n75 = 0;
-						while (n75 != 7) {
-							store8(inside(p73, n75), load8(inside((byte *)tp_static_229, n75)));
-							n75 = n75 + 1;
+						n78 = 0;
+						while (n78 != 7) {
+							store8(inside(p76, n78), load8(inside((byte *)tp_static_229, n78)));
+							n78 = n78 + 1;
 						}
 L3:
 						{
-							uint64_t n80, n81, n85;
-							uint8_t n82;
-							byte *p83, *p84;
-							uint64_t n76 = 125 - n47;
-							uint64_t n77 = load64(p5 + 16);
-							uint64_t n78 = load64(p5 + 8);
-							if (n76 > (n77 - n78)) {
-								bool b79 = tp_std_alloc_vec_Vec_grow_amortized_11(p5, n76);
-								if (!b79) {
-									n82 = 1;
+							uint64_t n83, n84, n88;
+							uint8_t n85;
+							byte *p86, *p87;
+							uint64_t n79 = 125 - n50;
+							uint64_t n80 = load64(p5 + 16);
+							uint64_t n81 = load64(p5 + 8);
+							if (n79 > (n80 - n81)) {
+								bool b82 = tp_std_alloc_vec_Vec_grow_amortized_11(p5, n79);
+								if (!b82) {
+									n85 = 1;
 									goto L4;
 								}
-								n80 = load64(p5 + 16);
-								n81 = load64(p5 + 8);
+								n83 = load64(p5 + 16);
+								n84 = load64(p5 + 8);
 							} else {
-								n80 = n77;
-								n81 = n78;
+								n83 = n80;
+								n84 = n81;
 							}
-							p83 = loadptr(p5);
-							p84 = at(p83, n81);
-							if (((uint64_t)(uintptr_t)p84 - n74) >= n76) {
-								memcpy(p84, p73, (size_t)n76);
+							p86 = loadptr(p5);
+							p87 = at(p86, n84);
+							if (((uint64_t)(uintptr_t)p87 - n77) >= n79) {
+								memcpy(p87, p76, (size_t)n79);
 								goto L5;
 							}
-							n85 = 0;
-							while (n85 != n76) {
-								store8(inside(p84, n85), load8(inside(p73, n85)));
-								n85 = n85 + 1;
+							n88 = 0;
+							while (n88 != n79) {
+								store8(inside(p87, n88), load8(inside(p76, n88)));
+								n88 = n88 + 1;
 							}
 L5:
 							{
-								storeptr(p5, p83);
-								store64(p5 + 8, n81 + n76);
-								store64(p5 + 16, n80);
-								n82 = 0;
+								storeptr(p5, p86);
+								store64(p5 + 8, n84 + n79);
+								store64(p5 + 16, n83);
+								n85 = 0;
 							}
 L4:
 							{
-								n45 = n82;
+								n48 = n85;
 							}
 						}
 					}
-					return n45;
+					return n48;
 				}
 				store64(p9, n2);
 				store64(p9 + 8, n3);
@@ -62554,8 +62771,8 @@ L4:
 			n24 = 9;
 			p25 = (byte *)tp_static_236;
 		}
-		uint8_t n86 = tp_text_push_refused(p5, (byte *)tp_static_221, 7, p9, 2, p25, n24);
-		return n86;
+		uint8_t n89 = tp_text_push_refused(p5, (byte *)tp_static_221, 7, p9, 2, p25, n24);
+		return n89;
 	}
 }
 
@@ -62581,7 +62798,7 @@ static void tp_Facility_take_restart(byte *p1, byte *p2, uint64_t n3, uint64_t n
 								uint64_t n14 = n12 + n8;
 								bool b15 = n12 < n14;
 								if (b15) {
-									uint64_t n23, n24, n25;
+									uint64_t n24, n25, n26;
 									switch (MOSTLY_0(load8(p2))) {
 									case 0: {
 										uint32_t n16 = (((uint32_t)ctlz64(n12 ^ n14) ^ 63) * 43) >> 8;
@@ -62596,27 +62813,28 @@ static void tp_Facility_take_restart(byte *p1, byte *p2, uint64_t n3, uint64_t n
 										uint32_t n18 = (uint32_t)n14;
 										uint32_t n19 = (uint32_t)n12;
 										uint32_t n20 = n18 / 60;
-										if ((n19 / 60) == n20) {
-											n17 = (uint64_t)(n18 % 60);
+										uint32_t n21 = n20 * 60;
+										if (n21 <= n19) {
+											n17 = (uint64_t)(n18 - n21);
 											goto L1;
 										}
-										uint32_t n21 = n18 / 3600;
-										if ((n19 / 3600) == n21) {
-											n17 = (uint64_t)((n20 % 60) + 60);
+										uint32_t n22 = n18 / 3600;
+										if ((n22 * 3600) <= n19) {
+											n17 = (uint64_t)(((n22 * 4294967236u) + n20) + 60);
 											goto L1;
 										}
-										uint32_t n22 = n18 / 86400;
-										if ((n19 / 86400) == n22) {
-											n17 = (uint64_t)((n21 % 24) + 120);
+										uint32_t n23 = n18 / 86400;
+										if ((n23 * 86400) > n19) {
+											n17 = (uint64_t)(n23 + 144);
 											goto L1;
 										}
-										n17 = (uint64_t)(n22 + 144);
+										n17 = (uint64_t)(((n23 * 4294967272u) + n22) + 120);
 										goto L1;
 									}
 									case 2: {
-										n23 = n14;
-										n24 = n12;
-										n25 = 0;
+										n24 = n14;
+										n25 = n12;
+										n26 = 0;
 										break;
 									}
 									default: {
@@ -62624,91 +62842,97 @@ static void tp_Facility_take_restart(byte *p1, byte *p2, uint64_t n3, uint64_t n
 									}
 									}
 									for (;;) {
-										uint64_t n26 = n24 >> 4;
-										uint64_t n27 = n23 >> 4;
-										if (n26 == n27)
+										uint64_t n27 = n25 >> 4;
+										uint64_t n28 = n24 >> 4;
+										if (n27 == n28)
 											break;
-										n23 = n27;
-										n24 = n26;
-										n25 = n25 + 16;
+										n24 = n28;
+										n25 = n27;
+										n26 = n26 + 16;
 									}
-									n17 = n25 | (n23 & 15);
+									n17 = n26 | (n24 & 15);
 								} else {
 									n17 = load64(p2 + 32);
 								}
 L1:
 								{
-									uint64_t n28 = load64u(p10 + 32);
+									uint64_t n29 = load64u(p10 + 32);
 									store64u(p10 + 8, n13);
 									store64u(p10 + 16, n3);
 									store64u(p10 + 24, n4);
 									store64u(p10 + 32, n14);
 									store64u(p10 + 40, n9);
-									uint64_t n29 = load64(p2 + 104) + n5;
-									byte *p30 = loadptr(p2 + 80);
-									byte *p31 = at(p30, n29 << 3);
-									uint32_t n32 = load32(p31);
-									uint32_t n33 = load32(p31 + 4);
-									uint64_t n34 = (uint64_t)n32;
-									store32(inside(p30, n34 << 3) + 4, n33);
-									store32(inside(p30, (uint64_t)n33 << 3), n32);
-									uint64_t n35 = n17 << 3;
-									byte *p36 = inside(p30, n35);
-									uint32_t n37 = load32(p36);
-									uint32_t n38 = (uint32_t)n29;
-									store32(inside(p30, (uint64_t)n37 << 3) + 4, n38);
-									store32(p31, n37);
-									store32(p31 + 4, (uint32_t)n17);
-									store32(p36, n38);
-									bool b39 = n32 == n33;
-									uint64_t n40 = b39 ? n34 : 0;
+									uint64_t n30 = load64(p2 + 104) + n5;
+									byte *p31 = loadptr(p2 + 80);
+									byte *p32 = at(p31, n30 << 3);
+									uint32_t n33 = load32(p32);
+									uint32_t n34 = load32(p32 + 4);
+									uint64_t n35 = (uint64_t)n33;
+									store32(inside(p31, n35 << 3) + 4, n34);
+									store32(inside(p31, (uint64_t)n34 << 3), n33);
+									uint64_t n36 = n17 << 3;
+									byte *p37 = inside(p31, n36);
+									uint32_t n38 = load32(p37);
+									uint32_t n39 = (uint32_t)n30;
+									store32(inside(p31, (uint64_t)n38 << 3) + 4, n39);
+									store32(p32, n38);
+									store32(p32 + 4, (uint32_t)n17);
+									store32(p37, n39);
+									bool b40 = n33 == n34;
+									uint64_t n41 = b40 ? n35 : 0;
 									store64(p2 + 24, n13);
-									if (b39) {
-										if (n12 < n28) {
-											byte *p41 = inside(p2 + 128, (n40 >> 3) & 536870904);
-											store64(p41, load64(p41) & (((uint64_t)1 << (n40 & 63)) ^ UINT64_MAX));
+									if (b40) {
+										if (n12 < n29) {
+											byte *p42 = inside(p2 + 128, (n41 >> 3) & 536870904);
+											store64(p42, load64(p42) & (((uint64_t)1 << (n41 & 63)) ^ UINT64_MAX));
 											if ((load8(p2 + 232) & 1) != 0) {
-												byte *p42 = at(loadptr(p2 + 208), n40 << 4);
-												store64(p2 + 240, load64(p2 + 240) + (uint64_t)((load8(p42) != 0) ? UINT64_MAX : 0));
-												memset(p42, 0, 16);
+												byte *p43 = at(loadptr(p2 + 208), n41 << 4);
+												store64(p2 + 240, load64(p2 + 240) + (uint64_t)((load8(p43) != 0) ? UINT64_MAX : 0));
+												memset(p43, 0, 16);
 											}
 										}
 									} else if (load64(p2 + 240) != 0) {
-										byte *p43 = loadptr(p2 + 208);
-										if (n28 > n12) {
-											uint64_t n45, n46, n51, n53, n54, n55;
+										byte *p44 = loadptr(p2 + 208);
+										if (n29 > n12) {
+											uint64_t n46, n47, n54, n55, n56, n57;
 											switch (MOSTLY_0(load8(p2))) {
 											case 0: {
-												uint32_t n44 = (((uint32_t)ctlz64(n12 ^ n28) ^ 63) * 43) >> 8;
-												if (n44 == 0)
+												uint32_t n45 = (((uint32_t)ctlz64(n12 ^ n29) ^ 63) * 43) >> 8;
+												if (n45 == 0)
 													goto L2;
-												n45 = ((n28 >> ((uint64_t)(n44 * 6) & 63)) & 63) | (uint64_t)(n44 << 6);
-												n46 = 64;
+												n46 = ((n29 >> ((uint64_t)(n45 * 6) & 63)) & 63) | (uint64_t)(n45 << 6);
+												n47 = 64;
 												goto L3;
 											}
 											case 1: {
-												uint32_t n47 = (uint32_t)n28;
-												uint32_t n48 = (uint32_t)n12;
-												uint32_t n49 = n47 / 60;
-												if ((n48 / 60) == n49)
-													goto L2;
-												uint32_t n50 = n47 / 3600;
-												if ((n48 / 3600) == n50) {
-													n51 = (uint64_t)((n49 % 60) + 60);
+												uint32_t n48 = (uint32_t)n29;
+												uint32_t n49 = (uint32_t)n12;
+												uint32_t n50 = n48 / 60;
+												uint32_t n51 = n50 * 60;
+												if (n51 <= n49) {
+													n46 = (uint64_t)(n48 - n51);
+													n47 = 60;
+													goto L3;
+												}
+												uint32_t n52 = n48 / 3600;
+												if ((n52 * 3600) <= n49) {
+													n46 = (uint64_t)(((n52 * 4294967236u) + n50) + 60);
+													n47 = 60;
+													goto L3;
+												}
+												uint32_t n53 = n48 / 86400;
+												if ((n53 * 86400) > n49) {
+													n54 = (uint64_t)(n53 + 144);
 													goto L4;
 												}
-												uint32_t n52 = n47 / 86400;
-												if ((n48 / 86400) == n52) {
-													n51 = (uint64_t)((n50 % 24) + 120);
-													goto L4;
-												}
-												n51 = (uint64_t)(n52 + 144);
-												goto L4;
+												n46 = (uint64_t)(((n53 * 4294967272u) + n52) + 120);
+												n47 = 60;
+												goto L3;
 											}
 											case 2: {
-												n53 = n28;
-												n54 = n12;
-												n55 = 0;
+												n55 = n29;
+												n56 = n12;
+												n57 = 0;
 												break;
 											}
 											default: {
@@ -62716,30 +62940,30 @@ L1:
 											}
 											}
 											for (;;) {
-												uint64_t n56 = n54 >> 4;
-												uint64_t n57 = n53 >> 4;
-												if (n56 == n57)
+												uint64_t n58 = n56 >> 4;
+												uint64_t n59 = n55 >> 4;
+												if (n58 == n59)
 													break;
-												n53 = n57;
-												n54 = n56;
-												n55 = n55 + 16;
+												n55 = n59;
+												n56 = n58;
+												n57 = n57 + 16;
 											}
-											n45 = n55 | (n53 & 15);
-											n46 = 16;
+											n46 = n57 | (n55 & 15);
+											n47 = 16;
 L3:
 											{
-												if (n46 > n45)
+												if (n47 > n46)
 													goto L2;
-												n51 = n45;
+												n54 = n46;
 											}
 L4:
 											{
-												byte *p58 = at(p43, n51 << 4);
-												if (load8(p58) == 1) {
-													if (n28 == load64(p58 + 8)) {
-														uint32_t n59 = usub_sat32(load32(p58 + 4), 1);
-														store32u(p58, 1);
-														store32u(p58 + 4, n59);
+												byte *p60 = at(p44, n54 << 4);
+												if (load8(p60) == 1) {
+													if (n29 == load64(p60 + 8)) {
+														uint32_t n61 = usub_sat32(load32(p60 + 4), 1);
+														store32u(p60, 1);
+														store32u(p60 + 4, n61);
 													}
 												}
 											}
@@ -62748,68 +62972,67 @@ L4:
 L2:
 									{
 										if (b15) {
-											byte *p60 = inside(p2 + 128, (n17 >> 3) & 536870904);
-											store64(p60, load64(p60) | ((uint64_t)1 << (n17 & 63)));
+											byte *p62 = inside(p2 + 128, (n17 >> 3) & 536870904);
+											store64(p62, load64(p62) | ((uint64_t)1 << (n17 & 63)));
 											if ((load8(p2 + 232) & 1) != 0) {
-												uint64_t n61;
+												uint64_t n63;
 												switch (MOSTLY_0(load8(p2))) {
 												case 0: {
-													n61 = 64;
+													n63 = 64;
 													break;
 												}
 												case 1: {
-													n61 = 60;
+													n63 = 60;
 													break;
 												}
 												case 2: {
-													n61 = 16;
+													n63 = 16;
 													break;
 												}
 												default: {
 													UNREACHABLE();
 												}
 												}
-												if (n17 >= n61) {
-													byte *p62 = at(loadptr(p2 + 208), n17 << 4);
-													if (load8(p62) == 0) {
-														if (n14 < load64(p62 + 8)) {
-															uint64_t n67;
-															uint64_t n63 = load64(p2 + 104);
-															uint64_t n64 = (uint64_t)load32(at(loadptr(p2 + 80), n35) + 4);
-															if (n63 <= n64) {
-																uint64_t n65 = usub_sat64(n64, n63);
-																byte *p66 = at(loadptr(p2 + 40), n65 * 48);
-																if (n65 < load64(p2 + 48)) {
-																	if (load8(p66) == 1) {
-																		n67 = umin64(n14, load64u(p66 + 32));
+												if (n17 >= n63) {
+													byte *p64 = at(loadptr(p2 + 208), n17 << 4);
+													if (load8(p64) == 0) {
+														if (n14 < load64(p64 + 8)) {
+															uint64_t n66;
+															uint64_t n65 = (uint64_t)load32(at(loadptr(p2 + 80), n36) + 4);
+															if (n17 == n65) {
+																n66 = n14;
+															} else {
+																uint64_t n67 = n65 - load64(p2 + 104);
+																byte *p68 = at(loadptr(p2 + 40), n67 * 48);
+																if (n67 < load64(p2 + 48)) {
+																	if (load8(p68) == 1) {
+																		n66 = umin64(n14, load64u(p68 + 32));
 																	} else {
-																		n67 = n14;
+																		n66 = n14;
 																	}
 																} else {
-																	n67 = n14;
+																	n66 = n14;
 																}
-															} else {
-																n67 = n14;
 															}
-															store32u(p62, 1);
-															store32u(p62 + 4, 1);
-															store64u(p62 + 8, n67);
+															store32u(p64, 1);
+															store32u(p64 + 4, 1);
+															store64u(p64 + 8, n66);
 															store64(p2 + 240, load64(p2 + 240) + 1);
 														} else {
-															store32u(p62, 0);
-															store32u(p62 + 4, 0);
-															store64u(p62 + 8, n14);
+															store32u(p64, 0);
+															store32u(p64 + 4, 0);
+															store64u(p64 + 8, n14);
 														}
 													} else {
-														uint32_t n68 = load32(p62 + 4);
-														uint64_t n69 = load64(p62 + 8);
-														if (n14 < n69) {
-															store32u(p62, 1);
-															store32u(p62 + 4, 1);
-															store64u(p62 + 8, n14);
-														} else if (n14 == n69) {
-															store32u(p62, 1);
-															store32u(p62 + 4, uadd_sat32(n68, 1));
+														uint32_t n69 = load32(p64 + 4);
+														uint64_t n70 = load64(p64 + 8);
+														if (n14 < n70) {
+															store32u(p64, 1);
+															store32u(p64 + 4, 1);
+															store64u(p64 + 8, n14);
+														} else if (n14 == n70) {
+															store32u(p64, 1);
+															store32u(p64 + 4, uadd_sat32(n69, 1));
 														}
 													}
 												}
@@ -62921,7 +63144,7 @@ L2:
 	{
 		uint64_t n33;
 		byte *p34;
-		uint8_t n180, n181;
+		uint8_t n183, n184;
 		store64u(p17, 3);
 		store64u(p17 + 8, n22);
 		store64u(p17 + 16, n4);
@@ -62955,8 +63178,8 @@ L2:
 				p34 = (byte *)tp_static_238;
 			} else {
 				if (n36 >= n3) {
-					uint64_t n54;
-					uint8_t n96;
+					uint8_t n51, n99;
+					uint64_t n52, n56;
 					memset(p16, 0, 40);
 					tp_Facility_take_restart(p16, p1, n2, n3, n22, n4, n5, n5, n6);
 					uint8_t n37 = load8(p16);
@@ -62992,282 +63215,290 @@ L2:
 					}
 					}
 					uint64_t n47 = load64(p1 + 64);
-					byte *p48 = loadptr(p1 + 80);
-					uint64_t n49 = load64(p1 + 104);
-					uint64_t n50 = (uint64_t)load32(at(p48, load64(p1 + 32) << 3) + 4);
-					uint64_t n51 = usub_sat64(n50, n49);
-					uint64_t n52 = 0;
-					uint64_t n53 = n50;
-					for (;;) {
-						if (n52 == n47) {
-							n54 = n47;
-							break;
-						}
-						if (n49 > n53) {
-							n54 = n52;
-							break;
-						}
-						uint64_t n55 = (uint64_t)load32(at(p48, (n49 + n51) << 3) + 4);
-						n51 = usub_sat64(n55, n49);
-						n52 = n52 + 1;
-						n53 = n55;
+					uint64_t n48 = load64(p1 + 32);
+					byte *p49 = loadptr(p1 + 80);
+					uint64_t n50 = (uint64_t)load32(at(p49, n48 << 3) + 4);
+					if (n48 == n50) {
+						n51 = 0;
+						n52 = 0;
+					} else {
+						n51 = 1;
+						n52 = n50 - load64(p1 + 104);
 					}
-					if ((((n47 - n54) << 1) + 64) < load64(p1 + 1368))
+					uint64_t n53 = n52;
+					uint64_t n54 = 0;
+					uint8_t n55 = n51;
+					for (;;) {
+						if (n54 == n47) {
+							n56 = n47;
+							break;
+						}
+						if (n55 != 1) {
+							n56 = n54;
+							break;
+						}
+						uint64_t n57 = load64(p1 + 104);
+						uint64_t n58 = (uint64_t)load32(at(p49, (n57 + n53) << 3) + 4);
+						n53 = usub_sat64(n58, n57);
+						n54 = n54 + 1;
+						n55 = (uint8_t)(n57 <= n58);
+					}
+					if ((((n47 - n56) << 1) + 64) < load64(p1 + 1368))
 						tp_handles_sweep(p1 + 1360, p1);
 					memset(p15, 0, 16);
 					memset(p14, 0, 16);
 					switch (MOSTLY_0(n37)) {
 					case 0: {
-						uint64_t n85;
+						uint64_t n88;
 						store64(p11, n2);
 						store64(p11 + 8, n3);
 						store64(p11 + 16, n40);
 						store64(p11 + 24, n41);
 						memset(p10, 0, 117);
 						store8(p10 + 117, 10);
-						uint64_t n56 = 4;
-						uint64_t n57 = 117;
-						while (n56 != 0) {
-							uint64_t n69;
-							uint64_t n58 = n56 - 1;
-							uint64_t n59 = load64(inside(p11, n58 << 3));
-							uint64_t n60 = n57;
-							while (n59 > 9999) {
-								uint16_t n61 = (uint16_t)(n59 % 10000);
-								byte *p62 = inside((byte *)tp_static_242, (uint64_t)(uint16_t)((uint32_t)(uint16_t)(n61 % 100) << 1));
-								byte *p63 = at(p10, n60);
-								uint8_t n64 = load8(p62 + 1);
-								store8(at(p63, UINT64_C(18446744073709551614)), load8(p62));
-								store8(at(p63, UINT64_MAX), n64);
-								uint64_t n65 = n60 - 4;
-								byte *p66 = inside((byte *)tp_static_242, (uint64_t)(uint16_t)((uint32_t)(uint16_t)(n61 / 100) << 1));
-								uint8_t n67 = load8(p66 + 1);
-								store8(inside(p10, n65), load8(p66));
-								store8(at(p63, UINT64_C(18446744073709551613)), n67);
-								n59 = n59 / 10000;
-								n60 = n65;
+						uint64_t n59 = 4;
+						uint64_t n60 = 117;
+						while (n59 != 0) {
+							uint64_t n72;
+							uint64_t n61 = n59 - 1;
+							uint64_t n62 = load64(inside(p11, n61 << 3));
+							uint64_t n63 = n60;
+							while (n62 > 9999) {
+								uint16_t n64 = (uint16_t)(n62 % 10000);
+								byte *p65 = inside((byte *)tp_static_242, (uint64_t)(uint16_t)((uint32_t)(uint16_t)(n64 % 100) << 1));
+								byte *p66 = at(p10, n63);
+								uint8_t n67 = load8(p65 + 1);
+								store8(at(p66, UINT64_C(18446744073709551614)), load8(p65));
+								store8(at(p66, UINT64_MAX), n67);
+								uint64_t n68 = n63 - 4;
+								byte *p69 = inside((byte *)tp_static_242, (uint64_t)(uint16_t)((uint32_t)(uint16_t)(n64 / 100) << 1));
+								uint8_t n70 = load8(p69 + 1);
+								store8(inside(p10, n68), load8(p69));
+								store8(at(p66, UINT64_C(18446744073709551613)), n70);
+								n62 = n62 / 10000;
+								n63 = n68;
 							}
-							if (n59 < 100) {
-								if (n59 < 10) {
-									uint64_t n68 = n60 - 1;
-									store8(inside(p10, n68), (uint8_t)((uint8_t)n59 | 48));
-									n69 = n68;
+							if (n62 < 100) {
+								if (n62 < 10) {
+									uint64_t n71 = n63 - 1;
+									store8(inside(p10, n71), (uint8_t)((uint8_t)n62 | 48));
+									n72 = n71;
 								} else {
-									uint64_t n70 = n60 - 2;
-									byte *p71 = inside((byte *)tp_static_242, n59 << 1);
-									uint8_t n72 = load8(p71 + 1);
-									store8(inside(p10, n70), load8(p71));
-									store8(at(at(p10, n60), UINT64_MAX), n72);
-									n69 = n70;
+									uint64_t n73 = n63 - 2;
+									byte *p74 = inside((byte *)tp_static_242, n62 << 1);
+									uint8_t n75 = load8(p74 + 1);
+									store8(inside(p10, n73), load8(p74));
+									store8(at(at(p10, n63), UINT64_MAX), n75);
+									n72 = n73;
 								}
 							} else {
-								uint16_t n73 = (uint16_t)n59;
-								byte *p74 = inside((byte *)tp_static_242, (uint64_t)(uint16_t)((uint32_t)(uint16_t)(n73 % 100) << 1));
-								byte *p75 = at(p10, n60);
-								uint8_t n76 = load8(p74 + 1);
-								store8(at(p75, UINT64_C(18446744073709551614)), load8(p74));
-								store8(at(p75, UINT64_MAX), n76);
-								uint16_t n77 = (uint16_t)(n73 / 100);
-								if (n59 < 1000) {
-									uint64_t n78 = n60 - 3;
-									store8(inside(p10, n78), (uint8_t)((uint8_t)n77 | 48));
-									n69 = n78;
+								uint16_t n76 = (uint16_t)n62;
+								byte *p77 = inside((byte *)tp_static_242, (uint64_t)(uint16_t)((uint32_t)(uint16_t)(n76 % 100) << 1));
+								byte *p78 = at(p10, n63);
+								uint8_t n79 = load8(p77 + 1);
+								store8(at(p78, UINT64_C(18446744073709551614)), load8(p77));
+								store8(at(p78, UINT64_MAX), n79);
+								uint16_t n80 = (uint16_t)(n76 / 100);
+								if (n62 < 1000) {
+									uint64_t n81 = n63 - 3;
+									store8(inside(p10, n81), (uint8_t)((uint8_t)n80 | 48));
+									n72 = n81;
 								} else {
-									uint64_t n79 = n60 - 4;
-									byte *p80 = inside((byte *)tp_static_242, (uint64_t)(uint16_t)((uint32_t)n77 << 1));
-									uint8_t n81 = load8(p80 + 1);
-									store8(inside(p10, n79), load8(p80));
-									store8(at(p75, UINT64_C(18446744073709551613)), n81);
-									n69 = n79;
+									uint64_t n82 = n63 - 4;
+									byte *p83 = inside((byte *)tp_static_242, (uint64_t)(uint16_t)((uint32_t)n80 << 1));
+									uint8_t n84 = load8(p83 + 1);
+									store8(inside(p10, n82), load8(p83));
+									store8(at(p78, UINT64_C(18446744073709551613)), n84);
+									n72 = n82;
 								}
 							}
-							uint64_t n82 = n69 - 1;
-							store8(inside(p10, n82), 32);
-							n56 = n58;
-							n57 = n82;
+							uint64_t n85 = n72 - 1;
+							store8(inside(p10, n85), 32);
+							n59 = n61;
+							n60 = n85;
 						}
-						byte *p83 = at(at(p10, n57), UINT64_C(18446744073709551609));
-						uint64_t n84 = (uint64_t)(uintptr_t)p83;
-						if ((n84 - (uint64_t)(uintptr_t)(byte *)tp_static_228) >= 7) {
-							memcpy(p83, (byte *)tp_static_228, 7);
+						byte *p86 = at(at(p10, n60), UINT64_C(18446744073709551609));
+						uint64_t n87 = (uint64_t)(uintptr_t)p86;
+						if ((n87 - (uint64_t)(uintptr_t)(byte *)tp_static_228) >= 7) {
+							memcpy(p86, (byte *)tp_static_228, 7);
 							goto L3;
 						}
-						n85 = 0;
-						while (n85 != 7) {
-							store8(inside(p83, n85), load8(inside((byte *)tp_static_228, n85)));
-							n85 = n85 + 1;
+						n88 = 0;
+						while (n88 != 7) {
+							store8(inside(p86, n88), load8(inside((byte *)tp_static_228, n88)));
+							n88 = n88 + 1;
 						}
 L3:
 						{
-							uint64_t n90, n91, n95;
-							uint8_t n92;
-							byte *p93, *p94;
-							uint64_t n86 = 125 - n57;
-							uint64_t n87 = load64(p7 + 16);
-							uint64_t n88 = load64(p7 + 8);
-							if (n86 > (n87 - n88)) {
-								bool b89 = tp_std_alloc_vec_Vec_grow_amortized_11(p7, n86);
-								if (!b89) {
-									n92 = 1;
+							uint64_t n93, n94, n98;
+							uint8_t n95;
+							byte *p96, *p97;
+							uint64_t n89 = 125 - n60;
+							uint64_t n90 = load64(p7 + 16);
+							uint64_t n91 = load64(p7 + 8);
+							if (n89 > (n90 - n91)) {
+								bool b92 = tp_std_alloc_vec_Vec_grow_amortized_11(p7, n89);
+								if (!b92) {
+									n95 = 1;
 									goto L4;
 								}
-								n90 = load64(p7 + 16);
-								n91 = load64(p7 + 8);
+								n93 = load64(p7 + 16);
+								n94 = load64(p7 + 8);
 							} else {
-								n90 = n87;
-								n91 = n88;
+								n93 = n90;
+								n94 = n91;
 							}
-							p93 = loadptr(p7);
-							p94 = at(p93, n91);
-							if (((uint64_t)(uintptr_t)p94 - n84) >= n86) {
-								memcpy(p94, p83, (size_t)n86);
+							p96 = loadptr(p7);
+							p97 = at(p96, n94);
+							if (((uint64_t)(uintptr_t)p97 - n87) >= n89) {
+								memcpy(p97, p86, (size_t)n89);
 								goto L5;
 							}
-							n95 = 0;
-							while (n95 != n86) {
-								store8(inside(p94, n95), load8(inside(p83, n95)));
-								n95 = n95 + 1;
+							n98 = 0;
+							while (n98 != n89) {
+								store8(inside(p97, n98), load8(inside(p86, n98)));
+								n98 = n98 + 1;
 							}
 L5:
 							{
-								storeptr(p7, p93);
-								store64(p7 + 8, n91 + n86);
-								store64(p7 + 16, n90);
-								n92 = 0;
+								storeptr(p7, p96);
+								store64(p7 + 8, n94 + n89);
+								store64(p7 + 16, n93);
+								n95 = 0;
 							}
 L4:
 							{
-								n96 = n92;
+								n99 = n95;
 							}
 						}
 						break;
 					}
 					case 1: {
-						uint64_t n126;
+						uint64_t n129;
 						store64(p12, n2);
 						store64(p12 + 8, n3);
 						store64(p12 + 16, n39);
 						memset(p9, 0, 117);
 						store8(p9 + 117, 10);
-						uint64_t n97 = 3;
-						uint64_t n98 = 117;
-						while (n97 != 0) {
-							uint64_t n110;
-							uint64_t n99 = n97 - 1;
-							uint64_t n100 = load64(inside(p12, n99 << 3));
-							uint64_t n101 = n98;
-							while (n100 > 9999) {
-								uint16_t n102 = (uint16_t)(n100 % 10000);
-								byte *p103 = inside((byte *)tp_static_242, (uint64_t)(uint16_t)((uint32_t)(uint16_t)(n102 % 100) << 1));
-								byte *p104 = at(p9, n101);
-								uint8_t n105 = load8(p103 + 1);
-								store8(at(p104, UINT64_C(18446744073709551614)), load8(p103));
-								store8(at(p104, UINT64_MAX), n105);
-								uint64_t n106 = n101 - 4;
-								byte *p107 = inside((byte *)tp_static_242, (uint64_t)(uint16_t)((uint32_t)(uint16_t)(n102 / 100) << 1));
-								uint8_t n108 = load8(p107 + 1);
-								store8(inside(p9, n106), load8(p107));
-								store8(at(p104, UINT64_C(18446744073709551613)), n108);
-								n100 = n100 / 10000;
-								n101 = n106;
+						uint64_t n100 = 3;
+						uint64_t n101 = 117;
+						while (n100 != 0) {
+							uint64_t n113;
+							uint64_t n102 = n100 - 1;
+							uint64_t n103 = load64(inside(p12, n102 << 3));
+							uint64_t n104 = n101;
+							while (n103 > 9999) {
+								uint16_t n105 = (uint16_t)(n103 % 10000);
+								byte *p106 = inside((byte *)tp_static_242, (uint64_t)(uint16_t)((uint32_t)(uint16_t)(n105 % 100) << 1));
+								byte *p107 = at(p9, n104);
+								uint8_t n108 = load8(p106 + 1);
+								store8(at(p107, UINT64_C(18446744073709551614)), load8(p106));
+								store8(at(p107, UINT64_MAX), n108);
+								uint64_t n109 = n104 - 4;
+								byte *p110 = inside((byte *)tp_static_242, (uint64_t)(uint16_t)((uint32_t)(uint16_t)(n105 / 100) << 1));
+								uint8_t n111 = load8(p110 + 1);
+								store8(inside(p9, n109), load8(p110));
+								store8(at(p107, UINT64_C(18446744073709551613)), n111);
+								n103 = n103 / 10000;
+								n104 = n109;
 							}
-							if (n100 < 100) {
-								if (n100 < 10) {
-									uint64_t n109 = n101 - 1;
-									store8(inside(p9, n109), (uint8_t)((uint8_t)n100 | 48));
-									n110 = n109;
+							if (n103 < 100) {
+								if (n103 < 10) {
+									uint64_t n112 = n104 - 1;
+									store8(inside(p9, n112), (uint8_t)((uint8_t)n103 | 48));
+									n113 = n112;
 								} else {
-									uint64_t n111 = n101 - 2;
-									byte *p112 = inside((byte *)tp_static_242, n100 << 1);
-									uint8_t n113 = load8(p112 + 1);
-									store8(inside(p9, n111), load8(p112));
-									store8(at(at(p9, n101), UINT64_MAX), n113);
-									n110 = n111;
+									uint64_t n114 = n104 - 2;
+									byte *p115 = inside((byte *)tp_static_242, n103 << 1);
+									uint8_t n116 = load8(p115 + 1);
+									store8(inside(p9, n114), load8(p115));
+									store8(at(at(p9, n104), UINT64_MAX), n116);
+									n113 = n114;
 								}
 							} else {
-								uint16_t n114 = (uint16_t)n100;
-								byte *p115 = inside((byte *)tp_static_242, (uint64_t)(uint16_t)((uint32_t)(uint16_t)(n114 % 100) << 1));
-								byte *p116 = at(p9, n101);
-								uint8_t n117 = load8(p115 + 1);
-								store8(at(p116, UINT64_C(18446744073709551614)), load8(p115));
-								store8(at(p116, UINT64_MAX), n117);
-								uint16_t n118 = (uint16_t)(n114 / 100);
-								if (n100 < 1000) {
-									uint64_t n119 = n101 - 3;
-									store8(inside(p9, n119), (uint8_t)((uint8_t)n118 | 48));
-									n110 = n119;
+								uint16_t n117 = (uint16_t)n103;
+								byte *p118 = inside((byte *)tp_static_242, (uint64_t)(uint16_t)((uint32_t)(uint16_t)(n117 % 100) << 1));
+								byte *p119 = at(p9, n104);
+								uint8_t n120 = load8(p118 + 1);
+								store8(at(p119, UINT64_C(18446744073709551614)), load8(p118));
+								store8(at(p119, UINT64_MAX), n120);
+								uint16_t n121 = (uint16_t)(n117 / 100);
+								if (n103 < 1000) {
+									uint64_t n122 = n104 - 3;
+									store8(inside(p9, n122), (uint8_t)((uint8_t)n121 | 48));
+									n113 = n122;
 								} else {
-									uint64_t n120 = n101 - 4;
-									byte *p121 = inside((byte *)tp_static_242, (uint64_t)(uint16_t)((uint32_t)n118 << 1));
-									uint8_t n122 = load8(p121 + 1);
-									store8(inside(p9, n120), load8(p121));
-									store8(at(p116, UINT64_C(18446744073709551613)), n122);
-									n110 = n120;
+									uint64_t n123 = n104 - 4;
+									byte *p124 = inside((byte *)tp_static_242, (uint64_t)(uint16_t)((uint32_t)n121 << 1));
+									uint8_t n125 = load8(p124 + 1);
+									store8(inside(p9, n123), load8(p124));
+									store8(at(p119, UINT64_C(18446744073709551613)), n125);
+									n113 = n123;
 								}
 							}
-							uint64_t n123 = n110 - 1;
-							store8(inside(p9, n123), 32);
-							n97 = n99;
-							n98 = n123;
+							uint64_t n126 = n113 - 1;
+							store8(inside(p9, n126), 32);
+							n100 = n102;
+							n101 = n126;
 						}
-						byte *p124 = at(at(p9, n98), UINT64_C(18446744073709551609));
-						uint64_t n125 = (uint64_t)(uintptr_t)p124;
-						if ((n125 - (uint64_t)(uintptr_t)(byte *)tp_static_229) >= 7) {
-							memcpy(p124, (byte *)tp_static_229, 7);
+						byte *p127 = at(at(p9, n101), UINT64_C(18446744073709551609));
+						uint64_t n128 = (uint64_t)(uintptr_t)p127;
+						if ((n128 - (uint64_t)(uintptr_t)(byte *)tp_static_229) >= 7) {
+							memcpy(p127, (byte *)tp_static_229, 7);
 							goto L6;
 						}
-						n126 = 0;
-						while (n126 != 7) {
-							store8(inside(p124, n126), load8(inside((byte *)tp_static_229, n126)));
-							n126 = n126 + 1;
+						n129 = 0;
+						while (n129 != 7) {
+							store8(inside(p127, n129), load8(inside((byte *)tp_static_229, n129)));
+							n129 = n129 + 1;
 						}
 L6:
 						{
-							uint64_t n131, n132, n136;
-							uint8_t n133;
-							byte *p134, *p135;
-							uint64_t n127 = 125 - n98;
-							uint64_t n128 = load64(p7 + 16);
-							uint64_t n129 = load64(p7 + 8);
-							if (n127 > (n128 - n129)) {
-								bool b130 = tp_std_alloc_vec_Vec_grow_amortized_11(p7, n127);
-								if (!b130) {
-									n133 = 1;
+							uint64_t n134, n135, n139;
+							uint8_t n136;
+							byte *p137, *p138;
+							uint64_t n130 = 125 - n101;
+							uint64_t n131 = load64(p7 + 16);
+							uint64_t n132 = load64(p7 + 8);
+							if (n130 > (n131 - n132)) {
+								bool b133 = tp_std_alloc_vec_Vec_grow_amortized_11(p7, n130);
+								if (!b133) {
+									n136 = 1;
 									goto L7;
 								}
-								n131 = load64(p7 + 16);
-								n132 = load64(p7 + 8);
+								n134 = load64(p7 + 16);
+								n135 = load64(p7 + 8);
 							} else {
-								n131 = n128;
-								n132 = n129;
+								n134 = n131;
+								n135 = n132;
 							}
-							p134 = loadptr(p7);
-							p135 = at(p134, n132);
-							if (((uint64_t)(uintptr_t)p135 - n125) >= n127) {
-								memcpy(p135, p124, (size_t)n127);
+							p137 = loadptr(p7);
+							p138 = at(p137, n135);
+							if (((uint64_t)(uintptr_t)p138 - n128) >= n130) {
+								memcpy(p138, p127, (size_t)n130);
 								goto L8;
 							}
-							n136 = 0;
-							while (n136 != n127) {
-								store8(inside(p135, n136), load8(inside(p124, n136)));
-								n136 = n136 + 1;
+							n139 = 0;
+							while (n139 != n130) {
+								store8(inside(p138, n139), load8(inside(p127, n139)));
+								n139 = n139 + 1;
 							}
 L8:
 							{
-								storeptr(p7, p134);
-								store64(p7 + 8, n132 + n127);
-								store64(p7 + 16, n131);
-								n133 = 0;
+								storeptr(p7, p137);
+								store64(p7 + 8, n135 + n130);
+								store64(p7 + 16, n134);
+								n136 = 0;
 							}
 L7:
 							{
-								n96 = n133;
+								n99 = n136;
 							}
 						}
 						break;
 					}
 					case 2: {
-						uint64_t n166;
+						uint64_t n169;
 						store64(p13, n2);
 						store64(p13 + 8, n3);
 						store64(p13 + 16, n42);
@@ -63275,167 +63506,167 @@ L7:
 						store64(p13 + 32, n41);
 						memset(p8, 0, 117);
 						store8(p8 + 117, 10);
-						uint64_t n137 = 5;
-						uint64_t n138 = 117;
-						while (n137 != 0) {
-							uint64_t n150;
-							uint64_t n139 = n137 - 1;
-							uint64_t n140 = load64(inside(p13, n139 << 3));
-							uint64_t n141 = n138;
-							while (n140 > 9999) {
-								uint16_t n142 = (uint16_t)(n140 % 10000);
-								byte *p143 = inside((byte *)tp_static_242, (uint64_t)(uint16_t)((uint32_t)(uint16_t)(n142 % 100) << 1));
-								byte *p144 = at(p8, n141);
-								uint8_t n145 = load8(p143 + 1);
-								store8(at(p144, UINT64_C(18446744073709551614)), load8(p143));
-								store8(at(p144, UINT64_MAX), n145);
-								uint64_t n146 = n141 - 4;
-								byte *p147 = inside((byte *)tp_static_242, (uint64_t)(uint16_t)((uint32_t)(uint16_t)(n142 / 100) << 1));
-								uint8_t n148 = load8(p147 + 1);
-								store8(inside(p8, n146), load8(p147));
-								store8(at(p144, UINT64_C(18446744073709551613)), n148);
-								n140 = n140 / 10000;
-								n141 = n146;
+						uint64_t n140 = 5;
+						uint64_t n141 = 117;
+						while (n140 != 0) {
+							uint64_t n153;
+							uint64_t n142 = n140 - 1;
+							uint64_t n143 = load64(inside(p13, n142 << 3));
+							uint64_t n144 = n141;
+							while (n143 > 9999) {
+								uint16_t n145 = (uint16_t)(n143 % 10000);
+								byte *p146 = inside((byte *)tp_static_242, (uint64_t)(uint16_t)((uint32_t)(uint16_t)(n145 % 100) << 1));
+								byte *p147 = at(p8, n144);
+								uint8_t n148 = load8(p146 + 1);
+								store8(at(p147, UINT64_C(18446744073709551614)), load8(p146));
+								store8(at(p147, UINT64_MAX), n148);
+								uint64_t n149 = n144 - 4;
+								byte *p150 = inside((byte *)tp_static_242, (uint64_t)(uint16_t)((uint32_t)(uint16_t)(n145 / 100) << 1));
+								uint8_t n151 = load8(p150 + 1);
+								store8(inside(p8, n149), load8(p150));
+								store8(at(p147, UINT64_C(18446744073709551613)), n151);
+								n143 = n143 / 10000;
+								n144 = n149;
 							}
-							if (n140 < 100) {
-								if (n140 < 10) {
-									uint64_t n149 = n141 - 1;
-									store8(inside(p8, n149), (uint8_t)((uint8_t)n140 | 48));
-									n150 = n149;
+							if (n143 < 100) {
+								if (n143 < 10) {
+									uint64_t n152 = n144 - 1;
+									store8(inside(p8, n152), (uint8_t)((uint8_t)n143 | 48));
+									n153 = n152;
 								} else {
-									uint64_t n151 = n141 - 2;
-									byte *p152 = inside((byte *)tp_static_242, n140 << 1);
-									uint8_t n153 = load8(p152 + 1);
-									store8(inside(p8, n151), load8(p152));
-									store8(at(at(p8, n141), UINT64_MAX), n153);
-									n150 = n151;
+									uint64_t n154 = n144 - 2;
+									byte *p155 = inside((byte *)tp_static_242, n143 << 1);
+									uint8_t n156 = load8(p155 + 1);
+									store8(inside(p8, n154), load8(p155));
+									store8(at(at(p8, n144), UINT64_MAX), n156);
+									n153 = n154;
 								}
 							} else {
-								uint16_t n154 = (uint16_t)n140;
-								byte *p155 = inside((byte *)tp_static_242, (uint64_t)(uint16_t)((uint32_t)(uint16_t)(n154 % 100) << 1));
-								byte *p156 = at(p8, n141);
-								uint8_t n157 = load8(p155 + 1);
-								store8(at(p156, UINT64_C(18446744073709551614)), load8(p155));
-								store8(at(p156, UINT64_MAX), n157);
-								uint16_t n158 = (uint16_t)(n154 / 100);
-								if (n140 < 1000) {
-									uint64_t n159 = n141 - 3;
-									store8(inside(p8, n159), (uint8_t)((uint8_t)n158 | 48));
-									n150 = n159;
+								uint16_t n157 = (uint16_t)n143;
+								byte *p158 = inside((byte *)tp_static_242, (uint64_t)(uint16_t)((uint32_t)(uint16_t)(n157 % 100) << 1));
+								byte *p159 = at(p8, n144);
+								uint8_t n160 = load8(p158 + 1);
+								store8(at(p159, UINT64_C(18446744073709551614)), load8(p158));
+								store8(at(p159, UINT64_MAX), n160);
+								uint16_t n161 = (uint16_t)(n157 / 100);
+								if (n143 < 1000) {
+									uint64_t n162 = n144 - 3;
+									store8(inside(p8, n162), (uint8_t)((uint8_t)n161 | 48));
+									n153 = n162;
 								} else {
-									uint64_t n160 = n141 - 4;
-									byte *p161 = inside((byte *)tp_static_242, (uint64_t)(uint16_t)((uint32_t)n158 << 1));
-									uint8_t n162 = load8(p161 + 1);
-									store8(inside(p8, n160), load8(p161));
-									store8(at(p156, UINT64_C(18446744073709551613)), n162);
-									n150 = n160;
+									uint64_t n163 = n144 - 4;
+									byte *p164 = inside((byte *)tp_static_242, (uint64_t)(uint16_t)((uint32_t)n161 << 1));
+									uint8_t n165 = load8(p164 + 1);
+									store8(inside(p8, n163), load8(p164));
+									store8(at(p159, UINT64_C(18446744073709551613)), n165);
+									n153 = n163;
 								}
 							}
-							uint64_t n163 = n150 - 1;
-							store8(inside(p8, n163), 32);
-							n137 = n139;
-							n138 = n163;
+							uint64_t n166 = n153 - 1;
+							store8(inside(p8, n166), 32);
+							n140 = n142;
+							n141 = n166;
 						}
-						byte *p164 = at(at(p8, n138), UINT64_C(18446744073709551607));
-						uint64_t n165 = (uint64_t)(uintptr_t)p164;
-						if ((n165 - (uint64_t)(uintptr_t)(byte *)tp_static_230) >= 9) {
-							memcpy(p164, (byte *)tp_static_230, 9);
+						byte *p167 = at(at(p8, n141), UINT64_C(18446744073709551607));
+						uint64_t n168 = (uint64_t)(uintptr_t)p167;
+						if ((n168 - (uint64_t)(uintptr_t)(byte *)tp_static_230) >= 9) {
+							memcpy(p167, (byte *)tp_static_230, 9);
 							goto L9;
 						}
-						n166 = 0;
-						while (n166 != 9) {
-							store8(inside(p164, n166), load8(inside((byte *)tp_static_230, n166)));
-							n166 = n166 + 1;
+						n169 = 0;
+						while (n169 != 9) {
+							store8(inside(p167, n169), load8(inside((byte *)tp_static_230, n169)));
+							n169 = n169 + 1;
 						}
 L9:
 						{
-							uint64_t n171, n172, n176;
-							uint8_t n173;
-							byte *p174, *p175;
-							uint64_t n167 = 127 - n138;
-							uint64_t n168 = load64(p7 + 16);
-							uint64_t n169 = load64(p7 + 8);
-							if (n167 > (n168 - n169)) {
-								bool b170 = tp_std_alloc_vec_Vec_grow_amortized_11(p7, n167);
-								if (!b170) {
-									n173 = 1;
+							uint64_t n174, n175, n179;
+							uint8_t n176;
+							byte *p177, *p178;
+							uint64_t n170 = 127 - n141;
+							uint64_t n171 = load64(p7 + 16);
+							uint64_t n172 = load64(p7 + 8);
+							if (n170 > (n171 - n172)) {
+								bool b173 = tp_std_alloc_vec_Vec_grow_amortized_11(p7, n170);
+								if (!b173) {
+									n176 = 1;
 									goto L10;
 								}
-								n171 = load64(p7 + 16);
-								n172 = load64(p7 + 8);
+								n174 = load64(p7 + 16);
+								n175 = load64(p7 + 8);
 							} else {
-								n171 = n168;
-								n172 = n169;
+								n174 = n171;
+								n175 = n172;
 							}
-							p174 = loadptr(p7);
-							p175 = at(p174, n172);
-							if (((uint64_t)(uintptr_t)p175 - n165) >= n167) {
-								memcpy(p175, p164, (size_t)n167);
+							p177 = loadptr(p7);
+							p178 = at(p177, n175);
+							if (((uint64_t)(uintptr_t)p178 - n168) >= n170) {
+								memcpy(p178, p167, (size_t)n170);
 								goto L11;
 							}
-							n176 = 0;
-							while (n176 != n167) {
-								store8(inside(p175, n176), load8(inside(p164, n176)));
-								n176 = n176 + 1;
+							n179 = 0;
+							while (n179 != n170) {
+								store8(inside(p178, n179), load8(inside(p167, n179)));
+								n179 = n179 + 1;
 							}
 L11:
 							{
-								storeptr(p7, p174);
-								store64(p7 + 8, n172 + n167);
-								store64(p7 + 16, n171);
-								n173 = 0;
+								storeptr(p7, p177);
+								store64(p7 + 8, n175 + n170);
+								store64(p7 + 16, n174);
+								n176 = 0;
 							}
 L10:
 							{
-								n96 = n173;
+								n99 = n176;
 							}
 						}
 						break;
 					}
 					case 3: {
-						uint64_t n177;
-						byte *p178;
+						uint64_t n180;
+						byte *p181;
 						store64(p14, n2);
 						store64(p14 + 8, n3);
 						switch (MOSTLY_0(n38)) {
 						case 0: {
-							n177 = 13;
-							p178 = (byte *)tp_static_231;
+							n180 = 13;
+							p181 = (byte *)tp_static_231;
 							break;
 						}
 						case 1: {
-							n177 = 8;
-							p178 = (byte *)tp_static_232;
+							n180 = 8;
+							p181 = (byte *)tp_static_232;
 							break;
 						}
 						case 2: {
-							n177 = 13;
-							p178 = (byte *)tp_static_233;
+							n180 = 13;
+							p181 = (byte *)tp_static_233;
 							break;
 						}
 						case 3: {
-							n177 = 4;
-							p178 = (byte *)tp_static_234;
+							n180 = 4;
+							p181 = (byte *)tp_static_234;
 							break;
 						}
 						case 4: {
-							n177 = 7;
-							p178 = (byte *)tp_static_235;
+							n180 = 7;
+							p181 = (byte *)tp_static_235;
 							break;
 						}
 						default: {
 							UNREACHABLE();
 						}
 						}
-						uint8_t n179 = tp_text_push_refused(p7, (byte *)tp_static_221, 7, p14, 2, p178, n177);
-						n96 = n179;
+						uint8_t n182 = tp_text_push_refused(p7, (byte *)tp_static_221, 7, p14, 2, p181, n180);
+						n99 = n182;
 						break;
 					}
 					default: {
 						UNREACHABLE();
 					}
 					}
-					n180 = n96;
+					n183 = n99;
 					goto L12;
 				}
 				store64(p15, n2);
@@ -63449,11 +63680,11 @@ L10:
 			n33 = 9;
 			p34 = (byte *)tp_static_236;
 		}
-		n181 = tp_text_push_refused(p7, (byte *)tp_static_221, 7, p15, 2, p34, n33);
-		n180 = n181;
+		n184 = tp_text_push_refused(p7, (byte *)tp_static_221, 7, p15, 2, p34, n33);
+		n183 = n184;
 L12:
 		{
-			return n180;
+			return n183;
 		}
 	}
 }
@@ -63472,31 +63703,40 @@ static of_i8_i8 tp_Facility_start_refusal(byte *p1, uint64_t n2)
 		n3 = 2;
 		n4 = 1;
 	} else {
-		uint64_t n12;
+		uint8_t n9;
+		uint64_t n10, n14;
 		uint64_t n5 = load64(p1 + 64);
-		byte *p6 = loadptr(p1 + 80);
-		uint64_t n7 = load64(p1 + 104);
-		uint64_t n8 = (uint64_t)load32(at(p6, load64(p1 + 32) << 3) + 4);
-		uint64_t n9 = usub_sat64(n8, n7);
-		uint64_t n10 = 0;
-		uint64_t n11 = n8;
-		for (;;) {
-			if (n10 == n5) {
-				n12 = n5;
-				break;
-			}
-			if (n7 > n11) {
-				n12 = n10;
-				break;
-			}
-			uint64_t n13 = (uint64_t)load32(at(p6, (n7 + n9) << 3) + 4);
-			n9 = usub_sat64(n13, n7);
-			n10 = n10 + 1;
-			n11 = n13;
+		uint64_t n6 = load64(p1 + 32);
+		byte *p7 = loadptr(p1 + 80);
+		uint64_t n8 = (uint64_t)load32(at(p7, n6 << 3) + 4);
+		if (n6 == n8) {
+			n9 = 0;
+			n10 = 0;
+		} else {
+			n9 = 1;
+			n10 = n8 - load64(p1 + 104);
 		}
-		bool b14 = (n5 - n12) == load64(p1 + 280);
-		n3 = (uint8_t)(b14 ? 3 : 0);
-		n4 = (uint8_t)b14;
+		uint64_t n11 = n10;
+		uint64_t n12 = 0;
+		uint8_t n13 = n9;
+		for (;;) {
+			if (n12 == n5) {
+				n14 = n5;
+				break;
+			}
+			if (n13 != 1) {
+				n14 = n12;
+				break;
+			}
+			uint64_t n15 = load64(p1 + 104);
+			uint64_t n16 = (uint64_t)load32(at(p7, (n15 + n11) << 3) + 4);
+			n11 = usub_sat64(n16, n15);
+			n12 = n12 + 1;
+			n13 = (uint8_t)(n15 <= n16);
+		}
+		bool b17 = (n5 - n14) == load64(p1 + 280);
+		n3 = (uint8_t)(b17 ? 3 : 0);
+		n4 = (uint8_t)b17;
 	}
 	return of_i8_i8_of(of_i8_i8_of(n4, 0).f0, n3);
 }
@@ -63536,619 +63776,728 @@ static void tp_Facility_find_named(byte *p1, byte *p2, uint64_t n3, uint64_t n4,
 /* timer_wheels::migration::migrate: crates/timer_wheels/src/migration.rt */
 static NOINLINE uint64_t tp_migration_migrate(uint8_t n1, byte *p2, byte *p3, byte *p4, uint64_t n5, uint64_t n6)
 {
-	uint64_t n50, n57;
-	uint8_t n56;
+	uint64_t n49, n53;
+	uint8_t n52;
 	switch (MOSTLY_0(n1)) {
 	case 0: {
-		uint8_t n12;
-		uint64_t n13;
+		uint8_t n9;
+		uint64_t n10;
 		uint64_t n7 = n5 << 3;
-		uint64_t n8 = load64(p2 + 64);
-		uint64_t n9 = (uint64_t)load32(at(loadptr(p2 + 40), n7) + 4);
-		if (n8 <= n9) {
-			uint64_t n10 = usub_sat64(n9, n8);
-			byte *p11 = at(loadptr(p2), n10 * 48);
-			if (n10 < load64(p2 + 8)) {
-				if (load8(p11) == 1) {
-					n12 = 1;
-					n13 = load64u(p11 + 32);
+		uint64_t n8 = (uint64_t)load32(at(loadptr(p2 + 40), n7) + 4);
+		if (n5 == n8) {
+			n9 = 0;
+			n10 = 0;
+		} else {
+			uint64_t n11 = n8 - load64(p2 + 64);
+			byte *p12 = at(loadptr(p2), n11 * 48);
+			if (n11 < load64(p2 + 8)) {
+				if (load8(p12) == 1) {
+					n9 = 1;
+					n10 = load64u(p12 + 32);
 				} else {
-					n12 = 0;
-					n13 = 0;
+					n9 = 0;
+					n10 = 0;
 				}
 			} else {
-				n12 = 0;
-				n13 = 0;
+				n9 = 0;
+				n10 = 0;
 			}
-		} else {
-			n12 = 0;
-			n13 = 0;
 		}
-		uint64_t n14 = 0;
-		uint8_t n15 = n12;
-		uint64_t n16 = n13;
+		uint64_t n13 = 0;
+		uint8_t n14 = n9;
+		uint64_t n15 = n10;
 		for (;;) {
-			uint8_t n25;
-			uint64_t n26, n32;
-			if (n15 != 1)
-				return n14;
-			byte *p17 = loadptr(p2 + 40);
-			byte *p18 = at(p17, n7) + 4;
-			uint64_t n19 = load64(p2 + 64);
-			uint64_t n20 = (uint64_t)load32(p18);
-			bool b21 = n19 <= n20;
-			if (b21) {
-				uint64_t n22 = (uint64_t)load32(at(p17, umax64(n20, n19) << 3) + 4);
-				if (n19 <= n22) {
-					uint64_t n23 = usub_sat64(n22, n19);
-					byte *p24 = at(loadptr(p2), n23 * 48);
-					if (n23 < load64(p2 + 8)) {
-						if (load8(p24) == 1) {
-							n25 = 1;
-							n26 = load64u(p24 + 32);
+			uint64_t n21, n23, n24, n36;
+			uint8_t n22, n25;
+			uint32_t n35;
+			byte *p41;
+			if (n14 != 1)
+				return n13;
+			byte *p16 = loadptr(p2 + 40);
+			byte *p17 = at(p16, n7) + 4;
+			uint32_t n18 = load32(p17);
+			uint64_t n19 = (uint64_t)n18;
+			bool b20 = n5 == n19;
+			if (b20) {
+				if (n15 == n6) {
+					n21 = 0;
+					n22 = 0;
+					n23 = n13;
+					goto L1;
+				}
+				n24 = 0;
+				n25 = 0;
+			} else {
+				uint8_t n32;
+				uint64_t n33;
+				uint64_t n26 = load64(p2 + 64);
+				byte *p27 = at(p16, n19 << 3);
+				uint32_t n28 = load32(p27 + 4);
+				uint64_t n29 = (uint64_t)n28;
+				if (n26 <= n29) {
+					uint64_t n30 = usub_sat64(n29, n26);
+					byte *p31 = at(loadptr(p2), n30 * 48);
+					if (n30 < load64(p2 + 8)) {
+						if (load8(p31) == 1) {
+							n32 = 1;
+							n33 = load64u(p31 + 32);
 						} else {
-							n25 = 0;
-							n26 = 0;
+							n32 = 0;
+							n33 = 0;
 						}
 					} else {
-						n25 = 0;
-						n26 = 0;
+						n32 = 0;
+						n33 = 0;
 					}
 				} else {
-					n25 = 0;
-					n26 = 0;
+					n32 = 0;
+					n33 = 0;
 				}
-			} else {
-				n25 = 0;
-				n26 = 0;
+				if (n15 == n6) {
+					store32(p17, n28);
+					store32(inside(p16, n29 << 3), (uint32_t)n5);
+					uint32_t n34 = load32(p16 + 5120);
+					store32(inside(p16, (uint64_t)n34 << 3) + 4, n18);
+					store32(p27, n34);
+					store32(p27 + 4, 640);
+					store32(p16 + 5120, n18);
+					n21 = n33;
+					n22 = n32;
+					n23 = n13;
+					goto L1;
+				}
+				n24 = n33;
+				n25 = n32;
 			}
-			if (n16 == n6) {
-				if (b21) {
-					uint64_t n27 = umax64(n20, n19);
-					byte *p28 = at(p17, n27 << 3);
-					uint32_t n29 = load32(p28 + 4);
-					store32(p18, n29);
-					store32(inside(p17, (uint64_t)n29 << 3), (uint32_t)n5);
-					uint32_t n30 = load32(p17 + 5120);
-					uint32_t n31 = (uint32_t)n27;
-					store32(inside(p17, (uint64_t)n30 << 3) + 4, n31);
-					store32(p28, n30);
-					store32(p28 + 4, 640);
-					store32(p17 + 5120, n31);
-					n32 = n14;
-				} else {
-					n32 = n14;
-				}
+			n35 = (((uint32_t)ctlz64(n6 ^ n15) ^ 63) * 43) >> 8;
+			if (n35 == 0) {
+				n36 = n15 & 63;
 			} else {
-				uint64_t n34;
-				uint32_t n33 = (((uint32_t)ctlz64(n6 ^ n16) ^ 63) * 43) >> 8;
-				if (n33 == 0) {
-					n34 = n16 & 63;
-				} else {
-					n34 = ((n16 >> ((uint64_t)(n33 * 6) & 63)) & 63) | (uint64_t)(n33 << 6);
-				}
-				if (b21) {
-					uint64_t n35 = umax64(n20, n19);
-					byte *p36 = at(p17, n35 << 3);
-					uint32_t n37 = load32(p36 + 4);
-					store32(p18, n37);
-					store32(inside(p17, (uint64_t)n37 << 3), (uint32_t)n5);
-					byte *p38 = inside(p17, n34 << 3);
-					uint32_t n39 = load32(p38);
-					uint32_t n40 = (uint32_t)n35;
-					store32(inside(p17, (uint64_t)n39 << 3) + 4, n40);
-					store32(p36, n39);
-					store32(p36 + 4, (uint32_t)n34);
-					store32(p38, n40);
-				}
-				byte *p41 = inside(p3, (n34 >> 3) & 536870904);
-				store64(p41, load64(p41) | ((uint64_t)1 << (n34 & 63)));
-				if (((load8(p4 + 24) & 1) != 0) && (n34 > 63)) {
-					byte *p42 = at(loadptr(p4), n34 << 4);
-					if (load8(p42) == 0) {
-						if (n16 < load64(p42 + 8)) {
-							uint64_t n47;
-							uint64_t n43 = load64(p2 + 64);
-							uint64_t n44 = (uint64_t)load32(at(loadptr(p2 + 40), n34 << 3) + 4);
-							if (n43 <= n44) {
-								uint64_t n45 = usub_sat64(n44, n43);
-								byte *p46 = at(loadptr(p2), n45 * 48);
-								if (n45 < load64(p2 + 8)) {
-									if (load8(p46) == 1) {
-										n47 = umin64(n16, load64u(p46 + 32));
-									} else {
-										n47 = n16;
-									}
+				n36 = ((n15 >> ((uint64_t)(n35 * 6) & 63)) & 63) | (uint64_t)(n35 << 6);
+			}
+			if (!b20) {
+				byte *p37 = at(p16, n19 << 3);
+				uint32_t n38 = load32(p37 + 4);
+				store32(p17, n38);
+				store32(inside(p16, (uint64_t)n38 << 3), (uint32_t)n5);
+				byte *p39 = inside(p16, n36 << 3);
+				uint32_t n40 = load32(p39);
+				store32(inside(p16, (uint64_t)n40 << 3) + 4, n18);
+				store32(p37, n40);
+				store32(p37 + 4, (uint32_t)n36);
+				store32(p39, n18);
+			}
+			p41 = inside(p3, (n36 >> 3) & 536870904);
+			store64(p41, load64(p41) | ((uint64_t)1 << (n36 & 63)));
+			if (((load8(p4 + 24) & 1) != 0) && (n36 > 63)) {
+				byte *p42 = at(loadptr(p4), n36 << 4);
+				if (load8(p42) == 0) {
+					if (n15 < load64(p42 + 8)) {
+						uint64_t n44;
+						uint64_t n43 = (uint64_t)load32(at(loadptr(p2 + 40), n36 << 3) + 4);
+						if (n36 == n43) {
+							n44 = n15;
+						} else {
+							uint64_t n45 = n43 - load64(p2 + 64);
+							byte *p46 = at(loadptr(p2), n45 * 48);
+							if (n45 < load64(p2 + 8)) {
+								if (load8(p46) == 1) {
+									n44 = umin64(n15, load64u(p46 + 32));
 								} else {
-									n47 = n16;
+									n44 = n15;
 								}
 							} else {
-								n47 = n16;
+								n44 = n15;
 							}
-							store32u(p42, 1);
-							store32u(p42 + 4, 1);
-							store64u(p42 + 8, n47);
-							store64(p4 + 32, load64(p4 + 32) + 1);
-						} else {
-							store32u(p42, 0);
-							store32u(p42 + 4, 0);
-							store64u(p42 + 8, n16);
 						}
+						store32u(p42, 1);
+						store32u(p42 + 4, 1);
+						store64u(p42 + 8, n44);
+						store64(p4 + 32, load64(p4 + 32) + 1);
 					} else {
-						uint32_t n48 = load32(p42 + 4);
-						uint64_t n49 = load64(p42 + 8);
-						if (n16 < n49) {
-							store32u(p42, 1);
-							store32u(p42 + 4, 1);
-							store64u(p42 + 8, n16);
-						} else if (n16 == n49) {
-							store32u(p42, 1);
-							store32u(p42 + 4, uadd_sat32(n48, 1));
-						}
+						store32u(p42, 0);
+						store32u(p42 + 4, 0);
+						store64u(p42 + 8, n15);
+					}
+				} else {
+					uint32_t n47 = load32(p42 + 4);
+					uint64_t n48 = load64(p42 + 8);
+					if (n15 < n48) {
+						store32u(p42, 1);
+						store32u(p42 + 4, 1);
+						store64u(p42 + 8, n15);
+					} else if (n15 == n48) {
+						store32u(p42, 1);
+						store32u(p42 + 4, uadd_sat32(n47, 1));
 					}
 				}
-				n32 = n14 + 1;
 			}
-			n14 = n32;
-			n15 = n25;
-			n16 = n26;
+			n21 = n24;
+			n22 = n25;
+			n23 = n13 + 1;
+L1:
+			{
+				n13 = n23;
+				n14 = n22;
+				n15 = n21;
+			}
 		}
 		break;
 	}
 	case 1: {
-		n50 = 244;
+		n49 = 244;
 		break;
 	}
 	case 2: {
-		n50 = 96;
+		n49 = 96;
 		break;
 	}
 	default: {
 		UNREACHABLE();
 	}
 	}
-	uint64_t n51 = n5 << 3;
-	uint64_t n52 = load64(p2 + 64);
-	uint64_t n53 = (uint64_t)load32(at(loadptr(p2 + 40), n51) + 4);
-	if (n52 <= n53) {
-		uint64_t n54 = usub_sat64(n53, n52);
+	uint64_t n50 = n5 << 3;
+	uint64_t n51 = (uint64_t)load32(at(loadptr(p2 + 40), n50) + 4);
+	if (n5 == n51) {
+		n52 = 0;
+		n53 = 0;
+	} else {
+		uint64_t n54 = n51 - load64(p2 + 64);
 		byte *p55 = at(loadptr(p2), n54 * 48);
 		if (n54 < load64(p2 + 8)) {
 			if (load8(p55) == 1) {
-				n56 = 1;
-				n57 = load64u(p55 + 32);
+				n52 = 1;
+				n53 = load64u(p55 + 32);
 			} else {
-				n56 = 0;
-				n57 = 0;
+				n52 = 0;
+				n53 = 0;
 			}
 		} else {
-			n56 = 0;
-			n57 = 0;
+			n52 = 0;
+			n53 = 0;
 		}
-	} else {
-		n56 = 0;
-		n57 = 0;
 	}
-	uint64_t n58 = 0;
-	uint8_t n59 = n56;
-	uint64_t n60 = n57;
+	uint64_t n56 = 0;
+	uint8_t n57 = n52;
+	uint64_t n58 = n53;
 	for (;;) {
-		uint64_t n69, n77;
-		uint8_t n70;
-		if (n59 != 1)
-			return n58;
-		byte *p61 = loadptr(p2 + 40);
-		byte *p62 = at(p61, n51) + 4;
-		uint64_t n63 = load64(p2 + 64);
-		uint64_t n64 = (uint64_t)load32(p62);
-		bool b65 = n63 <= n64;
-		if (b65) {
-			uint64_t n66 = (uint64_t)load32(at(p61, umax64(n64, n63) << 3) + 4);
-			if (n63 <= n66) {
-				uint64_t n67 = usub_sat64(n66, n63);
-				byte *p68 = at(loadptr(p2), n67 * 48);
-				if (n67 < load64(p2 + 8)) {
-					if (load8(p68) == 1) {
-						n69 = load64u(p68 + 32);
-						n70 = 1;
+		uint8_t n64, n67;
+		uint64_t n65, n66, n68, n80, n87, n88, n89;
+		if (n57 != 1)
+			return n56;
+		byte *p59 = loadptr(p2 + 40);
+		byte *p60 = at(p59, n50) + 4;
+		uint32_t n61 = load32(p60);
+		uint64_t n62 = (uint64_t)n61;
+		bool b63 = n5 == n62;
+		if (b63) {
+			if (n58 == n6) {
+				n64 = 0;
+				n65 = 0;
+				n66 = n56;
+				goto L2;
+			}
+			n67 = 0;
+			n68 = 0;
+		} else {
+			uint64_t n75;
+			uint8_t n76;
+			uint64_t n69 = load64(p2 + 64);
+			byte *p70 = at(p59, n62 << 3);
+			uint32_t n71 = load32(p70 + 4);
+			uint64_t n72 = (uint64_t)n71;
+			if (n69 <= n72) {
+				uint64_t n73 = usub_sat64(n72, n69);
+				byte *p74 = at(loadptr(p2), n73 * 48);
+				if (n73 < load64(p2 + 8)) {
+					if (load8(p74) == 1) {
+						n75 = load64u(p74 + 32);
+						n76 = 1;
 					} else {
-						n69 = 0;
-						n70 = 0;
+						n75 = 0;
+						n76 = 0;
 					}
 				} else {
-					n69 = 0;
-					n70 = 0;
+					n75 = 0;
+					n76 = 0;
 				}
 			} else {
-				n69 = 0;
-				n70 = 0;
+				n75 = 0;
+				n76 = 0;
 			}
-		} else {
-			n69 = 0;
-			n70 = 0;
+			if (n58 == n6) {
+				store32(p60, n71);
+				store32(inside(p59, n72 << 3), (uint32_t)n5);
+				byte *p77 = inside(p59, n49 << 3);
+				uint32_t n78 = load32(p77);
+				store32(inside(p59, (uint64_t)n78 << 3) + 4, n61);
+				store32(p70, n78);
+				store32(p70 + 4, (uint32_t)n49);
+				store32(p77, n61);
+				n64 = n76;
+				n65 = n75;
+				n66 = n56;
+				goto L2;
+			}
+			n67 = n76;
+			n68 = n75;
 		}
-		if (n60 == n6) {
-			if (b65) {
-				uint64_t n71 = umax64(n64, n63);
-				byte *p72 = at(p61, n71 << 3);
-				uint32_t n73 = load32(p72 + 4);
-				store32(p62, n73);
-				store32(inside(p61, (uint64_t)n73 << 3), (uint32_t)n5);
-				byte *p74 = inside(p61, n50 << 3);
-				uint32_t n75 = load32(p74);
-				uint32_t n76 = (uint32_t)n71;
-				store32(inside(p61, (uint64_t)n75 << 3) + 4, n76);
-				store32(p72, n75);
-				store32(p72 + 4, (uint32_t)n50);
-				store32(p74, n76);
-				n77 = n58;
-			} else {
-				n77 = n58;
-			}
-		} else {
-			uint64_t n79, n85, n86, n87;
-			switch (MOSTLY_0(n1)) {
-			case 0: {
-				uint32_t n78 = (((uint32_t)ctlz64(n6 ^ n60) ^ 63) * 43) >> 8;
-				if (n78 == 0) {
-					n79 = n60 & 63;
-					goto L1;
-				}
-				n79 = ((n60 >> ((uint64_t)(n78 * 6) & 63)) & 63) | (uint64_t)(n78 << 6);
-				goto L1;
-			}
-			case 1: {
-				uint32_t n80 = (uint32_t)n60;
-				uint32_t n81 = (uint32_t)n6;
-				uint32_t n82 = n80 / 60;
-				if ((n81 / 60) == n82) {
-					n79 = (uint64_t)(n80 % 60);
-					goto L1;
-				}
-				uint32_t n83 = n80 / 3600;
-				if ((n81 / 3600) == n83) {
-					n79 = (uint64_t)((n82 % 60) + 60);
-					goto L1;
-				}
-				uint32_t n84 = n80 / 86400;
-				if ((n81 / 86400) == n84) {
-					n79 = (uint64_t)((n83 % 24) + 120);
-					goto L1;
-				}
-				n79 = (uint64_t)(n84 + 144);
-				goto L1;
-			}
-			case 2: {
-				n85 = n60;
-				n86 = n6;
-				n87 = 0;
-				break;
-			}
-			default: {
-				UNREACHABLE();
-			}
-			}
-			for (;;) {
-				uint64_t n88 = n86 >> 4;
-				uint64_t n89 = n85 >> 4;
-				if (n88 == n89)
-					break;
-				n85 = n89;
-				n86 = n88;
-				n87 = n87 + 16;
-			}
-			n79 = n87 | (n85 & 15);
-L1:
-			{
-				if (b65) {
-					uint64_t n90 = umax64(n64, n63);
-					byte *p91 = at(p61, n90 << 3);
-					uint32_t n92 = load32(p91 + 4);
-					store32(p62, n92);
-					store32(inside(p61, (uint64_t)n92 << 3), (uint32_t)n5);
-					byte *p93 = inside(p61, n79 << 3);
-					uint32_t n94 = load32(p93);
-					uint32_t n95 = (uint32_t)n90;
-					store32(inside(p61, (uint64_t)n94 << 3) + 4, n95);
-					store32(p91, n94);
-					store32(p91 + 4, (uint32_t)n79);
-					store32(p93, n95);
-				}
-				byte *p96 = inside(p3, (n79 >> 3) & 536870904);
-				store64(p96, load64(p96) | ((uint64_t)1 << (n79 & 63)));
-				if ((load8(p4 + 24) & 1) != 0) {
-					uint64_t n97;
-					switch (MOSTLY_0(n1)) {
-					case 0: {
-						n97 = 64;
-						break;
-					}
-					case 1: {
-						n97 = 60;
-						break;
-					}
-					case 2: {
-						n97 = 16;
-						break;
-					}
-					default: {
-						UNREACHABLE();
-					}
-					}
-					if (n79 >= n97) {
-						byte *p98 = at(loadptr(p4), n79 << 4);
-						if (load8(p98) == 0) {
-							if (n60 < load64(p98 + 8)) {
-								uint64_t n103;
-								uint64_t n99 = load64(p2 + 64);
-								uint64_t n100 = (uint64_t)load32(at(loadptr(p2 + 40), n79 << 3) + 4);
-								if (n99 <= n100) {
-									uint64_t n101 = usub_sat64(n100, n99);
-									byte *p102 = at(loadptr(p2), n101 * 48);
-									if (n101 < load64(p2 + 8)) {
-										if (load8(p102) == 1) {
-											n103 = umin64(n60, load64u(p102 + 32));
-										} else {
-											n103 = n60;
-										}
-									} else {
-										n103 = n60;
-									}
-								} else {
-									n103 = n60;
-								}
-								store32u(p98, 1);
-								store32u(p98 + 4, 1);
-								store64u(p98 + 8, n103);
-								store64(p4 + 32, load64(p4 + 32) + 1);
-							} else {
-								store32u(p98, 0);
-								store32u(p98 + 4, 0);
-								store64u(p98 + 8, n60);
-							}
-						} else {
-							uint32_t n104 = load32(p98 + 4);
-							uint64_t n105 = load64(p98 + 8);
-							if (n60 < n105) {
-								store32u(p98, 1);
-								store32u(p98 + 4, 1);
-								store64u(p98 + 8, n60);
-							} else if (n60 == n105) {
-								store32u(p98, 1);
-								store32u(p98 + 4, uadd_sat32(n104, 1));
-							}
-						}
-					}
-				}
-				n77 = n58 + 1;
-			}
-		}
-		n58 = n77;
-		n59 = n70;
-		n60 = n69;
-	}
-}
-
-/* timer_wheels::hier::HierWheel::advance_far: crates/timer_wheels/src/hier.rt */
-static NOINLINE uint64_t tp_HierWheel_advance_far(byte *p1, uint64_t n2)
-{
-	uint64_t n39, n41, n42, n43, n44;
-	byte *p40;
-	uint8_t n3 = load8(p1);
-	uint64_t n4 = load64(p1 + 16);
-	uint64_t n5 = n4 + n2;
-	uint64_t n6 = n4;
-	uint64_t n7 = 0;
-	while (n6 < n5) {
-		uint64_t n9, n10, n11, n12, n15, n19, n20, n23;
-		uint8_t n13;
-		byte *p21, *p22;
-		uint64_t n8 = 0;
-		for (;;) {
-			if (n8 == 10)
-				goto L1;
-			n9 = n8 << 3;
-			n10 = load64(inside(p1 + 128, n9));
-			if (n10 != 0)
-				break;
-			n8 = n8 + 1;
-		}
-		n11 = cttz64(n10);
-		n12 = (n8 << 6) | n11;
-		n13 = load8(p1);
-		switch (MOSTLY_0(n13)) {
+		switch (MOSTLY_0(n1)) {
 		case 0: {
-			uint64_t n14 = (n8 * 6) & UINT64_C(4294967294);
-			n15 = (((n6 >> (n14 & 63)) & UINT64_C(18446744073709551552)) | n11) << (n14 & 63);
-			break;
+			uint32_t n79 = (((uint32_t)ctlz64(n6 ^ n58) ^ 63) * 43) >> 8;
+			if (n79 == 0) {
+				n80 = n58 & 63;
+				goto L3;
+			}
+			n80 = ((n58 >> ((uint64_t)(n79 * 6) & 63)) & 63) | (uint64_t)(n79 << 6);
+			goto L3;
 		}
 		case 1: {
-			uint32_t n16 = (uint32_t)n12;
-			uint32_t n17 = (uint32_t)n6;
-			if (n16 < 60) {
-				n15 = (uint64_t)((n17 - (n17 % 60)) + n16);
-			} else if (n16 < 120) {
-				n15 = (uint64_t)((((n17 / 3600) * 60) + (n16 - 60)) * 60);
-			} else if (n16 < 144) {
-				n15 = (uint64_t)((((n17 / 86400) * 24) + (n16 - 120)) * 3600);
-			} else {
-				n15 = ((n12 * 86400) + UINT64_C(4282525696)) & UINT64_C(4294967168);
+			uint32_t n81 = (uint32_t)n58;
+			uint32_t n82 = (uint32_t)n6;
+			uint32_t n83 = n81 / 60;
+			uint32_t n84 = n83 * 60;
+			if (n84 <= n82) {
+				n80 = (uint64_t)(n81 - n84);
+				goto L3;
 			}
-			break;
+			uint32_t n85 = n81 / 3600;
+			if ((n85 * 3600) <= n82) {
+				n80 = (uint64_t)(((n85 * 4294967236u) + n83) + 60);
+				goto L3;
+			}
+			uint32_t n86 = n81 / 86400;
+			if ((n86 * 86400) > n82) {
+				n80 = (uint64_t)(n86 + 144);
+				goto L3;
+			}
+			n80 = (uint64_t)(((n86 * 4294967272u) + n85) + 120);
+			goto L3;
 		}
 		case 2: {
-			uint64_t n18 = (n12 >> 2) & UINT64_C(4294967292);
-			n15 = (((n6 >> (n18 & 63)) & UINT64_C(18446744073709551600)) | (n11 & 15)) << (n18 & 63);
+			n87 = n58;
+			n88 = n6;
+			n89 = 0;
 			break;
 		}
 		default: {
 			UNREACHABLE();
 		}
 		}
-		if (n5 < n15) {
-			store64(p1 + 16, n5);
-			n19 = n5;
-			n20 = 0;
-			goto L2;
+		for (;;) {
+			uint64_t n90 = n88 >> 4;
+			uint64_t n91 = n87 >> 4;
+			if (n90 == n91)
+				break;
+			n87 = n91;
+			n88 = n90;
+			n89 = n89 + 16;
 		}
-		store64(p1 + 16, n15 - 1);
-		p21 = loadptr(p1 + 80);
-		p22 = at(p21, n12 << 3);
-		if (n12 == (uint64_t)load32(p22 + 4)) {
-			n23 = 0;
-		} else {
-			uint64_t n25;
-			byte *p24 = inside(p1 + 128, n9 & UINT64_C(2305843009213693944));
-			store64(p24, load64(p24) & (((uint64_t)1 << (n11 & 63)) ^ UINT64_MAX));
-			switch (MOSTLY_0(n13)) {
-			case 0: {
-				n25 = 64;
-				break;
+		n80 = n89 | (n87 & 15);
+L3:
+		{
+			if (!b63) {
+				byte *p92 = at(p59, n62 << 3);
+				uint32_t n93 = load32(p92 + 4);
+				store32(p60, n93);
+				store32(inside(p59, (uint64_t)n93 << 3), (uint32_t)n5);
+				byte *p94 = inside(p59, n80 << 3);
+				uint32_t n95 = load32(p94);
+				store32(inside(p59, (uint64_t)n95 << 3) + 4, n61);
+				store32(p92, n95);
+				store32(p92 + 4, (uint32_t)n80);
+				store32(p94, n61);
 			}
-			case 1: {
-				n25 = 60;
-				break;
-			}
-			case 2: {
-				n25 = 16;
-				break;
-			}
-			default: {
-				UNREACHABLE();
-			}
-			}
-			if (n12 < n25) {
-				uint64_t n26;
-				switch (MOSTLY_0(n13)) {
+			byte *p96 = inside(p3, (n80 >> 3) & 536870904);
+			store64(p96, load64(p96) | ((uint64_t)1 << (n80 & 63)));
+			if ((load8(p4 + 24) & 1) != 0) {
+				uint64_t n97;
+				switch (MOSTLY_0(n1)) {
 				case 0: {
-					n26 = 640;
+					n97 = 64;
 					break;
 				}
 				case 1: {
-					n26 = 244;
+					n97 = 60;
 					break;
 				}
 				case 2: {
-					n26 = 96;
+					n97 = 16;
 					break;
 				}
 				default: {
 					UNREACHABLE();
 				}
 				}
-				uint32_t n27 = load32(p22 + 4);
-				uint64_t n28 = (uint64_t)n27;
-				if (load64(p1 + 104) <= n28) {
-					uint32_t n29 = load32(p22);
-					byte *p30 = at(p21, n26 << 3);
-					uint32_t n31 = load32(p30);
-					store32(inside(p21, (uint64_t)n31 << 3) + 4, n27);
-					store32(inside(p21, n28 << 3), n31);
-					store32(inside(p21, (uint64_t)n29 << 3) + 4, (uint32_t)n26);
-					store32(p30, n29);
-					uint32_t n32 = (uint32_t)n12;
-					store32(p22 + 4, n32);
-					store32(p22, n32);
-					n23 = 0;
-				} else {
-					n23 = 0;
+				if (n80 >= n97) {
+					byte *p98 = at(loadptr(p4), n80 << 4);
+					if (load8(p98) == 0) {
+						if (n58 < load64(p98 + 8)) {
+							uint64_t n100;
+							uint64_t n99 = (uint64_t)load32(at(loadptr(p2 + 40), n80 << 3) + 4);
+							if (n80 == n99) {
+								n100 = n58;
+							} else {
+								uint64_t n101 = n99 - load64(p2 + 64);
+								byte *p102 = at(loadptr(p2), n101 * 48);
+								if (n101 < load64(p2 + 8)) {
+									if (load8(p102) == 1) {
+										n100 = umin64(n58, load64u(p102 + 32));
+									} else {
+										n100 = n58;
+									}
+								} else {
+									n100 = n58;
+								}
+							}
+							store32u(p98, 1);
+							store32u(p98 + 4, 1);
+							store64u(p98 + 8, n100);
+							store64(p4 + 32, load64(p4 + 32) + 1);
+						} else {
+							store32u(p98, 0);
+							store32u(p98 + 4, 0);
+							store64u(p98 + 8, n58);
+						}
+					} else {
+						uint32_t n103 = load32(p98 + 4);
+						uint64_t n104 = load64(p98 + 8);
+						if (n58 < n104) {
+							store32u(p98, 1);
+							store32u(p98 + 4, 1);
+							store64u(p98 + 8, n58);
+						} else if (n58 == n104) {
+							store32u(p98, 1);
+							store32u(p98 + 4, uadd_sat32(n103, 1));
+						}
+					}
 				}
-			} else {
-				if ((load8(p1 + 232) & 1) != 0) {
-					byte *p33 = at(loadptr(p1 + 208), n12 << 4);
-					store64(p1 + 240, load64(p1 + 240) + (uint64_t)((load8(p33) != 0) ? UINT64_MAX : 0));
-					memset(p33, 0, 16);
-				}
-				uint64_t n34 = tp_migration_migrate(n13, p1 + 40, p1 + 128, p1 + 208, n12, n15);
-				n23 = n34;
 			}
-		}
-		store64(p1 + 16, n15);
-		n19 = n15;
-		n20 = n23;
-		goto L2;
-L1:
-		{
-			store64(p1 + 16, n5);
-			n19 = n5;
-			n20 = 0;
+			n64 = n67;
+			n65 = n68;
+			n66 = n56 + 1;
 		}
 L2:
 		{
-			uint64_t n35 = n7 + n20;
-			uint64_t n36 = load64(p1 + 32);
-			byte *p37 = loadptr(p1 + 80);
-			uint64_t n38 = n36 << 3;
-			if (n36 != (uint64_t)load32(at(p37, n38) + 4)) {
-				n39 = n38;
-				p40 = p37;
-				n41 = n36;
-				n42 = n19;
-				n43 = n35;
-				goto L3;
-			}
-			n6 = n19;
-			n7 = n35;
+			n56 = n66;
+			n57 = n64;
+			n58 = n65;
 		}
 	}
-	n44 = load64(p1 + 32);
-	n39 = n44 << 3;
-	p40 = loadptr(p1 + 80);
-	n41 = n44;
-	n42 = n6;
-	n43 = n7;
-L3:
-	{
-		uint64_t n46, n47, n49;
-		bool b45 = n41 == (uint64_t)load32(at(p40, n39) + 4);
-		switch (MOSTLY_0(n3)) {
+}
+
+/* timer_wheels::hier::HierWheel::advance_far: crates/timer_wheels/src/hier.rt */
+static NOINLINE uint64_t tp_HierWheel_advance_far(byte *p1, uint64_t n2)
+{
+	uint64_t n68, n70, n71, n72, n73;
+	byte *p69;
+	uint8_t n3 = load8(p1);
+	uint64_t n4 = load64(p1 + 16);
+	uint64_t n5 = n4 + n2;
+	uint64_t n6 = n4;
+	uint64_t n7 = 0;
+	while (n6 < n5) {
+		uint64_t n15, n16;
+		switch (MOSTLY_0(load8(p1))) {
 		case 0: {
-			n46 = n42 >> 6;
-			n47 = n4 >> 6;
+			uint64_t n9, n10, n11, n12, n13, n14, n19;
+			byte *p17, *p18;
+			uint64_t n8 = 0;
+			for (;;) {
+				if (n8 == 10)
+					goto L1;
+				n9 = n8 << 3;
+				n10 = load64(inside(p1 + 128, n9));
+				if (n10 != 0)
+					break;
+				n8 = n8 + 1;
+			}
+			n11 = cttz64(n10);
+			n12 = (n8 << 6) | n11;
+			n13 = (n8 * 6) & UINT64_C(4294967294);
+			n14 = (((n6 >> (n13 & 63)) & UINT64_C(18446744073709551552)) | n11) << (n13 & 63);
+			if (n5 < n14) {
+				store64(p1 + 16, n5);
+				n15 = n5;
+				n16 = 0;
+				goto L2;
+			}
+			store64(p1 + 16, n14 - 1);
+			p17 = loadptr(p1 + 80);
+			p18 = at(p17, n12 << 3);
+			if (n12 == (uint64_t)load32(p18 + 4)) {
+				n19 = 0;
+			} else {
+				byte *p20 = inside(p1 + 128, n9 & UINT64_C(2305843009213693944));
+				store64(p20, load64(p20) & (((uint64_t)1 << (n11 & 63)) ^ UINT64_MAX));
+				if (n8 == 0) {
+					uint32_t n21 = load32(p18 + 4);
+					uint64_t n22 = (uint64_t)n21;
+					if (n12 != n22) {
+						uint32_t n23 = load32(p18);
+						uint32_t n24 = load32(p17 + 5120);
+						store32(inside(p17, (uint64_t)n24 << 3) + 4, n21);
+						store32(inside(p17, n22 << 3), n24);
+						store32(inside(p17, (uint64_t)n23 << 3) + 4, 640);
+						store32(p17 + 5120, n23);
+						uint32_t n25 = (uint32_t)n11;
+						store32(p18 + 4, n25);
+						store32(p18, n25);
+						n19 = 0;
+					} else {
+						n19 = 0;
+					}
+				} else {
+					if ((load8(p1 + 232) & 1) != 0) {
+						byte *p26 = at(loadptr(p1 + 208), n12 << 4);
+						store64(p1 + 240, load64(p1 + 240) + (uint64_t)((load8(p26) != 0) ? UINT64_MAX : 0));
+						memset(p26, 0, 16);
+					}
+					uint64_t n27 = tp_migration_migrate(0, p1 + 40, p1 + 128, p1 + 208, n12, n14);
+					n19 = n27;
+				}
+			}
+			store64(p1 + 16, n14);
+			n15 = n14;
+			n16 = n19;
+			goto L2;
+L1:
+			{
+				store64(p1 + 16, n5);
+				n15 = n5;
+				n16 = 0;
+			}
 			break;
 		}
 		case 1: {
-			n46 = n42 / 60;
-			n47 = n4 / 60;
+			uint64_t n29, n30, n31, n32, n35, n38;
+			uint32_t n33, n34;
+			byte *p36, *p37;
+			uint64_t n28 = 0;
+			for (;;) {
+				if (n28 == 10)
+					goto L3;
+				n29 = n28 << 3;
+				n30 = load64(inside(p1 + 128, n29));
+				if (n30 != 0)
+					break;
+				n28 = n28 + 1;
+			}
+			n31 = cttz64(n30);
+			n32 = (n28 << 6) | n31;
+			n33 = (uint32_t)n32;
+			n34 = (uint32_t)n6;
+			if (n33 < 60) {
+				n35 = (uint64_t)((n34 - (n34 % 60)) + n33);
+			} else if (n33 < 120) {
+				n35 = (uint64_t)((((n34 / 3600) * 60) + (n33 - 60)) * 60);
+			} else if (n33 < 144) {
+				n35 = (uint64_t)((((n34 / 86400) * 24) + (n33 - 120)) * 3600);
+			} else {
+				n35 = ((n32 * 86400) + UINT64_C(4282525696)) & UINT64_C(4294967168);
+			}
+			if (n5 < n35) {
+				store64(p1 + 16, n5);
+				n15 = n5;
+				n16 = 0;
+				goto L2;
+			}
+			store64(p1 + 16, n35 - 1);
+			p36 = loadptr(p1 + 80);
+			p37 = at(p36, n32 << 3);
+			if (n32 == (uint64_t)load32(p37 + 4)) {
+				n38 = 0;
+			} else {
+				byte *p39 = inside(p1 + 128, n29 & UINT64_C(2305843009213693944));
+				store64(p39, load64(p39) & (((uint64_t)1 << (n31 & 63)) ^ UINT64_MAX));
+				if (n32 < 60) {
+					uint32_t n40 = load32(p37 + 4);
+					uint64_t n41 = (uint64_t)n40;
+					if (n32 != n41) {
+						uint32_t n42 = load32(p37);
+						uint32_t n43 = load32(p36 + 1952);
+						store32(inside(p36, (uint64_t)n43 << 3) + 4, n40);
+						store32(inside(p36, n41 << 3), n43);
+						store32(inside(p36, (uint64_t)n42 << 3) + 4, 244);
+						store32(p36 + 1952, n42);
+						store32(p37 + 4, n33);
+						store32(p37, n33);
+						n38 = 0;
+					} else {
+						n38 = 0;
+					}
+				} else {
+					if ((load8(p1 + 232) & 1) != 0) {
+						byte *p44 = at(loadptr(p1 + 208), n32 << 4);
+						store64(p1 + 240, load64(p1 + 240) + (uint64_t)((load8(p44) != 0) ? UINT64_MAX : 0));
+						memset(p44, 0, 16);
+					}
+					uint64_t n45 = tp_migration_migrate(1, p1 + 40, p1 + 128, p1 + 208, n32, n35);
+					n38 = n45;
+				}
+			}
+			store64(p1 + 16, n35);
+			n15 = n35;
+			n16 = n38;
+			goto L2;
+L3:
+			{
+				store64(p1 + 16, n5);
+				n15 = n5;
+				n16 = 0;
+			}
 			break;
 		}
 		case 2: {
-			n46 = n42 >> 4;
-			n47 = n4 >> 4;
+			uint64_t n47, n48, n49, n50, n51, n52, n55;
+			byte *p53, *p54;
+			uint64_t n46 = 0;
+			for (;;) {
+				if (n46 == 10)
+					goto L4;
+				n47 = n46 << 3;
+				n48 = load64(inside(p1 + 128, n47));
+				if (n48 != 0)
+					break;
+				n46 = n46 + 1;
+			}
+			n49 = cttz64(n48);
+			n50 = (n46 << 6) | n49;
+			n51 = (n50 >> 2) & UINT64_C(4294967292);
+			n52 = (((n6 >> (n51 & 63)) & UINT64_C(18446744073709551600)) | (n49 & 15)) << (n51 & 63);
+			if (n5 < n52) {
+				store64(p1 + 16, n5);
+				n15 = n5;
+				n16 = 0;
+				goto L2;
+			}
+			store64(p1 + 16, n52 - 1);
+			p53 = loadptr(p1 + 80);
+			p54 = at(p53, n50 << 3);
+			if (n50 == (uint64_t)load32(p54 + 4)) {
+				n55 = 0;
+			} else {
+				byte *p56 = inside(p1 + 128, n47 & UINT64_C(2305843009213693944));
+				store64(p56, load64(p56) & (((uint64_t)1 << (n49 & 63)) ^ UINT64_MAX));
+				if (n50 < 16) {
+					uint32_t n57 = load32(p54 + 4);
+					uint64_t n58 = (uint64_t)n57;
+					if (n50 != n58) {
+						uint32_t n59 = load32(p54);
+						uint32_t n60 = load32(p53 + 768);
+						store32(inside(p53, (uint64_t)n60 << 3) + 4, n57);
+						store32(inside(p53, n58 << 3), n60);
+						store32(inside(p53, (uint64_t)n59 << 3) + 4, 96);
+						store32(p53 + 768, n59);
+						uint32_t n61 = (uint32_t)n49;
+						store32(p54 + 4, n61);
+						store32(p54, n61);
+						n55 = 0;
+					} else {
+						n55 = 0;
+					}
+				} else {
+					if ((load8(p1 + 232) & 1) != 0) {
+						byte *p62 = at(loadptr(p1 + 208), n50 << 4);
+						store64(p1 + 240, load64(p1 + 240) + (uint64_t)((load8(p62) != 0) ? UINT64_MAX : 0));
+						memset(p62, 0, 16);
+					}
+					uint64_t n63 = tp_migration_migrate(2, p1 + 40, p1 + 128, p1 + 208, n50, n52);
+					n55 = n63;
+				}
+			}
+			store64(p1 + 16, n52);
+			n15 = n52;
+			n16 = n55;
+			goto L2;
+L4:
+			{
+				store64(p1 + 16, n5);
+				n15 = n5;
+				n16 = 0;
+			}
 			break;
 		}
 		default: {
 			UNREACHABLE();
 		}
 		}
-		uint64_t n48 = n46 - n47;
-		if (b45) {
-			n49 = n48;
+L2:
+		{
+			uint64_t n64 = n7 + n16;
+			uint64_t n65 = load64(p1 + 32);
+			byte *p66 = loadptr(p1 + 80);
+			uint64_t n67 = n65 << 3;
+			if (n65 != (uint64_t)load32(at(p66, n67) + 4)) {
+				n68 = n67;
+				p69 = p66;
+				n70 = n65;
+				n71 = n15;
+				n72 = n64;
+				goto L5;
+			}
+			n6 = n15;
+			n7 = n64;
+		}
+	}
+	n73 = load64(p1 + 32);
+	n68 = n73 << 3;
+	p69 = loadptr(p1 + 80);
+	n70 = n73;
+	n71 = n6;
+	n72 = n7;
+L5:
+	{
+		uint64_t n75, n76, n78;
+		bool b74 = n70 == (uint64_t)load32(at(p69, n68) + 4);
+		switch (MOSTLY_0(n3)) {
+		case 0: {
+			n75 = n71 >> 6;
+			n76 = n4 >> 6;
+			break;
+		}
+		case 1: {
+			n75 = n71 / 60;
+			n76 = n4 / 60;
+			break;
+		}
+		case 2: {
+			n75 = n71 >> 4;
+			n76 = n4 >> 4;
+			break;
+		}
+		default: {
+			UNREACHABLE();
+		}
+		}
+		uint64_t n77 = n75 - n76;
+		if (b74) {
+			n78 = n77;
 		} else {
-			uint64_t n50;
+			uint64_t n79;
 			switch (MOSTLY_0(n3)) {
 			case 0: {
-				n50 = n42 & 63;
+				n79 = n71 & 63;
 				break;
 			}
 			case 1: {
-				n50 = n42 % 60;
+				n79 = n71 % 60;
 				break;
 			}
 			case 2: {
-				n50 = n42 & 15;
+				n79 = n71 & 15;
 				break;
 			}
 			default: {
 				UNREACHABLE();
 			}
 			}
-			n49 = n48 + (uint64_t)(n50 != 0);
+			n78 = n77 + (uint64_t)(n79 != 0);
 		}
-		uint64_t n51 = n42 - n4;
-		store64(p1 + 256, load64(p1 + 256) + n43);
-		store64(p1 + 264, load64(p1 + 264) + (n51 - n49));
-		return n51;
+		uint64_t n80 = n71 - n4;
+		store64(p1 + 256, load64(p1 + 256) + n72);
+		store64(p1 + 264, load64(p1 + 264) + (n80 - n78));
+		return n80;
 	}
 }
 
@@ -64158,156 +64507,172 @@ static void tp_player_hand_out(byte *p1, byte *p2)
 	ALIGN(8) byte p3[24];
 	ALIGN(8) byte p4[24];
 	for (;;) {
-		uint64_t n19, n20, n21;
+		uint64_t n14, n15, n16;
 		uint64_t n5 = load64(p1 + 32);
 		byte *p6 = loadptr(p1 + 80);
 		uint64_t n7 = n5 << 3;
-		uint64_t n8 = load64(p1 + 104);
-		uint64_t n9 = (uint64_t)load32(at(p6, n7) + 4);
-		uint64_t n10 = usub_sat64(n9, n8);
-		if (n8 <= n9) {
-			uint32_t n11 = load32(at(p6, (n8 + n10) << 3) + 4);
-			byte *p12 = at(loadptr(p1 + 40), n10 * 48);
-			uint64_t n13 = load64u(p12 + 8);
-			uint64_t n14 = load64u(p12 + 16);
-			uint64_t n15 = load64(p1 + 72);
-			uint8_t n16 = load8(p12);
-			memcpy(p3, p12 + 24, 24);
-			store64u(p12, 0);
-			store64u(p12 + 8, n15);
-			memset(p12 + 16, 0, 32);
-			if (n16 != 1) {
+		uint64_t n8 = (uint64_t)load32(at(p6, n7) + 4);
+		if (n5 == n8) {
+			uint64_t n9 = load64(p1 + 1352);
+			if (n9 == load64(p1 + 1336))
+				return;
+			byte *p10 = at(loadptr(p1 + 1328), n9 * 40);
+			uint64_t n11 = load64u(p10 + 8);
+			uint64_t n12 = load64u(p10);
+			memcpy(p4, p10 + 16, 24);
+			store64(p1 + 1352, n9 + 1);
+			byte *p13 = inside(p1 + 808, n11 << 3);
+			store64(p13, load64(p13) - 1);
+			n14 = 1;
+			n15 = n12;
+			n16 = n11;
+		} else {
+			uint64_t n17 = n8 - load64(p1 + 104);
+			uint32_t n18 = load32(at(p6, n8 << 3) + 4);
+			byte *p19 = at(loadptr(p1 + 40), n17 * 48);
+			uint64_t n20 = load64u(p19 + 8);
+			uint64_t n21 = load64u(p19 + 16);
+			uint64_t n22 = load64(p1 + 72);
+			uint8_t n23 = load8(p19);
+			memcpy(p3, p19 + 24, 24);
+			store64u(p19, 0);
+			store64u(p19 + 8, n22);
+			memset(p19 + 16, 0, 32);
+			if (n23 != 1) {
 				TRAP();
 				UNREACHABLE();
 			}
 			store64(p1 + 64, load64(p1 + 64) - 1);
-			store64(p1 + 72, n10);
+			store64(p1 + 72, n17);
 			memcpy(p4, p3, 24);
-			byte *p17 = loadptr(p1 + 80);
-			store32(inside(p17, n7) + 4, n11);
-			store32(inside(p17, (uint64_t)n11 << 3), (uint32_t)n5);
-			byte *p18 = inside(p1 + 808, n14 << 3);
-			store64(p18, load64(p18) - 1);
-			n19 = 0;
-			n20 = n13;
-			n21 = n14;
-		} else {
-			uint64_t n22 = load64(p1 + 1352);
-			if (n22 == load64(p1 + 1336))
-				return;
-			byte *p23 = at(loadptr(p1 + 1328), n22 * 40);
-			uint64_t n24 = load64u(p23 + 8);
-			uint64_t n25 = load64u(p23);
-			memcpy(p4, p23 + 16, 24);
-			store64(p1 + 1352, n22 + 1);
-			byte *p26 = inside(p1 + 808, n24 << 3);
-			store64(p26, load64(p26) - 1);
-			n19 = 1;
-			n20 = n25;
-			n21 = n24;
+			byte *p24 = loadptr(p1 + 80);
+			store32(inside(p24, n7) + 4, n18);
+			store32(inside(p24, (uint64_t)n18 << 3), (uint32_t)n5);
+			byte *p25 = inside(p1 + 808, n21 << 3);
+			store64(p25, load64(p25) - 1);
+			n14 = 0;
+			n15 = n20;
+			n16 = n21;
 		}
-		uint64_t n27 = load64(p2 + 8);
-		byte *p28 = inside(loadptr(p2), n27 << 6);
-		store8(p28, 2);
-		store8(p28 + 1, 0);
-		store64u(p28 + 8, n19);
-		store64u(p28 + 16, n20);
-		store64u(p28 + 24, n21);
-		memcpy(p28 + 32, p4, 24);
-		store64u(p28 + 56, 0);
-		store64(p2 + 8, n27 + 1);
+		uint64_t n26 = load64(p2 + 8);
+		byte *p27 = inside(loadptr(p2), n26 << 6);
+		store8(p27, 2);
+		store8(p27 + 1, 0);
+		store64u(p27 + 8, n14);
+		store64u(p27 + 16, n15);
+		store64u(p27 + 24, n16);
+		memcpy(p27 + 32, p4, 24);
+		store64u(p27 + 56, 0);
+		store64(p2 + 8, n26 + 1);
 	}
 }
 
 /* timer_wheels::buckets::Buckets::list_into: crates/timer_wheels/src/buckets.rt */
 static uint8_t tp_Buckets_list_into(byte *p1, byte *p2)
 {
-	uint64_t n10, n21;
+	uint8_t n7;
+	uint64_t n8, n12, n24;
 	uint64_t n3 = load64(p1 + 56);
-	byte *p4 = loadptr(p1 + 72);
-	uint64_t n5 = load64(p1 + 96);
-	uint64_t n6 = (uint64_t)load32(at(p4, load64(p1 + 24) << 3) + 4);
-	uint64_t n7 = usub_sat64(n6, n5);
-	uint64_t n8 = 0;
-	uint64_t n9 = n6;
-	for (;;) {
-		if (n8 == n3) {
-			n10 = n3;
-			break;
-		}
-		if (n5 > n9) {
-			n10 = n8;
-			break;
-		}
-		uint64_t n11 = (uint64_t)load32(at(p4, (n5 + n7) << 3) + 4);
-		n7 = usub_sat64(n11, n5);
-		n8 = n8 + 1;
-		n9 = n11;
+	uint64_t n4 = load64(p1 + 24);
+	byte *p5 = loadptr(p1 + 72);
+	uint64_t n6 = (uint64_t)load32(at(p5, n4 << 3) + 4);
+	if (n4 == n6) {
+		n7 = 0;
+		n8 = 0;
+	} else {
+		n7 = 1;
+		n8 = n6 - load64(p1 + 96);
 	}
-	uint64_t n12 = load64(p2 + 8);
-	uint64_t n13 = usub_sat64(n3 - n10, n12);
-	uint64_t n14 = load64(p2 + 16);
-	if (n13 > (n14 - n12)) {
-		byte *p18;
-		if (n13 > (n12 ^ UINT64_MAX))
+	uint64_t n9 = n8;
+	uint64_t n10 = 0;
+	uint8_t n11 = n7;
+	for (;;) {
+		if (n10 == n3) {
+			n12 = n3;
+			break;
+		}
+		if (n11 != 1) {
+			n12 = n10;
+			break;
+		}
+		uint64_t n13 = load64(p1 + 96);
+		uint64_t n14 = (uint64_t)load32(at(p5, (n13 + n9) << 3) + 4);
+		n9 = usub_sat64(n14, n13);
+		n10 = n10 + 1;
+		n11 = (uint8_t)(n13 <= n14);
+	}
+	uint64_t n15 = load64(p2 + 8);
+	uint64_t n16 = usub_sat64(n3 - n12, n15);
+	uint64_t n17 = load64(p2 + 16);
+	if (n16 > (n17 - n15)) {
+		byte *p21;
+		if (n16 > (n15 ^ UINT64_MAX))
 			return 1;
-		uint64_t n15 = n12 + n13;
-		if (n15 > UINT64_C(230584300921369395))
+		uint64_t n18 = n15 + n16;
+		if (n18 > UINT64_C(230584300921369395))
 			return 1;
-		if (n14 == 0) {
-			of_i64_i64 s16 = rattle_alloc(n15 * 40, 8);
-			bool b17 = (s16.f0 & 1) != 0;
-			if (!b17)
-				return 1;
-			p18 = b17 ? (byte *)(uintptr_t)s16.f1 : NULL;
-		} else {
-			of_i64_i64 s19 = rattle_realloc(loadptr(p2), n12 * 40, n15 * 40, 8);
+		if (n17 == 0) {
+			of_i64_i64 s19 = rattle_alloc(n18 * 40, 8);
 			bool b20 = (s19.f0 & 1) != 0;
 			if (!b20)
 				return 1;
-			p18 = b20 ? (byte *)(uintptr_t)s19.f1 : NULL;
+			p21 = b20 ? (byte *)(uintptr_t)s19.f1 : NULL;
+		} else {
+			of_i64_i64 s22 = rattle_realloc(loadptr(p2), n15 * 40, n18 * 40, 8);
+			bool b23 = (s22.f0 & 1) != 0;
+			if (!b23)
+				return 1;
+			p21 = b23 ? (byte *)(uintptr_t)s22.f1 : NULL;
 		}
-		storeptr(p2, p18);
-		store64(p2 + 16, n15);
-		n21 = load64(p2 + 8);
+		storeptr(p2, p21);
+		store64(p2 + 16, n18);
+		n24 = load64(p2 + 8);
 	} else {
-		n21 = n12;
+		n24 = n15;
 	}
-	if (n21 != 0)
+	if (n24 != 0)
 		store64(p2 + 8, 0);
-	uint64_t n22 = load64(p1 + 24);
-	uint64_t n23 = 0;
-	uint64_t n24 = 0;
-	while (n24 != n22) {
-		uint64_t n25 = load64(p1 + 96);
-		uint64_t n26 = (uint64_t)load32(at(loadptr(p1 + 72), n24 << 3) + 4);
-		uint64_t n27 = load64(p1 + 56);
-		uint64_t n28 = n23;
-		uint64_t n29 = 0;
-		uint64_t n30 = usub_sat64(n26, n25);
-		bool b31 = n25 <= n26;
-		while (n29 != n27) {
-			if (!b31)
-				break;
-			byte *p32 = at(loadptr(p1 + 32), n30 * 48);
-			if (n30 >= load64(p1 + 40))
-				break;
-			if (load8(p32) != 1)
-				break;
-			memmove(inside(loadptr(p2), n28 * 40), p32 + 8, 40);
-			uint64_t n33 = n28 + 1;
-			store64(p2 + 8, n33);
-			uint64_t n34 = load64(p1 + 96);
-			uint64_t n35 = (uint64_t)load32(at(loadptr(p1 + 72), (n34 + n30) << 3) + 4);
-			n28 = n33;
-			n29 = n29 + 1;
-			n30 = usub_sat64(n35, n34);
-			b31 = n34 <= n35;
+	uint64_t n25 = load64(p1 + 24);
+	uint64_t n26 = 0;
+	uint64_t n27 = 0;
+	while (n27 != n25) {
+		uint8_t n29;
+		uint64_t n30;
+		uint64_t n28 = (uint64_t)load32(at(loadptr(p1 + 72), n27 << 3) + 4);
+		if (n27 == n28) {
+			n29 = 0;
+			n30 = 0;
+		} else {
+			n29 = 1;
+			n30 = n28 - load64(p1 + 96);
 		}
-		n23 = n28;
-		n24 = n24 + 1;
+		uint64_t n31 = load64(p1 + 56);
+		uint64_t n32 = n26;
+		uint64_t n33 = 0;
+		uint64_t n34 = n30;
+		uint8_t n35 = n29;
+		while (n33 != n31) {
+			if (n35 != 1)
+				break;
+			byte *p36 = at(loadptr(p1 + 32), n34 * 48);
+			if (n34 >= load64(p1 + 40))
+				break;
+			if (load8(p36) != 1)
+				break;
+			memmove(inside(loadptr(p2), n32 * 40), p36 + 8, 40);
+			uint64_t n37 = n32 + 1;
+			store64(p2 + 8, n37);
+			uint64_t n38 = load64(p1 + 96);
+			uint64_t n39 = (uint64_t)load32(at(loadptr(p1 + 72), (n38 + n34) << 3) + 4);
+			n32 = n37;
+			n33 = n33 + 1;
+			n34 = usub_sat64(n39, n38);
+			n35 = (uint8_t)(n38 <= n39);
+		}
+		n26 = n32;
+		n27 = n27 + 1;
 	}
-	tp_sort_sort_timers(p2);
+	tp_order_sort_timers(p2);
 	return 0;
 }
 
@@ -64325,27 +64690,26 @@ static uint8_t tp_facility_take_all(byte *p1, byte *p2)
 		while (n7 != n6) {
 			byte *p8 = loadptr(p1 + 80);
 			uint64_t n9 = n5 << 3;
-			uint64_t n10 = load64(p1 + 104);
-			uint64_t n11 = (uint64_t)load32(at(p8, n9) + 4);
-			uint64_t n12 = usub_sat64(n11, n10);
-			if (n10 > n11)
+			uint64_t n10 = (uint64_t)load32(at(p8, n9) + 4);
+			if (n5 == n10)
 				break;
-			uint32_t n13 = load32(at(p8, (n10 + n12) << 3) + 4);
-			byte *p14 = at(loadptr(p1 + 40), n12 * 48);
-			uint64_t n15 = load64(p1 + 72);
-			uint8_t n16 = load8(p14);
-			store64u(p14, 0);
-			store64u(p14 + 8, n15);
-			memset(p14 + 16, 0, 32);
-			if (n16 != 1) {
+			uint64_t n11 = n10 - load64(p1 + 104);
+			uint32_t n12 = load32(at(p8, n10 << 3) + 4);
+			byte *p13 = at(loadptr(p1 + 40), n11 * 48);
+			uint64_t n14 = load64(p1 + 72);
+			uint8_t n15 = load8(p13);
+			store64u(p13, 0);
+			store64u(p13 + 8, n14);
+			memset(p13 + 16, 0, 32);
+			if (n15 != 1) {
 				TRAP();
 				UNREACHABLE();
 			}
 			store64(p1 + 64, load64(p1 + 64) - 1);
-			store64(p1 + 72, n12);
-			byte *p17 = loadptr(p1 + 80);
-			store32(inside(p17, n9) + 4, n13);
-			store32(inside(p17, (uint64_t)n13 << 3), (uint32_t)n5);
+			store64(p1 + 72, n11);
+			byte *p16 = loadptr(p1 + 80);
+			store32(inside(p16, n9) + 4, n12);
+			store32(inside(p16, (uint64_t)n12 << 3), (uint32_t)n5);
 			n7 = n7 + 1;
 		}
 		n5 = n5 + 1;
@@ -64353,16 +64717,16 @@ static uint8_t tp_facility_take_all(byte *p1, byte *p2)
 	memset(p1 + 128, 0, 80);
 	if ((load8(p1 + 232) & 1) == 0)
 		return 0;
-	byte *p18 = loadptr(p1 + 208);
-	uint64_t n19 = load64(p1 + 216);
-	if (n19 != 0) {
-		uint64_t n20 = n19 - 1;
-		uint64_t n21 = 0;
-		while (n21 != n20) {
-			memset(inside(p18, n21 << 4), 0, 16);
-			n21 = n21 + 1;
+	byte *p17 = loadptr(p1 + 208);
+	uint64_t n18 = load64(p1 + 216);
+	if (n18 != 0) {
+		uint64_t n19 = n18 - 1;
+		uint64_t n20 = 0;
+		while (n20 != n19) {
+			memset(inside(p17, n20 << 4), 0, 16);
+			n20 = n20 + 1;
 		}
-		memset(inside(p18, n20 << 4), 0, 16);
+		memset(inside(p17, n19 << 4), 0, 16);
 	}
 	store8(p1 + 232, 1);
 	store64(p1 + 240, 0);
@@ -64438,8 +64802,8 @@ static uint8_t tp_Player_play_one(byte *p1, byte *p2, byte *p3)
 				n23 = 0;
 				n24 = 0;
 			} else {
-				uint64_t n29, n32, n33, n71;
-				uint8_t n30, n31;
+				uint64_t n29, n32, n33, n70, n74;
+				uint8_t n30, n31, n69;
 				of_i8_i8 s28 = tp_Facility_start_refusal(p1, n13);
 				if (s28.f0 == 1) {
 					store64(p26, n12 + 1);
@@ -64457,7 +64821,7 @@ static uint8_t tp_Player_play_one(byte *p1, byte *p2, byte *p3)
 					store8(p5, n37);
 					bool b38 = n35 < n36;
 					if (b38) {
-						uint64_t n46, n47, n48;
+						uint64_t n47, n48, n49;
 						switch (MOSTLY_0(n37)) {
 						case 0: {
 							uint32_t n39 = (((uint32_t)ctlz64(n35 ^ n36) ^ 63) * 43) >> 8;
@@ -64472,27 +64836,28 @@ static uint8_t tp_Player_play_one(byte *p1, byte *p2, byte *p3)
 							uint32_t n41 = (uint32_t)n36;
 							uint32_t n42 = (uint32_t)n35;
 							uint32_t n43 = n41 / 60;
-							if ((n42 / 60) == n43) {
-								n40 = (uint64_t)(n41 % 60);
+							uint32_t n44 = n43 * 60;
+							if (n44 <= n42) {
+								n40 = (uint64_t)(n41 - n44);
 								goto L1;
 							}
-							uint32_t n44 = n41 / 3600;
-							if ((n42 / 3600) == n44) {
-								n40 = (uint64_t)((n43 % 60) + 60);
+							uint32_t n45 = n41 / 3600;
+							if ((n45 * 3600) <= n42) {
+								n40 = (uint64_t)(((n45 * 4294967236u) + n43) + 60);
 								goto L1;
 							}
-							uint32_t n45 = n41 / 86400;
-							if ((n42 / 86400) == n45) {
-								n40 = (uint64_t)((n44 % 24) + 120);
+							uint32_t n46 = n41 / 86400;
+							if ((n46 * 86400) > n42) {
+								n40 = (uint64_t)(n46 + 144);
 								goto L1;
 							}
-							n40 = (uint64_t)(n45 + 144);
+							n40 = (uint64_t)(((n46 * 4294967272u) + n45) + 120);
 							goto L1;
 						}
 						case 2: {
-							n46 = n36;
-							n47 = n35;
-							n48 = 0;
+							n47 = n36;
+							n48 = n35;
+							n49 = 0;
 							break;
 						}
 						default: {
@@ -64500,88 +64865,96 @@ static uint8_t tp_Player_play_one(byte *p1, byte *p2, byte *p3)
 						}
 						}
 						for (;;) {
-							uint64_t n49 = n47 >> 4;
-							uint64_t n50 = n46 >> 4;
-							if (n49 == n50)
+							uint64_t n50 = n48 >> 4;
+							uint64_t n51 = n47 >> 4;
+							if (n50 == n51)
 								break;
-							n46 = n50;
-							n47 = n49;
-							n48 = n48 + 16;
+							n47 = n51;
+							n48 = n50;
+							n49 = n49 + 16;
 						}
-						n40 = n48 | (n46 & 15);
+						n40 = n49 | (n47 & 15);
 					} else {
 						n40 = load64(p1 + 32);
 					}
 L1:
 					{
-						uint64_t n51 = load64(p1 + 104);
+						uint64_t n52 = load64(p1 + 104);
 						if (load64(p1 + 72) >= load64(p1 + 120)) {
-							uint8_t n52 = tp_links_make_ready(p1 + 40, p1 + 80, n51, load64(p1 + 112));
-							if ((n52 & 1) != 0)
+							uint8_t n53 = tp_links_make_ready(p1 + 40, p1 + 80, n52, load64(p1 + 112));
+							if ((n53 & 1) != 0)
 								return 1;
-							store64(p1 + 120, umin64(load64(p1 + 88) - n51, load64(p1 + 56)));
+							store64(p1 + 120, umin64(load64(p1 + 88) - n52, load64(p1 + 56)));
 						}
 						store64u(p4, n34);
 						store64u(p4 + 8, n11);
 						store64u(p4 + 16, n12);
 						store64u(p4 + 24, n36);
 						store64u(p4 + 32, n14);
-						uint64_t n53 = tp_Slab_insert_reserved(p1 + 40, p4);
-						uint64_t n54 = load64(p1 + 104) + n53;
-						byte *p55 = loadptr(p1 + 80);
-						byte *p56 = inside(p55, n40 << 3);
-						uint32_t n57 = load32(p56);
-						uint32_t n58 = (uint32_t)n54;
-						store32(inside(p55, (uint64_t)n57 << 3) + 4, n58);
-						byte *p59 = inside(p55, n54 << 3);
-						store32(p59, n57);
-						store32(p59 + 4, (uint32_t)n40);
-						store32(p56, n58);
+						uint64_t n54 = tp_Slab_insert_reserved(p1 + 40, p4);
+						uint64_t n55 = load64(p1 + 104) + n54;
+						byte *p56 = loadptr(p1 + 80);
+						byte *p57 = inside(p56, n40 << 3);
+						uint32_t n58 = load32(p57);
+						uint32_t n59 = (uint32_t)n55;
+						store32(inside(p56, (uint64_t)n58 << 3) + 4, n59);
+						byte *p60 = inside(p56, n55 << 3);
+						store32(p60, n58);
+						store32(p60 + 4, (uint32_t)n40);
+						store32(p57, n59);
 						store64(p1 + 24, n34);
 						if (b38) {
-							byte *p60 = inside(p1 + 128, (n40 >> 3) & 536870904);
-							store64(p60, load64(p60) | ((uint64_t)1 << (n40 & 63)));
+							byte *p61 = inside(p1 + 128, (n40 >> 3) & 536870904);
+							store64(p61, load64(p61) | ((uint64_t)1 << (n40 & 63)));
 							tp_Firsts_enter(p1 + 208, p5, p1 + 40, n40, n36);
 						}
 						store64(p1 + 248, load64(p1 + 248) + 1);
 						store64(p1 + 288, load64(p1 + 288) + 1);
-						byte *p61 = inside(p1 + 808, n25);
-						store64(p61, load64(p61) + 1);
+						byte *p62 = inside(p1 + 808, n25);
+						store64(p62, load64(p62) + 1);
 						store64(p26, n12 + 1);
-						uint64_t n62 = load64(p1 + 1368);
-						byte *p63 = inside(loadptr(p1 + 1360), n62 << 4);
-						store64u(p63, n53);
-						store64u(p63 + 8, n34);
-						store64(p1 + 1368, n62 + 1);
+						uint64_t n63 = load64(p1 + 1368);
+						byte *p64 = inside(loadptr(p1 + 1360), n63 << 4);
+						store64u(p64, n54);
+						store64u(p64 + 8, n34);
+						store64(p1 + 1368, n63 + 1);
 						n29 = n36;
 						n30 = 0;
 						n31 = 0;
 						n32 = n34;
-						n33 = n53;
+						n33 = n54;
 					}
 				}
-				uint64_t n64 = load64(p1 + 64);
-				byte *p65 = loadptr(p1 + 80);
-				uint64_t n66 = load64(p1 + 104);
-				uint64_t n67 = (uint64_t)load32(at(p65, load64(p1 + 32) << 3) + 4);
-				uint64_t n68 = usub_sat64(n67, n66);
-				uint64_t n69 = 0;
-				uint64_t n70 = n67;
+				uint64_t n65 = load64(p1 + 64);
+				uint64_t n66 = load64(p1 + 32);
+				byte *p67 = loadptr(p1 + 80);
+				uint64_t n68 = (uint64_t)load32(at(p67, n66 << 3) + 4);
+				if (n66 == n68) {
+					n69 = 0;
+					n70 = 0;
+				} else {
+					n69 = 1;
+					n70 = n68 - load64(p1 + 104);
+				}
+				uint64_t n71 = n70;
+				uint64_t n72 = 0;
+				uint8_t n73 = n69;
 				for (;;) {
-					if (n69 == n64) {
-						n71 = n64;
+					if (n72 == n65) {
+						n74 = n65;
 						break;
 					}
-					if (n66 > n70) {
-						n71 = n69;
+					if (n73 != 1) {
+						n74 = n72;
 						break;
 					}
-					uint64_t n72 = (uint64_t)load32(at(p65, (n66 + n68) << 3) + 4);
-					n68 = usub_sat64(n72, n66);
-					n69 = n69 + 1;
-					n70 = n72;
+					uint64_t n75 = load64(p1 + 104);
+					uint64_t n76 = (uint64_t)load32(at(p67, (n75 + n71) << 3) + 4);
+					n71 = usub_sat64(n76, n75);
+					n72 = n72 + 1;
+					n73 = (uint8_t)(n75 <= n76);
 				}
-				if ((((n64 - n71) << 1) + 64) < load64(p1 + 1368)) {
+				if ((((n65 - n74) << 1) + 64) < load64(p1 + 1368)) {
 					tp_handles_sweep(p1 + 1360, p1);
 					n19 = n31;
 					n20 = n33;
@@ -64606,79 +64979,79 @@ L1:
 			n23 = 0;
 			n24 = 0;
 		}
-		uint64_t n73 = load64(p3 + 8);
-		byte *p74 = inside(loadptr(p3), n73 << 6);
-		store8(p74, n21);
-		store8(p74 + 1, 0);
-		store64u(p74 + 8, n11);
-		store64u(p74 + 16, n12);
-		store64u(p74 + 24, ((uint64_t)n22 << 8) | (uint64_t)n19);
-		store64u(p74 + 32, n20);
-		store64u(p74 + 40, n23);
-		store64u(p74 + 48, n24);
-		store64u(p74 + 56, 0);
-		store64(p3 + 8, n73 + 1);
+		uint64_t n77 = load64(p3 + 8);
+		byte *p78 = inside(loadptr(p3), n77 << 6);
+		store8(p78, n21);
+		store8(p78 + 1, 0);
+		store64u(p78 + 8, n11);
+		store64u(p78 + 16, n12);
+		store64u(p78 + 24, ((uint64_t)n22 << 8) | (uint64_t)n19);
+		store64u(p78 + 32, n20);
+		store64u(p78 + 40, n23);
+		store64u(p78 + 48, n24);
+		store64u(p78 + 56, 0);
+		store64(p3 + 8, n77 + 1);
 		return 0;
 	}
 	case 1: {
-		uint64_t n80;
+		uint64_t n84;
 		if (load64(p3 + 16) == load64(p3 + 8)) {
-			bool b75 = tp_std_alloc_vec_Vec_grow_amortized_4(p3, 1);
-			if (!b75)
+			bool b79 = tp_std_alloc_vec_Vec_grow_amortized_4(p3, 1);
+			if (!b79)
 				return 1;
 		}
-		byte *p76 = loadptr(p1 + 1360);
-		uint64_t n77 = load64(p1 + 1368);
-		if (n77 != 0) {
-			uint64_t n78 = load64(at(at(p76, n77 << 4), UINT64_C(18446744073709551608))) - n13;
-			if (n77 > n78) {
-				byte *p79 = inside(p76, (n77 + (n78 ^ UINT64_MAX)) << 4);
-				if (load64(p79 + 8) != n13)
+		byte *p80 = loadptr(p1 + 1360);
+		uint64_t n81 = load64(p1 + 1368);
+		if (n81 != 0) {
+			uint64_t n82 = load64(at(at(p80, n81 << 4), UINT64_C(18446744073709551608))) - n13;
+			if (n81 > n82) {
+				byte *p83 = inside(p80, (n81 + (n82 ^ UINT64_MAX)) << 4);
+				if (load64(p83 + 8) != n13)
 					goto L2;
-				n80 = load64(p79);
+				n84 = load64(p83);
 				goto L3;
 			}
 		}
-		if (n77 == 0) {
-			n80 = 0;
+		if (n81 == 0) {
+			n84 = 0;
 			goto L3;
 		}
 L2:
 		{
-			uint64_t n81 = 0;
-			uint64_t n82 = n77;
-			while (n82 > 1) {
-				uint64_t n86;
-				uint64_t n83 = n82 >> 1;
-				uint64_t n84 = n81 + n83;
-				uint64_t n85 = load64(at(p76, n84 << 4) + 8);
-				switch (MOSTLY_0((n85 == n13) ? 1 : (uint8_t)((n85 < n13) ? 0 : 2))) {
+			uint64_t n85 = 0;
+			uint64_t n86 = n81;
+			while (n86 > 1) {
+				uint64_t n90;
+				uint64_t n87 = n86 >> 1;
+				uint64_t n88 = n85 + n87;
+				uint64_t n89 = load64(at(p80, n88 << 4) + 8);
+				switch (MOSTLY_0((n89 == n13) ? 1 : (uint8_t)((n89 < n13) ? 0 : 2))) {
 				case 0:
 				case 1: {
-					n86 = n84;
+					n90 = n88;
 					break;
 				}
 				case 2: {
-					n86 = n81;
+					n90 = n85;
 					break;
 				}
 				default: {
 					UNREACHABLE();
 				}
 				}
-				n81 = n86;
-				n82 = n82 - n83;
+				n85 = n90;
+				n86 = n86 - n87;
 			}
-			byte *p87 = at(p76, n81 << 4);
-			uint64_t n88 = load64(p87 + 8);
-			switch ((n88 == n13) ? 1 : (uint8_t)((n88 < n13) ? 0 : 2)) {
+			byte *p91 = at(p80, n85 << 4);
+			uint64_t n92 = load64(p91 + 8);
+			switch ((n92 == n13) ? 1 : (uint8_t)((n92 < n13) ? 0 : 2)) {
 			case 1: {
-				n80 = load64(p87);
+				n84 = load64(p91);
 				break;
 			}
 			case 0:
 			case 2: {
-				n80 = 0;
+				n84 = 0;
 				break;
 			}
 			default: {
@@ -64688,153 +65061,162 @@ L2:
 		}
 L3:
 		{
-			uint64_t n89, n91;
-			uint8_t n90;
+			uint64_t n93, n95;
+			uint8_t n94;
 			if ((load8(p1 + 1320) & 1) != 0) {
-				n89 = 0;
-				n90 = 1;
-				n91 = 0;
+				n93 = 0;
+				n94 = 1;
+				n95 = 0;
 			} else if (load64(p1 + 272) > n11) {
-				uint64_t n92 = n11 << 3;
-				byte *p93 = inside(p1 + 296, n92);
-				uint64_t n94 = load64(p93);
-				if (n12 < n94) {
-					n89 = n94;
-					n90 = 1;
-					n91 = 2;
-				} else if (n94 > UINT64_C(1152921504606846975)) {
-					n89 = 0;
-					n90 = 1;
-					n91 = 3;
-				} else if (n94 < n12) {
-					n89 = n94;
-					n90 = 1;
-					n91 = 4;
+				uint64_t n96 = n11 << 3;
+				byte *p97 = inside(p1 + 296, n96);
+				uint64_t n98 = load64(p97);
+				if (n12 < n98) {
+					n93 = n98;
+					n94 = 1;
+					n95 = 2;
+				} else if (n98 > UINT64_C(1152921504606846975)) {
+					n93 = 0;
+					n94 = 1;
+					n95 = 3;
+				} else if (n98 < n12) {
+					n93 = n98;
+					n94 = 1;
+					n95 = 4;
 				} else {
-					uint64_t n95, n96, n106;
+					uint64_t n99, n100, n108, n112;
+					uint8_t n107;
 					memset(p7, 0, 48);
-					tp_Facility_find_named(p7, p1, n11, n80, n13);
+					tp_Facility_find_named(p7, p1, n11, n84, n13);
 					if (load8(p7) == 0) {
-						n95 = 1027;
-						n96 = 0;
+						n99 = 1027;
+						n100 = 0;
 					} else {
-						uint64_t n97 = load64u(p7 + 8);
-						tp_HierWheelWheel_stop(p8, p1, n80, n13);
-						byte *p98 = inside(p1 + 808, n92);
-						store64(p98, load64(p98) - 1);
-						n95 = 1;
-						n96 = n97;
+						uint64_t n101 = load64u(p7 + 8);
+						tp_HierWheelWheel_stop(p8, p1, n84, n13);
+						byte *p102 = inside(p1 + 808, n96);
+						store64(p102, load64(p102) - 1);
+						n99 = 1;
+						n100 = n101;
 					}
-					store64(p93, n12 + 1);
-					uint64_t n99 = load64(p1 + 64);
-					byte *p100 = loadptr(p1 + 80);
-					uint64_t n101 = load64(p1 + 104);
-					uint64_t n102 = (uint64_t)load32(at(p100, load64(p1 + 32) << 3) + 4);
-					uint64_t n103 = usub_sat64(n102, n101);
-					uint64_t n104 = 0;
-					uint64_t n105 = n102;
+					store64(p97, n12 + 1);
+					uint64_t n103 = load64(p1 + 64);
+					uint64_t n104 = load64(p1 + 32);
+					byte *p105 = loadptr(p1 + 80);
+					uint64_t n106 = (uint64_t)load32(at(p105, n104 << 3) + 4);
+					if (n104 == n106) {
+						n107 = 0;
+						n108 = 0;
+					} else {
+						n107 = 1;
+						n108 = n106 - load64(p1 + 104);
+					}
+					uint64_t n109 = n108;
+					uint64_t n110 = 0;
+					uint8_t n111 = n107;
 					for (;;) {
-						if (n104 == n99) {
-							n106 = n99;
+						if (n110 == n103) {
+							n112 = n103;
 							break;
 						}
-						if (n101 > n105) {
-							n106 = n104;
+						if (n111 != 1) {
+							n112 = n110;
 							break;
 						}
-						uint64_t n107 = (uint64_t)load32(at(p100, (n101 + n103) << 3) + 4);
-						n103 = usub_sat64(n107, n101);
-						n104 = n104 + 1;
-						n105 = n107;
+						uint64_t n113 = load64(p1 + 104);
+						uint64_t n114 = (uint64_t)load32(at(p105, (n113 + n109) << 3) + 4);
+						n109 = usub_sat64(n114, n113);
+						n110 = n110 + 1;
+						n111 = (uint8_t)(n113 <= n114);
 					}
-					if ((((n99 - n106) << 1) + 64) < load64(p1 + 1368)) {
+					if ((((n103 - n112) << 1) + 64) < load64(p1 + 1368)) {
 						tp_handles_sweep(p1 + 1360, p1);
-						n89 = n96;
-						n90 = 0;
-						n91 = n95;
+						n93 = n100;
+						n94 = 0;
+						n95 = n99;
 					} else {
-						n89 = n96;
-						n90 = 0;
-						n91 = n95;
+						n93 = n100;
+						n94 = 0;
+						n95 = n99;
 					}
 				}
 			} else {
-				n89 = 0;
-				n90 = 1;
-				n91 = 1;
+				n93 = 0;
+				n94 = 1;
+				n95 = 1;
 			}
-			uint64_t n108 = load64(p3 + 8);
-			byte *p109 = inside(loadptr(p3), n108 << 6);
-			store8(p109, n90);
-			store8(p109 + 1, 0);
-			store64u(p109 + 8, n11);
-			store64u(p109 + 16, n12);
-			store64u(p109 + 24, n91);
-			store64u(p109 + 32, n89);
-			memset(p109 + 40, 0, 24);
-			store64(p3 + 8, n108 + 1);
+			uint64_t n115 = load64(p3 + 8);
+			byte *p116 = inside(loadptr(p3), n115 << 6);
+			store8(p116, n94);
+			store8(p116 + 1, 0);
+			store64u(p116 + 8, n11);
+			store64u(p116 + 16, n12);
+			store64u(p116 + 24, n95);
+			store64u(p116 + 32, n93);
+			memset(p116 + 40, 0, 24);
+			store64(p3 + 8, n115 + 1);
 			return 0;
 		}
 	}
 	case 2: {
-		uint64_t n115;
+		uint64_t n122;
 		if (load64(p3 + 16) == load64(p3 + 8)) {
-			bool b110 = tp_std_alloc_vec_Vec_grow_amortized_4(p3, 1);
-			if (!b110)
+			bool b117 = tp_std_alloc_vec_Vec_grow_amortized_4(p3, 1);
+			if (!b117)
 				return 1;
 		}
-		byte *p111 = loadptr(p1 + 1360);
-		uint64_t n112 = load64(p1 + 1368);
-		if (n112 != 0) {
-			uint64_t n113 = load64(at(at(p111, n112 << 4), UINT64_C(18446744073709551608))) - n13;
-			if (n112 > n113) {
-				byte *p114 = inside(p111, (n112 + (n113 ^ UINT64_MAX)) << 4);
-				if (load64(p114 + 8) != n13)
+		byte *p118 = loadptr(p1 + 1360);
+		uint64_t n119 = load64(p1 + 1368);
+		if (n119 != 0) {
+			uint64_t n120 = load64(at(at(p118, n119 << 4), UINT64_C(18446744073709551608))) - n13;
+			if (n119 > n120) {
+				byte *p121 = inside(p118, (n119 + (n120 ^ UINT64_MAX)) << 4);
+				if (load64(p121 + 8) != n13)
 					goto L4;
-				n115 = load64(p114);
+				n122 = load64(p121);
 				goto L5;
 			}
 		}
-		if (n112 == 0) {
-			n115 = 0;
+		if (n119 == 0) {
+			n122 = 0;
 			goto L5;
 		}
 L4:
 		{
-			uint64_t n116 = 0;
-			uint64_t n117 = n112;
-			while (n117 > 1) {
-				uint64_t n121;
-				uint64_t n118 = n117 >> 1;
-				uint64_t n119 = n116 + n118;
-				uint64_t n120 = load64(at(p111, n119 << 4) + 8);
-				switch (MOSTLY_0((n120 == n13) ? 1 : (uint8_t)((n120 < n13) ? 0 : 2))) {
+			uint64_t n123 = 0;
+			uint64_t n124 = n119;
+			while (n124 > 1) {
+				uint64_t n128;
+				uint64_t n125 = n124 >> 1;
+				uint64_t n126 = n123 + n125;
+				uint64_t n127 = load64(at(p118, n126 << 4) + 8);
+				switch (MOSTLY_0((n127 == n13) ? 1 : (uint8_t)((n127 < n13) ? 0 : 2))) {
 				case 0:
 				case 1: {
-					n121 = n119;
+					n128 = n126;
 					break;
 				}
 				case 2: {
-					n121 = n116;
+					n128 = n123;
 					break;
 				}
 				default: {
 					UNREACHABLE();
 				}
 				}
-				n116 = n121;
-				n117 = n117 - n118;
+				n123 = n128;
+				n124 = n124 - n125;
 			}
-			byte *p122 = at(p111, n116 << 4);
-			uint64_t n123 = load64(p122 + 8);
-			switch ((n123 == n13) ? 1 : (uint8_t)((n123 < n13) ? 0 : 2)) {
+			byte *p129 = at(p118, n123 << 4);
+			uint64_t n130 = load64(p129 + 8);
+			switch ((n130 == n13) ? 1 : (uint8_t)((n130 < n13) ? 0 : 2)) {
 			case 1: {
-				n115 = load64(p122);
+				n122 = load64(p129);
 				break;
 			}
 			case 0:
 			case 2: {
-				n115 = 0;
+				n122 = 0;
 				break;
 			}
 			default: {
@@ -64844,82 +65226,83 @@ L4:
 		}
 L5:
 		{
-			uint8_t n126, n128, n129;
-			uint64_t n127, n130, n131, n132;
+			uint8_t n133, n135, n136;
+			uint64_t n134, n137, n138, n139;
 			store64u(p9, 3);
-			store64u(p9 + 8, n115);
+			store64u(p9 + 8, n122);
 			store64u(p9 + 16, n13);
 			store64u(p9 + 24, n14);
 			store64u(p9 + 32, n15);
-			if (load64(p1 + 1376) == n112) {
-				bool b124 = tp_std_alloc_vec_Vec_grow_amortized_3(p1 + 1360);
-				if (!b124) {
-					bool b125 = tp_Facility_makes_timer(p1, n11, n12, p9);
-					if (b125)
+			if (load64(p1 + 1376) == n119) {
+				bool b131 = tp_std_alloc_vec_Vec_grow_amortized_3(p1 + 1360);
+				if (!b131) {
+					bool b132 = tp_Facility_makes_timer(p1, n11, n12, p9);
+					if (b132)
 						return 1;
 				}
 			}
 			if ((load8(p1 + 1320) & 1) != 0) {
-				n126 = 0;
-				n127 = 0;
-				n128 = 1;
-				n129 = 0;
-				n130 = 0;
-				n131 = 0;
-				n132 = 0;
+				n133 = 0;
+				n134 = 0;
+				n135 = 1;
+				n136 = 0;
+				n137 = 0;
+				n138 = 0;
+				n139 = 0;
 			} else if (load64(p1 + 272) > n11) {
-				byte *p133 = inside(p1 + 296, n11 << 3);
-				uint64_t n134 = load64(p133);
-				if (n12 < n134) {
-					n126 = 2;
-					n127 = n134;
-					n128 = 1;
-					n129 = 0;
-					n130 = 0;
-					n131 = 0;
-					n132 = 0;
-				} else if (n134 > UINT64_C(1152921504606846975)) {
-					n126 = 3;
-					n127 = 0;
-					n128 = 1;
-					n129 = 0;
-					n130 = 0;
-					n131 = 0;
-					n132 = 0;
-				} else if (n134 < n12) {
-					n126 = 4;
-					n127 = n134;
-					n128 = 1;
-					n129 = 0;
-					n130 = 0;
-					n131 = 0;
-					n132 = 0;
+				byte *p140 = inside(p1 + 296, n11 << 3);
+				uint64_t n141 = load64(p140);
+				if (n12 < n141) {
+					n133 = 2;
+					n134 = n141;
+					n135 = 1;
+					n136 = 0;
+					n137 = 0;
+					n138 = 0;
+					n139 = 0;
+				} else if (n141 > UINT64_C(1152921504606846975)) {
+					n133 = 3;
+					n134 = 0;
+					n135 = 1;
+					n136 = 0;
+					n137 = 0;
+					n138 = 0;
+					n139 = 0;
+				} else if (n141 < n12) {
+					n133 = 4;
+					n134 = n141;
+					n135 = 1;
+					n136 = 0;
+					n137 = 0;
+					n138 = 0;
+					n139 = 0;
 				} else {
-					uint64_t n152;
+					uint8_t n156;
+					uint64_t n157, n161;
 					memset(p6, 0, 40);
-					tp_Facility_take_restart(p6, p1, n11, n12, n115, n13, n14, n14, n15);
-					uint8_t n135 = load8(p6);
-					uint8_t n136 = load8(p6 + 1);
-					uint64_t n137 = load64u(p6 + 8);
-					uint64_t n138 = load64u(p6 + 16);
-					uint64_t n139 = load64u(p6 + 24);
-					uint64_t n140 = load64u(p6 + 32);
-					store64(p133, n12 + 1);
-					switch (MOSTLY_0(n135)) {
+					tp_Facility_take_restart(p6, p1, n11, n12, n122, n13, n14, n14, n15);
+					uint8_t n142 = load8(p6);
+					uint8_t n143 = load8(p6 + 1);
+					uint64_t n144 = load64u(p6 + 8);
+					uint64_t n145 = load64u(p6 + 16);
+					uint64_t n146 = load64u(p6 + 24);
+					uint64_t n147 = load64u(p6 + 32);
+					store64(p140, n12 + 1);
+					switch (MOSTLY_0(n142)) {
 					case 0: {
-						uint64_t n141 = load64(p1 + 1368);
-						byte *p142 = inside(loadptr(p1 + 1360), n141 << 4);
-						store64u(p142, n137);
-						store64u(p142 + 8, n138);
-						store64(p1 + 1368, n141 + 1);
+						uint64_t n148 = load64(p1 + 1368);
+						byte *p149 = inside(loadptr(p1 + 1360), n148 << 4);
+						store64u(p149, n144);
+						store64u(p149 + 8, n145);
+						store64(p1 + 1368, n148 + 1);
 						break;
 					}
 					case 2: {
-						uint64_t n143 = load64(p1 + 1368);
-						byte *p144 = inside(loadptr(p1 + 1360), n143 << 4);
-						store64u(p144, n137);
-						store64u(p144 + 8, n138);
-						store64(p1 + 1368, n143 + 1);
+						uint64_t n150 = load64(p1 + 1368);
+						byte *p151 = inside(loadptr(p1 + 1360), n150 << 4);
+						store64u(p151, n144);
+						store64u(p151 + 8, n145);
+						store64(p1 + 1368, n150 + 1);
 						break;
 					}
 					case 1:
@@ -64930,139 +65313,155 @@ L5:
 						UNREACHABLE();
 					}
 					}
-					uint64_t n145 = load64(p1 + 64);
-					byte *p146 = loadptr(p1 + 80);
-					uint64_t n147 = load64(p1 + 104);
-					uint64_t n148 = (uint64_t)load32(at(p146, load64(p1 + 32) << 3) + 4);
-					uint64_t n149 = usub_sat64(n148, n147);
-					uint64_t n150 = 0;
-					uint64_t n151 = n148;
-					for (;;) {
-						if (n150 == n145) {
-							n152 = n145;
-							break;
-						}
-						if (n147 > n151) {
-							n152 = n150;
-							break;
-						}
-						uint64_t n153 = (uint64_t)load32(at(p146, (n147 + n149) << 3) + 4);
-						n149 = usub_sat64(n153, n147);
-						n150 = n150 + 1;
-						n151 = n153;
-					}
-					if ((((n145 - n152) << 1) + 64) < load64(p1 + 1368)) {
-						tp_handles_sweep(p1 + 1360, p1);
-						n126 = n135;
-						n127 = n137;
-						n128 = 0;
-						n129 = n136;
-						n130 = n138;
-						n131 = n139;
-						n132 = n140;
+					uint64_t n152 = load64(p1 + 64);
+					uint64_t n153 = load64(p1 + 32);
+					byte *p154 = loadptr(p1 + 80);
+					uint64_t n155 = (uint64_t)load32(at(p154, n153 << 3) + 4);
+					if (n153 == n155) {
+						n156 = 0;
+						n157 = 0;
 					} else {
-						n126 = n135;
-						n127 = n137;
-						n128 = 0;
-						n129 = n136;
-						n130 = n138;
-						n131 = n139;
-						n132 = n140;
+						n156 = 1;
+						n157 = n155 - load64(p1 + 104);
+					}
+					uint64_t n158 = n157;
+					uint64_t n159 = 0;
+					uint8_t n160 = n156;
+					for (;;) {
+						if (n159 == n152) {
+							n161 = n152;
+							break;
+						}
+						if (n160 != 1) {
+							n161 = n159;
+							break;
+						}
+						uint64_t n162 = load64(p1 + 104);
+						uint64_t n163 = (uint64_t)load32(at(p154, (n162 + n158) << 3) + 4);
+						n158 = usub_sat64(n163, n162);
+						n159 = n159 + 1;
+						n160 = (uint8_t)(n162 <= n163);
+					}
+					if ((((n152 - n161) << 1) + 64) < load64(p1 + 1368)) {
+						tp_handles_sweep(p1 + 1360, p1);
+						n133 = n142;
+						n134 = n144;
+						n135 = 0;
+						n136 = n143;
+						n137 = n145;
+						n138 = n146;
+						n139 = n147;
+					} else {
+						n133 = n142;
+						n134 = n144;
+						n135 = 0;
+						n136 = n143;
+						n137 = n145;
+						n138 = n146;
+						n139 = n147;
 					}
 				}
 			} else {
-				n126 = 1;
-				n127 = 0;
-				n128 = 1;
-				n129 = 0;
-				n130 = 0;
-				n131 = 0;
-				n132 = 0;
+				n133 = 1;
+				n134 = 0;
+				n135 = 1;
+				n136 = 0;
+				n137 = 0;
+				n138 = 0;
+				n139 = 0;
 			}
-			uint64_t n154 = load64(p3 + 8);
-			byte *p155 = inside(loadptr(p3), n154 << 6);
-			store8(p155, n128);
-			store8(p155 + 1, 0);
-			store64u(p155 + 8, n11);
-			store64u(p155 + 16, n12);
-			store64u(p155 + 24, ((uint64_t)n129 << 8) | (uint64_t)n126);
-			store64u(p155 + 32, n127);
-			store64u(p155 + 40, n130);
-			store64u(p155 + 48, n131);
-			store64u(p155 + 56, n132);
-			store64(p3 + 8, n154 + 1);
+			uint64_t n164 = load64(p3 + 8);
+			byte *p165 = inside(loadptr(p3), n164 << 6);
+			store8(p165, n135);
+			store8(p165 + 1, 0);
+			store64u(p165 + 8, n11);
+			store64u(p165 + 16, n12);
+			store64u(p165 + 24, ((uint64_t)n136 << 8) | (uint64_t)n133);
+			store64u(p165 + 32, n134);
+			store64u(p165 + 40, n137);
+			store64u(p165 + 48, n138);
+			store64u(p165 + 56, n139);
+			store64(p3 + 8, n164 + 1);
 			return 0;
 		}
 	}
 	case 3: {
-		uint64_t n163, n178;
-		uint8_t n168;
-		byte *p179;
-		uint64_t n156 = load64(p1 + 64);
-		byte *p157 = loadptr(p1 + 80);
-		uint64_t n158 = load64(p1 + 104);
-		uint64_t n159 = (uint64_t)load32(at(p157, load64(p1 + 32) << 3) + 4);
-		uint64_t n160 = usub_sat64(n159, n158);
-		uint64_t n161 = 0;
-		uint64_t n162 = n159;
-		for (;;) {
-			if (n161 == n156) {
-				n163 = n156;
-				break;
-			}
-			if (n158 > n162) {
-				n163 = n161;
-				break;
-			}
-			uint64_t n164 = (uint64_t)load32(at(p157, (n158 + n160) << 3) + 4);
-			n160 = usub_sat64(n164, n158);
-			n161 = n161 + 1;
-			n162 = n164;
+		uint8_t n170, n181;
+		uint64_t n171, n175, n191;
+		byte *p192;
+		uint64_t n166 = load64(p1 + 64);
+		uint64_t n167 = load64(p1 + 32);
+		byte *p168 = loadptr(p1 + 80);
+		uint64_t n169 = (uint64_t)load32(at(p168, n167 << 3) + 4);
+		if (n167 == n169) {
+			n170 = 0;
+			n171 = 0;
+		} else {
+			n170 = 1;
+			n171 = n169 - load64(p1 + 104);
 		}
-		uint64_t n165 = (n156 - n163) + 1;
-		if (n165 > (load64(p3 + 16) - load64(p3 + 8))) {
-			bool b166 = tp_std_alloc_vec_Vec_grow_amortized_4(p3, n165);
-			if (!b166)
+		uint64_t n172 = n171;
+		uint64_t n173 = 0;
+		uint8_t n174 = n170;
+		for (;;) {
+			if (n173 == n166) {
+				n175 = n166;
+				break;
+			}
+			if (n174 != 1) {
+				n175 = n173;
+				break;
+			}
+			uint64_t n176 = load64(p1 + 104);
+			uint64_t n177 = (uint64_t)load32(at(p168, (n176 + n172) << 3) + 4);
+			n172 = usub_sat64(n177, n176);
+			n173 = n173 + 1;
+			n174 = (uint8_t)(n176 <= n177);
+		}
+		uint64_t n178 = (n166 - n175) + 1;
+		if (n178 > (load64(p3 + 16) - load64(p3 + 8))) {
+			bool b179 = tp_std_alloc_vec_Vec_grow_amortized_4(p3, n178);
+			if (!b179)
 				return 1;
 		}
-		uint64_t n167 = n11;
+		uint64_t n180 = n11;
 		for (;;) {
-			uint64_t n176, n177;
-			if (n167 == 0)
+			uint64_t n189, n190;
+			if (n180 == 0)
 				goto L6;
 			if ((load8(p1 + 1320) & 1) != 0) {
-				n168 = 0;
+				n181 = 0;
 				break;
 			}
-			uint64_t n169 = load64(p1 + 16);
-			uint64_t n170 = load64(p1 + 8);
-			if (n169 == n170) {
-				n168 = 1;
+			uint64_t n182 = load64(p1 + 16);
+			uint64_t n183 = load64(p1 + 8);
+			if (n182 == n183) {
+				n181 = 1;
 				break;
 			}
-			uint64_t n171 = umin64(n170 - n169, n167);
-			uint64_t n172 = n169 + n171;
+			uint64_t n184 = umin64(n183 - n182, n180);
+			uint64_t n185 = n182 + n184;
 			switch (MOSTLY_0(load8(p1))) {
 			case 0: {
-				if ((n172 ^ n169) < 64) {
-					uint64_t n173 = load64(p1 + 128);
-					if ((n173 == 0) || ((n172 & 63) < cttz64(n173)))
+				if ((n185 ^ n182) < 64) {
+					uint64_t n186 = load64(p1 + 128);
+					if ((n186 == 0) || ((n185 & 63) < cttz64(n186)))
 						goto L7;
 				}
 				break;
 			}
 			case 1: {
-				if ((n172 / 60) == (n169 / 60)) {
-					uint64_t n174 = load64(p1 + 128);
-					if ((n174 == 0) || ((n172 % 60) < cttz64(n174)))
+				if ((n185 / 60) == (n182 / 60)) {
+					uint64_t n187 = load64(p1 + 128);
+					if ((n187 == 0) || ((n185 % 60) < cttz64(n187)))
 						goto L7;
 				}
 				break;
 			}
 			case 2: {
-				if ((n172 ^ n169) < 16) {
-					uint64_t n175 = load64(p1 + 128);
-					if ((n175 == 0) || ((n172 & 15) < cttz64(n175)))
+				if ((n185 ^ n182) < 16) {
+					uint64_t n188 = load64(p1 + 128);
+					if ((n188 == 0) || ((n185 & 15) < cttz64(n188)))
 						goto L7;
 				}
 				break;
@@ -65071,131 +65470,157 @@ L5:
 				UNREACHABLE();
 			}
 			}
-			n176 = tp_HierWheel_advance_far(p1, n171);
-			n177 = n176;
+			n189 = tp_HierWheel_advance_far(p1, n184);
+			n190 = n189;
 			goto L8;
 L7:
 			{
-				store64(p1 + 16, n172);
-				store64(p1 + 264, load64(p1 + 264) + n171);
-				n177 = n171;
+				store64(p1 + 16, n185);
+				store64(p1 + 264, load64(p1 + 264) + n184);
+				n190 = n184;
 			}
 L8:
 			{
 				tp_player_hand_out(p1, p3);
-				n167 = n167 - n177;
+				n180 = n180 - n190;
 			}
 		}
-		n178 = load64(p3 + 8);
-		p179 = inside(loadptr(p3), n178 << 6);
-		store8(p179, 3);
-		store8(p179 + 1, n168);
-		memset(p179 + 8, 0, 56);
-		store64(p3 + 8, n178 + 1);
+		n191 = load64(p3 + 8);
+		p192 = inside(loadptr(p3), n191 << 6);
+		store8(p192, 3);
+		store8(p192 + 1, n181);
+		memset(p192 + 8, 0, 56);
+		store64(p3 + 8, n191 + 1);
 L6:
 		{
-			uint64_t n187;
-			uint64_t n180 = load64(p1 + 64);
-			byte *p181 = loadptr(p1 + 80);
-			uint64_t n182 = load64(p1 + 104);
-			uint64_t n183 = (uint64_t)load32(at(p181, load64(p1 + 32) << 3) + 4);
-			uint64_t n184 = usub_sat64(n183, n182);
-			uint64_t n185 = 0;
-			uint64_t n186 = n183;
-			for (;;) {
-				if (n185 == n180) {
-					n187 = n180;
-					break;
-				}
-				if (n182 > n186) {
-					n187 = n185;
-					break;
-				}
-				uint64_t n188 = (uint64_t)load32(at(p181, (n182 + n184) << 3) + 4);
-				n184 = usub_sat64(n188, n182);
-				n185 = n185 + 1;
-				n186 = n188;
+			uint8_t n197;
+			uint64_t n198, n202;
+			uint64_t n193 = load64(p1 + 64);
+			uint64_t n194 = load64(p1 + 32);
+			byte *p195 = loadptr(p1 + 80);
+			uint64_t n196 = (uint64_t)load32(at(p195, n194 << 3) + 4);
+			if (n194 == n196) {
+				n197 = 0;
+				n198 = 0;
+			} else {
+				n197 = 1;
+				n198 = n196 - load64(p1 + 104);
 			}
-			if ((((n180 - n187) << 1) + 64) >= load64(p1 + 1368))
+			uint64_t n199 = n198;
+			uint64_t n200 = 0;
+			uint8_t n201 = n197;
+			for (;;) {
+				if (n200 == n193) {
+					n202 = n193;
+					break;
+				}
+				if (n201 != 1) {
+					n202 = n200;
+					break;
+				}
+				uint64_t n203 = load64(p1 + 104);
+				uint64_t n204 = (uint64_t)load32(at(p195, (n203 + n199) << 3) + 4);
+				n199 = usub_sat64(n204, n203);
+				n200 = n200 + 1;
+				n201 = (uint8_t)(n203 <= n204);
+			}
+			if ((((n193 - n202) << 1) + 64) >= load64(p1 + 1368))
 				return 0;
 			tp_handles_sweep(p1 + 1360, p1);
 			return 0;
 		}
 	}
 	case 4: {
-		uint64_t n196, n213;
-		uint64_t n189 = load64(p1 + 64);
-		byte *p190 = loadptr(p1 + 80);
-		uint64_t n191 = load64(p1 + 104);
-		uint64_t n192 = (uint64_t)load32(at(p190, load64(p1 + 32) << 3) + 4);
-		uint64_t n193 = usub_sat64(n192, n191);
-		uint64_t n194 = 0;
-		uint64_t n195 = n192;
-		for (;;) {
-			if (n194 == n189) {
-				n196 = n189;
-				break;
-			}
-			if (n191 > n195) {
-				n196 = n194;
-				break;
-			}
-			uint64_t n197 = (uint64_t)load32(at(p190, (n191 + n193) << 3) + 4);
-			n193 = usub_sat64(n197, n191);
-			n194 = n194 + 1;
-			n195 = n197;
+		uint8_t n209, n229;
+		uint64_t n210, n214, n230, n234;
+		uint64_t n205 = load64(p1 + 64);
+		uint64_t n206 = load64(p1 + 32);
+		byte *p207 = loadptr(p1 + 80);
+		uint64_t n208 = (uint64_t)load32(at(p207, n206 << 3) + 4);
+		if (n206 == n208) {
+			n209 = 0;
+			n210 = 0;
+		} else {
+			n209 = 1;
+			n210 = n208 - load64(p1 + 104);
 		}
-		uint64_t n198 = (n189 - n196) + 1;
-		if (n198 > (load64(p3 + 16) - load64(p3 + 8))) {
-			bool b199 = tp_std_alloc_vec_Vec_grow_amortized_4(p3, n198);
-			if (!b199)
+		uint64_t n211 = n210;
+		uint64_t n212 = 0;
+		uint8_t n213 = n209;
+		for (;;) {
+			if (n212 == n205) {
+				n214 = n205;
+				break;
+			}
+			if (n213 != 1) {
+				n214 = n212;
+				break;
+			}
+			uint64_t n215 = load64(p1 + 104);
+			uint64_t n216 = (uint64_t)load32(at(p207, (n215 + n211) << 3) + 4);
+			n211 = usub_sat64(n216, n215);
+			n212 = n212 + 1;
+			n213 = (uint8_t)(n215 <= n216);
+		}
+		uint64_t n217 = (n205 - n214) + 1;
+		if (n217 > (load64(p3 + 16) - load64(p3 + 8))) {
+			bool b218 = tp_std_alloc_vec_Vec_grow_amortized_4(p3, n217);
+			if (!b218)
 				return 1;
 		}
 		if ((load8(p1 + 1320) & 1) != 0) {
-			uint64_t n200 = load64(p3 + 8);
-			byte *p201 = inside(loadptr(p3), n200 << 6);
-			store8(p201, 5);
-			store8(p201 + 1, 0);
-			memset(p201 + 8, 0, 56);
-			store64(p3 + 8, n200 + 1);
+			uint64_t n219 = load64(p3 + 8);
+			byte *p220 = inside(loadptr(p3), n219 << 6);
+			store8(p220, 5);
+			store8(p220 + 1, 0);
+			memset(p220 + 8, 0, 56);
+			store64(p3 + 8, n219 + 1);
 			return 0;
 		}
-		uint8_t n202 = tp_facility_take_all(p1, p1 + 1328);
-		if ((n202 & 1) != 0)
+		uint8_t n221 = tp_facility_take_all(p1, p1 + 1328);
+		if ((n221 & 1) != 0)
 			return 1;
 		store64(p1 + 1352, 0);
 		store8(p1 + 1320, 1);
-		uint64_t n203 = load64(p3 + 8);
-		byte *p204 = inside(loadptr(p3), n203 << 6);
-		uint64_t n205 = load64(p1 + 1336);
-		store8(p204, 4);
-		store8(p204 + 1, 0);
-		store64u(p204 + 8, n205);
-		memset(p204 + 16, 0, 48);
-		store64(p3 + 8, n203 + 1);
+		uint64_t n222 = load64(p3 + 8);
+		byte *p223 = inside(loadptr(p3), n222 << 6);
+		uint64_t n224 = load64(p1 + 1336);
+		store8(p223, 4);
+		store8(p223 + 1, 0);
+		store64u(p223 + 8, n224);
+		memset(p223 + 16, 0, 48);
+		store64(p3 + 8, n222 + 1);
 		tp_player_hand_out(p1, p3);
-		uint64_t n206 = load64(p1 + 64);
-		byte *p207 = loadptr(p1 + 80);
-		uint64_t n208 = load64(p1 + 104);
-		uint64_t n209 = (uint64_t)load32(at(p207, load64(p1 + 32) << 3) + 4);
-		uint64_t n210 = usub_sat64(n209, n208);
-		uint64_t n211 = 0;
-		uint64_t n212 = n209;
-		for (;;) {
-			if (n211 == n206) {
-				n213 = n206;
-				break;
-			}
-			if (n208 > n212) {
-				n213 = n211;
-				break;
-			}
-			uint64_t n214 = (uint64_t)load32(at(p207, (n208 + n210) << 3) + 4);
-			n210 = usub_sat64(n214, n208);
-			n211 = n211 + 1;
-			n212 = n214;
+		uint64_t n225 = load64(p1 + 64);
+		uint64_t n226 = load64(p1 + 32);
+		byte *p227 = loadptr(p1 + 80);
+		uint64_t n228 = (uint64_t)load32(at(p227, n226 << 3) + 4);
+		if (n226 == n228) {
+			n229 = 0;
+			n230 = 0;
+		} else {
+			n229 = 1;
+			n230 = n228 - load64(p1 + 104);
 		}
-		if ((((n206 - n213) << 1) + 64) >= load64(p1 + 1368))
+		uint64_t n231 = n230;
+		uint64_t n232 = 0;
+		uint8_t n233 = n229;
+		for (;;) {
+			if (n232 == n225) {
+				n234 = n225;
+				break;
+			}
+			if (n233 != 1) {
+				n234 = n232;
+				break;
+			}
+			uint64_t n235 = load64(p1 + 104);
+			uint64_t n236 = (uint64_t)load32(at(p227, (n235 + n231) << 3) + 4);
+			n231 = usub_sat64(n236, n235);
+			n232 = n232 + 1;
+			n233 = (uint8_t)(n235 <= n236);
+		}
+		if ((((n225 - n234) << 1) + 64) >= load64(p1 + 1368))
 			return 0;
 		tp_handles_sweep(p1 + 1360, p1);
 		return 0;
@@ -65776,8 +66201,8 @@ static uint8_t tp_timer_commands_verbs_do_verb(byte *p1, byte *p2, byte *p3, byt
 	uint64_t n94 = load64u(p2 + 1352);
 	switch (MOSTLY_0(load8(p1))) {
 	case 0: {
-		uint8_t n262;
-		uint64_t n263;
+		uint8_t n264;
+		uint64_t n265;
 		memcpy(p62, p2, 16);
 		memcpy(p63, p2 + 24, 16);
 		memcpy(p64, p2 + 64, 16);
@@ -66442,103 +66867,105 @@ L12:
 				}
 L3:
 				{
-					uint64_t n239;
+					uint64_t n241;
 					if (load64u(p59 + 16) != 0)
 						rattle_dealloc(loadptru(p59));
 					uint64_t n231 = load64(p60 + 16);
 					uint64_t n232 = load64(p60 + 64);
-					byte *p233 = loadptr(p60 + 80);
-					uint64_t n234 = load64(p60 + 104);
-					uint64_t n235 = (uint64_t)load32(at(p233, load64(p60 + 32) << 3) + 4);
-					uint64_t n236 = usub_sat64(n235, n234);
-					uint64_t n237 = 0;
-					uint64_t n238 = n235;
+					uint64_t n233 = load64(p60 + 32);
+					byte *p234 = loadptr(p60 + 80);
+					uint64_t n235 = (uint64_t)load32(at(p234, n233 << 3) + 4);
+					bool b236 = n233 != n235;
+					uint64_t n237 = load64(p60 + 104);
+					uint64_t n238 = b236 ? (n235 - n237) : 0;
+					uint64_t n239 = 0;
+					bool b240 = b236;
 					for (;;) {
-						if (n237 == n232) {
-							n239 = n232;
+						if (n239 == n232) {
+							n241 = n232;
 							break;
 						}
-						if (n234 > n238) {
-							n239 = n237;
+						if (!b240) {
+							n241 = n239;
 							break;
 						}
-						uint64_t n240 = (uint64_t)load32(at(p233, (n234 + n236) << 3) + 4);
-						n236 = usub_sat64(n240, n234);
-						n237 = n237 + 1;
-						n238 = n240;
+						uint64_t n242 = (uint64_t)load32(at(p234, (n237 + n238) << 3) + 4);
+						n238 = usub_sat64(n242, n237);
+						n239 = n239 + 1;
+						b240 = n237 <= n242;
 					}
-					uint8_t n241 = tp_text_push_end(p61, n231, n232 - n239);
-					if ((n241 & 1) == 0) {
-						uint64_t n248 = load64u(p61);
-						uint64_t n249 = load64u(p61 + 8);
-						uint64_t n250 = load64u(p61 + 16);
-						byte *p251 = loadptru(p60 + 80);
-						uint64_t n252 = load64u(p60 + 96);
-						byte *p253 = loadptru(p60 + 208);
-						uint64_t n254 = load64u(p60 + 224);
-						byte *p255 = loadptru(p60 + 1328);
-						uint64_t n256 = load64u(p60 + 1344);
+					uint8_t n243 = tp_text_push_end(p61, n231, n232 - n241);
+					if ((n243 & 1) == 0) {
+						uint64_t n250 = load64u(p61);
+						uint64_t n251 = load64u(p61 + 8);
+						uint64_t n252 = load64u(p61 + 16);
+						byte *p253 = loadptru(p60 + 80);
+						uint64_t n254 = load64u(p60 + 96);
+						byte *p255 = loadptru(p60 + 208);
+						uint64_t n256 = load64u(p60 + 224);
+						byte *p257 = loadptru(p60 + 1328);
+						uint64_t n258 = load64u(p60 + 1344);
 						if (load64u(p60 + 56) != 0)
 							rattle_dealloc(loadptru(p60 + 40));
-						if (n252 != 0)
-							rattle_dealloc(p251);
 						if (n254 != 0)
 							rattle_dealloc(p253);
 						if (n256 != 0)
 							rattle_dealloc(p255);
+						if (n258 != 0)
+							rattle_dealloc(p257);
 						if (load64u(p60 + 1376) != 0)
 							rattle_dealloc(loadptru(p60 + 1360));
-						byte *p257 = (byte *)(uintptr_t)n248;
-						uint64_t n258 = 0;
-						while (n258 < n249) {
-							uint64_t n259 = n249 - n258;
-							uint64_t n260 = os_write(1, at(p257, n258), n259);
-							if ((int64_t)n260 < (int64_t)0) {
+						byte *p259 = (byte *)(uintptr_t)n250;
+						uint64_t n260 = 0;
+						while (n260 < n251) {
+							uint64_t n261 = n251 - n260;
+							uint64_t n262 = os_write(1, at(p259, n260), n261);
+							if ((int64_t)n262 < (int64_t)0) {
 								tp_error_last_error(p57);
 								goto L15;
 							}
-							uint64_t n261 = umin64(n260, n259);
-							if (n261 == 0)
+							uint64_t n263 = umin64(n262, n261);
+							if (n263 == 0)
 								goto L15;
-							n258 = n258 + n261;
+							n260 = n260 + n263;
 						}
-						if (n250 != 0)
-							rattle_dealloc(p257);
+						if (n252 != 0)
+							rattle_dealloc(p259);
 						if (!b97)
 							rattle_dealloc(p95);
 						return 0;
 L15:
 						{
 							store8(p3 + 1, 1);
-							if (n250 != 0)
-								rattle_dealloc(p257);
+							if (n252 != 0)
+								rattle_dealloc(p259);
 							if (b97) {
-								n262 = 4;
-								n263 = n258;
+								n264 = 4;
+								n265 = n260;
 								goto L16;
 							}
 							rattle_dealloc(p95);
-							n262 = 4;
-							n263 = n258;
+							n264 = 4;
+							n265 = n260;
 							goto L16;
 						}
 					}
 					if (load64u(p61 + 16) != 0)
 						rattle_dealloc(loadptru(p61));
-					byte *p242 = loadptru(p60 + 80);
-					uint64_t n243 = load64u(p60 + 96);
-					byte *p244 = loadptru(p60 + 208);
-					uint64_t n245 = load64u(p60 + 224);
-					byte *p246 = loadptru(p60 + 1328);
-					uint64_t n247 = load64u(p60 + 1344);
+					byte *p244 = loadptru(p60 + 80);
+					uint64_t n245 = load64u(p60 + 96);
+					byte *p246 = loadptru(p60 + 208);
+					uint64_t n247 = load64u(p60 + 224);
+					byte *p248 = loadptru(p60 + 1328);
+					uint64_t n249 = load64u(p60 + 1344);
 					if (load64u(p60 + 56) != 0)
 						rattle_dealloc(loadptru(p60 + 40));
-					if (n243 != 0)
-						rattle_dealloc(p242);
 					if (n245 != 0)
 						rattle_dealloc(p244);
 					if (n247 != 0)
 						rattle_dealloc(p246);
+					if (n249 != 0)
+						rattle_dealloc(p248);
 					if (load64u(p60 + 1376) != 0)
 						rattle_dealloc(loadptru(p60 + 1360));
 				}
@@ -66552,27 +66979,27 @@ L13:
 L14:
 			{
 				if (b97) {
-					n262 = n229;
-					n263 = n230;
+					n264 = n229;
+					n265 = n230;
 				} else {
 					rattle_dealloc(p95);
-					n262 = n229;
-					n263 = n230;
+					n264 = n229;
+					n265 = n230;
 				}
 			}
 		} else {
-			uint8_t n264;
+			uint8_t n266;
 			switch (MOSTLY_0(load8(p68 + 1))) {
 			case 0: {
-				n264 = 0;
+				n266 = 0;
 				break;
 			}
 			case 1: {
-				n264 = 1;
+				n266 = 1;
 				break;
 			}
 			case 2: {
-				n264 = 3;
+				n266 = 3;
 				break;
 			}
 			default: {
@@ -66586,26 +67013,26 @@ L14:
 			if (n90 != 0)
 				rattle_dealloc(p88);
 			if (n93 == 0) {
-				n262 = n264;
-				n263 = 0;
+				n264 = n266;
+				n265 = 0;
 			} else {
 				rattle_dealloc(p91);
-				n262 = n264;
-				n263 = 0;
+				n264 = n266;
+				n265 = 0;
 			}
 		}
 L16:
 		{
-			tp_timer_commands_error_report_report(n262, n263, p4);
+			tp_timer_commands_error_report_report(n264, n265, p4);
 			return 1;
 		}
 	}
 	case 1: {
-		uint8_t n373, n442;
-		uint64_t n374, n441;
+		uint8_t n377, n448;
+		uint64_t n378, n447;
 		if ((load8(p1 + 2) & 1) != 0) {
-			uint8_t n266, n347;
-			uint64_t n267, n346;
+			uint8_t n268, n351;
+			uint64_t n269, n350;
 			memcpy(p47, p2, 16);
 			memcpy(p48, p2 + 24, 16);
 			memcpy(p49, p2 + 64, 16);
@@ -66616,8 +67043,8 @@ L16:
 			memset(p54, 0, 1432);
 			memset(p55, 0, 96);
 			memset(p56, 0, 24);
-			of_i64_i64 s265 = rattle_alloc(16384, 1);
-			if ((s265.f0 & 1) == 0) {
+			of_i64_i64 s267 = rattle_alloc(16384, 1);
+			if ((s267.f0 & 1) == 0) {
 				if (n84 != 0)
 					rattle_dealloc(p82);
 				if (n87 != 0)
@@ -66625,24 +67052,24 @@ L16:
 				if (n90 != 0)
 					rattle_dealloc(p88);
 				if (n93 == 0) {
-					n266 = 2;
-					n267 = 0;
+					n268 = 2;
+					n269 = 0;
 				} else {
 					rattle_dealloc(p91);
-					n266 = 2;
-					n267 = 0;
+					n268 = 2;
+					n269 = 0;
 				}
 			} else {
-				uint64_t n273, n284, n285, n296, n298, n300, n302;
-				uint8_t n293;
-				byte *p295, *p297, *p299, *p301;
-				byte *p268 = (byte *)(uintptr_t)s265.f1;
-				uint64_t n269 = 0;
-				while (n269 != 16383) {
-					store8(inside(p268, n269), 0);
-					n269 = n269 + 1;
+				uint64_t n275, n286, n287, n298, n300, n302, n304;
+				uint8_t n295;
+				byte *p297, *p299, *p301, *p303;
+				byte *p270 = (byte *)(uintptr_t)s267.f1;
+				uint64_t n271 = 0;
+				while (n271 != 16383) {
+					store8(inside(p270, n271), 0);
+					n271 = n271 + 1;
 				}
-				store8(p268 + 16383, 0);
+				store8(p270 + 16383, 0);
 				storeptru(p53, p5);
 				memset(p53 + 8, 0, 16);
 				memcpy(p54, p47, 16);
@@ -66682,75 +67109,75 @@ L16:
 				store64u(p55 + 80, 1);
 				store8(p55 + 88, 1);
 				memset(p55 + 89, 0, 7);
-				uint64_t n270 = 0;
+				uint64_t n272 = 0;
 				for (;;) {
-					if (n270 == UINT64_MAX)
+					if (n272 == UINT64_MAX)
 						goto L17;
-					uint64_t n271 = os_read(0, p268, 16384);
-					if ((int64_t)n271 < (int64_t)0)
+					uint64_t n273 = os_read(0, p270, 16384);
+					if ((int64_t)n273 < (int64_t)0)
 						goto L18;
-					tp_Cutter_take_in(p56, p55, p268, umin64(n271, 16384), p4);
+					tp_Cutter_take_in(p56, p55, p270, umin64(n273, 16384), p4);
 					if (load8(p56) != 0)
 						break;
-					uint8_t n272 = load8(p56 + 8);
-					n273 = load64u(p56 + 16);
-					byte *p274 = loadptr(p55 + 8);
-					uint64_t n275 = load64(p55 + 16);
+					uint8_t n274 = load8(p56 + 8);
+					n275 = load64u(p56 + 16);
+					byte *p276 = loadptr(p55 + 8);
+					uint64_t n277 = load64(p55 + 16);
 					if (load64(p53 + 8) != 0)
 						store64(p53 + 8, 0);
-					uint64_t n276 = 0;
-					while (n276 != n275) {
-						byte *p277 = at(p274, n276 * 48);
-						uint64_t n278 = load64u(p277 + 8);
-						uint64_t n279 = load64u(p277 + 16);
-						uint64_t n280 = load64u(p277 + 24);
-						uint64_t n281 = load64u(p277 + 32);
-						uint64_t n282 = load64u(p277 + 40);
-						store64u(p45, (uint64_t)load8(p277));
-						store64(p45 + 8, n278);
-						store64(p45 + 16, n279);
-						store64(p45 + 24, n280);
-						store64(p45 + 32, n281);
-						store64(p45 + 40, n282);
-						uint8_t n283 = tp_session_Session_play_one(p54, p45, p53);
-						if ((n283 & 1) != 0) {
-							n284 = load64(p53 + 8);
+					uint64_t n278 = 0;
+					while (n278 != n277) {
+						byte *p279 = at(p276, n278 * 48);
+						uint64_t n280 = load64u(p279 + 8);
+						uint64_t n281 = load64u(p279 + 16);
+						uint64_t n282 = load64u(p279 + 24);
+						uint64_t n283 = load64u(p279 + 32);
+						uint64_t n284 = load64u(p279 + 40);
+						store64u(p45, (uint64_t)load8(p279));
+						store64(p45 + 8, n280);
+						store64(p45 + 16, n281);
+						store64(p45 + 24, n282);
+						store64(p45 + 32, n283);
+						store64(p45 + 40, n284);
+						uint8_t n285 = tp_session_Session_play_one(p54, p45, p53);
+						if ((n285 & 1) != 0) {
+							n286 = load64(p53 + 8);
 							goto L19;
 						}
-						n285 = load64(p53 + 8);
-						of_i8_i64 s286 = tp_Facility_quiet_until(p54);
-						uint8_t n287 = tp_render_push_wakeup(p53, s286.f0, s286.f1);
-						if ((n287 & 1) != 0)
+						n287 = load64(p53 + 8);
+						of_i8_i64 s288 = tp_Facility_quiet_until(p54);
+						uint8_t n289 = tp_render_push_wakeup(p53, s288.f0, s288.f1);
+						if ((n289 & 1) != 0)
 							goto L20;
-						byte *p288 = loadptr(p53);
-						uint64_t n289 = load64(p53 + 8);
-						uint64_t n290 = 0;
-						while (n290 < n289) {
-							uint64_t n291 = n289 - n290;
-							uint64_t n292 = os_write(1, at(p288, n290), n291);
-							if ((int64_t)n292 < (int64_t)0) {
+						byte *p290 = loadptr(p53);
+						uint64_t n291 = load64(p53 + 8);
+						uint64_t n292 = 0;
+						while (n292 < n291) {
+							uint64_t n293 = n291 - n292;
+							uint64_t n294 = os_write(1, at(p290, n292), n293);
+							if ((int64_t)n294 < (int64_t)0) {
 								tp_error_last_error(p43);
 								store8(p3 + 1, 1);
-								n293 = 3;
+								n295 = 3;
 								goto L21;
 							}
-							uint64_t n294 = umin64(n292, n291);
-							if (n294 == 0) {
+							uint64_t n296 = umin64(n294, n293);
+							if (n296 == 0) {
 								store8(p3 + 1, 1);
-								n293 = 3;
+								n295 = 3;
 								goto L21;
 							}
-							n290 = n290 + n294;
+							n292 = n292 + n296;
 						}
 						if (load64(p53 + 8) != 0)
 							store64(p53 + 8, 0);
-						n276 = n276 + 1;
+						n278 = n278 + 1;
 					}
-					if (n272 == 1)
+					if (n274 == 1)
 						goto L22;
-					if (n271 == 0)
+					if (n273 == 0)
 						goto L23;
-					n270 = n270 + 1;
+					n272 = n272 + 1;
 				}
 				if (load64u(p55 + 24) != 0)
 					rattle_dealloc(loadptru(p55 + 8));
@@ -66758,68 +67185,68 @@ L16:
 					rattle_dealloc(loadptru(p55 + 32));
 				if (load64u(p55 + 72) != 0)
 					rattle_dealloc(loadptru(p55 + 56));
-				p295 = loadptru(p54 + 80);
-				n296 = load64u(p54 + 96);
-				p297 = loadptru(p54 + 208);
-				n298 = load64u(p54 + 224);
-				p299 = loadptru(p54 + 1328);
-				n300 = load64u(p54 + 1344);
-				p301 = loadptru(p54 + 1360);
-				n302 = load64u(p54 + 1376);
+				p297 = loadptru(p54 + 80);
+				n298 = load64u(p54 + 96);
+				p299 = loadptru(p54 + 208);
+				n300 = load64u(p54 + 224);
+				p301 = loadptru(p54 + 1328);
+				n302 = load64u(p54 + 1344);
+				p303 = loadptru(p54 + 1360);
+				n304 = load64u(p54 + 1376);
 				if (load64u(p54 + 56) != 0)
 					rattle_dealloc(loadptru(p54 + 40));
-				if (n296 != 0)
-					rattle_dealloc(p295);
 				if (n298 != 0)
 					rattle_dealloc(p297);
 				if (n300 != 0)
 					rattle_dealloc(p299);
 				if (n302 != 0)
 					rattle_dealloc(p301);
+				if (n304 != 0)
+					rattle_dealloc(p303);
 				if (load64u(p54 + 1400) != 0)
 					rattle_dealloc(loadptru(p54 + 1384));
 				if (load64u(p54 + 1424) != 0)
 					rattle_dealloc(loadptru(p54 + 1408));
 				if (load64u(p53 + 16) != 0)
 					rattle_dealloc(loadptru(p53));
-				rattle_dealloc(p268);
-				n266 = 2;
-				n267 = 0;
+				rattle_dealloc(p270);
+				n268 = 2;
+				n269 = 0;
 				goto L24;
 L20:
 				{
-					uint64_t n303 = load64(p53 + 8);
-					if (n303 > n285) {
-						store64(p53 + 8, n285);
-						n284 = n285;
+					uint64_t n305 = load64(p53 + 8);
+					if (n305 > n287) {
+						store64(p53 + 8, n287);
+						n286 = n287;
 					} else {
-						n284 = n303;
+						n286 = n305;
 					}
 				}
 L19:
 				{
-					byte *p304 = loadptr(p53);
-					uint64_t n305 = 0;
+					byte *p306 = loadptr(p53);
+					uint64_t n307 = 0;
 					for (;;) {
-						if (n305 >= n284) {
-							n293 = 2;
+						if (n307 >= n286) {
+							n295 = 2;
 							break;
 						}
-						uint64_t n306 = n284 - n305;
-						uint64_t n307 = os_write(1, at(p304, n305), n306);
-						if ((int64_t)n307 < (int64_t)0) {
+						uint64_t n308 = n286 - n307;
+						uint64_t n309 = os_write(1, at(p306, n307), n308);
+						if ((int64_t)n309 < (int64_t)0) {
 							tp_error_last_error(p44);
 							store8(p3 + 1, 1);
-							n293 = 3;
+							n295 = 3;
 							break;
 						}
-						uint64_t n308 = umin64(n307, n306);
-						if (n308 == 0) {
+						uint64_t n310 = umin64(n309, n308);
+						if (n310 == 0) {
 							store8(p3 + 1, 1);
-							n293 = 3;
+							n295 = 3;
 							break;
 						}
-						n305 = n305 + n308;
+						n307 = n307 + n310;
 					}
 				}
 L21:
@@ -66830,116 +67257,118 @@ L21:
 						rattle_dealloc(loadptru(p55 + 32));
 					if (load64u(p55 + 72) != 0)
 						rattle_dealloc(loadptru(p55 + 56));
-					byte *p309 = loadptru(p54 + 80);
-					uint64_t n310 = load64u(p54 + 96);
-					byte *p311 = loadptru(p54 + 208);
-					uint64_t n312 = load64u(p54 + 224);
-					byte *p313 = loadptru(p54 + 1328);
-					uint64_t n314 = load64u(p54 + 1344);
-					byte *p315 = loadptru(p54 + 1360);
-					uint64_t n316 = load64u(p54 + 1376);
+					byte *p311 = loadptru(p54 + 80);
+					uint64_t n312 = load64u(p54 + 96);
+					byte *p313 = loadptru(p54 + 208);
+					uint64_t n314 = load64u(p54 + 224);
+					byte *p315 = loadptru(p54 + 1328);
+					uint64_t n316 = load64u(p54 + 1344);
+					byte *p317 = loadptru(p54 + 1360);
+					uint64_t n318 = load64u(p54 + 1376);
 					if (load64u(p54 + 56) != 0)
 						rattle_dealloc(loadptru(p54 + 40));
-					if (n310 != 0)
-						rattle_dealloc(p309);
 					if (n312 != 0)
 						rattle_dealloc(p311);
 					if (n314 != 0)
 						rattle_dealloc(p313);
 					if (n316 != 0)
 						rattle_dealloc(p315);
+					if (n318 != 0)
+						rattle_dealloc(p317);
 					if (load64u(p54 + 1400) != 0)
 						rattle_dealloc(loadptru(p54 + 1384));
 					if (load64u(p54 + 1424) != 0)
 						rattle_dealloc(loadptru(p54 + 1408));
 					if (load64u(p53 + 16) != 0)
 						rattle_dealloc(loadptru(p53));
-					rattle_dealloc(p268);
-					n266 = n293;
-					n267 = 0;
+					rattle_dealloc(p270);
+					n268 = n295;
+					n269 = 0;
 					goto L24;
 				}
 L23:
 				{
-					uint64_t n317;
-					uint8_t n318, n319;
-					bool b320;
+					uint64_t n319;
+					uint8_t n320, n321;
+					bool b322;
 					memset(p42, 0, 24);
 					tp_Cutter_end(p42, p55, p4);
 					if (load8(p42) == 0) {
 						if (load8(p42 + 8) == 1) {
-							n317 = load64u(p42 + 16);
-							n318 = 1;
-							n319 = 1;
-							b320 = true;
+							n319 = load64u(p42 + 16);
+							n320 = 1;
+							n321 = 1;
+							b322 = true;
 						} else {
-							uint64_t n329;
+							uint64_t n333;
 							if (load64(p53 + 8) != 0)
 								store64(p53 + 8, 0);
-							uint64_t n321 = load64(p54 + 16);
-							uint64_t n322 = load64(p54 + 64);
-							byte *p323 = loadptr(p54 + 80);
-							uint64_t n324 = load64(p54 + 104);
-							uint64_t n325 = (uint64_t)load32(at(p323, load64(p54 + 32) << 3) + 4);
-							uint64_t n326 = usub_sat64(n325, n324);
-							uint64_t n327 = 0;
-							uint64_t n328 = n325;
+							uint64_t n323 = load64(p54 + 16);
+							uint64_t n324 = load64(p54 + 64);
+							uint64_t n325 = load64(p54 + 32);
+							byte *p326 = loadptr(p54 + 80);
+							uint64_t n327 = (uint64_t)load32(at(p326, n325 << 3) + 4);
+							bool b328 = n325 != n327;
+							uint64_t n329 = load64(p54 + 104);
+							uint64_t n330 = b328 ? (n327 - n329) : 0;
+							uint64_t n331 = 0;
+							bool b332 = b328;
 							for (;;) {
-								if (n327 == n322) {
-									n329 = n322;
+								if (n331 == n324) {
+									n333 = n324;
 									break;
 								}
-								if (n324 > n328) {
-									n329 = n327;
+								if (!b332) {
+									n333 = n331;
 									break;
 								}
-								uint64_t n330 = (uint64_t)load32(at(p323, (n324 + n326) << 3) + 4);
-								n326 = usub_sat64(n330, n324);
-								n327 = n327 + 1;
-								n328 = n330;
+								uint64_t n334 = (uint64_t)load32(at(p326, (n329 + n330) << 3) + 4);
+								n330 = usub_sat64(n334, n329);
+								n331 = n331 + 1;
+								b332 = n329 <= n334;
 							}
-							uint8_t n331 = tp_text_push_end(p53, n321, n322 - n329);
-							if ((n331 & 1) != 0) {
-								n317 = 0;
-								n318 = 2;
-								n319 = 1;
-								b320 = true;
+							uint8_t n335 = tp_text_push_end(p53, n323, n324 - n333);
+							if ((n335 & 1) != 0) {
+								n319 = 0;
+								n320 = 2;
+								n321 = 1;
+								b322 = true;
 							} else {
-								byte *p332 = loadptr(p53);
-								uint64_t n333 = load64(p53 + 8);
-								uint64_t n334 = 0;
-								while (n334 < n333) {
-									uint64_t n335 = n333 - n334;
-									uint64_t n336 = os_write(1, at(p332, n334), n335);
-									if ((int64_t)n336 < (int64_t)0) {
+								byte *p336 = loadptr(p53);
+								uint64_t n337 = load64(p53 + 8);
+								uint64_t n338 = 0;
+								while (n338 < n337) {
+									uint64_t n339 = n337 - n338;
+									uint64_t n340 = os_write(1, at(p336, n338), n339);
+									if ((int64_t)n340 < (int64_t)0) {
 										tp_error_last_error(p41);
 										goto L25;
 									}
-									uint64_t n337 = umin64(n336, n335);
-									if (n337 == 0)
+									uint64_t n341 = umin64(n340, n339);
+									if (n341 == 0)
 										goto L25;
-									n334 = n334 + n337;
+									n338 = n338 + n341;
 								}
-								n317 = 0;
-								n318 = 0;
-								n319 = (uint8_t)(load8(p55 + 88) ^ 1);
-								b320 = false;
+								n319 = 0;
+								n320 = 0;
+								n321 = (uint8_t)(load8(p55 + 88) ^ 1);
+								b322 = false;
 								goto L26;
 L25:
 								{
 									store8(p3 + 1, 1);
-									n317 = 0;
-									n318 = 3;
-									n319 = 1;
-									b320 = true;
+									n319 = 0;
+									n320 = 3;
+									n321 = 1;
+									b322 = true;
 								}
 							}
 						}
 					} else {
-						n317 = 0;
-						n318 = 2;
-						n319 = 1;
-						b320 = true;
+						n319 = 0;
+						n320 = 2;
+						n321 = 1;
+						b322 = true;
 					}
 L26:
 					{
@@ -66949,35 +67378,35 @@ L26:
 							rattle_dealloc(loadptru(p55 + 32));
 						if (load64u(p55 + 72) != 0)
 							rattle_dealloc(loadptru(p55 + 56));
-						byte *p338 = loadptru(p54 + 80);
-						uint64_t n339 = load64u(p54 + 96);
-						byte *p340 = loadptru(p54 + 208);
-						uint64_t n341 = load64u(p54 + 224);
-						byte *p342 = loadptru(p54 + 1328);
-						uint64_t n343 = load64u(p54 + 1344);
-						byte *p344 = loadptru(p54 + 1360);
-						uint64_t n345 = load64u(p54 + 1376);
+						byte *p342 = loadptru(p54 + 80);
+						uint64_t n343 = load64u(p54 + 96);
+						byte *p344 = loadptru(p54 + 208);
+						uint64_t n345 = load64u(p54 + 224);
+						byte *p346 = loadptru(p54 + 1328);
+						uint64_t n347 = load64u(p54 + 1344);
+						byte *p348 = loadptru(p54 + 1360);
+						uint64_t n349 = load64u(p54 + 1376);
 						if (load64u(p54 + 56) != 0)
 							rattle_dealloc(loadptru(p54 + 40));
-						if (n339 != 0)
-							rattle_dealloc(p338);
-						if (n341 != 0)
-							rattle_dealloc(p340);
 						if (n343 != 0)
 							rattle_dealloc(p342);
 						if (n345 != 0)
 							rattle_dealloc(p344);
+						if (n347 != 0)
+							rattle_dealloc(p346);
+						if (n349 != 0)
+							rattle_dealloc(p348);
 						if (load64u(p54 + 1400) != 0)
 							rattle_dealloc(loadptru(p54 + 1384));
 						if (load64u(p54 + 1424) != 0)
 							rattle_dealloc(loadptru(p54 + 1408));
 						if (load64u(p53 + 16) != 0)
 							rattle_dealloc(loadptru(p53));
-						rattle_dealloc(p268);
-						if (!b320)
-							return n319;
-						n346 = n317;
-						n347 = n318;
+						rattle_dealloc(p270);
+						if (!b322)
+							return n321;
+						n350 = n319;
+						n351 = n320;
 						goto L27;
 					}
 				}
@@ -66989,33 +67418,33 @@ L22:
 						rattle_dealloc(loadptru(p55 + 32));
 					if (load64u(p55 + 72) != 0)
 						rattle_dealloc(loadptru(p55 + 56));
-					byte *p348 = loadptru(p54 + 80);
-					uint64_t n349 = load64u(p54 + 96);
-					byte *p350 = loadptru(p54 + 208);
-					uint64_t n351 = load64u(p54 + 224);
-					byte *p352 = loadptru(p54 + 1328);
-					uint64_t n353 = load64u(p54 + 1344);
-					byte *p354 = loadptru(p54 + 1360);
-					uint64_t n355 = load64u(p54 + 1376);
+					byte *p352 = loadptru(p54 + 80);
+					uint64_t n353 = load64u(p54 + 96);
+					byte *p354 = loadptru(p54 + 208);
+					uint64_t n355 = load64u(p54 + 224);
+					byte *p356 = loadptru(p54 + 1328);
+					uint64_t n357 = load64u(p54 + 1344);
+					byte *p358 = loadptru(p54 + 1360);
+					uint64_t n359 = load64u(p54 + 1376);
 					if (load64u(p54 + 56) != 0)
 						rattle_dealloc(loadptru(p54 + 40));
-					if (n349 != 0)
-						rattle_dealloc(p348);
-					if (n351 != 0)
-						rattle_dealloc(p350);
 					if (n353 != 0)
 						rattle_dealloc(p352);
 					if (n355 != 0)
 						rattle_dealloc(p354);
+					if (n357 != 0)
+						rattle_dealloc(p356);
+					if (n359 != 0)
+						rattle_dealloc(p358);
 					if (load64u(p54 + 1400) != 0)
 						rattle_dealloc(loadptru(p54 + 1384));
 					if (load64u(p54 + 1424) != 0)
 						rattle_dealloc(loadptru(p54 + 1408));
 					if (load64u(p53 + 16) != 0)
 						rattle_dealloc(loadptru(p53));
-					rattle_dealloc(p268);
-					n266 = 1;
-					n267 = n273;
+					rattle_dealloc(p270);
+					n268 = 1;
+					n269 = n275;
 					goto L24;
 				}
 L18:
@@ -67028,33 +67457,33 @@ L18:
 						rattle_dealloc(loadptru(p55 + 32));
 					if (load64u(p55 + 72) != 0)
 						rattle_dealloc(loadptru(p55 + 56));
-					byte *p356 = loadptru(p54 + 80);
-					uint64_t n357 = load64u(p54 + 96);
-					byte *p358 = loadptru(p54 + 208);
-					uint64_t n359 = load64u(p54 + 224);
-					byte *p360 = loadptru(p54 + 1328);
-					uint64_t n361 = load64u(p54 + 1344);
-					byte *p362 = loadptru(p54 + 1360);
-					uint64_t n363 = load64u(p54 + 1376);
+					byte *p360 = loadptru(p54 + 80);
+					uint64_t n361 = load64u(p54 + 96);
+					byte *p362 = loadptru(p54 + 208);
+					uint64_t n363 = load64u(p54 + 224);
+					byte *p364 = loadptru(p54 + 1328);
+					uint64_t n365 = load64u(p54 + 1344);
+					byte *p366 = loadptru(p54 + 1360);
+					uint64_t n367 = load64u(p54 + 1376);
 					if (load64u(p54 + 56) != 0)
 						rattle_dealloc(loadptru(p54 + 40));
-					if (n357 != 0)
-						rattle_dealloc(p356);
-					if (n359 != 0)
-						rattle_dealloc(p358);
 					if (n361 != 0)
 						rattle_dealloc(p360);
 					if (n363 != 0)
 						rattle_dealloc(p362);
+					if (n365 != 0)
+						rattle_dealloc(p364);
+					if (n367 != 0)
+						rattle_dealloc(p366);
 					if (load64u(p54 + 1400) != 0)
 						rattle_dealloc(loadptru(p54 + 1384));
 					if (load64u(p54 + 1424) != 0)
 						rattle_dealloc(loadptru(p54 + 1408));
 					if (load64u(p53 + 16) != 0)
 						rattle_dealloc(loadptru(p53));
-					rattle_dealloc(p268);
-					n266 = 0;
-					n267 = 0;
+					rattle_dealloc(p270);
+					n268 = 0;
+					n269 = 0;
 					goto L24;
 				}
 L17:
@@ -67065,43 +67494,43 @@ L17:
 						rattle_dealloc(loadptru(p55 + 32));
 					if (load64u(p55 + 72) != 0)
 						rattle_dealloc(loadptru(p55 + 56));
-					byte *p364 = loadptru(p54 + 80);
-					uint64_t n365 = load64u(p54 + 96);
-					byte *p366 = loadptru(p54 + 208);
-					uint64_t n367 = load64u(p54 + 224);
-					byte *p368 = loadptru(p54 + 1328);
-					uint64_t n369 = load64u(p54 + 1344);
-					byte *p370 = loadptru(p54 + 1360);
-					uint64_t n371 = load64u(p54 + 1376);
+					byte *p368 = loadptru(p54 + 80);
+					uint64_t n369 = load64u(p54 + 96);
+					byte *p370 = loadptru(p54 + 208);
+					uint64_t n371 = load64u(p54 + 224);
+					byte *p372 = loadptru(p54 + 1328);
+					uint64_t n373 = load64u(p54 + 1344);
+					byte *p374 = loadptru(p54 + 1360);
+					uint64_t n375 = load64u(p54 + 1376);
 					if (load64u(p54 + 56) != 0)
 						rattle_dealloc(loadptru(p54 + 40));
-					if (n365 != 0)
-						rattle_dealloc(p364);
-					if (n367 != 0)
-						rattle_dealloc(p366);
 					if (n369 != 0)
 						rattle_dealloc(p368);
 					if (n371 != 0)
 						rattle_dealloc(p370);
+					if (n373 != 0)
+						rattle_dealloc(p372);
+					if (n375 != 0)
+						rattle_dealloc(p374);
 					if (load64u(p54 + 1400) != 0)
 						rattle_dealloc(loadptru(p54 + 1384));
 					if (load64u(p54 + 1424) != 0)
 						rattle_dealloc(loadptru(p54 + 1408));
 					if (load64u(p53 + 16) != 0)
 						rattle_dealloc(loadptru(p53));
-					rattle_dealloc(p268);
-					n266 = 4;
-					n267 = 0;
+					rattle_dealloc(p270);
+					n268 = 4;
+					n269 = 0;
 				}
 			}
 L24:
 			{
-				n346 = n267;
-				n347 = n266;
+				n350 = n269;
+				n351 = n268;
 			}
 L27:
 			{
-				tp_timer_commands_error_report_report_2(n347, n346, p4);
+				tp_timer_commands_error_report_report_2(n351, n350, p4);
 				return 1;
 			}
 		}
@@ -67115,8 +67544,8 @@ L27:
 		memset(p38, 0, 1432);
 		memset(p39, 0, 96);
 		memset(p40, 0, 24);
-		of_i64_i64 s372 = rattle_alloc(16384, 1);
-		if ((s372.f0 & 1) == 0) {
+		of_i64_i64 s376 = rattle_alloc(16384, 1);
+		if ((s376.f0 & 1) == 0) {
 			if (n84 != 0)
 				rattle_dealloc(p82);
 			if (n87 != 0)
@@ -67124,24 +67553,24 @@ L27:
 			if (n90 != 0)
 				rattle_dealloc(p88);
 			if (n93 == 0) {
-				n373 = 2;
-				n374 = 0;
+				n377 = 2;
+				n378 = 0;
 			} else {
 				rattle_dealloc(p91);
-				n373 = 2;
-				n374 = 0;
+				n377 = 2;
+				n378 = 0;
 			}
 		} else {
-			uint64_t n380, n399, n401, n403, n405;
-			uint8_t n396;
-			byte *p398, *p400, *p402, *p404;
-			byte *p375 = (byte *)(uintptr_t)s372.f1;
-			uint64_t n376 = 0;
-			while (n376 != 16383) {
-				store8(inside(p375, n376), 0);
-				n376 = n376 + 1;
+			uint64_t n384, n403, n405, n407, n409;
+			uint8_t n400;
+			byte *p402, *p404, *p406, *p408;
+			byte *p379 = (byte *)(uintptr_t)s376.f1;
+			uint64_t n380 = 0;
+			while (n380 != 16383) {
+				store8(inside(p379, n380), 0);
+				n380 = n380 + 1;
 			}
-			store8(p375 + 16383, 0);
+			store8(p379 + 16383, 0);
 			storeptru(p37, p5);
 			memset(p37 + 8, 0, 16);
 			memcpy(p38, p31, 16);
@@ -67181,66 +67610,66 @@ L27:
 			store64u(p39 + 80, 1);
 			store8(p39 + 88, 1);
 			memset(p39 + 89, 0, 7);
-			uint64_t n377 = 0;
+			uint64_t n381 = 0;
 			for (;;) {
-				if (n377 == UINT64_MAX)
+				if (n381 == UINT64_MAX)
 					goto L28;
-				uint64_t n378 = os_read(0, p375, 16384);
-				if ((int64_t)n378 < (int64_t)0)
+				uint64_t n382 = os_read(0, p379, 16384);
+				if ((int64_t)n382 < (int64_t)0)
 					goto L29;
-				tp_Cutter_take_in(p40, p39, p375, umin64(n378, 16384), p4);
+				tp_Cutter_take_in(p40, p39, p379, umin64(n382, 16384), p4);
 				if (load8(p40) != 0)
 					break;
-				uint8_t n379 = load8(p40 + 8);
-				n380 = load64u(p40 + 16);
-				byte *p381 = loadptr(p39 + 8);
-				uint64_t n382 = load64(p39 + 16);
+				uint8_t n383 = load8(p40 + 8);
+				n384 = load64u(p40 + 16);
+				byte *p385 = loadptr(p39 + 8);
+				uint64_t n386 = load64(p39 + 16);
 				if (load64(p37 + 8) != 0)
 					store64(p37 + 8, 0);
-				uint64_t n383 = 0;
-				while (n383 != n382) {
-					byte *p384 = at(p381, n383 * 48);
-					uint64_t n385 = load64u(p384 + 8);
-					uint64_t n386 = load64u(p384 + 16);
-					uint64_t n387 = load64u(p384 + 24);
-					uint64_t n388 = load64u(p384 + 32);
-					uint64_t n389 = load64u(p384 + 40);
-					store64u(p29, (uint64_t)load8(p384));
-					store64(p29 + 8, n385);
-					store64(p29 + 16, n386);
-					store64(p29 + 24, n387);
-					store64(p29 + 32, n388);
-					store64(p29 + 40, n389);
-					uint8_t n390 = tp_session_Session_play_one(p38, p29, p37);
-					if ((n390 & 1) != 0)
+				uint64_t n387 = 0;
+				while (n387 != n386) {
+					byte *p388 = at(p385, n387 * 48);
+					uint64_t n389 = load64u(p388 + 8);
+					uint64_t n390 = load64u(p388 + 16);
+					uint64_t n391 = load64u(p388 + 24);
+					uint64_t n392 = load64u(p388 + 32);
+					uint64_t n393 = load64u(p388 + 40);
+					store64u(p29, (uint64_t)load8(p388));
+					store64(p29 + 8, n389);
+					store64(p29 + 16, n390);
+					store64(p29 + 24, n391);
+					store64(p29 + 32, n392);
+					store64(p29 + 40, n393);
+					uint8_t n394 = tp_session_Session_play_one(p38, p29, p37);
+					if ((n394 & 1) != 0)
 						goto L30;
-					n383 = n383 + 1;
+					n387 = n387 + 1;
 				}
-				byte *p391 = loadptr(p37);
-				uint64_t n392 = load64(p37 + 8);
-				uint64_t n393 = 0;
-				while (n393 < n392) {
-					uint64_t n394 = n392 - n393;
-					uint64_t n395 = os_write(1, at(p391, n393), n394);
-					if ((int64_t)n395 < (int64_t)0) {
+				byte *p395 = loadptr(p37);
+				uint64_t n396 = load64(p37 + 8);
+				uint64_t n397 = 0;
+				while (n397 < n396) {
+					uint64_t n398 = n396 - n397;
+					uint64_t n399 = os_write(1, at(p395, n397), n398);
+					if ((int64_t)n399 < (int64_t)0) {
 						tp_error_last_error(p27);
 						store8(p3 + 1, 1);
-						n396 = 3;
+						n400 = 3;
 						goto L31;
 					}
-					uint64_t n397 = umin64(n395, n394);
-					if (n397 == 0) {
+					uint64_t n401 = umin64(n399, n398);
+					if (n401 == 0) {
 						store8(p3 + 1, 1);
-						n396 = 3;
+						n400 = 3;
 						goto L31;
 					}
-					n393 = n393 + n397;
+					n397 = n397 + n401;
 				}
-				if (n379 == 1)
+				if (n383 == 1)
 					goto L32;
-				if (n378 == 0)
+				if (n382 == 0)
 					goto L33;
-				n377 = n377 + 1;
+				n381 = n381 + 1;
 			}
 			if (load64u(p39 + 24) != 0)
 				rattle_dealloc(loadptru(p39 + 8));
@@ -67248,142 +67677,144 @@ L27:
 				rattle_dealloc(loadptru(p39 + 32));
 			if (load64u(p39 + 72) != 0)
 				rattle_dealloc(loadptru(p39 + 56));
-			p398 = loadptru(p38 + 80);
-			n399 = load64u(p38 + 96);
-			p400 = loadptru(p38 + 208);
-			n401 = load64u(p38 + 224);
-			p402 = loadptru(p38 + 1328);
-			n403 = load64u(p38 + 1344);
-			p404 = loadptru(p38 + 1360);
-			n405 = load64u(p38 + 1376);
+			p402 = loadptru(p38 + 80);
+			n403 = load64u(p38 + 96);
+			p404 = loadptru(p38 + 208);
+			n405 = load64u(p38 + 224);
+			p406 = loadptru(p38 + 1328);
+			n407 = load64u(p38 + 1344);
+			p408 = loadptru(p38 + 1360);
+			n409 = load64u(p38 + 1376);
 			if (load64u(p38 + 56) != 0)
 				rattle_dealloc(loadptru(p38 + 40));
-			if (n399 != 0)
-				rattle_dealloc(p398);
-			if (n401 != 0)
-				rattle_dealloc(p400);
 			if (n403 != 0)
 				rattle_dealloc(p402);
 			if (n405 != 0)
 				rattle_dealloc(p404);
+			if (n407 != 0)
+				rattle_dealloc(p406);
+			if (n409 != 0)
+				rattle_dealloc(p408);
 			if (load64u(p38 + 1400) != 0)
 				rattle_dealloc(loadptru(p38 + 1384));
 			if (load64u(p38 + 1424) != 0)
 				rattle_dealloc(loadptru(p38 + 1408));
 			if (load64u(p37 + 16) != 0)
 				rattle_dealloc(loadptru(p37));
-			rattle_dealloc(p375);
-			n373 = 2;
-			n374 = 0;
+			rattle_dealloc(p379);
+			n377 = 2;
+			n378 = 0;
 			goto L34;
 L30:
 			{
-				byte *p406 = loadptr(p37);
-				uint64_t n407 = load64(p37 + 8);
-				uint64_t n408 = 0;
+				byte *p410 = loadptr(p37);
+				uint64_t n411 = load64(p37 + 8);
+				uint64_t n412 = 0;
 				for (;;) {
-					if (n408 >= n407) {
-						n396 = 2;
+					if (n412 >= n411) {
+						n400 = 2;
 						goto L31;
 					}
-					uint64_t n409 = n407 - n408;
-					uint64_t n410 = os_write(1, at(p406, n408), n409);
-					if ((int64_t)n410 < (int64_t)0) {
+					uint64_t n413 = n411 - n412;
+					uint64_t n414 = os_write(1, at(p410, n412), n413);
+					if ((int64_t)n414 < (int64_t)0) {
 						tp_error_last_error(p28);
 						store8(p3 + 1, 1);
-						n396 = 3;
+						n400 = 3;
 						goto L31;
 					}
-					uint64_t n411 = umin64(n410, n409);
-					if (n411 == 0) {
+					uint64_t n415 = umin64(n414, n413);
+					if (n415 == 0) {
 						store8(p3 + 1, 1);
-						n396 = 3;
+						n400 = 3;
 						goto L31;
 					}
-					n408 = n408 + n411;
+					n412 = n412 + n415;
 				}
 			}
 L33:
 			{
-				uint64_t n412;
-				uint8_t n413, n414;
-				bool b415;
+				uint64_t n416;
+				uint8_t n417, n418;
+				bool b419;
 				memset(p26, 0, 24);
 				tp_Cutter_end(p26, p39, p4);
 				if (load8(p26) == 0) {
 					if (load8(p26 + 8) == 1) {
-						n412 = load64u(p26 + 16);
-						n413 = 1;
-						n414 = 1;
-						b415 = true;
+						n416 = load64u(p26 + 16);
+						n417 = 1;
+						n418 = 1;
+						b419 = true;
 					} else {
-						uint64_t n424;
+						uint64_t n430;
 						if (load64(p37 + 8) != 0)
 							store64(p37 + 8, 0);
-						uint64_t n416 = load64(p38 + 16);
-						uint64_t n417 = load64(p38 + 64);
-						byte *p418 = loadptr(p38 + 80);
-						uint64_t n419 = load64(p38 + 104);
-						uint64_t n420 = (uint64_t)load32(at(p418, load64(p38 + 32) << 3) + 4);
-						uint64_t n421 = usub_sat64(n420, n419);
-						uint64_t n422 = 0;
-						uint64_t n423 = n420;
+						uint64_t n420 = load64(p38 + 16);
+						uint64_t n421 = load64(p38 + 64);
+						uint64_t n422 = load64(p38 + 32);
+						byte *p423 = loadptr(p38 + 80);
+						uint64_t n424 = (uint64_t)load32(at(p423, n422 << 3) + 4);
+						bool b425 = n422 != n424;
+						uint64_t n426 = load64(p38 + 104);
+						uint64_t n427 = b425 ? (n424 - n426) : 0;
+						uint64_t n428 = 0;
+						bool b429 = b425;
 						for (;;) {
-							if (n422 == n417) {
-								n424 = n417;
+							if (n428 == n421) {
+								n430 = n421;
 								break;
 							}
-							if (n419 > n423) {
-								n424 = n422;
+							if (!b429) {
+								n430 = n428;
 								break;
 							}
-							uint64_t n425 = (uint64_t)load32(at(p418, (n419 + n421) << 3) + 4);
-							n421 = usub_sat64(n425, n419);
-							n422 = n422 + 1;
-							n423 = n425;
+							uint64_t n431 = (uint64_t)load32(at(p423, (n426 + n427) << 3) + 4);
+							n427 = usub_sat64(n431, n426);
+							n428 = n428 + 1;
+							b429 = n426 <= n431;
 						}
-						uint8_t n426 = tp_text_push_end(p37, n416, n417 - n424);
-						if ((n426 & 1) != 0) {
-							n412 = 0;
-							n413 = 2;
-							n414 = 1;
-							b415 = true;
+						uint8_t n432 = tp_text_push_end(p37, n420, n421 - n430);
+						if ((n432 & 1) != 0) {
+							n416 = 0;
+							n417 = 2;
+							n418 = 1;
+							b419 = true;
 						} else {
-							byte *p427 = loadptr(p37);
-							uint64_t n428 = load64(p37 + 8);
-							uint64_t n429 = 0;
-							while (n429 < n428) {
-								uint64_t n430 = n428 - n429;
-								uint64_t n431 = os_write(1, at(p427, n429), n430);
-								if ((int64_t)n431 < (int64_t)0) {
+							byte *p433 = loadptr(p37);
+							uint64_t n434 = load64(p37 + 8);
+							uint64_t n435 = 0;
+							while (n435 < n434) {
+								uint64_t n436 = n434 - n435;
+								uint64_t n437 = os_write(1, at(p433, n435), n436);
+								if ((int64_t)n437 < (int64_t)0) {
 									tp_error_last_error(p25);
 									goto L35;
 								}
-								uint64_t n432 = umin64(n431, n430);
-								if (n432 == 0)
+								uint64_t n438 = umin64(n437, n436);
+								if (n438 == 0)
 									goto L35;
-								n429 = n429 + n432;
+								n435 = n435 + n438;
 							}
-							n412 = 0;
-							n413 = 0;
-							n414 = (uint8_t)(load8(p39 + 88) ^ 1);
-							b415 = false;
+							n416 = 0;
+							n417 = 0;
+							n418 = (uint8_t)(load8(p39 + 88) ^ 1);
+							b419 = false;
 							goto L36;
 L35:
 							{
 								store8(p3 + 1, 1);
-								n412 = 0;
-								n413 = 3;
-								n414 = 1;
-								b415 = true;
+								n416 = 0;
+								n417 = 3;
+								n418 = 1;
+								b419 = true;
 							}
 						}
 					}
 				} else {
-					n412 = 0;
-					n413 = 2;
-					n414 = 1;
-					b415 = true;
+					n416 = 0;
+					n417 = 2;
+					n418 = 1;
+					b419 = true;
 				}
 L36:
 				{
@@ -67393,35 +67824,35 @@ L36:
 						rattle_dealloc(loadptru(p39 + 32));
 					if (load64u(p39 + 72) != 0)
 						rattle_dealloc(loadptru(p39 + 56));
-					byte *p433 = loadptru(p38 + 80);
-					uint64_t n434 = load64u(p38 + 96);
-					byte *p435 = loadptru(p38 + 208);
-					uint64_t n436 = load64u(p38 + 224);
-					byte *p437 = loadptru(p38 + 1328);
-					uint64_t n438 = load64u(p38 + 1344);
-					byte *p439 = loadptru(p38 + 1360);
-					uint64_t n440 = load64u(p38 + 1376);
+					byte *p439 = loadptru(p38 + 80);
+					uint64_t n440 = load64u(p38 + 96);
+					byte *p441 = loadptru(p38 + 208);
+					uint64_t n442 = load64u(p38 + 224);
+					byte *p443 = loadptru(p38 + 1328);
+					uint64_t n444 = load64u(p38 + 1344);
+					byte *p445 = loadptru(p38 + 1360);
+					uint64_t n446 = load64u(p38 + 1376);
 					if (load64u(p38 + 56) != 0)
 						rattle_dealloc(loadptru(p38 + 40));
-					if (n434 != 0)
-						rattle_dealloc(p433);
-					if (n436 != 0)
-						rattle_dealloc(p435);
-					if (n438 != 0)
-						rattle_dealloc(p437);
 					if (n440 != 0)
 						rattle_dealloc(p439);
+					if (n442 != 0)
+						rattle_dealloc(p441);
+					if (n444 != 0)
+						rattle_dealloc(p443);
+					if (n446 != 0)
+						rattle_dealloc(p445);
 					if (load64u(p38 + 1400) != 0)
 						rattle_dealloc(loadptru(p38 + 1384));
 					if (load64u(p38 + 1424) != 0)
 						rattle_dealloc(loadptru(p38 + 1408));
 					if (load64u(p37 + 16) != 0)
 						rattle_dealloc(loadptru(p37));
-					rattle_dealloc(p375);
-					if (!b415)
-						return n414;
-					n441 = n412;
-					n442 = n413;
+					rattle_dealloc(p379);
+					if (!b419)
+						return n418;
+					n447 = n416;
+					n448 = n417;
 					goto L37;
 				}
 			}
@@ -67433,33 +67864,33 @@ L32:
 					rattle_dealloc(loadptru(p39 + 32));
 				if (load64u(p39 + 72) != 0)
 					rattle_dealloc(loadptru(p39 + 56));
-				byte *p443 = loadptru(p38 + 80);
-				uint64_t n444 = load64u(p38 + 96);
-				byte *p445 = loadptru(p38 + 208);
-				uint64_t n446 = load64u(p38 + 224);
-				byte *p447 = loadptru(p38 + 1328);
-				uint64_t n448 = load64u(p38 + 1344);
-				byte *p449 = loadptru(p38 + 1360);
-				uint64_t n450 = load64u(p38 + 1376);
+				byte *p449 = loadptru(p38 + 80);
+				uint64_t n450 = load64u(p38 + 96);
+				byte *p451 = loadptru(p38 + 208);
+				uint64_t n452 = load64u(p38 + 224);
+				byte *p453 = loadptru(p38 + 1328);
+				uint64_t n454 = load64u(p38 + 1344);
+				byte *p455 = loadptru(p38 + 1360);
+				uint64_t n456 = load64u(p38 + 1376);
 				if (load64u(p38 + 56) != 0)
 					rattle_dealloc(loadptru(p38 + 40));
-				if (n444 != 0)
-					rattle_dealloc(p443);
-				if (n446 != 0)
-					rattle_dealloc(p445);
-				if (n448 != 0)
-					rattle_dealloc(p447);
 				if (n450 != 0)
 					rattle_dealloc(p449);
+				if (n452 != 0)
+					rattle_dealloc(p451);
+				if (n454 != 0)
+					rattle_dealloc(p453);
+				if (n456 != 0)
+					rattle_dealloc(p455);
 				if (load64u(p38 + 1400) != 0)
 					rattle_dealloc(loadptru(p38 + 1384));
 				if (load64u(p38 + 1424) != 0)
 					rattle_dealloc(loadptru(p38 + 1408));
 				if (load64u(p37 + 16) != 0)
 					rattle_dealloc(loadptru(p37));
-				rattle_dealloc(p375);
-				n373 = 1;
-				n374 = n380;
+				rattle_dealloc(p379);
+				n377 = 1;
+				n378 = n384;
 				goto L34;
 			}
 L31:
@@ -67470,33 +67901,33 @@ L31:
 					rattle_dealloc(loadptru(p39 + 32));
 				if (load64u(p39 + 72) != 0)
 					rattle_dealloc(loadptru(p39 + 56));
-				byte *p451 = loadptru(p38 + 80);
-				uint64_t n452 = load64u(p38 + 96);
-				byte *p453 = loadptru(p38 + 208);
-				uint64_t n454 = load64u(p38 + 224);
-				byte *p455 = loadptru(p38 + 1328);
-				uint64_t n456 = load64u(p38 + 1344);
-				byte *p457 = loadptru(p38 + 1360);
-				uint64_t n458 = load64u(p38 + 1376);
+				byte *p457 = loadptru(p38 + 80);
+				uint64_t n458 = load64u(p38 + 96);
+				byte *p459 = loadptru(p38 + 208);
+				uint64_t n460 = load64u(p38 + 224);
+				byte *p461 = loadptru(p38 + 1328);
+				uint64_t n462 = load64u(p38 + 1344);
+				byte *p463 = loadptru(p38 + 1360);
+				uint64_t n464 = load64u(p38 + 1376);
 				if (load64u(p38 + 56) != 0)
 					rattle_dealloc(loadptru(p38 + 40));
-				if (n452 != 0)
-					rattle_dealloc(p451);
-				if (n454 != 0)
-					rattle_dealloc(p453);
-				if (n456 != 0)
-					rattle_dealloc(p455);
 				if (n458 != 0)
 					rattle_dealloc(p457);
+				if (n460 != 0)
+					rattle_dealloc(p459);
+				if (n462 != 0)
+					rattle_dealloc(p461);
+				if (n464 != 0)
+					rattle_dealloc(p463);
 				if (load64u(p38 + 1400) != 0)
 					rattle_dealloc(loadptru(p38 + 1384));
 				if (load64u(p38 + 1424) != 0)
 					rattle_dealloc(loadptru(p38 + 1408));
 				if (load64u(p37 + 16) != 0)
 					rattle_dealloc(loadptru(p37));
-				rattle_dealloc(p375);
-				n373 = n396;
-				n374 = 0;
+				rattle_dealloc(p379);
+				n377 = n400;
+				n378 = 0;
 				goto L34;
 			}
 L29:
@@ -67509,33 +67940,33 @@ L29:
 					rattle_dealloc(loadptru(p39 + 32));
 				if (load64u(p39 + 72) != 0)
 					rattle_dealloc(loadptru(p39 + 56));
-				byte *p459 = loadptru(p38 + 80);
-				uint64_t n460 = load64u(p38 + 96);
-				byte *p461 = loadptru(p38 + 208);
-				uint64_t n462 = load64u(p38 + 224);
-				byte *p463 = loadptru(p38 + 1328);
-				uint64_t n464 = load64u(p38 + 1344);
-				byte *p465 = loadptru(p38 + 1360);
-				uint64_t n466 = load64u(p38 + 1376);
+				byte *p465 = loadptru(p38 + 80);
+				uint64_t n466 = load64u(p38 + 96);
+				byte *p467 = loadptru(p38 + 208);
+				uint64_t n468 = load64u(p38 + 224);
+				byte *p469 = loadptru(p38 + 1328);
+				uint64_t n470 = load64u(p38 + 1344);
+				byte *p471 = loadptru(p38 + 1360);
+				uint64_t n472 = load64u(p38 + 1376);
 				if (load64u(p38 + 56) != 0)
 					rattle_dealloc(loadptru(p38 + 40));
-				if (n460 != 0)
-					rattle_dealloc(p459);
-				if (n462 != 0)
-					rattle_dealloc(p461);
-				if (n464 != 0)
-					rattle_dealloc(p463);
 				if (n466 != 0)
 					rattle_dealloc(p465);
+				if (n468 != 0)
+					rattle_dealloc(p467);
+				if (n470 != 0)
+					rattle_dealloc(p469);
+				if (n472 != 0)
+					rattle_dealloc(p471);
 				if (load64u(p38 + 1400) != 0)
 					rattle_dealloc(loadptru(p38 + 1384));
 				if (load64u(p38 + 1424) != 0)
 					rattle_dealloc(loadptru(p38 + 1408));
 				if (load64u(p37 + 16) != 0)
 					rattle_dealloc(loadptru(p37));
-				rattle_dealloc(p375);
-				n373 = 0;
-				n374 = 0;
+				rattle_dealloc(p379);
+				n377 = 0;
+				n378 = 0;
 				goto L34;
 			}
 L28:
@@ -67546,49 +67977,49 @@ L28:
 					rattle_dealloc(loadptru(p39 + 32));
 				if (load64u(p39 + 72) != 0)
 					rattle_dealloc(loadptru(p39 + 56));
-				byte *p467 = loadptru(p38 + 80);
-				uint64_t n468 = load64u(p38 + 96);
-				byte *p469 = loadptru(p38 + 208);
-				uint64_t n470 = load64u(p38 + 224);
-				byte *p471 = loadptru(p38 + 1328);
-				uint64_t n472 = load64u(p38 + 1344);
-				byte *p473 = loadptru(p38 + 1360);
-				uint64_t n474 = load64u(p38 + 1376);
+				byte *p473 = loadptru(p38 + 80);
+				uint64_t n474 = load64u(p38 + 96);
+				byte *p475 = loadptru(p38 + 208);
+				uint64_t n476 = load64u(p38 + 224);
+				byte *p477 = loadptru(p38 + 1328);
+				uint64_t n478 = load64u(p38 + 1344);
+				byte *p479 = loadptru(p38 + 1360);
+				uint64_t n480 = load64u(p38 + 1376);
 				if (load64u(p38 + 56) != 0)
 					rattle_dealloc(loadptru(p38 + 40));
-				if (n468 != 0)
-					rattle_dealloc(p467);
-				if (n470 != 0)
-					rattle_dealloc(p469);
-				if (n472 != 0)
-					rattle_dealloc(p471);
 				if (n474 != 0)
 					rattle_dealloc(p473);
+				if (n476 != 0)
+					rattle_dealloc(p475);
+				if (n478 != 0)
+					rattle_dealloc(p477);
+				if (n480 != 0)
+					rattle_dealloc(p479);
 				if (load64u(p38 + 1400) != 0)
 					rattle_dealloc(loadptru(p38 + 1384));
 				if (load64u(p38 + 1424) != 0)
 					rattle_dealloc(loadptru(p38 + 1408));
 				if (load64u(p37 + 16) != 0)
 					rattle_dealloc(loadptru(p37));
-				rattle_dealloc(p375);
-				n373 = 4;
-				n374 = 0;
+				rattle_dealloc(p379);
+				n377 = 4;
+				n378 = 0;
 			}
 		}
 L34:
 		{
-			n441 = n374;
-			n442 = n373;
+			n447 = n378;
+			n448 = n377;
 		}
 L37:
 		{
-			tp_timer_commands_error_report_report_2(n442, n441, p4);
+			tp_timer_commands_error_report_report_2(n448, n447, p4);
 			return 1;
 		}
 	}
 	case 2: {
-		uint8_t n476, n611;
-		uint64_t n477, n610;
+		uint8_t n482, n619;
+		uint64_t n483, n618;
 		memcpy(p15, p2, 16);
 		memcpy(p16, p2 + 24, 16);
 		memcpy(p17, p2 + 64, 16);
@@ -67599,8 +68030,8 @@ L37:
 		memset(p22, 0, 1432);
 		memset(p23, 0, 96);
 		memset(p24, 0, 24);
-		of_i64_i64 s475 = rattle_alloc(16384, 1);
-		if ((s475.f0 & 1) == 0) {
+		of_i64_i64 s481 = rattle_alloc(16384, 1);
+		if ((s481.f0 & 1) == 0) {
 			if (n84 != 0)
 				rattle_dealloc(p82);
 			if (n87 != 0)
@@ -67608,24 +68039,24 @@ L37:
 			if (n90 != 0)
 				rattle_dealloc(p88);
 			if (n93 == 0) {
-				n476 = 2;
-				n477 = 0;
+				n482 = 2;
+				n483 = 0;
 			} else {
 				rattle_dealloc(p91);
-				n476 = 2;
-				n477 = 0;
+				n482 = 2;
+				n483 = 0;
 			}
 		} else {
-			uint64_t n483, n541, n542, n560, n562, n564, n566;
-			uint8_t n557;
-			byte *p559, *p561, *p563, *p565;
-			byte *p478 = (byte *)(uintptr_t)s475.f1;
-			uint64_t n479 = 0;
-			while (n479 != 16383) {
-				store8(inside(p478, n479), 0);
-				n479 = n479 + 1;
+			uint64_t n489, n547, n548, n566, n568, n570, n572;
+			uint8_t n563;
+			byte *p565, *p567, *p569, *p571;
+			byte *p484 = (byte *)(uintptr_t)s481.f1;
+			uint64_t n485 = 0;
+			while (n485 != 16383) {
+				store8(inside(p484, n485), 0);
+				n485 = n485 + 1;
 			}
-			store8(p478 + 16383, 0);
+			store8(p484 + 16383, 0);
 			storeptru(p21, p5);
 			memset(p21 + 8, 0, 16);
 			memcpy(p22, p15, 16);
@@ -67664,43 +68095,43 @@ L37:
 			store64u(p23 + 80, 1);
 			store8(p23 + 88, 1);
 			memset(p23 + 89, 0, 7);
-			uint64_t n480 = 0;
+			uint64_t n486 = 0;
 			for (;;) {
-				if (n480 == UINT64_MAX)
+				if (n486 == UINT64_MAX)
 					goto L38;
-				uint64_t n481 = os_read(0, p478, 16384);
-				if ((int64_t)n481 < (int64_t)0)
+				uint64_t n487 = os_read(0, p484, 16384);
+				if ((int64_t)n487 < (int64_t)0)
 					goto L39;
-				tp_Cutter_take_in(p24, p23, p478, umin64(n481, 16384), p4);
+				tp_Cutter_take_in(p24, p23, p484, umin64(n487, 16384), p4);
 				if (load8(p24) != 0)
 					break;
-				uint8_t n482 = load8(p24 + 8);
-				n483 = load64u(p24 + 16);
-				byte *p484 = loadptr(p23 + 8);
-				uint64_t n485 = load64(p23 + 16);
+				uint8_t n488 = load8(p24 + 8);
+				n489 = load64u(p24 + 16);
+				byte *p490 = loadptr(p23 + 8);
+				uint64_t n491 = load64(p23 + 16);
 				if (load64(p21 + 8) != 0)
 					store64(p21 + 8, 0);
-				uint64_t n486 = 0;
-				while (n486 != n485) {
-					byte *p487 = at(p484, n486 * 48);
-					uint8_t n488 = load8(p487);
-					uint64_t n489 = load64u(p487 + 8);
-					uint64_t n490 = load64(p22 + 288);
-					uint64_t n491 = load64u(p487 + 16);
-					uint64_t n492 = load64u(p487 + 24);
-					uint64_t n493 = load64u(p487 + 32);
-					uint64_t n494 = load64u(p487 + 40);
-					store64u(p13, (uint64_t)n488);
-					store64(p13 + 8, n489);
-					store64(p13 + 16, n491);
-					store64(p13 + 24, n492);
-					store64(p13 + 32, n493);
-					store64(p13 + 40, n494);
+				uint64_t n492 = 0;
+				while (n492 != n491) {
+					byte *p493 = at(p490, n492 * 48);
+					uint8_t n494 = load8(p493);
+					uint64_t n495 = load64u(p493 + 8);
+					uint64_t n496 = load64(p22 + 288);
+					uint64_t n497 = load64u(p493 + 16);
+					uint64_t n498 = load64u(p493 + 24);
+					uint64_t n499 = load64u(p493 + 32);
+					uint64_t n500 = load64u(p493 + 40);
+					store64u(p13, (uint64_t)n494);
+					store64(p13 + 8, n495);
+					store64(p13 + 16, n497);
+					store64(p13 + 24, n498);
+					store64(p13 + 32, n499);
+					store64(p13 + 40, n500);
 					if ((n71 & 1) != 0) {
-						uint64_t n495;
-						switch (n488) {
+						uint64_t n501;
+						switch (n494) {
 						case 3: {
-							n495 = n489;
+							n501 = n495;
 							break;
 						}
 						case 0:
@@ -67713,118 +68144,118 @@ L37:
 							UNREACHABLE();
 						}
 						}
-						while (n495 != 0) {
-							uint64_t n498, n501, n505, n506;
-							uint8_t n504;
-							uint64_t n496 = load64(p22 + 16);
-							of_i8_i64 s497 = tp_Facility_quiet_until(p22);
-							if (s497.f0 == 1) {
-								if ((s497.f1 > load64(p22 + 8)) || ((load8(p22 + 1320) & 1) != 0)) {
-									n498 = n495;
+						while (n501 != 0) {
+							uint64_t n504, n507, n511, n512;
+							uint8_t n510;
+							uint64_t n502 = load64(p22 + 16);
+							of_i8_i64 s503 = tp_Facility_quiet_until(p22);
+							if (s503.f0 == 1) {
+								if ((s503.f1 > load64(p22 + 8)) || ((load8(p22 + 1320) & 1) != 0)) {
+									n504 = n501;
 								} else {
-									n498 = umin64(s497.f1 - n496, n495);
+									n504 = umin64(s503.f1 - n502, n501);
 								}
 							} else {
-								n498 = n495;
+								n504 = n501;
 							}
 							memset(p12 + 16, 0, 32);
-							uint64_t n499 = load64(p22 + 104);
-							uint64_t n500 = 0;
+							uint64_t n505 = load64(p22 + 104);
+							uint64_t n506 = 0;
 							for (;;) {
-								if (n500 == n499) {
-									n501 = n499;
+								if (n506 == n505) {
+									n507 = n505;
 									break;
 								}
-								if (n500 != (uint64_t)load32(at(loadptr(p22 + 80), n500 << 3) + 4)) {
-									n501 = n500;
+								if (n506 != (uint64_t)load32(at(loadptr(p22 + 80), n506 << 3) + 4)) {
+									n507 = n506;
 									break;
 								}
-								n500 = n500 + 1;
+								n506 = n506 + 1;
 							}
 							store64u(p12, 3);
-							store64(p12 + 8, n498);
-							uint8_t n502 = tp_session_Session_play_one(p22, p12, p21);
-							if ((n502 & 1) != 0)
+							store64(p12 + 8, n504);
+							uint8_t n508 = tp_session_Session_play_one(p22, p12, p21);
+							if ((n508 & 1) != 0)
 								goto L41;
-							uint64_t n503 = load64(p22 + 16);
+							uint64_t n509 = load64(p22 + 16);
 							if (n77 == 1) {
-								if (n78 > n503)
+								if (n78 > n509)
 									goto L42;
 							}
 							if (n79 == 1) {
-								if (n503 > n80)
+								if (n509 > n80)
 									goto L42;
 							}
 							switch (MOSTLY_0(load8(p22))) {
 							case 0: {
-								n504 = 1;
+								n510 = 1;
 								break;
 							}
 							case 1: {
-								n504 = 4;
+								n510 = 4;
 								break;
 							}
 							case 2: {
-								n504 = 2;
+								n510 = 2;
 								break;
 							}
 							default: {
 								UNREACHABLE();
 							}
 							}
-							n505 = umin64(load64(p22 + 104), n501);
-							n506 = 0;
-							while (n506 != n505) {
-								byte *p507 = loadptr(p22 + 80);
-								uint64_t n508 = load64(p22 + 104);
-								uint64_t n509 = (uint64_t)load32(at(p507, n506 << 3));
-								uint64_t n510 = load64(p22 + 64);
-								uint8_t n511 = 0;
-								uint64_t n512 = 0;
-								uint64_t n513 = n509;
-								uint64_t n514 = usub_sat64(n509, n508);
-								uint64_t n515 = 0;
-								while (n515 != n510) {
-									uint8_t n518;
-									uint64_t n519;
-									if (n508 > n513)
+							n511 = umin64(load64(p22 + 104), n507);
+							n512 = 0;
+							while (n512 != n511) {
+								byte *p513 = loadptr(p22 + 80);
+								uint64_t n514 = load64(p22 + 104);
+								uint64_t n515 = (uint64_t)load32(at(p513, n512 << 3));
+								uint64_t n516 = load64(p22 + 64);
+								uint8_t n517 = 0;
+								uint64_t n518 = 0;
+								uint64_t n519 = n515;
+								uint64_t n520 = usub_sat64(n515, n514);
+								uint64_t n521 = 0;
+								while (n521 != n516) {
+									uint8_t n524;
+									uint64_t n525;
+									if (n514 > n519)
 										break;
-									byte *p516 = at(loadptr(p22 + 40), n514 * 48);
-									if (n514 >= load64(p22 + 48))
+									byte *p522 = at(loadptr(p22 + 40), n520 * 48);
+									if (n520 >= load64(p22 + 48))
 										break;
-									if (load8(p516) != 1)
+									if (load8(p522) != 1)
 										break;
-									uint64_t n517 = load64u(p516 + 8);
+									uint64_t n523 = load64u(p522 + 8);
 									if (n73 == 1) {
-										if (n74 != load64u(p516 + 16)) {
-											n518 = n511;
-											n519 = n512;
+										if (n74 != load64u(p522 + 16)) {
+											n524 = n517;
+											n525 = n518;
 											goto L43;
 										}
 									}
 									if (n75 == 1) {
-										if (n76 != n517) {
-											n518 = n511;
-											n519 = n512;
+										if (n76 != n523) {
+											n524 = n517;
+											n525 = n518;
 											goto L43;
 										}
 									}
-									n518 = 1;
-									n519 = n514;
+									n524 = 1;
+									n525 = n520;
 L43:
 									{
-										uint64_t n520 = (uint64_t)load32(at(p507, (n508 + n514) << 3));
-										n511 = n518;
-										n512 = n519;
-										n513 = n520;
-										n514 = usub_sat64(n520, n508);
-										n515 = n515 + 1;
+										uint64_t n526 = (uint64_t)load32(at(p513, (n514 + n520) << 3));
+										n517 = n524;
+										n518 = n525;
+										n519 = n526;
+										n520 = usub_sat64(n526, n514);
+										n521 = n521 + 1;
 									}
 								}
-								if (n511 == 1) {
-									uint64_t n525, n526, n529;
-									uint8_t n521 = tp_render_push_number(p21, (byte *)tp_static_293, 11, load64(p22 + 16));
-									if ((n521 & 1) != 0)
+								if (n517 == 1) {
+									uint64_t n531, n532, n535;
+									uint8_t n527 = tp_render_push_number(p21, (byte *)tp_static_293, 11, load64(p22 + 16));
+									if ((n527 & 1) != 0)
 										goto L41;
 									store8(p11, n73);
 									store56u(p11 + 1, 0);
@@ -67833,186 +68264,186 @@ L43:
 									store56u(p11 + 17, 0);
 									store64(p11 + 24, n76);
 									store64(p11 + 32, 0);
-									uint64_t n522 = load64(p21 + 16);
-									uint64_t n523 = load64(p21 + 8);
-									if ((n522 - n523) < 5) {
-										bool b524 = tp_std_alloc_vec_Vec_grow_amortized_6(p21, 5);
-										if (!b524)
+									uint64_t n528 = load64(p21 + 16);
+									uint64_t n529 = load64(p21 + 8);
+									if ((n528 - n529) < 5) {
+										bool b530 = tp_std_alloc_vec_Vec_grow_amortized_6(p21, 5);
+										if (!b530)
 											goto L44;
-										n525 = load64(p21 + 16);
-										n526 = load64(p21 + 8);
+										n531 = load64(p21 + 16);
+										n532 = load64(p21 + 8);
 									} else {
-										n525 = n522;
-										n526 = n523;
+										n531 = n528;
+										n532 = n529;
 									}
-									byte *p527 = loadptr(p21);
-									byte *p528 = at(p527, n526);
-									if (((uint64_t)(uintptr_t)p528 - (uint64_t)(uintptr_t)(byte *)tp_static_294) >= 5) {
-										memcpy(p528, (byte *)tp_static_294, 5);
+									byte *p533 = loadptr(p21);
+									byte *p534 = at(p533, n532);
+									if (((uint64_t)(uintptr_t)p534 - (uint64_t)(uintptr_t)(byte *)tp_static_294) >= 5) {
+										memcpy(p534, (byte *)tp_static_294, 5);
 										goto L45;
 									}
-									n529 = 0;
-									while (n529 != 5) {
-										store8(inside(p528, n529), load8(inside((byte *)tp_static_294, n529)));
-										n529 = n529 + 1;
+									n535 = 0;
+									while (n535 != 5) {
+										store8(inside(p534, n535), load8(inside((byte *)tp_static_294, n535)));
+										n535 = n535 + 1;
 									}
 L45:
 									{
-										uint64_t n534, n535, n538;
-										storeptr(p21, p527);
-										store64(p21 + 8, n526 + 5);
-										store64(p21 + 16, n525);
-										uint8_t n530 = tp_render_push_name(p21, n501, n504);
-										if ((n530 & 1) != 0)
+										uint64_t n540, n541, n544;
+										storeptr(p21, p533);
+										store64(p21 + 8, n532 + 5);
+										store64(p21 + 16, n531);
+										uint8_t n536 = tp_render_push_name(p21, n507, n510);
+										if ((n536 & 1) != 0)
 											goto L44;
-										uint64_t n531 = load64(p21 + 16);
-										uint64_t n532 = load64(p21 + 8);
-										if ((n531 - n532) < 3) {
-											bool b533 = tp_std_alloc_vec_Vec_grow_amortized_6(p21, 3);
-											if (!b533)
+										uint64_t n537 = load64(p21 + 16);
+										uint64_t n538 = load64(p21 + 8);
+										if ((n537 - n538) < 3) {
+											bool b539 = tp_std_alloc_vec_Vec_grow_amortized_6(p21, 3);
+											if (!b539)
 												goto L44;
-											n534 = load64(p21 + 16);
-											n535 = load64(p21 + 8);
+											n540 = load64(p21 + 16);
+											n541 = load64(p21 + 8);
 										} else {
-											n534 = n531;
-											n535 = n532;
+											n540 = n537;
+											n541 = n538;
 										}
-										byte *p536 = loadptr(p21);
-										byte *p537 = at(p536, n535);
-										if (((uint64_t)(uintptr_t)p537 - (uint64_t)(uintptr_t)(byte *)tp_static_295) >= 3) {
-											memcpy(p537, (byte *)tp_static_295, 3);
+										byte *p542 = loadptr(p21);
+										byte *p543 = at(p542, n541);
+										if (((uint64_t)(uintptr_t)p543 - (uint64_t)(uintptr_t)(byte *)tp_static_295) >= 3) {
+											memcpy(p543, (byte *)tp_static_295, 3);
 											goto L46;
 										}
-										n538 = 0;
-										while (n538 != 3) {
-											store8(inside(p537, n538), load8(inside((byte *)tp_static_295, n538)));
-											n538 = n538 + 1;
+										n544 = 0;
+										while (n544 != 3) {
+											store8(inside(p543, n544), load8(inside((byte *)tp_static_295, n544)));
+											n544 = n544 + 1;
 										}
 L46:
 										{
-											storeptr(p21, p536);
-											store64(p21 + 8, n535 + 3);
-											store64(p21 + 16, n534);
-											uint8_t n539 = tp_render_push_list(p21, p22 + 40, n506, n512, n504, p11);
-											if ((n539 & 1) != 0)
+											storeptr(p21, p542);
+											store64(p21 + 8, n541 + 3);
+											store64(p21 + 16, n540);
+											uint8_t n545 = tp_render_push_list(p21, p22 + 40, n512, n518, n510, p11);
+											if ((n545 & 1) != 0)
 												goto L41;
 										}
 									}
 								}
-								n506 = n506 + 1;
+								n512 = n512 + 1;
 							}
 L42:
 							{
-								n495 = n495 - n498;
+								n501 = n501 - n504;
 							}
 						}
 						goto L47;
 					}
 L40:
 					{
-						uint8_t n540 = tp_session_Session_play_one(p22, p13, p21);
-						if ((n540 & 1) != 0) {
-							n541 = load64(p21 + 8);
+						uint8_t n546 = tp_session_Session_play_one(p22, p13, p21);
+						if ((n546 & 1) != 0) {
+							n547 = load64(p21 + 8);
 							goto L48;
 						}
 					}
 L47:
 					{
-						uint64_t n544, n547, n549;
-						bool b545;
-						uint8_t n546, n551, n552;
-						n542 = load64(p21 + 8);
-						uint64_t n543 = load64(p22 + 16);
+						uint64_t n550, n553, n555;
+						bool b551;
+						uint8_t n552, n557, n558;
+						n548 = load64(p21 + 8);
+						uint64_t n549 = load64(p22 + 16);
 						if (n77 == 1) {
-							if (n78 > n543) {
-								n544 = n542;
+							if (n78 > n549) {
+								n550 = n548;
 								goto L49;
 							}
 						}
 						if (n79 == 1) {
-							if (n543 > n80) {
-								n544 = n542;
+							if (n549 > n80) {
+								n550 = n548;
 								goto L49;
 							}
 						}
-						b545 = (n70 & 1) != 0;
+						b551 = (n70 & 1) != 0;
 						store64(p10, (uint64_t)n73);
 						store64(p10 + 8, n74);
 						store64(p10 + 16, (uint64_t)n75);
 						store64(p10 + 24, n76);
-						store64(p10 + 32, ((n72 & 1) != 0) ? n490 : 0);
-						n546 = tp_render_push_number(p21, (byte *)tp_static_283, 6, n543);
-						if ((n546 & 1) != 0)
+						store64(p10 + 32, ((n72 & 1) != 0) ? n496 : 0);
+						n552 = tp_render_push_number(p21, (byte *)tp_static_283, 6, n549);
+						if ((n552 & 1) != 0)
 							goto L50;
-						n547 = load64(p21 + 8);
-						if (load64(p21 + 16) == n547) {
-							bool b548 = tp_std_alloc_vec_Vec_grow_amortized_6(p21, 1);
-							if (!b548)
+						n553 = load64(p21 + 8);
+						if (load64(p21 + 16) == n553) {
+							bool b554 = tp_std_alloc_vec_Vec_grow_amortized_6(p21, 1);
+							if (!b554)
 								goto L50;
-							n549 = load64(p21 + 8);
+							n555 = load64(p21 + 8);
 						} else {
-							n549 = n547;
+							n555 = n553;
 						}
-						store8(inside(loadptr(p21), n549), 10);
-						store64(p21 + 8, n549 + 1);
-						if (b545) {
-							uint8_t n550 = tp_render_push_work(p21, load64(p22 + 248), load64(p22 + 256), load64(p22 + 16) - load64(p22 + 264));
-							if ((n550 & 1) != 0)
+						store8(inside(loadptr(p21), n555), 10);
+						store64(p21 + 8, n555 + 1);
+						if (b551) {
+							uint8_t n556 = tp_render_push_work(p21, load64(p22 + 248), load64(p22 + 256), load64(p22 + 16) - load64(p22 + 264));
+							if ((n556 & 1) != 0)
 								goto L50;
 						}
 						switch (MOSTLY_0(load8(p22))) {
 						case 0: {
-							n551 = 1;
+							n557 = 1;
 							break;
 						}
 						case 1: {
-							n551 = 4;
+							n557 = 4;
 							break;
 						}
 						case 2: {
-							n551 = 2;
+							n557 = 2;
 							break;
 						}
 						default: {
 							UNREACHABLE();
 						}
 						}
-						n552 = tp_render_push_lists(p21, p22 + 40, n551, p10);
-						if ((n552 & 1) != 0)
+						n558 = tp_render_push_lists(p21, p22 + 40, n557, p10);
+						if ((n558 & 1) != 0)
 							goto L51;
-						n544 = load64(p21 + 8);
+						n550 = load64(p21 + 8);
 L49:
 						{
-							byte *p553 = loadptr(p21);
-							uint64_t n554 = 0;
-							while (n554 < n544) {
-								uint64_t n555 = n544 - n554;
-								uint64_t n556 = os_write(1, at(p553, n554), n555);
-								if ((int64_t)n556 < (int64_t)0) {
+							byte *p559 = loadptr(p21);
+							uint64_t n560 = 0;
+							while (n560 < n550) {
+								uint64_t n561 = n550 - n560;
+								uint64_t n562 = os_write(1, at(p559, n560), n561);
+								if ((int64_t)n562 < (int64_t)0) {
 									tp_error_last_error(p8);
 									store8(p3 + 1, 1);
-									n557 = 3;
+									n563 = 3;
 									goto L52;
 								}
-								uint64_t n558 = umin64(n556, n555);
-								if (n558 == 0) {
+								uint64_t n564 = umin64(n562, n561);
+								if (n564 == 0) {
 									store8(p3 + 1, 1);
-									n557 = 3;
+									n563 = 3;
 									goto L52;
 								}
-								n554 = n554 + n558;
+								n560 = n560 + n564;
 							}
 							if (load64(p21 + 8) != 0)
 								store64(p21 + 8, 0);
-							n486 = n486 + 1;
+							n492 = n492 + 1;
 						}
 					}
 				}
-				if (n482 == 1)
+				if (n488 == 1)
 					goto L53;
-				if (n481 == 0)
+				if (n487 == 0)
 					goto L54;
-				n480 = n480 + 1;
+				n486 = n486 + 1;
 			}
 			if (load64u(p23 + 24) != 0)
 				rattle_dealloc(loadptru(p23 + 8));
@@ -68020,77 +68451,77 @@ L49:
 				rattle_dealloc(loadptru(p23 + 32));
 			if (load64u(p23 + 72) != 0)
 				rattle_dealloc(loadptru(p23 + 56));
-			p559 = loadptru(p22 + 80);
-			n560 = load64u(p22 + 96);
-			p561 = loadptru(p22 + 208);
-			n562 = load64u(p22 + 224);
-			p563 = loadptru(p22 + 1328);
-			n564 = load64u(p22 + 1344);
-			p565 = loadptru(p22 + 1360);
-			n566 = load64u(p22 + 1376);
+			p565 = loadptru(p22 + 80);
+			n566 = load64u(p22 + 96);
+			p567 = loadptru(p22 + 208);
+			n568 = load64u(p22 + 224);
+			p569 = loadptru(p22 + 1328);
+			n570 = load64u(p22 + 1344);
+			p571 = loadptru(p22 + 1360);
+			n572 = load64u(p22 + 1376);
 			if (load64u(p22 + 56) != 0)
 				rattle_dealloc(loadptru(p22 + 40));
-			if (n560 != 0)
-				rattle_dealloc(p559);
-			if (n562 != 0)
-				rattle_dealloc(p561);
-			if (n564 != 0)
-				rattle_dealloc(p563);
 			if (n566 != 0)
 				rattle_dealloc(p565);
+			if (n568 != 0)
+				rattle_dealloc(p567);
+			if (n570 != 0)
+				rattle_dealloc(p569);
+			if (n572 != 0)
+				rattle_dealloc(p571);
 			if (load64u(p22 + 1400) != 0)
 				rattle_dealloc(loadptru(p22 + 1384));
 			if (load64u(p22 + 1424) != 0)
 				rattle_dealloc(loadptru(p22 + 1408));
 			if (load64u(p21 + 16) != 0)
 				rattle_dealloc(loadptru(p21));
-			rattle_dealloc(p478);
-			n476 = 2;
-			n477 = 0;
+			rattle_dealloc(p484);
+			n482 = 2;
+			n483 = 0;
 			goto L55;
 L44: ;
 L41:
 			{
 				if (load64(p21 + 8) != 0)
 					store64(p21 + 8, 0);
-				n541 = 0;
+				n547 = 0;
 				goto L48;
 			}
 L50: ;
 L51:
 			{
-				uint64_t n567 = load64(p21 + 8);
-				if (n567 > n542) {
-					store64(p21 + 8, n542);
-					n541 = n542;
+				uint64_t n573 = load64(p21 + 8);
+				if (n573 > n548) {
+					store64(p21 + 8, n548);
+					n547 = n548;
 				} else {
-					n541 = n567;
+					n547 = n573;
 				}
 			}
 L48:
 			{
-				byte *p568 = loadptr(p21);
-				uint64_t n569 = 0;
+				byte *p574 = loadptr(p21);
+				uint64_t n575 = 0;
 				for (;;) {
-					if (n569 >= n541) {
-						n557 = 2;
+					if (n575 >= n547) {
+						n563 = 2;
 						break;
 					}
-					uint64_t n570 = n541 - n569;
-					uint64_t n571 = os_write(1, at(p568, n569), n570);
-					if ((int64_t)n571 < (int64_t)0) {
+					uint64_t n576 = n547 - n575;
+					uint64_t n577 = os_write(1, at(p574, n575), n576);
+					if ((int64_t)n577 < (int64_t)0) {
 						tp_error_last_error(p9);
 						store8(p3 + 1, 1);
-						n557 = 3;
+						n563 = 3;
 						break;
 					}
-					uint64_t n572 = umin64(n571, n570);
-					if (n572 == 0) {
+					uint64_t n578 = umin64(n577, n576);
+					if (n578 == 0) {
 						store8(p3 + 1, 1);
-						n557 = 3;
+						n563 = 3;
 						break;
 					}
-					n569 = n569 + n572;
+					n575 = n575 + n578;
 				}
 			}
 L52:
@@ -68101,116 +68532,118 @@ L52:
 					rattle_dealloc(loadptru(p23 + 32));
 				if (load64u(p23 + 72) != 0)
 					rattle_dealloc(loadptru(p23 + 56));
-				byte *p573 = loadptru(p22 + 80);
-				uint64_t n574 = load64u(p22 + 96);
-				byte *p575 = loadptru(p22 + 208);
-				uint64_t n576 = load64u(p22 + 224);
-				byte *p577 = loadptru(p22 + 1328);
-				uint64_t n578 = load64u(p22 + 1344);
-				byte *p579 = loadptru(p22 + 1360);
-				uint64_t n580 = load64u(p22 + 1376);
+				byte *p579 = loadptru(p22 + 80);
+				uint64_t n580 = load64u(p22 + 96);
+				byte *p581 = loadptru(p22 + 208);
+				uint64_t n582 = load64u(p22 + 224);
+				byte *p583 = loadptru(p22 + 1328);
+				uint64_t n584 = load64u(p22 + 1344);
+				byte *p585 = loadptru(p22 + 1360);
+				uint64_t n586 = load64u(p22 + 1376);
 				if (load64u(p22 + 56) != 0)
 					rattle_dealloc(loadptru(p22 + 40));
-				if (n574 != 0)
-					rattle_dealloc(p573);
-				if (n576 != 0)
-					rattle_dealloc(p575);
-				if (n578 != 0)
-					rattle_dealloc(p577);
 				if (n580 != 0)
 					rattle_dealloc(p579);
+				if (n582 != 0)
+					rattle_dealloc(p581);
+				if (n584 != 0)
+					rattle_dealloc(p583);
+				if (n586 != 0)
+					rattle_dealloc(p585);
 				if (load64u(p22 + 1400) != 0)
 					rattle_dealloc(loadptru(p22 + 1384));
 				if (load64u(p22 + 1424) != 0)
 					rattle_dealloc(loadptru(p22 + 1408));
 				if (load64u(p21 + 16) != 0)
 					rattle_dealloc(loadptru(p21));
-				rattle_dealloc(p478);
-				n476 = n557;
-				n477 = 0;
+				rattle_dealloc(p484);
+				n482 = n563;
+				n483 = 0;
 				goto L55;
 			}
 L54:
 			{
-				uint64_t n581;
-				uint8_t n582, n583;
-				bool b584;
+				uint64_t n587;
+				uint8_t n588, n589;
+				bool b590;
 				memset(p7, 0, 24);
 				tp_Cutter_end(p7, p23, p4);
 				if (load8(p7) == 0) {
 					if (load8(p7 + 8) == 1) {
-						n581 = load64u(p7 + 16);
-						n582 = 1;
-						n583 = 1;
-						b584 = true;
+						n587 = load64u(p7 + 16);
+						n588 = 1;
+						n589 = 1;
+						b590 = true;
 					} else {
-						uint64_t n593;
+						uint64_t n601;
 						if (load64(p21 + 8) != 0)
 							store64(p21 + 8, 0);
-						uint64_t n585 = load64(p22 + 16);
-						uint64_t n586 = load64(p22 + 64);
-						byte *p587 = loadptr(p22 + 80);
-						uint64_t n588 = load64(p22 + 104);
-						uint64_t n589 = (uint64_t)load32(at(p587, load64(p22 + 32) << 3) + 4);
-						uint64_t n590 = usub_sat64(n589, n588);
-						uint64_t n591 = 0;
-						uint64_t n592 = n589;
+						uint64_t n591 = load64(p22 + 16);
+						uint64_t n592 = load64(p22 + 64);
+						uint64_t n593 = load64(p22 + 32);
+						byte *p594 = loadptr(p22 + 80);
+						uint64_t n595 = (uint64_t)load32(at(p594, n593 << 3) + 4);
+						bool b596 = n593 != n595;
+						uint64_t n597 = load64(p22 + 104);
+						uint64_t n598 = b596 ? (n595 - n597) : 0;
+						uint64_t n599 = 0;
+						bool b600 = b596;
 						for (;;) {
-							if (n591 == n586) {
-								n593 = n586;
+							if (n599 == n592) {
+								n601 = n592;
 								break;
 							}
-							if (n588 > n592) {
-								n593 = n591;
+							if (!b600) {
+								n601 = n599;
 								break;
 							}
-							uint64_t n594 = (uint64_t)load32(at(p587, (n588 + n590) << 3) + 4);
-							n590 = usub_sat64(n594, n588);
-							n591 = n591 + 1;
-							n592 = n594;
+							uint64_t n602 = (uint64_t)load32(at(p594, (n597 + n598) << 3) + 4);
+							n598 = usub_sat64(n602, n597);
+							n599 = n599 + 1;
+							b600 = n597 <= n602;
 						}
-						uint8_t n595 = tp_text_push_end(p21, n585, n586 - n593);
-						if ((n595 & 1) != 0) {
-							n581 = 0;
-							n582 = 2;
-							n583 = 1;
-							b584 = true;
+						uint8_t n603 = tp_text_push_end(p21, n591, n592 - n601);
+						if ((n603 & 1) != 0) {
+							n587 = 0;
+							n588 = 2;
+							n589 = 1;
+							b590 = true;
 						} else {
-							byte *p596 = loadptr(p21);
-							uint64_t n597 = load64(p21 + 8);
-							uint64_t n598 = 0;
-							while (n598 < n597) {
-								uint64_t n599 = n597 - n598;
-								uint64_t n600 = os_write(1, at(p596, n598), n599);
-								if ((int64_t)n600 < (int64_t)0) {
+							byte *p604 = loadptr(p21);
+							uint64_t n605 = load64(p21 + 8);
+							uint64_t n606 = 0;
+							while (n606 < n605) {
+								uint64_t n607 = n605 - n606;
+								uint64_t n608 = os_write(1, at(p604, n606), n607);
+								if ((int64_t)n608 < (int64_t)0) {
 									tp_error_last_error(p6);
 									goto L56;
 								}
-								uint64_t n601 = umin64(n600, n599);
-								if (n601 == 0)
+								uint64_t n609 = umin64(n608, n607);
+								if (n609 == 0)
 									goto L56;
-								n598 = n598 + n601;
+								n606 = n606 + n609;
 							}
-							n581 = 0;
-							n582 = 0;
-							n583 = (uint8_t)(load8(p23 + 88) ^ 1);
-							b584 = false;
+							n587 = 0;
+							n588 = 0;
+							n589 = (uint8_t)(load8(p23 + 88) ^ 1);
+							b590 = false;
 							goto L57;
 L56:
 							{
 								store8(p3 + 1, 1);
-								n581 = 0;
-								n582 = 3;
-								n583 = 1;
-								b584 = true;
+								n587 = 0;
+								n588 = 3;
+								n589 = 1;
+								b590 = true;
 							}
 						}
 					}
 				} else {
-					n581 = 0;
-					n582 = 2;
-					n583 = 1;
-					b584 = true;
+					n587 = 0;
+					n588 = 2;
+					n589 = 1;
+					b590 = true;
 				}
 L57:
 				{
@@ -68220,79 +68653,40 @@ L57:
 						rattle_dealloc(loadptru(p23 + 32));
 					if (load64u(p23 + 72) != 0)
 						rattle_dealloc(loadptru(p23 + 56));
-					byte *p602 = loadptru(p22 + 80);
-					uint64_t n603 = load64u(p22 + 96);
-					byte *p604 = loadptru(p22 + 208);
-					uint64_t n605 = load64u(p22 + 224);
-					byte *p606 = loadptru(p22 + 1328);
-					uint64_t n607 = load64u(p22 + 1344);
-					byte *p608 = loadptru(p22 + 1360);
-					uint64_t n609 = load64u(p22 + 1376);
+					byte *p610 = loadptru(p22 + 80);
+					uint64_t n611 = load64u(p22 + 96);
+					byte *p612 = loadptru(p22 + 208);
+					uint64_t n613 = load64u(p22 + 224);
+					byte *p614 = loadptru(p22 + 1328);
+					uint64_t n615 = load64u(p22 + 1344);
+					byte *p616 = loadptru(p22 + 1360);
+					uint64_t n617 = load64u(p22 + 1376);
 					if (load64u(p22 + 56) != 0)
 						rattle_dealloc(loadptru(p22 + 40));
-					if (n603 != 0)
-						rattle_dealloc(p602);
-					if (n605 != 0)
-						rattle_dealloc(p604);
-					if (n607 != 0)
-						rattle_dealloc(p606);
-					if (n609 != 0)
-						rattle_dealloc(p608);
+					if (n611 != 0)
+						rattle_dealloc(p610);
+					if (n613 != 0)
+						rattle_dealloc(p612);
+					if (n615 != 0)
+						rattle_dealloc(p614);
+					if (n617 != 0)
+						rattle_dealloc(p616);
 					if (load64u(p22 + 1400) != 0)
 						rattle_dealloc(loadptru(p22 + 1384));
 					if (load64u(p22 + 1424) != 0)
 						rattle_dealloc(loadptru(p22 + 1408));
 					if (load64u(p21 + 16) != 0)
 						rattle_dealloc(loadptru(p21));
-					rattle_dealloc(p478);
-					if (!b584)
-						return n583;
-					n610 = n581;
-					n611 = n582;
+					rattle_dealloc(p484);
+					if (!b590)
+						return n589;
+					n618 = n587;
+					n619 = n588;
 					goto L58;
 				}
 			}
 L53:
 			{
-				if (load64u(p23 + 24) != 0)
-					rattle_dealloc(loadptru(p23 + 8));
-				if (load64u(p23 + 48) != 0)
-					rattle_dealloc(loadptru(p23 + 32));
-				if (load64u(p23 + 72) != 0)
-					rattle_dealloc(loadptru(p23 + 56));
-				byte *p612 = loadptru(p22 + 80);
-				uint64_t n613 = load64u(p22 + 96);
-				byte *p614 = loadptru(p22 + 208);
-				uint64_t n615 = load64u(p22 + 224);
-				byte *p616 = loadptru(p22 + 1328);
-				uint64_t n617 = load64u(p22 + 1344);
-				byte *p618 = loadptru(p22 + 1360);
-				uint64_t n619 = load64u(p22 + 1376);
-				if (load64u(p22 + 56) != 0)
-					rattle_dealloc(loadptru(p22 + 40));
-				if (n613 != 0)
-					rattle_dealloc(p612);
-				if (n615 != 0)
-					rattle_dealloc(p614);
-				if (n617 != 0)
-					rattle_dealloc(p616);
-				if (n619 != 0)
-					rattle_dealloc(p618);
-				if (load64u(p22 + 1400) != 0)
-					rattle_dealloc(loadptru(p22 + 1384));
-				if (load64u(p22 + 1424) != 0)
-					rattle_dealloc(loadptru(p22 + 1408));
-				if (load64u(p21 + 16) != 0)
-					rattle_dealloc(loadptru(p21));
-				rattle_dealloc(p478);
-				n476 = 1;
-				n477 = n483;
-				goto L55;
-			}
-L39:
-			{
-				tp_error_last_error(p14);
-				store8(p3, 1);
 				if (load64u(p23 + 24) != 0)
 					rattle_dealloc(loadptru(p23 + 8));
 				if (load64u(p23 + 48) != 0)
@@ -68323,13 +68717,15 @@ L39:
 					rattle_dealloc(loadptru(p22 + 1408));
 				if (load64u(p21 + 16) != 0)
 					rattle_dealloc(loadptru(p21));
-				rattle_dealloc(p478);
-				n476 = 0;
-				n477 = 0;
+				rattle_dealloc(p484);
+				n482 = 1;
+				n483 = n489;
 				goto L55;
 			}
-L38:
+L39:
 			{
+				tp_error_last_error(p14);
+				store8(p3, 1);
 				if (load64u(p23 + 24) != 0)
 					rattle_dealloc(loadptru(p23 + 8));
 				if (load64u(p23 + 48) != 0)
@@ -68360,19 +68756,56 @@ L38:
 					rattle_dealloc(loadptru(p22 + 1408));
 				if (load64u(p21 + 16) != 0)
 					rattle_dealloc(loadptru(p21));
-				rattle_dealloc(p478);
-				n476 = 4;
-				n477 = 0;
+				rattle_dealloc(p484);
+				n482 = 0;
+				n483 = 0;
+				goto L55;
+			}
+L38:
+			{
+				if (load64u(p23 + 24) != 0)
+					rattle_dealloc(loadptru(p23 + 8));
+				if (load64u(p23 + 48) != 0)
+					rattle_dealloc(loadptru(p23 + 32));
+				if (load64u(p23 + 72) != 0)
+					rattle_dealloc(loadptru(p23 + 56));
+				byte *p636 = loadptru(p22 + 80);
+				uint64_t n637 = load64u(p22 + 96);
+				byte *p638 = loadptru(p22 + 208);
+				uint64_t n639 = load64u(p22 + 224);
+				byte *p640 = loadptru(p22 + 1328);
+				uint64_t n641 = load64u(p22 + 1344);
+				byte *p642 = loadptru(p22 + 1360);
+				uint64_t n643 = load64u(p22 + 1376);
+				if (load64u(p22 + 56) != 0)
+					rattle_dealloc(loadptru(p22 + 40));
+				if (n637 != 0)
+					rattle_dealloc(p636);
+				if (n639 != 0)
+					rattle_dealloc(p638);
+				if (n641 != 0)
+					rattle_dealloc(p640);
+				if (n643 != 0)
+					rattle_dealloc(p642);
+				if (load64u(p22 + 1400) != 0)
+					rattle_dealloc(loadptru(p22 + 1384));
+				if (load64u(p22 + 1424) != 0)
+					rattle_dealloc(loadptru(p22 + 1408));
+				if (load64u(p21 + 16) != 0)
+					rattle_dealloc(loadptru(p21));
+				rattle_dealloc(p484);
+				n482 = 4;
+				n483 = 0;
 			}
 		}
 L55:
 		{
-			n610 = n477;
-			n611 = n476;
+			n618 = n483;
+			n619 = n482;
 		}
 L58:
 		{
-			tp_timer_commands_error_report_report_2(n611, n610, p4);
+			tp_timer_commands_error_report_report_2(n619, n618, p4);
 			return 1;
 		}
 	}
@@ -68400,7 +68833,8 @@ static bool tp_facility_Facility_makes_timer(byte *p1, uint64_t n2, uint64_t n3,
 		return false;
 	switch (MOSTLY_0(n5)) {
 	case 0: {
-		uint64_t n17;
+		uint8_t n14;
+		uint64_t n15, n19;
 		if (n6 == 0)
 			return false;
 		if ((load64(p1 + 8) - load64(p1 + 16)) < n6)
@@ -68408,88 +68842,105 @@ static bool tp_facility_Facility_makes_timer(byte *p1, uint64_t n2, uint64_t n3,
 		if (load64(p1 + 408) > UINT64_C(1152921504606846975))
 			return false;
 		uint64_t n10 = load64(p1 + 64);
-		byte *p11 = loadptr(p1 + 80);
-		uint64_t n12 = load64(p1 + 104);
-		uint64_t n13 = (uint64_t)load32(at(p11, load64(p1 + 32) << 3) + 4);
-		uint64_t n14 = usub_sat64(n13, n12);
-		uint64_t n15 = 0;
-		uint64_t n16 = n13;
-		for (;;) {
-			if (n15 == n10) {
-				n17 = n10;
-				break;
-			}
-			if (n12 > n16) {
-				n17 = n15;
-				break;
-			}
-			uint64_t n18 = (uint64_t)load32(at(p11, (n12 + n14) << 3) + 4);
-			n14 = usub_sat64(n18, n12);
-			n15 = n15 + 1;
-			n16 = n18;
+		uint64_t n11 = load64(p1 + 32);
+		byte *p12 = loadptr(p1 + 80);
+		uint64_t n13 = (uint64_t)load32(at(p12, n11 << 3) + 4);
+		if (n11 == n13) {
+			n14 = 0;
+			n15 = 0;
+		} else {
+			n14 = 1;
+			n15 = n13 - load64(p1 + 104);
 		}
-		return (n10 - n17) != load64(p1 + 400);
+		uint64_t n16 = n15;
+		uint64_t n17 = 0;
+		uint8_t n18 = n14;
+		for (;;) {
+			if (n17 == n10) {
+				n19 = n10;
+				break;
+			}
+			if (n18 != 1) {
+				n19 = n17;
+				break;
+			}
+			uint64_t n20 = load64(p1 + 104);
+			uint64_t n21 = (uint64_t)load32(at(p12, (n20 + n16) << 3) + 4);
+			n16 = usub_sat64(n21, n20);
+			n17 = n17 + 1;
+			n18 = (uint8_t)(n20 <= n21);
+		}
+		return (n10 - n19) != load64(p1 + 400);
 	}
 	case 1: {
-		uint64_t n27;
-		uint64_t n19 = load64(p1 + 16);
-		if ((load64(p1 + 8) - n19) < umax64(usub_sat64(n6, n19), 1))
+		uint8_t n27;
+		uint64_t n28, n32;
+		uint64_t n22 = load64(p1 + 16);
+		if ((load64(p1 + 8) - n22) < umax64(usub_sat64(n6, n22), 1))
 			return false;
 		if (load64(p1 + 408) > UINT64_C(1152921504606846975))
 			return false;
-		uint64_t n20 = load64(p1 + 64);
-		byte *p21 = loadptr(p1 + 80);
-		uint64_t n22 = load64(p1 + 104);
-		uint64_t n23 = (uint64_t)load32(at(p21, load64(p1 + 32) << 3) + 4);
-		uint64_t n24 = usub_sat64(n23, n22);
-		uint64_t n25 = 0;
-		uint64_t n26 = n23;
-		for (;;) {
-			if (n25 == n20) {
-				n27 = n20;
-				break;
-			}
-			if (n22 > n26) {
-				n27 = n25;
-				break;
-			}
-			uint64_t n28 = (uint64_t)load32(at(p21, (n22 + n24) << 3) + 4);
-			n24 = usub_sat64(n28, n22);
-			n25 = n25 + 1;
-			n26 = n28;
+		uint64_t n23 = load64(p1 + 64);
+		uint64_t n24 = load64(p1 + 32);
+		byte *p25 = loadptr(p1 + 80);
+		uint64_t n26 = (uint64_t)load32(at(p25, n24 << 3) + 4);
+		if (n24 == n26) {
+			n27 = 0;
+			n28 = 0;
+		} else {
+			n27 = 1;
+			n28 = n26 - load64(p1 + 104);
 		}
-		return (n20 - n27) != load64(p1 + 400);
+		uint64_t n29 = n28;
+		uint64_t n30 = 0;
+		uint8_t n31 = n27;
+		for (;;) {
+			if (n30 == n23) {
+				n32 = n23;
+				break;
+			}
+			if (n31 != 1) {
+				n32 = n30;
+				break;
+			}
+			uint64_t n33 = load64(p1 + 104);
+			uint64_t n34 = (uint64_t)load32(at(p25, (n33 + n29) << 3) + 4);
+			n29 = usub_sat64(n34, n33);
+			n30 = n30 + 1;
+			n31 = (uint8_t)(n33 <= n34);
+		}
+		return (n23 - n32) != load64(p1 + 400);
 	}
 	case 2: {
 		return false;
 	}
 	case 3: {
-		byte *p29 = at(loadptr(p1 + 40), n6 * 48);
+		byte *p35 = at(loadptr(p1 + 40), n6 * 48);
 		if (n6 >= load64(p1 + 48))
 			return false;
-		if (load8(p29) != 1)
+		if (load8(p35) != 1)
 			return false;
-		if (load64u(p29 + 8) != n7)
+		if (load64u(p35 + 8) != n7)
 			return false;
-		if ((int)(load64u(p29 + 16) != n2) | (int)(n8 == 0))
+		if ((int)(load64u(p35 + 16) != n2) | (int)(n8 == 0))
 			return false;
 		if ((load64(p1 + 8) - load64(p1 + 16)) < n8)
 			return false;
 		return load64(p1 + 408) < UINT64_C(1152921504606846976);
 	}
 	case 4: {
-		uint64_t n30 = load64(p1 + 16);
-		uint64_t n31 = umax64(usub_sat64(n8, n30), 1);
-		byte *p32 = at(loadptr(p1 + 40), n6 * 48);
+		uint64_t n36 = load64(p1 + 16);
+		uint64_t n37 = umax64(usub_sat64(n8, n36), 1);
+		byte *p38 = at(loadptr(p1 + 40), n6 * 48);
 		if (n6 >= load64(p1 + 48))
 			return false;
-		if (load8(p32) != 1)
+		if (load8(p38) != 1)
 			return false;
-		if (load64u(p32 + 8) != n7)
+		if (load64u(p38 + 8) != n7)
 			return false;
-		if (load64u(p32 + 16) != n2)
+		if (load64u(p38 + 16) != n2)
 			return false;
-		if ((load64(p1 + 8) - n30) < n31)
+		if ((load64(p1 + 8) - n36) < n37)
 			return false;
 		return load64(p1 + 408) < UINT64_C(1152921504606846976);
 	}
@@ -68698,11 +69149,11 @@ static uint64_t tp_Bank_move_some(byte *p1, uint64_t n2, uint64_t n3)
 		byte *p8 = loadptr(p1 + 80);
 		uint64_t n9 = n7 << 3;
 		byte *p10 = at(p8, n9) + 4;
-		uint64_t n11 = load64(p1 + 104);
-		uint64_t n12 = (uint64_t)load32(p10);
-		if (n11 > n12)
+		uint32_t n11 = load32(p10);
+		uint64_t n12 = (uint64_t)n11;
+		if (n7 == n12)
 			return n4;
-		uint64_t n13 = usub_sat64(n12, n11);
+		uint64_t n13 = n12 - load64(p1 + 104);
 		byte *p14 = at(loadptr(p1 + 40), n13 * 48);
 		if (n13 >= load64(p1 + 48))
 			return n4;
@@ -68831,26 +69282,24 @@ static uint64_t tp_Bank_move_some(byte *p1, uint64_t n2, uint64_t n3)
 			UNREACHABLE();
 		}
 		}
-		uint64_t n26 = umax64(n12, n11);
-		byte *p27 = at(p8, n26 << 3);
-		uint32_t n28 = load32(p27 + 4);
-		store32(p10, n28);
-		store32(inside(p8, (uint64_t)n28 << 3), (uint32_t)n7);
-		byte *p29 = inside(p8, n25 << 3);
-		uint32_t n30 = load32(p29);
-		uint32_t n31 = (uint32_t)n26;
-		store32(inside(p8, (uint64_t)n30 << 3) + 4, n31);
-		store32(p27, n30);
-		store32(p27 + 4, (uint32_t)n25);
-		store32(p29, n31);
-		byte *p32 = inside(p1 + 128, (n25 >> 6) << 3);
-		uint64_t n33 = load64(p32);
-		uint64_t n34 = (uint64_t)1 << (n25 & 63);
-		if ((n33 & n34) == 0)
-			store64(p32, n33 | n34);
+		byte *p26 = at(p8, n12 << 3);
+		uint32_t n27 = load32(p26 + 4);
+		store32(p10, n27);
+		store32(inside(p8, (uint64_t)n27 << 3), (uint32_t)n7);
+		byte *p28 = inside(p8, n25 << 3);
+		uint32_t n29 = load32(p28);
+		store32(inside(p8, (uint64_t)n29 << 3) + 4, n11);
+		store32(p26, n29);
+		store32(p26 + 4, (uint32_t)n25);
+		store32(p28, n11);
+		byte *p30 = inside(p1 + 128, (n25 >> 6) << 3);
+		uint64_t n31 = load64(p30);
+		uint64_t n32 = (uint64_t)1 << (n25 & 63);
+		if ((n31 & n32) == 0)
+			store64(p30, n31 | n32);
 		if (n7 == (uint64_t)load32(at(loadptr(p1 + 80), n9) + 4)) {
-			byte *p35 = inside(p1 + 128, (n7 >> 6) << 3);
-			store64(p35, load64(p35) & (((uint64_t)1 << (n7 & 63)) ^ UINT64_MAX));
+			byte *p33 = inside(p1 + 128, (n7 >> 6) << 3);
+			store64(p33, load64(p33) & (((uint64_t)1 << (n7 & 63)) ^ UINT64_MAX));
 		}
 		n4 = n4 + 1;
 	}
@@ -68867,7 +69316,7 @@ static NOINLINE uint8_t tp_script_run_answer_start(byte *p1, uint64_t n2, uint64
 	ALIGN(8) byte p12[16];
 	uint64_t n15;
 	byte *p16;
-	uint8_t n130, n131;
+	uint8_t n136, n137;
 	store64(p11, 0);
 	store64u(p11 + 8, n4);
 	store64u(p11 + 16, n5);
@@ -68901,8 +69350,8 @@ static NOINLINE uint8_t tp_script_run_answer_start(byte *p1, uint64_t n2, uint64
 			p16 = (byte *)tp_static_238;
 		} else {
 			if (n19 >= n3) {
-				uint8_t n20, n74, n75;
-				uint64_t n73, n76;
+				uint8_t n20, n77, n78;
+				uint64_t n76, n79;
 				if (n4 == 0) {
 					n20 = 0;
 				} else {
@@ -68914,157 +69363,165 @@ static NOINLINE uint8_t tp_script_run_answer_start(byte *p1, uint64_t n2, uint64
 						if (n22 > UINT64_C(1152921504606846975)) {
 							n20 = 2;
 						} else {
-							uint64_t n31;
+							uint8_t n27;
+							uint64_t n28, n32;
 							uint64_t n23 = load64(p1 + 64);
 							uint64_t n24 = load64(p1 + 32);
 							byte *p25 = loadptr(p1 + 80);
-							uint64_t n26 = load64(p1 + 104);
-							uint64_t n27 = (uint64_t)load32(at(p25, n24 << 3) + 4);
-							uint64_t n28 = usub_sat64(n27, n26);
-							uint64_t n29 = 0;
-							uint64_t n30 = n27;
-							for (;;) {
-								if (n29 == n23) {
-									n31 = n23;
-									break;
-								}
-								if (n26 > n30) {
-									n31 = n29;
-									break;
-								}
-								uint64_t n32 = (uint64_t)load32(at(p25, (n26 + n28) << 3) + 4);
-								n28 = usub_sat64(n32, n26);
-								n29 = n29 + 1;
-								n30 = n32;
+							uint64_t n26 = (uint64_t)load32(at(p25, n24 << 3) + 4);
+							if (n24 == n26) {
+								n27 = 0;
+								n28 = 0;
+							} else {
+								n27 = 1;
+								n28 = n26 - load64(p1 + 104);
 							}
-							if ((n23 - n31) != load64(p1 + 400)) {
-								uint64_t n44, n45, n68;
-								uint64_t n33 = n21 + n4;
-								bool b34 = n33 > n21;
-								if (b34) {
-									uint8_t n35 = load8(p1);
-									switch (MOSTLY_0(n35)) {
+							uint64_t n29 = n28;
+							uint64_t n30 = 0;
+							uint8_t n31 = n27;
+							for (;;) {
+								if (n30 == n23) {
+									n32 = n23;
+									break;
+								}
+								if (n31 != 1) {
+									n32 = n30;
+									break;
+								}
+								uint64_t n33 = load64(p1 + 104);
+								uint64_t n34 = (uint64_t)load32(at(p25, (n33 + n29) << 3) + 4);
+								n29 = usub_sat64(n34, n33);
+								n30 = n30 + 1;
+								n31 = (uint8_t)(n33 <= n34);
+							}
+							if ((n23 - n32) != load64(p1 + 400)) {
+								uint64_t n46, n47, n71;
+								uint64_t n35 = n21 + n4;
+								bool b36 = n35 > n21;
+								if (b36) {
+									uint8_t n37 = load8(p1);
+									switch (MOSTLY_0(n37)) {
 									case 0: {
-										uint64_t n38;
-										uint64_t n36 = tp_turns_level_of(0, n21, n33);
-										uint64_t n37 = n36;
+										uint64_t n40;
+										uint64_t n38 = tp_turns_level_of(0, n21, n35);
+										uint64_t n39 = n38;
 										for (;;) {
-											if (n37 == 0) {
-												n38 = 0;
+											if (n39 == 0) {
+												n40 = 0;
 												break;
 											}
-											uint64_t n39 = n37 * 6;
-											uint64_t n40 = n33 >> (n39 & 63);
-											if (n40 != ((n21 >> (n39 & 63)) + 1)) {
-												n38 = n37;
+											uint64_t n41 = n39 * 6;
+											uint64_t n42 = n35 >> (n41 & 63);
+											if (n42 != ((n21 >> (n41 & 63)) + 1)) {
+												n40 = n39;
 												break;
 											}
-											if ((load64(inside(p1 + 128, ((n37 << 7) | (n40 & 64)) >> 3)) & ((uint64_t)1 << (n40 & 63))) != 0) {
-												n38 = n37;
+											if ((load64(inside(p1 + 128, ((n39 << 7) | (n42 & 64)) >> 3)) & ((uint64_t)1 << (n42 & 63))) != 0) {
+												n40 = n39;
 												break;
 											}
-											n37 = n37 - 1;
+											n39 = n39 - 1;
 										}
-										uint64_t n41 = tp_turns_slot_of(0, n38, n33);
-										uint64_t n42 = tp_turns_list_of_slot(0, n38, n41);
-										bool b43 = tp_turns_is_in_next(0, n21, n38, n33);
-										n44 = n42;
-										n45 = b43 ? n38 : 0;
+										uint64_t n43 = tp_turns_slot_of(0, n40, n35);
+										uint64_t n44 = tp_turns_list_of_slot(0, n40, n43);
+										bool b45 = tp_turns_is_in_next(0, n21, n40, n35);
+										n46 = n44;
+										n47 = b45 ? n40 : 0;
 										break;
 									}
 									case 1:
 									case 2: {
-										uint64_t n48;
-										uint64_t n46 = tp_turns_level_of(n35, n21, n33);
-										uint64_t n47 = n46;
+										uint64_t n50;
+										uint64_t n48 = tp_turns_level_of(n37, n21, n35);
+										uint64_t n49 = n48;
 										for (;;) {
-											uint64_t n50, n51, n53;
-											if (n47 == 0) {
-												n48 = 0;
+											uint64_t n52, n53, n55;
+											if (n49 == 0) {
+												n50 = 0;
 												break;
 											}
-											switch (MOSTLY_0(n35)) {
+											switch (MOSTLY_0(n37)) {
 											case 0: {
-												uint64_t n49 = n47 * 6;
-												n50 = n33 >> (n49 & 63);
-												n51 = n21 >> (n49 & 63);
+												uint64_t n51 = n49 * 6;
+												n52 = n35 >> (n51 & 63);
+												n53 = n21 >> (n51 & 63);
 												break;
 											}
 											case 1: {
-												switch (n47) {
+												switch (n49) {
 												case 2: {
-													n50 = n33 / 3600;
-													n51 = n21 / 3600;
+													n52 = n35 / 3600;
+													n53 = n21 / 3600;
 													break;
 												}
 												case 1: {
-													n50 = n33 / 60;
-													n51 = n21 / 60;
+													n52 = n35 / 60;
+													n53 = n21 / 60;
 													break;
 												}
 												default: {
-													n50 = n33 / 86400;
-													n51 = n21 / 86400;
+													n52 = n35 / 86400;
+													n53 = n21 / 86400;
 													break;
 												}
 												}
 												break;
 											}
 											case 2: {
-												uint64_t n52 = n47 << 2;
-												n50 = n33 >> (n52 & 63);
-												n51 = n21 >> (n52 & 63);
+												uint64_t n54 = n49 << 2;
+												n52 = n35 >> (n54 & 63);
+												n53 = n21 >> (n54 & 63);
 												break;
 											}
 											default: {
 												UNREACHABLE();
 											}
 											}
-											if (n50 != (n51 + 1)) {
-												n48 = n47;
+											if (n52 != (n53 + 1)) {
+												n50 = n49;
 												break;
 											}
-											switch (MOSTLY_0(n35)) {
+											switch (MOSTLY_0(n37)) {
 											case 0: {
-												n53 = (n47 << 7) | (((n21 >> ((n47 * 6) & 63)) + 1) & 127);
+												n55 = (n49 << 7) | (((n21 >> ((n49 * 6) & 63)) + 1) & 127);
 												break;
 											}
 											case 1: {
-												switch (n47) {
+												switch (n49) {
 												case 2: {
-													n53 = (((n21 / 3600) + 1) % 48) | 256;
+													n55 = (((n21 / 3600) + 1) % 48) | 256;
 													break;
 												}
 												case 1: {
-													n53 = (((n21 / 60) + 1) % 120) | 128;
+													n55 = (((n21 / 60) + 1) % 120) | 128;
 													break;
 												}
 												default: {
-													n53 = (((n21 / 86400) + 1) % 200) + 384;
+													n55 = (((n21 / 86400) + 1) % 200) + 384;
 													break;
 												}
 												}
 												break;
 											}
 											case 2: {
-												n53 = (n47 << 7) | (((n21 >> ((n47 << 2) & 63)) + 1) & 31);
+												n55 = (n49 << 7) | (((n21 >> ((n49 << 2) & 63)) + 1) & 31);
 												break;
 											}
 											default: {
 												UNREACHABLE();
 											}
 											}
-											if ((load64(inside(p1 + 128, (n53 >> 6) << 3)) & ((uint64_t)1 << (n53 & 63))) != 0) {
-												n48 = n47;
+											if ((load64(inside(p1 + 128, (n55 >> 6) << 3)) & ((uint64_t)1 << (n55 & 63))) != 0) {
+												n50 = n49;
 												break;
 											}
-											n47 = n47 - 1;
+											n49 = n49 - 1;
 										}
-										uint64_t n54 = tp_turns_slot_of(n35, n48, n33);
-										uint64_t n55 = tp_turns_list_of_slot(n35, n48, n54);
-										bool b56 = tp_turns_is_in_next(n35, n21, n48, n33);
-										n44 = n55;
-										n45 = b56 ? n48 : 0;
+										uint64_t n56 = tp_turns_slot_of(n37, n50, n35);
+										uint64_t n57 = tp_turns_list_of_slot(n37, n50, n56);
+										bool b58 = tp_turns_is_in_next(n37, n21, n50, n35);
+										n46 = n57;
+										n47 = b58 ? n50 : 0;
 										break;
 									}
 									default: {
@@ -69072,60 +69529,61 @@ static NOINLINE uint8_t tp_script_run_answer_start(byte *p1, uint64_t n2, uint64
 									}
 									}
 								} else {
-									n44 = n24;
-									n45 = 0;
+									n46 = n24;
+									n47 = 0;
 								}
+								uint64_t n59 = load64(p1 + 104);
 								if (load64(p1 + 72) >= load64(p1 + 120)) {
-									uint8_t n57 = tp_links_make_ready(p1 + 40, p1 + 80, n26, load64(p1 + 112));
-									if ((n57 & 1) != 0)
+									uint8_t n60 = tp_links_make_ready(p1 + 40, p1 + 80, n59, load64(p1 + 112));
+									if ((n60 & 1) != 0)
 										return 1;
-									store64(p1 + 120, umin64(load64(p1 + 88) - n26, load64(p1 + 56)));
+									store64(p1 + 120, umin64(load64(p1 + 88) - n59, load64(p1 + 56)));
 								}
 								store64u(p10, n22);
 								store64u(p10 + 8, n2);
 								store64u(p10 + 16, n3);
-								store64u(p10 + 24, n33);
+								store64u(p10 + 24, n35);
 								store64u(p10 + 32, n5);
-								uint64_t n58 = tp_Slab_insert_reserved(p1 + 40, p10);
-								uint64_t n59 = load64(p1 + 104) + n58;
-								byte *p60 = loadptr(p1 + 80);
-								byte *p61 = inside(p60, n44 << 3);
-								uint32_t n62 = load32(p61);
-								uint32_t n63 = (uint32_t)n59;
-								store32(inside(p60, (uint64_t)n62 << 3) + 4, n63);
-								byte *p64 = inside(p60, n59 << 3);
-								store32(p64, n62);
-								store32(p64 + 4, (uint32_t)n44);
-								store32(p61, n63);
+								uint64_t n61 = tp_Slab_insert_reserved(p1 + 40, p10);
+								uint64_t n62 = load64(p1 + 104) + n61;
+								byte *p63 = loadptr(p1 + 80);
+								byte *p64 = inside(p63, n46 << 3);
+								uint32_t n65 = load32(p64);
+								uint32_t n66 = (uint32_t)n62;
+								store32(inside(p63, (uint64_t)n65 << 3) + 4, n66);
+								byte *p67 = inside(p63, n62 << 3);
+								store32(p67, n65);
+								store32(p67 + 4, (uint32_t)n46);
+								store32(p64, n66);
 								store64(p1 + 24, n22);
-								if (b34) {
-									byte *p65 = inside(p1 + 128, (n44 >> 6) << 3);
-									uint64_t n66 = load64(p65);
-									uint64_t n67 = (uint64_t)1 << (n44 & 63);
-									if ((n66 & n67) == 0)
-										store64(p65, n66 | n67);
+								if (b36) {
+									byte *p68 = inside(p1 + 128, (n46 >> 6) << 3);
+									uint64_t n69 = load64(p68);
+									uint64_t n70 = (uint64_t)1 << (n46 & 63);
+									if ((n69 & n70) == 0)
+										store64(p68, n69 | n70);
 								}
 								store64(p1 + 376, load64(p1 + 376) + 1);
-								if (n45 == 0) {
-									n68 = 0;
+								if (n47 == 0) {
+									n71 = 0;
 								} else {
-									uint64_t n69 = tp_Bank_move_some(p1, n45, 2);
-									n68 = n69;
+									uint64_t n72 = tp_Bank_move_some(p1, n47, 2);
+									n71 = n72;
 								}
-								store64(p1 + 384, load64(p1 + 384) + n68);
+								store64(p1 + 384, load64(p1 + 384) + n71);
 								store64(p1 + 408, load64(p1 + 408) + 1);
-								byte *p70 = inside(p1 + 928, n17);
-								store64(p70, load64(p70) + 1);
+								byte *p73 = inside(p1 + 928, n17);
+								store64(p73, load64(p73) + 1);
 								store64(p18, n3 + 1);
-								uint64_t n71 = load64(p1 + 1488);
-								byte *p72 = inside(loadptr(p1 + 1480), n71 << 4);
-								store64u(p72, n58);
-								store64u(p72 + 8, n22);
-								store64(p1 + 1488, n71 + 1);
-								n73 = n33;
-								n74 = 0;
-								n75 = 0;
-								n76 = n22;
+								uint64_t n74 = load64(p1 + 1488);
+								byte *p75 = inside(loadptr(p1 + 1480), n74 << 4);
+								store64u(p75, n61);
+								store64u(p75 + 8, n22);
+								store64(p1 + 1488, n74 + 1);
+								n76 = n35;
+								n77 = 0;
+								n78 = 0;
+								n79 = n22;
 								goto L1;
 							}
 							n20 = 3;
@@ -69133,196 +69591,204 @@ static NOINLINE uint8_t tp_script_run_answer_start(byte *p1, uint64_t n2, uint64
 					}
 				}
 				store64(p18, n3 + 1);
-				n73 = 0;
-				n74 = n20;
-				n75 = 3;
 				n76 = 0;
+				n77 = n20;
+				n78 = 3;
+				n79 = 0;
 L1:
 				{
-					uint64_t n84;
-					uint8_t n126;
-					uint64_t n77 = load64(p1 + 64);
-					byte *p78 = loadptr(p1 + 80);
-					uint64_t n79 = load64(p1 + 104);
-					uint64_t n80 = (uint64_t)load32(at(p78, load64(p1 + 32) << 3) + 4);
-					uint64_t n81 = usub_sat64(n80, n79);
-					uint64_t n82 = 0;
-					uint64_t n83 = n80;
-					for (;;) {
-						if (n82 == n77) {
-							n84 = n77;
-							break;
-						}
-						if (n79 > n83) {
-							n84 = n82;
-							break;
-						}
-						uint64_t n85 = (uint64_t)load32(at(p78, (n79 + n81) << 3) + 4);
-						n81 = usub_sat64(n85, n79);
-						n82 = n82 + 1;
-						n83 = n85;
+					uint8_t n84, n132;
+					uint64_t n85, n89;
+					uint64_t n80 = load64(p1 + 64);
+					uint64_t n81 = load64(p1 + 32);
+					byte *p82 = loadptr(p1 + 80);
+					uint64_t n83 = (uint64_t)load32(at(p82, n81 << 3) + 4);
+					if (n81 == n83) {
+						n84 = 0;
+						n85 = 0;
+					} else {
+						n84 = 1;
+						n85 = n83 - load64(p1 + 104);
 					}
-					if ((((n77 - n84) << 1) + 64) < load64(p1 + 1488))
+					uint64_t n86 = n85;
+					uint64_t n87 = 0;
+					uint8_t n88 = n84;
+					for (;;) {
+						if (n87 == n80) {
+							n89 = n80;
+							break;
+						}
+						if (n88 != 1) {
+							n89 = n87;
+							break;
+						}
+						uint64_t n90 = load64(p1 + 104);
+						uint64_t n91 = (uint64_t)load32(at(p82, (n90 + n86) << 3) + 4);
+						n86 = usub_sat64(n91, n90);
+						n87 = n87 + 1;
+						n88 = (uint8_t)(n90 <= n91);
+					}
+					if ((((n80 - n89) << 1) + 64) < load64(p1 + 1488))
 						tp_handles_sweep(p1 + 1480, p1);
 					memset(p12, 0, 16);
 					memset(p9, 0, 16);
-					if (n75 == 0) {
-						uint64_t n115;
+					if (n78 == 0) {
+						uint64_t n121;
 						store64(p8, n2);
 						store64(p8 + 8, n3);
-						store64(p8 + 16, n76);
-						store64(p8 + 24, n73);
+						store64(p8 + 16, n79);
+						store64(p8 + 24, n76);
 						memset(p7, 0, 117);
 						store8(p7 + 117, 10);
-						uint64_t n86 = 4;
-						uint64_t n87 = 117;
-						while (n86 != 0) {
-							uint64_t n99;
-							uint64_t n88 = n86 - 1;
-							uint64_t n89 = load64(inside(p8, n88 << 3));
-							uint64_t n90 = n87;
-							while (n89 > 9999) {
-								uint16_t n91 = (uint16_t)(n89 % 10000);
-								byte *p92 = inside((byte *)tp_static_242, (uint64_t)(uint16_t)((uint32_t)(uint16_t)(n91 % 100) << 1));
-								byte *p93 = at(p7, n90);
-								uint8_t n94 = load8(p92 + 1);
-								store8(at(p93, UINT64_C(18446744073709551614)), load8(p92));
-								store8(at(p93, UINT64_MAX), n94);
-								uint64_t n95 = n90 - 4;
-								byte *p96 = inside((byte *)tp_static_242, (uint64_t)(uint16_t)((uint32_t)(uint16_t)(n91 / 100) << 1));
-								uint8_t n97 = load8(p96 + 1);
-								store8(inside(p7, n95), load8(p96));
-								store8(at(p93, UINT64_C(18446744073709551613)), n97);
-								n89 = n89 / 10000;
-								n90 = n95;
+						uint64_t n92 = 4;
+						uint64_t n93 = 117;
+						while (n92 != 0) {
+							uint64_t n105;
+							uint64_t n94 = n92 - 1;
+							uint64_t n95 = load64(inside(p8, n94 << 3));
+							uint64_t n96 = n93;
+							while (n95 > 9999) {
+								uint16_t n97 = (uint16_t)(n95 % 10000);
+								byte *p98 = inside((byte *)tp_static_242, (uint64_t)(uint16_t)((uint32_t)(uint16_t)(n97 % 100) << 1));
+								byte *p99 = at(p7, n96);
+								uint8_t n100 = load8(p98 + 1);
+								store8(at(p99, UINT64_C(18446744073709551614)), load8(p98));
+								store8(at(p99, UINT64_MAX), n100);
+								uint64_t n101 = n96 - 4;
+								byte *p102 = inside((byte *)tp_static_242, (uint64_t)(uint16_t)((uint32_t)(uint16_t)(n97 / 100) << 1));
+								uint8_t n103 = load8(p102 + 1);
+								store8(inside(p7, n101), load8(p102));
+								store8(at(p99, UINT64_C(18446744073709551613)), n103);
+								n95 = n95 / 10000;
+								n96 = n101;
 							}
-							if (n89 < 100) {
-								if (n89 < 10) {
-									uint64_t n98 = n90 - 1;
-									store8(inside(p7, n98), (uint8_t)((uint8_t)n89 | 48));
-									n99 = n98;
+							if (n95 < 100) {
+								if (n95 < 10) {
+									uint64_t n104 = n96 - 1;
+									store8(inside(p7, n104), (uint8_t)((uint8_t)n95 | 48));
+									n105 = n104;
 								} else {
-									uint64_t n100 = n90 - 2;
-									byte *p101 = inside((byte *)tp_static_242, n89 << 1);
-									uint8_t n102 = load8(p101 + 1);
-									store8(inside(p7, n100), load8(p101));
-									store8(at(at(p7, n90), UINT64_MAX), n102);
-									n99 = n100;
+									uint64_t n106 = n96 - 2;
+									byte *p107 = inside((byte *)tp_static_242, n95 << 1);
+									uint8_t n108 = load8(p107 + 1);
+									store8(inside(p7, n106), load8(p107));
+									store8(at(at(p7, n96), UINT64_MAX), n108);
+									n105 = n106;
 								}
 							} else {
-								uint16_t n103 = (uint16_t)n89;
-								byte *p104 = inside((byte *)tp_static_242, (uint64_t)(uint16_t)((uint32_t)(uint16_t)(n103 % 100) << 1));
-								byte *p105 = at(p7, n90);
-								uint8_t n106 = load8(p104 + 1);
-								store8(at(p105, UINT64_C(18446744073709551614)), load8(p104));
-								store8(at(p105, UINT64_MAX), n106);
-								uint16_t n107 = (uint16_t)(n103 / 100);
-								if (n89 < 1000) {
-									uint64_t n108 = n90 - 3;
-									store8(inside(p7, n108), (uint8_t)((uint8_t)n107 | 48));
-									n99 = n108;
+								uint16_t n109 = (uint16_t)n95;
+								byte *p110 = inside((byte *)tp_static_242, (uint64_t)(uint16_t)((uint32_t)(uint16_t)(n109 % 100) << 1));
+								byte *p111 = at(p7, n96);
+								uint8_t n112 = load8(p110 + 1);
+								store8(at(p111, UINT64_C(18446744073709551614)), load8(p110));
+								store8(at(p111, UINT64_MAX), n112);
+								uint16_t n113 = (uint16_t)(n109 / 100);
+								if (n95 < 1000) {
+									uint64_t n114 = n96 - 3;
+									store8(inside(p7, n114), (uint8_t)((uint8_t)n113 | 48));
+									n105 = n114;
 								} else {
-									uint64_t n109 = n90 - 4;
-									byte *p110 = inside((byte *)tp_static_242, (uint64_t)(uint16_t)((uint32_t)n107 << 1));
-									uint8_t n111 = load8(p110 + 1);
-									store8(inside(p7, n109), load8(p110));
-									store8(at(p105, UINT64_C(18446744073709551613)), n111);
-									n99 = n109;
+									uint64_t n115 = n96 - 4;
+									byte *p116 = inside((byte *)tp_static_242, (uint64_t)(uint16_t)((uint32_t)n113 << 1));
+									uint8_t n117 = load8(p116 + 1);
+									store8(inside(p7, n115), load8(p116));
+									store8(at(p111, UINT64_C(18446744073709551613)), n117);
+									n105 = n115;
 								}
 							}
-							uint64_t n112 = n99 - 1;
-							store8(inside(p7, n112), 32);
-							n86 = n88;
-							n87 = n112;
+							uint64_t n118 = n105 - 1;
+							store8(inside(p7, n118), 32);
+							n92 = n94;
+							n93 = n118;
 						}
-						byte *p113 = at(at(p7, n87), UINT64_C(18446744073709551609));
-						uint64_t n114 = (uint64_t)(uintptr_t)p113;
-						if ((n114 - (uint64_t)(uintptr_t)(byte *)tp_static_228) >= 7) {
-							memcpy(p113, (byte *)tp_static_228, 7);
+						byte *p119 = at(at(p7, n93), UINT64_C(18446744073709551609));
+						uint64_t n120 = (uint64_t)(uintptr_t)p119;
+						if ((n120 - (uint64_t)(uintptr_t)(byte *)tp_static_228) >= 7) {
+							memcpy(p119, (byte *)tp_static_228, 7);
 							goto L2;
 						}
-						n115 = 0;
-						while (n115 != 7) {
-							store8(inside(p113, n115), load8(inside((byte *)tp_static_228, n115)));
-							n115 = n115 + 1;
+						n121 = 0;
+						while (n121 != 7) {
+							store8(inside(p119, n121), load8(inside((byte *)tp_static_228, n121)));
+							n121 = n121 + 1;
 						}
 L2:
 						{
-							uint64_t n120, n121, n125;
-							uint8_t n122;
-							byte *p123, *p124;
-							uint64_t n116 = 125 - n87;
-							uint64_t n117 = load64(p6 + 16);
-							uint64_t n118 = load64(p6 + 8);
-							if (n116 > (n117 - n118)) {
-								bool b119 = tp_std_alloc_vec_Vec_grow_amortized_11(p6, n116);
-								if (!b119) {
-									n122 = 1;
+							uint64_t n126, n127, n131;
+							uint8_t n128;
+							byte *p129, *p130;
+							uint64_t n122 = 125 - n93;
+							uint64_t n123 = load64(p6 + 16);
+							uint64_t n124 = load64(p6 + 8);
+							if (n122 > (n123 - n124)) {
+								bool b125 = tp_std_alloc_vec_Vec_grow_amortized_11(p6, n122);
+								if (!b125) {
+									n128 = 1;
 									goto L3;
 								}
-								n120 = load64(p6 + 16);
-								n121 = load64(p6 + 8);
+								n126 = load64(p6 + 16);
+								n127 = load64(p6 + 8);
 							} else {
-								n120 = n117;
-								n121 = n118;
+								n126 = n123;
+								n127 = n124;
 							}
-							p123 = loadptr(p6);
-							p124 = at(p123, n121);
-							if (((uint64_t)(uintptr_t)p124 - n114) >= n116) {
-								memcpy(p124, p113, (size_t)n116);
+							p129 = loadptr(p6);
+							p130 = at(p129, n127);
+							if (((uint64_t)(uintptr_t)p130 - n120) >= n122) {
+								memcpy(p130, p119, (size_t)n122);
 								goto L4;
 							}
-							n125 = 0;
-							while (n125 != n116) {
-								store8(inside(p124, n125), load8(inside(p113, n125)));
-								n125 = n125 + 1;
+							n131 = 0;
+							while (n131 != n122) {
+								store8(inside(p130, n131), load8(inside(p119, n131)));
+								n131 = n131 + 1;
 							}
 L4:
 							{
-								storeptr(p6, p123);
-								store64(p6 + 8, n121 + n116);
-								store64(p6 + 16, n120);
-								n122 = 0;
+								storeptr(p6, p129);
+								store64(p6 + 8, n127 + n122);
+								store64(p6 + 16, n126);
+								n128 = 0;
 							}
 L3:
 							{
-								n126 = n122;
+								n132 = n128;
 							}
 						}
 					} else {
-						uint64_t n127;
-						byte *p128;
+						uint64_t n133;
+						byte *p134;
 						store64(p9, n2);
 						store64(p9 + 8, n3);
-						switch (MOSTLY_0(n74)) {
+						switch (MOSTLY_0(n77)) {
 						case 0: {
-							n127 = 13;
-							p128 = (byte *)tp_static_231;
+							n133 = 13;
+							p134 = (byte *)tp_static_231;
 							break;
 						}
 						case 1: {
-							n127 = 8;
-							p128 = (byte *)tp_static_232;
+							n133 = 8;
+							p134 = (byte *)tp_static_232;
 							break;
 						}
 						case 2: {
-							n127 = 13;
-							p128 = (byte *)tp_static_233;
+							n133 = 13;
+							p134 = (byte *)tp_static_233;
 							break;
 						}
 						case 3: {
-							n127 = 4;
-							p128 = (byte *)tp_static_234;
+							n133 = 4;
+							p134 = (byte *)tp_static_234;
 							break;
 						}
 						default: {
 							UNREACHABLE();
 						}
 						}
-						uint8_t n129 = tp_text_push_refused(p6, (byte *)tp_static_221, 7, p9, 2, p128, n127);
-						n126 = n129;
+						uint8_t n135 = tp_text_push_refused(p6, (byte *)tp_static_221, 7, p9, 2, p134, n133);
+						n132 = n135;
 					}
-					n130 = n126;
+					n136 = n132;
 					goto L5;
 				}
 			}
@@ -69337,11 +69803,11 @@ L3:
 		n15 = 9;
 		p16 = (byte *)tp_static_236;
 	}
-	n131 = tp_text_push_refused(p6, (byte *)tp_static_221, 7, p12, 2, p16, n15);
-	n130 = n131;
+	n137 = tp_text_push_refused(p6, (byte *)tp_static_221, 7, p12, 2, p16, n15);
+	n136 = n137;
 L5:
 	{
-		return n130;
+		return n136;
 	}
 }
 
@@ -69437,8 +69903,8 @@ L2:
 				p24 = (byte *)tp_static_238;
 			} else {
 				if (n27 >= n3) {
-					uint64_t n37, n38, n46;
-					uint8_t n51;
+					uint64_t n37, n38, n44, n48;
+					uint8_t n43, n54;
 					byte *p28 = at(loadptr(p1 + 40), n14 * 48);
 					if (n14 < load64(p1 + 48)) {
 						if (load8(p28) == 1) {
@@ -69485,168 +69951,176 @@ L2:
 					}
 					store64(p26, n3 + 1);
 					uint64_t n39 = load64(p1 + 64);
-					byte *p40 = loadptr(p1 + 80);
-					uint64_t n41 = load64(p1 + 104);
-					uint64_t n42 = (uint64_t)load32(at(p40, load64(p1 + 32) << 3) + 4);
-					uint64_t n43 = usub_sat64(n42, n41);
-					uint64_t n44 = 0;
-					uint64_t n45 = n42;
-					for (;;) {
-						if (n44 == n39) {
-							n46 = n39;
-							break;
-						}
-						if (n41 > n45) {
-							n46 = n44;
-							break;
-						}
-						uint64_t n47 = (uint64_t)load32(at(p40, (n41 + n43) << 3) + 4);
-						n43 = usub_sat64(n47, n41);
-						n44 = n44 + 1;
-						n45 = n47;
+					uint64_t n40 = load64(p1 + 32);
+					byte *p41 = loadptr(p1 + 80);
+					uint64_t n42 = (uint64_t)load32(at(p41, n40 << 3) + 4);
+					if (n40 == n42) {
+						n43 = 0;
+						n44 = 0;
+					} else {
+						n43 = 1;
+						n44 = n42 - load64(p1 + 104);
 					}
-					if ((((n39 - n46) << 1) + 64) < load64(p1 + 1488))
+					uint64_t n45 = n44;
+					uint64_t n46 = 0;
+					uint8_t n47 = n43;
+					for (;;) {
+						if (n46 == n39) {
+							n48 = n39;
+							break;
+						}
+						if (n47 != 1) {
+							n48 = n46;
+							break;
+						}
+						uint64_t n49 = load64(p1 + 104);
+						uint64_t n50 = (uint64_t)load32(at(p41, (n49 + n45) << 3) + 4);
+						n45 = usub_sat64(n50, n49);
+						n46 = n46 + 1;
+						n47 = (uint8_t)(n49 <= n50);
+					}
+					if ((((n39 - n48) << 1) + 64) < load64(p1 + 1488))
 						tp_handles_sweep(p1 + 1480, p1);
 					memset(p9, 0, 16);
 					memset(p8, 0, 16);
 					if ((uint8_t)n37 == 3) {
-						uint64_t n48;
-						byte *p49;
+						uint64_t n51;
+						byte *p52;
 						store64(p8, n2);
 						store64(p8 + 8, n3);
 						if ((uint8_t)(n37 >> 8) == 0) {
-							n48 = 13;
-							p49 = (byte *)tp_static_231;
+							n51 = 13;
+							p52 = (byte *)tp_static_231;
 						} else {
-							n48 = 7;
-							p49 = (byte *)tp_static_235;
+							n51 = 7;
+							p52 = (byte *)tp_static_235;
 						}
-						uint8_t n50 = tp_text_push_refused(p5, (byte *)tp_static_221, 7, p8, 2, p49, n48);
-						n51 = n50;
+						uint8_t n53 = tp_text_push_refused(p5, (byte *)tp_static_221, 7, p8, 2, p52, n51);
+						n54 = n53;
 					} else {
-						uint64_t n81;
+						uint64_t n84;
 						store64(p7, n2);
 						store64(p7 + 8, n3);
 						store64(p7 + 16, n38);
 						memset(p6, 0, 117);
 						store8(p6 + 117, 10);
-						uint64_t n52 = 3;
-						uint64_t n53 = 117;
-						while (n52 != 0) {
-							uint64_t n65;
-							uint64_t n54 = n52 - 1;
-							uint64_t n55 = load64(inside(p7, n54 << 3));
-							uint64_t n56 = n53;
-							while (n55 > 9999) {
-								uint16_t n57 = (uint16_t)(n55 % 10000);
-								byte *p58 = inside((byte *)tp_static_242, (uint64_t)(uint16_t)((uint32_t)(uint16_t)(n57 % 100) << 1));
-								byte *p59 = at(p6, n56);
-								uint8_t n60 = load8(p58 + 1);
-								store8(at(p59, UINT64_C(18446744073709551614)), load8(p58));
-								store8(at(p59, UINT64_MAX), n60);
-								uint64_t n61 = n56 - 4;
-								byte *p62 = inside((byte *)tp_static_242, (uint64_t)(uint16_t)((uint32_t)(uint16_t)(n57 / 100) << 1));
-								uint8_t n63 = load8(p62 + 1);
-								store8(inside(p6, n61), load8(p62));
-								store8(at(p59, UINT64_C(18446744073709551613)), n63);
-								n55 = n55 / 10000;
-								n56 = n61;
+						uint64_t n55 = 3;
+						uint64_t n56 = 117;
+						while (n55 != 0) {
+							uint64_t n68;
+							uint64_t n57 = n55 - 1;
+							uint64_t n58 = load64(inside(p7, n57 << 3));
+							uint64_t n59 = n56;
+							while (n58 > 9999) {
+								uint16_t n60 = (uint16_t)(n58 % 10000);
+								byte *p61 = inside((byte *)tp_static_242, (uint64_t)(uint16_t)((uint32_t)(uint16_t)(n60 % 100) << 1));
+								byte *p62 = at(p6, n59);
+								uint8_t n63 = load8(p61 + 1);
+								store8(at(p62, UINT64_C(18446744073709551614)), load8(p61));
+								store8(at(p62, UINT64_MAX), n63);
+								uint64_t n64 = n59 - 4;
+								byte *p65 = inside((byte *)tp_static_242, (uint64_t)(uint16_t)((uint32_t)(uint16_t)(n60 / 100) << 1));
+								uint8_t n66 = load8(p65 + 1);
+								store8(inside(p6, n64), load8(p65));
+								store8(at(p62, UINT64_C(18446744073709551613)), n66);
+								n58 = n58 / 10000;
+								n59 = n64;
 							}
-							if (n55 < 100) {
-								if (n55 < 10) {
-									uint64_t n64 = n56 - 1;
-									store8(inside(p6, n64), (uint8_t)((uint8_t)n55 | 48));
-									n65 = n64;
+							if (n58 < 100) {
+								if (n58 < 10) {
+									uint64_t n67 = n59 - 1;
+									store8(inside(p6, n67), (uint8_t)((uint8_t)n58 | 48));
+									n68 = n67;
 								} else {
-									uint64_t n66 = n56 - 2;
-									byte *p67 = inside((byte *)tp_static_242, n55 << 1);
-									uint8_t n68 = load8(p67 + 1);
-									store8(inside(p6, n66), load8(p67));
-									store8(at(at(p6, n56), UINT64_MAX), n68);
-									n65 = n66;
+									uint64_t n69 = n59 - 2;
+									byte *p70 = inside((byte *)tp_static_242, n58 << 1);
+									uint8_t n71 = load8(p70 + 1);
+									store8(inside(p6, n69), load8(p70));
+									store8(at(at(p6, n59), UINT64_MAX), n71);
+									n68 = n69;
 								}
 							} else {
-								uint16_t n69 = (uint16_t)n55;
-								byte *p70 = inside((byte *)tp_static_242, (uint64_t)(uint16_t)((uint32_t)(uint16_t)(n69 % 100) << 1));
-								byte *p71 = at(p6, n56);
-								uint8_t n72 = load8(p70 + 1);
-								store8(at(p71, UINT64_C(18446744073709551614)), load8(p70));
-								store8(at(p71, UINT64_MAX), n72);
-								uint16_t n73 = (uint16_t)(n69 / 100);
-								if (n55 < 1000) {
-									uint64_t n74 = n56 - 3;
-									store8(inside(p6, n74), (uint8_t)((uint8_t)n73 | 48));
-									n65 = n74;
+								uint16_t n72 = (uint16_t)n58;
+								byte *p73 = inside((byte *)tp_static_242, (uint64_t)(uint16_t)((uint32_t)(uint16_t)(n72 % 100) << 1));
+								byte *p74 = at(p6, n59);
+								uint8_t n75 = load8(p73 + 1);
+								store8(at(p74, UINT64_C(18446744073709551614)), load8(p73));
+								store8(at(p74, UINT64_MAX), n75);
+								uint16_t n76 = (uint16_t)(n72 / 100);
+								if (n58 < 1000) {
+									uint64_t n77 = n59 - 3;
+									store8(inside(p6, n77), (uint8_t)((uint8_t)n76 | 48));
+									n68 = n77;
 								} else {
-									uint64_t n75 = n56 - 4;
-									byte *p76 = inside((byte *)tp_static_242, (uint64_t)(uint16_t)((uint32_t)n73 << 1));
-									uint8_t n77 = load8(p76 + 1);
-									store8(inside(p6, n75), load8(p76));
-									store8(at(p71, UINT64_C(18446744073709551613)), n77);
-									n65 = n75;
+									uint64_t n78 = n59 - 4;
+									byte *p79 = inside((byte *)tp_static_242, (uint64_t)(uint16_t)((uint32_t)n76 << 1));
+									uint8_t n80 = load8(p79 + 1);
+									store8(inside(p6, n78), load8(p79));
+									store8(at(p74, UINT64_C(18446744073709551613)), n80);
+									n68 = n78;
 								}
 							}
-							uint64_t n78 = n65 - 1;
-							store8(inside(p6, n78), 32);
-							n52 = n54;
-							n53 = n78;
+							uint64_t n81 = n68 - 1;
+							store8(inside(p6, n81), 32);
+							n55 = n57;
+							n56 = n81;
 						}
-						byte *p79 = at(at(p6, n53), UINT64_C(18446744073709551609));
-						uint64_t n80 = (uint64_t)(uintptr_t)p79;
-						if ((n80 - (uint64_t)(uintptr_t)(byte *)tp_static_229) >= 7) {
-							memcpy(p79, (byte *)tp_static_229, 7);
+						byte *p82 = at(at(p6, n56), UINT64_C(18446744073709551609));
+						uint64_t n83 = (uint64_t)(uintptr_t)p82;
+						if ((n83 - (uint64_t)(uintptr_t)(byte *)tp_static_229) >= 7) {
+							memcpy(p82, (byte *)tp_static_229, 7);
 							goto L3;
 						}
-						n81 = 0;
-						while (n81 != 7) {
-							store8(inside(p79, n81), load8(inside((byte *)tp_static_229, n81)));
-							n81 = n81 + 1;
+						n84 = 0;
+						while (n84 != 7) {
+							store8(inside(p82, n84), load8(inside((byte *)tp_static_229, n84)));
+							n84 = n84 + 1;
 						}
 L3:
 						{
-							uint64_t n86, n87, n91;
-							uint8_t n88;
-							byte *p89, *p90;
-							uint64_t n82 = 125 - n53;
-							uint64_t n83 = load64(p5 + 16);
-							uint64_t n84 = load64(p5 + 8);
-							if (n82 > (n83 - n84)) {
-								bool b85 = tp_std_alloc_vec_Vec_grow_amortized_11(p5, n82);
-								if (!b85) {
-									n88 = 1;
+							uint64_t n89, n90, n94;
+							uint8_t n91;
+							byte *p92, *p93;
+							uint64_t n85 = 125 - n56;
+							uint64_t n86 = load64(p5 + 16);
+							uint64_t n87 = load64(p5 + 8);
+							if (n85 > (n86 - n87)) {
+								bool b88 = tp_std_alloc_vec_Vec_grow_amortized_11(p5, n85);
+								if (!b88) {
+									n91 = 1;
 									goto L4;
 								}
-								n86 = load64(p5 + 16);
-								n87 = load64(p5 + 8);
+								n89 = load64(p5 + 16);
+								n90 = load64(p5 + 8);
 							} else {
-								n86 = n83;
-								n87 = n84;
+								n89 = n86;
+								n90 = n87;
 							}
-							p89 = loadptr(p5);
-							p90 = at(p89, n87);
-							if (((uint64_t)(uintptr_t)p90 - n80) >= n82) {
-								memcpy(p90, p79, (size_t)n82);
+							p92 = loadptr(p5);
+							p93 = at(p92, n90);
+							if (((uint64_t)(uintptr_t)p93 - n83) >= n85) {
+								memcpy(p93, p82, (size_t)n85);
 								goto L5;
 							}
-							n91 = 0;
-							while (n91 != n82) {
-								store8(inside(p90, n91), load8(inside(p79, n91)));
-								n91 = n91 + 1;
+							n94 = 0;
+							while (n94 != n85) {
+								store8(inside(p93, n94), load8(inside(p82, n94)));
+								n94 = n94 + 1;
 							}
 L5:
 							{
-								storeptr(p5, p89);
-								store64(p5 + 8, n87 + n82);
-								store64(p5 + 16, n86);
-								n88 = 0;
+								storeptr(p5, p92);
+								store64(p5 + 8, n90 + n85);
+								store64(p5 + 16, n89);
+								n91 = 0;
 							}
 L4:
 							{
-								n51 = n88;
+								n54 = n91;
 							}
 						}
 					}
-					return n51;
+					return n54;
 				}
 				store64(p9, n2);
 				store64(p9 + 8, n3);
@@ -69659,8 +70133,8 @@ L4:
 			n23 = 9;
 			p24 = (byte *)tp_static_236;
 		}
-		uint8_t n92 = tp_text_push_refused(p5, (byte *)tp_static_221, 7, p9, 2, p24, n23);
-		return n92;
+		uint8_t n95 = tp_text_push_refused(p5, (byte *)tp_static_221, 7, p9, 2, p24, n23);
+		return n95;
 	}
 }
 
@@ -70046,7 +70520,7 @@ L2:
 	{
 		uint64_t n33;
 		byte *p34;
-		uint8_t n180, n181;
+		uint8_t n183, n184;
 		store64u(p16, 3);
 		store64u(p16 + 8, n22);
 		store64u(p16 + 16, n4);
@@ -70080,8 +70554,8 @@ L2:
 				p34 = (byte *)tp_static_238;
 			} else {
 				if (n36 >= n3) {
-					uint64_t n54;
-					uint8_t n96;
+					uint8_t n51, n99;
+					uint64_t n52, n56;
 					memset(p15, 0, 40);
 					tp_facility_Facility_take_restart(p15, p1, n2, n3, n22, n4, n5, n5, n6);
 					uint8_t n37 = load8(p15);
@@ -70117,282 +70591,290 @@ L2:
 					}
 					}
 					uint64_t n47 = load64(p1 + 64);
-					byte *p48 = loadptr(p1 + 80);
-					uint64_t n49 = load64(p1 + 104);
-					uint64_t n50 = (uint64_t)load32(at(p48, load64(p1 + 32) << 3) + 4);
-					uint64_t n51 = usub_sat64(n50, n49);
-					uint64_t n52 = 0;
-					uint64_t n53 = n50;
-					for (;;) {
-						if (n52 == n47) {
-							n54 = n47;
-							break;
-						}
-						if (n49 > n53) {
-							n54 = n52;
-							break;
-						}
-						uint64_t n55 = (uint64_t)load32(at(p48, (n49 + n51) << 3) + 4);
-						n51 = usub_sat64(n55, n49);
-						n52 = n52 + 1;
-						n53 = n55;
+					uint64_t n48 = load64(p1 + 32);
+					byte *p49 = loadptr(p1 + 80);
+					uint64_t n50 = (uint64_t)load32(at(p49, n48 << 3) + 4);
+					if (n48 == n50) {
+						n51 = 0;
+						n52 = 0;
+					} else {
+						n51 = 1;
+						n52 = n50 - load64(p1 + 104);
 					}
-					if ((((n47 - n54) << 1) + 64) < load64(p1 + 1488))
+					uint64_t n53 = n52;
+					uint64_t n54 = 0;
+					uint8_t n55 = n51;
+					for (;;) {
+						if (n54 == n47) {
+							n56 = n47;
+							break;
+						}
+						if (n55 != 1) {
+							n56 = n54;
+							break;
+						}
+						uint64_t n57 = load64(p1 + 104);
+						uint64_t n58 = (uint64_t)load32(at(p49, (n57 + n53) << 3) + 4);
+						n53 = usub_sat64(n58, n57);
+						n54 = n54 + 1;
+						n55 = (uint8_t)(n57 <= n58);
+					}
+					if ((((n47 - n56) << 1) + 64) < load64(p1 + 1488))
 						tp_handles_sweep(p1 + 1480, p1);
 					memset(p17, 0, 16);
 					memset(p14, 0, 16);
 					switch (MOSTLY_0(n37)) {
 					case 0: {
-						uint64_t n85;
+						uint64_t n88;
 						store64(p11, n2);
 						store64(p11 + 8, n3);
 						store64(p11 + 16, n40);
 						store64(p11 + 24, n41);
 						memset(p10, 0, 117);
 						store8(p10 + 117, 10);
-						uint64_t n56 = 4;
-						uint64_t n57 = 117;
-						while (n56 != 0) {
-							uint64_t n69;
-							uint64_t n58 = n56 - 1;
-							uint64_t n59 = load64(inside(p11, n58 << 3));
-							uint64_t n60 = n57;
-							while (n59 > 9999) {
-								uint16_t n61 = (uint16_t)(n59 % 10000);
-								byte *p62 = inside((byte *)tp_static_242, (uint64_t)(uint16_t)((uint32_t)(uint16_t)(n61 % 100) << 1));
-								byte *p63 = at(p10, n60);
-								uint8_t n64 = load8(p62 + 1);
-								store8(at(p63, UINT64_C(18446744073709551614)), load8(p62));
-								store8(at(p63, UINT64_MAX), n64);
-								uint64_t n65 = n60 - 4;
-								byte *p66 = inside((byte *)tp_static_242, (uint64_t)(uint16_t)((uint32_t)(uint16_t)(n61 / 100) << 1));
-								uint8_t n67 = load8(p66 + 1);
-								store8(inside(p10, n65), load8(p66));
-								store8(at(p63, UINT64_C(18446744073709551613)), n67);
-								n59 = n59 / 10000;
-								n60 = n65;
+						uint64_t n59 = 4;
+						uint64_t n60 = 117;
+						while (n59 != 0) {
+							uint64_t n72;
+							uint64_t n61 = n59 - 1;
+							uint64_t n62 = load64(inside(p11, n61 << 3));
+							uint64_t n63 = n60;
+							while (n62 > 9999) {
+								uint16_t n64 = (uint16_t)(n62 % 10000);
+								byte *p65 = inside((byte *)tp_static_242, (uint64_t)(uint16_t)((uint32_t)(uint16_t)(n64 % 100) << 1));
+								byte *p66 = at(p10, n63);
+								uint8_t n67 = load8(p65 + 1);
+								store8(at(p66, UINT64_C(18446744073709551614)), load8(p65));
+								store8(at(p66, UINT64_MAX), n67);
+								uint64_t n68 = n63 - 4;
+								byte *p69 = inside((byte *)tp_static_242, (uint64_t)(uint16_t)((uint32_t)(uint16_t)(n64 / 100) << 1));
+								uint8_t n70 = load8(p69 + 1);
+								store8(inside(p10, n68), load8(p69));
+								store8(at(p66, UINT64_C(18446744073709551613)), n70);
+								n62 = n62 / 10000;
+								n63 = n68;
 							}
-							if (n59 < 100) {
-								if (n59 < 10) {
-									uint64_t n68 = n60 - 1;
-									store8(inside(p10, n68), (uint8_t)((uint8_t)n59 | 48));
-									n69 = n68;
+							if (n62 < 100) {
+								if (n62 < 10) {
+									uint64_t n71 = n63 - 1;
+									store8(inside(p10, n71), (uint8_t)((uint8_t)n62 | 48));
+									n72 = n71;
 								} else {
-									uint64_t n70 = n60 - 2;
-									byte *p71 = inside((byte *)tp_static_242, n59 << 1);
-									uint8_t n72 = load8(p71 + 1);
-									store8(inside(p10, n70), load8(p71));
-									store8(at(at(p10, n60), UINT64_MAX), n72);
-									n69 = n70;
+									uint64_t n73 = n63 - 2;
+									byte *p74 = inside((byte *)tp_static_242, n62 << 1);
+									uint8_t n75 = load8(p74 + 1);
+									store8(inside(p10, n73), load8(p74));
+									store8(at(at(p10, n63), UINT64_MAX), n75);
+									n72 = n73;
 								}
 							} else {
-								uint16_t n73 = (uint16_t)n59;
-								byte *p74 = inside((byte *)tp_static_242, (uint64_t)(uint16_t)((uint32_t)(uint16_t)(n73 % 100) << 1));
-								byte *p75 = at(p10, n60);
-								uint8_t n76 = load8(p74 + 1);
-								store8(at(p75, UINT64_C(18446744073709551614)), load8(p74));
-								store8(at(p75, UINT64_MAX), n76);
-								uint16_t n77 = (uint16_t)(n73 / 100);
-								if (n59 < 1000) {
-									uint64_t n78 = n60 - 3;
-									store8(inside(p10, n78), (uint8_t)((uint8_t)n77 | 48));
-									n69 = n78;
+								uint16_t n76 = (uint16_t)n62;
+								byte *p77 = inside((byte *)tp_static_242, (uint64_t)(uint16_t)((uint32_t)(uint16_t)(n76 % 100) << 1));
+								byte *p78 = at(p10, n63);
+								uint8_t n79 = load8(p77 + 1);
+								store8(at(p78, UINT64_C(18446744073709551614)), load8(p77));
+								store8(at(p78, UINT64_MAX), n79);
+								uint16_t n80 = (uint16_t)(n76 / 100);
+								if (n62 < 1000) {
+									uint64_t n81 = n63 - 3;
+									store8(inside(p10, n81), (uint8_t)((uint8_t)n80 | 48));
+									n72 = n81;
 								} else {
-									uint64_t n79 = n60 - 4;
-									byte *p80 = inside((byte *)tp_static_242, (uint64_t)(uint16_t)((uint32_t)n77 << 1));
-									uint8_t n81 = load8(p80 + 1);
-									store8(inside(p10, n79), load8(p80));
-									store8(at(p75, UINT64_C(18446744073709551613)), n81);
-									n69 = n79;
+									uint64_t n82 = n63 - 4;
+									byte *p83 = inside((byte *)tp_static_242, (uint64_t)(uint16_t)((uint32_t)n80 << 1));
+									uint8_t n84 = load8(p83 + 1);
+									store8(inside(p10, n82), load8(p83));
+									store8(at(p78, UINT64_C(18446744073709551613)), n84);
+									n72 = n82;
 								}
 							}
-							uint64_t n82 = n69 - 1;
-							store8(inside(p10, n82), 32);
-							n56 = n58;
-							n57 = n82;
+							uint64_t n85 = n72 - 1;
+							store8(inside(p10, n85), 32);
+							n59 = n61;
+							n60 = n85;
 						}
-						byte *p83 = at(at(p10, n57), UINT64_C(18446744073709551609));
-						uint64_t n84 = (uint64_t)(uintptr_t)p83;
-						if ((n84 - (uint64_t)(uintptr_t)(byte *)tp_static_228) >= 7) {
-							memcpy(p83, (byte *)tp_static_228, 7);
+						byte *p86 = at(at(p10, n60), UINT64_C(18446744073709551609));
+						uint64_t n87 = (uint64_t)(uintptr_t)p86;
+						if ((n87 - (uint64_t)(uintptr_t)(byte *)tp_static_228) >= 7) {
+							memcpy(p86, (byte *)tp_static_228, 7);
 							goto L3;
 						}
-						n85 = 0;
-						while (n85 != 7) {
-							store8(inside(p83, n85), load8(inside((byte *)tp_static_228, n85)));
-							n85 = n85 + 1;
+						n88 = 0;
+						while (n88 != 7) {
+							store8(inside(p86, n88), load8(inside((byte *)tp_static_228, n88)));
+							n88 = n88 + 1;
 						}
 L3:
 						{
-							uint64_t n90, n91, n95;
-							uint8_t n92;
-							byte *p93, *p94;
-							uint64_t n86 = 125 - n57;
-							uint64_t n87 = load64(p7 + 16);
-							uint64_t n88 = load64(p7 + 8);
-							if (n86 > (n87 - n88)) {
-								bool b89 = tp_std_alloc_vec_Vec_grow_amortized_11(p7, n86);
-								if (!b89) {
-									n92 = 1;
+							uint64_t n93, n94, n98;
+							uint8_t n95;
+							byte *p96, *p97;
+							uint64_t n89 = 125 - n60;
+							uint64_t n90 = load64(p7 + 16);
+							uint64_t n91 = load64(p7 + 8);
+							if (n89 > (n90 - n91)) {
+								bool b92 = tp_std_alloc_vec_Vec_grow_amortized_11(p7, n89);
+								if (!b92) {
+									n95 = 1;
 									goto L4;
 								}
-								n90 = load64(p7 + 16);
-								n91 = load64(p7 + 8);
+								n93 = load64(p7 + 16);
+								n94 = load64(p7 + 8);
 							} else {
-								n90 = n87;
-								n91 = n88;
+								n93 = n90;
+								n94 = n91;
 							}
-							p93 = loadptr(p7);
-							p94 = at(p93, n91);
-							if (((uint64_t)(uintptr_t)p94 - n84) >= n86) {
-								memcpy(p94, p83, (size_t)n86);
+							p96 = loadptr(p7);
+							p97 = at(p96, n94);
+							if (((uint64_t)(uintptr_t)p97 - n87) >= n89) {
+								memcpy(p97, p86, (size_t)n89);
 								goto L5;
 							}
-							n95 = 0;
-							while (n95 != n86) {
-								store8(inside(p94, n95), load8(inside(p83, n95)));
-								n95 = n95 + 1;
+							n98 = 0;
+							while (n98 != n89) {
+								store8(inside(p97, n98), load8(inside(p86, n98)));
+								n98 = n98 + 1;
 							}
 L5:
 							{
-								storeptr(p7, p93);
-								store64(p7 + 8, n91 + n86);
-								store64(p7 + 16, n90);
-								n92 = 0;
+								storeptr(p7, p96);
+								store64(p7 + 8, n94 + n89);
+								store64(p7 + 16, n93);
+								n95 = 0;
 							}
 L4:
 							{
-								n96 = n92;
+								n99 = n95;
 							}
 						}
 						break;
 					}
 					case 1: {
-						uint64_t n126;
+						uint64_t n129;
 						store64(p12, n2);
 						store64(p12 + 8, n3);
 						store64(p12 + 16, n39);
 						memset(p9, 0, 117);
 						store8(p9 + 117, 10);
-						uint64_t n97 = 3;
-						uint64_t n98 = 117;
-						while (n97 != 0) {
-							uint64_t n110;
-							uint64_t n99 = n97 - 1;
-							uint64_t n100 = load64(inside(p12, n99 << 3));
-							uint64_t n101 = n98;
-							while (n100 > 9999) {
-								uint16_t n102 = (uint16_t)(n100 % 10000);
-								byte *p103 = inside((byte *)tp_static_242, (uint64_t)(uint16_t)((uint32_t)(uint16_t)(n102 % 100) << 1));
-								byte *p104 = at(p9, n101);
-								uint8_t n105 = load8(p103 + 1);
-								store8(at(p104, UINT64_C(18446744073709551614)), load8(p103));
-								store8(at(p104, UINT64_MAX), n105);
-								uint64_t n106 = n101 - 4;
-								byte *p107 = inside((byte *)tp_static_242, (uint64_t)(uint16_t)((uint32_t)(uint16_t)(n102 / 100) << 1));
-								uint8_t n108 = load8(p107 + 1);
-								store8(inside(p9, n106), load8(p107));
-								store8(at(p104, UINT64_C(18446744073709551613)), n108);
-								n100 = n100 / 10000;
-								n101 = n106;
+						uint64_t n100 = 3;
+						uint64_t n101 = 117;
+						while (n100 != 0) {
+							uint64_t n113;
+							uint64_t n102 = n100 - 1;
+							uint64_t n103 = load64(inside(p12, n102 << 3));
+							uint64_t n104 = n101;
+							while (n103 > 9999) {
+								uint16_t n105 = (uint16_t)(n103 % 10000);
+								byte *p106 = inside((byte *)tp_static_242, (uint64_t)(uint16_t)((uint32_t)(uint16_t)(n105 % 100) << 1));
+								byte *p107 = at(p9, n104);
+								uint8_t n108 = load8(p106 + 1);
+								store8(at(p107, UINT64_C(18446744073709551614)), load8(p106));
+								store8(at(p107, UINT64_MAX), n108);
+								uint64_t n109 = n104 - 4;
+								byte *p110 = inside((byte *)tp_static_242, (uint64_t)(uint16_t)((uint32_t)(uint16_t)(n105 / 100) << 1));
+								uint8_t n111 = load8(p110 + 1);
+								store8(inside(p9, n109), load8(p110));
+								store8(at(p107, UINT64_C(18446744073709551613)), n111);
+								n103 = n103 / 10000;
+								n104 = n109;
 							}
-							if (n100 < 100) {
-								if (n100 < 10) {
-									uint64_t n109 = n101 - 1;
-									store8(inside(p9, n109), (uint8_t)((uint8_t)n100 | 48));
-									n110 = n109;
+							if (n103 < 100) {
+								if (n103 < 10) {
+									uint64_t n112 = n104 - 1;
+									store8(inside(p9, n112), (uint8_t)((uint8_t)n103 | 48));
+									n113 = n112;
 								} else {
-									uint64_t n111 = n101 - 2;
-									byte *p112 = inside((byte *)tp_static_242, n100 << 1);
-									uint8_t n113 = load8(p112 + 1);
-									store8(inside(p9, n111), load8(p112));
-									store8(at(at(p9, n101), UINT64_MAX), n113);
-									n110 = n111;
+									uint64_t n114 = n104 - 2;
+									byte *p115 = inside((byte *)tp_static_242, n103 << 1);
+									uint8_t n116 = load8(p115 + 1);
+									store8(inside(p9, n114), load8(p115));
+									store8(at(at(p9, n104), UINT64_MAX), n116);
+									n113 = n114;
 								}
 							} else {
-								uint16_t n114 = (uint16_t)n100;
-								byte *p115 = inside((byte *)tp_static_242, (uint64_t)(uint16_t)((uint32_t)(uint16_t)(n114 % 100) << 1));
-								byte *p116 = at(p9, n101);
-								uint8_t n117 = load8(p115 + 1);
-								store8(at(p116, UINT64_C(18446744073709551614)), load8(p115));
-								store8(at(p116, UINT64_MAX), n117);
-								uint16_t n118 = (uint16_t)(n114 / 100);
-								if (n100 < 1000) {
-									uint64_t n119 = n101 - 3;
-									store8(inside(p9, n119), (uint8_t)((uint8_t)n118 | 48));
-									n110 = n119;
+								uint16_t n117 = (uint16_t)n103;
+								byte *p118 = inside((byte *)tp_static_242, (uint64_t)(uint16_t)((uint32_t)(uint16_t)(n117 % 100) << 1));
+								byte *p119 = at(p9, n104);
+								uint8_t n120 = load8(p118 + 1);
+								store8(at(p119, UINT64_C(18446744073709551614)), load8(p118));
+								store8(at(p119, UINT64_MAX), n120);
+								uint16_t n121 = (uint16_t)(n117 / 100);
+								if (n103 < 1000) {
+									uint64_t n122 = n104 - 3;
+									store8(inside(p9, n122), (uint8_t)((uint8_t)n121 | 48));
+									n113 = n122;
 								} else {
-									uint64_t n120 = n101 - 4;
-									byte *p121 = inside((byte *)tp_static_242, (uint64_t)(uint16_t)((uint32_t)n118 << 1));
-									uint8_t n122 = load8(p121 + 1);
-									store8(inside(p9, n120), load8(p121));
-									store8(at(p116, UINT64_C(18446744073709551613)), n122);
-									n110 = n120;
+									uint64_t n123 = n104 - 4;
+									byte *p124 = inside((byte *)tp_static_242, (uint64_t)(uint16_t)((uint32_t)n121 << 1));
+									uint8_t n125 = load8(p124 + 1);
+									store8(inside(p9, n123), load8(p124));
+									store8(at(p119, UINT64_C(18446744073709551613)), n125);
+									n113 = n123;
 								}
 							}
-							uint64_t n123 = n110 - 1;
-							store8(inside(p9, n123), 32);
-							n97 = n99;
-							n98 = n123;
+							uint64_t n126 = n113 - 1;
+							store8(inside(p9, n126), 32);
+							n100 = n102;
+							n101 = n126;
 						}
-						byte *p124 = at(at(p9, n98), UINT64_C(18446744073709551609));
-						uint64_t n125 = (uint64_t)(uintptr_t)p124;
-						if ((n125 - (uint64_t)(uintptr_t)(byte *)tp_static_229) >= 7) {
-							memcpy(p124, (byte *)tp_static_229, 7);
+						byte *p127 = at(at(p9, n101), UINT64_C(18446744073709551609));
+						uint64_t n128 = (uint64_t)(uintptr_t)p127;
+						if ((n128 - (uint64_t)(uintptr_t)(byte *)tp_static_229) >= 7) {
+							memcpy(p127, (byte *)tp_static_229, 7);
 							goto L6;
 						}
-						n126 = 0;
-						while (n126 != 7) {
-							store8(inside(p124, n126), load8(inside((byte *)tp_static_229, n126)));
-							n126 = n126 + 1;
+						n129 = 0;
+						while (n129 != 7) {
+							store8(inside(p127, n129), load8(inside((byte *)tp_static_229, n129)));
+							n129 = n129 + 1;
 						}
 L6:
 						{
-							uint64_t n131, n132, n136;
-							uint8_t n133;
-							byte *p134, *p135;
-							uint64_t n127 = 125 - n98;
-							uint64_t n128 = load64(p7 + 16);
-							uint64_t n129 = load64(p7 + 8);
-							if (n127 > (n128 - n129)) {
-								bool b130 = tp_std_alloc_vec_Vec_grow_amortized_11(p7, n127);
-								if (!b130) {
-									n133 = 1;
+							uint64_t n134, n135, n139;
+							uint8_t n136;
+							byte *p137, *p138;
+							uint64_t n130 = 125 - n101;
+							uint64_t n131 = load64(p7 + 16);
+							uint64_t n132 = load64(p7 + 8);
+							if (n130 > (n131 - n132)) {
+								bool b133 = tp_std_alloc_vec_Vec_grow_amortized_11(p7, n130);
+								if (!b133) {
+									n136 = 1;
 									goto L7;
 								}
-								n131 = load64(p7 + 16);
-								n132 = load64(p7 + 8);
+								n134 = load64(p7 + 16);
+								n135 = load64(p7 + 8);
 							} else {
-								n131 = n128;
-								n132 = n129;
+								n134 = n131;
+								n135 = n132;
 							}
-							p134 = loadptr(p7);
-							p135 = at(p134, n132);
-							if (((uint64_t)(uintptr_t)p135 - n125) >= n127) {
-								memcpy(p135, p124, (size_t)n127);
+							p137 = loadptr(p7);
+							p138 = at(p137, n135);
+							if (((uint64_t)(uintptr_t)p138 - n128) >= n130) {
+								memcpy(p138, p127, (size_t)n130);
 								goto L8;
 							}
-							n136 = 0;
-							while (n136 != n127) {
-								store8(inside(p135, n136), load8(inside(p124, n136)));
-								n136 = n136 + 1;
+							n139 = 0;
+							while (n139 != n130) {
+								store8(inside(p138, n139), load8(inside(p127, n139)));
+								n139 = n139 + 1;
 							}
 L8:
 							{
-								storeptr(p7, p134);
-								store64(p7 + 8, n132 + n127);
-								store64(p7 + 16, n131);
-								n133 = 0;
+								storeptr(p7, p137);
+								store64(p7 + 8, n135 + n130);
+								store64(p7 + 16, n134);
+								n136 = 0;
 							}
 L7:
 							{
-								n96 = n133;
+								n99 = n136;
 							}
 						}
 						break;
 					}
 					case 2: {
-						uint64_t n166;
+						uint64_t n169;
 						store64(p13, n2);
 						store64(p13 + 8, n3);
 						store64(p13 + 16, n42);
@@ -70400,167 +70882,167 @@ L7:
 						store64(p13 + 32, n41);
 						memset(p8, 0, 117);
 						store8(p8 + 117, 10);
-						uint64_t n137 = 5;
-						uint64_t n138 = 117;
-						while (n137 != 0) {
-							uint64_t n150;
-							uint64_t n139 = n137 - 1;
-							uint64_t n140 = load64(inside(p13, n139 << 3));
-							uint64_t n141 = n138;
-							while (n140 > 9999) {
-								uint16_t n142 = (uint16_t)(n140 % 10000);
-								byte *p143 = inside((byte *)tp_static_242, (uint64_t)(uint16_t)((uint32_t)(uint16_t)(n142 % 100) << 1));
-								byte *p144 = at(p8, n141);
-								uint8_t n145 = load8(p143 + 1);
-								store8(at(p144, UINT64_C(18446744073709551614)), load8(p143));
-								store8(at(p144, UINT64_MAX), n145);
-								uint64_t n146 = n141 - 4;
-								byte *p147 = inside((byte *)tp_static_242, (uint64_t)(uint16_t)((uint32_t)(uint16_t)(n142 / 100) << 1));
-								uint8_t n148 = load8(p147 + 1);
-								store8(inside(p8, n146), load8(p147));
-								store8(at(p144, UINT64_C(18446744073709551613)), n148);
-								n140 = n140 / 10000;
-								n141 = n146;
+						uint64_t n140 = 5;
+						uint64_t n141 = 117;
+						while (n140 != 0) {
+							uint64_t n153;
+							uint64_t n142 = n140 - 1;
+							uint64_t n143 = load64(inside(p13, n142 << 3));
+							uint64_t n144 = n141;
+							while (n143 > 9999) {
+								uint16_t n145 = (uint16_t)(n143 % 10000);
+								byte *p146 = inside((byte *)tp_static_242, (uint64_t)(uint16_t)((uint32_t)(uint16_t)(n145 % 100) << 1));
+								byte *p147 = at(p8, n144);
+								uint8_t n148 = load8(p146 + 1);
+								store8(at(p147, UINT64_C(18446744073709551614)), load8(p146));
+								store8(at(p147, UINT64_MAX), n148);
+								uint64_t n149 = n144 - 4;
+								byte *p150 = inside((byte *)tp_static_242, (uint64_t)(uint16_t)((uint32_t)(uint16_t)(n145 / 100) << 1));
+								uint8_t n151 = load8(p150 + 1);
+								store8(inside(p8, n149), load8(p150));
+								store8(at(p147, UINT64_C(18446744073709551613)), n151);
+								n143 = n143 / 10000;
+								n144 = n149;
 							}
-							if (n140 < 100) {
-								if (n140 < 10) {
-									uint64_t n149 = n141 - 1;
-									store8(inside(p8, n149), (uint8_t)((uint8_t)n140 | 48));
-									n150 = n149;
+							if (n143 < 100) {
+								if (n143 < 10) {
+									uint64_t n152 = n144 - 1;
+									store8(inside(p8, n152), (uint8_t)((uint8_t)n143 | 48));
+									n153 = n152;
 								} else {
-									uint64_t n151 = n141 - 2;
-									byte *p152 = inside((byte *)tp_static_242, n140 << 1);
-									uint8_t n153 = load8(p152 + 1);
-									store8(inside(p8, n151), load8(p152));
-									store8(at(at(p8, n141), UINT64_MAX), n153);
-									n150 = n151;
+									uint64_t n154 = n144 - 2;
+									byte *p155 = inside((byte *)tp_static_242, n143 << 1);
+									uint8_t n156 = load8(p155 + 1);
+									store8(inside(p8, n154), load8(p155));
+									store8(at(at(p8, n144), UINT64_MAX), n156);
+									n153 = n154;
 								}
 							} else {
-								uint16_t n154 = (uint16_t)n140;
-								byte *p155 = inside((byte *)tp_static_242, (uint64_t)(uint16_t)((uint32_t)(uint16_t)(n154 % 100) << 1));
-								byte *p156 = at(p8, n141);
-								uint8_t n157 = load8(p155 + 1);
-								store8(at(p156, UINT64_C(18446744073709551614)), load8(p155));
-								store8(at(p156, UINT64_MAX), n157);
-								uint16_t n158 = (uint16_t)(n154 / 100);
-								if (n140 < 1000) {
-									uint64_t n159 = n141 - 3;
-									store8(inside(p8, n159), (uint8_t)((uint8_t)n158 | 48));
-									n150 = n159;
+								uint16_t n157 = (uint16_t)n143;
+								byte *p158 = inside((byte *)tp_static_242, (uint64_t)(uint16_t)((uint32_t)(uint16_t)(n157 % 100) << 1));
+								byte *p159 = at(p8, n144);
+								uint8_t n160 = load8(p158 + 1);
+								store8(at(p159, UINT64_C(18446744073709551614)), load8(p158));
+								store8(at(p159, UINT64_MAX), n160);
+								uint16_t n161 = (uint16_t)(n157 / 100);
+								if (n143 < 1000) {
+									uint64_t n162 = n144 - 3;
+									store8(inside(p8, n162), (uint8_t)((uint8_t)n161 | 48));
+									n153 = n162;
 								} else {
-									uint64_t n160 = n141 - 4;
-									byte *p161 = inside((byte *)tp_static_242, (uint64_t)(uint16_t)((uint32_t)n158 << 1));
-									uint8_t n162 = load8(p161 + 1);
-									store8(inside(p8, n160), load8(p161));
-									store8(at(p156, UINT64_C(18446744073709551613)), n162);
-									n150 = n160;
+									uint64_t n163 = n144 - 4;
+									byte *p164 = inside((byte *)tp_static_242, (uint64_t)(uint16_t)((uint32_t)n161 << 1));
+									uint8_t n165 = load8(p164 + 1);
+									store8(inside(p8, n163), load8(p164));
+									store8(at(p159, UINT64_C(18446744073709551613)), n165);
+									n153 = n163;
 								}
 							}
-							uint64_t n163 = n150 - 1;
-							store8(inside(p8, n163), 32);
-							n137 = n139;
-							n138 = n163;
+							uint64_t n166 = n153 - 1;
+							store8(inside(p8, n166), 32);
+							n140 = n142;
+							n141 = n166;
 						}
-						byte *p164 = at(at(p8, n138), UINT64_C(18446744073709551607));
-						uint64_t n165 = (uint64_t)(uintptr_t)p164;
-						if ((n165 - (uint64_t)(uintptr_t)(byte *)tp_static_230) >= 9) {
-							memcpy(p164, (byte *)tp_static_230, 9);
+						byte *p167 = at(at(p8, n141), UINT64_C(18446744073709551607));
+						uint64_t n168 = (uint64_t)(uintptr_t)p167;
+						if ((n168 - (uint64_t)(uintptr_t)(byte *)tp_static_230) >= 9) {
+							memcpy(p167, (byte *)tp_static_230, 9);
 							goto L9;
 						}
-						n166 = 0;
-						while (n166 != 9) {
-							store8(inside(p164, n166), load8(inside((byte *)tp_static_230, n166)));
-							n166 = n166 + 1;
+						n169 = 0;
+						while (n169 != 9) {
+							store8(inside(p167, n169), load8(inside((byte *)tp_static_230, n169)));
+							n169 = n169 + 1;
 						}
 L9:
 						{
-							uint64_t n171, n172, n176;
-							uint8_t n173;
-							byte *p174, *p175;
-							uint64_t n167 = 127 - n138;
-							uint64_t n168 = load64(p7 + 16);
-							uint64_t n169 = load64(p7 + 8);
-							if (n167 > (n168 - n169)) {
-								bool b170 = tp_std_alloc_vec_Vec_grow_amortized_11(p7, n167);
-								if (!b170) {
-									n173 = 1;
+							uint64_t n174, n175, n179;
+							uint8_t n176;
+							byte *p177, *p178;
+							uint64_t n170 = 127 - n141;
+							uint64_t n171 = load64(p7 + 16);
+							uint64_t n172 = load64(p7 + 8);
+							if (n170 > (n171 - n172)) {
+								bool b173 = tp_std_alloc_vec_Vec_grow_amortized_11(p7, n170);
+								if (!b173) {
+									n176 = 1;
 									goto L10;
 								}
-								n171 = load64(p7 + 16);
-								n172 = load64(p7 + 8);
+								n174 = load64(p7 + 16);
+								n175 = load64(p7 + 8);
 							} else {
-								n171 = n168;
-								n172 = n169;
+								n174 = n171;
+								n175 = n172;
 							}
-							p174 = loadptr(p7);
-							p175 = at(p174, n172);
-							if (((uint64_t)(uintptr_t)p175 - n165) >= n167) {
-								memcpy(p175, p164, (size_t)n167);
+							p177 = loadptr(p7);
+							p178 = at(p177, n175);
+							if (((uint64_t)(uintptr_t)p178 - n168) >= n170) {
+								memcpy(p178, p167, (size_t)n170);
 								goto L11;
 							}
-							n176 = 0;
-							while (n176 != n167) {
-								store8(inside(p175, n176), load8(inside(p164, n176)));
-								n176 = n176 + 1;
+							n179 = 0;
+							while (n179 != n170) {
+								store8(inside(p178, n179), load8(inside(p167, n179)));
+								n179 = n179 + 1;
 							}
 L11:
 							{
-								storeptr(p7, p174);
-								store64(p7 + 8, n172 + n167);
-								store64(p7 + 16, n171);
-								n173 = 0;
+								storeptr(p7, p177);
+								store64(p7 + 8, n175 + n170);
+								store64(p7 + 16, n174);
+								n176 = 0;
 							}
 L10:
 							{
-								n96 = n173;
+								n99 = n176;
 							}
 						}
 						break;
 					}
 					case 3: {
-						uint64_t n177;
-						byte *p178;
+						uint64_t n180;
+						byte *p181;
 						store64(p14, n2);
 						store64(p14 + 8, n3);
 						switch (MOSTLY_0(n38)) {
 						case 0: {
-							n177 = 13;
-							p178 = (byte *)tp_static_231;
+							n180 = 13;
+							p181 = (byte *)tp_static_231;
 							break;
 						}
 						case 1: {
-							n177 = 8;
-							p178 = (byte *)tp_static_232;
+							n180 = 8;
+							p181 = (byte *)tp_static_232;
 							break;
 						}
 						case 2: {
-							n177 = 13;
-							p178 = (byte *)tp_static_233;
+							n180 = 13;
+							p181 = (byte *)tp_static_233;
 							break;
 						}
 						case 3: {
-							n177 = 4;
-							p178 = (byte *)tp_static_234;
+							n180 = 4;
+							p181 = (byte *)tp_static_234;
 							break;
 						}
 						case 4: {
-							n177 = 7;
-							p178 = (byte *)tp_static_235;
+							n180 = 7;
+							p181 = (byte *)tp_static_235;
 							break;
 						}
 						default: {
 							UNREACHABLE();
 						}
 						}
-						uint8_t n179 = tp_text_push_refused(p7, (byte *)tp_static_221, 7, p14, 2, p178, n177);
-						n96 = n179;
+						uint8_t n182 = tp_text_push_refused(p7, (byte *)tp_static_221, 7, p14, 2, p181, n180);
+						n99 = n182;
 						break;
 					}
 					default: {
 						UNREACHABLE();
 					}
 					}
-					n180 = n96;
+					n183 = n99;
 					goto L12;
 				}
 				store64(p17, n2);
@@ -70574,11 +71056,11 @@ L10:
 			n33 = 9;
 			p34 = (byte *)tp_static_236;
 		}
-		n181 = tp_text_push_refused(p7, (byte *)tp_static_221, 7, p17, 2, p34, n33);
-		n180 = n181;
+		n184 = tp_text_push_refused(p7, (byte *)tp_static_221, 7, p17, 2, p34, n33);
+		n183 = n184;
 L12:
 		{
-			return n180;
+			return n183;
 		}
 	}
 }
@@ -70597,31 +71079,40 @@ static of_i8_i8 tp_facility_Facility_start_refusal(byte *p1, uint64_t n2)
 		n3 = 2;
 		n4 = 1;
 	} else {
-		uint64_t n12;
+		uint8_t n9;
+		uint64_t n10, n14;
 		uint64_t n5 = load64(p1 + 64);
-		byte *p6 = loadptr(p1 + 80);
-		uint64_t n7 = load64(p1 + 104);
-		uint64_t n8 = (uint64_t)load32(at(p6, load64(p1 + 32) << 3) + 4);
-		uint64_t n9 = usub_sat64(n8, n7);
-		uint64_t n10 = 0;
-		uint64_t n11 = n8;
-		for (;;) {
-			if (n10 == n5) {
-				n12 = n5;
-				break;
-			}
-			if (n7 > n11) {
-				n12 = n10;
-				break;
-			}
-			uint64_t n13 = (uint64_t)load32(at(p6, (n7 + n9) << 3) + 4);
-			n9 = usub_sat64(n13, n7);
-			n10 = n10 + 1;
-			n11 = n13;
+		uint64_t n6 = load64(p1 + 32);
+		byte *p7 = loadptr(p1 + 80);
+		uint64_t n8 = (uint64_t)load32(at(p7, n6 << 3) + 4);
+		if (n6 == n8) {
+			n9 = 0;
+			n10 = 0;
+		} else {
+			n9 = 1;
+			n10 = n8 - load64(p1 + 104);
 		}
-		bool b14 = (n5 - n12) == load64(p1 + 400);
-		n3 = (uint8_t)(b14 ? 3 : 0);
-		n4 = (uint8_t)b14;
+		uint64_t n11 = n10;
+		uint64_t n12 = 0;
+		uint8_t n13 = n9;
+		for (;;) {
+			if (n12 == n5) {
+				n14 = n5;
+				break;
+			}
+			if (n13 != 1) {
+				n14 = n12;
+				break;
+			}
+			uint64_t n15 = load64(p1 + 104);
+			uint64_t n16 = (uint64_t)load32(at(p7, (n15 + n11) << 3) + 4);
+			n11 = usub_sat64(n16, n15);
+			n12 = n12 + 1;
+			n13 = (uint8_t)(n15 <= n16);
+		}
+		bool b17 = (n5 - n14) == load64(p1 + 400);
+		n3 = (uint8_t)(b17 ? 3 : 0);
+		n4 = (uint8_t)b17;
 	}
 	return of_i8_i8_of(of_i8_i8_of(n4, 0).f0, n3);
 }
@@ -71168,8 +71659,8 @@ L1:
 		n23 = n25;
 L2:
 		{
-			uint64_t n28, n41;
-			uint8_t n34;
+			uint64_t n28, n40;
+			uint8_t n33;
 			uint64_t n26 = n21 + 1;
 			uint8_t n27 = load8(p1);
 			switch (MOSTLY_0(n27)) {
@@ -71189,57 +71680,51 @@ L2:
 				UNREACHABLE();
 			}
 			}
-			uint64_t n29 = load64(p1 + 32);
-			byte *p30 = loadptr(p1 + 80);
-			byte *p31 = at(p30, n28 << 3);
-			uint32_t n32 = load32(p31 + 4);
-			uint64_t n33 = (uint64_t)n32;
-			if (n28 == n33) {
-				n34 = n27;
+			byte *p29 = loadptr(p1 + 80);
+			byte *p30 = at(p29, n28 << 3);
+			uint32_t n31 = load32(p30 + 4);
+			uint64_t n32 = (uint64_t)n31;
+			if (n28 == n32) {
+				n33 = n27;
 			} else {
-				uint8_t n39;
-				if (load64(p1 + 104) <= n33) {
-					uint32_t n35 = load32(p31);
-					byte *p36 = at(p30, n29 << 3);
-					uint32_t n37 = load32(p36);
-					store32(inside(p30, (uint64_t)n37 << 3) + 4, n32);
-					store32(inside(p30, n33 << 3), n37);
-					store32(inside(p30, (uint64_t)n35 << 3) + 4, (uint32_t)n29);
-					store32(p36, n35);
-					uint32_t n38 = (uint32_t)n28;
-					store32(p31 + 4, n38);
-					store32(p31, n38);
-					n39 = load8(p1);
-				} else {
-					n39 = n27;
-				}
-				byte *p40 = inside(p1 + 128, (n28 >> 3) & 8);
-				store64(p40, load64(p40) & (((uint64_t)1 << (n28 & 63)) ^ UINT64_MAX));
-				n34 = n39;
+				uint64_t n34 = load64(p1 + 32);
+				uint32_t n35 = load32(p30);
+				byte *p36 = at(p29, n34 << 3);
+				uint32_t n37 = load32(p36);
+				store32(inside(p29, (uint64_t)n37 << 3) + 4, n31);
+				store32(inside(p29, n32 << 3), n37);
+				store32(inside(p29, (uint64_t)n35 << 3) + 4, (uint32_t)n34);
+				store32(p36, n35);
+				uint32_t n38 = (uint32_t)n28;
+				store32(p30 + 4, n38);
+				store32(p30, n38);
+				byte *p39 = inside(p1 + 128, (n28 >> 3) & 8);
+				store64(p39, load64(p39) & (((uint64_t)1 << (n28 & 63)) ^ UINT64_MAX));
+				n33 = load8(p1);
 			}
 			store64(p1 + 16, n26);
-			switch (MOSTLY_0(n34)) {
+			switch (MOSTLY_0(n33)) {
 			case 0: {
-				n41 = n26 & 63;
+				n40 = n26 & 63;
 				break;
 			}
 			case 1: {
-				n41 = n26 % 60;
+				n40 = n26 % 60;
 				break;
 			}
 			case 2: {
-				n41 = n26 & 15;
+				n40 = n26 & 15;
 				break;
 			}
 			default: {
 				UNREACHABLE();
 			}
 			}
-			if (n41 == 0)
+			if (n40 == 0)
 				tp_work_fix_each(p1, p22);
 			store64(p1 + 384, load64(p1 + 384) + n23);
-			uint64_t n42 = load64(p1 + 32);
-			if (n42 != (uint64_t)load32(at(loadptr(p1 + 80), n42 << 3) + 4))
+			uint64_t n41 = load64(p1 + 32);
+			if (n41 != (uint64_t)load32(at(loadptr(p1 + 80), n41 << 3) + 4))
 				return load64(p1 + 16) - n3;
 		}
 	}
@@ -71251,64 +71736,63 @@ static void tp_timer_facility_player_hand_out(byte *p1, byte *p2)
 	ALIGN(8) byte p3[24];
 	ALIGN(8) byte p4[24];
 	for (;;) {
-		uint64_t n19, n20, n21;
+		uint64_t n14, n15, n16;
 		uint64_t n5 = load64(p1 + 32);
 		byte *p6 = loadptr(p1 + 80);
 		uint64_t n7 = n5 << 3;
-		uint64_t n8 = load64(p1 + 104);
-		uint64_t n9 = (uint64_t)load32(at(p6, n7) + 4);
-		uint64_t n10 = usub_sat64(n9, n8);
-		if (n8 <= n9) {
-			uint32_t n11 = load32(at(p6, (n8 + n10) << 3) + 4);
-			byte *p12 = at(loadptr(p1 + 40), n10 * 48);
-			uint64_t n13 = load64u(p12 + 8);
-			uint64_t n14 = load64u(p12 + 16);
-			uint64_t n15 = load64(p1 + 72);
-			uint8_t n16 = load8(p12);
-			memcpy(p3, p12 + 24, 24);
-			store64u(p12, 0);
-			store64u(p12 + 8, n15);
-			memset(p12 + 16, 0, 32);
-			if (n16 != 1) {
+		uint64_t n8 = (uint64_t)load32(at(p6, n7) + 4);
+		if (n5 == n8) {
+			uint64_t n9 = load64(p1 + 1472);
+			if (n9 == load64(p1 + 1456))
+				return;
+			byte *p10 = at(loadptr(p1 + 1448), n9 * 40);
+			uint64_t n11 = load64u(p10 + 8);
+			uint64_t n12 = load64u(p10);
+			memcpy(p4, p10 + 16, 24);
+			store64(p1 + 1472, n9 + 1);
+			byte *p13 = inside(p1 + 928, n11 << 3);
+			store64(p13, load64(p13) - 1);
+			n14 = 1;
+			n15 = n12;
+			n16 = n11;
+		} else {
+			uint64_t n17 = n8 - load64(p1 + 104);
+			uint32_t n18 = load32(at(p6, n8 << 3) + 4);
+			byte *p19 = at(loadptr(p1 + 40), n17 * 48);
+			uint64_t n20 = load64u(p19 + 8);
+			uint64_t n21 = load64u(p19 + 16);
+			uint64_t n22 = load64(p1 + 72);
+			uint8_t n23 = load8(p19);
+			memcpy(p3, p19 + 24, 24);
+			store64u(p19, 0);
+			store64u(p19 + 8, n22);
+			memset(p19 + 16, 0, 32);
+			if (n23 != 1) {
 				TRAP();
 				UNREACHABLE();
 			}
 			store64(p1 + 64, load64(p1 + 64) - 1);
-			store64(p1 + 72, n10);
+			store64(p1 + 72, n17);
 			memcpy(p4, p3, 24);
-			byte *p17 = loadptr(p1 + 80);
-			store32(inside(p17, n7) + 4, n11);
-			store32(inside(p17, (uint64_t)n11 << 3), (uint32_t)n5);
-			byte *p18 = inside(p1 + 928, n14 << 3);
-			store64(p18, load64(p18) - 1);
-			n19 = 0;
-			n20 = n13;
-			n21 = n14;
-		} else {
-			uint64_t n22 = load64(p1 + 1472);
-			if (n22 == load64(p1 + 1456))
-				return;
-			byte *p23 = at(loadptr(p1 + 1448), n22 * 40);
-			uint64_t n24 = load64u(p23 + 8);
-			uint64_t n25 = load64u(p23);
-			memcpy(p4, p23 + 16, 24);
-			store64(p1 + 1472, n22 + 1);
-			byte *p26 = inside(p1 + 928, n24 << 3);
-			store64(p26, load64(p26) - 1);
-			n19 = 1;
-			n20 = n25;
-			n21 = n24;
+			byte *p24 = loadptr(p1 + 80);
+			store32(inside(p24, n7) + 4, n18);
+			store32(inside(p24, (uint64_t)n18 << 3), (uint32_t)n5);
+			byte *p25 = inside(p1 + 928, n21 << 3);
+			store64(p25, load64(p25) - 1);
+			n14 = 0;
+			n15 = n20;
+			n16 = n21;
 		}
-		uint64_t n27 = load64(p2 + 8);
-		byte *p28 = inside(loadptr(p2), n27 << 6);
-		store8(p28, 2);
-		store8(p28 + 1, 0);
-		store64u(p28 + 8, n19);
-		store64u(p28 + 16, n20);
-		store64u(p28 + 24, n21);
-		memcpy(p28 + 32, p4, 24);
-		store64u(p28 + 56, 0);
-		store64(p2 + 8, n27 + 1);
+		uint64_t n26 = load64(p2 + 8);
+		byte *p27 = inside(loadptr(p2), n26 << 6);
+		store8(p27, 2);
+		store8(p27 + 1, 0);
+		store64u(p27 + 8, n14);
+		store64u(p27 + 16, n15);
+		store64u(p27 + 24, n16);
+		memcpy(p27 + 32, p4, 24);
+		store64u(p27 + 56, 0);
+		store64(p2 + 8, n26 + 1);
 	}
 }
 
@@ -71323,27 +71807,26 @@ static NOINLINE void tp_SmoothWheelWheel_clear(byte *p1)
 		while (n5 != n4) {
 			byte *p6 = loadptr(p1 + 80);
 			uint64_t n7 = n3 << 3;
-			uint64_t n8 = load64(p1 + 104);
-			uint64_t n9 = (uint64_t)load32(at(p6, n7) + 4);
-			uint64_t n10 = usub_sat64(n9, n8);
-			if (n8 > n9)
+			uint64_t n8 = (uint64_t)load32(at(p6, n7) + 4);
+			if (n3 == n8)
 				break;
-			uint32_t n11 = load32(at(p6, (n8 + n10) << 3) + 4);
-			byte *p12 = at(loadptr(p1 + 40), n10 * 48);
-			uint64_t n13 = load64(p1 + 72);
-			uint8_t n14 = load8(p12);
-			store64u(p12, 0);
-			store64u(p12 + 8, n13);
-			memset(p12 + 16, 0, 32);
-			if (n14 != 1) {
+			uint64_t n9 = n8 - load64(p1 + 104);
+			uint32_t n10 = load32(at(p6, n8 << 3) + 4);
+			byte *p11 = at(loadptr(p1 + 40), n9 * 48);
+			uint64_t n12 = load64(p1 + 72);
+			uint8_t n13 = load8(p11);
+			store64u(p11, 0);
+			store64u(p11 + 8, n12);
+			memset(p11 + 16, 0, 32);
+			if (n13 != 1) {
 				TRAP();
 				UNREACHABLE();
 			}
 			store64(p1 + 64, load64(p1 + 64) - 1);
-			store64(p1 + 72, n10);
-			byte *p15 = loadptr(p1 + 80);
-			store32(inside(p15, n7) + 4, n11);
-			store32(inside(p15, (uint64_t)n11 << 3), (uint32_t)n3);
+			store64(p1 + 72, n9);
+			byte *p14 = loadptr(p1 + 80);
+			store32(inside(p14, n7) + 4, n10);
+			store32(inside(p14, (uint64_t)n10 << 3), (uint32_t)n3);
 			n5 = n5 + 1;
 		}
 		n3 = n3 + 1;
@@ -71424,8 +71907,8 @@ static uint8_t tp_script_run_answer_outs(byte *p1, byte *p2, byte *p3, byte *p4)
 				n24 = 0;
 				n25 = 0;
 			} else {
-				uint64_t n30, n33, n34, n80;
-				uint8_t n31, n32;
+				uint64_t n30, n33, n34, n78, n82;
+				uint8_t n31, n32, n77;
 				of_i8_i8 s29 = tp_facility_Facility_start_refusal(p1, n14);
 				if (s29.f0 == 1) {
 					store64(p27, n13 + 1);
@@ -71567,27 +72050,35 @@ static uint8_t tp_script_run_answer_outs(byte *p1, byte *p2, byte *p3, byte *p4)
 					n34 = n58;
 				}
 				uint64_t n73 = load64(p1 + 64);
-				byte *p74 = loadptr(p1 + 80);
-				uint64_t n75 = load64(p1 + 104);
-				uint64_t n76 = (uint64_t)load32(at(p74, load64(p1 + 32) << 3) + 4);
-				uint64_t n77 = usub_sat64(n76, n75);
-				uint64_t n78 = 0;
-				uint64_t n79 = n76;
-				for (;;) {
-					if (n78 == n73) {
-						n80 = n73;
-						break;
-					}
-					if (n75 > n79) {
-						n80 = n78;
-						break;
-					}
-					uint64_t n81 = (uint64_t)load32(at(p74, (n75 + n77) << 3) + 4);
-					n77 = usub_sat64(n81, n75);
-					n78 = n78 + 1;
-					n79 = n81;
+				uint64_t n74 = load64(p1 + 32);
+				byte *p75 = loadptr(p1 + 80);
+				uint64_t n76 = (uint64_t)load32(at(p75, n74 << 3) + 4);
+				if (n74 == n76) {
+					n77 = 0;
+					n78 = 0;
+				} else {
+					n77 = 1;
+					n78 = n76 - load64(p1 + 104);
 				}
-				if ((((n73 - n80) << 1) + 64) < load64(p1 + 1488)) {
+				uint64_t n79 = n78;
+				uint64_t n80 = 0;
+				uint8_t n81 = n77;
+				for (;;) {
+					if (n80 == n73) {
+						n82 = n73;
+						break;
+					}
+					if (n81 != 1) {
+						n82 = n80;
+						break;
+					}
+					uint64_t n83 = load64(p1 + 104);
+					uint64_t n84 = (uint64_t)load32(at(p75, (n83 + n79) << 3) + 4);
+					n79 = usub_sat64(n84, n83);
+					n80 = n80 + 1;
+					n81 = (uint8_t)(n83 <= n84);
+				}
+				if ((((n73 - n82) << 1) + 64) < load64(p1 + 1488)) {
 					tp_handles_sweep(p1 + 1480, p1);
 					n20 = n32;
 					n21 = n34;
@@ -71612,79 +72103,79 @@ static uint8_t tp_script_run_answer_outs(byte *p1, byte *p2, byte *p3, byte *p4)
 			n24 = 0;
 			n25 = 0;
 		}
-		uint64_t n82 = load64(p3 + 8);
-		byte *p83 = inside(loadptr(p3), n82 << 6);
-		store8(p83, n22);
-		store8(p83 + 1, 0);
-		store64u(p83 + 8, n12);
-		store64u(p83 + 16, n13);
-		store64u(p83 + 24, ((uint64_t)n23 << 8) | (uint64_t)n20);
-		store64u(p83 + 32, n21);
-		store64u(p83 + 40, n24);
-		store64u(p83 + 48, n25);
-		store64u(p83 + 56, 0);
-		store64(p3 + 8, n82 + 1);
+		uint64_t n85 = load64(p3 + 8);
+		byte *p86 = inside(loadptr(p3), n85 << 6);
+		store8(p86, n22);
+		store8(p86 + 1, 0);
+		store64u(p86 + 8, n12);
+		store64u(p86 + 16, n13);
+		store64u(p86 + 24, ((uint64_t)n23 << 8) | (uint64_t)n20);
+		store64u(p86 + 32, n21);
+		store64u(p86 + 40, n24);
+		store64u(p86 + 48, n25);
+		store64u(p86 + 56, 0);
+		store64(p3 + 8, n85 + 1);
 		break;
 	}
 	case 1: {
-		uint64_t n89;
+		uint64_t n92;
 		if (load64(p3 + 16) == 0) {
-			bool b84 = tp_std_alloc_vec_Vec_grow_amortized_4(p3, 1);
-			if (!b84)
+			bool b87 = tp_std_alloc_vec_Vec_grow_amortized_4(p3, 1);
+			if (!b87)
 				return 1;
 		}
-		byte *p85 = loadptr(p1 + 1480);
-		uint64_t n86 = load64(p1 + 1488);
-		if (n86 != 0) {
-			uint64_t n87 = load64(at(at(p85, n86 << 4), UINT64_C(18446744073709551608))) - n14;
-			if (n86 > n87) {
-				byte *p88 = inside(p85, (n86 + (n87 ^ UINT64_MAX)) << 4);
-				if (load64(p88 + 8) != n14)
+		byte *p88 = loadptr(p1 + 1480);
+		uint64_t n89 = load64(p1 + 1488);
+		if (n89 != 0) {
+			uint64_t n90 = load64(at(at(p88, n89 << 4), UINT64_C(18446744073709551608))) - n14;
+			if (n89 > n90) {
+				byte *p91 = inside(p88, (n89 + (n90 ^ UINT64_MAX)) << 4);
+				if (load64(p91 + 8) != n14)
 					goto L1;
-				n89 = load64(p88);
+				n92 = load64(p91);
 				goto L2;
 			}
 		}
-		if (n86 == 0) {
-			n89 = 0;
+		if (n89 == 0) {
+			n92 = 0;
 			goto L2;
 		}
 L1:
 		{
-			uint64_t n90 = 0;
-			uint64_t n91 = n86;
-			while (n91 > 1) {
-				uint64_t n95;
-				uint64_t n92 = n91 >> 1;
-				uint64_t n93 = n90 + n92;
-				uint64_t n94 = load64(at(p85, n93 << 4) + 8);
-				switch (MOSTLY_0((n94 == n14) ? 1 : (uint8_t)((n94 < n14) ? 0 : 2))) {
+			uint64_t n93 = 0;
+			uint64_t n94 = n89;
+			while (n94 > 1) {
+				uint64_t n98;
+				uint64_t n95 = n94 >> 1;
+				uint64_t n96 = n93 + n95;
+				uint64_t n97 = load64(at(p88, n96 << 4) + 8);
+				switch (MOSTLY_0((n97 == n14) ? 1 : (uint8_t)((n97 < n14) ? 0 : 2))) {
 				case 0:
 				case 1: {
-					n95 = n93;
+					n98 = n96;
 					break;
 				}
 				case 2: {
-					n95 = n90;
+					n98 = n93;
 					break;
 				}
 				default: {
 					UNREACHABLE();
 				}
 				}
-				n90 = n95;
-				n91 = n91 - n92;
+				n93 = n98;
+				n94 = n94 - n95;
 			}
-			byte *p96 = at(p85, n90 << 4);
-			uint64_t n97 = load64(p96 + 8);
-			switch ((n97 == n14) ? 1 : (uint8_t)((n97 < n14) ? 0 : 2)) {
+			byte *p99 = at(p88, n93 << 4);
+			uint64_t n100 = load64(p99 + 8);
+			switch ((n100 == n14) ? 1 : (uint8_t)((n100 < n14) ? 0 : 2)) {
 			case 1: {
-				n89 = load64(p96);
+				n92 = load64(p99);
 				break;
 			}
 			case 0:
 			case 2: {
-				n89 = 0;
+				n92 = 0;
 				break;
 			}
 			default: {
@@ -71694,153 +72185,162 @@ L1:
 		}
 L2:
 		{
-			uint64_t n98, n100;
-			uint8_t n99;
+			uint64_t n101, n103;
+			uint8_t n102;
 			if ((load8(p1 + 1440) & 1) != 0) {
-				n98 = 0;
-				n99 = 1;
-				n100 = 0;
+				n101 = 0;
+				n102 = 1;
+				n103 = 0;
 			} else if (load64(p1 + 392) > n12) {
-				uint64_t n101 = n12 << 3;
-				byte *p102 = inside(p1 + 416, n101);
-				uint64_t n103 = load64(p102);
-				if (n13 < n103) {
-					n98 = n103;
-					n99 = 1;
-					n100 = 2;
-				} else if (n103 > UINT64_C(1152921504606846975)) {
-					n98 = 0;
-					n99 = 1;
-					n100 = 3;
-				} else if (n103 < n13) {
-					n98 = n103;
-					n99 = 1;
-					n100 = 4;
+				uint64_t n104 = n12 << 3;
+				byte *p105 = inside(p1 + 416, n104);
+				uint64_t n106 = load64(p105);
+				if (n13 < n106) {
+					n101 = n106;
+					n102 = 1;
+					n103 = 2;
+				} else if (n106 > UINT64_C(1152921504606846975)) {
+					n101 = 0;
+					n102 = 1;
+					n103 = 3;
+				} else if (n106 < n13) {
+					n101 = n106;
+					n102 = 1;
+					n103 = 4;
 				} else {
-					uint64_t n104, n105, n115;
+					uint64_t n107, n108, n116, n120;
+					uint8_t n115;
 					memset(p7, 0, 48);
-					tp_Facility_find_named(p7, p1, n12, n89, n14);
+					tp_Facility_find_named(p7, p1, n12, n92, n14);
 					if (load8(p7) == 0) {
-						n104 = 1027;
-						n105 = 0;
+						n107 = 1027;
+						n108 = 0;
 					} else {
-						uint64_t n106 = load64u(p7 + 8);
-						tp_SmoothWheelWheel_stop(p8, p1, n89, n14);
-						byte *p107 = inside(p1 + 928, n101);
-						store64(p107, load64(p107) - 1);
-						n104 = 1;
-						n105 = n106;
+						uint64_t n109 = load64u(p7 + 8);
+						tp_SmoothWheelWheel_stop(p8, p1, n92, n14);
+						byte *p110 = inside(p1 + 928, n104);
+						store64(p110, load64(p110) - 1);
+						n107 = 1;
+						n108 = n109;
 					}
-					store64(p102, n13 + 1);
-					uint64_t n108 = load64(p1 + 64);
-					byte *p109 = loadptr(p1 + 80);
-					uint64_t n110 = load64(p1 + 104);
-					uint64_t n111 = (uint64_t)load32(at(p109, load64(p1 + 32) << 3) + 4);
-					uint64_t n112 = usub_sat64(n111, n110);
-					uint64_t n113 = 0;
-					uint64_t n114 = n111;
+					store64(p105, n13 + 1);
+					uint64_t n111 = load64(p1 + 64);
+					uint64_t n112 = load64(p1 + 32);
+					byte *p113 = loadptr(p1 + 80);
+					uint64_t n114 = (uint64_t)load32(at(p113, n112 << 3) + 4);
+					if (n112 == n114) {
+						n115 = 0;
+						n116 = 0;
+					} else {
+						n115 = 1;
+						n116 = n114 - load64(p1 + 104);
+					}
+					uint64_t n117 = n116;
+					uint64_t n118 = 0;
+					uint8_t n119 = n115;
 					for (;;) {
-						if (n113 == n108) {
-							n115 = n108;
+						if (n118 == n111) {
+							n120 = n111;
 							break;
 						}
-						if (n110 > n114) {
-							n115 = n113;
+						if (n119 != 1) {
+							n120 = n118;
 							break;
 						}
-						uint64_t n116 = (uint64_t)load32(at(p109, (n110 + n112) << 3) + 4);
-						n112 = usub_sat64(n116, n110);
-						n113 = n113 + 1;
-						n114 = n116;
+						uint64_t n121 = load64(p1 + 104);
+						uint64_t n122 = (uint64_t)load32(at(p113, (n121 + n117) << 3) + 4);
+						n117 = usub_sat64(n122, n121);
+						n118 = n118 + 1;
+						n119 = (uint8_t)(n121 <= n122);
 					}
-					if ((((n108 - n115) << 1) + 64) < load64(p1 + 1488)) {
+					if ((((n111 - n120) << 1) + 64) < load64(p1 + 1488)) {
 						tp_handles_sweep(p1 + 1480, p1);
-						n98 = n105;
-						n99 = 0;
-						n100 = n104;
+						n101 = n108;
+						n102 = 0;
+						n103 = n107;
 					} else {
-						n98 = n105;
-						n99 = 0;
-						n100 = n104;
+						n101 = n108;
+						n102 = 0;
+						n103 = n107;
 					}
 				}
 			} else {
-				n98 = 0;
-				n99 = 1;
-				n100 = 1;
+				n101 = 0;
+				n102 = 1;
+				n103 = 1;
 			}
-			uint64_t n117 = load64(p3 + 8);
-			byte *p118 = inside(loadptr(p3), n117 << 6);
-			store8(p118, n99);
-			store8(p118 + 1, 0);
-			store64u(p118 + 8, n12);
-			store64u(p118 + 16, n13);
-			store64u(p118 + 24, n100);
-			store64u(p118 + 32, n98);
-			memset(p118 + 40, 0, 24);
-			store64(p3 + 8, n117 + 1);
+			uint64_t n123 = load64(p3 + 8);
+			byte *p124 = inside(loadptr(p3), n123 << 6);
+			store8(p124, n102);
+			store8(p124 + 1, 0);
+			store64u(p124 + 8, n12);
+			store64u(p124 + 16, n13);
+			store64u(p124 + 24, n103);
+			store64u(p124 + 32, n101);
+			memset(p124 + 40, 0, 24);
+			store64(p3 + 8, n123 + 1);
 		}
 		break;
 	}
 	case 2: {
-		uint64_t n124;
+		uint64_t n130;
 		if (load64(p3 + 16) == 0) {
-			bool b119 = tp_std_alloc_vec_Vec_grow_amortized_4(p3, 1);
-			if (!b119)
+			bool b125 = tp_std_alloc_vec_Vec_grow_amortized_4(p3, 1);
+			if (!b125)
 				return 1;
 		}
-		byte *p120 = loadptr(p1 + 1480);
-		uint64_t n121 = load64(p1 + 1488);
-		if (n121 != 0) {
-			uint64_t n122 = load64(at(at(p120, n121 << 4), UINT64_C(18446744073709551608))) - n14;
-			if (n121 > n122) {
-				byte *p123 = inside(p120, (n121 + (n122 ^ UINT64_MAX)) << 4);
-				if (load64(p123 + 8) != n14)
+		byte *p126 = loadptr(p1 + 1480);
+		uint64_t n127 = load64(p1 + 1488);
+		if (n127 != 0) {
+			uint64_t n128 = load64(at(at(p126, n127 << 4), UINT64_C(18446744073709551608))) - n14;
+			if (n127 > n128) {
+				byte *p129 = inside(p126, (n127 + (n128 ^ UINT64_MAX)) << 4);
+				if (load64(p129 + 8) != n14)
 					goto L3;
-				n124 = load64(p123);
+				n130 = load64(p129);
 				goto L4;
 			}
 		}
-		if (n121 == 0) {
-			n124 = 0;
+		if (n127 == 0) {
+			n130 = 0;
 			goto L4;
 		}
 L3:
 		{
-			uint64_t n125 = 0;
-			uint64_t n126 = n121;
-			while (n126 > 1) {
-				uint64_t n130;
-				uint64_t n127 = n126 >> 1;
-				uint64_t n128 = n125 + n127;
-				uint64_t n129 = load64(at(p120, n128 << 4) + 8);
-				switch (MOSTLY_0((n129 == n14) ? 1 : (uint8_t)((n129 < n14) ? 0 : 2))) {
+			uint64_t n131 = 0;
+			uint64_t n132 = n127;
+			while (n132 > 1) {
+				uint64_t n136;
+				uint64_t n133 = n132 >> 1;
+				uint64_t n134 = n131 + n133;
+				uint64_t n135 = load64(at(p126, n134 << 4) + 8);
+				switch (MOSTLY_0((n135 == n14) ? 1 : (uint8_t)((n135 < n14) ? 0 : 2))) {
 				case 0:
 				case 1: {
-					n130 = n128;
+					n136 = n134;
 					break;
 				}
 				case 2: {
-					n130 = n125;
+					n136 = n131;
 					break;
 				}
 				default: {
 					UNREACHABLE();
 				}
 				}
-				n125 = n130;
-				n126 = n126 - n127;
+				n131 = n136;
+				n132 = n132 - n133;
 			}
-			byte *p131 = at(p120, n125 << 4);
-			uint64_t n132 = load64(p131 + 8);
-			switch ((n132 == n14) ? 1 : (uint8_t)((n132 < n14) ? 0 : 2)) {
+			byte *p137 = at(p126, n131 << 4);
+			uint64_t n138 = load64(p137 + 8);
+			switch ((n138 == n14) ? 1 : (uint8_t)((n138 < n14) ? 0 : 2)) {
 			case 1: {
-				n124 = load64(p131);
+				n130 = load64(p137);
 				break;
 			}
 			case 0:
 			case 2: {
-				n124 = 0;
+				n130 = 0;
 				break;
 			}
 			default: {
@@ -71850,82 +72350,83 @@ L3:
 		}
 L4:
 		{
-			uint8_t n135, n137, n138;
-			uint64_t n136, n139, n140, n141;
+			uint8_t n141, n143, n144;
+			uint64_t n142, n145, n146, n147;
 			store64u(p9, 3);
-			store64u(p9 + 8, n124);
+			store64u(p9 + 8, n130);
 			store64u(p9 + 16, n14);
 			store64u(p9 + 24, n15);
 			store64u(p9 + 32, n16);
-			if (load64(p1 + 1496) == n121) {
-				bool b133 = tp_std_alloc_vec_Vec_grow_amortized_3(p1 + 1480);
-				if (!b133) {
-					bool b134 = tp_facility_Facility_makes_timer(p1, n12, n13, p9);
-					if (b134)
+			if (load64(p1 + 1496) == n127) {
+				bool b139 = tp_std_alloc_vec_Vec_grow_amortized_3(p1 + 1480);
+				if (!b139) {
+					bool b140 = tp_facility_Facility_makes_timer(p1, n12, n13, p9);
+					if (b140)
 						return 1;
 				}
 			}
 			if ((load8(p1 + 1440) & 1) != 0) {
-				n135 = 0;
-				n136 = 0;
-				n137 = 1;
-				n138 = 0;
-				n139 = 0;
-				n140 = 0;
 				n141 = 0;
+				n142 = 0;
+				n143 = 1;
+				n144 = 0;
+				n145 = 0;
+				n146 = 0;
+				n147 = 0;
 			} else if (load64(p1 + 392) > n12) {
-				byte *p142 = inside(p1 + 416, n12 << 3);
-				uint64_t n143 = load64(p142);
-				if (n13 < n143) {
-					n135 = 2;
-					n136 = n143;
-					n137 = 1;
-					n138 = 0;
-					n139 = 0;
-					n140 = 0;
-					n141 = 0;
-				} else if (n143 > UINT64_C(1152921504606846975)) {
-					n135 = 3;
-					n136 = 0;
-					n137 = 1;
-					n138 = 0;
-					n139 = 0;
-					n140 = 0;
-					n141 = 0;
-				} else if (n143 < n13) {
-					n135 = 4;
-					n136 = n143;
-					n137 = 1;
-					n138 = 0;
-					n139 = 0;
-					n140 = 0;
-					n141 = 0;
+				byte *p148 = inside(p1 + 416, n12 << 3);
+				uint64_t n149 = load64(p148);
+				if (n13 < n149) {
+					n141 = 2;
+					n142 = n149;
+					n143 = 1;
+					n144 = 0;
+					n145 = 0;
+					n146 = 0;
+					n147 = 0;
+				} else if (n149 > UINT64_C(1152921504606846975)) {
+					n141 = 3;
+					n142 = 0;
+					n143 = 1;
+					n144 = 0;
+					n145 = 0;
+					n146 = 0;
+					n147 = 0;
+				} else if (n149 < n13) {
+					n141 = 4;
+					n142 = n149;
+					n143 = 1;
+					n144 = 0;
+					n145 = 0;
+					n146 = 0;
+					n147 = 0;
 				} else {
-					uint64_t n161;
+					uint8_t n164;
+					uint64_t n165, n169;
 					memset(p6, 0, 40);
-					tp_facility_Facility_take_restart(p6, p1, n12, n13, n124, n14, n15, n15, n16);
-					uint8_t n144 = load8(p6);
-					uint8_t n145 = load8(p6 + 1);
-					uint64_t n146 = load64u(p6 + 8);
-					uint64_t n147 = load64u(p6 + 16);
-					uint64_t n148 = load64u(p6 + 24);
-					uint64_t n149 = load64u(p6 + 32);
-					store64(p142, n13 + 1);
-					switch (MOSTLY_0(n144)) {
+					tp_facility_Facility_take_restart(p6, p1, n12, n13, n130, n14, n15, n15, n16);
+					uint8_t n150 = load8(p6);
+					uint8_t n151 = load8(p6 + 1);
+					uint64_t n152 = load64u(p6 + 8);
+					uint64_t n153 = load64u(p6 + 16);
+					uint64_t n154 = load64u(p6 + 24);
+					uint64_t n155 = load64u(p6 + 32);
+					store64(p148, n13 + 1);
+					switch (MOSTLY_0(n150)) {
 					case 0: {
-						uint64_t n150 = load64(p1 + 1488);
-						byte *p151 = inside(loadptr(p1 + 1480), n150 << 4);
-						store64u(p151, n146);
-						store64u(p151 + 8, n147);
-						store64(p1 + 1488, n150 + 1);
+						uint64_t n156 = load64(p1 + 1488);
+						byte *p157 = inside(loadptr(p1 + 1480), n156 << 4);
+						store64u(p157, n152);
+						store64u(p157 + 8, n153);
+						store64(p1 + 1488, n156 + 1);
 						break;
 					}
 					case 2: {
-						uint64_t n152 = load64(p1 + 1488);
-						byte *p153 = inside(loadptr(p1 + 1480), n152 << 4);
-						store64u(p153, n146);
-						store64u(p153 + 8, n147);
-						store64(p1 + 1488, n152 + 1);
+						uint64_t n158 = load64(p1 + 1488);
+						byte *p159 = inside(loadptr(p1 + 1480), n158 << 4);
+						store64u(p159, n152);
+						store64u(p159 + 8, n153);
+						store64(p1 + 1488, n158 + 1);
 						break;
 					}
 					case 1:
@@ -71936,229 +72437,272 @@ L4:
 						UNREACHABLE();
 					}
 					}
-					uint64_t n154 = load64(p1 + 64);
-					byte *p155 = loadptr(p1 + 80);
-					uint64_t n156 = load64(p1 + 104);
-					uint64_t n157 = (uint64_t)load32(at(p155, load64(p1 + 32) << 3) + 4);
-					uint64_t n158 = usub_sat64(n157, n156);
-					uint64_t n159 = 0;
-					uint64_t n160 = n157;
-					for (;;) {
-						if (n159 == n154) {
-							n161 = n154;
-							break;
-						}
-						if (n156 > n160) {
-							n161 = n159;
-							break;
-						}
-						uint64_t n162 = (uint64_t)load32(at(p155, (n156 + n158) << 3) + 4);
-						n158 = usub_sat64(n162, n156);
-						n159 = n159 + 1;
-						n160 = n162;
-					}
-					if ((((n154 - n161) << 1) + 64) < load64(p1 + 1488)) {
-						tp_handles_sweep(p1 + 1480, p1);
-						n135 = n144;
-						n136 = n146;
-						n137 = 0;
-						n138 = n145;
-						n139 = n147;
-						n140 = n148;
-						n141 = n149;
+					uint64_t n160 = load64(p1 + 64);
+					uint64_t n161 = load64(p1 + 32);
+					byte *p162 = loadptr(p1 + 80);
+					uint64_t n163 = (uint64_t)load32(at(p162, n161 << 3) + 4);
+					if (n161 == n163) {
+						n164 = 0;
+						n165 = 0;
 					} else {
-						n135 = n144;
-						n136 = n146;
-						n137 = 0;
-						n138 = n145;
-						n139 = n147;
-						n140 = n148;
-						n141 = n149;
+						n164 = 1;
+						n165 = n163 - load64(p1 + 104);
+					}
+					uint64_t n166 = n165;
+					uint64_t n167 = 0;
+					uint8_t n168 = n164;
+					for (;;) {
+						if (n167 == n160) {
+							n169 = n160;
+							break;
+						}
+						if (n168 != 1) {
+							n169 = n167;
+							break;
+						}
+						uint64_t n170 = load64(p1 + 104);
+						uint64_t n171 = (uint64_t)load32(at(p162, (n170 + n166) << 3) + 4);
+						n166 = usub_sat64(n171, n170);
+						n167 = n167 + 1;
+						n168 = (uint8_t)(n170 <= n171);
+					}
+					if ((((n160 - n169) << 1) + 64) < load64(p1 + 1488)) {
+						tp_handles_sweep(p1 + 1480, p1);
+						n141 = n150;
+						n142 = n152;
+						n143 = 0;
+						n144 = n151;
+						n145 = n153;
+						n146 = n154;
+						n147 = n155;
+					} else {
+						n141 = n150;
+						n142 = n152;
+						n143 = 0;
+						n144 = n151;
+						n145 = n153;
+						n146 = n154;
+						n147 = n155;
 					}
 				}
 			} else {
-				n135 = 1;
-				n136 = 0;
-				n137 = 1;
-				n138 = 0;
-				n139 = 0;
-				n140 = 0;
-				n141 = 0;
+				n141 = 1;
+				n142 = 0;
+				n143 = 1;
+				n144 = 0;
+				n145 = 0;
+				n146 = 0;
+				n147 = 0;
 			}
-			uint64_t n163 = load64(p3 + 8);
-			byte *p164 = inside(loadptr(p3), n163 << 6);
-			store8(p164, n137);
-			store8(p164 + 1, 0);
-			store64u(p164 + 8, n12);
-			store64u(p164 + 16, n13);
-			store64u(p164 + 24, ((uint64_t)n138 << 8) | (uint64_t)n135);
-			store64u(p164 + 32, n136);
-			store64u(p164 + 40, n139);
-			store64u(p164 + 48, n140);
-			store64u(p164 + 56, n141);
-			store64(p3 + 8, n163 + 1);
+			uint64_t n172 = load64(p3 + 8);
+			byte *p173 = inside(loadptr(p3), n172 << 6);
+			store8(p173, n143);
+			store8(p173 + 1, 0);
+			store64u(p173 + 8, n12);
+			store64u(p173 + 16, n13);
+			store64u(p173 + 24, ((uint64_t)n144 << 8) | (uint64_t)n141);
+			store64u(p173 + 32, n142);
+			store64u(p173 + 40, n145);
+			store64u(p173 + 48, n146);
+			store64u(p173 + 56, n147);
+			store64(p3 + 8, n172 + 1);
 		}
 		break;
 	}
 	case 3: {
-		uint64_t n172, n181;
-		uint8_t n177;
-		byte *p182;
-		uint64_t n165 = load64(p1 + 64);
-		byte *p166 = loadptr(p1 + 80);
-		uint64_t n167 = load64(p1 + 104);
-		uint64_t n168 = (uint64_t)load32(at(p166, load64(p1 + 32) << 3) + 4);
-		uint64_t n169 = usub_sat64(n168, n167);
-		uint64_t n170 = 0;
-		uint64_t n171 = n168;
-		for (;;) {
-			if (n170 == n165) {
-				n172 = n165;
-				break;
-			}
-			if (n167 > n171) {
-				n172 = n170;
-				break;
-			}
-			uint64_t n173 = (uint64_t)load32(at(p166, (n167 + n169) << 3) + 4);
-			n169 = usub_sat64(n173, n167);
-			n170 = n170 + 1;
-			n171 = n173;
+		uint8_t n178, n189;
+		uint64_t n179, n183, n193;
+		byte *p194;
+		uint64_t n174 = load64(p1 + 64);
+		uint64_t n175 = load64(p1 + 32);
+		byte *p176 = loadptr(p1 + 80);
+		uint64_t n177 = (uint64_t)load32(at(p176, n175 << 3) + 4);
+		if (n175 == n177) {
+			n178 = 0;
+			n179 = 0;
+		} else {
+			n178 = 1;
+			n179 = n177 - load64(p1 + 104);
 		}
-		uint64_t n174 = (n165 - n172) + 1;
-		if (n174 > load64(p3 + 16)) {
-			bool b175 = tp_std_alloc_vec_Vec_grow_amortized_4(p3, n174);
-			if (!b175)
+		uint64_t n180 = n179;
+		uint64_t n181 = 0;
+		uint8_t n182 = n178;
+		for (;;) {
+			if (n181 == n174) {
+				n183 = n174;
+				break;
+			}
+			if (n182 != 1) {
+				n183 = n181;
+				break;
+			}
+			uint64_t n184 = load64(p1 + 104);
+			uint64_t n185 = (uint64_t)load32(at(p176, (n184 + n180) << 3) + 4);
+			n180 = usub_sat64(n185, n184);
+			n181 = n181 + 1;
+			n182 = (uint8_t)(n184 <= n185);
+		}
+		uint64_t n186 = (n174 - n183) + 1;
+		if (n186 > load64(p3 + 16)) {
+			bool b187 = tp_std_alloc_vec_Vec_grow_amortized_4(p3, n186);
+			if (!b187)
 				return 1;
 		}
-		uint64_t n176 = n12;
+		uint64_t n188 = n12;
 		for (;;) {
-			if (n176 == 0)
+			if (n188 == 0)
 				goto L5;
 			if ((load8(p1 + 1440) & 1) != 0) {
-				n177 = 0;
+				n189 = 0;
 				break;
 			}
-			uint64_t n178 = load64(p1 + 16);
-			uint64_t n179 = load64(p1 + 8);
-			if (n178 == n179) {
-				n177 = 1;
+			uint64_t n190 = load64(p1 + 16);
+			uint64_t n191 = load64(p1 + 8);
+			if (n190 == n191) {
+				n189 = 1;
 				break;
 			}
-			uint64_t n180 = tp_SmoothWheelWheel_advance(p1, umin64(n179 - n178, n176));
+			uint64_t n192 = tp_SmoothWheelWheel_advance(p1, umin64(n191 - n190, n188));
 			tp_timer_facility_player_hand_out(p1, p3);
-			n176 = n176 - n180;
+			n188 = n188 - n192;
 		}
-		n181 = load64(p3 + 8);
-		p182 = inside(loadptr(p3), n181 << 6);
-		store8(p182, 3);
-		store8(p182 + 1, n177);
-		memset(p182 + 8, 0, 56);
-		store64(p3 + 8, n181 + 1);
+		n193 = load64(p3 + 8);
+		p194 = inside(loadptr(p3), n193 << 6);
+		store8(p194, 3);
+		store8(p194 + 1, n189);
+		memset(p194 + 8, 0, 56);
+		store64(p3 + 8, n193 + 1);
 L5:
 		{
-			uint64_t n190;
-			uint64_t n183 = load64(p1 + 64);
-			byte *p184 = loadptr(p1 + 80);
-			uint64_t n185 = load64(p1 + 104);
-			uint64_t n186 = (uint64_t)load32(at(p184, load64(p1 + 32) << 3) + 4);
-			uint64_t n187 = usub_sat64(n186, n185);
-			uint64_t n188 = 0;
-			uint64_t n189 = n186;
-			for (;;) {
-				if (n188 == n183) {
-					n190 = n183;
-					break;
-				}
-				if (n185 > n189) {
-					n190 = n188;
-					break;
-				}
-				uint64_t n191 = (uint64_t)load32(at(p184, (n185 + n187) << 3) + 4);
-				n187 = usub_sat64(n191, n185);
-				n188 = n188 + 1;
-				n189 = n191;
+			uint8_t n199;
+			uint64_t n200, n204;
+			uint64_t n195 = load64(p1 + 64);
+			uint64_t n196 = load64(p1 + 32);
+			byte *p197 = loadptr(p1 + 80);
+			uint64_t n198 = (uint64_t)load32(at(p197, n196 << 3) + 4);
+			if (n196 == n198) {
+				n199 = 0;
+				n200 = 0;
+			} else {
+				n199 = 1;
+				n200 = n198 - load64(p1 + 104);
 			}
-			if ((((n183 - n190) << 1) + 64) < load64(p1 + 1488))
+			uint64_t n201 = n200;
+			uint64_t n202 = 0;
+			uint8_t n203 = n199;
+			for (;;) {
+				if (n202 == n195) {
+					n204 = n195;
+					break;
+				}
+				if (n203 != 1) {
+					n204 = n202;
+					break;
+				}
+				uint64_t n205 = load64(p1 + 104);
+				uint64_t n206 = (uint64_t)load32(at(p197, (n205 + n201) << 3) + 4);
+				n201 = usub_sat64(n206, n205);
+				n202 = n202 + 1;
+				n203 = (uint8_t)(n205 <= n206);
+			}
+			if ((((n195 - n204) << 1) + 64) < load64(p1 + 1488))
 				tp_handles_sweep(p1 + 1480, p1);
 		}
 		break;
 	}
 	case 4: {
-		uint64_t n199;
-		uint64_t n192 = load64(p1 + 64);
-		byte *p193 = loadptr(p1 + 80);
-		uint64_t n194 = load64(p1 + 104);
-		uint64_t n195 = (uint64_t)load32(at(p193, load64(p1 + 32) << 3) + 4);
-		uint64_t n196 = usub_sat64(n195, n194);
-		uint64_t n197 = 0;
-		uint64_t n198 = n195;
-		for (;;) {
-			if (n197 == n192) {
-				n199 = n192;
-				break;
-			}
-			if (n194 > n198) {
-				n199 = n197;
-				break;
-			}
-			uint64_t n200 = (uint64_t)load32(at(p193, (n194 + n196) << 3) + 4);
-			n196 = usub_sat64(n200, n194);
-			n197 = n197 + 1;
-			n198 = n200;
+		uint8_t n211;
+		uint64_t n212, n216;
+		uint64_t n207 = load64(p1 + 64);
+		uint64_t n208 = load64(p1 + 32);
+		byte *p209 = loadptr(p1 + 80);
+		uint64_t n210 = (uint64_t)load32(at(p209, n208 << 3) + 4);
+		if (n208 == n210) {
+			n211 = 0;
+			n212 = 0;
+		} else {
+			n211 = 1;
+			n212 = n210 - load64(p1 + 104);
 		}
-		uint64_t n201 = (n192 - n199) + 1;
-		if (n201 > load64(p3 + 16)) {
-			bool b202 = tp_std_alloc_vec_Vec_grow_amortized_4(p3, n201);
-			if (!b202)
+		uint64_t n213 = n212;
+		uint64_t n214 = 0;
+		uint8_t n215 = n211;
+		for (;;) {
+			if (n214 == n207) {
+				n216 = n207;
+				break;
+			}
+			if (n215 != 1) {
+				n216 = n214;
+				break;
+			}
+			uint64_t n217 = load64(p1 + 104);
+			uint64_t n218 = (uint64_t)load32(at(p209, (n217 + n213) << 3) + 4);
+			n213 = usub_sat64(n218, n217);
+			n214 = n214 + 1;
+			n215 = (uint8_t)(n217 <= n218);
+		}
+		uint64_t n219 = (n207 - n216) + 1;
+		if (n219 > load64(p3 + 16)) {
+			bool b220 = tp_std_alloc_vec_Vec_grow_amortized_4(p3, n219);
+			if (!b220)
 				return 1;
 		}
 		if ((load8(p1 + 1440) & 1) != 0) {
-			uint64_t n203 = load64(p3 + 8);
-			byte *p204 = inside(loadptr(p3), n203 << 6);
-			store8(p204, 5);
-			store8(p204 + 1, 0);
-			memset(p204 + 8, 0, 56);
-			store64(p3 + 8, n203 + 1);
+			uint64_t n221 = load64(p3 + 8);
+			byte *p222 = inside(loadptr(p3), n221 << 6);
+			store8(p222, 5);
+			store8(p222 + 1, 0);
+			memset(p222 + 8, 0, 56);
+			store64(p3 + 8, n221 + 1);
 		} else {
-			uint64_t n216;
-			uint8_t n205 = tp_Buckets_list_into(p1 + 8, p1 + 1448);
-			if ((n205 & 1) != 0)
+			uint8_t n231;
+			uint64_t n232, n236;
+			uint8_t n223 = tp_Buckets_list_into(p1 + 8, p1 + 1448);
+			if ((n223 & 1) != 0)
 				return 1;
 			tp_SmoothWheelWheel_clear(p1);
 			store64(p1 + 1472, 0);
 			store8(p1 + 1440, 1);
-			uint64_t n206 = load64(p3 + 8);
-			byte *p207 = inside(loadptr(p3), n206 << 6);
-			uint64_t n208 = load64(p1 + 1456);
-			store8(p207, 4);
-			store8(p207 + 1, 0);
-			store64u(p207 + 8, n208);
-			memset(p207 + 16, 0, 48);
-			store64(p3 + 8, n206 + 1);
+			uint64_t n224 = load64(p3 + 8);
+			byte *p225 = inside(loadptr(p3), n224 << 6);
+			uint64_t n226 = load64(p1 + 1456);
+			store8(p225, 4);
+			store8(p225 + 1, 0);
+			store64u(p225 + 8, n226);
+			memset(p225 + 16, 0, 48);
+			store64(p3 + 8, n224 + 1);
 			tp_timer_facility_player_hand_out(p1, p3);
-			uint64_t n209 = load64(p1 + 64);
-			byte *p210 = loadptr(p1 + 80);
-			uint64_t n211 = load64(p1 + 104);
-			uint64_t n212 = (uint64_t)load32(at(p210, load64(p1 + 32) << 3) + 4);
-			uint64_t n213 = usub_sat64(n212, n211);
-			uint64_t n214 = 0;
-			uint64_t n215 = n212;
-			for (;;) {
-				if (n214 == n209) {
-					n216 = n209;
-					break;
-				}
-				if (n211 > n215) {
-					n216 = n214;
-					break;
-				}
-				uint64_t n217 = (uint64_t)load32(at(p210, (n211 + n213) << 3) + 4);
-				n213 = usub_sat64(n217, n211);
-				n214 = n214 + 1;
-				n215 = n217;
+			uint64_t n227 = load64(p1 + 64);
+			uint64_t n228 = load64(p1 + 32);
+			byte *p229 = loadptr(p1 + 80);
+			uint64_t n230 = (uint64_t)load32(at(p229, n228 << 3) + 4);
+			if (n228 == n230) {
+				n231 = 0;
+				n232 = 0;
+			} else {
+				n231 = 1;
+				n232 = n230 - load64(p1 + 104);
 			}
-			if ((((n209 - n216) << 1) + 64) < load64(p1 + 1488))
+			uint64_t n233 = n232;
+			uint64_t n234 = 0;
+			uint8_t n235 = n231;
+			for (;;) {
+				if (n234 == n227) {
+					n236 = n227;
+					break;
+				}
+				if (n235 != 1) {
+					n236 = n234;
+					break;
+				}
+				uint64_t n237 = load64(p1 + 104);
+				uint64_t n238 = (uint64_t)load32(at(p229, (n237 + n233) << 3) + 4);
+				n233 = usub_sat64(n238, n237);
+				n234 = n234 + 1;
+				n235 = (uint8_t)(n237 <= n238);
+			}
+			if ((((n227 - n236) << 1) + 64) < load64(p1 + 1488))
 				tp_handles_sweep(p1 + 1480, p1);
 		}
 		break;
@@ -72167,8 +72711,8 @@ L5:
 		UNREACHABLE();
 	}
 	}
-	uint8_t n218 = tp_text_push_outs(p4, loadptr(p3), load64(p3 + 8));
-	return n218;
+	uint8_t n239 = tp_text_push_outs(p4, loadptr(p3), load64(p3 + 8));
+	return n239;
 }
 
 /* timer_script::script_run::answer_ticks: crates/timer_script/src/script_run.rt */
@@ -72601,8 +73145,8 @@ static uint8_t tp_verbs_do_verb(byte *p1, byte *p2, byte *p3, byte *p4)
 	uint64_t n86 = load64u(p2 + 1472);
 	switch (MOSTLY_0(load8(p1))) {
 	case 0: {
-		uint8_t n246;
-		uint64_t n247;
+		uint8_t n248;
+		uint64_t n249;
 		memcpy(p58, p2, 16);
 		memcpy(p59, p2 + 24, 16);
 		memcpy(p60, p2 + 64, 16);
@@ -73252,95 +73796,97 @@ L12:
 				}
 L3:
 				{
-					uint64_t n227;
+					uint64_t n229;
 					if (load64u(p55 + 16) != 0)
 						rattle_dealloc(loadptru(p55));
 					uint64_t n219 = load64(p56 + 16);
 					uint64_t n220 = load64(p56 + 64);
-					byte *p221 = loadptr(p56 + 80);
-					uint64_t n222 = load64(p56 + 104);
-					uint64_t n223 = (uint64_t)load32(at(p221, load64(p56 + 32) << 3) + 4);
-					uint64_t n224 = usub_sat64(n223, n222);
-					uint64_t n225 = 0;
-					uint64_t n226 = n223;
+					uint64_t n221 = load64(p56 + 32);
+					byte *p222 = loadptr(p56 + 80);
+					uint64_t n223 = (uint64_t)load32(at(p222, n221 << 3) + 4);
+					bool b224 = n221 != n223;
+					uint64_t n225 = load64(p56 + 104);
+					uint64_t n226 = b224 ? (n223 - n225) : 0;
+					uint64_t n227 = 0;
+					bool b228 = b224;
 					for (;;) {
-						if (n225 == n220) {
-							n227 = n220;
+						if (n227 == n220) {
+							n229 = n220;
 							break;
 						}
-						if (n222 > n226) {
-							n227 = n225;
+						if (!b228) {
+							n229 = n227;
 							break;
 						}
-						uint64_t n228 = (uint64_t)load32(at(p221, (n222 + n224) << 3) + 4);
-						n224 = usub_sat64(n228, n222);
-						n225 = n225 + 1;
-						n226 = n228;
+						uint64_t n230 = (uint64_t)load32(at(p222, (n225 + n226) << 3) + 4);
+						n226 = usub_sat64(n230, n225);
+						n227 = n227 + 1;
+						b228 = n225 <= n230;
 					}
-					uint8_t n229 = tp_text_push_end(p57, n219, n220 - n227);
-					if ((n229 & 1) == 0) {
-						uint64_t n234 = load64u(p57);
-						uint64_t n235 = load64u(p57 + 8);
-						uint64_t n236 = load64u(p57 + 16);
-						byte *p237 = loadptru(p56 + 80);
-						uint64_t n238 = load64u(p56 + 96);
-						byte *p239 = loadptru(p56 + 1448);
-						uint64_t n240 = load64u(p56 + 1464);
+					uint8_t n231 = tp_text_push_end(p57, n219, n220 - n229);
+					if ((n231 & 1) == 0) {
+						uint64_t n236 = load64u(p57);
+						uint64_t n237 = load64u(p57 + 8);
+						uint64_t n238 = load64u(p57 + 16);
+						byte *p239 = loadptru(p56 + 80);
+						uint64_t n240 = load64u(p56 + 96);
+						byte *p241 = loadptru(p56 + 1448);
+						uint64_t n242 = load64u(p56 + 1464);
 						if (load64u(p56 + 56) != 0)
 							rattle_dealloc(loadptru(p56 + 40));
-						if (n238 != 0)
-							rattle_dealloc(p237);
 						if (n240 != 0)
 							rattle_dealloc(p239);
+						if (n242 != 0)
+							rattle_dealloc(p241);
 						if (load64u(p56 + 1496) != 0)
 							rattle_dealloc(loadptru(p56 + 1480));
-						byte *p241 = (byte *)(uintptr_t)n234;
-						uint64_t n242 = 0;
-						while (n242 < n235) {
-							uint64_t n243 = n235 - n242;
-							uint64_t n244 = os_write(1, at(p241, n242), n243);
-							if ((int64_t)n244 < (int64_t)0) {
+						byte *p243 = (byte *)(uintptr_t)n236;
+						uint64_t n244 = 0;
+						while (n244 < n237) {
+							uint64_t n245 = n237 - n244;
+							uint64_t n246 = os_write(1, at(p243, n244), n245);
+							if ((int64_t)n246 < (int64_t)0) {
 								tp_error_last_error(p53);
 								goto L15;
 							}
-							uint64_t n245 = umin64(n244, n243);
-							if (n245 == 0)
+							uint64_t n247 = umin64(n246, n245);
+							if (n247 == 0)
 								goto L15;
-							n242 = n242 + n245;
+							n244 = n244 + n247;
 						}
-						if (n236 != 0)
-							rattle_dealloc(p241);
+						if (n238 != 0)
+							rattle_dealloc(p243);
 						if (!b89)
 							rattle_dealloc(p87);
 						return 0;
 L15:
 						{
 							store8(p3 + 1, 1);
-							if (n236 != 0)
-								rattle_dealloc(p241);
+							if (n238 != 0)
+								rattle_dealloc(p243);
 							if (b89) {
-								n246 = 4;
-								n247 = n242;
+								n248 = 4;
+								n249 = n244;
 								goto L16;
 							}
 							rattle_dealloc(p87);
-							n246 = 4;
-							n247 = n242;
+							n248 = 4;
+							n249 = n244;
 							goto L16;
 						}
 					}
 					if (load64u(p57 + 16) != 0)
 						rattle_dealloc(loadptru(p57));
-					byte *p230 = loadptru(p56 + 80);
-					uint64_t n231 = load64u(p56 + 96);
-					byte *p232 = loadptru(p56 + 1448);
-					uint64_t n233 = load64u(p56 + 1464);
+					byte *p232 = loadptru(p56 + 80);
+					uint64_t n233 = load64u(p56 + 96);
+					byte *p234 = loadptru(p56 + 1448);
+					uint64_t n235 = load64u(p56 + 1464);
 					if (load64u(p56 + 56) != 0)
 						rattle_dealloc(loadptru(p56 + 40));
-					if (n231 != 0)
-						rattle_dealloc(p230);
 					if (n233 != 0)
 						rattle_dealloc(p232);
+					if (n235 != 0)
+						rattle_dealloc(p234);
 					if (load64u(p56 + 1496) != 0)
 						rattle_dealloc(loadptru(p56 + 1480));
 				}
@@ -73354,27 +73900,27 @@ L13:
 L14:
 			{
 				if (b89) {
-					n246 = n217;
-					n247 = n218;
+					n248 = n217;
+					n249 = n218;
 				} else {
 					rattle_dealloc(p87);
-					n246 = n217;
-					n247 = n218;
+					n248 = n217;
+					n249 = n218;
 				}
 			}
 		} else {
-			uint8_t n248;
+			uint8_t n250;
 			switch (MOSTLY_0(load8(p63 + 1))) {
 			case 0: {
-				n248 = 0;
+				n250 = 0;
 				break;
 			}
 			case 1: {
-				n248 = 1;
+				n250 = 1;
 				break;
 			}
 			case 2: {
-				n248 = 3;
+				n250 = 3;
 				break;
 			}
 			default: {
@@ -73386,26 +73932,26 @@ L14:
 			if (n82 != 0)
 				rattle_dealloc(p80);
 			if (n85 == 0) {
-				n246 = n248;
-				n247 = 0;
+				n248 = n250;
+				n249 = 0;
 			} else {
 				rattle_dealloc(p83);
-				n246 = n248;
-				n247 = 0;
+				n248 = n250;
+				n249 = 0;
 			}
 		}
 L16:
 		{
-			tp_timer_commands_error_report_report(n246, n247, p4);
+			tp_timer_commands_error_report_report(n248, n249, p4);
 			return 1;
 		}
 	}
 	case 1: {
-		uint8_t n345, n410;
-		uint64_t n346, n409;
+		uint8_t n349, n416;
+		uint64_t n350, n415;
 		if ((load8(p1 + 2) & 1) != 0) {
-			uint8_t n250, n325;
-			uint64_t n251, n324;
+			uint8_t n252, n329;
+			uint64_t n253, n328;
 			memcpy(p44, p2, 16);
 			memcpy(p45, p2 + 24, 16);
 			memcpy(p46, p2 + 64, 16);
@@ -73415,31 +73961,31 @@ L16:
 			memset(p50, 0, 1552);
 			memset(p51, 0, 96);
 			memset(p52, 0, 24);
-			of_i64_i64 s249 = rattle_alloc(16384, 1);
-			if ((s249.f0 & 1) == 0) {
+			of_i64_i64 s251 = rattle_alloc(16384, 1);
+			if ((s251.f0 & 1) == 0) {
 				if (n79 != 0)
 					rattle_dealloc(p77);
 				if (n82 != 0)
 					rattle_dealloc(p80);
 				if (n85 == 0) {
-					n250 = 2;
-					n251 = 0;
+					n252 = 2;
+					n253 = 0;
 				} else {
 					rattle_dealloc(p83);
-					n250 = 2;
-					n251 = 0;
+					n252 = 2;
+					n253 = 0;
 				}
 			} else {
-				uint64_t n257, n268, n269, n280, n282, n284;
-				uint8_t n277;
-				byte *p279, *p281, *p283;
-				byte *p252 = (byte *)(uintptr_t)s249.f1;
-				uint64_t n253 = 0;
-				while (n253 != 16383) {
-					store8(inside(p252, n253), 0);
-					n253 = n253 + 1;
+				uint64_t n259, n270, n271, n282, n284, n286;
+				uint8_t n279;
+				byte *p281, *p283, *p285;
+				byte *p254 = (byte *)(uintptr_t)s251.f1;
+				uint64_t n255 = 0;
+				while (n255 != 16383) {
+					store8(inside(p254, n255), 0);
+					n255 = n255 + 1;
 				}
-				store8(p252 + 16383, 0);
+				store8(p254 + 16383, 0);
 				storeptru(p49, p5);
 				memset(p49 + 8, 0, 16);
 				memcpy(p50, p44, 16);
@@ -73475,75 +74021,75 @@ L16:
 				store64u(p51 + 80, 1);
 				store8(p51 + 88, 1);
 				memset(p51 + 89, 0, 7);
-				uint64_t n254 = 0;
+				uint64_t n256 = 0;
 				for (;;) {
-					if (n254 == UINT64_MAX)
+					if (n256 == UINT64_MAX)
 						goto L17;
-					uint64_t n255 = os_read(0, p252, 16384);
-					if ((int64_t)n255 < (int64_t)0)
+					uint64_t n257 = os_read(0, p254, 16384);
+					if ((int64_t)n257 < (int64_t)0)
 						goto L18;
-					tp_Cutter_take_in(p52, p51, p252, umin64(n255, 16384), p4);
+					tp_Cutter_take_in(p52, p51, p254, umin64(n257, 16384), p4);
 					if (load8(p52) != 0)
 						break;
-					uint8_t n256 = load8(p52 + 8);
-					n257 = load64u(p52 + 16);
-					byte *p258 = loadptr(p51 + 8);
-					uint64_t n259 = load64(p51 + 16);
+					uint8_t n258 = load8(p52 + 8);
+					n259 = load64u(p52 + 16);
+					byte *p260 = loadptr(p51 + 8);
+					uint64_t n261 = load64(p51 + 16);
 					if (load64(p49 + 8) != 0)
 						store64(p49 + 8, 0);
-					uint64_t n260 = 0;
-					while (n260 != n259) {
-						byte *p261 = at(p258, n260 * 48);
-						uint64_t n262 = load64u(p261 + 8);
-						uint64_t n263 = load64u(p261 + 16);
-						uint64_t n264 = load64u(p261 + 24);
-						uint64_t n265 = load64u(p261 + 32);
-						uint64_t n266 = load64u(p261 + 40);
-						store64u(p42, (uint64_t)load8(p261));
-						store64(p42 + 8, n262);
-						store64(p42 + 16, n263);
-						store64(p42 + 24, n264);
-						store64(p42 + 32, n265);
-						store64(p42 + 40, n266);
-						uint8_t n267 = tp_Session_play_one(p50, p42, p49);
-						if ((n267 & 1) != 0) {
-							n268 = load64(p49 + 8);
+					uint64_t n262 = 0;
+					while (n262 != n261) {
+						byte *p263 = at(p260, n262 * 48);
+						uint64_t n264 = load64u(p263 + 8);
+						uint64_t n265 = load64u(p263 + 16);
+						uint64_t n266 = load64u(p263 + 24);
+						uint64_t n267 = load64u(p263 + 32);
+						uint64_t n268 = load64u(p263 + 40);
+						store64u(p42, (uint64_t)load8(p263));
+						store64(p42 + 8, n264);
+						store64(p42 + 16, n265);
+						store64(p42 + 24, n266);
+						store64(p42 + 32, n267);
+						store64(p42 + 40, n268);
+						uint8_t n269 = tp_Session_play_one(p50, p42, p49);
+						if ((n269 & 1) != 0) {
+							n270 = load64(p49 + 8);
 							goto L19;
 						}
-						n269 = load64(p49 + 8);
-						of_i8_i64 s270 = tp_SmoothWheelWheel_quiet_until(p50);
-						uint8_t n271 = tp_render_push_wakeup(p49, s270.f0, s270.f1);
-						if ((n271 & 1) != 0)
+						n271 = load64(p49 + 8);
+						of_i8_i64 s272 = tp_SmoothWheelWheel_quiet_until(p50);
+						uint8_t n273 = tp_render_push_wakeup(p49, s272.f0, s272.f1);
+						if ((n273 & 1) != 0)
 							goto L20;
-						byte *p272 = loadptr(p49);
-						uint64_t n273 = load64(p49 + 8);
-						uint64_t n274 = 0;
-						while (n274 < n273) {
-							uint64_t n275 = n273 - n274;
-							uint64_t n276 = os_write(1, at(p272, n274), n275);
-							if ((int64_t)n276 < (int64_t)0) {
+						byte *p274 = loadptr(p49);
+						uint64_t n275 = load64(p49 + 8);
+						uint64_t n276 = 0;
+						while (n276 < n275) {
+							uint64_t n277 = n275 - n276;
+							uint64_t n278 = os_write(1, at(p274, n276), n277);
+							if ((int64_t)n278 < (int64_t)0) {
 								tp_error_last_error(p40);
 								store8(p3 + 1, 1);
-								n277 = 3;
+								n279 = 3;
 								goto L21;
 							}
-							uint64_t n278 = umin64(n276, n275);
-							if (n278 == 0) {
+							uint64_t n280 = umin64(n278, n277);
+							if (n280 == 0) {
 								store8(p3 + 1, 1);
-								n277 = 3;
+								n279 = 3;
 								goto L21;
 							}
-							n274 = n274 + n278;
+							n276 = n276 + n280;
 						}
 						if (load64(p49 + 8) != 0)
 							store64(p49 + 8, 0);
-						n260 = n260 + 1;
+						n262 = n262 + 1;
 					}
-					if (n256 == 1)
+					if (n258 == 1)
 						goto L22;
-					if (n255 == 0)
+					if (n257 == 0)
 						goto L23;
-					n254 = n254 + 1;
+					n256 = n256 + 1;
 				}
 				if (load64u(p51 + 24) != 0)
 					rattle_dealloc(loadptru(p51 + 8));
@@ -73551,64 +74097,64 @@ L16:
 					rattle_dealloc(loadptru(p51 + 32));
 				if (load64u(p51 + 72) != 0)
 					rattle_dealloc(loadptru(p51 + 56));
-				p279 = loadptru(p50 + 80);
-				n280 = load64u(p50 + 96);
-				p281 = loadptru(p50 + 1448);
-				n282 = load64u(p50 + 1464);
-				p283 = loadptru(p50 + 1480);
-				n284 = load64u(p50 + 1496);
+				p281 = loadptru(p50 + 80);
+				n282 = load64u(p50 + 96);
+				p283 = loadptru(p50 + 1448);
+				n284 = load64u(p50 + 1464);
+				p285 = loadptru(p50 + 1480);
+				n286 = load64u(p50 + 1496);
 				if (load64u(p50 + 56) != 0)
 					rattle_dealloc(loadptru(p50 + 40));
-				if (n280 != 0)
-					rattle_dealloc(p279);
 				if (n282 != 0)
 					rattle_dealloc(p281);
 				if (n284 != 0)
 					rattle_dealloc(p283);
+				if (n286 != 0)
+					rattle_dealloc(p285);
 				if (load64u(p50 + 1520) != 0)
 					rattle_dealloc(loadptru(p50 + 1504));
 				if (load64u(p50 + 1544) != 0)
 					rattle_dealloc(loadptru(p50 + 1528));
 				if (load64u(p49 + 16) != 0)
 					rattle_dealloc(loadptru(p49));
-				rattle_dealloc(p252);
-				n250 = 2;
-				n251 = 0;
+				rattle_dealloc(p254);
+				n252 = 2;
+				n253 = 0;
 				goto L24;
 L20:
 				{
-					uint64_t n285 = load64(p49 + 8);
-					if (n285 > n269) {
-						store64(p49 + 8, n269);
-						n268 = n269;
+					uint64_t n287 = load64(p49 + 8);
+					if (n287 > n271) {
+						store64(p49 + 8, n271);
+						n270 = n271;
 					} else {
-						n268 = n285;
+						n270 = n287;
 					}
 				}
 L19:
 				{
-					byte *p286 = loadptr(p49);
-					uint64_t n287 = 0;
+					byte *p288 = loadptr(p49);
+					uint64_t n289 = 0;
 					for (;;) {
-						if (n287 >= n268) {
-							n277 = 2;
+						if (n289 >= n270) {
+							n279 = 2;
 							break;
 						}
-						uint64_t n288 = n268 - n287;
-						uint64_t n289 = os_write(1, at(p286, n287), n288);
-						if ((int64_t)n289 < (int64_t)0) {
+						uint64_t n290 = n270 - n289;
+						uint64_t n291 = os_write(1, at(p288, n289), n290);
+						if ((int64_t)n291 < (int64_t)0) {
 							tp_error_last_error(p41);
 							store8(p3 + 1, 1);
-							n277 = 3;
+							n279 = 3;
 							break;
 						}
-						uint64_t n290 = umin64(n289, n288);
-						if (n290 == 0) {
+						uint64_t n292 = umin64(n291, n290);
+						if (n292 == 0) {
 							store8(p3 + 1, 1);
-							n277 = 3;
+							n279 = 3;
 							break;
 						}
-						n287 = n287 + n290;
+						n289 = n289 + n292;
 					}
 				}
 L21:
@@ -73619,112 +74165,114 @@ L21:
 						rattle_dealloc(loadptru(p51 + 32));
 					if (load64u(p51 + 72) != 0)
 						rattle_dealloc(loadptru(p51 + 56));
-					byte *p291 = loadptru(p50 + 80);
-					uint64_t n292 = load64u(p50 + 96);
-					byte *p293 = loadptru(p50 + 1448);
-					uint64_t n294 = load64u(p50 + 1464);
-					byte *p295 = loadptru(p50 + 1480);
-					uint64_t n296 = load64u(p50 + 1496);
+					byte *p293 = loadptru(p50 + 80);
+					uint64_t n294 = load64u(p50 + 96);
+					byte *p295 = loadptru(p50 + 1448);
+					uint64_t n296 = load64u(p50 + 1464);
+					byte *p297 = loadptru(p50 + 1480);
+					uint64_t n298 = load64u(p50 + 1496);
 					if (load64u(p50 + 56) != 0)
 						rattle_dealloc(loadptru(p50 + 40));
-					if (n292 != 0)
-						rattle_dealloc(p291);
 					if (n294 != 0)
 						rattle_dealloc(p293);
 					if (n296 != 0)
 						rattle_dealloc(p295);
+					if (n298 != 0)
+						rattle_dealloc(p297);
 					if (load64u(p50 + 1520) != 0)
 						rattle_dealloc(loadptru(p50 + 1504));
 					if (load64u(p50 + 1544) != 0)
 						rattle_dealloc(loadptru(p50 + 1528));
 					if (load64u(p49 + 16) != 0)
 						rattle_dealloc(loadptru(p49));
-					rattle_dealloc(p252);
-					n250 = n277;
-					n251 = 0;
+					rattle_dealloc(p254);
+					n252 = n279;
+					n253 = 0;
 					goto L24;
 				}
 L23:
 				{
-					uint64_t n297;
-					uint8_t n298, n299;
-					bool b300;
+					uint64_t n299;
+					uint8_t n300, n301;
+					bool b302;
 					memset(p39, 0, 24);
 					tp_Cutter_end(p39, p51, p4);
 					if (load8(p39) == 0) {
 						if (load8(p39 + 8) == 1) {
-							n297 = load64u(p39 + 16);
-							n298 = 1;
-							n299 = 1;
-							b300 = true;
+							n299 = load64u(p39 + 16);
+							n300 = 1;
+							n301 = 1;
+							b302 = true;
 						} else {
-							uint64_t n309;
+							uint64_t n313;
 							if (load64(p49 + 8) != 0)
 								store64(p49 + 8, 0);
-							uint64_t n301 = load64(p50 + 16);
-							uint64_t n302 = load64(p50 + 64);
-							byte *p303 = loadptr(p50 + 80);
-							uint64_t n304 = load64(p50 + 104);
-							uint64_t n305 = (uint64_t)load32(at(p303, load64(p50 + 32) << 3) + 4);
-							uint64_t n306 = usub_sat64(n305, n304);
-							uint64_t n307 = 0;
-							uint64_t n308 = n305;
+							uint64_t n303 = load64(p50 + 16);
+							uint64_t n304 = load64(p50 + 64);
+							uint64_t n305 = load64(p50 + 32);
+							byte *p306 = loadptr(p50 + 80);
+							uint64_t n307 = (uint64_t)load32(at(p306, n305 << 3) + 4);
+							bool b308 = n305 != n307;
+							uint64_t n309 = load64(p50 + 104);
+							uint64_t n310 = b308 ? (n307 - n309) : 0;
+							uint64_t n311 = 0;
+							bool b312 = b308;
 							for (;;) {
-								if (n307 == n302) {
-									n309 = n302;
+								if (n311 == n304) {
+									n313 = n304;
 									break;
 								}
-								if (n304 > n308) {
-									n309 = n307;
+								if (!b312) {
+									n313 = n311;
 									break;
 								}
-								uint64_t n310 = (uint64_t)load32(at(p303, (n304 + n306) << 3) + 4);
-								n306 = usub_sat64(n310, n304);
-								n307 = n307 + 1;
-								n308 = n310;
+								uint64_t n314 = (uint64_t)load32(at(p306, (n309 + n310) << 3) + 4);
+								n310 = usub_sat64(n314, n309);
+								n311 = n311 + 1;
+								b312 = n309 <= n314;
 							}
-							uint8_t n311 = tp_text_push_end(p49, n301, n302 - n309);
-							if ((n311 & 1) != 0) {
-								n297 = 0;
-								n298 = 2;
-								n299 = 1;
-								b300 = true;
+							uint8_t n315 = tp_text_push_end(p49, n303, n304 - n313);
+							if ((n315 & 1) != 0) {
+								n299 = 0;
+								n300 = 2;
+								n301 = 1;
+								b302 = true;
 							} else {
-								byte *p312 = loadptr(p49);
-								uint64_t n313 = load64(p49 + 8);
-								uint64_t n314 = 0;
-								while (n314 < n313) {
-									uint64_t n315 = n313 - n314;
-									uint64_t n316 = os_write(1, at(p312, n314), n315);
-									if ((int64_t)n316 < (int64_t)0) {
+								byte *p316 = loadptr(p49);
+								uint64_t n317 = load64(p49 + 8);
+								uint64_t n318 = 0;
+								while (n318 < n317) {
+									uint64_t n319 = n317 - n318;
+									uint64_t n320 = os_write(1, at(p316, n318), n319);
+									if ((int64_t)n320 < (int64_t)0) {
 										tp_error_last_error(p38);
 										goto L25;
 									}
-									uint64_t n317 = umin64(n316, n315);
-									if (n317 == 0)
+									uint64_t n321 = umin64(n320, n319);
+									if (n321 == 0)
 										goto L25;
-									n314 = n314 + n317;
+									n318 = n318 + n321;
 								}
-								n297 = 0;
-								n298 = 0;
-								n299 = (uint8_t)(load8(p51 + 88) ^ 1);
-								b300 = false;
+								n299 = 0;
+								n300 = 0;
+								n301 = (uint8_t)(load8(p51 + 88) ^ 1);
+								b302 = false;
 								goto L26;
 L25:
 								{
 									store8(p3 + 1, 1);
-									n297 = 0;
-									n298 = 3;
-									n299 = 1;
-									b300 = true;
+									n299 = 0;
+									n300 = 3;
+									n301 = 1;
+									b302 = true;
 								}
 							}
 						}
 					} else {
-						n297 = 0;
-						n298 = 2;
-						n299 = 1;
-						b300 = true;
+						n299 = 0;
+						n300 = 2;
+						n301 = 1;
+						b302 = true;
 					}
 L26:
 					{
@@ -73734,31 +74282,31 @@ L26:
 							rattle_dealloc(loadptru(p51 + 32));
 						if (load64u(p51 + 72) != 0)
 							rattle_dealloc(loadptru(p51 + 56));
-						byte *p318 = loadptru(p50 + 80);
-						uint64_t n319 = load64u(p50 + 96);
-						byte *p320 = loadptru(p50 + 1448);
-						uint64_t n321 = load64u(p50 + 1464);
-						byte *p322 = loadptru(p50 + 1480);
-						uint64_t n323 = load64u(p50 + 1496);
+						byte *p322 = loadptru(p50 + 80);
+						uint64_t n323 = load64u(p50 + 96);
+						byte *p324 = loadptru(p50 + 1448);
+						uint64_t n325 = load64u(p50 + 1464);
+						byte *p326 = loadptru(p50 + 1480);
+						uint64_t n327 = load64u(p50 + 1496);
 						if (load64u(p50 + 56) != 0)
 							rattle_dealloc(loadptru(p50 + 40));
-						if (n319 != 0)
-							rattle_dealloc(p318);
-						if (n321 != 0)
-							rattle_dealloc(p320);
 						if (n323 != 0)
 							rattle_dealloc(p322);
+						if (n325 != 0)
+							rattle_dealloc(p324);
+						if (n327 != 0)
+							rattle_dealloc(p326);
 						if (load64u(p50 + 1520) != 0)
 							rattle_dealloc(loadptru(p50 + 1504));
 						if (load64u(p50 + 1544) != 0)
 							rattle_dealloc(loadptru(p50 + 1528));
 						if (load64u(p49 + 16) != 0)
 							rattle_dealloc(loadptru(p49));
-						rattle_dealloc(p252);
-						if (!b300)
-							return n299;
-						n324 = n297;
-						n325 = n298;
+						rattle_dealloc(p254);
+						if (!b302)
+							return n301;
+						n328 = n299;
+						n329 = n300;
 						goto L27;
 					}
 				}
@@ -73770,29 +74318,29 @@ L22:
 						rattle_dealloc(loadptru(p51 + 32));
 					if (load64u(p51 + 72) != 0)
 						rattle_dealloc(loadptru(p51 + 56));
-					byte *p326 = loadptru(p50 + 80);
-					uint64_t n327 = load64u(p50 + 96);
-					byte *p328 = loadptru(p50 + 1448);
-					uint64_t n329 = load64u(p50 + 1464);
-					byte *p330 = loadptru(p50 + 1480);
-					uint64_t n331 = load64u(p50 + 1496);
+					byte *p330 = loadptru(p50 + 80);
+					uint64_t n331 = load64u(p50 + 96);
+					byte *p332 = loadptru(p50 + 1448);
+					uint64_t n333 = load64u(p50 + 1464);
+					byte *p334 = loadptru(p50 + 1480);
+					uint64_t n335 = load64u(p50 + 1496);
 					if (load64u(p50 + 56) != 0)
 						rattle_dealloc(loadptru(p50 + 40));
-					if (n327 != 0)
-						rattle_dealloc(p326);
-					if (n329 != 0)
-						rattle_dealloc(p328);
 					if (n331 != 0)
 						rattle_dealloc(p330);
+					if (n333 != 0)
+						rattle_dealloc(p332);
+					if (n335 != 0)
+						rattle_dealloc(p334);
 					if (load64u(p50 + 1520) != 0)
 						rattle_dealloc(loadptru(p50 + 1504));
 					if (load64u(p50 + 1544) != 0)
 						rattle_dealloc(loadptru(p50 + 1528));
 					if (load64u(p49 + 16) != 0)
 						rattle_dealloc(loadptru(p49));
-					rattle_dealloc(p252);
-					n250 = 1;
-					n251 = n257;
+					rattle_dealloc(p254);
+					n252 = 1;
+					n253 = n259;
 					goto L24;
 				}
 L18:
@@ -73805,29 +74353,29 @@ L18:
 						rattle_dealloc(loadptru(p51 + 32));
 					if (load64u(p51 + 72) != 0)
 						rattle_dealloc(loadptru(p51 + 56));
-					byte *p332 = loadptru(p50 + 80);
-					uint64_t n333 = load64u(p50 + 96);
-					byte *p334 = loadptru(p50 + 1448);
-					uint64_t n335 = load64u(p50 + 1464);
-					byte *p336 = loadptru(p50 + 1480);
-					uint64_t n337 = load64u(p50 + 1496);
+					byte *p336 = loadptru(p50 + 80);
+					uint64_t n337 = load64u(p50 + 96);
+					byte *p338 = loadptru(p50 + 1448);
+					uint64_t n339 = load64u(p50 + 1464);
+					byte *p340 = loadptru(p50 + 1480);
+					uint64_t n341 = load64u(p50 + 1496);
 					if (load64u(p50 + 56) != 0)
 						rattle_dealloc(loadptru(p50 + 40));
-					if (n333 != 0)
-						rattle_dealloc(p332);
-					if (n335 != 0)
-						rattle_dealloc(p334);
 					if (n337 != 0)
 						rattle_dealloc(p336);
+					if (n339 != 0)
+						rattle_dealloc(p338);
+					if (n341 != 0)
+						rattle_dealloc(p340);
 					if (load64u(p50 + 1520) != 0)
 						rattle_dealloc(loadptru(p50 + 1504));
 					if (load64u(p50 + 1544) != 0)
 						rattle_dealloc(loadptru(p50 + 1528));
 					if (load64u(p49 + 16) != 0)
 						rattle_dealloc(loadptru(p49));
-					rattle_dealloc(p252);
-					n250 = 0;
-					n251 = 0;
+					rattle_dealloc(p254);
+					n252 = 0;
+					n253 = 0;
 					goto L24;
 				}
 L17:
@@ -73838,39 +74386,39 @@ L17:
 						rattle_dealloc(loadptru(p51 + 32));
 					if (load64u(p51 + 72) != 0)
 						rattle_dealloc(loadptru(p51 + 56));
-					byte *p338 = loadptru(p50 + 80);
-					uint64_t n339 = load64u(p50 + 96);
-					byte *p340 = loadptru(p50 + 1448);
-					uint64_t n341 = load64u(p50 + 1464);
-					byte *p342 = loadptru(p50 + 1480);
-					uint64_t n343 = load64u(p50 + 1496);
+					byte *p342 = loadptru(p50 + 80);
+					uint64_t n343 = load64u(p50 + 96);
+					byte *p344 = loadptru(p50 + 1448);
+					uint64_t n345 = load64u(p50 + 1464);
+					byte *p346 = loadptru(p50 + 1480);
+					uint64_t n347 = load64u(p50 + 1496);
 					if (load64u(p50 + 56) != 0)
 						rattle_dealloc(loadptru(p50 + 40));
-					if (n339 != 0)
-						rattle_dealloc(p338);
-					if (n341 != 0)
-						rattle_dealloc(p340);
 					if (n343 != 0)
 						rattle_dealloc(p342);
+					if (n345 != 0)
+						rattle_dealloc(p344);
+					if (n347 != 0)
+						rattle_dealloc(p346);
 					if (load64u(p50 + 1520) != 0)
 						rattle_dealloc(loadptru(p50 + 1504));
 					if (load64u(p50 + 1544) != 0)
 						rattle_dealloc(loadptru(p50 + 1528));
 					if (load64u(p49 + 16) != 0)
 						rattle_dealloc(loadptru(p49));
-					rattle_dealloc(p252);
-					n250 = 4;
-					n251 = 0;
+					rattle_dealloc(p254);
+					n252 = 4;
+					n253 = 0;
 				}
 			}
 L24:
 			{
-				n324 = n251;
-				n325 = n250;
+				n328 = n253;
+				n329 = n252;
 			}
 L27:
 			{
-				tp_timer_commands_error_report_report_2(n325, n324, p4);
+				tp_timer_commands_error_report_report_2(n329, n328, p4);
 				return 1;
 			}
 		}
@@ -73883,31 +74431,31 @@ L27:
 		memset(p35, 0, 1552);
 		memset(p36, 0, 96);
 		memset(p37, 0, 24);
-		of_i64_i64 s344 = rattle_alloc(16384, 1);
-		if ((s344.f0 & 1) == 0) {
+		of_i64_i64 s348 = rattle_alloc(16384, 1);
+		if ((s348.f0 & 1) == 0) {
 			if (n79 != 0)
 				rattle_dealloc(p77);
 			if (n82 != 0)
 				rattle_dealloc(p80);
 			if (n85 == 0) {
-				n345 = 2;
-				n346 = 0;
+				n349 = 2;
+				n350 = 0;
 			} else {
 				rattle_dealloc(p83);
-				n345 = 2;
-				n346 = 0;
+				n349 = 2;
+				n350 = 0;
 			}
 		} else {
-			uint64_t n352, n371, n373, n375;
-			uint8_t n368;
-			byte *p370, *p372, *p374;
-			byte *p347 = (byte *)(uintptr_t)s344.f1;
-			uint64_t n348 = 0;
-			while (n348 != 16383) {
-				store8(inside(p347, n348), 0);
-				n348 = n348 + 1;
+			uint64_t n356, n375, n377, n379;
+			uint8_t n372;
+			byte *p374, *p376, *p378;
+			byte *p351 = (byte *)(uintptr_t)s348.f1;
+			uint64_t n352 = 0;
+			while (n352 != 16383) {
+				store8(inside(p351, n352), 0);
+				n352 = n352 + 1;
 			}
-			store8(p347 + 16383, 0);
+			store8(p351 + 16383, 0);
 			storeptru(p34, p5);
 			memset(p34 + 8, 0, 16);
 			memcpy(p35, p29, 16);
@@ -73943,66 +74491,66 @@ L27:
 			store64u(p36 + 80, 1);
 			store8(p36 + 88, 1);
 			memset(p36 + 89, 0, 7);
-			uint64_t n349 = 0;
+			uint64_t n353 = 0;
 			for (;;) {
-				if (n349 == UINT64_MAX)
+				if (n353 == UINT64_MAX)
 					goto L28;
-				uint64_t n350 = os_read(0, p347, 16384);
-				if ((int64_t)n350 < (int64_t)0)
+				uint64_t n354 = os_read(0, p351, 16384);
+				if ((int64_t)n354 < (int64_t)0)
 					goto L29;
-				tp_Cutter_take_in(p37, p36, p347, umin64(n350, 16384), p4);
+				tp_Cutter_take_in(p37, p36, p351, umin64(n354, 16384), p4);
 				if (load8(p37) != 0)
 					break;
-				uint8_t n351 = load8(p37 + 8);
-				n352 = load64u(p37 + 16);
-				byte *p353 = loadptr(p36 + 8);
-				uint64_t n354 = load64(p36 + 16);
+				uint8_t n355 = load8(p37 + 8);
+				n356 = load64u(p37 + 16);
+				byte *p357 = loadptr(p36 + 8);
+				uint64_t n358 = load64(p36 + 16);
 				if (load64(p34 + 8) != 0)
 					store64(p34 + 8, 0);
-				uint64_t n355 = 0;
-				while (n355 != n354) {
-					byte *p356 = at(p353, n355 * 48);
-					uint64_t n357 = load64u(p356 + 8);
-					uint64_t n358 = load64u(p356 + 16);
-					uint64_t n359 = load64u(p356 + 24);
-					uint64_t n360 = load64u(p356 + 32);
-					uint64_t n361 = load64u(p356 + 40);
-					store64u(p27, (uint64_t)load8(p356));
-					store64(p27 + 8, n357);
-					store64(p27 + 16, n358);
-					store64(p27 + 24, n359);
-					store64(p27 + 32, n360);
-					store64(p27 + 40, n361);
-					uint8_t n362 = tp_Session_play_one(p35, p27, p34);
-					if ((n362 & 1) != 0)
+				uint64_t n359 = 0;
+				while (n359 != n358) {
+					byte *p360 = at(p357, n359 * 48);
+					uint64_t n361 = load64u(p360 + 8);
+					uint64_t n362 = load64u(p360 + 16);
+					uint64_t n363 = load64u(p360 + 24);
+					uint64_t n364 = load64u(p360 + 32);
+					uint64_t n365 = load64u(p360 + 40);
+					store64u(p27, (uint64_t)load8(p360));
+					store64(p27 + 8, n361);
+					store64(p27 + 16, n362);
+					store64(p27 + 24, n363);
+					store64(p27 + 32, n364);
+					store64(p27 + 40, n365);
+					uint8_t n366 = tp_Session_play_one(p35, p27, p34);
+					if ((n366 & 1) != 0)
 						goto L30;
-					n355 = n355 + 1;
+					n359 = n359 + 1;
 				}
-				byte *p363 = loadptr(p34);
-				uint64_t n364 = load64(p34 + 8);
-				uint64_t n365 = 0;
-				while (n365 < n364) {
-					uint64_t n366 = n364 - n365;
-					uint64_t n367 = os_write(1, at(p363, n365), n366);
-					if ((int64_t)n367 < (int64_t)0) {
+				byte *p367 = loadptr(p34);
+				uint64_t n368 = load64(p34 + 8);
+				uint64_t n369 = 0;
+				while (n369 < n368) {
+					uint64_t n370 = n368 - n369;
+					uint64_t n371 = os_write(1, at(p367, n369), n370);
+					if ((int64_t)n371 < (int64_t)0) {
 						tp_error_last_error(p25);
 						store8(p3 + 1, 1);
-						n368 = 3;
+						n372 = 3;
 						goto L31;
 					}
-					uint64_t n369 = umin64(n367, n366);
-					if (n369 == 0) {
+					uint64_t n373 = umin64(n371, n370);
+					if (n373 == 0) {
 						store8(p3 + 1, 1);
-						n368 = 3;
+						n372 = 3;
 						goto L31;
 					}
-					n365 = n365 + n369;
+					n369 = n369 + n373;
 				}
-				if (n351 == 1)
+				if (n355 == 1)
 					goto L32;
-				if (n350 == 0)
+				if (n354 == 0)
 					goto L33;
-				n349 = n349 + 1;
+				n353 = n353 + 1;
 			}
 			if (load64u(p36 + 24) != 0)
 				rattle_dealloc(loadptru(p36 + 8));
@@ -74010,138 +74558,140 @@ L27:
 				rattle_dealloc(loadptru(p36 + 32));
 			if (load64u(p36 + 72) != 0)
 				rattle_dealloc(loadptru(p36 + 56));
-			p370 = loadptru(p35 + 80);
-			n371 = load64u(p35 + 96);
-			p372 = loadptru(p35 + 1448);
-			n373 = load64u(p35 + 1464);
-			p374 = loadptru(p35 + 1480);
-			n375 = load64u(p35 + 1496);
+			p374 = loadptru(p35 + 80);
+			n375 = load64u(p35 + 96);
+			p376 = loadptru(p35 + 1448);
+			n377 = load64u(p35 + 1464);
+			p378 = loadptru(p35 + 1480);
+			n379 = load64u(p35 + 1496);
 			if (load64u(p35 + 56) != 0)
 				rattle_dealloc(loadptru(p35 + 40));
-			if (n371 != 0)
-				rattle_dealloc(p370);
-			if (n373 != 0)
-				rattle_dealloc(p372);
 			if (n375 != 0)
 				rattle_dealloc(p374);
+			if (n377 != 0)
+				rattle_dealloc(p376);
+			if (n379 != 0)
+				rattle_dealloc(p378);
 			if (load64u(p35 + 1520) != 0)
 				rattle_dealloc(loadptru(p35 + 1504));
 			if (load64u(p35 + 1544) != 0)
 				rattle_dealloc(loadptru(p35 + 1528));
 			if (load64u(p34 + 16) != 0)
 				rattle_dealloc(loadptru(p34));
-			rattle_dealloc(p347);
-			n345 = 2;
-			n346 = 0;
+			rattle_dealloc(p351);
+			n349 = 2;
+			n350 = 0;
 			goto L34;
 L30:
 			{
-				byte *p376 = loadptr(p34);
-				uint64_t n377 = load64(p34 + 8);
-				uint64_t n378 = 0;
+				byte *p380 = loadptr(p34);
+				uint64_t n381 = load64(p34 + 8);
+				uint64_t n382 = 0;
 				for (;;) {
-					if (n378 >= n377) {
-						n368 = 2;
+					if (n382 >= n381) {
+						n372 = 2;
 						goto L31;
 					}
-					uint64_t n379 = n377 - n378;
-					uint64_t n380 = os_write(1, at(p376, n378), n379);
-					if ((int64_t)n380 < (int64_t)0) {
+					uint64_t n383 = n381 - n382;
+					uint64_t n384 = os_write(1, at(p380, n382), n383);
+					if ((int64_t)n384 < (int64_t)0) {
 						tp_error_last_error(p26);
 						store8(p3 + 1, 1);
-						n368 = 3;
+						n372 = 3;
 						goto L31;
 					}
-					uint64_t n381 = umin64(n380, n379);
-					if (n381 == 0) {
+					uint64_t n385 = umin64(n384, n383);
+					if (n385 == 0) {
 						store8(p3 + 1, 1);
-						n368 = 3;
+						n372 = 3;
 						goto L31;
 					}
-					n378 = n378 + n381;
+					n382 = n382 + n385;
 				}
 			}
 L33:
 			{
-				uint64_t n382;
-				uint8_t n383, n384;
-				bool b385;
+				uint64_t n386;
+				uint8_t n387, n388;
+				bool b389;
 				memset(p24, 0, 24);
 				tp_Cutter_end(p24, p36, p4);
 				if (load8(p24) == 0) {
 					if (load8(p24 + 8) == 1) {
-						n382 = load64u(p24 + 16);
-						n383 = 1;
-						n384 = 1;
-						b385 = true;
+						n386 = load64u(p24 + 16);
+						n387 = 1;
+						n388 = 1;
+						b389 = true;
 					} else {
-						uint64_t n394;
+						uint64_t n400;
 						if (load64(p34 + 8) != 0)
 							store64(p34 + 8, 0);
-						uint64_t n386 = load64(p35 + 16);
-						uint64_t n387 = load64(p35 + 64);
-						byte *p388 = loadptr(p35 + 80);
-						uint64_t n389 = load64(p35 + 104);
-						uint64_t n390 = (uint64_t)load32(at(p388, load64(p35 + 32) << 3) + 4);
-						uint64_t n391 = usub_sat64(n390, n389);
-						uint64_t n392 = 0;
-						uint64_t n393 = n390;
+						uint64_t n390 = load64(p35 + 16);
+						uint64_t n391 = load64(p35 + 64);
+						uint64_t n392 = load64(p35 + 32);
+						byte *p393 = loadptr(p35 + 80);
+						uint64_t n394 = (uint64_t)load32(at(p393, n392 << 3) + 4);
+						bool b395 = n392 != n394;
+						uint64_t n396 = load64(p35 + 104);
+						uint64_t n397 = b395 ? (n394 - n396) : 0;
+						uint64_t n398 = 0;
+						bool b399 = b395;
 						for (;;) {
-							if (n392 == n387) {
-								n394 = n387;
+							if (n398 == n391) {
+								n400 = n391;
 								break;
 							}
-							if (n389 > n393) {
-								n394 = n392;
+							if (!b399) {
+								n400 = n398;
 								break;
 							}
-							uint64_t n395 = (uint64_t)load32(at(p388, (n389 + n391) << 3) + 4);
-							n391 = usub_sat64(n395, n389);
-							n392 = n392 + 1;
-							n393 = n395;
+							uint64_t n401 = (uint64_t)load32(at(p393, (n396 + n397) << 3) + 4);
+							n397 = usub_sat64(n401, n396);
+							n398 = n398 + 1;
+							b399 = n396 <= n401;
 						}
-						uint8_t n396 = tp_text_push_end(p34, n386, n387 - n394);
-						if ((n396 & 1) != 0) {
-							n382 = 0;
-							n383 = 2;
-							n384 = 1;
-							b385 = true;
+						uint8_t n402 = tp_text_push_end(p34, n390, n391 - n400);
+						if ((n402 & 1) != 0) {
+							n386 = 0;
+							n387 = 2;
+							n388 = 1;
+							b389 = true;
 						} else {
-							byte *p397 = loadptr(p34);
-							uint64_t n398 = load64(p34 + 8);
-							uint64_t n399 = 0;
-							while (n399 < n398) {
-								uint64_t n400 = n398 - n399;
-								uint64_t n401 = os_write(1, at(p397, n399), n400);
-								if ((int64_t)n401 < (int64_t)0) {
+							byte *p403 = loadptr(p34);
+							uint64_t n404 = load64(p34 + 8);
+							uint64_t n405 = 0;
+							while (n405 < n404) {
+								uint64_t n406 = n404 - n405;
+								uint64_t n407 = os_write(1, at(p403, n405), n406);
+								if ((int64_t)n407 < (int64_t)0) {
 									tp_error_last_error(p23);
 									goto L35;
 								}
-								uint64_t n402 = umin64(n401, n400);
-								if (n402 == 0)
+								uint64_t n408 = umin64(n407, n406);
+								if (n408 == 0)
 									goto L35;
-								n399 = n399 + n402;
+								n405 = n405 + n408;
 							}
-							n382 = 0;
-							n383 = 0;
-							n384 = (uint8_t)(load8(p36 + 88) ^ 1);
-							b385 = false;
+							n386 = 0;
+							n387 = 0;
+							n388 = (uint8_t)(load8(p36 + 88) ^ 1);
+							b389 = false;
 							goto L36;
 L35:
 							{
 								store8(p3 + 1, 1);
-								n382 = 0;
-								n383 = 3;
-								n384 = 1;
-								b385 = true;
+								n386 = 0;
+								n387 = 3;
+								n388 = 1;
+								b389 = true;
 							}
 						}
 					}
 				} else {
-					n382 = 0;
-					n383 = 2;
-					n384 = 1;
-					b385 = true;
+					n386 = 0;
+					n387 = 2;
+					n388 = 1;
+					b389 = true;
 				}
 L36:
 				{
@@ -74151,68 +74701,35 @@ L36:
 						rattle_dealloc(loadptru(p36 + 32));
 					if (load64u(p36 + 72) != 0)
 						rattle_dealloc(loadptru(p36 + 56));
-					byte *p403 = loadptru(p35 + 80);
-					uint64_t n404 = load64u(p35 + 96);
-					byte *p405 = loadptru(p35 + 1448);
-					uint64_t n406 = load64u(p35 + 1464);
-					byte *p407 = loadptru(p35 + 1480);
-					uint64_t n408 = load64u(p35 + 1496);
+					byte *p409 = loadptru(p35 + 80);
+					uint64_t n410 = load64u(p35 + 96);
+					byte *p411 = loadptru(p35 + 1448);
+					uint64_t n412 = load64u(p35 + 1464);
+					byte *p413 = loadptru(p35 + 1480);
+					uint64_t n414 = load64u(p35 + 1496);
 					if (load64u(p35 + 56) != 0)
 						rattle_dealloc(loadptru(p35 + 40));
-					if (n404 != 0)
-						rattle_dealloc(p403);
-					if (n406 != 0)
-						rattle_dealloc(p405);
-					if (n408 != 0)
-						rattle_dealloc(p407);
+					if (n410 != 0)
+						rattle_dealloc(p409);
+					if (n412 != 0)
+						rattle_dealloc(p411);
+					if (n414 != 0)
+						rattle_dealloc(p413);
 					if (load64u(p35 + 1520) != 0)
 						rattle_dealloc(loadptru(p35 + 1504));
 					if (load64u(p35 + 1544) != 0)
 						rattle_dealloc(loadptru(p35 + 1528));
 					if (load64u(p34 + 16) != 0)
 						rattle_dealloc(loadptru(p34));
-					rattle_dealloc(p347);
-					if (!b385)
-						return n384;
-					n409 = n382;
-					n410 = n383;
+					rattle_dealloc(p351);
+					if (!b389)
+						return n388;
+					n415 = n386;
+					n416 = n387;
 					goto L37;
 				}
 			}
 L32:
-			{
-				if (load64u(p36 + 24) != 0)
-					rattle_dealloc(loadptru(p36 + 8));
-				if (load64u(p36 + 48) != 0)
-					rattle_dealloc(loadptru(p36 + 32));
-				if (load64u(p36 + 72) != 0)
-					rattle_dealloc(loadptru(p36 + 56));
-				byte *p411 = loadptru(p35 + 80);
-				uint64_t n412 = load64u(p35 + 96);
-				byte *p413 = loadptru(p35 + 1448);
-				uint64_t n414 = load64u(p35 + 1464);
-				byte *p415 = loadptru(p35 + 1480);
-				uint64_t n416 = load64u(p35 + 1496);
-				if (load64u(p35 + 56) != 0)
-					rattle_dealloc(loadptru(p35 + 40));
-				if (n412 != 0)
-					rattle_dealloc(p411);
-				if (n414 != 0)
-					rattle_dealloc(p413);
-				if (n416 != 0)
-					rattle_dealloc(p415);
-				if (load64u(p35 + 1520) != 0)
-					rattle_dealloc(loadptru(p35 + 1504));
-				if (load64u(p35 + 1544) != 0)
-					rattle_dealloc(loadptru(p35 + 1528));
-				if (load64u(p34 + 16) != 0)
-					rattle_dealloc(loadptru(p34));
-				rattle_dealloc(p347);
-				n345 = 1;
-				n346 = n352;
-				goto L34;
-			}
-L31:
 			{
 				if (load64u(p36 + 24) != 0)
 					rattle_dealloc(loadptru(p36 + 8));
@@ -74240,15 +74757,13 @@ L31:
 					rattle_dealloc(loadptru(p35 + 1528));
 				if (load64u(p34 + 16) != 0)
 					rattle_dealloc(loadptru(p34));
-				rattle_dealloc(p347);
-				n345 = n368;
-				n346 = 0;
+				rattle_dealloc(p351);
+				n349 = 1;
+				n350 = n356;
 				goto L34;
 			}
-L29:
+L31:
 			{
-				tp_error_last_error(p28);
-				store8(p3, 1);
 				if (load64u(p36 + 24) != 0)
 					rattle_dealloc(loadptru(p36 + 8));
 				if (load64u(p36 + 48) != 0)
@@ -74275,13 +74790,15 @@ L29:
 					rattle_dealloc(loadptru(p35 + 1528));
 				if (load64u(p34 + 16) != 0)
 					rattle_dealloc(loadptru(p34));
-				rattle_dealloc(p347);
-				n345 = 0;
-				n346 = 0;
+				rattle_dealloc(p351);
+				n349 = n372;
+				n350 = 0;
 				goto L34;
 			}
-L28:
+L29:
 			{
+				tp_error_last_error(p28);
+				store8(p3, 1);
 				if (load64u(p36 + 24) != 0)
 					rattle_dealloc(loadptru(p36 + 8));
 				if (load64u(p36 + 48) != 0)
@@ -74308,25 +74825,58 @@ L28:
 					rattle_dealloc(loadptru(p35 + 1528));
 				if (load64u(p34 + 16) != 0)
 					rattle_dealloc(loadptru(p34));
-				rattle_dealloc(p347);
-				n345 = 4;
-				n346 = 0;
+				rattle_dealloc(p351);
+				n349 = 0;
+				n350 = 0;
+				goto L34;
+			}
+L28:
+			{
+				if (load64u(p36 + 24) != 0)
+					rattle_dealloc(loadptru(p36 + 8));
+				if (load64u(p36 + 48) != 0)
+					rattle_dealloc(loadptru(p36 + 32));
+				if (load64u(p36 + 72) != 0)
+					rattle_dealloc(loadptru(p36 + 56));
+				byte *p435 = loadptru(p35 + 80);
+				uint64_t n436 = load64u(p35 + 96);
+				byte *p437 = loadptru(p35 + 1448);
+				uint64_t n438 = load64u(p35 + 1464);
+				byte *p439 = loadptru(p35 + 1480);
+				uint64_t n440 = load64u(p35 + 1496);
+				if (load64u(p35 + 56) != 0)
+					rattle_dealloc(loadptru(p35 + 40));
+				if (n436 != 0)
+					rattle_dealloc(p435);
+				if (n438 != 0)
+					rattle_dealloc(p437);
+				if (n440 != 0)
+					rattle_dealloc(p439);
+				if (load64u(p35 + 1520) != 0)
+					rattle_dealloc(loadptru(p35 + 1504));
+				if (load64u(p35 + 1544) != 0)
+					rattle_dealloc(loadptru(p35 + 1528));
+				if (load64u(p34 + 16) != 0)
+					rattle_dealloc(loadptru(p34));
+				rattle_dealloc(p351);
+				n349 = 4;
+				n350 = 0;
 			}
 		}
 L34:
 		{
-			n409 = n346;
-			n410 = n345;
+			n415 = n350;
+			n416 = n349;
 		}
 L37:
 		{
-			tp_timer_commands_error_report_report_2(n410, n409, p4);
+			tp_timer_commands_error_report_report_2(n416, n415, p4);
 			return 1;
 		}
 	}
 	case 2: {
-		uint8_t n436, n531;
-		uint64_t n437, n530;
+		uint8_t n442, n539;
+		uint64_t n443, n538;
 		memcpy(p14, p2, 16);
 		memcpy(p15, p2 + 24, 16);
 		memcpy(p16, p2 + 64, 16);
@@ -74336,31 +74886,31 @@ L37:
 		memset(p20, 0, 1552);
 		memset(p21, 0, 96);
 		memset(p22, 0, 24);
-		of_i64_i64 s435 = rattle_alloc(16384, 1);
-		if ((s435.f0 & 1) == 0) {
+		of_i64_i64 s441 = rattle_alloc(16384, 1);
+		if ((s441.f0 & 1) == 0) {
 			if (n79 != 0)
 				rattle_dealloc(p77);
 			if (n82 != 0)
 				rattle_dealloc(p80);
 			if (n85 == 0) {
-				n436 = 2;
-				n437 = 0;
+				n442 = 2;
+				n443 = 0;
 			} else {
 				rattle_dealloc(p83);
-				n436 = 2;
-				n437 = 0;
+				n442 = 2;
+				n443 = 0;
 			}
 		} else {
-			uint64_t n443, n463, n464, n486, n488, n490;
-			uint8_t n483;
-			byte *p485, *p487, *p489;
-			byte *p438 = (byte *)(uintptr_t)s435.f1;
-			uint64_t n439 = 0;
-			while (n439 != 16383) {
-				store8(inside(p438, n439), 0);
-				n439 = n439 + 1;
+			uint64_t n449, n469, n470, n492, n494, n496;
+			uint8_t n489;
+			byte *p491, *p493, *p495;
+			byte *p444 = (byte *)(uintptr_t)s441.f1;
+			uint64_t n445 = 0;
+			while (n445 != 16383) {
+				store8(inside(p444, n445), 0);
+				n445 = n445 + 1;
 			}
-			store8(p438 + 16383, 0);
+			store8(p444 + 16383, 0);
 			storeptru(p19, p5);
 			memset(p19 + 8, 0, 16);
 			memcpy(p20, p14, 16);
@@ -74395,43 +74945,43 @@ L37:
 			store64u(p21 + 80, 1);
 			store8(p21 + 88, 1);
 			memset(p21 + 89, 0, 7);
-			uint64_t n440 = 0;
+			uint64_t n446 = 0;
 			for (;;) {
-				if (n440 == UINT64_MAX)
+				if (n446 == UINT64_MAX)
 					goto L38;
-				uint64_t n441 = os_read(0, p438, 16384);
-				if ((int64_t)n441 < (int64_t)0)
+				uint64_t n447 = os_read(0, p444, 16384);
+				if ((int64_t)n447 < (int64_t)0)
 					goto L39;
-				tp_Cutter_take_in(p22, p21, p438, umin64(n441, 16384), p4);
+				tp_Cutter_take_in(p22, p21, p444, umin64(n447, 16384), p4);
 				if (load8(p22) != 0)
 					break;
-				uint8_t n442 = load8(p22 + 8);
-				n443 = load64u(p22 + 16);
-				byte *p444 = loadptr(p21 + 8);
-				uint64_t n445 = load64(p21 + 16);
+				uint8_t n448 = load8(p22 + 8);
+				n449 = load64u(p22 + 16);
+				byte *p450 = loadptr(p21 + 8);
+				uint64_t n451 = load64(p21 + 16);
 				if (load64(p19 + 8) != 0)
 					store64(p19 + 8, 0);
-				uint64_t n446 = 0;
-				while (n446 != n445) {
-					byte *p447 = at(p444, n446 * 48);
-					uint8_t n448 = load8(p447);
-					uint64_t n449 = load64u(p447 + 8);
-					uint64_t n450 = load64(p20 + 408);
-					uint64_t n451 = load64u(p447 + 16);
-					uint64_t n452 = load64u(p447 + 24);
-					uint64_t n453 = load64u(p447 + 32);
-					uint64_t n454 = load64u(p447 + 40);
-					store64u(p12, (uint64_t)n448);
-					store64(p12 + 8, n449);
-					store64(p12 + 16, n451);
-					store64(p12 + 24, n452);
-					store64(p12 + 32, n453);
-					store64(p12 + 40, n454);
+				uint64_t n452 = 0;
+				while (n452 != n451) {
+					byte *p453 = at(p450, n452 * 48);
+					uint8_t n454 = load8(p453);
+					uint64_t n455 = load64u(p453 + 8);
+					uint64_t n456 = load64(p20 + 408);
+					uint64_t n457 = load64u(p453 + 16);
+					uint64_t n458 = load64u(p453 + 24);
+					uint64_t n459 = load64u(p453 + 32);
+					uint64_t n460 = load64u(p453 + 40);
+					store64u(p12, (uint64_t)n454);
+					store64(p12 + 8, n455);
+					store64(p12 + 16, n457);
+					store64(p12 + 24, n458);
+					store64(p12 + 32, n459);
+					store64(p12 + 40, n460);
 					if ((n66 & 1) != 0) {
-						uint64_t n455;
-						switch (n448) {
+						uint64_t n461;
+						switch (n454) {
 						case 3: {
-							n455 = n449;
+							n461 = n455;
 							break;
 						}
 						case 0:
@@ -74444,135 +74994,135 @@ L37:
 							UNREACHABLE();
 						}
 						}
-						while (n455 != 0) {
-							uint64_t n460;
-							uint64_t n456 = load64(p20 + 16);
-							uint64_t n457 = load64(p20 + 8);
-							uint8_t n458 = load8(p20 + 1440);
-							of_i8_i64 s459 = tp_SmoothWheelWheel_quiet_until(p20);
-							if (s459.f0 == 1) {
-								if ((s459.f1 > n457) || ((n458 & 1) != 0)) {
-									n460 = n455;
+						while (n461 != 0) {
+							uint64_t n466;
+							uint64_t n462 = load64(p20 + 16);
+							uint64_t n463 = load64(p20 + 8);
+							uint8_t n464 = load8(p20 + 1440);
+							of_i8_i64 s465 = tp_SmoothWheelWheel_quiet_until(p20);
+							if (s465.f0 == 1) {
+								if ((s465.f1 > n463) || ((n464 & 1) != 0)) {
+									n466 = n461;
 								} else {
-									n460 = umin64(s459.f1 - n456, n455);
+									n466 = umin64(s465.f1 - n462, n461);
 								}
 							} else {
-								n460 = n455;
+								n466 = n461;
 							}
 							memset(p11 + 16, 0, 32);
 							store64u(p11, 3);
-							store64(p11 + 8, n460);
-							uint8_t n461 = tp_Session_play_one(p20, p11, p19);
-							if ((n461 & 1) != 0)
+							store64(p11 + 8, n466);
+							uint8_t n467 = tp_Session_play_one(p20, p11, p19);
+							if ((n467 & 1) != 0)
 								goto L41;
-							n455 = n455 - n460;
+							n461 = n461 - n466;
 						}
 						goto L42;
 					}
 L40:
 					{
-						uint8_t n462 = tp_Session_play_one(p20, p12, p19);
-						if ((n462 & 1) != 0) {
-							n463 = load64(p19 + 8);
+						uint8_t n468 = tp_Session_play_one(p20, p12, p19);
+						if ((n468 & 1) != 0) {
+							n469 = load64(p19 + 8);
 							goto L43;
 						}
 					}
 L42:
 					{
-						uint64_t n466, n469, n471;
-						bool b467;
-						uint8_t n468, n478;
-						n464 = load64(p19 + 8);
-						uint64_t n465 = load64(p20 + 16);
+						uint64_t n472, n475, n477;
+						bool b473;
+						uint8_t n474, n484;
+						n470 = load64(p19 + 8);
+						uint64_t n471 = load64(p20 + 16);
 						if (n72 == 1) {
-							if (n73 > n465) {
-								n466 = n464;
+							if (n73 > n471) {
+								n472 = n470;
 								goto L44;
 							}
 						}
 						if (n74 == 1) {
-							if (n465 > n75) {
-								n466 = n464;
+							if (n471 > n75) {
+								n472 = n470;
 								goto L44;
 							}
 						}
-						b467 = (n65 & 1) != 0;
+						b473 = (n65 & 1) != 0;
 						store64(p10, (uint64_t)n68);
 						store64(p10 + 8, n69);
 						store64(p10 + 16, (uint64_t)n70);
 						store64(p10 + 24, n71);
-						store64(p10 + 32, ((n67 & 1) != 0) ? n450 : 0);
-						n468 = tp_render_push_number(p19, (byte *)tp_static_283, 6, n465);
-						if ((n468 & 1) != 0)
+						store64(p10 + 32, ((n67 & 1) != 0) ? n456 : 0);
+						n474 = tp_render_push_number(p19, (byte *)tp_static_283, 6, n471);
+						if ((n474 & 1) != 0)
 							goto L45;
-						n469 = load64(p19 + 8);
-						if (load64(p19 + 16) == n469) {
-							bool b470 = tp_std_alloc_vec_Vec_grow_amortized_6(p19, 1);
-							if (!b470)
+						n475 = load64(p19 + 8);
+						if (load64(p19 + 16) == n475) {
+							bool b476 = tp_std_alloc_vec_Vec_grow_amortized_6(p19, 1);
+							if (!b476)
 								goto L45;
-							n471 = load64(p19 + 8);
+							n477 = load64(p19 + 8);
 						} else {
-							n471 = n469;
+							n477 = n475;
 						}
-						store8(inside(loadptr(p19), n471), 10);
-						store64(p19 + 8, n471 + 1);
-						if (b467) {
-							uint64_t n477;
-							uint64_t n472 = load64(p20 + 384);
-							uint8_t n473 = tp_render_push_number(p19, (byte *)tp_static_296, 9, load64(p20 + 376));
-							if ((n473 & 1) != 0)
+						store8(inside(loadptr(p19), n477), 10);
+						store64(p19 + 8, n477 + 1);
+						if (b473) {
+							uint64_t n483;
+							uint64_t n478 = load64(p20 + 384);
+							uint8_t n479 = tp_render_push_number(p19, (byte *)tp_static_296, 9, load64(p20 + 376));
+							if ((n479 & 1) != 0)
 								goto L45;
-							uint8_t n474 = tp_render_push_number(p19, (byte *)tp_static_297, 7, n472);
-							if ((n474 & 1) != 0)
+							uint8_t n480 = tp_render_push_number(p19, (byte *)tp_static_297, 7, n478);
+							if ((n480 & 1) != 0)
 								goto L45;
-							uint64_t n475 = load64(p19 + 8);
-							if (load64(p19 + 16) == n475) {
-								bool b476 = tp_std_alloc_vec_Vec_grow_amortized_6(p19, 1);
-								if (!b476)
+							uint64_t n481 = load64(p19 + 8);
+							if (load64(p19 + 16) == n481) {
+								bool b482 = tp_std_alloc_vec_Vec_grow_amortized_6(p19, 1);
+								if (!b482)
 									goto L45;
-								n477 = load64(p19 + 8);
+								n483 = load64(p19 + 8);
 							} else {
-								n477 = n475;
+								n483 = n481;
 							}
-							store8(inside(loadptr(p19), n477), 10);
-							store64(p19 + 8, n477 + 1);
+							store8(inside(loadptr(p19), n483), 10);
+							store64(p19 + 8, n483 + 1);
 						}
-						n478 = tp_render_push_lists(p19, p20 + 40, 3, p10);
-						if ((n478 & 1) != 0)
+						n484 = tp_render_push_lists(p19, p20 + 40, 3, p10);
+						if ((n484 & 1) != 0)
 							goto L46;
-						n466 = load64(p19 + 8);
+						n472 = load64(p19 + 8);
 L44:
 						{
-							byte *p479 = loadptr(p19);
-							uint64_t n480 = 0;
-							while (n480 < n466) {
-								uint64_t n481 = n466 - n480;
-								uint64_t n482 = os_write(1, at(p479, n480), n481);
-								if ((int64_t)n482 < (int64_t)0) {
+							byte *p485 = loadptr(p19);
+							uint64_t n486 = 0;
+							while (n486 < n472) {
+								uint64_t n487 = n472 - n486;
+								uint64_t n488 = os_write(1, at(p485, n486), n487);
+								if ((int64_t)n488 < (int64_t)0) {
 									tp_error_last_error(p8);
 									store8(p3 + 1, 1);
-									n483 = 3;
+									n489 = 3;
 									goto L47;
 								}
-								uint64_t n484 = umin64(n482, n481);
-								if (n484 == 0) {
+								uint64_t n490 = umin64(n488, n487);
+								if (n490 == 0) {
 									store8(p3 + 1, 1);
-									n483 = 3;
+									n489 = 3;
 									goto L47;
 								}
-								n480 = n480 + n484;
+								n486 = n486 + n490;
 							}
 							if (load64(p19 + 8) != 0)
 								store64(p19 + 8, 0);
-							n446 = n446 + 1;
+							n452 = n452 + 1;
 						}
 					}
 				}
-				if (n442 == 1)
+				if (n448 == 1)
 					goto L48;
-				if (n441 == 0)
+				if (n447 == 0)
 					goto L49;
-				n440 = n440 + 1;
+				n446 = n446 + 1;
 			}
 			if (load64u(p21 + 24) != 0)
 				rattle_dealloc(loadptru(p21 + 8));
@@ -74580,72 +75130,72 @@ L44:
 				rattle_dealloc(loadptru(p21 + 32));
 			if (load64u(p21 + 72) != 0)
 				rattle_dealloc(loadptru(p21 + 56));
-			p485 = loadptru(p20 + 80);
-			n486 = load64u(p20 + 96);
-			p487 = loadptru(p20 + 1448);
-			n488 = load64u(p20 + 1464);
-			p489 = loadptru(p20 + 1480);
-			n490 = load64u(p20 + 1496);
+			p491 = loadptru(p20 + 80);
+			n492 = load64u(p20 + 96);
+			p493 = loadptru(p20 + 1448);
+			n494 = load64u(p20 + 1464);
+			p495 = loadptru(p20 + 1480);
+			n496 = load64u(p20 + 1496);
 			if (load64u(p20 + 56) != 0)
 				rattle_dealloc(loadptru(p20 + 40));
-			if (n486 != 0)
-				rattle_dealloc(p485);
-			if (n488 != 0)
-				rattle_dealloc(p487);
-			if (n490 != 0)
-				rattle_dealloc(p489);
+			if (n492 != 0)
+				rattle_dealloc(p491);
+			if (n494 != 0)
+				rattle_dealloc(p493);
+			if (n496 != 0)
+				rattle_dealloc(p495);
 			if (load64u(p20 + 1520) != 0)
 				rattle_dealloc(loadptru(p20 + 1504));
 			if (load64u(p20 + 1544) != 0)
 				rattle_dealloc(loadptru(p20 + 1528));
 			if (load64u(p19 + 16) != 0)
 				rattle_dealloc(loadptru(p19));
-			rattle_dealloc(p438);
-			n436 = 2;
-			n437 = 0;
+			rattle_dealloc(p444);
+			n442 = 2;
+			n443 = 0;
 			goto L50;
 L41:
 			{
 				if (load64(p19 + 8) != 0)
 					store64(p19 + 8, 0);
-				n463 = 0;
+				n469 = 0;
 				goto L43;
 			}
 L45: ;
 L46:
 			{
-				uint64_t n491 = load64(p19 + 8);
-				if (n491 > n464) {
-					store64(p19 + 8, n464);
-					n463 = n464;
+				uint64_t n497 = load64(p19 + 8);
+				if (n497 > n470) {
+					store64(p19 + 8, n470);
+					n469 = n470;
 				} else {
-					n463 = n491;
+					n469 = n497;
 				}
 			}
 L43:
 			{
-				byte *p492 = loadptr(p19);
-				uint64_t n493 = 0;
+				byte *p498 = loadptr(p19);
+				uint64_t n499 = 0;
 				for (;;) {
-					if (n493 >= n463) {
-						n483 = 2;
+					if (n499 >= n469) {
+						n489 = 2;
 						break;
 					}
-					uint64_t n494 = n463 - n493;
-					uint64_t n495 = os_write(1, at(p492, n493), n494);
-					if ((int64_t)n495 < (int64_t)0) {
+					uint64_t n500 = n469 - n499;
+					uint64_t n501 = os_write(1, at(p498, n499), n500);
+					if ((int64_t)n501 < (int64_t)0) {
 						tp_error_last_error(p9);
 						store8(p3 + 1, 1);
-						n483 = 3;
+						n489 = 3;
 						break;
 					}
-					uint64_t n496 = umin64(n495, n494);
-					if (n496 == 0) {
+					uint64_t n502 = umin64(n501, n500);
+					if (n502 == 0) {
 						store8(p3 + 1, 1);
-						n483 = 3;
+						n489 = 3;
 						break;
 					}
-					n493 = n493 + n496;
+					n499 = n499 + n502;
 				}
 			}
 L47:
@@ -74656,112 +75206,114 @@ L47:
 					rattle_dealloc(loadptru(p21 + 32));
 				if (load64u(p21 + 72) != 0)
 					rattle_dealloc(loadptru(p21 + 56));
-				byte *p497 = loadptru(p20 + 80);
-				uint64_t n498 = load64u(p20 + 96);
-				byte *p499 = loadptru(p20 + 1448);
-				uint64_t n500 = load64u(p20 + 1464);
-				byte *p501 = loadptru(p20 + 1480);
-				uint64_t n502 = load64u(p20 + 1496);
+				byte *p503 = loadptru(p20 + 80);
+				uint64_t n504 = load64u(p20 + 96);
+				byte *p505 = loadptru(p20 + 1448);
+				uint64_t n506 = load64u(p20 + 1464);
+				byte *p507 = loadptru(p20 + 1480);
+				uint64_t n508 = load64u(p20 + 1496);
 				if (load64u(p20 + 56) != 0)
 					rattle_dealloc(loadptru(p20 + 40));
-				if (n498 != 0)
-					rattle_dealloc(p497);
-				if (n500 != 0)
-					rattle_dealloc(p499);
-				if (n502 != 0)
-					rattle_dealloc(p501);
+				if (n504 != 0)
+					rattle_dealloc(p503);
+				if (n506 != 0)
+					rattle_dealloc(p505);
+				if (n508 != 0)
+					rattle_dealloc(p507);
 				if (load64u(p20 + 1520) != 0)
 					rattle_dealloc(loadptru(p20 + 1504));
 				if (load64u(p20 + 1544) != 0)
 					rattle_dealloc(loadptru(p20 + 1528));
 				if (load64u(p19 + 16) != 0)
 					rattle_dealloc(loadptru(p19));
-				rattle_dealloc(p438);
-				n436 = n483;
-				n437 = 0;
+				rattle_dealloc(p444);
+				n442 = n489;
+				n443 = 0;
 				goto L50;
 			}
 L49:
 			{
-				uint64_t n503;
-				uint8_t n504, n505;
-				bool b506;
+				uint64_t n509;
+				uint8_t n510, n511;
+				bool b512;
 				memset(p7, 0, 24);
 				tp_Cutter_end(p7, p21, p4);
 				if (load8(p7) == 0) {
 					if (load8(p7 + 8) == 1) {
-						n503 = load64u(p7 + 16);
-						n504 = 1;
-						n505 = 1;
-						b506 = true;
+						n509 = load64u(p7 + 16);
+						n510 = 1;
+						n511 = 1;
+						b512 = true;
 					} else {
-						uint64_t n515;
+						uint64_t n523;
 						if (load64(p19 + 8) != 0)
 							store64(p19 + 8, 0);
-						uint64_t n507 = load64(p20 + 16);
-						uint64_t n508 = load64(p20 + 64);
-						byte *p509 = loadptr(p20 + 80);
-						uint64_t n510 = load64(p20 + 104);
-						uint64_t n511 = (uint64_t)load32(at(p509, load64(p20 + 32) << 3) + 4);
-						uint64_t n512 = usub_sat64(n511, n510);
-						uint64_t n513 = 0;
-						uint64_t n514 = n511;
+						uint64_t n513 = load64(p20 + 16);
+						uint64_t n514 = load64(p20 + 64);
+						uint64_t n515 = load64(p20 + 32);
+						byte *p516 = loadptr(p20 + 80);
+						uint64_t n517 = (uint64_t)load32(at(p516, n515 << 3) + 4);
+						bool b518 = n515 != n517;
+						uint64_t n519 = load64(p20 + 104);
+						uint64_t n520 = b518 ? (n517 - n519) : 0;
+						uint64_t n521 = 0;
+						bool b522 = b518;
 						for (;;) {
-							if (n513 == n508) {
-								n515 = n508;
+							if (n521 == n514) {
+								n523 = n514;
 								break;
 							}
-							if (n510 > n514) {
-								n515 = n513;
+							if (!b522) {
+								n523 = n521;
 								break;
 							}
-							uint64_t n516 = (uint64_t)load32(at(p509, (n510 + n512) << 3) + 4);
-							n512 = usub_sat64(n516, n510);
-							n513 = n513 + 1;
-							n514 = n516;
+							uint64_t n524 = (uint64_t)load32(at(p516, (n519 + n520) << 3) + 4);
+							n520 = usub_sat64(n524, n519);
+							n521 = n521 + 1;
+							b522 = n519 <= n524;
 						}
-						uint8_t n517 = tp_text_push_end(p19, n507, n508 - n515);
-						if ((n517 & 1) != 0) {
-							n503 = 0;
-							n504 = 2;
-							n505 = 1;
-							b506 = true;
+						uint8_t n525 = tp_text_push_end(p19, n513, n514 - n523);
+						if ((n525 & 1) != 0) {
+							n509 = 0;
+							n510 = 2;
+							n511 = 1;
+							b512 = true;
 						} else {
-							byte *p518 = loadptr(p19);
-							uint64_t n519 = load64(p19 + 8);
-							uint64_t n520 = 0;
-							while (n520 < n519) {
-								uint64_t n521 = n519 - n520;
-								uint64_t n522 = os_write(1, at(p518, n520), n521);
-								if ((int64_t)n522 < (int64_t)0) {
+							byte *p526 = loadptr(p19);
+							uint64_t n527 = load64(p19 + 8);
+							uint64_t n528 = 0;
+							while (n528 < n527) {
+								uint64_t n529 = n527 - n528;
+								uint64_t n530 = os_write(1, at(p526, n528), n529);
+								if ((int64_t)n530 < (int64_t)0) {
 									tp_error_last_error(p6);
 									goto L51;
 								}
-								uint64_t n523 = umin64(n522, n521);
-								if (n523 == 0)
+								uint64_t n531 = umin64(n530, n529);
+								if (n531 == 0)
 									goto L51;
-								n520 = n520 + n523;
+								n528 = n528 + n531;
 							}
-							n503 = 0;
-							n504 = 0;
-							n505 = (uint8_t)(load8(p21 + 88) ^ 1);
-							b506 = false;
+							n509 = 0;
+							n510 = 0;
+							n511 = (uint8_t)(load8(p21 + 88) ^ 1);
+							b512 = false;
 							goto L52;
 L51:
 							{
 								store8(p3 + 1, 1);
-								n503 = 0;
-								n504 = 3;
-								n505 = 1;
-								b506 = true;
+								n509 = 0;
+								n510 = 3;
+								n511 = 1;
+								b512 = true;
 							}
 						}
 					}
 				} else {
-					n503 = 0;
-					n504 = 2;
-					n505 = 1;
-					b506 = true;
+					n509 = 0;
+					n510 = 2;
+					n511 = 1;
+					b512 = true;
 				}
 L52:
 				{
@@ -74771,31 +75323,31 @@ L52:
 						rattle_dealloc(loadptru(p21 + 32));
 					if (load64u(p21 + 72) != 0)
 						rattle_dealloc(loadptru(p21 + 56));
-					byte *p524 = loadptru(p20 + 80);
-					uint64_t n525 = load64u(p20 + 96);
-					byte *p526 = loadptru(p20 + 1448);
-					uint64_t n527 = load64u(p20 + 1464);
-					byte *p528 = loadptru(p20 + 1480);
-					uint64_t n529 = load64u(p20 + 1496);
+					byte *p532 = loadptru(p20 + 80);
+					uint64_t n533 = load64u(p20 + 96);
+					byte *p534 = loadptru(p20 + 1448);
+					uint64_t n535 = load64u(p20 + 1464);
+					byte *p536 = loadptru(p20 + 1480);
+					uint64_t n537 = load64u(p20 + 1496);
 					if (load64u(p20 + 56) != 0)
 						rattle_dealloc(loadptru(p20 + 40));
-					if (n525 != 0)
-						rattle_dealloc(p524);
-					if (n527 != 0)
-						rattle_dealloc(p526);
-					if (n529 != 0)
-						rattle_dealloc(p528);
+					if (n533 != 0)
+						rattle_dealloc(p532);
+					if (n535 != 0)
+						rattle_dealloc(p534);
+					if (n537 != 0)
+						rattle_dealloc(p536);
 					if (load64u(p20 + 1520) != 0)
 						rattle_dealloc(loadptru(p20 + 1504));
 					if (load64u(p20 + 1544) != 0)
 						rattle_dealloc(loadptru(p20 + 1528));
 					if (load64u(p19 + 16) != 0)
 						rattle_dealloc(loadptru(p19));
-					rattle_dealloc(p438);
-					if (!b506)
-						return n505;
-					n530 = n503;
-					n531 = n504;
+					rattle_dealloc(p444);
+					if (!b512)
+						return n511;
+					n538 = n509;
+					n539 = n510;
 					goto L53;
 				}
 			}
@@ -74807,29 +75359,29 @@ L48:
 					rattle_dealloc(loadptru(p21 + 32));
 				if (load64u(p21 + 72) != 0)
 					rattle_dealloc(loadptru(p21 + 56));
-				byte *p532 = loadptru(p20 + 80);
-				uint64_t n533 = load64u(p20 + 96);
-				byte *p534 = loadptru(p20 + 1448);
-				uint64_t n535 = load64u(p20 + 1464);
-				byte *p536 = loadptru(p20 + 1480);
-				uint64_t n537 = load64u(p20 + 1496);
+				byte *p540 = loadptru(p20 + 80);
+				uint64_t n541 = load64u(p20 + 96);
+				byte *p542 = loadptru(p20 + 1448);
+				uint64_t n543 = load64u(p20 + 1464);
+				byte *p544 = loadptru(p20 + 1480);
+				uint64_t n545 = load64u(p20 + 1496);
 				if (load64u(p20 + 56) != 0)
 					rattle_dealloc(loadptru(p20 + 40));
-				if (n533 != 0)
-					rattle_dealloc(p532);
-				if (n535 != 0)
-					rattle_dealloc(p534);
-				if (n537 != 0)
-					rattle_dealloc(p536);
+				if (n541 != 0)
+					rattle_dealloc(p540);
+				if (n543 != 0)
+					rattle_dealloc(p542);
+				if (n545 != 0)
+					rattle_dealloc(p544);
 				if (load64u(p20 + 1520) != 0)
 					rattle_dealloc(loadptru(p20 + 1504));
 				if (load64u(p20 + 1544) != 0)
 					rattle_dealloc(loadptru(p20 + 1528));
 				if (load64u(p19 + 16) != 0)
 					rattle_dealloc(loadptru(p19));
-				rattle_dealloc(p438);
-				n436 = 1;
-				n437 = n443;
+				rattle_dealloc(p444);
+				n442 = 1;
+				n443 = n449;
 				goto L50;
 			}
 L39:
@@ -74842,29 +75394,29 @@ L39:
 					rattle_dealloc(loadptru(p21 + 32));
 				if (load64u(p21 + 72) != 0)
 					rattle_dealloc(loadptru(p21 + 56));
-				byte *p538 = loadptru(p20 + 80);
-				uint64_t n539 = load64u(p20 + 96);
-				byte *p540 = loadptru(p20 + 1448);
-				uint64_t n541 = load64u(p20 + 1464);
-				byte *p542 = loadptru(p20 + 1480);
-				uint64_t n543 = load64u(p20 + 1496);
+				byte *p546 = loadptru(p20 + 80);
+				uint64_t n547 = load64u(p20 + 96);
+				byte *p548 = loadptru(p20 + 1448);
+				uint64_t n549 = load64u(p20 + 1464);
+				byte *p550 = loadptru(p20 + 1480);
+				uint64_t n551 = load64u(p20 + 1496);
 				if (load64u(p20 + 56) != 0)
 					rattle_dealloc(loadptru(p20 + 40));
-				if (n539 != 0)
-					rattle_dealloc(p538);
-				if (n541 != 0)
-					rattle_dealloc(p540);
-				if (n543 != 0)
-					rattle_dealloc(p542);
+				if (n547 != 0)
+					rattle_dealloc(p546);
+				if (n549 != 0)
+					rattle_dealloc(p548);
+				if (n551 != 0)
+					rattle_dealloc(p550);
 				if (load64u(p20 + 1520) != 0)
 					rattle_dealloc(loadptru(p20 + 1504));
 				if (load64u(p20 + 1544) != 0)
 					rattle_dealloc(loadptru(p20 + 1528));
 				if (load64u(p19 + 16) != 0)
 					rattle_dealloc(loadptru(p19));
-				rattle_dealloc(p438);
-				n436 = 0;
-				n437 = 0;
+				rattle_dealloc(p444);
+				n442 = 0;
+				n443 = 0;
 				goto L50;
 			}
 L38:
@@ -74875,39 +75427,39 @@ L38:
 					rattle_dealloc(loadptru(p21 + 32));
 				if (load64u(p21 + 72) != 0)
 					rattle_dealloc(loadptru(p21 + 56));
-				byte *p544 = loadptru(p20 + 80);
-				uint64_t n545 = load64u(p20 + 96);
-				byte *p546 = loadptru(p20 + 1448);
-				uint64_t n547 = load64u(p20 + 1464);
-				byte *p548 = loadptru(p20 + 1480);
-				uint64_t n549 = load64u(p20 + 1496);
+				byte *p552 = loadptru(p20 + 80);
+				uint64_t n553 = load64u(p20 + 96);
+				byte *p554 = loadptru(p20 + 1448);
+				uint64_t n555 = load64u(p20 + 1464);
+				byte *p556 = loadptru(p20 + 1480);
+				uint64_t n557 = load64u(p20 + 1496);
 				if (load64u(p20 + 56) != 0)
 					rattle_dealloc(loadptru(p20 + 40));
-				if (n545 != 0)
-					rattle_dealloc(p544);
-				if (n547 != 0)
-					rattle_dealloc(p546);
-				if (n549 != 0)
-					rattle_dealloc(p548);
+				if (n553 != 0)
+					rattle_dealloc(p552);
+				if (n555 != 0)
+					rattle_dealloc(p554);
+				if (n557 != 0)
+					rattle_dealloc(p556);
 				if (load64u(p20 + 1520) != 0)
 					rattle_dealloc(loadptru(p20 + 1504));
 				if (load64u(p20 + 1544) != 0)
 					rattle_dealloc(loadptru(p20 + 1528));
 				if (load64u(p19 + 16) != 0)
 					rattle_dealloc(loadptru(p19));
-				rattle_dealloc(p438);
-				n436 = 4;
-				n437 = 0;
+				rattle_dealloc(p444);
+				n442 = 4;
+				n443 = 0;
 			}
 		}
 L50:
 		{
-			n530 = n437;
-			n531 = n436;
+			n538 = n443;
+			n539 = n442;
 		}
 L53:
 		{
-			tp_timer_commands_error_report_report_2(n531, n530, p4);
+			tp_timer_commands_error_report_report_2(n539, n538, p4);
 			return 1;
 		}
 	}
@@ -75663,83 +76215,82 @@ static void tp_dispatch_hand_out_and_report(byte *p1, byte *p2, byte *p3)
 	ALIGN(8) byte p5[24];
 	ALIGN(8) byte p6[24];
 	for (;;) {
-		uint64_t n21, n22, n23;
+		uint64_t n16, n17, n18;
 		uint64_t n7 = load64(p1 + 32);
 		byte *p8 = loadptr(p1 + 80);
 		uint64_t n9 = n7 << 3;
-		uint64_t n10 = load64(p1 + 104);
-		uint64_t n11 = (uint64_t)load32(at(p8, n9) + 4);
-		uint64_t n12 = usub_sat64(n11, n10);
-		if (n10 <= n11) {
-			uint32_t n13 = load32(at(p8, (n10 + n12) << 3) + 4);
-			byte *p14 = at(loadptr(p1 + 40), n12 * 48);
-			uint64_t n15 = load64u(p14 + 8);
-			uint64_t n16 = load64u(p14 + 16);
-			uint64_t n17 = load64(p1 + 72);
-			uint8_t n18 = load8(p14);
-			memcpy(p4, p14 + 24, 24);
-			store64u(p14, 0);
-			store64u(p14 + 8, n17);
-			memset(p14 + 16, 0, 32);
-			if (n18 != 1) {
+		uint64_t n10 = (uint64_t)load32(at(p8, n9) + 4);
+		if (n7 == n10) {
+			uint64_t n11 = load64(p1 + 1352);
+			if (n11 == load64(p1 + 1336))
+				return;
+			byte *p12 = at(loadptr(p1 + 1328), n11 * 40);
+			uint64_t n13 = load64u(p12 + 8);
+			uint64_t n14 = load64u(p12);
+			memcpy(p5, p12 + 16, 24);
+			store64(p1 + 1352, n11 + 1);
+			byte *p15 = inside(p1 + 808, n13 << 3);
+			store64(p15, load64(p15) - 1);
+			n16 = 1;
+			n17 = n14;
+			n18 = n13;
+		} else {
+			uint64_t n19 = n10 - load64(p1 + 104);
+			uint32_t n20 = load32(at(p8, n10 << 3) + 4);
+			byte *p21 = at(loadptr(p1 + 40), n19 * 48);
+			uint64_t n22 = load64u(p21 + 8);
+			uint64_t n23 = load64u(p21 + 16);
+			uint64_t n24 = load64(p1 + 72);
+			uint8_t n25 = load8(p21);
+			memcpy(p4, p21 + 24, 24);
+			store64u(p21, 0);
+			store64u(p21 + 8, n24);
+			memset(p21 + 16, 0, 32);
+			if (n25 != 1) {
 				TRAP();
 				UNREACHABLE();
 			}
 			store64(p1 + 64, load64(p1 + 64) - 1);
-			store64(p1 + 72, n12);
+			store64(p1 + 72, n19);
 			memcpy(p5, p4, 24);
-			byte *p19 = loadptr(p1 + 80);
-			store32(inside(p19, n9) + 4, n13);
-			store32(inside(p19, (uint64_t)n13 << 3), (uint32_t)n7);
-			byte *p20 = inside(p1 + 808, n16 << 3);
-			store64(p20, load64(p20) - 1);
-			n21 = 0;
-			n22 = n15;
-			n23 = n16;
-		} else {
-			uint64_t n24 = load64(p1 + 1352);
-			if (n24 == load64(p1 + 1336))
-				return;
-			byte *p25 = at(loadptr(p1 + 1328), n24 * 40);
-			uint64_t n26 = load64u(p25 + 8);
-			uint64_t n27 = load64u(p25);
-			memcpy(p5, p25 + 16, 24);
-			store64(p1 + 1352, n24 + 1);
-			byte *p28 = inside(p1 + 808, n26 << 3);
-			store64(p28, load64(p28) - 1);
-			n21 = 1;
-			n22 = n27;
-			n23 = n26;
+			byte *p26 = loadptr(p1 + 80);
+			store32(inside(p26, n9) + 4, n20);
+			store32(inside(p26, (uint64_t)n20 << 3), (uint32_t)n7);
+			byte *p27 = inside(p1 + 808, n23 << 3);
+			store64(p27, load64(p27) - 1);
+			n16 = 0;
+			n17 = n22;
+			n18 = n23;
 		}
-		byte *p29 = at(loadptr(p2), n23 * 88);
-		uint64_t n30 = load64(p29 + 16);
-		uint64_t n31 = load64(p29 + 8);
-		if (n31 > n30) {
-			uint64_t n32 = load64(p29 + 24) + n30;
-			byte *p33 = inside(loadptru(p29), (n32 - ((n32 < n31) ? 0 : n31)) << 6);
-			store64u(p33, 2);
-			store64u(p33 + 8, n21);
-			store64u(p33 + 16, n22);
-			store64u(p33 + 24, n23);
-			memcpy(p33 + 32, p5, 24);
-			store64u(p33 + 56, 0);
-			store64(p29 + 16, load64(p29 + 16) + 1);
+		byte *p28 = at(loadptr(p2), n18 * 88);
+		uint64_t n29 = load64(p28 + 16);
+		uint64_t n30 = load64(p28 + 8);
+		if (n30 > n29) {
+			uint64_t n31 = load64(p28 + 24) + n29;
+			byte *p32 = inside(loadptru(p28), (n31 - ((n31 < n30) ? 0 : n30)) << 6);
+			store64u(p32, 2);
+			store64u(p32 + 8, n16);
+			store64u(p32 + 16, n17);
+			store64u(p32 + 24, n18);
+			memcpy(p32 + 32, p5, 24);
+			store64u(p32 + 56, 0);
+			store64(p28 + 16, load64(p28 + 16) + 1);
 		}
 		memcpy(p6, p5, 24);
-		uint64_t n34 = load64(p3 + 8);
-		byte *p35 = inside(loadptr(p3), n34 * 136);
-		store8(p35, 4);
-		memset(p35 + 1, 0, 7);
-		store64u(p35 + 8, n21);
-		store64u(p35 + 16, n22);
-		store64u(p35 + 24, n23);
-		memcpy(p35 + 32, p6, 24);
-		memset(p35 + 56, 0, 80);
-		store64(p3 + 8, n34 + 1);
+		uint64_t n33 = load64(p3 + 8);
+		byte *p34 = inside(loadptr(p3), n33 * 136);
+		store8(p34, 4);
+		memset(p34 + 1, 0, 7);
+		store64u(p34 + 8, n16);
+		store64u(p34 + 16, n17);
+		store64u(p34 + 24, n18);
+		memcpy(p34 + 32, p6, 24);
+		memset(p34 + 56, 0, 80);
+		store64(p3 + 8, n33 + 1);
 	}
 }
 
-/* timer_desk::ring::RingInletInlet::put_slice: crates/timer_desk/src/ring.rt */
+/* timer_desk::ring_ends::RingInletInlet::put_slice: crates/timer_desk/src/ring_ends.rt */
 static uint64_t tp_RingInletInlet_put_slice(byte *p1, byte *p2, uint64_t n3)
 {
 	ALIGN(8) byte p4[40];
@@ -75891,7 +76442,7 @@ static NOINLINE void tp_HierWheel_visit_apart(byte *p1, uint64_t n2)
 		}
 		uint32_t n10 = load32(p6 + 4);
 		uint64_t n11 = (uint64_t)n10;
-		if (load64(p1 + 104) <= n11) {
+		if (n2 != n11) {
 			uint32_t n12 = load32(p6);
 			byte *p13 = at(p5, n9 << 3);
 			uint32_t n14 = load32(p13);
@@ -77214,9 +77765,9 @@ L2:
 	}
 L1:
 	{
-		byte *p429, *p445, *p447, *p449, *p451, *p453, *p456, *p459;
-		uint64_t n444, n446, n448, n450, n452, n454, n455, n457, n458, n460;
-		uint8_t n461;
+		byte *p431, *p447, *p449, *p451, *p453, *p455, *p458, *p461;
+		uint64_t n446, n448, n450, n452, n454, n456, n457, n459, n460, n462;
+		uint8_t n463;
 		memcpy(p195, p20, 16);
 		if (b375) {
 			uint64_t n388, n412;
@@ -77475,258 +78026,258 @@ L5:
 		storeptr(p18 + 1408, p376);
 		memcpy(p18 + 1416, p197, 16);
 		uint64_t n418 = load64(p18 + 64);
-		byte *p419 = loadptr(p18 + 80);
-		uint64_t n420 = load64(p18 + 104);
-		uint64_t n421 = (uint64_t)load32(at(p419, load64(p18 + 32) << 3) + 4);
-		byte *p422 = (byte *)(uintptr_t)n207;
-		byte *p423 = (byte *)(uintptr_t)n204;
-		uint64_t n424 = usub_sat64(n421, n420);
-		uint64_t n425 = 0;
-		uint64_t n426 = n421;
-		while (n425 != n418) {
-			if (n420 > n426)
+		uint64_t n419 = load64(p18 + 32);
+		byte *p420 = loadptr(p18 + 80);
+		uint64_t n421 = (uint64_t)load32(at(p420, n419 << 3) + 4);
+		bool b422 = n419 != n421;
+		uint64_t n423 = load64(p18 + 104);
+		byte *p424 = (byte *)(uintptr_t)n207;
+		byte *p425 = (byte *)(uintptr_t)n204;
+		uint64_t n426 = b422 ? (n421 - n423) : 0;
+		uint64_t n427 = 0;
+		bool b428 = b422;
+		while (n427 != n418) {
+			if (!b428)
 				break;
-			uint64_t n427 = (uint64_t)load32(at(p419, (n420 + n424) << 3) + 4);
-			n424 = usub_sat64(n427, n420);
-			n425 = n425 + 1;
-			n426 = n427;
+			uint64_t n429 = (uint64_t)load32(at(p420, (n423 + n426) << 3) + 4);
+			n426 = usub_sat64(n429, n423);
+			n427 = n427 + 1;
+			b428 = n423 <= n429;
 		}
-		bool b428 = n201 == 0;
-		if (!b428) {
-			byte *p430, *p433, *p436, *p438, *p439;
-			uint64_t n431, n432, n434, n435, n437;
+		bool b430 = n201 == 0;
+		if (!b430) {
+			byte *p432, *p435, *p438, *p440, *p441;
+			uint64_t n433, n434, n436, n437, n439;
 			if (n201 > UINT64_C(576460752303423487)) {
-				p430 = p376;
-				n431 = n374;
-				n432 = n374;
-				p433 = p373;
-				n434 = n202;
-				n435 = n201;
-				p436 = p423;
-				n437 = n205;
-				p438 = p422;
-				p439 = p419;
+				p432 = p376;
+				n433 = n374;
+				n434 = n374;
+				p435 = p373;
+				n436 = n202;
+				n437 = n201;
+				p438 = p425;
+				n439 = n205;
+				p440 = p424;
+				p441 = p420;
 			} else {
-				of_i64_i64 s440 = rattle_alloc(n201 << 4, 8);
-				if ((s440.f0 & 1) != 0) {
-					byte *p441 = (byte *)(uintptr_t)s440.f1;
-					uint64_t n442 = n201 - 1;
-					uint64_t n443 = 0;
-					while (n443 != n442) {
-						memset(inside(p441, n443 << 4), 0, 16);
-						n443 = n443 + 1;
+				of_i64_i64 s442 = rattle_alloc(n201 << 4, 8);
+				if ((s442.f0 & 1) != 0) {
+					byte *p443 = (byte *)(uintptr_t)s442.f1;
+					uint64_t n444 = n201 - 1;
+					uint64_t n445 = 0;
+					while (n445 != n444) {
+						memset(inside(p443, n445 << 4), 0, 16);
+						n445 = n445 + 1;
 					}
-					memset(inside(p441, n442 << 4), 0, 16);
-					p429 = p441;
+					memset(inside(p443, n444 << 4), 0, 16);
+					p431 = p443;
 					goto L6;
 				}
-				p430 = loadptr(p18 + 1408);
-				n431 = load64(p18 + 1400);
-				n432 = load64(p18 + 1392);
-				p433 = loadptr(p18 + 1384);
-				n434 = load64(p18 + 1376);
-				n435 = load64(p18 + 1368);
-				p436 = loadptr(p18 + 1360);
-				n437 = load64(p18 + 1344);
-				p438 = loadptr(p18 + 1328);
-				p439 = loadptr(p18 + 80);
+				p432 = loadptr(p18 + 1408);
+				n433 = load64(p18 + 1400);
+				n434 = load64(p18 + 1392);
+				p435 = loadptr(p18 + 1384);
+				n436 = load64(p18 + 1376);
+				n437 = load64(p18 + 1368);
+				p438 = loadptr(p18 + 1360);
+				n439 = load64(p18 + 1344);
+				p440 = loadptr(p18 + 1328);
+				p441 = loadptr(p18 + 80);
 			}
-			n444 = load64(p18);
-			p445 = loadptr(p18 + 40);
-			n446 = load64(p18 + 56);
-			p447 = p439;
-			n448 = load64(p18 + 96);
-			p449 = loadptr(p18 + 208);
-			n450 = load64(p18 + 224);
-			p451 = p438;
-			n452 = n437;
-			p453 = p436;
-			n454 = n435;
-			n455 = n434;
-			p456 = p433;
-			n457 = n432;
-			n458 = n431;
-			p459 = p430;
-			n460 = load64(p18 + 1424);
-			n461 = 2;
+			n446 = load64(p18);
+			p447 = loadptr(p18 + 40);
+			n448 = load64(p18 + 56);
+			p449 = p441;
+			n450 = load64(p18 + 96);
+			p451 = loadptr(p18 + 208);
+			n452 = load64(p18 + 224);
+			p453 = p440;
+			n454 = n439;
+			p455 = p438;
+			n456 = n437;
+			n457 = n436;
+			p458 = p435;
+			n459 = n434;
+			n460 = n433;
+			p461 = p432;
+			n462 = load64(p18 + 1424);
+			n463 = 2;
 			goto L7;
 		}
-		p429 = p6;
+		p431 = p6;
 L6:
 		{
-			byte *p770, *p793, *p795, *p797, *p799, *p801, *p803, *p806, *p809;
-			uint64_t n772, n794, n796, n798, n800, n802, n804, n805, n807, n808, n810;
+			byte *p778, *p801, *p803, *p805, *p807, *p809, *p811, *p814, *p817;
+			uint64_t n780, n802, n804, n806, n808, n810, n812, n813, n815, n816, n818;
 			storeptru(p19, p6);
 			memset(p19 + 8, 0, 16);
-			uint64_t n462 = 0;
-			while (n462 < 10000000) {
-				byte *p465, *p482, *p484, *p488;
-				uint64_t n466, n467, n468, n469, n470, n471, n473, n475, n476, n481, n483, n485, n487, n489, n490, n491, n492, n493, n494, n496, n498, n771, n773, n784;
-				bool b486;
-				uint8_t n774;
-				uint64_t n463 = 0;
+			uint64_t n464 = 0;
+			while (n464 < 10000000) {
+				byte *p467, *p486, *p488, *p493;
+				uint64_t n468, n469, n470, n472, n473, n474, n477, n479, n480, n485, n487, n489, n491, n492, n494, n496, n497, n498, n500, n502, n504, n779, n781, n792;
+				bool b471, b475, b490, b495, b499;
+				uint8_t n782;
+				uint64_t n465 = 0;
 				for (;;) {
-					if (n463 == n201)
+					if (n465 == n201)
 						goto L8;
-					byte *p464 = at(p429, n463 << 4);
-					if (n5 > load64(p464))
+					byte *p466 = at(p431, n465 << 4);
+					if (n5 > load64(p466))
 						break;
-					if ((n5 << 1) > load64(p464 + 8))
+					if ((n5 << 1) > load64(p466 + 8))
 						break;
-					n463 = n463 + 1;
+					n465 = n465 + 1;
 				}
-				p465 = loadptr(p18 + 80);
-				if (n463 >= n201) {
-					p793 = p465;
+				p467 = loadptr(p18 + 80);
+				if (n465 >= n201) {
+					p801 = p467;
 					goto L9;
 				}
-				n466 = load64(p18 + 64);
-				n467 = load64(p18 + 104);
-				n468 = (uint64_t)load32(at(p465, load64(p18 + 32) << 3) + 4);
-				n469 = usub_sat64(n468, n467);
-				n470 = 0;
-				n471 = n468;
-				while (n470 != n466) {
-					if (n467 > n471)
+				n468 = load64(p18 + 64);
+				n469 = load64(p18 + 32);
+				n470 = (uint64_t)load32(at(p467, n469 << 3) + 4);
+				b471 = n469 != n470;
+				n472 = load64(p18 + 104);
+				n473 = b471 ? (n470 - n472) : 0;
+				n474 = 0;
+				b475 = b471;
+				while (n474 != n468) {
+					if (!b475)
 						break;
-					uint64_t n472 = (uint64_t)load32(at(p465, (n467 + n469) << 3) + 4);
-					n469 = usub_sat64(n472, n467);
-					n470 = n470 + 1;
-					n471 = n472;
+					uint64_t n476 = (uint64_t)load32(at(p467, (n472 + n473) << 3) + 4);
+					n473 = usub_sat64(n476, n472);
+					n474 = n474 + 1;
+					b475 = n472 <= n476;
 				}
 				if (load64(p19 + 8) != 0)
 					store64(p19 + 8, 0);
-				n473 = n201 << 1;
-				if (n473 >= load64(p19 + 16)) {
-					bool b474 = tp_std_alloc_vec_Vec_grow_amortized_8(p19, n473 | 1);
-					if (!b474)
+				n477 = n201 << 1;
+				if (n477 >= load64(p19 + 16)) {
+					bool b478 = tp_std_alloc_vec_Vec_grow_amortized_8(p19, n477 | 1);
+					if (!b478)
 						goto L10;
 				}
-				n475 = 0;
+				n479 = 0;
 				for (;;) {
-					if (n475 == n201) {
-						n476 = 0;
+					if (n479 == n201) {
+						n480 = 0;
 						break;
 					}
-					if (load64(at(p429, n475 << 4)) < n5) {
-						uint64_t n477 = load64(p19 + 8);
-						byte *p478 = inside(loadptr(p19), n477 << 4);
-						store64u(p478, 0);
-						store64u(p478 + 8, n475);
-						store64(p19 + 8, n477 + 1);
+					if (load64(at(p431, n479 << 4)) < n5) {
+						uint64_t n481 = load64(p19 + 8);
+						byte *p482 = inside(loadptr(p19), n481 << 4);
+						store64u(p482, 0);
+						store64u(p482 + 8, n479);
+						store64(p19 + 8, n481 + 1);
 					}
-					n475 = n475 + 1;
+					n479 = n479 + 1;
 				}
-				while (n476 != n201) {
-					uint64_t n479 = load64(p19 + 8);
-					byte *p480 = inside(loadptr(p19), n479 << 4);
-					store64u(p480, 4);
-					store64u(p480 + 8, n476);
-					store64(p19 + 8, n479 + 1);
-					n476 = n476 + 1;
+				while (n480 != n201) {
+					uint64_t n483 = load64(p19 + 8);
+					byte *p484 = inside(loadptr(p19), n483 << 4);
+					store64u(p484, 4);
+					store64u(p484 + 8, n480);
+					store64(p19 + 8, n483 + 1);
+					n480 = n480 + 1;
 				}
-				n481 = load64(p19 + 8);
-				p482 = inside(loadptr(p19), n481 << 4);
-				store64u(p482, 1);
-				store64u(p482 + 8, 0);
-				n483 = n481 + 1;
-				store64(p19 + 8, n483);
-				p484 = loadptr(p19);
+				n485 = load64(p19 + 8);
+				p486 = inside(loadptr(p19), n485 << 4);
+				store64u(p486, 1);
+				store64u(p486 + 8, 0);
+				n487 = n485 + 1;
+				store64(p19 + 8, n487);
+				p488 = loadptr(p19);
 				memset(p17, 0, 7);
-				n485 = n483 << 1;
-				b486 = (int64_t)n483 > (int64_t)UINT64_MAX;
-				n487 = load64(p18 + 64);
-				p488 = loadptr(p18 + 80);
-				n489 = load64(p18 + 104);
-				n490 = (uint64_t)load32(at(p488, load64(p18 + 32) << 3) + 4);
-				n491 = usub_sat64(n490, n489);
-				n492 = 0;
-				n493 = n490;
+				n489 = n487 << 1;
+				b490 = (int64_t)n487 > (int64_t)UINT64_MAX;
+				n491 = load64(p18 + 64);
+				n492 = load64(p18 + 32);
+				p493 = loadptr(p18 + 80);
+				n494 = (uint64_t)load32(at(p493, n492 << 3) + 4);
+				b495 = n492 != n494;
+				n496 = load64(p18 + 104);
+				n497 = b495 ? (n494 - n496) : 0;
+				n498 = 0;
+				b499 = b495;
 				for (;;) {
-					if (n492 == n487) {
-						n494 = n487;
+					if (n498 == n491) {
+						n500 = n491;
 						break;
 					}
-					if (n489 > n493) {
-						n494 = n492;
+					if (!b499) {
+						n500 = n498;
 						break;
 					}
-					uint64_t n495 = (uint64_t)load32(at(p488, (n489 + n491) << 3) + 4);
-					n491 = usub_sat64(n495, n489);
-					n492 = n492 + 1;
-					n493 = n495;
+					uint64_t n501 = (uint64_t)load32(at(p493, (n496 + n497) << 3) + 4);
+					n497 = usub_sat64(n501, n496);
+					n498 = n498 + 1;
+					b499 = n496 <= n501;
 				}
-				n496 = b486 ? uadd_sat64(n487 - n494, n485) : UINT64_MAX;
+				n502 = b490 ? uadd_sat64(n491 - n500, n489) : UINT64_MAX;
 				memcpy(p15, p18 + 1408, 24);
 				storeptru(p18 + 1408, p6);
 				memset(p18 + 1416, 0, 16);
 				if (load64(p15 + 8) != 0)
 					store64(p15 + 8, 0);
-				if (n496 > load64(p15 + 16)) {
-					bool b497 = tp_std_alloc_vec_Vec_grow_amortized_7(p15, n496);
-					if (!b497)
+				if (n502 > load64(p15 + 16)) {
+					bool b503 = tp_std_alloc_vec_Vec_grow_amortized_7(p15, n502);
+					if (!b503)
 						goto L11;
 				}
 				memcpy(p17 + 7, p15, 24);
 				memcpy(p16, p17 + 7, 24);
-				n498 = 0;
-				while (n498 != n483) {
-					uint8_t n716, n717;
-					uint64_t n718, n719, n720, n721, n722, n723, n724;
-					byte *p499 = at(p484, n498 << 4);
-					uint8_t n500 = load8(p499);
-					uint64_t n501 = load64u(p499 + 8);
+				n504 = 0;
+				while (n504 != n487) {
+					uint8_t n724, n725;
+					uint64_t n726, n727, n728, n729, n730, n731, n732;
+					byte *p505 = at(p488, n504 << 4);
+					uint8_t n506 = load8(p505);
+					uint64_t n507 = load64u(p505 + 8);
 					memset(p14, 0, 7);
-					switch (MOSTLY_0(n500)) {
+					switch (MOSTLY_0(n506)) {
 					case 0: {
-						uint64_t n507, n508, n509, n510, n511, n512, n513, n514, n515, n516, n517, n518, n519, n520, n521;
-						uint64_t n502 = n501 * 88;
-						byte *p503 = at(loadptr(p18 + 1384), n502);
-						byte *p504 = at(loadptr(p18 + 1360), n502);
-						uint64_t n505 = load64(p503 + 8);
-						uint64_t n506 = load64(p503 + 16);
-						if (load64(p18 + 272) > n501) {
-							n507 = load64(inside(p18 + 808, n501 << 3));
+						uint64_t n513, n514, n515, n516, n517, n518, n519, n520, n521, n522, n523, n524, n525, n526, n527;
+						uint64_t n508 = n507 * 88;
+						byte *p509 = at(loadptr(p18 + 1384), n508);
+						byte *p510 = at(loadptr(p18 + 1360), n508);
+						uint64_t n511 = load64(p509 + 8);
+						uint64_t n512 = load64(p509 + 16);
+						if (load64(p18 + 272) > n507) {
+							n513 = load64(inside(p18 + 808, n507 << 3));
 						} else {
-							n507 = 0;
-						}
-						if ((n505 - (n506 + n507)) < 2) {
-							n508 = 0;
-							n509 = 0;
-							n510 = 0;
-							n511 = 0;
-							n512 = 0;
 							n513 = 0;
+						}
+						if ((n511 - (n512 + n513)) < 2) {
 							n514 = 0;
 							n515 = 0;
 							n516 = 0;
 							n517 = 0;
 							n518 = 0;
-							n519 = 1;
+							n519 = 0;
 							n520 = 0;
 							n521 = 0;
+							n522 = 0;
+							n523 = 0;
+							n524 = 0;
+							n525 = 1;
+							n526 = 0;
+							n527 = 0;
 						} else {
-							uint64_t n522, n523, n524, n526, n527, n563, n564, n565, n566, n567, n568, n569;
-							uint8_t n525;
-							if (load8(p503 + 32) == 1) {
-								n522 = load64u(p503 + 56);
-								n523 = load64u(p503 + 64);
-								n524 = load64(p503 + 40);
-								n525 = load8(p503 + 48);
-								n526 = load64u(p503 + 72);
-								n527 = load64u(p503 + 80);
-							} else if ((load8(p504 + 80) & 1) != 0) {
-								uint64_t n528 = load64(p504 + 16);
-								uint64_t n529 = load64(p504 + 24);
-								uint64_t n530 = load64(p504 + 32);
-								uint64_t n531 = n528 << 1;
-								if (n530 == (n529 - ((n529 > n530) ? n531 : 0))) {
-									n508 = 0;
-									n509 = 0;
-									n510 = 0;
-									n511 = 0;
-									n512 = 0;
-									n513 = 0;
+							uint64_t n528, n529, n530, n532, n533, n569, n570, n571, n572, n573, n574, n575;
+							uint8_t n531;
+							if (load8(p509 + 32) == 1) {
+								n528 = load64u(p509 + 56);
+								n529 = load64u(p509 + 64);
+								n530 = load64(p509 + 40);
+								n531 = load8(p509 + 48);
+								n532 = load64u(p509 + 72);
+								n533 = load64u(p509 + 80);
+							} else if ((load8(p510 + 80) & 1) != 0) {
+								uint64_t n534 = load64(p510 + 16);
+								uint64_t n535 = load64(p510 + 24);
+								uint64_t n536 = load64(p510 + 32);
+								uint64_t n537 = n534 << 1;
+								if (n536 == (n535 - ((n535 > n536) ? n537 : 0))) {
 									n514 = 0;
 									n515 = 0;
 									n516 = 0;
@@ -77735,49 +78286,49 @@ L6:
 									n519 = 0;
 									n520 = 0;
 									n521 = 0;
+									n522 = 0;
+									n523 = 0;
+									n524 = 0;
+									n525 = 0;
+									n526 = 0;
+									n527 = 0;
 									goto L12;
 								}
-								uint64_t n532 = (n529 < (n531 - 1)) ? (n529 + 1) : 0;
-								byte *p533 = inside(loadptr(p504 + 8), (n529 - ((n529 < n528) ? 0 : n528)) * 48);
-								byte *p534 = loadptr(p504);
-								uint64_t n535 = load64u(p533);
-								uint8_t n536 = load8(p533 + 8);
-								uint64_t n537 = load64u(p533 + 16);
-								uint64_t n538 = load64u(p533 + 24);
-								uint64_t n539 = load64u(p533 + 32);
-								uint64_t n540 = load64u(p533 + 40);
+								uint64_t n538 = (n535 < (n537 - 1)) ? (n535 + 1) : 0;
+								byte *p539 = inside(loadptr(p510 + 8), (n535 - ((n535 < n534) ? 0 : n534)) * 48);
+								byte *p540 = loadptr(p510);
+								uint64_t n541 = load64u(p539);
+								uint8_t n542 = load8(p539 + 8);
+								uint64_t n543 = load64u(p539 + 16);
+								uint64_t n544 = load64u(p539 + 24);
+								uint64_t n545 = load64u(p539 + 32);
+								uint64_t n546 = load64u(p539 + 40);
 								BARRIER();
-								atomic_store64(p534, n532, ORDER_SEQ_CST);
+								atomic_store64(p540, n538, ORDER_SEQ_CST);
 								BARRIER();
-								store64(p504 + 24, n532);
-								n522 = n537;
-								n523 = n538;
-								n524 = n535;
-								n525 = n536;
-								n526 = n539;
-								n527 = n540;
+								store64(p510 + 24, n538);
+								n528 = n543;
+								n529 = n544;
+								n530 = n541;
+								n531 = n542;
+								n532 = n545;
+								n533 = n546;
 							} else {
-								uint64_t n550, n551, n552;
-								uint64_t n541 = load64(p504 + 16);
-								uint64_t n542 = load64(p504 + 24);
-								uint64_t n543 = load64(p504 + 32);
-								uint64_t n544 = n541 << 1;
-								if (n543 == (n542 - ((n542 > n543) ? n544 : 0))) {
-									byte *p545 = loadptr(p504) + 128;
+								uint64_t n556, n557, n558;
+								uint64_t n547 = load64(p510 + 16);
+								uint64_t n548 = load64(p510 + 24);
+								uint64_t n549 = load64(p510 + 32);
+								uint64_t n550 = n547 << 1;
+								if (n549 == (n548 - ((n548 > n549) ? n550 : 0))) {
+									byte *p551 = loadptr(p510) + 128;
 									BARRIER();
-									uint64_t n546 = atomic_load64(p545, ORDER_SEQ_CST);
+									uint64_t n552 = atomic_load64(p551, ORDER_SEQ_CST);
 									BARRIER();
-									store64(p504 + 32, n546);
-									uint64_t n547 = load64(p504 + 16);
-									uint64_t n548 = load64(p504 + 24);
-									uint64_t n549 = n547 << 1;
-									if (n546 == (n548 - ((n548 > n546) ? n549 : 0))) {
-										n508 = 0;
-										n509 = 0;
-										n510 = 0;
-										n511 = 0;
-										n512 = 0;
-										n513 = 0;
+									store64(p510 + 32, n552);
+									uint64_t n553 = load64(p510 + 16);
+									uint64_t n554 = load64(p510 + 24);
+									uint64_t n555 = n553 << 1;
+									if (n552 == (n554 - ((n554 > n552) ? n555 : 0))) {
 										n514 = 0;
 										n515 = 0;
 										n516 = 0;
@@ -77786,50 +78337,56 @@ L6:
 										n519 = 0;
 										n520 = 0;
 										n521 = 0;
+										n522 = 0;
+										n523 = 0;
+										n524 = 0;
+										n525 = 0;
+										n526 = 0;
+										n527 = 0;
 										goto L12;
 									}
-									n550 = n549;
-									n551 = n547;
-									n552 = n548;
+									n556 = n555;
+									n557 = n553;
+									n558 = n554;
 								} else {
-									n550 = n544;
-									n551 = n541;
-									n552 = n542;
+									n556 = n550;
+									n557 = n547;
+									n558 = n548;
 								}
-								uint64_t n553 = (n552 < (n550 - 1)) ? (n552 + 1) : 0;
-								byte *p554 = inside(loadptr(p504 + 8), (n552 - ((n552 < n551) ? 0 : n551)) * 48);
-								byte *p555 = loadptr(p504);
-								uint64_t n556 = load64u(p554);
-								uint8_t n557 = load8(p554 + 8);
-								uint64_t n558 = load64u(p554 + 16);
-								uint64_t n559 = load64u(p554 + 24);
-								uint64_t n560 = load64u(p554 + 32);
-								uint64_t n561 = load64u(p554 + 40);
+								uint64_t n559 = (n558 < (n556 - 1)) ? (n558 + 1) : 0;
+								byte *p560 = inside(loadptr(p510 + 8), (n558 - ((n558 < n557) ? 0 : n557)) * 48);
+								byte *p561 = loadptr(p510);
+								uint64_t n562 = load64u(p560);
+								uint8_t n563 = load8(p560 + 8);
+								uint64_t n564 = load64u(p560 + 16);
+								uint64_t n565 = load64u(p560 + 24);
+								uint64_t n566 = load64u(p560 + 32);
+								uint64_t n567 = load64u(p560 + 40);
 								BARRIER();
-								atomic_store64(p555, n553, ORDER_SEQ_CST);
+								atomic_store64(p561, n559, ORDER_SEQ_CST);
 								BARRIER();
-								store64(p504 + 24, n553);
-								n522 = n558;
-								n523 = n559;
-								n524 = n556;
-								n525 = n557;
-								n526 = n560;
-								n527 = n561;
+								store64(p510 + 24, n559);
+								n528 = n564;
+								n529 = n565;
+								n530 = n562;
+								n531 = n563;
+								n532 = n566;
+								n533 = n567;
 							}
-							uint64_t n562 = (uint64_t)n525;
-							switch (MOSTLY_0(n525)) {
+							uint64_t n568 = (uint64_t)n531;
+							switch (MOSTLY_0(n531)) {
 							case 0:
 							case 1: {
-								n563 = n523;
+								n569 = n529;
 								break;
 							}
 							case 3:
 							case 4: {
-								n563 = n527;
+								n569 = n533;
 								break;
 							}
 							case 2: {
-								n563 = 0;
+								n569 = 0;
 								break;
 							}
 							default: {
@@ -77837,136 +78394,138 @@ L6:
 							}
 							}
 							if ((load8(p18 + 1320) & 1) != 0) {
-								n564 = 0;
-								n565 = 1;
-								n566 = 0;
-								n567 = 0;
-								n568 = 0;
-								n569 = 0;
-							} else if (load64(p18 + 272) > n501) {
-								uint64_t n570 = n501 << 3;
-								byte *p571 = inside(p18 + 296, n570);
-								uint64_t n572 = load64(p571);
-								if (n524 < n572) {
-									n564 = n572;
-									n565 = 1;
-									n566 = 2;
-									n567 = 0;
-									n568 = 0;
-									n569 = 0;
-								} else if (n572 > UINT64_C(1152921504606846975)) {
-									n564 = 0;
-									n565 = 1;
-									n566 = 3;
-									n567 = 0;
-									n568 = 0;
-									n569 = 0;
-								} else if (n572 < n524) {
-									n564 = n572;
-									n565 = 1;
-									n566 = 4;
-									n567 = 0;
-									n568 = 0;
-									n569 = 0;
+								n570 = 0;
+								n571 = 1;
+								n572 = 0;
+								n573 = 0;
+								n574 = 0;
+								n575 = 0;
+							} else if (load64(p18 + 272) > n507) {
+								uint64_t n576 = n507 << 3;
+								byte *p577 = inside(p18 + 296, n576);
+								uint64_t n578 = load64(p577);
+								if (n530 < n578) {
+									n570 = n578;
+									n571 = 1;
+									n572 = 2;
+									n573 = 0;
+									n574 = 0;
+									n575 = 0;
+								} else if (n578 > UINT64_C(1152921504606846975)) {
+									n570 = 0;
+									n571 = 1;
+									n572 = 3;
+									n573 = 0;
+									n574 = 0;
+									n575 = 0;
+								} else if (n578 < n530) {
+									n570 = n578;
+									n571 = 1;
+									n572 = 4;
+									n573 = 0;
+									n574 = 0;
+									n575 = 0;
 								} else {
-									uint64_t n573, n574, n577, n578;
-									uint8_t n575, n576;
-									switch (MOSTLY_0(n525)) {
+									uint64_t n579, n580, n583, n584;
+									uint8_t n581, n582;
+									switch (MOSTLY_0(n531)) {
 									case 0: {
-										uint64_t n589;
-										if (n522 == 0) {
-											n573 = 0;
-											n574 = 0;
-											n575 = 3;
-											n576 = 0;
-											n577 = 0;
-											n578 = 0;
+										uint64_t n596;
+										if (n528 == 0) {
+											n579 = 0;
+											n580 = 0;
+											n581 = 3;
+											n582 = 0;
+											n583 = 0;
+											n584 = 0;
 											goto L13;
 										}
-										uint64_t n579 = load64(p18 + 16);
-										if ((load64(p18 + 8) - n579) < n522) {
-											n573 = 0;
-											n574 = 0;
-											n575 = 3;
-											n576 = 1;
-											n577 = 0;
-											n578 = 0;
+										uint64_t n585 = load64(p18 + 16);
+										if ((load64(p18 + 8) - n585) < n528) {
+											n579 = 0;
+											n580 = 0;
+											n581 = 3;
+											n582 = 1;
+											n583 = 0;
+											n584 = 0;
 											goto L13;
 										}
-										uint64_t n580 = load64(p18 + 288);
-										if (n580 > UINT64_C(1152921504606846975)) {
-											n573 = 0;
-											n574 = 0;
-											n575 = 3;
-											n576 = 2;
-											n577 = 0;
-											n578 = 0;
+										uint64_t n586 = load64(p18 + 288);
+										if (n586 > UINT64_C(1152921504606846975)) {
+											n579 = 0;
+											n580 = 0;
+											n581 = 3;
+											n582 = 2;
+											n583 = 0;
+											n584 = 0;
 											goto L13;
 										}
-										uint64_t n581 = load64(p18 + 64);
-										uint64_t n582 = load64(p18 + 32);
-										byte *p583 = loadptr(p18 + 80);
-										uint64_t n584 = load64(p18 + 104);
-										uint64_t n585 = (uint64_t)load32(at(p583, n582 << 3) + 4);
-										uint64_t n586 = usub_sat64(n585, n584);
-										uint64_t n587 = 0;
-										uint64_t n588 = n585;
+										uint64_t n587 = load64(p18 + 64);
+										uint64_t n588 = load64(p18 + 32);
+										byte *p589 = loadptr(p18 + 80);
+										uint64_t n590 = (uint64_t)load32(at(p589, n588 << 3) + 4);
+										bool b591 = n588 != n590;
+										uint64_t n592 = load64(p18 + 104);
+										uint64_t n593 = b591 ? (n590 - n592) : 0;
+										uint64_t n594 = 0;
+										bool b595 = b591;
 										for (;;) {
-											if (n587 == n581) {
-												n589 = n581;
+											if (n594 == n587) {
+												n596 = n587;
 												break;
 											}
-											if (n584 > n588) {
-												n589 = n587;
+											if (!b595) {
+												n596 = n594;
 												break;
 											}
-											uint64_t n590 = (uint64_t)load32(at(p583, (n584 + n586) << 3) + 4);
-											n586 = usub_sat64(n590, n584);
-											n587 = n587 + 1;
-											n588 = n590;
+											uint64_t n597 = (uint64_t)load32(at(p589, (n592 + n593) << 3) + 4);
+											n593 = usub_sat64(n597, n592);
+											n594 = n594 + 1;
+											b595 = n592 <= n597;
 										}
-										if ((n581 - n589) != load64(p18 + 280)) {
-											uint64_t n595;
-											uint64_t n591 = n579 + n522;
-											uint8_t n592 = load8(p18);
-											bool b593 = n579 < n591;
-											if (b593) {
-												uint64_t n601, n602, n603;
-												switch (MOSTLY_0(n592)) {
+										if ((n587 - n596) != load64(p18 + 280)) {
+											uint64_t n602;
+											uint64_t n598 = n585 + n528;
+											uint8_t n599 = load8(p18);
+											bool b600 = n585 < n598;
+											if (b600) {
+												uint64_t n609, n610, n611;
+												switch (MOSTLY_0(n599)) {
 												case 0: {
-													uint32_t n594 = (((uint32_t)ctlz64(n579 ^ n591) ^ 63) * 43) >> 8;
-													if (n594 == 0) {
-														n595 = n591 & 63;
+													uint32_t n601 = (((uint32_t)ctlz64(n585 ^ n598) ^ 63) * 43) >> 8;
+													if (n601 == 0) {
+														n602 = n598 & 63;
 														goto L14;
 													}
-													n595 = ((n591 >> ((uint64_t)(n594 * 6) & 63)) & 63) | (uint64_t)(n594 << 6);
+													n602 = ((n598 >> ((uint64_t)(n601 * 6) & 63)) & 63) | (uint64_t)(n601 << 6);
 													goto L14;
 												}
 												case 1: {
-													uint32_t n596 = (uint32_t)n591;
-													uint32_t n597 = (uint32_t)n579;
-													uint32_t n598 = n596 / 60;
-													if ((n597 / 60) == n598) {
-														n595 = (uint64_t)(n596 % 60);
+													uint32_t n603 = (uint32_t)n598;
+													uint32_t n604 = (uint32_t)n585;
+													uint32_t n605 = n603 / 60;
+													uint32_t n606 = n605 * 60;
+													if (n606 <= n604) {
+														n602 = (uint64_t)(n603 - n606);
 														goto L14;
 													}
-													uint32_t n599 = n596 / 3600;
-													if ((n597 / 3600) == n599) {
-														n595 = (uint64_t)((n598 % 60) + 60);
+													uint32_t n607 = n603 / 3600;
+													if ((n607 * 3600) <= n604) {
+														n602 = (uint64_t)(((n607 * 4294967236u) + n605) + 60);
 														goto L14;
 													}
-													uint32_t n600 = n596 / 86400;
-													if ((n597 / 86400) == n600) {
-														n595 = (uint64_t)((n599 % 24) + 120);
+													uint32_t n608 = n603 / 86400;
+													if ((n608 * 86400) > n604) {
+														n602 = (uint64_t)(n608 + 144);
 														goto L14;
 													}
-													n595 = (uint64_t)(n600 + 144);
+													n602 = (uint64_t)(((n608 * 4294967272u) + n607) + 120);
 													goto L14;
 												}
 												case 2: {
-													n601 = n591;
-													n602 = n579;
-													n603 = 0;
+													n609 = n598;
+													n610 = n585;
+													n611 = 0;
 													break;
 												}
 												default: {
@@ -77974,137 +78533,136 @@ L6:
 												}
 												}
 												for (;;) {
-													uint64_t n604 = n602 >> 4;
-													uint64_t n605 = n601 >> 4;
-													if (n604 == n605)
+													uint64_t n612 = n610 >> 4;
+													uint64_t n613 = n609 >> 4;
+													if (n612 == n613)
 														break;
-													n601 = n605;
-													n602 = n604;
-													n603 = n603 + 16;
+													n609 = n613;
+													n610 = n612;
+													n611 = n611 + 16;
 												}
-												n595 = n603 | (n601 & 15);
+												n602 = n611 | (n609 & 15);
 											} else {
-												n595 = n582;
+												n602 = n588;
 											}
 L14:
 											{
-												uint64_t n607, n608, n612;
-												uint64_t n606 = load64(p18 + 72);
-												if (n606 < load64(p18 + 120)) {
-													n607 = n581;
-													n608 = n606;
+												uint64_t n615, n616, n620;
+												uint64_t n614 = load64(p18 + 72);
+												if (n614 < load64(p18 + 120)) {
+													n615 = n587;
+													n616 = n614;
 												} else {
-													uint8_t n609 = tp_links_make_ready(p18 + 40, p18 + 80, n584, load64(p18 + 112));
-													if ((n609 & 1) != 0)
+													uint8_t n617 = tp_links_make_ready(p18 + 40, p18 + 80, n592, load64(p18 + 112));
+													if ((n617 & 1) != 0)
 														goto L15;
-													store64(p18 + 120, umin64(load64(p18 + 88) - n584, load64(p18 + 56)));
-													n607 = load64(p18 + 64);
-													n608 = load64(p18 + 72);
+													store64(p18 + 120, umin64(load64(p18 + 88) - n592, load64(p18 + 56)));
+													n615 = load64(p18 + 64);
+													n616 = load64(p18 + 72);
 												}
-												store64(p18 + 64, n607 + 1);
-												if (n608 == load64(p18 + 48)) {
-													byte *p610 = inside(loadptr(p18 + 40), n608 * 48);
-													store64u(p610, 1);
-													store64u(p610 + 8, n580);
-													store64u(p610 + 16, n501);
-													store64u(p610 + 24, n524);
-													store64u(p610 + 32, n591);
-													store64u(p610 + 40, n523);
-													uint64_t n611 = n608 + 1;
-													store64(p18 + 48, n611);
-													n612 = n611;
+												store64(p18 + 64, n615 + 1);
+												if (n616 == load64(p18 + 48)) {
+													byte *p618 = inside(loadptr(p18 + 40), n616 * 48);
+													store64u(p618, 1);
+													store64u(p618 + 8, n586);
+													store64u(p618 + 16, n507);
+													store64u(p618 + 24, n530);
+													store64u(p618 + 32, n598);
+													store64u(p618 + 40, n529);
+													uint64_t n619 = n616 + 1;
+													store64(p18 + 48, n619);
+													n620 = n619;
 												} else {
-													byte *p613 = at(loadptr(p18 + 40), n608 * 48);
-													uint8_t n614 = load8(p613);
-													uint64_t n615 = load64u(p613 + 8);
-													store64u(p613, 1);
-													store64u(p613 + 8, n580);
-													store64u(p613 + 16, n501);
-													store64u(p613 + 24, n524);
-													store64u(p613 + 32, n591);
-													store64u(p613 + 40, n523);
-													if (n614 != 0) {
+													byte *p621 = at(loadptr(p18 + 40), n616 * 48);
+													uint8_t n622 = load8(p621);
+													uint64_t n623 = load64u(p621 + 8);
+													store64u(p621, 1);
+													store64u(p621 + 8, n586);
+													store64u(p621 + 16, n507);
+													store64u(p621 + 24, n530);
+													store64u(p621 + 32, n598);
+													store64u(p621 + 40, n529);
+													if (n622 != 0) {
 														TRAP();
 														UNREACHABLE();
 													}
-													n612 = n615;
+													n620 = n623;
 												}
-												store64(p18 + 72, n612);
-												uint64_t n616 = load64(p18 + 104) + n608;
-												byte *p617 = loadptr(p18 + 80);
-												uint64_t n618 = n595 << 3;
-												byte *p619 = inside(p617, n618);
-												uint32_t n620 = load32(p619);
-												uint32_t n621 = (uint32_t)n616;
-												store32(inside(p617, (uint64_t)n620 << 3) + 4, n621);
-												byte *p622 = inside(p617, n616 << 3);
-												store32(p622, n620);
-												store32(p622 + 4, (uint32_t)n595);
-												store32(p619, n621);
-												store64(p18 + 24, n580);
-												if (b593) {
-													byte *p623 = inside(p18 + 128, (n595 >> 3) & 536870904);
-													store64(p623, load64(p623) | ((uint64_t)1 << (n595 & 63)));
+												store64(p18 + 72, n620);
+												uint64_t n624 = load64(p18 + 104) + n616;
+												byte *p625 = loadptr(p18 + 80);
+												uint64_t n626 = n602 << 3;
+												byte *p627 = inside(p625, n626);
+												uint32_t n628 = load32(p627);
+												uint32_t n629 = (uint32_t)n624;
+												store32(inside(p625, (uint64_t)n628 << 3) + 4, n629);
+												byte *p630 = inside(p625, n624 << 3);
+												store32(p630, n628);
+												store32(p630 + 4, (uint32_t)n602);
+												store32(p627, n629);
+												store64(p18 + 24, n586);
+												if (b600) {
+													byte *p631 = inside(p18 + 128, (n602 >> 3) & 536870904);
+													store64(p631, load64(p631) | ((uint64_t)1 << (n602 & 63)));
 													if ((load8(p18 + 232) & 1) != 0) {
-														uint64_t n624;
-														switch (MOSTLY_0(n592)) {
+														uint64_t n632;
+														switch (MOSTLY_0(n599)) {
 														case 0: {
-															n624 = 64;
+															n632 = 64;
 															break;
 														}
 														case 1: {
-															n624 = 60;
+															n632 = 60;
 															break;
 														}
 														case 2: {
-															n624 = 16;
+															n632 = 16;
 															break;
 														}
 														default: {
 															UNREACHABLE();
 														}
 														}
-														if (n595 >= n624) {
-															byte *p625 = at(loadptr(p18 + 208), n595 << 4);
-															if (load8(p625) == 0) {
-																if (n591 < load64(p625 + 8)) {
-																	uint64_t n630;
-																	uint64_t n626 = load64(p18 + 104);
-																	uint64_t n627 = (uint64_t)load32(at(loadptr(p18 + 80), n618) + 4);
-																	if (n626 <= n627) {
-																		uint64_t n628 = usub_sat64(n627, n626);
-																		byte *p629 = at(loadptr(p18 + 40), n628 * 48);
-																		if (n628 < load64(p18 + 48)) {
-																			if (load8(p629) == 1) {
-																				n630 = umin64(n591, load64u(p629 + 32));
+														if (n602 >= n632) {
+															byte *p633 = at(loadptr(p18 + 208), n602 << 4);
+															if (load8(p633) == 0) {
+																if (n598 < load64(p633 + 8)) {
+																	uint64_t n635;
+																	uint64_t n634 = (uint64_t)load32(at(loadptr(p18 + 80), n626) + 4);
+																	if (n602 == n634) {
+																		n635 = n598;
+																	} else {
+																		uint64_t n636 = n634 - load64(p18 + 104);
+																		byte *p637 = at(loadptr(p18 + 40), n636 * 48);
+																		if (n636 < load64(p18 + 48)) {
+																			if (load8(p637) == 1) {
+																				n635 = umin64(n598, load64u(p637 + 32));
 																			} else {
-																				n630 = n591;
+																				n635 = n598;
 																			}
 																		} else {
-																			n630 = n591;
+																			n635 = n598;
 																		}
-																	} else {
-																		n630 = n591;
 																	}
-																	store32u(p625, 1);
-																	store32u(p625 + 4, 1);
-																	store64u(p625 + 8, n630);
+																	store32u(p633, 1);
+																	store32u(p633 + 4, 1);
+																	store64u(p633 + 8, n635);
 																	store64(p18 + 240, load64(p18 + 240) + 1);
 																} else {
-																	store32u(p625, 0);
-																	store32u(p625 + 4, 0);
-																	store64u(p625 + 8, n591);
+																	store32u(p633, 0);
+																	store32u(p633 + 4, 0);
+																	store64u(p633 + 8, n598);
 																}
 															} else {
-																uint32_t n631 = load32(p625 + 4);
-																uint64_t n632 = load64(p625 + 8);
-																if (n591 < n632) {
-																	store32u(p625, 1);
-																	store32u(p625 + 4, 1);
-																	store64u(p625 + 8, n591);
-																} else if (n591 == n632) {
-																	store32u(p625, 1);
-																	store32u(p625 + 4, uadd_sat32(n631, 1));
+																uint32_t n638 = load32(p633 + 4);
+																uint64_t n639 = load64(p633 + 8);
+																if (n598 < n639) {
+																	store32u(p633, 1);
+																	store32u(p633 + 4, 1);
+																	store64u(p633 + 8, n598);
+																} else if (n598 == n639) {
+																	store32u(p633, 1);
+																	store32u(p633 + 4, uadd_sat32(n638, 1));
 																}
 															}
 														}
@@ -78112,112 +78670,114 @@ L14:
 												}
 												store64(p18 + 248, load64(p18 + 248) + 1);
 												store64(p18 + 288, load64(p18 + 288) + 1);
-												byte *p633 = inside(p18 + 808, n570);
-												store64(p633, load64(p633) + 1);
-												n573 = n608;
-												n574 = n580;
-												n575 = 0;
-												n576 = 0;
-												n577 = n591;
-												n578 = 0;
+												byte *p640 = inside(p18 + 808, n576);
+												store64(p640, load64(p640) + 1);
+												n579 = n616;
+												n580 = n586;
+												n581 = 0;
+												n582 = 0;
+												n583 = n598;
+												n584 = 0;
 												goto L13;
 											}
 										}
-										n573 = 0;
-										n574 = 0;
-										n575 = 3;
-										n576 = 3;
-										n577 = 0;
-										n578 = 0;
+										n579 = 0;
+										n580 = 0;
+										n581 = 3;
+										n582 = 3;
+										n583 = 0;
+										n584 = 0;
 										goto L13;
 									}
 									case 1: {
-										uint64_t n645;
-										uint64_t n634 = load64(p18 + 16);
-										uint64_t n635 = usub_sat64(n522, n634);
-										if ((load64(p18 + 8) - n634) < umax64(n635, 1)) {
-											n573 = 0;
-											n574 = 0;
-											n575 = 3;
-											n576 = 1;
-											n577 = 0;
-											n578 = 0;
+										uint64_t n653;
+										uint64_t n641 = load64(p18 + 16);
+										uint64_t n642 = usub_sat64(n528, n641);
+										if ((load64(p18 + 8) - n641) < umax64(n642, 1)) {
+											n579 = 0;
+											n580 = 0;
+											n581 = 3;
+											n582 = 1;
+											n583 = 0;
+											n584 = 0;
 											goto L13;
 										}
-										uint64_t n636 = load64(p18 + 288);
-										if (n636 > UINT64_C(1152921504606846975)) {
-											n573 = 0;
-											n574 = 0;
-											n575 = 3;
-											n576 = 2;
-											n577 = 0;
-											n578 = 0;
+										uint64_t n643 = load64(p18 + 288);
+										if (n643 > UINT64_C(1152921504606846975)) {
+											n579 = 0;
+											n580 = 0;
+											n581 = 3;
+											n582 = 2;
+											n583 = 0;
+											n584 = 0;
 											goto L13;
 										}
-										uint64_t n637 = load64(p18 + 64);
-										uint64_t n638 = load64(p18 + 32);
-										byte *p639 = loadptr(p18 + 80);
-										uint64_t n640 = load64(p18 + 104);
-										uint64_t n641 = (uint64_t)load32(at(p639, n638 << 3) + 4);
-										uint64_t n642 = usub_sat64(n641, n640);
-										uint64_t n643 = 0;
-										uint64_t n644 = n641;
+										uint64_t n644 = load64(p18 + 64);
+										uint64_t n645 = load64(p18 + 32);
+										byte *p646 = loadptr(p18 + 80);
+										uint64_t n647 = (uint64_t)load32(at(p646, n645 << 3) + 4);
+										bool b648 = n645 != n647;
+										uint64_t n649 = load64(p18 + 104);
+										uint64_t n650 = b648 ? (n647 - n649) : 0;
+										uint64_t n651 = 0;
+										bool b652 = b648;
 										for (;;) {
-											if (n643 == n637) {
-												n645 = n637;
+											if (n651 == n644) {
+												n653 = n644;
 												break;
 											}
-											if (n640 > n644) {
-												n645 = n643;
+											if (!b652) {
+												n653 = n651;
 												break;
 											}
-											uint64_t n646 = (uint64_t)load32(at(p639, (n640 + n642) << 3) + 4);
-											n642 = usub_sat64(n646, n640);
-											n643 = n643 + 1;
-											n644 = n646;
+											uint64_t n654 = (uint64_t)load32(at(p646, (n649 + n650) << 3) + 4);
+											n650 = usub_sat64(n654, n649);
+											n651 = n651 + 1;
+											b652 = n649 <= n654;
 										}
-										if ((n637 - n645) != load64(p18 + 280)) {
-											uint64_t n651;
-											uint64_t n647 = n634 + n635;
-											uint8_t n648 = load8(p18);
-											bool b649 = n634 < n647;
-											if (b649) {
-												uint64_t n657, n658, n659;
-												switch (MOSTLY_0(n648)) {
+										if ((n644 - n653) != load64(p18 + 280)) {
+											uint64_t n659;
+											uint64_t n655 = n641 + n642;
+											uint8_t n656 = load8(p18);
+											bool b657 = n641 < n655;
+											if (b657) {
+												uint64_t n666, n667, n668;
+												switch (MOSTLY_0(n656)) {
 												case 0: {
-													uint32_t n650 = (((uint32_t)ctlz64(n634 ^ n647) ^ 63) * 43) >> 8;
-													if (n650 == 0) {
-														n651 = n647 & 63;
+													uint32_t n658 = (((uint32_t)ctlz64(n641 ^ n655) ^ 63) * 43) >> 8;
+													if (n658 == 0) {
+														n659 = n655 & 63;
 														goto L16;
 													}
-													n651 = ((n647 >> ((uint64_t)(n650 * 6) & 63)) & 63) | (uint64_t)(n650 << 6);
+													n659 = ((n655 >> ((uint64_t)(n658 * 6) & 63)) & 63) | (uint64_t)(n658 << 6);
 													goto L16;
 												}
 												case 1: {
-													uint32_t n652 = (uint32_t)n647;
-													uint32_t n653 = (uint32_t)n634;
-													uint32_t n654 = n652 / 60;
-													if ((n653 / 60) == n654) {
-														n651 = (uint64_t)(n652 % 60);
+													uint32_t n660 = (uint32_t)n655;
+													uint32_t n661 = (uint32_t)n641;
+													uint32_t n662 = n660 / 60;
+													uint32_t n663 = n662 * 60;
+													if (n663 <= n661) {
+														n659 = (uint64_t)(n660 - n663);
 														goto L16;
 													}
-													uint32_t n655 = n652 / 3600;
-													if ((n653 / 3600) == n655) {
-														n651 = (uint64_t)((n654 % 60) + 60);
+													uint32_t n664 = n660 / 3600;
+													if ((n664 * 3600) <= n661) {
+														n659 = (uint64_t)(((n664 * 4294967236u) + n662) + 60);
 														goto L16;
 													}
-													uint32_t n656 = n652 / 86400;
-													if ((n653 / 86400) == n656) {
-														n651 = (uint64_t)((n655 % 24) + 120);
+													uint32_t n665 = n660 / 86400;
+													if ((n665 * 86400) > n661) {
+														n659 = (uint64_t)(n665 + 144);
 														goto L16;
 													}
-													n651 = (uint64_t)(n656 + 144);
+													n659 = (uint64_t)(((n665 * 4294967272u) + n664) + 120);
 													goto L16;
 												}
 												case 2: {
-													n657 = n647;
-													n658 = n634;
-													n659 = 0;
+													n666 = n655;
+													n667 = n641;
+													n668 = 0;
 													break;
 												}
 												default: {
@@ -78225,137 +78785,136 @@ L14:
 												}
 												}
 												for (;;) {
-													uint64_t n660 = n658 >> 4;
-													uint64_t n661 = n657 >> 4;
-													if (n660 == n661)
+													uint64_t n669 = n667 >> 4;
+													uint64_t n670 = n666 >> 4;
+													if (n669 == n670)
 														break;
-													n657 = n661;
-													n658 = n660;
-													n659 = n659 + 16;
+													n666 = n670;
+													n667 = n669;
+													n668 = n668 + 16;
 												}
-												n651 = n659 | (n657 & 15);
+												n659 = n668 | (n666 & 15);
 											} else {
-												n651 = n638;
+												n659 = n645;
 											}
 L16:
 											{
-												uint64_t n663, n664, n668;
-												uint64_t n662 = load64(p18 + 72);
-												if (n662 < load64(p18 + 120)) {
-													n663 = n637;
-													n664 = n662;
+												uint64_t n672, n673, n677;
+												uint64_t n671 = load64(p18 + 72);
+												if (n671 < load64(p18 + 120)) {
+													n672 = n644;
+													n673 = n671;
 												} else {
-													uint8_t n665 = tp_links_make_ready(p18 + 40, p18 + 80, n640, load64(p18 + 112));
-													if ((n665 & 1) != 0)
+													uint8_t n674 = tp_links_make_ready(p18 + 40, p18 + 80, n649, load64(p18 + 112));
+													if ((n674 & 1) != 0)
 														goto L15;
-													store64(p18 + 120, umin64(load64(p18 + 88) - n640, load64(p18 + 56)));
-													n663 = load64(p18 + 64);
-													n664 = load64(p18 + 72);
+													store64(p18 + 120, umin64(load64(p18 + 88) - n649, load64(p18 + 56)));
+													n672 = load64(p18 + 64);
+													n673 = load64(p18 + 72);
 												}
-												store64(p18 + 64, n663 + 1);
-												if (n664 == load64(p18 + 48)) {
-													byte *p666 = inside(loadptr(p18 + 40), n664 * 48);
-													store64u(p666, 1);
-													store64u(p666 + 8, n636);
-													store64u(p666 + 16, n501);
-													store64u(p666 + 24, n524);
-													store64u(p666 + 32, n647);
-													store64u(p666 + 40, n523);
-													uint64_t n667 = n664 + 1;
-													store64(p18 + 48, n667);
-													n668 = n667;
+												store64(p18 + 64, n672 + 1);
+												if (n673 == load64(p18 + 48)) {
+													byte *p675 = inside(loadptr(p18 + 40), n673 * 48);
+													store64u(p675, 1);
+													store64u(p675 + 8, n643);
+													store64u(p675 + 16, n507);
+													store64u(p675 + 24, n530);
+													store64u(p675 + 32, n655);
+													store64u(p675 + 40, n529);
+													uint64_t n676 = n673 + 1;
+													store64(p18 + 48, n676);
+													n677 = n676;
 												} else {
-													byte *p669 = at(loadptr(p18 + 40), n664 * 48);
-													uint8_t n670 = load8(p669);
-													uint64_t n671 = load64u(p669 + 8);
-													store64u(p669, 1);
-													store64u(p669 + 8, n636);
-													store64u(p669 + 16, n501);
-													store64u(p669 + 24, n524);
-													store64u(p669 + 32, n647);
-													store64u(p669 + 40, n523);
-													if (n670 != 0) {
+													byte *p678 = at(loadptr(p18 + 40), n673 * 48);
+													uint8_t n679 = load8(p678);
+													uint64_t n680 = load64u(p678 + 8);
+													store64u(p678, 1);
+													store64u(p678 + 8, n643);
+													store64u(p678 + 16, n507);
+													store64u(p678 + 24, n530);
+													store64u(p678 + 32, n655);
+													store64u(p678 + 40, n529);
+													if (n679 != 0) {
 														TRAP();
 														UNREACHABLE();
 													}
-													n668 = n671;
+													n677 = n680;
 												}
-												store64(p18 + 72, n668);
-												uint64_t n672 = load64(p18 + 104) + n664;
-												byte *p673 = loadptr(p18 + 80);
-												uint64_t n674 = n651 << 3;
-												byte *p675 = inside(p673, n674);
-												uint32_t n676 = load32(p675);
-												uint32_t n677 = (uint32_t)n672;
-												store32(inside(p673, (uint64_t)n676 << 3) + 4, n677);
-												byte *p678 = inside(p673, n672 << 3);
-												store32(p678, n676);
-												store32(p678 + 4, (uint32_t)n651);
-												store32(p675, n677);
-												store64(p18 + 24, n636);
-												if (b649) {
-													byte *p679 = inside(p18 + 128, (n651 >> 3) & 536870904);
-													store64(p679, load64(p679) | ((uint64_t)1 << (n651 & 63)));
+												store64(p18 + 72, n677);
+												uint64_t n681 = load64(p18 + 104) + n673;
+												byte *p682 = loadptr(p18 + 80);
+												uint64_t n683 = n659 << 3;
+												byte *p684 = inside(p682, n683);
+												uint32_t n685 = load32(p684);
+												uint32_t n686 = (uint32_t)n681;
+												store32(inside(p682, (uint64_t)n685 << 3) + 4, n686);
+												byte *p687 = inside(p682, n681 << 3);
+												store32(p687, n685);
+												store32(p687 + 4, (uint32_t)n659);
+												store32(p684, n686);
+												store64(p18 + 24, n643);
+												if (b657) {
+													byte *p688 = inside(p18 + 128, (n659 >> 3) & 536870904);
+													store64(p688, load64(p688) | ((uint64_t)1 << (n659 & 63)));
 													if ((load8(p18 + 232) & 1) != 0) {
-														uint64_t n680;
-														switch (MOSTLY_0(n648)) {
+														uint64_t n689;
+														switch (MOSTLY_0(n656)) {
 														case 0: {
-															n680 = 64;
+															n689 = 64;
 															break;
 														}
 														case 1: {
-															n680 = 60;
+															n689 = 60;
 															break;
 														}
 														case 2: {
-															n680 = 16;
+															n689 = 16;
 															break;
 														}
 														default: {
 															UNREACHABLE();
 														}
 														}
-														if (n651 >= n680) {
-															byte *p681 = at(loadptr(p18 + 208), n651 << 4);
-															if (load8(p681) == 0) {
-																if (n647 < load64(p681 + 8)) {
-																	uint64_t n686;
-																	uint64_t n682 = load64(p18 + 104);
-																	uint64_t n683 = (uint64_t)load32(at(loadptr(p18 + 80), n674) + 4);
-																	if (n682 <= n683) {
-																		uint64_t n684 = usub_sat64(n683, n682);
-																		byte *p685 = at(loadptr(p18 + 40), n684 * 48);
-																		if (n684 < load64(p18 + 48)) {
-																			if (load8(p685) == 1) {
-																				n686 = umin64(n647, load64u(p685 + 32));
+														if (n659 >= n689) {
+															byte *p690 = at(loadptr(p18 + 208), n659 << 4);
+															if (load8(p690) == 0) {
+																if (n655 < load64(p690 + 8)) {
+																	uint64_t n692;
+																	uint64_t n691 = (uint64_t)load32(at(loadptr(p18 + 80), n683) + 4);
+																	if (n659 == n691) {
+																		n692 = n655;
+																	} else {
+																		uint64_t n693 = n691 - load64(p18 + 104);
+																		byte *p694 = at(loadptr(p18 + 40), n693 * 48);
+																		if (n693 < load64(p18 + 48)) {
+																			if (load8(p694) == 1) {
+																				n692 = umin64(n655, load64u(p694 + 32));
 																			} else {
-																				n686 = n647;
+																				n692 = n655;
 																			}
 																		} else {
-																			n686 = n647;
+																			n692 = n655;
 																		}
-																	} else {
-																		n686 = n647;
 																	}
-																	store32u(p681, 1);
-																	store32u(p681 + 4, 1);
-																	store64u(p681 + 8, n686);
+																	store32u(p690, 1);
+																	store32u(p690 + 4, 1);
+																	store64u(p690 + 8, n692);
 																	store64(p18 + 240, load64(p18 + 240) + 1);
 																} else {
-																	store32u(p681, 0);
-																	store32u(p681 + 4, 0);
-																	store64u(p681 + 8, n647);
+																	store32u(p690, 0);
+																	store32u(p690 + 4, 0);
+																	store64u(p690 + 8, n655);
 																}
 															} else {
-																uint32_t n687 = load32(p681 + 4);
-																uint64_t n688 = load64(p681 + 8);
-																if (n647 < n688) {
-																	store32u(p681, 1);
-																	store32u(p681 + 4, 1);
-																	store64u(p681 + 8, n647);
-																} else if (n647 == n688) {
-																	store32u(p681, 1);
-																	store32u(p681 + 4, uadd_sat32(n687, 1));
+																uint32_t n695 = load32(p690 + 4);
+																uint64_t n696 = load64(p690 + 8);
+																if (n655 < n696) {
+																	store32u(p690, 1);
+																	store32u(p690 + 4, 1);
+																	store64u(p690 + 8, n655);
+																} else if (n655 == n696) {
+																	store32u(p690, 1);
+																	store32u(p690 + 4, uadd_sat32(n695, 1));
 																}
 															}
 														}
@@ -78363,88 +78922,88 @@ L16:
 												}
 												store64(p18 + 248, load64(p18 + 248) + 1);
 												store64(p18 + 288, load64(p18 + 288) + 1);
-												byte *p689 = inside(p18 + 808, n570);
-												store64(p689, load64(p689) + 1);
-												n573 = n664;
-												n574 = n636;
-												n575 = 0;
-												n576 = 0;
-												n577 = n647;
-												n578 = 0;
+												byte *p697 = inside(p18 + 808, n576);
+												store64(p697, load64(p697) + 1);
+												n579 = n673;
+												n580 = n643;
+												n581 = 0;
+												n582 = 0;
+												n583 = n655;
+												n584 = 0;
 												goto L13;
 											}
 										}
-										n573 = 0;
-										n574 = 0;
-										n575 = 3;
-										n576 = 3;
-										n577 = 0;
-										n578 = 0;
+										n579 = 0;
+										n580 = 0;
+										n581 = 3;
+										n582 = 3;
+										n583 = 0;
+										n584 = 0;
 										goto L13;
 									}
 									case 2: {
-										uint64_t n692;
-										uint8_t n693, n694;
-										byte *p690 = at(loadptr(p18 + 40), n522 * 48);
-										if (n522 < load64(p18 + 48)) {
-											if (load8(p690) == 1) {
-												if (load64u(p690 + 8) == n523) {
-													if (load64u(p690 + 16) == n501) {
-														tp_HierWheelWheel_stop(p13, p18, n522, n523);
-														byte *p691 = inside(p18 + 808, n570);
-														store64(p691, load64(p691) - 1);
-														n692 = n523;
-														n693 = 0;
-														n694 = 1;
+										uint64_t n700;
+										uint8_t n701, n702;
+										byte *p698 = at(loadptr(p18 + 40), n528 * 48);
+										if (n528 < load64(p18 + 48)) {
+											if (load8(p698) == 1) {
+												if (load64u(p698 + 8) == n529) {
+													if (load64u(p698 + 16) == n507) {
+														tp_HierWheelWheel_stop(p13, p18, n528, n529);
+														byte *p699 = inside(p18 + 808, n576);
+														store64(p699, load64(p699) - 1);
+														n700 = n529;
+														n701 = 0;
+														n702 = 1;
 													} else {
-														n692 = 0;
-														n693 = 4;
-														n694 = 3;
+														n700 = 0;
+														n701 = 4;
+														n702 = 3;
 													}
 												} else {
-													n692 = 0;
-													n693 = 4;
-													n694 = 3;
+													n700 = 0;
+													n701 = 4;
+													n702 = 3;
 												}
 											} else {
-												n692 = 0;
-												n693 = 4;
-												n694 = 3;
+												n700 = 0;
+												n701 = 4;
+												n702 = 3;
 											}
 										} else {
-											n692 = 0;
-											n693 = 4;
-											n694 = 3;
+											n700 = 0;
+											n701 = 4;
+											n702 = 3;
 										}
-										n573 = n692;
-										n574 = 0;
-										n575 = n694;
-										n576 = n693;
-										n577 = 0;
-										n578 = 0;
+										n579 = n700;
+										n580 = 0;
+										n581 = n702;
+										n582 = n701;
+										n583 = 0;
+										n584 = 0;
 										goto L13;
 									}
 									case 3: {
 										memset(p12, 0, 40);
-										tp_Facility_take_restart(p12, p18, n501, n524, n522, n523, n526, n526, n527);
-										n573 = load64u(p12 + 8);
-										n574 = load64u(p12 + 16);
-										n575 = load8(p12);
-										n576 = load8(p12 + 1);
-										n577 = load64u(p12 + 24);
-										n578 = load64u(p12 + 32);
+										tp_Facility_take_restart(p12, p18, n507, n530, n528, n529, n532, n532, n533);
+										n579 = load64u(p12 + 8);
+										n580 = load64u(p12 + 16);
+										n581 = load8(p12);
+										n582 = load8(p12 + 1);
+										n583 = load64u(p12 + 24);
+										n584 = load64u(p12 + 32);
 										goto L13;
 									}
 									case 4: {
-										uint64_t n695 = usub_sat64(n526, load64(p18 + 16));
+										uint64_t n703 = usub_sat64(n532, load64(p18 + 16));
 										memset(p11, 0, 40);
-										tp_Facility_take_restart(p11, p18, n501, n524, n522, n523, umax64(n695, 1), n695, n527);
-										n573 = load64u(p11 + 8);
-										n574 = load64u(p11 + 16);
-										n575 = load8(p11);
-										n576 = load8(p11 + 1);
-										n577 = load64u(p11 + 24);
-										n578 = load64u(p11 + 32);
+										tp_Facility_take_restart(p11, p18, n507, n530, n528, n529, umax64(n703, 1), n703, n533);
+										n579 = load64u(p11 + 8);
+										n580 = load64u(p11 + 16);
+										n581 = load8(p11);
+										n582 = load8(p11 + 1);
+										n583 = load64u(p11 + 24);
+										n584 = load64u(p11 + 32);
 										goto L13;
 									}
 									default: {
@@ -78453,237 +79012,237 @@ L16:
 									}
 L15:
 									{
-										store64u(p503 + 32, 1);
-										store64u(p503 + 40, n524);
-										store64u(p503 + 48, n562);
-										store64u(p503 + 56, n522);
-										store64u(p503 + 64, n523);
-										store64u(p503 + 72, n526);
-										store64u(p503 + 80, n527);
-										n508 = 0;
-										n509 = 0;
-										n510 = 0;
-										n511 = 0;
-										n512 = 0;
-										n513 = 0;
+										store64u(p509 + 32, 1);
+										store64u(p509 + 40, n530);
+										store64u(p509 + 48, n568);
+										store64u(p509 + 56, n528);
+										store64u(p509 + 64, n529);
+										store64u(p509 + 72, n532);
+										store64u(p509 + 80, n533);
 										n514 = 0;
 										n515 = 0;
 										n516 = 0;
 										n517 = 0;
 										n518 = 0;
-										n519 = 2;
+										n519 = 0;
 										n520 = 0;
 										n521 = 0;
+										n522 = 0;
+										n523 = 0;
+										n524 = 0;
+										n525 = 2;
+										n526 = 0;
+										n527 = 0;
 										goto L12;
 									}
 L13:
 									{
-										store64(p571, n524 + 1);
-										n564 = n573;
-										n565 = 0;
-										n566 = ((uint64_t)n576 << 8) | (uint64_t)n575;
-										n567 = n574;
-										n568 = n577;
-										n569 = n578;
+										store64(p577, n530 + 1);
+										n570 = n579;
+										n571 = 0;
+										n572 = ((uint64_t)n582 << 8) | (uint64_t)n581;
+										n573 = n580;
+										n574 = n583;
+										n575 = n584;
 									}
 								}
 							} else {
-								n564 = 0;
-								n565 = 1;
-								n566 = 1;
-								n567 = 0;
-								n568 = 0;
-								n569 = 0;
+								n570 = 0;
+								n571 = 1;
+								n572 = 1;
+								n573 = 0;
+								n574 = 0;
+								n575 = 0;
 							}
-							if (load8(p503 + 32) == 1)
-								memset(p503 + 32, 0, 56);
-							uint64_t n696 = load64(p503 + 16);
-							uint64_t n697 = load64(p503 + 8);
-							if (n697 > n696) {
-								uint64_t n698 = load64(p503 + 24) + n696;
-								byte *p699 = inside(loadptru(p503), (n698 - ((n698 < n697) ? 0 : n697)) << 6);
-								store64u(p699, n565);
-								store64u(p699 + 8, n524);
-								store64u(p699 + 16, n563);
-								store64u(p699 + 24, n566);
-								store64u(p699 + 32, n564);
-								store64u(p699 + 40, n567);
-								store64u(p699 + 48, n568);
-								store64u(p699 + 56, n569);
-								store64(p503 + 16, load64(p503 + 16) + 1);
-								n508 = n563;
-								n509 = n566;
-								n510 = n564;
-								n511 = n567;
-								n512 = n568;
-								n513 = n522;
-								n514 = n523;
-								n515 = n524;
-								n516 = n562;
-								n517 = n526;
-								n518 = n527;
-								n519 = 3;
-								n520 = n565;
-								n521 = n569;
+							if (load8(p509 + 32) == 1)
+								memset(p509 + 32, 0, 56);
+							uint64_t n704 = load64(p509 + 16);
+							uint64_t n705 = load64(p509 + 8);
+							if (n705 > n704) {
+								uint64_t n706 = load64(p509 + 24) + n704;
+								byte *p707 = inside(loadptru(p509), (n706 - ((n706 < n705) ? 0 : n705)) << 6);
+								store64u(p707, n571);
+								store64u(p707 + 8, n530);
+								store64u(p707 + 16, n569);
+								store64u(p707 + 24, n572);
+								store64u(p707 + 32, n570);
+								store64u(p707 + 40, n573);
+								store64u(p707 + 48, n574);
+								store64u(p707 + 56, n575);
+								store64(p509 + 16, load64(p509 + 16) + 1);
+								n514 = n569;
+								n515 = n572;
+								n516 = n570;
+								n517 = n573;
+								n518 = n574;
+								n519 = n528;
+								n520 = n529;
+								n521 = n530;
+								n522 = n568;
+								n523 = n532;
+								n524 = n533;
+								n525 = 3;
+								n526 = n571;
+								n527 = n575;
 							} else {
-								n508 = n563;
-								n509 = n566;
-								n510 = n564;
-								n511 = n567;
-								n512 = n568;
-								n513 = n522;
-								n514 = n523;
-								n515 = n524;
-								n516 = n562;
-								n517 = n526;
-								n518 = n527;
-								n519 = 3;
-								n520 = n565;
-								n521 = n569;
+								n514 = n569;
+								n515 = n572;
+								n516 = n570;
+								n517 = n573;
+								n518 = n574;
+								n519 = n528;
+								n520 = n529;
+								n521 = n530;
+								n522 = n568;
+								n523 = n532;
+								n524 = n533;
+								n525 = 3;
+								n526 = n571;
+								n527 = n575;
 							}
 						}
 L12:
 						{
-							uint64_t n700 = load64(p16 + 8);
-							byte *p701 = inside(loadptr(p16), n700 * 136);
-							store8(p701, 0);
-							memcpy(p701 + 1, p14, 7);
-							store64u(p701 + 8, n501);
-							store64u(p701 + 16, n519);
-							store64u(p701 + 24, n515);
-							store64u(p701 + 32, n516);
-							store64u(p701 + 40, n513);
-							store64u(p701 + 48, n514);
-							store64u(p701 + 56, n517);
-							store64u(p701 + 64, n518);
-							store64u(p701 + 72, n520);
-							store64u(p701 + 80, n515);
-							store64u(p701 + 88, n508);
-							store64u(p701 + 96, n509);
-							store64u(p701 + 104, n510);
-							store64u(p701 + 112, n511);
-							store64u(p701 + 120, n512);
-							store64u(p701 + 128, n521);
-							store64(p16 + 8, n700 + 1);
+							uint64_t n708 = load64(p16 + 8);
+							byte *p709 = inside(loadptr(p16), n708 * 136);
+							store8(p709, 0);
+							memcpy(p709 + 1, p14, 7);
+							store64u(p709 + 8, n507);
+							store64u(p709 + 16, n525);
+							store64u(p709 + 24, n521);
+							store64u(p709 + 32, n522);
+							store64u(p709 + 40, n519);
+							store64u(p709 + 48, n520);
+							store64u(p709 + 56, n523);
+							store64u(p709 + 64, n524);
+							store64u(p709 + 72, n526);
+							store64u(p709 + 80, n521);
+							store64u(p709 + 88, n514);
+							store64u(p709 + 96, n515);
+							store64u(p709 + 104, n516);
+							store64u(p709 + 112, n517);
+							store64u(p709 + 120, n518);
+							store64u(p709 + 128, n527);
+							store64(p16 + 8, n708 + 1);
 							tp_dispatch_hand_out_and_report(p18, p18 + 1384, p16);
 							goto L17;
 						}
 					}
 					case 4: {
-						uint64_t n706;
-						uint64_t n702 = n501 * 88;
-						byte *p703 = at(loadptr(p18 + 1384), n702);
-						byte *p704 = at(loadptr(p18 + 1360), n702);
-						uint64_t n705 = load64(p703 + 16);
-						if (n705 == 0) {
-							n706 = 0;
+						uint64_t n714;
+						uint64_t n710 = n507 * 88;
+						byte *p711 = at(loadptr(p18 + 1384), n710);
+						byte *p712 = at(loadptr(p18 + 1360), n710);
+						uint64_t n713 = load64(p711 + 16);
+						if (n713 == 0) {
+							n714 = 0;
 						} else {
-							uint64_t n711;
-							uint64_t n707 = load64(p703 + 24);
-							uint64_t n708 = load64(p703 + 8) - n707;
-							if (n705 > n708) {
-								byte *p709 = loadptru(p703);
-								uint64_t n710 = tp_RingInletInlet_put_slice(p704, at(p709, n707 << 6), n708);
-								if (n710 < n708) {
-									n711 = n710;
+							uint64_t n719;
+							uint64_t n715 = load64(p711 + 24);
+							uint64_t n716 = load64(p711 + 8) - n715;
+							if (n713 > n716) {
+								byte *p717 = loadptru(p711);
+								uint64_t n718 = tp_RingInletInlet_put_slice(p712, at(p717, n715 << 6), n716);
+								if (n718 < n716) {
+									n719 = n718;
 								} else {
-									uint64_t n712 = tp_RingInletInlet_put_slice(p704, p709, n705 - n708);
-									n711 = n710 + n712;
+									uint64_t n720 = tp_RingInletInlet_put_slice(p712, p717, n713 - n716);
+									n719 = n718 + n720;
 								}
 							} else {
-								uint64_t n713 = tp_RingInletInlet_put_slice(p704, at(loadptru(p703), n707 << 6), n705);
-								if (n713 >= n705) {
-									if (load64(p703 + 16) == 0) {
-										n706 = n713;
+								uint64_t n721 = tp_RingInletInlet_put_slice(p712, at(loadptru(p711), n715 << 6), n713);
+								if (n721 >= n713) {
+									if (load64(p711 + 16) == 0) {
+										n714 = n721;
 										goto L18;
 									}
-									store64(p703 + 16, 0);
-									n706 = n713;
+									store64(p711 + 16, 0);
+									n714 = n721;
 									goto L18;
 								}
-								n711 = n713;
+								n719 = n721;
 							}
-							tp_Backlog_remove(p703, n711);
-							n706 = n711;
+							tp_Backlog_remove(p711, n719);
+							n714 = n719;
 						}
 L18:
 						{
-							uint64_t n714 = load64(p16 + 8);
-							byte *p715 = inside(loadptr(p16), n714 * 136);
-							store8(p715, 5);
-							memset(p715 + 1, 0, 7);
-							store64u(p715 + 8, n501);
-							store64u(p715 + 16, n706);
-							memset(p715 + 24, 0, 112);
-							store64(p16 + 8, n714 + 1);
+							uint64_t n722 = load64(p16 + 8);
+							byte *p723 = inside(loadptr(p16), n722 * 136);
+							store8(p723, 5);
+							memset(p723 + 1, 0, 7);
+							store64u(p723 + 8, n507);
+							store64u(p723 + 16, n714);
+							memset(p723 + 24, 0, 112);
+							store64(p16 + 8, n722 + 1);
 							goto L17;
 						}
 					}
 					case 1: {
 						if ((load8(p18 + 1320) & 1) != 0) {
-							n716 = 1;
-							n717 = 0;
-							n718 = 0;
-							n719 = 0;
-							n720 = 0;
-							n721 = 0;
-							n722 = 0;
-							n723 = 0;
-							n724 = 0;
+							n724 = 1;
+							n725 = 0;
+							n726 = 0;
+							n727 = 0;
+							n728 = 0;
+							n729 = 0;
+							n730 = 0;
+							n731 = 0;
+							n732 = 0;
 						} else {
-							uint64_t n725 = load64(p18 + 16);
-							if (n725 == load64(p18 + 8)) {
-								n716 = 1;
-								n717 = 1;
-								n718 = 0;
-								n719 = 0;
-								n720 = 0;
-								n721 = 0;
-								n722 = 0;
-								n723 = 0;
-								n724 = 0;
+							uint64_t n733 = load64(p18 + 16);
+							if (n733 == load64(p18 + 8)) {
+								n724 = 1;
+								n725 = 1;
+								n726 = 0;
+								n727 = 0;
+								n728 = 0;
+								n729 = 0;
+								n730 = 0;
+								n731 = 0;
+								n732 = 0;
 							} else {
-								uint64_t n730, n731, n732, n738, n739, n740;
-								uint8_t n726 = load8(p18);
-								uint64_t n727 = n725 + 1;
-								switch (MOSTLY_0(n726)) {
+								uint64_t n738, n739, n740, n746, n747, n748;
+								uint8_t n734 = load8(p18);
+								uint64_t n735 = n733 + 1;
+								switch (MOSTLY_0(n734)) {
 								case 0: {
-									uint64_t n728 = n727 & 63;
-									if (n728 != 0) {
-										n732 = n728;
+									uint64_t n736 = n735 & 63;
+									if (n736 != 0) {
+										n740 = n736;
 										goto L19;
 									}
-									uint8_t n729 = (uint8_t)((uint8_t)cttz64(n727) / 6);
-									n730 = ((uint64_t)n729 << 6) | ((n727 >> ((uint64_t)(uint8_t)(1u * n729 * 6) & 63)) & 63);
-									n731 = 64;
+									uint8_t n737 = (uint8_t)((uint8_t)cttz64(n735) / 6);
+									n738 = ((uint64_t)n737 << 6) | ((n735 >> ((uint64_t)(uint8_t)(1u * n737 * 6) & 63)) & 63);
+									n739 = 64;
 									goto L20;
 								}
 								case 1: {
-									uint32_t n737;
-									uint32_t n733 = (uint32_t)n727;
-									uint32_t n734 = n733 % 60;
-									if (n734 == 0) {
-										uint32_t n735 = (n733 / 60) % 60;
-										if (n735 == 0) {
-											uint32_t n736 = (n733 / 3600) % 24;
-											if (n736 == 0) {
-												n737 = (n733 / 86400) + 144;
+									uint32_t n745;
+									uint32_t n741 = (uint32_t)n735;
+									uint32_t n742 = n741 % 60;
+									if (n742 == 0) {
+										uint32_t n743 = (n741 / 60) % 60;
+										if (n743 == 0) {
+											uint32_t n744 = (n741 / 3600) % 24;
+											if (n744 == 0) {
+												n745 = (n741 / 86400) + 144;
 											} else {
-												n737 = n736 + 120;
+												n745 = n744 + 120;
 											}
 										} else {
-											n737 = n735 + 60;
+											n745 = n743 + 60;
 										}
 									} else {
-										n737 = n734;
+										n745 = n742;
 									}
-									n730 = (uint64_t)n737;
-									n731 = 60;
+									n738 = (uint64_t)n745;
+									n739 = 60;
 									goto L20;
 								}
 								case 2: {
-									n738 = n727;
-									n739 = 0;
+									n746 = n735;
+									n747 = 0;
 									break;
 								}
 								default: {
@@ -78691,172 +79250,172 @@ L18:
 								}
 								}
 								for (;;) {
-									n740 = n738 & 15;
-									if (n740 != 0)
+									n748 = n746 & 15;
+									if (n748 != 0)
 										break;
-									n738 = n738 >> 4;
-									n739 = n739 + 16;
+									n746 = n746 >> 4;
+									n747 = n747 + 16;
 								}
-								n730 = n739 | n740;
-								n731 = 16;
+								n738 = n747 | n748;
+								n739 = 16;
 L20:
 								{
-									if (n730 >= n731) {
-										tp_HierWheel_visit_apart(p18, n730);
-										n716 = 0;
-										n717 = 0;
-										n718 = 0;
-										n719 = 0;
-										n720 = 0;
-										n721 = 0;
-										n722 = 0;
-										n723 = 0;
+									if (n738 >= n739) {
+										tp_HierWheel_visit_apart(p18, n738);
 										n724 = 0;
+										n725 = 0;
+										n726 = 0;
+										n727 = 0;
+										n728 = 0;
+										n729 = 0;
+										n730 = 0;
+										n731 = 0;
+										n732 = 0;
 										goto L21;
 									}
-									n732 = n730;
+									n740 = n738;
 								}
 L19:
 								{
-									byte *p741 = loadptr(p18 + 80);
-									byte *p742 = at(p741, n732 << 3);
-									if (n732 != (uint64_t)load32(p742 + 4)) {
-										uint64_t n743, n744;
-										store64(p18 + 128, load64(p18 + 128) & (((uint64_t)1 << (n732 & 63)) ^ UINT64_MAX));
-										switch (MOSTLY_0(n726)) {
+									byte *p749 = loadptr(p18 + 80);
+									byte *p750 = at(p749, n740 << 3);
+									if (n740 != (uint64_t)load32(p750 + 4)) {
+										uint64_t n751, n752;
+										store64(p18 + 128, load64(p18 + 128) & (((uint64_t)1 << (n740 & 63)) ^ UINT64_MAX));
+										switch (MOSTLY_0(n734)) {
 										case 0: {
-											n743 = 64;
+											n751 = 64;
 											break;
 										}
 										case 1: {
-											n743 = 60;
+											n751 = 60;
 											break;
 										}
 										case 2: {
-											n743 = 16;
+											n751 = 16;
 											break;
 										}
 										default: {
 											UNREACHABLE();
 										}
 										}
-										if (n732 >= n743) {
+										if (n740 >= n751) {
 											if ((load8(p18 + 232) & 1) != 0) {
-												byte *p751 = at(loadptr(p18 + 208), n732 << 4);
-												store64(p18 + 240, load64(p18 + 240) + (uint64_t)((load8(p751) != 0) ? UINT64_MAX : 0));
-												memset(p751, 0, 16);
+												byte *p759 = at(loadptr(p18 + 208), n740 << 4);
+												store64(p18 + 240, load64(p18 + 240) + (uint64_t)((load8(p759) != 0) ? UINT64_MAX : 0));
+												memset(p759, 0, 16);
 											}
-											uint64_t n752 = tp_migration_migrate(n726, p18 + 40, p18 + 128, p18 + 208, n732, n727);
-											store64(p18 + 16, n727);
-											if (n752 == 0) {
-												n716 = 0;
-												n717 = 0;
-												n718 = 0;
-												n719 = 0;
-												n720 = 0;
-												n721 = 0;
-												n722 = 0;
-												n723 = 0;
+											uint64_t n760 = tp_migration_migrate(n734, p18 + 40, p18 + 128, p18 + 208, n740, n735);
+											store64(p18 + 16, n735);
+											if (n760 == 0) {
 												n724 = 0;
+												n725 = 0;
+												n726 = 0;
+												n727 = 0;
+												n728 = 0;
+												n729 = 0;
+												n730 = 0;
+												n731 = 0;
+												n732 = 0;
 												goto L21;
 											}
-											store64(p18 + 256, load64(p18 + 256) + n752);
-											n716 = 0;
-											n717 = 0;
-											n718 = 0;
-											n719 = 0;
-											n720 = 0;
-											n721 = 0;
-											n722 = 0;
-											n723 = 0;
+											store64(p18 + 256, load64(p18 + 256) + n760);
 											n724 = 0;
+											n725 = 0;
+											n726 = 0;
+											n727 = 0;
+											n728 = 0;
+											n729 = 0;
+											n730 = 0;
+											n731 = 0;
+											n732 = 0;
 											goto L21;
 										}
-										switch (MOSTLY_0(n726)) {
+										switch (MOSTLY_0(n734)) {
 										case 0: {
-											n744 = 640;
+											n752 = 640;
 											break;
 										}
 										case 1: {
-											n744 = 244;
+											n752 = 244;
 											break;
 										}
 										case 2: {
-											n744 = 96;
+											n752 = 96;
 											break;
 										}
 										default: {
 											UNREACHABLE();
 										}
 										}
-										uint32_t n745 = load32(p742 + 4);
-										uint64_t n746 = (uint64_t)n745;
-										if (load64(p18 + 104) <= n746) {
-											uint32_t n747 = load32(p742);
-											byte *p748 = at(p741, n744 << 3);
-											uint32_t n749 = load32(p748);
-											store32(inside(p741, (uint64_t)n749 << 3) + 4, n745);
-											store32(inside(p741, n746 << 3), n749);
-											store32(inside(p741, (uint64_t)n747 << 3) + 4, (uint32_t)n744);
-											store32(p748, n747);
-											uint32_t n750 = (uint32_t)n732;
-											store32(p742 + 4, n750);
-											store32(p742, n750);
+										uint32_t n753 = load32(p750 + 4);
+										uint64_t n754 = (uint64_t)n753;
+										if (n740 != n754) {
+											uint32_t n755 = load32(p750);
+											byte *p756 = at(p749, n752 << 3);
+											uint32_t n757 = load32(p756);
+											store32(inside(p749, (uint64_t)n757 << 3) + 4, n753);
+											store32(inside(p749, n754 << 3), n757);
+											store32(inside(p749, (uint64_t)n755 << 3) + 4, (uint32_t)n752);
+											store32(p756, n755);
+											uint32_t n758 = (uint32_t)n740;
+											store32(p750 + 4, n758);
+											store32(p750, n758);
 										}
 									}
-									store64(p18 + 16, n727);
-									n716 = 0;
-									n717 = 0;
-									n718 = 0;
-									n719 = 0;
-									n720 = 0;
-									n721 = 0;
-									n722 = 0;
-									n723 = 0;
+									store64(p18 + 16, n735);
 									n724 = 0;
+									n725 = 0;
+									n726 = 0;
+									n727 = 0;
+									n728 = 0;
+									n729 = 0;
+									n730 = 0;
+									n731 = 0;
+									n732 = 0;
 								}
 							}
 						}
 						break;
 					}
 					case 2: {
-						uint64_t n753, n754, n755;
+						uint64_t n761, n762, n763;
 						if ((load8(p18 + 1320) & 1) != 0) {
-							n753 = 1;
-							n754 = 0;
-							n755 = 0;
+							n761 = 1;
+							n762 = 0;
+							n763 = 0;
 						} else {
-							uint64_t n756 = load64(p18 + 16);
-							uint64_t n757 = load64(p18 + 8);
-							if (n756 == n757) {
-								n753 = 1;
-								n754 = 256;
-								n755 = 0;
+							uint64_t n764 = load64(p18 + 16);
+							uint64_t n765 = load64(p18 + 8);
+							if (n764 == n765) {
+								n761 = 1;
+								n762 = 256;
+								n763 = 0;
 							} else {
-								uint64_t n763;
-								uint64_t n758 = umin64(n757 - n756, n501);
-								uint64_t n759 = n756 + n758;
+								uint64_t n771;
+								uint64_t n766 = umin64(n765 - n764, n507);
+								uint64_t n767 = n764 + n766;
 								switch (MOSTLY_0(load8(p18))) {
 								case 0: {
-									if ((n759 ^ n756) < 64) {
-										uint64_t n760 = load64(p18 + 128);
-										if ((n760 == 0) || ((n759 & 63) < cttz64(n760)))
+									if ((n767 ^ n764) < 64) {
+										uint64_t n768 = load64(p18 + 128);
+										if ((n768 == 0) || ((n767 & 63) < cttz64(n768)))
 											goto L22;
 									}
 									break;
 								}
 								case 1: {
-									if ((n759 / 60) == (n756 / 60)) {
-										uint64_t n761 = load64(p18 + 128);
-										if ((n761 == 0) || ((n759 % 60) < cttz64(n761)))
+									if ((n767 / 60) == (n764 / 60)) {
+										uint64_t n769 = load64(p18 + 128);
+										if ((n769 == 0) || ((n767 % 60) < cttz64(n769)))
 											goto L22;
 									}
 									break;
 								}
 								case 2: {
-									if ((n759 ^ n756) < 16) {
-										uint64_t n762 = load64(p18 + 128);
-										if ((n762 == 0) || ((n759 & 15) < cttz64(n762)))
+									if ((n767 ^ n764) < 16) {
+										uint64_t n770 = load64(p18 + 128);
+										if ((n770 == 0) || ((n767 & 15) < cttz64(n770)))
 											goto L22;
 									}
 									break;
@@ -78865,64 +79424,64 @@ L19:
 									UNREACHABLE();
 								}
 								}
-								n763 = tp_HierWheel_advance_far(p18, n758);
-								n753 = 0;
-								n754 = 0;
-								n755 = n763;
+								n771 = tp_HierWheel_advance_far(p18, n766);
+								n761 = 0;
+								n762 = 0;
+								n763 = n771;
 								goto L23;
 L22:
 								{
-									store64(p18 + 16, n759);
-									store64(p18 + 264, load64(p18 + 264) + n758);
-									n753 = 0;
-									n754 = 0;
-									n755 = n758;
+									store64(p18 + 16, n767);
+									store64(p18 + 264, load64(p18 + 264) + n766);
+									n761 = 0;
+									n762 = 0;
+									n763 = n766;
 								}
 							}
 						}
 L23:
 						{
-							n716 = 0;
-							n717 = 0;
-							n718 = n501;
-							n719 = n501;
-							n720 = n501 & UINT64_C(18446744073709486080);
-							n721 = n753;
-							n722 = n754;
-							n723 = 0;
-							n724 = n755;
+							n724 = 0;
+							n725 = 0;
+							n726 = n507;
+							n727 = n507;
+							n728 = n507 & UINT64_C(18446744073709486080);
+							n729 = n761;
+							n730 = n762;
+							n731 = 0;
+							n732 = n763;
 						}
 						break;
 					}
 					case 3: {
-						uint64_t n764, n765, n766;
+						uint64_t n772, n773, n774;
 						if ((load8(p18 + 1320) & 1) != 0) {
-							n764 = 1;
-							n765 = 0;
-							n766 = 0;
+							n772 = 1;
+							n773 = 0;
+							n774 = 0;
 						} else {
-							uint8_t n767 = tp_facility_take_all(p18, p18 + 1328);
-							if ((n767 & 1) != 0) {
-								n764 = 1;
-								n765 = 256;
-								n766 = 0;
+							uint8_t n775 = tp_facility_take_all(p18, p18 + 1328);
+							if ((n775 & 1) != 0) {
+								n772 = 1;
+								n773 = 256;
+								n774 = 0;
 							} else {
 								store64(p18 + 1352, 0);
 								store8(p18 + 1320, 1);
-								n764 = 0;
-								n765 = 0;
-								n766 = load64(p18 + 1336);
+								n772 = 0;
+								n773 = 0;
+								n774 = load64(p18 + 1336);
 							}
 						}
-						n716 = 0;
-						n717 = 0;
-						n718 = n764;
-						n719 = n765;
-						n720 = 0;
-						n721 = n766;
-						n722 = n766;
-						n723 = n766 & UINT64_C(18446744073709486080);
 						n724 = 0;
+						n725 = 0;
+						n726 = n772;
+						n727 = n773;
+						n728 = 0;
+						n729 = n774;
+						n730 = n774;
+						n731 = n774 & UINT64_C(18446744073709486080);
+						n732 = 0;
 						break;
 					}
 					default: {
@@ -78931,56 +79490,56 @@ L23:
 					}
 L21:
 					{
-						uint64_t n768 = load64(p16 + 8);
-						byte *p769 = inside(loadptr(p16), n768 * 136);
-						store8(p769, n500);
-						store8(p769 + 1, n716);
-						store8(p769 + 2, n717);
-						memset(p769 + 3, 0, 5);
-						store64u(p769 + 8, (n720 | (n719 & 65280)) | (n718 & 255));
-						store64u(p769 + 16, (n723 | (n722 & 65280)) | (n721 & 255));
-						store64u(p769 + 24, n724);
-						memset(p769 + 32, 0, 104);
-						store64(p16 + 8, n768 + 1);
+						uint64_t n776 = load64(p16 + 8);
+						byte *p777 = inside(loadptr(p16), n776 * 136);
+						store8(p777, n506);
+						store8(p777 + 1, n724);
+						store8(p777 + 2, n725);
+						memset(p777 + 3, 0, 5);
+						store64u(p777 + 8, (n728 | (n727 & 65280)) | (n726 & 255));
+						store64u(p777 + 16, (n731 | (n730 & 65280)) | (n729 & 255));
+						store64u(p777 + 24, n732);
+						memset(p777 + 32, 0, 104);
+						store64(p16 + 8, n776 + 1);
 						tp_dispatch_hand_out_and_report(p18, p18 + 1384, p16);
 					}
 L17:
 					{
-						n498 = n498 + 1;
+						n504 = n504 + 1;
 					}
 				}
-				p770 = loadptr(p16);
-				n771 = load64(p16 + 8);
-				n772 = load64(p16 + 16);
-				n773 = 0;
-				n774 = 0;
-				while (n773 != n771) {
-					uint8_t n780;
-					byte *p775 = at(p770, n773 * 136);
-					uint64_t n776 = load64u(p775 + 8);
-					uint64_t n777 = load64u(p775 + 16);
-					switch (MOSTLY_0(load8(p775))) {
+				p778 = loadptr(p16);
+				n779 = load64(p16 + 8);
+				n780 = load64(p16 + 16);
+				n781 = 0;
+				n782 = 0;
+				while (n781 != n779) {
+					uint8_t n788;
+					byte *p783 = at(p778, n781 * 136);
+					uint64_t n784 = load64u(p783 + 8);
+					uint64_t n785 = load64u(p783 + 16);
+					switch (MOSTLY_0(load8(p783))) {
 					case 0: {
-						switch ((uint8_t)n777) {
+						switch ((uint8_t)n785) {
 						case 3: {
-							if (n201 > n776) {
-								byte *p778 = at(p429, n776 << 4);
-								uint64_t n779 = load64(p778);
-								if (n5 > n779) {
-									store64(p778, n779 + 1);
-									n780 = 1;
+							if (n201 > n784) {
+								byte *p786 = at(p431, n784 << 4);
+								uint64_t n787 = load64(p786);
+								if (n5 > n787) {
+									store64(p786, n787 + 1);
+									n788 = 1;
 								} else {
-									n780 = n774;
+									n788 = n782;
 								}
 							} else {
-								n780 = n774;
+								n788 = n782;
 							}
 							break;
 						}
 						case 0:
 						case 1:
 						case 2: {
-							n780 = n774;
+							n788 = n782;
 							break;
 						}
 						default: {
@@ -78990,22 +79549,22 @@ L17:
 						break;
 					}
 					case 5: {
-						if ((n201 <= n776) || (n777 == 0)) {
-							n780 = n774;
+						if ((n201 <= n784) || (n785 == 0)) {
+							n788 = n782;
 						} else {
-							byte *p781 = at(p429, n776 << 4) + 8;
-							uint64_t n782 = load64(p781);
-							uint64_t n783 = n5 << 1;
-							if (n783 > n782) {
-								if (n777 < (n783 - n782)) {
-									store64(p781, n782 + n777);
-									n780 = 1;
+							byte *p789 = at(p431, n784 << 4) + 8;
+							uint64_t n790 = load64(p789);
+							uint64_t n791 = n5 << 1;
+							if (n791 > n790) {
+								if (n785 < (n791 - n790)) {
+									store64(p789, n790 + n785);
+									n788 = 1;
 								} else {
-									store64(p781, n783);
-									n780 = 1;
+									store64(p789, n791);
+									n788 = 1;
 								}
 							} else {
-								n780 = n774;
+								n788 = n782;
 							}
 						}
 						break;
@@ -79014,24 +79573,24 @@ L17:
 					case 2:
 					case 3:
 					case 4: {
-						n780 = n774;
+						n788 = n782;
 						break;
 					}
 					default: {
 						UNREACHABLE();
 					}
 					}
-					n773 = n773 + 1;
-					n774 = n780;
+					n781 = n781 + 1;
+					n782 = n788;
 				}
-				n784 = 0;
+				n792 = 0;
 				for (;;) {
-					if (n784 == n771)
+					if (n792 == n779)
 						goto L24;
-					byte *p785 = at(p770, n784 * 136);
-					switch (MOSTLY_0(load8(p785))) {
+					byte *p793 = at(p778, n792 * 136);
+					switch (MOSTLY_0(load8(p793))) {
 					case 0: {
-						switch (load8(p785 + 16)) {
+						switch (load8(p793 + 16)) {
 						case 2: {
 							goto L25;
 						}
@@ -79057,119 +79616,119 @@ L17:
 						UNREACHABLE();
 					}
 					}
-					n784 = n784 + 1;
+					n792 = n792 + 1;
 				}
 L25:
 				{
-					if (n784 < n771)
+					if (n792 < n779)
 						goto L26;
 				}
 L24:
 				{
-					uint64_t n788;
-					byte *p786 = loadptru(p18 + 1408);
-					uint64_t n787 = load64u(p18 + 1424);
-					storeptru(p18 + 1408, p770);
-					store64u(p18 + 1416, n771);
-					store64u(p18 + 1424, n772);
-					if (n787 != 0)
-						rattle_dealloc(p786);
-					if ((n774 & 1) != 0) {
-						n788 = 0;
+					uint64_t n796;
+					byte *p794 = loadptru(p18 + 1408);
+					uint64_t n795 = load64u(p18 + 1424);
+					storeptru(p18 + 1408, p778);
+					store64u(p18 + 1416, n779);
+					store64u(p18 + 1424, n780);
+					if (n795 != 0)
+						rattle_dealloc(p794);
+					if ((n782 & 1) != 0) {
+						n796 = 0;
 					} else {
-						uint64_t n789 = n462 + 1;
+						uint64_t n797 = n464 + 1;
 						(void)os_sched_yield();
-						uint8_t n790 = load8_volatile((byte *)tp_static);
-						if (n790 != 0) {
+						uint8_t n798 = load8_volatile((byte *)tp_static);
+						if (n798 != 0) {
 							TRAP();
 							UNREACHABLE();
 						}
-						uint8_t n791 = load8_volatile((byte *)tp_static);
-						if (n791 != 0) {
+						uint8_t n799 = load8_volatile((byte *)tp_static);
+						if (n799 != 0) {
 							TRAP();
 							UNREACHABLE();
 						}
-						uint8_t n792 = load8_volatile((byte *)tp_static);
-						if (n792 != 0) {
+						uint8_t n800 = load8_volatile((byte *)tp_static);
+						if (n800 != 0) {
 							TRAP();
 							UNREACHABLE();
 						}
-						n788 = n789;
+						n796 = n797;
 					}
-					n462 = n788;
+					n464 = n796;
 					continue;
 				}
 L8:
 				{
-					p793 = loadptr(p18 + 80);
+					p801 = loadptr(p18 + 80);
 					goto L9;
 				}
 			}
-			n794 = load64(p18);
-			p795 = loadptr(p18 + 40);
-			n796 = load64(p18 + 56);
-			p797 = loadptr(p18 + 80);
-			n798 = load64(p18 + 96);
-			p799 = loadptr(p18 + 208);
-			n800 = load64(p18 + 224);
-			p801 = loadptr(p18 + 1328);
-			n802 = load64(p18 + 1344);
-			p803 = loadptr(p18 + 1360);
-			n804 = load64(p18 + 1368);
-			n805 = load64(p18 + 1376);
-			p806 = loadptr(p18 + 1384);
-			n807 = load64(p18 + 1392);
-			n808 = load64(p18 + 1400);
-			p809 = loadptr(p18 + 1408);
-			n810 = load64(p18 + 1424);
+			n802 = load64(p18);
+			p803 = loadptr(p18 + 40);
+			n804 = load64(p18 + 56);
+			p805 = loadptr(p18 + 80);
+			n806 = load64(p18 + 96);
+			p807 = loadptr(p18 + 208);
+			n808 = load64(p18 + 224);
+			p809 = loadptr(p18 + 1328);
+			n810 = load64(p18 + 1344);
+			p811 = loadptr(p18 + 1360);
+			n812 = load64(p18 + 1368);
+			n813 = load64(p18 + 1376);
+			p814 = loadptr(p18 + 1384);
+			n815 = load64(p18 + 1392);
+			n816 = load64(p18 + 1400);
+			p817 = loadptr(p18 + 1408);
+			n818 = load64(p18 + 1424);
 			if (load64u(p19 + 16) != 0)
 				rattle_dealloc(loadptru(p19));
-			if (b428) {
-				n444 = n794;
-				p445 = p795;
-				n446 = n796;
-				p447 = p797;
-				n448 = n798;
-				p449 = p799;
-				n450 = n800;
-				p451 = p801;
-				n452 = n802;
-				p453 = p803;
-				n454 = n804;
-				n455 = n805;
-				p456 = p806;
-				n457 = n807;
-				n458 = n808;
-				p459 = p809;
-				n460 = n810;
-				n461 = 1;
+			if (b430) {
+				n446 = n802;
+				p447 = p803;
+				n448 = n804;
+				p449 = p805;
+				n450 = n806;
+				p451 = p807;
+				n452 = n808;
+				p453 = p809;
+				n454 = n810;
+				p455 = p811;
+				n456 = n812;
+				n457 = n813;
+				p458 = p814;
+				n459 = n815;
+				n460 = n816;
+				p461 = p817;
+				n462 = n818;
+				n463 = 1;
 				goto L7;
 			}
-			rattle_dealloc(p429);
-			n444 = n794;
-			p445 = p795;
-			n446 = n796;
-			p447 = p797;
-			n448 = n798;
-			p449 = p799;
-			n450 = n800;
-			p451 = p801;
-			n452 = n802;
-			p453 = p803;
-			n454 = n804;
-			n455 = n805;
-			p456 = p806;
-			n457 = n807;
-			n458 = n808;
-			p459 = p809;
-			n460 = n810;
-			n461 = 1;
+			rattle_dealloc(p431);
+			n446 = n802;
+			p447 = p803;
+			n448 = n804;
+			p449 = p805;
+			n450 = n806;
+			p451 = p807;
+			n452 = n808;
+			p453 = p809;
+			n454 = n810;
+			p455 = p811;
+			n456 = n812;
+			n457 = n813;
+			p458 = p814;
+			n459 = n815;
+			n460 = n816;
+			p461 = p817;
+			n462 = n818;
+			n463 = 1;
 			goto L7;
 L26:
 			{
-				if (n772 == 0)
+				if (n780 == 0)
 					goto L10;
-				rattle_dealloc(p770);
+				rattle_dealloc(p778);
 				goto L10;
 			}
 L11:
@@ -79179,206 +79738,206 @@ L11:
 			}
 L10:
 			{
-				uint64_t n811 = load64(p18);
-				byte *p812 = loadptr(p18 + 40);
-				uint64_t n813 = load64(p18 + 56);
-				byte *p814 = loadptr(p18 + 80);
-				uint64_t n815 = load64(p18 + 96);
-				byte *p816 = loadptr(p18 + 208);
-				uint64_t n817 = load64(p18 + 224);
-				byte *p818 = loadptr(p18 + 1328);
-				uint64_t n819 = load64(p18 + 1344);
-				byte *p820 = loadptr(p18 + 1360);
-				uint64_t n821 = load64(p18 + 1368);
-				uint64_t n822 = load64(p18 + 1376);
-				byte *p823 = loadptr(p18 + 1384);
-				uint64_t n824 = load64(p18 + 1392);
-				uint64_t n825 = load64(p18 + 1400);
-				byte *p826 = loadptr(p18 + 1408);
-				uint64_t n827 = load64(p18 + 1424);
+				uint64_t n819 = load64(p18);
+				byte *p820 = loadptr(p18 + 40);
+				uint64_t n821 = load64(p18 + 56);
+				byte *p822 = loadptr(p18 + 80);
+				uint64_t n823 = load64(p18 + 96);
+				byte *p824 = loadptr(p18 + 208);
+				uint64_t n825 = load64(p18 + 224);
+				byte *p826 = loadptr(p18 + 1328);
+				uint64_t n827 = load64(p18 + 1344);
+				byte *p828 = loadptr(p18 + 1360);
+				uint64_t n829 = load64(p18 + 1368);
+				uint64_t n830 = load64(p18 + 1376);
+				byte *p831 = loadptr(p18 + 1384);
+				uint64_t n832 = load64(p18 + 1392);
+				uint64_t n833 = load64(p18 + 1400);
+				byte *p834 = loadptr(p18 + 1408);
+				uint64_t n835 = load64(p18 + 1424);
 				if (load64u(p19 + 16) != 0)
 					rattle_dealloc(loadptru(p19));
-				rattle_dealloc(p429);
-				n444 = n811;
-				p445 = p812;
-				n446 = n813;
-				p447 = p814;
-				n448 = n815;
-				p449 = p816;
-				n450 = n817;
-				p451 = p818;
-				n452 = n819;
-				p453 = p820;
-				n454 = n821;
-				n455 = n822;
-				p456 = p823;
-				n457 = n824;
-				n458 = n825;
-				p459 = p826;
-				n460 = n827;
-				n461 = 2;
+				rattle_dealloc(p431);
+				n446 = n819;
+				p447 = p820;
+				n448 = n821;
+				p449 = p822;
+				n450 = n823;
+				p451 = p824;
+				n452 = n825;
+				p453 = p826;
+				n454 = n827;
+				p455 = p828;
+				n456 = n829;
+				n457 = n830;
+				p458 = p831;
+				n459 = n832;
+				n460 = n833;
+				p461 = p834;
+				n462 = n835;
+				n463 = 2;
 				goto L7;
 			}
 L9:
 			{
-				uint64_t n828 = load64(p18);
-				byte *p829 = loadptr(p18 + 40);
-				uint64_t n830 = load64(p18 + 56);
-				uint64_t n831 = load64(p18 + 96);
-				byte *p832 = loadptr(p18 + 208);
-				uint64_t n833 = load64(p18 + 224);
-				byte *p834 = loadptr(p18 + 1328);
-				uint64_t n835 = load64(p18 + 1344);
-				byte *p836 = loadptr(p18 + 1360);
-				uint64_t n837 = load64(p18 + 1368);
-				uint64_t n838 = load64(p18 + 1376);
-				byte *p839 = loadptr(p18 + 1384);
-				uint64_t n840 = load64(p18 + 1392);
-				uint64_t n841 = load64(p18 + 1400);
-				byte *p842 = loadptr(p18 + 1408);
-				uint64_t n843 = load64(p18 + 1424);
+				uint64_t n836 = load64(p18);
+				byte *p837 = loadptr(p18 + 40);
+				uint64_t n838 = load64(p18 + 56);
+				uint64_t n839 = load64(p18 + 96);
+				byte *p840 = loadptr(p18 + 208);
+				uint64_t n841 = load64(p18 + 224);
+				byte *p842 = loadptr(p18 + 1328);
+				uint64_t n843 = load64(p18 + 1344);
+				byte *p844 = loadptr(p18 + 1360);
+				uint64_t n845 = load64(p18 + 1368);
+				uint64_t n846 = load64(p18 + 1376);
+				byte *p847 = loadptr(p18 + 1384);
+				uint64_t n848 = load64(p18 + 1392);
+				uint64_t n849 = load64(p18 + 1400);
+				byte *p850 = loadptr(p18 + 1408);
+				uint64_t n851 = load64(p18 + 1424);
 				if (load64u(p19 + 16) != 0)
 					rattle_dealloc(loadptru(p19));
-				if (b428) {
-					n444 = n828;
-					p445 = p829;
-					n446 = n830;
-					p447 = p793;
-					n448 = n831;
-					p449 = p832;
-					n450 = n833;
-					p451 = p834;
-					n452 = n835;
-					p453 = p836;
-					n454 = n837;
-					n455 = n838;
-					p456 = p839;
-					n457 = n840;
-					n458 = n841;
-					p459 = p842;
-					n460 = n843;
-					n461 = 0;
+				if (b430) {
+					n446 = n836;
+					p447 = p837;
+					n448 = n838;
+					p449 = p801;
+					n450 = n839;
+					p451 = p840;
+					n452 = n841;
+					p453 = p842;
+					n454 = n843;
+					p455 = p844;
+					n456 = n845;
+					n457 = n846;
+					p458 = p847;
+					n459 = n848;
+					n460 = n849;
+					p461 = p850;
+					n462 = n851;
+					n463 = 0;
 				} else {
-					rattle_dealloc(p429);
-					n444 = n828;
-					p445 = p829;
-					n446 = n830;
-					p447 = p793;
-					n448 = n831;
-					p449 = p832;
-					n450 = n833;
-					p451 = p834;
-					n452 = n835;
-					p453 = p836;
-					n454 = n837;
-					n455 = n838;
-					p456 = p839;
-					n457 = n840;
-					n458 = n841;
-					p459 = p842;
-					n460 = n843;
-					n461 = 0;
+					rattle_dealloc(p431);
+					n446 = n836;
+					p447 = p837;
+					n448 = n838;
+					p449 = p801;
+					n450 = n839;
+					p451 = p840;
+					n452 = n841;
+					p453 = p842;
+					n454 = n843;
+					p455 = p844;
+					n456 = n845;
+					n457 = n846;
+					p458 = p847;
+					n459 = n848;
+					n460 = n849;
+					p461 = p850;
+					n462 = n851;
+					n463 = 0;
 				}
 			}
 		}
 L7:
 		{
-			uint64_t n866, n867, n868, n869;
-			uint8_t n844 = load8_volatile((byte *)tp_static);
-			if (n844 != 0) {
+			uint64_t n874, n875, n876, n877;
+			uint8_t n852 = load8_volatile((byte *)tp_static);
+			if (n852 != 0) {
 				TRAP();
 				UNREACHABLE();
 			}
 			tp_Children_join(p198, p194);
-			uint8_t n845 = load8_volatile((byte *)tp_static);
-			if (n845 != 0) {
+			uint8_t n853 = load8_volatile((byte *)tp_static);
+			if (n853 != 0) {
 				TRAP();
 				UNREACHABLE();
 			}
-			byte *p846 = loadptru(p198);
-			uint64_t n847 = load64u(p198 + 8);
-			uint64_t n848 = load64u(p198 + 16);
-			switch (n461) {
+			byte *p854 = loadptru(p198);
+			uint64_t n855 = load64u(p198 + 8);
+			uint64_t n856 = load64u(p198 + 16);
+			switch (n463) {
 			case 2: {
-				uint64_t n849;
-				if (n847 == 0)
+				uint64_t n857;
+				if (n855 == 0)
 					goto L27;
-				n849 = 0;
-				while (n849 != n847) {
-					byte *p850 = inside(p846, n849 * 112);
-					byte *p851 = loadptru(p850 + 24);
-					byte *p852 = loadptru(p850 + 32);
-					uint64_t n853 = load64u(p850 + 40);
+				n857 = 0;
+				while (n857 != n855) {
+					byte *p858 = inside(p854, n857 * 112);
+					byte *p859 = loadptru(p858 + 24);
+					byte *p860 = loadptru(p858 + 32);
+					uint64_t n861 = load64u(p858 + 40);
 					BARRIER();
-					uint64_t n854 = atomic_exchange64(p851 + 256, 1, ORDER_SEQ_CST);
+					uint64_t n862 = atomic_exchange64(p859 + 256, 1, ORDER_SEQ_CST);
 					BARRIER();
-					if (n854 != 0)
-						tp_release_drop_slow(p851, p852, n853);
-					n849 = n849 + 1;
+					if (n862 != 0)
+						tp_release_drop_slow(p859, p860, n861);
+					n857 = n857 + 1;
 				}
 L27:
 				{
-					uint64_t n855;
-					if (n848 != 0)
-						rattle_dealloc(p846);
-					if (n446 != 0)
-						rattle_dealloc(p445);
+					uint64_t n863;
+					if (n856 != 0)
+						rattle_dealloc(p854);
 					if (n448 != 0)
 						rattle_dealloc(p447);
 					if (n450 != 0)
 						rattle_dealloc(p449);
 					if (n452 != 0)
 						rattle_dealloc(p451);
-					if (n454 == 0)
+					if (n454 != 0)
+						rattle_dealloc(p453);
+					if (n456 == 0)
 						goto L28;
-					n855 = 0;
-					while (n855 != n454) {
-						byte *p856 = inside(p453, n855 * 88);
-						byte *p857 = loadptru(p856);
-						byte *p858 = loadptru(p856 + 8);
-						uint64_t n859 = load64u(p856 + 16);
-						byte *p860 = loadptru(p856 + 40);
-						byte *p861 = loadptru(p856 + 48);
-						uint64_t n862 = load64u(p856 + 56);
+					n863 = 0;
+					while (n863 != n456) {
+						byte *p864 = inside(p455, n863 * 88);
+						byte *p865 = loadptru(p864);
+						byte *p866 = loadptru(p864 + 8);
+						uint64_t n867 = load64u(p864 + 16);
+						byte *p868 = loadptru(p864 + 40);
+						byte *p869 = loadptru(p864 + 48);
+						uint64_t n870 = load64u(p864 + 56);
 						BARRIER();
-						uint64_t n863 = atomic_exchange64(p857 + 256, 1, ORDER_SEQ_CST);
+						uint64_t n871 = atomic_exchange64(p865 + 256, 1, ORDER_SEQ_CST);
 						BARRIER();
-						if (n863 != 0)
-							tp_release_drop_slow(p857, p858, n859);
+						if (n871 != 0)
+							tp_release_drop_slow(p865, p866, n867);
 						BARRIER();
-						uint64_t n864 = atomic_exchange64(p860 + 256, 1, ORDER_SEQ_CST);
+						uint64_t n872 = atomic_exchange64(p868 + 256, 1, ORDER_SEQ_CST);
 						BARRIER();
-						if (n864 != 0)
-							tp_release_drop_slow(p860, p861, n862);
-						n855 = n855 + 1;
+						if (n872 != 0)
+							tp_release_drop_slow(p868, p869, n870);
+						n863 = n863 + 1;
 					}
 L28:
 					{
-						uint64_t n865;
-						if (n455 != 0)
-							rattle_dealloc(p453);
-						if (n457 == 0)
+						uint64_t n873;
+						if (n457 != 0)
+							rattle_dealloc(p455);
+						if (n459 == 0)
 							goto L29;
-						n865 = 0;
-						while (n865 != n457) {
-							rattle_dealloc(loadptru(inside(p456, n865 * 88)));
-							n865 = n865 + 1;
+						n873 = 0;
+						while (n873 != n459) {
+							rattle_dealloc(loadptru(inside(p458, n873 * 88)));
+							n873 = n873 + 1;
 						}
 L29:
 						{
-							if (n458 != 0)
-								rattle_dealloc(p456);
-							if (n460 == 0) {
-								n866 = 1;
-								n867 = 0;
-								n868 = 0;
-								n869 = 0;
+							if (n460 != 0)
+								rattle_dealloc(p458);
+							if (n462 == 0) {
+								n874 = 1;
+								n875 = 0;
+								n876 = 0;
+								n877 = 0;
 							} else {
-								rattle_dealloc(p459);
-								n866 = 1;
-								n867 = 0;
-								n868 = 0;
-								n869 = 0;
+								rattle_dealloc(p461);
+								n874 = 1;
+								n875 = 0;
+								n876 = 0;
+								n877 = 0;
 							}
 						}
 					}
@@ -79387,61 +79946,61 @@ L29:
 			}
 			case 0:
 			case 1: {
-				bool b871;
-				uint64_t n873;
-				uint64_t n870 = 0;
+				bool b879;
+				uint64_t n881;
+				uint64_t n878 = 0;
 				for (;;) {
-					b871 = n870 != n847;
-					if (!b871) {
-						n873 = 0;
+					b879 = n878 != n855;
+					if (!b879) {
+						n881 = 0;
 						break;
 					}
-					byte *p872 = at(p846, n870 * 112);
-					if ((load8(p872 + 96) & 1) != 0) {
-						n873 = n870;
+					byte *p880 = at(p854, n878 * 112);
+					if ((load8(p880 + 96) & 1) != 0) {
+						n881 = n878;
 						break;
 					}
-					if (load8(p872) != 1) {
-						n873 = n870;
+					if (load8(p880) != 1) {
+						n881 = n878;
 						break;
 					}
-					n870 = n870 + 1;
+					n878 = n878 + 1;
 				}
 				storeptru(p10, p6);
 				memset(p10 + 8, 0, 16);
-				uint64_t n874 = 0;
-				uint64_t n875 = 0;
+				uint64_t n882 = 0;
+				uint64_t n883 = 0;
 				for (;;) {
-					uint64_t n883;
-					if (n875 == n847)
+					uint64_t n891;
+					if (n883 == n855)
 						goto L30;
-					byte *p876 = at(p846, n875 * 112);
-					uint8_t n877 = tp_threads_text_push_count(p10, (byte *)tp_static_306, 7, n875);
-					if ((n877 & 1) != 0)
+					byte *p884 = at(p854, n883 * 112);
+					uint8_t n885 = tp_threads_text_push_count(p10, (byte *)tp_static_306, 7, n883);
+					if ((n885 & 1) != 0)
 						break;
-					uint8_t n878 = tp_threads_text_push_count(p10, (byte *)tp_static_307, 6, load64(p876 + 72));
-					if ((n878 & 1) != 0)
+					uint8_t n886 = tp_threads_text_push_count(p10, (byte *)tp_static_307, 6, load64(p884 + 72));
+					if ((n886 & 1) != 0)
 						break;
-					uint8_t n879 = tp_threads_text_push_count(p10, (byte *)tp_static_308, 9, load64(p876 + 80));
-					if ((n879 & 1) != 0)
+					uint8_t n887 = tp_threads_text_push_count(p10, (byte *)tp_static_308, 9, load64(p884 + 80));
+					if ((n887 & 1) != 0)
 						break;
-					uint8_t n880 = tp_threads_text_push_count(p10, (byte *)tp_static_309, 9, load64(p876 + 88));
-					if ((n880 & 1) != 0)
+					uint8_t n888 = tp_threads_text_push_count(p10, (byte *)tp_static_309, 9, load64(p884 + 88));
+					if ((n888 & 1) != 0)
 						break;
-					uint64_t n881 = load64(p10 + 8);
-					if (load64(p10 + 16) == n881) {
-						bool b882 = tp_std_alloc_vec_Vec_grow_amortized_6(p10, 1);
-						if (!b882)
+					uint64_t n889 = load64(p10 + 8);
+					if (load64(p10 + 16) == n889) {
+						bool b890 = tp_std_alloc_vec_Vec_grow_amortized_6(p10, 1);
+						if (!b890)
 							break;
-						n883 = load64(p10 + 8);
+						n891 = load64(p10 + 8);
 					} else {
-						n883 = n881;
+						n891 = n889;
 					}
-					store8(inside(loadptr(p10), n883), 10);
-					uint64_t n884 = n883 + 1;
-					store64(p10 + 8, n884);
-					n874 = n884;
-					n875 = n875 + 1;
+					store8(inside(loadptr(p10), n891), 10);
+					uint64_t n892 = n891 + 1;
+					store64(p10 + 8, n892);
+					n882 = n892;
+					n883 = n883 + 1;
 				}
 				if (load64u(p10 + 16) == 0)
 					goto L31;
@@ -79449,605 +80008,605 @@ L29:
 				goto L31;
 L30:
 				{
-					uint64_t n887, n888, n891;
-					uint64_t n885 = load64(p10 + 16);
-					if ((n885 - n874) < 4) {
-						bool b886 = tp_std_alloc_vec_Vec_grow_amortized_6(p10, 4);
-						if (!b886) {
+					uint64_t n895, n896, n899;
+					uint64_t n893 = load64(p10 + 16);
+					if ((n893 - n882) < 4) {
+						bool b894 = tp_std_alloc_vec_Vec_grow_amortized_6(p10, 4);
+						if (!b894) {
 							if (load64u(p10 + 16) == 0)
 								goto L31;
 							rattle_dealloc(loadptru(p10));
 							goto L31;
 						}
-						n887 = load64(p10 + 16);
-						n888 = load64(p10 + 8);
+						n895 = load64(p10 + 16);
+						n896 = load64(p10 + 8);
 					} else {
-						n887 = n885;
-						n888 = n874;
+						n895 = n893;
+						n896 = n882;
 					}
-					byte *p889 = loadptr(p10);
-					byte *p890 = at(p889, n888);
-					if (((uint64_t)(uintptr_t)p890 - (uint64_t)(uintptr_t)(byte *)tp_static_305) >= 4) {
-						store32u(p890, 174354021);
+					byte *p897 = loadptr(p10);
+					byte *p898 = at(p897, n896);
+					if (((uint64_t)(uintptr_t)p898 - (uint64_t)(uintptr_t)(byte *)tp_static_305) >= 4) {
+						store32u(p898, 174354021);
 						goto L32;
 					}
-					n891 = 0;
-					while (n891 != 4) {
-						store8(inside(p890, n891), load8(inside((byte *)tp_static_305, n891)));
-						n891 = n891 + 1;
+					n899 = 0;
+					while (n899 != 4) {
+						store8(inside(p898, n899), load8(inside((byte *)tp_static_305, n899)));
+						n899 = n899 + 1;
 					}
 L32:
 					{
-						byte *p895, *p896;
-						uint64_t n892 = n888 + 4;
-						uint64_t n893 = (uint64_t)(uintptr_t)p889;
+						byte *p903, *p904;
+						uint64_t n900 = n896 + 4;
+						uint64_t n901 = (uint64_t)(uintptr_t)p897;
 						memset(p7, 0, 16);
 						memset(p8, 0, 40);
 						memset(p9, 0, 40);
-						bool b894 = n847 == 0;
-						if (!b894) {
-							uint64_t n906;
-							if (n847 <= UINT64_C(576460752303423487)) {
-								of_i64_i64 s897 = rattle_alloc(n847 << 4, 8);
-								if ((s897.f0 & 1) != 0) {
-									byte *p898 = (byte *)(uintptr_t)s897.f1;
-									if (n847 <= UINT64_C(192153584101141162)) {
-										of_i64_i64 s899 = rattle_alloc(n847 * 48, 8);
-										if ((s899.f0 & 1) != 0) {
-											p895 = p898;
-											p896 = (byte *)(uintptr_t)s899.f1;
+						bool b902 = n855 == 0;
+						if (!b902) {
+							uint64_t n914;
+							if (n855 <= UINT64_C(576460752303423487)) {
+								of_i64_i64 s905 = rattle_alloc(n855 << 4, 8);
+								if ((s905.f0 & 1) != 0) {
+									byte *p906 = (byte *)(uintptr_t)s905.f1;
+									if (n855 <= UINT64_C(192153584101141162)) {
+										of_i64_i64 s907 = rattle_alloc(n855 * 48, 8);
+										if ((s907.f0 & 1) != 0) {
+											p903 = p906;
+											p904 = (byte *)(uintptr_t)s907.f1;
 											goto L33;
 										}
 									}
-									rattle_dealloc(p898);
-									uint64_t n900 = 0;
-									while (n900 != n847) {
-										byte *p901 = inside(p846, n900 * 112);
-										byte *p902 = loadptru(p901 + 24);
-										byte *p903 = loadptru(p901 + 32);
-										uint64_t n904 = load64u(p901 + 40);
+									rattle_dealloc(p906);
+									uint64_t n908 = 0;
+									while (n908 != n855) {
+										byte *p909 = inside(p854, n908 * 112);
+										byte *p910 = loadptru(p909 + 24);
+										byte *p911 = loadptru(p909 + 32);
+										uint64_t n912 = load64u(p909 + 40);
 										BARRIER();
-										uint64_t n905 = atomic_exchange64(p902 + 256, 1, ORDER_SEQ_CST);
+										uint64_t n913 = atomic_exchange64(p910 + 256, 1, ORDER_SEQ_CST);
 										BARRIER();
-										if (n905 != 0)
-											tp_release_drop_slow(p902, p903, n904);
-										n900 = n900 + 1;
+										if (n913 != 0)
+											tp_release_drop_slow(p910, p911, n912);
+										n908 = n908 + 1;
 									}
-									if (n848 == 0)
+									if (n856 == 0)
 										goto L34;
-									rattle_dealloc(p846);
+									rattle_dealloc(p854);
 									goto L34;
 								}
 							}
-							n906 = 0;
-							while (n906 != n847) {
-								byte *p907 = inside(p846, n906 * 112);
-								byte *p908 = loadptru(p907 + 24);
-								byte *p909 = loadptru(p907 + 32);
-								uint64_t n910 = load64u(p907 + 40);
+							n914 = 0;
+							while (n914 != n855) {
+								byte *p915 = inside(p854, n914 * 112);
+								byte *p916 = loadptru(p915 + 24);
+								byte *p917 = loadptru(p915 + 32);
+								uint64_t n918 = load64u(p915 + 40);
 								BARRIER();
-								uint64_t n911 = atomic_exchange64(p908 + 256, 1, ORDER_SEQ_CST);
+								uint64_t n919 = atomic_exchange64(p916 + 256, 1, ORDER_SEQ_CST);
 								BARRIER();
-								if (n911 != 0)
-									tp_release_drop_slow(p908, p909, n910);
-								n906 = n906 + 1;
+								if (n919 != 0)
+									tp_release_drop_slow(p916, p917, n918);
+								n914 = n914 + 1;
 							}
-							if (n848 != 0)
-								rattle_dealloc(p846);
+							if (n856 != 0)
+								rattle_dealloc(p854);
 L34:
 							{
-								uint64_t n912;
-								if (n887 != 0)
-									rattle_dealloc(p889);
-								if (n446 != 0)
-									rattle_dealloc(p445);
+								uint64_t n920;
+								if (n895 != 0)
+									rattle_dealloc(p897);
 								if (n448 != 0)
 									rattle_dealloc(p447);
 								if (n450 != 0)
 									rattle_dealloc(p449);
 								if (n452 != 0)
 									rattle_dealloc(p451);
-								if (n454 == 0)
+								if (n454 != 0)
+									rattle_dealloc(p453);
+								if (n456 == 0)
 									goto L35;
-								n912 = 0;
-								while (n912 != n454) {
-									byte *p913 = inside(p453, n912 * 88);
-									byte *p914 = loadptru(p913);
-									byte *p915 = loadptru(p913 + 8);
-									uint64_t n916 = load64u(p913 + 16);
-									byte *p917 = loadptru(p913 + 40);
-									byte *p918 = loadptru(p913 + 48);
-									uint64_t n919 = load64u(p913 + 56);
+								n920 = 0;
+								while (n920 != n456) {
+									byte *p921 = inside(p455, n920 * 88);
+									byte *p922 = loadptru(p921);
+									byte *p923 = loadptru(p921 + 8);
+									uint64_t n924 = load64u(p921 + 16);
+									byte *p925 = loadptru(p921 + 40);
+									byte *p926 = loadptru(p921 + 48);
+									uint64_t n927 = load64u(p921 + 56);
 									BARRIER();
-									uint64_t n920 = atomic_exchange64(p914 + 256, 1, ORDER_SEQ_CST);
+									uint64_t n928 = atomic_exchange64(p922 + 256, 1, ORDER_SEQ_CST);
 									BARRIER();
-									if (n920 != 0)
-										tp_release_drop_slow(p914, p915, n916);
+									if (n928 != 0)
+										tp_release_drop_slow(p922, p923, n924);
 									BARRIER();
-									uint64_t n921 = atomic_exchange64(p917 + 256, 1, ORDER_SEQ_CST);
+									uint64_t n929 = atomic_exchange64(p925 + 256, 1, ORDER_SEQ_CST);
 									BARRIER();
-									if (n921 != 0)
-										tp_release_drop_slow(p917, p918, n919);
-									n912 = n912 + 1;
+									if (n929 != 0)
+										tp_release_drop_slow(p925, p926, n927);
+									n920 = n920 + 1;
 								}
 L35:
 								{
-									uint64_t n922;
-									if (n455 != 0)
-										rattle_dealloc(p453);
-									if (n457 == 0)
+									uint64_t n930;
+									if (n457 != 0)
+										rattle_dealloc(p455);
+									if (n459 == 0)
 										goto L36;
-									n922 = 0;
-									while (n922 != n457) {
-										rattle_dealloc(loadptru(inside(p456, n922 * 88)));
-										n922 = n922 + 1;
+									n930 = 0;
+									while (n930 != n459) {
+										rattle_dealloc(loadptru(inside(p458, n930 * 88)));
+										n930 = n930 + 1;
 									}
 L36:
 									{
-										if (n458 != 0)
-											rattle_dealloc(p456);
-										if (n460 == 0) {
-											n866 = 1;
-											n867 = 0;
-											n868 = 0;
-											n869 = 0;
+										if (n460 != 0)
+											rattle_dealloc(p458);
+										if (n462 == 0) {
+											n874 = 1;
+											n875 = 0;
+											n876 = 0;
+											n877 = 0;
 											goto L37;
 										}
-										rattle_dealloc(p459);
-										n866 = 1;
-										n867 = 0;
-										n868 = 0;
-										n869 = 0;
+										rattle_dealloc(p461);
+										n874 = 1;
+										n875 = 0;
+										n876 = 0;
+										n877 = 0;
 										goto L37;
 									}
 								}
 							}
 						}
-						p895 = p6;
-						p896 = p6;
+						p903 = p6;
+						p904 = p6;
 L33:
 						{
-							uint64_t n925, n926, n932, n937, n938, n955;
-							byte *p930, *p931;
-							uint8_t n956;
-							uint64_t n923 = 0;
-							uint64_t n924 = n847;
+							uint64_t n933, n934, n940, n945, n946, n963;
+							byte *p938, *p939;
+							uint8_t n964;
+							uint64_t n931 = 0;
+							uint64_t n932 = n855;
 							for (;;) {
-								if (n924 == 0)
+								if (n932 == 0)
 									goto L38;
-								n925 = n923 + 1;
-								n926 = n924 - 1;
-								byte *p927 = inside(p846, n923 * 112);
-								byte *p928 = loadptru(p927 + 8);
-								byte *p929 = loadptru(p927 + 16);
-								p930 = loadptru(p927 + 24);
-								p931 = loadptru(p927 + 32);
-								n932 = load64u(p927 + 40);
-								uint64_t n933 = load64u(p927 + 64);
-								uint8_t n934 = load8(p927);
-								memcpy(p7, p927 + 48, 16);
-								if (n934 != 1)
+								n933 = n931 + 1;
+								n934 = n932 - 1;
+								byte *p935 = inside(p854, n931 * 112);
+								byte *p936 = loadptru(p935 + 8);
+								byte *p937 = loadptru(p935 + 16);
+								p938 = loadptru(p935 + 24);
+								p939 = loadptru(p935 + 32);
+								n940 = load64u(p935 + 40);
+								uint64_t n941 = load64u(p935 + 64);
+								uint8_t n942 = load8(p935);
+								memcpy(p7, p935 + 48, 16);
+								if (n942 != 1)
 									break;
-								byte *p935 = inside(p895, n923 << 4);
-								storeptru(p935, p928);
-								storeptru(p935 + 8, p929);
-								byte *p936 = inside(p896, n923 * 48);
-								storeptru(p936, p930);
-								storeptru(p936 + 8, p931);
-								store64u(p936 + 16, n932);
-								memcpy(p936 + 24, p7, 16);
-								store64u(p936 + 40, n933);
-								n923 = n925;
-								n924 = n926;
+								byte *p943 = inside(p903, n931 << 4);
+								storeptru(p943, p936);
+								storeptru(p943 + 8, p937);
+								byte *p944 = inside(p904, n931 * 48);
+								storeptru(p944, p938);
+								storeptru(p944 + 8, p939);
+								store64u(p944 + 16, n940);
+								memcpy(p944 + 24, p7, 16);
+								store64u(p944 + 40, n941);
+								n931 = n933;
+								n932 = n934;
 							}
 							BARRIER();
-							n937 = atomic_exchange64(p930 + 256, 1, ORDER_SEQ_CST);
+							n945 = atomic_exchange64(p938 + 256, 1, ORDER_SEQ_CST);
 							BARRIER();
-							if (n937 != 0)
-								tp_release_drop_slow(p930, p931, n932);
-							storeptru(p8, p846);
-							store64u(p8 + 8, n926);
-							store64u(p8 + 16, n848);
-							store64u(p8 + 24, n925);
+							if (n945 != 0)
+								tp_release_drop_slow(p938, p939, n940);
+							storeptru(p8, p854);
+							store64u(p8 + 8, n934);
+							store64u(p8 + 16, n856);
+							store64u(p8 + 24, n933);
 							store64u(p8 + 32, 0);
 							tp_VecDeque_drop(p8);
-							if (n923 == 0)
+							if (n931 == 0)
 								goto L39;
-							n938 = 0;
-							while (n938 != n923) {
-								byte *p939 = inside(p896, n938 * 48);
-								byte *p940 = loadptru(p939);
-								byte *p941 = loadptru(p939 + 8);
-								uint64_t n942 = load64u(p939 + 16);
+							n946 = 0;
+							while (n946 != n931) {
+								byte *p947 = inside(p904, n946 * 48);
+								byte *p948 = loadptru(p947);
+								byte *p949 = loadptru(p947 + 8);
+								uint64_t n950 = load64u(p947 + 16);
 								BARRIER();
-								uint64_t n943 = atomic_exchange64(p940 + 256, 1, ORDER_SEQ_CST);
+								uint64_t n951 = atomic_exchange64(p948 + 256, 1, ORDER_SEQ_CST);
 								BARRIER();
-								if (n943 != 0)
-									tp_release_drop_slow(p940, p941, n942);
-								n938 = n938 + 1;
+								if (n951 != 0)
+									tp_release_drop_slow(p948, p949, n950);
+								n946 = n946 + 1;
 							}
 L39:
 							{
-								uint64_t n944;
-								if (!b894) {
-									rattle_dealloc(p896);
-									rattle_dealloc(p895);
+								uint64_t n952;
+								if (!b902) {
+									rattle_dealloc(p904);
+									rattle_dealloc(p903);
 								}
-								if (n446 != 0)
-									rattle_dealloc(p445);
 								if (n448 != 0)
 									rattle_dealloc(p447);
 								if (n450 != 0)
 									rattle_dealloc(p449);
 								if (n452 != 0)
 									rattle_dealloc(p451);
-								if (n454 == 0)
+								if (n454 != 0)
+									rattle_dealloc(p453);
+								if (n456 == 0)
 									goto L40;
-								n944 = 0;
-								while (n944 != n454) {
-									byte *p945 = inside(p453, n944 * 88);
-									byte *p946 = loadptru(p945);
-									byte *p947 = loadptru(p945 + 8);
-									uint64_t n948 = load64u(p945 + 16);
-									byte *p949 = loadptru(p945 + 40);
-									byte *p950 = loadptru(p945 + 48);
-									uint64_t n951 = load64u(p945 + 56);
+								n952 = 0;
+								while (n952 != n456) {
+									byte *p953 = inside(p455, n952 * 88);
+									byte *p954 = loadptru(p953);
+									byte *p955 = loadptru(p953 + 8);
+									uint64_t n956 = load64u(p953 + 16);
+									byte *p957 = loadptru(p953 + 40);
+									byte *p958 = loadptru(p953 + 48);
+									uint64_t n959 = load64u(p953 + 56);
 									BARRIER();
-									uint64_t n952 = atomic_exchange64(p946 + 256, 1, ORDER_SEQ_CST);
+									uint64_t n960 = atomic_exchange64(p954 + 256, 1, ORDER_SEQ_CST);
 									BARRIER();
-									if (n952 != 0)
-										tp_release_drop_slow(p946, p947, n948);
+									if (n960 != 0)
+										tp_release_drop_slow(p954, p955, n956);
 									BARRIER();
-									uint64_t n953 = atomic_exchange64(p949 + 256, 1, ORDER_SEQ_CST);
+									uint64_t n961 = atomic_exchange64(p957 + 256, 1, ORDER_SEQ_CST);
 									BARRIER();
-									if (n953 != 0)
-										tp_release_drop_slow(p949, p950, n951);
-									n944 = n944 + 1;
+									if (n961 != 0)
+										tp_release_drop_slow(p957, p958, n959);
+									n952 = n952 + 1;
 								}
 L40:
 								{
-									uint64_t n954;
-									if (n455 != 0)
-										rattle_dealloc(p453);
-									if (n457 == 0)
+									uint64_t n962;
+									if (n457 != 0)
+										rattle_dealloc(p455);
+									if (n459 == 0)
 										goto L41;
-									n954 = 0;
-									while (n954 != n457) {
-										rattle_dealloc(loadptru(inside(p456, n954 * 88)));
-										n954 = n954 + 1;
+									n962 = 0;
+									while (n962 != n459) {
+										rattle_dealloc(loadptru(inside(p458, n962 * 88)));
+										n962 = n962 + 1;
 									}
 L41:
 									{
-										if (n458 != 0)
-											rattle_dealloc(p456);
-										if (n460 == 0) {
-											n955 = 0;
-											n956 = 0;
+										if (n460 != 0)
+											rattle_dealloc(p458);
+										if (n462 == 0) {
+											n963 = 0;
+											n964 = 0;
 											goto L42;
 										}
-										rattle_dealloc(p459);
-										n955 = 0;
-										n956 = 0;
+										rattle_dealloc(p461);
+										n963 = 0;
+										n964 = 0;
 										goto L42;
 									}
 								}
 							}
 L38:
 							{
-								bool b958, b982, b984, b986, b988, b991;
-								uint64_t n965, n969, n980, n990;
-								byte *p981, *p983, *p985, *p987, *p989;
-								storeptru(p9, p846);
+								bool b966, b990, b992, b994, b996, b999;
+								uint64_t n973, n977, n988, n998;
+								byte *p989, *p991, *p993, *p995, *p997;
+								storeptru(p9, p854);
 								store64u(p9 + 8, 0);
-								store64u(p9 + 16, n848);
-								store64u(p9 + 24, n847);
+								store64u(p9 + 16, n856);
+								store64u(p9 + 24, n855);
 								store64u(p9 + 32, 0);
 								tp_VecDeque_drop(p9);
-								uint64_t n957 = 0;
+								uint64_t n965 = 0;
 								for (;;) {
-									b958 = n957 != n847;
-									if (!b958)
+									b966 = n965 != n855;
+									if (!b966)
 										break;
-									uint64_t n959 = n957 * 88;
-									byte *p960 = at(p456, n959);
-									if (load8(p960 + 32) == 1)
+									uint64_t n967 = n965 * 88;
+									byte *p968 = at(p458, n967);
+									if (load8(p968 + 32) == 1)
 										goto L43;
-									if (load64(p960 + 16) != 0)
+									if (load64(p968 + 16) != 0)
 										goto L43;
-									byte *p961 = at(p453, n959);
-									store8(p961 + 80, 1);
-									byte *p962 = loadptr(p961) + 128;
+									byte *p969 = at(p455, n967);
+									store8(p969 + 80, 1);
+									byte *p970 = loadptr(p969) + 128;
 									BARRIER();
-									uint64_t n963 = atomic_load64(p962, ORDER_SEQ_CST);
+									uint64_t n971 = atomic_load64(p970, ORDER_SEQ_CST);
 									BARRIER();
-									store64(p961 + 32, n963);
-									uint64_t n964 = load64(p961 + 24);
-									if (n963 != (n964 - ((n964 > n963) ? (load64(p961 + 16) << 1) : 0)))
+									store64(p969 + 32, n971);
+									uint64_t n972 = load64(p969 + 24);
+									if (n971 != (n972 - ((n972 > n971) ? (load64(p969 + 16) << 1) : 0)))
 										goto L43;
-									n957 = n957 + 1;
-								}
-								n965 = 0;
-								while (n965 != n847) {
-									byte *p966 = at(p896, n965 * 48);
-									store8(p966 + 40, 1);
-									byte *p967 = loadptr(p966) + 128;
-									BARRIER();
-									uint64_t n968 = atomic_load64(p967, ORDER_SEQ_CST);
-									BARRIER();
-									store64(p966 + 32, n968);
 									n965 = n965 + 1;
 								}
-								if (n457 == 0)
+								n973 = 0;
+								while (n973 != n855) {
+									byte *p974 = at(p904, n973 * 48);
+									store8(p974 + 40, 1);
+									byte *p975 = loadptr(p974) + 128;
+									BARRIER();
+									uint64_t n976 = atomic_load64(p975, ORDER_SEQ_CST);
+									BARRIER();
+									store64(p974 + 32, n976);
+									n973 = n973 + 1;
+								}
+								if (n459 == 0)
 									goto L44;
-								n969 = 0;
-								while (n969 != n457) {
-									rattle_dealloc(loadptru(inside(p456, n969 * 88)));
-									n969 = n969 + 1;
+								n977 = 0;
+								while (n977 != n459) {
+									rattle_dealloc(loadptru(inside(p458, n977 * 88)));
+									n977 = n977 + 1;
 								}
 L44:
 								{
-									uint64_t n970;
-									if (n458 != 0)
-										rattle_dealloc(p456);
+									uint64_t n978;
 									if (n460 != 0)
-										rattle_dealloc(p459);
-									if (n454 == 0)
+										rattle_dealloc(p458);
+									if (n462 != 0)
+										rattle_dealloc(p461);
+									if (n456 == 0)
 										goto L45;
-									n970 = 0;
-									while (n970 != n454) {
-										byte *p971 = inside(p453, n970 * 88);
-										byte *p972 = loadptru(p971);
-										byte *p973 = loadptru(p971 + 8);
-										uint64_t n974 = load64u(p971 + 16);
-										byte *p975 = loadptru(p971 + 40);
-										byte *p976 = loadptru(p971 + 48);
-										uint64_t n977 = load64u(p971 + 56);
+									n978 = 0;
+									while (n978 != n456) {
+										byte *p979 = inside(p455, n978 * 88);
+										byte *p980 = loadptru(p979);
+										byte *p981 = loadptru(p979 + 8);
+										uint64_t n982 = load64u(p979 + 16);
+										byte *p983 = loadptru(p979 + 40);
+										byte *p984 = loadptru(p979 + 48);
+										uint64_t n985 = load64u(p979 + 56);
 										BARRIER();
-										uint64_t n978 = atomic_exchange64(p972 + 256, 1, ORDER_SEQ_CST);
+										uint64_t n986 = atomic_exchange64(p980 + 256, 1, ORDER_SEQ_CST);
 										BARRIER();
-										if (n978 != 0)
-											tp_release_drop_slow(p972, p973, n974);
+										if (n986 != 0)
+											tp_release_drop_slow(p980, p981, n982);
 										BARRIER();
-										uint64_t n979 = atomic_exchange64(p975 + 256, 1, ORDER_SEQ_CST);
+										uint64_t n987 = atomic_exchange64(p983 + 256, 1, ORDER_SEQ_CST);
 										BARRIER();
-										if (n979 != 0)
-											tp_release_drop_slow(p975, p976, n977);
-										n970 = n970 + 1;
+										if (n987 != 0)
+											tp_release_drop_slow(p983, p984, n985);
+										n978 = n978 + 1;
 									}
 L45:
 									{
-										if (n455 != 0)
-											rattle_dealloc(p453);
-										if (!b894)
-											rattle_dealloc(p895);
-										n980 = n444;
-										p981 = p445;
-										b982 = n446 == 0;
-										p983 = p447;
-										b984 = n448 == 0;
-										p985 = p449;
-										b986 = n450 == 0;
-										p987 = p451;
-										b988 = n452 == 0;
-										p989 = p896;
-										n990 = n847;
-										b991 = b894;
+										if (n457 != 0)
+											rattle_dealloc(p455);
+										if (!b902)
+											rattle_dealloc(p903);
+										n988 = n446;
+										p989 = p447;
+										b990 = n448 == 0;
+										p991 = p449;
+										b992 = n450 == 0;
+										p993 = p451;
+										b994 = n452 == 0;
+										p995 = p453;
+										b996 = n454 == 0;
+										p997 = p904;
+										n998 = n855;
+										b999 = b902;
 										goto L46;
 									}
 								}
 L43:
 								{
-									uint64_t n992;
-									if (!b894)
-										rattle_dealloc(p895);
-									if (n446 != 0)
-										rattle_dealloc(p445);
+									uint64_t n1000;
+									if (!b902)
+										rattle_dealloc(p903);
 									if (n448 != 0)
 										rattle_dealloc(p447);
 									if (n450 != 0)
 										rattle_dealloc(p449);
 									if (n452 != 0)
 										rattle_dealloc(p451);
-									if (n454 == 0)
+									if (n454 != 0)
+										rattle_dealloc(p453);
+									if (n456 == 0)
 										goto L47;
-									n992 = 0;
-									while (n992 != n454) {
-										byte *p993 = inside(p453, n992 * 88);
-										byte *p994 = loadptru(p993);
-										byte *p995 = loadptru(p993 + 8);
-										uint64_t n996 = load64u(p993 + 16);
-										byte *p997 = loadptru(p993 + 40);
-										byte *p998 = loadptru(p993 + 48);
-										uint64_t n999 = load64u(p993 + 56);
+									n1000 = 0;
+									while (n1000 != n456) {
+										byte *p1001 = inside(p455, n1000 * 88);
+										byte *p1002 = loadptru(p1001);
+										byte *p1003 = loadptru(p1001 + 8);
+										uint64_t n1004 = load64u(p1001 + 16);
+										byte *p1005 = loadptru(p1001 + 40);
+										byte *p1006 = loadptru(p1001 + 48);
+										uint64_t n1007 = load64u(p1001 + 56);
 										BARRIER();
-										uint64_t n1000 = atomic_exchange64(p994 + 256, 1, ORDER_SEQ_CST);
+										uint64_t n1008 = atomic_exchange64(p1002 + 256, 1, ORDER_SEQ_CST);
 										BARRIER();
-										if (n1000 != 0)
-											tp_release_drop_slow(p994, p995, n996);
+										if (n1008 != 0)
+											tp_release_drop_slow(p1002, p1003, n1004);
 										BARRIER();
-										uint64_t n1001 = atomic_exchange64(p997 + 256, 1, ORDER_SEQ_CST);
+										uint64_t n1009 = atomic_exchange64(p1005 + 256, 1, ORDER_SEQ_CST);
 										BARRIER();
-										if (n1001 != 0)
-											tp_release_drop_slow(p997, p998, n999);
-										n992 = n992 + 1;
+										if (n1009 != 0)
+											tp_release_drop_slow(p1005, p1006, n1007);
+										n1000 = n1000 + 1;
 									}
 L47:
 									{
-										uint64_t n1002;
-										if (n455 != 0)
-											rattle_dealloc(p453);
-										if (n457 == 0)
+										uint64_t n1010;
+										if (n457 != 0)
+											rattle_dealloc(p455);
+										if (n459 == 0)
 											goto L48;
-										n1002 = 0;
-										while (n1002 != n457) {
-											rattle_dealloc(loadptru(inside(p456, n1002 * 88)));
-											n1002 = n1002 + 1;
+										n1010 = 0;
+										while (n1010 != n459) {
+											rattle_dealloc(loadptru(inside(p458, n1010 * 88)));
+											n1010 = n1010 + 1;
 										}
 L48:
 										{
-											if (n458 != 0)
-												rattle_dealloc(p456);
 											if (n460 != 0)
-												rattle_dealloc(p459);
-											if (b894) {
-												n980 = n957;
-												p981 = NULL;
-												b982 = true;
-												p983 = NULL;
-												b984 = true;
-												p985 = NULL;
-												b986 = true;
-												p987 = NULL;
-												b988 = true;
+												rattle_dealloc(p458);
+											if (n462 != 0)
+												rattle_dealloc(p461);
+											if (b902) {
+												n988 = n965;
 												p989 = NULL;
-												n990 = 0;
-												b991 = true;
+												b990 = true;
+												p991 = NULL;
+												b992 = true;
+												p993 = NULL;
+												b994 = true;
+												p995 = NULL;
+												b996 = true;
+												p997 = NULL;
+												n998 = 0;
+												b999 = true;
 												goto L46;
 											}
-											uint64_t n1003 = 0;
-											while (n1003 != n847) {
-												byte *p1004 = inside(p896, n1003 * 48);
-												byte *p1005 = loadptru(p1004);
-												byte *p1006 = loadptru(p1004 + 8);
-												uint64_t n1007 = load64u(p1004 + 16);
+											uint64_t n1011 = 0;
+											while (n1011 != n855) {
+												byte *p1012 = inside(p904, n1011 * 48);
+												byte *p1013 = loadptru(p1012);
+												byte *p1014 = loadptru(p1012 + 8);
+												uint64_t n1015 = load64u(p1012 + 16);
 												BARRIER();
-												uint64_t n1008 = atomic_exchange64(p1005 + 256, 1, ORDER_SEQ_CST);
+												uint64_t n1016 = atomic_exchange64(p1013 + 256, 1, ORDER_SEQ_CST);
 												BARRIER();
-												if (n1008 != 0)
-													tp_release_drop_slow(p1005, p1006, n1007);
-												n1003 = n1003 + 1;
+												if (n1016 != 0)
+													tp_release_drop_slow(p1013, p1014, n1015);
+												n1011 = n1011 + 1;
 											}
-											rattle_dealloc(p896);
-											n980 = n957;
-											p981 = NULL;
-											b982 = true;
-											p983 = NULL;
-											b984 = true;
-											p985 = NULL;
-											b986 = true;
-											p987 = NULL;
-											b988 = true;
+											rattle_dealloc(p904);
+											n988 = n965;
 											p989 = NULL;
-											n990 = 0;
-											b991 = true;
+											b990 = true;
+											p991 = NULL;
+											b992 = true;
+											p993 = NULL;
+											b994 = true;
+											p995 = NULL;
+											b996 = true;
+											p997 = NULL;
+											n998 = 0;
+											b999 = true;
 										}
 									}
 								}
 L46:
 								{
-									uint64_t n1010, n1015;
-									uint8_t n1011;
-									if (b958) {
-										n955 = n980;
-										n956 = 1;
+									uint64_t n1018, n1023;
+									uint8_t n1019;
+									if (b966) {
+										n963 = n988;
+										n964 = 1;
 										goto L42;
 									}
-									uint64_t n1009 = 0;
+									uint64_t n1017 = 0;
 									for (;;) {
-										if (n1009 == n990) {
-											n1010 = 0;
-											n1011 = 0;
+										if (n1017 == n998) {
+											n1018 = 0;
+											n1019 = 0;
 											break;
 										}
-										byte *p1012 = at(p989, n1009 * 48);
-										if ((load8(p1012 + 40) & 1) == 0) {
-											n1010 = n1009;
-											n1011 = 1;
+										byte *p1020 = at(p997, n1017 * 48);
+										if ((load8(p1020 + 40) & 1) == 0) {
+											n1018 = n1017;
+											n1019 = 1;
 											break;
 										}
-										uint64_t n1013 = load64(p1012 + 24);
-										uint64_t n1014 = load64(p1012 + 32);
-										if (n1014 != (n1013 - ((n1013 > n1014) ? (load64(p1012 + 16) << 1) : 0))) {
-											n1010 = n1009;
-											n1011 = 1;
+										uint64_t n1021 = load64(p1020 + 24);
+										uint64_t n1022 = load64(p1020 + 32);
+										if (n1022 != (n1021 - ((n1021 > n1022) ? (load64(p1020 + 16) << 1) : 0))) {
+											n1018 = n1017;
+											n1019 = 1;
 											break;
 										}
-										n1009 = n1009 + 1;
+										n1017 = n1017 + 1;
 									}
-									if (n990 == 0)
+									if (n998 == 0)
 										goto L49;
-									n1015 = 0;
-									while (n1015 != n990) {
-										byte *p1016 = inside(p989, n1015 * 48);
-										byte *p1017 = loadptru(p1016);
-										byte *p1018 = loadptru(p1016 + 8);
-										uint64_t n1019 = load64u(p1016 + 16);
+									n1023 = 0;
+									while (n1023 != n998) {
+										byte *p1024 = inside(p997, n1023 * 48);
+										byte *p1025 = loadptru(p1024);
+										byte *p1026 = loadptru(p1024 + 8);
+										uint64_t n1027 = load64u(p1024 + 16);
 										BARRIER();
-										uint64_t n1020 = atomic_exchange64(p1017 + 256, 1, ORDER_SEQ_CST);
+										uint64_t n1028 = atomic_exchange64(p1025 + 256, 1, ORDER_SEQ_CST);
 										BARRIER();
-										if (n1020 != 0)
-											tp_release_drop_slow(p1017, p1018, n1019);
-										n1015 = n1015 + 1;
+										if (n1028 != 0)
+											tp_release_drop_slow(p1025, p1026, n1027);
+										n1023 = n1023 + 1;
 									}
 L49:
 									{
-										if (!b991)
+										if (!b999)
+											rattle_dealloc(p997);
+										if (!b990)
 											rattle_dealloc(p989);
-										if (!b982)
-											rattle_dealloc(p981);
-										if (!b984)
-											rattle_dealloc(p983);
-										if (!b986)
-											rattle_dealloc(p985);
-										if (b988) {
-											n955 = n1010;
-											n956 = n1011;
+										if (!b992)
+											rattle_dealloc(p991);
+										if (!b994)
+											rattle_dealloc(p993);
+										if (b996) {
+											n963 = n1018;
+											n964 = n1019;
 										} else {
-											rattle_dealloc(p987);
-											n955 = n1010;
-											n956 = n1011;
+											rattle_dealloc(p995);
+											n963 = n1018;
+											n964 = n1019;
 										}
 									}
 								}
 							}
 L42:
 							{
-								uint64_t n1021;
-								if (b871) {
-									if (n956 == 1) {
-										n1021 = umin64(n955, n873);
+								uint64_t n1029;
+								if (b879) {
+									if (n964 == 1) {
+										n1029 = umin64(n963, n881);
 									} else {
-										n1021 = n873;
+										n1029 = n881;
 									}
-								} else if (n956 == 1) {
-									n1021 = n955;
+								} else if (n964 == 1) {
+									n1029 = n963;
 								} else {
-									switch (MOSTLY_0(n461)) {
+									switch (MOSTLY_0(n463)) {
 									case 0: {
-										n866 = 0;
-										n867 = n893;
-										n868 = n892;
-										n869 = n887;
+										n874 = 0;
+										n875 = n901;
+										n876 = n900;
+										n877 = n895;
 										goto L37;
 									}
 									case 1: {
-										if (n887 == 0) {
-											n866 = 1;
-											n867 = 2;
-											n868 = 0;
-											n869 = 0;
+										if (n895 == 0) {
+											n874 = 1;
+											n875 = 2;
+											n876 = 0;
+											n877 = 0;
 											goto L37;
 										}
-										rattle_dealloc(p889);
-										n866 = 1;
-										n867 = 2;
-										n868 = 0;
-										n869 = 0;
+										rattle_dealloc(p897);
+										n874 = 1;
+										n875 = 2;
+										n876 = 0;
+										n877 = 0;
 										goto L37;
 									}
 									case 2: {
-										if (n887 == 0) {
-											n866 = 1;
-											n867 = 0;
-											n868 = 0;
-											n869 = 0;
+										if (n895 == 0) {
+											n874 = 1;
+											n875 = 0;
+											n876 = 0;
+											n877 = 0;
 											goto L37;
 										}
-										rattle_dealloc(p889);
-										n866 = 1;
-										n867 = 0;
-										n868 = 0;
-										n869 = 0;
+										rattle_dealloc(p897);
+										n874 = 1;
+										n875 = 0;
+										n876 = 0;
+										n877 = 0;
 										goto L37;
 									}
 									default: {
@@ -80055,18 +80614,18 @@ L42:
 									}
 									}
 								}
-								if (n887 == 0) {
-									n866 = 1;
-									n867 = 1;
-									n868 = n1021;
-									n869 = 0;
+								if (n895 == 0) {
+									n874 = 1;
+									n875 = 1;
+									n876 = n1029;
+									n877 = 0;
 									goto L37;
 								}
-								rattle_dealloc(p889);
-								n866 = 1;
-								n867 = 1;
-								n868 = n1021;
-								n869 = 0;
+								rattle_dealloc(p897);
+								n874 = 1;
+								n875 = 1;
+								n876 = n1029;
+								n877 = 0;
 								goto L37;
 							}
 						}
@@ -80074,85 +80633,85 @@ L42:
 				}
 L31:
 				{
-					uint64_t n1022;
-					if (n847 == 0)
+					uint64_t n1030;
+					if (n855 == 0)
 						goto L50;
-					n1022 = 0;
-					while (n1022 != n847) {
-						byte *p1023 = inside(p846, n1022 * 112);
-						byte *p1024 = loadptru(p1023 + 24);
-						byte *p1025 = loadptru(p1023 + 32);
-						uint64_t n1026 = load64u(p1023 + 40);
+					n1030 = 0;
+					while (n1030 != n855) {
+						byte *p1031 = inside(p854, n1030 * 112);
+						byte *p1032 = loadptru(p1031 + 24);
+						byte *p1033 = loadptru(p1031 + 32);
+						uint64_t n1034 = load64u(p1031 + 40);
 						BARRIER();
-						uint64_t n1027 = atomic_exchange64(p1024 + 256, 1, ORDER_SEQ_CST);
+						uint64_t n1035 = atomic_exchange64(p1032 + 256, 1, ORDER_SEQ_CST);
 						BARRIER();
-						if (n1027 != 0)
-							tp_release_drop_slow(p1024, p1025, n1026);
-						n1022 = n1022 + 1;
+						if (n1035 != 0)
+							tp_release_drop_slow(p1032, p1033, n1034);
+						n1030 = n1030 + 1;
 					}
 L50:
 					{
-						uint64_t n1028;
-						if (n848 != 0)
-							rattle_dealloc(p846);
-						if (n446 != 0)
-							rattle_dealloc(p445);
+						uint64_t n1036;
+						if (n856 != 0)
+							rattle_dealloc(p854);
 						if (n448 != 0)
 							rattle_dealloc(p447);
 						if (n450 != 0)
 							rattle_dealloc(p449);
 						if (n452 != 0)
 							rattle_dealloc(p451);
-						if (n454 == 0)
+						if (n454 != 0)
+							rattle_dealloc(p453);
+						if (n456 == 0)
 							goto L51;
-						n1028 = 0;
-						while (n1028 != n454) {
-							byte *p1029 = inside(p453, n1028 * 88);
-							byte *p1030 = loadptru(p1029);
-							byte *p1031 = loadptru(p1029 + 8);
-							uint64_t n1032 = load64u(p1029 + 16);
-							byte *p1033 = loadptru(p1029 + 40);
-							byte *p1034 = loadptru(p1029 + 48);
-							uint64_t n1035 = load64u(p1029 + 56);
+						n1036 = 0;
+						while (n1036 != n456) {
+							byte *p1037 = inside(p455, n1036 * 88);
+							byte *p1038 = loadptru(p1037);
+							byte *p1039 = loadptru(p1037 + 8);
+							uint64_t n1040 = load64u(p1037 + 16);
+							byte *p1041 = loadptru(p1037 + 40);
+							byte *p1042 = loadptru(p1037 + 48);
+							uint64_t n1043 = load64u(p1037 + 56);
 							BARRIER();
-							uint64_t n1036 = atomic_exchange64(p1030 + 256, 1, ORDER_SEQ_CST);
+							uint64_t n1044 = atomic_exchange64(p1038 + 256, 1, ORDER_SEQ_CST);
 							BARRIER();
-							if (n1036 != 0)
-								tp_release_drop_slow(p1030, p1031, n1032);
+							if (n1044 != 0)
+								tp_release_drop_slow(p1038, p1039, n1040);
 							BARRIER();
-							uint64_t n1037 = atomic_exchange64(p1033 + 256, 1, ORDER_SEQ_CST);
+							uint64_t n1045 = atomic_exchange64(p1041 + 256, 1, ORDER_SEQ_CST);
 							BARRIER();
-							if (n1037 != 0)
-								tp_release_drop_slow(p1033, p1034, n1035);
-							n1028 = n1028 + 1;
+							if (n1045 != 0)
+								tp_release_drop_slow(p1041, p1042, n1043);
+							n1036 = n1036 + 1;
 						}
 L51:
 						{
-							uint64_t n1038;
-							if (n455 != 0)
-								rattle_dealloc(p453);
-							if (n457 == 0)
+							uint64_t n1046;
+							if (n457 != 0)
+								rattle_dealloc(p455);
+							if (n459 == 0)
 								goto L52;
-							n1038 = 0;
-							while (n1038 != n457) {
-								rattle_dealloc(loadptru(inside(p456, n1038 * 88)));
-								n1038 = n1038 + 1;
+							n1046 = 0;
+							while (n1046 != n459) {
+								rattle_dealloc(loadptru(inside(p458, n1046 * 88)));
+								n1046 = n1046 + 1;
 							}
 L52:
 							{
-								if (n458 != 0)
-									rattle_dealloc(p456);
-								if (n460 == 0) {
-									n866 = 1;
-									n867 = 0;
-									n868 = 0;
-									n869 = 0;
+								if (n460 != 0)
+									rattle_dealloc(p458);
+								if (n462 == 0) {
+									n874 = 1;
+									n875 = 0;
+									n876 = 0;
+									n877 = 0;
 								} else {
-									rattle_dealloc(p459);
-									n866 = 1;
-									n867 = 0;
-									n868 = 0;
-									n869 = 0;
+									rattle_dealloc(p461);
+									n874 = 1;
+									n875 = 0;
+									n876 = 0;
+									n877 = 0;
 								}
 							}
 						}
@@ -80166,10 +80725,10 @@ L52:
 			}
 L37:
 			{
-				store64u(p1, n866);
-				store64u(p1 + 8, n867);
-				store64u(p1 + 16, n868);
-				store64u(p1 + 24, n869);
+				store64u(p1, n874);
+				store64u(p1 + 8, n875);
+				store64u(p1 + 16, n876);
+				store64u(p1 + 24, n877);
 				return;
 			}
 		}
@@ -80767,8 +81326,8 @@ L1:
 	}
 }
 
-/* timer_commands::cmd_check::report_failure: crates/timer_commands/src/cmd_check.rt */
-static void tp_cmd_check_report_failure(uint8_t n1, byte *p2)
+/* timer_commands::error_report::report_failure: crates/timer_commands/src/error_report.rt */
+static void tp_error_report_report_failure(uint8_t n1, byte *p2)
 {
 	ALIGN(8) byte p3[144];
 	uint8_t n5;
@@ -82545,7 +83104,7 @@ L22:
 		} else {
 			n418 = load8(p39 + 1);
 		}
-		tp_cmd_check_report_failure(n418, p3);
+		tp_error_report_report_failure(n418, p3);
 		return 2;
 	}
 	case 3: {
@@ -83834,7 +84393,7 @@ L31:
 					}
 L46:
 					{
-						tp_cmd_check_report_failure(n691, p3);
+						tp_error_report_report_failure(n691, p3);
 						n690 = 2;
 					}
 				} else {
