@@ -1,5 +1,5 @@
 //! Rounds of the owner: each client is served, or each outbox flushed, in the order of the clients.
-ghost use Rattle.std.specs.Prelude.{◌≡◌, ◌<◌, ◌+◌, ◌||◌, nat_lt};
+ghost use Rattle.std.specs.Prelude.{◌≡◌, ◌<◌, ◌+◌};
 ghost use Rattle.timer_desk.specs.Desk.{clients_of};
 ghost use Rattle.timer_desk_c.specs.Rounds.{did, starved, round_status, HasServedClient, HasServedAll, HasFlushedFirst, HasFlushedAll};
 ghost use Rattle.timer_desk_c.specs.Freed.{HasDropped, HasDroppedFirst, waiting_at};
