@@ -9,7 +9,7 @@ use Rattle.timer_c.specs.declared.layout.Expired.{Expired}
 use Rattle.timer_c.specs.Outcomes.{tell, after_expiries}
 
 -- this many were taken, and are written over the front of the array
-pub record IsTaken (count : ℕ) (out : List Expired) (old : TimersState) (out' : List Expired) (new : TimersState) : Type 0 where
+pub record AreTaken (count : ℕ) (out : List Expired) (old : TimersState) (out' : List Expired) (new : TimersState) : Type 0 where
   pub some : count ≤ length old.wheel.due
   pub told : out' ≡ map tell (take count (timers_of old.wheel.due)) ++ drop count out
   pub rest : new ≡ with_wheel (after_expiries count old.wheel) old
@@ -46,13 +46,13 @@ is_there (suc n) (x ∷ due) t e = let h : n < length due = is_there n due t e i
 abbrev with_due : TimersState → List Entry → TimersState
 with_due s due = with_wheel (record s.wheel { due = due }) s
 
-pub taken_none : (out : List Expired) (w : TimersState) → IsTaken 0 out w out w
+pub taken_none : (out : List Expired) (w : TimersState) → AreTaken 0 out w out w
 taken_none out w = record { some = omega arith; told = refl; rest = refl }
 
 -- one more
-pub taken_next : (n : ℕ) (out out' : List Expired) (old here new : TimersState) (t : Timer) → IsTaken n out old out' here
+pub taken_next : (n : ℕ) (out out' : List Expired) (old here new : TimersState) (t : Timer) → AreTaken n out old out' here
     → first_due here.wheel ≡ Some t → n < length out
-    → new ≡ with_wheel (after_expiry here.wheel) here → IsTaken (n + 1) out old (slice_set out' n (tell t)) new
+    → new ≡ with_wheel (after_expiry here.wheel) here → AreTaken (n + 1) out old (slice_set out' n (tell t)) new
 taken_next n out out' old here new t taken first room e =
     let due = old.wheel.due in
     let at : slice_get (timers_of (drop n due)) 0 ≡ Some t =

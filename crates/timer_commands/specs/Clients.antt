@@ -3,7 +3,7 @@ use Rattle.std.specs.Prelude.{◌≡◌, ℕ, ◌≤◌, ◌⊎◌, ◌++◌, tr
 use Rattle.std.specs.Io.KnownBytes.{Appends}
 use Rattle.timer_threads.specs.declared.outcome.ThreadsFault.{ThreadsFault}
 use Rattle.timer_threads.specs.declared.outcome.ThreadsFault.TheVariants as faults
-use Rattle.timer_threads.specs.Threads.{whole_text, IsRun, IsExplained, HasSucceeded}
+use Rattle.timer_threads.specs.Threads.{whole_text, IsThreadsRun, IsExplained, HasSucceeded}
 use Rattle.timer_commands.specs.declared.threads_options.ThreadsOptions.{ThreadsOptions}
 use Rattle.timer_script.specs.declared.watched.Watched.{Watched}
 use Rattle.timer_script.specs.Watched.{inner_of, has_failed}
@@ -60,7 +60,7 @@ pub record HasRunClients {S F : Type 0} (options : ThreadsOptions) (contents : S
   pub in_range : status ≤ 2
   -- 0: the whole text was written
   pub written : status ≡ 0
-      → IsRunnable options × IsRun options.clients options.timers 10000000 HasSucceeded
+      → IsRunnable options × IsThreadsRun options.clients options.timers 10000000 HasSucceeded
       × Appends (contents (inner_of writer)) (contents (inner_of writer'))
       (whole_text options.clients options.timers)
       × (has_failed writer' ≡ false)

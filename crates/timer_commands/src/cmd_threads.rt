@@ -1,7 +1,7 @@
 //! The subcommand `threads`: clients in threads of their own, and one line for each.
 ghost use Rattle.std.specs.Prelude.{◌≡◌, IfOk, IfErr, OnOk, OnErr, IsTrue, ◌↔◌, vec_len, true, false};
 ghost use Rattle.std.specs.Io.KnownBytes.{Appends};
-ghost use Rattle.timer_threads.specs.Threads.{whole_text, IsRun, IsExplained, HasSucceeded};
+ghost use Rattle.timer_threads.specs.Threads.{whole_text, IsThreadsRun, IsExplained, HasSucceeded};
 ghost use Rattle.timer_commands.specs.Clients.{IsRunnable, HasRunClients, HasEndedClients, error_line, client_fault};
 ghost use Rattle.timer_script.specs.Watched.{inner_of, has_failed};
 
@@ -50,7 +50,7 @@ fn run_open(
 ) -> Result<Vec<u8>, ThreadsFault>
     requires { IsRunnable options }
     ensures text { IfOk result (λ text. text.items ≡ whole_text options.clients options.timers) }
-    ensures ended { IfOk result (λ _. IsRun options.clients options.timers 10000000 HasSucceeded) }
+    ensures ended { IfOk result (λ _. IsThreadsRun options.clients options.timers 10000000 HasSucceeded) }
     ensures failed { IfErr result (λ fault. IsExplained options.clients options.timers 10000000 fault) }
 {
     match open_gates(alloc, options.clients as usize) {

@@ -16,7 +16,7 @@ use Rattle.timer_desk.specs.Extends.{Extends, Extends-refl, Extends-front, Exten
 use Rattle.timer_desk.specs.Forward.{RanOutOfMemory}
 use Rattle.timer_desk.specs.Report.{Account, got_but_held, held_list, requests_left, HeldIsLast, IsAccount, ClientAccount, Runs, asked, words, flushed, events, outs, asked_in, words_in, flushed_in, events_in, outs_in}
 use Rattle.timer_desk.specs.Member.{Moment, ServeRespectsRoom, FacilityMember, IsRight, waiting_outs, is_notice, hands_out, is_any, account_then, IsKept, Member, Members}
-use Rattle.timer_desk.specs.Laws.{IsNeeded, outbox_after, pending_after, RespectsRoom, IsInTime}
+use Rattle.timer_desk.specs.Laws.{IsNeeded, outbox_after, pending_after, RespectsRoom, HasNoticesInTime}
 use Rattle.timer_desk.specs.Desk.{DeskState, clients_of, at_rest, account_at, ReportHolds, NoticesFollow, IsOwed, AreOwed}
 
 -- One client.
@@ -257,7 +257,7 @@ module _ {I : Type 0} (kind : LineKind I) where
       run_before : AreRun past (with_nothing_waiting x.facility) there.before.facility
       run_before = members_run kind past (at_rest x) there.before there.past_are
 
-      pub in_time : IsInTime x.facility past done
+      pub in_time : HasNoticesInTime x.facility past done
       in_time = record {
         outs_are = λ isnt.
             let none : there.before.facility.waiting ≡ [] =

@@ -3,9 +3,7 @@ use Rattle.std.proofs.Common.{◌≡◌, ◌≢◌, ◌<◌, ◌≤◌, ◌+◌,
 use Rattle.std.specs.Prelude.{slice_set}
 use Rattle.std.proofs.lemmas.Bool.{cases_eq}
 use Rattle.std.proofs.lemmas.List.{get_or-set_same, get_or-set_other}
-use Rattle.timer_desk.specs.declared.ring_ends.RingInlet.{RingInlet}
-use Rattle.timer_desk.specs.declared.ring_ends.ClientReader.{ClientReader}
-use Rattle.timer_desk.specs.declared.ring_ends.RequestsEnded.{RequestsEnded}
+use Rattle.timer_desk.specs.Types.{RingInlet, ClientReader, RequestsEnded}
 use Rattle.timer_desk.specs.Desk.{DeskState, clients_of, backlog_at}
 use Rattle.timer_desk.specs.RingEnds.{line_of_inlet, got_of, given_of, all_submitted}
 use Rattle.timer_desk.specs.Settlement.{OnlyLooks}

@@ -39,6 +39,6 @@ pub record RespectsRoom (may_refuse : Bool) (c : ℕ) (s : FacilityState) (a b :
 
 -- Before a member that is not a notice, the outs of those before it are those of a run of their events: no notice
 -- comes late, and none early. The member accords with the state after that run.
-pub record IsInTime (s : FacilityState) (past : List Done) (done : Done) : Type 0 where
+pub record HasNoticesInTime (s : FacilityState) (past : List Done) (done : Done) : Type 0 where
   pub outs_are : is_notice done ≡ false → outs past ≡ (run s (events past)).outs
   pub right : IsRight (run s (events past)).state done

@@ -13,7 +13,6 @@ pub mod Event
 pub mod RingEnds
 pub mod Settlement
 pub mod Locked
-pub mod Queues
 pub mod WindingUp
 pub mod Driver
 pub mod Flush

@@ -28,23 +28,23 @@ LacksMemory m count = vec_capacity m.given < vec_len m.given + count
 abbrev line_of : MemoryInlet → List Numbered × ℕ
 line_of m = (m.requests.items, m.room)
 
-abbrev state_of : MemoryInlet → LineState
-state_of m = record { got = got_of_memory m; standing = standing_of_memory m; given = given_of_memory m }
+abbrev state_of_memory : MemoryInlet → LineState
+state_of_memory m = record { got = got_of_memory m; standing = standing_of_memory m; given = given_of_memory m }
 
 -- the requests of the line and its room are the same, and more may have been got and given
 abbrev pub SameMemoryLine : MemoryInlet → MemoryInlet → Type 0
-SameMemoryLine = SameLine line_of state_of
+SameMemoryLine = SameLine line_of state_of_memory
 
 pub SameMemoryLine-refl : (a : MemoryInlet) → SameMemoryLine a a
-SameMemoryLine-refl = SameLine-refl line_of state_of
+SameMemoryLine-refl = SameLine-refl line_of state_of_memory
 
 pub SameMemoryLine-trans : (a b c : MemoryInlet) → SameMemoryLine a b → SameMemoryLine b c → SameMemoryLine a c
-SameMemoryLine-trans = SameLine-trans line_of state_of
+SameMemoryLine-trans = SameLine-trans line_of state_of_memory
 
 -- lines in memory as a kind of line
 abbrev pub memory_lines : LineKind MemoryInlet
 memory_lines = record {
-  state = state_of;
+  state = state_of_memory;
   same = SameMemoryLine;
   is_full = λ m. room_of_memory m ≤ length (given_of_memory m);
   take_may_refuse = false;

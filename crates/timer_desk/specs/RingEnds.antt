@@ -6,12 +6,9 @@ use Rattle.rtrb.specs.Shared.{Names}
 use Rattle.rtrb.specs.declared.end.End.{End}
 use Rattle.rtrb.specs.Ring.{sent, received, known_free, known_items, all_sent}
 use Rattle.std.specs.declared.alloc.Global.{Global}
-use Rattle.timer_desk.specs.Types.{Numbered, Request, Word, LAST, Found}
+use Rattle.timer_desk.specs.Types.{Numbered, Request, Word, LAST, Found, RingInlet, RequestsEnded, ClientReader}
 use Rattle.timer_desk.specs.declared.ring_ends.ClientEnd.{ClientEnd}
-use Rattle.timer_desk.specs.declared.ring_ends.RingInlet.{RingInlet}
-use Rattle.timer_desk.specs.declared.ring_ends.RequestsEnded.{RequestsEnded}
 use Rattle.timer_desk.specs.declared.ring_ends.WordsEnded.{WordsEnded}
-use Rattle.timer_desk.specs.declared.ring_ends.ClientReader.{ClientReader}
 use Rattle.timer_desk.specs.declared.ring_ends.Unsent.{Unsent}
 use Rattle.timer_desk.specs.declared.ring_ends.Unsent.TheVariants.{Spent, Full}
 use Rattle.timer_desk.specs.declared.looks.Found.TheVariants.{Nothing, GoneThenEmpty}

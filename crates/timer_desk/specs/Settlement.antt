@@ -4,8 +4,7 @@ use Rattle.std.specs.Prelude.{◌≡◌, ◌≢◌, ◌≤◌, ◌++◌, ℕ, tr
 use Rattle.timer_facility.specs.declared.event.Out.TheVariants as Outs
 use Rattle.timer_facility.specs.State.{FacilityState, number_of, ByHandle, Stop, SingleEvent, Asked}
 use Rattle.timer_facility.specs.Step.{StepResult, step}
-use Rattle.timer_desk.specs.Types.{Handle, Answer, NotTaken, Out, Numbered}
-use Rattle.timer_desk.specs.declared.ring_ends.RingInlet.{RingInlet}
+use Rattle.timer_desk.specs.Types.{Handle, Answer, NotTaken, Out, Numbered, RingInlet}
 use Rattle.timer_desk.specs.declared.looks.Found.TheVariants.{Nothing}
 use Rattle.timer_desk.specs.Desk.{DeskState, clients_of}
 use Rattle.timer_desk.specs.RingEnds.{line_of_inlet, got_of, standing_of, given_of, free_of_inlet, is_settled, found_by_inlet}

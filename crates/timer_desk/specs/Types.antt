@@ -8,6 +8,9 @@ pub use Rattle.timer_desk.specs.declared.progress.Progress.{Progress}
 pub use Rattle.timer_desk.specs.declared.report.Done.{Done}
 pub use Rattle.timer_desk.specs.declared.report.Served.{Served}
 pub use Rattle.timer_desk.specs.declared.report.Step.{Step}
+pub use Rattle.timer_desk.specs.declared.ring_ends.ClientReader.{ClientReader}
+pub use Rattle.timer_desk.specs.declared.ring_ends.RequestsEnded.{RequestsEnded}
+pub use Rattle.timer_desk.specs.declared.ring_ends.RingInlet.{RingInlet}
 pub use Rattle.timer_desk.specs.declared.word.Numbered.{Numbered}
 pub use Rattle.timer_desk.specs.declared.word.Word.{Word}
 pub use Rattle.timer_facility.specs.declared.event.Out.{Out}

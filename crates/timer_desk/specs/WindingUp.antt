@@ -1,9 +1,6 @@
 -- The end of a desk over ring lines.
 use Rattle.std.specs.Prelude.{◌≡◌, ◌<◌, ◌++◌, ◌⊎◌, ℕ, true, List, length, get_or}
-use Rattle.timer_desk.specs.declared.ring_ends.RingInlet.{RingInlet}
-use Rattle.timer_desk.specs.declared.ring_ends.RequestsEnded.{RequestsEnded}
-use Rattle.timer_desk.specs.declared.ring_ends.ClientReader.{ClientReader}
-use Rattle.timer_desk.specs.Types.{Numbered}
+use Rattle.timer_desk.specs.Types.{Numbered, RingInlet, RequestsEnded, ClientReader}
 use Rattle.timer_desk.specs.Backlog.{BacklogState}
 use Rattle.timer_desk.specs.Desk.{DeskState, clients_of, backlog_at, IsIdle}
 use Rattle.timer_desk.specs.RingEnds.{line_of_inlet, got_of, given_of, requests_ring_of, words_ring_of_reader, all_submitted, read_by, unread_by, is_settled_reader, found_by_reader}

@@ -90,7 +90,7 @@ impl<W: Wheel + Drop, I: Inlet + Drop> Desk<W, I> {
         ensures sound { IsSound self.now.facility }
         ensures clients { clients_of self.now ≡ length self.now.facility.numbers }
     {
-        let _ = self.facility.pending();
+        self.facility.lemma_sound();
     }
 
     /// The number of clients. Does not allocate.

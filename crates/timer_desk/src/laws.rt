@@ -1,12 +1,11 @@
 //! Lemmas about reports and drives. Each of these functions does nothing: its contract is the lemma.
 ghost use Rattle.std.specs.Prelude.{◌≡◌, ◌<◌, ◌≤◌, ℕ, false, List, [], ◌∷◌, ◌++◌, length, get_or, count_by};
-ghost use Rattle.timer_desk.specs.declared.driver.DriveEnd.{DriveEnd};
+ghost use Rattle.timer_desk.specs.Types.{DriveEnd, Done};
 ghost use Rattle.timer_desk.specs.declared.driver.DriveEnd.TheVariants as DriveEnds;
-ghost use Rattle.timer_desk.specs.declared.report.Done.{Done};
 ghost use Rattle.timer_facility.specs.State.{IsSound};
 ghost use Rattle.timer_desk.specs.Backlog.{BacklogState};
 ghost use Rattle.timer_desk.specs.Desk.{DeskState, clients_of, account_at, ReportHolds, NoticesFollow, AreOwed};
-ghost use Rattle.timer_desk.specs.Laws.{IsInTime, RespectsRoom};
+ghost use Rattle.timer_desk.specs.Laws.{HasNoticesInTime, RespectsRoom};
 ghost use Rattle.timer_desk.specs.Driver.{Drives, HasUnfinishedClient, is_flush_of, joined};
 ghost use Rattle.timer_desk.specs.Report.{asked, ClientAccount, Runs, steps_of};
 
@@ -42,7 +41,7 @@ pub fn a_report_accounts_for_all<I: Inlet>()
 /// with the room of its client's outbox.
 pub fn each_member_accords_with_those_before<I: Inlet>()
     ensures in_time { (past later : List Done) (done : Done) (first second : DeskState I)
-        → ReportHolds I.kind (past ++ done ∷ later) first second → IsInTime first.facility past done }
+        → ReportHolds I.kind (past ++ done ∷ later) first second → HasNoticesInTime first.facility past done }
     ensures room { (past later : List Done) (done : Done) (first second : DeskState I)
         → ReportHolds I.kind (past ++ done ∷ later) first second
         → (c : ℕ) (i : I) (b : BacklogState) → c < clients_of first

@@ -12,7 +12,7 @@ use timer_desk::{ClientEnd, Desk, RingInlet, Served, ring_line};
 use timer_wheels::HierWheel;
 
 /// How many outboxes are flushed one after another: enough that reading the clock does not count.
-const CLIENTS: u64 = 64;
+const OUTBOXES: u64 = 64;
 
 /// The most words in an outbox.
 const MAX_RUN: u64 = 1024;
@@ -55,15 +55,15 @@ pub fn of_full_outboxes(rt: &impl Clock, alloc: Global, run: u64, rounds: u64) -
 fn new_clients(alloc: Global, run: usize) -> Option<Clients>
     requires { (1 ≤ run) × (run ≤ MAX_RUN) }
 {
-    let facility = new_facility(alloc, CLIENTS).ok()?;
+    let facility = new_facility(alloc, OUTBOXES).ok()?;
     let mut inlets = Vec::new(alloc);
     let mut ends = Vec::new(alloc);
-    for _ in 0..CLIENTS {
+    for _ in 0..OUTBOXES {
         let (end, inlet) = ring_line(alloc, run, 1).ok()?;
         inlets.push(inlet).ok()?;
         ends.push(end).ok()?;
     }
-    if inlets.len() as u64 != CLIENTS {
+    if inlets.len() as u64 != OUTBOXES {
         return None;
     }
     let mut desk = Desk::open(alloc, facility, inlets, run + 1).ok()?;

@@ -6,12 +6,11 @@ use Rattle.std.proofs.lemmas.Bool.{cases_eq}
 use Rattle.std.proofs.lemmas.List.{get_or-set_same, get_or-set_other, get_or_push, get_or_append_left, length_push, length-set}
 use Rattle.timer_base.proofs.Basics.{either}
 use Rattle.timer_facility.specs.State.{FacilityState, pending_of}
-use Rattle.timer_desk.specs.declared.ring_ends.RingInlet.{RingInlet}
+use Rattle.timer_desk_c.specs.Types.{RingInlet, CLine}
 use Rattle.timer_desk.specs.Backlog.{BacklogState, empty_backlog}
 use Rattle.timer_desk.specs.Desk.{clients_of, backlog_at}
 use Rattle.timer_desk.specs.RingEnds.{line_of_inlet, got_of, given_of}
 use Rattle.timer_desk.specs.WindingUp.{KeepsLines, IsWaiting}
-use Rattle.timer_desk_c.specs.declared.c_structs.CLine.{CLine}
 use Rattle.timer_desk_c.specs.declared.ending.Unended.{Unended}
 use Rattle.timer_desk_c.specs.declared.status.TheConstants.{OK}
 use Rattle.timer_desk_c.specs.DeskSlots.{RingDesk}

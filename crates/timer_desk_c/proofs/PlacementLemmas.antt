@@ -1,7 +1,6 @@
 -- Ends that are put into C's lines, from the last on.
 use Rattle.std.proofs.Common.{◌≡◌, ◌<◌, ◌≤◌, ℕ, List, [], ◌∷◌, length, get_or, map, sym, ◌∙◌, arith, Box, Global}
-use Rattle.timer_desk_c.specs.declared.c_structs.CLine.{CLine}
-use Rattle.timer_desk_c.specs.declared.line.Line.{Line}
+use Rattle.timer_desk_c.specs.Types.{CLine, Line}
 use Rattle.timer_desk_c.specs.Frames.{HasLine}
 use Rattle.timer_desk_c.specs.Desks.{AreHeld}
 use Rattle.std.proofs.lemmas.List.{length-map, get_or_default}

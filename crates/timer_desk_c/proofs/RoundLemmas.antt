@@ -9,11 +9,9 @@ use Rattle.std.proofs.lemmas.List.{get_or_append_left, get_or_push, get_or-set_o
 use Rattle.std.proofs.lemmas.List.Elements.{All-nil, All-push, All-weaker, filter-append}
 use Rattle.std.proofs.lemmas.List.Folds.{list_any-append, list_any_none}
 use Rattle.timer_facility.specs.declared.request.Notice.{Notice}
-use Rattle.timer_desk.specs.declared.report.Served.{Served}
+use Rattle.timer_desk_c.specs.Types.{Served, Done, RingInlet}
 use Rattle.timer_desk.specs.declared.report.Served.TheVariants.{Idle, NoRoom, NoMemory, Did}
-use Rattle.timer_desk.specs.declared.report.Done.{Done}
 use Rattle.timer_desk.specs.declared.report.Done.TheVariants as Dones
-use Rattle.timer_desk.specs.declared.ring_ends.RingInlet.{RingInlet}
 use Rattle.timer_desk.specs.Backlog.{BacklogState, empty_backlog}
 use Rattle.timer_desk.specs.Member.{IsKept, is_notice}
 use Rattle.timer_desk.specs.RingEnds.{ring_lines}
@@ -165,16 +163,16 @@ round_nothing most x kept = record {
   memory_is = refl;
 }
 
-pub round_more : (most k : ℕ) (busy out b o busy' out' : Bool) (x y z : RingDesk) → HasServedFirst most k busy out x y
-    → HasServedClient k most b o y z → busy' ≡ busy || b → out' ≡ out || o → HasServedFirst most (k + 1) busy' out' x z
-round_more most k busy out b o busy' out' x y z f g busy_is out_is = record {
+pub round_more : (most k : ℕ) (busy out b o : Bool) (x y z : RingDesk) → HasServedFirst most k busy out x y
+    → HasServedClient k most b o y z → HasServedFirst most (k + 1) (busy || b) (out || o) x z
+round_more most k busy out b o x y z f g = record {
   results = f.results ++ g.results ∷ [];
   as_many = one_more k f.results g.results f.as_many;
   says = serves_joined (report_of serves_of f.results) (serves_of k g.results) (report_of serves_of (f.results ++ g.results ∷ [])) x y z
       f.says g.says (report_of-push serves_of k f.results g.results f.as_many);
   served_out = All-push (IsServedOut most) f.results g.results f.served_out g.served_out;
-  busy_is = busy_is ∙ any_more (list_any did) f.results g.results busy b f.busy_is g.busy_is;
-  memory_is = out_is ∙ any_more (list_any starved) f.results g.results out o f.memory_is g.memory_is;
+  busy_is = any_more (list_any did) f.results g.results busy b f.busy_is g.busy_is;
+  memory_is = any_more (list_any starved) f.results g.results out o f.memory_is g.memory_is;
 }
 
 -- The clients that a step leaves alone.
@@ -214,16 +212,16 @@ ring_stopped (inl none) = inl none
 ring_stopped (inr (inl full)) = inr full
 ring_stopped (inr (inr refuses)) = absurd (cc)
 
-pub flushing_more : (k count : ℕ) (moved b moved' : Bool) (x y z : RingDesk) → HasFlushedFirst k moved x y
-    → Says (Dones.Flushed k count ∷ []) y z → b ≡ nat_lt 0 count → moved' ≡ moved || b → FlushesClient ring_lines k count y z
-    → ((i : RingInlet) → IsFlushedOut (get_or z.inlets k i) (backlog_at z k)) → HasFlushedFirst (k + 1) moved' x z
-flushing_more k count moved b moved' x y z f says e moved_is g stopped = record {
+pub flushing_more : (k count : ℕ) (moved : Bool) (x y z : RingDesk) → HasFlushedFirst k moved x y
+    → Says (Dones.Flushed k count ∷ []) y z → FlushesClient ring_lines k count y z
+    → ((i : RingInlet) → IsFlushedOut (get_or z.inlets k i) (backlog_at z k)) → HasFlushedFirst (k + 1) (moved || nat_lt 0 count) x z
+flushing_more k count moved x y z f says g stopped = record {
   counts = f.counts ++ count ∷ [];
   as_many = one_more k f.counts count f.as_many;
   says = says_more flush_of k f.counts count x y z f.as_many f.says says;
   flushed_out = λ c i. below_more (λ n. IsFlushedOut (get_or z.inlets n i) (backlog_at z n)) k
       (λ n under. still IsFlushedOut k n i y z (flush_others k count y z g) (ne_of_lt under) (f.flushed_out n i under)) (stopped i) c;
-  moved_is = moved_is ∙ any_more (nat_lt 0) f.counts count moved b f.moved_is e;
+  moved_is = any_more (nat_lt 0) f.counts count moved (nat_lt 0 count) f.moved_is refl;
 }
 
 -- A round that drops the words to clients that are gone.
@@ -266,9 +264,9 @@ counted_more k count counts x y z many o e was before =
     omega (arith, b, n, same))
     (let n = get_or_push counts count 0 k many in omega (arith, n, e, was))
 
-pub dropping_more : (k count : ℕ) (dropped b dropped' : Bool) (x y z : RingDesk) → IsDropping k dropped x y → HasDropped k y z
-    → count + waiting_at z k ≡ waiting_at y k → b ≡ nat_lt 0 count → dropped' ≡ dropped || b → IsDropping (k + 1) dropped' x z
-dropping_more k count dropped b dropped' x y z f g e is dropped_is = let o = drop_others k y z g in let so_far = f.first in record {
+pub dropping_more : (k count : ℕ) (dropped : Bool) (x y z : RingDesk) → IsDropping k dropped x y → HasDropped k y z
+    → count + waiting_at z k ≡ waiting_at y k → IsDropping (k + 1) (dropped || nat_lt 0 count) x z
+dropping_more k count dropped x y z f g e = let o = drop_others k y z g in let so_far = f.first in record {
   first = record {
     counts = so_far.counts ++ count ∷ [];
     as_many = one_more k so_far.counts count so_far.as_many;
@@ -283,7 +281,7 @@ dropping_more k count dropped b dropped' x y z f g e is dropped_is = let o = dro
         (f.later_backlogs k (omega arith)) (g.at i))) c;
     counted = counted_more k count so_far.counts x y z so_far.as_many o e
         (ap (λ (d : BacklogState). length d.outbox) (f.later_backlogs k (omega arith))) so_far.counted;
-    dropped_is = dropped_is ∙ any_more (nat_lt 0) so_far.counts count dropped b so_far.dropped_is is;
+    dropped_is = any_more (nat_lt 0) so_far.counts count dropped (nat_lt 0 count) so_far.dropped_is refl;
   };
   later_inlets = λ c i high. o.inlets c i (λ e. absurd (omega arith)) ∙ f.later_inlets c i (omega (arith, high));
   later_backlogs = λ c high. o.backlogs c (λ e. absurd (omega arith)) ∙ f.later_backlogs c (omega (arith, high));

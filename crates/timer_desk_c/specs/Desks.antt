@@ -15,19 +15,15 @@ use Rattle.timer_facility.specs.Config.{config_fault}
 use Rattle.timer_facility.specs.Opened.{opened}
 use Rattle.timer_facility.specs.State.{FacilityState, with_room}
 use Rattle.timer_desk.specs.declared.constructor.TheConstants.{MIN_ROOM, MAX_ROOM}
-use Rattle.timer_desk.specs.declared.report.Served.{Served}
+use Rattle.timer_desk_c.specs.Types.{Served, Done, RingInlet, CLine, Line}
 use Rattle.timer_desk.specs.declared.report.Served.TheVariants as Serveds
-use Rattle.timer_desk.specs.declared.report.Done.{Done}
 use Rattle.timer_desk.specs.declared.report.Done.TheVariants as Dones
-use Rattle.timer_desk.specs.declared.ring_ends.RingInlet.{RingInlet}
 use Rattle.timer_desk.specs.declared.looks.Found.TheVariants.{Nothing}
 use Rattle.timer_desk.specs.RingEnds.{line_of_inlet, got_of, given_of, is_settled, free_of_inlet, found_by_inlet, ring_lines}
 use Rattle.timer_desk.specs.Settlement.{HasSettled}
 use Rattle.timer_desk.specs.Desk.{opened_desk, clients_of, ReportHolds, LeavesAlone, event_report}
 use Rattle.timer_desk_c.specs.declared.layout.DeskConfig.{DeskConfig}
 use Rattle.timer_desk_c.specs.declared.layout.TheConstants.{CONFIG_SIZE}
-use Rattle.timer_desk_c.specs.declared.c_structs.CLine.{CLine}
-use Rattle.timer_desk_c.specs.declared.line.Line.{Line}
 use Rattle.timer_desk_c.specs.declared.desk_maker.TheConstants.{MIN_ITEMS, MAX_ITEMS}
 use Rattle.timer_desk_c.specs.declared.status.TheConstants.{OK, NO_MEMORY, IDLE, NO_ROOM, OUT_OF_RANGE, CLOSED, CLOCK_END, NO_CLIENT, NOT_FINISHED, OTHER_LINE, NEVER}
 use Rattle.timer_desk_c.specs.DeskSlots.{RingDesk}

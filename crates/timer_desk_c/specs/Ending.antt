@@ -2,18 +2,16 @@
 use Rattle.std.specs.Prelude.{ℕ, ◌≡◌, ◌≢◌, ◌<◌, ◌⊎◌, ◌++◌, Bool, true, List, length, get_or, Some, ◌+◌, ◌==◌, [], ◌∷◌, if◌then◌else◌, Option, None}
 use Rattle.timer_facility.specs.State.{pending_of}
 use Rattle.timer_desk.specs.declared.word.Numbered.{Numbered}
-use Rattle.timer_desk.specs.declared.ring_ends.RingInlet.{RingInlet}
+use Rattle.timer_desk_c.specs.Types.{RingInlet, Line, CLine}
 use Rattle.timer_desk.specs.declared.looks.Found.TheVariants.{Nothing}
 use Rattle.timer_desk.specs.Desk.{clients_of, backlog_at, IsIdle}
 use Rattle.timer_desk.specs.RingEnds.{line_of_inlet, got_of, given_of, found_by_inlet}
 use Rattle.timer_desk.specs.WindingUp.{IsWaiting}
-use Rattle.timer_desk_c.specs.declared.line.Line.{Line}
 use Rattle.timer_desk_c.specs.declared.status.TheConstants.{LEFT, OK, OUT_OF_RANGE, NOT_FREED}
 use Rattle.timer_desk_c.specs.DeskSlots.{RingDesk}
 use Rattle.timer_desk_c.specs.Lines.{requests_ring_on, words_ring_on, submitted_on, received_on, unread_on, is_ended_line}
 use Rattle.timer_desk_c.specs.Desks.{IsGivenAs, WhyNotSettled, IsAsBefore}
 use Rattle.timer_desk.specs.Settlement.{HasLooked}
-use Rattle.timer_desk_c.specs.declared.c_structs.CLine.{CLine}
 use Rattle.timer_desk_c.specs.declared.ending.Unended.{Unended}
 use Rattle.timer_desk_c.specs.Frames.{HasLine, HasNoLine, with_line, is_own}
 

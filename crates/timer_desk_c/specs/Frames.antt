@@ -1,9 +1,8 @@
 -- What C holds, before and after a call.
 use Rattle.std.specs.Prelude.{◌≡◌, ◌==◌, ◌&&◌, ◌+◌, ◌%◌, ◌^◌, ℕ, Bool, true, false}
 use Rattle.timer_desk_c.specs.declared.c_structs.CDesk.{CDesk}
-use Rattle.timer_desk_c.specs.declared.c_structs.CLine.{CLine}
+use Rattle.timer_desk_c.specs.Types.{CLine, Line}
 use Rattle.timer_desk_c.specs.DeskSlots.{RingDesk}
-use Rattle.timer_desk_c.specs.declared.line.Line.{Line}
 use Rattle.timer_ffi_base.specs.Cells.{is_open}
 
 -- it holds a desk

@@ -1,11 +1,10 @@
 -- What a look for a freed line or desk leaves as it was. Whether the other end was freed is the ring's
 -- answer, of which no clause speaks.
 use Rattle.std.specs.Prelude.{ℕ, ◌≡◌, ◌≢◌, ◌↔◌, Bool, true, false, [], get_or, ◌+◌, ◌<◌, List, length, nat_lt}
-use Rattle.timer_desk.specs.declared.ring_ends.RingInlet.{RingInlet}
+use Rattle.timer_desk_c.specs.Types.{RingInlet, Line}
 use Rattle.timer_desk.specs.declared.looks.Found.TheVariants.{Nothing}
 use Rattle.timer_desk.specs.Looks.{MayFind}
 use Rattle.timer_desk.specs.RingEnds.{found_by_inlet}
-use Rattle.timer_desk_c.specs.declared.line.Line.{Line}
 use Rattle.timer_desk_c.specs.DeskSlots.{RingDesk}
 use Rattle.timer_desk_c.specs.Lines.{is_ended_line, seen_on}
 use Rattle.std.specs.List.{list_any}

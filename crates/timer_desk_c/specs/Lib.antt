@@ -1,3 +1,4 @@
+pub mod Types
 pub mod Messages
 pub mod Lines
 pub mod DeskSlots

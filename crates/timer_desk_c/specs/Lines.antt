@@ -1,6 +1,6 @@
 -- The client's end of a line, before and after a call.
 use Rattle.std.specs.Prelude.{ℕ, ◌≡◌, ◌==◌, ◌+◌, ◌<◌, ◌≤◌, ◌⊎◌, ◌++◌, Bool, true, false, List, [], ◌∷◌, length, Option, Some, None}
-use Rattle.timer_base.specs.declared.limits.TheConstants.{LAST}
+use Rattle.timer_desk_c.specs.Types.{LAST, CLine, Line}
 use Rattle.timer_facility.specs.declared.request.Request.{Request}
 use Rattle.timer_desk.specs.declared.word.Numbered.{Numbered}
 use Rattle.timer_desk.specs.declared.word.Word.{Word}
@@ -8,8 +8,6 @@ use Rattle.timer_desk.specs.RingEnds.{Ring, line_of_end, requests_ring_of, words
 use Rattle.timer_desk.specs.Looks.{AreLooksInOrder}
 use Rattle.timer_desk.specs.declared.looks.Found.{Found}
 use Rattle.timer_desk.specs.declared.looks.Found.TheVariants.{Nothing}
-use Rattle.timer_desk_c.specs.declared.c_structs.CLine.{CLine}
-use Rattle.timer_desk_c.specs.declared.line.Line.{Line}
 use Rattle.timer_desk_c.specs.declared.line.Line.TheVariants.{Open, Finished, Gone}
 use Rattle.timer_desk_c.specs.declared.layout.Message.{Message}
 use Rattle.timer_desk_c.specs.declared.status.TheConstants.{OK, NOT_OPEN, LINE_FULL, NUMBERS_SPENT, FINISHED}

@@ -1,12 +1,10 @@
 -- The line of a client that is gone, opened again.
 use Rattle.std.specs.Prelude.{ℕ, ◌≡◌, ◌≢◌, ◌<◌, ◌≤◌, ◌⊎◌, get_or, slice_set}
-use Rattle.timer_base.specs.declared.limits.TheConstants.{LAST}
+use Rattle.timer_desk_c.specs.Types.{LAST, RingInlet, Line}
 use Rattle.timer_facility.specs.State.{number_of, pending_of}
-use Rattle.timer_desk.specs.declared.ring_ends.RingInlet.{RingInlet}
 use Rattle.timer_desk.specs.declared.looks.Found.TheVariants.{Nothing}
 use Rattle.timer_desk.specs.Desk.{clients_of, backlog_at, IsIdle}
 use Rattle.timer_desk.specs.RingEnds.{found_by_inlet, IsOver}
-use Rattle.timer_desk_c.specs.declared.line.Line.{Line}
 use Rattle.timer_desk_c.specs.declared.desk_maker.TheConstants.{MIN_ITEMS, MAX_ITEMS}
 use Rattle.timer_desk_c.specs.declared.status.TheConstants.{NO_CLIENT, OUT_OF_RANGE, NOT_FREED, LEFT, NUMBERS_SPENT, NO_MEMORY}
 use Rattle.timer_desk_c.specs.DeskSlots.{RingDesk}

@@ -1,11 +1,9 @@
 -- Rounds of the owner over all clients, in order: each is served, each outbox is flushed.
 use Rattle.std.specs.Prelude.{ℕ, ◌≡◌, ◌<◌, ◌⊎◌, ◌||◌, ◌++◌, Bool, true, false, List, [], ◌∷◌, length, get_or, map, filter, not, All, nat_lt, if◌then◌else◌}
 use Rattle.std.specs.List.{list_any, flat_map, enumerate_from}
-use Rattle.timer_desk.specs.declared.report.Served.{Served}
+use Rattle.timer_desk_c.specs.Types.{Served, Done, RingInlet}
 use Rattle.timer_desk.specs.declared.report.Served.TheVariants.{NoMemory, Did}
-use Rattle.timer_desk.specs.declared.report.Done.{Done}
 use Rattle.timer_desk.specs.declared.report.Done.TheVariants as Dones
-use Rattle.timer_desk.specs.declared.ring_ends.RingInlet.{RingInlet}
 use Rattle.timer_desk.specs.Backlog.{BacklogState}
 use Rattle.timer_desk.specs.Member.{is_notice}
 use Rattle.timer_desk.specs.Desk.{clients_of, backlog_at}

@@ -1,7 +1,7 @@
 -- The pending timers of a client that is gone: the owner stops all of them.
 use Rattle.std.specs.Prelude.{ℕ, ◌≡◌, ◌≢◌, ◌+◌, ◌<◌, ◌≤◌, ◌⊎◌, ◌==◌, not, true, false, List, Option, Some, None, filter, map, length, get_or, slice_set}
 use Rattle.std.specs.List.{AllByRecursion, enumerate_from}
-use Rattle.timer_base.specs.declared.limits.TheConstants.{LAST}
+use Rattle.timer_desk_c.specs.Types.{LAST, RingInlet}
 use Rattle.timer_base.specs.declared.timer.Timer.{Timer}
 use Rattle.timer_base.specs.declared.timer.Handle.{Handle}
 use Rattle.timer_base.specs.Pending.{Entry, has_handle, first_timer}
@@ -11,7 +11,6 @@ use Rattle.timer_facility.specs.declared.event.Out.{Out}
 use Rattle.timer_facility.specs.declared.event.Out.TheVariants as Outs
 use Rattle.timer_facility.specs.State.{FacilityState, number_of, pending_of, ByHandle, Stop, Asked}
 use Rattle.timer_facility.specs.Run.{PlacedEvent, run}
-use Rattle.timer_desk.specs.declared.ring_ends.RingInlet.{RingInlet}
 use Rattle.timer_desk.specs.declared.looks.Found.TheVariants.{Nothing}
 use Rattle.timer_desk.specs.Desk.{clients_of}
 use Rattle.timer_desk.specs.Report.{placed}

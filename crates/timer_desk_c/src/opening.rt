@@ -3,9 +3,8 @@
 //! Nothing of the client that is gone is left then: so each request and each word of the new line is the new
 //! client's. The numbers of its requests go on from those of the one that is gone, since the facility counts them.
 ghost use Rattle.std.specs.Prelude.{◌≡◌, ◌<◌, ◌≤◌, ◌≢◌, ◌⊎◌, true, false, get_or, IfOk, IfErr};
-ghost use Rattle.timer_base.specs.declared.limits.TheConstants.{LAST};
+ghost use Rattle.timer_desk_c.specs.Types.{LAST, RingInlet};
 ghost use Rattle.timer_facility.specs.State.{number_of, pending_of};
-ghost use Rattle.timer_desk.specs.declared.ring_ends.RingInlet.{RingInlet};
 ghost use Rattle.timer_desk.specs.Desk.{clients_of, backlog_at, IsIdle};
 ghost use Rattle.timer_desk.specs.RingEnds.{IsOver};
 ghost use Rattle.timer_desk_c.specs.Freed.{OnlyLooks};

@@ -1,5 +1,5 @@
 //! Rounds of the owner: each client is served, or each outbox flushed, in the order of the clients.
-ghost use Rattle.std.specs.Prelude.{◌≡◌, ◌<◌, ◌+◌, ◌||◌, nat_lt};
+ghost use Rattle.std.specs.Prelude.{◌≡◌, ◌<◌, ◌+◌};
 ghost use Rattle.timer_desk.specs.Desk.{clients_of};
 ghost use Rattle.timer_desk_c.specs.Rounds.{did, starved, round_status, HasServedClient, HasServedAll, HasFlushedFirst, HasFlushedAll};
 ghost use Rattle.timer_desk_c.specs.Freed.{HasDropped, HasDroppedFirst, waiting_at};
@@ -26,8 +26,8 @@ pub(crate) fn serve_all<W: Wheel + Drop>(desk: &mut Desk<W, RingInlet>, most: u6
     let mut starved = false;
     for client in 0..desk.clients() {
         let round = serve_up_to(desk, client, most);
-        busy = either(busy, round.busy);
-        starved = either(starved, round.starved);
+        busy |= round.busy;
+        starved |= round.starved;
     }
     round_status(starved, busy)
 }
@@ -60,7 +60,7 @@ pub(crate) fn flush_all<W: Wheel + Drop>(desk: &mut Desk<W, RingInlet>) -> bool
 {
     let put = flush_each(desk);
     let dropped = drop_each(desk);
-    either(put, dropped)
+    put | dropped
 }
 
 /// Drops the words of each client whose line was freed. Returns whether a word was dropped.
@@ -69,7 +69,7 @@ fn drop_each<W: Wheel + Drop>(desk: &mut Desk<W, RingInlet>) -> bool
 {
     let mut dropped = false;
     for client in 0..desk.clients() {
-        dropped = either(dropped, is_some(drop_rest(desk, client)));
+        dropped |= drop_rest(desk, client) > 0;
     }
     dropped
 }
@@ -94,7 +94,7 @@ fn flush_each<W: Wheel + Drop>(desk: &mut Desk<W, RingInlet>) -> bool
     desk.lemma_invariant();
     let mut busy = false;
     for client in 0..desk.clients() {
-        busy = either(busy, is_some(desk.flush(client)));
+        busy |= desk.flush(client) > 0;
     }
     busy
 }
@@ -111,19 +111,6 @@ fn is_starved(served: Served) -> bool
     ensures { result ≡ starved served }
 {
     matches!(served, Served::NoMemory)
-}
-
-/// Whether words were moved.
-fn is_some(count: usize) -> bool
-    ensures { result ≡ nat_lt 0 count }
-{
-    count > 0
-}
-
-fn either(a: bool, b: bool) -> bool
-    ensures { result ≡ a || b }
-{
-    a || b
 }
 
 /// The status of a round: out of memory comes before what was done, so that the owner comes back for the held

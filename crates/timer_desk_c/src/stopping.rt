@@ -8,10 +8,9 @@
 //!     place      0   1   2   3   4   5
 //!     stopped    *       *   *              three requests, under the next three numbers of client 1
 ghost use Rattle.std.specs.Prelude.{◌≡◌, ◌≢◌, ◌+◌, ◌<◌, ◌≤◌, false, get_or, IfSome, Some, None};
-ghost use Rattle.timer_base.specs.declared.limits.TheConstants.{LAST};
+ghost use Rattle.timer_desk_c.specs.Types.{LAST, RingInlet};
 ghost use Rattle.timer_facility.specs.State.{number_of, pending_of, ByHandle};
 ghost use Rattle.timer_facility.specs.Verdict.{timer_named};
-ghost use Rattle.timer_desk.specs.declared.ring_ends.RingInlet.{RingInlet};
 ghost use Rattle.timer_desk.specs.declared.looks.Found.TheVariants as Found;
 ghost use Rattle.timer_desk.specs.Desk.{clients_of};
 ghost use Rattle.timer_desk.specs.RingEnds.{found_by_inlet};

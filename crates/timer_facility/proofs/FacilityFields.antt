@@ -8,12 +8,10 @@ use Rattle.std.proofs.lemmas.List.{drop_more, length-take-le, length-set, length
 use Rattle.std.proofs.lemmas.List.Elements.{All-from_recursion, recursion_from_All, All-set, All-replicate}
 use Rattle.timer_base.proofs.Basics.{either, filter_no_longer, some_same}
 use Rattle.timer_base.specs.Order.{IsMember}
-use Rattle.timer_facility.specs.Types.{LAST, Timer, Handle, MAX_PENDING, Config, Answer, Reason, Notice}
+use Rattle.timer_facility.specs.Types.{LAST, Timer, Handle, MAX_PENDING, Config, Answer, Reason, Notice, Started, Stopped, Restarted, Expired, Returned}
 use Rattle.timer_base.specs.Pending.{Entry, timer_of, timers_of, is_due_at, has_handle, first_timer, without_found, has_serial}
 use Rattle.timer_base.proofs.HeldLaws.{held_when_none_due, held_start-last_serial, removal_when_none_due}
 use Rattle.timer_base.specs.WheelState as Wheels
-use Rattle.timer_facility.specs.declared.request.Answer.TheVariants.{Started, Stopped, Restarted}
-use Rattle.timer_facility.specs.declared.request.Notice.TheVariants.{Expired, Returned}
 use Rattle.timer_facility.specs.State.{FacilityState, ByHandle, Tick, Close, one_of, count_of, pending_of}
 use Rattle.timer_facility.specs.Verdict.{interval_refusal, first_refusal, name_refusal, timer_named, tick_refusal}
 use Rattle.timer_facility.specs.Step.{step, step_of_close, new_timer, handle_of, answer_to, due_at_start, with_number, after_request, expired_next, accepted}
@@ -74,7 +72,7 @@ agrees {p} {v} a e = subst (λ (u : FacilityView). AgreesWithFields p u.state) e
 })
 
 -- a timer that is started or restarted now
-pub record IsInTime (p : Fields) (client : ℕ) (t : Timer) : Type 0 where
+pub record IsNewTimer (p : Fields) (client : ℕ) (t : Timer) : Type 0 where
   pub not_past : p.wheel.now ≤ t.deadline
   pub within : t.deadline ≤ p.wheel.last_tick
   pub in_range : t.deadline ≤ LAST
@@ -84,7 +82,7 @@ pub record IsInTime (p : Fields) (client : ℕ) (t : Timer) : Type 0 where
 
 pub in_time : {p : Fields} {v : FacilityView} → IsFacility p → view_of p ≡ v → Wheels.IsWellFormed p.wheel
     → {client number left action : ℕ} (interval : ℕ) → interval_refusal v.state interval ≡ None → left ≤ interval → {t : Timer}
-    → t ≡ new_timer v.state client number left action → IsInTime p client t
+    → t ≡ new_timer v.state client number left action → IsNewTimer p client t
 in_time {p} {v} a e w {left = left} interval h few {t} is =
     let told = agrees a e in
     let i = timely v.state interval h in
@@ -343,7 +341,7 @@ one_more w rest place t =
     ]
 
 pub facility-start : {p : Fields} → IsFacility p → length p.wheel.pending ≢ p.capacity → (place : ℕ) {client : ℕ} {t : Timer}
-    → IsInTime p client t → client < p.clients → {w' : Wheels.WheelState} → w' ≡ Wheels.after_held_start place t p.wheel
+    → IsNewTimer p client t → client < p.clients → {w' : Wheels.WheelState} → w' ≡ Wheels.after_held_start place t p.wheel
     → IsFacility (with_one_more client (record p { wheel = w'; next_serial = p.next_serial + 1 }))
 facility-start {p} a room place {client} {t} i l {w'} e =
     let rest : List Timer = drop p.handed p.returned in
@@ -546,7 +544,7 @@ length-found test t (e ∷ es) h = elim (either (test e)) [
 -- nothing is due; no client has more or fewer timers
 pub restarted_now : {p : Fields} {v : FacilityView} → IsFacility p → view_of p ≡ v → Wheels.IsWellFormed p.wheel → v.waiting ≡ []
     → (client : ℕ) (handle : Handle) (old : Timer) → timer_named v.state client (ByHandle handle) ≡ Some old
-    → {t : Timer} → IsInTime p client t → {place : ℕ} {w' : Wheels.WheelState}
+    → {t : Timer} → IsNewTimer p client t → {place : ℕ} {w' : Wheels.WheelState}
     → w' ≡ Wheels.after_held_start place t (Wheels.after_removal handle p.wheel) → IsRestarted p old t place w'
 restarted_now {p} a e w h client handle old f {t} i {place} {w'} s =
     let o : IsOwn p client handle old = own a e client handle old f in

@@ -3,9 +3,8 @@ use Rattle.std.proofs.Common.{◌≡◌, ◌≤◌, ◌+◌, ℕ, Bool, true, fa
 use Rattle.std.specs.Prelude.{map, filter, nat_lt, if◌then◌else◌, Option, Some, None}
 use Rattle.std.proofs.lemmas.List.{length-map}
 use Rattle.timer_base.proofs.Basics.{either, filter_no_longer}
-use Rattle.timer_facility.specs.Types.{Timer, Answer, TickFault, Notice}
+use Rattle.timer_facility.specs.Types.{Timer, Answer, TickFault, Notice, Expired, Returned}
 use Rattle.timer_base.specs.Pending.{Entry, timer_of, timers_of, is_due_at, has_serial}
-use Rattle.timer_facility.specs.declared.request.Notice.TheVariants.{Expired, Returned}
 use Rattle.timer_facility.specs.declared.event.Out.TheVariants as Outs
 use Rattle.timer_facility.specs.State.{FacilityState, one_of, count_of, pending_of, ModelRequest, Asked, Tick, Close}
 use Rattle.timer_facility.specs.Verdict.{tick_refusal}

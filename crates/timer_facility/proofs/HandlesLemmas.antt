@@ -4,13 +4,12 @@ use Rattle.std.specs.Prelude.{filter, nat_lt, if◌then◌else◌, is_some, Opti
 use Rattle.std.specs.List.{AllByRecursion}
 use Rattle.std.proofs.lemmas.Bool.{and_right, eq-eqb, eqb-true}
 use Rattle.std.proofs.lemmas.Bool.Decides.{nat_tests}
-use Rattle.timer_facility.specs.Types.{Timer, Handle, TickFault, Request, Answer, Out}
+use Rattle.timer_facility.specs.Types.{Timer, Handle, TickFault, Request, Answer, Out, Started, Stopped, Restarted, Refused}
 use Rattle.timer_base.proofs.Basics.{either}
 use Rattle.timer_base.proofs.OrderLaws.{All-append, All-filter, All-weaken}
 use Rattle.timer_base.specs.Pending.{Entry, put, has_handle, has_serial, first_timer}
 use Rattle.timer_facility.specs.declared.request.NotTaken.TheVariants as NotTakens
 use Rattle.timer_facility.specs.declared.request.Request.TheVariants as Requests
-use Rattle.timer_facility.specs.declared.request.Answer.TheVariants.{Started, Stopped, Restarted, Refused}
 use Rattle.timer_facility.specs.declared.event.Out.TheVariants as Outs
 use Rattle.timer_facility.specs.State.{FacilityState, ByHandle, BySerial, ModelRequest, Start, Stop, Restart, Asked, Tick}
 use Rattle.timer_facility.specs.Verdict.{tick_refusal, not_taken, of_client, timer_named}

@@ -5,11 +5,10 @@ use Rattle.std.proofs.lemmas.Bool.{and_from, cases_eq, eq-eqb, lt-ltb, not_from_
 use Rattle.std.proofs.lemmas.Bool.Decides.{nat_tests}
 use Rattle.timer_base.proofs.Basics.{either}
 use Rattle.timer_base.proofs.OrderLaws.{All-weaken, filter_same}
-use Rattle.timer_facility.specs.Types.{Timer, Notice}
+use Rattle.timer_facility.specs.Types.{Timer, Notice, Expired, Returned}
 use Rattle.timer_base.specs.Order.{itself, IsMember}
 use Rattle.timer_base.proofs.OneOrder.{IsMember-in_order}
 use Rattle.timer_base.specs.Pending.{is_due_at}
-use Rattle.timer_facility.specs.declared.request.Notice.TheVariants.{Expired, Returned}
 use Rattle.timer_facility.specs.State.{FacilityState, IsSound}
 use Rattle.timer_facility.specs.Run.{PlacedEvent, HistoryEntry, history}
 use Rattle.timer_facility.specs.Owed.{started, stopped, accepted_ticks, has_closed, is_among, timers_in_order, due, left_after, owed_by_ticks, owed_by_close, is_due_within, others, AreAllHandedOut}

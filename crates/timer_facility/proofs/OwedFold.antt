@@ -1,9 +1,8 @@
 -- A history read event by event, and a proof that this yields what is owed for the whole.
 use Rattle.std.proofs.Common.{◌≡◌, ℕ, zero, suc, ◌+◌, Bool, true, false, not, ◌==◌, ◌&&◌, ◌||◌, List, [], ◌++◌, refl, ap, arith, append-nil, append_assoc}
 use Rattle.std.specs.Prelude.{map, filter, nat_lt}
-use Rattle.timer_facility.specs.Types.{Timer, Notice}
+use Rattle.timer_facility.specs.Types.{Timer, Notice, Expired, Returned}
 use Rattle.timer_base.specs.Pending.{timers_of}
-use Rattle.timer_facility.specs.declared.request.Notice.TheVariants.{Expired, Returned}
 use Rattle.timer_facility.specs.State.{FacilityState}
 use Rattle.timer_facility.specs.Run.{HistoryEntry}
 use Rattle.timer_facility.specs.Owed.{started_by, accepted_starts, serials_told, stopped, ticks_by, accepted_ticks, any_out, is_closing, has_closed, is_among, timers_in_order, due, owed_by_ticks, owed_by_close, owed}

@@ -9,9 +9,8 @@ use Rattle.std.proofs.lemmas.List.Elements.{filter-append, filter_agree}
 use Rattle.timer_base.proofs.Basics.{either, not_due_before}
 use Rattle.timer_base.specs.Order.{IsMember, itself, IsNotAmong, AreDistinct, AreBelow}
 use Rattle.timer_base.proofs.OrderLaws.{All-append, All-filter, All-weaken, All-in_order, newest_last, filter_same}
-use Rattle.timer_facility.specs.Types.{Timer, Notice}
+use Rattle.timer_facility.specs.Types.{Timer, Notice, Expired, Returned}
 use Rattle.timer_base.specs.Pending.{timers_of, is_due_at, has_serial}
-use Rattle.timer_facility.specs.declared.request.Notice.TheVariants.{Expired, Returned}
 use Rattle.timer_facility.specs.State.{FacilityState, Tick, Close}
 use Rattle.timer_facility.specs.Step.{with_number, without_timer, with_timer, expired_next, accepted}
 use Rattle.timer_facility.specs.Owed.{timers_in_order, is_among}

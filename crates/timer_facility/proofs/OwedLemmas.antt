@@ -6,9 +6,8 @@ use Rattle.std.proofs.lemmas.Bool.{cases_lt, or_right}
 use Rattle.std.proofs.lemmas.Bool.Decides.{nat_tests}
 use Rattle.timer_base.specs.Order.{IsMember, AreDistinct}
 use Rattle.timer_base.proofs.OrderLaws.{All-weaken, filter_all, filter_none}
-use Rattle.timer_facility.specs.Types.{Timer, Notice, TickFault}
+use Rattle.timer_facility.specs.Types.{Timer, Notice, TickFault, Expired, Returned}
 use Rattle.timer_base.specs.Pending.{timers_of}
-use Rattle.timer_facility.specs.declared.request.Notice.TheVariants.{Expired, Returned}
 use Rattle.timer_facility.specs.State.{FacilityState, IsSound, ModelRequest, action_of, SingleEvent, Asked, Tick, Close}
 use Rattle.timer_facility.specs.Verdict.{tick_refusal}
 use Rattle.timer_facility.specs.Step.{StepResult, timer_stopped, expiries, timer_started, handle_of, answer_to, answered, due_at_start, with_timer, after_request, expired_next, step, step_of_tick, step_of_close}

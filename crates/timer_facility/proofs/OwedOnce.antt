@@ -6,11 +6,10 @@ use Rattle.std.proofs.lemmas.Bool.{and_parts, eqb-true, ltb-true, not-true}
 use Rattle.std.proofs.lemmas.List.{map-append}
 use Rattle.timer_base.specs.Order.{IsMember, itself, AreDistinct}
 use Rattle.timer_base.proofs.OneOrder.{each_is_member, map-itself}
-use Rattle.timer_facility.specs.Types.{Timer}
+use Rattle.timer_facility.specs.Types.{Timer, Expired, Returned}
 use Rattle.timer_base.proofs.Basics.{either}
 use Rattle.timer_base.proofs.OrderLaws.{All-append, All-filter, All-weaken, All-in_order, AreDistinct-in_order}
 use Rattle.timer_base.specs.Pending.{is_due_at}
-use Rattle.timer_facility.specs.declared.request.Notice.TheVariants.{Expired, Returned}
 use Rattle.timer_facility.specs.State.{FacilityState, IsSound}
 use Rattle.timer_facility.specs.Run.{PlacedEvent, HistoryEntry, history}
 use Rattle.timer_facility.specs.Owed.{started, stopped, accepted_ticks, has_closed, is_among, timers_in_order, due, left_after, owed_by_ticks, owed_by_close, timer_handed, handed_out, AreHandedOutOnce}

@@ -3,9 +3,8 @@ use Rattle.std.proofs.Common.{◌≡◌, ℕ, true, false, List, [], ◌∷◌, 
 use Rattle.std.specs.Prelude.{map, Some, None, Result, Ok, Err, OnErr}
 use Rattle.std.proofs.lemmas.List.{length-map}
 use Rattle.timer_base.specs.Pending.{timers_of, timer_of}
-use Rattle.timer_facility.specs.Types.{Handle, Request, NotTaken, Event, Out, Answer}
+use Rattle.timer_facility.specs.Types.{Handle, Request, NotTaken, Event, Out, Answer, Returned}
 use Rattle.timer_facility.specs.declared.request.NotTaken.TheVariants as NotTakens
-use Rattle.timer_facility.specs.declared.request.Notice.TheVariants.{Returned}
 use Rattle.timer_facility.specs.declared.event.Event.TheVariants as Events
 use Rattle.timer_facility.specs.declared.request.Request.TheVariants as Requests
 use Rattle.timer_facility.specs.Handles.{HandleList, AreRecorded}

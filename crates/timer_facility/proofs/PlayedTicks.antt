@@ -5,8 +5,7 @@ use Rattle.std.proofs.lemmas.Bool.{cases_eq}
 use Rattle.std.proofs.lemmas.List.{map-append, replicate-append-replicate}
 use Rattle.timer_base.proofs.Basics.{either}
 use Rattle.timer_base.specs.Pending.{is_due_at}
-use Rattle.timer_facility.specs.declared.request.Notice.TheVariants.{Expired}
-use Rattle.timer_facility.specs.Types.{TickFault, Out}
+use Rattle.timer_facility.specs.Types.{TickFault, Out, Expired}
 use Rattle.timer_facility.specs.declared.event.Event.TheVariants as Events
 use Rattle.timer_facility.specs.declared.event.Out.TheVariants as Outs
 use Rattle.timer_facility.specs.State.{FacilityState, Tick}

@@ -1,9 +1,8 @@
 -- The verdict on an event, read from its outs; and events after the close, which hand nothing out and change nothing.
 use Rattle.std.proofs.Common.{◌≡◌, ℕ, Bool, true, false, List, [], ◌∷◌, refl, sym, ap, subst}
 use Rattle.std.specs.Prelude.{if◌then◌else◌, Option, Some, None}
-use Rattle.timer_facility.specs.Types.{Timer, NotTaken, Reason, TickFault}
+use Rattle.timer_facility.specs.Types.{Timer, NotTaken, Reason, TickFault, Expired, Returned}
 use Rattle.timer_base.specs.Pending.{timers_of}
-use Rattle.timer_facility.specs.declared.request.Notice.TheVariants.{Expired, Returned}
 use Rattle.timer_facility.specs.declared.event.Out.TheVariants as Outs
 use Rattle.timer_facility.specs.State.{FacilityState, ModelRequest, SingleEvent, Asked, Tick, Close}
 use Rattle.timer_facility.specs.Verdict.{not_taken, refusal, tick_refusal, CloseRefused, verdict_on_request, verdict_on_tick, verdict, closed_refusal}

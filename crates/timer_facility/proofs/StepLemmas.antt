@@ -4,10 +4,8 @@ use Rattle.std.specs.Prelude.{map, Option, Some, None}
 use Rattle.std.proofs.lemmas.Bool.{le-ltb, lt-ltb}
 use Rattle.std.proofs.lemmas.Simd.{map-map}
 use Rattle.timer_base.specs.Order.{IsMember}
-use Rattle.timer_facility.specs.Types.{Timer, Answer, NotTaken, Reason, Request}
+use Rattle.timer_facility.specs.Types.{Timer, Answer, NotTaken, Reason, Request, Refused, Expired}
 use Rattle.timer_base.specs.Pending.{Entry, timers_of, put, first_timer}
-use Rattle.timer_facility.specs.declared.request.Answer.TheVariants.{Refused}
-use Rattle.timer_facility.specs.declared.request.Notice.TheVariants.{Expired}
 use Rattle.timer_facility.specs.declared.request.Request.TheVariants as Requests
 use Rattle.timer_facility.specs.declared.event.Out.TheVariants as Outs
 use Rattle.timer_facility.specs.State.{FacilityState, Deadline, ticks_until, interval_until, Name, ByHandle, ModelRequest, Start, Stop, Restart, action_of, SingleEvent, Asked}

@@ -4,8 +4,7 @@ use Rattle.std.specs.Prelude.{map, drop, min, None}
 use Rattle.timer_base.specs.Pending.{Entry, timers_of}
 use Rattle.timer_base.proofs.TickLaws.{after_ticks-now, after_ticks-last}
 use Rattle.timer_base.specs.WheelState as Wheels
-use Rattle.timer_facility.specs.Types.{Notice}
-use Rattle.timer_facility.specs.declared.request.Notice.TheVariants.{Expired, Returned}
+use Rattle.timer_facility.specs.Types.{Notice, Expired, Returned}
 use Rattle.timer_facility.specs.State.{FacilityState, Tick}
 use Rattle.timer_facility.specs.Verdict.{tick_refusal}
 use Rattle.timer_facility.specs.Step.{StepResult, step}

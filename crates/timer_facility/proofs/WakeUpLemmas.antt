@@ -5,8 +5,7 @@ use Rattle.std.specs.List.{AllByRecursion}
 use Rattle.timer_base.proofs.OrderLaws.{All-filter, All-weaken}
 use Rattle.timer_base.specs.Pending.{Entry, timers_of, is_due_at}
 use Rattle.timer_base.proofs.TickLaws.{due_none}
-use Rattle.timer_facility.specs.declared.request.Notice.TheVariants.{Expired}
-use Rattle.timer_facility.specs.Types.{TickFault}
+use Rattle.timer_facility.specs.Types.{TickFault, Expired}
 use Rattle.timer_facility.specs.declared.event.Out.TheVariants as Outs
 use Rattle.timer_facility.specs.State.{FacilityState}
 use Rattle.timer_facility.specs.Verdict.{tick_refusal}

@@ -1,14 +1,12 @@
 -- What a caller sees of a facility: its state, and the notices that wait to be handed out. And its fields.
 use Rattle.std.specs.Prelude.{◌≡◌, ◌<◌, ◌≤◌, ◌⊎◌, ℕ, ◌+◌, Bool, true, false, List, [], ◌∷◌, ◌++◌, map, take, drop, length, slice_index, is_some, Option, Some, None}
 use Rattle.std.specs.List.{AllByRecursion}
-use Rattle.timer_facility.specs.Types.{LAST, Timer, MAX_CLIENTS, MAX_PENDING, Request, Reason, Answer, NotTaken, CloseFault, Notice, Out}
+use Rattle.timer_facility.specs.Types.{LAST, Timer, MAX_CLIENTS, MAX_PENDING, Request, Reason, Answer, NotTaken, CloseFault, Notice, Out, Started, Stopped, Restarted, Refused, Expired, Returned}
 use Rattle.timer_base.specs.Pending.{timers_of}
 use Rattle.timer_base.specs.WheelState.{WheelState}
 use Rattle.timer_facility.specs.declared.request.Request.TheVariants as Requests
-use Rattle.timer_facility.specs.declared.request.Answer.TheVariants.{Started, Stopped, Restarted, Refused}
 use Rattle.timer_facility.specs.declared.request.NotTaken.TheVariants as NotTakens
 use Rattle.timer_facility.specs.declared.request.CloseFault.TheVariants as CloseFaults
-use Rattle.timer_facility.specs.declared.request.Notice.TheVariants.{Expired, Returned}
 use Rattle.timer_facility.specs.declared.event.Out.TheVariants as Outs
 use Rattle.timer_facility.specs.State.{FacilityState, with_room, count_of, After, At, ByHandle, ModelRequest, Start, Stop, Restart, SingleEvent, Asked}
 use Rattle.timer_facility.specs.Verdict.{not_taken, refusal}

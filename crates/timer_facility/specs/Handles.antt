@@ -2,10 +2,8 @@
 -- longer pending.
 use Rattle.std.specs.Prelude.{◌≡◌, ◌≤◌, ◌<◌, ℕ, ◌+◌, ◌*◌, ◌==◌, Bool, List, [], ◌∷◌, ◌++◌, Option, None, Some, length, is_some, if◌then◌else◌}
 use Rattle.std.specs.List.{AllByRecursion}
-use Rattle.timer_facility.specs.Types.{Handle, Answer}
+use Rattle.timer_facility.specs.Types.{Handle, Answer, SPARE, Started, Stopped, Restarted, Refused}
 use Rattle.timer_base.specs.Pending.{Entry, has_handle, first_timer}
-use Rattle.timer_facility.specs.declared.handles.TheConstants.{SPARE}
-use Rattle.timer_facility.specs.declared.request.Answer.TheVariants.{Started, Stopped, Restarted, Refused}
 use Rattle.timer_facility.specs.State.{FacilityState}
 use Rattle.timer_facility.specs.Facility.{FacilityView}
 

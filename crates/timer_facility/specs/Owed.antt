@@ -8,11 +8,9 @@
 -- lemma `notices_are_owed` states that the notices of every run are what is owed for it.
 use Rattle.std.specs.Prelude.{◌≡◌, ◌<◌, ◌≤◌, ℕ, zero, suc, ◌+◌, Bool, true, false, ◌&&◌, ◌||◌, ◌==◌, not, nat_lt, if◌then◌else◌, List, [], ◌∷◌, ◌++◌, map, filter}
 use Rattle.std.specs.List.{AllByRecursion}
-use Rattle.timer_facility.specs.Types.{Timer, Handle, Notice, Out}
+use Rattle.timer_facility.specs.Types.{Timer, Handle, Notice, Out, Started, Stopped, Restarted, Expired, Returned}
 use Rattle.timer_base.specs.Order.{in_order, AreDistinct, IsMember}
 use Rattle.timer_base.specs.Pending.{timers_of}
-use Rattle.timer_facility.specs.declared.request.Answer.TheVariants.{Started, Stopped, Restarted}
-use Rattle.timer_facility.specs.declared.request.Notice.TheVariants.{Expired, Returned}
 use Rattle.timer_facility.specs.declared.event.Out.TheVariants as Outs
 use Rattle.timer_facility.specs.State.{FacilityState, action_of, SingleEvent, Asked, Tick}
 use Rattle.timer_facility.specs.Run.{HistoryEntry, notices}

@@ -1,7 +1,6 @@
 -- How the verdict on an event can be read from its outs, and from the result of a close.
 use Rattle.std.specs.Prelude.{List, [], ◌∷◌, ◌++◌, Option, Some, None}
-use Rattle.timer_facility.specs.declared.request.Answer.TheVariants.{Refused}
-use Rattle.timer_facility.specs.Types.{CloseFault, Out}
+use Rattle.timer_facility.specs.Types.{CloseFault, Out, Refused}
 use Rattle.timer_facility.specs.declared.request.CloseFault.TheVariants as CloseFaults
 use Rattle.timer_facility.specs.declared.event.Out.TheVariants as Outs
 use Rattle.timer_facility.specs.Verdict.{Refusal, RequestNotTaken, RequestRefused, TickRefused, CloseRefused}

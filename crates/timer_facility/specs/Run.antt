@@ -1,8 +1,7 @@
 -- Whole runs of single events.
 use Rattle.std.specs.Prelude.{◌≡◌, ℕ, List, [], ◌∷◌, ◌++◌, map, false}
 use Rattle.timer_base.specs.Pending.{Entry}
-use Rattle.timer_facility.specs.Types.{Answer, Notice, Out}
-use Rattle.timer_facility.specs.declared.request.Answer.TheVariants.{Started, Restarted}
+use Rattle.timer_facility.specs.Types.{Answer, Notice, Out, Started, Restarted}
 use Rattle.timer_facility.specs.declared.event.Out.TheVariants as Outs
 use Rattle.timer_facility.specs.State.{FacilityState, SingleEvent, Asked, ByHandle, Stop, Restart}
 use Rattle.timer_facility.specs.Step.{StepResult, step}

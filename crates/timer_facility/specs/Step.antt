@@ -1,11 +1,9 @@
 -- One event: its outs, and the state after it. An event that the verdict refuses changes at most a number. A timer that
 -- is started for a tick that has passed is due at once: its notice follows the answer, and it is never pending.
 use Rattle.std.specs.Prelude.{ℕ, ◌+◌, Bool, true, nat_lt, List, [], ◌∷◌, Option, Some, None, if◌then◌else◌, map, filter, length, slice_set}
-use Rattle.timer_facility.specs.Types.{Timer, Handle, Answer, TickFault, Out}
+use Rattle.timer_facility.specs.Types.{Timer, Handle, Answer, TickFault, Out, Started, Stopped, Restarted, Refused, Expired, Returned}
 use Rattle.timer_base.specs.Pending.{Entry, timers_of, put, is_due_at, without_found, entries_left}
 use Rattle.timer_facility.specs.declared.request.Reason.TheVariants.{NoSuch}
-use Rattle.timer_facility.specs.declared.request.Answer.TheVariants.{Started, Stopped, Restarted, Refused}
-use Rattle.timer_facility.specs.declared.request.Notice.TheVariants.{Expired, Returned}
 use Rattle.timer_facility.specs.declared.event.Out.TheVariants as Outs
 use Rattle.timer_facility.specs.State.{FacilityState, ModelRequest, Start, Stop, Restart, ticks_until, SingleEvent, Asked, Tick, Close}
 use Rattle.timer_facility.specs.Verdict.{timer_named, Refusal, RequestNotTaken, RequestRefused, TickRefused, CloseRefused, verdict_on_tick, verdict}

@@ -6,10 +6,13 @@ pub use Rattle.timer_facility.specs.declared.config.Config.{Config}
 pub use Rattle.timer_facility.specs.declared.config.TheConstants.{MAX_CLIENTS, MAX_PENDING}
 pub use Rattle.timer_facility.specs.declared.event.Event.{Event}
 pub use Rattle.timer_facility.specs.declared.event.Out.{Out}
+pub use Rattle.timer_facility.specs.declared.handles.TheConstants.{SPARE}
 pub use Rattle.timer_facility.specs.declared.request.Answer.{Answer}
+pub use Rattle.timer_facility.specs.declared.request.Answer.TheVariants.{Started, Stopped, Restarted, Refused}
 pub use Rattle.timer_facility.specs.declared.request.CloseFault.{CloseFault}
 pub use Rattle.timer_facility.specs.declared.request.NotTaken.{NotTaken}
 pub use Rattle.timer_facility.specs.declared.request.Notice.{Notice}
+pub use Rattle.timer_facility.specs.declared.request.Notice.TheVariants.{Expired, Returned}
 pub use Rattle.timer_facility.specs.declared.request.Reason.{Reason}
 pub use Rattle.timer_facility.specs.declared.request.Request.{Request}
 pub use Rattle.timer_facility.specs.declared.request.TickFault.{TickFault}

@@ -5,12 +5,10 @@
 //! wheel, which hands them out by serial. A close moves the timers to a list of their own, and the wheel is empty
 //! then.
 ghost use Rattle.std.specs.Prelude.{◌≡◌, false, true, None, Some, is_some, ℕ, ◌+◌, ◌-◌, ◌<◌, ◌≤◌, ◌↔◌, [], length, drop, slice_get, slice_index, slice_set, IsTrue, IfSome, IfOk, IfErr, OnErr, OnOk, MatchResult, if◌then◌else◌, nat_lt, vec_capacity};
-ghost use Rattle.timer_base.specs.declared.limits.TheConstants.{LAST};
-ghost use Rattle.timer_base.specs.declared.timer.Timer.{Timer};
+ghost use Rattle.timer_facility.specs.Types.{LAST, Timer, MAX_CLIENTS};
 ghost use Rattle.timer_base.specs.Pending.{timers_of};
 ghost use Rattle.timer_base.specs.WheelState.{after_clear};
 ghost use Rattle.timer_base.specs.WakeUps.{IsQuietUntil, next_deadline};
-ghost use Rattle.timer_facility.specs.declared.config.TheConstants.{MAX_CLIENTS};
 ghost use Rattle.timer_facility.specs.State.{FacilityState, IsSound, At, ByHandle, Stop, Tick, Close, number_of, pending_of, ticks_until};
 ghost use Rattle.timer_facility.specs.Verdict.{not_taken, timer_named, start_refusal, restart_refusal, interval_refusal, refusal, tick_refusal, TickRefused, verdict};
 ghost use Rattle.timer_facility.specs.Refused.{verdict_on_close};
@@ -132,6 +130,13 @@ impl<W: Wheel + Drop> Facility<W> {
         ensures sound { IsSound self.now.state }
     {
         self.wheel.now()
+    }
+
+    /// The invariant of every facility, on which the lemmas on `owed` rest. The call does nothing.
+    pub fn lemma_sound(&self)
+        ensures { IsSound self.now.state }
+    {
+        let _ = self.wheel.now();
     }
 
     /// The wheel that it stands on, which has the same clock and the same pending timers. While none waits to be

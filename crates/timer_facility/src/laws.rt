@@ -3,8 +3,7 @@
 ghost use Rattle.std.specs.Prelude.{◌≡◌, ◌<◌, ◌≤◌, List, [], ℕ, ◌+◌, length, take, map, true, Some};
 ghost use Rattle.std.specs.List.{AllByRecursion};
 ghost use Rattle.timer_base.specs.WakeUps.{IsWakeUp};
-ghost use Rattle.timer_facility.specs.declared.config.TheConstants.{MAX_CLIENTS, MAX_PENDING};
-ghost use Rattle.timer_facility.specs.declared.handles.TheConstants.{SPARE};
+ghost use Rattle.timer_facility.specs.Types.{MAX_CLIENTS, MAX_PENDING, SPARE, Event, Out};
 ghost use Rattle.timer_facility.specs.State.{FacilityState, IsSound, SingleEvent, Asked, Tick, Close, ModelRequest, pending_of};
 ghost use Rattle.timer_facility.specs.Verdict.{Refusal, verdict, closed_refusal};
 ghost use Rattle.timer_facility.specs.Refused.{refusals_in, refusals_of};
@@ -14,8 +13,6 @@ ghost use Rattle.timer_facility.specs.HandedOver.{AddsAtMostOne, HandsOver};
 ghost use Rattle.timer_facility.specs.Owed.{owed, left_after, accepted_ticks, others, AreHandedOutOnce, AreAllHandedOut};
 ghost use Rattle.timer_facility.specs.Played.{IsRun};
 ghost use Rattle.timer_facility.specs.Ticked.{ticks};
-ghost use Rattle.timer_facility.specs.declared.event.Event.{Event};
-ghost use Rattle.timer_facility.specs.declared.event.Out.{Out};
 
 /// Whatever the events are, after each of them the notices so far are what is owed.
 #[tactic(auto, using(crate::proofs::OwedLemmas::notices_take))]

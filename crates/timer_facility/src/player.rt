@@ -10,7 +10,7 @@ ghost use Rattle.timer_facility.specs.Step.{step};
 ghost use Rattle.timer_facility.specs.Facility.{with_nothing_waiting, event_of_request, model_of, is_for_a_tick, MakesTimer};
 ghost use Rattle.timer_facility.specs.Played.{IsPlayed, MakesStep, AddsRun, most_outs, TakesMemory};
 ghost use Rattle.timer_facility.specs.Handles.{HandleList, AreRecorded};
-ghost use Rattle.timer_facility.specs.declared.handles.TheConstants.{SPARE};
+ghost use Rattle.timer_facility.specs.Types.{SPARE};
 
 use crate::event::{Event, Out};
 use crate::facility::Facility;
@@ -92,8 +92,7 @@ impl<W: Wheel + Drop> Player<W> {
         ensures stopped { IfErr result (λ stop. IsPlayed self.old
             (take stop.done events.now) stop.outs.items self.new) }
     {
-        // From here on the prover knows of the state what the lemma on `owed` requires.
-        let _now = self.facility.now();
+        self.facility.lemma_sound();
         let mut outs = Vec::new(self.alloc);
         for (i, event) in events.iter().enumerate() {
             match self.play_one(*event, &mut outs) {

@@ -1,13 +1,12 @@
 -- An explanation that grows line by line.
 use Rattle.std.proofs.Common.{◌≡◌, ◌+◌, ◌≤◌, true, false, if◌then◌else◌, ℕ, List, [], ◌∷◌, ◌++◌, length, Option, Some, None, refl, sym, ap, ◌∙◌, subst, arith, append-nil, append_assoc, Err}
 use Rattle.std.specs.List.{list_any}
-use Rattle.timer_script.specs.Types.{Event, Out, FacilityState, Streams, MAX_BYTES}
+use Rattle.timer_script.specs.Types.{Event, Out, FacilityState, Streams, MAX_BYTES, Fate}
 use Rattle.timer_script.specs.declared.fault.WriteFault.{WriteFault}
 use Rattle.timer_script.specs.declared.fault.CheckFault.TheVariants as faults
 use Rattle.timer_script.specs.Watched.{has_failed, StopsWriting}
 use Rattle.timer_script.specs.Streams.{Known, unread_of, taken_by}
 use Rattle.timer_script.specs.Input.{ReadsWhole}
-use Rattle.timer_script.specs.declared.fates.Fate.{Fate}
 use Rattle.timer_script.specs.Fates.{Told, told_by, fate_by, fate_in, no_such_line, Follows}
 use Rattle.timer_script.specs.Explanation.{named_by, finds_none, line_on, why_line, ArePlayed, why_lines, IsExplanationOf, IsExplanation, HasExplained, HasExplainedLine}
 use Rattle.timer_script.proofs.FateLemmas.{follows_none, follows_join}

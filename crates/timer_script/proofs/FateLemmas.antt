@@ -4,8 +4,7 @@ use Rattle.std.proofs.lemmas.Bool.{both_ways, cases_lt}
 use Rattle.std.proofs.lemmas.List.{get_or_past, get_or_append_left, get_or-append_right}
 use Rattle.std.proofs.lemmas.Grind.{flat_map-append}
 use Rattle.timer_base.proofs.Basics.{either}
-use Rattle.timer_script.specs.Types.{Out}
-use Rattle.timer_script.specs.declared.fates.Fate.{Fate}
+use Rattle.timer_script.specs.Types.{Out, Fate}
 use Rattle.timer_script.specs.declared.fates.Fate.TheVariants as Fates
 use Rattle.timer_script.specs.Fates.{Told, told_by, fate_if, said_of, story_of, last_fate, fate_in, HasPut, Follows}
 

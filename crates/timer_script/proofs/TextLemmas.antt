@@ -7,9 +7,7 @@ use Rattle.std.specs.List.{flat_map}
 use Rattle.timer_facility.specs.declared.request.Reason.TheVariants as reason
 use Rattle.timer_facility.specs.declared.request.NotTaken.TheVariants as refusal
 use Rattle.timer_facility.specs.declared.request.TickFault.TheVariants as fault
-use Rattle.timer_facility.specs.declared.request.Answer.TheVariants.{Started, Stopped, Restarted, Refused}
-use Rattle.timer_facility.specs.declared.request.Notice.TheVariants.{Expired, Returned}
-use Rattle.timer_script.specs.Types.{Reason, NotTaken, Out, FacilityState}
+use Rattle.timer_script.specs.Types.{Reason, NotTaken, Out, FacilityState, Started, Stopped, Restarted, Refused, Expired, Returned}
 use Rattle.timer_facility.specs.declared.event.Out.TheVariants as Outs
 use Rattle.timer_facility.specs.Run.{bare, bare_outs, bare_entry, bare_state}
 use Rattle.timer_script.specs.Script.{HasNoFeed}

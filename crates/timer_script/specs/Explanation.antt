@@ -1,16 +1,14 @@
 -- What is said of the stops and restarts of a script that found no timer.
 use Rattle.std.specs.Prelude.{◌≡◌, ◌⊎◌, ℕ, ◌+◌, ◌≤◌, Bool, true, false, if◌then◌else◌, List, [], ◌∷◌, ◌++◌, length, Option, Some, None, Result}
 use Rattle.std.specs.List.{list_any}
-use Rattle.timer_script.specs.Types.{Event, Out, FacilityState, CheckFault, Streams}
+use Rattle.timer_script.specs.Types.{Event, Out, FacilityState, CheckFault, Streams, Refused, Fate}
 use Rattle.timer_facility.specs.Played.{IsRun}
 use Rattle.timer_facility.specs.declared.event.Event.TheVariants as Events
 use Rattle.timer_facility.specs.declared.event.Out.TheVariants as Outs
-use Rattle.timer_facility.specs.declared.request.Answer.TheVariants.{Refused}
 use Rattle.timer_facility.specs.declared.request.Reason.TheVariants.{NoSuch}
 use Rattle.timer_script.specs.Streams.{Known}
 use Rattle.timer_script.specs.Script.{IsScript, IsBadLine}
 use Rattle.timer_script.specs.ScriptReport.{IsScriptReport, HasReportedOn}
-use Rattle.timer_script.specs.declared.fates.Fate.{Fate}
 use Rattle.timer_script.specs.Fates.{Told, told_by, fate_by, fate_in, no_such_line, Follows}
 
 -- the serial that a stop or a restart names

@@ -1,11 +1,8 @@
 -- What became of a timer, by the outs so far, and the words for it.
 use Rattle.std.specs.Prelude.{◌≡◌, ℕ, ◌==◌, if◌then◌else◌, List, [], ◌∷◌, ◌++◌, map, get_or, codes, decimal}
 use Rattle.std.specs.List.{flat_map}
-use Rattle.timer_script.specs.Types.{Out}
-use Rattle.timer_script.specs.declared.fates.Fate.{Fate}
+use Rattle.timer_script.specs.Types.{Out, Fate, Started, Stopped, Restarted, Expired}
 use Rattle.timer_script.specs.declared.fates.Fate.TheVariants as Fates
-use Rattle.timer_facility.specs.declared.request.Answer.TheVariants.{Started, Stopped, Restarted}
-use Rattle.timer_facility.specs.declared.request.Notice.TheVariants.{Expired}
 use Rattle.timer_facility.specs.declared.event.Out.TheVariants as Outs
 
 -- an out, and the line of its event

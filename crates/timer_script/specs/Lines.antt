@@ -5,8 +5,7 @@ use Rattle.std.specs.Cmp.Lexicographic.{pointwise}
 use Rattle.std.specs.Net.Reader.{digit_count}
 use Rattle.std.specs.Str.Parse.{digits_value}
 use Rattle.std.specs.Borrow.{Bor}
-use Rattle.timer_script.specs.Types.{LAST, MAX_TICKS, Event}
-use Rattle.timer_script.specs.declared.lines.TheConstants.{MOST_DIGITS}
+use Rattle.timer_script.specs.Types.{LAST, MAX_TICKS, Event, MOST_DIGITS}
 use Rattle.timer_facility.specs.declared.event.Event.TheVariants.{Start, Stop, Restart, Ticks, Close}
 
 -- a value and the bytes after it

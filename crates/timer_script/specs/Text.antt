@@ -1,12 +1,10 @@
 -- The text that answers a script: one line for each out, and the end line.
 use Rattle.std.specs.Prelude.{ℕ, List, [], ◌∷◌, ◌++◌, codes, decimal}
 use Rattle.std.specs.List.{flat_map}
-use Rattle.timer_script.specs.Types.{Reason, NotTaken, TickFault, Out}
+use Rattle.timer_script.specs.Types.{Reason, NotTaken, TickFault, Out, Started, Stopped, Restarted, Refused, Expired, Returned}
 use Rattle.timer_facility.specs.declared.request.Reason.TheVariants as reason
 use Rattle.timer_facility.specs.declared.request.NotTaken.TheVariants as refusal
 use Rattle.timer_facility.specs.declared.request.TickFault.TheVariants as fault
-use Rattle.timer_facility.specs.declared.request.Answer.TheVariants.{Started, Stopped, Restarted, Refused}
-use Rattle.timer_facility.specs.declared.request.Notice.TheVariants.{Expired, Returned}
 use Rattle.timer_facility.specs.declared.event.Out.TheVariants as out
 
 -- the word for a refusal of a request that was taken

@@ -203,8 +203,7 @@ pub fn answer_to<W: Wheel + Drop>(
     ensures ok { IfOk result (λ answer. IsAnswerTo facility.state script.now answer.items) }
     ensures fault { IfErr result (λ fault. IsFault fault script.now) }
 {
-    // Brings what `owed` rests on into scope for the prover.
-    let _now = facility.now();
+    facility.lemma_sound();
     let mut player = Player::open(alloc, facility);
     let mut answer = Vec::with_capacity(alloc, script.len().saturating_mul(GROWTH))?;
     play_lines(alloc, &mut player, script, &mut answer)?;

@@ -193,8 +193,7 @@ pub fn serve<P: Peer, W: Wheel + Drop, D: Decorator<W>, F: Write>(
         (record { peer = P.state peer.old; faults = faults.old })
         (record { peer = P.state peer.new; faults = faults.new }) result }
 {
-    // Brings what `owed` rests on into scope for the prover.
-    let _now = facility.now();
+    facility.lemma_sound();
     let Ok(mut piece) = zeroed_buffer(alloc, PIECE) else {
         return Err(ServeFault::OutOfMemory);
     };

@@ -7,18 +7,13 @@ use Rattle.std.proofs.lemmas.List.{get_or_push, append_cancel_left, map-id}
 use Rattle.std.proofs.lemmas.Option.{IfSome_then}
 use Rattle.std.proofs.lemmas.List.FromFn.{map-range_with_len_more, get_or-range_with_len, length-map-range_with_len}
 use Rattle.std.proofs.lemmas.Bool.Decides.{nat_tests}
-use Rattle.timer_threads.specs.Types.{Timer, Word, Worked, Turn}
+use Rattle.timer_threads.specs.Types.{Timer, Word, Worked, Turn, ClientEnd, RequestsEnded, ClientReader, Log, Client}
 use Rattle.timer_base.proofs.Basics.{either}
 use Rattle.timer_facility.specs.declared.request.Answer.TheVariants as Answers
 use Rattle.timer_facility.specs.declared.request.Notice.TheVariants as Notices
 use Rattle.timer_desk.specs.declared.word.Word.TheVariants as Words
-use Rattle.timer_desk.specs.declared.ring_ends.ClientEnd.{ClientEnd}
-use Rattle.timer_desk.specs.declared.ring_ends.RequestsEnded.{RequestsEnded}
-use Rattle.timer_desk.specs.declared.ring_ends.ClientReader.{ClientReader}
-use Rattle.timer_threads.specs.declared.log.Log.{Log}
 use Rattle.timer_desk.specs.RingEnds.{line_of_end, next_of, submitted, received_by_end, numbered, all_submitted, read_by, found_by_end, found_by_reader}
 use Rattle.timer_facility.specs.declared.request.Request.TheVariants.{Start}
-use Rattle.timer_threads.specs.declared.client.Client.{Client}
 use Rattle.timer_threads.proofs.ResultsLemmas.{or_false}
 use Rattle.timer_threads.specs.Turns.{requests_of, words_of, idle_at_end}
 use Rattle.timer_threads.specs.Work.{HasWorked, request_of, requests_from, started_in, expired_in, started_in_words, expired_by, follows, AreAscending, ArePassed, StopsAtWord, GoesOn, AreClientTurns, IsLetGo}

@@ -4,13 +4,10 @@ use Rattle.std.proofs.lemmas.Bool.{cases_lt}
 use Rattle.std.proofs.lemmas.List.{length-append}
 use Rattle.std.specs.Prelude.{Option, Some, None, IfSome, IsNone}
 use Rattle.timer_base.proofs.Basics.{some_same}
-use Rattle.timer_desk.specs.declared.ring_ends.RingInlet.{RingInlet}
-use Rattle.timer_desk.specs.declared.ring_ends.RequestsEnded.{RequestsEnded}
-use Rattle.timer_desk.specs.declared.ring_ends.ClientReader.{ClientReader}
 use Rattle.timer_desk.specs.RingEnds.{got_of, given_of, all_submitted, read_by, unread_by, words_ring_of_reader}
 use Rattle.timer_desk.specs.Desk.{DeskState, AllIdle, backlog_at}
 use Rattle.timer_desk.specs.WindingUp.{AreEndsOf, AreReadersOf, IsReadOut, AllGot, AllReadOut, IsWaiting, IsFirstUnfinished}
-use Rattle.timer_threads.specs.Types.{Worked}
+use Rattle.timer_threads.specs.Types.{Worked, RingInlet, RequestsEnded, ClientReader}
 use Rattle.timer_threads.specs.Results.{is_failed, NoneFailed, AllRequestsEnded, IsFirstFailed, AreUnzipped, lower_of}
 use Rattle.timer_threads.specs.Threads.{NoneUnread, AreSettled, IsFirstWithWords, AllServed, IsWoundUp, IsUnfinished, IsFirstNotServed, AreOfLines, IsFirstClient}
 use Rattle.timer_threads.proofs.ResultsLemmas.{ends_many, readers_many, ended_is, ended_at, reader_at, all_ended}

@@ -3,9 +3,7 @@ use Rattle.std.proofs.Common.{◌≡◌, ◌<◌, ◌++◌, ◌||◌, ℕ, Bool,
 use Rattle.std.specs.Prelude.{Some, is_none}
 use Rattle.std.proofs.lemmas.List.{map_push, get_or-map, length-map}
 use Rattle.timer_base.proofs.Basics.{some_same}
-use Rattle.timer_desk.specs.declared.ring_ends.RequestsEnded.{RequestsEnded}
-use Rattle.timer_desk.specs.declared.ring_ends.ClientReader.{ClientReader}
-use Rattle.timer_threads.specs.Types.{Worked}
+use Rattle.timer_threads.specs.Types.{Worked, RequestsEnded, ClientReader}
 use Rattle.timer_threads.specs.Results.{NoneFailed, AllRequestsEnded, AreUnzipped}
 
 pub AreUnzipped-more : (ws : List Worked) (es : List RequestsEnded) (rs : List ClientReader) (w : Worked) (e : RequestsEnded)

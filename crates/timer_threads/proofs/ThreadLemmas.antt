@@ -6,18 +6,16 @@ use Rattle.std.proofs.lemmas.Grind.{flat_map-append}
 use Rattle.std.proofs.lemmas.List.{get_or_push, get_or_append_left, take_more}
 use Rattle.std.proofs.lemmas.Slice.Zip.{AllZip-long}
 use Rattle.std.proofs.lemmas.List.FromFn.{length-enumerate_from, get_or-enumerate_from}
-use Rattle.timer_desk.specs.declared.ring_ends.RingInlet.{RingInlet}
 use Rattle.timer_desk.specs.Driver.{Drives}
 use Rattle.timer_desk.specs.RingEnds.{line_of_inlet, ring_lines}
-use Rattle.timer_threads.specs.Types.{DriveEnd, ThreadsFault, Worked}
+use Rattle.timer_threads.specs.Types.{DriveEnd, ThreadsFault, Worked, RingInlet, Child}
 use Rattle.timer_facility.specs.Facility.{FacilityView, with_nothing_waiting}
 use Rattle.timer_desk.specs.Desk.{DeskState, opened_desk}
-use Rattle.timer_threads.specs.declared.child.Child.{Child}
 use Rattle.timer_threads.specs.declared.outcome.ThreadsFault.TheVariants as Faults
 use Rattle.timer_threads.specs.Children.{promise_of, HasLeft, HaveLeft}
 use Rattle.timer_threads.specs.Work.{IsOfLine, IsWork}
 use Rattle.timer_threads.specs.Results.{NoneFailed}
-use Rattle.timer_threads.specs.Threads.{new_facility, IsFreshDesk, IsThreadOfLine, AreThreadsOfLines, AreOfLines, AllWhole, HasSucceeded, IsRun, IsExplained, IsFirstFault, client_text, clients_text, client_line, whole_lines}
+use Rattle.timer_threads.specs.Threads.{new_facility, IsFreshDesk, IsThreadOfLine, AreThreadsOfLines, AreOfLines, AllWhole, HasSucceeded, IsThreadsRun, IsExplained, IsFirstFault, client_text, clients_text, client_line, whole_lines}
 use Rattle.timer_threads.proofs.ResultsLemmas.{or_false}
 use Rattle.timer_threads.proofs.EndedLines.{some_item}
 
@@ -112,7 +110,7 @@ module _ (clients timers limit : ℕ) (inlets : List RingInlet) (opened desk : D
             (left_at children all k h w left low').0;
       }
 
-  pub is_run : (Ends : DeskState RingInlet → DriveEnd → List Worked → Type 0) → Ends desk outcome all → IsRun clients timers limit Ends
+  pub is_run : (Ends : DeskState RingInlet → DriveEnd → List Worked → Type 0) → Ends desk outcome all → IsThreadsRun clients timers limit Ends
   is_run Ends h = record {
     opened = opened;
     new = subst (IsFreshDesk clients) (sym is) (record {
@@ -131,9 +129,9 @@ module _ (clients timers limit : ℕ) (inlets : List RingInlet) (opened desk : D
 
 -- it ended well, or with its first error
 module _ (clients timers limit : ℕ) (desk : DeskState RingInlet) (outcome : DriveEnd) (all : List Worked)
-    (run : (Ends : DeskState RingInlet → DriveEnd → List Worked → Type 0) → Ends desk outcome all → IsRun clients timers limit Ends) where
+    (run : (Ends : DeskState RingInlet → DriveEnd → List Worked → Type 0) → Ends desk outcome all → IsThreadsRun clients timers limit Ends) where
   pub run_succeeded : {A : Type 0} (result : Result A ThreadsFault) → IfOk result (λ _. HasSucceeded desk outcome all)
-      → IfOk result (λ _. IsRun clients timers limit HasSucceeded)
+      → IfOk result (λ _. IsThreadsRun clients timers limit HasSucceeded)
   run_succeeded (Ok x) h = run HasSucceeded h
   run_succeeded (Err fault) h = tt
 

@@ -2,10 +2,9 @@
 use Rattle.std.specs.Prelude.{ℕ, List, vec_capacity}
 use Rattle.std.specs.List.{AllZip}
 use Rattle.timer_desk.specs.RingEnds.{line_of_end}
-use Rattle.timer_threads.specs.declared.child.Child.{Child}
 use Rattle.timer_threads.specs.declared.children.Children.{Children}
-use Rattle.timer_threads.specs.declared.promise.Finishes.{Finishes}
-use Rattle.timer_threads.specs.Types.{Worked}
+use Rattle.timer_threads.specs.declared.child.Finishes.{Finishes}
+use Rattle.timer_threads.specs.Types.{Worked, Child}
 use Rattle.timer_threads.specs.Work.{IsOfLine, HasWorked}
 
 -- what a thread promises of what it gives back

@@ -1,13 +1,11 @@
 -- A client at work. No public clause cites this file.
 use Rattle.std.specs.Prelude.{◌≡◌, ◌+◌, ◌-◌, ◌<◌, ◌≤◌, ◌==◌, ◌&&◌, not, nat_lt, ℕ, Bool, true, false, if◌then◌else◌, List, [], ◌∷◌, ◌++◌, length, None}
 use Rattle.std.specs.List.{last_or}
-use Rattle.timer_threads.specs.Types.{LAST, Word, Turn}
+use Rattle.timer_threads.specs.Types.{LAST, Word, Turn, ClientEnd, Client}
 use Rattle.timer_facility.specs.declared.request.Answer.TheVariants as Answers
 use Rattle.timer_facility.specs.declared.request.Notice.TheVariants as Notices
 use Rattle.timer_desk.specs.declared.word.Word.TheVariants as Words
-use Rattle.timer_desk.specs.declared.ring_ends.ClientEnd.{ClientEnd}
 use Rattle.timer_desk.specs.RingEnds.{line_of_end, next_of, submitted, received_by_end, found_by_end}
-use Rattle.timer_threads.specs.declared.client.Client.{Client}
 use Rattle.timer_threads.specs.Turns.{requests_of, words_of, is_idle}
 use Rattle.timer_threads.specs.Work.{requests_from, started_in, expired_in, started_in_words, expired_by, follows, ArePassed, StopsAtWord}
 

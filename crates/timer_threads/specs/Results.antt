@@ -1,8 +1,6 @@
 -- What clients leave behind, and which of them failed.
 use Rattle.std.specs.Prelude.{◌≡◌, ◌<◌, ◌||◌, ℕ, Bool, true, false, List, length, get_or, map, min, Option, Some, None, is_none}
-use Rattle.timer_desk.specs.declared.ring_ends.RequestsEnded.{RequestsEnded}
-use Rattle.timer_desk.specs.declared.ring_ends.ClientReader.{ClientReader}
-use Rattle.timer_threads.specs.Types.{Worked}
+use Rattle.timer_threads.specs.Types.{Worked, RequestsEnded, ClientReader}
 
 -- a check failed, the client reached its limit, or its requests could not be ended
 abbrev pub is_failed : Worked → Bool

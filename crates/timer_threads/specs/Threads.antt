@@ -1,13 +1,10 @@
 -- Clients in threads of their own, and the text of their counts.
 use Rattle.std.specs.Prelude.{◌≡◌, ◌<◌, ◌+◌, ◌++◌, ◌⊎◌, ℕ, zero, suc, true, false, List, [], length, get_or, Some, codes, decimal}
 use Rattle.std.specs.List.{flat_map, enumerate_from}
-use Rattle.timer_threads.specs.Types.{LAST, DriveEnd, ThreadsFault, Worked}
+use Rattle.timer_threads.specs.Types.{LAST, DriveEnd, ThreadsFault, Worked, RingInlet, RequestsEnded, ClientReader, Child}
 use Rattle.timer_wheels.specs.Tables.{slots_of_table}
 use Rattle.timer_wheels.specs.declared.table.Table.TheVariants.{Wide}
-use Rattle.timer_desk.specs.declared.ring_ends.RingInlet.{RingInlet}
 use Rattle.timer_desk.specs.declared.looks.Found.TheVariants.{Nothing}
-use Rattle.timer_desk.specs.declared.ring_ends.RequestsEnded.{RequestsEnded}
-use Rattle.timer_desk.specs.declared.ring_ends.ClientReader.{ClientReader}
 use Rattle.timer_desk.specs.declared.driver.DriveEnd.TheVariants as DriveEnds
 use Rattle.timer_facility.specs.State.{FacilityState}
 use Rattle.timer_facility.specs.Opened.{opened}
@@ -15,7 +12,6 @@ use Rattle.timer_desk.specs.Desk.{DeskState, opened_desk, IsIdle, backlog_at}
 use Rattle.timer_desk.specs.Driver.{Drives}
 use Rattle.timer_desk.specs.WindingUp.{IsWaiting}
 use Rattle.timer_desk.specs.RingEnds.{line_of_end, line_of_inlet, got_of, given_of, is_settled, free_of_inlet, found_by_inlet, all_submitted, read_by, unread_by, is_settled_reader, ring_lines}
-use Rattle.timer_threads.specs.declared.child.Child.{Child}
 use Rattle.timer_threads.specs.declared.outcome.ThreadsFault.TheVariants as Faults
 use Rattle.timer_threads.specs.Children.{promise_of}
 use Rattle.timer_threads.specs.Work.{IsOfLine, IsNewEnd, IsWork, IsWhole}
@@ -160,7 +156,7 @@ IsFirstFault desk outcome all (Faults.Client c) = ¬ (outcome ≡ DriveEnds.OutO
 IsFirstFault desk outcome all Faults.Desk = (outcome ≡ DriveEnds.Limit) × NoneFailed all × IsWoundUp desk all
 
 -- a new desk was driven beside the clients, each did its work, and of the desk and of what they left this holds
-pub record IsRun (clients timers limit : ℕ)
+pub record IsThreadsRun (clients timers limit : ℕ)
     (Ends : DeskState RingInlet → DriveEnd → List Worked → Type 0) : Type 0 where
   pub opened : DeskState RingInlet
   pub new : IsFreshDesk clients opened
@@ -176,7 +172,7 @@ pub record IsRun (clients timers limit : ℕ)
 -- unless memory ran out, the error is the first one of such a run
 abbrev pub IsExplained : ℕ → ℕ → ℕ → ThreadsFault → Type 0
 IsExplained clients timers limit Faults.OutOfMemory = Unit {0}
-IsExplained clients timers limit fault = IsRun clients timers limit
+IsExplained clients timers limit fault = IsThreadsRun clients timers limit
     (λ desk outcome all. IsFirstFault desk outcome all fault)
 
 -- the lines of `clients` clients from number `client` on, each with `timers` timers sent, started and expired

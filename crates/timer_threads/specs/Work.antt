@@ -1,14 +1,13 @@
 -- What a client sends, what it may receive, and the result of its work.
 use Rattle.std.specs.Prelude.{◌≡◌, ◌+◌, ◌-◌, ◌%◌, ◌<◌, ◌≤◌, ◌⊎◌, ℕ, Bool, true, false, List, [], ◌∷◌, ◌++◌, length, map, take, get_or, Option, Some, None, IfSome}
 use Rattle.std.specs.List.{flat_map, range_with_len}
-use Rattle.timer_threads.specs.Types.{Timer, Numbered, Word, Turn, Worked}
+use Rattle.timer_threads.specs.Types.{Timer, Numbered, Word, Turn, Worked, ClientEnd}
 use Rattle.timer_base.specs.Order.{is_before}
 use Rattle.timer_facility.specs.declared.request.Request.TheVariants.{Start}
 use Rattle.timer_facility.specs.declared.request.Answer.TheVariants as Answers
 use Rattle.timer_facility.specs.declared.request.Notice.TheVariants as Notices
 use Rattle.timer_desk.specs.declared.word.Word.TheVariants as Words
 use Rattle.timer_desk.specs.declared.looks.Found.TheVariants.{Nothing}
-use Rattle.timer_desk.specs.declared.ring_ends.ClientEnd.{ClientEnd}
 use Rattle.timer_desk.specs.RingEnds.{Line, line_of_end, next_of, numbered, submitted, received_by_end, all_submitted, requests_ring_of, words_ring_of_reader, read_by, free_of, found_by_end, found_by_reader}
 use Rattle.timer_threads.specs.Turns.{requests_of, words_of, idle_at_end}
 

@@ -1,4 +1,4 @@
-//! A client's thread, which has to be joined.
+//! A client's thread, which has to be joined, and its postcondition.
 //!
 //! If the handle of a thread is dropped, the thread runs on. A `Child` is not `Drop`: the compiler rejects a
 //! function that neither passes it on nor joins it. So no path leaves a thread unjoined, even if memory
@@ -11,13 +11,25 @@ ghost use Rattle.timer_threads.specs.Work.{IsOfLine, HasWorked};
 
 use crate::gate::Gate;
 use crate::outcome::Worked;
-use crate::promise::Finishes;
 use crate::work::client_work;
 use std::snapshot::Snapshot;
 use std::thread;
-use std::thread::{PromisedHandle, Threads};
+use std::thread::{Promise, PromisedHandle, Threads};
 use timer_base::OutOfMemory;
 use timer_desk::ClientEnd;
+
+/// Postcondition of a client's thread: its result is that of the work of a client that began with this end, had
+/// `count` requests to send, and gave up after `limit` turns in a row in which it neither sent nor received.
+#[derive(Drop)]
+pub struct Finishes {
+    pub end: Snapshot<ClientEnd>,
+    pub count: u64,
+    pub limit: u64,
+}
+
+impl Promise<Worked> for Finishes {
+    ghost kept_by = { λ p w. IsOfLine (line_of_end p.end.value) w × HasWorked p.count p.limit p.end.value w };
+}
 
 /// A client's thread that was started. It is not `Drop`, so that it is joined.
 pub struct Child {

@@ -6,9 +6,8 @@
 //! Each turn is recorded, so that contracts can name what a client did and in which order. Only the functions here
 //! write that record, and it has no bytes.
 ghost use Rattle.std.specs.Prelude.{◌≡◌, ◌+◌, ◌<◌, ◌≤◌, ◌==◌, ◌||◌, ◌++◌, [], ℕ, false, true, is_some, IsNone, IfSome, option_to_list};
-ghost use Rattle.timer_base.specs.declared.limits.TheConstants.{LAST};
+ghost use Rattle.timer_threads.specs.Types.{LAST, ClientEnd};
 ghost use Rattle.timer_desk.specs.RingEnds.{line_of_end, next_of, submitted, received_by_end, seen_by_end};
-ghost use Rattle.timer_desk.specs.declared.ring_ends.ClientEnd.{ClientEnd};
 ghost use Rattle.timer_threads.specs.Turns.{idle_at_end};
 ghost use Rattle.timer_threads.specs.Work.{follows, AreClientTurns, AreLetGo, turns_of, IsOfLine, HasWorked};
 

@@ -12,7 +12,6 @@ mod client_turn;
 mod gate;
 mod log;
 mod outcome;
-mod promise;
 mod results;
 mod run_end;
 mod threads;

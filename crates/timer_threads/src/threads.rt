@@ -9,7 +9,7 @@ ghost use Rattle.std.specs.Prelude.{◌≡◌, ◌<◌, ◌≤◌, [], length, t
 ghost use Rattle.timer_base.specs.declared.limits.TheConstants.{LAST};
 ghost use Rattle.timer_facility.specs.Facility.{with_nothing_waiting};
 ghost use Rattle.timer_threads.specs.Children.{threads_of};
-ghost use Rattle.timer_threads.specs.Threads.{new_facility, AreThreadsOfLines, HasSucceeded, IsRun, IsExplained, whole_text};
+ghost use Rattle.timer_threads.specs.Threads.{new_facility, AreThreadsOfLines, HasSucceeded, IsThreadsRun, IsExplained, whole_text};
 
 use crate::child::Child;
 use crate::children::Children;
@@ -112,7 +112,7 @@ pub fn threads_run<G: Gate + Drop + Send + 'static>(
     requires timers { (1 ≤ timers) × (timers ≤ 10000) }
     requires limit { (1 ≤ limit) × (limit ≤ LAST) }
     ensures text { IfOk result (λ text. text.items ≡ whole_text (vec_len gates) timers) }
-    ensures ended { IfOk result (λ _. IsRun (vec_len gates) timers limit HasSucceeded) }
+    ensures ended { IfOk result (λ _. IsThreadsRun (vec_len gates) timers limit HasSucceeded) }
     ensures failed { IfErr result (λ fault. IsExplained (vec_len gates) timers limit fault) }
 {
     let facility = new_facility(alloc, gates.len() as u64).map_err(|_| ThreadsFault::OutOfMemory)?;
@@ -143,7 +143,7 @@ fn drive_beside(
     requires timers { timers ≤ LAST }
     requires limit { limit ≤ LAST }
     ensures text { IfOk result (λ text. text.items ≡ whole_text (vec_len inlets) timers) }
-    ensures ended { IfOk result (λ _. IsRun (vec_len inlets) timers limit HasSucceeded) }
+    ensures ended { IfOk result (λ _. IsThreadsRun (vec_len inlets) timers limit HasSucceeded) }
     ensures failed { IfErr result (λ fault. IsExplained (vec_len inlets) timers limit fault) }
 {
     let Ok(desk) = Desk::open(alloc, facility, inlets, ROOM) else {

@@ -2,7 +2,7 @@ use Rattle.std.proofs.Common.{◌≡◌, ◌+◌, ◌<◌, ◌∙◌, length, sy
 use Rattle.std.specs.Prelude.{Some, slice_set}
 use Rattle.timer_base.specs.WheelState.{first_due}
 use Rattle.timer_c.specs.declared.layout.Expired.{Expired}
-use Rattle.timer_c.proofs.Batches.{IsTaken, taken_none, taken_next}
+use Rattle.timer_c.proofs.Batches.{AreTaken, taken_none, taken_next}
 use Rattle.timer_c.proofs.calls.expire_batch.Goals as goal
 
 pub loop-count-init : goal.loop-count-init
@@ -16,6 +16,6 @@ loop-count-preserved c =
     let next = taken_next n c.args.out.now out c.args.timers.now c.loop-count.timers c.expire.new.self c.in-Some.timer
     c.loop-count.invariant.taken first room c.expire.ensures.rest in
     record {
-      taken = subst (λ (e : Expired). IsTaken (n + 1) c.args.out.now c.args.timers.now (slice_set out n e) c.expire.new.self)
+      taken = subst (λ (e : Expired). AreTaken (n + 1) c.args.out.now c.args.timers.now (slice_set out n e) c.expire.new.self)
           (sym c.to_c_expired.ensures) next;
     }

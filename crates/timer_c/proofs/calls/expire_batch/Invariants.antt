@@ -1,8 +1,8 @@
-use Rattle.timer_c.proofs.Batches.{IsTaken}
+use Rattle.timer_c.proofs.Batches.{AreTaken}
 use Rattle.timer_c.proofs.calls.expire_batch.Given as goal
 
 -- this many were taken, and are written over the front of the array
 abbrev pub invariant-loop-count : goal.invariant-loop-count
 invariant-loop-count l = record {
-  taken : IsTaken l.count l.initial.out l.initial.timers l.out l.timers;
+  taken : AreTaken l.count l.initial.out l.initial.timers l.out l.timers;
 }

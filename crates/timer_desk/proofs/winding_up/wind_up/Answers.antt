@@ -1,7 +1,6 @@
 use Rattle.std.proofs.Common.{◌≡◌, ◌<◌, ◌≤◌, ◌∙◌, length, get_or, vec_len, subst, refl, arith}
 use Rattle.std.proofs.lemmas.List.{get_or_default}
-use Rattle.timer_desk.specs.declared.ring_ends.RingInlet.{RingInlet}
-use Rattle.timer_desk.specs.declared.ring_ends.ClientReader.{ClientReader}
+use Rattle.timer_desk.specs.Types.{RingInlet, ClientReader}
 use Rattle.timer_desk.specs.WindingUp.{IsReadOut}
 use Rattle.timer_desk.proofs.WindingUpLemmas.{still_waits, IsReadOut-same, one_more_read, later_stays, keeps_looked, keeps_then}
 use Rattle.timer_desk.proofs.winding_up.wind_up.Goals as goal

@@ -1,7 +1,5 @@
 use Rattle.std.proofs.Common.{◌≡◌, ◌<◌, ◌≤◌, ℕ, get_or, vec_len}
-use Rattle.timer_desk.specs.declared.ring_ends.RingInlet.{RingInlet}
-use Rattle.timer_desk.specs.declared.ring_ends.RequestsEnded.{RequestsEnded}
-use Rattle.timer_desk.specs.declared.ring_ends.ClientReader.{ClientReader}
+use Rattle.timer_desk.specs.Types.{RingInlet, RequestsEnded, ClientReader}
 use Rattle.timer_desk.specs.Desk.{IsIdle, backlog_at}
 use Rattle.timer_desk.specs.RingEnds.{got_of, all_submitted}
 use Rattle.timer_desk.specs.WindingUp.{KeepsLines, IsReadOut}

@@ -1,6 +1,5 @@
 use Rattle.std.proofs.Common.{ℕ, List, ◌∙◌, ◌++◌, [], ◌∷◌, map, ap, refl, arith, Box, Global}
-use Rattle.timer_desk.specs.declared.ring_ends.RingInlet.{RingInlet}
-use Rattle.timer_desk_c.specs.declared.line.Line.{Line}
+use Rattle.timer_desk_c.specs.Types.{RingInlet, Line}
 use Rattle.std.proofs.lemmas.Grind.{common_steps}
 use Rattle.std.proofs.lemmas.List.{map-append}
 use Rattle.timer_desk_c.specs.Desks.{AreNewLines, IsNewLine}

@@ -10,9 +10,8 @@ pub loop-client-preserved : goal.loop-client-preserved
 loop-client-preserved g c =
     let was = c.loop-client.invariant in
     let k = c.loop-client.client in record {
-      done = dropping_more k c.drop_rest.result c.loop-client.dropped c.is_some.result c.either-dropped.result c.args.desk.now
-          c.loop-client.desk c.drop_rest.new.desk was.done c.drop_rest.ensures.dropped c.drop_rest.ensures.count c.is_some.ensures
-          c.either-dropped.ensures;
+      done = dropping_more k c.drop_rest.result c.loop-client.dropped c.args.desk.now c.loop-client.desk c.drop_rest.new.desk
+          was.done c.drop_rest.ensures.dropped c.drop_rest.ensures.count;
       all = was.all;
     }
 

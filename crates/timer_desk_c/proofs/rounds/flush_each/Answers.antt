@@ -13,9 +13,8 @@ pub loop-client-preserved : goal.loop-client-preserved
 loop-client-preserved g c =
     let was = c.loop-client.invariant in
     let k = c.loop-client.client in record {
-      done = flushing_more k c.flush.result c.loop-client.busy c.is_some.result c.either-busy.result c.args.desk.now c.loop-client.desk
-          c.flush.new.self was.done c.flush.ensures.report c.is_some.ensures c.either-busy.ensures c.flush.ensures.flushes
-          (λ i. ring_stopped (c.flush.ensures.stopped i));
+      done = flushing_more k c.flush.result c.loop-client.busy c.args.desk.now c.loop-client.desk c.flush.new.self was.done
+          c.flush.ensures.report c.flush.ensures.flushes (λ i. ring_stopped (c.flush.ensures.stopped i));
       all = was.all;
     }
 

@@ -12,11 +12,10 @@ loop-client-init g c = record {
 pub loop-client-preserved : goal.loop-client-preserved
 loop-client-preserved g c =
     let was = c.loop-client.invariant in
-    let did = c.serve_up_to-round.ensures in
     let k = c.loop-client.client in record {
       done = round_more c.args.most k c.loop-client.busy c.loop-client.starved c.serve_up_to-round.result.busy
-          c.serve_up_to-round.result.starved c.either-busy.result c.either-starved.result c.args.desk.now c.loop-client.desk
-          c.serve_up_to-round.new.desk was.done did c.either-busy.ensures c.either-starved.ensures;
+          c.serve_up_to-round.result.starved c.args.desk.now c.loop-client.desk c.serve_up_to-round.new.desk was.done
+          c.serve_up_to-round.ensures;
       all = was.all;
     }
 

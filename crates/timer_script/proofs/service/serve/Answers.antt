@@ -80,7 +80,7 @@ returns-then-n-eq0 g c =
     let read = turn_read _ _ c.deref.result.now i.room (search rules) c.deref.ensures.value h c.in-Ok-read.ensures in
     let taken = c.in-Ok-take_in.ensures.taken c.args.on_bad c.args.faults.now h.came h.events h.taken in
     c.end_stream.ensures c.args.on_bad c.args.facility.state (record { peer = g.P.Peer.state c.args.peer.now; faults = c.args.faults.now })
-    c.now-now.ensures.sound (record {
+    c.lemma_sound.ensures (record {
       came = h.came ++ take c.in-Ok-read.n c.deref.result.now;
       events = h.events ++ c.take_in.new.self.events.items;
       taken = unstopped _ c.args.on_bad _ _ _ _ c.in-Ok-take_in.bad (search rules) taken;

@@ -7,7 +7,7 @@ use Rattle.timer_facility.proofs.player.Player.play.Goals as goal
 
 pub returns-in-Err-clause-stopped : goal.returns-in-Err-clause-stopped
 returns-in-Err-clause-stopped g c =
-    let sound : IsSound c.args.self.now = rw (← c.self.view_is) c.now-now.ensures.sound in
+    let sound : IsSound c.args.self.now = rw (← c.self.view_is) c.lemma_sound.ensures in
     rw (c.in-Err.ensures.state, c.in-Err.ensures.outs) (IsPlayed-run c.args.self.now
     (take c.loop-i.i c.args.events.now) c.loop-i.outs.items c.loop-i.self sound c.loop-i.invariant)
 
@@ -20,7 +20,7 @@ loop-i-preserved g c =
 
 pub returns-clause-played : goal.returns-clause-played
 returns-clause-played g c =
-    let sound : IsSound c.args.self.now = rw (← c.self.view_is) c.now-now.ensures.sound in
+    let sound : IsSound c.args.self.now = rw (← c.self.view_is) c.lemma_sound.ensures in
     let all : take c.loop-i.i c.args.events.now ≡ c.args.events.now = take_all c.loop-i.i c.args.events.now c.loop-i-test.false in
     subst (λ es. IsPlayed c.args.self.now es c.loop-i.outs.items c.loop-i.self) all
     (IsPlayed-run c.args.self.now (take c.loop-i.i c.args.events.now) c.loop-i.outs.items c.loop-i.self sound c.loop-i.invariant)

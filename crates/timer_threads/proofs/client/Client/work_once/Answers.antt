@@ -1,6 +1,5 @@
 use Rattle.std.proofs.Common.{[], ◌∷◌, ◌++◌, ◌∙◌, ap}
-use Rattle.timer_threads.specs.declared.log.Log.{Log}
-use Rattle.timer_threads.specs.Types.{Turn}
+use Rattle.timer_threads.specs.Types.{Turn, Log}
 use Rattle.timer_threads.specs.Client.{turns_by}
 use Rattle.timer_threads.proofs.TurnLemmas.{AreLetGo-more}
 use Rattle.timer_threads.proofs.ClientLemmas.{IsLetGo-counted}
