@@ -7,6 +7,7 @@ use Rattle.std.proofs.lemmas.List.{length-map, map-append}
 use Rattle.std.proofs.lemmas.List.Elements.{filter-append}
 use Rattle.timer_base.proofs.Basics.{not_due_before, is_due, later_if_not_due, is_not_due, either}
 use Rattle.timer_base.specs.Types.{Timer, LAST}
+use Rattle.timer_base.specs.Layout.{NoSlots}
 use Rattle.timer_base.specs.Order.{in_order, itself, insert_by_deadline, AreRising, AreBelow}
 use Rattle.timer_base.proofs.OrderLaws.{newest_last, filter-in_order, in_order-same, AllAt-filter, AreRising-append, AreRising-filter, length-in_order, All-weaken, All-filter}
 use Rattle.timer_base.proofs.OneOrder.{map-itself}
@@ -61,8 +62,8 @@ filter-filter_same p q (t ∷ ts) = elim (either (p t)) [
 ]
 
 pub state_is : (n : ℕ) {p q d e : List Entry} (l : ℕ) → p ≡ q → d ≡ e
-    → let a : WheelState = record { slots = 0; last_tick = LAST; now = n; pending = p; due = d; last_serial = l; room = 0 } in
-    let b : WheelState = record { slots = 0; last_tick = LAST; now = n; pending = q; due = e; last_serial = l; room = 0 } in a ≡ b
+    → let a : WheelState = record { layout = NoSlots; last_tick = LAST; now = n; pending = p; due = d; last_serial = l; room = 0 } in
+    let b : WheelState = record { layout = NoSlots; last_tick = LAST; now = n; pending = q; due = e; last_serial = l; room = 0 } in a ≡ b
 state_is n l h k = cc
 
 -- A tick.

@@ -2,6 +2,7 @@
 pub mod Types
 pub mod Order
 pub mod Pending
+pub mod Layout
 pub mod PlainState
 pub mod WheelState
 pub mod WellFormed

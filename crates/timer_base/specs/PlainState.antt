@@ -3,6 +3,7 @@
 use Rattle.std.specs.List.{AllByRecursion}
 use Rattle.std.proofs.Common.{◌<◌, ◌≤◌, ◌+◌, ◌-◌, ℕ, Bool, nat_lt, nat_le, min, if◌then◌else◌, List, [], ◌∷◌, Option, Some, None, map, filter, length}
 use Rattle.timer_base.specs.Types.{LAST, Timer}
+use Rattle.timer_base.specs.Layout.{NoSlots}
 use Rattle.timer_base.specs.Order.{in_order, itself}
 use Rattle.timer_base.specs.Pending.{Entry, is_due_at}
 use Rattle.timer_base.specs.WheelState.{WheelState}
@@ -22,7 +23,7 @@ at_first_place t = record { place = 0; timer = t }
 -- the wheel state of the timers, with no room
 abbrev pub plain_state : ℕ → ℕ → List Timer → WheelState
 plain_state now last_serial timers = record {
-  slots = 0;
+  layout = NoSlots;
   last_tick = LAST;
   now = now;
   pending = map at_first_place (in_order itself (filter (is_after now) timers));

@@ -5,10 +5,11 @@ use Rattle.std.proofs.lemmas.Bool.Decides.{nat_tests}
 use Rattle.std.specs.Coded.{×_prop, Unit-prop, le_prop}
 use Rattle.std.specs.List.{AllByRecursion, AllByRecursion-prop}
 use Rattle.timer_base.specs.Types.{LAST, Timer}
+use Rattle.timer_base.specs.Layout.{Layout}
 use Rattle.timer_base.specs.Order.{is_before, insert_in_order, in_order, IsFirst, IsOrdered, IsNotAmong, AreDistinct, AreRising, itself}
 use Rattle.timer_base.specs.Pending.{is_due_at, timers_of}
 use Rattle.timer_base.specs.PlainState.{is_after, at_first_place, plain_state, IsKept}
-use Rattle.timer_base.specs.WheelState.{WheelState, IsPending, IsDue, IsWellFormed, with_room}
+use Rattle.timer_base.specs.WheelState.{WheelState, IsPending, IsDue, IsWellFormed, with_room, with_layout}
 
 pub either : (b : Bool) → (b ≡ true) ⊎ (b ≡ false)
 either b = elim b as (λ v. (v ≡ true) ⊎ (v ≡ false)) [ true ↦ inl refl | false ↦ inr refl ]
@@ -155,6 +156,19 @@ map-itself (t ∷ ts) = ap (λ r. t ∷ r) (map-itself ts)
 -- room changes nothing in the invariant
 pub with_room-well_formed : (room : ℕ) (w : WheelState) → IsWellFormed w → IsWellFormed (with_room room w)
 with_room-well_formed room w h = record {
+  last_in_range = h.last_in_range;
+  now_in_range = h.now_in_range;
+  serial_in_range = h.serial_in_range;
+  ordered = h.ordered;
+  distinct = h.distinct;
+  each = h.each;
+  each_due = h.each_due;
+  due_rising = h.due_rising;
+}
+
+-- nor does the layout
+pub with_layout-well_formed : (layout : Layout) (w : WheelState) → IsWellFormed w → IsWellFormed (with_layout layout w)
+with_layout-well_formed layout w h = record {
   last_in_range = h.last_in_range;
   now_in_range = h.now_in_range;
   serial_in_range = h.serial_in_range;

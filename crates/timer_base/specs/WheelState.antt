@@ -3,11 +3,12 @@ use Rattle.std.specs.Prelude.{◌≡◌, ℕ, ◌+◌, ◌<◌, ◌≤◌, zero,
 use Rattle.std.specs.List.{AllByRecursion}
 use Rattle.timer_base.specs.Types.{LAST, Handle, Timer}
 use Rattle.timer_base.specs.Order.{IsOrdered, AreDistinct, AreRising}
+use Rattle.timer_base.specs.Layout.{Layout}
 use Rattle.timer_base.specs.Pending.{Entry, timers_of, put, has_handle, first_timer, first_found, without_found, without_handle, entries_due, entries_left}
 
 pub record WheelState : Type 0 where
-  -- how many slots it has in all, 0 if it has none; no call changes it
-  pub slots : ℕ
+  -- how its slots are laid out; no call changes it
+  pub layout : Layout
   -- the last tick of the wheel's clock; no call changes it
   pub last_tick : ℕ
   -- the present tick
@@ -22,9 +23,9 @@ pub record WheelState : Type 0 where
   pub room : ℕ
 
 -- a new wheel
-abbrev pub empty_wheel : ℕ → ℕ → ℕ → WheelState
-empty_wheel slots last_tick first_tick = record {
-  slots = slots;
+abbrev pub empty_wheel : Layout → ℕ → ℕ → WheelState
+empty_wheel layout last_tick first_tick = record {
+  layout = layout;
   last_tick = last_tick;
   now = first_tick;
   pending = [];
@@ -36,6 +37,10 @@ empty_wheel slots last_tick first_tick = record {
 -- the same wheel with this room
 abbrev pub with_room : ℕ → WheelState → WheelState
 with_room room w = record w { room = room }
+
+-- the same wheel, whose slots are laid out like this
+abbrev pub with_layout : Layout → WheelState → WheelState
+with_layout layout w = record w { layout = layout }
 
 -- room is made for at least this many timers
 abbrev pub after_reserve : ℕ → WheelState → WheelState

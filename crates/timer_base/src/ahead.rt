@@ -1,12 +1,13 @@
 //! Moves that a wheel can make ahead of their ticks, for an owner with time to spare.
 ghost use Rattle.std.specs.Prelude.{◌≡◌, ◌+◌, ℕ, Bool, false, min};
+ghost use Rattle.timer_base.specs.Layout.{Layout};
 
 use crate::wheel::Wheel;
 
 /// A wheel whose timers go to lower wheels before their deadline, and can go sooner than its ticks have them go.
 pub trait MovesAhead: Wheel {
-    /// Whether a wheel with this many slots has any such moves.
-    ghost has_moves: { ℕ → Bool };
+    /// Whether a wheel of this layout has any such moves.
+    ghost has_moves: { Layout → Bool };
 
     /// How many moves of later ticks can be made now.
     ghost moves_ahead: { Self → ℕ };
@@ -22,5 +23,5 @@ pub trait MovesAhead: Wheel {
         ensures counts { Self.counts self.new ≡ Self.counts self.old };
 
     /// A wheel without such moves makes none.
-    ghost none: { (wheel : Self) → has_moves (Self.state wheel).slots ≡ false → moves_ahead wheel ≡ 0 };
+    ghost none: { (wheel : Self) → has_moves (Self.state wheel).layout ≡ false → moves_ahead wheel ≡ 0 };
 }

@@ -1,7 +1,7 @@
 //! The vocabulary of the timer facility: timers and their handles, the trait of a wheel, and the
 //! simplest wheel.
 //!
-//! The layer above knows a wheel by the trait [`Wheel`] alone: its slots and last tick, the present tick, one
+//! The layer above knows a wheel by the trait [`Wheel`] alone: the layout of its slots and its last tick, the present tick, one
 //! list of pending timers by deadline and then serial, those that are due, the last serial, room and counts. Read
 //! `wheel` first, with `specs/WheelState.antt` beside it, and then `plain`, the shortest implementation.
 //! `laws` has the lemmas that hold for every wheel.

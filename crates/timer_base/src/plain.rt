@@ -18,6 +18,7 @@ ghost use Rattle.std.specs.Prelude.{◌≡◌, ◌≤◌, ◌<◌, ◌+◌, ◌�
 ghost use Rattle.std.proofs.Math.Nat.{ℕ_set};
 ghost use Rattle.std.specs.List.{AllByRecursion};
 ghost use Rattle.timer_base.specs.Types.{LAST};
+ghost use Rattle.timer_base.specs.Layout.{NoSlots};
 ghost use Rattle.timer_base.specs.Order.{AreRising};
 ghost use Rattle.timer_base.specs.WellFormed.{AreRising-prop, IsKept-prop, plain_state-well_formed, with_room-well_formed};
 ghost use Rattle.timer_base.specs.Pending.{has_serial, is_due_at, timers_of};
@@ -57,7 +58,7 @@ impl PlainWheel {
     /// not allocate.
     pub fn new(alloc: Global, first_tick: u64) -> Result<PlainWheel, MakeFault>
         ensures made { IfOk result (λ wheel. ⟦<PlainWheel as Wheel>⟧.state wheel
-            ≡ empty_wheel 0 LAST first_tick) }
+            ≡ empty_wheel NoSlots LAST first_tick) }
         ensures fault { IsErr result ↔ (LAST < first_tick) }
         ensures first_tick { IfErr result (λ fault. fault ≡ MakeFault.FirstTick) }
     {
@@ -119,7 +120,7 @@ impl PlainWheel {
 impl Wheel for PlainWheel {
     ghost state = { λ w. with_room w.room (plain_state w.now w.last_serial w.timers.items) };
 
-    ghost wake_up = { λ slots now pending. next_deadline pending };
+    ghost wake_up = { λ layout now pending. next_deadline pending };
 
     ghost well_formed = { λ w. with_room-well_formed w.room (plain_state w.now w.last_serial w.timers.items)
         (plain_state-well_formed w.now w.last_serial w.timers.items w.now_in_range w.serial_in_range w.rising

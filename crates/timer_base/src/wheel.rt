@@ -2,7 +2,7 @@
 //!
 //! One record, `WheelState`, is the abstract state of a wheel, however it keeps its timers:
 //!
-//!     slots         how many slots it has in all, which never changes
+//!     layout        how its slots are laid out, which never changes
 //!     last_tick     the last tick of its clock, which never changes
 //!     now           the present tick
 //!     pending       the timers that wait for their deadline, by deadline and then serial, each with its
@@ -19,6 +19,7 @@
 ghost use Rattle.std.specs.Prelude.{◌≡◌, ◌<◌, ◌≤◌, ◌-◌, ◌↔◌, ⊤, ℕ, List, [], Option, length, IsTrue, IfOk, OnOk, OnErr, IfSome, MatchOption, MatchResult, vec_capacity};
 ghost use Rattle.timer_base.specs.Types.{LAST, Timer};
 ghost use Rattle.timer_base.specs.Counts.{WheelCounts, no_counts};
+ghost use Rattle.timer_base.specs.Layout.{Layout};
 ghost use Rattle.timer_base.specs.Pending.{Entry, timers_of};
 ghost use Rattle.timer_base.specs.WakeUps.{IsQuietUntil, next_deadline};
 ghost use Rattle.timer_base.specs.WheelState.{WheelState, IsWellFormed, NamesOne, held_at, held_count, old_timer, first_due, after_reserve, after_held_start, after_removal, after_replacement, after_tick, after_expiry, after_clear, Advances};
@@ -31,9 +32,9 @@ pub trait Wheel {
     /// The abstract state of the wheel, however it keeps its timers.
     ghost state: { Self → WheelState };
 
-    /// The tick that `quiet_until` returns, from the number of slots, the present tick and the pending timers:
+    /// The tick that `quiet_until` returns, from the layout of the slots, the present tick and the pending timers:
     /// each wheel says which it is.
-    ghost wake_up: { ℕ → ℕ → List Entry → Option ℕ };
+    ghost wake_up: { Layout → ℕ → List Entry → Option ℕ };
 
     /// The timers that it can give back whole: a start and a restart take no others. A wheel that keeps all of a timer
     /// leaves this out.
@@ -171,7 +172,7 @@ pub trait Wheel {
     /// rather than search for it: `wake_up` is exactly when. Does not allocate.
     fn quiet_until(&self) -> Option<u64>
         ensures quiet { IsQuietUntil result (state self.now).now (state self.now).pending }
-        ensures exact { result ≡ wake_up (state self.now).slots (state self.now).now (state self.now).pending };
+        ensures exact { result ≡ wake_up (state self.now).layout (state self.now).now (state self.now).pending };
 
     /// Returns the first pending deadline, or None exactly when nothing is pending.
     ///

@@ -5,12 +5,13 @@ use Rattle.timer_base.specs.Counts.{WheelCounts, no_counts}
 use Rattle.timer_base.specs.declared.limits.TheConstants.{LAST}
 use Rattle.timer_base.specs.declared.timer.Timer.{Timer}
 use Rattle.timer_base.specs.declared.timer.Handle as base
+use Rattle.timer_base.specs.Layout.{Layout}
 use Rattle.timer_base.specs.WakeUps.{IsWakeUp, next_deadline}
 use Rattle.timer_base.specs.WheelState.{WheelState, empty_wheel, held_at, after_start, after_removal, after_tick}
 use Rattle.timer_wheels.specs.declared.tiers.Tiers.{Tiers}
-use Rattle.timer_wheels.specs.Tiers.{tiers_with_number, last_of_tiers, slots_of_tiers, AreTiersFor}
+use Rattle.timer_wheels.specs.Tiers.{tiers_with_number, last_of_tiers, layout_of_tiers, AreTiersFor}
 use Rattle.timer_wheels.specs.HeldPlaces.{AreBefore, AreElsewhere}
-use Rattle.timer_wheels.specs.TieredWheel.{radices_of_slots, is_smooth, counts_at_tick, counts_at_advance}
+use Rattle.timer_wheels.specs.TieredWheel.{radices_of, is_smooth, counts_at_tick, counts_at_advance}
 use Rattle.timer_wheels.specs.HierWheel as hier
 use Rattle.timer_wheels.specs.WakeUps.{next_visit}
 use Rattle.timer_total.specs.Refusals.{interval_until, after_start_at, next_timer, left_until, IsStartable, IsRoomUsed, IsAt}
@@ -29,7 +30,7 @@ use Rattle.timer_c.specs.declared.status.TheConstants.{NO_TABLE, NO_MEMORY, DUE,
 pub record IsEmptyWheel (number first_tick : ℕ) (wheel : WheelState) : Type 0 where
   pub tiers : Tiers
   pub are_tiers : AreTiersFor number first_tick tiers
-  pub empty : wheel ≡ empty_wheel (slots_of_tiers tiers) (last_of_tiers tiers) first_tick
+  pub empty : wheel ≡ empty_wheel (layout_of_tiers tiers) (last_of_tiers tiers) first_tick
 
 -- timers over such a wheel, with this last serial, and nothing was counted
 abbrev pub IsEmptyAt : ℕ → ℕ → ℕ → TimersState → Type 0
@@ -200,7 +201,7 @@ IsNextCall tick w =
     ((tick ≡ w.now) × (0 < length w.due))
     ⊎ ((tick ≡ NEVER) × (w.due ≡ []) × (w.pending ≡ []))
     ⊎ ((w.due ≡ []) × IsWakeUp tick w.now w.pending
-    × (next_visit (radices_of_slots w.slots) w.now w.pending ≡ Some tick))
+    × (next_visit (radices_of w.layout) w.now w.pending ≡ Some tick))
 
 -- the deadline of the timer that is taken next: now if an expired one waits, else the first pending one
 abbrev pub IsNextDeadline : ℕ → WheelState → Type 0
@@ -219,9 +220,9 @@ IsVisited from w next handle out =
 abbrev pub IsAllVisited : ℕ → WheelState → Type 0
 IsAllVisited from w = AreBefore from w.pending × AreBefore from w.due
 
--- What a wheel with this many slots counted, as C's struct. The moves of a smooth wheel depend on its paces, and are left
+-- What a wheel of this layout counted, as C's struct. The moves of a smooth wheel depend on its paces, and are left
 -- open here; all else follows from the calls.
-abbrev pub IsCounted : ℕ → WheelCounts → Counts → Type 0
-IsCounted slots counts told =
+abbrev pub IsCounted : Layout → WheelCounts → Counts → Type 0
+IsCounted layout counts told =
     (told ≡ record { starts = counts.starts; moves = told.moves; visits = counts.visits })
-    × (is_smooth slots ≡ false → told.moves ≡ counts.moves)
+    × (is_smooth layout ≡ false → told.moves ≡ counts.moves)

@@ -98,7 +98,7 @@ fn restart_in_smooth(
     action: u64,
     restarted: &mut CHandle,
 ) -> u32
-    requires { is_smooth timers.old.wheel.slots ≡ true }
+    requires { is_smooth timers.old.wheel.layout ≡ true }
     ensures restarted { result ≡ OK → IsRestarted handle interval action timers.old timers.new restarted.new }
     ensures refused { 0 < result → IsRestartRefusal handle interval timers.old result }
     ensures kept { 0 < result → (timers.new ≡ timers.old) × (restarted.new ≡ restarted.old) }
@@ -215,7 +215,7 @@ pub(crate) fn wakeup(timers: &Timers<CWheel>) -> u64
 
 /// What a wheel counted, as C's struct.
 pub(crate) fn to_c_counts(wheel: &CWheel) -> Counts
-    ensures counted { IsCounted (tiered_state wheel.now).slots (counts_in wheel.now) result }
+    ensures counted { IsCounted (tiered_state wheel.now).layout (counts_in wheel.now) result }
     ensures moves { result.moves ≡ moves_in wheel.now }
     ensures few_moves { result.moves ≤ 9 * result.starts }
 {

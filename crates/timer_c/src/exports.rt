@@ -464,7 +464,7 @@ pub extern "C" fn timers_find_next(t: &mut CTimers) -> u64
 #[unsafe(no_mangle)]
 pub extern "C" fn timers_move_ahead(t: &mut CTimers, most: u64) -> u64
     ensures at_most { result ≤ most }
-    ensures none { IsOpen t.old → is_smooth t.old.slot.state.wheel.slots ≡ false → result ≡ 0 }
+    ensures none { IsOpen t.old → is_smooth t.old.slot.state.wheel.layout ≡ false → result ≡ 0 }
     ensures not_open { IsShut t.old → result ≡ 0 }
     ensures same { t.new ≡ t.old }
 {
@@ -511,7 +511,7 @@ pub extern "C" fn timers_each(
 #[unsafe(no_mangle)]
 pub extern "C" fn timers_counts(t: &mut ConstTimers, counts: &mut Counts) -> u32
     ensures counted { result ≡ OK → IsOpen t.old.held
-        × IsCounted t.old.held.slot.state.wheel.slots t.old.held.slot.state.counts counts.new }
+        × IsCounted t.old.held.slot.state.wheel.layout t.old.held.slot.state.counts counts.new }
     ensures few_moves { result ≡ OK → counts.new.moves ≤ 9 * counts.new.starts }
     ensures refused { 0 < result → (result ≡ NOT_OPEN) × IsShut t.old.held }
     ensures kept { 0 < result → counts.new ≡ counts.old }

@@ -1,12 +1,12 @@
 -- The options of `play`, `serve`, `show` and `check --why`, and when they are refused.
 use Rattle.std.specs.Prelude.{◌≡◌, ℕ, ◌<◌, ◌≤◌, ◌⊎◌, List, codes, None, Some}
 use Rattle.timer_base.specs.declared.limits.TheConstants.{LAST}
+use Rattle.timer_base.specs.Layout.{Layout, NoSlots, OneWheel}
 use Rattle.timer_facility.specs.declared.config.Config.{Config}
 use Rattle.timer_facility.specs.Config.{config_fault}
 use Rattle.timer_wheels.specs.declared.table.TheConstants.{LAST_OF_CLOCK}
 use Rattle.timer_wheels.specs.declared.table.Table.TheVariants as table
-use Rattle.timer_wheels.specs.Smooth.{smooth_slots}
-use Rattle.timer_wheels.specs.Tables.{radices, slots_of_table}
+use Rattle.timer_wheels.specs.Tables.{layout_of_table, smooth_layout}
 use Rattle.timer_commands.specs.declared.options.Scheme.{Scheme}
 use Rattle.timer_commands.specs.declared.options.Scheme.TheVariants.{Plain, Hashed, Hier, Clock, Smooth}
 use Rattle.timer_commands.specs.declared.options.RunOptions.{RunOptions}
@@ -22,13 +22,13 @@ name_of Hier = codes "hier"
 name_of Clock = codes "clock"
 name_of Smooth = codes "smooth"
 
--- how many slots the wheel of a scheme has, where the options give this number for the hashed one
-abbrev pub scheme_slots : Scheme → ℕ → ℕ
-scheme_slots Plain slots = 0
-scheme_slots Hashed slots = slots
-scheme_slots Hier slots = slots_of_table table.Wide
-scheme_slots Clock slots = slots_of_table table.Clock
-scheme_slots Smooth slots = smooth_slots (radices table.Wide)
+-- how the slots of a scheme's wheel are laid out, where the options give this number of them for the hashed one
+abbrev pub scheme_layout : Scheme → ℕ → Layout
+scheme_layout Plain slots = NoSlots
+scheme_layout Hashed slots = OneWheel slots
+scheme_layout Hier slots = layout_of_table table.Wide
+scheme_layout Clock slots = layout_of_table table.Clock
+scheme_layout Smooth slots = smooth_layout table.Wide
 
 -- the last tick of a scheme's clock
 abbrev pub scheme_last : Scheme → ℕ

@@ -19,7 +19,7 @@ use Rattle.timer_commands.specs.declared.options.RunOptions.{RunOptions}
 use Rattle.timer_commands.specs.declared.options.OptionsFault.{OptionsFault}
 use Rattle.timer_commands.specs.declared.verbs.Verb.{Verb}
 use Rattle.timer_commands.specs.declared.verbs.Verb.TheVariants as verbs
-use Rattle.timer_commands.specs.Options.{config_of, scheme_last, scheme_slots, IsPlayable, RefusesOptions}
+use Rattle.timer_commands.specs.Options.{config_of, scheme_last, scheme_layout, IsPlayable, RefusesOptions}
 use Rattle.timer_commands.specs.Indented.{AddsPictures}
 use Rattle.timer_commands.specs.Wakeups.{AddsWakeups}
 
@@ -37,7 +37,7 @@ pub record Channels (R S F : Type 0) : Type 0 where
 -- the facility of the options, before the first event
 abbrev pub opened_by : RunOptions → FacilityState
 opened_by options = opened (config_of options) (scheme_last options.scheme)
-    (scheme_slots options.scheme options.slots)
+    (scheme_layout options.scheme options.slots)
 
 -- an exit status of a success and of a failure
 pub record Ends (Good Bad : Type 0) (status : ℕ) : Type 0 where

@@ -7,7 +7,7 @@ ghost use Rattle.timer_wheels.specs.HierWheel.{table_of};
 ghost use Rattle.timer_wheels.specs.SmoothWheel.{smooth_table};
 ghost use Rattle.timer_wheels.specs.declared.table.Table.TheVariants as tables;
 ghost use Rattle.timer_commands.specs.declared.options.Scheme.TheVariants as schemes;
-ghost use Rattle.timer_commands.specs.Options.{scheme_last, scheme_slots, config_of, IsPlayable};
+ghost use Rattle.timer_commands.specs.Options.{scheme_last, scheme_layout, config_of, IsPlayable};
 ghost use Rattle.timer_commands.specs.Subcommands.{opened_by, HasDone, HasRunVerb};
 ghost use Rattle.timer_script.specs.Watched.{has_failed};
 
@@ -130,7 +130,7 @@ fn over_wheel<R: Read, S: Write, F: Write, W: Wheel + Placement + OfScheme + Dro
 ) -> u8
     requires wheel { IfOk made (λ wheel. W.is_wheel_of _options wheel) }
     requires state { IfOk made (λ wheel. W.state wheel
-        ≡ empty_wheel (scheme_slots _options.scheme _options.slots) (scheme_last _options.scheme) _options.first_tick) }
+        ≡ empty_wheel (scheme_layout _options.scheme _options.slots) (scheme_last _options.scheme) _options.first_tick) }
     requires keeps { (timer : Timer) → W.keeps timer }
     requires memory { IfErr made (λ fault. fault ≡ MakeFault.OutOfMemory) }
     requires config { checked ≡ config_of _options }

@@ -115,7 +115,7 @@ impl<W: Wheel + Drop> Decorator<W> for Wakeups {
         ensures kept { HasGrown text.old.items text.new.items }
         // The tick is after the present one, and at most the first pending deadline.
         ensures wakeup { OnOk result (text.new.items ≡ text.old.items
-            ++ wakeup_line (W.wake_up facility.now.state.slots facility.now.state.now facility.now.state.pending)) }
+            ++ wakeup_line (W.wake_up facility.now.state.layout facility.now.state.now facility.now.state.pending)) }
     {
         push_wakeup(text, facility.quiet_until())
     }

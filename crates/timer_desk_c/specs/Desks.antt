@@ -2,8 +2,8 @@
 use Rattle.std.specs.Prelude.{ℕ, ◌≡◌, ◌≢◌, ◌<◌, ◌≤◌, ◌⊎◌, Bool, true, false, List, [], length, get_or, Ok, Err, Some, None, Result, IfOk}
 use Rattle.std.specs.List.{AllZip}
 use Rattle.timer_base.specs.WakeUps.{IsWakeUp, next_deadline}
-use Rattle.timer_wheels.specs.TieredWheel.{radices_of_slots}
-use Rattle.timer_wheels.specs.Tiers.{slots_of_tiers, last_of_tiers, AreTiersFor}
+use Rattle.timer_wheels.specs.TieredWheel.{radices_of}
+use Rattle.timer_wheels.specs.Tiers.{layout_of_tiers, last_of_tiers, AreTiersFor}
 use Rattle.timer_wheels.specs.declared.tiers.Tiers.{Tiers}
 use Rattle.timer_wheels.specs.WakeUps.{next_visit}
 use Rattle.timer_facility.specs.declared.config.Config as facility
@@ -94,7 +94,7 @@ pub record IsOneHeld (lines : List CLine) : Type 0 where
 pub record IsNewDesk (clients : ℕ) (c : DeskConfig) (d : RingDesk) : Type 0 where
   pub tiers : Tiers
   pub are_tiers : AreTiersFor c.table c.first_tick tiers
-  pub is : d ≡ opened_desk (opened (desk_config clients c) (last_of_tiers tiers) (slots_of_tiers tiers)) d.inlets c.room
+  pub is : d ≡ opened_desk (opened (desk_config clients c) (last_of_tiers tiers) (layout_of_tiers tiers)) d.inlets c.room
   pub as_many : clients_of d ≡ clients
 
 -- a new desk, and its lines at C, in this life of its struct
@@ -160,7 +160,7 @@ with_reserve d = record d { facility = with_room d.facility }
 -- the first tick at which a timer expires or moves to a lower wheel, and before which nothing expires
 abbrev pub IsNextTick : ℕ → FacilityState → Type 0
 IsNextTick tick s = ((tick ≡ NEVER) × (s.pending ≡ []))
-    ⊎ (IsWakeUp tick s.now s.pending × (next_visit (radices_of_slots s.slots) s.now s.pending ≡ Some tick))
+    ⊎ (IsWakeUp tick s.now s.pending × (next_visit (radices_of s.layout) s.now s.pending ≡ Some tick))
 
 -- the first pending deadline
 abbrev pub IsFirstDeadline : ℕ → FacilityState → Type 0

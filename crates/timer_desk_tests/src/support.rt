@@ -4,7 +4,7 @@ ghost use Rattle.timer_base.specs.declared.timer.Timer.{Timer};
 ghost use Rattle.timer_wheels.specs.declared.hier.HierWheel.{HierWheel};
 ghost use Rattle.timer_base.specs.WheelState.{empty_wheel};
 ghost use Rattle.timer_desk.specs.Desk.{AllIdle, clients_of};
-ghost use Rattle.timer_wheels.specs.Tables.{last_of_table, slots_of_table};
+ghost use Rattle.timer_wheels.specs.Tables.{last_of_table, layout_of_table};
 
 use std::alloc::Global;
 use std::fmt::Debug;
@@ -25,7 +25,7 @@ pub fn same<T: PartialEq + Debug + Drop>(rt: &impl Abort, found: T, expected: T)
 /// A hierarchy of wheels at tick 0.
 pub fn hierarchy(rt: &impl Abort, alloc: Global) -> HierWheel
     ensures { ⟦<HierWheel as Wheel>⟧.state result
-        ≡ empty_wheel (slots_of_table Table.Wide) (last_of_table Table.Wide) 0 }
+        ≡ empty_wheel (layout_of_table Table.Wide) (last_of_table Table.Wide) 0 }
 {
     match HierWheel::with_table(alloc, Table::Wide, 0) {
         Ok(wheel) => wheel,

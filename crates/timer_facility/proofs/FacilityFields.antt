@@ -128,7 +128,7 @@ first_fields w c returned room = record {
 
 pub view-open : (w : Wheels.WheelState) (c : Config) (returned : List Timer) (room : ℕ) → w.pending ≡ [] → w.due ≡ []
     → w.now ≡ c.first_tick → c.clients ≤ 64 → returned ≡ []
-    → view_of (first_fields w c returned room) ≡ with_nothing_waiting (opened c w.last_tick w.slots)
+    → view_of (first_fields w c returned room) ≡ with_nothing_waiting (opened c w.last_tick w.layout)
 view-open w c returned room p d n few r = rw (p, d, n, r, take-replicate c.clients 64 c.first_number few) refl
 
 pub facility-open : (w : Wheels.WheelState) (c : Config) (returned : List Timer) (room : ℕ) → IsInRange c → w.pending ≡ [] → w.due ≡ []

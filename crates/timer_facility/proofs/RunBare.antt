@@ -5,6 +5,7 @@ use Rattle.std.specs.List.{AllByRecursion}
 use Rattle.std.proofs.lemmas.List.{length-map, map-append}
 use Rattle.std.proofs.lemmas.List.Elements.{All-replicate, recursion_from_All}
 use Rattle.std.proofs.lemmas.Simd.{map-map}
+use Rattle.timer_base.specs.Layout.{NoSlots}
 use Rattle.timer_base.proofs.Basics.{either}
 use Rattle.timer_base.proofs.OrderLaws.{All-append}
 use Rattle.timer_facility.specs.Types.{Timer, NotTaken, Reason, TickFault, Notice, Event, Out, Expired, Returned}
@@ -146,7 +147,7 @@ tick-bare : (s : FacilityState) (v : Option TickFault) → IsBareStep (step_of_t
 tick-bare s (Some fault) = (refl, refl)
 tick-bare s None = (
   rw (timers_of-bare s.pending) (notices-bare (λ t. Expired t) (filter (is_due_at (s.now + 1)) (timers_of s.pending))),
-  ap (λ es. record s { slots = 0; now = s.now + 1; pending = es; has_room = false }) (filter-bare (λ t. not (is_due_at (s.now + 1) t)) s.pending),
+  ap (λ es. record s { layout = NoSlots; now = s.now + 1; pending = es; has_room = false }) (filter-bare (λ t. not (is_due_at (s.now + 1) t)) s.pending),
 )
 
 close-bare : (s : FacilityState) (b : Bool) → IsBareStep (step_of_close s b) (step_of_close (bare_state s) b)

@@ -1,5 +1,6 @@
 -- Whole runs of single events.
 use Rattle.std.specs.Prelude.{◌≡◌, ℕ, List, [], ◌∷◌, ◌++◌, map, false}
+use Rattle.timer_base.specs.Layout.{NoSlots}
 use Rattle.timer_base.specs.Pending.{Entry}
 use Rattle.timer_facility.specs.Types.{Answer, Notice, Out, Started, Restarted}
 use Rattle.timer_facility.specs.declared.event.Out.TheVariants as Outs
@@ -72,9 +73,9 @@ bare_outs outs = map bare outs
 abbrev pub bare_entry : Entry → Entry
 bare_entry entry = record entry { place = 0 }
 
--- a state without the places and the slots, and without regard to whether room was made
+-- a state without the places and the layout of the slots, and without regard to whether room was made
 abbrev pub bare_state : FacilityState → FacilityState
-bare_state s = record s { slots = 0; pending = map bare_entry s.pending; has_room = false }
+bare_state s = record s { layout = NoSlots; pending = map bare_entry s.pending; has_room = false }
 
 -- the event names no place: a stop or restart names its timer by serial
 abbrev pub NamesBySerial : SingleEvent → Type 0

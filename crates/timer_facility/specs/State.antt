@@ -2,6 +2,7 @@
 use Rattle.std.specs.Prelude.{◌<◌, ◌≤◌, ◌==◌, ℕ, ◌+◌, ◌-◌, max, Bool, true, if◌then◌else◌, List, [], ◌∷◌, length, slice_index}
 use Rattle.std.specs.List.{AllByRecursion}
 use Rattle.timer_facility.specs.Types.{LAST, Timer, Handle, MAX_CLIENTS, MAX_PENDING}
+use Rattle.timer_base.specs.Layout.{Layout}
 use Rattle.timer_base.specs.Order.{IsOrdered, AreDistinct, AreBelow}
 use Rattle.timer_base.specs.Pending.{Entry, timers_of}
 
@@ -10,8 +11,8 @@ pub record FacilityState : Type 0 where
   pub capacity : ℕ
   -- the last tick of the clock; constant
   pub last : ℕ
-  -- how many slots the wheel has, 0 if it has none; constant
-  pub slots : ℕ
+  -- how the slots of the wheel are laid out; constant
+  pub layout : Layout
   -- the present tick
   pub now : ℕ
   -- the serial of the next timer

@@ -89,7 +89,7 @@ impl<W: Wheel + Drop> Facility<W> {
         requires serial { (W.state wheel).last_serial < checked.first_serial }
         requires keeps { (timer : Timer) → W.keeps timer }
         ensures { result ≡ with_nothing_waiting (opened checked (W.state wheel).last_tick
-            (W.state wheel).slots) }
+            (W.state wheel).layout) }
     {
         let config = checked.config();
         Facility {
@@ -146,7 +146,7 @@ impl<W: Wheel + Drop> Facility<W> {
         ensures pending { (W.state result.now).pending ≡ self.now.state.pending }
         ensures due { self.now.waiting ≡ [] → (W.state result.now).due ≡ [] }
         ensures last { (W.state result.now).last_tick ≡ self.now.state.last }
-        ensures slots { (W.state result.now).slots ≡ self.now.state.slots }
+        ensures layout { (W.state result.now).layout ≡ self.now.state.layout }
     {
         &self.wheel
     }
@@ -297,7 +297,7 @@ impl<W: Wheel + Drop> Facility<W> {
     /// be handed out do not count. Does not allocate.
     pub fn quiet_until(&self) -> Option<u64>
         ensures quiet { IsQuietUntil result self.now.state.now self.now.state.pending }
-        ensures exact { result ≡ W.wake_up self.now.state.slots self.now.state.now self.now.state.pending }
+        ensures exact { result ≡ W.wake_up self.now.state.layout self.now.state.now self.now.state.pending }
     {
         self.wheel.quiet_until()
     }

@@ -2,14 +2,14 @@
 ghost use Rattle.std.specs.Prelude.{◌≡◌, IfOk};
 ghost use Rattle.timer_base.specs.declared.limits.TheConstants.{LAST};
 ghost use Rattle.timer_base.specs.declared.plain.PlainWheel.{PlainWheel};
+ghost use Rattle.timer_base.specs.Layout.{NoSlots, OneWheel};
 ghost use Rattle.timer_base.specs.WheelState.{empty_wheel};
 ghost use Rattle.timer_total.specs.TimersState.{KeepsUnowned};
 ghost use Rattle.timer_wheels.specs.declared.hashed.HashedWheel.{HashedWheel};
 ghost use Rattle.timer_wheels.specs.declared.hier.HierWheel.{HierWheel};
 ghost use Rattle.timer_wheels.specs.declared.smooth.SmoothWheel.{SmoothWheel};
 ghost use Rattle.timer_wheels.specs.declared.table.Table.TheVariants as tables;
-ghost use Rattle.timer_wheels.specs.Smooth.{smooth_slots};
-ghost use Rattle.timer_wheels.specs.Tables.{last_of_table, radices, slots_of_table};
+ghost use Rattle.timer_wheels.specs.Tables.{last_of_table, layout_of_table, smooth_layout};
 
 use crate::fault::{Fault, same};
 use std::alloc::Global;
@@ -22,7 +22,7 @@ const STARTS: u64 = 100;
 
 /// The plain wheel, which is made without an allocation.
 pub fn plain(alloc: Global) -> Result<PlainWheel, Fault>
-    ensures { IfOk result (λ wheel. ⟦<PlainWheel as Wheel>⟧.state wheel ≡ empty_wheel 0 LAST 0) }
+    ensures { IfOk result (λ wheel. ⟦<PlainWheel as Wheel>⟧.state wheel ≡ empty_wheel NoSlots LAST 0) }
 {
     match PlainWheel::new(alloc, 0) {
         Ok(wheel) => Ok(wheel),
@@ -32,7 +32,7 @@ pub fn plain(alloc: Global) -> Result<PlainWheel, Fault>
 
 /// A hashed wheel of eight slots, at the second try if the first is refused.
 pub fn hashed(alloc: Global) -> Result<HashedWheel, Fault>
-    ensures { IfOk result (λ wheel. ⟦<HashedWheel as Wheel>⟧.state wheel ≡ empty_wheel 8 LAST 0) }
+    ensures { IfOk result (λ wheel. ⟦<HashedWheel as Wheel>⟧.state wheel ≡ empty_wheel (OneWheel 8) LAST 0) }
 {
     for _ in 0..2 {
         if let Ok(wheel) = HashedWheel::new(alloc, 8, 0) {
@@ -45,7 +45,7 @@ pub fn hashed(alloc: Global) -> Result<HashedWheel, Fault>
 /// A hierarchy of wheels, at the second try if the first is refused.
 pub fn hier(alloc: Global, table: Table) -> Result<HierWheel, Fault>
     ensures { IfOk result (λ wheel. ⟦<HierWheel as Wheel>⟧.state wheel
-        ≡ empty_wheel (slots_of_table table) (last_of_table table) 0) }
+        ≡ empty_wheel (layout_of_table table) (last_of_table table) 0) }
 {
     for _ in 0..2 {
         if let Ok(wheel) = HierWheel::with_table(alloc, table, 0) {
@@ -58,7 +58,7 @@ pub fn hier(alloc: Global, table: Table) -> Result<HierWheel, Fault>
 /// A smooth wheel of the wide table, at the second try if the first is refused.
 pub fn smooth(alloc: Global) -> Result<SmoothWheel, Fault>
     ensures { IfOk result (λ wheel. ⟦<SmoothWheel as Wheel>⟧.state wheel
-        ≡ empty_wheel (smooth_slots (radices tables.Wide)) LAST 0) }
+        ≡ empty_wheel (smooth_layout tables.Wide) LAST 0) }
 {
     for _ in 0..2 {
         if let Ok(wheel) = SmoothWheel::with_table(alloc, Table::Wide, 0) {

@@ -2,7 +2,7 @@
 use Rattle.std.specs.Prelude.{◌≡◌, ◌<◌, ◌+◌, ◌++◌, ◌⊎◌, ℕ, zero, suc, true, false, List, [], length, get_or, Some, codes, decimal}
 use Rattle.std.specs.List.{flat_map, enumerate_from}
 use Rattle.timer_threads.specs.Types.{LAST, DriveEnd, ThreadsFault, Worked, RingInlet, RequestsEnded, ClientReader, Child}
-use Rattle.timer_wheels.specs.Tables.{slots_of_table}
+use Rattle.timer_wheels.specs.Tables.{layout_of_table}
 use Rattle.timer_wheels.specs.declared.table.Table.TheVariants.{Wide}
 use Rattle.timer_desk.specs.declared.looks.Found.TheVariants.{Nothing}
 use Rattle.timer_desk.specs.declared.driver.DriveEnd.TheVariants as DriveEnds
@@ -38,7 +38,7 @@ new_facility clients = opened (record {
   first_tick = 0;
   first_serial = 1;
   first_number = 1;
-}) LAST (slots_of_table Wide)
+}) LAST (layout_of_table Wide)
 
 -- a new desk, with empty outboxes for 1,024 words, over new lines
 pub record IsFreshDesk (clients : ℕ) (desk : DeskState RingInlet) : Type 0 where

@@ -88,7 +88,7 @@ impl<W: Wheel + Drop> Timers<W> {
     /// present tick and at most the first pending deadline, and exactly the wheel's `wake_up`.
     pub fn quiet_until(&self) -> Option<u64>
         ensures quiet { IsQuietUntil result self.now.wheel.now self.now.wheel.pending }
-        ensures exact { result ≡ W.wake_up self.now.wheel.slots self.now.wheel.now self.now.wheel.pending }
+        ensures exact { result ≡ W.wake_up self.now.wheel.layout self.now.wheel.now self.now.wheel.pending }
     {
         self.wheel.quiet_until()
     }
@@ -523,7 +523,7 @@ impl<W: MovesAhead + Drop> Timers<W> {
     /// not allocate.
     pub fn move_ahead(&mut self, most: u64) -> u64
         ensures at_most { result ≤ most }
-        ensures none { W.has_moves self.old.wheel.slots ≡ false → result ≡ 0 }
+        ensures none { W.has_moves self.old.wheel.layout ≡ false → result ≡ 0 }
         ensures same { self.new ≡ self.old }
     {
         self.wheel.move_ahead(most)

@@ -1,5 +1,4 @@
--- Lemmas for the exact wake-ups: a hashed wheel's next sweep is the earliest of its timers, and a table is known by its
--- number of slots.
+-- Lemmas for the exact wake-ups: a hashed wheel's next sweep is the earliest of its timers.
 use Rattle.std.proofs.Common.{◌≡◌, ◌<◌, ◌≤◌, ◌+◌, ◌-◌, ◌%◌, ◌==◌, ℕ, List, [], ◌∷◌, length, sym, ◌∙◌, ap, inl, inr, arith, Bool, true, Option, Some, None, IfSome, filter, min}
 use Rattle.std.specs.List.{AllByRecursion}
 use Rattle.std.proofs.lemmas.Bool.{cases_lt, cases_eq, eq-eqb, ne_eqb}
@@ -9,14 +8,11 @@ use Rattle.timer_base.proofs.OrderLaws.{All-weaken}
 use Rattle.timer_base.specs.PlainState.{earliest}
 use Rattle.timer_base.specs.WakeUps.{IsQuietUntil}
 use Rattle.timer_base.specs.WheelState.{WheelState, IsPending}
-use Rattle.timer_wheels.specs.declared.table.Table.{Table}
 use Rattle.timer_wheels.specs.Hashed.{slot_of, IsNextSweep}
 use Rattle.timer_wheels.specs.Shown.{entries_at}
-use Rattle.timer_wheels.specs.Tables.{radices, radices_by_slots, slots_of_table, table_by_slots}
-use Rattle.timer_wheels.specs.WakeUps.{sweep_of, earliest_sweep, next_visit}
+use Rattle.timer_wheels.specs.WakeUps.{sweep_of, earliest_sweep}
 use Rattle.timer_wheels.proofs.AllLemmas.{all-of_map}
 use Rattle.timer_wheels.proofs.HashedTicks.{distance, same_slot, no_step}
-use Rattle.timer_wheels.proofs.TableLaws.{by_its_slots}
 
 -- The sweep of one deadline's slot.
 
@@ -108,14 +104,3 @@ earliest_sweep_is n w (Some tick) z a q s =
     (All-weaken (λ entry. IsPending w.last_tick w.now w.last_serial entry.timer) (λ entry. w.now < entry.timer.deadline) w.pending
     (λ entry x. x.later) (all-of_map timer_of (IsPending w.last_tick w.now w.last_serial) w.pending a))
     s.none_before s.some)
-
--- The table of a hierarchy.
-
--- the radices of a wheel with the slots of its table
-pub radices_are : (table : Table) (slots : ℕ) → slots ≡ slots_of_table table → radices table ≡ radices_by_slots slots
-radices_are table slots e = sym (ap radices (ap table_by_slots e ∙ by_its_slots table))
-
-pub visit_by_slots : (table : Table) (slots now : ℕ) (es : List Entry) (o : Option ℕ) → slots ≡ slots_of_table table
-    → o ≡ next_visit (radices table) now es → o ≡ next_visit (radices_by_slots slots) now es
-visit_by_slots table slots now es o e h =
-    h ∙ ap (λ (r : List ℕ). next_visit r now es) (radices_are table slots e)

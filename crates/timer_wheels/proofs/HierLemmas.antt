@@ -7,6 +7,7 @@ use Rattle.std.proofs.lemmas.Bool.{cases_lt}
 use Rattle.timer_base.specs.declared.timer.Timer.{Timer}
 use Rattle.timer_base.specs.declared.timer.Handle.{Handle}
 use Rattle.timer_base.specs.declared.limits.TheConstants.{LAST}
+use Rattle.timer_base.specs.Layout.{Layout}
 use Rattle.timer_base.specs.Pending.{Entry, put, has_handle, without_handle}
 use Rattle.timer_base.specs.WheelState.{WheelState, empty_wheel, after_start, after_due_start, after_held_start}
 use Rattle.timer_base.proofs.HeldLaws.{start_when_later, start_when_now, held_start-last_serial}
@@ -56,9 +57,9 @@ pub new_placed : {N : Type 0} {kept : Ghosts N} (table : List ℕ) (b : Buckets 
     b.links.lists
 new_placed table b n e = each-none (IsPlaced table b.tick) b.slots b.links.lists (λ s h. ap (list_at s) e ∙ no_rows_at n s)
 
-pub new_paid : {N : Type 0} {kept : Ghosts N} (table : List ℕ) (b : Buckets N kept) (n last first : ℕ) → state_of b ≡ empty_wheel n last first
+pub new_paid : {N : Type 0} {kept : Ghosts N} (table : List ℕ) (b : Buckets N kept) (layout : Layout) (last first : ℕ) → state_of b ≡ empty_wheel layout last first
     → IsPaid table 0 0 b.tick (state_of b).pending
-new_paid table b n last first e = omega (arith, ap (λ (w : WheelState). levels_of table b.tick w.pending) e)
+new_paid table b layout last first e = omega (arith, ap (λ (w : WheelState). levels_of table b.tick w.pending) e)
 
 -- The moves that are left stay paid for.
 

@@ -1,5 +1,5 @@
 -- Lemmas about every table that a hierarchy of wheels may have: what follows from its radices, and that those of each will do.
-use Rattle.std.proofs.Common.{◌≡◌, ◌<◌, ◌≤◌, ◌+◌, ◌-◌, ◌*◌, ◌/◌, ◌%◌, ◌&&◌, nat_lt, ℕ, zero, suc, Bool, true, false, List, [], ◌∷◌, length, refl, ap, inl, inr, arith}
+use Rattle.std.proofs.Common.{◌≡◌, ◌<◌, ◌≤◌, ◌+◌, ◌-◌, ◌*◌, ◌/◌, ◌%◌, ◌&&◌, nat_lt, ℕ, zero, suc, Bool, true, List, [], ◌∷◌, length, refl, ap, inl, inr, arith}
 use Rattle.std.proofs.lemmas.Bool.{cases_lt, and_parts, ltb-true}
 use Rattle.std.proofs.Math.Nat.{mul-le-mul_left, mod-lt, div-lt_iff_lt-mul}
 use Rattle.timer_base.specs.declared.limits.TheConstants.{LAST}
@@ -12,7 +12,7 @@ use Rattle.timer_wheels.specs.declared.table.TheConstants.{MOST_BUCKETS}
 use Rattle.timer_wheels.proofs.DigitLaws.{IsHierTable}
 -- made by tools/facts: imports of lemmas of tables
 use Rattle.timer_wheels.specs.declared.table.Table.TheVariants.{Wide, Clock, Small}
-use Rattle.timer_wheels.specs.Tables.{wide, clock, small, radices, last_of_table, slots_of_table, table_by_slots, table_by_turns, is_smooth, tick_bound}
+use Rattle.timer_wheels.specs.Tables.{wide, clock, small, radices, last_of_table, tick_bound}
 use Rattle.timer_wheels.proofs.WideDigits.{sum_on_wide}
 use Rattle.timer_wheels.proofs.ClockDigits.{sum_on_clock}
 use Rattle.timer_wheels.proofs.SmallDigits.{sum_on_small}
@@ -113,24 +113,6 @@ unfolding wide clock small
 last_named Wide = refl
 last_named Clock = refl
 last_named Small = refl
-
-pub by_its_slots : (table : Table) → table_by_slots (slots_of_table table) ≡ table
-unfolding wide clock small
-by_its_slots Wide = refl
-by_its_slots Clock = refl
-by_its_slots Small = refl
-
-pub by_its_turns : (table : Table) → table_by_turns (smooth_slots (radices table)) ≡ table
-unfolding wide clock small
-by_its_turns Wide = refl
-by_its_turns Clock = refl
-by_its_turns Small = refl
-
-pub slots_are_not : (table : Table) → is_smooth (slots_of_table table) ≡ false
-unfolding wide clock small
-slots_are_not Wide = refl
-slots_are_not Clock = refl
-slots_are_not Small = refl
 
 pub sum_bound : (t : Table) (n : ℕ) (paces : List ℕ) → FitPaces (radices t) n paces → pace_sum paces ≤ tick_bound t n
 sum_bound Wide = sum_on_wide

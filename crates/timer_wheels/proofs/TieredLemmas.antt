@@ -1,5 +1,5 @@
--- Lemmas for `tiered`: a hierarchy that is not smooth is known by its slots.
-use Rattle.std.proofs.Common.{◌≡◌, ◌≢◌, ◌<◌, ◌≤◌, ℕ, true, false, List, [], ◌∷◌, length, ap, ◌∙◌, refl, arith, if◌then◌else◌, Option, None, Some, IfSome}
+-- Lemmas for `tiered`: ticks within the clock are not `NEVER`.
+use Rattle.std.proofs.Common.{◌≡◌, ◌≢◌, ◌<◌, ◌≤◌, ℕ, List, [], ◌∷◌, length, refl, arith, Option, None, Some, IfSome}
 use Rattle.std.specs.List.{AllByRecursion}
 use Rattle.std.proofs.lemmas.Bool.{ne_eqb}
 use Rattle.timer_base.proofs.Basics.{some_same}
@@ -10,31 +10,8 @@ use Rattle.timer_base.specs.declared.limits.TheConstants.{LAST}
 use Rattle.timer_links.specs.declared.kept.Kept.{Ghosts}
 use Rattle.timer_wheels.specs.Buckets.{state_of, state_of-well_formed}
 use Rattle.timer_wheels.specs.declared.buckets.Buckets.{Buckets}
-use Rattle.timer_wheels.specs.HierWheel.{table_of}
-use Rattle.timer_wheels.specs.declared.smooth.SmoothWheel.{SmoothWheel}
-use Rattle.timer_wheels.specs.Tables.{is_smooth, turns_are_smooth}
 use Rattle.timer_wheels.specs.TieredWheel.{option_of}
-use Rattle.timer_wheels.specs.declared.hier.HierWheel.{HierWheel}
 use Rattle.timer_wheels.specs.declared.tiered.TheConstants.{NEVER}
-use Rattle.timer_wheels.proofs.TableLaws.{slots_are_not}
-
-pub is_not_smooth : {N : Type 0} {kept : Ghosts N} (wheel : HierWheel N kept) → is_smooth wheel.wheels.buckets.slots ≡ false
-is_not_smooth wheel = ap is_smooth wheel.wheels.hier.has_slots ∙ slots_are_not (table_of wheel)
-
--- what is chosen by the slots is the hierarchy's
-pub hier_chosen : {N : Type 0} {kept : Ghosts N} {X : Type 0} (smooth hier : X) (wheel : HierWheel N kept)
-    → hier ≡ (if is_smooth wheel.wheels.buckets.slots then smooth else hier)
-hier_chosen smooth hier wheel = rw (is_not_smooth wheel) refl
-
-pub is_turned : {N : Type 0} {kept : Ghosts N} (wheel : SmoothWheel N kept) → is_smooth wheel.bank.buckets.slots ≡ true
-is_turned wheel = ap is_smooth wheel.bank.bank.has_slots ∙ turns_are_smooth wheel.bank.table
-
--- and of a smooth wheel it is the other
-pub smooth_chosen : {N : Type 0} {kept : Ghosts N} {X : Type 0} (smooth hier : X) (wheel : SmoothWheel N kept)
-    → smooth ≡ (if is_smooth wheel.bank.buckets.slots then smooth else hier)
-smooth_chosen smooth hier wheel = rw (is_turned wheel) refl
-
--- Ticks within the clock are not NEVER.
 
 pub some_tick : (tick : ℕ) → tick ≤ LAST → option_of tick ≡ Some tick
 some_tick tick h = rw (ne_eqb tick NEVER (let n : tick ≢ NEVER = omega arith in n)) refl

@@ -4,6 +4,7 @@ use Rattle.std.specs.Prelude.{◌≡◌, ℕ, ◌+◌, ◌<◌, ◌≤◌, zero,
 use Rattle.std.specs.List.{AllByRecursion}
 use Rattle.timer_base.specs.declared.limits.TheConstants.{LAST}
 use Rattle.timer_base.specs.declared.timer.Timer.{Timer}
+use Rattle.timer_base.specs.Layout.{Layout, OneWheel}
 use Rattle.timer_base.specs.Order.{in_order, AreDistinct, AreRising}
 use Rattle.timer_base.specs.Pending.{Entry, timer_of}
 use Rattle.timer_base.specs.WheelState.{WheelState, IsPending, IsDue}
@@ -34,10 +35,15 @@ rows_below (suc n) (rows ∷ lists) = rows ++ rows_below n lists
 abbrev pub pending_in : Rows → List Entry
 pending_in rows = in_order timer_of (entries_of rows)
 
--- the state of a wheel with n buckets and no room
+-- how many slots one wheel has
+abbrev pub slots_in : Layout → ℕ
+slots_in (OneWheel n) = n
+slots_in layout = 0
+
+-- the state of one wheel with n buckets and no room
 abbrev pub wheel_state : ℕ → ℕ → ℕ → ℕ → KeyedLists → WheelState
 wheel_state n last_tick now last_serial lists = record {
-  slots = n;
+  layout = OneWheel n;
   last_tick = last_tick;
   now = now;
   pending = pending_in (rows_below n lists);

@@ -3,18 +3,23 @@ use Rattle.std.specs.Prelude.{◌≡◌, ◌⊎◌, ℕ, ◌+◌, ◌-◌, ◌<�
 use Rattle.timer_base.specs.declared.fault.MakeFault.{MakeFault}
 use Rattle.timer_base.specs.declared.fault.MakeFault.TheVariants.{FirstTick, OutOfMemory}
 use Rattle.timer_base.specs.Counts.{WheelCounts}
-use Rattle.timer_base.specs.WheelState.{WheelState}
+use Rattle.timer_base.specs.WellFormed.{with_layout-well_formed}
+use Rattle.timer_base.specs.WheelState.{WheelState, IsWellFormed, with_layout}
 use Rattle.timer_links.specs.declared.kept.Kept.{Ghosts}
-use Rattle.timer_wheels.specs.Buckets.{state_of}
+use Rattle.timer_wheels.specs.Buckets.{state_of, state_of-well_formed}
 use Rattle.timer_wheels.specs.declared.hier.HierWheel.{HierWheel}
 use Rattle.timer_wheels.specs.declared.table.Table.{Table}
 use Rattle.timer_wheels.specs.Digits.{lowest_radix}
 use Rattle.timer_wheels.specs.Placement.{hops_of, visited_between, has_any}
-use Rattle.timer_wheels.specs.Tables.{radices_by_slots}
+use Rattle.timer_wheels.specs.Tables.{layout_of_table, radices_of}
 
 -- the state of the wheel
 abbrev pub hier_state : {N : Type 0} {kept : Ghosts N} → HierWheel N kept → WheelState
-hier_state wheel = state_of wheel.wheels.buckets
+hier_state wheel = with_layout (layout_of_table wheel.wheels.table) (state_of wheel.wheels.buckets)
+
+pub hier-well_formed : {N : Type 0} {kept : Ghosts N} (wheel : HierWheel N kept) → IsWellFormed (hier_state wheel)
+hier-well_formed wheel =
+    with_layout-well_formed (layout_of_table wheel.wheels.table) (state_of wheel.wheels.buckets) (state_of-well_formed wheel.wheels.buckets)
 
 -- the table by which it reads its digits
 abbrev pub table_of : {N : Type 0} {kept : Ghosts N} → HierWheel N kept → Table
@@ -46,10 +51,10 @@ with_ticks moves visits counts = record counts {
 
 -- the counts after a tick from this state: one bucket is visited
 abbrev pub counts_of_tick : WheelState → WheelCounts → WheelCounts
-counts_of_tick old counts = with_ticks (hops_of (radices_by_slots old.slots) old.now 1 old.pending) 1 counts
+counts_of_tick old counts = with_ticks (hops_of (radices_of old.layout) old.now 1 old.pending) 1 counts
 
 -- the counts after an advance from the first state to the second
 abbrev pub counts_of_advance : WheelState → WheelState → WheelCounts → WheelCounts
 counts_of_advance old new counts =
-    with_ticks (hops_of (radices_by_slots old.slots) old.now (new.now - old.now) old.pending)
-    (visited_between (lowest_radix (radices_by_slots old.slots)) old.now new.now (has_any new.due)) counts
+    with_ticks (hops_of (radices_of old.layout) old.now (new.now - old.now) old.pending)
+    (visited_between (lowest_radix (radices_of old.layout)) old.now new.now (has_any new.due)) counts

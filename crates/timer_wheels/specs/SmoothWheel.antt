@@ -1,17 +1,18 @@
 -- The names in the public clauses of `SmoothWheel`.
-use Rattle.std.specs.Prelude.{◌≡◌, ◌<◌, ◌-◌, ℕ, List, []}
+use Rattle.std.specs.Prelude.{◌≡◌, ◌<◌, ◌-◌, ℕ, []}
 use Rattle.timer_base.specs.declared.timer.Timer.{Timer}
-use Rattle.timer_base.specs.WheelState.{WheelState, after_ticks}
+use Rattle.timer_base.specs.WellFormed.{with_layout-well_formed}
+use Rattle.timer_base.specs.WheelState.{WheelState, IsWellFormed, with_layout, after_ticks}
 use Rattle.timer_links.specs.Lists.{KeyedLists}
 use Rattle.timer_links.specs.contracts.kept.TimerKept.TheImpl.{ghosts}
 use Rattle.timer_links.specs.declared.kept.Kept.{Ghosts}
 use Rattle.timer_wheels.specs.Bank.{movable, potential_of, wheel_of}
-use Rattle.timer_wheels.specs.Buckets.{state_of}
+use Rattle.timer_wheels.specs.Buckets.{state_of, state_of-well_formed}
 use Rattle.timer_wheels.specs.Paces.{pace_sum, FitPaces}
 use Rattle.timer_wheels.specs.Placement.{no_rounds}
 use Rattle.timer_wheels.specs.Shown.{ShowsBuckets}
 use Rattle.timer_wheels.specs.Smooth.{smooth_slots, smooth_bucket, mark}
-use Rattle.timer_wheels.specs.Tables.{radices, table_by_turns}
+use Rattle.timer_wheels.specs.Tables.{radices, smooth_layout}
 use Rattle.timer_wheels.specs.declared.smooth.SmoothWheel.{SmoothWheel}
 use Rattle.timer_wheels.specs.declared.table.Table.{Table}
 
@@ -21,15 +22,14 @@ TimerSmoothWheel = SmoothWheel Timer ghosts
 
 -- the state of the wheel
 abbrev pub smooth_state : {N : Type 0} {kept : Ghosts N} → SmoothWheel N kept → WheelState
-smooth_state wheel = state_of wheel.bank.buckets
+smooth_state wheel = with_layout (smooth_layout wheel.bank.table) (state_of wheel.bank.buckets)
+
+pub smooth-well_formed : {N : Type 0} {kept : Ghosts N} (wheel : SmoothWheel N kept) → IsWellFormed (smooth_state wheel)
+smooth-well_formed wheel = with_layout-well_formed (smooth_layout wheel.bank.table) (state_of wheel.bank.buckets) (state_of-well_formed wheel.bank.buckets)
 
 -- the table by which it reads its digits
 abbrev pub smooth_table : {N : Type 0} {kept : Ghosts N} → SmoothWheel N kept → Table
 smooth_table wheel = wheel.bank.table
-
--- the radices of the table whose wheels have this many slots in two revolutions
-abbrev pub radices_by_turns : ℕ → List ℕ
-radices_by_turns n = radices (table_by_turns n)
 
 -- how many timers were started or restarted, and how many times one moved to a lower wheel
 abbrev pub starts_of : {N : Type 0} {kept : Ghosts N} → SmoothWheel N kept → ℕ

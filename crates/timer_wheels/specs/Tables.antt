@@ -1,12 +1,11 @@
 -- The tables that a hierarchy of wheels may have: a row of each definition for each of them.
-use Rattle.std.specs.Prelude.{◌≡◌, ℕ, ◌+◌, ◌*◌, ◌/◌, ◌==◌, Bool, true, if◌then◌else◌, List, [], ◌∷◌}
-use Rattle.std.proofs.Common.{refl}
+use Rattle.std.specs.Prelude.{ℕ, ◌+◌, ◌*◌, ◌/◌, Bool, true, false, List, [], ◌∷◌}
+use Rattle.timer_base.specs.Layout.{Layout, NoSlots, OneWheel, OneRevolution, TwoRevolutions}
 use Rattle.timer_base.specs.declared.limits.TheConstants.{LAST}
 use Rattle.timer_wheels.specs.declared.table.TheConstants.{LAST_OF_CLOCK, LAST_OF_SMALL}
 use Rattle.timer_wheels.specs.declared.table.Table.{Table}
 use Rattle.timer_wheels.specs.declared.table.Table.TheVariants.{Wide, Clock, Small}
 use Rattle.timer_wheels.specs.Digits.{slots}
-use Rattle.timer_wheels.specs.Smooth.{smooth_slots}
 
 -- ten digits in base 64
 unfoldable pub wide : List ℕ
@@ -36,27 +35,25 @@ last_of_table Small = LAST_OF_SMALL
 abbrev pub slots_of_table : Table → ℕ
 slots_of_table table = slots (radices table)
 
--- the table with this many slots
-abbrev pub table_by_slots : ℕ → Table
-table_by_slots n = if n == slots_of_table Wide then Wide else if n == slots_of_table Clock then Clock else Small
+-- how the slots of its wheels are laid out in a hierarchy
+abbrev pub layout_of_table : Table → Layout
+layout_of_table table = OneRevolution (radices table)
 
--- the radices of the table with this many slots
-abbrev pub radices_by_slots : ℕ → List ℕ
-radices_by_slots n = radices (table_by_slots n)
+-- and in a smooth one
+abbrev pub smooth_layout : Table → Layout
+smooth_layout table = TwoRevolutions (radices table)
 
--- the table whose wheels have this many slots in two revolutions
-abbrev pub table_by_turns : ℕ → Table
-table_by_turns n = if n == smooth_slots (radices Wide) then Wide else if n == smooth_slots (radices Clock) then Clock else Small
+-- the radices of the wheels of a layout, from the lowest up
+abbrev pub radices_of : Layout → List ℕ
+radices_of NoSlots = []
+radices_of (OneWheel n) = n ∷ []
+radices_of (OneRevolution rs) = rs
+radices_of (TwoRevolutions rs) = rs
 
--- whether wheels with this many slots are smooth: they have those of two revolutions
-abbrev pub is_smooth : ℕ → Bool
-is_smooth n = if n == smooth_slots (radices Wide) then true else if n == smooth_slots (radices Clock) then true else n == smooth_slots (radices Small)
-
-pub turns_are_smooth : (table : Table) → is_smooth (smooth_slots (radices table)) ≡ true
-unfolding wide clock small
-turns_are_smooth Wide = refl
-turns_are_smooth Clock = refl
-turns_are_smooth Small = refl
+-- whether it is that of a smooth hierarchy: each wheel has the slots of two revolutions
+abbrev pub is_smooth : Layout → Bool
+is_smooth (TwoRevolutions rs) = true
+is_smooth layout = false
 
 -- the most moves of a tick, if the paces were fixed for at most n timers
 abbrev pub tick_bound : Table → ℕ → ℕ

@@ -1,14 +1,16 @@
 -- The names in the public clauses of `TieredWheel`.
-use Rattle.std.proofs.Common.{◌≡◌, ◌==◌, ◌∙◌, ap, ℕ, false, if◌then◌else◌, List, Option, Some, None, refl}
+use Rattle.std.proofs.Common.{◌≡◌, ◌==◌, ℕ, false, if◌then◌else◌, Option, Some, None, refl}
 use Rattle.timer_base.specs.Counts.{WheelCounts}
-use Rattle.timer_base.specs.WheelState.{WheelState, IsWellFormed}
+use Rattle.timer_base.specs.Layout.{Layout}
+use Rattle.timer_base.specs.WellFormed.{with_layout-well_formed}
+use Rattle.timer_base.specs.WheelState.{WheelState, IsWellFormed, with_layout}
 use Rattle.timer_links.specs.declared.kept.Kept.{Ghosts}
 use Rattle.timer_wheels.specs.Buckets.{state_of, state_of-well_formed}
 use Rattle.timer_wheels.specs.declared.buckets.Buckets.{Buckets}
 use Rattle.timer_wheels.specs.HierWheel.{counts_of, counts_of_tick, counts_of_advance}
-use Rattle.timer_wheels.specs.SmoothWheel.{starts_of, moves_of, moves_ahead, radices_by_turns}
-use Rattle.timer_wheels.specs.Tables.{radices_by_slots, turns_are_smooth}
-pub use Rattle.timer_wheels.specs.Tables.{is_smooth}
+use Rattle.timer_wheels.specs.SmoothWheel.{starts_of, moves_of, moves_ahead}
+use Rattle.timer_wheels.specs.Tables.{layout_of_table, smooth_layout}
+pub use Rattle.timer_wheels.specs.Tables.{radices_of, is_smooth}
 use Rattle.timer_wheels.specs.declared.tiered.TheConstants.{NEVER}
 use Rattle.timer_wheels.specs.declared.tiered.TieredWheel.{TieredWheel}
 use Rattle.timer_wheels.specs.declared.tiered.TieredWheel.TheVariants.{Hier, Smooth}
@@ -18,13 +20,14 @@ abbrev pub buckets_in : {N : Type 0} {kept : Ghosts N} → TieredWheel N kept �
 buckets_in (Hier wheel) = wheel.wheels.buckets
 buckets_in (Smooth wheel) = wheel.bank.buckets
 
+-- how their slots are laid out
+abbrev pub layout_in : {N : Type 0} {kept : Ghosts N} → TieredWheel N kept → Layout
+layout_in (Hier wheel) = layout_of_table wheel.wheels.table
+layout_in (Smooth wheel) = smooth_layout wheel.bank.table
+
 -- the state of the wheel
 abbrev pub tiered_state : {N : Type 0} {kept : Ghosts N} → TieredWheel N kept → WheelState
-tiered_state wheel = state_of (buckets_in wheel)
-
--- the radices of the wheels with this many slots
-abbrev pub radices_of_slots : ℕ → List ℕ
-radices_of_slots n = if is_smooth n then radices_by_turns n else radices_by_slots n
+tiered_state wheel = with_layout (layout_in wheel) (state_of (buckets_in wheel))
 
 -- How many times a timer went to a lower wheel.
 abbrev pub moves_in : {N : Type 0} {kept : Ghosts N} → TieredWheel N kept → ℕ
@@ -44,20 +47,19 @@ counts_in (Smooth wheel) = record { starts = starts_of wheel; moves = 0; visits 
 
 -- the counts after a tick from this state
 abbrev pub counts_at_tick : WheelState → WheelCounts → WheelCounts
-counts_at_tick old counts = if is_smooth old.slots then counts else counts_of_tick old counts
+counts_at_tick old counts = if is_smooth old.layout then counts else counts_of_tick old counts
 
 -- the counts after an advance from the first state to the second
 abbrev pub counts_at_advance : WheelState → WheelState → WheelCounts → WheelCounts
-counts_at_advance old new counts = if is_smooth old.slots then counts else counts_of_advance old new counts
+counts_at_advance old new counts = if is_smooth old.layout then counts else counts_of_advance old new counts
 
 pub tiered-well_formed : {N : Type 0} {kept : Ghosts N} (wheel : TieredWheel N kept) → IsWellFormed (tiered_state wheel)
-tiered-well_formed wheel = state_of-well_formed (buckets_in wheel)
+tiered-well_formed wheel = with_layout-well_formed (layout_in wheel) (state_of (buckets_in wheel)) (state_of-well_formed (buckets_in wheel))
 
--- a hierarchy has no moves to make ahead, and its slots tell it from a smooth wheel
-pub tiered-none_ahead : {N : Type 0} {kept : Ghosts N} (wheel : TieredWheel N kept) → is_smooth (tiered_state wheel).slots ≡ false → moves_ahead_in wheel ≡ 0
+-- a hierarchy has no moves to make ahead, and its layout tells it from a smooth wheel
+pub tiered-none_ahead : {N : Type 0} {kept : Ghosts N} (wheel : TieredWheel N kept) → is_smooth (tiered_state wheel).layout ≡ false → moves_ahead_in wheel ≡ 0
 tiered-none_ahead (Hier wheel) h = refl
-tiered-none_ahead (Smooth wheel) h =
-    absurd (let s = ap is_smooth wheel.bank.bank.has_slots ∙ turns_are_smooth wheel.bank.table in cc)
+tiered-none_ahead (Smooth wheel) h = absurd (cc)
 
 -- the tick, unless it is NEVER
 abbrev pub option_of : ℕ → Option ℕ

@@ -1,12 +1,12 @@
 -- The wheels that a hierarchy can have, and the numbers by which C names them.
 use Rattle.std.specs.Prelude.{ℕ, ◌≡◌, ◌≤◌, ◌==◌, if◌then◌else◌, Option, Some, None}
+use Rattle.timer_base.specs.Layout.{Layout}
 use Rattle.timer_wheels.specs.declared.table.Table.{Table}
 use Rattle.timer_wheels.specs.declared.table.Table.TheVariants as tables
 use Rattle.timer_wheels.specs.declared.tiers.Tiers.{Tiers}
 use Rattle.timer_wheels.specs.declared.tiers.Tiers.TheVariants.{Wide, Clock, Smooth, Small}
 use Rattle.timer_wheels.specs.declared.tiers.TheConstants.{WIDE, CLOCK, SMOOTH, SMALL}
-use Rattle.timer_wheels.specs.Smooth.{smooth_slots}
-use Rattle.timer_wheels.specs.Tables.{radices, last_of_table, slots_of_table}
+use Rattle.timer_wheels.specs.Tables.{last_of_table, layout_of_table, smooth_layout}
 
 -- the wheels with this number, if there are any
 abbrev pub tiers_with_number : ℕ → Option Tiers
@@ -20,14 +20,10 @@ table_of_tiers Clock = tables.Clock
 table_of_tiers Smooth = tables.Wide
 table_of_tiers Small = tables.Small
 
--- how many slots they have in all: each smooth wheel has those of two revolutions
-abbrev pub slots_of_tiers : Tiers → ℕ
-slots_of_tiers Wide = slots_of_table tables.Wide
-slots_of_tiers Clock = slots_of_table tables.Clock
-slots_of_tiers Smooth = smooth_slots (radices tables.Wide)
-slots_of_tiers Small = slots_of_table tables.Small
-
--- by hand
+-- how their slots are laid out: each smooth wheel has those of two revolutions
+abbrev pub layout_of_tiers : Tiers → Layout
+layout_of_tiers Smooth = smooth_layout (table_of_tiers Smooth)
+layout_of_tiers tiers = layout_of_table (table_of_tiers tiers)
 
 -- the last tick of their clock
 abbrev pub last_of_tiers : Tiers → ℕ

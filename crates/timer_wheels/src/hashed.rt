@@ -20,8 +20,10 @@
 ghost use Rattle.std.specs.Prelude.{◌≡◌, ◌⊎◌, ◌<◌, ◌≤◌, ◌+◌, ◌-◌, ◌%◌, [], IfOk, IfErr, OnOk, OnErr, Some, None, MatchOption};
 ghost use Rattle.std.specs.Option.{IfSome};
 ghost use Rattle.timer_base.specs.declared.limits.TheConstants.{LAST};
+ghost use Rattle.timer_base.specs.Layout.{OneWheel};
 ghost use Rattle.timer_base.specs.WakeUps.{IsQuietUntil};
 ghost use Rattle.timer_base.specs.WheelState.{empty_wheel, NamesOne, held_at, held_count, old_timer, first_due, after_reserve, after_held_start, after_removal, after_replacement, after_tick, after_expiry, after_clear, Advances};
+ghost use Rattle.timer_wheels.specs.BucketLists.{slots_in};
 ghost use Rattle.timer_wheels.specs.Buckets.{IsListOf};
 ghost use Rattle.timer_wheels.specs.Hashed.{slot_of, rounds_of, IsHashed, AreInBuckets, AreInBuckets-prop, IsNextSweep};
 ghost use Rattle.timer_wheels.specs.WakeUps.{earliest_sweep};
@@ -62,7 +64,7 @@ impl HashedWheel {
     /// Errors, in this order: `Slots` if there are none or more than `MAX_SLOTS`; `FirstTick` above
     /// `LAST`; `OutOfMemory`.
     pub fn new(alloc: Global, slots: usize, first_tick: u64) -> Result<HashedWheel, MakeFault>
-        ensures ok { IfOk result (λ wheel. hashed_state wheel ≡ empty_wheel slots LAST first_tick) }
+        ensures ok { IfOk result (λ wheel. hashed_state wheel ≡ empty_wheel (OneWheel slots) LAST first_tick) }
         ensures slots { IfOk result (λ wheel. slots_of wheel ≡ slots) }
         ensures no_fault { IfOk result (λ wheel. argument_fault slots first_tick ≡ None) }
         ensures err { IfErr result (λ fault. IsHashedFault slots first_tick fault) }
@@ -145,7 +147,7 @@ impl Wheel for HashedWheel {
 
     ghost state = { λ wheel. hashed_state wheel };
 
-    ghost wake_up = { λ slots now pending. earliest_sweep slots now pending };
+    ghost wake_up = { λ layout now pending. earliest_sweep (slots_in layout) now pending };
 
     ghost well_formed = { λ wheel. state_of-well_formed wheel.buckets };
 
@@ -218,7 +220,7 @@ impl Wheel for HashedWheel {
     fn quiet_until(&self) -> Option<u64>
         ensures next { IfSome result (λ tick. IsNextSweep (slots_of self.now) tick (hashed_state self.now)) }
         ensures quiet { IsQuietUntil result (hashed_state self.now).now (hashed_state self.now).pending }
-        ensures exact { result ≡ earliest_sweep (hashed_state self.now).slots (hashed_state self.now).now
+        ensures exact { result ≡ earliest_sweep (slots_in (hashed_state self.now).layout) (hashed_state self.now).now
             (hashed_state self.now).pending }
     {
         next_sweep(&self.buckets, self.slot)

@@ -52,10 +52,10 @@ ghost use Rattle.std.specs.Option.{IfSome};
 ghost use Rattle.timer_base.specs.declared.limits.TheConstants.{LAST};
 ghost use Rattle.timer_base.specs.WakeUps.{IsQuietUntil, next_deadline};
 ghost use Rattle.timer_base.specs.WheelState.{empty_wheel, NamesOne, held_at, held_count, old_timer, first_due, after_reserve, after_held_start, after_removal, after_replacement, after_tick, after_expiry, after_clear, Advances};
-ghost use Rattle.timer_wheels.specs.Buckets.{state_of, state_of-well_formed};
+ghost use Rattle.timer_wheels.specs.Buckets.{state_of};
 ghost use Rattle.timer_wheels.specs.Leap.{IsNextVisit};
 ghost use Rattle.timer_wheels.specs.Digits.{emptied, slots};
-ghost use Rattle.timer_wheels.specs.Tables.{radices, radices_by_slots, last_of_table, slots_of_table};
+ghost use Rattle.timer_wheels.specs.Tables.{radices, radices_of, last_of_table, layout_of_table};
 ghost use Rattle.timer_wheels.specs.declared.table.Table.TheVariants.{Wide};
 ghost use Rattle.timer_wheels.specs.HeldPlaces.{IsFirstHeld};
 ghost use Rattle.timer_wheels.specs.Placement.{ShowsWheels, IsPaid, most_moves};
@@ -123,7 +123,7 @@ impl HierWheel {
     /// Errors, in this order: `FirstTick` above `LAST`; `OutOfMemory`.
     pub fn new(alloc: Global, first_tick: u64) -> Result<HierWheel, MakeFault>
         ensures state { IfOk result (λ wheel. hier_state wheel
-            ≡ empty_wheel (slots_of_table Wide) LAST first_tick) }
+            ≡ empty_wheel (layout_of_table Wide) LAST first_tick) }
         ensures counts { IfOk result (λ wheel. counts_of wheel ≡ record {
           starts = 0;
           moves = 0;
@@ -142,7 +142,7 @@ impl HierWheel {
     /// `LAST_OF_CLOCK`; `OutOfMemory`.
     pub fn with_table(alloc: Global, table: Table, first_tick: u64) -> Result<HierWheel, MakeFault>
         ensures state { IfOk result (λ wheel. hier_state wheel
-            ≡ empty_wheel (slots_of_table table) (last_of_table table) first_tick) }
+            ≡ empty_wheel (layout_of_table table) (last_of_table table) first_tick) }
         ensures counts { IfOk result (λ wheel. counts_of wheel ≡ record {
           starts = 0;
           moves = 0;
@@ -163,7 +163,7 @@ impl<N: Kept> HierWheel<N> {
     #[tactic(auto, using(crate::proofs::HierLemmas::new_paid))]
     pub fn keeping(alloc: Global, table: Table, first_tick: u64) -> Result<HierWheel<N>, MakeFault>
         ensures state { IfOk result (λ wheel. hier_state wheel
-            ≡ empty_wheel (slots_of_table table) (last_of_table table) first_tick) }
+            ≡ empty_wheel (layout_of_table table) (last_of_table table) first_tick) }
         ensures counts { IfOk result (λ wheel. counts_of wheel ≡ record {
           starts = 0;
           moves = 0;
@@ -202,7 +202,7 @@ impl<N: Kept> HierWheel<N> {
     /// The table whose slots the wheels have, which stays as it was chosen. Does not allocate.
     pub fn table(&self) -> Table
         ensures table { result ≡ table_of self.now }
-        ensures slots { slots_of_table result ≡ (hier_state self.now).slots }
+        ensures layout { (hier_state self.now).layout ≡ layout_of_table result }
     {
         self.wheels.table
     }
@@ -333,11 +333,11 @@ impl<N: Kept> HierWheel<N> {
 }
 
 impl<N: Kept> Wheel for HierWheel<N> {
-    ghost use Rattle.timer_wheels.specs.HierWheel.{hier_state, table_of, counts_of, with_start, counts_of_tick, counts_of_advance};
+    ghost use Rattle.timer_wheels.specs.HierWheel.{hier_state, hier-well_formed, table_of, counts_of, with_start, counts_of_tick, counts_of_advance};
 
     ghost state = { λ wheel. hier_state wheel };
 
-    ghost wake_up = { λ slots now pending. next_visit (radices_by_slots slots) now pending };
+    ghost wake_up = { λ layout now pending. next_visit (radices_of layout) now pending };
 
     ghost keeps = { λ timer. N.keeps (record { timer = timer; rounds = 0 }) };
 
@@ -415,12 +415,11 @@ impl<N: Kept> Wheel for HierWheel<N> {
 
     /// The next tick at which a bucket with a timer is emptied: a timer is due then, or moves to a lower
     /// wheel. None moves before it.
-    #[tactic(auto, using(crate::proofs::ExactWakeUps::visit_by_slots))]
     fn quiet_until(&self) -> Option<u64>
         ensures next { IfSome result (λ tick. IsNextVisit (radices (table_of self.now)) tick
             (hier_state self.now)) }
         ensures quiet { IsQuietUntil result (hier_state self.now).now (hier_state self.now).pending }
-        ensures exact { result ≡ next_visit (radices_by_slots (hier_state self.now).slots)
+        ensures exact { result ≡ next_visit (radices_of (hier_state self.now).layout)
             (hier_state self.now).now (hier_state self.now).pending }
     {
         self.wheels.first_visit()
@@ -456,5 +455,5 @@ impl<N: Kept> Wheel for HierWheel<N> {
         self.wheels.clear();
     }
 
-    ghost well_formed = { λ wheel. state_of-well_formed wheel.wheels.buckets };
+    ghost well_formed = { λ wheel. hier-well_formed wheel };
 }

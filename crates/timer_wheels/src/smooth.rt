@@ -33,12 +33,11 @@ ghost use Rattle.timer_base.specs.declared.limits.TheConstants.{LAST};
 ghost use Rattle.timer_base.specs.WakeUps.{IsQuietUntil, next_deadline};
 ghost use Rattle.timer_base.specs.WheelState.{IsPassing, empty_wheel, NamesOne, held_at, held_count, old_timer, first_due, after_reserve, after_held_start, after_removal, after_replacement, after_tick, after_expiry, after_clear, Advances};
 ghost use Rattle.timer_wheels.specs.Bank.{potential_of};
-ghost use Rattle.timer_wheels.specs.Buckets.{state_of-well_formed};
 ghost use Rattle.timer_wheels.specs.HeldPlaces.{IsFirstHeld};
 ghost use Rattle.timer_wheels.specs.Paces.{AreInTime, AreInTime-prop, tick_bound};
 ghost use Rattle.timer_wheels.specs.Placement.{most_moves};
-ghost use Rattle.timer_wheels.specs.Smooth.{smooth_slots, next_lengths};
-ghost use Rattle.timer_wheels.specs.Tables.{radices, last_of_table};
+ghost use Rattle.timer_wheels.specs.Smooth.{next_lengths};
+ghost use Rattle.timer_wheels.specs.Tables.{radices, radices_of, last_of_table, smooth_layout};
 ghost use Rattle.timer_wheels.specs.WakeUps.{next_visit};
 
 use crate::buckets::Buckets;
@@ -99,7 +98,7 @@ impl SmoothWheel {
         first_tick: u64,
     ) -> Result<SmoothWheel, MakeFault>
         ensures state { IfOk result (λ wheel. smooth_state wheel
-            ≡ empty_wheel (smooth_slots (radices table)) (last_of_table table) first_tick) }
+            ≡ empty_wheel (smooth_layout table) (last_of_table table) first_tick) }
         ensures table { IfOk result (λ wheel. smooth_table wheel ≡ table) }
         ensures starts { IfOk result (λ wheel. starts_of wheel ≡ 0) }
         ensures moves { IfOk result (λ wheel. moves_of wheel ≡ 0) }
@@ -122,7 +121,7 @@ impl<N: Kept> SmoothWheel<N> {
         first_tick: u64,
     ) -> Result<SmoothWheel<N>, MakeFault>
         ensures state { IfOk result (λ wheel. smooth_state wheel
-            ≡ empty_wheel (smooth_slots (radices table)) (last_of_table table) first_tick) }
+            ≡ empty_wheel (smooth_layout table) (last_of_table table) first_tick) }
         ensures table { IfOk result (λ wheel. smooth_table wheel ≡ table) }
         ensures starts { IfOk result (λ wheel. starts_of wheel ≡ 0) }
         ensures moves { IfOk result (λ wheel. moves_of wheel ≡ 0) }
@@ -160,7 +159,7 @@ impl<N: Kept> SmoothWheel<N> {
     /// The table whose radices the wheels have, which stays as it was chosen. Does not allocate.
     pub fn table(&self) -> Table
         ensures table { result ≡ smooth_table self.now }
-        ensures slots { smooth_slots (radices result) ≡ (smooth_state self.now).slots }
+        ensures layout { (smooth_state self.now).layout ≡ smooth_layout result }
     {
         self.bank.table
     }
@@ -219,7 +218,7 @@ impl<N: Kept> SmoothWheel<N> {
 }
 
 impl<N: Kept> SmoothWheel<N> {
-    ghost use Rattle.timer_wheels.specs.SmoothWheel.{smooth_state, smooth_table, starts_of, moves_of, next_moves, wheels_left, wheel_in, radices_by_turns, Passes, IsPacedFor};
+    ghost use Rattle.timer_wheels.specs.SmoothWheel.{smooth_state, smooth_table, starts_of, moves_of, next_moves, wheels_left, wheel_in, Passes, IsPacedFor};
 
     /// Sets the clock forward to the tick before the next event, or before the end if that comes first, unless a tick has
     /// timers to move.
@@ -266,13 +265,13 @@ impl<N: Kept> SmoothWheel<N> {
 }
 
 impl<N: Kept> Wheel for SmoothWheel<N> {
-    ghost use Rattle.timer_wheels.specs.SmoothWheel.{smooth_state, smooth_table, starts_of, moves_of, next_moves, moves_ahead, wheels_left, wheel_in, radices_by_turns, Passes, IsPacedFor};
+    ghost use Rattle.timer_wheels.specs.SmoothWheel.{smooth_state, smooth-well_formed, smooth_table, starts_of, moves_of, next_moves, moves_ahead, wheels_left, wheel_in, Passes, IsPacedFor};
 
     ghost state = { λ wheel. smooth_state wheel };
 
     ghost keeps = { λ timer. N.keeps (record { timer = timer; rounds = 0 }) };
 
-    ghost wake_up = { λ slots now pending. next_visit (radices_by_turns slots) now pending };
+    ghost wake_up = { λ layout now pending. next_visit (radices_of layout) now pending };
 
     fn last_tick(&self) -> u64 {
         self.bank.buckets.last_tick
@@ -477,5 +476,5 @@ impl<N: Kept> Wheel for SmoothWheel<N> {
         self.paces = Paces::new();
     }
 
-    ghost well_formed = { λ wheel. state_of-well_formed wheel.bank.buckets };
+    ghost well_formed = { λ wheel. smooth-well_formed wheel };
 }

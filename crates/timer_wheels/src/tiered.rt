@@ -5,13 +5,13 @@ ghost use Rattle.std.specs.Prelude.{◌≡◌, ◌+◌, ◌*◌, ◌<◌, ◌≤
 ghost use Rattle.timer_base.specs.Counts.{no_counts};
 ghost use Rattle.timer_base.specs.WheelState.{empty_wheel, held_at, held_count, after_held_start, after_removal, after_tick};
 ghost use Rattle.timer_base.specs.declared.limits.TheConstants.{LAST};
-ghost use Rattle.timer_wheels.specs.SmoothWheel.{smooth_state, starts_of, radices_by_turns};
+ghost use Rattle.timer_wheels.specs.SmoothWheel.{smooth_state, starts_of};
 ghost use Rattle.timer_wheels.specs.TieredWheel.{option_of};
 ghost use Rattle.timer_base.specs.WakeUps.{IsQuietUntil, next_deadline};
 ghost use Rattle.timer_wheels.specs.HeldPlaces.{IsFirstHeld, IsAlone};
 ghost use Rattle.timer_wheels.specs.HierWheel.{IsHierFault, hier_state, counts_of, with_start};
-ghost use Rattle.timer_wheels.specs.Tables.{slots_of_table, last_of_table};
-ghost use Rattle.timer_wheels.specs.Tiers.{slots_of_tiers, last_of_tiers};
+ghost use Rattle.timer_wheels.specs.Tables.{layout_of_table, last_of_table, radices_of};
+ghost use Rattle.timer_wheels.specs.Tiers.{layout_of_tiers, last_of_tiers};
 ghost use Rattle.timer_wheels.specs.WakeUps.{next_visit};
 
 use crate::buckets::Buckets;
@@ -48,7 +48,7 @@ impl<N: Kept> TieredWheel<N> {
         first_tick: u64,
     ) -> Result<TieredWheel<N>, MakeFault>
         ensures state { IfOk result (λ wheel. tiered_state wheel
-            ≡ empty_wheel (slots_of_tiers tiers) (last_of_tiers tiers) first_tick) }
+            ≡ empty_wheel (layout_of_tiers tiers) (last_of_tiers tiers) first_tick) }
         ensures counts { IfOk result (λ wheel. counts_in wheel ≡ no_counts) }
         ensures moves { IfOk result (λ wheel. moves_in wheel ≡ 0) }
         ensures in_range { IfOk result (λ wheel. first_tick ≤ last_of_tiers tiers) }
@@ -70,7 +70,7 @@ impl<N: Kept> TieredWheel<N> {
     /// An empty `HierWheel` of this table.
     fn hier(alloc: Global, table: Table, first_tick: u64) -> Result<TieredWheel<N>, MakeFault>
         ensures state { IfOk result (λ wheel. tiered_state wheel
-            ≡ empty_wheel (slots_of_table table) (last_of_table table) first_tick) }
+            ≡ empty_wheel (layout_of_table table) (last_of_table table) first_tick) }
         ensures counts { IfOk result (λ wheel. counts_in wheel ≡ no_counts) }
         ensures moves { IfOk result (λ wheel. moves_in wheel ≡ 0) }
         ensures in_range { IfOk result (λ wheel. first_tick ≤ last_of_table table) }
@@ -95,7 +95,7 @@ impl<N: Kept> TieredWheel<N> {
     /// Whether this is the smooth wheel. Does not allocate.
     #[inline(always)]
     pub fn is_smooth(&self) -> bool
-        ensures { result ≡ is_smooth (tiered_state self.now).slots }
+        ensures { result ≡ is_smooth (tiered_state self.now).layout }
     {
         match self {
             TieredWheel::Hier(_) => false,
@@ -116,7 +116,7 @@ impl<N: Kept> TieredWheel<N> {
     /// How many times a timer was put into a lower wheel since the wheel was made. Does not allocate.
     pub fn moves(&self) -> u64
         ensures value { result ≡ moves_in self.now }
-        ensures counted { is_smooth (tiered_state self.now).slots ≡ false → result ≡ (counts_in self.now).moves }
+        ensures counted { is_smooth (tiered_state self.now).layout ≡ false → result ≡ (counts_in self.now).moves }
         ensures at_most { result ≤ 9 * (counts_in self.now).starts }
     {
         match self {
@@ -150,11 +150,11 @@ impl<N: Kept> TieredWheel<N> {
 }
 
 impl<N: Kept> Wheel for TieredWheel<N> {
-    ghost use Rattle.timer_wheels.specs.TieredWheel.{tiered_state, tiered-well_formed, radices_of_slots, counts_in, counts_at_tick, counts_at_advance};
+    ghost use Rattle.timer_wheels.specs.TieredWheel.{tiered_state, tiered-well_formed, counts_in, counts_at_tick, counts_at_advance};
 
     ghost state = { λ wheel. tiered_state wheel };
 
-    ghost wake_up = { λ slots now pending. next_visit (radices_of_slots slots) now pending };
+    ghost wake_up = { λ layout now pending. next_visit (radices_of layout) now pending };
 
     ghost keeps = { λ timer. N.keeps (record { timer = timer; rounds = 0 }) };
 
@@ -490,7 +490,7 @@ fn next_smooth<N: Kept>(wheel: &SmoothWheel<N>) -> u64
 #[inline(never)]
 fn quiet_smooth<N: Kept>(wheel: &SmoothWheel<N>) -> u64
     ensures quiet { IsQuietUntil (option_of result) (smooth_state wheel.now).now (smooth_state wheel.now).pending }
-    ensures exact { option_of result ≡ next_visit (radices_by_turns (smooth_state wheel.now).slots)
+    ensures exact { option_of result ≡ next_visit (radices_of (smooth_state wheel.now).layout)
         (smooth_state wheel.now).now (smooth_state wheel.now).pending }
 {
     match wheel.quiet_until() {

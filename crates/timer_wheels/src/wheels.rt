@@ -52,13 +52,14 @@ pub struct Wheels<N: Kept = Timer> {
 
 impl<N: Kept> Wheels<N> {
     ghost use Rattle.timer_wheels.specs.Placement.{hops_of};
+    ghost use Rattle.timer_base.specs.Layout.{OneWheel};
     ghost use Rattle.timer_wheels.specs.Tables.{last_of_table, slots_of_table};
 
     /// Makes the empty buckets of a table.
     pub fn new(alloc: Global, table: Table, first_tick: u64) -> Result<Wheels<N>, OutOfMemory>
         requires { first_tick ≤ last_of_table table }
         ensures state { IfOk result (λ wheels. state_of wheels.buckets
-            ≡ empty_wheel (slots_of_table table) (last_of_table table) first_tick) }
+            ≡ empty_wheel (OneWheel (slots_of_table table)) (last_of_table table) first_tick) }
         ensures table { IfOk result (λ wheels. wheels.table ≡ table) }
     {
         let slots = buckets_of(table);

@@ -8,6 +8,7 @@ ghost use Rattle.timer_wheels.specs.Buckets.{state_of, IsListOf};
 ghost use Rattle.timer_wheels.specs.Bank.{IsBank, IsBank-prop, LeavesBits, next_len, potential_of, wheel_of, IsEarly, OthersStay, AllShrink, IsNextOf, ComesTo, restarted_of};
 ghost use Rattle.timer_wheels.specs.BucketLists.{EachRow};
 ghost use Rattle.timer_wheels.specs.Occupied.{bit_of};
+ghost use Rattle.timer_base.specs.Layout.{OneWheel};
 ghost use Rattle.timer_wheels.specs.Smooth.{IsAheadOf, slot_in, smooth_list, smooth_slots, next_list, descend_by};
 ghost use Rattle.timer_wheels.specs.declared.smooth.turns.TheConstants.{MOST_LISTS};
 ghost use Rattle.timer_wheels.specs.Tables.{radices, last_of_table};
@@ -40,7 +41,7 @@ impl<N: Kept> Bank<N> {
     pub fn new(alloc: Global, table: Table, first_tick: u64) -> Result<Bank<N>, OutOfMemory>
         requires { first_tick ≤ last_of_table table }
         ensures state { IfOk result (λ bank. state_of bank.buckets
-            ≡ empty_wheel (smooth_slots (radices table)) (last_of_table table) first_tick) }
+            ≡ empty_wheel (OneWheel (smooth_slots (radices table))) (last_of_table table) first_tick) }
         ensures table { IfOk result (λ bank. bank.table ≡ table) }
         ensures empty { IfOk result (λ bank. (s : ℕ) → list_at s bank.buckets.links.lists ≡ []) }
     {

@@ -1,6 +1,6 @@
 use Rattle.std.proofs.Common.{◌<◌, refl, codes, subst, arith, rules}
 use Rattle.timer_script.proofs.StepLemmas.{grown_join as joined}
-use Rattle.timer_wheels.specs.Buckets.{state_of-well_formed}
+use Rattle.timer_wheels.specs.HierWheel.{hier-well_formed}
 use Rattle.timer_commands.specs.Indented.{HasGrownByIndented}
 use Rattle.timer_commands.proofs.IndentedLemmas.{begun, grown_join, grown_more, line_joined}
 use Rattle.timer_commands.proofs.NewestLemmas.{shown_by_serial}
@@ -10,7 +10,7 @@ use Rattle.timer_commands.proofs.render.HierWheelPlacement.push_moves.Goals.{in-
 pub first_kept-requires-clause-by_serial : goal.first_kept-requires-clause-by_serial
 first_kept-requires-clause-by_serial c =
     let low : c.loop-to.to < c.min-to-end.result = c.loop-to-test.true in
-    shown_by_serial _ _ _ _ _ c.links-links.ensures (state_of-well_formed c.args.self.now.wheels.buckets) c.loop-to.to
+    shown_by_serial _ _ _ _ _ c.links-links.ensures (hier-well_formed c.args.self.now) c.loop-to.to
     (omega (arith, c.min-to-end.ensures, c.lists.ensures))
 
 pub returns-in_err-push_number-clause-kept : goal.returns-in_err-push_number-clause-kept

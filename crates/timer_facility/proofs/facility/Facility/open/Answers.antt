@@ -11,7 +11,7 @@ returns g c =
     view-open w c.config-config.result c.new.result.items (vec_capacity c.new.result) c.requires.pending c.requires.due
     (c.requires.now ∙ ap (λ (k : Config). k.first_tick) (sym c.config-config.ensures.config))
     c.config-config.ensures.in_range.few_clients c.new.ensures.items
-    ∙ ap (λ (k : Config). with_nothing_waiting (opened k w.last_tick w.slots)) c.config-config.ensures.config
+    ∙ ap (λ (k : Config). with_nothing_waiting (opened k w.last_tick w.layout)) c.config-config.ensures.config
 
 pub invariant_of-result : goal.invariant_of-result
 invariant_of-result g c =

@@ -1,12 +1,11 @@
-use Rattle.std.proofs.Common.{◌≡◌, ◌<◌, ◌≤◌, ◌+◌, ◌-◌, ℕ, List, ap, ◌∙◌, arith, rules}
+use Rattle.std.proofs.Common.{◌≡◌, ◌<◌, ◌≤◌, ◌+◌, ◌-◌, ℕ, ap, ◌∙◌, arith, rules}
 use Rattle.timer_wheels.specs.Buckets.{state_of}
 use Rattle.timer_base.specs.Counts.{WheelCounts}
-use Rattle.timer_wheels.specs.HierWheel.{counts_of, with_ticks}
-use Rattle.timer_wheels.proofs.ExactWakeUps.{radices_are}
 use Rattle.timer_wheels.specs.Digits.{lowest_radix}
-use Rattle.timer_wheels.specs.Tables.{radices}
-use Rattle.timer_wheels.specs.Placement.{visited_between, hops_of, levels_of, has_any}
+use Rattle.timer_wheels.specs.Tables.{radices, layout_of_table}
+use Rattle.timer_wheels.specs.Placement.{visited_between, hops_of, levels_of}
 use Rattle.timer_wheels.proofs.HierLemmas.{paid_at, paid_bound, moves_fit}
+use Rattle.timer_wheels.proofs.RoomLemmas.{advances-with_layout}
 use Rattle.timer_wheels.proofs.TableLaws.{of_table}
 use Rattle.timer_wheels.proofs.HierCounts.{any_of, advanced_serial, leapt_paid, leapt_moves}
 use Rattle.timer_wheels.proofs.hier.HierWheel.advance_far.Goals as goal
@@ -51,9 +50,13 @@ returns-clause-counts g c =
     ∙ ap (λ (x : ℕ). counts k.starts (k.moves + x) (b.tick - k.skipped + c.visits_between-visits.result)) m
     ∙ ap (λ (x : ℕ). counts k.starts (k.moves + hops_of (radices c.args.self.now.wheels.table) b.tick (n.tick - b.tick) (state_of b).pending)
     (b.tick - k.skipped + x)) v
-    ∙ ap (λ (r : List ℕ). with_ticks (hops_of r b.tick (n.tick - b.tick) (state_of b).pending)
-    (visited_between (lowest_radix r) b.tick n.tick (has_any (state_of n).due)) (counts_of c.args.self.now))
-    (radices_are c.args.self.now.wheels.table b.slots c.args.self.now.wheels.hier.has_slots)
+
+pub returns-clause-advances : goal.returns-clause-advances
+returns-clause-advances g c =
+    let w = c.args.self.now.wheels in
+    let n = c.advance_until_due-moves.new.self in
+    advances-with_layout (layout_of_table w.table) (layout_of_table n.table) (ap layout_of_table c.advance_until_due-moves.ensures.table)
+    (n.buckets.tick - w.buckets.tick) (state_of w.buckets) (state_of n.buckets) c.args.most c.advance_until_due-moves.ensures.advances
 
 least : (moves levels n : ℕ) → moves + levels ≤ n → levels ≤ n
 least moves levels n h = omega arith

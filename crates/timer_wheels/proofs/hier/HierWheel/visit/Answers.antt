@@ -1,11 +1,10 @@
-use Rattle.std.proofs.Common.{◌≡◌, ◌<◌, ◌+◌, ◌-◌, ℕ, List, ap, ◌∙◌, arith}
+use Rattle.std.proofs.Common.{◌≡◌, ◌<◌, ◌+◌, ◌-◌, ℕ, ap, ◌∙◌, arith}
 use Rattle.timer_base.specs.Counts.{WheelCounts}
 use Rattle.timer_base.specs.WheelState.{WheelState}
 use Rattle.timer_wheels.specs.Buckets.{state_of}
-use Rattle.timer_wheels.specs.Placement.{hops_of, levels_of}
+use Rattle.timer_wheels.specs.Placement.{levels_of}
 use Rattle.timer_wheels.specs.Tables.{radices}
 use Rattle.timer_wheels.proofs.HierLemmas.{paid_bound, moves_fit}
-use Rattle.timer_wheels.proofs.ExactWakeUps.{radices_are}
 use Rattle.timer_wheels.proofs.TableLaws.{of_table}
 use Rattle.timer_wheels.specs.declared.hier.Counts.{Counts}
 use Rattle.timer_wheels.proofs.hier.HierWheel.visit.Goals as goal
@@ -34,8 +33,7 @@ returns-clause-counts g c =
     let now : n.tick ≡ b.tick + 1 = ap (λ (u : WheelState). u.now) c.visit_next-moves.ensures.ticked in
     let few = w.few_skipped in
     let visits : n.tick - k.skipped ≡ b.tick - k.skipped + 1 = omega arith in
-    let moves = c.visit_next-moves.ensures.moves ∙ ap (λ (r : List ℕ). hops_of r b.tick 1 (state_of b).pending)
-    (radices_are w.wheels.table b.slots w.wheels.hier.has_slots) in
+    let moves = c.visit_next-moves.ensures.moves in
     ap (λ (q : Counts). counts q.starts q.moves (n.tick - q.skipped)) c.add_moves.ensures
     ∙ (ap (counts k.starts (k.moves + c.visit_next-moves.result)) visits
     ∙ ap (λ (m : ℕ). counts k.starts (k.moves + m) (b.tick - k.skipped + 1)) moves)

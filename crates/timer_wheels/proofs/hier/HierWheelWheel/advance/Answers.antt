@@ -1,13 +1,14 @@
-use Rattle.std.proofs.Common.{◌≡◌, ◌+◌, ◌-◌, ◌/◌, ℕ, List, refl, ap, ◌∙◌, arith}
+use Rattle.std.proofs.Common.{◌≡◌, ◌<◌, ◌+◌, ◌-◌, ◌/◌, ℕ, refl, ap, ◌∙◌, subst, arith}
 use Rattle.timer_base.specs.Counts.{WheelCounts}
+use Rattle.timer_base.specs.WheelState.{Advances}
 use Rattle.timer_wheels.specs.Buckets.{state_of}
 use Rattle.timer_wheels.specs.Digits.{lowest_radix}
-use Rattle.timer_wheels.specs.HierWheel.{counts_of, with_ticks}
-use Rattle.timer_wheels.specs.Placement.{visited_between, hops_of, has_any}
-use Rattle.timer_wheels.specs.Tables.{radices}
-use Rattle.timer_wheels.proofs.ExactWakeUps.{radices_are}
+use Rattle.timer_wheels.specs.Placement.{hops_of}
+use Rattle.timer_wheels.specs.Tables.{radices, layout_of_table}
 use Rattle.timer_wheels.proofs.HierCounts.{leapt_serial, leapt_paid, leapt_moves, none_visited}
 use Rattle.timer_wheels.proofs.HierLemmas.{paid_at}
+use Rattle.timer_wheels.proofs.HierLeaps.{advancing_ends}
+use Rattle.timer_wheels.proofs.RoomLemmas.{advances-with_layout}
 use Rattle.timer_wheels.proofs.hier.HierWheelWheel.advance.Goals as goal
 
 none_more : (n : ℕ) → n + 0 ≡ n
@@ -53,6 +54,16 @@ returns-clause-counts g c =
     (leapt_moves t 0 (state_of b) (state_of n) c.skip_to.ensures.leaps)
     ∙ ap (λ (x : ℕ). counts k.starts (k.moves + hops_of t b.tick (n.tick - b.tick) (state_of b).pending) (b.tick - k.skipped + x))
     (none_visited (lowest_radix t) b.tick n.tick (state_of n).due c.skip_to.ensures.nothing_due within)
-    ∙ ap (λ (r : List ℕ). with_ticks (hops_of r b.tick (n.tick - b.tick) (state_of b).pending)
-    (visited_between (lowest_radix r) b.tick n.tick (has_any (state_of n).due)) (counts_of w))
-    (radices_are w.wheels.table b.slots w.wheels.hier.has_slots)
+
+pub returns-clause-advances : goal.returns-clause-advances
+returns-clause-advances g c =
+    let w = c.args.self.now.wheels in
+    let n = c.skip_to.new.self in
+    let tick : n.buckets.tick ≡ w.buckets.tick + c.args.most = c.skip_to.ensures.tick in
+    let some : 0 < c.args.most = c.requires.some in
+    let passed : n.buckets.tick - w.buckets.tick ≡ c.args.most = omega arith in
+    advances-with_layout (layout_of_table w.table) (layout_of_table n.table) (ap layout_of_table c.skip_to.ensures.table)
+    c.args.most (state_of w.buckets) (state_of n.buckets) c.args.most
+    (subst (λ (x : ℕ). Advances c.args.most x (state_of w.buckets) (state_of n.buckets)) passed
+    (advancing_ends (radices w.table) c.args.most 0 (state_of w.buckets) (state_of n.buckets) c.skip_to.ensures.leaps
+    (omega arith) (omega arith) (λ h. absurd (omega arith))))

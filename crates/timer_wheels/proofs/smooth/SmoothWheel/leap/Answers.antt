@@ -1,10 +1,12 @@
 use Rattle.std.proofs.Common.{◌≡◌, ◌-◌, ℕ, length, sym, ◌∙◌, ap, subst, arith}
 use Rattle.timer_base.specs.WheelState.{IsPassing, WheelState}
+use Rattle.timer_wheels.specs.BucketLists.{slots_in}
 use Rattle.timer_links.specs.Lists.{list_at, KeyedLists}
 use Rattle.timer_wheels.specs.Buckets.{state_of}
 use Rattle.timer_wheels.specs.Paces.{pace_sum}
 use Rattle.timer_wheels.specs.Smooth.{next_list, heights}
-use Rattle.timer_wheels.specs.Tables.{radices}
+use Rattle.timer_wheels.specs.Tables.{radices, smooth_layout}
+use Rattle.timer_wheels.proofs.RoomLemmas.{passing-with_layout}
 use Rattle.timer_wheels.proofs.SmoothAhead.{ahead_of, next_empty}
 use Rattle.timer_wheels.proofs.SmoothLeaps.{open_of, leap_passes}
 use Rattle.timer_wheels.proofs.smooth.SmoothWheel.leap.Goals as goal
@@ -28,7 +30,7 @@ invariant_of-self g c =
     let n = c.next_event-event in
     let k = c.skip_to in
     let serial : k.new.self.buckets.last_serial ≡ b.last_serial = ap (λ (u : WheelState). u.last_serial) k.ensures.state in
-    let slots : k.new.self.buckets.slots ≡ b.slots = ap (λ (u : WheelState). u.slots) k.ensures.state in
+    let slots : k.new.self.buckets.slots ≡ b.slots = ap (λ (u : WheelState). slots_in u.layout) k.ensures.state in
     record {
       in_time = rw k.ensures.table (λ j z l.
           let q : length (list_at (next_list (radices w.bank.table) k.new.self.buckets.tick j) k.new.self.buckets.links.lists) ≡ 0 =
@@ -50,7 +52,9 @@ returns-clause-passing g c =
     let w = c.args.self.now.bank in
     let n = c.next_event-event in
     let k = c.skip_to in
-    subst (λ (x : ℕ). IsPassing (x - w.buckets.tick) (state_of w.buckets) (state_of k.new.self.buckets)) (sym k.ensures.tick)
+    passing-with_layout (smooth_layout w.table) (smooth_layout k.new.self.table) (ap smooth_layout k.ensures.table)
+    (k.new.self.buckets.tick - w.buckets.tick) (state_of w.buckets) (state_of k.new.self.buckets)
+    (subst (λ (x : ℕ). IsPassing (x - w.buckets.tick) (state_of w.buckets) (state_of k.new.self.buckets)) (sym k.ensures.tick)
     (leap_passes w.table w.buckets w.filled w.bank (n.result - 1) (omega (arith, n.ensures.later))
     (ahead_of w.table w.buckets w.filled w.bank n.result (n.result - 1) (omega (arith, n.ensures.later)) (omega (arith, n.ensures.later)) n.ensures.events)
-    (state_of k.new.self.buckets) c.requires.nothing_due k.ensures.state)
+    (state_of k.new.self.buckets) c.requires.nothing_due k.ensures.state))

@@ -3,8 +3,8 @@ use Rattle.timer_wheels.specs.Buckets.{state_of}
 use Rattle.timer_wheels.specs.Placement.{no_rounds}
 use Rattle.timer_wheels.specs.Shown.{ShowsBuckets}
 use Rattle.timer_wheels.specs.Smooth.{smooth_bucket, mark}
-use Rattle.timer_wheels.specs.Tables.{radices}
-use Rattle.timer_wheels.proofs.RoomLemmas.{shows-with_room}
+use Rattle.timer_wheels.specs.Tables.{radices, smooth_layout}
+use Rattle.timer_wheels.proofs.RoomLemmas.{shows-with_room, shows-with_layout}
 use Rattle.timer_wheels.proofs.ShownLemmas.{shows}
 use Rattle.timer_wheels.proofs.smooth.SmoothWheel.links.Goals as goal
 
@@ -14,6 +14,6 @@ returns-clause-shows g c =
     let b = w.buckets in
     let P : ℕ → Type 0 = λ n. ShowsBuckets n (smooth_bucket (radices w.table) b.tick (mark (radices w.table) b.tick b.links.lists)) no_rounds
     (state_of b) b.links.lists in
-    subst P w.bank.has_slots (shows-with_room b.links.room _ _ _ _ _ (shows b.slots
+    shows-with_layout (smooth_layout w.table) _ _ _ _ _ (subst P w.bank.has_slots (shows-with_room b.links.room _ _ _ _ _ (shows b.slots
     (smooth_bucket (radices w.table) b.tick (mark (radices w.table) b.tick b.links.lists)) no_rounds b.links.lists b.sound.has_lists
-    w.bank.placed b.last_tick b.tick b.last_serial b.sound.in_order))
+    w.bank.placed b.last_tick b.tick b.last_serial b.sound.in_order)))

@@ -1,5 +1,6 @@
 use Rattle.std.proofs.Common.{◌≡◌, ◌<◌, ◌+◌, ℕ, length, ap, arith}
 use Rattle.timer_base.specs.WheelState.{WheelState}
+use Rattle.timer_wheels.specs.BucketLists.{slots_in}
 use Rattle.timer_links.specs.Lists.{list_at, Rows}
 use Rattle.timer_wheels.specs.Smooth.{slot_in, smooth_list}
 use Rattle.timer_wheels.specs.Tables.{radices}
@@ -11,7 +12,7 @@ pub invariant_of-self : goal.invariant_of-self
 invariant_of-self g c =
     let w = c.args.self.now in
     let n = c.clear.new.self in
-    let slots : n.buckets.slots ≡ w.bank.buckets.slots = ap (λ (u : WheelState). u.slots) c.clear.ensures.cleared in
+    let slots : n.buckets.slots ≡ w.bank.buckets.slots = ap (λ (u : WheelState). slots_in u.layout) c.clear.ensures.cleared in
     let serial : n.buckets.last_serial ≡ w.bank.buckets.last_serial = ap (λ (u : WheelState). u.last_serial) c.clear.ensures.cleared in
     let empty : (s : ℕ) → s < n.buckets.slots → length (list_at s n.buckets.links.lists) ≡ 0 =
     λ s l. ap (λ (r : Rows). length r) (c.clear.ensures.empty s (omega arith)) in
